@@ -1,0 +1,2 @@
+//! Whole runs over bytes, and what the programs do.
+#![tactic(auto)]

@@ -1,0 +1,60 @@
+//! Why no character was decoded.
+ghost use Rattle.std.specs.Prelude.{◌≡◌};
+
+use std::marker::Model;
+
+/// What is wrong with bytes that do not begin with the code of a scalar.
+///
+/// The kinds are judged in this order, and the first that applies is answered (RFC 3629, section 4, has
+/// the grammar that they leave).
+#[derive(Clone, Copy, Debug, PartialEq, Eq, Drop)]
+pub enum Utf8ErrorKind {
+    /// There are fewer bytes than the first one asks for, or none at all.
+    TooFewBytes,
+    /// The first byte occurs in no code: it is 0xc0, 0xc1, or above 0xf4.
+    NonUtf8Byte,
+    /// The first byte is a continuation byte, 0x80 to 0xbf.
+    UnexpectedContinuationByte,
+    /// One of the bytes that the first one asks for is no continuation byte.
+    InterruptedSequence,
+    /// The value fits in fewer bytes.
+    OverlongEncoding,
+    /// The value is a surrogate of UTF-16, 0xd800 to 0xdfff.
+    Utf16ReservedCodepoint,
+    /// The value is above 0x10ffff.
+    TooHighCodepoint,
+}
+
+/// The error of decoding UTF-8. Contracts see it as its kind.
+#[derive(Clone, Copy, Debug, PartialEq, Eq, Drop)]
+pub struct Utf8Error {
+    kind: Utf8ErrorKind,
+}
+
+impl Model for Utf8Error {
+    ghost use Rattle.utf_base.specs.declared.errors.Utf8ErrorKind.{Utf8ErrorKind};
+
+    ghost Value = { Utf8ErrorKind };
+
+    ghost view = { λ e. e.kind };
+
+    ghost inverse = { λ k. record { kind = k } };
+}
+
+impl Utf8Error {
+    /// The error of that kind.
+    #[inline(always)]
+    pub fn new(kind: Utf8ErrorKind) -> Utf8Error
+        ensures { result ≡ kind }
+    {
+        Utf8Error { kind }
+    }
+
+    /// What is wrong.
+    #[inline(always)]
+    pub fn kind(&self) -> Utf8ErrorKind
+        ensures { result ≡ self.now }
+    {
+        self.kind
+    }
+}

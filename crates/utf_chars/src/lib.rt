@@ -1,0 +1,2 @@
+//! Characters as their codes, and the decoding of one.
+#![tactic(auto)]
