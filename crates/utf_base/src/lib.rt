@@ -1,5 +1,7 @@
-//! The definitions of UTF-8 and UTF-16 with their laws, and the errors of decoding them.
+//! The definitions of UTF-8 with their laws, the errors of decoding it, and what a single byte tells.
 #![tactic(auto)]
 
 pub mod errors;
+pub mod laws;
 pub mod tally;
+pub mod traits;

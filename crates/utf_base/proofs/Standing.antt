@@ -1,0 +1,107 @@
+-- Where codes stand: at one place one code at most, and none begins inside another.
+use Rattle.std.proofs.Common.{◌≡◌, ℕ, ◌+◌, ◌-◌, ◌<◌, ◌≤◌, inl, inr, List, length, get_or, drop, arith, ap, sym, ◌∙◌, ⊎_elim}
+use Rattle.std.proofs.lemmas.Grind.{common_steps}
+use Rattle.std.proofs.lemmas.List.{get_or-drop, get_or-take, drop-take, drop-drop, take-take}
+use Rattle.std.proofs.lemmas.Bool.{cases_lt}
+use Rattle.std.specs.Prelude.{slice_range}
+use Rattle.utf_base.specs.Code.{IsCode}
+use Rattle.utf_base.specs.Piece.{Stands, Inside}
+use Rattle.utf_base.specs.CutLaws.{CodesNeverOverlap}
+
+-- an element of a standing code is the list's
+pub Stands-at : (code : ℕ → List ℕ) (xs : List ℕ) (p s k j : ℕ) → p + k ≡ j → Stands code xs p s → k < length (code s)
+    → get_or xs j 0 ≡ get_or (code s) k 0
+Stands-at code xs p s k j e h q =
+    let lt : k < p + length (code s) - p = omega arith in
+    ap (λ i. get_or xs i 0) (sym e)
+    ∙ sym (get_or-drop p xs k 0)
+    ∙ sym (get_or-take (p + length (code s) - p) (drop p xs) k 0 lt)
+    ∙ ap (λ l. get_or l k 0) h.equal
+
+-- no standing code begins inside another
+pub not_inside : (code : ℕ → List ℕ) → IsCode code → (xs : List ℕ) (p s : ℕ) → Stands code xs p s → Inside code xs p → ⊥
+not_inside code c xs p s h i =
+    let first = Stands-at code xs p s 0 p (omega arith) h (c.some s h.scalar) in
+    let inner = Stands-at code xs i.from i.char (p - i.from) p (omega arith) i.stands (omega arith) in
+    c.apart i.char s (p - i.from) i.stands.scalar h.scalar (omega arith) (omega arith) (sym inner ∙ first)
+
+-- at most one code stands at a place
+pub same_char : (code : ℕ → List ℕ) → IsCode code → (xs : List ℕ) (p s t : ℕ) → Stands code xs p s → Stands code xs p t → s ≡ t
+same_char code c xs p s t h g =
+    let of_s = Stands-at code xs p s 0 p (omega arith) h (c.some s h.scalar) in
+    let of_t = Stands-at code xs p t 0 p (omega arith) g (c.some t g.scalar) in
+    let len : length (code s) ≡ length (code t) = c.sized s t h.scalar g.scalar (sym of_s ∙ of_t) in
+    c.injective s t h.scalar g.scalar (sym h.equal ∙ ap (λ n. slice_range xs p (p + n)) len ∙ g.equal)
+
+pub codes_never_overlap : (code : ℕ → List ℕ) → IsCode code → CodesNeverOverlap code
+codes_never_overlap code c xs p q s t h g =
+    let apart : (i j a b : ℕ) → Stands code xs i a → Stands code xs j b → i < j → i + length (code a) ≤ j
+    = λ i j a b u v lt.
+    ⊎_elim
+    (λ (over : j < i + length (code a)).
+    absurd (not_inside code c xs j b v (record { from = i; char = a; stands = u; begins = lt; ends = over })))
+    (λ (fits : i + length (code a) ≤ j). fits)
+    (cases_lt j (i + length (code a))) in
+    ⊎_elim
+    (λ (lt : p < q). inr (inl (apart p q s t h g lt)))
+    (λ (le : q ≤ p).
+    ⊎_elim
+    (λ (gt : q < p). inr (inr (apart q p t s g h gt)))
+    (λ (ge : p ≤ q). let e : p ≡ q = omega arith in inl (e, same_char code c xs q s t (rw e at h) g))
+    (cases_lt q p))
+    (cases_lt p q)
+
+-- the end of a standing code lies inside none
+pub outside_after : (code : ℕ → List ℕ) → IsCode code → (xs : List ℕ) (p s : ℕ) → Stands code xs p s → Inside code xs (p + length (code s)) → ⊥
+outside_after code c xs p s h i =
+    let begins = i.begins in
+    let ends = i.ends in
+    let some = c.some s h.scalar in
+    ⊎_elim
+    (λ same. let len : length (code s) ≡ length (code i.char) = ap (λ n. length (code n)) same.1 in let at = same.0 in absurd (omega arith))
+    (λ apart.
+    ⊎_elim
+    (λ (first : p + length (code s) ≤ i.from). absurd (omega arith))
+    (λ (last : i.from + length (code i.char) ≤ p). absurd (omega arith))
+    apart)
+    (codes_never_overlap code c xs p i.from s i.char h i.stands)
+
+-- no code lies over the end of a list
+pub outside_end : (code : ℕ → List ℕ) (xs : List ℕ) → Inside code xs (length xs) → ⊥
+outside_end code xs i = let within = i.stands.within in let ends = i.ends in omega arith
+
+-- none lies over its front
+pub outside_front : (code : ℕ → List ℕ) (xs : List ℕ) → Inside code xs 0 → ⊥
+outside_front code xs i = let begins = i.begins in omega arith
+
+-- a part of a part
+range_of_range : (xs : List ℕ) (i j p n : ℕ) → i + (p + n) ≤ j → slice_range (slice_range xs i j) p (p + n) ≡ slice_range xs (i + p) (i + p + n)
+range_of_range xs i j p n h =
+    let m : j - i ≡ p + (j - i - p) = omega arith in
+    let of_part : p + n - p ≡ n = omega arith in
+    let of_whole : i + p + n - (i + p) ≡ n = omega arith in
+    let le : n ≤ j - i - p = omega arith in
+    rw (of_part, of_whole, m, drop-take, drop-drop) (take-take n (j - i - p) (drop (i + p) xs) le)
+
+-- what stands in a list stands in a part of it that holds it whole
+pub stands_in_part : (code : ℕ → List ℕ) (xs : List ℕ) (i j p q s : ℕ) → i + p ≡ q → j ≤ length xs → Stands code xs q s → q + length (code s) ≤ j
+    → Stands code (slice_range xs i j) p s
+stands_in_part code xs i j p q s e le h fits = record {
+  scalar = h.scalar;
+  within = grind (arith, common_steps);
+  equal = range_of_range xs i j p (length (code s)) (omega arith) ∙ ap (λ k. slice_range xs k (k + length (code s))) e ∙ h.equal;
+}
+
+-- what stands in a part of a list stands in the list, and ends in the part
+pub stands_in_whole : (code : ℕ → List ℕ) (xs : List ℕ) (i j p q s : ℕ) → i + p ≡ q → i ≤ j → j ≤ length xs → Stands code (slice_range xs i j) p s
+    → Stands code xs q s × (q + length (code s) ≤ j)
+stands_in_whole code xs i j p q s e lo le h =
+    let len : length (slice_range xs i j) ≡ j - i = grind (arith, common_steps) in
+    let w = h.within in (
+      record {
+        scalar = h.scalar;
+        within = omega arith;
+        equal = ap (λ k. slice_range xs k (k + length (code s))) (sym e) ∙ sym (range_of_range xs i j p (length (code s)) (omega arith)) ∙ h.equal;
+      },
+      omega arith,
+    )

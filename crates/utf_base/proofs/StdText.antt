@@ -1,0 +1,23 @@
+-- The code of a scalar is std's, so it is text.
+use Rattle.std.proofs.Common.{◌≡◌, ℕ, [], ◌∷◌, refl, ◌∙◌, arith}
+use Rattle.std.proofs.lemmas.List.{append-nil}
+use Rattle.std.specs.Str.{IsUtf8}
+use Rattle.std.proofs.lemmas.Grind.{common_steps}
+use Rattle.std.specs.Char.{encode_utf8, IsScalar as IsStdScalar}
+use Rattle.utf_base.specs.Scalar.{IsScalar}
+use Rattle.utf_base.specs.Code.{utf8}
+
+pub utf8-std : (s : ℕ) → encode_utf8 s ≡ utf8 s
+unfolding utf8 encode_utf8
+utf8-std s = refl
+
+pub scalar_for_std : (s : ℕ) → IsScalar s → IsStdScalar s
+scalar_for_std s h = grind (arith, common_steps)
+
+pub scalar_from_std : (s : ℕ) → IsStdScalar s → IsScalar s
+scalar_from_std s h = record { below = grind (arith, common_steps); no_surrogate = λ g. grind (arith, common_steps) }
+
+pub utf8_is_text : (s : ℕ) → IsScalar s → IsUtf8 (utf8 s)
+utf8_is_text s h =
+    let e = scalar_for_std s h in
+    (s ∷ [], (rw e refl, append-nil (encode_utf8 s) ∙ utf8-std s))

@@ -1,0 +1,8 @@
+use Rattle.utf_base.proofs.Cuts.{cut_exists}
+use Rattle.utf_base.specs.Code.{utf8}
+use Rattle.utf_base.proofs.Utf8Code.{utf8_is_code}
+use Rattle.utf_base.proofs.FrontLemmas.{utf8_finds}
+use Rattle.utf_base.proofs.laws.cut_exists.Goals as goal
+
+pub returns : goal.returns
+returns c = cut_exists utf8 utf8_is_code utf8_finds

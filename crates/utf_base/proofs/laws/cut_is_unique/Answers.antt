@@ -1,0 +1,7 @@
+use Rattle.utf_base.proofs.Cuts.{cut_is_unique}
+use Rattle.utf_base.specs.Code.{utf8}
+use Rattle.utf_base.proofs.Utf8Code.{utf8_is_code}
+use Rattle.utf_base.proofs.laws.cut_is_unique.Goals as goal
+
+pub returns : goal.returns
+returns c = cut_is_unique utf8 utf8_is_code

@@ -1,0 +1,7 @@
+use Rattle.utf_base.proofs.Cuts.{one_piece_begins}
+use Rattle.utf_base.specs.Code.{utf8}
+use Rattle.utf_base.proofs.Utf8Code.{utf8_is_code}
+use Rattle.utf_base.proofs.laws.one_piece_begins.Goals as goal
+
+pub returns : goal.returns
+returns c = one_piece_begins utf8 utf8_is_code

@@ -1,0 +1,46 @@
+-- The laws of codes and cuts, generic in the code. The functions of `laws` prove each for UTF-8.
+use Rattle.std.specs.Prelude.{◌≡◌, ℕ, ◌+◌, ◌<◌, ◌≤◌, ◌⊎◌, List, [], ◌∷◌, length, Some, slice_index}
+use Rattle.utf_base.specs.Code.{utf8}
+use Rattle.utf_base.specs.Piece.{Stands, Piece, IsPiece, IsCut, end_of}
+
+-- two codes that stand in one list are the same at the same place, or one ends before the other begins
+abbrev pub CodesNeverOverlap : (ℕ → List ℕ) → Type 0
+CodesNeverOverlap code =
+    (xs : List ℕ) (p q s t : ℕ) → Stands code xs p s → Stands code xs q t
+    → ((p ≡ q) × (s ≡ t)) ⊎ ((p + length (code s) ≤ q) ⊎ (q + length (code t) ≤ p))
+
+-- two pieces of one list are the same, or one ends before the other begins
+abbrev pub PiecesNeverOverlap : (ℕ → List ℕ) → Type 0
+PiecesNeverOverlap code =
+    (xs : List ℕ) (x y : Piece) → IsPiece code xs x → IsPiece code xs y
+    → (x ≡ y) ⊎ ((end_of x ≤ y.start) ⊎ (end_of y ≤ x.start))
+
+-- at most one piece begins at a place, and at most one ends there
+abbrev pub OnePieceBegins : (ℕ → List ℕ) → Type 0
+OnePieceBegins code = (xs : List ℕ) (x y : Piece) → IsPiece code xs x → IsPiece code xs y → x.start ≡ y.start → x ≡ y
+
+abbrev pub OnePieceEnds : (ℕ → List ℕ) → Type 0
+OnePieceEnds code = (xs : List ℕ) (x y : Piece) → IsPiece code xs x → IsPiece code xs y → end_of x ≡ end_of y → x ≡ y
+
+-- the first piece begins at i, each other where the one before it ends, and the last ends at j
+abbrev pub Follow : ℕ → List Piece → ℕ → Type 0
+Follow i [] j = i ≡ j
+Follow i (x ∷ ps) j = (x.start ≡ i) × Follow (end_of x) ps j
+
+-- the pieces of a cut follow each other without gap or overlap
+abbrev pub CutsFollow : (ℕ → List ℕ) → Type 0
+CutsFollow code = (xs : List ℕ) (ps : List Piece) → IsCut code xs ps → Follow 0 ps (length xs)
+
+-- each list has a cut
+abbrev pub CutExists : (ℕ → List ℕ) → Type 0
+CutExists code = (xs : List ℕ) → (ps : List Piece) × IsCut code xs ps
+
+-- each list has at most one
+abbrev pub CutIsUnique : (ℕ → List ℕ) → Type 0
+CutIsUnique code = (xs : List ℕ) (ps qs : List Piece) → IsCut code xs ps → IsCut code xs qs → ps ≡ qs
+
+-- a byte below 0x80 is a piece of its own, whatever stands around it
+abbrev pub AsciiStandsAlone : Type 0
+AsciiStandsAlone =
+    (xs : List ℕ) (p : ℕ) → p < length xs → slice_index xs p < 0x80
+    → IsPiece utf8 xs (record { start = p; len = 1; char = Some (slice_index xs p) })

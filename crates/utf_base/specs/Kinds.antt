@@ -1,0 +1,64 @@
+-- What is wrong with bytes that no code begins (RFC 3629, sections 3 and 4).
+use Rattle.std.specs.Prelude.{ℕ, ◌+◌, ◌-◌, ◌*◌, Bool, not, ◌&&◌, ◌||◌, nat_lt, nat_le, ◌==◌, if◌then◌else◌, List, length, slice_index, Option, Some, None}
+use Rattle.utf_base.specs.declared.errors.Utf8ErrorKind.{Utf8ErrorKind}
+use Rattle.utf_base.specs.declared.errors.Utf8ErrorKind.TheVariants.{TooFewBytes, NonUtf8Byte, UnexpectedContinuationByte, InterruptedSequence, OverlongEncoding, Utf16ReservedCodepoint, TooHighCodepoint}
+
+-- the byte has the form of one behind the first
+abbrev pub is_continuation : ℕ → Bool
+is_continuation b = nat_le 0x80 b && nat_lt b 0xC0
+
+-- how many bytes a code has that begins with this byte, or 0 where no code does
+unfoldable pub asked : ℕ → ℕ
+asked b =
+    if nat_lt b 0x80 then 1
+    else if nat_lt b 0xC2 then 0
+    else if nat_lt b 0xE0 then 2
+    else if nat_lt b 0xF0 then 3
+    else if nat_lt b 0xF5 then 4
+    else 0
+
+-- how many bytes the first of them asks for
+abbrev pub asked_by : List ℕ → ℕ
+asked_by w = asked (slice_index w 0)
+
+-- the bits of the continuation byte at k that encode
+abbrev pub payload : List ℕ → ℕ → ℕ
+payload w k = slice_index w k - 0x80
+
+-- the payloads of the bytes that are asked for, each times its power of 64, added up
+unfoldable pub value : List ℕ → ℕ
+value w =
+    if asked_by w == 1 then slice_index w 0
+    else if asked_by w == 2 then (slice_index w 0 - 0xC0) * 64 + payload w 1
+    else if asked_by w == 3 then (slice_index w 0 - 0xE0) * 4096 + payload w 1 * 64 + payload w 2
+    else (slice_index w 0 - 0xF0) * 262144 + payload w 1 * 4096 + payload w 2 * 64 + payload w 3
+
+-- the least value that needs so many bytes, where the first byte does not settle it
+unfoldable pub least_value : ℕ → ℕ
+least_value n = if n == 4 then 0x1_0000 else if n == 3 then 0x800 else 0
+
+-- the byte at k is a continuation byte, or the first byte does not ask for it
+abbrev pub continues_at : List ℕ → ℕ → Bool
+continues_at w k = nat_le (asked_by w) k || is_continuation (slice_index w k)
+
+-- each byte that the first one asks for is a continuation byte
+abbrev pub followers_continue : List ℕ → Bool
+followers_continue w = continues_at w 1 && continues_at w 2 && continues_at w 3
+
+-- what is wrong with the value alone
+abbrev pub value_fault : List ℕ → Option Utf8ErrorKind
+value_fault w =
+    if nat_lt (value w) (least_value (asked_by w)) then Some OverlongEncoding
+    else if nat_le 0xD800 (value w) && nat_lt (value w) 0xE000 then Some Utf16ReservedCodepoint
+    else if nat_lt 0x10_FFFF (value w) then Some TooHighCodepoint
+    else None
+
+-- the forward kind: the first case that applies, or `None` where a code begins the bytes
+unfoldable pub fault_kind : List ℕ → Option Utf8ErrorKind
+fault_kind w =
+    if length w == 0 then Some TooFewBytes
+    else if is_continuation (slice_index w 0) then Some UnexpectedContinuationByte
+    else if asked_by w == 0 then Some NonUtf8Byte
+    else if nat_lt (length w) (asked_by w) then Some TooFewBytes
+    else if not (followers_continue w) then Some InterruptedSequence
+    else value_fault w

@@ -1,0 +1,72 @@
+-- What the four bytes of a character hold.
+use Rattle.std.proofs.Common.{◌≡◌, ℕ, ◌+◌, ◌-◌, ◌<◌, ◌≤◌, List, length, get_or, take, sym, ap, ◌∙◌, refl, arith, length-append}
+use Rattle.std.proofs.lemmas.Grind.{common_steps}
+use Rattle.std.proofs.lemmas.List.{take_at}
+use Rattle.std.specs.Prelude.{replicate, Result, Ok, Err, IsOk}
+use Rattle.utf_base.specs.declared.errors.Utf8ErrorKind.{Utf8ErrorKind}
+use Rattle.utf_base.specs.Front.{as_scalar, DecodesFront}
+use Rattle.utf_base.specs.Scalar.{IsScalar}
+use Rattle.utf_base.specs.Code.{utf8}
+use Rattle.utf_base.specs.Kinds.{value, asked}
+use Rattle.utf_base.specs.Piece.{Stands}
+use Rattle.utf_base.proofs.FrontLemmas.{decodes_from_stands, code_where_no_fault, no_fault_where_code, no_code_where_fault}
+use Rattle.utf_chars.specs.Padded.{padded, IsPadded}
+
+stands_padded : (xs : List ℕ) (s : ℕ) → IsScalar s → xs ≡ padded (utf8 s) → Stands utf8 xs 0 s
+unfolding padded
+stands_padded xs s h e =
+    let span : 0 + length (utf8 s) - 0 ≡ length (utf8 s) = omega arith in
+    record {
+      scalar = h;
+      within = rw e (omega (arith, length-append {A = ℕ}));
+      equal = rw e (rw span (take_at (utf8 s) (replicate (4 - length (utf8 s)) 0) _ refl));
+    }
+
+-- the code of the value begins the bytes
+pub stands_in_bytes : (bytes : List ℕ) → IsPadded bytes → Stands utf8 bytes 0 (value bytes)
+stands_in_bytes bytes h = stands_padded bytes (value bytes) h.scalar h.code
+
+-- the value of a code that zeros follow is its scalar
+pub value-padded : (bytes : List ℕ) (s : ℕ) → IsScalar s → bytes ≡ padded (utf8 s) → value bytes ≡ s
+value-padded bytes s h e = (decodes_from_stands bytes s (stands_padded bytes s h e)).1
+
+pub IsPadded-padded : (bytes : List ℕ) (s : ℕ) → IsScalar s → bytes ≡ padded (utf8 s) → IsPadded bytes
+IsPadded-padded bytes s h e =
+    let v = value-padded bytes s h e in
+    record { scalar = rw v h; code = rw v e }
+
+-- the first bytes, as many as the code has, are the code
+pub take-padded : (bytes : List ℕ) (s n : ℕ) → IsPadded bytes → value bytes ≡ s → n ≡ length (utf8 s) → take n bytes ≡ utf8 s
+unfolding padded
+take-padded bytes s n h e l = rw (h.code, e, l) (take_at (utf8 s) (replicate (4 - length (utf8 s)) 0) _ refl)
+
+-- what a first byte that begins a code asks for, by where it lies
+asked_by_range : (b : ℕ) → 0 < asked b
+    → (b < 0x80 → asked b ≡ 1) × (0x80 ≤ b → b < 0xE0 → asked b ≡ 2) × (0xE0 ≤ b → b < 0xF0 → asked b ≡ 3) × (0xF0 ≤ b → asked b ≡ 4)
+unfolding asked
+asked_by_range b h = grind (arith, common_steps)
+
+-- the code's length, by the first byte
+pub record LenByFirst (first len : ℕ) : Type 0 where
+  pub one : first < 0x80 → 1 ≡ len
+  pub two : 0x80 ≤ first → first < 0xE0 → 2 ≡ len
+  pub three : 0xE0 ≤ first → first < 0xF0 → 3 ≡ len
+  pub four : 0xF0 ≤ first → 4 ≡ len
+
+pub len_by_first : (bytes : List ℕ) (s : ℕ) → IsPadded bytes → value bytes ≡ s → LenByFirst (get_or bytes 0 0) (length (utf8 s))
+len_by_first bytes s h e =
+    let st = stands_in_bytes bytes h in
+    let len : asked (get_or bytes 0 0) ≡ length (utf8 s)
+    = (code_where_no_fault bytes (no_fault_where_code bytes (value bytes) st)).1 ∙ ap (λ x. length (utf8 x)) e in
+    let range = asked_by_range (get_or bytes 0 0) (decodes_from_stands bytes (value bytes) st).0.asks in
+    record {
+      one = λ a. sym (range.0 a) ∙ len;
+      two = λ a b. sym (range.1 a b) ∙ len;
+      three = λ a b. sym (range.2 a b) ∙ len;
+      four = λ a. sym (range.3 a) ∙ len;
+    }
+
+-- where a code begins the bytes, their decoding succeeds
+pub IsOk-DecodesFront : (w : List ℕ) (s : ℕ) (r : Result (ℕ × ℕ) Utf8ErrorKind) → Stands utf8 w 0 s → DecodesFront as_scalar w r → IsOk r
+IsOk-DecodesFront w s (Ok x) h d = refl
+IsOk-DecodesFront w s (Err k) h d = absurd (no_code_where_fault w k s d h)
