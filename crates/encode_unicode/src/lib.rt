@@ -1,2 +1,22 @@
-//! Decoding of UTF-8 and UTF-16 after the Rust crate of that name.
+//! Decoding of UTF-8 and UTF-16, after the Rust crate of that name.
+//!
+//! The errors stand in `error`, the iterators in `iterator`, and the rest at the top.
 #![tactic(auto)]
+
+mod decoding_iterators;
+mod traits;
+
+pub use traits::U8SliceExt;
+pub use utf_base::traits::U8UtfExt;
+pub use utf_chars::char_ext::CharExt;
+pub use utf_chars::utf8_char::Utf8Char;
+
+pub mod error {
+    //! What the calls of this crate answer where they find no character.
+    pub use utf_base::errors::{Utf8Error, Utf8ErrorKind};
+}
+
+pub mod iterator {
+    //! The iterators that the calls of this crate make.
+    pub use crate::decoding_iterators::Utf8CharDecoder;
+}

@@ -1,11 +1,11 @@
 -- From one answer on a window to the pieces of the whole list, and the cut that the pieces make.
-use Rattle.std.proofs.Common.{◌≡◌, ℕ, zero, suc, ◌+◌, ◌-◌, ◌<◌, ◌≤◌, ◌⊎◌, inl, inr, List, [], ◌∷◌, ◌++◌, length, get_or, arith, refl, ap, ap₂, sym, ◌∙◌, ⊎_elim, Some, None, Option, lit<, length-append}
+use Rattle.std.proofs.Common.{mul-suc, ◌*◌, ◌≡◌, ℕ, zero, suc, ◌+◌, ◌-◌, ◌<◌, ◌≤◌, ◌⊎◌, inl, inr, List, [], ◌∷◌, ◌++◌, length, get_or, arith, refl, ap, ap₂, sym, ◌∙◌, ⊎_elim, Some, None, Option, lit<, length-append}
 use Rattle.std.proofs.lemmas.Bool.{cases_lt}
 use Rattle.std.proofs.lemmas.List.{get_or_append_left, get_or-append_right}
 use Rattle.std.proofs.lemmas.List.Elements.{All-append, All-cons, All-nil, Contains-append_left, Contains-append_right}
-use Rattle.std.specs.Prelude.{slice_range, Contains}
+use Rattle.std.specs.Prelude.{slice_range, All, Contains}
 use Rattle.utf_base.specs.Code.{IsCode}
-use Rattle.utf_base.specs.Piece.{Stands, Covered, Inside, Piece, IsPieceAt, IsPiece, IsCutBetween, end_of}
+use Rattle.utf_base.specs.Piece.{IsCut, Stands, Covered, Inside, Piece, IsPieceAt, IsPiece, IsCutBetween, end_of}
 use Rattle.utf_base.specs.CutLaws.{PiecesNeverOverlap, OnePieceBegins, OnePieceEnds, Follow, CutsFollow, CutExists, CutIsUnique}
 use Rattle.utf_base.proofs.Standing.{not_inside, same_char, outside_after, outside_end, outside_front, stands_in_part, stands_in_whole}
 
@@ -259,3 +259,41 @@ pub cuts_follow : (code : ℕ → List ℕ) → IsCode code → Finds code → C
 cuts_follow code c find xs ps h =
     let w = whole_cut code c find xs in
     rw (cut_unique code c xs 0 (length xs) ps w.pieces h w.cut) w.follow
+
+piece_short : (code : ℕ → List ℕ) (m : ℕ) → ((s : ℕ) → length (code s) ≤ m) → 0 < m → (xs : List ℕ) (p n : ℕ) (a : Option ℕ) → IsPieceAt code xs p n a → n ≤ m
+piece_short code m short some xs p n (Some s) h = let le = short s in omega (arith, h.1)
+piece_short code m short some xs p n None h = omega (arith, h.1)
+
+-- how many pieces follow each other from i to j, where no code is longer than m
+record CountBounds (m i j count : ℕ) : Type 0 where
+  pub ordered : i ≤ j
+  pub most : i + count ≤ j
+  pub least : j ≤ i + m * count
+
+bounds_more : (m i j k count n : ℕ) → 0 < n → n ≤ m → k ≡ i + n → CountBounds m k j count → CountBounds m i j (suc count)
+bounds_more m i j k count n some short e b =
+    let ordered = b.ordered in
+    let most = b.most in
+    let least = b.least in
+    let times : m * suc count ≡ m * count + m = mul-suc m count in
+    record { ordered = omega arith; most = omega arith; least = omega arith }
+
+pieces_count : (code : ℕ → List ℕ) → IsCode code → (m : ℕ) → ((s : ℕ) → length (code s) ≤ m) → 0 < m → (xs : List ℕ) (i j : ℕ) (ps : List Piece)
+    → All (IsPiece code xs) ps → Follow i ps j → CountBounds m i j (length ps)
+pieces_count code c m short positive xs i j [] a f = record { ordered = omega arith; most = omega arith; least = omega arith }
+pieces_count code c m short positive xs i j (x ∷ ps) a f =
+    let first = a 0 x (omega arith) in
+    let some = piece_some code c xs x.start x.len x.char first in
+    let le = piece_short code m short positive xs x.start x.len x.char first in
+    let rest = pieces_count code c m short positive xs (end_of x) j ps (λ k d h. a (suc k) d (omega arith)) f.1 in
+    let e : end_of x ≡ i + x.len = ap (λ p. p + x.len) f.0 in
+    bounds_more m i j (end_of x) (length ps) x.len some.0 le e rest
+
+-- a list has at most as many pieces as elements, and at least as many as codes of m elements fill it
+pub count_of_cut : (code : ℕ → List ℕ) → IsCode code → Finds code → (m : ℕ) → ((s : ℕ) → length (code s) ≤ m) → 0 < m → (xs : List ℕ) (ps : List Piece) → IsCut code xs ps
+    → (length ps ≤ length xs) × (length xs ≤ m * length ps)
+count_of_cut code c find m short positive xs ps h =
+    let b = pieces_count code c m short positive xs 0 (length xs) ps (λ k d lt. (h.pieces k d lt).0) (cuts_follow code c find xs ps h) in
+    let most = b.most in
+    let least = b.least in
+    (omega arith, omega arith)

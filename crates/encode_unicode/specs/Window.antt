@@ -1,0 +1,49 @@
+-- A window of a slice, and what one call of a decoder gives. A place is an index into the whole slice.
+use Rattle.std.specs.Prelude.{◌≡◌, ℕ, ◌+◌, ◌<◌, List, length, slice_range, Option, Some, None, Result, Ok, Err}
+use Rattle.utf_base.specs.declared.errors.Utf8ErrorKind.{Utf8ErrorKind}
+use Rattle.utf_base.specs.Front.{BeginsWith}
+use Rattle.utf_base.specs.Kinds.{fault_kind}
+
+-- the part of a slice from the place `front` up to and without the place `back`
+pub record Window : Type 0 where
+  pub whole : List ℕ
+  pub front : ℕ
+  pub back : ℕ
+
+-- the window is all of the slice
+abbrev pub whole_window : List ℕ → Window
+whole_window xs = record { whole = xs; front = 0; back = length xs }
+
+-- the bytes in the window
+abbrev pub elements : Window → List ℕ
+elements w = slice_range w.whole w.front w.back
+
+-- the window without its first n elements
+abbrev pub without_front : Window → ℕ → Window
+without_front w n = record w { front = w.front + n }
+
+-- the place of a piece, its scalar or what is wrong, and its length
+abbrev pub Item : Type 0
+Item = ℕ × Result ℕ Utf8ErrorKind × ℕ
+
+-- the scalar whose code begins the bytes, with the code's length, or their forward kind, with length 1
+abbrev pub IsFrontPiece : List ℕ → Result ℕ Utf8ErrorKind → ℕ → Type 0
+IsFrontPiece xs (Ok s) n = BeginsWith xs s n
+IsFrontPiece xs (Err k) n = (fault_kind xs ≡ Some k) × (n ≡ 1)
+
+-- the item is the piece that begins the window, and exactly that piece has left it
+pub record GivesFront (w : Window) (x : Item) (v : Window) : Type 0 where
+  pub some : w.front < w.back
+  pub place : x.0 ≡ w.front
+  pub piece : IsFrontPiece (elements w) x.1 x.2
+  pub left : v ≡ without_front w x.2
+
+-- the window is empty, and stays as it is
+pub record GivesNone (w v : Window) : Type 0 where
+  pub none : w.front ≡ w.back
+  pub left : v ≡ w
+
+-- one call of `next`, from the window w to the window v
+abbrev pub NextGives : Window → Option Item → Window → Type 0
+NextGives w None v = GivesNone w v
+NextGives w (Some x) v = GivesFront w x v
