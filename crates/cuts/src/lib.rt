@@ -1,2 +1,4 @@
 //! Whole runs over bytes, and what the programs do.
 #![tactic(auto)]
+
+pub mod counted;

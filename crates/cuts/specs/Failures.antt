@@ -1,0 +1,13 @@
+-- A reader or a writer together with the number of its failures.
+use Rattle.std.specs.Prelude.{ℕ, ◌==◌, List, [], ◌∷◌, Result, Ok, Err, if◌then◌else◌}
+
+-- what a `Counted` is to its callers: the reader or writer inside, and how many of its calls failed
+pub record Counting (T : Type 0) : Type 0 where
+  pub inner : T
+  pub failures : ℕ
+
+-- 1 where a write of these bytes answered an error, or took none though there were some, and 0 elsewhere
+abbrev pub put_failures : {E : Type 0} → Result ℕ E → List ℕ → ℕ
+put_failures (Err error) bytes = 1
+put_failures (Ok count) [] = 0
+put_failures (Ok count) (byte ∷ bytes) = if count == 0 then 1 else 0

@@ -1,0 +1,97 @@
+//! A writer whose failures are counted, for contracts alone.
+//!
+//! A contract can then say that a function answers an error only where its writer failed: the count rose.
+//! The count takes no memory. Nothing here hands out the counter or the writer behind a `&mut`, so that
+//! only a call of `put` that failed raises the count.
+ghost use Rattle.std.specs.Prelude.{◌≡◌, ◌+◌, ◌<◌, ◌≤◌, OnOk, OnErr};
+ghost use Rattle.std.specs.Io.{WritesAtMost};
+ghost use Rattle.std.specs.Io.KnownBytes.{Appends, WriteAppends};
+ghost use Rattle.cuts.specs.Failures.{put_failures};
+
+use std::io;
+use std::io::Write;
+use std::marker::Model;
+use utf_base::tally::Tally;
+
+/// A reader or a writer, and how many of its calls failed.
+#[derive(Drop)]
+pub struct Counted<T> {
+    inner: T,
+    failures: Tally,
+}
+
+impl<T> Model for Counted<T> {
+    ghost use Rattle.cuts.specs.Failures.{Counting};
+
+    ghost Value = { Counting T };
+
+    ghost view = { λ c. record { inner = c.inner; failures = c.failures.count } };
+}
+
+impl<T> Counted<T> {
+    /// Counts from here on: what `inner` did before is no part of the count.
+    #[inline(always)]
+    pub fn new(inner: T) -> Counted<T>
+        ensures inner { result.inner ≡ inner }
+        ensures failures { result.failures ≡ 0 }
+    {
+        Counted {
+            inner,
+            failures: Tally::new(),
+        }
+    }
+
+    /// The reader or writer, which nobody counts any more.
+    #[inline(always)]
+    pub fn into_inner(self) -> T
+        ensures { result ≡ self.inner }
+    {
+        let Counted { inner, failures: _ } = self;
+        inner
+    }
+}
+
+impl<W: Write> Counted<W> {
+    /// One call of the inner `write`, with its answer.
+    ///
+    /// A failure is an error, or `Ok(0)` for at least one byte.
+    #[inline(always)]
+    pub fn put(&mut self, bytes: &[u8]) -> io::Result<usize>
+        ensures at_most { WritesAtMost result bytes.now }
+        ensures appends { WriteAppends (W.contents self.old.inner) (W.contents self.new.inner) result bytes.now }
+        ensures failures { self.new.failures ≡ self.old.failures + put_failures result bytes.now }
+    {
+        let answer = self.inner.write(bytes);
+        match answer {
+            Err(_) => self.failures.tick(),
+            Ok(count) => {
+                if count == 0 && !bytes.is_empty() {
+                    self.failures.tick();
+                }
+            }
+        }
+        answer
+    }
+}
+
+/// Writes all the bytes, in as many calls of `put` as it takes, none for no bytes.
+///
+/// The first failure ends it with the writer's error, or with `WriteZero` where the writer took nothing;
+/// a front of the bytes may be written by then. It is not tried again, after `Interrupted` neither.
+#[inline(always)]
+pub(crate) fn put_whole<W: Write>(bytes: &[u8], out: &mut Counted<W>) -> io::Result<()>
+    ensures ok { OnOk result (Appends (W.contents out.old.inner) (W.contents out.new.inner) bytes.now) }
+    ensures quiet { OnOk result (out.new.failures ≡ out.old.failures) }
+    ensures err { OnErr result (out.old.failures < out.new.failures) }
+    ensures never_fewer { out.old.failures ≤ out.new.failures }
+{
+    let mut sent = 0;
+    while sent < bytes.len() {
+        let count = out.put(&bytes[sent..])?;
+        if count == 0 {
+            return Err(io::Error::from(io::ErrorKind::WriteZero));
+        }
+        sent += count;
+    }
+    Ok(())
+}
