@@ -95,3 +95,41 @@ pub(crate) fn put_whole<W: Write>(bytes: &[u8], out: &mut Counted<W>) -> io::Res
     }
     Ok(())
 }
+
+#[cfg(test)]
+mod tests {
+    use super::*;
+    use crate::fakes::FakeWriter;
+    use std::alloc::Global;
+    use std::io::ErrorKind;
+
+    fn make_writer(alloc: Global, calls_left: u32, stalls: bool) -> Counted<FakeWriter> {
+        Counted::new(FakeWriter {
+            bytes: Vec::new(alloc),
+            calls_left,
+            most: 2,
+            stalls,
+        })
+    }
+
+    #[test]
+    fn parts_make_a_whole(rt: HostRuntime) {
+        for (calls, bytes) in [(0, ""), (1, "a"), (1, "ab"), (2, "abc"), (3, "abcdef")] {
+            let mut out = make_writer(rt.alloc(), calls, false);
+            assert!(rt; put_whole(bytes.as_bytes(), &mut out).is_ok());
+            assert_eq!(rt; out.into_inner().bytes.as_slice(), bytes.as_bytes());
+        }
+    }
+
+    #[test]
+    fn a_failure_in_mid_stream_is_told(rt: HostRuntime) {
+        for (calls, written) in [(0, ""), (1, "ab"), (2, "abcd")] {
+            for (stalls, kind) in [(false, ErrorKind::Other), (true, ErrorKind::WriteZero)] {
+                let mut out = make_writer(rt.alloc(), calls, stalls);
+                let answer = put_whole(b"abcdef", &mut out);
+                assert_eq!(rt; answer.err().map(|e| e.kind()), Some(kind));
+                assert_eq!(rt; out.into_inner().bytes.as_slice(), written.as_bytes());
+            }
+        }
+    }
+}

@@ -2,4 +2,6 @@
 #![tactic(auto)]
 
 pub mod counted;
+#[cfg(test)]
+mod fakes;
 mod line;

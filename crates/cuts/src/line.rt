@@ -149,3 +149,51 @@ fn hex_digit(n: u32) -> u8
         b'a' + (n - 10) as u8
     }
 }
+
+#[cfg(test)]
+mod tests {
+    use super::*;
+
+    #[test]
+    fn decimal_digits(rt: HostRuntime) {
+        for (n, digits) in [
+            (0, "0"),
+            (9, "9"),
+            (10, "10"),
+            (99, "99"),
+            (100, "100"),
+            (65535, "65535"),
+            (18446744073709551615, "18446744073709551615"),
+        ] {
+            let mut line = Line::new();
+            line.push_decimal(n);
+            assert_eq!(rt; line.as_bytes(), digits.as_bytes());
+        }
+    }
+
+    #[test]
+    fn six_hexadecimal_digits(rt: HostRuntime) {
+        for (n, digits) in [
+            (0x41, "000041"),
+            (0xe9, "0000e9"),
+            (0x10ffff, "10ffff"),
+            (0xabcdef, "abcdef"),
+        ] {
+            let mut line = Line::new();
+            line.push_hex(n);
+            assert_eq!(rt; line.as_bytes(), digits.as_bytes());
+        }
+    }
+
+    #[test]
+    fn parts_follow_one_another(rt: HostRuntime) {
+        let mut line = Line::new();
+        line.push_decimal(1234);
+        line.push_text(b" U+");
+        line.push_hex(0x20ac);
+        line.push(b' ');
+        line.push_decimal(7);
+        line.push(b'\n');
+        assert_eq!(rt; line.as_bytes(), b"1234 U+0020ac 7\n".as_slice());
+    }
+}
