@@ -1,5 +1,6 @@
 -- A reader or a writer together with the number of its failures.
-use Rattle.std.specs.Prelude.{ℕ, ◌==◌, List, [], ◌∷◌, Result, Ok, Err, if◌then◌else◌}
+use Rattle.std.specs.Prelude.{ℕ, ◌==◌, List, [], ◌∷◌, take, Option, Result, Ok, Err, if◌then◌else◌}
+use Rattle.std.specs.Io.KnownBytes.{Appends}
 
 -- what a `Counted` is to its callers: the reader or writer inside, and how many of its calls failed
 pub record Counting (T : Type 0) : Type 0 where
@@ -11,3 +12,7 @@ abbrev pub put_failures : {E : Type 0} → Result ℕ E → List ℕ → ℕ
 put_failures (Err error) bytes = 1
 put_failures (Ok count) [] = 0
 put_failures (Ok count) (byte ∷ bytes) = if count == 0 then 1 else 0
+
+-- known bytes grow by a front of these, as when a writer fails on the way
+abbrev pub AppendsFront : Option (List ℕ) → Option (List ℕ) → List ℕ → Type 0
+AppendsFront old new bytes = (count : ℕ) × Appends old new (take count bytes)
