@@ -1,2 +1,10 @@
 pub mod Failures
 pub mod Line
+pub mod Lines
+pub mod Runs
+pub mod Programs
+pub use Rattle.utf_base.specs.Scalar
+pub use Rattle.utf_base.specs.Code
+pub use Rattle.utf_base.specs.Piece
+pub use Rattle.utf_base.specs.Kinds
+pub use Rattle.encode_unicode.specs.Window

@@ -5,3 +5,5 @@ pub mod counted;
 #[cfg(test)]
 mod fakes;
 mod line;
+pub mod listing;
+pub mod runs;
