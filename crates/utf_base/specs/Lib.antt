@@ -5,3 +5,5 @@ pub mod Kinds
 pub mod Front
 pub mod CutLaws
 pub mod KindLaws
+pub mod Texts
+pub mod Refused

@@ -1,7 +1,20 @@
 //! Why no character was decoded.
-ghost use Rattle.std.specs.Prelude.{◌≡◌};
+ghost use Rattle.std.specs.Prelude.{◌≡◌, ◌↔◌, IsTrue};
+ghost use Rattle.utf_base.specs.Texts.{utf8_error_text};
 
+use std::error::Error;
+use std::fmt;
 use std::marker::Model;
+
+mod scalars;
+#[cfg(test)]
+mod tests;
+mod units;
+
+pub use scalars::{CodepointError, EmptyStrError, FromStrError, NonAsciiError, NonBmpError};
+pub use units::{
+    Utf16ArrayError, Utf16FirstUnitError, Utf16PairError, Utf16SliceError, Utf16TupleError,
+};
 
 /// What is wrong with bytes that do not begin with the code of a scalar.
 ///
@@ -23,6 +36,16 @@ pub enum Utf8ErrorKind {
     Utf16ReservedCodepoint,
     /// The value is above 0x10ffff.
     TooHighCodepoint,
+}
+
+impl Utf8ErrorKind {
+    /// Whether it is the kind of that error.
+    #[inline(always)]
+    pub fn is_kind_of(&self, error: &Utf8Error) -> bool
+        ensures { IsTrue result ↔ (self.now ≡ error.now) }
+    {
+        error.is_kind(*self)
+    }
 }
 
 /// The error of decoding UTF-8. Contracts see it as its kind.
@@ -57,4 +80,43 @@ impl Utf8Error {
     {
         self.kind
     }
+
+    /// Whether it is an error of that kind.
+    #[inline(always)]
+    pub fn is_kind(&self, kind: Utf8ErrorKind) -> bool
+        ensures { IsTrue result ↔ (self.now ≡ kind) }
+    {
+        self.kind == kind
+    }
+
+    /// What `Display` writes. It is meant for people, and names several kinds alike.
+    pub fn description(&self) -> &'static str
+        ensures { result.now ≡ utf8_error_text self.now }
+    {
+        match self.kind {
+            Utf8ErrorKind::TooFewBytes => "too few bytes",
+            Utf8ErrorKind::NonUtf8Byte
+            | Utf8ErrorKind::UnexpectedContinuationByte
+            | Utf8ErrorKind::InterruptedSequence => "not UTF-8",
+            Utf8ErrorKind::OverlongEncoding | Utf8ErrorKind::Utf16ReservedCodepoint => {
+                "malformed input"
+            }
+            Utf8ErrorKind::TooHighCodepoint => "invalid character",
+        }
+    }
 }
+
+impl fmt::Display for Utf8Error {
+    ghost use Rattle.std.specs.Prelude.{Some};
+    ghost use Rattle.utf_base.specs.Texts.{utf8_error_text};
+
+    ghost output = { λ e. Some (utf8_error_text e) };
+
+    ghost styled_output = { λ e _. Some (utf8_error_text e) };
+
+    fn fmt<W: fmt::Write>(&self, f: &mut fmt::Formatter<W>) -> fmt::Result {
+        f.write_str(self.description())
+    }
+}
+
+impl Error for Utf8Error {}
