@@ -86,7 +86,7 @@ impl Utf8Error {
     pub fn is_kind(&self, kind: Utf8ErrorKind) -> bool
         ensures { IsTrue result ↔ (self.now ≡ kind) }
     {
-        self.kind == kind
+        kind == self.kind
     }
 
     /// What `Display` writes. It is meant for people, and names several kinds alike.
