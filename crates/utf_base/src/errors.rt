@@ -18,8 +18,8 @@ pub use units::{
 
 /// What is wrong with bytes that do not begin with the code of a scalar.
 ///
-/// The kinds are judged in this order, and the first that applies is answered (RFC 3629, section 4, has
-/// the grammar that they leave).
+/// Where several apply, the calls say which is answered. RFC 3629, section 4, has the grammar of bytes
+/// that have none.
 #[derive(Clone, Copy, Debug, PartialEq, Eq, Drop)]
 pub enum Utf8ErrorKind {
     /// There are fewer bytes than the first one asks for, or none at all.
