@@ -1,8 +1,8 @@
--- A reader or a writer together with the number of its failures.
+-- A writer together with the number of its failures, and what a failed write leaves.
 use Rattle.std.specs.Prelude.{ℕ, ◌==◌, List, [], ◌∷◌, take, Option, Result, Ok, Err, if◌then◌else◌}
 use Rattle.std.specs.Io.KnownBytes.{Appends}
 
--- what a `Counted` is to its callers: the reader or writer inside, and how many of its calls failed
+-- what callers see of a `Counted`: the writer inside, and how many of its calls failed
 pub record Counting (T : Type 0) : Type 0 where
   pub inner : T
   pub failures : ℕ

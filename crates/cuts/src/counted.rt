@@ -13,7 +13,7 @@ use std::io::Write;
 use std::marker::Model;
 use utf_base::tally::Tally;
 
-/// A reader or a writer, and how many of its calls failed.
+/// A writer, and how many of its calls failed.
 #[derive(Drop)]
 pub struct Counted<T> {
     inner: T,
@@ -41,7 +41,7 @@ impl<T> Counted<T> {
         }
     }
 
-    /// The reader or writer, which nobody counts any more.
+    /// The writer, whose failures are counted no more.
     #[inline(always)]
     pub fn into_inner(self) -> T
         ensures { result ≡ self.inner }
@@ -52,13 +52,14 @@ impl<T> Counted<T> {
 }
 
 impl<W: Write> Counted<W> {
-    /// One call of the inner `write`, with its answer.
+    /// One call of the inner `write`, with its answer, the error included.
     ///
     /// A failure is an error, or `Ok(0)` for at least one byte.
     #[inline(always)]
     pub fn put(&mut self, bytes: &[u8]) -> io::Result<usize>
         ensures at_most { WritesAtMost result bytes.now }
-        ensures appends { WriteAppends (W.contents self.old.inner) (W.contents self.new.inner) result bytes.now }
+        ensures appends { WriteAppends (W.contents self.old.inner) (W.contents self.new.inner)
+            result bytes.now }
         ensures failures { self.new.failures ≡ self.old.failures + put_failures result bytes.now }
     {
         let answer = self.inner.write(bytes);
@@ -76,12 +77,14 @@ impl<W: Write> Counted<W> {
 
 /// Writes all the bytes, in as many calls of `put` as it takes, none for no bytes.
 ///
-/// The first failure ends it with the writer's error, or with `WriteZero` where the writer took nothing;
-/// a front of the bytes may be written by then. It is not tried again, after `Interrupted` neither.
+/// The first failure ends it, `Interrupted` too: with the writer's error, or with `WriteZero` where the
+/// writer took nothing.
 #[inline(always)]
 pub(crate) fn put_whole<W: Write>(bytes: &[u8], out: &mut Counted<W>) -> io::Result<()>
-    ensures ok { OnOk result (Appends (W.contents out.old.inner) (W.contents out.new.inner) bytes.now) }
-    ensures front { OnErr result (AppendsFront (W.contents out.old.inner) (W.contents out.new.inner) bytes.now) }
+    ensures ok { OnOk result
+        (Appends (W.contents out.old.inner) (W.contents out.new.inner) bytes.now) }
+    ensures front { OnErr result
+        (AppendsFront (W.contents out.old.inner) (W.contents out.new.inner) bytes.now) }
 
     ensures quiet { OnOk result (out.new.failures ≡ out.old.failures) }
     ensures err { OnErr result (out.old.failures < out.new.failures) }
@@ -126,7 +129,7 @@ mod tests {
     #[test]
     fn a_failure_in_mid_stream_is_told(rt: HostRuntime) {
         for (calls, written) in [(0, ""), (1, "ab"), (2, "abcd")] {
-            for (stalls, kind) in [(false, ErrorKind::Other), (true, ErrorKind::WriteZero)] {
+            for (stalls, kind) in [(false, ErrorKind::BrokenPipe), (true, ErrorKind::WriteZero)] {
                 let mut out = make_writer(rt.alloc(), calls, stalls);
                 let answer = put_whole(b"abcdef", &mut out);
                 assert_eq!(rt; answer.err().map(|e| e.kind()), Some(kind));

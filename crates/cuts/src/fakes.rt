@@ -4,7 +4,7 @@ ghost use Rattle.std.specs.Prelude.{Some, ◌<◌};
 use std::io;
 use std::io::{ErrorKind, Read, Write};
 
-/// A writer that keeps what it took, and fails at each call after the first `calls_left`.
+/// A writer that keeps what it took, and fails by `BrokenPipe` at each call after the first `calls_left`.
 #[derive(Drop)]
 pub(crate) struct FakeWriter {
     pub(crate) bytes: Vec<u8>,
@@ -13,7 +13,7 @@ pub(crate) struct FakeWriter {
     /// How many bytes a call takes at most.
     pub(crate) most: usize,
 
-    /// Whether it fails by taking nothing rather than by an error.
+    /// Whether it fails by taking nothing instead.
     pub(crate) stalls: bool,
 }
 
@@ -25,7 +25,7 @@ impl Write for FakeWriter {
             if self.stalls {
                 return Ok(0);
             }
-            return Err(io::Error::from(ErrorKind::Other));
+            return Err(io::Error::from(ErrorKind::BrokenPipe));
         }
         self.calls_left -= 1;
         let count = buf.len().min(self.most);
@@ -45,7 +45,7 @@ pub(crate) struct FakeReader<'a> {
     pub(crate) calls_left: u32,
     pub(crate) fault: Option<ErrorKind>,
 
-    /// How many bytes a call gives at most.
+    /// How many bytes a call gives at most. None would be the end of the bytes.
     pub(crate) most: usize,
     ghost some: { 0 < most },
 }

@@ -14,8 +14,12 @@ pub loop-rest-preserved : goal.loop-rest-preserved
 loop-rest-preserved c = record {
   room = omega (arith, length_decimal_step c.loop-rest.rest (omega arith) (omega arith));
   within = search rules;
-  digits = put_digit _ _ _ _ (omega arith) (omega arith) c.loop-rest.invariant.room c.loop-rest.invariant.within c.loop-rest.invariant.digits;
+  digits =
+      let i = c.loop-rest.invariant in
+      put_digit _ _ _ _ (omega arith) (omega arith) i.room i.within i.digits;
 }
 
 pub returns-clause-digits : goal.returns-clause-digits
-returns-clause-digits c = put_first_digit c.args.n c.loop-rest.rest _ _ (omega arith) c.loop-rest.invariant.room c.loop-rest.invariant.within c.loop-rest.invariant.digits
+returns-clause-digits c =
+    let i = c.loop-rest.invariant in
+    put_first_digit c.args.n c.loop-rest.rest _ _ (omega arith) i.room i.within i.digits

@@ -6,4 +6,5 @@ pub returns : goal.returns
 returns c =
     let copied : c.copy_from_slice.new.self ≡ c.args.source.now = c.copy_from_slice.ensures.after in
     let long : length c.copy_from_slice.new.self ≡ 20 = rw copied c.requires.source in
-    rw (← c.self.view_is, ← copied) (take_past c.self.inside.bytes _ _ c.self.inside.len c.args.count (omega arith) (omega arith))
+    rw (← c.self.view_is, ← copied)
+    (take_past c.self.inside.bytes _ _ c.self.inside.len c.args.count (omega arith) (omega arith))
