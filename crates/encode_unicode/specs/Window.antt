@@ -1,6 +1,7 @@
 -- A window of a slice, and what one call of a decoder gives. A place is an index into the whole slice.
 use Rattle.std.specs.Prelude.{◌≡◌, ℕ, ◌+◌, ◌<◌, List, length, slice_range, Option, Some, None, Result, Ok, Err}
 use Rattle.utf_base.specs.declared.errors.Utf8ErrorKind.{Utf8ErrorKind}
+use Rattle.utf_base.specs.Code.{utf8}
 use Rattle.utf_base.specs.Front.{BeginsWith}
 use Rattle.utf_base.specs.Kinds.{fault_kind}
 
@@ -28,7 +29,7 @@ Item = ℕ × Result ℕ Utf8ErrorKind × ℕ
 
 -- the scalar whose code begins the bytes, with the code's length, or their forward kind, with length 1
 abbrev pub IsFrontPiece : List ℕ → Result ℕ Utf8ErrorKind → ℕ → Type 0
-IsFrontPiece xs (Ok s) n = BeginsWith xs s n
+IsFrontPiece xs (Ok s) n = BeginsWith utf8 xs s n
 IsFrontPiece xs (Err k) n = (fault_kind xs ≡ Some k) × (n ≡ 1)
 
 -- the item is the piece that begins the window, and exactly that piece has left it

@@ -7,13 +7,17 @@ mod decoding_iterators;
 mod traits;
 
 pub use traits::U8SliceExt;
-pub use utf_base::traits::U8UtfExt;
+pub use utf_base::traits::{U8UtfExt, U16UtfExt};
 pub use utf_chars::char_ext::CharExt;
 pub use utf_chars::utf8_char::Utf8Char;
 
 pub mod error {
     //! What the calls of this crate answer where they find no character.
-    pub use utf_base::errors::{Utf8Error, Utf8ErrorKind};
+    pub use utf_base::errors::{
+        CodepointError, EmptyStrError, FromStrError, NonAsciiError, NonBmpError, Utf8Error,
+        Utf8ErrorKind, Utf16ArrayError, Utf16FirstUnitError, Utf16PairError, Utf16SliceError,
+        Utf16TupleError,
+    };
 }
 
 pub mod iterator {

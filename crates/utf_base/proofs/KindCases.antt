@@ -140,11 +140,11 @@ kind-none w n v s h scalar =
     kind-value w n v s ∙ rw (long, gap, low) refl
 
 -- a scalar that is the value of the bytes, in no more of them than it needs, begins them
-pub begins_with : (w : List ℕ) (n v : ℕ) → Sums w n v → least_value n ≤ v → IsScalar v → BeginsWith w v n
+pub begins_with : (w : List ℕ) (n v : ℕ) → Sums w n v → least_value n ≤ v → IsScalar v → BeginsWith utf8 w v n
 begins_with w n v s h scalar =
     let a = s.asks in
     let r = code_where_no_fault w (kind-none w n v s h scalar) in
     (rw s.sum at r.0, sym a.asks ∙ r.1 ∙ ap (λ x. length (utf8 x)) s.sum)
 
-pub begins_with-1 : (w : List ℕ) → 0 < length w → get_or w 0 0 < 0x80 → BeginsWith w (get_or w 0 0) 1
+pub begins_with-1 : (w : List ℕ) → 0 < length w → get_or w 0 0 < 0x80 → BeginsWith utf8 w (get_or w 0 0) 1
 begins_with-1 w some low = ascii_stands_alone w 0 some low

@@ -5,3 +5,5 @@ pub mod FrontLemmas
 pub mod KindLemmas
 pub mod StdText
 pub mod KindCases
+pub mod Utf16Code
+pub mod UnitLemmas

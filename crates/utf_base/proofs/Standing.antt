@@ -5,6 +5,7 @@ use Rattle.std.proofs.lemmas.List.{get_or-drop, get_or-take, drop-take, drop-dro
 use Rattle.std.proofs.lemmas.Bool.{cases_lt}
 use Rattle.std.specs.Prelude.{slice_range}
 use Rattle.utf_base.specs.Code.{IsCode}
+use Rattle.utf_base.specs.Front.{IsOneCode}
 use Rattle.utf_base.specs.Piece.{Stands, Inside}
 use Rattle.utf_base.specs.CutLaws.{CodesNeverOverlap}
 
@@ -105,3 +106,10 @@ stands_in_whole code xs i j p q s e lo le h =
       },
       omega arith,
     )
+
+-- a code stands at the front of itself
+pub stands_alone : (code : ℕ → List ℕ) (xs : List ℕ) → (h : IsOneCode code xs) → Stands code xs 0 h.0
+stands_alone code xs h =
+    let len : length xs ≡ length (code h.0) = ap length h.2 in
+    let all : slice_range xs 0 (0 + length (code h.0)) ≡ xs = grind (arith, common_steps) in
+    record { scalar = h.1; within = omega arith; equal = all ∙ h.2 }

@@ -1,5 +1,6 @@
 pub mod Scalar
 pub mod Code
+pub mod Units
 pub mod Piece
 pub mod Kinds
 pub mod Front

@@ -1,44 +1,53 @@
-//! The laws of UTF-8 that everything above rests on.
+//! The laws of UTF-8 and UTF-16 that everything above rests on.
 //!
-//! Each function does nothing: its contract is the law, for every list of bytes. A proof above cites a
-//! law by calling the function, or takes the lemma behind it from `proofs/`.
-ghost use Rattle.utf_base.specs.Code.{utf8};
-ghost use Rattle.utf_base.specs.CutLaws.{CodesNeverOverlap, PiecesNeverOverlap, OnePieceBegins, OnePieceEnds, CutsFollow, CutExists, CutIsUnique, AsciiStandsAlone};
-ghost use Rattle.utf_base.specs.KindLaws.{CodeOrOneFault, FourBytesDecide};
+//! Each function does nothing: its contract is the law, for every list. A proof above cites a law by
+//! calling the function, or takes the lemma behind it from `proofs/`.
+ghost use Rattle.utf_base.specs.Code.{utf8, utf16};
+ghost use Rattle.utf_base.specs.CutLaws.{CodesNeverOverlap, PiecesNeverOverlap, OnePieceBegins, OnePieceEnds};
+ghost use Rattle.utf_base.specs.CutLaws.{CutsFollow, CutExists, CutIsUnique, AsciiStandsAlone};
+ghost use Rattle.utf_base.specs.KindLaws.{CodeOrOneFault, UnitsCodeOrOneFault, FourBytesDecide};
 
-/// Two codes that stand in one list are the same place or share no byte.
+/// Two codes that stand in one list are the same place or share no element.
 pub fn codes_never_overlap()
-    ensures { CodesNeverOverlap utf8 }
+    ensures utf8 { CodesNeverOverlap utf8 }
+    ensures utf16 { CodesNeverOverlap utf16 }
 {}
 
-/// Two pieces of one list are the same or share no byte.
+/// Two pieces of one list are the same or share no element.
 pub fn pieces_never_overlap()
-    ensures { PiecesNeverOverlap utf8 }
+    ensures utf8 { PiecesNeverOverlap utf8 }
+    ensures utf16 { PiecesNeverOverlap utf16 }
 {}
 
 /// At most one piece begins at a place.
 pub fn one_piece_begins()
-    ensures { OnePieceBegins utf8 }
+    ensures utf8 { OnePieceBegins utf8 }
+    ensures utf16 { OnePieceBegins utf16 }
 {}
 
 /// At most one piece ends at a place.
 pub fn one_piece_ends()
-    ensures { OnePieceEnds utf8 }
+    ensures utf8 { OnePieceEnds utf8 }
+    ensures utf16 { OnePieceEnds utf16 }
 {}
 
-/// The pieces of a cut follow each other without gap or overlap, from the front of the list to its end.
+/// The pieces of a cut follow each other without gap or overlap, from the front of the list to its
+/// end.
 pub fn cuts_follow()
-    ensures { CutsFollow utf8 }
+    ensures utf8 { CutsFollow utf8 }
+    ensures utf16 { CutsFollow utf16 }
 {}
 
 /// Every list has a cut.
 pub fn cut_exists()
-    ensures { CutExists utf8 }
+    ensures utf8 { CutExists utf8 }
+    ensures utf16 { CutExists utf16 }
 {}
 
 /// No list has two.
 pub fn cut_is_unique()
-    ensures { CutIsUnique utf8 }
+    ensures utf8 { CutIsUnique utf8 }
+    ensures utf16 { CutIsUnique utf16 }
 {}
 
 /// A byte below 0x80 is a piece of its own: no error hides an ASCII character.
@@ -49,6 +58,11 @@ pub fn ascii_stands_alone()
 /// Bytes have the code of a scalar at their front, or exactly one kind of fault, and never both.
 pub fn code_or_one_fault()
     ensures { CodeOrOneFault }
+{}
+
+/// Units have the code of a scalar at their front, or exactly one fault of a slice, and never both.
+pub fn units_code_or_one_fault()
+    ensures { UnitsCodeOrOneFault }
 {}
 
 /// The forward kind depends on the first four bytes alone, on fewer where there are fewer.

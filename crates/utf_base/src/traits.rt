@@ -1,8 +1,10 @@
-//! What a single byte says of the code that it begins.
-ghost use Rattle.std.specs.Prelude.{ℕ};
+//! What a single byte or unit says of the code that it begins.
+ghost use Rattle.std.specs.Prelude.{◌≡◌, ℕ, ◌-◌};
+ghost use Rattle.std.specs.Int.{w8, leading_ones};
 ghost use Rattle.utf_base.specs.Front.{AsksForMore};
+ghost use Rattle.utf_base.specs.Units.{is_leading_surrogate, NeedsExtraUnit};
 
-use crate::errors::{Utf8Error, Utf8ErrorKind};
+use crate::errors::{Utf8Error, Utf8ErrorKind, Utf16FirstUnitError};
 
 /// Methods of a byte as the first of a code in UTF-8.
 pub trait U8UtfExt: Sized {
@@ -15,6 +17,13 @@ pub trait U8UtfExt: Sized {
     /// 0xf5 to 0xff, is a `NonUtf8Byte` (RFC 3629, section 3).
     fn extra_utf8_bytes(self) -> Result<usize, Utf8Error>
         ensures { AsksForMore (byte self) result };
+
+    /// The number of leading one bits less one, or 0 for a byte below 128.
+    ///
+    /// For the first byte of a code this is how many bytes follow it. For every other byte the number is
+    /// answered all the same: up to 7, and 0 for a continuation byte.
+    fn extra_utf8_bytes_unchecked(self) -> usize
+        ensures { result ≡ leading_ones w8 (byte self) - 1 };
 }
 
 impl U8UtfExt for u8 {
@@ -31,5 +40,43 @@ impl U8UtfExt for u8 {
             0xf0..=0xf4 => Ok(3),
             _ => Err(Utf8Error::new(Utf8ErrorKind::NonUtf8Byte)),
         }
+    }
+
+    #[inline(always)]
+    fn extra_utf8_bytes_unchecked(self) -> usize {
+        (self.leading_ones() as usize).saturating_sub(1)
+    }
+}
+
+/// Methods of a unit as the first of a code in UTF-16 (RFC 2781, section 2).
+pub trait U16UtfExt: Sized {
+    // The unit as a number.
+    ghost unit: { Self → ℕ };
+
+    /// Whether the unit is the first of a pair, and so needs one more.
+    ///
+    /// A trailing surrogate, 0xdc00 to 0xdfff, begins nothing and is an error.
+    fn utf16_needs_extra_unit(self) -> Result<bool, Utf16FirstUnitError>
+        ensures { NeedsExtraUnit (unit self) result };
+
+    /// Whether the unit is a leading surrogate, 0xd800 to 0xdbff, which begins a pair.
+    fn is_utf16_leading_surrogate(self) -> bool
+        ensures { result ≡ is_leading_surrogate (unit self) };
+}
+
+impl U16UtfExt for u16 {
+    ghost unit = { λ u. u };
+
+    #[inline(always)]
+    fn utf16_needs_extra_unit(self) -> Result<bool, Utf16FirstUnitError> {
+        match self {
+            0xdc00..=0xdfff => Err(Utf16FirstUnitError),
+            _ => Ok(self.is_utf16_leading_surrogate()),
+        }
+    }
+
+    #[inline(always)]
+    fn is_utf16_leading_surrogate(self) -> bool {
+        self & 0xfc00 == 0xd800
     }
 }

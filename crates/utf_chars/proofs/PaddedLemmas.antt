@@ -12,7 +12,7 @@ use Rattle.utf_base.specs.Piece.{Stands}
 use Rattle.utf_base.proofs.FrontLemmas.{decodes_from_stands, code_where_no_fault, no_fault_where_code, no_code_where_fault}
 use Rattle.utf_chars.specs.Padded.{padded, IsPadded}
 
-stands_padded : (xs : List ℕ) (s : ℕ) → IsScalar s → xs ≡ padded (utf8 s) → Stands utf8 xs 0 s
+stands_padded : (xs : List ℕ) (s : ℕ) → IsScalar s → xs ≡ padded 4 (utf8 s) → Stands utf8 xs 0 s
 unfolding padded
 stands_padded xs s h e =
     let span : 0 + length (utf8 s) - 0 ≡ length (utf8 s) = omega arith in
@@ -27,10 +27,10 @@ pub stands_in_bytes : (bytes : List ℕ) → IsPadded bytes → Stands utf8 byte
 stands_in_bytes bytes h = stands_padded bytes (value bytes) h.scalar h.code
 
 -- the value of a code that zeros follow is its scalar
-pub value-padded : (bytes : List ℕ) (s : ℕ) → IsScalar s → bytes ≡ padded (utf8 s) → value bytes ≡ s
+pub value-padded : (bytes : List ℕ) (s : ℕ) → IsScalar s → bytes ≡ padded 4 (utf8 s) → value bytes ≡ s
 value-padded bytes s h e = (decodes_from_stands bytes s (stands_padded bytes s h e)).1
 
-pub IsPadded-padded : (bytes : List ℕ) (s : ℕ) → IsScalar s → bytes ≡ padded (utf8 s) → IsPadded bytes
+pub IsPadded-padded : (bytes : List ℕ) (s : ℕ) → IsScalar s → bytes ≡ padded 4 (utf8 s) → IsPadded bytes
 IsPadded-padded bytes s h e =
     let v = value-padded bytes s h e in
     record { scalar = rw v h; code = rw v e }

@@ -1,10 +1,9 @@
 //! A character kept as its code in UTF-8.
-ghost use Rattle.std.specs.Prelude.{◌≡◌, ℕ, ◌==◌, ◌+◌, ◌%◌, length};
+ghost use Rattle.std.specs.Prelude.{◌≡◌, ◌==◌, length};
 ghost use Rattle.std.specs.Cmp.Rules.{comparing};
 ghost use Rattle.std.proofs.Common.{rules};
 ghost use Rattle.utf_base.specs.Code.{utf8};
 ghost use Rattle.utf_base.specs.Front.{as_scalar, DecodesFront};
-ghost use Rattle.utf_chars.specs.Padded.{padded};
 
 use crate::char_ext::CharExt;
 use std::fmt;
@@ -30,7 +29,7 @@ impl Model for Utf8Char {
 
     ghost invariant = { λ c. IsPadded c.bytes };
 
-    ghost inverse = { λ s. record { bytes = padded (utf8 s) } };
+    ghost inverse = { λ s. record { bytes = padded 4 (utf8 s) } };
 
     ghost inverse_ok = { λ c h i. record { bytes = sym h.code i } };
 }
@@ -41,9 +40,8 @@ impl Utf8Char {
     pub fn new(c: char) -> Utf8Char
         ensures { result ≡ c }
     {
-        Utf8Char {
-            bytes: padded_code(c),
-        }
+        let (bytes, _) = c.to_utf8_array();
+        Utf8Char { bytes }
     }
 
     /// The character whose code begins the bytes, and how many bytes the code has: 1 to 4.
@@ -95,42 +93,6 @@ impl Utf8Char {
             0xe0..=0xef => 3,
             _ => 4,
         }
-    }
-}
-
-// The lowest six bits, as a continuation byte.
-#[inline(always)]
-fn continuation(bits: u32) -> u8
-    ensures { result ≡ 0x80 + bits % 64 }
-{
-    0x80 | (bits & 0x3f) as u8
-}
-
-// The code, then zeros.
-#[inline(always)]
-#[tactic(auto, unfolding(utf_base::specs::Code::utf8, crate::specs::Padded::padded))]
-fn padded_code(c: char) -> [u8; 4]
-    ensures { result ≡ padded (utf8 c) }
-{
-    let s = c as u32;
-    if s < 0x80 {
-        [s as u8, 0, 0, 0]
-    } else if s < 0x800 {
-        [0xc0 | (s >> 6) as u8, continuation(s), 0, 0]
-    } else if s < 0x1_0000 {
-        [
-            0xe0 | (s >> 12) as u8,
-            continuation(s >> 6),
-            continuation(s),
-            0,
-        ]
-    } else {
-        [
-            0xf0 | (s >> 18) as u8,
-            continuation(s >> 12),
-            continuation(s >> 6),
-            continuation(s),
-        ]
     }
 }
 

@@ -1,8 +1,10 @@
+use Rattle.utf_base.specs.Code.{utf8, utf16}
 use Rattle.utf_base.proofs.Cuts.{cut_exists}
-use Rattle.utf_base.specs.Code.{utf8}
-use Rattle.utf_base.proofs.Utf8Code.{utf8_is_code}
 use Rattle.utf_base.proofs.FrontLemmas.{utf8_finds}
+use Rattle.utf_base.proofs.UnitLemmas.{utf16_finds}
+use Rattle.utf_base.proofs.Utf8Code.{utf8_is_code}
+use Rattle.utf_base.proofs.Utf16Code.{utf16_is_code}
 use Rattle.utf_base.proofs.laws.cut_exists.Goals as goal
 
 pub returns : goal.returns
-returns c = cut_exists utf8 utf8_is_code utf8_finds
+returns c = record { utf8 = cut_exists utf8 utf8_is_code utf8_finds; utf16 = cut_exists utf16 utf16_is_code utf16_finds }
