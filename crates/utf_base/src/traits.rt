@@ -6,6 +6,9 @@ ghost use Rattle.utf_base.specs.Units.{is_leading_surrogate, NeedsExtraUnit};
 
 use crate::errors::{Utf8Error, Utf8ErrorKind, Utf16FirstUnitError};
 
+#[cfg(test)]
+mod tests;
+
 /// Methods of a byte as the first of a code in UTF-8.
 pub trait U8UtfExt: Sized {
     // The byte as a number.
