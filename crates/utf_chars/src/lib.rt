@@ -2,4 +2,6 @@
 #![tactic(auto)]
 
 pub mod char_ext;
+#[cfg(test)]
+mod tests;
 pub mod utf8_char;
