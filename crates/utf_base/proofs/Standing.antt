@@ -1,9 +1,10 @@
 -- Where codes stand: at one place one code at most, and none begins inside another.
-use Rattle.std.proofs.Common.{◌≡◌, ℕ, ◌+◌, ◌-◌, ◌<◌, ◌≤◌, inl, inr, List, length, get_or, drop, arith, ap, sym, ◌∙◌, ⊎_elim}
+use Rattle.std.proofs.Common.{◌≡◌, ℕ, ◌+◌, ◌-◌, ◌<◌, ◌≤◌, inl, inr, List, [], ◌++◌, length, get_or, drop, arith, refl, ap, sym, ◌∙◌, ⊎_elim, length-append}
 use Rattle.std.proofs.lemmas.Grind.{common_steps}
-use Rattle.std.proofs.lemmas.List.{get_or-drop, get_or-take, drop-take, drop-drop, take-take}
+use Rattle.std.proofs.lemmas.List.{get_or-drop, get_or-take, drop-take, drop-drop, take-take, take_at, append-nil}
 use Rattle.std.proofs.lemmas.Bool.{cases_lt}
 use Rattle.std.specs.Prelude.{slice_range}
+use Rattle.utf_base.specs.Scalar.{IsScalar}
 use Rattle.utf_base.specs.Code.{IsCode}
 use Rattle.utf_base.specs.Front.{IsOneCode}
 use Rattle.utf_base.specs.Piece.{Stands, Inside}
@@ -107,9 +108,16 @@ stands_in_whole code xs i j p q s e lo le h =
       omega arith,
     )
 
--- a code stands at the front of itself
+-- a code stands at the front of what begins with it
+pub stands_first : (code : ℕ → List ℕ) (xs ys : List ℕ) (s : ℕ) → IsScalar s → xs ≡ code s ++ ys → Stands code xs 0 s
+stands_first code xs ys s h e =
+    let span : 0 + length (code s) - 0 ≡ length (code s) = omega arith in
+    record {
+      scalar = h;
+      within = rw e (omega (arith, length-append (code s) ys));
+      equal = rw e (rw span (take_at (code s) ys _ refl));
+    }
+
+-- and at the front of itself
 pub stands_alone : (code : ℕ → List ℕ) (xs : List ℕ) → (h : IsOneCode code xs) → Stands code xs 0 h.0
-stands_alone code xs h =
-    let len : length xs ≡ length (code h.0) = ap length h.2 in
-    let all : slice_range xs 0 (0 + length (code h.0)) ≡ xs = grind (arith, common_steps) in
-    record { scalar = h.1; within = omega arith; equal = all ∙ h.2 }
+stands_alone code xs h = stands_first code xs [] h.0 h.1 (h.2 ∙ sym (append-nil (code h.0)))

@@ -51,3 +51,6 @@ utf8-apart s t k h g p q e = grind (arith, common_steps, utf8-follower s k h p q
 
 pub utf8_is_code : IsCode utf8
 utf8_is_code = record { some = utf8-some; apart = utf8-apart; sized = utf8-sized; injective = utf8-injective }
+
+pub ascii_is_scalar : (s : ℕ) → s < 0x80 → IsScalar s
+ascii_is_scalar s h = record { below = omega arith; no_surrogate = λ g. absurd (omega arith) }

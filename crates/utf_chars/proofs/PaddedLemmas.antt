@@ -1,5 +1,5 @@
 -- What the four bytes of a character hold.
-use Rattle.std.proofs.Common.{◌≡◌, ℕ, ◌+◌, ◌-◌, ◌<◌, ◌≤◌, List, length, get_or, take, sym, ap, ◌∙◌, refl, arith, length-append}
+use Rattle.std.proofs.Common.{◌≡◌, ℕ, ◌-◌, ◌<◌, ◌≤◌, List, [], ◌∷◌, length, get_or, take, sym, ap, ◌∙◌, refl, arith}
 use Rattle.std.proofs.lemmas.Grind.{common_steps}
 use Rattle.std.proofs.lemmas.List.{take_at}
 use Rattle.std.specs.Prelude.{replicate, Result, Ok, Err, IsOk}
@@ -9,18 +9,14 @@ use Rattle.utf_base.specs.Scalar.{IsScalar}
 use Rattle.utf_base.specs.Code.{utf8}
 use Rattle.utf_base.specs.Kinds.{value, asked}
 use Rattle.utf_base.specs.Piece.{Stands}
-use Rattle.utf_base.proofs.FrontLemmas.{decodes_from_stands, code_where_no_fault, no_fault_where_code, no_code_where_fault}
+use Rattle.utf_base.proofs.Standing.{stands_first}
+use Rattle.utf_base.proofs.Utf8Code.{utf8-1}
+use Rattle.utf_base.proofs.FrontLemmas.{decodes_from_stands, code_where_no_fault, no_fault_where_code, no_code_where_fault, value-1, asked-1}
 use Rattle.utf_chars.specs.Padded.{padded, IsPadded}
 
 stands_padded : (xs : List ℕ) (s : ℕ) → IsScalar s → xs ≡ padded 4 (utf8 s) → Stands utf8 xs 0 s
 unfolding padded
-stands_padded xs s h e =
-    let span : 0 + length (utf8 s) - 0 ≡ length (utf8 s) = omega arith in
-    record {
-      scalar = h;
-      within = rw e (omega (arith, length-append {A = ℕ}));
-      equal = rw e (rw span (take_at (utf8 s) (replicate (4 - length (utf8 s)) 0) _ refl));
-    }
+stands_padded xs s h e = stands_first utf8 xs (replicate (4 - length (utf8 s)) 0) s h e
 
 -- the code of the value begins the bytes
 pub stands_in_bytes : (bytes : List ℕ) → IsPadded bytes → Stands utf8 bytes 0 (value bytes)
@@ -70,3 +66,15 @@ len_by_first bytes s h e =
 pub IsOk-DecodesFront : (w : List ℕ) (s : ℕ) (r : Result (ℕ × ℕ) Utf8ErrorKind) → Stands utf8 w 0 s → DecodesFront as_scalar w r → IsOk r
 IsOk-DecodesFront w s (Ok x) h d = refl
 IsOk-DecodesFront w s (Err k) h d = absurd (no_code_where_fault w k s d h)
+
+-- an ASCII code, then zeros
+pub padded-ascii : (s : ℕ) → s < 0x80 → s ∷ 0 ∷ 0 ∷ 0 ∷ [] ≡ padded 4 (utf8 s)
+unfolding padded
+padded-ascii s h = rw (utf8-1 s h) refl
+
+-- the first byte tells whether the scalar is below 128
+pub first_is_ascii : (bytes : List ℕ) (s : ℕ) → IsPadded bytes → value bytes ≡ s → (get_or bytes 0 0 < 128 → s < 128) × (s < 128 → get_or bytes 0 0 < 128)
+first_is_ascii bytes s h e = (
+  λ low. let v = value-1 bytes (asked-1 (get_or bytes 0 0) low) in omega arith,
+  λ low. let code = h.code ∙ ap (λ x. padded 4 (utf8 x)) e ∙ sym (padded-ascii s low) in let first : get_or bytes 0 0 ≡ s = ap (λ xs. get_or xs 0 0) code in omega arith,
+)

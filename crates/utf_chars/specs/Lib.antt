@@ -1,4 +1,5 @@
 pub mod Padded
+pub mod Chars
 pub use Rattle.utf_base.specs.Scalar
 pub use Rattle.utf_base.specs.Code
 pub use Rattle.utf_base.specs.Piece

@@ -12,3 +12,7 @@ padded places code = code ++ replicate (places - length code) 0
 pub record IsPadded (bytes : List ℕ) : Type 0 where
   pub scalar : IsScalar (value bytes)
   pub code : bytes ≡ padded 4 (utf8 (value bytes))
+
+-- the array is the code of a scalar, then zeros in its other places
+abbrev pub IsPaddedCode : (ℕ → List ℕ) → ℕ → List ℕ → Type 0
+IsPaddedCode code places xs = (s : ℕ) × IsScalar s × (xs ≡ padded places (code s))

@@ -8,6 +8,7 @@ ghost use Rattle.utf_base.specs.Kinds.{is_continuation};
 ghost use Rattle.utf_base.specs.Units.{is_surrogate, is_trailing_surrogate, pair_value, tuple_value, units_of};
 ghost use Rattle.utf_chars.specs.Padded.{padded};
 
+use crate::utf8_char::Utf8Char;
 use utf_base::errors::{
     CodepointError, Utf8Error, Utf8ErrorKind, Utf16ArrayError, Utf16SliceError, Utf16TupleError,
 };
@@ -19,6 +20,10 @@ use utf_base::traits::U16UtfExt;
 pub trait CharExt: Sized {
     // The scalar that the character is.
     ghost scalar: { Self → ℕ };
+
+    /// The character kept as its code in UTF-8.
+    fn to_utf8(self) -> Utf8Char
+        ensures { result ≡ scalar self };
 
     /// The code in UTF-8, then zeros, and how many bytes the code has: 1 to 4 (RFC 3629, section 3).
     fn to_utf8_array(self) -> ([u8; 4], usize)
@@ -94,6 +99,11 @@ pub trait CharExt: Sized {
 
 impl CharExt for char {
     ghost scalar = { as_scalar };
+
+    #[inline(always)]
+    fn to_utf8(self) -> Utf8Char {
+        Utf8Char::new(self)
+    }
 
     #[inline(always)]
     fn to_utf8_array(self) -> ([u8; 4], usize) {

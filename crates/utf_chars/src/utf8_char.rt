@@ -1,16 +1,28 @@
 //! A character kept as its code in UTF-8.
-ghost use Rattle.std.specs.Prelude.{◌≡◌, ◌==◌, length};
-ghost use Rattle.std.specs.Cmp.Rules.{comparing};
+ghost use Rattle.std.specs.Prelude.{◌≡◌, ◌==◌, ◌<◌, ◌≤◌, ◌↔◌, ◌++◌, Some, IsTrue, length, drop};
+ghost use Rattle.std.specs.Cmp.{partial_order_from_own_ties};
+ghost use Rattle.std.specs.Cmp.Rules.{comparing, hashing};
+ghost use Rattle.std.specs.Hash as fed;
+ghost use Rattle.std.specs.Ordering.{nat_cmp, as_partial_cmp};
+ghost use Rattle.std.specs.Result.{OkIff};
 ghost use Rattle.std.proofs.Common.{rules};
 ghost use Rattle.utf_base.specs.Code.{utf8};
-ghost use Rattle.utf_base.specs.Front.{as_scalar, DecodesFront};
+ghost use Rattle.utf_base.specs.Front.{as_scalar, BeginsWith, DecodesFront, DecodesBytes};
+ghost use Rattle.utf_chars.specs.Chars.{ascii_lowercase, ascii_uppercase, BeginsText, HasCode};
+ghost use Rattle.utf_chars.specs.Chars.{IsOneCharText};
+ghost use Rattle.utf_chars.specs.Padded.{padded, IsPaddedCode};
 
 use crate::char_ext::CharExt;
+use std::cmp::Ordering;
 use std::fmt;
+use std::hash::{Hash, Hasher};
 use std::marker::Model;
-use utf_base::errors::Utf8Error;
+use std::str::FromStr;
+use utf_base::errors::{EmptyStrError, FromStrError, NonAsciiError, Utf8Error};
 
 /// A Unicode scalar value, kept as its code in UTF-8. Contracts see it as the scalar.
+///
+/// Characters are ordered, compared and hashed by the scalar, as a `char` is.
 #[derive(Clone, Copy, Drop)]
 pub struct Utf8Char {
     bytes: [u8; 4],
@@ -34,6 +46,7 @@ impl Model for Utf8Char {
     ghost inverse_ok = { λ c h i. record { bytes = sym h.code i } };
 }
 
+/// Making a character.
 impl Utf8Char {
     /// The character.
     #[inline(always)]
@@ -42,6 +55,17 @@ impl Utf8Char {
     {
         let (bytes, _) = c.to_utf8_array();
         Utf8Char { bytes }
+    }
+
+    /// The first character of the text, and how many bytes of the text it is: 1 to 4.
+    #[inline]
+    pub fn from_str_start(src: &str) -> Result<(Utf8Char, usize), EmptyStrError>
+        ensures { BeginsText src.now result }
+    {
+        match Utf8Char::from_slice_start(src.as_bytes()) {
+            Ok(first) => Ok(first),
+            Err(_) => Err(EmptyStrError),
+        }
     }
 
     /// The character whose code begins the bytes, and how many bytes the code has: 1 to 4.
@@ -55,6 +79,81 @@ impl Utf8Char {
         Ok((Utf8Char::new(c), len))
     }
 
+    /// The character whose code begins the bytes, and how many bytes the code has.
+    #[inline(always)]
+    pub fn from_slice_start_unchecked(src: &[u8]) -> (Utf8Char, usize)
+        requires { HasCode utf8 src.now }
+        ensures { BeginsWith utf8 src.now result.0 result.1 }
+    {
+        Utf8Char::from_slice_start(src).unwrap()
+    }
+
+    /// The character whose code begins the four bytes. Those behind the code are not kept.
+    ///
+    /// The error is that of `CharExt::from_utf8_array`.
+    #[inline(always)]
+    pub fn from_array(utf8: [u8; 4]) -> Result<Utf8Char, Utf8Error>
+        ensures { DecodesBytes as_scalar utf8 result }
+    {
+        Ok(Utf8Char::new(char::from_utf8_array(utf8)?))
+    }
+
+    /// The character whose code, and then zeros, the four bytes are.
+    #[inline(always)]
+    pub fn from_array_unchecked(bytes: [u8; 4]) -> Utf8Char
+        requires { IsPaddedCode utf8 4 bytes }
+        ensures { padded 4 (utf8 result) ≡ bytes }
+    {
+        Utf8Char { bytes }
+    }
+
+    /// The character of an ASCII code, and an error from 128 on.
+    #[inline(always)]
+    pub fn from_ascii(ascii: u8) -> Result<Utf8Char, NonAsciiError>
+        ensures { OkIff result (ascii < 128) ascii }
+    {
+        if ascii < 128 {
+            Ok(Utf8Char::from_ascii_unchecked(ascii))
+        } else {
+            Err(NonAsciiError)
+        }
+    }
+
+    /// The character of an ASCII code.
+    #[inline(always)]
+    pub fn from_ascii_unchecked(ascii: u8) -> Utf8Char
+        requires { ascii < 128 }
+        ensures { result ≡ ascii }
+    {
+        Utf8Char {
+            bytes: [ascii, 0, 0, 0],
+        }
+    }
+}
+
+/// What a character is.
+impl Utf8Char {
+    /// How many bytes the code has: 1 to 4.
+    #[inline(always)]
+    pub fn len(self) -> usize
+        ensures { result ≡ length (utf8 self) }
+    {
+        match self.bytes[0] {
+            0x00..=0x7f => 1,
+            0x80..=0xdf => 2,
+            0xe0..=0xef => 3,
+            _ => 4,
+        }
+    }
+
+    /// Whether the scalar is below 128.
+    #[inline(always)]
+    pub fn is_ascii(self) -> bool
+        ensures { IsTrue result ↔ (self < 128) }
+    {
+        self.bytes[0] < 128
+    }
+
     /// The character as a `char`.
     #[inline(always)]
     pub fn to_char(self) -> char
@@ -64,6 +163,16 @@ impl Utf8Char {
         c
     }
 
+    /// The code, then zeros, and how many bytes the code has.
+    #[inline(always)]
+    pub fn to_array(self) -> ([u8; 4], usize)
+        ensures code { result.0 ≡ padded 4 (utf8 self) }
+        ensures len { result.1 ≡ length (utf8 self) }
+    {
+        let bytes = self.bytes;
+        (bytes, self.len())
+    }
+
     /// The code as text of one character, lent from inside the character.
     #[inline(always)]
     pub fn as_str(&self) -> &str
@@ -71,28 +180,98 @@ impl Utf8Char {
     {
         let _ = &self.bytes;
         // The code of a scalar is text.
-        unsafe { str::from_utf8_unchecked(self.code()) }
+        unsafe { str::from_utf8_unchecked(self.as_bytes()) }
     }
 
-    // The code.
+    /// The code, lent from inside the character.
     #[inline(always)]
-    fn code(&self) -> &[u8]
+    pub fn as_bytes(&self) -> &[u8]
         ensures { result.now ≡ utf8 self.now }
     {
-        &self.bytes[..self.code_len()]
+        &self.bytes[..self.len()]
     }
 
-    // How many bytes the code has.
+    /// Writes the code to the front of the slice, and answers how many bytes it has. The places behind
+    /// it stay as they are.
     #[inline(always)]
-    fn code_len(self) -> usize
-        ensures { result ≡ length (utf8 self) }
+    pub fn to_slice(self, dst: &mut [u8]) -> usize
+        requires { length (utf8 self) ≤ length dst.old }
+        ensures len { result ≡ length (utf8 self) }
+        ensures written { dst.new ≡ utf8 self ++ drop (length (utf8 self)) dst.old }
     {
-        match self.bytes[0] {
-            0x00..=0x7f => 1,
-            0x80..=0xdf => 2,
-            0xe0..=0xef => 3,
-            _ => 4,
-        }
+        let len = self.len();
+        dst[..len].copy_from_slice(self.as_bytes());
+        len
+    }
+}
+
+/// The cases of ASCII letters.
+impl Utf8Char {
+    /// The upper case of an ASCII letter, and every other character as it is.
+    #[inline(always)]
+    pub fn to_ascii_uppercase(self) -> Utf8Char
+        ensures { result ≡ ascii_uppercase self }
+    {
+        Utf8Char::new(self.to_char().to_ascii_uppercase())
+    }
+
+    /// The lower case of an ASCII letter, and every other character as it is.
+    #[inline(always)]
+    pub fn to_ascii_lowercase(self) -> Utf8Char
+        ensures { result ≡ ascii_lowercase self }
+    {
+        Utf8Char::new(self.to_char().to_ascii_lowercase())
+    }
+
+    /// Makes an ASCII letter upper case.
+    #[inline(always)]
+    pub fn make_ascii_uppercase(&mut self)
+        ensures { self.new ≡ ascii_uppercase self.old }
+    {
+        *self = self.to_ascii_uppercase();
+    }
+
+    /// Makes an ASCII letter lower case.
+    #[inline(always)]
+    pub fn make_ascii_lowercase(&mut self)
+        ensures { self.new ≡ ascii_lowercase self.old }
+    {
+        *self = self.to_ascii_lowercase();
+    }
+
+    /// Whether the characters are equal but for the case of ASCII letters.
+    #[inline(always)]
+    pub fn eq_ignore_ascii_case(&self, other: &Utf8Char) -> bool
+        ensures { IsTrue result ↔ (ascii_lowercase self.now ≡ ascii_lowercase other.now) }
+    {
+        self.to_ascii_lowercase() == other.to_ascii_lowercase()
+    }
+}
+
+/// Comparisons with other types.
+impl Utf8Char {
+    /// Whether it is that `char`.
+    #[inline(always)]
+    pub fn eq_char(self, c: char) -> bool
+        ensures { IsTrue result ↔ (self ≡ c) }
+    {
+        self.to_char() == c
+    }
+
+    /// The order of the scalars.
+    #[inline(always)]
+    pub fn cmp_char(self, c: char) -> Ordering
+        ensures { result ≡ nat_cmp self c }
+    {
+        self.to_char().cmp(&c)
+    }
+
+    /// Whether it is the ASCII character of that code. No byte from 128 on is one.
+    #[inline(always)]
+    pub fn eq_u8(self, byte: u8) -> bool
+        ensures { IsTrue result ↔ ((byte < 128) × (self ≡ byte)) }
+    {
+        byte < 128 && self.to_char() == char::from(byte)
     }
 }
 
@@ -109,6 +288,92 @@ impl PartialEq for Utf8Char {
 
 impl Eq for Utf8Char {
     ghost laws = { Prim.search (comparing, rules) };
+}
+
+impl Ord for Utf8Char {
+    ghost cmp = { nat_cmp };
+
+    ghost total = { Prim.search (comparing, rules) };
+
+    ghost matches_partial_cmp = { Prim.search (comparing, rules) };
+
+    ghost matches_eq = { Prim.search (comparing, rules) };
+
+    #[inline(always)]
+    fn cmp(&self, other: &Utf8Char) -> Ordering {
+        self.to_char().cmp(&other.to_char())
+    }
+}
+
+impl PartialOrd for Utf8Char {
+    ghost partial_cmp = { as_partial_cmp nat_cmp };
+
+    ghost laws = { partial_order_from_own_ties (Prim.search (comparing, rules)) (Prim.search (comparing, rules)) };
+
+    #[inline(always)]
+    fn partial_cmp(&self, other: &Utf8Char) -> Option<Ordering> {
+        Some(self.cmp(other))
+    }
+}
+
+impl Hash for Utf8Char {
+    ghost hash_input = { fed.char };
+
+    ghost respects_eq = { Prim.search (hashing, rules) };
+
+    fn hash<H: Hasher>(&self, state: &mut H) {
+        self.to_char().hash(state);
+    }
+}
+
+impl Default for Utf8Char {
+    ghost is_default = { λ c. c ≡ 0 };
+
+    fn default() -> Utf8Char {
+        Utf8Char::from_ascii_unchecked(0)
+    }
+}
+
+impl From<char> for Utf8Char {
+    ghost from_gives = { λ c r. r ≡ c };
+
+    #[inline(always)]
+    fn from(c: char) -> Utf8Char {
+        Utf8Char::new(c)
+    }
+}
+
+impl From<Utf8Char> for char {
+    ghost from_gives = { λ c r. r ≡ c };
+
+    #[inline(always)]
+    fn from(c: Utf8Char) -> char {
+        c.to_char()
+    }
+}
+
+impl FromStr for Utf8Char {
+    type Err = FromStrError;
+
+    ghost from_str_gives = { IsOneCharText };
+
+    fn from_str(s: &str) -> Result<Utf8Char, FromStrError> {
+        match Utf8Char::from_str_start(s) {
+            Err(EmptyStrError) => Err(FromStrError::Empty),
+            Ok((c, len)) if len == s.len() => Ok(c),
+            Ok(_) => Err(FromStrError::MultipleCodepoints),
+        }
+    }
+}
+
+impl fmt::Display for Utf8Char {
+    ghost output = { λ c. Some (utf8 c) };
+
+    ghost styled_output = { λ c _. Some (utf8 c) };
+
+    fn fmt<W: fmt::Write>(&self, f: &mut fmt::Formatter<W>) -> fmt::Result {
+        f.write_str(self.as_str())
+    }
 }
 
 impl fmt::Debug for Utf8Char {

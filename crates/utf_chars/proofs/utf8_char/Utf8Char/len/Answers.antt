@@ -1,6 +1,6 @@
 use Rattle.std.proofs.Common.{arith}
 use Rattle.utf_chars.proofs.PaddedLemmas.{len_by_first}
-use Rattle.utf_chars.proofs.utf8_char.Utf8Char.code_len.Goals as goal
+use Rattle.utf_chars.proofs.utf8_char.Utf8Char.len.Goals as goal
 
 pub returns-in-0-to-127 : goal.returns-in-0-to-127
 returns-in-0-to-127 c = (len_by_first _ _ c.self.invariant c.self.view_is).one (omega arith)
