@@ -1,0 +1,15 @@
+//! Callers of `encode_unicode`, proved from its contracts alone.
+#![tactic(auto)]
+
+ghost use Rattle.std.specs.Prelude.{◌≡◌, [], MatchOption};
+ghost use Rattle.uses.specs.Initials.{IsInitial};
+
+use encode_unicode::Utf8Char;
+
+/// The first character of a text, in upper case where it is an ASCII letter.
+pub fn initial(text: &str) -> Option<Utf8Char>
+    ensures { MatchOption result (text.now ≡ []) (IsInitial text.now) }
+{
+    let (first, _) = Utf8Char::from_str_start(text).ok()?;
+    Some(first.to_ascii_uppercase())
+}
