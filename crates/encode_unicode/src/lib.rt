@@ -4,6 +4,8 @@
 #![tactic(auto)]
 
 mod decoding_iterators;
+#[cfg(test)]
+mod tests;
 mod traits;
 
 pub use traits::U8SliceExt;
