@@ -1,6 +1,9 @@
-//! A reader and a writer over memory for tests, which work in small parts and fail when they are told to.
+//! A reader and a writer over memory for tests, which work in small parts and fail when they are told
+//! to, and an allocator that has no memory.
 ghost use Rattle.std.specs.Prelude.{Some, ◌<◌};
+ghost use Rattle.std.specs.Borrow.{ffalse};
 
+use std::alloc::{AllocError, Allocator, Global};
 use std::io;
 use std::io::{ErrorKind, Read, Write};
 
@@ -15,6 +18,18 @@ pub(crate) struct FakeWriter {
 
     /// Whether it fails by taking nothing instead.
     pub(crate) stalls: bool,
+}
+
+impl FakeWriter {
+    /// A writer that takes all that it is given.
+    pub(crate) fn ample(alloc: Global) -> FakeWriter {
+        FakeWriter {
+            bytes: Vec::new(alloc),
+            calls_left: u32::MAX,
+            most: usize::MAX,
+            stalls: false,
+        }
+    }
 }
 
 impl Write for FakeWriter {
@@ -50,6 +65,18 @@ pub(crate) struct FakeReader<'a> {
     ghost some: { 0 < most },
 }
 
+impl<'a> FakeReader<'a> {
+    /// A reader that gives two bytes a call, and no fault.
+    pub(crate) fn over(bytes: &'a [u8]) -> FakeReader<'a> {
+        FakeReader {
+            bytes,
+            calls_left: 0,
+            fault: None,
+            most: 2,
+        }
+    }
+}
+
 impl Read for FakeReader<'_> {
     ghost remaining = { λ r. Some r.bytes.now };
 
@@ -64,6 +91,21 @@ impl Read for FakeReader<'_> {
         self.bytes = &self.bytes[count..];
         Ok(count)
     }
+}
+
+/// An allocator that refuses each call.
+#[derive(Clone, Copy)]
+pub(crate) struct Refusing;
+
+unsafe impl Allocator for Refusing {
+    // There is no block to free.
+    ghost dealloc_token = { λ _ _ _. ffalse };
+
+    fn allocate(&self, _size: usize, _align: usize) -> Result<*mut u8, AllocError> {
+        Err(AllocError)
+    }
+
+    unsafe fn deallocate(&self, _ptr: *mut u8, _size: usize, _align: usize) {}
 }
 
 #[cfg(test)]

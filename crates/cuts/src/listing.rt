@@ -11,6 +11,9 @@ use encode_unicode::iterator::Utf8CharDecoder;
 use std::io;
 use std::io::Write;
 
+#[cfg(test)]
+mod tests;
+
 /// A piece of a slice of bytes: its offset from the front, the character or what is wrong with the
 /// byte, and its length in bytes.
 pub type Item = (usize, Result<Utf8Char, Utf8Error>, usize);

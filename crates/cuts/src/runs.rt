@@ -9,6 +9,9 @@ use std::alloc::Allocator;
 use std::fmt;
 use std::io::{ErrorKind, Read, Write};
 
+#[cfg(test)]
+mod tests;
+
 /// Why a program ends before its work is done.
 #[derive(Clone, Copy, Debug, PartialEq, Eq, Drop)]
 pub enum Stop {
