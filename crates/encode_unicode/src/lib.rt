@@ -12,6 +12,7 @@ pub use traits::U8SliceExt;
 pub use utf_base::traits::{U8UtfExt, U16UtfExt};
 pub use utf_chars::char_ext::CharExt;
 pub use utf_chars::utf8_char::Utf8Char;
+pub use utf_chars::utf16_char::Utf16Char;
 
 pub mod error {
     //! What the calls of this crate answer where they find no character.

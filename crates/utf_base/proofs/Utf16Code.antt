@@ -1,5 +1,5 @@
 -- What the code of a scalar in UTF-16 is, and which units begin one.
-use Rattle.std.proofs.Common.{◌≡◌, ℕ, ◌+◌, ◌-◌, ◌/◌, ◌%◌, ◌<◌, ◌≤◌, ◌⊎◌, inl, inr, ⊎_elim, List, [], ◌∷◌, length, get_or, arith, ap, ap₂, sym, ◌∙◌, lit<, true, false}
+use Rattle.std.proofs.Common.{refl, ◌≡◌, ℕ, ◌+◌, ◌-◌, ◌/◌, ◌%◌, ◌<◌, ◌≤◌, ◌⊎◌, inl, inr, ⊎_elim, List, [], ◌∷◌, length, get_or, arith, ap, ap₂, sym, ◌∙◌, lit<, true, false}
 use Rattle.std.proofs.lemmas.Grind.{common_steps}
 use Rattle.std.proofs.lemmas.Bool.{cases_lt}
 use Rattle.std.specs.Prelude.{slice_range}
@@ -7,7 +7,7 @@ use Rattle.utf_base.specs.Scalar.{IsScalar}
 use Rattle.utf_base.specs.Code.{utf16, IsCode}
 use Rattle.utf_base.specs.Front.{BeginsWith}
 use Rattle.utf_base.specs.Piece.{Stands}
-use Rattle.utf_base.specs.Units.{is_leading_surrogate, is_trailing_surrogate, is_surrogate, pair_value}
+use Rattle.utf_base.specs.Units.{is_leading_surrogate, is_trailing_surrogate, is_surrogate, pair_value, unit_value}
 use Rattle.utf_base.proofs.Standing.{Stands-at}
 
 pub utf16-1 : (s : ℕ) → s < 0x1_0000 → utf16 s ≡ s ∷ []
@@ -137,3 +137,13 @@ unit_is_code u fits none = (scalar_unit u fits none, sym (utf16-1 u fits))
 
 pub pair_is_code : (u v : ℕ) → is_leading_surrogate u ≡ true → is_trailing_surrogate v ≡ true → IsScalar (pair_value u v) × (u ∷ v ∷ [] ≡ utf16 (pair_value u v))
 pair_is_code u v leading trailing = (scalar_pair u v, sym (code_of_pair u v leading trailing))
+
+-- The value of the units of a scalar.
+
+pub unit_value-unit : (w : List ℕ) → is_leading_surrogate (get_or w 0 0) ≡ false → unit_value w ≡ get_or w 0 0
+unfolding unit_value
+unit_value-unit w none = rw none refl
+
+pub unit_value-pair : (w : List ℕ) → is_leading_surrogate (get_or w 0 0) ≡ true → unit_value w ≡ pair_value (get_or w 0 0) (get_or w 1 0)
+unfolding unit_value
+unit_value-pair w leading = rw leading refl

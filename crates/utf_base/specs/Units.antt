@@ -23,6 +23,11 @@ is_surrogate u = nat_le 0xD800 u && nat_lt u 0xE000
 abbrev pub pair_value : ℕ → ℕ → ℕ
 pair_value u v = 0x1_0000 + u % 1024 * 1024 + v % 1024
 
+-- the scalar of the pair that begins the units, or of the first by itself
+unfoldable pub unit_value : List ℕ → ℕ
+unit_value w =
+    if is_leading_surrogate (slice_index w 0) then pair_value (slice_index w 0) (slice_index w 1) else slice_index w 0
+
 -- the scalar of one unit, or of two as those of a pair, whatever they are
 abbrev pub tuple_value : ℕ → Option ℕ → ℕ
 tuple_value u None = u

@@ -1,5 +1,5 @@
 -- What the four bytes of a character hold.
-use Rattle.std.proofs.Common.{◌≡◌, ℕ, ◌-◌, ◌<◌, ◌≤◌, List, [], ◌∷◌, length, get_or, take, sym, ap, ◌∙◌, refl, arith}
+use Rattle.std.proofs.Common.{◌+◌, ◌-◌, ◌*◌, ◌&&◌, Bool, true, lit<, ◌≡◌, ℕ, ◌-◌, ◌<◌, ◌≤◌, List, [], ◌∷◌, length, get_or, take, sym, ap, ◌∙◌, refl, arith}
 use Rattle.std.proofs.lemmas.Grind.{common_steps}
 use Rattle.std.proofs.lemmas.List.{take_at}
 use Rattle.std.specs.Prelude.{replicate, Result, Ok, Err, IsOk}
@@ -7,11 +7,11 @@ use Rattle.utf_base.specs.declared.errors.Utf8ErrorKind.{Utf8ErrorKind}
 use Rattle.utf_base.specs.Front.{as_scalar, DecodesFront}
 use Rattle.utf_base.specs.Scalar.{IsScalar}
 use Rattle.utf_base.specs.Code.{utf8}
-use Rattle.utf_base.specs.Kinds.{value, asked}
+use Rattle.utf_base.specs.Kinds.{value, asked, payload, is_continuation}
 use Rattle.utf_base.specs.Piece.{Stands}
 use Rattle.utf_base.proofs.Standing.{stands_first}
 use Rattle.utf_base.proofs.Utf8Code.{utf8-1}
-use Rattle.utf_base.proofs.FrontLemmas.{decodes_from_stands, code_where_no_fault, no_fault_where_code, no_code_where_fault, value-1, asked-1}
+use Rattle.utf_base.proofs.FrontLemmas.{decodes_from_stands, code_where_no_fault, no_fault_where_code, no_code_where_fault, value-1, value-2, value-3, value-4, asked-1}
 use Rattle.utf_chars.specs.Padded.{padded, IsPadded}
 
 stands_padded : (xs : List ℕ) (s : ℕ) → IsScalar s → xs ≡ padded 4 (utf8 s) → Stands utf8 xs 0 s
@@ -19,22 +19,22 @@ unfolding padded
 stands_padded xs s h e = stands_first utf8 xs (replicate (4 - length (utf8 s)) 0) s h e
 
 -- the code of the value begins the bytes
-pub stands_in_bytes : (bytes : List ℕ) → IsPadded bytes → Stands utf8 bytes 0 (value bytes)
-stands_in_bytes bytes h = stands_padded bytes (value bytes) h.scalar h.code
+pub stands_in_bytes : (bytes : List ℕ) → IsPadded utf8 4 value bytes → Stands utf8 bytes 0 (value bytes)
+stands_in_bytes bytes h = stands_padded bytes (value bytes) h.scalar h.equal
 
 -- the value of a code that zeros follow is its scalar
 pub value-padded : (bytes : List ℕ) (s : ℕ) → IsScalar s → bytes ≡ padded 4 (utf8 s) → value bytes ≡ s
 value-padded bytes s h e = (decodes_from_stands bytes s (stands_padded bytes s h e)).1
 
-pub IsPadded-padded : (bytes : List ℕ) (s : ℕ) → IsScalar s → bytes ≡ padded 4 (utf8 s) → IsPadded bytes
+pub IsPadded-padded : (bytes : List ℕ) (s : ℕ) → IsScalar s → bytes ≡ padded 4 (utf8 s) → IsPadded utf8 4 value bytes
 IsPadded-padded bytes s h e =
     let v = value-padded bytes s h e in
-    record { scalar = rw v h; code = rw v e }
+    record { scalar = rw v h; equal = rw v e }
 
 -- the first bytes, as many as the code has, are the code
-pub take-padded : (bytes : List ℕ) (s n : ℕ) → IsPadded bytes → value bytes ≡ s → n ≡ length (utf8 s) → take n bytes ≡ utf8 s
+pub take-padded : (bytes : List ℕ) (s n : ℕ) → IsPadded utf8 4 value bytes → value bytes ≡ s → n ≡ length (utf8 s) → take n bytes ≡ utf8 s
 unfolding padded
-take-padded bytes s n h e l = rw (h.code, e, l) (take_at (utf8 s) (replicate (4 - length (utf8 s)) 0) _ refl)
+take-padded bytes s n h e l = rw (h.equal, e, l) (take_at (utf8 s) (replicate (4 - length (utf8 s)) 0) _ refl)
 
 -- what a first byte that begins a code asks for, by where it lies
 asked_by_range : (b : ℕ) → 0 < asked b
@@ -49,7 +49,7 @@ pub record LenByFirst (first len : ℕ) : Type 0 where
   pub three : 0xE0 ≤ first → first < 0xF0 → 3 ≡ len
   pub four : 0xF0 ≤ first → 4 ≡ len
 
-pub len_by_first : (bytes : List ℕ) (s : ℕ) → IsPadded bytes → value bytes ≡ s → LenByFirst (get_or bytes 0 0) (length (utf8 s))
+pub len_by_first : (bytes : List ℕ) (s : ℕ) → IsPadded utf8 4 value bytes → value bytes ≡ s → LenByFirst (get_or bytes 0 0) (length (utf8 s))
 len_by_first bytes s h e =
     let st = stands_in_bytes bytes h in
     let len : asked (get_or bytes 0 0) ≡ length (utf8 s)
@@ -73,8 +73,50 @@ unfolding padded
 padded-ascii s h = rw (utf8-1 s h) refl
 
 -- the first byte tells whether the scalar is below 128
-pub first_is_ascii : (bytes : List ℕ) (s : ℕ) → IsPadded bytes → value bytes ≡ s → (get_or bytes 0 0 < 128 → s < 128) × (s < 128 → get_or bytes 0 0 < 128)
+pub first_is_ascii : (bytes : List ℕ) (s : ℕ) → IsPadded utf8 4 value bytes → value bytes ≡ s → (get_or bytes 0 0 < 128 → s < 128) × (s < 128 → get_or bytes 0 0 < 128)
 first_is_ascii bytes s h e = (
   λ low. let v = value-1 bytes (asked-1 (get_or bytes 0 0) low) in omega arith,
-  λ low. let code = h.code ∙ ap (λ x. padded 4 (utf8 x)) e ∙ sym (padded-ascii s low) in let first : get_or bytes 0 0 ≡ s = ap (λ xs. get_or xs 0 0) code in omega arith,
+  λ low. let code = h.equal ∙ ap (λ x. padded 4 (utf8 x)) e ∙ sym (padded-ascii s low) in let first : get_or bytes 0 0 ≡ s = ap (λ xs. get_or xs 0 0) code in omega arith,
 )
+
+-- The payloads that make up the scalar, by the first byte.
+pub record ByFirst (bytes : List ℕ) (s : ℕ) : Type 0 where
+  pub one : get_or bytes 0 0 < 0x80 → get_or bytes 0 0 ≡ s
+  pub low : 0x80 ≤ get_or bytes 0 0 → 0xC0 ≤ get_or bytes 0 0
+  pub high : get_or bytes 0 0 < 0xF8
+  pub two : 0x80 ≤ get_or bytes 0 0 → get_or bytes 0 0 < 0xE0 → (is_continuation (get_or bytes 1 0) ≡ true) × ((get_or bytes 0 0 - 0xC0) * 64 + payload bytes 1 ≡ s)
+  pub three : 0xE0 ≤ get_or bytes 0 0 → get_or bytes 0 0 < 0xF0
+      → ((is_continuation (get_or bytes 1 0) && is_continuation (get_or bytes 2 0)) ≡ true) × ((get_or bytes 0 0 - 0xE0) * 4096 + payload bytes 1 * 64 + payload bytes 2 ≡ s)
+  pub four : 0xF0 ≤ get_or bytes 0 0
+      → ((is_continuation (get_or bytes 1 0) && is_continuation (get_or bytes 2 0) && is_continuation (get_or bytes 3 0)) ≡ true)
+      × ((get_or bytes 0 0 - 0xF0) * 262144 + payload bytes 1 * 4096 + payload bytes 2 * 64 + payload bytes 3 ≡ s)
+
+asked_in_range : (b : ℕ) → 0 < asked b → (0x80 ≤ b → 0xC0 ≤ b) × (b < 0xF8)
+unfolding asked
+asked_in_range b h = grind (arith, common_steps)
+
+continues : (b : ℕ) → (0x80 ≤ b) × (b < 0xC0) → is_continuation b ≡ true
+continues b h = grind (arith, common_steps)
+
+both : (a b : Bool) → a ≡ true → b ≡ true → (a && b) ≡ true
+both a b h g = rw (h, g) refl
+
+pub by_first : (bytes : List ℕ) (s : ℕ) → IsPadded utf8 4 value bytes → value bytes ≡ s → ByFirst bytes s
+by_first bytes s h e =
+    let d = (decodes_from_stands bytes (value bytes) (stands_in_bytes bytes h)).0 in
+    let range = asked_by_range (get_or bytes 0 0) d.asks in
+    let ends = asked_in_range (get_or bytes 0 0) d.asks in
+    let follows : (n k : ℕ) → asked (get_or bytes 0 0) ≡ n → 0 < k → k < n → is_continuation (get_or bytes k 0) ≡ true
+    = λ n k asks some lt. continues (get_or bytes k 0) (d.follow k some (rw asks lt)) in
+    record {
+      one = λ a. sym (value-1 bytes (range.0 a)) ∙ e;
+      low = ends.0;
+      high = ends.1;
+      two = λ a b. let asks = range.1 a b in (follows 2 1 asks (lit< tt) (lit< tt), sym (value-2 bytes asks) ∙ e);
+      three = λ a b.
+          let asks = range.2 a b in
+          (both _ _ (follows 3 1 asks (lit< tt) (lit< tt)) (follows 3 2 asks (lit< tt) (lit< tt)), sym (value-3 bytes asks) ∙ e);
+      four = λ a.
+          let asks = range.3 a in
+          (both _ _ (both _ _ (follows 4 1 asks (lit< tt) (lit< tt)) (follows 4 2 asks (lit< tt) (lit< tt))) (follows 4 3 asks (lit< tt) (lit< tt)), sym (value-4 bytes asks) ∙ e);
+    }

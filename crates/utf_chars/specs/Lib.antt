@@ -1,5 +1,6 @@
 pub mod Padded
 pub mod Chars
+pub mod FormLaws
 pub use Rattle.utf_base.specs.Scalar
 pub use Rattle.utf_base.specs.Code
 pub use Rattle.utf_base.specs.Piece

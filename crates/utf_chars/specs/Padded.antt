@@ -1,17 +1,15 @@
 -- A code in an array that has room for the longest: the code, then zeros.
 use Rattle.std.specs.Prelude.{◌≡◌, ℕ, ◌-◌, List, ◌++◌, length, replicate}
 use Rattle.utf_base.specs.Scalar.{IsScalar}
-use Rattle.utf_base.specs.Code.{utf8}
-use Rattle.utf_base.specs.Kinds.{value}
 
 -- a code, then zeros in the places that are left
 unfoldable pub padded : ℕ → List ℕ → List ℕ
 padded places code = code ++ replicate (places - length code) 0
 
--- the bytes are the code of their value, then zeros
-pub record IsPadded (bytes : List ℕ) : Type 0 where
-  pub scalar : IsScalar (value bytes)
-  pub code : bytes ≡ padded 4 (utf8 (value bytes))
+-- the array is the code of its value, then zeros
+pub record IsPadded (code : ℕ → List ℕ) (places : ℕ) (value : List ℕ → ℕ) (xs : List ℕ) : Type 0 where
+  pub scalar : IsScalar (value xs)
+  pub equal : xs ≡ padded places (code (value xs))
 
 -- the array is the code of a scalar, then zeros in its other places
 abbrev pub IsPaddedCode : (ℕ → List ℕ) → ℕ → List ℕ → Type 0

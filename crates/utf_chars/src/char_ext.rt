@@ -9,6 +9,7 @@ ghost use Rattle.utf_base.specs.Units.{is_surrogate, is_trailing_surrogate, pair
 ghost use Rattle.utf_chars.specs.Padded.{padded};
 
 use crate::utf8_char::Utf8Char;
+use crate::utf16_char::Utf16Char;
 use utf_base::errors::{
     CodepointError, Utf8Error, Utf8ErrorKind, Utf16ArrayError, Utf16SliceError, Utf16TupleError,
 };
@@ -23,6 +24,10 @@ pub trait CharExt: Sized {
 
     /// The character kept as its code in UTF-8.
     fn to_utf8(self) -> Utf8Char
+        ensures { result ≡ scalar self };
+
+    /// The character kept as its code in UTF-16.
+    fn to_utf16(self) -> Utf16Char
         ensures { result ≡ scalar self };
 
     /// The code in UTF-8, then zeros, and how many bytes the code has: 1 to 4 (RFC 3629, section 3).
@@ -106,19 +111,18 @@ impl CharExt for char {
     }
 
     #[inline(always)]
-    fn to_utf8_array(self) -> ([u8; 4], usize) {
-        (padded_utf8(self), self.len_utf8())
+    fn to_utf16(self) -> Utf16Char {
+        Utf16Char::new(self)
     }
 
     #[inline(always)]
-    #[tactic(auto, unfolding(utf_base::specs::Code::utf16, crate::specs::Padded::padded))]
+    fn to_utf8_array(self) -> ([u8; 4], usize) {
+        (padded_utf8(self as u32), self.len_utf8())
+    }
+
+    #[inline(always)]
     fn to_utf16_array(self) -> [u16; 2] {
-        let s = self as u32;
-        if s < 0x1_0000 {
-            [s as u16, 0]
-        } else {
-            [leading_surrogate(s), trailing_surrogate(s)]
-        }
+        padded_utf16(self as u32)
     }
 
     #[inline(always)]
@@ -252,10 +256,10 @@ fn continuation(bits: u32) -> u8
 // The code in UTF-8, then zeros.
 #[inline(always)]
 #[tactic(auto, unfolding(utf_base::specs::Code::utf8, crate::specs::Padded::padded))]
-fn padded_utf8(c: char) -> [u8; 4]
-    ensures { result ≡ padded 4 (utf8 c) }
+pub(crate) fn padded_utf8(s: u32) -> [u8; 4]
+    requires { s < 0x11_0000 }
+    ensures { result ≡ padded 4 (utf8 s) }
 {
-    let s = c as u32;
     if s < 0x80 {
         [s as u8, 0, 0, 0]
     } else if s < 0x800 {
@@ -274,6 +278,20 @@ fn padded_utf8(c: char) -> [u8; 4]
             continuation(s >> 6),
             continuation(s),
         ]
+    }
+}
+
+// The code in UTF-16, then zeros.
+#[inline(always)]
+#[tactic(auto, unfolding(utf_base::specs::Code::utf16, crate::specs::Padded::padded))]
+pub(crate) fn padded_utf16(s: u32) -> [u16; 2]
+    requires { s < 0x11_0000 }
+    ensures { result ≡ padded 2 (utf16 s) }
+{
+    if s < 0x1_0000 {
+        [s as u16, 0]
+    } else {
+        [leading_surrogate(s), trailing_surrogate(s)]
     }
 }
 
@@ -313,13 +331,21 @@ fn char_of_unit(unit: u16) -> char
     char::from_u32(unit as u32).unwrap()
 }
 
-// The character of a leading and a trailing surrogate, of whose bits no others are looked at.
+// The number of a leading and a trailing surrogate: ten bits of each, above 0x10000.
+#[inline(always)]
+pub(crate) fn value_of_pair(first: u16, second: u16) -> u32
+    ensures value { result ≡ pair_value first second }
+    ensures bound { result < 0x11_0000 }
+{
+    0x1_0000 + (((first & 0x3ff) as u32) << 10 | (second & 0x3ff) as u32)
+}
+
+// The character of a leading and a trailing surrogate, whatever the units are.
 #[inline(always)]
 fn char_of_pair(first: u16, second: u16) -> char
     ensures { result ≡ pair_value first second }
 {
-    let bits = ((first & 0x3ff) as u32) << 10 | (second & 0x3ff) as u32;
-    char::from_u32(0x1_0000 + bits).unwrap()
+    char::from_u32(value_of_pair(first, second)).unwrap()
 }
 
 // Whether the byte has the form of one behind the first of a code.
@@ -348,7 +374,7 @@ fn all_continue(second: u8, third: u8, fourth: u8) -> bool
 
 // The payloads of two bytes, each times its power of 64, added up.
 #[inline(always)]
-fn value_of_two(first: u8, second: u8) -> u32
+pub(crate) fn value_of_two(first: u8, second: u8) -> u32
     requires first { (0xC0 ≤ first) × (first < 0xE0) }
     requires second { is_continuation second ≡ true }
     ensures { result ≡ (first - 0xC0) * 64 + (second - 0x80) }
@@ -358,7 +384,7 @@ fn value_of_two(first: u8, second: u8) -> u32
 
 // The same of three bytes.
 #[inline(always)]
-fn value_of_three(first: u8, second: u8, third: u8) -> u32
+pub(crate) fn value_of_three(first: u8, second: u8, third: u8) -> u32
     requires first { (0xE0 ≤ first) × (first < 0xF0) }
     requires followers { (is_continuation second && is_continuation third) ≡ true }
     ensures sum { result ≡ (first - 0xE0) * 4096 + (second - 0x80) * 64 + (third - 0x80) }
@@ -369,7 +395,7 @@ fn value_of_three(first: u8, second: u8, third: u8) -> u32
 
 // The same of four bytes.
 #[inline(always)]
-fn value_of_four(first: u8, second: u8, third: u8, fourth: u8) -> u32
+pub(crate) fn value_of_four(first: u8, second: u8, third: u8, fourth: u8) -> u32
     requires first { (0xF0 ≤ first) × (first < 0xF8) }
     requires followers { (is_continuation second && is_continuation third && is_continuation fourth) ≡ true }
     ensures { result ≡ (first - 0xF0) * 262144 + (second - 0x80) * 4096 + (third - 0x80) * 64 + (fourth - 0x80) }

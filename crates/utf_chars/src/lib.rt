@@ -2,6 +2,8 @@
 #![tactic(auto)]
 
 pub mod char_ext;
+pub mod laws;
 #[cfg(test)]
 mod tests;
+pub mod utf16_char;
 pub mod utf8_char;

@@ -6,13 +6,15 @@ ghost use Rattle.std.specs.Hash as fed;
 ghost use Rattle.std.specs.Ordering.{nat_cmp, as_partial_cmp};
 ghost use Rattle.std.specs.Result.{OkIff};
 ghost use Rattle.std.proofs.Common.{rules};
+ghost use Rattle.utf_base.specs.Scalar.{IsScalar};
 ghost use Rattle.utf_base.specs.Code.{utf8};
 ghost use Rattle.utf_base.specs.Front.{as_scalar, BeginsWith, DecodesFront, DecodesBytes};
 ghost use Rattle.utf_chars.specs.Chars.{ascii_lowercase, ascii_uppercase, BeginsText, HasCode};
 ghost use Rattle.utf_chars.specs.Chars.{IsOneCharText};
 ghost use Rattle.utf_chars.specs.Padded.{padded, IsPaddedCode};
 
-use crate::char_ext::CharExt;
+use crate::char_ext::{CharExt, padded_utf8, value_of_four, value_of_three, value_of_two};
+use crate::utf16_char::Utf16Char;
 use std::cmp::Ordering;
 use std::fmt;
 use std::hash::{Hash, Hasher};
@@ -39,11 +41,11 @@ impl Model for Utf8Char {
 
     ghost view = { λ c. value c.bytes };
 
-    ghost invariant = { λ c. IsPadded c.bytes };
+    ghost invariant = { λ c. IsPadded utf8 4 value c.bytes };
 
     ghost inverse = { λ s. record { bytes = padded 4 (utf8 s) } };
 
-    ghost inverse_ok = { λ c h i. record { bytes = sym h.code i } };
+    ghost inverse_ok = { λ c h i. record { bytes = sym h.equal i } };
 }
 
 /// Making a character.
@@ -152,6 +154,21 @@ impl Utf8Char {
         ensures { IsTrue result ↔ (self < 128) }
     {
         self.bytes[0] < 128
+    }
+
+    // The scalar as a number, from the payloads of the bytes.
+    #[inline(always)]
+    pub(crate) fn scalar(self) -> u32
+        ensures value { result ≡ self }
+        ensures scalar { IsScalar result }
+    {
+        let [first, second, third, fourth] = self.bytes;
+        match first {
+            0x00..=0x7f => first as u32,
+            0x80..=0xdf => value_of_two(first, second),
+            0xe0..=0xef => value_of_three(first, second, third),
+            _ => value_of_four(first, second, third, fourth),
+        }
     }
 
     /// The character as a `char`.
@@ -266,6 +283,22 @@ impl Utf8Char {
         self.to_char().cmp(&c)
     }
 
+    /// Whether it is the same character.
+    #[inline(always)]
+    pub fn eq_utf16(self, c: Utf16Char) -> bool
+        ensures { IsTrue result ↔ (self ≡ c) }
+    {
+        self.to_char() == c.to_char()
+    }
+
+    /// The order of the scalars.
+    #[inline(always)]
+    pub fn cmp_utf16(self, c: Utf16Char) -> Ordering
+        ensures { result ≡ nat_cmp self c }
+    {
+        self.to_char().cmp(&c.to_char())
+    }
+
     /// Whether it is the ASCII character of that code. No byte from 128 on is one.
     #[inline(always)]
     pub fn eq_u8(self, byte: u8) -> bool
@@ -349,6 +382,17 @@ impl From<Utf8Char> for char {
     #[inline(always)]
     fn from(c: Utf8Char) -> char {
         c.to_char()
+    }
+}
+
+impl From<Utf16Char> for Utf8Char {
+    ghost from_gives = { λ c r. r ≡ c };
+
+    // From units to bytes, by the number that both encode.
+    #[inline(always)]
+    fn from(c: Utf16Char) -> Utf8Char {
+        let bytes = padded_utf8(c.scalar());
+        Utf8Char { bytes }
     }
 }
 

@@ -6,4 +6,4 @@ pub invariant_of-result : goal.invariant_of-result
 invariant_of-result c = IsPadded-padded _ _ c.requires.1 c.requires.2
 
 pub returns : goal.returns
-returns c = sym (IsPadded-padded _ _ c.requires.1 c.requires.2).code
+returns c = sym (IsPadded-padded _ _ c.requires.1 c.requires.2).equal

@@ -1,0 +1,150 @@
+-- What the two units of a character hold.
+use Rattle.std.proofs.Common.{◌≡◌, ℕ, ◌+◌, ◌-◌, ◌/◌, ◌%◌, ◌<◌, ◌≤◌, ◌⊎◌, inl, inr, ⊎_elim, List, [], ◌∷◌, length, get_or, take, sym, ap, ◌∙◌, refl, arith, true, false}
+use Rattle.std.proofs.lemmas.Grind.{common_steps}
+use Rattle.std.proofs.lemmas.Bool.{cases_lt}
+use Rattle.std.proofs.lemmas.List.{take_at}
+use Rattle.std.specs.Prelude.{replicate, Result, Ok, Err, IsOk, if◌then◌else◌}
+use Rattle.utf_base.specs.declared.errors.units.Utf16SliceError.{Utf16SliceError}
+use Rattle.utf_base.specs.Front.{as_scalar, DecodesUnits}
+use Rattle.utf_base.specs.Piece.{Stands}
+use Rattle.utf_base.proofs.UnitLemmas.{no_units_where_fault}
+use Rattle.utf_base.specs.Scalar.{IsScalar}
+use Rattle.utf_base.specs.Code.{utf16}
+use Rattle.utf_base.specs.Units.{is_leading_surrogate, is_surrogate, pair_value, unit_value}
+use Rattle.utf_base.proofs.Utf16Code.{utf16-1, utf16-2, unit_value-unit, unit_value-pair}
+use Rattle.utf_chars.specs.Padded.{padded, IsPadded}
+
+pub padded-unit : (s : ℕ) → s < 0x1_0000 → padded 2 (utf16 s) ≡ s ∷ 0 ∷ []
+unfolding padded
+padded-unit s h = rw (utf16-1 s h) refl
+
+pub padded-pair : (s : ℕ) → 0x1_0000 ≤ s → padded 2 (utf16 s) ≡ (0xD800 + (s - 0x1_0000) / 1024) ∷ (0xDC00 + (s - 0x1_0000) % 1024) ∷ []
+unfolding padded
+padded-pair s h = rw (utf16-2 s h) refl
+
+-- How the units of a scalar look: a plain one and zero, or a pair.
+pub record AsUnit (units : List ℕ) (s : ℕ) : Type 0 where
+  pub small : s < 0x1_0000
+  pub first : get_or units 0 0 ≡ s
+  pub second : get_or units 1 0 ≡ 0
+  pub plain : is_surrogate s ≡ false
+
+pub record AsPair (units : List ℕ) (s : ℕ) : Type 0 where
+  pub large : 0x1_0000 ≤ s
+  pub below : s < 0x11_0000
+  pub first : get_or units 0 0 ≡ 0xD800 + (s - 0x1_0000) / 1024
+  pub second : get_or units 1 0 ≡ 0xDC00 + (s - 0x1_0000) % 1024
+
+pub units_cases : (units : List ℕ) (s : ℕ) → IsScalar s → units ≡ padded 2 (utf16 s) → (AsUnit units s) ⊎ (AsPair units s)
+units_cases units s h e =
+    let no_surrogate = h.no_surrogate in
+    ⊎_elim
+    (λ (lt : s < 0x1_0000).
+    let are : units ≡ s ∷ 0 ∷ [] = e ∙ padded-unit s lt in
+    inl (record { small = lt; first = ap (λ xs. get_or xs 0 0) are; second = ap (λ xs. get_or xs 1 0) are; plain = grind (arith, common_steps) }))
+    (λ (ge : 0x1_0000 ≤ s).
+    let are = e ∙ padded-pair s ge in
+    inr (record { large = ge; below = h.below; first = ap (λ xs. get_or xs 0 0) are; second = ap (λ xs. get_or xs 1 0) are }))
+    (cases_lt s 0x1_0000)
+
+leading_of_pair : (units : List ℕ) (s : ℕ) → AsPair units s → is_leading_surrogate (get_or units 0 0) ≡ true
+leading_of_pair units s p =
+    let first = p.first in
+    let below = p.below in
+    let bound : (s - 0x1_0000) / 1024 < 1024 = omega arith in
+    rw first (grind (arith, common_steps))
+
+value_of_pair : (units : List ℕ) (s : ℕ) → AsPair units s → pair_value (get_or units 0 0) (get_or units 1 0) ≡ s
+value_of_pair units s p =
+    let first = p.first in
+    let second = p.second in
+    let large = p.large in
+    let below = p.below in
+    omega arith
+
+no_leading : (s : ℕ) → is_surrogate s ≡ false → is_leading_surrogate s ≡ false
+no_leading s h = grind (arith, common_steps)
+
+-- the value of the units of a scalar is the scalar
+pub unit_value-padded : (units : List ℕ) (s : ℕ) → IsScalar s → units ≡ padded 2 (utf16 s) → unit_value units ≡ s
+unit_value-padded units s h e =
+    ⊎_elim
+    (λ (u : AsUnit units s). unit_value-unit units (rw u.first (no_leading s u.plain)) ∙ u.first)
+    (λ (p : AsPair units s). unit_value-pair units (leading_of_pair units s p) ∙ value_of_pair units s p)
+    (units_cases units s h e)
+
+pub IsPadded-units : (units : List ℕ) (s : ℕ) → IsScalar s → units ≡ padded 2 (utf16 s) → IsPadded utf16 2 unit_value units
+IsPadded-units units s h e =
+    let v = unit_value-padded units s h e in
+    record { scalar = rw v h; equal = rw v e }
+
+-- the same cases, of the units that a character keeps
+pub char_cases : (units : List ℕ) (s : ℕ) → IsPadded utf16 2 unit_value units → unit_value units ≡ s → (AsUnit units s) ⊎ (AsPair units s)
+char_cases units s h e = units_cases units s (rw e at h.scalar) (rw e at h.equal)
+
+-- the second unit tells whether there is a pair
+pub second_is_zero : (units : List ℕ) (s : ℕ) → IsPadded utf16 2 unit_value units → unit_value units ≡ s
+    → (get_or units 1 0 ≡ 0 → s < 0x1_0000) × (s < 0x1_0000 → get_or units 1 0 ≡ 0)
+second_is_zero units s h e =
+    ⊎_elim
+    (λ (u : AsUnit units s). (λ z. u.small, λ lt. u.second))
+    (λ (p : AsPair units s). let second = p.second in let large = p.large in (λ z. absurd (omega arith), λ lt. absurd (omega arith)))
+    (char_cases units s h e)
+
+pub first_is_ascii : (units : List ℕ) (s : ℕ) → IsPadded utf16 2 unit_value units → unit_value units ≡ s
+    → (get_or units 0 0 < 128 → s < 128) × (s < 128 → get_or units 0 0 < 128)
+first_is_ascii units s h e =
+    ⊎_elim
+    (λ (u : AsUnit units s). let first = u.first in (λ lt. omega arith, λ lt. omega arith))
+    (λ (p : AsPair units s). let first = p.first in let large = p.large in (λ lt. absurd (omega arith), λ lt. absurd (omega arith)))
+    (char_cases units s h e)
+
+-- the first units, as many as the code has, are the code
+pub take-units : (units : List ℕ) (s n : ℕ) → IsPadded utf16 2 unit_value units → unit_value units ≡ s → n ≡ length (utf16 s) → take n units ≡ utf16 s
+unfolding padded
+take-units units s n h e l = rw (h.equal, e, l) (take_at (utf16 s) (replicate (2 - length (utf16 s)) 0) _ refl)
+
+pub length-unit : (s : ℕ) → s < 0x1_0000 → 1 ≡ length (utf16 s)
+length-unit s h = sym (ap length (utf16-1 s h))
+
+pub length-pair : (s : ℕ) → 0x1_0000 ≤ s → 2 ≡ length (utf16 s)
+length-pair s h = sym (ap length (utf16-2 s h))
+
+surrogate_of_pair : (units : List ℕ) (s : ℕ) → AsPair units s → is_surrogate (get_or units 0 0) ≡ true
+surrogate_of_pair units s p =
+    let first = p.first in
+    let below = p.below in
+    let bound : (s - 0x1_0000) / 1024 < 1024 = omega arith in
+    rw first (grind (arith, common_steps))
+
+-- the scalar, by whether there is a second unit
+pub scalar_by_second : (units : List ℕ) (s : ℕ) → IsPadded utf16 2 unit_value units → unit_value units ≡ s
+    → (get_or units 1 0 ≡ 0 → get_or units 0 0 ≡ s) × ((get_or units 1 0 ≡ 0 → ⊥) → pair_value (get_or units 0 0) (get_or units 1 0) ≡ s)
+scalar_by_second units s h e =
+    ⊎_elim
+    (λ (u : AsUnit units s). (λ z. u.first, λ some. absurd (some u.second)))
+    (λ (p : AsPair units s). let second = p.second in (λ z. absurd (omega arith), λ some. value_of_pair units s p))
+    (char_cases units s h e)
+
+-- the scalar, by whether the first unit is a surrogate
+pub scalar_by_first : (units : List ℕ) (s : ℕ) → IsPadded utf16 2 unit_value units → unit_value units ≡ s
+    → (if is_surrogate (get_or units 0 0) then pair_value (get_or units 0 0) (get_or units 1 0) else get_or units 0 0) ≡ s
+scalar_by_first units s h e =
+    ⊎_elim
+    (λ (u : AsUnit units s). let plain : is_surrogate (get_or units 0 0) ≡ false = rw u.first u.plain in rw plain u.first)
+    (λ (p : AsPair units s). rw (surrogate_of_pair units s p) (value_of_pair units s p))
+    (char_cases units s h e)
+
+-- the code, by whether there is a second unit
+pub code_by_second : (units : List ℕ) (s : ℕ) → IsPadded utf16 2 unit_value units → unit_value units ≡ s
+    → (get_or units 1 0 ≡ 0 → get_or units 0 0 ∷ [] ≡ utf16 s) × ((get_or units 1 0 ≡ 0 → ⊥) → get_or units 0 0 ∷ get_or units 1 0 ∷ [] ≡ utf16 s)
+code_by_second units s h e =
+    ⊎_elim
+    (λ (u : AsUnit units s). (λ z. rw u.first (sym (utf16-1 s u.small)), λ some. absurd (some u.second)))
+    (λ (p : AsPair units s). let second = p.second in (λ z. absurd (omega arith), λ some. rw (p.first, p.second) (sym (utf16-2 s p.large))))
+    (char_cases units s h e)
+
+-- where a code begins the units, their decoding succeeds
+pub IsOk-DecodesUnits : (w : List ℕ) (s : ℕ) (r : Result (ℕ × ℕ) Utf16SliceError) → Stands utf16 w 0 s → DecodesUnits as_scalar w r → IsOk r
+IsOk-DecodesUnits w s (Ok x) h d = refl
+IsOk-DecodesUnits w s (Err k) h d = absurd (no_units_where_fault w k s d h)

@@ -1,0 +1,9 @@
+use Rattle.std.proofs.Common.{arith}
+use Rattle.std.proofs.lemmas.Grind.{common_steps}
+use Rattle.utf_chars.proofs.PaddedUnits.{first_is_ascii}
+use Rattle.utf_chars.proofs.utf16_char.Utf16Char.is_ascii.Goals as goal
+
+pub returns : goal.returns
+returns c =
+    let first = first_is_ascii _ _ c.self.invariant c.self.view_is in
+    (λ h. first.0 (grind (arith, common_steps)), λ h. let low = first.1 h in grind (arith, common_steps))

@@ -1,0 +1,9 @@
+use Rattle.std.proofs.Common.{arith}
+use Rattle.std.proofs.lemmas.Grind.{common_steps}
+use Rattle.utf_chars.proofs.PaddedUnits.{second_is_zero}
+use Rattle.utf_chars.proofs.utf16_char.Utf16Char.is_bmp.Goals as goal
+
+pub returns : goal.returns
+returns c =
+    let second = second_is_zero _ _ c.self.invariant c.self.view_is in
+    (λ h. second.0 (grind (arith, common_steps)), λ h. let zero = second.1 h in grind (arith, common_steps))

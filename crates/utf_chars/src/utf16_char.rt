@@ -1,0 +1,461 @@
+//! A character kept as its code in UTF-16.
+ghost use Rattle.std.specs.Prelude.{◌≡◌, ◌==◌, ◌<◌, ◌≤◌, ◌↔◌, ◌++◌, [], ◌∷◌, Some, IsTrue, length, drop, false, unwrap_or};
+ghost use Rattle.std.specs.Cmp.{partial_order_from_own_ties};
+ghost use Rattle.std.specs.Cmp.Rules.{comparing, hashing};
+ghost use Rattle.std.specs.Hash as fed;
+ghost use Rattle.std.specs.Ordering.{nat_cmp, as_partial_cmp};
+ghost use Rattle.std.specs.Result.{OkIff};
+ghost use Rattle.std.proofs.Common.{rules};
+ghost use Rattle.utf_base.specs.Scalar.{IsScalar};
+ghost use Rattle.utf_base.specs.Code.{utf8, utf16};
+ghost use Rattle.utf_base.specs.Front.{as_scalar, BeginsWith, DecodesUnits, DecodesTwoUnits, DecodesTuple};
+ghost use Rattle.utf_base.specs.Units.{is_surrogate, units_of};
+ghost use Rattle.utf_chars.specs.Chars.{ascii_lowercase, ascii_uppercase, BeginsText, HasCode};
+ghost use Rattle.utf_chars.specs.Chars.{IsOneCharText};
+ghost use Rattle.utf_chars.specs.Padded.{padded, IsPaddedCode};
+
+use crate::char_ext::{CharExt, padded_utf16, value_of_pair};
+use crate::utf8_char::Utf8Char;
+use std::cmp::Ordering;
+use std::fmt;
+use std::hash::{Hash, Hasher};
+use std::marker::Model;
+use std::str::FromStr;
+use utf_base::errors::{
+    EmptyStrError, FromStrError, NonBmpError, Utf16ArrayError, Utf16SliceError, Utf16TupleError,
+};
+
+/// A Unicode scalar value, kept as its code in UTF-16. Contracts see it as the scalar.
+///
+/// Characters are ordered, compared and hashed by the scalar, as a `char` is: U+E000 comes before
+/// U+10000, although its unit is greater.
+#[derive(Clone, Copy, Drop)]
+pub struct Utf16Char {
+    units: [u16; 2],
+}
+
+impl Model for Utf16Char {
+    ghost use Rattle.std.specs.Prelude.{ℕ};
+    ghost use Rattle.std.proofs.Common.{sym};
+    ghost use Rattle.utf_base.specs.Code.{utf16};
+    ghost use Rattle.utf_base.specs.Units.{unit_value};
+    ghost use Rattle.utf_chars.specs.Padded.{padded, IsPadded};
+
+    ghost Value = { ℕ };
+
+    ghost view = { λ c. unit_value c.units };
+
+    ghost invariant = { λ c. IsPadded utf16 2 unit_value c.units };
+
+    ghost inverse = { λ s. record { units = padded 2 (utf16 s) } };
+
+    ghost inverse_ok = { λ c h i. record { units = sym h.equal i } };
+}
+
+/// Making a character.
+impl Utf16Char {
+    /// The character.
+    #[inline(always)]
+    pub fn new(c: char) -> Utf16Char
+        ensures { result ≡ c }
+    {
+        let units = padded_utf16(c as u32);
+        Utf16Char { units }
+    }
+
+    /// The first character of the text, and how many bytes of the text it is: 1 to 4.
+    #[inline]
+    pub fn from_str_start(src: &str) -> Result<(Utf16Char, usize), EmptyStrError>
+        ensures { BeginsText src.now result }
+    {
+        let (first, len) = Utf8Char::from_str_start(src)?;
+        Ok((Utf16Char::from(first), len))
+    }
+
+    /// The character whose code begins the units, and how many units the code has: 1 or 2.
+    ///
+    /// The error is that of `CharExt::from_utf16_slice_start`.
+    #[inline(always)]
+    pub fn from_slice_start(src: &[u16]) -> Result<(Utf16Char, usize), Utf16SliceError>
+        ensures { DecodesUnits as_scalar src.now result }
+    {
+        let (c, len) = char::from_utf16_slice_start(src)?;
+        Ok((Utf16Char::new(c), len))
+    }
+
+    /// The character whose code begins the units, and how many units the code has.
+    #[inline(always)]
+    pub fn from_slice_start_unchecked(src: &[u16]) -> (Utf16Char, usize)
+        requires { HasCode utf16 src.now }
+        ensures { BeginsWith utf16 src.now result.0 result.1 }
+    {
+        Utf16Char::from_slice_start(src).unwrap()
+    }
+
+    /// The character whose code begins the two units. A second unit that the first does not ask for is
+    /// not kept.
+    ///
+    /// The error is that of `CharExt::from_utf16_array`.
+    #[inline(always)]
+    pub fn from_array(utf16: [u16; 2]) -> Result<Utf16Char, Utf16ArrayError>
+        ensures { DecodesTwoUnits as_scalar utf16 result }
+    {
+        Ok(Utf16Char::new(char::from_utf16_array(utf16)?))
+    }
+
+    /// The character whose code, and then zero where it has one unit, the two units are.
+    #[inline(always)]
+    pub fn from_array_unchecked(units: [u16; 2]) -> Utf16Char
+        requires { IsPaddedCode utf16 2 units }
+        ensures { padded 2 (utf16 result) ≡ units }
+    {
+        Utf16Char { units }
+    }
+
+    /// The character whose code the one or two units are. A second unit that the first does not ask for
+    /// is an error.
+    ///
+    /// The error is that of `CharExt::from_utf16_tuple`.
+    #[inline(always)]
+    pub fn from_tuple(utf16: (u16, Option<u16>)) -> Result<Utf16Char, Utf16TupleError>
+        ensures { DecodesTuple as_scalar utf16 result }
+    {
+        Ok(Utf16Char::new(char::from_utf16_tuple(utf16)?))
+    }
+
+    /// The character whose code the one or two units are. A second unit of 0 counts as none.
+    #[inline(always)]
+    pub fn from_tuple_unchecked(units: (u16, Option<u16>)) -> Utf16Char
+        requires { IsPaddedCode utf16 2 (units.0 ∷ unwrap_or units.1 0 ∷ []) }
+        ensures { padded 2 (utf16 result) ≡ units.0 ∷ unwrap_or units.1 0 ∷ [] }
+    {
+        let (first, second) = units;
+        Utf16Char::from_array_unchecked([first, second.unwrap_or(0)])
+    }
+
+    /// The character that one unit is, and an error for a surrogate.
+    #[inline(always)]
+    pub fn from_bmp(bmp: u16) -> Result<Utf16Char, NonBmpError>
+        ensures { OkIff result (is_surrogate bmp ≡ false) bmp }
+    {
+        if bmp & 0xf800 == 0xd800 {
+            Err(NonBmpError)
+        } else {
+            Ok(Utf16Char::from_bmp_unchecked(bmp))
+        }
+    }
+
+    /// The character that one unit is.
+    #[inline(always)]
+    pub fn from_bmp_unchecked(bmp: u16) -> Utf16Char
+        requires { is_surrogate bmp ≡ false }
+        ensures { result ≡ bmp }
+    {
+        Utf16Char { units: [bmp, 0] }
+    }
+}
+
+/// What a character is.
+impl Utf16Char {
+    /// Whether the code is one unit: the scalar is below 0x10000.
+    #[inline(always)]
+    pub fn is_bmp(self) -> bool
+        ensures { IsTrue result ↔ (self < 0x1_0000) }
+    {
+        self.units[1] == 0
+    }
+
+    /// How many units the code has: 1 or 2.
+    #[inline(always)]
+    pub fn len(self) -> usize
+        ensures { result ≡ length (utf16 self) }
+    {
+        if self.is_bmp() { 1 } else { 2 }
+    }
+
+    /// Whether the scalar is below 128.
+    #[inline(always)]
+    pub fn is_ascii(self) -> bool
+        ensures { IsTrue result ↔ (self < 128) }
+    {
+        self.units[0] < 128
+    }
+
+    // The scalar as a number, from the bits of the units.
+    #[inline(always)]
+    pub(crate) fn scalar(self) -> u32
+        ensures value { result ≡ self }
+        ensures scalar { IsScalar result }
+    {
+        let [first, second] = self.units;
+        if second == 0 {
+            first as u32
+        } else {
+            value_of_pair(first, second)
+        }
+    }
+
+    /// The character as a `char`.
+    #[inline(always)]
+    pub fn to_char(self) -> char
+        ensures { result ≡ self }
+    {
+        let units = self.units;
+        char::from_utf16_array_unchecked(units)
+    }
+
+    /// Writes the code to the front of the slice, and answers how many units it has. The places behind
+    /// it stay as they are.
+    #[inline(always)]
+    pub fn to_slice(self, dst: &mut [u16]) -> usize
+        requires { length (utf16 self) ≤ length dst.old }
+        ensures len { result ≡ length (utf16 self) }
+        ensures written { dst.new ≡ utf16 self ++ drop (length (utf16 self)) dst.old }
+    {
+        let len = self.len();
+        dst[..len].copy_from_slice(self.as_units());
+        len
+    }
+
+    /// The code, and then zero where it has one unit.
+    #[inline(always)]
+    pub fn to_array(self) -> [u16; 2]
+        ensures { result ≡ padded 2 (utf16 self) }
+    {
+        let units = self.units;
+        units
+    }
+
+    /// The code, whose second unit is there only where the code has two.
+    #[inline(always)]
+    pub fn to_tuple(self) -> (u16, Option<u16>)
+        ensures { units_of result.0 result.1 ≡ utf16 self }
+    {
+        let [first, second] = self.units;
+        if second == 0 {
+            (first, None)
+        } else {
+            (first, Some(second))
+        }
+    }
+
+    /// The code, lent from inside the character.
+    #[inline(always)]
+    pub fn as_units(&self) -> &[u16]
+        ensures { result.now ≡ utf16 self.now }
+    {
+        &self.units[..self.len()]
+    }
+}
+
+/// The cases of ASCII letters.
+impl Utf16Char {
+    /// The upper case of an ASCII letter, and every other character as it is.
+    #[inline(always)]
+    pub fn to_ascii_uppercase(self) -> Utf16Char
+        ensures { result ≡ ascii_uppercase self }
+    {
+        Utf16Char::new(self.to_char().to_ascii_uppercase())
+    }
+
+    /// The lower case of an ASCII letter, and every other character as it is.
+    #[inline(always)]
+    pub fn to_ascii_lowercase(self) -> Utf16Char
+        ensures { result ≡ ascii_lowercase self }
+    {
+        Utf16Char::new(self.to_char().to_ascii_lowercase())
+    }
+
+    /// Makes an ASCII letter upper case.
+    #[inline(always)]
+    pub fn make_ascii_uppercase(&mut self)
+        ensures { self.new ≡ ascii_uppercase self.old }
+    {
+        *self = self.to_ascii_uppercase();
+    }
+
+    /// Makes an ASCII letter lower case.
+    #[inline(always)]
+    pub fn make_ascii_lowercase(&mut self)
+        ensures { self.new ≡ ascii_lowercase self.old }
+    {
+        *self = self.to_ascii_lowercase();
+    }
+
+    /// Whether the characters are equal but for the case of ASCII letters.
+    #[inline(always)]
+    pub fn eq_ignore_ascii_case(&self, other: &Utf16Char) -> bool
+        ensures { IsTrue result ↔ (ascii_lowercase self.now ≡ ascii_lowercase other.now) }
+    {
+        self.to_ascii_lowercase() == other.to_ascii_lowercase()
+    }
+}
+
+/// Comparisons with other types.
+impl Utf16Char {
+    /// Whether it is that `char`.
+    #[inline(always)]
+    pub fn eq_char(self, c: char) -> bool
+        ensures { IsTrue result ↔ (self ≡ c) }
+    {
+        self.to_char() == c
+    }
+
+    /// The order of the scalars.
+    #[inline(always)]
+    pub fn cmp_char(self, c: char) -> Ordering
+        ensures { result ≡ nat_cmp self c }
+    {
+        self.to_char().cmp(&c)
+    }
+
+    /// Whether it is the same character.
+    #[inline(always)]
+    pub fn eq_utf8(self, c: Utf8Char) -> bool
+        ensures { IsTrue result ↔ (self ≡ c) }
+    {
+        self.to_char() == c.to_char()
+    }
+
+    /// The order of the scalars.
+    #[inline(always)]
+    pub fn cmp_utf8(self, c: Utf8Char) -> Ordering
+        ensures { result ≡ nat_cmp self c }
+    {
+        self.to_char().cmp(&c.to_char())
+    }
+
+    /// Whether the scalar is that byte, 0xff among them.
+    #[inline(always)]
+    pub fn eq_u8(self, byte: u8) -> bool
+        ensures { IsTrue result ↔ (self ≡ byte) }
+    {
+        self.to_char() == char::from(byte)
+    }
+
+    /// Whether the scalar is that unit. No character is a surrogate.
+    #[inline(always)]
+    pub fn eq_u16(self, unit: u16) -> bool
+        ensures { IsTrue result ↔ (self ≡ unit) }
+    {
+        self.to_char() as u32 == unit as u32
+    }
+}
+
+impl PartialEq for Utf16Char {
+    ghost eq = { ◌==◌ };
+
+    ghost laws = { Prim.search (comparing, rules) };
+
+    #[inline(always)]
+    fn eq(&self, other: &Utf16Char) -> bool {
+        self.to_char() == other.to_char()
+    }
+}
+
+impl Eq for Utf16Char {
+    ghost laws = { Prim.search (comparing, rules) };
+}
+
+impl Ord for Utf16Char {
+    ghost cmp = { nat_cmp };
+
+    ghost total = { Prim.search (comparing, rules) };
+
+    ghost matches_partial_cmp = { Prim.search (comparing, rules) };
+
+    ghost matches_eq = { Prim.search (comparing, rules) };
+
+    #[inline(always)]
+    fn cmp(&self, other: &Utf16Char) -> Ordering {
+        self.to_char().cmp(&other.to_char())
+    }
+}
+
+impl PartialOrd for Utf16Char {
+    ghost partial_cmp = { as_partial_cmp nat_cmp };
+
+    ghost laws = { partial_order_from_own_ties (Prim.search (comparing, rules)) (Prim.search (comparing, rules)) };
+
+    #[inline(always)]
+    fn partial_cmp(&self, other: &Utf16Char) -> Option<Ordering> {
+        Some(self.cmp(other))
+    }
+}
+
+impl Hash for Utf16Char {
+    ghost hash_input = { fed.char };
+
+    ghost respects_eq = { Prim.search (hashing, rules) };
+
+    fn hash<H: Hasher>(&self, state: &mut H) {
+        self.to_char().hash(state);
+    }
+}
+
+impl Default for Utf16Char {
+    ghost is_default = { λ c. c ≡ 0 };
+
+    fn default() -> Utf16Char {
+        Utf16Char::from_bmp_unchecked(0)
+    }
+}
+
+impl From<char> for Utf16Char {
+    ghost from_gives = { λ c r. r ≡ c };
+
+    #[inline(always)]
+    fn from(c: char) -> Utf16Char {
+        Utf16Char::new(c)
+    }
+}
+
+impl From<Utf16Char> for char {
+    ghost from_gives = { λ c r. r ≡ c };
+
+    #[inline(always)]
+    fn from(c: Utf16Char) -> char {
+        c.to_char()
+    }
+}
+
+impl From<Utf8Char> for Utf16Char {
+    ghost from_gives = { λ c r. r ≡ c };
+
+    // From bytes to units, by the number that both encode.
+    #[inline(always)]
+    fn from(c: Utf8Char) -> Utf16Char {
+        let units = padded_utf16(c.scalar());
+        Utf16Char { units }
+    }
+}
+
+impl FromStr for Utf16Char {
+    type Err = FromStrError;
+
+    ghost from_str_gives = { IsOneCharText };
+
+    fn from_str(s: &str) -> Result<Utf16Char, FromStrError> {
+        match Utf16Char::from_str_start(s) {
+            Err(EmptyStrError) => Err(FromStrError::Empty),
+            Ok((c, len)) if len == s.len() => Ok(c),
+            Ok(_) => Err(FromStrError::MultipleCodepoints),
+        }
+    }
+}
+
+impl fmt::Display for Utf16Char {
+    ghost output = { λ c. Some (utf8 c) };
+
+    ghost styled_output = { λ c _. Some (utf8 c) };
+
+    fn fmt<W: fmt::Write>(&self, f: &mut fmt::Formatter<W>) -> fmt::Result {
+        f.write_str(Utf8Char::from(*self).as_str())
+    }
+}
+
+impl fmt::Debug for Utf16Char {
+    fn fmt<W: fmt::Write>(&self, f: &mut fmt::Formatter<W>) -> fmt::Result {
+        fmt::Debug::fmt(&self.to_char(), f)
+    }
+}
