@@ -36,6 +36,11 @@ where
     items.count()
 }
 
+// The decoder of a slice, asked through the bound.
+fn indices_of<'a, S: U8SliceExt<'a>>(slice: S) -> Utf8CharDecoder<'a> {
+    slice.utf8char_indices()
+}
+
 #[test]
 fn slices_are_cut_from_the_front(rt: HostRuntime) {
     gives(&rt, Utf8CharDecoder::from([].as_slice()), &[]);
@@ -135,15 +140,13 @@ fn what_is_left_is_lent(rt: HostRuntime) {
 #[test]
 fn slices_have_their_decoder(rt: HostRuntime) {
     let bytes = b"e\xcc\x81\xff".as_slice();
-    gives(
-        &rt,
-        bytes.utf8char_indices(),
-        &[
-            (0, Ok('e'), 1),
-            (1, Ok('\u{301}'), 2),
-            (3, Err(Utf8ErrorKind::NonUtf8Byte), 1),
-        ],
-    );
+    let pieces = [
+        (0, Ok('e'), 1),
+        (1, Ok('\u{301}'), 2),
+        (3, Err(Utf8ErrorKind::NonUtf8Byte), 1),
+    ];
+    gives(&rt, bytes.utf8char_indices(), &pieces);
+    gives(&rt, indices_of(bytes), &pieces);
     assert_eq!(rt; count_items(bytes.utf8char_indices()), 3);
     assert_eq!(rt;
         char::from_utf8_slice_start(bytes).map_err(|error| error.kind()),
