@@ -1,5 +1,5 @@
-//! A reader and a writer over memory for tests, which work in small parts and fail when they are told
-//! to, and an allocator that has no memory.
+//! What tests take in place of the world: a reader and a writer over memory, which work in small parts
+//! and fail when they are told to, and an allocator that has no memory.
 ghost use Rattle.std.specs.Prelude.{Some, ◌<◌};
 ghost use Rattle.std.specs.Borrow.{ffalse};
 
