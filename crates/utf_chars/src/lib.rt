@@ -7,3 +7,5 @@ pub mod laws;
 mod tests;
 pub mod utf16_char;
 pub mod utf8_char;
+#[cfg(test)]
+mod utf8_char_tests;
