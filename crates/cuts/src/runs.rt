@@ -40,6 +40,13 @@ impl Stop {
 }
 
 impl fmt::Display for Stop {
+    ghost use Rattle.std.specs.Prelude.{Some};
+    ghost use Rattle.cuts.specs.Programs.{stop_text};
+
+    ghost output = { λ s. Some (stop_text s) };
+
+    ghost styled_output = { λ s _. Some (stop_text s) };
+
     fn fmt<W: fmt::Write>(&self, f: &mut fmt::Formatter<W>) -> fmt::Result {
         f.write_str(match self {
             Stop::WrongArguments => "wrong arguments",

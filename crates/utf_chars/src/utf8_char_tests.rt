@@ -50,18 +50,34 @@ fn each_way_makes_the_character(rt: HostRuntime) -> Result<(), Fail> {
         assert_eq!(rt; kept.as_bytes(), code, "at {c:?}");
         assert_eq!(rt; Utf8Char::from(c), kept, "at {c:?}");
         assert_eq!(rt; c.to_utf8(), kept, "at {c:?}");
-        assert_eq!(rt; kind_of(Utf8Char::from_slice_start(code)), Ok((kept, len)), "at {c:?}");
+        assert_eq!(rt;
+            kind_of(Utf8Char::from_slice_start(code)),
+            Ok((kept, len)),
+            "at {c:?}"
+        );
         let more: [u8; 6] = filled(code, 0xff);
-        assert_eq!(rt; kind_of(Utf8Char::from_slice_start(&more)), Ok((kept, len)), "at {c:?}");
+        assert_eq!(rt;
+            kind_of(Utf8Char::from_slice_start(&more)),
+            Ok((kept, len)),
+            "at {c:?}"
+        );
         let array = kind_of(Utf8Char::from_array(filled(code, 0xff)));
         assert_eq!(rt; array, Ok(kept), "at {c:?}");
 
         let text = format!(in rt.alloc(); "{c}")?;
-        assert_eq!(rt; Utf8Char::from_str_start(&text), Ok((kept, len)), "at {c:?}");
+        assert_eq!(rt;
+            Utf8Char::from_str_start(&text),
+            Ok((kept, len)),
+            "at {c:?}"
+        );
         assert_eq!(rt; Utf8Char::from_str(&text), Ok(kept), "at {c:?}");
         assert_eq!(rt; parsed(&text), Ok(kept), "at {c:?}");
         let twice = format!(in rt.alloc(); "{c}{c}?")?;
-        assert_eq!(rt; Utf8Char::from_str_start(&twice), Ok((kept, len)), "at {c:?}");
+        assert_eq!(rt;
+            Utf8Char::from_str_start(&twice),
+            Ok((kept, len)),
+            "at {c:?}"
+        );
         let many = parsed::<Utf8Char>(&twice);
         assert_eq!(rt; many, Err(FromStrError::MultipleCodepoints), "at {c:?}");
     }
@@ -128,9 +144,16 @@ fn characters_go_by_their_scalars(rt: HostRuntime) {
         for (column, (other, _)) in EDGES.iter().enumerate() {
             let expected = row.cmp(&column);
             let kept_other = Utf8Char::new(*other);
-            assert!(rt; compares(&kept, &kept_other, expected), "at {one:?} and {other:?}");
+            assert!(rt;
+                compares(&kept, &kept_other, expected),
+                "at {one:?} and {other:?}"
+            );
             assert_eq!(rt; kept.cmp_char(*other), expected, "at {one:?} and {other:?}");
-            assert_eq!(rt; kept.eq_char(*other), row == column, "at {one:?} and {other:?}");
+            assert_eq!(rt;
+                kept.eq_char(*other),
+                row == column,
+                "at {one:?} and {other:?}"
+            );
         }
     }
 }
@@ -149,7 +172,11 @@ fn a_byte_is_an_ascii_character_or_none(rt: HostRuntime) {
         ('\u{169}', 0x69, false),
     ];
     for (c, byte, expected) in table {
-        assert_eq!(rt; Utf8Char::new(c).eq_u8(byte), expected, "at {c:?} and {byte}");
+        assert_eq!(rt;
+            Utf8Char::new(c).eq_u8(byte),
+            expected,
+            "at {c:?} and {byte}"
+        );
     }
 }
 
@@ -179,7 +206,15 @@ fn maps_find_their_characters(rt: HostRuntime) -> Result<(), Fail> {
         assert_eq!(rt; ordered.get(&key).copied(), Some(row), "at {c:?}");
         assert_eq!(rt; hashed.get(&key).copied(), Some(row), "at {c:?}");
     }
-    for c in ['\u{1}', '\u{7e}', '\u{81}', '\u{7fe}', '\u{801}', '\u{fffe}', '\u{10001}'] {
+    for c in [
+        '\u{1}',
+        '\u{7e}',
+        '\u{81}',
+        '\u{7fe}',
+        '\u{801}',
+        '\u{fffe}',
+        '\u{10001}',
+    ] {
         let key = Utf8Char::new(c);
         assert!(rt; !ordered.contains_key(&key), "at {c:?}");
         assert!(rt; !hashed.contains_key(&key), "at {c:?}");
@@ -191,7 +226,10 @@ fn maps_find_their_characters(rt: HostRuntime) -> Result<(), Fail> {
 fn texts_of_no_one_character_are_errors(rt: HostRuntime) {
     assert_eq!(rt; Utf8Char::from_str_start(""), Err(EmptyStrError));
     assert_eq!(rt; Utf8Char::from_str(""), Err(FromStrError::Empty));
-    assert_eq!(rt; Utf8Char::from_str("ab"), Err(FromStrError::MultipleCodepoints));
+    assert_eq!(rt;
+        Utf8Char::from_str("ab"),
+        Err(FromStrError::MultipleCodepoints)
+    );
     assert_eq!(rt; Utf8Char::from_str("a"), Ok(Utf8Char::new('a')));
 }
 
@@ -249,7 +287,11 @@ fn cases_of_ascii_letters_alone_change(rt: HostRuntime) {
 fn fault_of(bytes: [u8; 4]) -> Option<Utf8ErrorKind> {
     let from_array = kind_of(Utf8Char::from_array(bytes)).err();
     let from_slice = kind_of(Utf8Char::from_slice_start(&bytes)).err();
-    if from_array == from_slice { from_array } else { None }
+    if from_array == from_slice {
+        from_array
+    } else {
+        None
+    }
 }
 
 #[test]
@@ -285,7 +327,11 @@ fn faults_are_told_by_their_kind(rt: HostRuntime) {
     }
     for stray in [0x00, 0xff] {
         let fault = fault_of([0xed, 0xbf, 0x80, stray]);
-        assert_eq!(rt; fault, Some(Utf8ErrorKind::Utf16ReservedCodepoint), "before {stray}");
+        assert_eq!(rt;
+            fault,
+            Some(Utf8ErrorKind::Utf16ReservedCodepoint),
+            "before {stray}"
+        );
     }
 }
 
@@ -297,7 +343,11 @@ fn first_bytes_that_begin_no_code_are_faults(rt: HostRuntime) {
             0xf8..=0xff => Utf8ErrorKind::NonUtf8Byte,
             _ => continue,
         };
-        assert_eq!(rt; fault_of([first, 0x88, 0x80, 0x80]), Some(kind), "at {first:x}");
+        assert_eq!(rt;
+            fault_of([first, 0x88, 0x80, 0x80]),
+            Some(kind),
+            "at {first:x}"
+        );
         let bytes = [first, 0x88, 0x80, 0x80, 0x80, 0x80, 0x80, 0x80];
         for len in 1..=8 {
             let fault = kind_of(Utf8Char::from_slice_start(&bytes[..len])).err();
@@ -322,7 +372,11 @@ fn codes_broken_off_are_faults(rt: HostRuntime) {
                 let mut bytes = [first, 0x90, 0xa0, 0xb0];
                 bytes[place] = bad;
                 let fault = fault_of(bytes);
-                assert_eq!(rt; fault, Some(Utf8ErrorKind::InterruptedSequence), "at {bytes:?}");
+                assert_eq!(rt;
+                    fault,
+                    Some(Utf8ErrorKind::InterruptedSequence),
+                    "at {bytes:?}"
+                );
             }
         }
     }
