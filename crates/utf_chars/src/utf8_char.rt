@@ -288,7 +288,7 @@ impl Utf8Char {
     pub fn eq_utf16(self, c: Utf16Char) -> bool
         ensures { IsTrue result ↔ (self ≡ c) }
     {
-        self.to_char() == c.to_char()
+        c.to_char() == self.to_char()
     }
 
     /// The order of the scalars.
