@@ -2,7 +2,9 @@
 use Rattle.std.proofs.Common.{◌+◌, ◌-◌, ◌*◌, ◌&&◌, Bool, true, lit<, ◌≡◌, ℕ, ◌-◌, ◌<◌, ◌≤◌, List, [], ◌∷◌, length, get_or, take, sym, ap, ◌∙◌, refl, arith}
 use Rattle.std.proofs.lemmas.Grind.{common_steps}
 use Rattle.std.proofs.lemmas.List.{take_at}
-use Rattle.std.specs.Prelude.{replicate, Result, Ok, Err, IsOk}
+use Rattle.std.specs.Char.{IsScalar as IsStdScalar}
+use Rattle.std.specs.Option.{SomeIff}
+use Rattle.std.specs.Prelude.{replicate, Option, Some, None, IsSome, Result, Ok, Err, IsOk}
 use Rattle.utf_base.specs.declared.errors.Utf8ErrorKind.{Utf8ErrorKind}
 use Rattle.utf_base.specs.Front.{as_scalar, DecodesFront}
 use Rattle.utf_base.specs.Scalar.{IsScalar}
@@ -120,3 +122,8 @@ by_first bytes s h e =
           let asks = range.3 a in
           (both _ _ (both _ _ (follows 4 1 asks (lit< tt) (lit< tt)) (follows 4 2 asks (lit< tt) (lit< tt))) (follows 4 3 asks (lit< tt) (lit< tt)), sym (value-4 bytes asks) ∙ e);
     }
+
+-- what is there exactly when the number is a scalar is there
+pub IsSome-scalar : (r : Option ℕ) (s : ℕ) → SomeIff r (IsStdScalar s) s → IsStdScalar s → IsSome r
+IsSome-scalar None s h scalar = absurd (h scalar)
+IsSome-scalar (Some x) s h scalar = refl

@@ -176,8 +176,7 @@ impl Utf8Char {
     pub fn to_char(self) -> char
         ensures { result ≡ self }
     {
-        let (c, _) = char::from_utf8_slice_start(&self.bytes).unwrap();
-        c
+        char::from_u32(self.scalar()).unwrap()
     }
 
     /// The code, then zeros, and how many bytes the code has.
