@@ -382,13 +382,24 @@ fn codes_broken_off_are_faults(rt: HostRuntime) {
     }
 }
 
+// The character of its own array.
+fn from_own_array(c: char) -> Utf8Char {
+    let (bytes, _) = c.to_utf8_array();
+    Utf8Char::from_array_unchecked(bytes)
+}
+
+// The character that begins its own array, and the length of its code.
+fn from_own_start(c: char) -> (Utf8Char, usize) {
+    let (bytes, _) = c.to_utf8_array();
+    Utf8Char::from_slice_start_unchecked(&bytes)
+}
+
 #[test]
 fn unchecked_forms_answer_the_same(rt: HostRuntime) {
     assert_eq!(rt; Utf8Char::from_ascii_unchecked(0x41), Utf8Char::new('A'));
-    let bytes = [0x41, 0, 0, 0];
-    assert_eq!(rt; Utf8Char::from_array_unchecked(bytes), Utf8Char::new('A'));
-    if Utf8Char::from_slice_start(&bytes).is_ok() {
-        let begins = Utf8Char::from_slice_start_unchecked(&bytes);
-        assert_eq!(rt; begins, (Utf8Char::new('A'), 1));
+    for (c, code) in EDGES {
+        let kept = Utf8Char::new(c);
+        assert_eq!(rt; from_own_array(c), kept, "at {c:?}");
+        assert_eq!(rt; from_own_start(c), (kept, code.len()), "at {c:?}");
     }
 }
