@@ -105,11 +105,11 @@ impl Utf16Char {
 
     /// The character whose code, and then zero where it has one unit, the two units are.
     #[inline(always)]
-    pub fn from_array_unchecked(units: [u16; 2]) -> Utf16Char
-        requires { IsPaddedCode utf16 2 units }
-        ensures { padded 2 (utf16 result) ≡ units }
+    pub fn from_array_unchecked(array: [u16; 2]) -> Utf16Char
+        requires { IsPaddedCode utf16 2 array }
+        ensures { padded 2 (utf16 result) ≡ array }
     {
-        Utf16Char { units }
+        Utf16Char { units: array }
     }
 
     /// The character whose code the one or two units are. A second unit that the first does not ask for

@@ -102,11 +102,11 @@ impl Utf8Char {
 
     /// The character whose code, and then zeros, the four bytes are.
     #[inline(always)]
-    pub fn from_array_unchecked(bytes: [u8; 4]) -> Utf8Char
-        requires { IsPaddedCode utf8 4 bytes }
-        ensures { padded 4 (utf8 result) ≡ bytes }
+    pub fn from_array_unchecked(array: [u8; 4]) -> Utf8Char
+        requires { IsPaddedCode utf8 4 array }
+        ensures { padded 4 (utf8 result) ≡ array }
     {
-        Utf8Char { bytes }
+        Utf8Char { bytes: array }
     }
 
     /// The character of an ASCII code, and an error from 128 on.

@@ -1,29 +1,10 @@
 use crate::char_ext::CharExt;
+use crate::edges::{EDGES, compares, hash_of, parsed};
 use crate::utf8_char::Utf8Char;
-use std::cmp::Ordering;
 use std::collections::{BTreeMap, HashMap};
-use std::hash::{BuildHasher, BuildHasherDefault, FoldHasher, Hash};
 use std::str::FromStr;
 use std::test::Fail;
 use utf_base::errors::{EmptyStrError, FromStrError, NonAsciiError, Utf8Error, Utf8ErrorKind};
-
-// Characters next to where the length of the code changes, and some between, in their order.
-const EDGES: [(char, &[u8]); 14] = [
-    ('\0', &[0x00]),
-    ('\u{7f}', &[0x7f]),
-    ('\u{80}', &[0xc2, 0x80]),
-    ('\u{111}', &[0xc4, 0x91]),
-    ('\u{77b}', &[0xdd, 0xbb]),
-    ('\u{7ff}', &[0xdf, 0xbf]),
-    ('\u{800}', &[0xe0, 0xa0, 0x80]),
-    ('\u{d7ff}', &[0xed, 0x9f, 0xbf]),
-    ('\u{e000}', &[0xee, 0x80, 0x80]),
-    ('\u{ffff}', &[0xef, 0xbf, 0xbf]),
-    ('\u{10000}', &[0xf0, 0x90, 0x80, 0x80]),
-    ('\u{abcde}', &[0xf2, 0xab, 0xb3, 0x9e]),
-    ('\u{10befb}', &[0xf4, 0x8b, 0xbb, 0xbb]),
-    ('\u{10ffff}', &[0xf4, 0x8f, 0xbf, 0xbf]),
-];
 
 // The code, and the filler in the places behind it.
 fn filled<const N: usize>(code: &[u8], filler: u8) -> [u8; N] {
@@ -38,13 +19,9 @@ fn kind_of<T>(answer: Result<T, Utf8Error>) -> Result<T, Utf8ErrorKind> {
     answer.map_err(|error| error.kind())
 }
 
-fn parsed<T: FromStr>(text: &str) -> Result<T, T::Err> {
-    text.parse()
-}
-
 #[test]
 fn each_way_makes_the_character(rt: HostRuntime) -> Result<(), Fail> {
-    for (c, code) in EDGES {
+    for (c, code, _) in EDGES {
         let kept = Utf8Char::new(c);
         let len = code.len();
         assert_eq!(rt; kept.as_bytes(), code, "at {c:?}");
@@ -86,7 +63,7 @@ fn each_way_makes_the_character(rt: HostRuntime) -> Result<(), Fail> {
 
 #[test]
 fn the_character_gives_its_code(rt: HostRuntime) -> Result<(), Fail> {
-    for (c, code) in EDGES {
+    for (c, code, _) in EDGES {
         let kept = Utf8Char::new(c);
         assert_eq!(rt; kept.len(), code.len(), "at {c:?}");
         assert_eq!(rt; kept.is_ascii(), code.len() == 1, "at {c:?}");
@@ -129,19 +106,11 @@ fn what_follows_the_code_stays(rt: HostRuntime) {
     assert_eq!(rt; bytes, [0xe2, 0x82, 0xac, 45, 45, 45]);
 }
 
-// Whether the two compare as the expected order says, by each of the calls that compare.
-fn compares<T: Ord>(one: &T, other: &T, expected: Ordering) -> bool {
-    one.cmp(other) == expected
-        && one.partial_cmp(other) == Some(expected)
-        && (one == other) == expected.is_eq()
-        && (one < other) == expected.is_lt()
-}
-
 #[test]
 fn characters_go_by_their_scalars(rt: HostRuntime) {
-    for (row, (one, _)) in EDGES.iter().enumerate() {
+    for (row, (one, _, _)) in EDGES.iter().enumerate() {
         let kept = Utf8Char::new(*one);
-        for (column, (other, _)) in EDGES.iter().enumerate() {
+        for (column, (other, _, _)) in EDGES.iter().enumerate() {
             let expected = row.cmp(&column);
             let kept_other = Utf8Char::new(*other);
             assert!(rt;
@@ -180,13 +149,9 @@ fn a_byte_is_an_ascii_character_or_none(rt: HostRuntime) {
     }
 }
 
-fn hash_of<T: Hash + Drop>(value: T) -> u64 {
-    BuildHasherDefault::<FoldHasher>::new().hash_one(value)
-}
-
 #[test]
 fn characters_hash_as_a_char_does(rt: HostRuntime) {
-    for (c, _) in EDGES {
+    for (c, _, _) in EDGES {
         assert_eq!(rt; hash_of(Utf8Char::new(c)), hash_of(c), "at {c:?}");
     }
 }
@@ -195,13 +160,13 @@ fn characters_hash_as_a_char_does(rt: HostRuntime) {
 fn maps_find_their_characters(rt: HostRuntime) -> Result<(), Fail> {
     let mut ordered = BTreeMap::new(rt.alloc());
     let mut hashed = HashMap::new(rt.alloc());
-    for (row, (c, _)) in EDGES.iter().enumerate() {
+    for (row, (c, _, _)) in EDGES.iter().enumerate() {
         ordered.insert(Utf8Char::new(*c), row)?;
         hashed.insert(Utf8Char::new(*c), row)?;
     }
     assert_eq!(rt; ordered.len(), EDGES.len());
     assert_eq!(rt; hashed.len(), EDGES.len());
-    for (row, (c, _)) in EDGES.iter().enumerate() {
+    for (row, (c, _, _)) in EDGES.iter().enumerate() {
         let key = Utf8Char::new(*c);
         assert_eq!(rt; ordered.get(&key).copied(), Some(row), "at {c:?}");
         assert_eq!(rt; hashed.get(&key).copied(), Some(row), "at {c:?}");
@@ -397,7 +362,7 @@ fn from_own_start(c: char) -> (Utf8Char, usize) {
 #[test]
 fn unchecked_forms_answer_the_same(rt: HostRuntime) {
     assert_eq!(rt; Utf8Char::from_ascii_unchecked(0x41), Utf8Char::new('A'));
-    for (c, code) in EDGES {
+    for (c, code, _) in EDGES {
         let kept = Utf8Char::new(c);
         assert_eq!(rt; from_own_array(c), kept, "at {c:?}");
         assert_eq!(rt; from_own_start(c), (kept, code.len()), "at {c:?}");
