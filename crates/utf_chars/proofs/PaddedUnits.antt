@@ -11,6 +11,7 @@ use Rattle.utf_base.proofs.UnitLemmas.{no_units_where_fault}
 use Rattle.utf_base.specs.Scalar.{IsScalar}
 use Rattle.utf_base.specs.Code.{utf16}
 use Rattle.utf_base.specs.Units.{is_leading_surrogate, is_surrogate, pair_value, unit_value}
+use Rattle.utf_base.proofs.Standing.{stands_first}
 use Rattle.utf_base.proofs.Utf16Code.{utf16-1, utf16-2, unit_value-unit, unit_value-pair}
 use Rattle.utf_chars.specs.Padded.{padded, IsPadded}
 
@@ -148,3 +149,8 @@ code_by_second units s h e =
 pub IsOk-DecodesUnits : (w : List ℕ) (s : ℕ) (r : Result (ℕ × ℕ) Utf16SliceError) → Stands utf16 w 0 s → DecodesUnits as_scalar w r → IsOk r
 IsOk-DecodesUnits w s (Ok x) h d = refl
 IsOk-DecodesUnits w s (Err k) h d = absurd (no_units_where_fault w k s d h)
+
+-- the code of a scalar begins the array that it is kept in
+pub stands_in_units : (units : List ℕ) (s : ℕ) → IsScalar s → units ≡ padded 2 (utf16 s) → Stands utf16 units 0 s
+unfolding padded
+stands_in_units units s h e = stands_first utf16 units (replicate (2 - length (utf16 s)) 0) s h e

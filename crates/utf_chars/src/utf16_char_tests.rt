@@ -1,3 +1,6 @@
+ghost use Rattle.std.specs.Prelude.{◌≡◌, false};
+ghost use Rattle.utf_base.specs.Units.{is_surrogate};
+
 use crate::char_ext::CharExt;
 use crate::edges::{EDGES, compares, hash_of, parsed};
 use crate::utf8_char::Utf8Char;
@@ -407,7 +410,35 @@ fn edges_are_no_ascii_letters(rt: HostRuntime) {
     }
 }
 
+// The character of its own array.
+fn from_own_array(c: char) -> Utf16Char {
+    let units = c.to_utf16_array();
+    Utf16Char::from_array_unchecked(units)
+}
+
+// The character that begins its own array, and the length of its code.
+fn from_own_start(c: char) -> (Utf16Char, usize) {
+    let units = c.to_utf16_array();
+    Utf16Char::from_slice_start_unchecked(&units)
+}
+
+// The character of a unit with nothing behind it, and with 0.
+fn from_unit_alone(unit: u16) -> [Utf16Char; 2]
+    requires { is_surrogate unit ≡ false }
+{
+    let alone = Utf16Char::from_tuple_unchecked((unit, None));
+    let padded = Utf16Char::from_tuple_unchecked((unit, Some(0)));
+    [alone, padded]
+}
+
 #[test]
 fn unchecked_forms_answer_the_same(rt: HostRuntime) {
-    assert_eq!(rt; Utf16Char::from_bmp_unchecked(0x41), Utf16Char::new('A'));
+    let capital = Utf16Char::new('A');
+    assert_eq!(rt; Utf16Char::from_bmp_unchecked(0x41), capital);
+    assert_eq!(rt; from_unit_alone(0x41), [capital, capital]);
+    for (c, _, code) in EDGES {
+        let kept = Utf16Char::new(c);
+        assert_eq!(rt; from_own_array(c), kept, "at {c:?}");
+        assert_eq!(rt; from_own_start(c), (kept, code.len()), "at {c:?}");
+    }
 }
