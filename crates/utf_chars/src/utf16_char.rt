@@ -222,8 +222,8 @@ impl Utf16Char {
     pub fn to_array(self) -> [u16; 2]
         ensures { result ≡ padded 2 (utf16 self) }
     {
-        let units = self.units;
-        units
+        let kept = self.units;
+        kept
     }
 
     /// The code, whose second unit is there only where the code has two.
@@ -298,7 +298,7 @@ impl Utf16Char {
     pub fn eq_char(self, c: char) -> bool
         ensures { IsTrue result ↔ (self ≡ c) }
     {
-        self.to_char() == c
+        c == self.to_char()
     }
 
     /// The order of the scalars.
