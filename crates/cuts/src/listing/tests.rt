@@ -53,7 +53,7 @@ fn pieces_have_their_lines(rt: HostRuntime) {
 #[test]
 fn a_failure_ends_the_listing(rt: HostRuntime) {
     let line = b"0 2 0000e9\n".as_slice();
-    for (stalls, kind) in [(false, ErrorKind::Other), (true, ErrorKind::WriteZero)] {
+    for (stalls, kind) in [(false, ErrorKind::BrokenPipe), (true, ErrorKind::WriteZero)] {
         for calls in 0..11 {
             let mut writer = FakeWriter::ample(rt.alloc());
             writer.most = 1;
