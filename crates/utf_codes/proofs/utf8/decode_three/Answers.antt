@@ -2,7 +2,7 @@ use Rattle.std.proofs.Common.{◌≤◌, ◌<◌, ◌∙◌, arith, sym}
 use Rattle.utf_base.proofs.FrontLemmas.{least_value-3}
 use Rattle.utf_base.proofs.KindCases.{Asks-3, kind-few, interrupted-3, Sums-3, kind-overlong, kind-surrogate, begins_with}
 use Rattle.utf_base.proofs.StdText.{scalar_from_std}
-use Rattle.utf_chars.proofs.char_ext.decode_three.Goals as goal
+use Rattle.utf_codes.proofs.utf8.decode_three.Goals as goal
 
 pub returns-then-src-lt3 : goal.returns-then-src-lt3
 returns-then-src-lt3 c =

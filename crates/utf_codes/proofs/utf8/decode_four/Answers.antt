@@ -2,7 +2,7 @@ use Rattle.std.proofs.Common.{◌≤◌, ◌∙◌, arith, sym}
 use Rattle.utf_base.proofs.FrontLemmas.{least_value-4}
 use Rattle.utf_base.proofs.KindCases.{Asks-4, kind-few, interrupted-4, Sums-4, kind-overlong, kind-too_high, begins_with}
 use Rattle.utf_base.proofs.StdText.{scalar_from_std}
-use Rattle.utf_chars.proofs.char_ext.decode_four.Goals as goal
+use Rattle.utf_codes.proofs.utf8.decode_four.Goals as goal
 
 pub returns-then-src-lt4 : goal.returns-then-src-lt4
 returns-then-src-lt4 c =

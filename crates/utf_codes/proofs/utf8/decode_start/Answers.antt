@@ -3,8 +3,8 @@ use Rattle.std.proofs.lemmas.Grind.{common_steps}
 use Rattle.utf_base.specs.Kinds.{is_continuation}
 use Rattle.utf_base.proofs.FrontLemmas.{asked-0}
 use Rattle.utf_base.proofs.KindCases.{kind-empty, kind-continuation, kind-never, begins_with-1}
-use Rattle.utf_chars.proofs.char_ext.CharCharExt.from_utf8_slice_start.Goals as goal
-use Rattle.utf_chars.proofs.char_ext.CharCharExt.from_utf8_slice_start.Goals.{in_default-via-then-this-lt194, in_default-via-else-this-lt194+else-this-lt224+else-this-lt240+else-this-lt245}
+use Rattle.utf_codes.proofs.utf8.decode_start.Goals as goal
+use Rattle.utf_codes.proofs.utf8.decode_start.Goals.{in_default-via-then-this-lt194, in_default-via-else-this-lt194+else-this-lt224+else-this-lt240+else-this-lt245}
 
 pub returns-then-is_empty : goal.returns-then-is_empty
 returns-then-is_empty c = rw c.new.ensures (kind-empty _ (grind (arith, common_steps)))

@@ -2,7 +2,7 @@ use Rattle.std.proofs.Common.{◌≤◌, ◌∙◌, arith, sym, lit<}
 use Rattle.utf_base.proofs.FrontLemmas.{least_value-below_3}
 use Rattle.utf_base.proofs.KindCases.{Asks-2, kind-few, interrupted-2, Sums-2, begins_with}
 use Rattle.utf_base.proofs.StdText.{scalar_from_std}
-use Rattle.utf_chars.proofs.char_ext.decode_two.Goals as goal
+use Rattle.utf_codes.proofs.utf8.decode_two.Goals as goal
 
 pub returns-then-src-lt2 : goal.returns-then-src-lt2
 returns-then-src-lt2 c =
