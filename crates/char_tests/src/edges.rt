@@ -12,13 +12,48 @@ pub(crate) const EDGES: [Edge; 14] = [
     ('\u{77b}', "\u{77b}\u{77b}?", &[0xdd, 0xbb], &[0x077b]),
     ('\u{7ff}', "\u{7ff}\u{7ff}?", &[0xdf, 0xbf], &[0x07ff]),
     ('\u{800}', "\u{800}\u{800}?", &[0xe0, 0xa0, 0x80], &[0x0800]),
-    ('\u{d7ff}', "\u{d7ff}\u{d7ff}?", &[0xed, 0x9f, 0xbf], &[0xd7ff]),
-    ('\u{e000}', "\u{e000}\u{e000}?", &[0xee, 0x80, 0x80], &[0xe000]),
-    ('\u{ffff}', "\u{ffff}\u{ffff}?", &[0xef, 0xbf, 0xbf], &[0xffff]),
-    ('\u{10000}', "\u{10000}\u{10000}?", &[0xf0, 0x90, 0x80, 0x80], &[0xd800, 0xdc00]),
-    ('\u{abcde}', "\u{abcde}\u{abcde}?", &[0xf2, 0xab, 0xb3, 0x9e], &[0xda6f, 0xdcde]),
-    ('\u{10befb}', "\u{10befb}\u{10befb}?", &[0xf4, 0x8b, 0xbb, 0xbb], &[0xdbef, 0xdefb]),
-    ('\u{10ffff}', "\u{10ffff}\u{10ffff}?", &[0xf4, 0x8f, 0xbf, 0xbf], &[0xdbff, 0xdfff]),
+    (
+        '\u{d7ff}',
+        "\u{d7ff}\u{d7ff}?",
+        &[0xed, 0x9f, 0xbf],
+        &[0xd7ff],
+    ),
+    (
+        '\u{e000}',
+        "\u{e000}\u{e000}?",
+        &[0xee, 0x80, 0x80],
+        &[0xe000],
+    ),
+    (
+        '\u{ffff}',
+        "\u{ffff}\u{ffff}?",
+        &[0xef, 0xbf, 0xbf],
+        &[0xffff],
+    ),
+    (
+        '\u{10000}',
+        "\u{10000}\u{10000}?",
+        &[0xf0, 0x90, 0x80, 0x80],
+        &[0xd800, 0xdc00],
+    ),
+    (
+        '\u{abcde}',
+        "\u{abcde}\u{abcde}?",
+        &[0xf2, 0xab, 0xb3, 0x9e],
+        &[0xda6f, 0xdcde],
+    ),
+    (
+        '\u{10befb}',
+        "\u{10befb}\u{10befb}?",
+        &[0xf4, 0x8b, 0xbb, 0xbb],
+        &[0xdbef, 0xdefb],
+    ),
+    (
+        '\u{10ffff}',
+        "\u{10ffff}\u{10ffff}?",
+        &[0xf4, 0x8f, 0xbf, 0xbf],
+        &[0xdbff, 0xdfff],
+    ),
 ];
 
 // The characters of the table.

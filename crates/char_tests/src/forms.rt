@@ -18,16 +18,15 @@ fn gives_codes<T: CharExt + Copy>(c: T, edge: Edge) -> bool {
         && c.to_utf16().as_units() == units
 }
 
-// Whether the calls of the bound make the character of the row from its code in UTF-8.
+// Whether the calls of the bound make the character of the row from its number and from its bytes.
 fn is_made_of_bytes<T: CharExt + Copy + PartialEq>(c: T, edge: Edge) -> bool {
     let (scalar, _, bytes, _) = edge;
-    let found = Some((c, bytes.len()));
     T::from_u32_detailed(scalar as u32).ok() == Some(c)
-        && T::from_utf8_slice_start(bytes).ok() == found
+        && T::from_utf8_slice_start(bytes).ok() == Some((c, bytes.len()))
         && T::from_utf8_array(filled(bytes, 0xff)).ok() == Some(c)
 }
 
-// Whether the calls of the bound make the character of the row from its code in UTF-16.
+// Whether the calls of the bound make the character of the row from its units.
 fn is_made_of_units<T: CharExt + Copy + PartialEq>(c: T, edge: Edge) -> bool {
     let (_, _, _, units) = edge;
     let Some((first, second)) = as_tuple(units) else {
@@ -44,16 +43,106 @@ fn is_made_of_units<T: CharExt + Copy + PartialEq>(c: T, edge: Edge) -> bool {
         && T::from_utf16_tuple_unchecked((first, second)) == c
 }
 
-// Whether each call that makes a character in UTF-8 makes that of the row.
-fn makes_utf8(edge: Edge) -> bool {
-    let (c, text, bytes, units) = edge;
+// Whether each call that makes a `Utf8Char` of the row makes the same, with nothing of what follows.
+fn is_made_in_utf8(edge: Edge) -> bool {
+    let (c, _, bytes, _) = edge;
     let kept = Utf8Char::new(c);
     let found = Some((kept, bytes.len()));
     let longer: [u8; 6] = filled(bytes, 0xff);
-    kept.as_bytes() == bytes
-        && Utf8Char::from(c) == kept
+    Utf8Char::from(c) == kept
         && Utf8Char::from(Utf16Char::new(c)) == kept
         && Utf8Char::from_slice_start(bytes).ok() == found
         && Utf8Char::from_slice_start(&longer).ok() == found
         && Utf8Char::from_array(filled(bytes, 0xff)).ok() == Some(kept)
+}
+
+// Whether the `Utf8Char` gives back the row.
+fn gives_utf8(edge: Edge) -> bool {
+    let (c, text, bytes, units) = edge;
+    let kept = Utf8Char::new(c);
+    kept.len() == bytes.len()
+        && kept.is_ascii() == (bytes.len() == 1)
+        && kept.to_char() == c
+        && char::from(kept) == c
+        && Utf16Char::from(kept).as_units() == units
+        && kept.to_array() == (filled(bytes, 0), bytes.len())
+        && kept.as_bytes() == bytes
+        && text.starts_with(kept.as_str())
+        && kept.as_str().len() == bytes.len()
+}
+
+// Whether each call that makes a `Utf16Char` of the row makes the same, with nothing of what follows.
+fn is_made_in_utf16(edge: Edge) -> bool {
+    let (c, _, _, units) = edge;
+    let kept = Utf16Char::new(c);
+    let found = Some((kept, units.len()));
+    let (before_unit, before_stray): ([u16; 4], [u16; 4]) = (
+        filled(units, 0x79),
+        filled(units, 0xdead),
+    );
+    Utf16Char::from(c) == kept
+        && Utf16Char::from(Utf8Char::new(c)) == kept
+        && Utf16Char::from_slice_start(units).ok() == found
+        && Utf16Char::from_slice_start(&before_unit).ok() == found
+        && Utf16Char::from_slice_start(&before_stray).ok() == found
+        && Utf16Char::from_array(filled(units, 0x79)).ok() == Some(kept)
+        && Utf16Char::from_array(filled(units, 0xdead)).ok() == Some(kept)
+        && as_tuple(units).map(Utf16Char::from_tuple) == Some(Ok(kept))
+}
+
+// Whether the `Utf16Char` gives back the row.
+fn gives_utf16(edge: Edge) -> bool {
+    let (c, _, bytes, units) = edge;
+    let kept = Utf16Char::new(c);
+    kept.len() == units.len()
+        && kept.is_bmp() == (units.len() == 1)
+        && kept.is_ascii() == (bytes.len() == 1)
+        && kept.to_char() == c
+        && char::from(kept) == c
+        && Utf8Char::from(kept).as_bytes() == bytes
+        && kept.to_array() == filled(units, 0)
+        && Some(kept.to_tuple()) == as_tuple(units)
+        && kept.as_units() == units
+}
+
+#[test]
+fn the_forms_follow_the_table(rt: HostRuntime) {
+    for edge in EDGES {
+        let c = edge.0;
+        let plain = [
+            gives_codes(c, edge),
+            is_made_of_bytes(c, edge),
+            is_made_of_units(c, edge),
+        ];
+        assert_eq!(rt; plain, [true; 3], "at {c:?}");
+        let kept = [
+            is_made_in_utf8(edge),
+            gives_utf8(edge),
+            is_made_in_utf16(edge),
+            gives_utf16(edge),
+        ];
+        assert_eq!(rt; kept, [true; 4], "at {c:?}");
+    }
+}
+
+#[test]
+fn places_behind_the_code_stay(rt: HostRuntime) {
+    for (c, _, in_bytes, in_units) in EDGES {
+        let kept = c.to_utf8();
+        let mut bytes = [45; 6];
+        assert!(rt; kept.len() <= bytes.len());
+        let written = (kept.to_slice(&mut bytes), bytes);
+        assert_eq!(rt; written, (in_bytes.len(), filled(in_bytes, 45)), "at {c:?}");
+
+        let kept = c.to_utf16();
+        let mut units = [45; 4];
+        assert!(rt; kept.len() <= units.len());
+        let written = (kept.to_slice(&mut units), units);
+        assert_eq!(rt; written, (in_units.len(), filled(in_units, 45)), "at {c:?}");
+    }
+    let euro = '\u{20ac}'.to_utf8();
+    let mut bytes = [45; 6];
+    assert!(rt; euro.len() <= bytes.len());
+    let written = (euro.to_slice(&mut bytes), bytes);
+    assert_eq!(rt; written, (3, [0xe2, 0x82, 0xac, 45, 45, 45]));
 }
