@@ -1,5 +1,5 @@
 //! What each form makes of a row of the table, and the row of it.
-use crate::edges::{EDGES, Edge, filled};
+use crate::edges::{Edge, edges, filled};
 use encode_unicode::{CharExt, Utf8Char, Utf16Char};
 
 // The code as a unit and the one behind it, if any.
@@ -9,8 +9,8 @@ fn as_tuple(code: &[u16]) -> Option<(u16, Option<u16>)> {
 }
 
 // Whether the calls of the bound give the codes of the row.
-fn gives_codes<T: CharExt + Copy>(c: T, edge: Edge) -> bool {
-    let (_, _, bytes, units) = edge;
+fn gives_codes<T: CharExt + Copy>(c: T, edge: &Edge) -> bool {
+    let (_, _, bytes, units) = *edge;
     c.to_utf8_array() == (filled(bytes, 0), bytes.len())
         && c.to_utf8().as_bytes() == bytes
         && c.to_utf16_array() == filled(units, 0)
@@ -19,16 +19,16 @@ fn gives_codes<T: CharExt + Copy>(c: T, edge: Edge) -> bool {
 }
 
 // Whether the calls of the bound make the character of the row from its number and from its bytes.
-fn is_made_of_bytes<T: CharExt + Copy + PartialEq>(c: T, edge: Edge) -> bool {
-    let (scalar, _, bytes, _) = edge;
+fn is_made_of_bytes<T: CharExt + Copy + PartialEq>(c: T, edge: &Edge) -> bool {
+    let (scalar, _, bytes, _) = *edge;
     T::from_u32_detailed(scalar as u32).ok() == Some(c)
         && T::from_utf8_slice_start(bytes).ok() == Some((c, bytes.len()))
         && T::from_utf8_array(filled(bytes, 0xff)).ok() == Some(c)
 }
 
 // Whether the calls of the bound make the character of the row from its units.
-fn is_made_of_units<T: CharExt + Copy + PartialEq>(c: T, edge: Edge) -> bool {
-    let (_, _, _, units) = edge;
+fn is_made_of_units<T: CharExt + Copy + PartialEq>(c: T, edge: &Edge) -> bool {
+    let (_, _, _, units) = *edge;
     let Some((first, second)) = as_tuple(units) else {
         return false;
     };
@@ -44,8 +44,8 @@ fn is_made_of_units<T: CharExt + Copy + PartialEq>(c: T, edge: Edge) -> bool {
 }
 
 // Whether each call that makes a `Utf8Char` of the row makes the same, with nothing of what follows.
-fn is_made_in_utf8(edge: Edge) -> bool {
-    let (c, _, bytes, _) = edge;
+fn is_made_in_utf8(edge: &Edge) -> bool {
+    let (c, _, bytes, _) = *edge;
     let kept = Utf8Char::new(c);
     let found = Some((kept, bytes.len()));
     let longer: [u8; 6] = filled(bytes, 0xff);
@@ -57,8 +57,8 @@ fn is_made_in_utf8(edge: Edge) -> bool {
 }
 
 // Whether the `Utf8Char` gives back the row.
-fn gives_utf8(edge: Edge) -> bool {
-    let (c, text, bytes, units) = edge;
+fn gives_utf8(edge: &Edge) -> bool {
+    let (c, text, bytes, units) = *edge;
     let kept = Utf8Char::new(c);
     kept.len() == bytes.len()
         && kept.is_ascii() == (bytes.len() == 1)
@@ -66,14 +66,15 @@ fn gives_utf8(edge: Edge) -> bool {
         && char::from(kept) == c
         && Utf16Char::from(kept).as_units() == units
         && kept.to_array() == (filled(bytes, 0), bytes.len())
+        && written_utf8(c) == (filled(bytes, 45), bytes.len())
         && kept.as_bytes() == bytes
         && text.starts_with(kept.as_str())
         && kept.as_str().len() == bytes.len()
 }
 
 // Whether each call that makes a `Utf16Char` of the row makes the same, with nothing of what follows.
-fn is_made_in_utf16(edge: Edge) -> bool {
-    let (c, _, _, units) = edge;
+fn is_made_in_utf16(edge: &Edge) -> bool {
+    let (c, _, _, units) = *edge;
     let kept = Utf16Char::new(c);
     let found = Some((kept, units.len()));
     let (before_unit, before_stray): ([u16; 4], [u16; 4]) = (
@@ -91,8 +92,8 @@ fn is_made_in_utf16(edge: Edge) -> bool {
 }
 
 // Whether the `Utf16Char` gives back the row.
-fn gives_utf16(edge: Edge) -> bool {
-    let (c, _, bytes, units) = edge;
+fn gives_utf16(edge: &Edge) -> bool {
+    let (c, _, bytes, units) = *edge;
     let kept = Utf16Char::new(c);
     kept.len() == units.len()
         && kept.is_bmp() == (units.len() == 1)
@@ -102,12 +103,35 @@ fn gives_utf16(edge: Edge) -> bool {
         && Utf8Char::from(kept).as_bytes() == bytes
         && kept.to_array() == filled(units, 0)
         && Some(kept.to_tuple()) == as_tuple(units)
+        && written_utf16(c) == (filled(units, 45), units.len())
         && kept.as_units() == units
+}
+
+// The places that a `Utf8Char` is written to, and how many it says that it took.
+fn written_utf8(c: char) -> ([u8; 6], usize) {
+    let kept = Utf8Char::new(c);
+    let mut places = [45; 6];
+    if kept.len() > places.len() {
+        return (places, 0);
+    }
+    let len = kept.to_slice(&mut places);
+    (places, len)
+}
+
+// The places that a `Utf16Char` is written to, and how many it says that it took.
+fn written_utf16(c: char) -> ([u16; 4], usize) {
+    let kept = Utf16Char::new(c);
+    let mut places = [45; 4];
+    if kept.len() > places.len() {
+        return (places, 0);
+    }
+    let len = kept.to_slice(&mut places);
+    (places, len)
 }
 
 #[test]
 fn the_forms_follow_the_table(rt: HostRuntime) {
-    for edge in EDGES {
+    for edge in edges() {
         let c = edge.0;
         let plain = [
             gives_codes(c, edge),
@@ -123,26 +147,6 @@ fn the_forms_follow_the_table(rt: HostRuntime) {
         ];
         assert_eq!(rt; kept, [true; 4], "at {c:?}");
     }
-}
-
-#[test]
-fn places_behind_the_code_stay(rt: HostRuntime) {
-    for (c, _, in_bytes, in_units) in EDGES {
-        let kept = c.to_utf8();
-        let mut bytes = [45; 6];
-        assert!(rt; kept.len() <= bytes.len());
-        let written = (kept.to_slice(&mut bytes), bytes);
-        assert_eq!(rt; written, (in_bytes.len(), filled(in_bytes, 45)), "at {c:?}");
-
-        let kept = c.to_utf16();
-        let mut units = [45; 4];
-        assert!(rt; kept.len() <= units.len());
-        let written = (kept.to_slice(&mut units), units);
-        assert_eq!(rt; written, (in_units.len(), filled(in_units, 45)), "at {c:?}");
-    }
-    let euro = '\u{20ac}'.to_utf8();
-    let mut bytes = [45; 6];
-    assert!(rt; euro.len() <= bytes.len());
-    let written = (euro.to_slice(&mut bytes), bytes);
-    assert_eq!(rt; written, (3, [0xe2, 0x82, 0xac, 45, 45, 45]));
+    let euro = written_utf8('\u{20ac}');
+    assert_eq!(rt; euro, ([0xe2, 0x82, 0xac, 45, 45, 45], 3));
 }

@@ -1,5 +1,5 @@
 //! Texts as characters, and characters as texts.
-use crate::edges::{EDGES, characters};
+use crate::edges::{characters, edges};
 use encode_unicode::error::{EmptyStrError, FromStrError};
 use encode_unicode::{CharExt, Utf8Char, Utf16Char};
 use std::str::FromStr;
@@ -54,11 +54,11 @@ fn texts_are_characters_or_faults(rt: HostRuntime) {
     for (text, start, whole) in table {
         assert!(rt; reads(text, start, whole), "at {text:?}");
     }
-    for (c, text, bytes, _) in EDGES {
-        let start = Ok((c, bytes.len()));
+    for (c, text, bytes, _) in edges() {
+        let start = Ok((*c, bytes.len()));
         assert!(rt; reads(text, start, many), "at {text:?}");
         let alone = text.get(..bytes.len()).expect(&rt, "its own text");
-        assert!(rt; reads(alone, start, Ok(c)), "at {alone:?}");
+        assert!(rt; reads(alone, start, Ok(*c)), "at {alone:?}");
     }
 }
 

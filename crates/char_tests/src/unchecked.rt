@@ -1,10 +1,8 @@
 //! The forms that ask their caller, called on codes that are known.
-ghost use Rattle.std.specs.Prelude.{◌≡◌, false};
 ghost use Rattle.utf_base.specs.Code.{utf8};
 ghost use Rattle.utf_base.specs.Front.{IsOneCode};
-ghost use Rattle.utf_base.specs.Units.{is_surrogate};
 
-use crate::edges::EDGES;
+use crate::edges::edges;
 use encode_unicode::{CharExt, Utf8Char, Utf16Char};
 
 // The character of the bytes, taken through the bound for the code of one.
@@ -44,13 +42,14 @@ fn at_front_of_units(src: &[u16]) -> Option<(Utf16Char, usize)> {
     Some(Utf16Char::from_slice_start_unchecked(src))
 }
 
-// The character of a unit with nothing behind it, and with 0.
-fn of_unit_alone(unit: u16) -> [Utf16Char; 2]
-    requires { is_surrogate unit ≡ false }
-{
-    let alone = Utf16Char::from_tuple_unchecked((unit, None));
-    let padded = Utf16Char::from_tuple_unchecked((unit, Some(0)));
-    [alone, padded]
+// The character of its own units, the second even where there is none.
+fn of_own_tuple(c: char) -> [Utf16Char; 2] {
+    let [first, second] = c.to_utf16_array();
+    let padded = Utf16Char::from_tuple_unchecked((first, Some(second)));
+    if second > 0 {
+        return [padded, padded];
+    }
+    [padded, Utf16Char::from_tuple_unchecked((first, None))]
 }
 
 #[test]
@@ -58,13 +57,16 @@ fn unchecked_forms_answer_the_same(rt: HostRuntime) {
     let (in_bytes, in_units) = ('A'.to_utf8(), 'A'.to_utf16());
     assert_eq!(rt; Utf8Char::from_ascii_unchecked(0x41), in_bytes);
     assert_eq!(rt; Utf16Char::from_bmp_unchecked(0x41), in_units);
-    assert_eq!(rt; of_unit_alone(0x41), [in_units; 2]);
-    for (c, _, bytes, units) in EDGES {
+    assert_eq!(rt; of_own_tuple('A'), [in_units; 2]);
+    for (c, _, bytes, units) in edges() {
         let (in_bytes, in_units) = (c.to_utf8(), c.to_utf16());
-        let whole = (of_own_code(c), of_own_bytes(c), of_own_units(c));
-        assert_eq!(rt; whole, (c, in_bytes, in_units), "at {c:?}");
-        let front = (at_front_of_bytes(bytes), at_front_of_units(units));
-        let expected = (Some((in_bytes, bytes.len())), Some((in_units, units.len())));
-        assert_eq!(rt; front, expected, "at {c:?}");
+        let whole = of_own_code(*c) == *c
+            && of_own_bytes(*c) == in_bytes
+            && of_own_units(*c) == in_units
+            && of_own_tuple(*c) == [in_units; 2];
+        assert!(rt; whole, "at {c:?}");
+        let front = at_front_of_bytes(bytes) == Some((in_bytes, bytes.len()))
+            && at_front_of_units(units) == Some((in_units, units.len()));
+        assert!(rt; front, "at {c:?}");
     }
 }
