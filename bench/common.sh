@@ -41,7 +41,7 @@ build_programs() {
     build_library
     mkdir "$work_folder/bench" "$work_folder/encode_unicode"
     cp -r "$bench_folder"/{Cargo.toml,build.rs,src} "$work_folder/bench/"
-    cp -r "$rust_crate"/{Cargo.toml,src} "$work_folder/encode_unicode/"
+    tar -C "$rust_crate" --exclude=./target --exclude=./.git -cf - . | tar -C "$work_folder/encode_unicode" -xf -
     # The processor is the one for which rt builds the library.
     if ! (cd "$work_folder/bench" && BENCH_LIBRARY_FOLDER="$root_folder/crates/bench_c/out" \
         RUSTFLAGS="-C target-cpu=x86-64-v2" CARGO_TARGET_DIR="$work_folder/target" \

@@ -2,9 +2,7 @@
 use Rattle.std.proofs.Common.{◌+◌, ◌-◌, ◌*◌, ◌&&◌, Bool, true, lit<, ◌≡◌, ℕ, ◌-◌, ◌<◌, ◌≤◌, List, [], ◌∷◌, length, get_or, take, sym, ap, ◌∙◌, refl, arith}
 use Rattle.std.proofs.lemmas.Grind.{common_steps}
 use Rattle.std.proofs.lemmas.List.{take_at}
-use Rattle.std.specs.Char.{IsScalar as IsStdScalar}
-use Rattle.std.specs.Option.{SomeIff}
-use Rattle.std.specs.Prelude.{replicate, Option, Some, None, IsSome, Result, Ok, Err, IsOk}
+use Rattle.std.specs.Prelude.{replicate, Result, Ok, Err, IsOk}
 use Rattle.utf_base.specs.declared.errors.Utf8ErrorKind.{Utf8ErrorKind}
 use Rattle.utf_base.specs.Front.{as_scalar, DecodesFront}
 use Rattle.utf_base.specs.Scalar.{IsScalar}
@@ -157,8 +155,3 @@ front_padded-3 w s h n = rw (at_front w s 0 h (omega arith), at_front w s 1 h (o
 
 pub front_padded-4 : (w : List ℕ) (s : ℕ) → Stands utf8 w 0 s → 4 ≡ length (utf8 s) → get_or w 0 0 ∷ get_or w 1 0 ∷ get_or w 2 0 ∷ get_or w 3 0 ∷ [] ≡ padded 4 (utf8 s)
 front_padded-4 w s h n = rw (at_front w s 0 h (omega arith), at_front w s 1 h (omega arith), at_front w s 2 h (omega arith), at_front w s 3 h (omega arith)) (padded-4 (utf8 s) n)
-
--- what is there exactly when the number is a scalar is there
-pub IsSome-scalar : (r : Option ℕ) (s : ℕ) → SomeIff r (IsStdScalar s) s → IsStdScalar s → IsSome r
-IsSome-scalar None s h scalar = absurd (h scalar)
-IsSome-scalar (Some x) s h scalar = refl

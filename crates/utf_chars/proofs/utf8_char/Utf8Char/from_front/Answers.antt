@@ -41,7 +41,7 @@ invariant_of-result c =
     let some = utf8_is_code.some _ stands.scalar in
     let most = length-utf8 c.requires.0 in
     IsPadded-padded c.match-len.bytes c.requires.0 stands.scalar (elim c.match-len.branch [
-      in-1 w ↦ rw w.bytes-is (front_padded-1 _ _ stands (omega arith))
+      | in-1 w ↦ rw w.bytes-is (front_padded-1 _ _ stands (omega arith))
       | in-2 w ↦ rw w.bytes-is (front_padded-2 _ _ stands (omega arith))
       | in-3 w ↦ rw w.bytes-is (front_padded-3 _ _ stands (omega arith))
       | in_default w ↦ let none = w.in_default in rw w.bytes-is (front_padded-4 _ _ stands (omega arith))
@@ -54,7 +54,7 @@ returns c =
     let some = utf8_is_code.some _ stands.scalar in
     let most = length-utf8 c.requires.0 in
     let bytes : c.match-len.bytes ≡ padded 4 (utf8 c.requires.0) = elim c.match-len.branch [
-      in-1 w ↦ rw w.bytes-is (front_padded-1 _ _ stands (omega arith))
+      | in-1 w ↦ rw w.bytes-is (front_padded-1 _ _ stands (omega arith))
       | in-2 w ↦ rw w.bytes-is (front_padded-2 _ _ stands (omega arith))
       | in-3 w ↦ rw w.bytes-is (front_padded-3 _ _ stands (omega arith))
       | in_default w ↦ let none = w.in_default in rw w.bytes-is (front_padded-4 _ _ stands (omega arith))
