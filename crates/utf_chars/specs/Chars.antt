@@ -32,3 +32,7 @@ IsOneCharText text r = MatchResult r (λ s. IsScalar s × (text ≡ utf8 s)) (Is
 -- a code begins the list
 abbrev pub HasCode : (ℕ → List ℕ) → List ℕ → Type 0
 HasCode code w = (s : ℕ) × Stands code w 0 s
+
+-- a code in UTF-8 begins the list, and n is its length
+abbrev pub IsFrontCode : List ℕ → ℕ → Type 0
+IsFrontCode w n = (s : ℕ) × BeginsWith utf8 w s n

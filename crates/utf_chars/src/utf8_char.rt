@@ -10,7 +10,7 @@ ghost use Rattle.utf_base.specs.Scalar.{IsScalar};
 ghost use Rattle.utf_base.specs.Code.{utf8};
 ghost use Rattle.utf_base.specs.Front.{as_scalar, BeginsWith, DecodesFront, DecodesBytes};
 ghost use Rattle.utf_chars.specs.Chars.{ascii_lowercase, ascii_uppercase, BeginsText, HasCode};
-ghost use Rattle.utf_chars.specs.Chars.{IsOneCharText};
+ghost use Rattle.utf_chars.specs.Chars.{IsFrontCode, IsOneCharText};
 ghost use Rattle.utf_codes.specs.Padded.{padded, IsPaddedCode};
 
 use crate::utf16_char::Utf16Char;
@@ -77,8 +77,24 @@ impl Utf8Char {
     pub fn from_slice_start(src: &[u8]) -> Result<(Utf8Char, usize), Utf8Error>
         ensures { DecodesFront as_scalar src.now result }
     {
-        let (c, len) = utf8::decode_start(src)?;
-        Ok((Utf8Char::new(c), len))
+        let (_, len) = utf8::decode_start(src)?;
+        Ok((Utf8Char::from_front(src, len), len))
+    }
+
+    // The character whose code the first bytes are, as many as `len` says. They are copied and not made
+    // from the scalar, which is quicker.
+    #[inline(always)]
+    fn from_front(src: &[u8], len: usize) -> Utf8Char
+        requires { IsFrontCode src.now len }
+        ensures { BeginsWith utf8 src.now result len }
+    {
+        let bytes = match len {
+            1 => [src[0], 0, 0, 0],
+            2 => [src[0], src[1], 0, 0],
+            3 => [src[0], src[1], src[2], 0],
+            _ => [src[0], src[1], src[2], src[3]],
+        };
+        Utf8Char { bytes }
     }
 
     /// The character whose code begins the bytes, and how many bytes the code has.
@@ -176,7 +192,9 @@ impl Utf8Char {
     pub fn to_char(self) -> char
         ensures { result ≡ self }
     {
-        char::from_u32(self.scalar()).unwrap()
+        let number = self.scalar();
+        // The type keeps nothing but scalars.
+        unsafe { char::from_u32_unchecked(number) }
     }
 
     /// The code, then zeros, and how many bytes the code has.

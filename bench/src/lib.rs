@@ -1,0 +1,5 @@
+//! What the programs of the benchmark share.
+
+pub mod inputs;
+pub mod report;
+pub mod work;
