@@ -2,16 +2,14 @@
 use Rattle.std.proofs.Common.{◌+◌, ◌-◌, ◌*◌, ◌&&◌, Bool, true, lit<, ◌≡◌, ℕ, ◌-◌, ◌<◌, ◌≤◌, List, [], ◌∷◌, length, get_or, take, sym, ap, ◌∙◌, refl, arith}
 use Rattle.std.proofs.lemmas.Grind.{common_steps}
 use Rattle.std.proofs.lemmas.List.{take_at}
-use Rattle.std.specs.Prelude.{replicate, Result, Ok, Err, IsOk}
-use Rattle.utf_base.specs.declared.errors.Utf8ErrorKind.{Utf8ErrorKind}
-use Rattle.utf_base.specs.Front.{as_scalar, DecodesFront}
+use Rattle.std.specs.Prelude.{replicate}
 use Rattle.utf_base.specs.Scalar.{IsScalar}
 use Rattle.utf_base.specs.Code.{utf8}
 use Rattle.utf_base.specs.Kinds.{value, asked, payload, is_continuation}
 use Rattle.utf_base.specs.Piece.{Stands}
 use Rattle.utf_base.proofs.Standing.{Stands-at, stands_first}
 use Rattle.utf_base.proofs.Utf8Code.{utf8-1}
-use Rattle.utf_base.proofs.FrontLemmas.{decodes_from_stands, code_where_no_fault, no_fault_where_code, no_code_where_fault, value-1, value-2, value-3, value-4, asked-1}
+use Rattle.utf_base.proofs.FrontLemmas.{decodes_from_stands, code_where_no_fault, no_fault_where_code, value-1, value-2, value-3, value-4, asked-1}
 use Rattle.utf_codes.specs.Padded.{padded, IsPadded}
 
 stands_padded : (xs : List ℕ) (s : ℕ) → IsScalar s → xs ≡ padded 4 (utf8 s) → Stands utf8 xs 0 s

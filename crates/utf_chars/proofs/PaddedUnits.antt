@@ -3,11 +3,8 @@ use Rattle.std.proofs.Common.{◌≡◌, ℕ, ◌+◌, ◌-◌, ◌/◌, ◌%◌
 use Rattle.std.proofs.lemmas.Grind.{common_steps}
 use Rattle.std.proofs.lemmas.Bool.{cases_lt}
 use Rattle.std.proofs.lemmas.List.{take_at}
-use Rattle.std.specs.Prelude.{replicate, Result, Ok, Err, IsOk, if◌then◌else◌}
-use Rattle.utf_base.specs.declared.errors.units.Utf16SliceError.{Utf16SliceError}
-use Rattle.utf_base.specs.Front.{as_scalar, DecodesUnits}
+use Rattle.std.specs.Prelude.{replicate, if◌then◌else◌}
 use Rattle.utf_base.specs.Piece.{Stands}
-use Rattle.utf_base.proofs.UnitLemmas.{no_units_where_fault}
 use Rattle.utf_base.specs.Scalar.{IsScalar}
 use Rattle.utf_base.specs.Code.{utf16}
 use Rattle.utf_base.specs.Units.{is_leading_surrogate, is_surrogate, pair_value, unit_value}

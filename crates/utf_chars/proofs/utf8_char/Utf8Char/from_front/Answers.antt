@@ -1,4 +1,4 @@
-use Rattle.std.proofs.Common.{◌≡◌, length, arith}
+use Rattle.std.proofs.Common.{◌≡◌, arith}
 use Rattle.utf_base.specs.Code.{utf8}
 use Rattle.utf_base.proofs.Utf8Code.{length-utf8, utf8_is_code}
 use Rattle.utf_chars.specs.Padded.{padded}
