@@ -183,3 +183,17 @@ pub fn pairs(seed: u64) -> Kind {
     }
     kind
 }
+
+/// The texts of the errors. One type and one place more than there are must be empty.
+pub fn error_texts() -> Kind {
+    let mut kind = Kind::new("texts of errors");
+    let texts = theirs::error_texts();
+    let places = (0..=texts.len()).flat_map(|family| (0..8).map(move |place| (family, place)));
+    for (family, place) in places {
+        let input = || format!("error {place} of type {family}");
+        let judged = texts.get(family).and_then(|texts| texts.get(place));
+        let ours = ours::error_text(family as u8, place as u8);
+        kind.compare_texts(input, &ours, judged.map_or("", String::as_str));
+    }
+    kind
+}

@@ -41,7 +41,7 @@ fn compare_all(program: &Path, seed: u64, count: usize) -> Option<Vec<Kind>> {
     print_and_keep(&mut all, kinds::numbers(seed));
     print_and_keep(&mut all, kinds::neighbours());
     print_and_keep(&mut all, kinds::codes(seed));
-    print_and_keep(&mut all, vec![kinds::pairs(seed)]);
+    print_and_keep(&mut all, vec![kinds::pairs(seed), kinds::error_texts()]);
     match program::runs(program, seed) {
         Ok(runs) => print_and_keep(&mut all, runs),
         Err(error) => {

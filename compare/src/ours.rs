@@ -5,6 +5,7 @@
 extern "C" {
     fn compare_c_byte(byte: u8, answers: *mut u64, room: usize) -> usize;
     fn compare_c_char(number: u32, answers: *mut u64, room: usize) -> usize;
+    fn compare_c_error_text(family: u8, place: u8, answer: *mut u8, room: usize) -> usize;
     fn compare_c_forward(src: *const u8, len: usize, answers: *mut u64, room: usize) -> usize;
     fn compare_c_four_bytes(
         first: u8,
@@ -111,4 +112,11 @@ pub fn two_chars(one: char, other: char) -> Vec<u64> {
     filled(ROOM, |at, room| unsafe {
         compare_c_two_chars(u32::from(one), u32::from(other), at, room)
     })
+}
+
+pub fn error_text(family: u8, place: u8) -> String {
+    let mut answer = vec![0; ROOM];
+    let used = unsafe { compare_c_error_text(family, place, answer.as_mut_ptr(), answer.len()) };
+    answer.truncate(used);
+    String::from_utf8_lossy(&answer).into_owned()
 }

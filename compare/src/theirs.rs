@@ -3,11 +3,13 @@
 use crate::numbers::{Answers, ErrorNumber, FIRST_ERROR, NOTHING};
 use encode_unicode::error::{
     CodepointError, EmptyStrError, FromStrError, NonAsciiError, NonBmpError, Utf16ArrayError,
-    Utf16FirstUnitError, Utf16SliceError, Utf16TupleError, Utf8Error, Utf8ErrorKind,
+    Utf16FirstUnitError, Utf16PairError, Utf16SliceError, Utf16TupleError, Utf8Error,
+    Utf8ErrorKind,
 };
 use encode_unicode::iterator::Utf8CharDecoder;
 use encode_unicode::{CharExt, SliceExt, U16UtfExt, U8UtfExt, Utf16Char, Utf8Char};
 use std::cmp::Ordering;
+use std::fmt::Display;
 
 impl ErrorNumber for Utf8Error {
     fn number(&self) -> u64 {
@@ -411,4 +413,60 @@ pub fn listing(src: &[u8]) -> (String, bool) {
         lines.push_str(&format!("{offset} {len} {last}\n"));
     }
     (lines, faulty)
+}
+
+/// The texts of the errors, by type and by place among the variants, in the order of `crates/compare_c`.
+/// `Utf8Error` cannot be made from its kind outside the Rust crate, so bytes that give each kind stand for it.
+pub fn error_texts() -> Vec<Vec<String>> {
+    vec![
+        UTF8_FAULTS.map(|bytes| utf8_text(bytes)).to_vec(),
+        texts(&[CodepointError::Utf16Reserved, CodepointError::TooHigh]),
+        texts(&[
+            Utf16ArrayError::FirstIsTrailingSurrogate,
+            Utf16ArrayError::SecondIsNotTrailingSurrogate,
+        ]),
+        texts(&[
+            Utf16TupleError::FirstIsTrailingSurrogate,
+            Utf16TupleError::SuperfluousSecond,
+            Utf16TupleError::MissingSecond,
+            Utf16TupleError::SecondIsNotTrailingSurrogate,
+        ]),
+        texts(&[
+            Utf16SliceError::EmptySlice,
+            Utf16SliceError::FirstIsTrailingSurrogate,
+            Utf16SliceError::MissingSecond,
+            Utf16SliceError::SecondIsNotTrailingSurrogate,
+        ]),
+        texts(&[
+            Utf16PairError::UnexpectedTrailingSurrogate,
+            Utf16PairError::UnmatchedLeadingSurrogate,
+            Utf16PairError::Incomplete,
+        ]),
+        texts(&[FromStrError::MultipleCodepoints, FromStrError::Empty]),
+        vec![
+            EmptyStrError.to_string(),
+            Utf16FirstUnitError.to_string(),
+            NonAsciiError.to_string(),
+            NonBmpError.to_string(),
+        ],
+    ]
+}
+
+// Bytes for each kind of error, in the order of the kinds.
+const UTF8_FAULTS: [&[u8]; 7] = [
+    &[],
+    &[0xff],
+    &[0x80],
+    &[0xc2, 0x41],
+    &[0xe0, 0x80, 0x80],
+    &[0xed, 0xa0, 0x80],
+    &[0xf4, 0x90, 0x80, 0x80],
+];
+
+fn utf8_text(bytes: &[u8]) -> String {
+    char::from_utf8_slice_start(bytes).map_or_else(|error| error.to_string(), |_| String::new())
+}
+
+fn texts<E: Display>(errors: &[E]) -> Vec<String> {
+    errors.iter().map(E::to_string).collect()
 }

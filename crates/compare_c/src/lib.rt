@@ -12,6 +12,7 @@
 
 mod bytes;
 mod characters;
+mod errors;
 mod numbers;
 mod pairs;
 mod runs;
