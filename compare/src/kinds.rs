@@ -2,24 +2,34 @@
 
 use crate::inputs::{self, Random, EDGE_CHARS};
 use crate::tally::Kind;
-use crate::{ours, theirs};
+use crate::{errors, ours, theirs};
 
-/// The lists of bytes, as decoders, as texts, and as what begins with a character.
+/// The lists of bytes, as decoders and as texts.
 pub fn lists(seed: u64, count: usize) -> Vec<Kind> {
+    let random = &mut Random::new(seed);
     let third = count.div_ceil(3);
-    let mut random = Random::new(seed);
-    let mut made =
-        |make: fn(&mut Random) -> Vec<u8>| (0..third).map(|_| make(&mut random)).collect();
     vec![
         list_kind("lists of up to three edge bytes", inputs::short_lists()),
-        list_kind("lists of 4 to 40 bytes", made(inputs::random_list)),
-        list_kind("lists of 4 to 40 edge bytes", made(inputs::random_edges)),
-        list_kind("texts, damaged", made(inputs::damaged_text)),
-        text_kind("texts of up to three characters", made(inputs::short_text)),
+        list_kind(
+            "lists of 4 to 40 bytes",
+            (0..third).map(|_| inputs::random_list(random)),
+        ),
+        list_kind(
+            "lists of 4 to 40 edge bytes",
+            (0..third).map(|_| inputs::random_edges(random)),
+        ),
+        list_kind(
+            "texts, damaged",
+            (0..third).map(|_| inputs::damaged_text(random)),
+        ),
+        text_kind(
+            "texts of up to three characters",
+            (0..third).map(|_| inputs::short_text(random)),
+        ),
     ]
 }
 
-fn list_kind(name: &'static str, lists: Vec<Vec<u8>>) -> Kind {
+fn list_kind(name: &'static str, lists: impl IntoIterator<Item = Vec<u8>>) -> Kind {
     let mut kind = Kind::new(name);
     for list in lists {
         let input = || format!("{list:02x?}");
@@ -37,7 +47,7 @@ fn list_kind(name: &'static str, lists: Vec<Vec<u8>>) -> Kind {
     kind
 }
 
-fn text_kind(name: &'static str, texts: Vec<Vec<u8>>) -> Kind {
+fn text_kind(name: &'static str, texts: impl IntoIterator<Item = Vec<u8>>) -> Kind {
     let mut kind = Kind::new(name);
     for text in texts {
         let input = || format!("{text:02x?}");
@@ -187,7 +197,7 @@ pub fn pairs(seed: u64) -> Kind {
 /// The texts of the errors. One type and one place more than there are must be empty.
 pub fn error_texts() -> Kind {
     let mut kind = Kind::new("texts of errors");
-    let texts = theirs::error_texts();
+    let texts = errors::texts_by_type();
     let places = (0..=texts.len()).flat_map(|family| (0..8).map(move |place| (family, place)));
     for (family, place) in places {
         let input = || format!("error {place} of type {family}");

@@ -2,6 +2,7 @@
 //!
 //! Arguments: the program `pieces`, a seed, and how many random lists of bytes to compare.
 
+mod errors;
 mod inputs;
 mod kinds;
 mod numbers;

@@ -97,13 +97,14 @@ impl Kind {
 
 // The first place where the numbers differ and are not meant to.
 fn first_difference(ours: &[u64], theirs: &Answers) -> Option<String> {
-    if ours.len() != theirs.numbers.len() {
-        let (ours, theirs) = (ours.len(), theirs.numbers.len());
-        return Some(format!("ours {ours} numbers, theirs {theirs}"));
-    }
     let numbers = ours.iter().zip(&theirs.numbers).zip(&theirs.names);
-    let mut unlike = numbers
-        .filter(|((ours, theirs), name)| ours != theirs && !is_meant(name, **ours, **theirs));
-    let ((ours, theirs), name) = unlike.next()?;
-    Some(format!("{name}: ours {ours:#x}, theirs {theirs:#x}"))
+    let differ = |((ours, theirs), name): &((&u64, &u64), &&str)| {
+        ours != theirs && !is_meant(name, **ours, **theirs)
+    };
+    let (our_count, their_count) = (ours.len(), theirs.numbers.len());
+    match numbers.into_iter().find(differ) {
+        Some(((ours, theirs), name)) => Some(format!("{name}: ours {ours:#x}, theirs {theirs:#x}")),
+        None if our_count == their_count => None,
+        None => Some(format!("ours {our_count} numbers, theirs {their_count}")),
+    }
 }
