@@ -14,7 +14,7 @@ use Rattle.utf_base.specs.Piece.{Stands}
 use Rattle.utf_base.proofs.Standing.{stands_first}
 use Rattle.utf_base.proofs.Utf8Code.{utf8-1}
 use Rattle.utf_base.proofs.FrontLemmas.{decodes_from_stands, code_where_no_fault, no_fault_where_code, no_code_where_fault, value-1, value-2, value-3, value-4, asked-1}
-use Rattle.utf_chars.specs.Padded.{padded, IsPadded}
+use Rattle.utf_codes.specs.Padded.{padded, IsPadded}
 
 stands_padded : (xs : List ℕ) (s : ℕ) → IsScalar s → xs ≡ padded 4 (utf8 s) → Stands utf8 xs 0 s
 unfolding padded
@@ -63,11 +63,6 @@ len_by_first bytes s h e =
       three = λ a b. sym (range.2 a b) ∙ len;
       four = λ a. sym (range.3 a) ∙ len;
     }
-
--- where a code begins the bytes, their decoding succeeds
-pub IsOk-DecodesFront : (w : List ℕ) (s : ℕ) (r : Result (ℕ × ℕ) Utf8ErrorKind) → Stands utf8 w 0 s → DecodesFront as_scalar w r → IsOk r
-IsOk-DecodesFront w s (Ok x) h d = refl
-IsOk-DecodesFront w s (Err k) h d = absurd (no_code_where_fault w k s d h)
 
 -- an ASCII code, then zeros
 pub padded-ascii : (s : ℕ) → s < 0x80 → s ∷ 0 ∷ 0 ∷ 0 ∷ [] ≡ padded 4 (utf8 s)

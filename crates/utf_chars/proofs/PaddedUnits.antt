@@ -13,7 +13,7 @@ use Rattle.utf_base.specs.Code.{utf16}
 use Rattle.utf_base.specs.Units.{is_leading_surrogate, is_surrogate, pair_value, unit_value}
 use Rattle.utf_base.proofs.Standing.{stands_first}
 use Rattle.utf_base.proofs.Utf16Code.{utf16-1, utf16-2, unit_value-unit, unit_value-pair}
-use Rattle.utf_chars.specs.Padded.{padded, IsPadded}
+use Rattle.utf_codes.specs.Padded.{padded, IsPadded}
 
 pub padded-unit : (s : ℕ) → s < 0x1_0000 → padded 2 (utf16 s) ≡ s ∷ 0 ∷ []
 unfolding padded
@@ -144,11 +144,6 @@ code_by_second units s h e =
     (λ (u : AsUnit units s). (λ z. rw u.first (sym (utf16-1 s u.small)), λ some. absurd (some u.second)))
     (λ (p : AsPair units s). let second = p.second in (λ z. absurd (omega arith), λ some. rw (p.first, p.second) (sym (utf16-2 s p.large))))
     (char_cases units s h e)
-
--- where a code begins the units, their decoding succeeds
-pub IsOk-DecodesUnits : (w : List ℕ) (s : ℕ) (r : Result (ℕ × ℕ) Utf16SliceError) → Stands utf16 w 0 s → DecodesUnits as_scalar w r → IsOk r
-IsOk-DecodesUnits w s (Ok x) h d = refl
-IsOk-DecodesUnits w s (Err k) h d = absurd (no_units_where_fault w k s d h)
 
 -- the code of a scalar begins the array that it is kept in
 pub stands_in_units : (units : List ℕ) (s : ℕ) → IsScalar s → units ≡ padded 2 (utf16 s) → Stands utf16 units 0 s

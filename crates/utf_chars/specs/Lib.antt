@@ -1,4 +1,3 @@
-pub mod Padded
 pub mod Chars
 pub mod FormLaws
 pub use Rattle.utf_base.specs.Scalar
@@ -6,3 +5,4 @@ pub use Rattle.utf_base.specs.Code
 pub use Rattle.utf_base.specs.Piece
 pub use Rattle.utf_base.specs.Kinds
 pub use Rattle.utf_base.specs.Front
+pub use Rattle.utf_codes.specs.Padded

@@ -12,9 +12,8 @@ ghost use Rattle.utf_base.specs.Front.{as_scalar, BeginsWith, DecodesUnits, Deco
 ghost use Rattle.utf_base.specs.Units.{is_surrogate, units_of};
 ghost use Rattle.utf_chars.specs.Chars.{ascii_lowercase, ascii_uppercase, BeginsText, HasCode};
 ghost use Rattle.utf_chars.specs.Chars.{IsOneCharText};
-ghost use Rattle.utf_chars.specs.Padded.{padded, IsPaddedCode};
+ghost use Rattle.utf_codes.specs.Padded.{padded, IsPaddedCode};
 
-use crate::char_ext::{CharExt, padded_utf16, value_of_pair};
 use crate::utf8_char::Utf8Char;
 use std::cmp::Ordering;
 use std::fmt;
@@ -24,6 +23,7 @@ use std::str::FromStr;
 use utf_base::errors::{
     EmptyStrError, FromStrError, NonBmpError, Utf16ArrayError, Utf16SliceError, Utf16TupleError,
 };
+use utf_codes::utf16;
 
 /// A Unicode scalar value, kept as its code in UTF-16. Contracts see it as the scalar.
 ///
@@ -39,7 +39,7 @@ impl Model for Utf16Char {
     ghost use Rattle.std.proofs.Common.{sym};
     ghost use Rattle.utf_base.specs.Code.{utf16};
     ghost use Rattle.utf_base.specs.Units.{unit_value};
-    ghost use Rattle.utf_chars.specs.Padded.{padded, IsPadded};
+    ghost use Rattle.utf_codes.specs.Padded.{padded, IsPadded};
 
     ghost Value = { ℕ };
 
@@ -59,7 +59,7 @@ impl Utf16Char {
     pub fn new(c: char) -> Utf16Char
         ensures { result ≡ c }
     {
-        let units = padded_utf16(c as u32);
+        let units = utf16::padded_code(c as u32);
         Utf16Char { units }
     }
 
@@ -79,7 +79,7 @@ impl Utf16Char {
     pub fn from_slice_start(src: &[u16]) -> Result<(Utf16Char, usize), Utf16SliceError>
         ensures { DecodesUnits as_scalar src.now result }
     {
-        let (c, len) = char::from_utf16_slice_start(src)?;
+        let (c, len) = utf16::decode_start(src)?;
         Ok((Utf16Char::new(c), len))
     }
 
@@ -100,7 +100,7 @@ impl Utf16Char {
     pub fn from_array(utf16: [u16; 2]) -> Result<Utf16Char, Utf16ArrayError>
         ensures { DecodesTwoUnits as_scalar utf16 result }
     {
-        Ok(Utf16Char::new(char::from_utf16_array(utf16)?))
+        Ok(Utf16Char::new(utf16::decode_array(utf16)?))
     }
 
     /// The character whose code, and then zero where it has one unit, the two units are.
@@ -120,7 +120,7 @@ impl Utf16Char {
     pub fn from_tuple(utf16: (u16, Option<u16>)) -> Result<Utf16Char, Utf16TupleError>
         ensures { DecodesTuple as_scalar utf16 result }
     {
-        Ok(Utf16Char::new(char::from_utf16_tuple(utf16)?))
+        Ok(Utf16Char::new(utf16::decode_tuple(utf16)?))
     }
 
     /// The character whose code the one or two units are. A second unit of 0 counts as none.
@@ -191,7 +191,7 @@ impl Utf16Char {
         if second == 0 {
             first as u32
         } else {
-            value_of_pair(first, second)
+            utf16::value_of_pair(first, second)
         }
     }
 
@@ -201,7 +201,7 @@ impl Utf16Char {
         ensures { result ≡ self }
     {
         let units = self.units;
-        char::from_utf16_array_unchecked(units)
+        utf16::decode_array_unchecked(units)
     }
 
     /// Writes the code to the front of the slice, and answers how many units it has. The places behind
@@ -425,7 +425,7 @@ impl From<Utf8Char> for Utf16Char {
     // From bytes to units, by the number that both encode.
     #[inline(always)]
     fn from(c: Utf8Char) -> Utf16Char {
-        let units = padded_utf16(c.scalar());
+        let units = utf16::padded_code(c.scalar());
         Utf16Char { units }
     }
 }

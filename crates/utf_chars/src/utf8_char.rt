@@ -11,9 +11,8 @@ ghost use Rattle.utf_base.specs.Code.{utf8};
 ghost use Rattle.utf_base.specs.Front.{as_scalar, BeginsWith, DecodesFront, DecodesBytes};
 ghost use Rattle.utf_chars.specs.Chars.{ascii_lowercase, ascii_uppercase, BeginsText, HasCode};
 ghost use Rattle.utf_chars.specs.Chars.{IsOneCharText};
-ghost use Rattle.utf_chars.specs.Padded.{padded, IsPaddedCode};
+ghost use Rattle.utf_codes.specs.Padded.{padded, IsPaddedCode};
 
-use crate::char_ext::{CharExt, padded_utf8, value_of_four, value_of_three, value_of_two};
 use crate::utf16_char::Utf16Char;
 use std::cmp::Ordering;
 use std::fmt;
@@ -21,6 +20,7 @@ use std::hash::{Hash, Hasher};
 use std::marker::Model;
 use std::str::FromStr;
 use utf_base::errors::{EmptyStrError, FromStrError, NonAsciiError, Utf8Error};
+use utf_codes::utf8;
 
 /// A Unicode scalar value, kept as its code in UTF-8. Contracts see it as the scalar.
 ///
@@ -35,7 +35,7 @@ impl Model for Utf8Char {
     ghost use Rattle.std.proofs.Common.{sym};
     ghost use Rattle.utf_base.specs.Code.{utf8};
     ghost use Rattle.utf_base.specs.Kinds.{value};
-    ghost use Rattle.utf_chars.specs.Padded.{padded, IsPadded};
+    ghost use Rattle.utf_codes.specs.Padded.{padded, IsPadded};
 
     ghost Value = { ℕ };
 
@@ -55,7 +55,7 @@ impl Utf8Char {
     pub fn new(c: char) -> Utf8Char
         ensures { result ≡ c }
     {
-        let (bytes, _) = c.to_utf8_array();
+        let bytes = utf8::padded_code(c as u32);
         Utf8Char { bytes }
     }
 
@@ -77,7 +77,7 @@ impl Utf8Char {
     pub fn from_slice_start(src: &[u8]) -> Result<(Utf8Char, usize), Utf8Error>
         ensures { DecodesFront as_scalar src.now result }
     {
-        let (c, len) = char::from_utf8_slice_start(src)?;
+        let (c, len) = utf8::decode_start(src)?;
         Ok((Utf8Char::new(c), len))
     }
 
@@ -97,7 +97,7 @@ impl Utf8Char {
     pub fn from_array(utf8: [u8; 4]) -> Result<Utf8Char, Utf8Error>
         ensures { DecodesBytes as_scalar utf8 result }
     {
-        Ok(Utf8Char::new(char::from_utf8_array(utf8)?))
+        Ok(Utf8Char::new(utf8::decode_array(utf8)?))
     }
 
     /// The character whose code, and then zeros, the four bytes are.
@@ -165,9 +165,9 @@ impl Utf8Char {
         let [first, second, third, fourth] = self.bytes;
         match first {
             0x00..=0x7f => first as u32,
-            0x80..=0xdf => value_of_two(first, second),
-            0xe0..=0xef => value_of_three(first, second, third),
-            _ => value_of_four(first, second, third, fourth),
+            0x80..=0xdf => utf8::value_of_two(first, second),
+            0xe0..=0xef => utf8::value_of_three(first, second, third),
+            _ => utf8::value_of_four(first, second, third, fourth),
         }
     }
 
@@ -390,7 +390,7 @@ impl From<Utf16Char> for Utf8Char {
     // From units to bytes, by the number that both encode.
     #[inline(always)]
     fn from(c: Utf16Char) -> Utf8Char {
-        let bytes = padded_utf8(c.scalar());
+        let bytes = utf8::padded_code(c.scalar());
         Utf8Char { bytes }
     }
 }

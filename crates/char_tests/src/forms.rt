@@ -1,0 +1,152 @@
+//! What each form makes of a row of the table, and the row of it.
+use crate::edges::{Edge, edges, filled};
+use encode_unicode::{CharExt, Utf8Char, Utf16Char};
+
+// The code as a unit and the one behind it, if any.
+fn as_tuple(code: &[u16]) -> Option<(u16, Option<u16>)> {
+    let first = code.first().copied()?;
+    Some((first, code.get(1).copied()))
+}
+
+// Whether the calls of the bound give the codes of the row.
+fn gives_codes<T: CharExt + Copy>(c: T, edge: &Edge) -> bool {
+    let (_, _, bytes, units) = *edge;
+    c.to_utf8_array() == (filled(bytes, 0), bytes.len())
+        && c.to_utf8().as_bytes() == bytes
+        && c.to_utf16_array() == filled(units, 0)
+        && Some(c.to_utf16_tuple()) == as_tuple(units)
+        && c.to_utf16().as_units() == units
+}
+
+// Whether the calls of the bound make the character of the row from its number and from its bytes.
+fn is_made_of_bytes<T: CharExt + Copy + PartialEq>(c: T, edge: &Edge) -> bool {
+    let (scalar, _, bytes, _) = *edge;
+    T::from_u32_detailed(scalar as u32).ok() == Some(c)
+        && T::from_utf8_slice_start(bytes).ok() == Some((c, bytes.len()))
+        && T::from_utf8_array(filled(bytes, 0xff)).ok() == Some(c)
+}
+
+// Whether the calls of the bound make the character of the row from its units.
+fn is_made_of_units<T: CharExt + Copy + PartialEq>(c: T, edge: &Edge) -> bool {
+    let (_, _, _, units) = *edge;
+    let Some((first, second)) = as_tuple(units) else {
+        return false;
+    };
+    if second.is_none() && first >= 0xd800 && first <= 0xdfff {
+        return false;
+    }
+    let array = filled(units, 0);
+    T::from_utf16_slice_start(units).ok() == Some((c, units.len()))
+        && T::from_utf16_array(array).ok() == Some(c)
+        && T::from_utf16_tuple((first, second)).ok() == Some(c)
+        && T::from_utf16_array_unchecked(array) == c
+        && T::from_utf16_tuple_unchecked((first, second)) == c
+}
+
+// Whether each call that makes a `Utf8Char` of the row makes the same, with nothing of what follows.
+fn is_made_in_utf8(edge: &Edge) -> bool {
+    let (c, _, bytes, _) = *edge;
+    let kept = Utf8Char::new(c);
+    let found = Some((kept, bytes.len()));
+    let longer: [u8; 6] = filled(bytes, 0xff);
+    Utf8Char::from(c) == kept
+        && Utf8Char::from(Utf16Char::new(c)) == kept
+        && Utf8Char::from_slice_start(bytes).ok() == found
+        && Utf8Char::from_slice_start(&longer).ok() == found
+        && Utf8Char::from_array(filled(bytes, 0xff)).ok() == Some(kept)
+}
+
+// Whether the `Utf8Char` gives back the row.
+fn gives_utf8(edge: &Edge) -> bool {
+    let (c, text, bytes, units) = *edge;
+    let kept = Utf8Char::new(c);
+    kept.len() == bytes.len()
+        && kept.is_ascii() == (bytes.len() == 1)
+        && kept.to_char() == c
+        && char::from(kept) == c
+        && Utf16Char::from(kept).as_units() == units
+        && kept.to_array() == (filled(bytes, 0), bytes.len())
+        && written_utf8(c) == (filled(bytes, 45), bytes.len())
+        && kept.as_bytes() == bytes
+        && text.starts_with(kept.as_str())
+        && kept.as_str().len() == bytes.len()
+}
+
+// Whether each call that makes a `Utf16Char` of the row makes the same, with nothing of what follows.
+fn is_made_in_utf16(edge: &Edge) -> bool {
+    let (c, _, _, units) = *edge;
+    let kept = Utf16Char::new(c);
+    let found = Some((kept, units.len()));
+    let (before_unit, before_stray): ([u16; 4], [u16; 4]) = (
+        filled(units, 0x79),
+        filled(units, 0xdead),
+    );
+    Utf16Char::from(c) == kept
+        && Utf16Char::from(Utf8Char::new(c)) == kept
+        && Utf16Char::from_slice_start(units).ok() == found
+        && Utf16Char::from_slice_start(&before_unit).ok() == found
+        && Utf16Char::from_slice_start(&before_stray).ok() == found
+        && Utf16Char::from_array(filled(units, 0x79)).ok() == Some(kept)
+        && Utf16Char::from_array(filled(units, 0xdead)).ok() == Some(kept)
+        && as_tuple(units).map(Utf16Char::from_tuple) == Some(Ok(kept))
+}
+
+// Whether the `Utf16Char` gives back the row.
+fn gives_utf16(edge: &Edge) -> bool {
+    let (c, _, bytes, units) = *edge;
+    let kept = Utf16Char::new(c);
+    kept.len() == units.len()
+        && kept.is_bmp() == (units.len() == 1)
+        && kept.is_ascii() == (bytes.len() == 1)
+        && kept.to_char() == c
+        && char::from(kept) == c
+        && Utf8Char::from(kept).as_bytes() == bytes
+        && kept.to_array() == filled(units, 0)
+        && Some(kept.to_tuple()) == as_tuple(units)
+        && written_utf16(c) == (filled(units, 45), units.len())
+        && kept.as_units() == units
+}
+
+// The places that a `Utf8Char` is written to, and how many it says that it took.
+fn written_utf8(c: char) -> ([u8; 6], usize) {
+    let kept = Utf8Char::new(c);
+    let mut places = [45; 6];
+    if kept.len() > places.len() {
+        return (places, 0);
+    }
+    let len = kept.to_slice(&mut places);
+    (places, len)
+}
+
+// The places that a `Utf16Char` is written to, and how many it says that it took.
+fn written_utf16(c: char) -> ([u16; 4], usize) {
+    let kept = Utf16Char::new(c);
+    let mut places = [45; 4];
+    if kept.len() > places.len() {
+        return (places, 0);
+    }
+    let len = kept.to_slice(&mut places);
+    (places, len)
+}
+
+#[test]
+fn the_forms_follow_the_table(rt: HostRuntime) {
+    for edge in edges() {
+        let c = edge.0;
+        let plain = [
+            gives_codes(c, edge),
+            is_made_of_bytes(c, edge),
+            is_made_of_units(c, edge),
+        ];
+        assert_eq!(rt; plain, [true; 3], "at {c:?}");
+        let kept = [
+            is_made_in_utf8(edge),
+            gives_utf8(edge),
+            is_made_in_utf16(edge),
+            gives_utf16(edge),
+        ];
+        assert_eq!(rt; kept, [true; 4], "at {c:?}");
+    }
+    let euro = written_utf8('\u{20ac}');
+    assert_eq!(rt; euro, ([0xe2, 0x82, 0xac, 45, 45, 45], 3));
+}

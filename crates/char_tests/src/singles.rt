@@ -1,0 +1,87 @@
+//! Single bytes and units as characters, and beside characters.
+use crate::edges::edges;
+use encode_unicode::error::{NonAsciiError, NonBmpError};
+use encode_unicode::{CharExt, Utf8Char, Utf16Char};
+
+#[test]
+fn single_bytes_and_units_are_characters_or_none(rt: HostRuntime) {
+    for byte in 0..=255u8 {
+        let c = char::from(byte);
+        let (made, is_ascii) = (Utf8Char::from_ascii(byte), byte < 128);
+        let expected = if is_ascii {
+            Ok(c.to_utf8())
+        } else {
+            Err(NonAsciiError)
+        };
+        assert_eq!(rt; made, expected, "at {byte:x}");
+        let equal = (c.to_utf8().eq_u8(byte), c.to_utf16().eq_u8(byte));
+        assert_eq!(rt; equal, (is_ascii, true), "at {byte:x}");
+    }
+    for unit in 0..=0xffffu16 {
+        let expected = match char::from_u32(unit as u32) {
+            Some(c) => Ok(c.to_utf16()),
+            None => Err(NonBmpError),
+        };
+        assert_eq!(rt; Utf16Char::from_bmp(unit), expected, "at {unit:x}");
+    }
+    assert_eq!(rt; Utf16Char::from_bmp(0xdddd), Err(NonBmpError));
+}
+
+// Whether each of the units equals the character, or none does.
+fn equals_units(c: char, units: &[u16], expected: bool) -> bool {
+    for unit in units {
+        if c.to_utf16().eq_u16(*unit) != expected {
+            return false;
+        }
+    }
+    true
+}
+
+// Each row: a character, a byte, and whether they are equal in UTF-8 and in UTF-16.
+#[test]
+fn bytes_and_units_equal_their_scalars(rt: HostRuntime) {
+    let table = [
+        ('i', 0x69, true, true),
+        ('i', 0x49, false, false),
+        ('\0', 0x00, true, true),
+        ('\u{7f}', 0x7f, true, true),
+        ('\u{80}', 0x80, false, true),
+        ('\u{80}', 0xc2, false, false),
+        ('\u{e9}', 0xc3, false, false),
+        ('\u{e9}', 0xe9, false, true),
+        ('\u{ff}', 0xff, false, true),
+        ('\u{169}', 0x69, false, false),
+        ('\u{10000}', 0x00, false, false),
+        ('\u{10069}', 0x69, false, false),
+    ];
+    for (c, byte, in_bytes, in_units) in table {
+        let units = c.to_utf16();
+        let equal = (
+            c.to_utf8().eq_u8(byte),
+            units.eq_u8(byte),
+            units.eq_u16(byte as u16),
+        );
+        assert_eq!(rt;
+            equal,
+            (in_bytes, in_units, in_units),
+            "at {c:?} and {byte:x}"
+        );
+    }
+    for (c, _, _, units) in edges() {
+        for (other, _, _, other_units) in edges() {
+            let expected = c == other && units.len() == 1;
+            assert!(rt;
+                equals_units(*c, other_units, expected),
+                "at {c:?} and {other:?}"
+            );
+        }
+    }
+}
+
+#[test]
+fn defaults_are_the_first_character(rt: HostRuntime) {
+    let (bytes, units) = (Utf8Char::default(), Utf16Char::default());
+    assert_eq!(rt; (bytes.to_char(), bytes.to_array()), ('\0', ([0; 4], 1)));
+    assert_eq!(rt; (units.to_char(), units.to_array()), ('\0', [0; 2]));
+    assert!(rt; units.eq_utf8(bytes) && bytes.eq_utf16(units));
+}

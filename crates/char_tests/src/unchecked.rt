@@ -1,0 +1,72 @@
+//! The forms that ask their caller, called on codes that are known.
+ghost use Rattle.utf_base.specs.Code.{utf8};
+ghost use Rattle.utf_base.specs.Front.{IsOneCode};
+
+use crate::edges::edges;
+use encode_unicode::{CharExt, Utf8Char, Utf16Char};
+
+// The character of the bytes, taken through the bound for the code of one.
+fn of_one_code<T: CharExt>(bytes: &[u8]) -> T
+    requires { IsOneCode utf8 bytes.now }
+{
+    T::from_utf8_exact_slice_unchecked(bytes)
+}
+
+// The character of the code of that character.
+fn of_own_code(c: char) -> char {
+    let kept = Utf8Char::new(c);
+    of_one_code(kept.as_bytes())
+}
+
+// The character of its own bytes.
+fn of_own_bytes(c: char) -> Utf8Char {
+    let (bytes, _) = c.to_utf8_array();
+    Utf8Char::from_array_unchecked(bytes)
+}
+
+// The character of its own units.
+fn of_own_units(c: char) -> Utf16Char {
+    let units = c.to_utf16_array();
+    Utf16Char::from_array_unchecked(units)
+}
+
+// The character that begins the bytes, where one does, and the length of its code.
+fn at_front_of_bytes(src: &[u8]) -> Option<(Utf8Char, usize)> {
+    let _front = Utf8Char::from_slice_start(src).ok()?;
+    Some(Utf8Char::from_slice_start_unchecked(src))
+}
+
+// The character that begins the units, where one does, and the length of its code.
+fn at_front_of_units(src: &[u16]) -> Option<(Utf16Char, usize)> {
+    let _front = Utf16Char::from_slice_start(src).ok()?;
+    Some(Utf16Char::from_slice_start_unchecked(src))
+}
+
+// The character of its own units, the second even where there is none.
+fn of_own_tuple(c: char) -> [Utf16Char; 2] {
+    let [first, second] = c.to_utf16_array();
+    let padded = Utf16Char::from_tuple_unchecked((first, Some(second)));
+    if second > 0 {
+        return [padded, padded];
+    }
+    [padded, Utf16Char::from_tuple_unchecked((first, None))]
+}
+
+#[test]
+fn unchecked_forms_answer_the_same(rt: HostRuntime) {
+    let (in_bytes, in_units) = ('A'.to_utf8(), 'A'.to_utf16());
+    assert_eq!(rt; Utf8Char::from_ascii_unchecked(0x41), in_bytes);
+    assert_eq!(rt; Utf16Char::from_bmp_unchecked(0x41), in_units);
+    assert_eq!(rt; of_own_tuple('A'), [in_units; 2]);
+    for (c, _, bytes, units) in edges() {
+        let (in_bytes, in_units) = (c.to_utf8(), c.to_utf16());
+        let whole = of_own_code(*c) == *c
+            && of_own_bytes(*c) == in_bytes
+            && of_own_units(*c) == in_units
+            && of_own_tuple(*c) == [in_units; 2];
+        assert!(rt; whole, "at {c:?}");
+        let front = at_front_of_bytes(bytes) == Some((in_bytes, bytes.len()))
+            && at_front_of_units(units) == Some((in_units, units.len()));
+        assert!(rt; front, "at {c:?}");
+    }
+}

@@ -1,0 +1,59 @@
+//! The rows of a file of vectors.
+
+use std::alloc::Global;
+use std::io;
+use std::io::ErrorKind;
+
+/// What a row says: some bytes, and the pieces that a run from the front has to give, as text.
+#[derive(Drop)]
+pub(crate) struct Row<'a> {
+    /// The bytes as they stand in the file, in hexadecimal.
+    pub(crate) text: &'a str,
+    pub(crate) bytes: Vec<u8>,
+    /// The pieces with `;` between them, each an offset, a length and an answer.
+    pub(crate) pieces: &'a str,
+}
+
+/// The rows of the file. A line that begins with `#` is none, and any other has at least two columns with
+/// `|` between them: the bytes and the pieces.
+pub(crate) fn parse(alloc: Global, file: &str) -> io::Result<Vec<Row<'_>>> {
+    let mut rows = Vec::new(alloc);
+    for line in file.lines() {
+        if !line.starts_with('#') {
+            rows.push(parse_row(alloc, line)?)?;
+        }
+    }
+    Ok(rows)
+}
+
+fn parse_row(alloc: Global, line: &str) -> io::Result<Row<'_>> {
+    let mut columns = line.split('|');
+    let (Some(text), Some(pieces)) = (columns.next(), columns.next()) else {
+        return Err(io::Error::from(ErrorKind::InvalidData));
+    };
+    let bytes = parse_bytes(alloc, text)?;
+    Ok(Row {
+        text,
+        bytes,
+        pieces,
+    })
+}
+
+fn parse_bytes(alloc: Global, text: &str) -> io::Result<Vec<u8>> {
+    let mut bytes = Vec::new(alloc);
+    for digits in text.as_bytes().chunks(2) {
+        match digits {
+            [high, low] => bytes.push(digit(*high)? << 4 | digit(*low)?)?,
+            _ => return Err(io::Error::from(ErrorKind::InvalidData)),
+        }
+    }
+    Ok(bytes)
+}
+
+fn digit(byte: u8) -> io::Result<u8> {
+    match byte {
+        b'0'..=b'9' => Ok(byte - b'0'),
+        b'a'..=b'f' => Ok(byte - b'a' + 10),
+        _ => Err(io::Error::from(ErrorKind::InvalidData)),
+    }
+}
