@@ -1,0 +1,69 @@
+//! Compares this project with the Rust crate `encode_unicode`, which is the judge, on very many inputs.
+//!
+//! Arguments: the program `pieces`, a seed, and how many random lists of bytes to compare.
+
+mod errors;
+mod inputs;
+mod kinds;
+mod numbers;
+mod ours;
+mod program;
+mod tally;
+mod theirs;
+
+use std::path::Path;
+use std::process::ExitCode;
+use tally::{Kind, MEANT};
+
+fn main() -> ExitCode {
+    let args: Vec<String> = std::env::args().skip(1).collect();
+    let [program, seed, count] = args.as_slice() else {
+        eprintln!("usage: compare PROGRAM SEED COUNT");
+        return ExitCode::from(2);
+    };
+    let (Ok(seed), Ok(count)) = (seed.parse(), count.parse()) else {
+        eprintln!("compare: the seed and the count are numbers");
+        return ExitCode::from(2);
+    };
+    let Some(kinds) = compare_all(Path::new(program), seed, count) else {
+        return ExitCode::from(2);
+    };
+    if print_sums(&kinds) == 0 {
+        ExitCode::SUCCESS
+    } else {
+        ExitCode::FAILURE
+    }
+}
+
+fn compare_all(program: &Path, seed: u64, count: usize) -> Option<Vec<Kind>> {
+    println!("seed {seed}, count {count}");
+    let mut all = Vec::new();
+    print_and_keep(&mut all, kinds::lists(seed, count));
+    print_and_keep(&mut all, kinds::numbers(seed));
+    print_and_keep(&mut all, kinds::neighbours());
+    print_and_keep(&mut all, kinds::codes(seed));
+    print_and_keep(&mut all, vec![kinds::pairs(seed), kinds::error_texts()]);
+    match program::runs(program, seed) {
+        Ok(runs) => print_and_keep(&mut all, runs),
+        Err(error) => {
+            eprintln!("compare: {}: {error}", program.display());
+            return None;
+        }
+    }
+    Some(all)
+}
+
+fn print_and_keep(all: &mut Vec<Kind>, kinds: Vec<Kind>) {
+    kinds.iter().for_each(Kind::print);
+    all.extend(kinds);
+}
+
+// Prints the sums, and answers how many differ.
+fn print_sums(kinds: &[Kind]) -> u64 {
+    let meant: u64 = kinds.iter().map(Kind::meant).sum();
+    let cases: u64 = kinds.iter().map(Kind::cases).sum();
+    let differ: u64 = kinds.iter().map(Kind::differ).sum();
+    println!("meant to differ: {MEANT}: {meant} cases");
+    println!("{cases} cases, {differ} differ");
+    differ
+}

@@ -1,0 +1,122 @@
+//! The answers of this project, from the static library `compare_c`.
+
+// Each is declared in `crates/compare_c/src` under the same name. A `&[u8]` crosses as a pointer and then
+// a length. None of them has a `requires`.
+extern "C" {
+    fn compare_c_byte(byte: u8, answers: *mut u64, room: usize) -> usize;
+    fn compare_c_char(number: u32, answers: *mut u64, room: usize) -> usize;
+    fn compare_c_error_text(family: u8, place: u8, answer: *mut u8, room: usize) -> usize;
+    fn compare_c_forward(src: *const u8, len: usize, answers: *mut u64, room: usize) -> usize;
+    fn compare_c_four_bytes(
+        first: u8,
+        second: u8,
+        third: u8,
+        fourth: u8,
+        answers: *mut u64,
+        room: usize,
+    ) -> usize;
+    fn compare_c_indices(src: *const u8, len: usize, answers: *mut u64, room: usize) -> usize;
+    fn compare_c_number(number: u32, answers: *mut u64, room: usize) -> usize;
+    fn compare_c_text(src: *const u8, len: usize, answers: *mut u64, room: usize) -> usize;
+    fn compare_c_two_chars(one: u32, other: u32, answers: *mut u64, room: usize) -> usize;
+    fn compare_c_two_units(first: u16, second: u16, answers: *mut u64, room: usize) -> usize;
+    fn compare_c_unit(unit: u16, answers: *mut u64, room: usize) -> usize;
+    fn compare_c_utf16_char(
+        number: u32,
+        byte: u8,
+        unit: u16,
+        answers: *mut u64,
+        room: usize,
+    ) -> usize;
+    fn compare_c_utf8_char(number: u32, byte: u8, answers: *mut u64, room: usize) -> usize;
+}
+
+/// Room that is enough for the answers to a single item.
+const ROOM: usize = 128;
+
+/// Room for each call of `next`.
+const ROOM_PER_ITEM: usize = 6;
+
+// Calls with that much room, and keeps what was written.
+//
+// Each `call` below passes the pointer and the length on as the last two arguments, and a slice as its own
+// pointer and length. That, and the declarations above, is what makes the calls sound.
+fn filled(room: usize, call: impl FnOnce(*mut u64, usize) -> usize) -> Vec<u64> {
+    let mut answers = vec![0; room];
+    let used = call(answers.as_mut_ptr(), answers.len());
+    answers.truncate(used);
+    answers
+}
+
+pub fn forward(src: &[u8]) -> Vec<u64> {
+    filled(ROOM_PER_ITEM * (src.len() + 1), |at, room| unsafe {
+        compare_c_forward(src.as_ptr(), src.len(), at, room)
+    })
+}
+
+pub fn indices(src: &[u8]) -> Vec<u64> {
+    filled(ROOM_PER_ITEM * (src.len() + 1), |at, room| unsafe {
+        compare_c_indices(src.as_ptr(), src.len(), at, room)
+    })
+}
+
+pub fn text(src: &[u8]) -> Vec<u64> {
+    filled(ROOM, |at, room| unsafe {
+        compare_c_text(src.as_ptr(), src.len(), at, room)
+    })
+}
+
+pub fn number(number: u32) -> Vec<u64> {
+    filled(ROOM, |at, room| unsafe {
+        compare_c_number(number, at, room)
+    })
+}
+
+pub fn of_char(number: u32) -> Vec<u64> {
+    filled(ROOM, |at, room| unsafe { compare_c_char(number, at, room) })
+}
+
+pub fn utf8_char(number: u32, byte: u8) -> Vec<u64> {
+    filled(ROOM, |at, room| unsafe {
+        compare_c_utf8_char(number, byte, at, room)
+    })
+}
+
+pub fn utf16_char(number: u32, byte: u8, unit: u16) -> Vec<u64> {
+    filled(ROOM, |at, room| unsafe {
+        compare_c_utf16_char(number, byte, unit, at, room)
+    })
+}
+
+pub fn byte(byte: u8) -> Vec<u64> {
+    filled(ROOM, |at, room| unsafe { compare_c_byte(byte, at, room) })
+}
+
+pub fn unit(unit: u16) -> Vec<u64> {
+    filled(ROOM, |at, room| unsafe { compare_c_unit(unit, at, room) })
+}
+
+pub fn two_units(first: u16, second: u16) -> Vec<u64> {
+    filled(ROOM, |at, room| unsafe {
+        compare_c_two_units(first, second, at, room)
+    })
+}
+
+pub fn four_bytes([first, second, third, fourth]: [u8; 4]) -> Vec<u64> {
+    filled(ROOM, |at, room| unsafe {
+        compare_c_four_bytes(first, second, third, fourth, at, room)
+    })
+}
+
+pub fn two_chars(one: char, other: char) -> Vec<u64> {
+    filled(ROOM, |at, room| unsafe {
+        compare_c_two_chars(u32::from(one), u32::from(other), at, room)
+    })
+}
+
+pub fn error_text(family: u8, place: u8) -> String {
+    let mut answer = vec![0; ROOM];
+    let used = unsafe { compare_c_error_text(family, place, answer.as_mut_ptr(), answer.len()) };
+    answer.truncate(used);
+    String::from_utf8_lossy(&answer).into_owned()
+}

@@ -1,0 +1,110 @@
+//! What was compared, and what differed.
+
+use crate::numbers::Answers;
+use crate::theirs::RANGE_START;
+
+/// How many differences of a kind are shown.
+const SHOWN: usize = 5;
+
+/// A difference that docs/DIFFERENCES.md has, under "Behaviour".
+pub const MEANT: &str = "CodepointError::TooHigh.error_range() begins one higher here";
+
+// Whether the two numbers of that name may differ so.
+fn is_meant(name: &str, ours: u64, theirs: u64) -> bool {
+    name == RANGE_START && theirs == 0x10_ffff && ours == 0x11_0000
+}
+
+/// One kind of inputs.
+pub struct Kind {
+    name: &'static str,
+    cases: u64,
+    differ: u64,
+    meant: u64,
+    shown: Vec<String>,
+}
+
+impl Kind {
+    pub fn new(name: &'static str) -> Kind {
+        Kind {
+            name,
+            cases: 0,
+            differ: 0,
+            meant: 0,
+            shown: Vec::new(),
+        }
+    }
+
+    pub fn cases(&self) -> u64 {
+        self.cases
+    }
+
+    pub fn differ(&self) -> u64 {
+        self.differ
+    }
+
+    pub fn meant(&self) -> u64 {
+        self.meant
+    }
+
+    /// Compares the answers to one input.
+    pub fn compare(&mut self, input: impl FnOnce() -> String, ours: &[u64], theirs: &Answers) {
+        self.cases += 1;
+        if ours == theirs.numbers {
+            return;
+        }
+        match first_difference(ours, theirs) {
+            Some(difference) => self.note(|| format!("{}: {difference}", input())),
+            None => self.meant += 1,
+        }
+    }
+
+    /// Compares two texts.
+    pub fn compare_texts(&mut self, input: impl FnOnce() -> String, ours: &str, theirs: &str) {
+        self.cases += 1;
+        let mut lines = ours.lines().zip(theirs.lines());
+        match lines.find(|(ours, theirs)| ours != theirs) {
+            _ if ours == theirs => {}
+            Some((ours, theirs)) => {
+                self.note(|| format!("{}: ours {ours:?}, theirs {theirs:?}", input()));
+            }
+            None => {
+                let (ours, theirs) = (ours.len(), theirs.len());
+                self.note(|| format!("{}: ours {ours} bytes, theirs {theirs}", input()));
+            }
+        }
+    }
+
+    fn note(&mut self, difference: impl FnOnce() -> String) {
+        self.differ += 1;
+        if self.shown.len() < SHOWN {
+            self.shown.push(difference());
+        }
+    }
+
+    pub fn print(&self) {
+        let Kind {
+            name,
+            cases,
+            differ,
+            ..
+        } = self;
+        println!("{name:<58} {cases:>9} cases {differ:>7} differ");
+        for difference in &self.shown {
+            println!("    {difference}");
+        }
+    }
+}
+
+// The first place where the numbers differ and are not meant to.
+fn first_difference(ours: &[u64], theirs: &Answers) -> Option<String> {
+    let numbers = ours.iter().zip(&theirs.numbers).zip(&theirs.names);
+    let differ = |((ours, theirs), name): &((&u64, &u64), &&str)| {
+        ours != theirs && !is_meant(name, **ours, **theirs)
+    };
+    let (our_count, their_count) = (ours.len(), theirs.numbers.len());
+    match numbers.into_iter().find(differ) {
+        Some(((ours, theirs), name)) => Some(format!("{name}: ours {ours:#x}, theirs {theirs:#x}")),
+        None if our_count == their_count => None,
+        None => Some(format!("ours {our_count} numbers, theirs {their_count}")),
+    }
+}

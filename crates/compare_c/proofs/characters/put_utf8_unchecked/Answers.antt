@@ -1,0 +1,10 @@
+use Rattle.std.proofs.Common.{rules}
+use Rattle.utf_base.proofs.StdText.{scalar_from_std}
+use Rattle.utf_chars.proofs.PaddedLemmas.{IsPadded-padded, stands_in_bytes}
+use Rattle.compare_c.proofs.characters.put_utf8_unchecked.Goals as goal
+
+-- The code of a character stands at the front of its own array.
+pub from_slice_start_unchecked-first-requires : goal.from_slice_start_unchecked-first-requires
+from_slice_start_unchecked-first-requires c =
+    let own = IsPadded-padded _ c.args.c (scalar_from_std _ (search rules)) c.to_utf8_array.ensures.code in
+    (_, stands_in_bytes _ own)

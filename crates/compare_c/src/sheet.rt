@@ -1,0 +1,111 @@
+//! The numbers of one export.
+use crate::numbers::NOTHING;
+use encode_unicode::{Utf8Char, Utf16Char};
+use std::cmp::Ordering;
+
+/// Numbers that are written to a slice one behind the other.
+#[derive(Drop)]
+pub struct Sheet<'a> {
+    room: &'a mut [u64],
+    used: usize,
+}
+
+impl<'a> Sheet<'a> {
+    /// No numbers yet.
+    pub fn new(room: &'a mut [u64]) -> Sheet<'a> {
+        Sheet { room, used: 0 }
+    }
+
+    /// How many numbers there are, and 0 where not all of them had room.
+    pub fn finish(self) -> usize {
+        let Sheet { room, used } = self;
+        if used <= room.len() { used } else { 0 }
+    }
+
+    /// Adds a number, which is lost where there is no room for it.
+    pub fn put(&mut self, number: u64) {
+        if self.used < self.room.len() {
+            self.room[self.used] = number;
+        }
+        self.used = self.used.saturating_add(1);
+    }
+
+    /// Adds a length.
+    pub fn put_size(&mut self, size: usize) {
+        self.put(size as u64);
+    }
+
+    /// Adds 1 for what is true and 0 for what is false.
+    pub fn put_bool(&mut self, answer: bool) {
+        self.put(u64::from(answer));
+    }
+
+    /// Adds 0, 1 or 2 for less, equal or greater.
+    pub fn put_order(&mut self, order: Ordering) {
+        self.put(match order {
+            Ordering::Less => 0,
+            Ordering::Equal => 1,
+            Ordering::Greater => 2,
+        });
+    }
+
+    /// Adds the scalar of a character.
+    pub fn put_char(&mut self, c: char) {
+        self.put(u64::from(c as u32));
+    }
+
+    /// Adds the bytes that a character keeps and its length.
+    pub fn put_utf8(&mut self, c: Utf8Char) {
+        let (bytes, len) = c.to_array();
+        self.put_bytes(&bytes);
+        self.put_size(len);
+    }
+
+    /// Adds the units that a character keeps.
+    pub fn put_utf16(&mut self, c: Utf16Char) {
+        self.put_units(&c.to_array());
+    }
+
+    /// Adds each byte.
+    pub fn put_bytes(&mut self, bytes: &[u8]) {
+        for byte in bytes {
+            self.put(u64::from(*byte));
+        }
+    }
+
+    /// Adds each unit.
+    pub fn put_units(&mut self, units: &[u16]) {
+        for unit in units {
+            self.put(u64::from(*unit));
+        }
+    }
+
+    /// Adds a unit and the second one.
+    pub fn put_tuple(&mut self, units: (u16, Option<u16>)) {
+        let (first, second) = units;
+        self.put(u64::from(first));
+        self.put(second.map_or(NOTHING, |unit| u64::from(unit)));
+    }
+
+    /// Adds the scalar, or the number of the error.
+    pub fn put_answer(&mut self, answer: Result<char, u64>) {
+        match answer {
+            Ok(c) => self.put_char(c),
+            Err(error) => self.put(error),
+        }
+    }
+
+    /// Adds the scalar and the length, or the number of the error and 0.
+    pub fn put_front(&mut self, answer: Result<(char, usize), u64>) {
+        match answer {
+            Ok((c, len)) => {
+                self.put_char(c);
+                self.put_size(len);
+            }
+            Err(error) => {
+                self.put(error);
+                self.put(0);
+            }
+        }
+    }
+}
