@@ -43,6 +43,11 @@ fn is_made_of_units<T: CharExt + Copy + PartialEq>(c: T, edge: &Edge) -> bool {
         && T::from_utf16_tuple_unchecked((first, second)) == c
 }
 
+// What a `Utf8Char` keeps of the bytes that it is made of.
+fn kept_bytes(bytes: [u8; 4]) -> Option<([u8; 4], usize)> {
+    Some(Utf8Char::from_array(bytes).ok()?.to_array())
+}
+
 // Whether each call that makes a `Utf8Char` of the row makes the same, with nothing of what follows.
 fn is_made_in_utf8(edge: &Edge) -> bool {
     let (c, _, bytes, _) = *edge;
@@ -53,6 +58,7 @@ fn is_made_in_utf8(edge: &Edge) -> bool {
         && Utf8Char::from(Utf16Char::new(c)) == kept
         && Utf8Char::from_slice_start(bytes).ok() == found
         && Utf8Char::from_slice_start(&longer).ok() == found
+        && kept_bytes(filled(bytes, 0xff)) == Some(kept.to_array())
         && Utf8Char::from_array(filled(bytes, 0xff)).ok() == Some(kept)
 }
 
@@ -72,6 +78,11 @@ fn gives_utf8(edge: &Edge) -> bool {
         && kept.as_str().len() == bytes.len()
 }
 
+// What a `Utf16Char` keeps of the units that it is made of.
+fn kept_units(units: [u16; 2]) -> Option<[u16; 2]> {
+    Some(Utf16Char::from_array(units).ok()?.to_array())
+}
+
 // Whether each call that makes a `Utf16Char` of the row makes the same, with nothing of what follows.
 fn is_made_in_utf16(edge: &Edge) -> bool {
     let (c, _, _, units) = *edge;
@@ -88,6 +99,7 @@ fn is_made_in_utf16(edge: &Edge) -> bool {
         && Utf16Char::from_slice_start(&before_stray).ok() == found
         && Utf16Char::from_array(filled(units, 0x79)).ok() == Some(kept)
         && Utf16Char::from_array(filled(units, 0xdead)).ok() == Some(kept)
+        && kept_units(filled(units, 0xdead)) == Some(kept.to_array())
         && as_tuple(units).map(Utf16Char::from_tuple) == Some(Ok(kept))
 }
 
@@ -147,6 +159,9 @@ fn the_forms_follow_the_table(rt: HostRuntime) {
         ];
         assert_eq!(rt; kept, [true; 4], "at {c:?}");
     }
+    assert!(rt; '@'.to_utf16_array() == [0x40, 0]);
+    assert!(rt; kept_bytes([0xc3, 0xa9, 0xff, 0x41]) == Some(([0xc3, 0xa9, 0, 0], 2)));
+    assert!(rt; kept_units([0x78, 0x79]) == Some([0x78, 0]));
     let euro = written_utf8('\u{20ac}');
-    assert_eq!(rt; euro, ([0xe2, 0x82, 0xac, 45, 45, 45], 3));
+    assert!(rt; euro == ([0xe2, 0x82, 0xac, 45, 45, 45], 3));
 }
