@@ -1,5 +1,5 @@
 //! The codes of one `char`, and the decoding of one.
-ghost use Rattle.std.specs.Prelude.{◌≡◌, ℕ, ◌+◌, ◌-◌, ◌*◌, ◌/◌, ◌%◌, ◌≤◌, ◌<◌, ◌&&◌, true, false, length, slice_index};
+ghost use Rattle.std.specs.Prelude.{◌≡◌, ℕ, ◌+◌, ◌-◌, ◌*◌, ◌/◌, ◌%◌, ◌≤◌, ◌<◌, ◌&&◌, nat_le, nat_lt, true, false, length, slice_index};
 ghost use Rattle.std.specs.Prelude.{if◌then◌else◌, IfNone};
 ghost use Rattle.utf_base.specs.Code.{utf8, utf16};
 ghost use Rattle.utf_base.specs.Front.{as_scalar, IsOneCode, DecodesFront, DecodesBytes, DecodesNumber};
@@ -141,12 +141,14 @@ impl CharExt for char {
         if src.is_empty() {
             return Err(Utf8Error::new(Utf8ErrorKind::TooFewBytes));
         }
+        // One test sets apart what needs no other byte. In damaged text its answer is the easiest to
+        // foresee.
+        if begins_many(src[0]) {
+            return decode_many(src);
+        }
         match src[0] {
             0x00..=0x7f => Ok((char::from(src[0]), 1)),
             0x80..=0xbf => Err(Utf8Error::new(Utf8ErrorKind::UnexpectedContinuationByte)),
-            0xc2..=0xdf => decode_two(src),
-            0xe0..=0xef => decode_three(src),
-            0xf0..=0xf4 => decode_four(src),
             _ => Err(Utf8Error::new(Utf8ErrorKind::NonUtf8Byte)),
         }
     }
@@ -402,6 +404,29 @@ pub(crate) fn value_of_four(first: u8, second: u8, third: u8, fourth: u8) -> u32
 {
     let high = (((first & 0x07) as u32) << 6 | (second & 0x3f) as u32) << 6 | (third & 0x3f) as u32;
     high << 6 | (fourth & 0x3f) as u32
+}
+
+// Whether the byte is the first of a code of two bytes or more.
+#[inline(always)]
+fn begins_many(first: u8) -> bool
+    ensures { result ≡ (nat_le 0xC2 first && nat_lt first 0xF5) }
+{
+    0xc2 <= first && first <= 0xf4
+}
+
+// The character that begins the bytes, where the first asks for two or more.
+#[inline(always)]
+fn decode_many(src: &[u8]) -> Result<(char, usize), Utf8Error>
+    requires some { 0 < length src.now }
+    requires low { 0xC2 ≤ slice_index src.now 0 }
+    requires high { slice_index src.now 0 < 0xF5 }
+    ensures { DecodesFront as_scalar src.now result }
+{
+    match src[0] {
+        0x00..=0xdf => decode_two(src),
+        0xe0..=0xef => decode_three(src),
+        _ => decode_four(src),
+    }
 }
 
 // The character that begins the bytes, where the first asks for two.

@@ -1,10 +1,10 @@
-use Rattle.std.proofs.Common.{◌≡◌, ◌<◌, ◌≤◌, ◌⊎◌, inl, inr, length, get_or, arith, false}
+use Rattle.std.proofs.Common.{◌≡◌, ◌<◌, ◌≤◌, ◌⊎◌, inl, inr, ⊎_elim, length, get_or, arith, false}
+use Rattle.std.proofs.lemmas.Bool.{cases_lt}
 use Rattle.std.proofs.lemmas.Grind.{common_steps}
 use Rattle.utf_base.specs.Kinds.{is_continuation}
 use Rattle.utf_base.proofs.FrontLemmas.{asked-0}
 use Rattle.utf_base.proofs.KindCases.{kind-empty, kind-continuation, kind-never, begins_with-1}
 use Rattle.utf_chars.proofs.char_ext.CharCharExt.from_utf8_slice_start.Goals as goal
-use Rattle.utf_chars.proofs.char_ext.CharCharExt.from_utf8_slice_start.Goals.{in_default-via-then-this-lt194, in_default-via-else-this-lt194+else-this-lt224+else-this-lt240+else-this-lt245}
 
 pub returns-then-is_empty : goal.returns-then-is_empty
 returns-then-is_empty c = rw c.new.ensures (kind-empty _ (grind (arith, common_steps)))
@@ -23,13 +23,9 @@ pub returns-in_default : goal.returns-in_default
 returns-in_default c =
     let some : 0 < length c.args.src.now = grind (arith, common_steps) in
     let never : ((0x80 ≤ get_or c.args.src.now 0 0) × (get_or c.args.src.now 0 0 < 0xC2)) ⊎ (0xF5 ≤ get_or c.args.src.now 0 0)
-    = elim c.in_default.branch [
-      | in_default-via-then-this-lt194 w ↦ inl (omega arith, omega arith)
-      | in_default-via-else-this-lt194+else-this-lt224+else-this-lt240+else-this-lt245 w ↦ inr (omega arith)
-    ] in
-    let first : is_continuation (get_or c.args.src.now 0 0) ≡ false
-    = elim c.in_default.branch [
-      | in_default-via-then-this-lt194 w ↦ grind (arith, common_steps)
-      | in_default-via-else-this-lt194+else-this-lt224+else-this-lt240+else-this-lt245 w ↦ grind (arith, common_steps)
-    ] in
+    = ⊎_elim
+    (λ (low : get_or c.args.src.now 0 0 < 0xC2). inl (omega arith, low))
+    (λ (high : 0xC2 ≤ get_or c.args.src.now 0 0). inr (grind (arith, common_steps)))
+    (cases_lt (get_or c.args.src.now 0 0) 0xC2) in
+    let first : is_continuation (get_or c.args.src.now 0 0) ≡ false = grind (arith, common_steps) in
     rw c.new-in_default.ensures (kind-never _ some (asked-0 _ never) first)
