@@ -13,35 +13,17 @@ pub fn encode(c: char) -> ([u8; 4], usize)
     ensures code { result.0 ≡ padded 4 (utf8 c) }
     ensures len { result.1 ≡ length (utf8 c) }
 {
-    (padded_code(c as u32), c.len_utf8())
+    encode_number(c as u32)
 }
 
 /// The code of a number below 0x110000, then zeros.
 #[inline(always)]
-#[tactic(auto, unfolding(utf_base::specs::Code::utf8, crate::specs::Padded::padded))]
 pub fn padded_code(s: u32) -> [u8; 4]
     requires { s < 0x11_0000 }
     ensures { result ≡ padded 4 (utf8 s) }
 {
-    if s < 0x80 {
-        [s as u8, 0, 0, 0]
-    } else if s < 0x800 {
-        [0xc0 | (s >> 6) as u8, continuation(s), 0, 0]
-    } else if s < 0x1_0000 {
-        [
-            0xe0 | (s >> 12) as u8,
-            continuation(s >> 6),
-            continuation(s),
-            0,
-        ]
-    } else {
-        [
-            0xf0 | (s >> 18) as u8,
-            continuation(s >> 12),
-            continuation(s >> 6),
-            continuation(s),
-        ]
-    }
+    let (code, _) = encode_number(s);
+    code
 }
 
 /// The character whose code begins the bytes, and how many bytes the code has: 1 to 4.
@@ -121,6 +103,29 @@ pub fn value_of_four(first: u8, second: u8, third: u8, fourth: u8) -> u32
 {
     let high = (((first & 0x07) as u32) << 6 | (second & 0x3f) as u32) << 6 | (third & 0x3f) as u32;
     high << 6 | (fourth & 0x3f) as u32
+}
+
+// The code of a number below 0x110000, then zeros, and how many bytes the code has.
+#[inline(always)]
+#[tactic(auto, unfolding(utf_base::specs::Code::utf8, crate::specs::Padded::padded))]
+fn encode_number(s: u32) -> ([u8; 4], usize)
+    requires { s < 0x11_0000 }
+    ensures code { result.0 ≡ padded 4 (utf8 s) }
+    ensures len { result.1 ≡ length (utf8 s) }
+{
+    if s < 0x80 {
+        return ([s as u8, 0, 0, 0], 1);
+    }
+    let last = continuation(s);
+    if s < 0x800 {
+        return ([0xc0 | (s >> 6) as u8, last, 0, 0], 2);
+    }
+    let third = continuation(s >> 6);
+    if s < 0x1_0000 {
+        return ([0xe0 | (s >> 12) as u8, third, last, 0], 3);
+    }
+    let second = continuation(s >> 12);
+    ([0xf0 | (s >> 18) as u8, second, third, last], 4)
 }
 
 // The lowest six bits, as a continuation byte.
