@@ -64,7 +64,7 @@ fn text(random: &mut Random, size: usize, class: impl Fn(&mut Random) -> u64) ->
 fn character(random: &mut Random, class: u64) -> char {
     let (low, high) = [(0x21, 0x7f), (0x80, 0x800), (0x800, 0x1_0000), (0x1_0000, 0x11_0000)][class as usize];
     loop {
-        let number = low + random.below(high - low) as u32 as u64;
+        let number = low + random.below(high - low);
         if let Some(c) = char::from_u32(number as u32) {
             return c;
         }
