@@ -8,8 +8,9 @@ mod decoding_iterators;
 mod tests;
 mod traits;
 
-pub use traits::{CharExt, U8SliceExt};
+pub use traits::U8SliceExt;
 pub use utf_base::traits::{U8UtfExt, U16UtfExt};
+pub use utf_chars::traits::CharExt;
 pub use utf_chars::utf8_char::Utf8Char;
 pub use utf_chars::utf16_char::Utf16Char;
 

@@ -10,7 +10,7 @@ use Rattle.utf_base.specs.Piece.{Stands}
 use Rattle.utf_base.proofs.Standing.{Stands-at, stands_first}
 use Rattle.utf_base.proofs.Utf8Code.{utf8-1}
 use Rattle.utf_base.proofs.FrontLemmas.{decodes_from_stands, code_where_no_fault, no_fault_where_code, value-1, value-2, value-3, value-4, asked-1}
-use Rattle.utf_codes.specs.Padded.{padded, IsPadded}
+use Rattle.utf_chars.specs.Padded.{padded, IsPadded}
 
 stands_padded : (xs : List ℕ) (s : ℕ) → IsScalar s → xs ≡ padded 4 (utf8 s) → Stands utf8 xs 0 s
 unfolding padded

@@ -10,7 +10,7 @@ use Rattle.utf_base.specs.Code.{utf16}
 use Rattle.utf_base.specs.Units.{is_leading_surrogate, is_surrogate, pair_value, unit_value}
 use Rattle.utf_base.proofs.Standing.{stands_first}
 use Rattle.utf_base.proofs.Utf16Code.{utf16-1, utf16-2, unit_value-unit, unit_value-pair}
-use Rattle.utf_codes.specs.Padded.{padded, IsPadded}
+use Rattle.utf_chars.specs.Padded.{padded, IsPadded}
 
 pub padded-unit : (s : ℕ) → s < 0x1_0000 → padded 2 (utf16 s) ≡ s ∷ 0 ∷ []
 unfolding padded

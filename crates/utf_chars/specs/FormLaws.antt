@@ -4,7 +4,7 @@ use Rattle.utf_base.specs.Scalar.{IsScalar}
 use Rattle.utf_base.specs.Code.{utf8, utf16}
 use Rattle.utf_base.specs.Kinds.{value}
 use Rattle.utf_base.specs.Units.{unit_value}
-use Rattle.utf_codes.specs.Padded.{padded}
+use Rattle.utf_chars.specs.Padded.{padded}
 
 -- what a character keeps of a scalar gives it back, in either form; so one form made of the other keeps the scalar,
 -- and so does the way back

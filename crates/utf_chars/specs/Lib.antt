@@ -1,8 +1,8 @@
 pub mod Chars
 pub mod FormLaws
+pub mod Padded
 pub use Rattle.utf_base.specs.Scalar
 pub use Rattle.utf_base.specs.Code
 pub use Rattle.utf_base.specs.Piece
 pub use Rattle.utf_base.specs.Kinds
 pub use Rattle.utf_base.specs.Front
-pub use Rattle.utf_codes.specs.Padded

@@ -1,6 +1,8 @@
-//! Characters as their codes.
+//! Characters as their codes: methods of `char`, and `Utf8Char` and `Utf16Char`.
 #![tactic(auto)]
 
+mod codes;
 pub mod laws;
+pub mod traits;
 pub mod utf16_char;
 pub mod utf8_char;

@@ -12,8 +12,9 @@ ghost use Rattle.utf_base.specs.Front.{as_scalar, BeginsWith, DecodesUnits, Deco
 ghost use Rattle.utf_base.specs.Units.{is_surrogate, units_of};
 ghost use Rattle.utf_chars.specs.Chars.{ascii_lowercase, ascii_uppercase, BeginsText, HasCode};
 ghost use Rattle.utf_chars.specs.Chars.{IsOneCharText};
-ghost use Rattle.utf_codes.specs.Padded.{padded, IsPaddedCode};
+ghost use Rattle.utf_chars.specs.Padded.{padded, IsPaddedCode};
 
+use crate::codes::utf16;
 use crate::utf8_char::Utf8Char;
 use std::cmp::Ordering;
 use std::fmt;
@@ -23,7 +24,6 @@ use std::str::FromStr;
 use utf_base::errors::{
     EmptyStrError, FromStrError, NonBmpError, Utf16ArrayError, Utf16SliceError, Utf16TupleError,
 };
-use utf_codes::utf16;
 
 /// A Unicode scalar value, kept as its code in UTF-16. Contracts see it as the scalar.
 ///
@@ -39,7 +39,7 @@ impl Model for Utf16Char {
     ghost use Rattle.std.proofs.Common.{sym};
     ghost use Rattle.utf_base.specs.Code.{utf16};
     ghost use Rattle.utf_base.specs.Units.{unit_value};
-    ghost use Rattle.utf_codes.specs.Padded.{padded, IsPadded};
+    ghost use Rattle.utf_chars.specs.Padded.{padded, IsPadded};
 
     ghost Value = { ℕ };
 

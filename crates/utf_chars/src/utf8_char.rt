@@ -11,8 +11,9 @@ ghost use Rattle.utf_base.specs.Code.{utf8};
 ghost use Rattle.utf_base.specs.Front.{as_scalar, BeginsWith, DecodesFront, DecodesBytes};
 ghost use Rattle.utf_chars.specs.Chars.{ascii_lowercase, ascii_uppercase, BeginsText, HasCode};
 ghost use Rattle.utf_chars.specs.Chars.{IsFrontCode, IsOneCharText};
-ghost use Rattle.utf_codes.specs.Padded.{padded, IsPaddedCode};
+ghost use Rattle.utf_chars.specs.Padded.{padded, IsPaddedCode};
 
+use crate::codes::utf8;
 use crate::utf16_char::Utf16Char;
 use std::cmp::Ordering;
 use std::fmt;
@@ -20,7 +21,6 @@ use std::hash::{Hash, Hasher};
 use std::marker::Model;
 use std::str::FromStr;
 use utf_base::errors::{EmptyStrError, FromStrError, NonAsciiError, Utf8Error};
-use utf_codes::utf8;
 
 /// A Unicode scalar value, kept as its code in UTF-8. Contracts see it as the scalar.
 ///
@@ -35,7 +35,7 @@ impl Model for Utf8Char {
     ghost use Rattle.std.proofs.Common.{sym};
     ghost use Rattle.utf_base.specs.Code.{utf8};
     ghost use Rattle.utf_base.specs.Kinds.{value};
-    ghost use Rattle.utf_codes.specs.Padded.{padded, IsPadded};
+    ghost use Rattle.utf_chars.specs.Padded.{padded, IsPadded};
 
     ghost Value = { ℕ };
 

@@ -1,4 +1,4 @@
-use Rattle.utf_codes.proofs.Decoded.{IsOk-DecodesUnits}
+use Rattle.utf_chars.proofs.Decoded.{IsOk-DecodesUnits}
 use Rattle.utf_chars.proofs.utf16_char.Utf16Char.from_slice_start_unchecked.Goals as goal
 
 pub unwrap-requires : goal.unwrap-requires

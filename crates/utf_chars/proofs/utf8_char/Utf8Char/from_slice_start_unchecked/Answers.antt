@@ -1,4 +1,4 @@
-use Rattle.utf_codes.proofs.Decoded.{IsOk-DecodesFront}
+use Rattle.utf_chars.proofs.Decoded.{IsOk-DecodesFront}
 use Rattle.utf_chars.proofs.utf8_char.Utf8Char.from_slice_start_unchecked.Goals as goal
 
 pub unwrap-requires : goal.unwrap-requires

@@ -1,0 +1,187 @@
+//! The code of a scalar in UTF-16 (RFC 2781).
+ghost use Rattle.std.specs.Prelude.{◌≡◌, ◌+◌, ◌-◌, ◌/◌, ◌%◌, ◌≤◌, ◌<◌, false, slice_index, if◌then◌else◌, IfNone};
+ghost use Rattle.utf_base.specs.Code.{utf16};
+ghost use Rattle.utf_base.specs.Front.{as_scalar, DecodesUnits, DecodesTwoUnits, DecodesTuple};
+ghost use Rattle.utf_base.specs.Units.{is_surrogate, is_trailing_surrogate, pair_value, tuple_value, units_of};
+ghost use Rattle.utf_chars.specs.Padded.{padded};
+
+use utf_base::errors::{Utf16ArrayError, Utf16SliceError, Utf16TupleError};
+use utf_base::traits::U16UtfExt;
+
+/// The code of a number below 0x110000: a unit and 0, or a pair of surrogates.
+#[inline(always)]
+#[tactic(auto, unfolding(utf_base::specs::Code::utf16, crate::specs::Padded::padded))]
+pub(crate) fn padded_code(s: u32) -> [u16; 2]
+    requires { s < 0x11_0000 }
+    ensures { result ≡ padded 2 (utf16 s) }
+{
+    if s < 0x1_0000 {
+        [s as u16, 0]
+    } else {
+        [leading_surrogate(s), trailing_surrogate(s)]
+    }
+}
+
+/// The code, whose second unit is there only where the code has two.
+#[inline(always)]
+#[tactic(auto, unfolding(utf_base::specs::Code::utf16))]
+pub(crate) fn encode_tuple(c: char) -> (u16, Option<u16>)
+    ensures { units_of result.0 result.1 ≡ utf16 c }
+{
+    let s = c as u32;
+    if s < 0x1_0000 {
+        (s as u16, None)
+    } else {
+        (leading_surrogate(s), Some(trailing_surrogate(s)))
+    }
+}
+
+/// The character whose code begins the units, and how many units the code has: 1 or 2.
+///
+/// Where no code begins them, the error is the first that applies of `EmptySlice`,
+/// `FirstIsTrailingSurrogate`, `MissingSecond` and `SecondIsNotTrailingSurrogate`.
+#[inline(always)]
+#[tactic(auto, unfolding(utf_base::specs::Units::slice_fault), using(utf_base::proofs::Utf16Code::begins_with_unit, utf_base::proofs::Utf16Code::begins_with_pair))]
+pub(crate) fn decode_start(src: &[u16]) -> Result<(char, usize), Utf16SliceError>
+    ensures { DecodesUnits as_scalar src.now result }
+{
+    if src.is_empty() {
+        return Err(Utf16SliceError::EmptySlice);
+    }
+    let first = src[0];
+    if ends_pair(first) {
+        return Err(Utf16SliceError::FirstIsTrailingSurrogate);
+    }
+    if !first.is_utf16_leading_surrogate() {
+        return Ok((char_of_unit(first), 1));
+    }
+    if src.len() < 2 {
+        return Err(Utf16SliceError::MissingSecond);
+    }
+    if !ends_pair(src[1]) {
+        return Err(Utf16SliceError::SecondIsNotTrailingSurrogate);
+    }
+    Ok((char_of_pair(first, src[1]), 2))
+}
+
+/// The character whose code begins the two units. A second unit that the first does not ask for is
+/// ignored.
+#[inline(always)]
+#[tactic(auto, unfolding(utf_base::specs::Units::array_fault), using(utf_base::proofs::Utf16Code::begins_with_unit, utf_base::proofs::Utf16Code::begins_with_pair))]
+pub(crate) fn decode_array(units: [u16; 2]) -> Result<char, Utf16ArrayError>
+    ensures { DecodesTwoUnits as_scalar units result }
+{
+    let [first, second] = units;
+    if ends_pair(first) {
+        return Err(Utf16ArrayError::FirstIsTrailingSurrogate);
+    }
+    if !first.is_utf16_leading_surrogate() {
+        return Ok(char_of_unit(first));
+    }
+    if !ends_pair(second) {
+        return Err(Utf16ArrayError::SecondIsNotTrailingSurrogate);
+    }
+    Ok(char_of_pair(first, second))
+}
+
+/// The character whose code the one or two units are. A second unit that the first does not ask for is
+/// an error.
+#[inline(always)]
+pub(crate) fn decode_tuple(units: (u16, Option<u16>)) -> Result<char, Utf16TupleError>
+    ensures { DecodesTuple as_scalar units result }
+{
+    let (first, second) = units;
+    if ends_pair(first) {
+        return Err(Utf16TupleError::FirstIsTrailingSurrogate);
+    }
+    let leading = first.is_utf16_leading_surrogate();
+    match second {
+        None if leading => Err(Utf16TupleError::MissingSecond),
+        None => Ok(char_of_unit(first)),
+        Some(_) if !leading => Err(Utf16TupleError::SuperfluousSecond),
+        Some(second) if ends_pair(second) => Ok(char_of_pair(first, second)),
+        Some(_) => Err(Utf16TupleError::SecondIsNotTrailingSurrogate),
+    }
+}
+
+/// The character of two units, whatever they are.
+///
+/// A first unit that is no surrogate stands for itself. Any other is taken for a leading surrogate, and
+/// the second for a trailing one: ten bits of each, above 0x10000.
+#[inline(always)]
+pub(crate) fn decode_array_unchecked(units: [u16; 2]) -> char
+    ensures { result ≡ (if is_surrogate (slice_index units 0) then pair_value (slice_index units 0) (slice_index units 1) else slice_index units 0) }
+{
+    let [first, second] = units;
+    if first & 0xf800 == 0xd800 {
+        char_of_pair(first, second)
+    } else {
+        char_of_unit(first)
+    }
+}
+
+/// The character of one unit that is no surrogate, or of two units, which are taken for a leading and a
+/// trailing surrogate whatever they are.
+#[inline(always)]
+pub(crate) fn decode_tuple_unchecked(units: (u16, Option<u16>)) -> char
+    requires { IfNone units.1 (is_surrogate units.0 ≡ false) }
+    ensures { result ≡ tuple_value units.0 units.1 }
+{
+    match units {
+        (first, None) => char_of_unit(first),
+        (first, Some(second)) => char_of_pair(first, second),
+    }
+}
+
+/// The number of a leading and a trailing surrogate: ten bits of each, above 0x10000.
+#[inline(always)]
+pub(crate) fn value_of_pair(first: u16, second: u16) -> u32
+    ensures value { result ≡ pair_value first second }
+    ensures bound { result < 0x11_0000 }
+{
+    0x1_0000 + (((first & 0x3ff) as u32) << 10 | (second & 0x3ff) as u32)
+}
+
+// The first unit of the pair of a scalar.
+#[inline(always)]
+fn leading_surrogate(s: u32) -> u16
+    requires low { 0x1_0000 ≤ s }
+    requires high { s < 0x11_0000 }
+    ensures { result ≡ 0xD800 + (s - 0x1_0000) / 1024 }
+{
+    0xd800 + ((s - 0x1_0000) >> 10) as u16
+}
+
+// The second unit of the pair of a scalar.
+#[inline(always)]
+fn trailing_surrogate(s: u32) -> u16
+    requires { 0x1_0000 ≤ s }
+    ensures { result ≡ 0xDC00 + (s - 0x1_0000) % 1024 }
+{
+    0xdc00 + (s & 0x3ff) as u16
+}
+
+// Whether the unit is a trailing surrogate.
+#[inline(always)]
+fn ends_pair(unit: u16) -> bool
+    ensures { result ≡ is_trailing_surrogate unit }
+{
+    unit & 0xfc00 == 0xdc00
+}
+
+// The character that a unit is by itself.
+#[inline(always)]
+fn char_of_unit(unit: u16) -> char
+    requires { is_surrogate unit ≡ false }
+    ensures { result ≡ unit }
+{
+    char::from_u32(unit as u32).unwrap()
+}
+
+// The character of a leading and a trailing surrogate, whatever the units are.
+#[inline(always)]
+fn char_of_pair(first: u16, second: u16) -> char
+    ensures { result ≡ pair_value first second }
+{
+    char::from_u32(value_of_pair(first, second)).unwrap()
+}

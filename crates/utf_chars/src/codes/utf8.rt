@@ -1,0 +1,250 @@
+//! The code of a scalar in UTF-8 (RFC 3629).
+ghost use Rattle.std.specs.Prelude.{◌≡◌, ◌+◌, ◌-◌, ◌*◌, ◌%◌, ◌≤◌, ◌<◌, ◌&&◌, nat_le, nat_lt, true, length, slice_index};
+ghost use Rattle.utf_base.specs.Code.{utf8};
+ghost use Rattle.utf_base.specs.Front.{as_scalar, IsOneCode, DecodesFront, DecodesBytes};
+ghost use Rattle.utf_base.specs.Kinds.{is_continuation};
+ghost use Rattle.utf_chars.specs.Padded.{padded};
+
+use utf_base::errors::{Utf8Error, Utf8ErrorKind};
+
+/// The code, then zeros, and how many bytes the code has: 1 to 4.
+#[inline(always)]
+pub(crate) fn encode(c: char) -> ([u8; 4], usize)
+    ensures code { result.0 ≡ padded 4 (utf8 c) }
+    ensures len { result.1 ≡ length (utf8 c) }
+{
+    encode_number(c as u32)
+}
+
+/// The code of a number below 0x110000, then zeros.
+#[inline(always)]
+pub(crate) fn padded_code(s: u32) -> [u8; 4]
+    requires { s < 0x11_0000 }
+    ensures { result ≡ padded 4 (utf8 s) }
+{
+    let (code, _) = encode_number(s);
+    code
+}
+
+/// The character whose code begins the bytes, and how many bytes the code has: 1 to 4.
+///
+/// Bytes behind the code do not matter. Where no code begins them, the error is the first that applies:
+/// no byte at all or fewer than the first asks for, whatever they are, is `TooFewBytes`; a first byte that
+/// begins no code is `UnexpectedContinuationByte` or `NonUtf8Byte`; one that is asked for and is no
+/// continuation byte is `InterruptedSequence`; and then the value itself is judged, as
+/// `OverlongEncoding`, `Utf16ReservedCodepoint` or `TooHighCodepoint`.
+#[inline(always)]
+pub(crate) fn decode_start(src: &[u8]) -> Result<(char, usize), Utf8Error>
+    ensures { DecodesFront as_scalar src.now result }
+{
+    if src.is_empty() {
+        return Err(Utf8Error::new(Utf8ErrorKind::TooFewBytes));
+    }
+    // One test sets apart what needs no other byte. In damaged text its answer is the easiest to
+    // foresee.
+    if begins_many(src[0]) {
+        return decode_many(src);
+    }
+    match src[0] {
+        0x00..=0x7f => Ok((char::from(src[0]), 1)),
+        0x80..=0xbf => Err(Utf8Error::new(Utf8ErrorKind::UnexpectedContinuationByte)),
+        _ => Err(Utf8Error::new(Utf8ErrorKind::NonUtf8Byte)),
+    }
+}
+
+/// The character whose code begins the four bytes. Those behind the code are ignored.
+///
+/// The error is that of `decode_start`, and never `TooFewBytes`.
+#[inline(always)]
+pub(crate) fn decode_array(bytes: [u8; 4]) -> Result<char, Utf8Error>
+    ensures { DecodesBytes as_scalar bytes result }
+{
+    let (c, _) = decode_start(&bytes)?;
+    Ok(c)
+}
+
+/// The character whose code the bytes are.
+#[inline(always)]
+pub(crate) fn decode_exact_unchecked(src: &[u8]) -> char
+    requires { IsOneCode utf8 src.now }
+    ensures { utf8 result ≡ src.now }
+{
+    let (c, _) = decode_start(src).unwrap();
+    c
+}
+
+/// The payloads of two bytes, each times its power of 64, added up.
+#[inline(always)]
+pub(crate) fn value_of_two(first: u8, second: u8) -> u32
+    requires first { (0xC0 ≤ first) × (first < 0xE0) }
+    requires second { is_continuation second ≡ true }
+    ensures { result ≡ (first - 0xC0) * 64 + (second - 0x80) }
+{
+    ((first & 0x1f) as u32) << 6 | (second & 0x3f) as u32
+}
+
+/// The same of three bytes.
+#[inline(always)]
+pub(crate) fn value_of_three(first: u8, second: u8, third: u8) -> u32
+    requires first { (0xE0 ≤ first) × (first < 0xF0) }
+    requires followers { (is_continuation second && is_continuation third) ≡ true }
+    ensures sum { result ≡ (first - 0xE0) * 4096 + (second - 0x80) * 64 + (third - 0x80) }
+    ensures bound { result < 0x1_0000 }
+{
+    (((first & 0x0f) as u32) << 6 | (second & 0x3f) as u32) << 6 | (third & 0x3f) as u32
+}
+
+/// The same of four bytes.
+#[inline(always)]
+pub(crate) fn value_of_four(first: u8, second: u8, third: u8, fourth: u8) -> u32
+    requires first { (0xF0 ≤ first) × (first < 0xF8) }
+    requires followers { (is_continuation second && is_continuation third && is_continuation fourth) ≡ true }
+    ensures { result ≡ (first - 0xF0) * 262144 + (second - 0x80) * 4096 + (third - 0x80) * 64 + (fourth - 0x80) }
+{
+    let high = (((first & 0x07) as u32) << 6 | (second & 0x3f) as u32) << 6 | (third & 0x3f) as u32;
+    high << 6 | (fourth & 0x3f) as u32
+}
+
+// The code of a number below 0x110000, then zeros, and how many bytes the code has.
+#[inline(always)]
+#[tactic(auto, unfolding(utf_base::specs::Code::utf8, crate::specs::Padded::padded))]
+fn encode_number(s: u32) -> ([u8; 4], usize)
+    requires { s < 0x11_0000 }
+    ensures code { result.0 ≡ padded 4 (utf8 s) }
+    ensures len { result.1 ≡ length (utf8 s) }
+{
+    if s < 0x80 {
+        return ([s as u8, 0, 0, 0], 1);
+    }
+    let last = continuation(s);
+    if s < 0x800 {
+        return ([0xc0 | (s >> 6) as u8, last, 0, 0], 2);
+    }
+    let third = continuation(s >> 6);
+    if s < 0x1_0000 {
+        return ([0xe0 | (s >> 12) as u8, third, last, 0], 3);
+    }
+    let second = continuation(s >> 12);
+    ([0xf0 | (s >> 18) as u8, second, third, last], 4)
+}
+
+// The lowest six bits, as a continuation byte.
+#[inline(always)]
+fn continuation(bits: u32) -> u8
+    ensures { result ≡ 0x80 + bits % 64 }
+{
+    0x80 | (bits & 0x3f) as u8
+}
+
+// Whether the byte has the form of one behind the first of a code.
+#[inline(always)]
+fn continues(byte: u8) -> bool
+    ensures { result ≡ is_continuation byte }
+{
+    byte & 0xc0 == 0x80
+}
+
+// Whether two bytes have it.
+#[inline(always)]
+fn both_continue(second: u8, third: u8) -> bool
+    ensures { result ≡ (is_continuation second && is_continuation third) }
+{
+    continues(second) && continues(third)
+}
+
+// Whether three bytes have it.
+#[inline(always)]
+fn all_continue(second: u8, third: u8, fourth: u8) -> bool
+    ensures { result ≡ (is_continuation second && is_continuation third && is_continuation fourth) }
+{
+    both_continue(second, third) && continues(fourth)
+}
+
+// Whether the byte is the first of a code of two bytes or more.
+#[inline(always)]
+fn begins_many(first: u8) -> bool
+    ensures { result ≡ (nat_le 0xC2 first && nat_lt first 0xF5) }
+{
+    0xc2 <= first && first <= 0xf4
+}
+
+// The character that begins the bytes, where the first asks for two or more.
+#[inline(always)]
+fn decode_many(src: &[u8]) -> Result<(char, usize), Utf8Error>
+    requires some { 0 < length src.now }
+    requires low { 0xC2 ≤ slice_index src.now 0 }
+    requires high { slice_index src.now 0 < 0xF5 }
+    ensures { DecodesFront as_scalar src.now result }
+{
+    match src[0] {
+        0x00..=0xdf => decode_two(src),
+        0xe0..=0xef => decode_three(src),
+        _ => decode_four(src),
+    }
+}
+
+// The character that begins the bytes, where the first asks for two.
+#[inline(always)]
+fn decode_two(src: &[u8]) -> Result<(char, usize), Utf8Error>
+    requires some { 0 < length src.now }
+    requires low { 0xC2 ≤ slice_index src.now 0 }
+    requires high { slice_index src.now 0 < 0xE0 }
+    ensures { DecodesFront as_scalar src.now result }
+{
+    if src.len() < 2 {
+        return Err(Utf8Error::new(Utf8ErrorKind::TooFewBytes));
+    }
+    if !continues(src[1]) {
+        return Err(Utf8Error::new(Utf8ErrorKind::InterruptedSequence));
+    }
+    let value = value_of_two(src[0], src[1]);
+    Ok((char::from_u32(value).unwrap(), 2))
+}
+
+// The character that begins the bytes, where the first asks for three.
+#[inline(always)]
+fn decode_three(src: &[u8]) -> Result<(char, usize), Utf8Error>
+    requires some { 0 < length src.now }
+    requires low { 0xE0 ≤ slice_index src.now 0 }
+    requires high { slice_index src.now 0 < 0xF0 }
+    ensures { DecodesFront as_scalar src.now result }
+{
+    if src.len() < 3 {
+        return Err(Utf8Error::new(Utf8ErrorKind::TooFewBytes));
+    }
+    if !both_continue(src[1], src[2]) {
+        return Err(Utf8Error::new(Utf8ErrorKind::InterruptedSequence));
+    }
+    let value = value_of_three(src[0], src[1], src[2]);
+    if value < 0x800 {
+        return Err(Utf8Error::new(Utf8ErrorKind::OverlongEncoding));
+    }
+    match char::from_u32(value) {
+        Some(c) => Ok((c, 3)),
+        None => Err(Utf8Error::new(Utf8ErrorKind::Utf16ReservedCodepoint)),
+    }
+}
+
+// The character that begins the bytes, where the first asks for four.
+#[inline(always)]
+fn decode_four(src: &[u8]) -> Result<(char, usize), Utf8Error>
+    requires some { 0 < length src.now }
+    requires low { 0xF0 ≤ slice_index src.now 0 }
+    requires high { slice_index src.now 0 < 0xF5 }
+    ensures { DecodesFront as_scalar src.now result }
+{
+    if src.len() < 4 {
+        return Err(Utf8Error::new(Utf8ErrorKind::TooFewBytes));
+    }
+    if !all_continue(src[1], src[2], src[3]) {
+        return Err(Utf8Error::new(Utf8ErrorKind::InterruptedSequence));
+    }
+    let value = value_of_four(src[0], src[1], src[2], src[3]);
+    if value < 0x1_0000 {
+        return Err(Utf8Error::new(Utf8ErrorKind::OverlongEncoding));
+    }
+    match char::from_u32(value) {
+        Some(c) => Ok((c, 4)),
+        None => Err(Utf8Error::new(Utf8ErrorKind::TooHighCodepoint)),
+    }
+}

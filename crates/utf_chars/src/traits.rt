@@ -1,0 +1,175 @@
+//! Methods of `char`.
+ghost use Rattle.std.specs.Prelude.{◌≡◌, ℕ, false, length, slice_index, if◌then◌else◌, IfNone};
+ghost use Rattle.utf_base.specs.Code.{utf8, utf16};
+ghost use Rattle.utf_base.specs.Front.{as_scalar, IsOneCode, DecodesFront, DecodesBytes, DecodesNumber};
+ghost use Rattle.utf_base.specs.Front.{DecodesUnits, DecodesTwoUnits, DecodesTuple};
+ghost use Rattle.utf_base.specs.Units.{is_surrogate, pair_value, tuple_value, units_of};
+ghost use Rattle.utf_chars.specs.Padded.{padded};
+
+use crate::codes::{number, utf8, utf16};
+use crate::utf8_char::Utf8Char;
+use crate::utf16_char::Utf16Char;
+use utf_base::errors::{
+    CodepointError, Utf8Error, Utf16ArrayError, Utf16SliceError, Utf16TupleError,
+};
+
+/// Methods of a character as a Unicode scalar value.
+///
+/// The forms ending in `_unchecked` ask their caller for what the others test.
+pub trait CharExt: Sized {
+    // The scalar that the character is.
+    ghost scalar: { Self → ℕ };
+
+    /// The character kept as its code in UTF-8.
+    fn to_utf8(self) -> Utf8Char
+        ensures { result ≡ scalar self };
+
+    /// The character kept as its code in UTF-16.
+    fn to_utf16(self) -> Utf16Char
+        ensures { result ≡ scalar self };
+
+    /// The code in UTF-8, then zeros, and how many bytes the code has: 1 to 4 (RFC 3629, section 3).
+    fn to_utf8_array(self) -> ([u8; 4], usize)
+        ensures code { result.0 ≡ padded 4 (utf8 (scalar self)) }
+        ensures len { result.1 ≡ length (utf8 (scalar self)) };
+
+    /// The code in UTF-16: a unit and 0, or a pair of surrogates (RFC 2781, section 2.1).
+    fn to_utf16_array(self) -> [u16; 2]
+        ensures { result ≡ padded 2 (utf16 (scalar self)) };
+
+    /// The code in UTF-16, whose second unit is there only where the code has two.
+    fn to_utf16_tuple(self) -> (u16, Option<u16>)
+        ensures { units_of result.0 result.1 ≡ utf16 (scalar self) };
+
+    /// The character whose code in UTF-8 begins the bytes, and how many bytes the code has: 1 to 4.
+    ///
+    /// Bytes behind the code do not matter. Where no code begins them, the error is the first that
+    /// applies: no byte at all or fewer than the first asks for, whatever they are, is `TooFewBytes`; a
+    /// first byte that begins no code is `UnexpectedContinuationByte` or `NonUtf8Byte`; one that is asked
+    /// for and is no continuation byte is `InterruptedSequence`; and then the value itself is judged, as
+    /// `OverlongEncoding`, `Utf16ReservedCodepoint` or `TooHighCodepoint` (RFC 3629, sections 3 and 4).
+    fn from_utf8_slice_start(src: &[u8]) -> Result<(Self, usize), Utf8Error>
+        ensures { DecodesFront scalar src.now result };
+
+    /// The character whose code in UTF-8 begins the four bytes. Those behind the code are ignored.
+    ///
+    /// The error is that of `from_utf8_slice_start`, and never `TooFewBytes`.
+    fn from_utf8_array(utf8: [u8; 4]) -> Result<Self, Utf8Error>
+        ensures { DecodesBytes scalar utf8 result };
+
+    /// The character whose code in UTF-8 the bytes are.
+    fn from_utf8_exact_slice_unchecked(src: &[u8]) -> Self
+        requires { IsOneCode utf8 src.now }
+        ensures { utf8 (scalar result) ≡ src.now };
+
+    /// The character whose code in UTF-16 begins the units, and how many units the code has: 1 or 2.
+    ///
+    /// Where no code begins them, the error is the first that applies of `EmptySlice`,
+    /// `FirstIsTrailingSurrogate`, `MissingSecond` and `SecondIsNotTrailingSurrogate` (RFC 2781,
+    /// section 2.2).
+    fn from_utf16_slice_start(src: &[u16]) -> Result<(Self, usize), Utf16SliceError>
+        ensures { DecodesUnits scalar src.now result };
+
+    /// The character whose code in UTF-16 begins the two units. A second unit that the first does not
+    /// ask for is ignored.
+    fn from_utf16_array(utf16: [u16; 2]) -> Result<Self, Utf16ArrayError>
+        ensures { DecodesTwoUnits scalar utf16 result };
+
+    /// The character whose code in UTF-16 the one or two units are. A second unit that the first does
+    /// not ask for is an error.
+    fn from_utf16_tuple(utf16: (u16, Option<u16>)) -> Result<Self, Utf16TupleError>
+        ensures { DecodesTuple scalar utf16 result };
+
+    /// The character of two units, whatever they are.
+    ///
+    /// A first unit that is no surrogate stands for itself. Any other is taken for a leading surrogate,
+    /// and the second for a trailing one: ten bits of each, above 0x10000.
+    fn from_utf16_array_unchecked(utf16: [u16; 2]) -> Self
+        ensures { scalar result ≡ (if is_surrogate (slice_index utf16 0) then pair_value (slice_index utf16 0) (slice_index utf16 1) else slice_index utf16 0) };
+
+    /// The character of one unit that is no surrogate, or of two units, which are taken for a leading
+    /// and a trailing surrogate whatever they are.
+    fn from_utf16_tuple_unchecked(utf16: (u16, Option<u16>)) -> Self
+        requires { IfNone utf16.1 (is_surrogate utf16.0 ≡ false) }
+        ensures { scalar result ≡ tuple_value utf16.0 utf16.1 };
+
+    /// The character of that number.
+    ///
+    /// Above 0x10ffff it is `TooHigh`, and from 0xd800 to 0xdfff `Utf16Reserved`.
+    fn from_u32_detailed(c: u32) -> Result<Self, CodepointError>
+        ensures { DecodesNumber scalar c result };
+}
+
+impl CharExt for char {
+    ghost scalar = { as_scalar };
+
+    #[inline(always)]
+    fn to_utf8(self) -> Utf8Char {
+        Utf8Char::new(self)
+    }
+
+    #[inline(always)]
+    fn to_utf16(self) -> Utf16Char {
+        Utf16Char::new(self)
+    }
+
+    #[inline(always)]
+    fn to_utf8_array(self) -> ([u8; 4], usize) {
+        utf8::encode(self)
+    }
+
+    #[inline(always)]
+    fn to_utf16_array(self) -> [u16; 2] {
+        utf16::padded_code(self as u32)
+    }
+
+    #[inline(always)]
+    fn to_utf16_tuple(self) -> (u16, Option<u16>) {
+        utf16::encode_tuple(self)
+    }
+
+    #[inline(always)]
+    fn from_utf8_slice_start(src: &[u8]) -> Result<(char, usize), Utf8Error> {
+        utf8::decode_start(src)
+    }
+
+    #[inline(always)]
+    fn from_utf8_array(utf8: [u8; 4]) -> Result<char, Utf8Error> {
+        utf8::decode_array(utf8)
+    }
+
+    #[inline(always)]
+    fn from_utf8_exact_slice_unchecked(src: &[u8]) -> char {
+        utf8::decode_exact_unchecked(src)
+    }
+
+    #[inline(always)]
+    fn from_utf16_slice_start(src: &[u16]) -> Result<(char, usize), Utf16SliceError> {
+        utf16::decode_start(src)
+    }
+
+    #[inline(always)]
+    fn from_utf16_array(utf16: [u16; 2]) -> Result<char, Utf16ArrayError> {
+        utf16::decode_array(utf16)
+    }
+
+    #[inline(always)]
+    fn from_utf16_tuple(utf16: (u16, Option<u16>)) -> Result<char, Utf16TupleError> {
+        utf16::decode_tuple(utf16)
+    }
+
+    #[inline(always)]
+    fn from_utf16_array_unchecked(utf16: [u16; 2]) -> char {
+        utf16::decode_array_unchecked(utf16)
+    }
+
+    #[inline(always)]
+    fn from_utf16_tuple_unchecked(utf16: (u16, Option<u16>)) -> char {
+        utf16::decode_tuple_unchecked(utf16)
+    }
+
+    #[inline(always)]
+    fn from_u32_detailed(c: u32) -> Result<char, CodepointError> {
+        number::decode(c)
+    }
+}

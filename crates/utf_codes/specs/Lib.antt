@@ -1,6 +1,0 @@
-pub mod Padded
-pub use Rattle.utf_base.specs.Scalar
-pub use Rattle.utf_base.specs.Code
-pub use Rattle.utf_base.specs.Piece
-pub use Rattle.utf_base.specs.Kinds
-pub use Rattle.utf_base.specs.Front
