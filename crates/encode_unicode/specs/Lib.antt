@@ -2,6 +2,15 @@ pub mod Window
 pub mod Hints
 pub use Rattle.utf_base.specs.Scalar
 pub use Rattle.utf_base.specs.Code
+pub use Rattle.utf_base.specs.Units
 pub use Rattle.utf_base.specs.Piece
 pub use Rattle.utf_base.specs.Kinds
+pub use Rattle.utf_base.specs.Refused
 pub use Rattle.utf_base.specs.Front
+pub use Rattle.utf_base.specs.Decoded
+pub use Rattle.utf_base.specs.Texts
+pub use Rattle.utf_base.specs.CutLaws
+pub use Rattle.utf_base.specs.KindLaws
+pub use Rattle.utf_chars.specs.Chars
+pub use Rattle.utf_chars.specs.Padded
+pub use Rattle.utf_chars.specs.FormLaws

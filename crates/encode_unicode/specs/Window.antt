@@ -2,7 +2,8 @@
 use Rattle.std.specs.Prelude.{◌≡◌, ℕ, ◌+◌, ◌<◌, List, length, slice_range, Option, Some, None, Result, Ok, Err}
 use Rattle.utf_base.specs.declared.errors.Utf8ErrorKind.{Utf8ErrorKind}
 use Rattle.utf_base.specs.Code.{utf8}
-use Rattle.utf_base.specs.Front.{BeginsWith}
+use Rattle.utf_base.specs.Decoded.{decoded}
+use Rattle.utf_base.specs.Front.{BeginsWith, IsFrontLen}
 use Rattle.utf_base.specs.Kinds.{fault_kind}
 
 -- the part of a slice from the place `front` up to and without the place `back`
@@ -32,11 +33,18 @@ abbrev pub IsFrontPiece : List ℕ → Result ℕ Utf8ErrorKind → ℕ → Type
 IsFrontPiece xs (Ok s) n = BeginsWith utf8 xs s n
 IsFrontPiece xs (Err k) n = (fault_kind xs ≡ Some k) × (n ≡ 1)
 
+-- the answer of a decoding as a piece: a scalar with the length of its code, a fault with length 1
+abbrev pub as_piece : Result (ℕ × ℕ) Utf8ErrorKind → Result ℕ Utf8ErrorKind × ℕ
+as_piece (Ok x) = (Ok x.0, x.1)
+as_piece (Err k) = (Err k, 1)
+
 -- the item is the piece that begins the window, and exactly that piece has left it
 pub record GivesFront (w : Window) (x : Item) (v : Window) : Type 0 where
   pub some : w.front < w.back
   pub place : x.0 ≡ w.front
   pub piece : IsFrontPiece (elements w) x.1 x.2
+  pub known : (x.1, x.2) ≡ as_piece (decoded (elements w))
+  pub len : IsFrontLen 4 (elements w) x.2
   pub left : v ≡ without_front w x.2
 
 -- the window is empty, and stays as it is

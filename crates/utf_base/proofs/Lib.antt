@@ -7,3 +7,4 @@ pub mod StdText
 pub mod KindCases
 pub mod Utf16Code
 pub mod UnitLemmas
+pub mod DecodedLemmas

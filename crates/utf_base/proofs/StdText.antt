@@ -10,9 +10,9 @@ use Rattle.utf_base.specs.Code.{utf8}
 use Rattle.utf_base.specs.Piece.{Stands}
 use Rattle.utf_base.proofs.Standing.{stands_first}
 
-pub utf8-std : (s : ℕ) → encode_utf8 s ≡ utf8 s
+pub utf8_is_std : (s : ℕ) → encode_utf8 s ≡ utf8 s
 unfolding utf8 encode_utf8
-utf8-std s = refl
+utf8_is_std s = refl
 
 pub scalar_for_std : (s : ℕ) → IsScalar s → IsStdScalar s
 scalar_for_std s h = grind (arith, common_steps)
@@ -23,11 +23,11 @@ scalar_from_std s h = record { below = grind (arith, common_steps); no_surrogate
 pub utf8_is_text : (s : ℕ) → IsScalar s → IsUtf8 (utf8 s)
 utf8_is_text s h =
     let e = scalar_for_std s h in
-    (s ∷ [], (rw e refl, append-nil (encode_utf8 s) ∙ utf8-std s))
+    (s ∷ [], (rw e refl, append-nil (encode_utf8 s) ∙ utf8_is_std s))
 
 -- a text is empty, or a code begins it
 pub text_begins : (text : List ℕ) → IsUtf8 text → (text ≡ []) ⊎ ((s : ℕ) × Stands utf8 text 0 s)
 text_begins text ([], (all, e)) = inl (sym e)
 text_begins text (s ∷ rest, (all, e)) =
     let scalar : IsStdScalar s = grind (arith, common_steps) in
-    inr (s, stands_first utf8 text (encode_utf8_all rest) s (scalar_from_std s scalar) (sym e ∙ ap (λ code. code ++ encode_utf8_all rest) (utf8-std s)))
+    inr (s, stands_first utf8 text (encode_utf8_all rest) s (scalar_from_std s scalar) (sym e ∙ ap (λ code. code ++ encode_utf8_all rest) (utf8_is_std s)))

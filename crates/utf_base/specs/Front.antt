@@ -1,5 +1,5 @@
 -- What the decoding of one character answers. `scalar` tells what scalar a character is.
-use Rattle.std.specs.Prelude.{◌≡◌, ℕ, ◌+◌, if◌then◌else◌, List, length, slice_index, Option, Some, Result, MatchResult}
+use Rattle.std.specs.Prelude.{◌≡◌, ℕ, ◌+◌, ◌≤◌, if◌then◌else◌, List, length, slice_index, Option, Some, Result, MatchResult}
 use Rattle.utf_base.specs.declared.errors.Utf8ErrorKind.{Utf8ErrorKind}
 use Rattle.utf_base.specs.declared.errors.Utf8ErrorKind.TheVariants.{NonUtf8Byte, UnexpectedContinuationByte}
 use Rattle.utf_base.specs.declared.errors.scalars.CodepointError.{CodepointError}
@@ -20,6 +20,10 @@ as_scalar s = s
 -- the code of the scalar s begins the list, and n is its length
 abbrev pub BeginsWith : (ℕ → List ℕ) → List ℕ → ℕ → ℕ → Type 0
 BeginsWith code w s n = Stands code w 0 s × (n ≡ length (code s))
+
+-- the length of something at the front of the list: at least 1, at most `most`, and no more than the list has
+abbrev pub IsFrontLen : ℕ → List ℕ → ℕ → Type 0
+IsFrontLen most w n = (1 ≤ n) × (n ≤ most) × (n ≤ length w)
 
 -- the list is the code of a scalar, and nothing more
 abbrev pub IsOneCode : (ℕ → List ℕ) → List ℕ → Type 0

@@ -45,6 +45,10 @@ abbrev pub units_of : ℕ → Option ℕ → List ℕ
 units_of u None = u ∷ []
 units_of u (Some v) = u ∷ v ∷ []
 
+-- two units are a code, and 0 where it has one: a unit that is no surrogate and 0, or a pair
+abbrev pub is_padded_units : ℕ → ℕ → Bool
+is_padded_units u v = if is_leading_surrogate u then is_trailing_surrogate v else not (is_trailing_surrogate u) && v == 0
+
 -- What is wrong with units that no code begins, or `None` where one does: the first case that applies.
 
 unfoldable pub slice_fault : List ℕ → Option Utf16SliceError

@@ -1,5 +1,5 @@
 //! What a single byte or unit says of the code that it begins.
-ghost use Rattle.std.specs.Prelude.{◌≡◌, ℕ, ◌-◌};
+ghost use Rattle.std.specs.Prelude.{◌≡◌, ◌≤◌, ℕ, ◌-◌, IfOk};
 ghost use Rattle.std.specs.Int.{w8, leading_ones};
 ghost use Rattle.utf_base.specs.Front.{AsksForMore};
 ghost use Rattle.utf_base.specs.Units.{is_leading_surrogate, NeedsExtraUnit};
@@ -19,14 +19,17 @@ pub trait U8UtfExt: Sized {
     /// A continuation byte is an `UnexpectedContinuationByte`. A byte that no code has, 0xc0, 0xc1 or
     /// 0xf5 to 0xff, is a `NonUtf8Byte` (RFC 3629, section 3).
     fn extra_utf8_bytes(self) -> Result<usize, Utf8Error>
-        ensures { AsksForMore (byte self) result };
+        ensures asks { AsksForMore (byte self) result }
+        ensures most { IfOk result (λ n. n ≤ 3) }
+        ensures unchecked { IfOk result (λ n. n ≡ leading_ones w8 (byte self) - 1) };
 
     /// The number of leading one bits less one, or 0 for a byte below 128.
     ///
     /// For the first byte of a code this is how many bytes follow it. For every other byte the number is
     /// answered all the same: up to 7, and 0 for a continuation byte.
     fn extra_utf8_bytes_unchecked(self) -> usize
-        ensures { result ≡ leading_ones w8 (byte self) - 1 };
+        ensures value { result ≡ leading_ones w8 (byte self) - 1 }
+        ensures most { result ≤ 7 };
 }
 
 impl U8UtfExt for u8 {

@@ -1,15 +1,16 @@
 -- What the two units of a character hold.
-use Rattle.std.proofs.Common.{◌≡◌, ℕ, ◌+◌, ◌-◌, ◌/◌, ◌%◌, ◌<◌, ◌≤◌, ◌⊎◌, inl, inr, ⊎_elim, List, [], ◌∷◌, length, get_or, take, sym, ap, ◌∙◌, refl, arith, true, false}
+use Rattle.std.proofs.Common.{◌≡◌, ℕ, ◌+◌, ◌-◌, ◌/◌, ◌%◌, ◌<◌, ◌≤◌, ◌⊎◌, inl, inr, ⊎_elim, Option, Some, None, Ok, List, [], ◌∷◌, length, get_or, take, sym, ap, ◌∙◌, refl, arith, Bool, true, false}
 use Rattle.std.proofs.lemmas.Grind.{common_steps}
 use Rattle.std.proofs.lemmas.Bool.{cases_lt}
 use Rattle.std.proofs.lemmas.List.{take_at}
-use Rattle.std.specs.Prelude.{replicate, if◌then◌else◌}
+use Rattle.std.specs.Prelude.{replicate, if◌then◌else◌, unwrap_or, IfOk}
 use Rattle.utf_base.specs.Piece.{Stands}
 use Rattle.utf_base.specs.Scalar.{IsScalar}
 use Rattle.utf_base.specs.Code.{utf16}
-use Rattle.utf_base.specs.Units.{is_leading_surrogate, is_surrogate, pair_value, unit_value}
+use Rattle.utf_base.specs.Decoded.{decoded_two, decoded_tuple}
+use Rattle.utf_base.specs.Units.{array_fault, is_padded_units, is_leading_surrogate, is_trailing_surrogate, is_surrogate, pair_value, unit_value}
 use Rattle.utf_base.proofs.Standing.{stands_first}
-use Rattle.utf_base.proofs.Utf16Code.{utf16-1, utf16-2, unit_value-unit, unit_value-pair}
+use Rattle.utf_base.proofs.Utf16Code.{utf16-1, utf16-2, unit_value-unit, unit_value-pair, code_of_pair, scalar_pair, scalar_unit}
 use Rattle.utf_chars.specs.Padded.{padded, IsPadded}
 
 pub padded-unit : (s : ℕ) → s < 0x1_0000 → padded 2 (utf16 s) ≡ s ∷ 0 ∷ []
@@ -146,3 +147,56 @@ code_by_second units s h e =
 pub stands_in_units : (units : List ℕ) (s : ℕ) → IsScalar s → units ≡ padded 2 (utf16 s) → Stands utf16 units 0 s
 unfolding padded
 stands_in_units units s h e = stands_first utf16 units (replicate (2 - length (utf16 s)) 0) s h e
+
+-- an array of a code is two units as the unchecked forms ask for
+pub padded_cases : (units : List ℕ) (s : ℕ) → IsScalar s → units ≡ padded 2 (utf16 s) → is_padded_units (get_or units 0 0) (get_or units 1 0) ≡ true
+padded_cases units s h e =
+    ⊎_elim
+    (λ (u : AsUnit units s). rw (u.first, u.second) (plain_unit s u.plain))
+    (λ (p : AsPair units s). rw (leading_of_pair units s p) (trailing_of_pair units s p))
+    (units_cases units s h e)
+  where
+    plain_unit : (s : ℕ) → is_surrogate s ≡ false → is_padded_units s 0 ≡ true
+    plain_unit s h = grind (arith, common_steps)
+
+    trailing_of_pair : (units : List ℕ) (s : ℕ) → AsPair units s → is_trailing_surrogate (get_or units 1 0) ≡ true
+    trailing_of_pair units s p =
+        let second = p.second in
+        let rest : (s - 0x1_0000) % 1024 < 1024 = omega arith in
+        rw second (grind (arith, common_steps))
+
+-- and such units are the code of their value, and 0 where it has one
+pub IsPadded-units_of : (u v : ℕ) → u < 0x1_0000 → v < 0x1_0000 → is_padded_units u v ≡ true → IsPadded utf16 2 unit_value (u ∷ v ∷ [])
+unfolding padded
+IsPadded-units_of u v fits fits_too h =
+    ⊎_elim
+    (λ (pair : is_leading_surrogate u ≡ true).
+    let trailing : is_trailing_surrogate v ≡ true = rw pair at h in
+    IsPadded-units (u ∷ v ∷ []) (pair_value u v) (scalar_pair u v) (pair_code u v pair trailing))
+    (λ (alone : is_leading_surrogate u ≡ false).
+    let plain = plain_of u v alone h in
+    IsPadded-units (u ∷ v ∷ []) u (scalar_unit u fits plain.0) (rw plain.1 (sym (padded-unit u fits))))
+    (true_or_false (is_leading_surrogate u))
+  where
+    true_or_false : (b : Bool) → (b ≡ true) ⊎ (b ≡ false)
+    true_or_false true = inl refl
+    true_or_false false = inr refl
+
+    plain_of : (u v : ℕ) → is_leading_surrogate u ≡ false → is_padded_units u v ≡ true → (is_surrogate u ≡ false) × (v ≡ 0)
+    plain_of u v alone h = let rest = rw alone at h in (grind (arith, common_steps), grind (arith, common_steps))
+
+    pair_code : (u v : ℕ) → is_leading_surrogate u ≡ true → is_trailing_surrogate v ≡ true → u ∷ v ∷ [] ≡ padded 2 (utf16 (pair_value u v))
+    pair_code u v leading trailing = rw (code_of_pair u v leading trailing) refl
+
+pub two_elements : (xs : List ℕ) → length xs ≡ 2 → xs ≡ get_or xs 0 0 ∷ get_or xs 1 0 ∷ []
+two_elements [] e = absurd (omega arith)
+two_elements (x ∷ []) e = absurd (omega arith)
+two_elements (x ∷ y ∷ []) e = refl
+two_elements (x ∷ y ∷ z ∷ xs) e = absurd (omega arith)
+
+-- what two units decode to, as one or two that have to be a code
+pub unchecked_units : (u : ℕ) (second : Option ℕ) (s : ℕ) → is_padded_units u (unwrap_or second 0) ≡ true → decoded_two (u ∷ unwrap_or second 0 ∷ []) ≡ Ok s
+    → IfOk (decoded_tuple u second) (λ t. s ≡ t)
+unfolding decoded_two decoded_tuple array_fault unit_value
+unchecked_units u None s h e = grind (arith, common_steps)
+unchecked_units u (Some v) s h e = grind (arith, common_steps)

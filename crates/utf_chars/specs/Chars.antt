@@ -1,11 +1,12 @@
 -- What the character types say alike, of the scalar.
-use Rattle.std.specs.Prelude.{◌≡◌, ℕ, ◌+◌, ◌-◌, ◌<◌, ◌&&◌, nat_le, if◌then◌else◌, List, [], length, Result, MatchResult}
+use Rattle.std.specs.Prelude.{◌≡◌, ℕ, ◌+◌, ◌-◌, ◌<◌, ◌&&◌, nat_le, if◌then◌else◌, List, [], length, ◌==◌, Result, Ok, Err, MatchResult}
 use Rattle.utf_base.specs.declared.errors.scalars.EmptyStrError.{EmptyStrError}
 use Rattle.utf_base.specs.declared.errors.scalars.FromStrError.{FromStrError}
 use Rattle.utf_base.specs.declared.errors.scalars.FromStrError.TheVariants.{MultipleCodepoints, Empty}
 use Rattle.utf_base.specs.Scalar.{IsScalar}
 use Rattle.utf_base.specs.Code.{utf8}
 use Rattle.utf_base.specs.Front.{BeginsWith}
+use Rattle.utf_base.specs.Kinds.{asked_by, value}
 use Rattle.utf_base.specs.Piece.{Stands}
 
 -- the lower case of A to Z, and every other scalar as it is
@@ -29,9 +30,21 @@ IsTextFault text MultipleCodepoints = (s : ℕ) × Stands utf8 text 0 s × (leng
 abbrev pub IsOneCharText : List ℕ → Result ℕ FromStrError → Type 0
 IsOneCharText text r = MatchResult r (λ s. IsScalar s × (text ≡ utf8 s)) (IsTextFault text)
 
--- a code begins the list
-abbrev pub HasCode : (ℕ → List ℕ) → List ℕ → Type 0
-HasCode code w = (s : ℕ) × Stands code w 0 s
+-- the first character of a text, and how many bytes of the text it is
+unfoldable pub first_of_text : List ℕ → Result (ℕ × ℕ) EmptyStrError
+first_of_text text = if length text == 0 then Err (record {}) else Ok (value text, asked_by text)
+
+-- the one character of a text
+unfoldable pub parsed : List ℕ → Result ℕ FromStrError
+parsed text =
+    if length text == 0 then Err Empty
+    else if length text == asked_by text then Ok (value text)
+    else Err MultipleCodepoints
+
+-- what parsing a text answers
+pub record Parses (text : List ℕ) (r : Result ℕ FromStrError) : Type 0 where
+  pub char : IsOneCharText text r
+  pub known : r ≡ parsed text
 
 -- a code in UTF-8 begins the list, and n is its length
 abbrev pub IsFrontCode : List ℕ → ℕ → Type 0

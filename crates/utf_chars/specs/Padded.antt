@@ -1,5 +1,5 @@
 -- A code in an array that has room for the longest: the code, then zeros.
-use Rattle.std.specs.Prelude.{◌≡◌, ℕ, ◌-◌, List, ◌++◌, length, replicate}
+use Rattle.std.specs.Prelude.{◌≡◌, ℕ, ◌-◌, ◌<◌, ◌≤◌, List, ◌++◌, length, replicate}
 use Rattle.utf_base.specs.Scalar.{IsScalar}
 
 -- a code, then zeros in the places that are left
@@ -11,6 +11,6 @@ pub record IsPadded (code : ℕ → List ℕ) (places : ℕ) (value : List ℕ �
   pub scalar : IsScalar (value xs)
   pub equal : xs ≡ padded places (code (value xs))
 
--- the array is the code of a scalar, then zeros in its other places
-abbrev pub IsPaddedCode : (ℕ → List ℕ) → ℕ → List ℕ → Type 0
-IsPaddedCode code places xs = (s : ℕ) × IsScalar s × (xs ≡ padded places (code s))
+-- the list has room for the code, which has at most `most` elements
+abbrev pub HasRoom : ℕ → List ℕ → List ℕ → Type 0
+HasRoom most code xs = length xs < most → length code ≤ length xs

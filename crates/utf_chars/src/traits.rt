@@ -1,10 +1,13 @@
 //! Methods of `char`.
-ghost use Rattle.std.specs.Prelude.{◌≡◌, ℕ, false, length, slice_index, if◌then◌else◌, IfNone};
+ghost use Rattle.std.specs.Prelude.{◌≡◌, ℕ, true, false, length, take, slice_index, unwrap_or, if◌then◌else◌, IfNone, IfOk};
 ghost use Rattle.utf_base.specs.Code.{utf8, utf16};
-ghost use Rattle.utf_base.specs.Front.{as_scalar, IsOneCode, DecodesFront, DecodesBytes, DecodesNumber};
+ghost use Rattle.utf_base.specs.Decoded.{decoded, decoded_bytes, decoded_units, decoded_two, decoded_tuple};
+ghost use Rattle.utf_base.specs.Decoded.{decoded_number, GivesChar, GivesFirst, DecodesWhole};
+ghost use Rattle.utf_base.specs.Front.{as_scalar, DecodesFront, DecodesBytes, DecodesNumber, IsFrontLen};
 ghost use Rattle.utf_base.specs.Front.{DecodesUnits, DecodesTwoUnits, DecodesTuple};
-ghost use Rattle.utf_base.specs.Units.{is_surrogate, pair_value, tuple_value, units_of};
-ghost use Rattle.utf_chars.specs.Padded.{padded};
+ghost use Rattle.utf_base.specs.Kinds.{value};
+ghost use Rattle.utf_base.specs.Units.{is_padded_units, is_surrogate, pair_value, tuple_value, units_of};
+ghost use Rattle.utf_chars.specs.Padded.{padded, IsPadded};
 
 use crate::codes::{number, utf8, utf16};
 use crate::utf8_char::Utf8Char;
@@ -31,15 +34,26 @@ pub trait CharExt: Sized {
     /// The code in UTF-8, then zeros, and how many bytes the code has: 1 to 4 (RFC 3629, section 3).
     fn to_utf8_array(self) -> ([u8; 4], usize)
         ensures code { result.0 ≡ padded 4 (utf8 (scalar self)) }
-        ensures len { result.1 ≡ length (utf8 (scalar self)) };
+        ensures len { result.1 ≡ length (utf8 (scalar self)) }
+        ensures front { take result.1 result.0 ≡ utf8 (scalar self) }
+        ensures bounds { IsFrontLen 4 result.0 result.1 }
+        ensures own { IsPadded utf8 4 value result.0 }
+        ensures decodes { decoded result.0 ≡ Ok (scalar self, result.1) }
+        ensures decodes_bytes { decoded_bytes result.0 ≡ Ok (scalar self) }
+        ensures decodes_front { decoded (take result.1 result.0) ≡ Ok (scalar self, result.1) };
 
     /// The code in UTF-16: a unit and 0, or a pair of surrogates (RFC 2781, section 2.1).
     fn to_utf16_array(self) -> [u16; 2]
-        ensures { result ≡ padded 2 (utf16 (scalar self)) };
+        ensures code { result ≡ padded 2 (utf16 (scalar self)) }
+        ensures own { is_padded_units (slice_index result 0) (slice_index result 1) ≡ true }
+        ensures decodes { decoded_two result ≡ Ok (scalar self) }
+        ensures decodes_units { decoded_units result ≡ Ok (scalar self, length (utf16 (scalar self))) };
 
     /// The code in UTF-16, whose second unit is there only where the code has two.
     fn to_utf16_tuple(self) -> (u16, Option<u16>)
-        ensures { units_of result.0 result.1 ≡ utf16 (scalar self) };
+        ensures code { units_of result.0 result.1 ≡ utf16 (scalar self) }
+        ensures own { is_padded_units result.0 (unwrap_or result.1 0) ≡ true }
+        ensures decodes { decoded_tuple result.0 result.1 ≡ Ok (scalar self) };
 
     /// The character whose code in UTF-8 begins the bytes, and how many bytes the code has: 1 to 4.
     ///
@@ -49,18 +63,22 @@ pub trait CharExt: Sized {
     /// for and is no continuation byte is `InterruptedSequence`; and then the value itself is judged, as
     /// `OverlongEncoding`, `Utf16ReservedCodepoint` or `TooHighCodepoint` (RFC 3629, sections 3 and 4).
     fn from_utf8_slice_start(src: &[u8]) -> Result<(Self, usize), Utf8Error>
-        ensures { DecodesFront scalar src.now result };
+        ensures decodes { DecodesFront scalar src.now result }
+        ensures known { GivesFirst scalar (decoded src.now) result }
+        ensures len { IfOk result (λ x. IsFrontLen 4 src.now x.1) };
 
     /// The character whose code in UTF-8 begins the four bytes. Those behind the code are ignored.
     ///
     /// The error is that of `from_utf8_slice_start`, and never `TooFewBytes`.
     fn from_utf8_array(utf8: [u8; 4]) -> Result<Self, Utf8Error>
-        ensures { DecodesBytes scalar utf8 result };
+        ensures decodes { DecodesBytes scalar utf8 result }
+        ensures known { GivesChar scalar (decoded_bytes utf8) result };
 
     /// The character whose code in UTF-8 the bytes are.
     fn from_utf8_exact_slice_unchecked(src: &[u8]) -> Self
-        requires { IsOneCode utf8 src.now }
-        ensures { utf8 (scalar result) ≡ src.now };
+        requires { DecodesWhole src.now }
+        ensures code { utf8 (scalar result) ≡ src.now }
+        ensures known { decoded src.now ≡ Ok (scalar result, length src.now) };
 
     /// The character whose code in UTF-16 begins the units, and how many units the code has: 1 or 2.
     ///
@@ -68,36 +86,44 @@ pub trait CharExt: Sized {
     /// `FirstIsTrailingSurrogate`, `MissingSecond` and `SecondIsNotTrailingSurrogate` (RFC 2781,
     /// section 2.2).
     fn from_utf16_slice_start(src: &[u16]) -> Result<(Self, usize), Utf16SliceError>
-        ensures { DecodesUnits scalar src.now result };
+        ensures decodes { DecodesUnits scalar src.now result }
+        ensures known { GivesFirst scalar (decoded_units src.now) result }
+        ensures len { IfOk result (λ x. IsFrontLen 2 src.now x.1) };
 
     /// The character whose code in UTF-16 begins the two units. A second unit that the first does not
     /// ask for is ignored.
     fn from_utf16_array(utf16: [u16; 2]) -> Result<Self, Utf16ArrayError>
-        ensures { DecodesTwoUnits scalar utf16 result };
+        ensures decodes { DecodesTwoUnits scalar utf16 result }
+        ensures known { GivesChar scalar (decoded_two utf16) result };
 
     /// The character whose code in UTF-16 the one or two units are. A second unit that the first does
     /// not ask for is an error.
     fn from_utf16_tuple(utf16: (u16, Option<u16>)) -> Result<Self, Utf16TupleError>
-        ensures { DecodesTuple scalar utf16 result };
+        ensures decodes { DecodesTuple scalar utf16 result }
+        ensures known { GivesChar scalar (decoded_tuple utf16.0 utf16.1) result }
+        ensures units { IfOk result (λ _. is_padded_units utf16.0 (unwrap_or utf16.1 0) ≡ true) };
 
     /// The character of two units, whatever they are.
     ///
     /// A first unit that is no surrogate stands for itself. Any other is taken for a leading surrogate,
     /// and the second for a trailing one: ten bits of each, above 0x10000.
     fn from_utf16_array_unchecked(utf16: [u16; 2]) -> Self
-        ensures { scalar result ≡ (if is_surrogate (slice_index utf16 0) then pair_value (slice_index utf16 0) (slice_index utf16 1) else slice_index utf16 0) };
+        ensures value { scalar result ≡ (if is_surrogate (slice_index utf16 0) then pair_value (slice_index utf16 0) (slice_index utf16 1) else slice_index utf16 0) }
+        ensures known { IfOk (decoded_two utf16) (λ s. scalar result ≡ s) };
 
     /// The character of one unit that is no surrogate, or of two units, which are taken for a leading
     /// and a trailing surrogate whatever they are.
     fn from_utf16_tuple_unchecked(utf16: (u16, Option<u16>)) -> Self
         requires { IfNone utf16.1 (is_surrogate utf16.0 ≡ false) }
-        ensures { scalar result ≡ tuple_value utf16.0 utf16.1 };
+        ensures value { scalar result ≡ tuple_value utf16.0 utf16.1 }
+        ensures known { IfOk (decoded_tuple utf16.0 utf16.1) (λ s. scalar result ≡ s) };
 
     /// The character of that number.
     ///
     /// Above 0x10ffff it is `TooHigh`, and from 0xd800 to 0xdfff `Utf16Reserved`.
     fn from_u32_detailed(c: u32) -> Result<Self, CodepointError>
-        ensures { DecodesNumber scalar c result };
+        ensures decodes { DecodesNumber scalar c result }
+        ensures known { GivesChar scalar (decoded_number c) result };
 }
 
 impl CharExt for char {

@@ -1,18 +1,22 @@
 //! A character kept as its code in UTF-16.
-ghost use Rattle.std.specs.Prelude.{◌≡◌, ◌==◌, ◌<◌, ◌≤◌, ◌↔◌, ◌++◌, [], ◌∷◌, Some, IsTrue, length, drop, false, unwrap_or};
+ghost use Rattle.std.specs.Prelude.{◌≡◌, ◌==◌, ◌<◌, ◌≤◌, ◌↔◌, ◌++◌, [], ◌∷◌, Some, IsTrue, IsOk, IfOk, length, drop};
+ghost use Rattle.std.specs.Prelude.{true, false, unwrap_or, slice_index};
+ghost use Rattle.std.specs.Char.{encode_utf8};
 ghost use Rattle.std.specs.Cmp.{partial_order_from_own_ties};
 ghost use Rattle.std.specs.Cmp.Rules.{comparing, hashing};
 ghost use Rattle.std.specs.Hash as fed;
 ghost use Rattle.std.specs.Ordering.{nat_cmp, as_partial_cmp};
 ghost use Rattle.std.specs.Result.{OkIff};
+ghost use Rattle.std.specs.Str.{IsCharBoundary};
 ghost use Rattle.std.proofs.Common.{rules};
 ghost use Rattle.utf_base.specs.Scalar.{IsScalar};
 ghost use Rattle.utf_base.specs.Code.{utf8, utf16};
-ghost use Rattle.utf_base.specs.Front.{as_scalar, BeginsWith, DecodesUnits, DecodesTwoUnits, DecodesTuple};
-ghost use Rattle.utf_base.specs.Units.{is_surrogate, units_of};
-ghost use Rattle.utf_chars.specs.Chars.{ascii_lowercase, ascii_uppercase, BeginsText, HasCode};
-ghost use Rattle.utf_chars.specs.Chars.{IsOneCharText};
-ghost use Rattle.utf_chars.specs.Padded.{padded, IsPaddedCode};
+ghost use Rattle.utf_base.specs.Decoded.{decoded_units, decoded_two, decoded_tuple};
+ghost use Rattle.utf_base.specs.Front.{as_scalar, BeginsWith, DecodesUnits, DecodesTwoUnits, DecodesTuple, IsFrontLen};
+ghost use Rattle.utf_base.specs.Units.{is_padded_units, is_surrogate, units_of};
+ghost use Rattle.utf_chars.specs.Chars.{ascii_lowercase, ascii_uppercase, BeginsText};
+ghost use Rattle.utf_chars.specs.Chars.{first_of_text, Parses};
+ghost use Rattle.utf_chars.specs.Padded.{padded, HasRoom};
 
 use crate::codes::utf16;
 use crate::utf8_char::Utf8Char;
@@ -66,7 +70,10 @@ impl Utf16Char {
     /// The first character of the text, and how many bytes of the text it is: 1 to 4.
     #[inline]
     pub fn from_str_start(src: &str) -> Result<(Utf16Char, usize), EmptyStrError>
-        ensures { BeginsText src.now result }
+        ensures begins { BeginsText src.now result }
+        ensures known { result ≡ first_of_text src.now }
+        ensures len { IfOk result (λ x. IsFrontLen 4 src.now x.1) }
+        ensures boundary { IfOk result (λ x. IsCharBoundary src.now x.1) }
     {
         let (first, len) = Utf8Char::from_str_start(src)?;
         Ok((Utf16Char::from(first), len))
@@ -77,7 +84,9 @@ impl Utf16Char {
     /// The error is that of `CharExt::from_utf16_slice_start`.
     #[inline(always)]
     pub fn from_slice_start(src: &[u16]) -> Result<(Utf16Char, usize), Utf16SliceError>
-        ensures { DecodesUnits as_scalar src.now result }
+        ensures decodes { DecodesUnits as_scalar src.now result }
+        ensures known { result ≡ decoded_units src.now }
+        ensures len { IfOk result (λ x. IsFrontLen 2 src.now x.1) }
     {
         let (c, len) = utf16::decode_start(src)?;
         Ok((Utf16Char::new(c), len))
@@ -86,8 +95,10 @@ impl Utf16Char {
     /// The character whose code begins the units, and how many units the code has.
     #[inline(always)]
     pub fn from_slice_start_unchecked(src: &[u16]) -> (Utf16Char, usize)
-        requires { HasCode utf16 src.now }
-        ensures { BeginsWith utf16 src.now result.0 result.1 }
+        requires { IsOk (decoded_units src.now) }
+        ensures begins { BeginsWith utf16 src.now result.0 result.1 }
+        ensures known { decoded_units src.now ≡ Ok result }
+        ensures len { IsFrontLen 2 src.now result.1 }
     {
         Utf16Char::from_slice_start(src).unwrap()
     }
@@ -98,7 +109,8 @@ impl Utf16Char {
     /// The error is that of `CharExt::from_utf16_array`.
     #[inline(always)]
     pub fn from_array(utf16: [u16; 2]) -> Result<Utf16Char, Utf16ArrayError>
-        ensures { DecodesTwoUnits as_scalar utf16 result }
+        ensures decodes { DecodesTwoUnits as_scalar utf16 result }
+        ensures known { result ≡ decoded_two utf16 }
     {
         Ok(Utf16Char::new(utf16::decode_array(utf16)?))
     }
@@ -106,10 +118,14 @@ impl Utf16Char {
     /// The character whose code, and then zero where it has one unit, the two units are.
     #[inline(always)]
     pub fn from_array_unchecked(array: [u16; 2]) -> Utf16Char
-        requires { IsPaddedCode utf16 2 array }
-        ensures { padded 2 (utf16 result) ≡ array }
+        requires { is_padded_units (slice_index array 0) (slice_index array 1) ≡ true }
+        ensures code { padded 2 (utf16 result) ≡ array }
+        ensures known { decoded_two array ≡ Ok result }
     {
-        Utf16Char { units: array }
+        let [first, second] = array;
+        Utf16Char {
+            units: [first, second],
+        }
     }
 
     /// The character whose code the one or two units are. A second unit that the first does not ask for
@@ -118,7 +134,9 @@ impl Utf16Char {
     /// The error is that of `CharExt::from_utf16_tuple`.
     #[inline(always)]
     pub fn from_tuple(utf16: (u16, Option<u16>)) -> Result<Utf16Char, Utf16TupleError>
-        ensures { DecodesTuple as_scalar utf16 result }
+        ensures decodes { DecodesTuple as_scalar utf16 result }
+        ensures known { result ≡ decoded_tuple utf16.0 utf16.1 }
+        ensures units { IfOk result (λ _. is_padded_units utf16.0 (unwrap_or utf16.1 0) ≡ true) }
     {
         Ok(Utf16Char::new(utf16::decode_tuple(utf16)?))
     }
@@ -126,8 +144,9 @@ impl Utf16Char {
     /// The character whose code the one or two units are. A second unit of 0 counts as none.
     #[inline(always)]
     pub fn from_tuple_unchecked(units: (u16, Option<u16>)) -> Utf16Char
-        requires { IsPaddedCode utf16 2 (units.0 ∷ unwrap_or units.1 0 ∷ []) }
-        ensures { padded 2 (utf16 result) ≡ units.0 ∷ unwrap_or units.1 0 ∷ [] }
+        requires { is_padded_units units.0 (unwrap_or units.1 0) ≡ true }
+        ensures code { padded 2 (utf16 result) ≡ units.0 ∷ unwrap_or units.1 0 ∷ [] }
+        ensures known { IfOk (decoded_tuple units.0 units.1) (λ s. result ≡ s) }
     {
         let (first, second) = units;
         Utf16Char::from_array_unchecked([first, second.unwrap_or(0)])
@@ -160,7 +179,8 @@ impl Utf16Char {
     /// Whether the code is one unit: the scalar is below 0x10000.
     #[inline(always)]
     pub fn is_bmp(self) -> bool
-        ensures { IsTrue result ↔ (self < 0x1_0000) }
+        ensures bmp { IsTrue result ↔ (self < 0x1_0000) }
+        ensures one_unit { IsTrue result → utf16 self ≡ self ∷ [] }
     {
         self.units[1] == 0
     }
@@ -168,7 +188,9 @@ impl Utf16Char {
     /// How many units the code has: 1 or 2.
     #[inline(always)]
     pub fn len(self) -> usize
-        ensures { result ≡ length (utf16 self) }
+        ensures len { result ≡ length (utf16 self) }
+        ensures least { 1 ≤ result }
+        ensures most { result ≤ 2 }
     {
         if self.is_bmp() { 1 } else { 2 }
     }
@@ -176,7 +198,8 @@ impl Utf16Char {
     /// Whether the scalar is below 128.
     #[inline(always)]
     pub fn is_ascii(self) -> bool
-        ensures { IsTrue result ↔ (self < 128) }
+        ensures ascii { IsTrue result ↔ (self < 128) }
+        ensures one_unit { IsTrue result → utf16 self ≡ self ∷ [] }
     {
         self.units[0] < 128
     }
@@ -198,7 +221,8 @@ impl Utf16Char {
     /// The character as a `char`.
     #[inline(always)]
     pub fn to_char(self) -> char
-        ensures { result ≡ self }
+        ensures char { result ≡ self }
+        ensures text { encode_utf8 result ≡ utf8 self }
     {
         let units = self.units;
         utf16::decode_array_unchecked(units)
@@ -208,10 +232,13 @@ impl Utf16Char {
     /// it stay as they are.
     #[inline(always)]
     pub fn to_slice(self, dst: &mut [u16]) -> usize
-        requires { length (utf16 self) ≤ length dst.old }
+        requires { HasRoom 2 (utf16 self) dst.old }
         ensures len { result ≡ length (utf16 self) }
+        ensures bounds { IsFrontLen 2 dst.new result }
         ensures written { dst.new ≡ utf16 self ++ drop (length (utf16 self)) dst.old }
+        ensures decodes { decoded_units dst.new ≡ Ok (self, result) }
     {
+        let _ = &self.units;
         let len = self.len();
         dst[..len].copy_from_slice(self.as_units());
         len
@@ -220,7 +247,10 @@ impl Utf16Char {
     /// The code, and then zero where it has one unit.
     #[inline(always)]
     pub fn to_array(self) -> [u16; 2]
-        ensures { result ≡ padded 2 (utf16 self) }
+        ensures code { result ≡ padded 2 (utf16 self) }
+        ensures own { is_padded_units (slice_index result 0) (slice_index result 1) ≡ true }
+        ensures decodes { decoded_two result ≡ Ok self }
+        ensures decodes_units { decoded_units result ≡ Ok (self, length (utf16 self)) }
     {
         let kept = self.units;
         kept
@@ -229,7 +259,9 @@ impl Utf16Char {
     /// The code, whose second unit is there only where the code has two.
     #[inline(always)]
     pub fn to_tuple(self) -> (u16, Option<u16>)
-        ensures { units_of result.0 result.1 ≡ utf16 self }
+        ensures code { units_of result.0 result.1 ≡ utf16 self }
+        ensures own { is_padded_units result.0 (unwrap_or result.1 0) ≡ true }
+        ensures decodes { decoded_tuple result.0 result.1 ≡ Ok self }
     {
         let [first, second] = self.units;
         if second == 0 {
@@ -242,7 +274,9 @@ impl Utf16Char {
     /// The code, lent from inside the character.
     #[inline(always)]
     pub fn as_units(&self) -> &[u16]
-        ensures { result.now ≡ utf16 self.now }
+        ensures code { result.now ≡ utf16 self.now }
+        ensures bounds { IsFrontLen 2 result.now (length result.now) }
+        ensures decodes { decoded_units result.now ≡ Ok (self.now, length result.now) }
     {
         &self.units[..self.len()]
     }
@@ -433,7 +467,7 @@ impl From<Utf8Char> for Utf16Char {
 impl FromStr for Utf16Char {
     type Err = FromStrError;
 
-    ghost from_str_gives = { IsOneCharText };
+    ghost from_str_gives = { Parses };
 
     fn from_str(s: &str) -> Result<Utf16Char, FromStrError> {
         match Utf16Char::from_str_start(s) {

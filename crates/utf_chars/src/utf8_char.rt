@@ -1,17 +1,21 @@
 //! A character kept as its code in UTF-8.
-ghost use Rattle.std.specs.Prelude.{◌≡◌, ◌==◌, ◌<◌, ◌≤◌, ◌↔◌, ◌++◌, Some, IsTrue, length, drop};
+ghost use Rattle.std.specs.Prelude.{◌≡◌, ◌==◌, ◌<◌, ◌≤◌, ◌↔◌, ◌++◌, [], ◌∷◌, Some, IsTrue, IsOk, IfOk, length, take, drop};
+ghost use Rattle.std.specs.Char.{encode_utf8};
 ghost use Rattle.std.specs.Cmp.{partial_order_from_own_ties};
 ghost use Rattle.std.specs.Cmp.Rules.{comparing, hashing};
 ghost use Rattle.std.specs.Hash as fed;
 ghost use Rattle.std.specs.Ordering.{nat_cmp, as_partial_cmp};
 ghost use Rattle.std.specs.Result.{OkIff};
+ghost use Rattle.std.specs.Str.{IsCharBoundary};
 ghost use Rattle.std.proofs.Common.{rules};
 ghost use Rattle.utf_base.specs.Scalar.{IsScalar};
 ghost use Rattle.utf_base.specs.Code.{utf8};
-ghost use Rattle.utf_base.specs.Front.{as_scalar, BeginsWith, DecodesFront, DecodesBytes};
-ghost use Rattle.utf_chars.specs.Chars.{ascii_lowercase, ascii_uppercase, BeginsText, HasCode};
-ghost use Rattle.utf_chars.specs.Chars.{IsFrontCode, IsOneCharText};
-ghost use Rattle.utf_chars.specs.Padded.{padded, IsPaddedCode};
+ghost use Rattle.utf_base.specs.Decoded.{decoded, decoded_bytes};
+ghost use Rattle.utf_base.specs.Front.{as_scalar, BeginsWith, DecodesFront, DecodesBytes, IsFrontLen};
+ghost use Rattle.utf_base.specs.Kinds.{value};
+ghost use Rattle.utf_chars.specs.Chars.{ascii_lowercase, ascii_uppercase, BeginsText, IsFrontCode};
+ghost use Rattle.utf_chars.specs.Chars.{first_of_text, parsed, Parses};
+ghost use Rattle.utf_chars.specs.Padded.{padded, IsPadded, HasRoom};
 
 use crate::codes::utf8;
 use crate::utf16_char::Utf16Char;
@@ -62,7 +66,10 @@ impl Utf8Char {
     /// The first character of the text, and how many bytes of the text it is: 1 to 4.
     #[inline]
     pub fn from_str_start(src: &str) -> Result<(Utf8Char, usize), EmptyStrError>
-        ensures { BeginsText src.now result }
+        ensures begins { BeginsText src.now result }
+        ensures known { result ≡ first_of_text src.now }
+        ensures len { IfOk result (λ x. IsFrontLen 4 src.now x.1) }
+        ensures boundary { IfOk result (λ x. IsCharBoundary src.now x.1) }
     {
         match Utf8Char::from_slice_start(src.as_bytes()) {
             Ok(first) => Ok(first),
@@ -75,7 +82,9 @@ impl Utf8Char {
     /// The error is that of `CharExt::from_utf8_slice_start`.
     #[inline(always)]
     pub fn from_slice_start(src: &[u8]) -> Result<(Utf8Char, usize), Utf8Error>
-        ensures { DecodesFront as_scalar src.now result }
+        ensures decodes { DecodesFront as_scalar src.now result }
+        ensures known { result ≡ decoded src.now }
+        ensures len { IfOk result (λ x. IsFrontLen 4 src.now x.1) }
     {
         let (_, len) = utf8::decode_start(src)?;
         Ok((Utf8Char::from_front(src, len), len))
@@ -100,8 +109,10 @@ impl Utf8Char {
     /// The character whose code begins the bytes, and how many bytes the code has.
     #[inline(always)]
     pub fn from_slice_start_unchecked(src: &[u8]) -> (Utf8Char, usize)
-        requires { HasCode utf8 src.now }
-        ensures { BeginsWith utf8 src.now result.0 result.1 }
+        requires { IsOk (decoded src.now) }
+        ensures begins { BeginsWith utf8 src.now result.0 result.1 }
+        ensures known { decoded src.now ≡ Ok result }
+        ensures len { IsFrontLen 4 src.now result.1 }
     {
         Utf8Char::from_slice_start(src).unwrap()
     }
@@ -111,7 +122,8 @@ impl Utf8Char {
     /// The error is that of `CharExt::from_utf8_array`.
     #[inline(always)]
     pub fn from_array(utf8: [u8; 4]) -> Result<Utf8Char, Utf8Error>
-        ensures { DecodesBytes as_scalar utf8 result }
+        ensures decodes { DecodesBytes as_scalar utf8 result }
+        ensures known { result ≡ decoded_bytes utf8 }
     {
         Ok(Utf8Char::new(utf8::decode_array(utf8)?))
     }
@@ -119,8 +131,9 @@ impl Utf8Char {
     /// The character whose code, and then zeros, the four bytes are.
     #[inline(always)]
     pub fn from_array_unchecked(array: [u8; 4]) -> Utf8Char
-        requires { IsPaddedCode utf8 4 array }
-        ensures { padded 4 (utf8 result) ≡ array }
+        requires { IsPadded utf8 4 value array }
+        ensures code { padded 4 (utf8 result) ≡ array }
+        ensures known { decoded_bytes array ≡ Ok result }
     {
         Utf8Char { bytes: array }
     }
@@ -154,7 +167,9 @@ impl Utf8Char {
     /// How many bytes the code has: 1 to 4.
     #[inline(always)]
     pub fn len(self) -> usize
-        ensures { result ≡ length (utf8 self) }
+        ensures len { result ≡ length (utf8 self) }
+        ensures least { 1 ≤ result }
+        ensures most { result ≤ 4 }
     {
         match self.bytes[0] {
             0x00..=0x7f => 1,
@@ -167,7 +182,8 @@ impl Utf8Char {
     /// Whether the scalar is below 128.
     #[inline(always)]
     pub fn is_ascii(self) -> bool
-        ensures { IsTrue result ↔ (self < 128) }
+        ensures ascii { IsTrue result ↔ (self < 128) }
+        ensures one_byte { IsTrue result → utf8 self ≡ self ∷ [] }
     {
         self.bytes[0] < 128
     }
@@ -190,7 +206,8 @@ impl Utf8Char {
     /// The character as a `char`.
     #[inline(always)]
     pub fn to_char(self) -> char
-        ensures { result ≡ self }
+        ensures char { result ≡ self }
+        ensures text { encode_utf8 result ≡ utf8 self }
     {
         let number = self.scalar();
         // The type keeps nothing but scalars.
@@ -202,6 +219,11 @@ impl Utf8Char {
     pub fn to_array(self) -> ([u8; 4], usize)
         ensures code { result.0 ≡ padded 4 (utf8 self) }
         ensures len { result.1 ≡ length (utf8 self) }
+        ensures front { take result.1 result.0 ≡ utf8 self }
+        ensures bounds { IsFrontLen 4 result.0 result.1 }
+        ensures own { IsPadded utf8 4 value result.0 }
+        ensures decodes { decoded result.0 ≡ Ok (self, result.1) }
+        ensures decodes_bytes { decoded_bytes result.0 ≡ Ok self }
     {
         let bytes = self.bytes;
         (bytes, self.len())
@@ -210,7 +232,11 @@ impl Utf8Char {
     /// The code as text of one character, lent from inside the character.
     #[inline(always)]
     pub fn as_str(&self) -> &str
-        ensures { result.now ≡ utf8 self.now }
+        ensures text { result.now ≡ utf8 self.now }
+        ensures bounds { IsFrontLen 4 result.now (length result.now) }
+        ensures decodes { decoded result.now ≡ Ok (self.now, length result.now) }
+        ensures first { first_of_text result.now ≡ Ok (self.now, length result.now) }
+        ensures parses { parsed result.now ≡ Ok self.now }
     {
         let _ = &self.bytes;
         // The code of a scalar is text.
@@ -220,7 +246,9 @@ impl Utf8Char {
     /// The code, lent from inside the character.
     #[inline(always)]
     pub fn as_bytes(&self) -> &[u8]
-        ensures { result.now ≡ utf8 self.now }
+        ensures code { result.now ≡ utf8 self.now }
+        ensures bounds { IsFrontLen 4 result.now (length result.now) }
+        ensures decodes { decoded result.now ≡ Ok (self.now, length result.now) }
     {
         &self.bytes[..self.len()]
     }
@@ -229,10 +257,13 @@ impl Utf8Char {
     /// it stay as they are.
     #[inline(always)]
     pub fn to_slice(self, dst: &mut [u8]) -> usize
-        requires { length (utf8 self) ≤ length dst.old }
+        requires { HasRoom 4 (utf8 self) dst.old }
         ensures len { result ≡ length (utf8 self) }
+        ensures bounds { IsFrontLen 4 dst.new result }
         ensures written { dst.new ≡ utf8 self ++ drop (length (utf8 self)) dst.old }
+        ensures decodes { decoded dst.new ≡ Ok (self, result) }
     {
+        let _ = &self.bytes;
         let len = self.len();
         dst[..len].copy_from_slice(self.as_bytes());
         len
@@ -416,7 +447,7 @@ impl From<Utf16Char> for Utf8Char {
 impl FromStr for Utf8Char {
     type Err = FromStrError;
 
-    ghost from_str_gives = { IsOneCharText };
+    ghost from_str_gives = { Parses };
 
     fn from_str(s: &str) -> Result<Utf8Char, FromStrError> {
         match Utf8Char::from_str_start(s) {

@@ -1,9 +1,12 @@
-use Rattle.utf_base.proofs.Utf8Code.{length-utf8}
+use Rattle.utf_chars.proofs.OwnCodes.{own_view}
 use Rattle.utf_chars.proofs.PaddedLemmas.{take-padded}
 use Rattle.utf_chars.proofs.utf8_char.Utf8Char.as_bytes.Goals as goal
 
-pub shared_ref_as_front-result : goal.shared_ref_as_front-result
-shared_ref_as_front-result c = rw c.len.ensures (length-utf8 _)
+pub returns-clause-code : goal.returns-clause-code
+returns-clause-code c = take-padded _ _ _ c.self.invariant c.self.view_is (rw c.self.view_is at c.len.ensures.len)
 
-pub returns : goal.returns
-returns c = take-padded _ _ _ c.self.invariant c.self.view_is (rw c.self.view_is at c.len.ensures)
+pub returns-clause-bounds : goal.returns-clause-bounds
+returns-clause-bounds c = (own_view _ _ (rw c.self.view_is at c.self.invariant.scalar) (take-padded _ _ _ c.self.invariant c.self.view_is (rw c.self.view_is at c.len.ensures.len))).bounds
+
+pub returns-clause-decodes : goal.returns-clause-decodes
+returns-clause-decodes c = (own_view _ _ (rw c.self.view_is at c.self.invariant.scalar) (take-padded _ _ _ c.self.invariant c.self.view_is (rw c.self.view_is at c.len.ensures.len))).decodes

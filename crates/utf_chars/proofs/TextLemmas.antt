@@ -1,0 +1,89 @@
+-- The first character of a text, and the one character of a text, as functions of the text.
+use Rattle.std.proofs.Common.{◌≡◌, ℕ, ◌<◌, List, length, take, Ok, Err, Result, eqb, true, false, refl, ap, sym, ◌∙◌, arith}
+use Rattle.std.proofs.lemmas.Grind.{common_steps}
+use Rattle.std.specs.Str.{IsCharBoundary, IsUtf8}
+use Rattle.std.proofs.lemmas.Str.{IsCharBoundary-from_take}
+use Rattle.utf_base.specs.declared.errors.scalars.EmptyStrError.{EmptyStrError}
+use Rattle.utf_base.specs.declared.errors.scalars.FromStrError.{FromStrError}
+use Rattle.utf_base.specs.declared.errors.scalars.FromStrError.TheVariants.{MultipleCodepoints, Empty}
+use Rattle.utf_base.specs.Scalar.{IsScalar}
+use Rattle.utf_base.specs.Code.{utf8}
+use Rattle.utf_base.specs.Front.{BeginsWith}
+use Rattle.utf_base.specs.Kinds.{asked_by, value}
+use Rattle.utf_base.specs.Piece.{Stands}
+use Rattle.utf_base.proofs.FrontLemmas.{decodes_from_stands, code_where_no_fault, no_fault_where_code}
+use Rattle.utf_base.proofs.Standing.{stands_alone}
+use Rattle.utf_base.proofs.StdText.{utf8_is_text}
+use Rattle.utf_base.proofs.Utf8Code.{utf8_is_code}
+use Rattle.utf_chars.specs.Chars.{BeginsText, IsOneCharText, first_of_text, parsed, Parses}
+
+-- what a text tells that a code begins
+record TextTells (text : List ℕ) (s : ℕ) : Type 0 where
+  some : eqb (length text) 0 ≡ false
+  char : value text ≡ s
+  len : asked_by text ≡ length (utf8 s)
+
+text_tells : (text : List ℕ) (s : ℕ) → Stands utf8 text 0 s → TextTells text s
+text_tells text s h =
+    let none = no_fault_where_code text s h in
+    let char : value text ≡ s = (decodes_from_stands text s h).1 in
+    let some = utf8_is_code.some s h.scalar in
+    let within = h.within in
+    let longer : 0 < length text = omega arith in
+    record { some = grind (arith, common_steps); char = char; len = (code_where_no_fault text none).1 ∙ ap (λ x. length (utf8 x)) char }
+
+pub answer_of_text : (text : List ℕ) (r : Result (ℕ × ℕ) EmptyStrError) → BeginsText text r → r ≡ first_of_text text
+unfolding first_of_text
+answer_of_text text (Ok (s, n)) h =
+    let tells = text_tells text s h.0 in
+    rw (tells.some, tells.char, tells.len, h.1) refl
+answer_of_text text (Err e) h = rw h refl
+
+pub answer_of_parse : (text : List ℕ) (r : Result ℕ FromStrError) → IsOneCharText text r → r ≡ parsed text
+unfolding parsed
+answer_of_parse text (Ok s) h =
+    let tells = text_tells text s (alone text s h.0 h.1) in
+    let whole : eqb (length text) (asked_by text) ≡ true = rw (tells.len, h.1) (same (length (utf8 s))) in
+    rw (tells.some, whole, tells.char) refl
+  where
+    alone : (text : List ℕ) (s : ℕ) → IsScalar s → text ≡ utf8 s → Stands utf8 text 0 s
+    alone text s h e = stands_alone utf8 text (s, h, e)
+
+    same : (n : ℕ) → eqb n n ≡ true
+    same n = grind (arith, common_steps)
+answer_of_parse text (Err Empty) h = rw h refl
+answer_of_parse text (Err MultipleCodepoints) h =
+    let tells = text_tells text h.0 h.1 in
+    let more = h.2 in
+    let len = tells.len in
+    let longer : eqb (length text) (asked_by text) ≡ false = grind (arith, common_steps) in
+    rw (tells.some, longer) refl
+
+pub parses : (text : List ℕ) (r : Result ℕ FromStrError) → IsOneCharText text r → Parses text r
+parses text r h = record { char = h; known = answer_of_parse text r h }
+
+-- the first character is the only one where it is as long as the text
+pub whole_text : (text : List ℕ) (s n : ℕ) → BeginsWith utf8 text s n → n ≡ length text → IsOneCharText text (Ok s)
+whole_text text s n h e =
+    (h.0.scalar, whole text s n h e)
+  where
+    whole : (text : List ℕ) (s n : ℕ) → BeginsWith utf8 text s n → n ≡ length text → text ≡ utf8 s
+    whole text s n h e = let equal = h.0.equal in let len = h.1 in grind (arith, common_steps)
+
+-- the code of a scalar, as a text
+pub text_of_code : (text : List ℕ) (s : ℕ) → IsScalar s → text ≡ utf8 s → (first_of_text text ≡ Ok (s, length text)) × (parsed text ≡ Ok s)
+text_of_code text s h e = (
+  sym (answer_of_text text (Ok (s, length text)) (stands_alone utf8 text (s, h, e), ap length e)),
+  sym (answer_of_parse text (Ok s) (h, e)),
+)
+
+-- a text can be cut behind its first character
+pub boundary_behind : (text : List ℕ) (s n : ℕ) → IsUtf8 text → BeginsWith utf8 text s n → IsCharBoundary text n
+boundary_behind text s n is_text h =
+    let within = h.0.within in
+    let len = h.1 in
+    let front : take n text ≡ utf8 s = taken text s n h in
+    IsCharBoundary-from_take text n is_text (omega arith) (rw front (utf8_is_text s h.0.scalar))
+  where
+    taken : (text : List ℕ) (s n : ℕ) → BeginsWith utf8 text s n → take n text ≡ utf8 s
+    taken text s n h = let equal = h.0.equal in let len = h.1 in grind (arith, common_steps)
