@@ -6,6 +6,11 @@ ghost use Rattle.uses.specs.Initials.{IsInitial};
 
 use encode_unicode::Utf8Char;
 
+pub mod alike;
+pub mod lengths;
+pub mod texts;
+pub mod unchecked;
+
 /// The first character of a text, in upper case where it is an ASCII letter.
 pub fn initial(text: &str) -> Option<Utf8Char>
     ensures { MatchOption result (text.now ≡ []) (IsInitial text.now) }

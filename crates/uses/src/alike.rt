@@ -1,0 +1,166 @@
+//! What was encoded decodes to the same, and calls of one argument answer alike.
+ghost use Rattle.std.specs.Prelude.{◌≡◌, IsTrue};
+
+use encode_unicode::{CharExt, U8SliceExt, U8UtfExt, Utf8Char, Utf16Char};
+
+/// By the array.
+pub fn array_and_back(c: Utf8Char) -> Utf8Char
+    ensures { result ≡ c }
+{
+    Utf8Char::from_array(c.to_array().0).unwrap()
+}
+
+/// By the view.
+pub fn view_and_back(c: Utf8Char) -> Utf8Char
+    ensures { result ≡ c }
+{
+    let (same, _) = Utf8Char::from_slice_start(c.as_bytes()).unwrap();
+    same
+}
+
+/// By a text.
+pub fn text_and_back(c: Utf8Char) -> Utf8Char
+    ensures { result ≡ c }
+{
+    c.as_str().parse().unwrap()
+}
+
+/// By a text, to the other form.
+pub fn text_to_units(c: Utf8Char) -> Utf16Char
+    ensures { result ≡ c }
+{
+    let (same, _) = Utf16Char::from_str_start(c.as_str()).unwrap();
+    same
+}
+
+/// By a buffer.
+pub fn buffer_and_back(c: Utf8Char) -> Utf8Char
+    ensures { result ≡ c }
+{
+    let mut buffer = [0xff; 6];
+    let _ = c.to_slice(&mut buffer);
+    let (same, _) = Utf8Char::from_slice_start(&buffer).unwrap();
+    same
+}
+
+/// By one or two units.
+pub fn tuple_and_back(c: Utf16Char) -> Utf16Char
+    ensures { result ≡ c }
+{
+    Utf16Char::from_tuple(c.to_tuple()).unwrap()
+}
+
+/// By two units.
+pub fn units_and_back(c: Utf16Char) -> Utf16Char
+    ensures { result ≡ c }
+{
+    Utf16Char::from_array(c.to_array()).unwrap()
+}
+
+/// By a slice of units.
+pub fn unit_view_and_back(c: Utf16Char) -> Utf16Char
+    ensures { result ≡ c }
+{
+    let (same, _) = Utf16Char::from_slice_start(c.as_units()).unwrap();
+    same
+}
+
+/// A `char`, by each code.
+pub fn char_by_tuple(c: char) -> char
+    ensures { result ≡ c }
+{
+    char::from_utf16_tuple(c.to_utf16_tuple()).unwrap()
+}
+
+/// A `char`, by two units.
+pub fn char_by_units(c: char) -> char
+    ensures { result ≡ c }
+{
+    char::from_utf16_array(c.to_utf16_array()).unwrap()
+}
+
+/// A `char`, by its bytes.
+pub fn char_by_array(c: char) -> char
+    ensures { result ≡ c }
+{
+    char::from_utf8_array(c.to_utf8_array().0).unwrap()
+}
+
+/// A `char`, by the bytes of its code.
+pub fn char_by_bytes(c: char) -> char
+    ensures { result ≡ c }
+{
+    let (array, len) = c.to_utf8_array();
+    let (same, _) = char::from_utf8_slice_start(&array[..len]).unwrap();
+    same
+}
+
+/// A `char`, by its number.
+pub fn char_by_number(c: char) -> char
+    ensures { result ≡ c }
+{
+    char::from_u32_detailed(c as u32).unwrap()
+}
+
+/// The checked and the unchecked form of one slice.
+pub fn forms_agree(bytes: &[u8]) -> bool
+    ensures { IsTrue result }
+{
+    match Utf8Char::from_slice_start(bytes) {
+        Ok(first) => Utf8Char::from_slice_start_unchecked(bytes) == first,
+        Err(_) => true,
+    }
+}
+
+/// The checked and the unchecked form of one array of units.
+pub fn array_forms_agree(units: [u16; 2]) -> bool
+    ensures { IsTrue result }
+{
+    match char::from_utf16_array(units) {
+        Ok(c) => char::from_utf16_array_unchecked(units) == c,
+        Err(_) => true,
+    }
+}
+
+/// The checked and the unchecked form of one tuple.
+pub fn tuple_forms_agree(units: (u16, Option<u16>)) -> bool
+    ensures { IsTrue result }
+{
+    match char::from_utf16_tuple(units) {
+        Ok(c) => char::from_utf16_tuple_unchecked(units) == c,
+        Err(_) => true,
+    }
+}
+
+/// The checked and the unchecked count of one byte.
+pub fn counts_agree(byte: u8) -> bool
+    ensures { IsTrue result }
+{
+    match byte.extra_utf8_bytes() {
+        Ok(count) => byte.extra_utf8_bytes_unchecked() == count,
+        Err(_) => true,
+    }
+}
+
+/// The methods of `char` and of `Utf8Char` on the same bytes.
+pub fn types_agree(bytes: &[u8]) -> bool
+    ensures { IsTrue result }
+{
+    match (char::from_utf8_slice_start(bytes), Utf8Char::from_slice_start(bytes)) {
+        (Ok((c, len)), Ok((d, same))) => d.to_char() == c && len == same,
+        (Err(e), Err(f)) => e == f,
+        _ => false,
+    }
+}
+
+/// The decoder's first item and the decoding of the same bytes.
+pub fn first_item_agrees(bytes: &[u8]) -> bool
+    ensures { IsTrue result }
+{
+    match (bytes.utf8char_indices().next(), Utf8Char::from_slice_start(bytes)) {
+        (Some((0, Ok(c), len)), Ok((d, same))) => c == d && len == same,
+        (Some((0, Err(e), 1)), Err(f)) => e == f,
+        (None, Err(_)) => bytes.is_empty(),
+        _ => false,
+    }
+}

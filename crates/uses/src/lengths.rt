@@ -1,0 +1,61 @@
+//! Lengths: a code has 1 to 4 bytes, or 1 or 2 units, so small buffers do and runs along a slice end.
+ghost use Rattle.std.specs.Prelude.{◌≡◌, ◌≤◌, length};
+
+
+use encode_unicode::{CharExt, Utf8Char, Utf16Char};
+
+/// The last byte of the code of a character.
+pub fn last_byte(c: Utf8Char) -> u8 {
+    let mut buffer = [0; 4];
+    let len = c.to_slice(&mut buffer);
+    buffer[len - 1]
+}
+
+/// The last unit of the code of a character.
+pub fn last_unit(c: Utf16Char) -> u16 {
+    let mut buffer = [0; 2];
+    let len = c.to_slice(&mut buffer);
+    buffer[len - 1]
+}
+
+/// The last byte of the code, as it is lent from the character.
+pub fn last_of_view(c: Utf8Char) -> u8 {
+    let code = c.as_bytes();
+    code[code.len() - 1]
+}
+
+/// The first byte of a text of one character.
+pub fn first_of_text(c: Utf8Char) -> u8 {
+    c.as_str().as_bytes()[0]
+}
+
+/// The last byte of the code that an array begins with.
+pub fn last_of_array(c: char) -> u8 {
+    let (array, len) = c.to_utf8_array();
+    array[len - 1]
+}
+
+/// How many bytes an ASCII character has, and 0 for another.
+pub fn ascii_len(c: Utf8Char) -> usize
+    ensures { result ≤ 1 }
+{
+    if c.is_ascii() { c.as_bytes().len() } else { 0 }
+}
+
+/// The byte that an ASCII character is.
+pub fn ascii_byte(c: Utf8Char) -> Option<u8> {
+    if c.is_ascii() { Some(c.as_bytes()[0]) } else { None }
+}
+
+/// How many characters stand one behind the other at the front of some bytes.
+pub fn characters_in_front(bytes: &[u8]) -> usize
+    ensures { result ≤ length bytes.now }
+{
+    let mut rest = bytes;
+    let mut count = 0;
+    while let Ok((_, len)) = Utf8Char::from_slice_start(rest) {
+        rest = &rest[len..];
+        count += 1;
+    }
+    count
+}
