@@ -1,13 +1,12 @@
 //! The forms that ask their caller, called on codes that are known.
-ghost use Rattle.utf_base.specs.Code.{utf8};
-ghost use Rattle.utf_base.specs.Front.{IsOneCode};
+ghost use Rattle.encode_unicode.specs.Decoded.{DecodesWhole};
 
 use crate::edges::edges;
 use encode_unicode::{CharExt, Utf8Char, Utf16Char};
 
 // The character of the bytes, taken through the bound for the code of one.
 fn of_one_code<T: CharExt>(bytes: &[u8]) -> T
-    requires { IsOneCode utf8 bytes.now }
+    requires { DecodesWhole bytes.now }
 {
     T::from_utf8_exact_slice_unchecked(bytes)
 }

@@ -1,13 +1,14 @@
 -- What the four bytes of a character hold.
-use Rattle.std.proofs.Common.{◌+◌, ◌-◌, ◌*◌, ◌&&◌, Bool, true, lit<, ◌≡◌, ℕ, ◌-◌, ◌<◌, ◌≤◌, List, [], ◌∷◌, length, get_or, take, sym, ap, ◌∙◌, refl, arith}
+use Rattle.std.proofs.Common.{◌+◌, ◌-◌, ◌*◌, ◌&&◌, Bool, true, lit<, ◌≡◌, ℕ, ◌-◌, ◌<◌, ◌≤◌, List, [], ◌∷◌, ◌++◌, length, get_or, take, sym, ap, ◌∙◌, refl, arith}
 use Rattle.std.proofs.lemmas.Grind.{common_steps}
 use Rattle.std.proofs.lemmas.List.{take_at}
 use Rattle.std.specs.Prelude.{replicate}
 use Rattle.utf_base.specs.Scalar.{IsScalar}
 use Rattle.utf_base.specs.Code.{utf8}
+use Rattle.utf_base.specs.Front.{BeginsWith}
 use Rattle.utf_base.specs.Kinds.{value, asked, payload, is_continuation}
 use Rattle.utf_base.specs.Piece.{Stands}
-use Rattle.utf_base.proofs.Standing.{Stands-at, stands_first}
+use Rattle.utf_base.proofs.Standing.{stands_first}
 use Rattle.utf_base.proofs.Utf8Code.{utf8-1}
 use Rattle.utf_base.proofs.FrontLemmas.{decodes_from_stands, code_where_no_fault, no_fault_where_code, value-1, value-2, value-3, value-4, asked-1}
 use Rattle.utf_chars.specs.Padded.{padded, IsPadded}
@@ -114,37 +115,10 @@ by_first bytes s h e =
           (both _ _ (both _ _ (follows 4 1 asks (lit< tt) (lit< tt)) (follows 4 2 asks (lit< tt) (lit< tt))) (follows 4 3 asks (lit< tt) (lit< tt)), sym (value-4 bytes asks) ∙ e);
     }
 
--- A code, then zeros, element by element.
-
-padded-1 : (code : List ℕ) → 1 ≡ length code → get_or code 0 0 ∷ 0 ∷ 0 ∷ 0 ∷ [] ≡ padded 4 code
+-- the bytes that a code takes at the front of a list, then zeros
+pub front_padded : (w bytes : List ℕ) (s n : ℕ) → BeginsWith utf8 w s n → bytes ≡ take n w ++ replicate (4 - n) 0 → bytes ≡ padded 4 (utf8 s)
 unfolding padded
-padded-1 code n = grind (arith, common_steps)
-
-padded-2 : (code : List ℕ) → 2 ≡ length code → get_or code 0 0 ∷ get_or code 1 0 ∷ 0 ∷ 0 ∷ [] ≡ padded 4 code
-unfolding padded
-padded-2 code n = grind (arith, common_steps)
-
-padded-3 : (code : List ℕ) → 3 ≡ length code → get_or code 0 0 ∷ get_or code 1 0 ∷ get_or code 2 0 ∷ 0 ∷ [] ≡ padded 4 code
-unfolding padded
-padded-3 code n = grind (arith, common_steps)
-
-padded-4 : (code : List ℕ) → 4 ≡ length code → get_or code 0 0 ∷ get_or code 1 0 ∷ get_or code 2 0 ∷ get_or code 3 0 ∷ [] ≡ padded 4 code
-unfolding padded
-padded-4 code n = grind (arith, common_steps)
-
--- The same where the code begins a list.
-
-at_front : (w : List ℕ) (s k : ℕ) → Stands utf8 w 0 s → k < length (utf8 s) → get_or w k 0 ≡ get_or (utf8 s) k 0
-at_front w s k h lt = Stands-at utf8 w 0 s k k (omega arith) h lt
-
-pub front_padded-1 : (w : List ℕ) (s : ℕ) → Stands utf8 w 0 s → 1 ≡ length (utf8 s) → get_or w 0 0 ∷ 0 ∷ 0 ∷ 0 ∷ [] ≡ padded 4 (utf8 s)
-front_padded-1 w s h n = rw (at_front w s 0 h (omega arith)) (padded-1 (utf8 s) n)
-
-pub front_padded-2 : (w : List ℕ) (s : ℕ) → Stands utf8 w 0 s → 2 ≡ length (utf8 s) → get_or w 0 0 ∷ get_or w 1 0 ∷ 0 ∷ 0 ∷ [] ≡ padded 4 (utf8 s)
-front_padded-2 w s h n = rw (at_front w s 0 h (omega arith), at_front w s 1 h (omega arith)) (padded-2 (utf8 s) n)
-
-pub front_padded-3 : (w : List ℕ) (s : ℕ) → Stands utf8 w 0 s → 3 ≡ length (utf8 s) → get_or w 0 0 ∷ get_or w 1 0 ∷ get_or w 2 0 ∷ 0 ∷ [] ≡ padded 4 (utf8 s)
-front_padded-3 w s h n = rw (at_front w s 0 h (omega arith), at_front w s 1 h (omega arith), at_front w s 2 h (omega arith)) (padded-3 (utf8 s) n)
-
-pub front_padded-4 : (w : List ℕ) (s : ℕ) → Stands utf8 w 0 s → 4 ≡ length (utf8 s) → get_or w 0 0 ∷ get_or w 1 0 ∷ get_or w 2 0 ∷ get_or w 3 0 ∷ [] ≡ padded 4 (utf8 s)
-front_padded-4 w s h n = rw (at_front w s 0 h (omega arith), at_front w s 1 h (omega arith), at_front w s 2 h (omega arith), at_front w s 3 h (omega arith)) (padded-4 (utf8 s) n)
+front_padded w bytes s n h e = e ∙ rw (taken w s n h, h.1) refl
+  where
+    taken : (w : List ℕ) (s n : ℕ) → BeginsWith utf8 w s n → take n w ≡ utf8 s
+    taken w s n h = let equal = h.0.equal in let len = h.1 in grind (arith, common_steps)

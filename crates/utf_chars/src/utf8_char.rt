@@ -1,5 +1,5 @@
 //! A character kept as its code in UTF-8.
-ghost use Rattle.std.specs.Prelude.{◌≡◌, ◌==◌, ◌<◌, ◌≤◌, ◌↔◌, ◌++◌, [], ◌∷◌, Some, IsTrue, IsOk, IfOk, length, take, drop};
+ghost use Rattle.std.specs.Prelude.{◌≡◌, ◌==◌, ◌<◌, ◌≤◌, ◌↔◌, ◌++◌, [], ◌∷◌, Some, IsTrue, IsOk, IfOk, length, take, drop, replicate, ◌-◌};
 ghost use Rattle.std.specs.Char.{encode_utf8};
 ghost use Rattle.std.specs.Cmp.{partial_order_from_own_ties};
 ghost use Rattle.std.specs.Cmp.Rules.{comparing, hashing};
@@ -97,12 +97,7 @@ impl Utf8Char {
         requires { IsFrontCode src.now len }
         ensures { BeginsWith utf8 src.now result len }
     {
-        let bytes = match len {
-            1 => [src[0], 0, 0, 0],
-            2 => [src[0], src[1], 0, 0],
-            3 => [src[0], src[1], src[2], 0],
-            _ => [src[0], src[1], src[2], src[3]],
-        };
+        let bytes = front_array(src, len);
         Utf8Char { bytes }
     }
 
@@ -159,6 +154,20 @@ impl Utf8Char {
         Utf8Char {
             bytes: [ascii, 0, 0, 0],
         }
+    }
+}
+
+// The first bytes, as many as `len` says, then zeros.
+#[inline(always)]
+fn front_array(src: &[u8], len: usize) -> [u8; 4]
+    requires { IsFrontLen 4 src.now len }
+    ensures { result ≡ take len src.now ++ replicate (4 - len) 0 }
+{
+    match len {
+        1 => [src[0], 0, 0, 0],
+        2 => [src[0], src[1], 0, 0],
+        3 => [src[0], src[1], src[2], 0],
+        _ => [src[0], src[1], src[2], src[3]],
     }
 }
 
