@@ -27,3 +27,11 @@ pub fn push<A: Allocator>(text: &mut String<A>, c: Utf8Char) -> Result<(), Alloc
 {
     text.push(c.to_char())
 }
+
+/// The same of a `char`, whose code std writes: the lemma says that it is ours.
+#[tactic(auto, using(encode_unicode::proofs::ForCallers::utf8_is_std))]
+pub fn push_char<A: Allocator>(text: &mut String<A>, c: char) -> Result<(), AllocError>
+    ensures { OnOk result (string_bytes text.new ≡ string_bytes text.old ++ utf8 c) }
+{
+    text.push(c)
+}
