@@ -27,3 +27,14 @@ pub mod iterator {
     //! The iterators that the calls of this crate make.
     pub use crate::decoding_iterators::Utf8CharDecoder;
 }
+
+pub mod laws {
+    //! The laws of codes, pieces and errors, each the contract of a function that does nothing. A caller
+    //! calls the one that its proof needs.
+    pub use utf_base::laws::{
+        ascii_stands_alone, code_or_one_fault, codes_never_overlap, cut_exists, cut_is_unique,
+        cuts_follow, four_bytes_decide, one_piece_begins, one_piece_ends, pieces_never_overlap,
+        units_code_or_one_fault,
+    };
+    pub use utf_chars::laws::forms_keep_the_scalar;
+}

@@ -146,7 +146,10 @@ pub fn counts_agree(byte: u8) -> bool
 pub fn types_agree(bytes: &[u8]) -> bool
     ensures { IsTrue result }
 {
-    match (char::from_utf8_slice_start(bytes), Utf8Char::from_slice_start(bytes)) {
+    match (
+        char::from_utf8_slice_start(bytes),
+        Utf8Char::from_slice_start(bytes),
+    ) {
         (Ok((c, len)), Ok((d, same))) => d.to_char() == c && len == same,
         (Err(e), Err(f)) => e == f,
         _ => false,
@@ -157,7 +160,10 @@ pub fn types_agree(bytes: &[u8]) -> bool
 pub fn first_item_agrees(bytes: &[u8]) -> bool
     ensures { IsTrue result }
 {
-    match (bytes.utf8char_indices().next(), Utf8Char::from_slice_start(bytes)) {
+    match (
+        bytes.utf8char_indices().next(),
+        Utf8Char::from_slice_start(bytes),
+    ) {
         (Some((0, Ok(c), len)), Ok((d, same))) => c == d && len == same,
         (Some((0, Err(e), 1)), Err(f)) => e == f,
         (None, Err(_)) => bytes.is_empty(),

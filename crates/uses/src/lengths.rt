@@ -1,7 +1,6 @@
 //! Lengths: a code has 1 to 4 bytes, or 1 or 2 units, so small buffers do and runs along a slice end.
 ghost use Rattle.std.specs.Prelude.{◌≡◌, ◌≤◌, length};
 
-
 use encode_unicode::{CharExt, Utf8Char, Utf16Char};
 
 /// The last byte of the code of a character.
@@ -44,7 +43,11 @@ pub fn ascii_len(c: Utf8Char) -> usize
 
 /// The byte that an ASCII character is.
 pub fn ascii_byte(c: Utf8Char) -> Option<u8> {
-    if c.is_ascii() { Some(c.as_bytes()[0]) } else { None }
+    if c.is_ascii() {
+        Some(c.as_bytes()[0])
+    } else {
+        None
+    }
 }
 
 /// How many characters stand one behind the other at the front of some bytes.

@@ -48,8 +48,7 @@ pub fn array_of_pair(first: u16, second: u16) -> Option<Utf16Char> {
 }
 
 /// After the checked form took the tuple.
-pub fn tuple_twice(units: (u16, Option<u16>)) -> Option<Utf16Char>
-    {
+pub fn tuple_twice(units: (u16, Option<u16>)) -> Option<Utf16Char> {
     Utf16Char::from_tuple(units).ok()?;
     Some(Utf16Char::from_tuple_unchecked(units))
 }

@@ -75,29 +75,31 @@ piece_some code c xs p n (Some s) h = let some = c.some s h.0.scalar in let w = 
 piece_some code c xs p n None h = (omega arith, omega arith)
 
 pub pieces_never_overlap : (code : ℕ → List ℕ) → IsCode code → PiecesNeverOverlap code
-pieces_never_overlap code c xs x y h g =
-    let apart : (x y : Piece) → IsPiece code xs x → IsPiece code xs y → x.start < y.start → end_of x ≤ y.start = λ x y h g lt.
-    ⊎_elim
-    (λ (over : y.start < end_of x). absurd (no_piece_within code c xs x.start x.len y.start y.len x.char y.char h g lt over))
-    (λ (fits : end_of x ≤ y.start). fits)
-    (cases_lt y.start (end_of x)) in
-    ⊎_elim
-    (λ (lt : x.start < y.start). inr (inl (apart x y h g lt)))
-    (λ (le : y.start ≤ x.start).
-    ⊎_elim
-    (λ (gt : y.start < x.start). inr (inr (apart y x g h gt)))
-    (λ (ge : x.start ≤ y.start). inl (one_piece_begins code c xs x y h g (omega arith)))
-    (cases_lt y.start x.start))
-    (cases_lt x.start y.start)
+pieces_never_overlap code c xs x y h g = (
+  one_piece_begins code c xs x y h g,
+  λ lt.
+      ⊎_elim
+      (λ (over : y.start < end_of x). absurd (no_piece_within code c xs x.start x.len y.start y.len x.char y.char h g lt over))
+      (λ (fits : end_of x ≤ y.start). fits)
+      (cases_lt y.start (end_of x)),
+)
 
 pub one_piece_ends : (code : ℕ → List ℕ) → IsCode code → OnePieceEnds code
 one_piece_ends code c xs x y h g e =
     let of_x = piece_some code c xs x.start x.len x.char h in
     let of_y = piece_some code c xs y.start y.len y.char g in
     ⊎_elim
-    (λ (same : x ≡ y). same)
-    (λ apart. absurd (⊎_elim (λ (first : end_of x ≤ y.start). omega arith) (λ (last : end_of y ≤ x.start). omega arith) apart))
-    (pieces_never_overlap code c xs x y h g)
+    (λ (lt : x.start < y.start).
+    let first : end_of x ≤ y.start = (pieces_never_overlap code c xs x y h g).1 lt in
+    absurd (omega arith))
+    (λ (le : y.start ≤ x.start).
+    ⊎_elim
+    (λ (gt : y.start < x.start).
+    let last : end_of y ≤ x.start = (pieces_never_overlap code c xs y x g h).1 gt in
+    absurd (omega arith))
+    (λ (ge : x.start ≤ y.start). one_piece_begins code c xs x y h g (omega arith))
+    (cases_lt y.start x.start))
+    (cases_lt x.start y.start)
 
 pub cut_none : (code : ℕ → List ℕ) (xs : List ℕ) (i : ℕ) → IsCutBetween code xs i i []
 cut_none code xs i = record { pieces = λ k d h. absurd (omega arith); all = λ x h lo hi. absurd (omega arith); in_order = λ i j d h g. absurd (omega arith) }

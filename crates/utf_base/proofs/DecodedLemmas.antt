@@ -217,6 +217,7 @@ one_code_of_whole w h = by_kind w (fault_kind w) refl h
   where
     whole : (w : List ℕ) (s : ℕ) → Stands utf8 w 0 s → length (utf8 s) ≡ length w → w ≡ utf8 s
     whole w s h len = let equal = h.equal in grind (arith, common_steps)
+
     by_kind : (w : List ℕ) (k : Option Utf8ErrorKind) → fault_kind w ≡ k
         → MatchResult {T = ℕ × ℕ} (unless_fault k (value w, asked_by w)) (λ x. x.1 ≡ length w) (λ _. ⊥) → IsOneCode utf8 w
     by_kind w None e h =

@@ -340,16 +340,11 @@ pub no_code_where_fault : (w : List ℕ) (k : Utf8ErrorKind) (s : ℕ) → fault
 no_code_where_fault w k s e h = let none = no_fault_where_code w s h in cc
 
 pub code_or_one_fault : CodeOrOneFault
-code_or_one_fault w = by_kind w (fault_kind w) refl
-  where
-    by_kind : (w : List ℕ) (k : Option Utf8ErrorKind) → fault_kind w ≡ k
-        → ((s : ℕ) × Stands utf8 w 0 s × (fault_kind w ≡ None)) ⊎ ((k : Utf8ErrorKind) × (fault_kind w ≡ Some k) × ((s : ℕ) → Stands utf8 w 0 s → ⊥))
-    by_kind w None e = inl (value w, (code_where_no_fault w e).0, e)
-    by_kind w (Some k) e = inr (k, e, λ s h. no_code_where_fault w k s e h)
+code_or_one_fault = record { code = λ w e. (code_where_no_fault w e).0; fault = no_fault_where_code }
 
 pub utf8_finds : Finds utf8
-utf8_finds w =
-    ⊎_elim
-    (λ (h : (s : ℕ) × Stands utf8 w 0 s × (fault_kind w ≡ None)). inl (h.0, h.1))
-    (λ (h : (k : Utf8ErrorKind) × (fault_kind w ≡ Some k) × ((s : ℕ) → Stands utf8 w 0 s → ⊥)). inr h.2)
-    (code_or_one_fault w)
+utf8_finds w = by_kind w (fault_kind w) refl
+  where
+    by_kind : (w : List ℕ) (k : Option Utf8ErrorKind) → fault_kind w ≡ k → ((s : ℕ) × Stands utf8 w 0 s) ⊎ ((s : ℕ) → Stands utf8 w 0 s → ⊥)
+    by_kind w None e = inl (value w, (code_where_no_fault w e).0)
+    by_kind w (Some k) e = inr (λ s h. no_code_where_fault w k s e h)

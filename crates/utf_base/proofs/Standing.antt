@@ -1,5 +1,5 @@
 -- Where codes stand: at one place one code at most, and none begins inside another.
-use Rattle.std.proofs.Common.{◌≡◌, ℕ, ◌+◌, ◌-◌, ◌<◌, ◌≤◌, inl, inr, List, [], ◌++◌, length, get_or, drop, arith, refl, ap, sym, ◌∙◌, ⊎_elim, length-append}
+use Rattle.std.proofs.Common.{◌≡◌, ℕ, ◌+◌, ◌-◌, ◌<◌, ◌≤◌, List, [], ◌++◌, length, get_or, drop, arith, refl, ap, sym, ◌∙◌, ⊎_elim, length-append}
 use Rattle.std.proofs.lemmas.Grind.{common_steps}
 use Rattle.std.proofs.lemmas.List.{get_or-drop, get_or-take, drop-take, drop-drop, take-take, take_at, append-nil}
 use Rattle.std.proofs.lemmas.Bool.{cases_lt}
@@ -36,22 +36,14 @@ same_char code c xs p s t h g =
     c.injective s t h.scalar g.scalar (sym h.equal ∙ ap (λ n. slice_range xs p (p + n)) len ∙ g.equal)
 
 pub codes_never_overlap : (code : ℕ → List ℕ) → IsCode code → CodesNeverOverlap code
-codes_never_overlap code c xs p q s t h g =
-    let apart : (i j a b : ℕ) → Stands code xs i a → Stands code xs j b → i < j → i + length (code a) ≤ j
-    = λ i j a b u v lt.
-    ⊎_elim
-    (λ (over : j < i + length (code a)).
-    absurd (not_inside code c xs j b v (record { from = i; char = a; stands = u; begins = lt; ends = over })))
-    (λ (fits : i + length (code a) ≤ j). fits)
-    (cases_lt j (i + length (code a))) in
-    ⊎_elim
-    (λ (lt : p < q). inr (inl (apart p q s t h g lt)))
-    (λ (le : q ≤ p).
-    ⊎_elim
-    (λ (gt : q < p). inr (inr (apart q p t s g h gt)))
-    (λ (ge : p ≤ q). let e : p ≡ q = omega arith in inl (e, same_char code c xs q s t (rw e at h) g))
-    (cases_lt q p))
-    (cases_lt p q)
+codes_never_overlap code c xs p q s t h g = (
+  λ e. same_char code c xs q s t (rw e at h) g,
+  λ lt.
+      ⊎_elim
+      (λ (over : q < p + length (code s)). absurd (not_inside code c xs q t g (record { from = p; char = s; stands = h; begins = lt; ends = over })))
+      (λ (fits : p + length (code s) ≤ q). fits)
+      (cases_lt q (p + length (code s))),
+)
 
 -- the end of a standing code lies inside none
 pub outside_after : (code : ℕ → List ℕ) → IsCode code → (xs : List ℕ) (p s : ℕ) → Stands code xs p s → Inside code xs (p + length (code s)) → ⊥
@@ -60,13 +52,20 @@ outside_after code c xs p s h i =
     let ends = i.ends in
     let some = c.some s h.scalar in
     ⊎_elim
-    (λ same. let len : length (code s) ≡ length (code i.char) = ap (λ n. length (code n)) same.1 in let at = same.0 in absurd (omega arith))
-    (λ apart.
+    (λ (lt : p < i.from).
+    let first : p + length (code s) ≤ i.from = (codes_never_overlap code c xs p i.from s i.char h i.stands).1 lt in
+    absurd (omega arith))
+    (λ (le : i.from ≤ p).
     ⊎_elim
-    (λ (first : p + length (code s) ≤ i.from). absurd (omega arith))
-    (λ (last : i.from + length (code i.char) ≤ p). absurd (omega arith))
-    apart)
-    (codes_never_overlap code c xs p i.from s i.char h i.stands)
+    (λ (gt : i.from < p).
+    let last : i.from + length (code i.char) ≤ p = (codes_never_overlap code c xs i.from p i.char s i.stands h).1 gt in
+    absurd (omega arith))
+    (λ (ge : p ≤ i.from).
+    let same : s ≡ i.char = (codes_never_overlap code c xs p i.from s i.char h i.stands).0 (omega arith) in
+    let len : length (code s) ≡ length (code i.char) = ap (λ n. length (code n)) same in
+    absurd (omega arith))
+    (cases_lt i.from p))
+    (cases_lt p i.from)
 
 -- no code lies over the end of a list
 pub outside_end : (code : ℕ → List ℕ) (xs : List ℕ) → Inside code xs (length xs) → ⊥

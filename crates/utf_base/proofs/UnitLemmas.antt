@@ -7,9 +7,10 @@ use Rattle.utf_base.specs.declared.errors.units.Utf16SliceError.TheVariants as s
 use Rattle.utf_base.specs.Code.{utf16}
 use Rattle.utf_base.specs.KindLaws.{UnitsCodeOrOneFault}
 use Rattle.utf_base.specs.Piece.{Stands}
-use Rattle.utf_base.specs.Units.{slice_fault, is_leading_surrogate, is_trailing_surrogate, is_surrogate}
+use Rattle.utf_base.specs.Scalar.{IsUnits}
+use Rattle.utf_base.specs.Units.{slice_fault, unit_value, is_leading_surrogate, is_trailing_surrogate, is_surrogate}
 use Rattle.utf_base.proofs.Cuts.{Finds}
-use Rattle.utf_base.proofs.Utf16Code.{StandsAsUnit, StandsAsPair, stands_cases, begins_with_unit, begins_with_pair, utf16_is_code}
+use Rattle.utf_base.proofs.Utf16Code.{StandsAsUnit, StandsAsPair, stands_cases, begins_with_unit, begins_with_pair, utf16_is_code, unit_value-unit, unit_value-pair}
 
 pub no_surrogate : (u : ℕ) → is_trailing_surrogate u ≡ false → is_leading_surrogate u ≡ false → is_surrogate u ≡ false
 no_surrogate u t l = grind (arith, common_steps)
@@ -97,21 +98,27 @@ front_of_units w some =
 pub no_units_where_fault : (w : List ℕ) (k : Utf16SliceError) (s : ℕ) → slice_fault w ≡ Some k → Stands utf16 w 0 s → ⊥
 no_units_where_fault w k s e h = let none = no_fault_where_units w s h in cc
 
-pub units_code_or_one_fault : UnitsCodeOrOneFault
-units_code_or_one_fault w units =
+code_of_units : (w : List ℕ) → IsUnits w → slice_fault w ≡ None → Stands utf16 w 0 (unit_value w)
+code_of_units w units none =
     ⊎_elim
-    (λ (e : length w ≡ 0). inr (slice.EmptySlice, fault_of_empty w e, λ s h. no_units_where_fault w slice.EmptySlice s (fault_of_empty w e) h))
+    (λ (e : length w ≡ 0). let fault = fault_of_empty w e in cc)
     (λ (some : 0 < length w).
     ⊎_elim
     (λ (plain : is_surrogate (get_or w 0 0) ≡ false).
-    inl (get_or w 0 0, (begins_with_unit w some (units 0 0 some) plain).0, no_fault_of_unit w some plain))
+    rw (unit_value-unit w (no_lead (get_or w 0 0) plain)) (begins_with_unit w some (units 0 0 some) plain).0)
     (λ other.
     ⊎_elim
-    (λ (p : IsPair w). inl (_, (begins_with_pair w p.0 p.1 p.2).0, no_fault_of_pair w p.0 p.1 p.2))
-    (λ (f : (k : Utf16SliceError) × (slice_fault w ≡ Some k)). inr (f.0, f.1, λ s h. no_units_where_fault w f.0 s f.1 h))
+    (λ (p : IsPair w). rw (unit_value-pair w p.1) (begins_with_pair w p.0 p.1 p.2).0)
+    (λ (f : (k : Utf16SliceError) × (slice_fault w ≡ Some k)). let fault = f.1 in cc)
     other)
     (front_of_units w some))
     (zero_or_more (length w))
+  where
+    no_lead : (u : ℕ) → is_surrogate u ≡ false → is_leading_surrogate u ≡ false
+    no_lead u h = grind (arith, common_steps)
+
+pub units_code_or_one_fault : UnitsCodeOrOneFault
+units_code_or_one_fault = record { code = code_of_units; fault = no_fault_where_units }
 
 -- Whether a code begins some numbers, units or not.
 pub utf16_finds : Finds utf16

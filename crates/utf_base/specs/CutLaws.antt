@@ -1,19 +1,19 @@
 -- The laws of codes and cuts, generic in the code. The functions of `laws` prove each for UTF-8.
-use Rattle.std.specs.Prelude.{◌≡◌, ℕ, ◌+◌, ◌<◌, ◌≤◌, ◌⊎◌, List, [], ◌∷◌, length, Some, slice_index}
+use Rattle.std.specs.Prelude.{◌≡◌, ℕ, ◌+◌, ◌<◌, ◌≤◌, List, [], ◌∷◌, length, Some, slice_index}
 use Rattle.utf_base.specs.Code.{utf8}
 use Rattle.utf_base.specs.Piece.{Stands, Piece, IsPiece, IsCut, end_of}
 
--- two codes that stand in one list are the same at the same place, or one ends before the other begins
+-- two codes that stand in one list are the same at one place, and else the first ends before the other begins
 abbrev pub CodesNeverOverlap : (ℕ → List ℕ) → Type 0
 CodesNeverOverlap code =
     (xs : List ℕ) (p q s t : ℕ) → Stands code xs p s → Stands code xs q t
-    → ((p ≡ q) × (s ≡ t)) ⊎ ((p + length (code s) ≤ q) ⊎ (q + length (code t) ≤ p))
+    → (p ≡ q → s ≡ t) × (p < q → p + length (code s) ≤ q)
 
--- two pieces of one list are the same, or one ends before the other begins
+-- and so are two pieces of one list
 abbrev pub PiecesNeverOverlap : (ℕ → List ℕ) → Type 0
 PiecesNeverOverlap code =
     (xs : List ℕ) (x y : Piece) → IsPiece code xs x → IsPiece code xs y
-    → (x ≡ y) ⊎ ((end_of x ≤ y.start) ⊎ (end_of y ≤ x.start))
+    → (x.start ≡ y.start → x ≡ y) × (x.start < y.start → end_of x ≤ y.start)
 
 -- at most one piece begins at a place, and at most one ends there
 abbrev pub OnePieceBegins : (ℕ → List ℕ) → Type 0

@@ -1,26 +1,20 @@
 -- The laws of what is wrong with a list that no code begins.
-use Rattle.std.specs.Prelude.{◌≡◌, ℕ, ◌⊎◌, List, take, Some, None}
-use Rattle.utf_base.specs.declared.errors.Utf8ErrorKind.{Utf8ErrorKind}
-use Rattle.utf_base.specs.declared.errors.units.Utf16SliceError.{Utf16SliceError}
+use Rattle.std.specs.Prelude.{◌≡◌, ℕ, List, take, None}
 use Rattle.utf_base.specs.Scalar.{IsUnits}
 use Rattle.utf_base.specs.Code.{utf8, utf16}
-use Rattle.utf_base.specs.Kinds.{fault_kind}
+use Rattle.utf_base.specs.Kinds.{fault_kind, value}
 use Rattle.utf_base.specs.Piece.{Stands}
-use Rattle.utf_base.specs.Units.{slice_fault}
+use Rattle.utf_base.specs.Units.{slice_fault, unit_value}
 
--- either the code of a scalar begins the bytes and they have no kind, or none does and they have exactly one
-abbrev pub CodeOrOneFault : Type 0
-CodeOrOneFault =
-    (w : List ℕ)
-    → ((s : ℕ) × Stands utf8 w 0 s × (fault_kind w ≡ None))
-    ⊎ ((k : Utf8ErrorKind) × (fault_kind w ≡ Some k) × ((s : ℕ) → ¬ (Stands utf8 w 0 s)))
+-- bytes have no fault exactly where a code begins them, which is that of their value
+pub record CodeOrOneFault : Type 0 where
+  pub code : (w : List ℕ) → fault_kind w ≡ None → Stands utf8 w 0 (value w)
+  pub fault : (w : List ℕ) (s : ℕ) → Stands utf8 w 0 s → fault_kind w ≡ None
 
--- the same of units, whose fault is that of a slice of them
-abbrev pub UnitsCodeOrOneFault : Type 0
-UnitsCodeOrOneFault =
-    (w : List ℕ) → IsUnits w
-    → ((s : ℕ) × Stands utf16 w 0 s × (slice_fault w ≡ None))
-    ⊎ ((k : Utf16SliceError) × (slice_fault w ≡ Some k) × ((s : ℕ) → ¬ (Stands utf16 w 0 s)))
+-- units have no fault, as a slice of them, exactly where a code begins them
+pub record UnitsCodeOrOneFault : Type 0 where
+  pub code : (w : List ℕ) → IsUnits w → slice_fault w ≡ None → Stands utf16 w 0 (unit_value w)
+  pub fault : (w : List ℕ) (s : ℕ) → Stands utf16 w 0 s → slice_fault w ≡ None
 
 -- the forward kind depends on the first four bytes alone
 abbrev pub FourBytesDecide : Type 0
