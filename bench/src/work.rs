@@ -84,7 +84,7 @@ const ERROR: u32 = 0x20_0000;
 
 #[inline(always)]
 fn mix(sum: u64, word: u64) -> u64 {
-    sum.rotate_left(5).wrapping_add(word.wrapping_mul(FACTOR))
+    sum.wrapping_mul(9).wrapping_add(word.wrapping_mul(FACTOR))
 }
 
 #[inline(always)]

@@ -16,7 +16,7 @@ const ERROR: u32 = 0x20_0000;
 // The checksum with one word more. It depends on the order of the words.
 #[inline(always)]
 fn mix(sum: u64, word: u64, factor: u64) -> u64 {
-    sum.rotate_left(5).wrapping_add(word.wrapping_mul(factor))
+    sum.wrapping_mul(9).wrapping_add(word.wrapping_mul(factor))
 }
 
 // A place, a length below 8 and a scalar or an error's number in one word.

@@ -1,5 +1,5 @@
 -- A second byte that does not continue interrupts a code, whatever its first byte asks for.
-use Rattle.std.proofs.Common.{◌≡◌, ℕ, ◌<◌, ◌≤◌, ⊎_elim, List, length, get_or, arith, Some, Bool, false, ◌&&◌}
+use Rattle.std.proofs.Common.{◌≡◌, ℕ, ◌<◌, ◌≤◌, ⊎_elim, List, length, get_or, arith, Some, false}
 use Rattle.std.proofs.lemmas.Bool.{cases_lt}
 use Rattle.utf_base.specs.declared.errors.Utf8ErrorKind.TheVariants.{InterruptedSequence}
 use Rattle.utf_base.specs.Kinds.{fault_kind, is_continuation}

@@ -1,5 +1,5 @@
 //! The code of a scalar in UTF-16 (RFC 2781).
-ghost use Rattle.std.specs.Prelude.{◌≡◌, ◌+◌, ◌-◌, ◌/◌, ◌%◌, ◌≤◌, ◌<◌, ◌&&◌, false, slice_index, if◌then◌else◌, IfNone};
+ghost use Rattle.std.specs.Prelude.{◌≡◌, ◌+◌, ◌-◌, ◌/◌, ◌%◌, ◌≤◌, ◌<◌, ◌&&◌, true, false, slice_index, if◌then◌else◌, IfNone};
 ghost use Rattle.utf_base.specs.Code.{utf16};
 ghost use Rattle.utf_base.specs.Front.{as_scalar, DecodesUnits, DecodesTwoUnits, DecodesTuple};
 ghost use Rattle.utf_base.specs.Units.{is_surrogate, is_leading_surrogate, is_trailing_surrogate, pair_value, tuple_value, units_of};
@@ -15,6 +15,20 @@ pub(crate) fn padded_code(s: u32) -> [u16; 2]
     requires { s < 0x11_0000 }
     ensures { result ≡ padded 2 (utf16 s) }
 {
+    if s < 0x1_0000 {
+        [s as u16, 0]
+    } else {
+        [leading_surrogate(s), trailing_surrogate(s)]
+    }
+}
+
+/// The code of a character: a unit and 0, or a pair of surrogates.
+#[inline(always)]
+#[tactic(auto, unfolding(utf_base::specs::Code::utf16, crate::specs::Padded::padded))]
+pub(crate) fn encode(c: char) -> [u16; 2]
+    ensures { result ≡ padded 2 (utf16 c) }
+{
+    let s = c as u32;
     // One number, whose lower half is the first unit: so the code stays in one register.
     let code = if s < 0x1_0000 {
         s
@@ -55,7 +69,7 @@ pub(crate) fn decode_start(src: &[u16]) -> Result<(char, usize), Utf16SliceError
         return Ok((char_of_unit(first), 1));
     }
     if src.len() >= 2 && is_pair(first, src[1]) {
-        return Ok((char_of_pair(first, src[1]), 2));
+        return Ok((char_of_surrogates(first, src[1]), 2));
     }
     // Why they are no pair is asked only where they are none.
     if ends_pair(first) {
@@ -79,7 +93,7 @@ pub(crate) fn decode_array(units: [u16; 2]) -> Result<char, Utf16ArrayError>
         return Ok(char_of_unit(first));
     }
     if is_pair(first, second) {
-        return Ok(char_of_pair(first, second));
+        return Ok(char_of_surrogates(first, second));
     }
     if ends_pair(first) {
         Err(Utf16ArrayError::FirstIsTrailingSurrogate)
@@ -174,12 +188,15 @@ fn is_surrogate(unit: u16) -> bool
     unit & 0xf800 == 0xd800
 }
 
-// Whether the units are a leading and a trailing surrogate. With `&` both are one test, and one jump.
+// Whether a surrogate and the unit behind it are a leading and a trailing one. Counted from the least of its
+// kind each is then below 0x400, and one comparison tells of both.
 #[inline(always)]
 fn is_pair(first: u16, second: u16) -> bool
+    requires { is_surrogate first ≡ true }
     ensures { result ≡ (is_leading_surrogate first && is_trailing_surrogate second) }
 {
-    first.is_utf16_leading_surrogate() & ends_pair(second)
+    let (high, low) = (first - 0xd800, second.wrapping_sub(0xdc00));
+    (high >> 10) + (low >> 10) == 0
 }
 
 // Whether the unit is a trailing surrogate.
@@ -207,4 +224,15 @@ fn char_of_pair(first: u16, second: u16) -> char
 {
     // The number of a pair is above 0xffff and below 0x110000.
     unsafe { char::from_u32_unchecked(value_of_pair(first, second)) }
+}
+
+// The character of a leading and a trailing surrogate.
+#[inline(always)]
+fn char_of_surrogates(first: u16, second: u16) -> char
+    requires { (is_leading_surrogate first && is_trailing_surrogate second) ≡ true }
+    ensures { result ≡ pair_value first second }
+{
+    // What is taken off is 0x10000 less than what 0xd800 and 0xdc00 add.
+    let value = ((first as u32) << 10) + second as u32 - 0x35f_dc00;
+    unsafe { char::from_u32_unchecked(value) }
 }

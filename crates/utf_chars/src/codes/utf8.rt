@@ -248,12 +248,10 @@ fn decode_three(src: &[u8]) -> Result<(char, usize), Utf8Error>
         return Err(Utf8Error::new(Utf8ErrorKind::InterruptedSequence));
     }
     let value = value_of_three(src[0], src[1], src[2]);
-    if value < 0x800 {
-        return Err(Utf8Error::new(Utf8ErrorKind::OverlongEncoding));
-    }
-    match char::from_u32(value) {
-        Some(c) => Ok((c, 3)),
-        None => Err(Utf8Error::new(Utf8ErrorKind::Utf16ReservedCodepoint)),
+    match value {
+        0x0000..=0x07ff => Err(Utf8Error::new(Utf8ErrorKind::OverlongEncoding)),
+        0xd800..=0xdfff => Err(Utf8Error::new(Utf8ErrorKind::Utf16ReservedCodepoint)),
+        _ => Ok((unsafe { char::from_u32_unchecked(value) }, 3)),
     }
 }
 
@@ -272,11 +270,9 @@ fn decode_four(src: &[u8]) -> Result<(char, usize), Utf8Error>
         return Err(Utf8Error::new(Utf8ErrorKind::InterruptedSequence));
     }
     let value = value_of_four(src[0], src[1], src[2], src[3]);
-    if value < 0x1_0000 {
-        return Err(Utf8Error::new(Utf8ErrorKind::OverlongEncoding));
-    }
-    match char::from_u32(value) {
-        Some(c) => Ok((c, 4)),
-        None => Err(Utf8Error::new(Utf8ErrorKind::TooHighCodepoint)),
+    match value {
+        0x0000..=0xffff => Err(Utf8Error::new(Utf8ErrorKind::OverlongEncoding)),
+        0x1_0000..=0x10_ffff => Ok((unsafe { char::from_u32_unchecked(value) }, 4)),
+        _ => Err(Utf8Error::new(Utf8ErrorKind::TooHighCodepoint)),
     }
 }
