@@ -1,5 +1,6 @@
 //! The code of a scalar in UTF-16 (RFC 2781).
 ghost use Rattle.std.specs.Prelude.{◌≡◌, ◌+◌, ◌-◌, ◌/◌, ◌%◌, ◌≤◌, ◌<◌, ◌&&◌, true, false, slice_index, if◌then◌else◌, IfNone};
+ghost use Rattle.utf_base.specs.declared.errors.units.Utf16SliceError.TheVariants.{FirstIsTrailingSurrogate};
 ghost use Rattle.utf_base.specs.Code.{utf16};
 ghost use Rattle.utf_base.specs.Front.{as_scalar, DecodesUnits, DecodesTwoUnits, DecodesTuple};
 ghost use Rattle.utf_base.specs.Units.{is_surrogate, is_leading_surrogate, is_trailing_surrogate, pair_value, tuple_value, units_of};
@@ -68,17 +69,13 @@ pub(crate) fn decode_start(src: &[u16]) -> Result<(char, usize), Utf16SliceError
     if !is_surrogate(first) {
         return Ok((char_of_unit(first), 1));
     }
-    if src.len() >= 2 && is_pair(first, src[1]) {
+    if src.len() < 2 {
+        return Err(unpaired(first, Utf16SliceError::MissingSecond));
+    }
+    if is_pair(first, src[1]) {
         return Ok((char_of_surrogates(first, src[1]), 2));
     }
-    // Why they are no pair is asked only where they are none.
-    if ends_pair(first) {
-        Err(Utf16SliceError::FirstIsTrailingSurrogate)
-    } else if src.len() < 2 {
-        Err(Utf16SliceError::MissingSecond)
-    } else {
-        Err(Utf16SliceError::SecondIsNotTrailingSurrogate)
-    }
+    Err(unpaired(first, Utf16SliceError::SecondIsNotTrailingSurrogate))
 }
 
 /// The character whose code begins the two units. A second unit that the first does not ask for is
@@ -195,7 +192,8 @@ fn is_pair(first: u16, second: u16) -> bool
     requires { is_surrogate first ≡ true }
     ensures { result ≡ (is_leading_surrogate first && is_trailing_surrogate second) }
 {
-    let (high, low) = (first - 0xd800, second.wrapping_sub(0xdc00));
+    let high = first as u32 - 0xd800;
+    let low = (second as u32).wrapping_sub(0xdc00);
     (high >> 10) + (low >> 10) == 0
 }
 
@@ -205,6 +203,18 @@ fn ends_pair(unit: u16) -> bool
     ensures { result ≡ is_trailing_surrogate unit }
 {
     unit & 0xfc00 == 0xdc00
+}
+
+// Why a surrogate begins no code: that it is a trailing one, or otherwise what is wrong behind it.
+#[inline(always)]
+fn unpaired(first: u16, otherwise: Utf16SliceError) -> Utf16SliceError
+    ensures { result ≡ (if is_trailing_surrogate first then FirstIsTrailingSurrogate else otherwise) }
+{
+    if ends_pair(first) {
+        Utf16SliceError::FirstIsTrailingSurrogate
+    } else {
+        otherwise
+    }
 }
 
 // The character that a unit is by itself.
@@ -232,7 +242,7 @@ fn char_of_surrogates(first: u16, second: u16) -> char
     requires { (is_leading_surrogate first && is_trailing_surrogate second) ≡ true }
     ensures { result ≡ pair_value first second }
 {
-    // What is taken off is 0x10000 less than what 0xd800 and 0xdc00 add.
-    let value = ((first as u32) << 10) + second as u32 - 0x35f_dc00;
-    unsafe { char::from_u32_unchecked(value) }
+    let high = first as u32 - 0xd800;
+    let low = second as u32 - 0xdc00;
+    unsafe { char::from_u32_unchecked(0x1_0000 + (high << 10) + low) }
 }
