@@ -25,42 +25,42 @@ pub struct Work {
 pub const ALL: [Work; 6] = [
     Work {
         name: "forward",
-        ours: |input| unsafe { bench_c_forward(input.bytes.as_ptr(), input.bytes.len()) },
+        ours: |input| unsafe { bench_c_forward(input.bytes.as_ptr(), input.bytes.len(), FACTOR) },
         rust: |input| forward(&input.bytes),
         std: Some(|input| std_forward(&input.bytes)),
         bytes: |input| input.bytes.len(),
     },
     Work {
         name: "starts",
-        ours: |input| unsafe { bench_c_starts(input.bytes.as_ptr(), input.bytes.len()) },
+        ours: |input| unsafe { bench_c_starts(input.bytes.as_ptr(), input.bytes.len(), FACTOR) },
         rust: |input| starts(&input.bytes),
         std: None,
         bytes: |input| input.bytes.len(),
     },
     Work {
         name: "units",
-        ours: |input| unsafe { bench_c_units(input.units.as_ptr(), input.units.len()) },
+        ours: |input| unsafe { bench_c_units(input.units.as_ptr(), input.units.len(), FACTOR) },
         rust: |input| units(&input.units),
         std: Some(|input| std_units(&input.units)),
         bytes: |input| 2 * input.units.len(),
     },
     Work {
         name: "to_utf8",
-        ours: |input| unsafe { bench_c_to_utf8(input.numbers.as_ptr(), input.numbers.len()) },
+        ours: |input| unsafe { bench_c_to_utf8(input.numbers.as_ptr(), input.numbers.len(), FACTOR) },
         rust: |input| to_utf8(&input.numbers),
         std: Some(|input| std_to_utf8(&input.numbers)),
         bytes: |input| 4 * input.numbers.len(),
     },
     Work {
         name: "to_utf16",
-        ours: |input| unsafe { bench_c_to_utf16(input.numbers.as_ptr(), input.numbers.len()) },
+        ours: |input| unsafe { bench_c_to_utf16(input.numbers.as_ptr(), input.numbers.len(), FACTOR) },
         rust: |input| to_utf16(&input.numbers),
         std: Some(|input| std_to_utf16(&input.numbers)),
         bytes: |input| 4 * input.numbers.len(),
     },
     Work {
         name: "between",
-        ours: |input| unsafe { bench_c_between(input.bytes.as_ptr(), input.bytes.len()) },
+        ours: |input| unsafe { bench_c_between(input.bytes.as_ptr(), input.bytes.len(), FACTOR) },
         rust: |input| between(&input.bytes),
         std: None,
         bytes: |input| input.bytes.len(),
@@ -71,12 +71,12 @@ pub const ALL: [Work; 6] = [
 // promises, so each call above is one of a slice borrowed for the call.
 #[link(name = "bench_c", kind = "static")]
 extern "C" {
-    fn bench_c_forward(src: *const u8, len: usize) -> u64;
-    fn bench_c_starts(src: *const u8, len: usize) -> u64;
-    fn bench_c_units(src: *const u16, len: usize) -> u64;
-    fn bench_c_to_utf8(src: *const u32, len: usize) -> u64;
-    fn bench_c_to_utf16(src: *const u32, len: usize) -> u64;
-    fn bench_c_between(src: *const u8, len: usize) -> u64;
+    fn bench_c_forward(src: *const u8, len: usize, factor: u64) -> u64;
+    fn bench_c_starts(src: *const u8, len: usize, factor: u64) -> u64;
+    fn bench_c_units(src: *const u16, len: usize, factor: u64) -> u64;
+    fn bench_c_to_utf8(src: *const u32, len: usize, factor: u64) -> u64;
+    fn bench_c_to_utf16(src: *const u32, len: usize, factor: u64) -> u64;
+    fn bench_c_between(src: *const u8, len: usize, factor: u64) -> u64;
 }
 
 const FACTOR: u64 = 0x9e37_79b9_7f4a_7c15;
@@ -84,7 +84,7 @@ const ERROR: u32 = 0x20_0000;
 
 #[inline(always)]
 fn mix(sum: u64, word: u64) -> u64 {
-    sum.rotate_left(5).wrapping_add(word.wrapping_mul(FACTOR))
+    sum.wrapping_mul(9).wrapping_add(word.wrapping_mul(FACTOR))
 }
 
 #[inline(always)]

@@ -63,6 +63,7 @@ pub fn numbers(seed: u64) -> Vec<Kind> {
     let mut chars = Kind::new("numbers, as char");
     let mut utf8 = Kind::new("numbers, as Utf8Char");
     let mut utf16 = Kind::new("numbers, as Utf16Char");
+    let mut shown = Kind::new("numbers, Display and Debug of both");
     for number in numbers {
         let input = || format!("{number:#x}");
         let (byte, unit) = (number as u8, number as u16);
@@ -78,8 +79,9 @@ pub fn numbers(seed: u64) -> Vec<Kind> {
             &ours::utf16_char(number, byte, unit),
             &theirs::utf16_char(number, byte, unit),
         );
+        shown.compare(input, &ours::shown(number), &theirs::shown(number));
     }
-    vec![plain, chars, utf8, utf16]
+    vec![plain, chars, utf8, utf16, shown]
 }
 
 /// Characters beside bytes and units that are not their own.

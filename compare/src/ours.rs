@@ -17,6 +17,7 @@ extern "C" {
     ) -> usize;
     fn compare_c_indices(src: *const u8, len: usize, answers: *mut u64, room: usize) -> usize;
     fn compare_c_number(number: u32, answers: *mut u64, room: usize) -> usize;
+    fn compare_c_shown(number: u32, answers: *mut u64, room: usize) -> usize;
     fn compare_c_text(src: *const u8, len: usize, answers: *mut u64, room: usize) -> usize;
     fn compare_c_two_chars(one: u32, other: u32, answers: *mut u64, room: usize) -> usize;
     fn compare_c_two_units(first: u16, second: u16, answers: *mut u64, room: usize) -> usize;
@@ -74,6 +75,12 @@ pub fn number(number: u32) -> Vec<u64> {
 
 pub fn of_char(number: u32) -> Vec<u64> {
     filled(ROOM, |at, room| unsafe { compare_c_char(number, at, room) })
+}
+
+pub fn shown(number: u32) -> Vec<u64> {
+    filled(ROOM, |at, room| unsafe {
+        compare_c_shown(number, at, room)
+    })
 }
 
 pub fn utf8_char(number: u32, byte: u8) -> Vec<u64> {

@@ -4,6 +4,7 @@ use crate::numbers::{Answers, ErrorNumber, NOTHING};
 use encode_unicode::iterator::Utf8CharDecoder;
 use encode_unicode::{CharExt, SliceExt, U16UtfExt, U8UtfExt, Utf16Char, Utf8Char};
 use std::cmp::Ordering;
+use std::fmt::{Debug, Display};
 
 fn put_utf8(to: &mut Answers, name: &'static str, c: Utf8Char) {
     let (bytes, len) = c.to_array();
@@ -195,6 +196,24 @@ fn put_utf16_unchecked(to: &mut Answers, c: char) {
     to.put_size("from_slice_start_unchecked", len);
     let own = unsafe { Utf16Char::from_tuple_unchecked((units[0], Some(units[1]))) };
     put_utf16(to, "from_tuple_unchecked", own);
+}
+
+pub fn shown(number: u32) -> Answers {
+    let mut to = Answers::default();
+    if let Some(c) = char::from_u32(number) {
+        put_shown(&mut to, "Display, Debug of Utf8Char", Utf8Char::new(c));
+        put_shown(&mut to, "Display, Debug of Utf16Char", Utf16Char::new(c));
+    }
+    to
+}
+
+// Each text is written, and has a length and bytes.
+fn put_shown(to: &mut Answers, name: &'static str, c: impl Display + Debug) {
+    for text in [format!("{c}"), format!("{c:?}")] {
+        to.put_bool(name, true);
+        to.put_size(name, text.len());
+        to.put_bytes(name, text.as_bytes());
+    }
 }
 
 pub fn byte(byte: u8) -> Answers {

@@ -17,5 +17,6 @@ mod numbers;
 mod pairs;
 mod runs;
 mod sheet;
+mod shown;
 mod texts;
 mod units;

@@ -1,5 +1,7 @@
 pub mod Decoded
+pub mod Interrupted
 pub mod OwnCodes
 pub mod PaddedLemmas
 pub mod PaddedUnits
+pub mod ScalarTest
 pub mod TextLemmas

@@ -146,7 +146,7 @@ impl CharExt for char {
 
     #[inline(always)]
     fn to_utf16_array(self) -> [u16; 2] {
-        utf16::padded_code(self as u32)
+        utf16::encode(self)
     }
 
     #[inline(always)]

@@ -1,5 +1,7 @@
 //! The number that a scalar is.
+ghost use Rattle.std.specs.Prelude.{◌↔◌, IsTrue};
 ghost use Rattle.utf_base.specs.Front.{as_scalar, DecodesNumber};
+ghost use Rattle.utf_base.specs.Scalar.{IsScalar};
 
 use utf_base::errors::CodepointError;
 
@@ -10,9 +12,20 @@ use utf_base::errors::CodepointError;
 pub(crate) fn decode(c: u32) -> Result<char, CodepointError>
     ensures { DecodesNumber as_scalar c result }
 {
-    match char::from_u32(c) {
-        Some(c) => Ok(c),
-        None if c > 0x10_ffff => Err(CodepointError::TooHigh),
-        None => Err(CodepointError::Utf16Reserved),
+    if is_scalar(c) {
+        Ok(unsafe { char::from_u32_unchecked(c) })
+    } else if c > 0x10_ffff {
+        Err(CodepointError::TooHigh)
+    } else {
+        Err(CodepointError::Utf16Reserved)
     }
+}
+
+// Whether the number is a scalar. The exclusive or puts the surrogates below all others, so that one
+// comparison tells.
+#[inline(always)]
+fn is_scalar(c: u32) -> bool
+    ensures { IsTrue result ↔ IsScalar c }
+{
+    (c ^ 0xd800).wrapping_sub(0x800) < 0x10_f800
 }

@@ -1,8 +1,9 @@
 //! The code of a scalar in UTF-16 (RFC 2781).
-ghost use Rattle.std.specs.Prelude.{◌≡◌, ◌+◌, ◌-◌, ◌/◌, ◌%◌, ◌≤◌, ◌<◌, false, slice_index, if◌then◌else◌, IfNone};
+ghost use Rattle.std.specs.Prelude.{◌≡◌, ◌+◌, ◌-◌, ◌/◌, ◌%◌, ◌≤◌, ◌<◌, ◌&&◌, true, false, slice_index, if◌then◌else◌, IfNone};
+ghost use Rattle.utf_base.specs.declared.errors.units.Utf16SliceError.TheVariants.{FirstIsTrailingSurrogate};
 ghost use Rattle.utf_base.specs.Code.{utf16};
 ghost use Rattle.utf_base.specs.Front.{as_scalar, DecodesUnits, DecodesTwoUnits, DecodesTuple};
-ghost use Rattle.utf_base.specs.Units.{is_surrogate, is_trailing_surrogate, pair_value, tuple_value, units_of};
+ghost use Rattle.utf_base.specs.Units.{is_surrogate, is_leading_surrogate, is_trailing_surrogate, pair_value, tuple_value, units_of};
 ghost use Rattle.utf_chars.specs.Padded.{padded};
 
 use utf_base::errors::{Utf16ArrayError, Utf16SliceError, Utf16TupleError};
@@ -20,6 +21,22 @@ pub(crate) fn padded_code(s: u32) -> [u16; 2]
     } else {
         [leading_surrogate(s), trailing_surrogate(s)]
     }
+}
+
+/// The code of a character: a unit and 0, or a pair of surrogates.
+#[inline(always)]
+#[tactic(auto, unfolding(utf_base::specs::Code::utf16, crate::specs::Padded::padded))]
+pub(crate) fn encode(c: char) -> [u16; 2]
+    ensures { result ≡ padded 2 (utf16 c) }
+{
+    let s = c as u32;
+    // One number, whose lower half is the first unit: so the code stays in one register.
+    let code = if s < 0x1_0000 {
+        s
+    } else {
+        leading_surrogate(s) as u32 + ((trailing_surrogate(s) as u32) << 16)
+    };
+    [(code & 0xffff) as u16, (code >> 16) as u16]
 }
 
 /// The code, whose second unit is there only where the code has two.
@@ -49,19 +66,16 @@ pub(crate) fn decode_start(src: &[u16]) -> Result<(char, usize), Utf16SliceError
         return Err(Utf16SliceError::EmptySlice);
     }
     let first = src[0];
-    if ends_pair(first) {
-        return Err(Utf16SliceError::FirstIsTrailingSurrogate);
-    }
-    if !first.is_utf16_leading_surrogate() {
+    if !is_surrogate(first) {
         return Ok((char_of_unit(first), 1));
     }
     if src.len() < 2 {
-        return Err(Utf16SliceError::MissingSecond);
+        return Err(unpaired(first, Utf16SliceError::MissingSecond));
     }
-    if !ends_pair(src[1]) {
-        return Err(Utf16SliceError::SecondIsNotTrailingSurrogate);
+    if is_pair(first, src[1]) {
+        return Ok((char_of_surrogates(first, src[1]), 2));
     }
-    Ok((char_of_pair(first, src[1]), 2))
+    Err(unpaired(first, Utf16SliceError::SecondIsNotTrailingSurrogate))
 }
 
 /// The character whose code begins the two units. A second unit that the first does not ask for is
@@ -72,16 +86,17 @@ pub(crate) fn decode_array(units: [u16; 2]) -> Result<char, Utf16ArrayError>
     ensures { DecodesTwoUnits as_scalar units result }
 {
     let [first, second] = units;
-    if ends_pair(first) {
-        return Err(Utf16ArrayError::FirstIsTrailingSurrogate);
-    }
-    if !first.is_utf16_leading_surrogate() {
+    if !is_surrogate(first) {
         return Ok(char_of_unit(first));
     }
-    if !ends_pair(second) {
-        return Err(Utf16ArrayError::SecondIsNotTrailingSurrogate);
+    if is_pair(first, second) {
+        return Ok(char_of_surrogates(first, second));
     }
-    Ok(char_of_pair(first, second))
+    if ends_pair(first) {
+        Err(Utf16ArrayError::FirstIsTrailingSurrogate)
+    } else {
+        Err(Utf16ArrayError::SecondIsNotTrailingSurrogate)
+    }
 }
 
 /// The character whose code the one or two units are. A second unit that the first does not ask for is
@@ -113,7 +128,7 @@ pub(crate) fn decode_array_unchecked(units: [u16; 2]) -> char
     ensures { result ≡ (if is_surrogate (slice_index units 0) then pair_value (slice_index units 0) (slice_index units 1) else slice_index units 0) }
 {
     let [first, second] = units;
-    if first & 0xf800 == 0xd800 {
+    if is_surrogate(first) {
         char_of_pair(first, second)
     } else {
         char_of_unit(first)
@@ -149,7 +164,8 @@ fn leading_surrogate(s: u32) -> u16
     requires high { s < 0x11_0000 }
     ensures { result ≡ 0xD800 + (s - 0x1_0000) / 1024 }
 {
-    0xd800 + ((s - 0x1_0000) >> 10) as u16
+    // 0xd800 without the 0x40 that 0x10000 has in these bits.
+    0xd7c0 + (s >> 10) as u16
 }
 
 // The second unit of the pair of a scalar.
@@ -161,6 +177,26 @@ fn trailing_surrogate(s: u32) -> u16
     0xdc00 + (s & 0x3ff) as u16
 }
 
+// Whether the unit is a surrogate, leading or trailing.
+#[inline(always)]
+fn is_surrogate(unit: u16) -> bool
+    ensures { result ≡ is_surrogate unit }
+{
+    unit & 0xf800 == 0xd800
+}
+
+// Whether a surrogate and the unit behind it are a leading and a trailing one. Counted from the least of its
+// kind each is then below 0x400, and one comparison tells of both.
+#[inline(always)]
+fn is_pair(first: u16, second: u16) -> bool
+    requires { is_surrogate first ≡ true }
+    ensures { result ≡ (is_leading_surrogate first && is_trailing_surrogate second) }
+{
+    let high = first as u32 - 0xd800;
+    let low = (second as u32).wrapping_sub(0xdc00);
+    (high >> 10) + (low >> 10) == 0
+}
+
 // Whether the unit is a trailing surrogate.
 #[inline(always)]
 fn ends_pair(unit: u16) -> bool
@@ -169,13 +205,26 @@ fn ends_pair(unit: u16) -> bool
     unit & 0xfc00 == 0xdc00
 }
 
+// Why a surrogate begins no code: that it is a trailing one, or otherwise what is wrong behind it.
+#[inline(always)]
+fn unpaired(first: u16, otherwise: Utf16SliceError) -> Utf16SliceError
+    ensures { result ≡ (if is_trailing_surrogate first then FirstIsTrailingSurrogate else otherwise) }
+{
+    if ends_pair(first) {
+        Utf16SliceError::FirstIsTrailingSurrogate
+    } else {
+        otherwise
+    }
+}
+
 // The character that a unit is by itself.
 #[inline(always)]
 fn char_of_unit(unit: u16) -> char
     requires { is_surrogate unit ≡ false }
     ensures { result ≡ unit }
 {
-    char::from_u32(unit as u32).unwrap()
+    // A number of 16 bits that is no surrogate is a scalar.
+    unsafe { char::from_u32_unchecked(unit as u32) }
 }
 
 // The character of a leading and a trailing surrogate, whatever the units are.
@@ -183,5 +232,17 @@ fn char_of_unit(unit: u16) -> char
 fn char_of_pair(first: u16, second: u16) -> char
     ensures { result ≡ pair_value first second }
 {
-    char::from_u32(value_of_pair(first, second)).unwrap()
+    // The number of a pair is above 0xffff and below 0x110000.
+    unsafe { char::from_u32_unchecked(value_of_pair(first, second)) }
+}
+
+// The character of a leading and a trailing surrogate.
+#[inline(always)]
+fn char_of_surrogates(first: u16, second: u16) -> char
+    requires { (is_leading_surrogate first && is_trailing_surrogate second) ≡ true }
+    ensures { result ≡ pair_value first second }
+{
+    let high = first as u32 - 0xd800;
+    let low = second as u32 - 0xdc00;
+    unsafe { char::from_u32_unchecked(0x1_0000 + (high << 10) + low) }
 }

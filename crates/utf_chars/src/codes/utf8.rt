@@ -1,5 +1,6 @@
 //! The code of a scalar in UTF-8 (RFC 3629).
 ghost use Rattle.std.specs.Prelude.{◌≡◌, ◌+◌, ◌-◌, ◌*◌, ◌%◌, ◌≤◌, ◌<◌, ◌&&◌, nat_le, nat_lt, true, length, slice_index};
+ghost use Rattle.std.specs.Int.{w32, from_le_bytes};
 ghost use Rattle.utf_base.specs.Code.{utf8};
 ghost use Rattle.utf_base.specs.Front.{as_scalar, IsOneCode, DecodesFront, DecodesBytes};
 ghost use Rattle.utf_base.specs.Kinds.{is_continuation};
@@ -40,13 +41,13 @@ pub(crate) fn decode_start(src: &[u8]) -> Result<(char, usize), Utf8Error>
     if src.is_empty() {
         return Err(Utf8Error::new(Utf8ErrorKind::TooFewBytes));
     }
-    // One test sets apart what needs no other byte. In damaged text its answer is the easiest to
-    // foresee.
+    if src[0] < 0x80 {
+        return Ok((char::from(src[0]), 1));
+    }
     if begins_many(src[0]) {
         return decode_many(src);
     }
     match src[0] {
-        0x00..=0x7f => Ok((char::from(src[0]), 1)),
         0x80..=0xbf => Err(Utf8Error::new(Utf8ErrorKind::UnexpectedContinuationByte)),
         _ => Err(Utf8Error::new(Utf8ErrorKind::NonUtf8Byte)),
     }
@@ -107,33 +108,45 @@ pub(crate) fn value_of_four(first: u8, second: u8, third: u8, fourth: u8) -> u32
 
 // The code of a number below 0x110000, then zeros, and how many bytes the code has.
 #[inline(always)]
-#[tactic(auto, unfolding(utf_base::specs::Code::utf8, crate::specs::Padded::padded))]
 fn encode_number(s: u32) -> ([u8; 4], usize)
     requires { s < 0x11_0000 }
     ensures code { result.0 ≡ padded 4 (utf8 s) }
     ensures len { result.1 ≡ length (utf8 s) }
 {
+    let (code, len) = code_in_one_number(s);
+    (code.to_le_bytes(), len)
+}
+
+// The same in one number, whose lowest byte is the first: so the code stays in one register.
+#[inline(always)]
+#[tactic(auto, unfolding(utf_base::specs::Code::utf8, crate::specs::Padded::padded))]
+fn code_in_one_number(s: u32) -> (u32, usize)
+    requires { s < 0x11_0000 }
+    ensures code { result.0 ≡ from_le_bytes w32 (padded 4 (utf8 s)) }
+    ensures len { result.1 ≡ length (utf8 s) }
+{
     if s < 0x80 {
-        return ([s as u8, 0, 0, 0], 1);
+        return (s, 1);
     }
     let last = continuation(s);
     if s < 0x800 {
-        return ([0xc0 | (s >> 6) as u8, last, 0, 0], 2);
+        return (0xc0 + (s >> 6) + (last << 8), 2);
     }
     let third = continuation(s >> 6);
     if s < 0x1_0000 {
-        return ([0xe0 | (s >> 12) as u8, third, last, 0], 3);
+        return (0xe0 + (s >> 12) + (third << 8) + (last << 16), 3);
     }
     let second = continuation(s >> 12);
-    ([0xf0 | (s >> 18) as u8, second, third, last], 4)
+    let code = 0xf0 + (s >> 18) + (second << 8) + (third << 16) + (last << 24);
+    (code, 4)
 }
 
 // The lowest six bits, as a continuation byte.
 #[inline(always)]
-fn continuation(bits: u32) -> u8
+fn continuation(bits: u32) -> u32
     ensures { result ≡ 0x80 + bits % 64 }
 {
-    0x80 | (bits & 0x3f) as u8
+    0x80 | bits & 0x3f
 }
 
 // Whether the byte has the form of one behind the first of a code.
@@ -171,6 +184,25 @@ fn begins_many(first: u8) -> bool
 // The character that begins the bytes, where the first asks for two or more.
 #[inline(always)]
 fn decode_many(src: &[u8]) -> Result<(char, usize), Utf8Error>
+    requires some { 0 < length src.now }
+    requires low { 0xC2 ≤ slice_index src.now 0 }
+    requires high { slice_index src.now 0 < 0xF5 }
+    ensures { DecodesFront as_scalar src.now result }
+{
+    if src.len() < 4 {
+        return decode_asked(src);
+    }
+    // Before the first byte says how many: in damaged text this answer is the easier to foresee. With so
+    // many bytes and this one known, a compiler leaves out most tests of what follows.
+    if !continues(src[1]) {
+        return Err(Utf8Error::new(Utf8ErrorKind::InterruptedSequence));
+    }
+    decode_asked(src)
+}
+
+// The same, by how many the first asks for.
+#[inline(always)]
+fn decode_asked(src: &[u8]) -> Result<(char, usize), Utf8Error>
     requires some { 0 < length src.now }
     requires low { 0xC2 ≤ slice_index src.now 0 }
     requires high { slice_index src.now 0 < 0xF5 }
@@ -216,12 +248,10 @@ fn decode_three(src: &[u8]) -> Result<(char, usize), Utf8Error>
         return Err(Utf8Error::new(Utf8ErrorKind::InterruptedSequence));
     }
     let value = value_of_three(src[0], src[1], src[2]);
-    if value < 0x800 {
-        return Err(Utf8Error::new(Utf8ErrorKind::OverlongEncoding));
-    }
-    match char::from_u32(value) {
-        Some(c) => Ok((c, 3)),
-        None => Err(Utf8Error::new(Utf8ErrorKind::Utf16ReservedCodepoint)),
+    match value {
+        0x0000..=0x07ff => Err(Utf8Error::new(Utf8ErrorKind::OverlongEncoding)),
+        0xd800..=0xdfff => Err(Utf8Error::new(Utf8ErrorKind::Utf16ReservedCodepoint)),
+        _ => Ok((unsafe { char::from_u32_unchecked(value) }, 3)),
     }
 }
 
@@ -240,11 +270,9 @@ fn decode_four(src: &[u8]) -> Result<(char, usize), Utf8Error>
         return Err(Utf8Error::new(Utf8ErrorKind::InterruptedSequence));
     }
     let value = value_of_four(src[0], src[1], src[2], src[3]);
-    if value < 0x1_0000 {
-        return Err(Utf8Error::new(Utf8ErrorKind::OverlongEncoding));
-    }
-    match char::from_u32(value) {
-        Some(c) => Ok((c, 4)),
-        None => Err(Utf8Error::new(Utf8ErrorKind::TooHighCodepoint)),
+    match value {
+        0x0000..=0xffff => Err(Utf8Error::new(Utf8ErrorKind::OverlongEncoding)),
+        0x1_0000..=0x10_ffff => Ok((unsafe { char::from_u32_unchecked(value) }, 4)),
+        _ => Err(Utf8Error::new(Utf8ErrorKind::TooHighCodepoint)),
     }
 }

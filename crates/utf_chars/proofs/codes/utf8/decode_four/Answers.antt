@@ -1,7 +1,7 @@
-use Rattle.std.proofs.Common.{◌≤◌, ◌∙◌, arith, sym}
+use Rattle.std.proofs.Common.{◌<◌, ◌≤◌, ◌∙◌, arith, sym}
+use Rattle.utf_base.specs.Scalar.{IsScalar}
 use Rattle.utf_base.proofs.FrontLemmas.{least_value-4}
 use Rattle.utf_base.proofs.KindCases.{Asks-4, kind-few, interrupted-4, Sums-4, kind-overlong, kind-too_high, begins_with}
-use Rattle.utf_base.proofs.StdText.{scalar_from_std}
 use Rattle.utf_chars.proofs.codes.utf8.decode_four.Goals as goal
 
 pub returns-then-src-lt4 : goal.returns-then-src-lt4
@@ -15,22 +15,25 @@ returns-then-not-all_continue c =
     rw c.new-then-not-all_continue.ensures
     (interrupted-4 _ asks c.if-src-lt4.false (sym c.all_continue.ensures ∙ c.if-not-all_continue.true))
 
-pub returns-then-value-lt65536 : goal.returns-then-value-lt65536
-returns-then-value-lt65536 c =
+pub returns-in-0-to-65535 : goal.returns-in-0-to-65535
+returns-in-0-to-65535 c =
+    let low : c.value_of_four-value.result < 0x1_0000 = omega arith in
     let asks = Asks-4 _ c.requires.some c.requires.low c.requires.high in
     let sums = Sums-4 _ _ asks c.if-src-lt4.false (sym c.all_continue.ensures ∙ c.if-not-all_continue.false) c.value_of_four-value.ensures in
-    rw c.new-then-value-lt65536.ensures (kind-overlong _ 4 _ sums (rw least_value-4 c.if-value-lt65536.true))
+    rw c.new-in-0-to-65535.ensures (kind-overlong _ 4 _ sums (rw least_value-4 low))
 
-pub returns-in-Some : goal.returns-in-Some
-returns-in-Some c =
+pub returns-in-65536-to-1114111 : goal.returns-in-65536-to-1114111
+returns-in-65536-to-1114111 c =
+    let least : 0x1_0000 ≤ c.value_of_four-value.result = omega arith in
+    let scalar : IsScalar c.value_of_four-value.result = record { below = omega arith; no_surrogate = λ h. omega arith } in
     let asks = Asks-4 _ c.requires.some c.requires.low c.requires.high in
     let sums = Sums-4 _ _ asks c.if-src-lt4.false (sym c.all_continue.ensures ∙ c.if-not-all_continue.false) c.value_of_four-value.ensures in
-    let made = c.in-Some.ensures.value in
-    rw made.1 (begins_with _ 4 _ sums (rw least_value-4 c.if-value-lt65536.false) (scalar_from_std _ made.0))
+    rw c.from_u32_unchecked.ensures (begins_with _ 4 _ sums (rw least_value-4 least) scalar)
 
-pub returns-in-None : goal.returns-in-None
-returns-in-None c =
-    let high : 0x11_0000 ≤ c.value_of_four-value.result = grind (arith, c.in-None.ensures.cases) in
+pub returns-in_default : goal.returns-in_default
+returns-in_default c =
+    let least : 0x1_0000 ≤ c.value_of_four-value.result = omega arith in
+    let high : 0x11_0000 ≤ c.value_of_four-value.result = omega arith in
     let asks = Asks-4 _ c.requires.some c.requires.low c.requires.high in
     let sums = Sums-4 _ _ asks c.if-src-lt4.false (sym c.all_continue.ensures ∙ c.if-not-all_continue.false) c.value_of_four-value.ensures in
-    rw c.new-in-None.ensures (kind-too_high _ 4 _ sums (rw least_value-4 c.if-value-lt65536.false) high)
+    rw c.new-in_default.ensures (kind-too_high _ 4 _ sums (rw least_value-4 least) high)

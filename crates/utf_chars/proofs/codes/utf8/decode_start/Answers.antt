@@ -9,8 +9,8 @@ use Rattle.utf_chars.proofs.codes.utf8.decode_start.Goals as goal
 pub returns-then-is_empty : goal.returns-then-is_empty
 returns-then-is_empty c = rw c.new.ensures (kind-empty _ (grind (arith, common_steps)))
 
-pub returns-in-0-to-127 : goal.returns-in-0-to-127
-returns-in-0-to-127 c =
+pub returns-then-src-lt128 : goal.returns-then-src-lt128
+returns-then-src-lt128 c =
     let some : 0 < length c.args.src.now = grind (arith, common_steps) in
     rw c.from.ensures (begins_with-1 _ some (omega arith))
 
