@@ -1,6 +1,5 @@
 use super::*;
 use crate::fakes::{FakeReader, FakeWriter, Refusing};
-use std::alloc::Global;
 use std::process::Abort;
 use std::test::Fail;
 
