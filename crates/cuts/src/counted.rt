@@ -70,16 +70,7 @@ impl<W: Write> Counted<W> {
         ensures failures { self.new.failures ≡ self.old.failures + put_failures result bytes.now }
         ensures flushes { self.new.flushes ≡ self.old.flushes }
     {
-        let answer = self.inner.write(bytes);
-        match answer {
-            Err(_) => self.failures.tick(),
-            Ok(count) => {
-                if count == 0 && !bytes.is_empty() {
-                    self.failures.tick();
-                }
-            }
-        }
-        answer
+        write_once(bytes, &mut self.inner, &mut self.failures)
     }
 
     /// One call of the inner `flush`, with its answer. A failure is an error.
@@ -98,7 +89,53 @@ impl<W: Write> Counted<W> {
     }
 }
 
-/// Writes all the bytes to a writer whose failures are counted.
+// One call of `write`, with its answer, and the count of failures.
+#[inline(always)]
+fn write_once<W: Write>(bytes: &[u8], to: &mut W, failures: &mut Tally) -> io::Result<usize>
+    ensures at_most { WritesAtMost result bytes.now }
+    ensures appends { WriteAppends (W.contents to.old) (W.contents to.new) result bytes.now }
+    ensures failures { failures.new.count ≡ failures.old.count + put_failures result bytes.now }
+{
+    let answer = to.write(bytes);
+    match answer {
+        Err(_) => failures.tick(),
+        Ok(count) => {
+            if count == 0 && !bytes.is_empty() {
+                failures.tick();
+            }
+        }
+    }
+    answer
+}
+
+/// Writes all the bytes to a writer whose failures it counts, in as many calls of `write` as it takes,
+/// none for no bytes.
+///
+/// The first failure ends it, `Interrupted` too: with the writer's error, or with `WriteZero` where the
+/// writer took nothing.
+#[inline(always)]
+pub(crate) fn write_whole<W: Write>(
+    bytes: &[u8],
+    to: &mut W,
+    failures: &mut Tally,
+) -> io::Result<()>
+    ensures ok { OnOk result (Appends (W.contents to.old) (W.contents to.new) bytes.now) }
+    ensures front { AppendsFront (W.contents to.old) (W.contents to.new) bytes.now }
+    ensures quiet { OnOk result (failures.new.count ≡ failures.old.count) }
+    ensures err { OnErr result (failures.old.count < failures.new.count) }
+{
+    let mut sent = 0;
+    while sent < bytes.len() {
+        let count = write_once(&bytes[sent..], to, failures)?;
+        if count == 0 {
+            return Err(io::Error::from(io::ErrorKind::WriteZero));
+        }
+        sent += count;
+    }
+    Ok(())
+}
+
+/// Writes all the bytes, as `write_whole` does.
 #[inline(always)]
 pub(crate) fn put_whole<W: Write>(bytes: &[u8], out: &mut Counted<W>) -> io::Result<()>
     ensures ok { OnOk result
@@ -109,31 +146,7 @@ pub(crate) fn put_whole<W: Write>(bytes: &[u8], out: &mut Counted<W>) -> io::Res
     ensures never_fewer { out.old.failures ≤ out.new.failures }
     ensures unflushed { out.new.flushes ≡ out.old.flushes }
 {
-    let answer = write_whole(bytes, &mut out.inner);
-    if answer.is_err() {
-        out.failures.tick();
-    }
-    answer
-}
-
-/// Writes all the bytes, in as many calls of `write` as it takes, none for no bytes.
-///
-/// The first failure ends it, `Interrupted` too: with the writer's error, or with `WriteZero` where the
-/// writer took nothing.
-#[inline(always)]
-pub(crate) fn write_whole<W: Write>(bytes: &[u8], to: &mut W) -> io::Result<()>
-    ensures ok { OnOk result (Appends (W.contents to.old) (W.contents to.new) bytes.now) }
-    ensures front { AppendsFront (W.contents to.old) (W.contents to.new) bytes.now }
-{
-    let mut sent = 0;
-    while sent < bytes.len() {
-        let count = to.write(&bytes[sent..])?;
-        if count == 0 {
-            return Err(io::Error::from(io::ErrorKind::WriteZero));
-        }
-        sent += count;
-    }
-    Ok(())
+    write_whole(bytes, &mut out.inner, &mut out.failures)
 }
 
 #[cfg(test)]
@@ -144,12 +157,41 @@ mod tests {
     use std::io::ErrorKind;
 
     fn make_writer(alloc: Global, calls_left: u32, stalls: bool) -> Counted<FakeWriter> {
-        Counted::new(FakeWriter {
-            bytes: Vec::new(alloc),
-            calls_left,
-            most: 2,
-            stalls,
-        })
+        let mut writer = FakeWriter::failing(alloc, calls_left);
+        writer.most = 2;
+        writer.stalls = stalls;
+        Counted::new(writer)
+    }
+
+    #[test]
+    fn a_put_is_one_call(rt: HostRuntime) {
+        for kind in [ErrorKind::Interrupted, ErrorKind::BrokenPipe] {
+            let mut writer = FakeWriter::failing(rt.alloc(), 1);
+            writer.faults_left = 1;
+            writer.fault = kind;
+            let mut out = Counted::new(writer);
+            assert_eq!(rt; out.put(b"abc").ok(), Some(3));
+            assert_eq!(rt; out.put(b"defg").err().map(|e| e.kind()), Some(kind));
+            assert_eq!(rt; out.put(b"hijkl").ok(), Some(5));
+            assert_eq!(rt; out.put(b"").ok(), Some(0));
+            let writer = out.into_inner();
+            assert_eq!(rt; writer.given.as_slice(), [3, 4, 5, 0].as_slice());
+            assert_eq!(rt; writer.bytes.as_slice(), b"abchijkl".as_slice());
+            assert_eq!(rt; writer.flushes, 0);
+        }
+    }
+
+    #[test]
+    fn a_flush_is_one_call(rt: HostRuntime) {
+        for fault in [None, Some(ErrorKind::Interrupted)] {
+            let mut writer = FakeWriter::ample(rt.alloc());
+            writer.flush_fault = fault;
+            let mut out = Counted::new(writer);
+            assert_eq!(rt; out.flush().err().map(|e| e.kind()), fault);
+            let writer = out.into_inner();
+            assert_eq!(rt; writer.flushes, 1);
+            assert!(rt; writer.given.is_empty());
+        }
     }
 
     #[test]

@@ -1,5 +1,5 @@
 //! What the program `pieces` does, over any reader and writers.
-ghost use Rattle.std.specs.Prelude.{◌≡◌, ◌≢◌, ◌+◌, ◌<◌, ◌≤◌, [], ◌∷◌, length, drop, codes, vec_len, Contains, IfOk, IfErr, IfSome, IsOkAnd, OnOk, OnErr};
+ghost use Rattle.std.specs.Prelude.{◌≡◌, ◌≢◌, ◌+◌, ◌<◌, ◌≤◌, [], ◌∷◌, length, drop, codes, map, string_bytes, Contains, IfOk, IfErr, IfSome, IsOkAnd, OnOk, OnErr};
 ghost use Rattle.std.specs.Io.KnownBytes.{Appends, Keeps};
 ghost use Rattle.std.specs.IoError.{error_kind};
 ghost use Rattle.cuts.specs.Failures.{AppendsFront};
@@ -10,6 +10,7 @@ use crate::listing::write_listing;
 use std::alloc::{Allocator, Global};
 use std::io::{ErrorKind, Read, Write};
 use std::{fmt, io};
+use utf_base::tally::Tally;
 
 #[cfg(test)]
 mod tests;
@@ -34,22 +35,29 @@ impl Stop {
         ensures status { result ≡ status_of self }
         ensures line { AppendsFront (E.contents faults.old) (E.contents faults.new) (stop_line program.now self) }
     {
-        let _ = self.write_line(program, faults);
+        let _ = self.write_line(program, faults, &mut Tally::new());
         match self {
             Stop::WrongArguments => 2,
             Stop::CannotRead | Stop::CannotWrite | Stop::NoMemory => 3,
         }
     }
 
-    /// Writes the line that says why, with the program's name before it, up to the writer's first failure.
-    pub fn write_line<E: Write>(self, program: &str, faults: &mut E) -> io::Result<()>
+    // Writes the line that says why, with the program's name before it, up to the writer's first failure,
+    // which is counted.
+    fn write_line<E: Write>(
+        self,
+        program: &str,
+        faults: &mut E,
+        failures: &mut Tally,
+    ) -> io::Result<()>
         ensures whole { OnOk result (Appends (E.contents faults.old) (E.contents faults.new) (stop_line program.now self)) }
         ensures front { AppendsFront (E.contents faults.old) (E.contents faults.new) (stop_line program.now self) }
+        ensures err { OnErr result (failures.old.count < failures.new.count) }
     {
-        write_whole(program.as_bytes(), faults)?;
-        write_whole(b": ", faults)?;
-        write_whole(self.text().as_bytes(), faults)?;
-        write_whole(b"\n", faults)
+        write_whole(program.as_bytes(), faults, failures)?;
+        write_whole(b": ", faults, failures)?;
+        write_whole(self.text().as_bytes(), faults, failures)?;
+        write_whole(b"\n", faults, failures)
     }
 
     // What is said of it.
@@ -87,7 +95,7 @@ pub const PROGRAM: &str = "pieces";
 /// all. Any other error is that memory was refused.
 pub fn arguments_of(alloc: Global, words: io::Result<Vec<String>>) -> Result<Vec<String>, Stop>
     ensures behind_name { IfOk words (λ all. IsOkAnd result (λ args. args.items ≡ drop 1 all.items)) }
-    ensures no_text { IfErr words (λ error. error_kind error ≡ ErrorKind.InvalidData → IfOk result (λ args. vec_len args ≡ 1)) }
+    ensures no_text { IfErr words (λ error. error_kind error ≡ ErrorKind.InvalidData → IfOk result (λ args. map string_bytes args.items ≡ [] ∷ [])) }
     ensures refused { IfErr words (λ error. error_kind error ≢ ErrorKind.InvalidData → result ≡ Err Stop.NoMemory) }
     ensures err { IfErr result (λ stop. stop ≡ Stop.NoMemory) }
 {
@@ -147,6 +155,7 @@ pub fn finish_run<W: Write, E: Write>(status: u8, out: &mut Counted<W>, faults: 
     ensures keeps { Keeps (W.contents out.old.inner) (W.contents out.new.inner) }
     ensures whole { out.new.failures ≡ out.old.failures → (result ≡ status) × (faults.new ≡ faults.old) }
     ensures early { 2 ≤ status → out.new ≡ out.old }
+    ensures never_fewer { out.old.failures ≤ out.new.failures }
     ensures failed { out.old.failures < out.new.failures → EndsEarly (codes "pieces") out.old out.new (E.contents faults.old) (E.contents faults.new) result }
 {
     if status >= 2 {

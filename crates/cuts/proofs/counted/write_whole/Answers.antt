@@ -5,5 +5,6 @@ use Rattle.cuts.proofs.counted.write_whole.Goals as goal
 pub loop-sent-preserved : goal.loop-sent-preserved
 loop-sent-preserved g c = record {
   in_range = search rules;
-  front = sent_more _ _ _ _ c.loop-sent.sent _ c.loop-sent.invariant.front c.in_ok-count.ensures.bytes;
+  front = sent_more _ _ _ _ c.loop-sent.sent _ c.loop-sent.invariant.front c.in_ok-count.ensures.appends;
+  quiet = search rules;
 }
