@@ -1,17 +1,19 @@
 -- A forward run, one answer after another: from the contract of one call and the laws of cuts alone.
-use Rattle.std.proofs.Common.{◌≡◌, ℕ, ◌+◌, ◌<◌, ◌≤◌, List, [], ◌∷◌, ◌++◌, length, map, refl, ap, subst, arith, Ok, Err, Result}
+use Rattle.std.proofs.Common.{◌≡◌, ℕ, zero, suc, ◌+◌, ◌<◌, ◌≤◌, ⊎_elim, List, [], ◌∷◌, ◌++◌, length, map, refl, ap, subst, arith, append-nil, append_assoc, Some, None, Ok, Err, Result}
+use Rattle.std.proofs.lemmas.Bool.{cases_lt}
 use Rattle.std.proofs.lemmas.List.{map-append, take_rest}
 use Rattle.std.proofs.lemmas.List.Elements.{All-push}
 use Rattle.std.specs.Prelude.{All, slice_range}
 use Rattle.std.specs.Result.{result_ok}
 use Rattle.utf_base.specs.declared.errors.Utf8ErrorKind.{Utf8ErrorKind}
 use Rattle.utf_base.specs.Code.{utf8}
-use Rattle.utf_base.specs.Piece.{Inside, IsPieceAt, IsCutBetween}
+use Rattle.utf_base.specs.Kinds.{fault_kind}
+use Rattle.utf_base.specs.Piece.{Stands, Inside, IsPieceAt, IsCutBetween}
 use Rattle.utf_base.proofs.Cuts.{front_char, front_fault, cut_none, cut_push, piece_some}
-use Rattle.utf_base.proofs.FrontLemmas.{no_code_where_fault}
+use Rattle.utf_base.proofs.FrontLemmas.{code_or_one_fault, no_code_where_fault}
 use Rattle.utf_base.proofs.Standing.{outside_front, outside_end}
 use Rattle.utf_base.proofs.Utf8Code.{utf8_is_code}
-use Rattle.encode_unicode.specs.Window.{Window, Item, whole_window, GivesFront, GivesNone, IsFrontPiece}
+use Rattle.encode_unicode.specs.Window.{Window, Item, elements, whole_window, without_front, GivesFront, GivesNone, IsFrontPiece}
 use Rattle.cuts.specs.Runs.{piece_of, HasForwardKind, IsForwardRun}
 
 -- The items are the run as far as the window's front, and the rest of the list is in the window.
@@ -81,3 +83,39 @@ item_some xs items w v x f g =
     let p = at_front xs w.front x.2 x.1 lt f.outside f_is in
     let some = piece_some utf8 utf8_is_code xs w.front x.2 (result_ok x.1) p.piece in
     rw g.left (omega arith)
+
+-- a window that is not empty has a first item
+front_item : (w : Window) → w.front < w.back → (x : Item) × GivesFront w x (without_front w x.2)
+front_item w some =
+    ⊎_elim
+    (λ (h : (s : ℕ) × Stands utf8 (elements w) 0 s × (fault_kind (elements w) ≡ None)).
+    ((w.front, Ok h.0, length (utf8 h.0)), record { some = some; place = refl; piece = (h.1, refl); left = refl }))
+    (λ (h : (k : Utf8ErrorKind) × (fault_kind (elements w) ≡ Some k) × ((s : ℕ) → Stands utf8 (elements w) 0 s → ⊥)).
+    ((w.front, Err h.0, 1), record { some = some; place = refl; piece = (h.1, refl); left = refl }))
+    (code_or_one_fault (elements w))
+
+-- The run, whatever it has come to, goes on to the end.
+pub record GoesOn (xs : List ℕ) (items : List Item) : Type 0 where
+  pub more : List Item
+  pub run : IsForwardRun xs (items ++ more)
+
+goes_on_end : (xs : List ℕ) (items : List Item) (w : Window) → IsRunSoFar xs items w → w.back ≤ w.front → GoesOn xs items
+goes_on_end xs items w f none =
+    let ordered = f.ordered in
+    record { more = []; run = rw append-nil (IsForwardRun-all xs items w w f (record { none = omega arith; left = refl })) }
+
+goes_on : (fuel : ℕ) (xs : List ℕ) (items : List Item) (w : Window) → IsRunSoFar xs items w → w.back ≤ w.front + fuel → GoesOn xs items
+goes_on zero xs items w f enough = goes_on_end xs items w f (omega arith)
+goes_on (suc fuel) xs items w f enough =
+    ⊎_elim
+    (λ (some : w.front < w.back).
+    let first = front_item w some in
+    let v = without_front w first.0.2 in
+    let shorter = item_some xs items w v first.0 f first.1 in
+    let rest = goes_on fuel xs (items ++ first.0 ∷ []) v (IsRunSoFar-push xs items w v first.0 f first.1) (omega arith) in
+    record { more = first.0 ∷ rest.more; run = rw (← append_assoc items (first.0 ∷ []) rest.more) rest.run })
+    (λ (none : w.back ≤ w.front). goes_on_end xs items w f none)
+    (cases_lt w.front w.back)
+
+pub GoesOn-always : (xs : List ℕ) (items : List Item) (w : Window) → IsRunSoFar xs items w → GoesOn xs items
+GoesOn-always xs items w f = goes_on w.back xs items w f (omega arith)

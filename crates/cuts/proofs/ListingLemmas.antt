@@ -5,9 +5,11 @@ use Rattle.std.specs.Io.KnownBytes.{Appends}
 use Rattle.std.proofs.KnownBytes.{Appends-trans}
 use Rattle.std.specs.Prelude.{is_err}
 use Rattle.encode_unicode.specs.Window.{Window, Item, whole_window, GivesFront, GivesNone}
+use Rattle.cuts.specs.Failures.{AppendsFront}
 use Rattle.cuts.specs.Lines.{item_line}
-use Rattle.cuts.specs.Runs.{listing, fault_count, WritesListing}
-use Rattle.cuts.proofs.ForwardRuns.{IsRunSoFar, IsRunSoFar-none, IsRunSoFar-push, IsForwardRun-all, item_some}
+use Rattle.cuts.specs.Runs.{listing, fault_count, WritesListing, WritesListingFront}
+use Rattle.cuts.proofs.ForwardRuns.{IsRunSoFar, IsRunSoFar-none, IsRunSoFar-push, IsForwardRun-all, item_some, GoesOn-always}
+use Rattle.cuts.proofs.Fronts.{AppendsFront-none, AppendsFront-all, AppendsFront-first, AppendsFront-then}
 
 -- The lines of the run as far as the window's front are written, and its errors counted.
 pub record IsListedSoFar (xs : List ℕ) (old new : Option (List ℕ)) (faults : ℕ) (w : Window) : Type 0 where
@@ -52,3 +54,32 @@ WritesListing-all xs old new faults w v f g = record {
   written = f.written;
   counted = f.counted;
 }
+
+listing-append : (items more : List Item) → listing (items ++ more) ≡ listing items ++ listing more
+listing-append items more = grind (arith, common_steps)
+
+-- what is listed so far is a front, and the lines to come are the rest
+pub WritesListingFront-so_far : (xs : List ℕ) (old new : Option (List ℕ)) (items : List Item) (w : Window)
+    → IsRunSoFar xs items w → AppendsFront old new (listing items) → WritesListingFront xs old new
+WritesListingFront-so_far xs old new items w run front =
+    let rest = GoesOn-always xs items w run in
+    record {
+      items = items ++ rest.more;
+      run = rest.run;
+      written = rw (listing-append items rest.more) (AppendsFront-first old new (listing items) (listing rest.more) front);
+    }
+
+-- the writer failed at the line of one more item
+pub WritesListingFront-failed : (xs : List ℕ) (old mid new : Option (List ℕ)) (faults : ℕ) (w v : Window) (x : Item) → IsListedSoFar xs old mid faults w → GivesFront w x v
+    → AppendsFront mid new (item_line x) → WritesListingFront xs old new
+WritesListingFront-failed xs old mid new faults w v x f g line =
+    WritesListingFront-so_far xs old new (f.items ++ x ∷ []) v (IsRunSoFar-push xs f.items w v x f.run g)
+    (rw (listing-push f.items x) (AppendsFront-then old mid new (listing f.items) (item_line x) f.written line))
+
+-- the whole listing is a front of it
+pub WritesListingFront-all : (xs : List ℕ) (old new : Option (List ℕ)) (faults : ℕ) → WritesListing xs old new faults → WritesListingFront xs old new
+WritesListingFront-all xs old new faults h = record { items = h.items; run = h.run; written = AppendsFront-all old new (listing h.items) h.written }
+
+-- and so is nothing
+pub WritesListingFront-none : (xs : List ℕ) (held : Option (List ℕ)) → WritesListingFront xs held held
+WritesListingFront-none xs held = WritesListingFront-so_far xs held held [] (whole_window xs) (IsRunSoFar-none xs) (AppendsFront-none held [])

@@ -6,6 +6,7 @@ use Rattle.utf_base.specs.Code.{utf8}
 use Rattle.utf_base.specs.Kinds.{fault_kind}
 use Rattle.utf_base.specs.Piece.{Piece, IsCut}
 use Rattle.encode_unicode.specs.Window.{Item}
+use Rattle.cuts.specs.Failures.{AppendsFront}
 use Rattle.cuts.specs.Lines.{item_line}
 
 -- the piece that an item is
@@ -35,3 +36,9 @@ pub record WritesListing (xs : List ℕ) (old new : Option (List ℕ)) (faults :
   pub run : IsForwardRun xs items
   pub written : Appends old new (listing items)
   pub counted : faults ≡ fault_count items
+
+-- known bytes grew by a front of that listing, as when a writer fails on the way
+pub record WritesListingFront (xs : List ℕ) (old new : Option (List ℕ)) : Type 0 where
+  pub items : List Item
+  pub run : IsForwardRun xs items
+  pub written : AppendsFront old new (listing items)

@@ -1,23 +1,24 @@
-//! A writer whose failures are counted, for contracts alone.
+//! A writer whose failures and flushes are counted, for contracts alone.
 //!
-//! A contract can then say that a function answers an error only where its writer failed: the count rose.
-//! The count takes no memory. Nothing here hands out the counter or the writer behind a `&mut`, so that
-//! only a call of `put` that failed raises the count.
+//! A contract can then say that a function answers an error only where its writer failed, since the count
+//! rose, and that it flushed. The counts take no memory. Nothing here hands out a counter or the writer
+//! behind a `&mut`, so that only a call that failed raises the one count, and only `flush` the other.
 ghost use Rattle.std.specs.Prelude.{◌≡◌, ◌+◌, ◌<◌, ◌≤◌, OnOk, OnErr};
 ghost use Rattle.std.specs.Io.{WritesAtMost};
-ghost use Rattle.std.specs.Io.KnownBytes.{Appends, WriteAppends};
-ghost use Rattle.cuts.specs.Failures.{put_failures, AppendsFront};
+ghost use Rattle.std.specs.Io.KnownBytes.{Appends, Keeps, WriteAppends};
+ghost use Rattle.cuts.specs.Failures.{put_failures, flush_failures, AppendsFront};
 
 use std::io;
 use std::io::Write;
 use std::marker::Model;
 use utf_base::tally::Tally;
 
-/// A writer, and how many of its calls failed.
+/// A writer, how many of its calls failed, and how often it was flushed.
 #[derive(Drop)]
 pub struct Counted<T> {
     inner: T,
     failures: Tally,
+    flushes: Tally,
 }
 
 impl<T> Model for Counted<T> {
@@ -25,7 +26,7 @@ impl<T> Model for Counted<T> {
 
     ghost Value = { Counting T };
 
-    ghost view = { λ c. record { inner = c.inner; failures = c.failures.count } };
+    ghost view = { λ c. record { inner = c.inner; failures = c.failures.count; flushes = c.flushes.count } };
 }
 
 impl<T> Counted<T> {
@@ -34,19 +35,25 @@ impl<T> Counted<T> {
     pub fn new(inner: T) -> Counted<T>
         ensures inner { result.inner ≡ inner }
         ensures failures { result.failures ≡ 0 }
+        ensures flushes { result.flushes ≡ 0 }
     {
         Counted {
             inner,
             failures: Tally::new(),
+            flushes: Tally::new(),
         }
     }
 
-    /// The writer, whose failures are counted no more.
+    /// The writer, whose calls are counted no more.
     #[inline(always)]
     pub fn into_inner(self) -> T
         ensures { result ≡ self.inner }
     {
-        let Counted { inner, failures: _ } = self;
+        let Counted {
+            inner,
+            failures: _,
+            flushes: _,
+        } = self;
         inner
     }
 }
@@ -61,44 +68,85 @@ impl<W: Write> Counted<W> {
         ensures appends { WriteAppends (W.contents self.old.inner) (W.contents self.new.inner)
             result bytes.now }
         ensures failures { self.new.failures ≡ self.old.failures + put_failures result bytes.now }
+        ensures flushes { self.new.flushes ≡ self.old.flushes }
     {
-        let answer = self.inner.write(bytes);
-        match answer {
-            Err(_) => self.failures.tick(),
-            Ok(count) => {
-                if count == 0 && !bytes.is_empty() {
-                    self.failures.tick();
-                }
-            }
+        write_once(bytes, &mut self.inner, &mut self.failures)
+    }
+
+    /// One call of the inner `flush`, with its answer. A failure is an error.
+    #[inline(always)]
+    pub fn flush(&mut self) -> io::Result<()>
+        ensures keeps { Keeps (W.contents self.old.inner) (W.contents self.new.inner) }
+        ensures failures { self.new.failures ≡ self.old.failures + flush_failures result }
+        ensures flushes { self.new.flushes ≡ self.old.flushes + 1 }
+    {
+        self.flushes.tick();
+        let answer = self.inner.flush();
+        if answer.is_err() {
+            self.failures.tick();
         }
         answer
     }
 }
 
-/// Writes all the bytes, in as many calls of `put` as it takes, none for no bytes.
+// One call of `write`, with its answer, and the count of failures.
+#[inline(always)]
+fn write_once<W: Write>(bytes: &[u8], to: &mut W, failures: &mut Tally) -> io::Result<usize>
+    ensures at_most { WritesAtMost result bytes.now }
+    ensures appends { WriteAppends (W.contents to.old) (W.contents to.new) result bytes.now }
+    ensures failures { failures.new.count ≡ failures.old.count + put_failures result bytes.now }
+{
+    let answer = to.write(bytes);
+    match answer {
+        Err(_) => failures.tick(),
+        Ok(count) => {
+            if count == 0 && !bytes.is_empty() {
+                failures.tick();
+            }
+        }
+    }
+    answer
+}
+
+/// Writes all the bytes to a writer whose failures it counts, in as many calls of `write` as it takes,
+/// none for no bytes.
 ///
 /// The first failure ends it, `Interrupted` too: with the writer's error, or with `WriteZero` where the
 /// writer took nothing.
 #[inline(always)]
-pub(crate) fn put_whole<W: Write>(bytes: &[u8], out: &mut Counted<W>) -> io::Result<()>
-    ensures ok { OnOk result
-        (Appends (W.contents out.old.inner) (W.contents out.new.inner) bytes.now) }
-    ensures front { OnErr result
-        (AppendsFront (W.contents out.old.inner) (W.contents out.new.inner) bytes.now) }
-
-    ensures quiet { OnOk result (out.new.failures ≡ out.old.failures) }
-    ensures err { OnErr result (out.old.failures < out.new.failures) }
-    ensures never_fewer { out.old.failures ≤ out.new.failures }
+pub(crate) fn write_whole<W: Write>(
+    bytes: &[u8],
+    to: &mut W,
+    failures: &mut Tally,
+) -> io::Result<()>
+    ensures ok { OnOk result (Appends (W.contents to.old) (W.contents to.new) bytes.now) }
+    ensures front { AppendsFront (W.contents to.old) (W.contents to.new) bytes.now }
+    ensures quiet { OnOk result (failures.new.count ≡ failures.old.count) }
+    ensures err { OnErr result (failures.old.count < failures.new.count) }
 {
     let mut sent = 0;
     while sent < bytes.len() {
-        let count = out.put(&bytes[sent..])?;
+        let count = write_once(&bytes[sent..], to, failures)?;
         if count == 0 {
             return Err(io::Error::from(io::ErrorKind::WriteZero));
         }
         sent += count;
     }
     Ok(())
+}
+
+/// Writes all the bytes, as `write_whole` does.
+#[inline(always)]
+pub(crate) fn put_whole<W: Write>(bytes: &[u8], out: &mut Counted<W>) -> io::Result<()>
+    ensures ok { OnOk result
+        (Appends (W.contents out.old.inner) (W.contents out.new.inner) bytes.now) }
+    ensures front { AppendsFront (W.contents out.old.inner) (W.contents out.new.inner) bytes.now }
+    ensures quiet { OnOk result (out.new.failures ≡ out.old.failures) }
+    ensures err { OnErr result (out.old.failures < out.new.failures) }
+    ensures never_fewer { out.old.failures ≤ out.new.failures }
+    ensures unflushed { out.new.flushes ≡ out.old.flushes }
+{
+    write_whole(bytes, &mut out.inner, &mut out.failures)
 }
 
 #[cfg(test)]
@@ -109,12 +157,41 @@ mod tests {
     use std::io::ErrorKind;
 
     fn make_writer(alloc: Global, calls_left: u32, stalls: bool) -> Counted<FakeWriter> {
-        Counted::new(FakeWriter {
-            bytes: Vec::new(alloc),
-            calls_left,
-            most: 2,
-            stalls,
-        })
+        let mut writer = FakeWriter::failing(alloc, calls_left);
+        writer.most = 2;
+        writer.stalls = stalls;
+        Counted::new(writer)
+    }
+
+    #[test]
+    fn a_put_is_one_call(rt: HostRuntime) {
+        for kind in [ErrorKind::Interrupted, ErrorKind::BrokenPipe] {
+            let mut writer = FakeWriter::failing(rt.alloc(), 1);
+            writer.faults_left = 1;
+            writer.fault = kind;
+            let mut out = Counted::new(writer);
+            assert_eq!(rt; out.put(b"abc").ok(), Some(3));
+            assert_eq!(rt; out.put(b"defg").err().map(|e| e.kind()), Some(kind));
+            assert_eq!(rt; out.put(b"hijkl").ok(), Some(5));
+            assert_eq!(rt; out.put(b"").ok(), Some(0));
+            let writer = out.into_inner();
+            assert_eq!(rt; writer.given.as_slice(), [3, 4, 5, 0].as_slice());
+            assert_eq!(rt; writer.bytes.as_slice(), b"abchijkl".as_slice());
+            assert_eq!(rt; writer.flushes, 0);
+        }
+    }
+
+    #[test]
+    fn a_flush_is_one_call(rt: HostRuntime) {
+        for fault in [None, Some(ErrorKind::Interrupted)] {
+            let mut writer = FakeWriter::ample(rt.alloc());
+            writer.flush_fault = fault;
+            let mut out = Counted::new(writer);
+            assert_eq!(rt; out.flush().err().map(|e| e.kind()), fault);
+            let writer = out.into_inner();
+            assert_eq!(rt; writer.flushes, 1);
+            assert!(rt; writer.given.is_empty());
+        }
     }
 
     #[test]

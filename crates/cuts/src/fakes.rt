@@ -7,27 +7,49 @@ use std::alloc::{AllocError, Allocator, Global};
 use std::io;
 use std::io::{ErrorKind, Read, Write};
 
-/// A writer that keeps what it took, and fails by `BrokenPipe` at each call after the first `calls_left`.
+/// A writer that keeps what it took and what it was asked, and fails at some calls behind the first
+/// `calls_left`.
 #[derive(Drop)]
 pub(crate) struct FakeWriter {
     pub(crate) bytes: Vec<u8>,
     pub(crate) calls_left: u32,
 
-    /// How many bytes a call takes at most.
-    pub(crate) most: usize,
+    /// How many calls then fail, before it goes on.
+    pub(crate) faults_left: u32,
+    pub(crate) fault: ErrorKind,
 
     /// Whether it fails by taking nothing instead.
     pub(crate) stalls: bool,
+
+    /// How many bytes a call takes at most.
+    pub(crate) most: usize,
+
+    /// How many bytes each call was given.
+    pub(crate) given: Vec<usize>,
+
+    /// How often it was flushed.
+    pub(crate) flushes: u32,
+    pub(crate) flush_fault: Option<ErrorKind>,
 }
 
 impl FakeWriter {
     /// A writer that takes all that it is given.
     pub(crate) fn ample(alloc: Global) -> FakeWriter {
+        FakeWriter::failing(alloc, u32::MAX)
+    }
+
+    /// A writer that takes what the first calls give it, and then fails by `BrokenPipe`.
+    pub(crate) fn failing(alloc: Global, calls_left: u32) -> FakeWriter {
         FakeWriter {
             bytes: Vec::new(alloc),
-            calls_left: u32::MAX,
-            most: usize::MAX,
+            calls_left,
+            faults_left: u32::MAX,
+            fault: ErrorKind::BrokenPipe,
             stalls: false,
+            most: usize::MAX,
+            given: Vec::new(alloc),
+            flushes: 0,
+            flush_fault: None,
         }
     }
 }
@@ -36,20 +58,27 @@ impl Write for FakeWriter {
     ghost contents = { λ f. Some f.bytes.items };
 
     fn write(&mut self, buf: &[u8]) -> io::Result<usize> {
-        if self.calls_left == 0 {
+        self.given.push(buf.len())?;
+        if self.calls_left > 0 {
+            self.calls_left -= 1;
+        } else if self.faults_left > 0 {
+            self.faults_left -= 1;
             if self.stalls {
                 return Ok(0);
             }
-            return Err(io::Error::from(ErrorKind::BrokenPipe));
+            return Err(io::Error::from(self.fault));
         }
-        self.calls_left -= 1;
         let count = buf.len().min(self.most);
         self.bytes.extend_from_slice(&buf[..count])?;
         Ok(count)
     }
 
     fn flush(&mut self) -> io::Result<()> {
-        Ok(())
+        self.flushes = self.flushes.saturating_add(1);
+        match self.flush_fault {
+            Some(kind) => Err(io::Error::from(kind)),
+            None => Ok(()),
+        }
     }
 }
 
@@ -59,6 +88,9 @@ pub(crate) struct FakeReader<'a> {
     pub(crate) bytes: &'a [u8],
     pub(crate) calls_left: u32,
     pub(crate) fault: Option<ErrorKind>,
+
+    /// How often it was called.
+    pub(crate) calls: u32,
 
     /// How many bytes a call gives at most. None would be the end of the bytes.
     pub(crate) most: usize,
@@ -72,6 +104,7 @@ impl<'a> FakeReader<'a> {
             bytes,
             calls_left: 0,
             fault: None,
+            calls: 0,
             most: 2,
         }
     }
@@ -81,6 +114,7 @@ impl Read for FakeReader<'_> {
     ghost remaining = { λ r. Some r.bytes.now };
 
     fn read(&mut self, buf: &mut [u8]) -> io::Result<usize> {
+        self.calls = self.calls.saturating_add(1);
         if self.calls_left > 0 {
             self.calls_left -= 1;
         } else if let Some(kind) = self.fault.take() {
@@ -118,6 +152,7 @@ mod tests {
             bytes: b"abc",
             calls_left: 1,
             fault: Some(ErrorKind::Interrupted),
+            calls: 0,
             most: 2,
         };
         let mut buf = [0; 4];
@@ -129,5 +164,6 @@ mod tests {
         assert_eq!(rt; reader.read(&mut buf).ok(), Some(1));
         assert_eq!(rt; reader.read(&mut buf).ok(), Some(0));
         assert_eq!(rt; buf, *b"cb\0\0");
+        assert_eq!(rt; reader.calls, 4);
     }
 }

@@ -1,7 +1,7 @@
 //! The listing of some bytes: a line for each piece of their one cut.
 ghost use Rattle.std.specs.Prelude.{◌≡◌, ◌<◌, ◌≤◌, length, IfOk, OnOk, OnErr};
 ghost use Rattle.cuts.specs.Lines.{kind_name, item_line};
-ghost use Rattle.cuts.specs.Runs.{WritesListing};
+ghost use Rattle.cuts.specs.Runs.{WritesListing, WritesListingFront};
 
 use crate::counted::{Counted, put_whole};
 use crate::line::Line;
@@ -22,11 +22,13 @@ pub type Item = (usize, Result<Utf8Char, Utf8Error>, usize);
 ///
 /// A line is the offset and the length in decimal, and the scalar in six hexadecimal digits or the name
 /// of the error. Lines go out as they are made: nothing is kept, and no memory is taken. After an error
-/// of the writer some lines may stand there, the last of them in part.
+/// of the writer a front of the same lines stands there, the last of them perhaps in part.
 pub fn write_listing<W: Write>(src: &[u8], out: &mut Counted<W>) -> io::Result<usize>
     ensures listing { IfOk result (WritesListing src.now (W.contents out.old.inner) (W.contents out.new.inner)) }
+    ensures front { WritesListingFront src.now (W.contents out.old.inner) (W.contents out.new.inner) }
     ensures quiet { OnOk result (out.new.failures ≡ out.old.failures) }
     ensures err { OnErr result (out.old.failures < out.new.failures) }
+    ensures unflushed { out.new.flushes ≡ out.old.flushes }
 {
     let mut faults = 0;
     for item in Utf8CharDecoder::from(src) {

@@ -1,13 +1,16 @@
 //! What the program `pieces` does, over any reader and writers.
-ghost use Rattle.std.specs.Prelude.{◌≡◌, ◌≢◌, ◌<◌, length, IfOk, IfSome, OnErr};
-ghost use Rattle.cuts.specs.Programs.{status_of, ListsInput, IsListingRun};
-ghost use Rattle.cuts.specs.Runs.{WritesListing};
+ghost use Rattle.std.specs.Prelude.{◌≡◌, ◌≢◌, ◌+◌, ◌<◌, ◌≤◌, [], ◌∷◌, length, drop, codes, map, string_bytes, Contains, IfOk, IfErr, IfSome, IsOkAnd, OnOk, OnErr};
+ghost use Rattle.std.specs.Io.KnownBytes.{Appends, Keeps};
+ghost use Rattle.std.specs.IoError.{error_kind};
+ghost use Rattle.cuts.specs.Failures.{AppendsFront};
+ghost use Rattle.cuts.specs.Programs.{status_of, stop_text, stop_line, IsDrained, FailsOrStays, EndsEarly, ListsFront, ListsInput, IsListingRun};
 
-use crate::counted::Counted;
+use crate::counted::{Counted, write_whole};
 use crate::listing::write_listing;
-use std::alloc::Allocator;
-use std::fmt;
+use std::alloc::{Allocator, Global};
 use std::io::{ErrorKind, Read, Write};
+use std::{fmt, io};
+use utf_base::tally::Tally;
 
 #[cfg(test)]
 mod tests;
@@ -29,12 +32,43 @@ impl Stop {
     /// The status of the program, after the line that says why on standard error. Whether the line
     /// could be written is ignored.
     pub fn report<E: Write>(self, program: &str, faults: &mut E) -> u8
-        ensures { result ≡ status_of self }
+        ensures status { result ≡ status_of self }
+        ensures line { AppendsFront (E.contents faults.old) (E.contents faults.new) (stop_line program.now self) }
     {
-        let _ = writeln!(faults, "{program}: {self}");
+        let _ = self.write_line(program, faults, &mut Tally::new());
         match self {
             Stop::WrongArguments => 2,
             Stop::CannotRead | Stop::CannotWrite | Stop::NoMemory => 3,
+        }
+    }
+
+    // Writes the line that says why, with the program's name before it, up to the writer's first failure,
+    // which is counted.
+    fn write_line<E: Write>(
+        self,
+        program: &str,
+        faults: &mut E,
+        failures: &mut Tally,
+    ) -> io::Result<()>
+        ensures whole { OnOk result (Appends (E.contents faults.old) (E.contents faults.new) (stop_line program.now self)) }
+        ensures front { AppendsFront (E.contents faults.old) (E.contents faults.new) (stop_line program.now self) }
+        ensures err { OnErr result (failures.old.count < failures.new.count) }
+    {
+        write_whole(program.as_bytes(), faults, failures)?;
+        write_whole(b": ", faults, failures)?;
+        write_whole(self.text().as_bytes(), faults, failures)?;
+        write_whole(b"\n", faults, failures)
+    }
+
+    // What is said of it.
+    fn text(self) -> &'static str
+        ensures { result.now ≡ stop_text self }
+    {
+        match self {
+            Stop::WrongArguments => "wrong arguments",
+            Stop::CannotRead => "cannot read",
+            Stop::CannotWrite => "cannot write",
+            Stop::NoMemory => "no memory",
         }
     }
 }
@@ -48,12 +82,34 @@ impl fmt::Display for Stop {
     ghost styled_output = { λ s _. Some (stop_text s) };
 
     fn fmt<W: fmt::Write>(&self, f: &mut fmt::Formatter<W>) -> fmt::Result {
-        f.write_str(match self {
-            Stop::WrongArguments => "wrong arguments",
-            Stop::CannotRead => "cannot read",
-            Stop::CannotWrite => "cannot write",
-            Stop::NoMemory => "no memory",
-        })
+        f.write_str(self.text())
+    }
+}
+
+/// The name that `pieces` gives itself on standard error.
+pub const PROGRAM: &str = "pieces";
+
+/// The arguments behind the program's name, out of all its words.
+///
+/// Where a word is not UTF-8, which is an error of the kind `InvalidData`, the empty text stands for them
+/// all. Any other error is that memory was refused.
+pub fn arguments_of(alloc: Global, words: io::Result<Vec<String>>) -> Result<Vec<String>, Stop>
+    ensures behind_name { IfOk words (λ all. IsOkAnd result (λ args. args.items ≡ drop 1 all.items)) }
+    ensures no_text { IfErr words (λ error. error_kind error ≡ ErrorKind.InvalidData → IfOk result (λ args. map string_bytes args.items ≡ [] ∷ [])) }
+    ensures refused { IfErr words (λ error. error_kind error ≢ ErrorKind.InvalidData → result ≡ Err Stop.NoMemory) }
+    ensures err { IfErr result (λ stop. stop ≡ Stop.NoMemory) }
+{
+    match words {
+        Ok(mut words) => {
+            if !words.is_empty() {
+                words.remove(0);
+            }
+            Ok(words)
+        }
+        Err(error) if error.kind() == ErrorKind::InvalidData => {
+            vec![in alloc; String::new(alloc)].map_err(|_| Stop::NoMemory)
+        }
+        Err(_) => Err(Stop::NoMemory),
     }
 }
 
@@ -62,7 +118,7 @@ impl fmt::Display for Stop {
 /// It writes the listing of all that the reader gives: 0 says that it has no error line, 1 that it has
 /// one. Any argument is wrong, and then nothing is read or written, and the status is 2. Where reading
 /// or writing fails, or memory is refused, it is 3, and before all is read nothing is written. `faults`
-/// takes the line for standard error.
+/// takes the line for standard error, and nothing where the status is 0 or 1.
 pub fn run_pieces<A: Allocator + Copy, R: Read, W: Write, E: Write>(
     alloc: A,
     args: &[String<A>],
@@ -71,6 +127,12 @@ pub fn run_pieces<A: Allocator + Copy, R: Read, W: Write, E: Write>(
     faults: &mut E,
 ) -> u8
     ensures listing { result < 2 → ListsInput (R.remaining input.old) (W.contents out.old.inner) (W.contents out.new.inner) result }
+    ensures front { ListsFront (R.remaining input.old) (W.contents out.old.inner) (W.contents out.new.inner) }
+    ensures drained { result < 2 → IsDrained (R.remaining input.old) (R.remaining input.new) }
+    ensures quiet { result < 2 → out.new.failures ≡ out.old.failures }
+    ensures silent { result < 2 → faults.new ≡ faults.old }
+    ensures early { 2 ≤ result → EndsEarly (codes "pieces") out.old out.new (E.contents faults.old) (E.contents faults.new) result }
+    ensures unflushed { out.new.flushes ≡ out.old.flushes }
     ensures wrong { 0 < length args.now → result ≡ 2 }
     ensures untouched { 0 < length args.now → (input.new ≡ input.old) × (out.new ≡ out.old) }
     ensures right { length args.now ≡ 0 → result ≢ 2 }
@@ -80,7 +142,28 @@ pub fn run_pieces<A: Allocator + Copy, R: Read, W: Write, E: Write>(
     match list_input(alloc, args, input, out) {
         Ok(0) => 0,
         Ok(_) => 1,
-        Err(stop) => stop.report("pieces", faults),
+        Err(stop) => stop.report(PROGRAM, faults),
+    }
+}
+
+/// The status of `pieces` behind `run_pieces`, which gave this one.
+///
+/// Where the input was listed the output is flushed, once, and where that fails the status is 3 and
+/// `faults` takes the line for standard error. Any other status stays, and nothing is done.
+pub fn finish_run<W: Write, E: Write>(status: u8, out: &mut Counted<W>, faults: &mut E) -> u8
+    ensures flushed { status < 2 → out.new.flushes ≡ out.old.flushes + 1 }
+    ensures keeps { Keeps (W.contents out.old.inner) (W.contents out.new.inner) }
+    ensures whole { out.new.failures ≡ out.old.failures → (result ≡ status) × (faults.new ≡ faults.old) }
+    ensures early { 2 ≤ status → out.new ≡ out.old }
+    ensures never_fewer { out.old.failures ≤ out.new.failures }
+    ensures failed { out.old.failures < out.new.failures → EndsEarly (codes "pieces") out.old out.new (E.contents faults.old) (E.contents faults.new) result }
+{
+    if status >= 2 {
+        return status;
+    }
+    match out.flush() {
+        Ok(()) => status,
+        Err(_) => Stop::CannotWrite.report(PROGRAM, faults),
     }
 }
 
@@ -92,6 +175,11 @@ fn list_input<A: Allocator + Copy, R: Read, W: Write>(
     out: &mut Counted<W>,
 ) -> Result<usize, Stop>
     ensures listing { IfOk result (IsListingRun (R.remaining input.old) (W.contents out.old.inner) (W.contents out.new.inner)) }
+    ensures front { ListsFront (R.remaining input.old) (W.contents out.old.inner) (W.contents out.new.inner) }
+    ensures drained { OnOk result (IsDrained (R.remaining input.old) (R.remaining input.new)) }
+    ensures quiet { OnOk result (out.new.failures ≡ out.old.failures) }
+    ensures early { IfErr result (λ stop. FailsOrStays stop out.old out.new) }
+    ensures unflushed { out.new.flushes ≡ out.old.flushes }
     ensures wrong { 0 < length args.now → (result ≡ Err Stop.WrongArguments) × (input.new ≡ input.old) × (out.new ≡ out.old) }
     ensures right { length args.now ≡ 0 → result ≢ Err Stop.WrongArguments }
     ensures unwritten { OnErr result (out.new.failures ≡ out.old.failures → out.new ≡ out.old) }
@@ -109,7 +197,8 @@ fn list_input<A: Allocator + Copy, R: Read, W: Write>(
 // All bytes that the reader still gives.
 fn read_whole<A: Allocator, R: Read>(alloc: A, input: &mut R) -> Result<Vec<u8, A>, Stop>
     ensures bytes { IfOk result (λ bytes. IfSome (R.remaining input.old) (λ xs. bytes.items ≡ xs)) }
-    ensures right { result ≢ Err Stop.WrongArguments }
+    ensures drained { OnOk result (IsDrained (R.remaining input.old) (R.remaining input.new)) }
+    ensures right { IfErr result (λ stop. Contains (Stop.CannotRead ∷ Stop.NoMemory ∷ []) stop) }
 {
     let mut bytes = Vec::new(alloc);
     match input.read_to_end(&mut bytes) {

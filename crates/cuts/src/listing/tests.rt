@@ -46,7 +46,14 @@ fn pieces_have_their_lines(rt: HostRuntime) {
             Some(faults),
             "{lines}"
         );
-        assert_eq!(rt; out.into_inner().bytes.as_slice(), lines.as_bytes());
+        let writer = out.into_inner();
+        assert_eq!(rt; writer.bytes.as_slice(), lines.as_bytes());
+        assert_eq!(rt;
+            writer.given.len(),
+            lines.lines().count(),
+            "a call for each line"
+        );
+        assert_eq!(rt; writer.flushes, 0);
     }
 }
 
@@ -55,9 +62,8 @@ fn a_failure_ends_the_listing(rt: HostRuntime) {
     let line = b"0 2 0000e9\n".as_slice();
     for (stalls, kind) in [(false, ErrorKind::BrokenPipe), (true, ErrorKind::WriteZero)] {
         for calls in 0..11 {
-            let mut writer = FakeWriter::ample(rt.alloc());
+            let mut writer = FakeWriter::failing(rt.alloc(), calls);
             writer.most = 1;
-            writer.calls_left = calls;
             writer.stalls = stalls;
             let mut out = Counted::new(writer);
             let answer = write_listing(b"\xc3\xa9", &mut out);

@@ -1,6 +1,6 @@
 use super::*;
 use crate::fakes::{FakeReader, FakeWriter, Refusing};
-use std::alloc::Global;
+use std::alloc::AllocError;
 use std::process::Abort;
 use std::test::Fail;
 
@@ -55,18 +55,118 @@ fn a_run_lists_its_input(rt: HostRuntime) {
     }
 }
 
+fn words_of(alloc: Global, texts: &[&str]) -> Result<Vec<String>, AllocError> {
+    let mut words = Vec::new(alloc);
+    for text in texts {
+        words.push(String::from_str(alloc, text)?)?;
+    }
+    Ok(words)
+}
+
 #[test]
 fn any_argument_is_wrong(rt: HostRuntime) -> Result<(), Fail> {
-    for word in ["", "x"] {
-        let args = [String::from_str(rt.alloc(), word)?];
+    let table: [&[&str]; 3] = [&[""], &["x"], &["x", "y"]];
+    for texts in table {
+        let args = words_of(rt.alloc(), texts)?;
         let mut input = mixed();
-        input.calls_left = 9;
         let mut out = Counted::new(FakeWriter::ample(rt.alloc()));
-        ends(&rt, &args, &mut input, &mut out, 2, WRONG_ARGUMENTS);
-        assert_eq!(rt; input.calls_left, 9, "nothing is read");
-        assert_eq!(rt; out.into_inner().calls_left, u32::MAX, "nothing is written");
+        ends(
+            &rt,
+            args.as_slice(),
+            &mut input,
+            &mut out,
+            2,
+            WRONG_ARGUMENTS,
+        );
+        assert_eq!(rt; input.calls, 0, "nothing is read");
+        assert!(rt; out.into_inner().given.is_empty(), "nothing is written");
     }
     Ok(())
+}
+
+// Of these words, these are the arguments.
+fn stand_behind(
+    rt: &(impl Abort + AllocGlobal),
+    words: &[&str],
+    args: &[&str],
+) -> Result<(), AllocError> {
+    let words = words_of(rt.alloc(), words)?;
+    let want = words_of(rt.alloc(), args)?;
+    assert_eq!(rt; arguments_of(rt.alloc(), Ok(words)), Ok(want));
+    Ok(())
+}
+
+#[test]
+fn arguments_stand_behind_the_name(rt: HostRuntime) -> Result<(), Fail> {
+    stand_behind(&rt, &[], &[])?;
+    stand_behind(&rt, &["pieces"], &[])?;
+    stand_behind(&rt, &["pieces", "x"], &["x"])?;
+    stand_behind(&rt, &["", "", "pieces"], &["", "pieces"])?;
+    Ok(())
+}
+
+#[test]
+fn words_may_be_no_text(rt: HostRuntime) -> Result<(), Fail> {
+    let one = words_of(rt.alloc(), &[""])?;
+    let not_text = io::Error::from(ErrorKind::InvalidData);
+    assert_eq!(rt; arguments_of(rt.alloc(), Err(not_text)), Ok(one));
+    let refused = io::Error::from(ErrorKind::OutOfMemory);
+    assert_eq!(rt; arguments_of(rt.alloc(), Err(refused)), Err(Stop::NoMemory));
+    Ok(())
+}
+
+// 1,100 times 999 letters and a fault.
+fn long_input(alloc: Global) -> Result<Vec<u8>, AllocError> {
+    let mut part = [b'A'; 1000];
+    part[999] = 0x80;
+    let mut bytes = Vec::new(alloc);
+    for _ in 0..1100 {
+        bytes.extend_from_slice(&part)?;
+    }
+    Ok(bytes)
+}
+
+#[test]
+fn a_long_input_is_listed_whole(rt: HostRuntime) -> Result<(), Fail> {
+    let bytes = long_input(rt.alloc())?;
+    let mut out = Counted::new(FakeWriter::ample(rt.alloc()));
+    assert_eq!(rt; write_listing(bytes.as_slice(), &mut out).ok(), Some(1100));
+    let mut input = FakeReader::over(bytes.as_slice());
+    let mut out = Counted::new(FakeWriter::ample(rt.alloc()));
+    ends(&rt, &[], &mut input, &mut out, 1, "");
+    let writer = out.into_inner();
+    assert_eq!(rt; writer.given.len(), 1_100_000);
+
+    // 6,588,890 digits of offsets; a length and four separators a line; six digits, or the name of a fault.
+    assert_eq!(rt;
+        writer.bytes.len(),
+        6_588_890 + 4 * 1_100_000 + 6 * 1_098_900 + 26 * 1100
+    );
+    let text = writer.bytes.as_slice();
+    assert!(rt; text.starts_with(b"0 1 000041\n1 1 000041\n"));
+    assert!(rt; text.ends_with(b"\n1099998 1 000041\n1099999 1 UnexpectedContinuationByte\n"));
+    Ok(())
+}
+
+#[test]
+fn a_flush_may_fail(rt: HostRuntime) {
+    let table = [
+        (0, None, 0, "", 1),
+        (1, None, 1, "", 1),
+        (0, Some(ErrorKind::Other), 3, CANNOT_WRITE, 1),
+        (1, Some(ErrorKind::Interrupted), 3, CANNOT_WRITE, 1),
+        (2, Some(ErrorKind::Other), 2, "", 0),
+        (3, Some(ErrorKind::Other), 3, "", 0),
+    ];
+    for (before, fault, status, text, flushes) in table {
+        let mut writer = FakeWriter::ample(rt.alloc());
+        writer.flush_fault = fault;
+        let mut out = Counted::new(writer);
+        let mut faults = FakeWriter::ample(rt.alloc());
+        assert_eq!(rt; finish_run(before, &mut out, &mut faults), status);
+        assert_eq!(rt; faults.bytes.as_slice(), text.as_bytes());
+        assert_eq!(rt; out.into_inner().flushes, flushes);
+    }
 }
 
 #[test]
@@ -82,7 +182,7 @@ fn a_failing_reader_ends_the_run(rt: HostRuntime) {
             input.fault = Some(kind);
             let mut out = Counted::new(FakeWriter::ample(rt.alloc()));
             ends(&rt, &[], &mut input, &mut out, 3, text);
-            assert_eq!(rt; out.into_inner().calls_left, u32::MAX, "nothing is written");
+            assert!(rt; out.into_inner().given.is_empty(), "nothing is written");
         }
     }
 }
@@ -109,9 +209,8 @@ fn a_failing_writer_ends_the_run(rt: HostRuntime) {
             } else {
                 (1, "")
             };
-            let mut writer = FakeWriter::ample(rt.alloc());
+            let mut writer = FakeWriter::failing(rt.alloc(), calls);
             writer.most = 1;
-            writer.calls_left = calls;
             writer.stalls = stalls;
             let mut out = Counted::new(writer);
             ends(&rt, &[], &mut mixed(), &mut out, status, text);
@@ -132,14 +231,13 @@ fn refused_memory_ends_the_run(rt: HostRuntime) {
     let status = run_pieces(Refusing, &[], &mut mixed(), &mut out, &mut faults);
     assert_eq!(rt; status, 3);
     assert_eq!(rt; faults.bytes.as_slice(), NO_MEMORY.as_bytes());
-    assert_eq!(rt; out.into_inner().calls_left, u32::MAX, "nothing is written");
+    assert!(rt; out.into_inner().given.is_empty(), "nothing is written");
 }
 
 #[test]
 fn standard_error_may_fail(rt: HostRuntime) {
     for stalls in [false, true] {
-        let mut faults = FakeWriter::ample(rt.alloc());
-        faults.calls_left = 0;
+        let mut faults = FakeWriter::failing(rt.alloc(), 0);
         faults.stalls = stalls;
         let mut input = mixed();
         input.fault = Some(ErrorKind::Other);
@@ -150,14 +248,27 @@ fn standard_error_may_fail(rt: HostRuntime) {
 }
 
 #[test]
-fn stops_have_their_texts(rt: HostRuntime) -> Result<(), Fail> {
-    for (stop, text) in [
-        (Stop::WrongArguments, "wrong arguments"),
-        (Stop::CannotRead, "cannot read"),
-        (Stop::CannotWrite, "cannot write"),
-        (Stop::NoMemory, "no memory"),
+fn stops_have_their_lines(rt: HostRuntime) -> Result<(), Fail> {
+    for (stop, status, text, line) in [
+        (
+            Stop::WrongArguments,
+            2,
+            "wrong arguments",
+            "other: wrong arguments\n",
+        ),
+        (Stop::CannotRead, 3, "cannot read", "other: cannot read\n"),
+        (
+            Stop::CannotWrite,
+            3,
+            "cannot write",
+            "other: cannot write\n",
+        ),
+        (Stop::NoMemory, 3, "no memory", "other: no memory\n"),
     ] {
         assert_eq!(rt; stop.to_string(rt.alloc())?.as_str(), text);
+        let mut faults = FakeWriter::ample(rt.alloc());
+        assert_eq!(rt; stop.report("other", &mut faults), status);
+        assert_eq!(rt; faults.bytes.as_slice(), line.as_bytes());
     }
     Ok(())
 }

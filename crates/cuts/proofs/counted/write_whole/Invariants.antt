@@ -1,12 +1,12 @@
 use Rattle.std.proofs.Common.{◌≡◌, ◌≤◌, ◌-◌, length, take}
 use Rattle.std.specs.Io.KnownBytes.{Appends}
-use Rattle.cuts.proofs.counted.put_whole.Given as goal
+use Rattle.cuts.proofs.counted.write_whole.Given as goal
 
 abbrev pub invariant-loop-sent : goal.invariant-loop-sent
 invariant-loop-sent g l = record {
   in_range : l.sent ≤ length l.bytes;
-  front : Appends (g.W.Write.contents l.fn.out.inner) (g.W.Write.contents l.out.inner) (take l.sent l.bytes);
-  quiet : l.out.failures ≡ l.fn.out.failures;
+  front : Appends (g.W.Write.contents l.fn.to) (g.W.Write.contents l.to) (take l.sent l.bytes);
+  quiet : l.failures.count ≡ l.fn.failures.count;
 }
 
 abbrev pub decreases-loop-sent : goal.decreases-loop-sent

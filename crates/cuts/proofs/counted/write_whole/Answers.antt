@@ -1,6 +1,6 @@
 use Rattle.std.proofs.Common.{rules}
 use Rattle.cuts.proofs.Parts.{sent_more}
-use Rattle.cuts.proofs.counted.put_whole.Goals as goal
+use Rattle.cuts.proofs.counted.write_whole.Goals as goal
 
 pub loop-sent-preserved : goal.loop-sent-preserved
 loop-sent-preserved g c = record {
