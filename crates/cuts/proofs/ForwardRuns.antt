@@ -1,5 +1,6 @@
 -- A forward run, one answer after another: from the contract of one call and the laws of cuts alone.
-use Rattle.std.proofs.Common.{◌≡◌, ℕ, zero, suc, ◌+◌, ◌<◌, ◌≤◌, ⊎_elim, List, [], ◌∷◌, ◌++◌, length, map, refl, ap, subst, arith, append-nil, append_assoc, Some, None, Ok, Err, Result}
+use Rattle.std.proofs.Common.{◌≡◌, ℕ, zero, suc, ◌+◌, ◌<◌, ◌≤◌, ⊎_elim, List, [], ◌∷◌, ◌++◌, length, map, refl, ap, subst, arith, append-nil, append_assoc, Option, Some, None, Ok, Err, Result}
+use Rattle.std.proofs.lemmas.Grind.{common_steps}
 use Rattle.std.proofs.lemmas.Bool.{cases_lt}
 use Rattle.std.proofs.lemmas.List.{map-append, take_rest}
 use Rattle.std.proofs.lemmas.List.Elements.{All-push}
@@ -7,10 +8,11 @@ use Rattle.std.specs.Prelude.{All, slice_range}
 use Rattle.std.specs.Result.{result_ok}
 use Rattle.utf_base.specs.declared.errors.Utf8ErrorKind.{Utf8ErrorKind}
 use Rattle.utf_base.specs.Code.{utf8}
-use Rattle.utf_base.specs.Kinds.{fault_kind}
-use Rattle.utf_base.specs.Piece.{Stands, Inside, IsPieceAt, IsCutBetween}
+use Rattle.utf_base.specs.Kinds.{fault_kind, value}
+use Rattle.utf_base.specs.Piece.{Inside, IsPieceAt, IsCutBetween}
 use Rattle.utf_base.proofs.Cuts.{front_char, front_fault, cut_none, cut_push, piece_some}
-use Rattle.utf_base.proofs.FrontLemmas.{code_or_one_fault, no_code_where_fault}
+use Rattle.utf_base.proofs.FrontLemmas.{code_where_no_fault, no_code_where_fault}
+use Rattle.utf_base.proofs.DecodedLemmas.{answer_of_bytes, decoded_code, front_len_utf8}
 use Rattle.utf_base.proofs.Standing.{outside_front, outside_end}
 use Rattle.utf_base.proofs.Utf8Code.{utf8_is_code}
 use Rattle.encode_unicode.specs.Window.{Window, Item, elements, whole_window, without_front, GivesFront, GivesNone, IsFrontPiece}
@@ -85,14 +87,35 @@ item_some xs items w v x f g =
     rw g.left (omega arith)
 
 -- a window that is not empty has a first item
-front_item : (w : Window) → w.front < w.back → (x : Item) × GivesFront w x (without_front w x.2)
-front_item w some =
-    ⊎_elim
-    (λ (h : (s : ℕ) × Stands utf8 (elements w) 0 s × (fault_kind (elements w) ≡ None)).
-    ((w.front, Ok h.0, length (utf8 h.0)), record { some = some; place = refl; piece = (h.1, refl); left = refl }))
-    (λ (h : (k : Utf8ErrorKind) × (fault_kind (elements w) ≡ Some k) × ((s : ℕ) → Stands utf8 (elements w) 0 s → ⊥)).
-    ((w.front, Err h.0, 1), record { some = some; place = refl; piece = (h.1, refl); left = refl }))
-    (code_or_one_fault (elements w))
+front_item : (w : Window) → w.front < w.back → w.back ≤ length w.whole → (x : Item) × GivesFront w x (without_front w x.2)
+front_item w some fits = by_kind w some fits (fault_kind (elements w)) refl
+  where
+    by_kind : (w : Window) → w.front < w.back → w.back ≤ length w.whole → (k : Option Utf8ErrorKind) → fault_kind (elements w) ≡ k
+        → (x : Item) × GivesFront w x (without_front w x.2)
+    by_kind w some fits None e =
+        let code = (code_where_no_fault (elements w) e).0 in (
+          (w.front, Ok (value (elements w)), length (utf8 (value (elements w)))),
+          record {
+            some = some;
+            place = refl;
+            piece = (code, refl);
+            known = rw (decoded_code (elements w) _ code) refl;
+            len = front_len_utf8 (elements w) _ _ (code, refl);
+            left = refl;
+          },
+        )
+    by_kind w some fits (Some k) e =
+        let one : 1 ≤ length (elements w) = grind (arith, common_steps) in (
+          (w.front, Err k, 1),
+          record {
+            some = some;
+            place = refl;
+            piece = (e, refl);
+            known = rw (← answer_of_bytes (elements w) (Err k) e) refl;
+            len = (omega arith, omega arith, one);
+            left = refl;
+          },
+        )
 
 -- The run, whatever it has come to, goes on to the end.
 pub record GoesOn (xs : List ℕ) (items : List Item) : Type 0 where
@@ -109,7 +132,7 @@ goes_on zero xs items w f enough = goes_on_end xs items w f (omega arith)
 goes_on (suc fuel) xs items w f enough =
     ⊎_elim
     (λ (some : w.front < w.back).
-    let first = front_item w some in
+    let first = front_item w some (rw (f.whole, f.end) (omega arith)) in
     let v = without_front w first.0.2 in
     let shorter = item_some xs items w v first.0 f first.1 in
     let rest = goes_on fuel xs (items ++ first.0 ∷ []) v (IsRunSoFar-push xs items w v first.0 f first.1) (omega arith) in
