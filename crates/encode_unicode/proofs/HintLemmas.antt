@@ -5,12 +5,12 @@ use Rattle.std.specs.Prelude.{slice_range, Some}
 use Rattle.utf_base.specs.Code.{utf8}
 use Rattle.utf_base.proofs.Cuts.{count_of_cut}
 use Rattle.utf_base.proofs.FrontLemmas.{utf8_finds}
-use Rattle.utf_base.proofs.Utf8Code.{utf8_is_code, length-utf8}
+use Rattle.utf_base.proofs.Utf8Code.{utf8_is_code, length_utf8}
 use Rattle.encode_unicode.specs.Hints.{BoundsPieces}
 
 pub BoundsPieces-quarter : (xs : List ℕ) (i j : ℕ) → i ≤ j → j ≤ length xs → BoundsPieces (slice_range xs i j) ((j - i) / 4, Some (j - i))
 BoundsPieces-quarter xs i j lo hi ps h =
-    let count = count_of_cut utf8 utf8_is_code utf8_finds 4 length-utf8 (lit< tt) (slice_range xs i j) ps h in
+    let count = count_of_cut utf8 utf8_is_code utf8_finds 4 length_utf8 (lit< tt) (slice_range xs i j) ps h in
     let len : length (slice_range xs i j) ≡ j - i = grind (arith, common_steps) in
     let most = count.0 in
     let least = count.1 in

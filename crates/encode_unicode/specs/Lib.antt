@@ -1,3 +1,4 @@
+pub mod Words
 pub mod Window
 pub mod Hints
 pub use Rattle.utf_base.specs.Scalar

@@ -9,6 +9,8 @@ use encode_unicode::Utf8Char;
 pub mod alike;
 pub mod damage;
 pub mod lengths;
+pub mod opened;
+pub mod runs;
 pub mod texts;
 pub mod unchecked;
 

@@ -18,8 +18,8 @@ use Rattle.utf_base.specs.Units.{is_padded_units, is_surrogate, is_leading_surro
 use Rattle.utf_base.proofs.FrontLemmas.{decodes_from_stands, code_where_no_fault, no_fault_where_code}
 use Rattle.utf_base.proofs.Standing.{same_char, stands_alone}
 use Rattle.utf_base.proofs.UnitLemmas.{no_fault_where_units}
-use Rattle.utf_base.proofs.Utf8Code.{utf8_is_code, length-utf8}
-use Rattle.utf_base.proofs.Utf16Code.{length-utf16, StandsAsUnit, StandsAsPair, stands_cases, begins_with_pair, utf16_is_code, utf16-1, unit_value-unit, unit_value-pair}
+use Rattle.utf_base.proofs.Utf8Code.{utf8_is_code, length_utf8}
+use Rattle.utf_base.proofs.Utf16Code.{length_utf16, StandsAsUnit, StandsAsPair, stands_cases, begins_with_pair, utf16_is_code, utf16-1, unit_value-unit, unit_value-pair}
 
 -- Bytes.
 
@@ -142,7 +142,7 @@ padded_tuple u (Some v) s h e =
 pub front_len_utf8 : (w : List ℕ) (s n : ℕ) → BeginsWith utf8 w s n → IsFrontLen 4 w n
 front_len_utf8 w s n h =
     let some = utf8_is_code.some s h.0.scalar in
-    let most = length-utf8 s in
+    let most = length_utf8 s in
     let within = h.0.within in
     let len = h.1 in
     (omega arith, omega arith, omega arith)
@@ -150,7 +150,7 @@ front_len_utf8 w s n h =
 pub front_len_utf16 : (w : List ℕ) (s n : ℕ) → BeginsWith utf16 w s n → IsFrontLen 2 w n
 front_len_utf16 w s n h =
     let some = utf16_is_code.some s h.0.scalar in
-    let most = length-utf16 s in
+    let most = length_utf16 s in
     let within = h.0.within in
     let len = h.1 in
     (omega arith, omega arith, omega arith)

@@ -22,9 +22,9 @@ utf16-some : (s : ℕ) → IsScalar s → 0 < length (utf16 s)
 unfolding utf16
 utf16-some s h = grind (arith, common_steps)
 
-pub length-utf16 : (s : ℕ) → length (utf16 s) ≤ 2
+pub length_utf16 : (s : ℕ) → length (utf16 s) ≤ 2
 unfolding utf16
-length-utf16 s = grind (arith, common_steps)
+length_utf16 s = grind (arith, common_steps)
 
 -- a unit behind the first is a trailing surrogate
 utf16-follower : (s k : ℕ) → IsScalar s → 0 < k → k < length (utf16 s) → (0xDC00 ≤ get_or (utf16 s) k 0) × (get_or (utf16 s) k 0 < 0xE000)

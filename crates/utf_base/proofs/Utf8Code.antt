@@ -24,9 +24,9 @@ utf8-some : (s : ℕ) → IsScalar s → 0 < length (utf8 s)
 unfolding utf8
 utf8-some s h = grind (arith, common_steps)
 
-pub length-utf8 : (s : ℕ) → length (utf8 s) ≤ 4
+pub length_utf8 : (s : ℕ) → length (utf8 s) ≤ 4
 unfolding utf8
-length-utf8 s = grind (arith, common_steps)
+length_utf8 s = grind (arith, common_steps)
 
 -- a byte behind the first is a continuation byte
 pub utf8-follower : (s k : ℕ) → IsScalar s → 0 < k → k < length (utf8 s) → (0x80 ≤ get_or (utf8 s) k 0) × (get_or (utf8 s) k 0 < 0xC0)
