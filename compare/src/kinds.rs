@@ -2,7 +2,7 @@
 
 use crate::inputs::{self, Random, EDGE_CHARS};
 use crate::tally::Kind;
-use crate::{errors, ours, theirs};
+use crate::{errors, ours, theirs, unicode};
 
 /// The lists of bytes, as decoders and as texts.
 pub fn lists(seed: u64, count: usize) -> Vec<Kind> {
@@ -79,9 +79,21 @@ pub fn numbers(seed: u64) -> Vec<Kind> {
             &ours::utf16_char(number, byte, unit),
             &theirs::utf16_char(number, byte, unit),
         );
-        shown.compare(input, &ours::shown(number), &theirs::shown(number));
+        compare_shown(&mut shown, number);
     }
     vec![plain, chars, utf8, utf16, shown]
+}
+
+// `Debug` escapes a character that the Unicode version of its std does not know. One that is new must be shown
+// as it is here.
+fn compare_shown(kind: &mut Kind, number: u32) {
+    let (ours, judged) = (ours::shown(number), theirs::shown(number));
+    let differ = ours != judged.numbers;
+    if differ && unicode::is_new(number) && ours == theirs::shown_unescaped(number).numbers {
+        kind.pass_newer();
+    } else {
+        kind.compare(|| format!("{number:#x}"), &ours, &judged);
+    }
 }
 
 /// Characters beside bytes and units that are not their own.

@@ -10,10 +10,11 @@ mod ours;
 mod program;
 mod tally;
 mod theirs;
+mod unicode;
 
 use std::path::Path;
 use std::process::ExitCode;
-use tally::{Kind, MEANT};
+use tally::Kind;
 
 fn main() -> ExitCode {
     let args: Vec<String> = std::env::args().skip(1).collect();
@@ -60,10 +61,9 @@ fn print_and_keep(all: &mut Vec<Kind>, kinds: Vec<Kind>) {
 
 // Prints the sums, and answers how many differ.
 fn print_sums(kinds: &[Kind]) -> u64 {
-    let meant: u64 = kinds.iter().map(Kind::meant).sum();
     let cases: u64 = kinds.iter().map(Kind::cases).sum();
     let differ: u64 = kinds.iter().map(Kind::differ).sum();
-    println!("meant to differ: {MEANT}: {meant} cases");
+    kinds.iter().for_each(Kind::print_meant);
     println!("{cases} cases, {differ} differ");
     differ
 }

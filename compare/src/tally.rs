@@ -7,7 +7,10 @@ use crate::theirs::RANGE_START;
 const SHOWN: usize = 5;
 
 /// A difference that docs/DIFFERENCES.md has, under "Behaviour".
-pub const MEANT: &str = "CodepointError::TooHigh.error_range() begins one higher here";
+const RANGE_MEANT: &str = "CodepointError::TooHigh.error_range() begins one higher here";
+
+/// What `Debug` of a character follows, so that two versions of std may differ.
+const SHOWN_MEANT: &str = "Debug does not escape what came with Unicode 18.0 here";
 
 // Whether the two numbers of that name may differ so.
 fn is_meant(name: &str, ours: u64, theirs: u64) -> bool {
@@ -20,6 +23,7 @@ pub struct Kind {
     cases: u64,
     differ: u64,
     meant: u64,
+    why: &'static str,
     shown: Vec<String>,
 }
 
@@ -30,6 +34,7 @@ impl Kind {
             cases: 0,
             differ: 0,
             meant: 0,
+            why: RANGE_MEANT,
             shown: Vec::new(),
         }
     }
@@ -42,8 +47,18 @@ impl Kind {
         self.differ
     }
 
-    pub fn meant(&self) -> u64 {
-        self.meant
+    /// Counts a case that differs since the versions of Unicode do.
+    pub fn pass_newer(&mut self) {
+        self.cases += 1;
+        self.meant += 1;
+        self.why = SHOWN_MEANT;
+    }
+
+    /// How many cases differed and were meant to, where there are any.
+    pub fn print_meant(&self) {
+        if self.meant > 0 {
+            println!("meant to differ: {}: {} cases", self.why, self.meant);
+        }
     }
 
     /// Compares the answers to one input.

@@ -207,9 +207,24 @@ pub fn shown(number: u32) -> Answers {
     to
 }
 
-// Each text is written, and has a length and bytes.
+/// The same of a character that `Debug` does not escape.
+pub fn shown_unescaped(number: u32) -> Answers {
+    let mut to = Answers::default();
+    if let Some(c) = char::from_u32(number) {
+        for name in ["Utf8Char", "Utf16Char"] {
+            put_texts(&mut to, name, [c.to_string(), format!("'{c}'")]);
+        }
+    }
+    to
+}
+
 fn put_shown(to: &mut Answers, name: &'static str, c: impl Display + Debug) {
-    for text in [format!("{c}"), format!("{c:?}")] {
+    put_texts(to, name, [format!("{c}"), format!("{c:?}")]);
+}
+
+// Each text is written, and has a length and bytes.
+fn put_texts(to: &mut Answers, name: &'static str, texts: [String; 2]) {
+    for text in texts {
         to.put_bool(name, true);
         to.put_size(name, text.len());
         to.put_bytes(name, text.as_bytes());

@@ -1,5 +1,5 @@
 //! The code of a scalar in UTF-16 (RFC 2781).
-ghost use Rattle.std.specs.Prelude.{◌≡◌, ◌+◌, ◌-◌, ◌/◌, ◌%◌, ◌≤◌, ◌<◌, ◌&&◌, true, false, slice_index, if◌then◌else◌, IfNone};
+ghost use Rattle.std.specs.Prelude.{◌≡◌, ◌+◌, ◌-◌, ◌/◌, ◌%◌, ◌≤◌, ◌<◌, ◌&&◌, nat_lt, true, false, slice_index, if◌then◌else◌, IfNone};
 ghost use Rattle.utf_base.specs.declared.errors.units.Utf16SliceError.TheVariants.{FirstIsTrailingSurrogate};
 ghost use Rattle.utf_base.specs.Code.{utf16};
 ghost use Rattle.utf_base.specs.Front.{as_scalar, DecodesUnits, DecodesTwoUnits, DecodesTuple};
@@ -66,13 +66,15 @@ pub(crate) fn decode_start(src: &[u16]) -> Result<(char, usize), Utf16SliceError
         return Err(Utf16SliceError::EmptySlice);
     }
     let first = src[0];
-    if !is_surrogate(first) {
+    // Counted from the first surrogate: so each test of it is one of a bound.
+    let high = (first as u32).wrapping_sub(0xd800);
+    if high >= 0x800 {
         return Ok((char_of_unit(first), 1));
     }
     if src.len() < 2 {
         return Err(unpaired(first, Utf16SliceError::MissingSecond));
     }
-    if is_pair(first, src[1]) {
+    if is_pair(high, src[1]) {
         return Ok((char_of_surrogates(first, src[1]), 2));
     }
     Err(unpaired(first, Utf16SliceError::SecondIsNotTrailingSurrogate))
@@ -89,7 +91,7 @@ pub(crate) fn decode_array(units: [u16; 2]) -> Result<char, Utf16ArrayError>
     if !is_surrogate(first) {
         return Ok(char_of_unit(first));
     }
-    if is_pair(first, second) {
+    if is_pair(first as u32 - 0xd800, second) {
         return Ok(char_of_surrogates(first, second));
     }
     if ends_pair(first) {
@@ -185,14 +187,12 @@ fn is_surrogate(unit: u16) -> bool
     unit & 0xf800 == 0xd800
 }
 
-// Whether a surrogate and the unit behind it are a leading and a trailing one. Counted from the least of its
-// kind each is then below 0x400, and one comparison tells of both.
+// Whether a surrogate, counted from the first one, and the unit behind it are a leading and a trailing one:
+// so counted both are then below 0x400, and one comparison tells of both.
 #[inline(always)]
-fn is_pair(first: u16, second: u16) -> bool
-    requires { is_surrogate first ≡ true }
-    ensures { result ≡ (is_leading_surrogate first && is_trailing_surrogate second) }
+fn is_pair(high: u32, second: u16) -> bool
+    ensures { result ≡ (nat_lt high 0x400 && is_trailing_surrogate second) }
 {
-    let high = first as u32 - 0xd800;
     let low = (second as u32).wrapping_sub(0xdc00);
     (high >> 10) + (low >> 10) == 0
 }
