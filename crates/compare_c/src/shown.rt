@@ -1,6 +1,7 @@
 //! What formatting writes of a character.
+ghost use Rattle.std.specs.Prelude.{◌≤◌};
+
 use crate::sheet::Sheet;
-use arrayvec::ArrayString;
 use encode_unicode::{Utf8Char, Utf16Char};
 use std::fmt;
 use std::fmt::Write;
@@ -18,17 +19,44 @@ pub extern "C" fn compare_c_shown(number: u32, answers: &mut [u64]) -> usize {
     sheet.finish()
 }
 
-// Each text: whether it was written, and its length and bytes. The longest has 12 bytes, as '\u{10ffff}'.
+// What formatting wrote. The longest text of a character has 12 bytes, as '\u{10ffff}'.
+#[derive(Drop)]
+struct Shown {
+    bytes: [u8; 16],
+    len: usize,
+    ghost fits: { len ≤ 16 },
+}
+
+impl Write for Shown {
+    fn write_str(&mut self, text: &str) -> fmt::Result {
+        let room = &mut self.bytes[self.len..];
+        if room.len() < text.len() {
+            return Err(fmt::Error);
+        }
+        room[..text.len()].copy_from_slice(text.as_bytes());
+        self.len += text.len();
+        Ok(())
+    }
+}
+
+// Each text: whether it was written, and its length and bytes.
 fn put_shown<C: fmt::Display + fmt::Debug + Drop>(sheet: &mut Sheet<'_>, c: C) {
-    let mut plain = ArrayString::<16>::new();
+    let mut plain = nothing_shown();
     sheet.put_bool(write!(plain, "{c}").is_ok());
     put_text(sheet, &plain);
-    let mut quoted = ArrayString::<16>::new();
+    let mut quoted = nothing_shown();
     sheet.put_bool(write!(quoted, "{c:?}").is_ok());
     put_text(sheet, &quoted);
 }
 
-fn put_text(sheet: &mut Sheet<'_>, text: &str) {
-    sheet.put_size(text.len());
-    sheet.put_bytes(text.as_bytes());
+fn nothing_shown() -> Shown {
+    Shown {
+        bytes: [0; 16],
+        len: 0,
+    }
+}
+
+fn put_text(sheet: &mut Sheet<'_>, shown: &Shown) {
+    sheet.put_size(shown.len);
+    sheet.put_bytes(&shown.bytes[..shown.len]);
 }
