@@ -1,3 +1,4 @@
 pub mod Decoded
 pub mod PaddedLemmas
 pub mod PaddedUnits
+pub mod Ranges

@@ -148,3 +148,8 @@ front_padded-3 w s h n = rw (at_front w s 0 h (omega arith), at_front w s 1 h (o
 
 pub front_padded-4 : (w : List ℕ) (s : ℕ) → Stands utf8 w 0 s → 4 ≡ length (utf8 s) → get_or w 0 0 ∷ get_or w 1 0 ∷ get_or w 2 0 ∷ get_or w 3 0 ∷ [] ≡ padded 4 (utf8 s)
 front_padded-4 w s h n = rw (at_front w s 0 h (omega arith), at_front w s 1 h (omega arith), at_front w s 2 h (omega arith), at_front w s 3 h (omega arith)) (padded-4 (utf8 s) n)
+
+-- the code is what the array begins with
+pub code_of_padded : (places : ℕ) (code xs : List ℕ) (n : ℕ) → xs ≡ padded places code → n ≡ length code → take n xs ≡ code
+unfolding padded
+code_of_padded places code xs n e l = rw (e, l) (take_at code (replicate (places - length code) 0) _ refl)
