@@ -1,1 +1,3 @@
 pub mod HintLemmas
+pub mod Joined
+pub mod TextLemmas

@@ -4,10 +4,15 @@
 #![tactic(auto)]
 
 mod decoding_iterators;
+mod str_ext;
 #[cfg(test)]
 mod tests;
+mod text_window;
 mod traits;
+mod utf16_iterators;
+mod utf8_iterators;
 
+pub use str_ext::StrExt;
 pub use traits::U8SliceExt;
 pub use utf_base::traits::{U8UtfExt, U16UtfExt};
 pub use utf_chars::traits::CharExt;
@@ -26,4 +31,8 @@ pub mod error {
 pub mod iterator {
     //! The iterators that the calls of this crate make.
     pub use crate::decoding_iterators::Utf8CharDecoder;
+    pub use crate::utf8_iterators::{Utf8CharIndices, Utf8Chars};
+    pub use crate::utf16_iterators::{Utf16CharIndices, Utf16Chars};
+    pub use utf_chars::utf8_iterators::Utf8Iterator;
+    pub use utf_chars::utf16_iterators::Utf16Iterator;
 }
