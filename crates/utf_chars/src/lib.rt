@@ -4,7 +4,7 @@
 mod codes;
 pub mod laws;
 pub mod traits;
-mod unsent;
+pub mod unsent;
 pub mod utf16_char;
 pub mod utf16_iterators;
 pub mod utf8_char;

@@ -1,13 +1,18 @@
 //! What is left of the code of one character, in bytes or in units.
 ghost use Rattle.std.specs.Prelude.{◌≡◌, ◌≤◌, length, take, drop};
 ghost use Rattle.std.specs.Iterator.{YieldsFirst};
+ghost use Rattle.utf_base.specs.Code.{utf8, utf16};
 ghost use Rattle.utf_chars.specs.Taking.{fitting, filled};
 
+use crate::utf8_char::Utf8Char;
+use crate::utf16_char::Utf16Char;
+use std::fmt;
 use std::marker::Model;
 
-/// The elements of a code that have not been given yet.
+/// The elements of a code that have not been given yet: what iterators over codes keep. Contracts see
+/// their list.
 #[derive(Drop)]
-pub(crate) struct Unsent<T, const N: usize> {
+pub struct Unsent<T, const N: usize> {
     code: [T; N],
     front: usize,
     back: usize,
@@ -26,7 +31,7 @@ impl<T, const N: usize> Model for Unsent<T, N> {
 impl<T: Copy, const N: usize> Unsent<T, N> {
     /// The first `len` elements of the array.
     #[inline(always)]
-    pub(crate) fn new(code: [T; N], len: usize) -> Unsent<T, N>
+    pub fn new(code: [T; N], len: usize) -> Unsent<T, N>
         requires { len ≤ N }
         ensures { result ≡ take len code }
     {
@@ -39,7 +44,7 @@ impl<T: Copy, const N: usize> Unsent<T, N> {
 
     /// The same elements once more.
     #[inline(always)]
-    pub(crate) fn copy(&self) -> Unsent<T, N>
+    pub fn copy(&self) -> Unsent<T, N>
         ensures { result ≡ self.now }
     {
         Unsent {
@@ -51,7 +56,7 @@ impl<T: Copy, const N: usize> Unsent<T, N> {
 
     /// The elements, lent.
     #[inline(always)]
-    pub(crate) fn as_slice(&self) -> &[T]
+    pub fn as_slice(&self) -> &[T]
         ensures { result.now ≡ self.now }
     {
         let code = &self.code[..];
@@ -60,7 +65,7 @@ impl<T: Copy, const N: usize> Unsent<T, N> {
 
     /// How many elements there are.
     #[inline(always)]
-    pub(crate) fn len(&self) -> usize
+    pub fn len(&self) -> usize
         ensures { result ≡ length self.now }
     {
         self.back - self.front
@@ -68,7 +73,7 @@ impl<T: Copy, const N: usize> Unsent<T, N> {
 
     /// Takes the first element.
     #[inline(always)]
-    pub(crate) fn next(&mut self) -> Option<T>
+    pub fn next(&mut self) -> Option<T>
         ensures { YieldsFirst (λ rest. rest) self.old result self.new }
     {
         if self.front == self.back {
@@ -81,7 +86,7 @@ impl<T: Copy, const N: usize> Unsent<T, N> {
 
     /// Takes as many elements as the buffer has places, into its front, and answers how many they are.
     #[inline(always)]
-    pub(crate) fn take(&mut self, buf: &mut [T]) -> usize
+    pub fn take(&mut self, buf: &mut [T]) -> usize
         ensures count { result ≡ fitting buf.old self.old }
         ensures written { buf.new ≡ filled buf.old self.old }
         ensures left { self.new ≡ drop (length buf.old) self.old }
@@ -90,5 +95,30 @@ impl<T: Copy, const N: usize> Unsent<T, N> {
         buf[..count].copy_from_slice(&self.as_slice()[..count]);
         self.front += count;
         count
+    }
+}
+
+impl From<Utf8Char> for Unsent<u8, 4> {
+    ghost from_gives = { λ c bytes. bytes ≡ utf8 c };
+
+    #[inline(always)]
+    fn from(c: Utf8Char) -> Unsent<u8, 4> {
+        let (code, len) = c.to_array();
+        Unsent::new(code, len)
+    }
+}
+
+impl From<Utf16Char> for Unsent<u16, 2> {
+    ghost from_gives = { λ c units. units ≡ utf16 c };
+
+    #[inline(always)]
+    fn from(c: Utf16Char) -> Unsent<u16, 2> {
+        Unsent::new(c.to_array(), c.len())
+    }
+}
+
+impl<T: Copy + fmt::Debug, const N: usize> fmt::Debug for Unsent<T, N> {
+    fn fmt<W: fmt::Write>(&self, f: &mut fmt::Formatter<W>) -> fmt::Result {
+        fmt::Debug::fmt(self.as_slice(), f)
     }
 }

@@ -31,7 +31,7 @@ impl From<Utf16Char> for Utf16Iterator {
     #[inline(always)]
     fn from(c: Utf16Char) -> Utf16Iterator {
         Utf16Iterator {
-            unsent: Unsent::new(c.to_array(), c.len()),
+            unsent: Unsent::from(c),
         }
     }
 }
@@ -105,6 +105,6 @@ impl Clone for Utf16Iterator {
 
 impl fmt::Debug for Utf16Iterator {
     fn fmt<W: fmt::Write>(&self, f: &mut fmt::Formatter<W>) -> fmt::Result {
-        fmt::Debug::fmt(self.unsent.as_slice(), f)
+        fmt::Debug::fmt(&self.unsent, f)
     }
 }

@@ -35,9 +35,8 @@ impl From<Utf8Char> for Utf8Iterator {
 
     #[inline(always)]
     fn from(c: Utf8Char) -> Utf8Iterator {
-        let (code, len) = c.to_array();
         Utf8Iterator {
-            unsent: Unsent::new(code, len),
+            unsent: Unsent::from(c),
         }
     }
 }
@@ -128,6 +127,6 @@ impl Clone for Utf8Iterator {
 
 impl fmt::Debug for Utf8Iterator {
     fn fmt<W: fmt::Write>(&self, f: &mut fmt::Formatter<W>) -> fmt::Result {
-        fmt::Debug::fmt(self.unsent.as_slice(), f)
+        fmt::Debug::fmt(&self.unsent, f)
     }
 }

@@ -1,7 +1,7 @@
 use Rattle.std.proofs.Common.{◌∙◌, lit<}
 use Rattle.utf_base.proofs.Utf16Code.{length-utf16}
 use Rattle.utf_chars.proofs.PaddedLemmas.{code_of_padded}
-use Rattle.utf_chars.proofs.utf16_iterators.Utf16IteratorFromUtf16Char.from.Goals as goal
+use Rattle.utf_chars.proofs.unsent.UnsentU162FromUtf16Char.from.Goals as goal
 
 pub new-requires : goal.new-requires
 new-requires c = (lit< tt, (lit< tt, rw c.len.ensures (length-utf16 c.args.c)))

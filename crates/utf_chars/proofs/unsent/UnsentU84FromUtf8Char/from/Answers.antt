@@ -1,7 +1,7 @@
 use Rattle.std.proofs.Common.{◌∙◌, lit<}
 use Rattle.utf_base.proofs.Utf8Code.{length-utf8}
 use Rattle.utf_chars.proofs.PaddedLemmas.{code_of_padded}
-use Rattle.utf_chars.proofs.utf8_iterators.Utf8IteratorFromUtf8Char.from.Goals as goal
+use Rattle.utf_chars.proofs.unsent.UnsentU84FromUtf8Char.from.Goals as goal
 
 pub new-requires : goal.new-requires
 new-requires c = (lit< tt, (lit< tt, rw c.to_array-len.ensures.len (length-utf8 c.args.c)))
