@@ -1,3 +1,5 @@
 pub mod HintLemmas
 pub mod Joined
+pub mod Refills
+pub mod Splits
 pub mod TextLemmas

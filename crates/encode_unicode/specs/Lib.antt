@@ -1,5 +1,6 @@
 pub mod Window
 pub mod Hints
+pub mod Sources
 pub mod TextWindow
 pub use Rattle.utf_base.specs.Scalar
 pub use Rattle.utf_base.specs.Code
