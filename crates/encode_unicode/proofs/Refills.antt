@@ -69,6 +69,7 @@ refilled_from buf ys xs left n k le part =
   where
     take_more : (p q : List ℕ) (n k : ℕ) → length p ≡ n → take (n + k) (p ++ q) ≡ p ++ take k q
     take_more p q n k e = ap (λ j. take (j + k) (p ++ q)) (sym e) ∙ take-append-add p q k
+
     drop_more : (p q : List ℕ) (n k : ℕ) → length p ≡ n → drop (n + k) (p ++ q) ≡ drop k q
     drop_more p q n k e = ap (λ j. drop (j + k) (p ++ q)) (sym e) ∙ drop-append-add p q k
 

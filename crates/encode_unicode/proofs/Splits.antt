@@ -1,8 +1,8 @@
 -- What a splitter has still to send, call by call. All of it is generic in the code.
-use Rattle.std.proofs.Common.{◌≡◌, ℕ, suc, ◌+◌, ◌-◌, ◌*◌, ◌<◌, ◌≤◌, List, [], ◌∷◌, ◌++◌, Some, None, length, take, drop, min, refl, ap, sym, ◌∙◌, arith, length-append, add-one, append_assoc}
+use Rattle.std.proofs.Common.{◌≡◌, ℕ, suc, ◌+◌, ◌*◌, ◌<◌, ◌≤◌, List, [], ◌∷◌, Some, None, length, refl, ap, sym, ◌∙◌, arith, length-append}
 use Rattle.std.proofs.Math.Nat.{mul-le-mul_left, mul_comm}
 use Rattle.std.proofs.lemmas.Grind.{common_steps}
-use Rattle.std.specs.Iterator.{Count, IsFinite, MakesProgress, YieldsFirst, count_map}
+use Rattle.std.specs.Iterator.{Count, MakesProgress, YieldsFirst, count_map}
 use Rattle.std.specs.List.{flat_map}
 use Rattle.std.specs.Prelude.{Option, IfSome, Bool, true, false, nat_lt, ◌^◌, if◌then◌else◌}
 use Rattle.utf_chars.specs.Taking.{BoundsLength}

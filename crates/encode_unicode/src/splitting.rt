@@ -5,7 +5,11 @@ ghost use Rattle.encode_unicode.specs.Sources.{fitting_usize, split_hint};
 /// The hint of a splitter, of its source's: `held` elements are left of the begun code, and a code has at
 /// most `most`. Where a bound does not fit, the lower one is `usize::MAX` and the upper one is none.
 #[inline(always)]
-pub(crate) fn hint_of(source: (usize, Option<usize>), most: usize, held: usize) -> (usize, Option<usize>)
+pub(crate) fn hint_of(
+    source: (usize, Option<usize>),
+    most: usize,
+    held: usize,
+) -> (usize, Option<usize>)
     ensures { result ≡ split_hint most held source }
 {
     let (low, high) = source;

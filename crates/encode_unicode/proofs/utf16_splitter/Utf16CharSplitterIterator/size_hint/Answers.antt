@@ -1,4 +1,4 @@
-use Rattle.std.proofs.Common.{◌∙◌, ap, sym}
+use Rattle.std.proofs.Common.{◌∙◌, ap}
 use Rattle.utf_base.specs.Code.{utf16}
 use Rattle.utf_base.proofs.Utf16Code.{length-utf16}
 use Rattle.encode_unicode.specs.Sources.{split_hint}
