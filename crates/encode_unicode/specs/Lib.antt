@@ -1,6 +1,8 @@
 pub mod Words
 pub mod Window
 pub mod Hints
+pub mod Sources
+pub mod TextWindow
 pub use Rattle.utf_base.specs.Scalar
 pub use Rattle.utf_base.specs.Code
 pub use Rattle.utf_base.specs.Units
@@ -15,3 +17,4 @@ pub use Rattle.utf_base.specs.KindLaws
 pub use Rattle.utf_chars.specs.Chars
 pub use Rattle.utf_chars.specs.Padded
 pub use Rattle.utf_chars.specs.FormLaws
+pub use Rattle.utf_chars.specs.Taking

@@ -3,5 +3,6 @@ pub mod Interrupted
 pub mod OwnCodes
 pub mod PaddedLemmas
 pub mod PaddedUnits
+pub mod Ranges
 pub mod ScalarTest
 pub mod TextLemmas

@@ -122,3 +122,8 @@ front_padded w bytes s n h e = e ∙ rw (taken w s n h, h.1) refl
   where
     taken : (w : List ℕ) (s n : ℕ) → BeginsWith utf8 w s n → take n w ≡ utf8 s
     taken w s n h = let equal = h.0.equal in let len = h.1 in grind (arith, common_steps)
+
+-- the code is what the array begins with
+pub code_of_padded : (places : ℕ) (code xs : List ℕ) (n : ℕ) → xs ≡ padded places code → n ≡ length code → take n xs ≡ code
+unfolding padded
+code_of_padded places code xs n e l = rw (e, l) (take_at code (replicate (places - length code) 0) _ refl)

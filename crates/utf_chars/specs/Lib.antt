@@ -1,6 +1,7 @@
 pub mod Chars
 pub mod FormLaws
 pub mod Padded
+pub mod Taking
 pub use Rattle.utf_base.specs.Scalar
 pub use Rattle.utf_base.specs.Code
 pub use Rattle.utf_base.specs.Piece

@@ -11,7 +11,9 @@ ghost use Rattle.utf_chars.specs.Padded.{padded, IsPadded};
 
 use crate::codes::{number, utf8, utf16};
 use crate::utf8_char::Utf8Char;
+use crate::utf8_iterators::Utf8Iterator;
 use crate::utf16_char::Utf16Char;
+use crate::utf16_iterators::Utf16Iterator;
 use utf_base::errors::{
     CodepointError, Utf8Error, Utf16ArrayError, Utf16SliceError, Utf16TupleError,
 };
@@ -30,6 +32,14 @@ pub trait CharExt: Sized {
     /// The character kept as its code in UTF-16.
     fn to_utf16(self) -> Utf16Char
         ensures { result ≡ scalar self };
+
+    /// The bytes of the code in UTF-8, one after another.
+    fn iter_utf8_bytes(self) -> Utf8Iterator
+        ensures { result ≡ utf8 (scalar self) };
+
+    /// The units of the code in UTF-16, one after another.
+    fn iter_utf16_units(self) -> Utf16Iterator
+        ensures { result ≡ utf16 (scalar self) };
 
     /// The code in UTF-8, then zeros, and how many bytes the code has: 1 to 4 (RFC 3629, section 3).
     fn to_utf8_array(self) -> ([u8; 4], usize)
@@ -137,6 +147,16 @@ impl CharExt for char {
     #[inline(always)]
     fn to_utf16(self) -> Utf16Char {
         Utf16Char::new(self)
+    }
+
+    #[inline(always)]
+    fn iter_utf8_bytes(self) -> Utf8Iterator {
+        Utf8Iterator::from(self)
+    }
+
+    #[inline(always)]
+    fn iter_utf16_units(self) -> Utf16Iterator {
+        Utf16Iterator::from(self)
     }
 
     #[inline(always)]

@@ -1,0 +1,56 @@
+-- What a splitter has still to send, call by call. All of it is generic in the code.
+use Rattle.std.proofs.Common.{◌≡◌, ℕ, suc, ◌+◌, ◌*◌, ◌<◌, ◌≤◌, List, [], ◌∷◌, Some, None, length, refl, ap, sym, ◌∙◌, arith, length-append}
+use Rattle.std.proofs.Math.Nat.{mul-le-mul_left, mul_comm}
+use Rattle.std.proofs.lemmas.Grind.{common_steps}
+use Rattle.std.specs.Iterator.{Count, MakesProgress, YieldsFirst, count_map}
+use Rattle.std.specs.List.{flat_map}
+use Rattle.std.specs.Prelude.{Option, IfSome, Bool, true, false, nat_lt, ◌^◌, if◌then◌else◌}
+use Rattle.utf_chars.specs.Taking.{BoundsLength}
+use Rattle.encode_unicode.specs.Sources.{Splitting, unsent, split_upper, split_hint}
+use Rattle.encode_unicode.proofs.Joined.{joined_bounds}
+
+-- the first element of the code of the next item
+pub first_of_next : {S : Type 0} (code : ℕ → List ℕ) (rest : S → List ℕ) (s t : S) (x : ℕ) (begun fresh left : List ℕ) (r : Option ℕ) → begun ≡ [] → rest s ≡ x ∷ rest t
+    → fresh ≡ code x → 0 < length (code x) → YieldsFirst (λ (xs : List ℕ). xs) fresh r left
+    → YieldsFirst (unsent code rest) (record { begun = begun; source = s }) r (record { begun = left; source = t })
+first_of_next code rest s t x begun fresh left None none first is some h = let e : length (code x) ≡ 0 = ap length (sym is ∙ h.0) in absurd (omega arith)
+first_of_next code rest s t x begun fresh left (Some y) none first is some h = rw (none, first, ← is, h) refl
+
+times_less : (m a b : ℕ) → a < b → m * a + m ≤ m * b
+times_less m a b h = grind (arith, common_steps)
+
+-- it brings the splitter nearer to its end
+pub nearer_by_next : {S : Type 0} (can : S → Type 0) (remaining : S → Count) (m : ℕ) (s t : S) (x : ℕ) (begun fresh left : List ℕ) (r : Option ℕ) → length fresh ≤ m → 0 < length fresh
+    → YieldsFirst (λ (xs : List ℕ). xs) fresh r left → MakesProgress can remaining s (Some x) t
+    → MakesProgress (λ (v : Splitting S). can v.source) (λ (v : Splitting S). count_map (λ n. length v.begun + m * n) (remaining v.source)) (record { begun = begun; source = s }) r (record { begun = left; source = t })
+nearer_by_next can remaining m s t x begun fresh left None short some h goes = let e : length fresh ≡ 0 = ap length h.0 in absurd (omega arith)
+nearer_by_next can remaining m s t x begun fresh left (Some y) short some h goes =
+    let len : length fresh ≡ suc (length left) = ap length h in
+    record {
+      on = λ f. let on = goes.on f in let times = times_less m (remaining t).bound (remaining s).bound on.2 in (on.0, on.1, omega arith);
+      keeps = goes.keeps;
+      rests = λ f. tt;
+    }
+
+-- The hint of a splitter.
+
+fits_bound : (fits : Bool) (n k : ℕ) → k ≤ n → IfSome (if fits then Some n else None) (λ j. k ≤ j)
+fits_bound true n k le = le
+fits_bound false n k le = tt
+
+upper_bound : (m h n k : ℕ) (high : Option ℕ) → IfSome high (λ j. n ≤ j) → k ≤ m * n → IfSome (split_upper m h high) (λ j. h + k ≤ j)
+upper_bound m h n k None le short = tt
+upper_bound m h n k (Some high) le short =
+    let times : m * n ≤ m * high = mul-le-mul_left m le in
+    let turned : m * high ≡ high * m = mul_comm m high in
+    fits_bound (nat_lt (high * m + h) (2 ^ 64)) (high * m + h) (h + k) (omega arith)
+
+-- it bounds the unsent elements where the source's bounds the items
+pub split_bounds : {S : Type 0} (code : ℕ → List ℕ) (m : ℕ) → ((s : ℕ) → 0 < length (code s)) → ((s : ℕ) → length (code s) ≤ m) → (rest : S → List ℕ) (s : Splitting S) (hint : ℕ × Option ℕ)
+    → BoundsLength (rest s.source) hint → BoundsLength (unsent code rest s) (split_hint m (length s.begun) hint)
+split_bounds code m some short rest s hint b =
+    let joined = joined_bounds code m some short (rest s.source) in
+    let low = b.0 in
+    let least = joined.0 in
+    let len : length (unsent code rest s) ≡ length s.begun + length (flat_map code (rest s.source)) = length-append s.begun (flat_map code (rest s.source)) in
+    (omega arith, rw len (upper_bound m (length s.begun) (length (rest s.source)) (length (flat_map code (rest s.source))) hint.1 b.1 joined.1))

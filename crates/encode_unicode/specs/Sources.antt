@@ -1,0 +1,51 @@
+-- What a source of items still gives, and what a splitter of characters makes of it.
+use Rattle.std.specs.Prelude.{◌≡◌, ℕ, ◌+◌, ◌*◌, ◌^◌, ◌-◌, List, ◌++◌, [], length, min, Option, IfSome, nat_lt, if◌then◌else◌, Some, None}
+use Rattle.std.specs.Iterator.{Count, YieldsFirst, UpTo}
+use Rattle.std.specs.Iterator.SizeHint.{IsWithinCount}
+use Rattle.std.specs.List.{flat_map}
+use Rattle.utf_chars.specs.Taking.{BoundsLength}
+
+-- `rest` tells the items that each state still gives: a call takes the first of them, or answers `None` where there is
+-- none, and then there is none afterwards
+abbrev pub IsListed : {S A : Type 0} → (S → Option A → S → Type 0) → (S → List A) → Type 0
+IsListed {S} {A} steps rest = (s : S) (r : Option A) (t : S) → steps s r t → YieldsFirst rest s r t
+
+-- a splitter: the elements that are left of the begun code, and its source
+pub record Splitting (S : Type 0) : Type 0 where
+  pub begun : List ℕ
+  pub source : S
+
+-- a splitter that has begun no code
+abbrev pub unbegun : {S : Type 0} → S → Splitting S
+unbegun s = record { begun = []; source = s }
+
+-- what is left of the begun code, and then the codes of what the source still gives
+abbrev pub unsent : {S : Type 0} → (ℕ → List ℕ) → (S → List ℕ) → Splitting S → List ℕ
+unsent code rest s = s.begun ++ flat_map code (rest s.source)
+
+-- one call of `next`: it takes the first of the unsent elements, whatever list the source gives
+abbrev pub SplitterNext : {S : Type 0} → (ℕ → List ℕ) → (S → Option ℕ → S → Type 0) → Splitting S → Option ℕ → Splitting S → Type 0
+SplitterNext {S} code steps s r t = (rest : S → List ℕ) → IsListed steps rest → YieldsFirst (unsent code rest) s r t
+
+-- the bounds of a count, as a source's hint gives them
+abbrev pub IsHintOf : Count → ℕ × Option ℕ → Type 0
+IsHintOf c hint = IsWithinCount hint.0 c × IfSome hint.1 (UpTo c)
+
+-- n where it is a `usize`
+abbrev pub fitting_usize : ℕ → Option ℕ
+fitting_usize n = if nat_lt n (2 ^ 64) then Some n else None
+
+-- the hint of a splitter with h elements left of the begun code, whose codes have at most m elements
+abbrev pub split_upper : ℕ → ℕ → Option ℕ → Option ℕ
+split_upper m h None = None
+split_upper m h (Some high) = fitting_usize (high * m + h)
+
+abbrev pub split_hint : ℕ → ℕ → ℕ × Option ℕ → ℕ × Option ℕ
+split_hint m h hint = (min (hint.0 + h) (2 ^ 64 - 1), split_upper m h hint.1)
+
+-- the hint is made of the source's, and bounds the unsent elements where that bounds the items that the source gives
+pub record SplitsHint {S : Type 0} (code : ℕ → List ℕ) (m : ℕ) (remaining : S → Count) (s : Splitting S) (hint : ℕ × Option ℕ) : Type 0 where
+  pub of_source : ℕ × Option ℕ
+  pub is_hint : IsHintOf (remaining s.source) of_source
+  pub made : hint ≡ split_hint m (length s.begun) of_source
+  pub bounds : (rest : S → List ℕ) → BoundsLength (rest s.source) of_source → BoundsLength (unsent code rest s) hint

@@ -1,0 +1,61 @@
+-- A window of a text, and what one call of an iterator over its characters gives, from either end.
+use Rattle.std.specs.Prelude.{◌≡◌, ℕ, ◌-◌, ◌≤◌, List, ◌++◌, length, Option, Some, None}
+use Rattle.std.specs.List.{flat_map}
+use Rattle.std.specs.Str.{IsUtf8, IsCharBoundary}
+use Rattle.utf_base.specs.Scalar.{IsScalar}
+use Rattle.utf_base.specs.Code.{utf8}
+use Rattle.utf_chars.specs.Taking.{BoundsLength}
+use Rattle.encode_unicode.specs.Window.{Window, elements, without_front, GivesNone}
+
+-- the window without its last n elements
+abbrev pub without_back : Window → ℕ → Window
+without_back w n = record w { back = w.back - n }
+
+-- the window begins and ends between characters of the text
+pub record IsTextWindow (w : Window) : Type 0 where
+  pub front : IsCharBoundary w.whole w.front
+  pub back : IsCharBoundary w.whole w.back
+
+-- what the fields of a window of a text keep
+pub record IsKeptWindow (text : List ℕ) (front back : ℕ) : Type 0 where
+  pub is_text : IsUtf8 text
+  pub ordered : front ≤ back
+  pub between : IsTextWindow (record { whole = text; front = front; back = back })
+
+-- the scalar whose code begins the window, with its place, and exactly that code has left it
+pub record GivesFirst (w : Window) (place s : ℕ) (v : Window) : Type 0 where
+  pub scalar : IsScalar s
+  pub code : elements w ≡ utf8 s ++ elements v
+  pub at_front : place ≡ w.front
+  pub left : v ≡ without_front w (length (utf8 s))
+  pub between : IsTextWindow v
+
+-- the scalar whose code ends the window, with its place, and exactly that code has left it
+pub record GivesLast (w : Window) (place s : ℕ) (v : Window) : Type 0 where
+  pub scalar : IsScalar s
+  pub code : elements w ≡ elements v ++ utf8 s
+  pub at_back : place ≡ v.back
+  pub left : v ≡ without_back w (length (utf8 s))
+  pub between : IsTextWindow v
+
+-- one call of `next` and one of `next_back`, whose items have a place
+abbrev pub NextPlaced : Window → Option (ℕ × ℕ) → Window → Type 0
+NextPlaced w None v = GivesNone w v
+NextPlaced w (Some x) v = GivesFirst w x.0 x.1 v
+
+abbrev pub BackPlaced : Window → Option (ℕ × ℕ) → Window → Type 0
+BackPlaced w None v = GivesNone w v
+BackPlaced w (Some x) v = GivesLast w x.0 x.1 v
+
+-- the same of items without a place
+abbrev pub NextScalar : Window → Option ℕ → Window → Type 0
+NextScalar w None v = GivesNone w v
+NextScalar w (Some s) v = GivesFirst w w.front s v
+
+abbrev pub BackScalar : Window → Option ℕ → Window → Type 0
+BackScalar w None v = GivesNone w v
+BackScalar w (Some s) v = GivesLast w v.back s v
+
+-- the text is the codes of at least as many scalars as the first number says, and at most as many as the second
+abbrev pub BoundsScalars : List ℕ → ℕ × Option ℕ → Type 0
+BoundsScalars text hint = (scalars : List ℕ) → flat_map utf8 scalars ≡ text → BoundsLength scalars hint

@@ -1,0 +1,198 @@
+//! The characters of a text, kept as their codes in UTF-16.
+ghost use Rattle.std.specs.Prelude.{◌≡◌, ◌-◌, Some, IfSome, ⊤};
+ghost use Rattle.std.specs.Int.{div_ceil};
+ghost use Rattle.std.specs.Iterator.{at_most, UpTo};
+ghost use Rattle.std.specs.Iterator.SizeHint.{IsWithinCount};
+ghost use Rattle.encode_unicode.specs.TextWindow.{IsTextWindow, NextPlaced, BackPlaced, NextScalar, BackScalar, BoundsScalars};
+ghost use Rattle.encode_unicode.specs.Window.{whole_window, elements};
+
+use crate::text_window::TextWindow;
+use std::alloc::AllocError;
+use std::fmt;
+use std::marker::Model;
+use utf_chars::utf16_char::Utf16Char;
+
+/// The characters of a text, each with its offset from the front of the text in bytes.
+///
+/// Both ends may be asked in turn. Contracts see the part of the text that is left.
+#[derive(Drop)]
+pub struct Utf16CharIndices<'a> {
+    window: TextWindow<'a>,
+}
+
+impl<'a> Model for Utf16CharIndices<'a> {
+    ghost use Rattle.encode_unicode.specs.Window.{Window};
+
+    ghost Value = { Window };
+
+    ghost view = { λ i. i.window };
+}
+
+impl<'a> From<&'a str> for Utf16CharIndices<'a> {
+    ghost from_gives = { λ text indices. indices ≡ whole_window text.now };
+
+    #[inline(always)]
+    fn from(text: &'a str) -> Utf16CharIndices<'a> {
+        Utf16CharIndices {
+            window: TextWindow::new(text),
+        }
+    }
+}
+
+impl<'a> Utf16CharIndices<'a> {
+    /// The part of the text that is left, lent from the text for as long as it lives.
+    #[inline(always)]
+    pub fn as_str(&self) -> &'a str
+        ensures text { result.now ≡ elements self.now }
+        ensures between { IsTextWindow self.now }
+    {
+        self.window.as_str()
+    }
+}
+
+impl<'a> Iterator for Utf16CharIndices<'a> {
+    type Item = (usize, Utf16Char);
+
+    ghost next_gives = { NextPlaced };
+
+    ghost remaining = { λ w. at_most (w.back - w.front) };
+
+    #[inline(always)]
+    fn next(&mut self) -> Option<(usize, Utf16Char)> {
+        let (place, c) = self.window.next()?;
+        Some((place, Utf16Char::from(c)))
+    }
+
+    /// A quarter of the bytes that are left, rounded up, and all of them.
+    #[inline]
+    fn size_hint(&self) -> (usize, Option<usize>)
+        ensures lower { IsWithinCount result.0 (at_most (self.now.back - self.now.front)) }
+        ensures upper { IfSome result.1 (UpTo (at_most (self.now.back - self.now.front))) }
+        ensures exact { result ≡ (div_ceil (self.now.back - self.now.front) 4, Some (self.now.back - self.now.front)) }
+        ensures bounds { BoundsScalars (elements self.now) result }
+    {
+        self.window.bounds()
+    }
+}
+
+impl<'a> DoubleEndedIterator for Utf16CharIndices<'a> {
+    ghost next_back_gives = { BackPlaced };
+
+    #[inline(always)]
+    fn next_back(&mut self) -> Option<(usize, Utf16Char)> {
+        let (place, c) = self.window.next_back()?;
+        Some((place, Utf16Char::from(c)))
+    }
+}
+
+impl<'a> Clone for Utf16CharIndices<'a> {
+    ghost is_clone = { λ window copy. copy ≡ window };
+
+    ghost is_infallible = { λ _. ⊤ };
+
+    fn clone(&self) -> Result<Utf16CharIndices<'a>, AllocError> {
+        Ok(Utf16CharIndices {
+            window: self.window.copy(),
+        })
+    }
+}
+
+impl<'a> fmt::Debug for Utf16CharIndices<'a> {
+    fn fmt<W: fmt::Write>(&self, f: &mut fmt::Formatter<W>) -> fmt::Result {
+        f.debug_tuple("Utf16CharIndices")
+            .field(&self.window.front())
+            .field(&self.as_str())
+            .finish()
+    }
+}
+
+/// The characters of a text.
+///
+/// Both ends may be asked in turn. Contracts see the part of the text that is left.
+#[derive(Drop)]
+pub struct Utf16Chars<'a> {
+    window: TextWindow<'a>,
+}
+
+impl<'a> Model for Utf16Chars<'a> {
+    ghost use Rattle.encode_unicode.specs.Window.{Window};
+
+    ghost Value = { Window };
+
+    ghost view = { λ c. c.window };
+}
+
+impl<'a> From<&'a str> for Utf16Chars<'a> {
+    ghost from_gives = { λ text chars. chars ≡ whole_window text.now };
+
+    #[inline(always)]
+    fn from(text: &'a str) -> Utf16Chars<'a> {
+        Utf16Chars {
+            window: TextWindow::new(text),
+        }
+    }
+}
+
+impl<'a> Utf16Chars<'a> {
+    /// The part of the text that is left, lent from the text for as long as it lives.
+    #[inline(always)]
+    pub fn as_str(&self) -> &'a str
+        ensures text { result.now ≡ elements self.now }
+        ensures between { IsTextWindow self.now }
+    {
+        self.window.as_str()
+    }
+}
+
+impl<'a> Iterator for Utf16Chars<'a> {
+    type Item = Utf16Char;
+
+    ghost next_gives = { NextScalar };
+
+    ghost remaining = { λ w. at_most (w.back - w.front) };
+
+    #[inline(always)]
+    fn next(&mut self) -> Option<Utf16Char> {
+        let (_, c) = self.window.next()?;
+        Some(Utf16Char::from(c))
+    }
+
+    /// A quarter of the bytes that are left, rounded up, and all of them.
+    #[inline]
+    fn size_hint(&self) -> (usize, Option<usize>)
+        ensures lower { IsWithinCount result.0 (at_most (self.now.back - self.now.front)) }
+        ensures upper { IfSome result.1 (UpTo (at_most (self.now.back - self.now.front))) }
+        ensures exact { result ≡ (div_ceil (self.now.back - self.now.front) 4, Some (self.now.back - self.now.front)) }
+        ensures bounds { BoundsScalars (elements self.now) result }
+    {
+        self.window.bounds()
+    }
+}
+
+impl<'a> DoubleEndedIterator for Utf16Chars<'a> {
+    ghost next_back_gives = { BackScalar };
+
+    #[inline(always)]
+    fn next_back(&mut self) -> Option<Utf16Char> {
+        let (_, c) = self.window.next_back()?;
+        Some(Utf16Char::from(c))
+    }
+}
+
+impl<'a> Clone for Utf16Chars<'a> {
+    ghost is_clone = { λ window copy. copy ≡ window };
+
+    ghost is_infallible = { λ _. ⊤ };
+
+    fn clone(&self) -> Result<Utf16Chars<'a>, AllocError> {
+        Ok(Utf16Chars {
+            window: self.window.copy(),
+        })
+    }
+}
+
+impl<'a> fmt::Debug for Utf16Chars<'a> {
+    fn fmt<W: fmt::Write>(&self, f: &mut fmt::Formatter<W>) -> fmt::Result {
+        f.debug_tuple("Utf16Chars").field(&self.as_str()).finish()
+    }
+}

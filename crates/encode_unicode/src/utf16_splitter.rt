@@ -1,0 +1,98 @@
+//! Characters as the units of their codes in UTF-16.
+ghost use Rattle.std.specs.Prelude.{◌≡◌, ◌+◌, ◌*◌, ℕ, List, length, IsOk, IfOk, IfSome};
+ghost use Rattle.std.specs.Iterator.{count_map, UpTo};
+ghost use Rattle.std.specs.Iterator.SizeHint.{IsWithinCount};
+ghost use Rattle.utf_base.specs.Code.{utf16};
+ghost use Rattle.encode_unicode.specs.Sources.{IsListed, unbegun, unsent, SplitterNext, SplitsHint};
+
+use crate::splitting::hint_of;
+use std::alloc::AllocError;
+use std::marker::Model;
+use utf_chars::unsent::Unsent;
+use utf_chars::utf16_char::Utf16Char;
+
+/// The units of the characters of an iterator, one code after another.
+///
+/// Contracts see what is left of the begun code, and the source.
+#[derive(Debug, Drop)]
+pub struct Utf16CharSplitter<I: Iterator<Item = Utf16Char>> {
+    source: I,
+    begun: Unsent<u16, 2>,
+}
+
+impl<I: Iterator<Item = Utf16Char>> Model for Utf16CharSplitter<I> {
+    ghost use Rattle.encode_unicode.specs.Sources.{Splitting};
+
+    ghost Value = { Splitting I };
+
+    ghost view = { λ s. record { begun = s.begun; source = s.source } };
+}
+
+impl<I: Iterator<Item = Utf16Char>> From<I> for Utf16CharSplitter<I> {
+    ghost from_gives = { λ source splitter. splitter ≡ unbegun source };
+
+    #[inline]
+    fn from(source: I) -> Utf16CharSplitter<I> {
+        Utf16CharSplitter {
+            source,
+            begun: Unsent::default(),
+        }
+    }
+}
+
+impl<I: Iterator<Item = Utf16Char>> Iterator for Utf16CharSplitter<I> {
+    type Item = u16;
+
+    ghost can_next = { λ s. I.can_next s.source };
+
+    ghost next_gives = { SplitterNext utf16 I.next_gives };
+
+    ghost remaining = { λ s. count_map (λ n. length s.begun + 2 * n) (I.remaining s.source) };
+
+    #[inline(always)]
+    fn next(&mut self) -> Option<u16> {
+        match self.begun.next() {
+            Some(unit) => Some(unit),
+            None => {
+                self.begun = Unsent::from(self.source.next()?);
+                self.begun.next()
+            }
+        }
+    }
+
+    /// The units left of the begun code and one for each character of the source, and two for each.
+    #[inline]
+    fn size_hint(&self) -> (usize, Option<usize>)
+        ensures lower { IsWithinCount result.0 (count_map (λ n. length self.now.begun + 2 * n) (I.remaining self.now.source)) }
+        ensures upper { IfSome result.1 (UpTo (count_map (λ n. length self.now.begun + 2 * n) (I.remaining self.now.source))) }
+        ensures split { SplitsHint utf16 2 I.remaining self.now result }
+    {
+        hint_of(self.source.size_hint(), 2, self.begun.len())
+    }
+}
+
+impl<I: Iterator<Item = Utf16Char>> Utf16CharSplitter<I> {
+    /// The source as it stands. What is left of the begun code is lost.
+    #[inline]
+    pub fn into_inner(self) -> I
+        ensures { result ≡ self.source }
+    {
+        self.source
+    }
+
+    /// A second splitter with the same units to come.
+    pub fn clone(&self) -> Result<Utf16CharSplitter<I>, AllocError>
+    where
+        I: Clone,
+        requires { (rest : I → List ℕ) → IsListed I.next_gives rest → (copy : I) → I.is_clone self.now.source copy → rest copy ≡ rest self.now.source }
+        ensures source { IfOk result (λ s. I.is_clone self.now.source s.source) }
+        ensures begun { IfOk result (λ s. s.begun ≡ self.now.begun) }
+        ensures same { IfOk result (λ s. (rest : I → List ℕ) → IsListed I.next_gives rest → unsent utf16 rest s ≡ unsent utf16 rest self.now) }
+        ensures succeeds { I.is_infallible self.now.source → IsOk result }
+    {
+        Ok(Utf16CharSplitter {
+            source: self.source.clone()?,
+            begun: self.begun.copy(),
+        })
+    }
+}

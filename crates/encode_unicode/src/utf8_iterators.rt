@@ -1,0 +1,196 @@
+//! The characters of a text, kept as their codes in UTF-8.
+ghost use Rattle.std.specs.Prelude.{◌≡◌, ◌-◌, Some, IfSome, ⊤};
+ghost use Rattle.std.specs.Int.{div_ceil};
+ghost use Rattle.std.specs.Iterator.{at_most, UpTo};
+ghost use Rattle.std.specs.Iterator.SizeHint.{IsWithinCount};
+ghost use Rattle.encode_unicode.specs.TextWindow.{IsTextWindow, NextPlaced, BackPlaced, NextScalar, BackScalar, BoundsScalars};
+ghost use Rattle.encode_unicode.specs.Window.{whole_window, elements};
+
+use crate::text_window::TextWindow;
+use std::alloc::AllocError;
+use std::fmt;
+use std::marker::Model;
+use utf_chars::utf8_char::Utf8Char;
+
+/// The characters of a text, each with its offset from the front of the text in bytes.
+///
+/// Both ends may be asked in turn. Contracts see the part of the text that is left.
+#[derive(Drop)]
+pub struct Utf8CharIndices<'a> {
+    window: TextWindow<'a>,
+}
+
+impl<'a> Model for Utf8CharIndices<'a> {
+    ghost use Rattle.encode_unicode.specs.Window.{Window};
+
+    ghost Value = { Window };
+
+    ghost view = { λ i. i.window };
+}
+
+impl<'a> From<&'a str> for Utf8CharIndices<'a> {
+    ghost from_gives = { λ text indices. indices ≡ whole_window text.now };
+
+    #[inline(always)]
+    fn from(text: &'a str) -> Utf8CharIndices<'a> {
+        Utf8CharIndices {
+            window: TextWindow::new(text),
+        }
+    }
+}
+
+impl<'a> Utf8CharIndices<'a> {
+    /// The part of the text that is left, lent from the text for as long as it lives.
+    #[inline(always)]
+    pub fn as_str(&self) -> &'a str
+        ensures text { result.now ≡ elements self.now }
+        ensures between { IsTextWindow self.now }
+    {
+        self.window.as_str()
+    }
+}
+
+impl<'a> Iterator for Utf8CharIndices<'a> {
+    type Item = (usize, Utf8Char);
+
+    ghost next_gives = { NextPlaced };
+
+    ghost remaining = { λ w. at_most (w.back - w.front) };
+
+    #[inline(always)]
+    fn next(&mut self) -> Option<(usize, Utf8Char)> {
+        self.window.next()
+    }
+
+    /// A quarter of the bytes that are left, rounded up, and all of them.
+    #[inline]
+    fn size_hint(&self) -> (usize, Option<usize>)
+        ensures lower { IsWithinCount result.0 (at_most (self.now.back - self.now.front)) }
+        ensures upper { IfSome result.1 (UpTo (at_most (self.now.back - self.now.front))) }
+        ensures exact { result ≡ (div_ceil (self.now.back - self.now.front) 4, Some (self.now.back - self.now.front)) }
+        ensures bounds { BoundsScalars (elements self.now) result }
+    {
+        self.window.bounds()
+    }
+}
+
+impl<'a> DoubleEndedIterator for Utf8CharIndices<'a> {
+    ghost next_back_gives = { BackPlaced };
+
+    #[inline(always)]
+    fn next_back(&mut self) -> Option<(usize, Utf8Char)> {
+        self.window.next_back()
+    }
+}
+
+impl<'a> Clone for Utf8CharIndices<'a> {
+    ghost is_clone = { λ window copy. copy ≡ window };
+
+    ghost is_infallible = { λ _. ⊤ };
+
+    fn clone(&self) -> Result<Utf8CharIndices<'a>, AllocError> {
+        Ok(Utf8CharIndices {
+            window: self.window.copy(),
+        })
+    }
+}
+
+impl<'a> fmt::Debug for Utf8CharIndices<'a> {
+    fn fmt<W: fmt::Write>(&self, f: &mut fmt::Formatter<W>) -> fmt::Result {
+        f.debug_tuple("Utf8CharIndices")
+            .field(&self.window.front())
+            .field(&self.as_str())
+            .finish()
+    }
+}
+
+/// The characters of a text.
+///
+/// Both ends may be asked in turn. Contracts see the part of the text that is left.
+#[derive(Drop)]
+pub struct Utf8Chars<'a> {
+    window: TextWindow<'a>,
+}
+
+impl<'a> Model for Utf8Chars<'a> {
+    ghost use Rattle.encode_unicode.specs.Window.{Window};
+
+    ghost Value = { Window };
+
+    ghost view = { λ c. c.window };
+}
+
+impl<'a> From<&'a str> for Utf8Chars<'a> {
+    ghost from_gives = { λ text chars. chars ≡ whole_window text.now };
+
+    #[inline(always)]
+    fn from(text: &'a str) -> Utf8Chars<'a> {
+        Utf8Chars {
+            window: TextWindow::new(text),
+        }
+    }
+}
+
+impl<'a> Utf8Chars<'a> {
+    /// The part of the text that is left, lent from the text for as long as it lives.
+    #[inline(always)]
+    pub fn as_str(&self) -> &'a str
+        ensures text { result.now ≡ elements self.now }
+        ensures between { IsTextWindow self.now }
+    {
+        self.window.as_str()
+    }
+}
+
+impl<'a> Iterator for Utf8Chars<'a> {
+    type Item = Utf8Char;
+
+    ghost next_gives = { NextScalar };
+
+    ghost remaining = { λ w. at_most (w.back - w.front) };
+
+    #[inline(always)]
+    fn next(&mut self) -> Option<Utf8Char> {
+        let (_, c) = self.window.next()?;
+        Some(c)
+    }
+
+    /// A quarter of the bytes that are left, rounded up, and all of them.
+    #[inline]
+    fn size_hint(&self) -> (usize, Option<usize>)
+        ensures lower { IsWithinCount result.0 (at_most (self.now.back - self.now.front)) }
+        ensures upper { IfSome result.1 (UpTo (at_most (self.now.back - self.now.front))) }
+        ensures exact { result ≡ (div_ceil (self.now.back - self.now.front) 4, Some (self.now.back - self.now.front)) }
+        ensures bounds { BoundsScalars (elements self.now) result }
+    {
+        self.window.bounds()
+    }
+}
+
+impl<'a> DoubleEndedIterator for Utf8Chars<'a> {
+    ghost next_back_gives = { BackScalar };
+
+    #[inline(always)]
+    fn next_back(&mut self) -> Option<Utf8Char> {
+        let (_, c) = self.window.next_back()?;
+        Some(c)
+    }
+}
+
+impl<'a> Clone for Utf8Chars<'a> {
+    ghost is_clone = { λ window copy. copy ≡ window };
+
+    ghost is_infallible = { λ _. ⊤ };
+
+    fn clone(&self) -> Result<Utf8Chars<'a>, AllocError> {
+        Ok(Utf8Chars {
+            window: self.window.copy(),
+        })
+    }
+}
+
+impl<'a> fmt::Debug for Utf8Chars<'a> {
+    fn fmt<W: fmt::Write>(&self, f: &mut fmt::Formatter<W>) -> fmt::Result {
+        f.debug_tuple("Utf8Chars").field(&self.as_str()).finish()
+    }
+}

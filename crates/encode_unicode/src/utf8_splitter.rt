@@ -1,0 +1,124 @@
+//! Characters as the bytes of their codes in UTF-8.
+ghost use Rattle.std.specs.Prelude.{◌≡◌, ◌≤◌, ◌+◌, ◌*◌, ℕ, List, [], length, drop, IsOk, IfOk, IfSome, Ok};
+ghost use Rattle.std.specs.Iterator.{count_map, UpTo};
+ghost use Rattle.std.specs.Iterator.SizeHint.{IsWithinCount};
+ghost use Rattle.utf_base.specs.Code.{utf8};
+ghost use Rattle.utf_chars.specs.Taking.{fitting, filled};
+ghost use Rattle.encode_unicode.specs.Sources.{IsListed, unbegun, unsent, SplitterNext, SplitsHint};
+
+use crate::splitting::hint_of;
+use std::alloc::AllocError;
+use std::io;
+use std::marker::Model;
+use utf_chars::unsent::Unsent;
+use utf_chars::utf8_char::Utf8Char;
+
+/// The bytes of the characters of an iterator, one code after another.
+///
+/// `next` and `read` may be mixed: both take from the front of what is left. Contracts see what is left of
+/// the begun code, and the source.
+#[derive(Debug, Drop)]
+pub struct Utf8CharSplitter<I: Iterator<Item = Utf8Char>> {
+    source: I,
+    begun: Unsent<u8, 4>,
+}
+
+impl<I: Iterator<Item = Utf8Char>> Model for Utf8CharSplitter<I> {
+    ghost use Rattle.encode_unicode.specs.Sources.{Splitting};
+
+    ghost Value = { Splitting I };
+
+    ghost view = { λ s. record { begun = s.begun; source = s.source } };
+}
+
+impl<I: Iterator<Item = Utf8Char>> From<I> for Utf8CharSplitter<I> {
+    ghost from_gives = { λ source splitter. splitter ≡ unbegun source };
+
+    #[inline]
+    fn from(source: I) -> Utf8CharSplitter<I> {
+        Utf8CharSplitter {
+            source,
+            begun: Unsent::default(),
+        }
+    }
+}
+
+impl<I: Iterator<Item = Utf8Char>> Iterator for Utf8CharSplitter<I> {
+    type Item = u8;
+
+    ghost can_next = { λ s. I.can_next s.source };
+
+    ghost next_gives = { SplitterNext utf8 I.next_gives };
+
+    ghost remaining = { λ s. count_map (λ n. length s.begun + 4 * n) (I.remaining s.source) };
+
+    #[inline(always)]
+    fn next(&mut self) -> Option<u8> {
+        match self.begun.next() {
+            Some(byte) => Some(byte),
+            None => {
+                self.begun = Unsent::from(self.source.next()?);
+                self.begun.next()
+            }
+        }
+    }
+
+    /// The bytes left of the begun code and one for each character of the source, and four for each.
+    #[inline]
+    fn size_hint(&self) -> (usize, Option<usize>)
+        ensures lower { IsWithinCount result.0 (count_map (λ n. length self.now.begun + 4 * n) (I.remaining self.now.source)) }
+        ensures upper { IfSome result.1 (UpTo (count_map (λ n. length self.now.begun + 4 * n) (I.remaining self.now.source))) }
+        ensures split { SplitsHint utf8 4 I.remaining self.now result }
+    {
+        hint_of(self.source.size_hint(), 4, self.begun.len())
+    }
+}
+
+impl<I: Iterator<Item = Utf8Char>> Utf8CharSplitter<I> {
+    /// Moves as many bytes as fit into the front of the buffer, and answers how many they are. It never
+    /// fails, and the other places of the buffer stay as they are. An empty buffer changes nothing.
+    pub fn read(&mut self, buf: &mut [u8]) -> io::Result<usize>
+        requires { I.can_next self.old.source }
+        ensures always { IsOk result }
+        ensures count { (rest : I → List ℕ) → IsListed I.next_gives rest → result ≡ Ok (fitting buf.old (unsent utf8 rest self.old)) }
+        ensures written { (rest : I → List ℕ) → IsListed I.next_gives rest → buf.new ≡ filled buf.old (unsent utf8 rest self.old) }
+        ensures left { (rest : I → List ℕ) → IsListed I.next_gives rest → unsent utf8 rest self.new ≡ drop (length buf.old) (unsent utf8 rest self.old) }
+        ensures full { result ≡ Ok (length buf.old) → I.can_next self.new.source }
+    {
+        let mut count = self.begun.take(buf);
+        while count < buf.len() {
+            match self.source.next() {
+                None => break,
+                Some(c) => {
+                    self.begun = Unsent::from(c);
+                    count += self.begun.take(&mut buf[count..]);
+                }
+            }
+        }
+        Ok(count)
+    }
+
+    /// The source as it stands. What is left of the begun code is lost.
+    #[inline]
+    pub fn into_inner(self) -> I
+        ensures { result ≡ self.source }
+    {
+        self.source
+    }
+
+    /// A second splitter with the same bytes to come.
+    pub fn clone(&self) -> Result<Utf8CharSplitter<I>, AllocError>
+    where
+        I: Clone,
+        requires { (rest : I → List ℕ) → IsListed I.next_gives rest → (copy : I) → I.is_clone self.now.source copy → rest copy ≡ rest self.now.source }
+        ensures source { IfOk result (λ s. I.is_clone self.now.source s.source) }
+        ensures begun { IfOk result (λ s. s.begun ≡ self.now.begun) }
+        ensures same { IfOk result (λ s. (rest : I → List ℕ) → IsListed I.next_gives rest → unsent utf8 rest s ≡ unsent utf8 rest self.now) }
+        ensures succeeds { I.is_infallible self.now.source → IsOk result }
+    {
+        Ok(Utf8CharSplitter {
+            source: self.source.clone()?,
+            begun: self.begun.copy(),
+        })
+    }
+}
