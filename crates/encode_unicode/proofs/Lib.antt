@@ -1,5 +1,6 @@
 pub mod HintLemmas
 pub mod Joined
+pub mod Listed
 pub mod Refills
 pub mod Splits
 pub mod TextLemmas
