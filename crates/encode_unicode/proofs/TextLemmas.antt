@@ -2,7 +2,7 @@
 use Rattle.std.proofs.Common.{◌≡◌, ℕ, ◌+◌, ◌-◌, ◌/◌, ◌%◌, ◌<◌, ◌≤◌, List, ◌++◌, length, get_or, take, drop, min, refl, ap, sym, ◌∙◌, arith, ⊎_elim, length-append}
 use Rattle.std.proofs.lemmas.Grind.{common_steps}
 use Rattle.std.proofs.lemmas.List.{take-append-drop, take_at, take_all, drop_at, take-take}
-use Rattle.std.proofs.lemmas.Str.{IsUtf8-drop, IsCharBoundary-past_char, IsCharBoundary-start, IsCharBoundary-end, length-encode}
+use Rattle.std.proofs.lemmas.Str.{IsUtf8-drop, IsUtf8-between, IsCharBoundary-past_char, IsCharBoundary-start, IsCharBoundary-end, length-encode}
 use Rattle.std.specs.Int.{div_ceil}
 use Rattle.std.specs.List.{flat_map}
 use Rattle.std.specs.Prelude.{slice_range, Some}
@@ -18,11 +18,14 @@ use Rattle.utf_chars.proofs.Ranges.{range_behind}
 use Rattle.encode_unicode.specs.TextWindow.{IsKeptWindow, IsTextWindow, GivesFirst, GivesLast, BoundsScalars}
 use Rattle.encode_unicode.proofs.Joined.{joined_bounds, some_utf8}
 
+text_window : (xs : List ℕ) (i j : ℕ) → IsUtf8 xs → i ≤ j → IsCharBoundary xs i → IsCharBoundary xs j → IsTextWindow (record { whole = xs; front = i; back = j })
+text_window xs i j h le front back = record { text = IsUtf8-between xs i j h le front back; front = front; back = back }
+
 pub kept_whole : (text : List ℕ) → IsUtf8 text → IsKeptWindow text 0 (length text)
 kept_whole text h = record {
   is_text = h;
   ordered = omega arith;
-  between = record { front = IsCharBoundary-start text h; back = IsCharBoundary-end text };
+  between = text_window text 0 (length text) h (omega arith) (IsCharBoundary-start text h) (IsCharBoundary-end text);
 }
 
 -- the place behind a character is a boundary
@@ -57,7 +60,7 @@ first_taken xs i j s n kept begins =
     let span : n ≡ 0 + length (utf8 s) - 0 = omega arith in
     let code : take n (slice_range xs i j) ≡ utf8 s = ap (λ k. take k (slice_range xs i j)) span ∙ begins.0.equal in
     let front : IsCharBoundary xs (i + n) = rw len (boundary_behind xs i s kept.is_text kept.between.front whole.0) in
-    let between : IsTextWindow (record { whole = xs; front = i + n; back = j }) = record { front = front; back = kept.between.back } in (
+    let between = text_window xs (i + n) j kept.is_text (omega arith) front kept.between.back in (
       record {
         scalar = begins.0.scalar;
         code = sym (take-append-drop n (slice_range xs i j)) ∙ ap (λ ys. ys ++ drop n (slice_range xs i j)) code ∙ ap (λ ys. utf8 s ++ ys) (sym behind);
@@ -93,7 +96,7 @@ last_taken xs rest i j s m kept scalar split e =
     let span : m - i ≡ length rest = omega arith in
     let before : slice_range xs i m ≡ rest
     = ap (λ k. take k (drop i xs)) span ∙ sym (take-take (length rest) (j - i) (drop i xs) (omega arith)) ∙ ap (take (length rest)) split ∙ take_at rest (utf8 s) _ refl in
-    let between : IsTextWindow (record { whole = xs; front = i; back = m }) = record { front = kept.between.front; back = boundary_before xs m s whole.0 } in (
+    let between = text_window xs i m kept.is_text (omega arith) kept.between.front (boundary_before xs m s whole.0) in (
       record {
         scalar = scalar;
         code = split ∙ ap (λ ys. ys ++ utf8 s) (sym before);

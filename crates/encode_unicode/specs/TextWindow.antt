@@ -11,8 +11,9 @@ use Rattle.encode_unicode.specs.Window.{Window, elements, without_front, GivesNo
 abbrev pub without_back : Window → ℕ → Window
 without_back w n = record w { back = w.back - n }
 
--- the window begins and ends between characters of the text
+-- the window begins and ends between characters of the text, and is text itself
 pub record IsTextWindow (w : Window) : Type 0 where
+  pub text : IsUtf8 (elements w)
   pub front : IsCharBoundary w.whole w.front
   pub back : IsCharBoundary w.whole w.back
 
