@@ -1,5 +1,5 @@
 -- The lists that some sources give, for callers who have to name one.
-use Rattle.std.proofs.Common.{◌≡◌, ℕ, List, [], ◌∷◌, ◌++◌, Some, None, ◌-◌, take, drop, ap, sym, ◌∙◌, arith}
+use Rattle.std.proofs.Common.{◌≡◌, ℕ, List, [], ◌++◌, Some, None, ◌-◌, take, drop, ap, sym, ◌∙◌, arith}
 use Rattle.std.proofs.lemmas.List.{nil_from_length}
 use Rattle.std.proofs.lemmas.Str.{IsUtf8-append, chars-nil, chars_past_char}
 use Rattle.std.specs.Borrow.{Bor}
@@ -12,7 +12,7 @@ use Rattle.std.specs.Str.{chars}
 use Rattle.std.specs.declared.iter.Copied.{Copied}
 use Rattle.std.specs.declared.slice.Iter.{Iter}
 use Rattle.utf_base.specs.Code.{utf8}
-use Rattle.utf_base.proofs.StdText.{utf8-std, utf8_is_text}
+use Rattle.utf_base.proofs.StdText.{utf8_is_std, utf8_is_text}
 use Rattle.encode_unicode.specs.Sources.{IsListed, SplitterNext, unsent}
 use Rattle.encode_unicode.specs.TextWindow.{NextScalar}
 use Rattle.encode_unicode.specs.Window.{Window, elements}
@@ -37,7 +37,7 @@ scalars_listed w None v h =
     (empty, ap (λ (u : Window). chars (elements u)) h.left ∙ empty)
 scalars_listed w (Some s) v h =
     chars_past_char (elements w) (elements v) s (rw h.code (IsUtf8-append (utf8 s) (elements v) (utf8_is_text s h.scalar) h.between.text))
-    (h.code ∙ ap (λ code. code ++ elements v) (sym (utf8-std s)))
+    (h.code ∙ ap (λ code. code ++ elements v) (sym (utf8_is_std s)))
 
 -- a splitter gives what it has not sent
 pub splitter_listed : {S : Type 0} (code : ℕ → List ℕ) (steps : S → Option ℕ → S → Type 0) (rest : S → List ℕ) → IsListed steps rest → IsListed (SplitterNext code steps) (unsent code rest)
