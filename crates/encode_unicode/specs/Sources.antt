@@ -10,6 +10,10 @@ use Rattle.utf_chars.specs.Taking.{BoundsLength}
 abbrev pub IsListed : {S A : Type 0} → (S → Option A → S → Type 0) → (S → List A) → Type 0
 IsListed {S} {A} steps rest = (s : S) (r : Option A) (t : S) → steps s r t → YieldsFirst rest s r t
 
+-- each clone of the source s still gives what s does
+abbrev pub GivesTheSame : {S A : Type 0} → (S → S → Type 0) → (S → List A) → S → Type 0
+GivesTheSame {S} is_clone rest s = (copy : S) → is_clone s copy → rest copy ≡ rest s
+
 -- a splitter: the elements that are left of the begun code, and its source
 pub record Splitting (S : Type 0) : Type 0 where
   pub begun : List ℕ

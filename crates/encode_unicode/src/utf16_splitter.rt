@@ -3,7 +3,7 @@ ghost use Rattle.std.specs.Prelude.{◌≡◌, ◌+◌, ◌*◌, ℕ, List, leng
 ghost use Rattle.std.specs.Iterator.{count_map, UpTo};
 ghost use Rattle.std.specs.Iterator.SizeHint.{IsWithinCount};
 ghost use Rattle.utf_base.specs.Code.{utf16};
-ghost use Rattle.encode_unicode.specs.Sources.{IsListed, unbegun, unsent, SplitterNext, SplitsHint};
+ghost use Rattle.encode_unicode.specs.Sources.{GivesTheSame, unbegun, unsent, SplitterNext, SplitsHint};
 
 use crate::splitting::hint_of;
 use std::alloc::AllocError;
@@ -80,14 +80,14 @@ impl<I: Iterator<Item = Utf16Char>> Utf16CharSplitter<I> {
         self.source
     }
 
-    /// A second splitter with the same units to come.
+    /// A second splitter with the same units to come, where a clone of the source gives the same items. It
+    /// answers as the source's `clone` does.
     pub fn clone(&self) -> Result<Utf16CharSplitter<I>, AllocError>
     where
         I: Clone,
-        requires { (rest : I → List ℕ) → IsListed I.next_gives rest → (copy : I) → I.is_clone self.now.source copy → rest copy ≡ rest self.now.source }
         ensures source { IfOk result (λ s. I.is_clone self.now.source s.source) }
         ensures begun { IfOk result (λ s. s.begun ≡ self.now.begun) }
-        ensures same { IfOk result (λ s. (rest : I → List ℕ) → IsListed I.next_gives rest → unsent utf16 rest s ≡ unsent utf16 rest self.now) }
+        ensures same { IfOk result (λ s. (rest : I → List ℕ) → GivesTheSame I.is_clone rest self.now.source → unsent utf16 rest s ≡ unsent utf16 rest self.now) }
         ensures succeeds { I.is_infallible self.now.source → IsOk result }
     {
         Ok(Utf16CharSplitter {

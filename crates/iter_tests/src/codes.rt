@@ -1,9 +1,9 @@
 //! The bytes and the units of one character.
 use encode_unicode::iterator::{Utf8Iterator, Utf16Iterator};
 use encode_unicode::{CharExt, Utf8Char, Utf16Char};
-use std::test::Fail;
 use std::io::Read;
 use std::process::Abort;
+use std::test::Fail;
 
 // The iterator gives these bytes, tells how many are left before each, and then has none.
 fn gives_bytes(rt: &impl Abort, bytes: Utf8Iterator, code: &[u8]) {

@@ -1,7 +1,5 @@
 //! Characters as the elements of their codes.
-use encode_unicode::{
-    CharExt, StrExt, Utf8Char, Utf8CharIterExt, Utf16Char, Utf16CharIterExt,
-};
+use encode_unicode::{CharExt, StrExt, Utf8Char, Utf8CharIterExt, Utf16Char, Utf16CharIterExt};
 use std::iter;
 use std::process::Abort;
 use std::test::Fail;
@@ -75,7 +73,10 @@ fn sources_of_every_kind_are_read(rt: HostRuntime) -> Result<(), Fail> {
     assert_eq!(rt; read_once(text.utf8chars(), &mut buf), Some(8));
     assert_eq!(rt; buf, expected);
     buf = [b'E'; 9];
-    assert_eq!(rt; read_once(text.chars().map(|c| c.to_utf8()), &mut buf), Some(8));
+    assert_eq!(rt;
+        read_once(text.chars().map(|c| c.to_utf8()), &mut buf),
+        Some(8)
+    );
     assert_eq!(rt; buf, expected);
     buf = [b'E'; 9];
     let mut reader = chars.into_iter().to_bytes();
@@ -146,7 +147,9 @@ fn hints_do_not_wrap(rt: HostRuntime) {
     let quarter = usize::MAX / 4;
     let bytes = iter::repeat(bomb).take(quarter).to_bytes();
     assert_eq!(rt; bytes.size_hint(), (quarter, Some(usize::MAX - 3)));
-    let units = iter::repeat(Utf16Char::from('A')).take(usize::MAX).to_units();
+    let units = iter::repeat(Utf16Char::from('A'))
+        .take(usize::MAX)
+        .to_units();
     assert_eq!(rt; units.size_hint(), (usize::MAX, None));
 }
 

@@ -1,6 +1,6 @@
 //! The characters of a text, from both ends.
-use encode_unicode::iterator::{Utf8CharIndices, Utf8Chars, Utf16CharIndices, Utf16Chars};
 use encode_unicode::StrExt;
+use encode_unicode::iterator::{Utf8CharIndices, Utf8Chars, Utf16CharIndices, Utf16Chars};
 use std::test::Fail;
 
 // The four iterators of a text, asked through the bound.
@@ -33,8 +33,16 @@ fn both_ends_are_asked_in_turn(rt: HostRuntime) {
         (false, None, (0, Some(0)), ""),
         (true, None, (0, Some(0)), ""),
     ] {
-        let by_bytes = if from_back { bytes.next_back() } else { bytes.next() };
-        let by_units = if from_back { units.next_back() } else { units.next() };
+        let by_bytes = if from_back {
+            bytes.next_back()
+        } else {
+            bytes.next()
+        };
+        let by_units = if from_back {
+            units.next_back()
+        } else {
+            units.next()
+        };
         assert_eq!(rt; by_bytes.map(|(place, c)| (place, c.to_char())), answer);
         assert_eq!(rt; by_units.map(|(place, c)| (place, c.to_char())), answer);
         assert_eq!(rt; bytes.size_hint(), hint);
@@ -56,8 +64,14 @@ fn characters_come_without_their_places(rt: HostRuntime) {
     assert_eq!(rt; bytes.as_str(), "b");
     assert_eq!(rt; units.as_str(), "b");
     let mut indices = "abc".utf8char_indices();
-    assert_eq!(rt; indices.next_back().map(|(place, c)| (place, c.to_char())), Some((2, 'c')));
-    assert_eq!(rt; indices.next().map(|(place, c)| (place, c.to_char())), Some((0, 'a')));
+    assert_eq!(rt;
+        indices.next_back().map(|(place, c)| (place, c.to_char())),
+        Some((2, 'c'))
+    );
+    assert_eq!(rt;
+        indices.next().map(|(place, c)| (place, c.to_char())),
+        Some((0, 'a'))
+    );
     assert_eq!(rt; indices.as_str(), "b");
 }
 
@@ -65,10 +79,19 @@ fn characters_come_without_their_places(rt: HostRuntime) {
 fn what_std_has_for_iterators_works(rt: HostRuntime) {
     let text = "a\u{e9}\u{1f4a3}";
     assert_eq!(rt; text.utf8chars().count(), 3);
-    assert_eq!(rt; text.utf16chars().last().map(|c| c.to_char()), Some('\u{1f4a3}'));
+    assert_eq!(rt;
+        text.utf16chars().last().map(|c| c.to_char()),
+        Some('\u{1f4a3}')
+    );
     let mut back = text.utf8char_indices().rev();
-    assert_eq!(rt; back.next().map(|(place, c)| (place, c.to_char())), Some((3, '\u{1f4a3}')));
-    assert_eq!(rt; back.next().map(|(place, c)| (place, c.to_char())), Some((1, '\u{e9}')));
+    assert_eq!(rt;
+        back.next().map(|(place, c)| (place, c.to_char())),
+        Some((3, '\u{1f4a3}'))
+    );
+    assert_eq!(rt;
+        back.next().map(|(place, c)| (place, c.to_char())),
+        Some((1, '\u{e9}'))
+    );
     let mut last = None;
     for (place, c) in text.utf16char_indices() {
         last = Some((place, c.to_char()));
@@ -99,9 +122,15 @@ fn what_is_left_is_shown_and_cloned(rt: HostRuntime) -> Result<(), Fail> {
     assert!(rt; indices.next().is_some());
     assert!(rt; units.next_back().is_some());
     let shown = format!(in rt.alloc(); "{indices:?} {chars:?} {units:?}")?;
-    assert_eq!(rt; shown.as_str(), "Utf8CharIndices(1, \"bc\") Utf8Chars(\"abc\") Utf16Chars(\"ab\")");
+    assert_eq!(rt;
+        shown.as_str(),
+        "Utf8CharIndices(1, \"bc\") Utf8Chars(\"abc\") Utf16Chars(\"ab\")"
+    );
     let mut copy = indices.clone()?;
-    assert_eq!(rt; copy.next().map(|(place, c)| (place, c.to_char())), Some((1, 'b')));
+    assert_eq!(rt;
+        copy.next().map(|(place, c)| (place, c.to_char())),
+        Some((1, 'b'))
+    );
     assert_eq!(rt; indices.as_str(), "bc");
     assert_eq!(rt; units.clone()?.as_str(), "ab");
     Ok(())
