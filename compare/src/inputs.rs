@@ -191,3 +191,68 @@ pub fn char_pairs(random: &mut Random) -> Vec<(char, char)> {
     pairs.extend((0..100_000).map(|_| (random.char(), random.char())));
     pairs
 }
+
+/// All texts of up to so many edge characters.
+pub fn edge_texts(most: u32) -> Vec<String> {
+    (0..=most)
+        .flat_map(|len| (0..EDGE_CHARS.len().pow(len)).map(move |number| edge_text(number, len)))
+        .collect()
+}
+
+// The text of that number, whose digits are the places of its characters.
+fn edge_text(number: usize, len: u32) -> String {
+    let base = EDGE_CHARS.len();
+    (0..len)
+        .map(|digit| EDGE_CHARS[number / base.pow(digit) % base])
+        .collect()
+}
+
+/// The letter of a word that calls `next_back`.
+pub const FROM_BACK: u8 = b'B';
+
+/// All words of so many letters, each of them a call from the front or from the back.
+pub fn words(len: u32) -> Vec<Vec<u8>> {
+    (0..1 << len)
+        .map(|number: u32| (0..len).map(|bit| letter(number >> bit & 1)).collect())
+        .collect()
+}
+
+fn letter(bit: u32) -> u8 {
+    [b'F', FROM_BACK][bit as usize]
+}
+
+/// Up to 16 characters, edges and others.
+pub fn text(random: &mut Random) -> String {
+    (0..random.below(17))
+        .map(|_| match random.below(2) {
+            0 => random.one_of(&EDGE_CHARS),
+            _ => random.char(),
+        })
+        .collect()
+}
+
+/// 1 to 20 random letters.
+pub fn word(random: &mut Random) -> Vec<u8> {
+    (0..1 + random.below(20))
+        .map(|_| letter(random.below(2) as u32))
+        .collect()
+}
+
+/// The most places of a read that a step asks for.
+pub const MOST_PLACES: usize = 9;
+
+// The step that calls `next`.
+const NEXT: u8 = MOST_PLACES as u8 + 1;
+
+/// Six calls of `next`: a code has at most four bytes.
+pub const NEXTS: [u8; 6] = [NEXT; 6];
+
+/// So many steps: half of them calls of `next`, and half reads of 0 to 9 places.
+pub fn steps(random: &mut Random, count: usize) -> Vec<u8> {
+    (0..count)
+        .map(|_| match random.below(2) {
+            0 => NEXT,
+            _ => random.below(MOST_PLACES + 1) as u8,
+        })
+        .collect()
+}

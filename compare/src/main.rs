@@ -9,7 +9,9 @@ mod numbers;
 mod ours;
 mod program;
 mod tally;
+mod text_kinds;
 mod theirs;
+mod theirs_by_calls;
 mod unicode;
 
 use std::path::Path;
@@ -44,6 +46,9 @@ fn compare_all(program: &Path, seed: u64, count: usize) -> Option<Vec<Kind>> {
     print_and_keep(&mut all, kinds::neighbours());
     print_and_keep(&mut all, kinds::codes(seed));
     print_and_keep(&mut all, vec![kinds::pairs(seed), kinds::error_texts()]);
+    print_and_keep(&mut all, text_kinds::walks(seed, count));
+    print_and_keep(&mut all, vec![text_kinds::codes(seed)]);
+    print_and_keep(&mut all, text_kinds::splitters(seed, count));
     match program::runs(program, seed) {
         Ok(runs) => print_and_keep(&mut all, runs),
         Err(error) => {

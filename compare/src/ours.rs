@@ -4,6 +4,21 @@
 // a length. None of them has a `requires`.
 extern "C" {
     fn compare_c_byte(byte: u8, answers: *mut u64, room: usize) -> usize;
+    fn compare_c_bytes_of_char(
+        number: u32,
+        steps: *const u8,
+        step_count: usize,
+        answers: *mut u64,
+        room: usize,
+    ) -> usize;
+    fn compare_c_bytes_of_text(
+        src: *const u8,
+        len: usize,
+        steps: *const u8,
+        step_count: usize,
+        answers: *mut u64,
+        room: usize,
+    ) -> usize;
     fn compare_c_char(number: u32, answers: *mut u64, room: usize) -> usize;
     fn compare_c_error_text(family: u8, place: u8, answer: *mut u8, room: usize) -> usize;
     fn compare_c_forward(src: *const u8, len: usize, answers: *mut u64, room: usize) -> usize;
@@ -22,6 +37,14 @@ extern "C" {
     fn compare_c_two_chars(one: u32, other: u32, answers: *mut u64, room: usize) -> usize;
     fn compare_c_two_units(first: u16, second: u16, answers: *mut u64, room: usize) -> usize;
     fn compare_c_unit(unit: u16, answers: *mut u64, room: usize) -> usize;
+    fn compare_c_units_of_char(number: u32, calls: usize, answers: *mut u64, room: usize) -> usize;
+    fn compare_c_units_of_text(
+        src: *const u8,
+        len: usize,
+        calls: usize,
+        answers: *mut u64,
+        room: usize,
+    ) -> usize;
     fn compare_c_utf16_char(
         number: u32,
         byte: u8,
@@ -29,7 +52,39 @@ extern "C" {
         answers: *mut u64,
         room: usize,
     ) -> usize;
+    fn compare_c_utf16char_indices(
+        src: *const u8,
+        len: usize,
+        word: *const u8,
+        call_count: usize,
+        answers: *mut u64,
+        room: usize,
+    ) -> usize;
+    fn compare_c_utf16chars(
+        src: *const u8,
+        len: usize,
+        word: *const u8,
+        call_count: usize,
+        answers: *mut u64,
+        room: usize,
+    ) -> usize;
     fn compare_c_utf8_char(number: u32, byte: u8, answers: *mut u64, room: usize) -> usize;
+    fn compare_c_utf8char_indices(
+        src: *const u8,
+        len: usize,
+        word: *const u8,
+        call_count: usize,
+        answers: *mut u64,
+        room: usize,
+    ) -> usize;
+    fn compare_c_utf8chars(
+        src: *const u8,
+        len: usize,
+        word: *const u8,
+        call_count: usize,
+        answers: *mut u64,
+        room: usize,
+    ) -> usize;
 }
 
 /// Room that is enough for the answers to a single item.
@@ -37,6 +92,9 @@ const ROOM: usize = 128;
 
 /// Room for each call of `next`.
 const ROOM_PER_ITEM: usize = 6;
+
+/// Room for each call of what is walked or read, beside the bytes of a text that is left after it.
+const ROOM_PER_CALL: usize = 16;
 
 // Calls with that much room, and keeps what was written.
 //
@@ -126,4 +184,94 @@ pub fn error_text(family: u8, place: u8) -> String {
     let used = unsafe { compare_c_error_text(family, place, answer.as_mut_ptr(), answer.len()) };
     answer.truncate(used);
     String::from_utf8_lossy(&answer).into_owned()
+}
+
+// Enough for so many calls, after each of which the text may be shown, and once more at the end.
+fn room_by_calls(text: &str, calls: usize) -> usize {
+    (ROOM_PER_CALL + text.len()) * (calls + 1)
+}
+
+pub fn utf8char_indices(text: &str, word: &[u8]) -> Vec<u64> {
+    filled(room_by_calls(text, word.len()), |at, room| unsafe {
+        compare_c_utf8char_indices(
+            text.as_ptr(),
+            text.len(),
+            word.as_ptr(),
+            word.len(),
+            at,
+            room,
+        )
+    })
+}
+
+pub fn utf8chars(text: &str, word: &[u8]) -> Vec<u64> {
+    filled(room_by_calls(text, word.len()), |at, room| unsafe {
+        compare_c_utf8chars(
+            text.as_ptr(),
+            text.len(),
+            word.as_ptr(),
+            word.len(),
+            at,
+            room,
+        )
+    })
+}
+
+pub fn utf16char_indices(text: &str, word: &[u8]) -> Vec<u64> {
+    filled(room_by_calls(text, word.len()), |at, room| unsafe {
+        compare_c_utf16char_indices(
+            text.as_ptr(),
+            text.len(),
+            word.as_ptr(),
+            word.len(),
+            at,
+            room,
+        )
+    })
+}
+
+pub fn utf16chars(text: &str, word: &[u8]) -> Vec<u64> {
+    filled(room_by_calls(text, word.len()), |at, room| unsafe {
+        compare_c_utf16chars(
+            text.as_ptr(),
+            text.len(),
+            word.as_ptr(),
+            word.len(),
+            at,
+            room,
+        )
+    })
+}
+
+/// Two iterators over the bytes of the character, each by these steps.
+pub fn bytes_of_char(c: char, steps: &[u8]) -> Vec<u64> {
+    filled(2 * ROOM_PER_CALL * steps.len(), |at, room| unsafe {
+        compare_c_bytes_of_char(u32::from(c), steps.as_ptr(), steps.len(), at, room)
+    })
+}
+
+/// Two iterators over the units of the character, each by so many calls.
+pub fn units_of_char(c: char, calls: usize) -> Vec<u64> {
+    filled(2 * ROOM_PER_CALL * calls, |at, room| unsafe {
+        compare_c_units_of_char(u32::from(c), calls, at, room)
+    })
+}
+
+pub fn bytes_of_text(text: &str, steps: &[u8]) -> Vec<u64> {
+    filled(room_by_calls(text, steps.len()), |at, room| unsafe {
+        compare_c_bytes_of_text(
+            text.as_ptr(),
+            text.len(),
+            steps.as_ptr(),
+            steps.len(),
+            at,
+            room,
+        )
+    })
+}
+
+pub fn units_of_text(text: &str, calls: usize) -> Vec<u64> {
+    filled(room_by_calls(text, calls), |at, room| unsafe {
+        compare_c_units_of_text(text.as_ptr(), text.len(), calls, at, room)
+    })
 }

@@ -12,11 +12,15 @@
 
 mod bytes;
 mod characters;
+mod codes;
 mod errors;
 mod numbers;
 mod pairs;
 mod runs;
 mod sheet;
 mod shown;
+mod splitters;
+mod steps;
 mod texts;
 mod units;
+mod walks;

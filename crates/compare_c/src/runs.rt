@@ -31,9 +31,7 @@ fn put_items(mut decoder: Utf8CharDecoder<'_>, most: usize, mut sheet: Sheet<'_>
 
 // One call; whether it gave an item.
 fn put_item(sheet: &mut Sheet<'_>, decoder: &mut Utf8CharDecoder<'_>) -> bool {
-    let (least, most) = decoder.size_hint();
-    sheet.put_size(least);
-    sheet.put(most.map_or(NOTHING, |most| most as u64));
+    sheet.put_hint(decoder.size_hint());
     sheet.put_size(decoder.as_slice().len());
     let Some((offset, answer, len)) = decoder.next() else {
         sheet.put(NOTHING);

@@ -2,6 +2,7 @@
 use crate::numbers::NOTHING;
 use encode_unicode::{Utf8Char, Utf16Char};
 use std::cmp::Ordering;
+use std::io;
 
 /// Numbers that are written to a slice one behind the other.
 #[derive(Drop)]
@@ -107,5 +108,56 @@ impl<'a> Sheet<'a> {
                 self.put(0);
             }
         }
+    }
+
+    /// Adds both ends of a hint.
+    pub fn put_hint(&mut self, hint: (usize, Option<usize>)) {
+        let (least, most) = hint;
+        self.put_size(least);
+        self.put(most.map_or(NOTHING, |most| most as u64));
+    }
+
+    /// Adds the scalar, where there is one.
+    pub fn put_scalar(&mut self, item: Option<char>) {
+        self.put(item.map_or(NOTHING, |c| u64::from(c as u32)));
+    }
+
+    /// Adds the offset and the scalar, where there are any.
+    pub fn put_placed(&mut self, item: Option<(usize, char)>) {
+        match item {
+            Some((offset, c)) => {
+                self.put_size(offset);
+                self.put_char(c);
+            }
+            None => {
+                self.put(NOTHING);
+                self.put(NOTHING);
+            }
+        }
+    }
+
+    /// Adds the byte, where there is one.
+    pub fn put_byte(&mut self, item: Option<u8>) {
+        self.put(item.map_or(NOTHING, |byte| u64::from(byte)));
+    }
+
+    /// Adds the unit, where there is one.
+    pub fn put_unit(&mut self, item: Option<u16>) {
+        self.put(item.map_or(NOTHING, |unit| u64::from(unit)));
+    }
+
+    /// Adds how many bytes were read, where the read did not fail, and all places of the buffer.
+    pub fn put_read(&mut self, read: io::Result<usize>, places: &[u8]) {
+        match read {
+            Ok(count) => self.put_size(count),
+            Err(_) => self.put(NOTHING),
+        }
+        self.put_bytes(places);
+    }
+
+    /// Adds the length of a text and its bytes.
+    pub fn put_text(&mut self, text: &str) {
+        self.put_size(text.len());
+        self.put_bytes(text.as_bytes());
     }
 }

@@ -1,0 +1,106 @@
+//! The iterators over texts and over the codes of characters, compared.
+
+use crate::inputs::{self, Random};
+use crate::tally::Kind;
+use crate::{ours, theirs_by_calls as theirs};
+
+/// Each text by the iterators over its characters, from both ends.
+pub fn walks(seed: u64, count: usize) -> Vec<Kind> {
+    let random = &mut Random::new(seed);
+    let texts = inputs::edge_texts(3);
+    let few = inputs::edge_texts(2);
+    vec![
+        walk_kind(
+            "texts of up to three edge characters, words of five",
+            beside(&texts, &inputs::words(5)),
+        ),
+        walk_kind(
+            "texts of up to two edge characters, words of eight",
+            beside(&few, &inputs::words(8)),
+        ),
+        walk_kind(
+            "texts of up to 16 characters, random words",
+            (0..count.div_ceil(3)).map(|_| (inputs::text(random), inputs::word(random))),
+        ),
+    ]
+}
+
+// Each text with each word.
+fn beside<'a>(
+    texts: &'a [String],
+    words: &'a [Vec<u8>],
+) -> impl Iterator<Item = (String, Vec<u8>)> + 'a {
+    texts
+        .iter()
+        .flat_map(|text| words.iter().map(move |word| (text.clone(), word.clone())))
+}
+
+fn walk_kind(name: &'static str, walks: impl Iterator<Item = (String, Vec<u8>)>) -> Kind {
+    let mut kind = Kind::new(name);
+    for (text, word) in walks {
+        let input = || format!("{text:?} by {}", String::from_utf8_lossy(&word));
+        let all = [
+            ours::utf8char_indices(&text, &word),
+            ours::utf8chars(&text, &word),
+            ours::utf16char_indices(&text, &word),
+            ours::utf16chars(&text, &word),
+        ]
+        .concat();
+        kind.compare(input, &all, &theirs::walks(&text, &word));
+    }
+    kind
+}
+
+/// Every character by the iterators over its codes: by `next` alone, and by random calls.
+pub fn codes(seed: u64) -> Kind {
+    let random = &mut Random::new(seed);
+    let mut kind = Kind::new("characters, by the iterators over their codes");
+    for c in '\0'..=char::MAX {
+        let steps = inputs::steps(random, 6);
+        let input = || format!("{c:?} by {steps:?}");
+        let all = [
+            ours::bytes_of_char(c, &inputs::NEXTS),
+            ours::bytes_of_char(c, &steps),
+            ours::units_of_char(c, 4),
+        ]
+        .concat();
+        let mut judged = theirs::bytes_of_char(c, &inputs::NEXTS);
+        judged.append(theirs::bytes_of_char(c, &steps));
+        judged.append(theirs::units_of_char(c, 4));
+        kind.compare(input, &all, &judged);
+    }
+    kind
+}
+
+/// Each text by the iterators over the codes of its characters, by random calls.
+pub fn splitters(seed: u64, count: usize) -> Vec<Kind> {
+    let random = &mut Random::new(seed);
+    let mut edges = Kind::new("texts of up to three edge characters, split");
+    for text in inputs::edge_texts(3) {
+        for _ in 0..8 {
+            compare_split(&mut edges, random, &text);
+        }
+    }
+    let mut texts = Kind::new("texts of up to 16 characters, split");
+    for _ in 0..count.div_ceil(3) {
+        let text = inputs::text(random);
+        compare_split(&mut texts, random, &text);
+    }
+    vec![edges, texts]
+}
+
+// By up to 20 steps, and by up to 19 calls for units, so that many a text is left in its middle.
+fn compare_split(kind: &mut Kind, random: &mut Random, text: &str) {
+    let step_count = random.below(21);
+    let steps = inputs::steps(random, step_count);
+    let calls = random.below(20);
+    let input = || format!("{text:?} by {steps:?} and {calls} calls");
+    let both = [
+        ours::bytes_of_text(text, &steps),
+        ours::units_of_text(text, calls),
+    ]
+    .concat();
+    let mut judged = theirs::bytes_of_text(text, &steps);
+    judged.append(theirs::units_of_text(text, calls));
+    kind.compare(input, &both, &judged);
+}
