@@ -77,7 +77,8 @@ impl<I: Iterator<Item = Utf16Char>> Utf16CharSplitter<I> {
     pub fn into_inner(self) -> I
         ensures { result ≡ self.source }
     {
-        self.source
+        let Utf16CharSplitter { source, begun: _ } = self;
+        source
     }
 
     /// A second splitter with the same units to come, where a clone of the source gives the same items. It

@@ -103,7 +103,8 @@ impl<I: Iterator<Item = Utf8Char>> Utf8CharSplitter<I> {
     pub fn into_inner(self) -> I
         ensures { result ≡ self.source }
     {
-        self.source
+        let Utf8CharSplitter { source, begun: _ } = self;
+        source
     }
 
     /// A second splitter with the same bytes to come, where a clone of the source gives the same items. It
