@@ -6,6 +6,8 @@
 //! No contract speaks of the checksum: that it agrees with the Rust crate's is what `bench/run` tests.
 #![tactic(auto)]
 
+mod texts;
+
 use encode_unicode::error::{Utf8ErrorKind, Utf16SliceError};
 use encode_unicode::iterator::Utf8CharDecoder;
 use encode_unicode::{CharExt, Utf8Char, Utf16Char};
