@@ -4,14 +4,13 @@
 
 use bench::inputs::{self, Input};
 use bench::report::Times;
-use bench::texts;
 use bench::work::{self, Work, Worker};
 use std::hint::black_box;
 use std::io::Write;
 use std::process::ExitCode;
 use std::time::Instant;
 
-const USAGE: &str = "bench times SIZE ROUNDS | one WORK INPUT ours|base|rust|std|none SIZE CALLS | input INPUT SIZE | list";
+const USAGE: &str = "bench times SIZE ROUNDS | one WORK INPUT ours|rust|std|none SIZE CALLS | input INPUT SIZE | list";
 
 fn main() -> ExitCode {
     let args: Vec<String> = std::env::args().skip(1).collect();
@@ -89,8 +88,7 @@ fn agree(work: &Work, name: &str, input: &Input, sums: &[u64]) -> bool {
     agree
 }
 
-// Calls one worker on one input and nothing else. The side `none` does nothing, and `base`
-// what our side does before the work.
+// Calls one worker on one input and nothing else. The side `none` calls none.
 fn one(work: &str, name: &str, side: &str, size: usize, calls: usize) -> Option<ExitCode> {
     let work = work::all().find(|known| known.name == work)?;
     let input = inputs::make(name, size)?;
@@ -98,8 +96,7 @@ fn one(work: &str, name: &str, side: &str, size: usize, calls: usize) -> Option<
         "ours" => work.ours,
         "rust" => work.rust,
         "std" => work.std?,
-        "base" if work.of_text => texts::only_text,
-        "base" | "none" => |_| 0,
+        "none" => |_| 0,
         _ => return None,
     };
     let worker = black_box(worker);

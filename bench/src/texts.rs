@@ -95,18 +95,12 @@ extern "C" {
     fn bench_c_indices_back(src: *const u8, len: usize, factor: u64) -> u64;
     fn bench_c_utf16chars(src: *const u8, len: usize, factor: u64) -> u64;
     fn bench_c_utf16chars_back(src: *const u8, len: usize, factor: u64) -> u64;
-    fn bench_c_only_text(src: *const u8, len: usize, factor: u64) -> u64;
 }
 
 // They ask that the bytes are a text, which those of a `str` are.
 fn ours(export: Export, input: &Input) -> u64 {
     let text = input.text();
     unsafe { export(text.as_ptr(), text.len(), FACTOR) }
-}
-
-/// What our side of every work here does before the work: it makes a text of the bytes, which tests them.
-pub fn only_text(input: &Input) -> u64 {
-    ours(bench_c_only_text, input)
 }
 
 fn text_len(input: &Input) -> usize {

@@ -145,12 +145,3 @@ pub extern "C" fn bench_c_utf16chars_back(src: &[u8], factor: u64) -> u64
     }
     sum
 }
-
-/// The length of the text, and nothing of it: what every call above does before its work.
-#[unsafe(no_mangle)]
-pub extern "C" fn bench_c_only_text(src: &[u8], factor: u64) -> u64
-    requires { IsUtf8 src.now }
-{
-    let text = unsafe { str::from_utf8_unchecked(src) };
-    (text.len() as u64).wrapping_mul(factor)
-}
