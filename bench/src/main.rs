@@ -38,7 +38,7 @@ fn number(word: &str) -> Option<usize> {
 fn times(size: usize, rounds: usize) -> ExitCode {
     let mut agree = true;
     println!(
-        "{:<14} {:<11} {:>9} {:>9} {:>9} {:>9}  spread of each",
+        "{:<15} {:<11} {:>9} {:>9} {:>9} {:>9}  spread of each",
         "work", "input", "ours", "rust", "ours/rust", "std"
     );
     for work in work::all() {
@@ -73,7 +73,7 @@ fn time_row(work: &Work, name: &str, input: &Input, rounds: usize) -> bool {
     let (ours, rust) = (times[0].best(bytes), times[1].best(bytes));
     let std = times.get(2).map_or("-".to_string(), |times| format!("{:.3}", times.best(bytes)));
     let spreads: Vec<String> = times.iter().map(|times| format!("{:.0}%", times.spread())).collect();
-    print!("{:<14} {:<11} {ours:>9.3} {rust:>9.3} {:>9.2} {std:>9}  ", work.name, name, ours / rust);
+    print!("{:<15} {:<11} {ours:>9.3} {rust:>9.3} {:>9.2} {std:>9}  ", work.name, name, ours / rust);
     println!("{}", spreads.join(" "));
     agree(work, name, input, &sums)
 }
