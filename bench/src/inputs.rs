@@ -19,21 +19,33 @@ pub struct Input {
     pub units: Vec<u16>,
     /// Scalars, and other numbers among them.
     pub numbers: Vec<u32>,
+    /// The text, where nothing in it is faulty.
+    text: Option<String>,
+}
+
+impl Input {
     /// Whether nothing in it is faulty.
-    pub is_text: bool,
+    pub fn is_text(&self) -> bool {
+        self.text.is_some()
+    }
+
+    /// The text, or an empty one where something is faulty.
+    pub fn text(&self) -> &str {
+        self.text.as_deref().unwrap_or_default()
+    }
 }
 
 /// The input of that name, with about `size` bytes of UTF-8, and of numbers as many as there are characters.
 pub fn make(name: &str, size: usize) -> Option<Input> {
     let mut random = Random(0x5eed_0000_0000_0001);
     let input = match name {
-        "ascii" => of_text(&text(&mut random, size, |_| 0)),
-        "two-byte" => of_text(&text(&mut random, size, |_| 1)),
-        "three-byte" => of_text(&text(&mut random, size, |_| 2)),
-        "four-byte" => of_text(&text(&mut random, size, |_| 3)),
-        "mix" => of_text(&text(&mut random, size, |random| random.below(4))),
+        "ascii" => of_text(text(&mut random, size, |_| 0)),
+        "two-byte" => of_text(text(&mut random, size, |_| 1)),
+        "three-byte" => of_text(text(&mut random, size, |_| 2)),
+        "four-byte" => of_text(text(&mut random, size, |_| 3)),
+        "mix" => of_text(text(&mut random, size, |random| random.below(4))),
         "damaged" => {
-            let mix = of_text(&text(&mut random, size, |random| random.below(4)));
+            let mix = of_text(text(&mut random, size, |random| random.below(4)));
             damaged(&mut random, mix)
         }
         "random" => noise(&mut random, size),
@@ -71,12 +83,12 @@ fn character(random: &mut Random, class: u64) -> char {
     }
 }
 
-fn of_text(text: &str) -> Input {
+fn of_text(text: String) -> Input {
     Input {
         bytes: text.as_bytes().to_vec(),
         units: text.encode_utf16().collect(),
         numbers: text.chars().map(u32::from).collect(),
-        is_text: true,
+        text: Some(text),
     }
 }
 
@@ -97,7 +109,7 @@ fn damaged(random: &mut Random, mut input: Input) -> Input {
             *number = random.next() as u32;
         }
     }
-    input.is_text = false;
+    input.text = None;
     input
 }
 
@@ -111,7 +123,7 @@ fn noise(random: &mut Random, size: usize) -> Input {
         bytes: (0..size).map(|_| random.next() as u8).collect(),
         units: (0..size / 2).map(|_| unit(random)).collect(),
         numbers: (0..size / 4).map(|_| random.below(0x12_0000) as u32).collect(),
-        is_text: false,
+        text: None,
     }
 }
 

@@ -2,4 +2,5 @@
 
 pub mod inputs;
 pub mod report;
+pub mod texts;
 pub mod work;

@@ -38,13 +38,15 @@ fn number(word: &str) -> Option<usize> {
 fn times(size: usize, rounds: usize) -> ExitCode {
     let mut agree = true;
     println!(
-        "{:<10} {:<11} {:>9} {:>9} {:>9} {:>9}  spread of each",
+        "{:<15} {:<11} {:>9} {:>9} {:>9} {:>9}  spread of each",
         "work", "input", "ours", "rust", "ours/rust", "std"
     );
-    for work in &work::ALL {
+    for work in work::all() {
         for name in inputs::NAMES {
             let input = inputs::make(name, size).expect("the names are known");
-            agree &= time_row(work, name, &input, rounds);
+            if work.takes(&input) {
+                agree &= time_row(work, name, &input, rounds);
+            }
         }
     }
     if agree {
@@ -71,14 +73,14 @@ fn time_row(work: &Work, name: &str, input: &Input, rounds: usize) -> bool {
     let (ours, rust) = (times[0].best(bytes), times[1].best(bytes));
     let std = times.get(2).map_or("-".to_string(), |times| format!("{:.3}", times.best(bytes)));
     let spreads: Vec<String> = times.iter().map(|times| format!("{:.0}%", times.spread())).collect();
-    print!("{:<10} {:<11} {ours:>9.3} {rust:>9.3} {:>9.2} {std:>9}  ", work.name, name, ours / rust);
+    print!("{:<15} {:<11} {ours:>9.3} {rust:>9.3} {:>9.2} {std:>9}  ", work.name, name, ours / rust);
     println!("{}", spreads.join(" "));
     agree(work, name, input, &sums)
 }
 
 // Whether the checksums agree that have to: ours and the Rust crate's always, std's on text.
 fn agree(work: &Work, name: &str, input: &Input, sums: &[u64]) -> bool {
-    let compared = if input.is_text { sums } else { &sums[..2] };
+    let compared = if input.is_text() { sums } else { &sums[..2] };
     let agree = compared.iter().all(|sum| *sum == sums[0]);
     if !agree {
         println!("DIFFERS {} {}: {:x?}", work.name, name, compared);
@@ -88,7 +90,7 @@ fn agree(work: &Work, name: &str, input: &Input, sums: &[u64]) -> bool {
 
 // Calls one worker on one input and nothing else. The side `none` calls none.
 fn one(work: &str, name: &str, side: &str, size: usize, calls: usize) -> Option<ExitCode> {
-    let work = work::ALL.iter().find(|known| known.name == work)?;
+    let work = work::all().find(|known| known.name == work)?;
     let input = inputs::make(name, size)?;
     let worker: Worker = match side {
         "ours" => work.ours,
@@ -112,10 +114,17 @@ fn write_input(name: &str, size: usize) -> Option<ExitCode> {
     Some(if written.is_ok() { ExitCode::SUCCESS } else { ExitCode::from(3) })
 }
 
-// The kinds of work, then the inputs, a line each.
+// A line for each work and each input that it takes: their names, whether the input is faultless, and the sides.
 fn list() -> ExitCode {
-    let works: Vec<&str> = work::ALL.iter().map(|work| work.name).collect();
-    println!("{}", works.join(" "));
-    println!("{}", inputs::NAMES.join(" "));
+    for work in work::all() {
+        for name in inputs::NAMES {
+            let input = inputs::make(name, 1).expect("the names are known");
+            if work.takes(&input) {
+                let kind = if input.is_text() { "text" } else { "faulty" };
+                let std = if work.std.is_some() { " std" } else { "" };
+                println!("{} {name} {kind} ours rust{std}", work.name);
+            }
+        }
+    }
     ExitCode::SUCCESS
 }

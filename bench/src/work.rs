@@ -4,6 +4,7 @@
 //! Every worker answers a checksum of all that it saw, mixed in the same way, so that answers can be compared.
 
 use crate::inputs::Input;
+use crate::texts;
 use encode_unicode::error::{Utf16SliceError, Utf8ErrorKind};
 use encode_unicode::iterator::Utf8CharDecoder;
 use encode_unicode::{CharExt, Utf16Char, Utf8Char};
@@ -19,16 +20,31 @@ pub struct Work {
     pub std: Option<Worker>,
     /// How many bytes of the input it reads.
     pub bytes: fn(&Input) -> usize,
+    /// Whether it takes faultless text alone.
+    pub of_text: bool,
+}
+
+impl Work {
+    /// Whether the work takes the input.
+    pub fn takes(&self, input: &Input) -> bool {
+        input.is_text() || !self.of_text
+    }
 }
 
 /// All kinds of work, in the order of the tables.
-pub const ALL: [Work; 6] = [
+pub fn all() -> impl Iterator<Item = &'static Work> {
+    OF_SLICES.iter().chain(&texts::ALL)
+}
+
+// The works over slices, which take faulty ones too.
+const OF_SLICES: [Work; 6] = [
     Work {
         name: "forward",
         ours: |input| unsafe { bench_c_forward(input.bytes.as_ptr(), input.bytes.len(), FACTOR) },
         rust: |input| forward(&input.bytes),
         std: Some(|input| std_forward(&input.bytes)),
         bytes: |input| input.bytes.len(),
+        of_text: false,
     },
     Work {
         name: "starts",
@@ -36,6 +52,7 @@ pub const ALL: [Work; 6] = [
         rust: |input| starts(&input.bytes),
         std: None,
         bytes: |input| input.bytes.len(),
+        of_text: false,
     },
     Work {
         name: "units",
@@ -43,6 +60,7 @@ pub const ALL: [Work; 6] = [
         rust: |input| units(&input.units),
         std: Some(|input| std_units(&input.units)),
         bytes: |input| 2 * input.units.len(),
+        of_text: false,
     },
     Work {
         name: "to_utf8",
@@ -50,6 +68,7 @@ pub const ALL: [Work; 6] = [
         rust: |input| to_utf8(&input.numbers),
         std: Some(|input| std_to_utf8(&input.numbers)),
         bytes: |input| 4 * input.numbers.len(),
+        of_text: false,
     },
     Work {
         name: "to_utf16",
@@ -57,6 +76,7 @@ pub const ALL: [Work; 6] = [
         rust: |input| to_utf16(&input.numbers),
         std: Some(|input| std_to_utf16(&input.numbers)),
         bytes: |input| 4 * input.numbers.len(),
+        of_text: false,
     },
     Work {
         name: "between",
@@ -64,6 +84,7 @@ pub const ALL: [Work; 6] = [
         rust: |input| between(&input.bytes),
         std: None,
         bytes: |input| input.bytes.len(),
+        of_text: false,
     },
 ];
 
@@ -79,11 +100,11 @@ extern "C" {
     fn bench_c_between(src: *const u8, len: usize, factor: u64) -> u64;
 }
 
-const FACTOR: u64 = 0x9e37_79b9_7f4a_7c15;
+pub(crate) const FACTOR: u64 = 0x9e37_79b9_7f4a_7c15;
 const ERROR: u32 = 0x20_0000;
 
 #[inline(always)]
-fn mix(sum: u64, word: u64) -> u64 {
+pub(crate) fn mix(sum: u64, word: u64) -> u64 {
     sum.wrapping_mul(9).wrapping_add(word.wrapping_mul(FACTOR))
 }
 

@@ -2,9 +2,12 @@
 //!
 //! Each call answers a checksum of all that it saw, so that a compiler can leave out none of the work and
 //! two implementations can be compared. Its factor is an argument: as a constant it would be made anew for
-//! each element, which is no part of the work. It is proved that each call is safe for every slice and returns.
-//! No contract speaks of the checksum: that it agrees with the Rust crate's is what `bench/run` tests.
+//! each element, which is no part of the work. It is proved that each call is safe for every slice, or for
+//! every text, and returns. No contract speaks of the checksum: that it agrees with the Rust crate's is what
+//! `bench/run` tests.
 #![tactic(auto)]
+
+mod texts;
 
 use encode_unicode::error::{Utf8ErrorKind, Utf16SliceError};
 use encode_unicode::iterator::Utf8CharDecoder;

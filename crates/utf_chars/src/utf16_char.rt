@@ -68,7 +68,7 @@ impl Utf16Char {
     }
 
     /// The first character of the text, and how many bytes of the text it is: 1 to 4.
-    #[inline]
+    #[inline(always)]
     pub fn from_str_start(src: &str) -> Result<(Utf16Char, usize), EmptyStrError>
         ensures begins { BeginsText src.now result }
         ensures known { result ≡ first_of_text src.now }

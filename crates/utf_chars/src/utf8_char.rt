@@ -64,7 +64,7 @@ impl Utf8Char {
     }
 
     /// The first character of the text, and how many bytes of the text it is: 1 to 4.
-    #[inline]
+    #[inline(always)]
     pub fn from_str_start(src: &str) -> Result<(Utf8Char, usize), EmptyStrError>
         ensures begins { BeginsText src.now result }
         ensures known { result ≡ first_of_text src.now }
