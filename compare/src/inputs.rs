@@ -213,7 +213,7 @@ pub const FROM_BACK: u8 = b'B';
 /// All words of so many letters, each of them a call from the front or from the back.
 pub fn words(len: u32) -> Vec<Vec<u8>> {
     (0..1 << len)
-        .map(|number: u32| (0..len).map(|bit| letter(number >> bit & 1)).collect())
+        .map(|number: u32| (0..len).map(|bit| letter((number >> bit) & 1)).collect())
         .collect()
 }
 
