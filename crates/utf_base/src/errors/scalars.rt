@@ -55,7 +55,7 @@ impl fmt::Display for CodepointError {
     ghost styled_output = { λ e _. Some (codepoint_error_text e) };
 
     fn fmt<W: fmt::Write>(&self, f: &mut fmt::Formatter<W>) -> fmt::Result {
-        f.write_str(self.description())
+        f.write_str(CodepointError::description(self))
     }
 }
 
@@ -91,7 +91,7 @@ impl fmt::Display for FromStrError {
     ghost styled_output = { λ e _. Some (from_str_error_text e) };
 
     fn fmt<W: fmt::Write>(&self, f: &mut fmt::Formatter<W>) -> fmt::Result {
-        f.write_str(self.description())
+        f.write_str(FromStrError::description(self))
     }
 }
 
@@ -119,7 +119,7 @@ impl fmt::Display for EmptyStrError {
     ghost styled_output = { λ _ _. Some empty_str_error_text };
 
     fn fmt<W: fmt::Write>(&self, f: &mut fmt::Formatter<W>) -> fmt::Result {
-        f.write_str(self.description())
+        f.write_str(EmptyStrError::description(self))
     }
 }
 
@@ -147,7 +147,7 @@ impl fmt::Display for NonAsciiError {
     ghost styled_output = { λ _ _. Some non_ascii_error_text };
 
     fn fmt<W: fmt::Write>(&self, f: &mut fmt::Formatter<W>) -> fmt::Result {
-        f.write_str(self.description())
+        f.write_str(NonAsciiError::description(self))
     }
 }
 
@@ -176,7 +176,7 @@ impl fmt::Display for NonBmpError {
     ghost styled_output = { λ _ _. Some non_bmp_error_text };
 
     fn fmt<W: fmt::Write>(&self, f: &mut fmt::Formatter<W>) -> fmt::Result {
-        f.write_str(self.description())
+        f.write_str(NonBmpError::description(self))
     }
 }
 

@@ -28,7 +28,7 @@ impl fmt::Display for Utf16FirstUnitError {
     ghost styled_output = { λ _ _. Some first_unit_error_text };
 
     fn fmt<W: fmt::Write>(&self, f: &mut fmt::Formatter<W>) -> fmt::Result {
-        f.write_str(self.description())
+        f.write_str(Utf16FirstUnitError::description(self))
     }
 }
 
@@ -66,7 +66,7 @@ impl fmt::Display for Utf16ArrayError {
     ghost styled_output = { λ e _. Some (array_error_text e) };
 
     fn fmt<W: fmt::Write>(&self, f: &mut fmt::Formatter<W>) -> fmt::Result {
-        f.write_str(self.description())
+        f.write_str(Utf16ArrayError::description(self))
     }
 }
 
@@ -111,7 +111,7 @@ impl fmt::Display for Utf16TupleError {
     ghost styled_output = { λ e _. Some (tuple_error_text e) };
 
     fn fmt<W: fmt::Write>(&self, f: &mut fmt::Formatter<W>) -> fmt::Result {
-        f.write_str(self.description())
+        f.write_str(Utf16TupleError::description(self))
     }
 }
 
@@ -154,7 +154,7 @@ impl fmt::Display for Utf16SliceError {
     ghost styled_output = { λ e _. Some (slice_error_text e) };
 
     fn fmt<W: fmt::Write>(&self, f: &mut fmt::Formatter<W>) -> fmt::Result {
-        f.write_str(self.description())
+        f.write_str(Utf16SliceError::description(self))
     }
 }
 
@@ -197,7 +197,7 @@ impl fmt::Display for Utf16PairError {
     ghost styled_output = { λ e _. Some (pair_error_text e) };
 
     fn fmt<W: fmt::Write>(&self, f: &mut fmt::Formatter<W>) -> fmt::Result {
-        f.write_str(self.description())
+        f.write_str(Utf16PairError::description(self))
     }
 }
 
