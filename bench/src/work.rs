@@ -25,6 +25,12 @@ pub struct Work {
 }
 
 impl Work {
+    /// Who does the work, each by the name of its side.
+    pub fn sides(&self) -> impl Iterator<Item = (&'static str, Worker)> {
+        let known = [("ours", Some(self.ours)), ("rust", Some(self.rust)), ("std", self.std)];
+        known.into_iter().filter_map(|(side, worker)| Some((side, worker?)))
+    }
+
     /// Whether the work takes the input.
     pub fn takes(&self, input: &Input) -> bool {
         input.is_text() || !self.of_text
