@@ -4,8 +4,9 @@
 //! calling the function, or takes the lemma behind it from `proofs/`.
 ghost use Rattle.utf_base.specs.Code.{utf8, utf16};
 ghost use Rattle.utf_base.specs.CutLaws.{CodesNeverOverlap, PiecesNeverOverlap, OnePieceBegins, OnePieceEnds};
-ghost use Rattle.utf_base.specs.CutLaws.{CutsFollow, CutExists, CutIsUnique, AsciiStandsAlone};
-ghost use Rattle.utf_base.specs.KindLaws.{CodeOrOneFault, UnitsCodeOrOneFault, FourBytesDecide};
+ghost use Rattle.utf_base.specs.CutLaws.{CutsFollow, CutExists, CutIsUnique, NoFaultInJoinedCodes, AsciiStandsAlone};
+ghost use Rattle.utf_base.specs.KindLaws.{CodeOrOneFault, UnitsCodeOrOneFault, UnitsCodeOrOneKind};
+ghost use Rattle.utf_base.specs.KindLaws.{FourBytesDecide, TwoUnitsDecide};
 
 /// Two codes that stand in one list are the same place or share no element.
 pub fn codes_never_overlap()
@@ -50,6 +51,13 @@ pub fn cut_is_unique()
     ensures utf16 { CutIsUnique utf16 }
 {}
 
+/// A cut has no fault exactly where its list is the codes of some scalars, joined, and its pieces are then
+/// these scalars in order.
+pub fn no_fault_in_joined_codes()
+    ensures utf8 { NoFaultInJoinedCodes utf8 }
+    ensures utf16 { NoFaultInJoinedCodes utf16 }
+{}
+
 /// A byte below 0x80 is a piece of its own: no error hides an ASCII character.
 pub fn ascii_stands_alone()
     ensures { AsciiStandsAlone }
@@ -65,7 +73,17 @@ pub fn units_code_or_one_fault()
     ensures { UnitsCodeOrOneFault }
 {}
 
+/// Units have the code of a scalar at their front, or exactly one forward kind, and never both.
+pub fn units_code_or_one_kind()
+    ensures { UnitsCodeOrOneKind }
+{}
+
 /// The forward kind depends on the first four bytes alone, on fewer where there are fewer.
 pub fn four_bytes_decide()
     ensures { FourBytesDecide }
+{}
+
+/// The forward kind of units depends on the first two alone, on one where there is one.
+pub fn two_units_decide()
+    ensures { TwoUnitsDecide }
 {}
