@@ -49,8 +49,8 @@ pub mod laws {
     //! calls the one that its proof needs.
     pub use utf_base::laws::{
         ascii_stands_alone, code_or_one_fault, codes_never_overlap, cut_exists, cut_is_unique,
-        cuts_follow, four_bytes_decide, one_piece_begins, one_piece_ends, pieces_never_overlap,
-        units_code_or_one_fault,
+        cuts_follow, four_bytes_decide, kinds_differ, merger_code_or_one_fault, one_piece_begins,
+        one_piece_ends, pieces_never_overlap, units_code_or_one_fault,
     };
     pub use utf_chars::laws::forms_keep_the_scalar;
 }

@@ -8,3 +8,4 @@ pub mod KindCases
 pub mod Utf16Code
 pub mod UnitLemmas
 pub mod DecodedLemmas
+pub mod MergerLemmas
