@@ -5,7 +5,7 @@ use Rattle.utf_base.specs.Scalar.{IsUnits}
 use Rattle.utf_base.specs.Code.{utf8, utf16}
 use Rattle.utf_base.specs.Kinds.{asked_by, fault_kind, is_broken, merger_kind, value}
 use Rattle.utf_base.specs.Piece.{Stands}
-use Rattle.utf_base.specs.Units.{slice_fault, unit_value}
+use Rattle.utf_base.specs.Units.{slice_fault, unit_fault_kind, unit_value}
 
 -- bytes have no fault exactly where a code begins them, which is that of their value
 pub record CodeOrOneFault : Type 0 where
@@ -21,6 +21,11 @@ pub record MergerCodeOrOneFault : Type 0 where
 pub record UnitsCodeOrOneFault : Type 0 where
   pub code : (w : List ℕ) → IsUnits w → slice_fault w ≡ None → Stands utf16 w 0 (unit_value w)
   pub fault : (w : List ℕ) (s : ℕ) → Stands utf16 w 0 s → slice_fault w ≡ None
+
+-- and no forward kind exactly there
+pub record UnitsCodeOrOneKind : Type 0 where
+  pub code : (w : List ℕ) → IsUnits w → unit_fault_kind w ≡ None → Stands utf16 w 0 (unit_value w)
+  pub fault : (w : List ℕ) (s : ℕ) → Stands utf16 w 0 s → unit_fault_kind w ≡ None
 
 -- the forward kind depends on the first four bytes alone
 abbrev pub FourBytesDecide : Type 0
@@ -38,3 +43,7 @@ pub record KindsDiffer : Type 0 where
   pub decoder : (w : List ℕ) → length w < asked_by w → is_broken w ≡ true → fault_kind w ≡ Some TooFewBytes
   pub merger : (w : List ℕ) → length w < asked_by w → is_broken w ≡ true → merger_kind w ≡ Some InterruptedSequence
   pub few : (w : List ℕ) → length w < asked_by w → length w ≤ 3
+
+-- the forward kind of units depends on the first two alone
+abbrev pub TwoUnitsDecide : Type 0
+TwoUnitsDecide = (w : List ℕ) → unit_fault_kind (take 2 w) ≡ unit_fault_kind w

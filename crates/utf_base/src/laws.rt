@@ -5,8 +5,8 @@
 ghost use Rattle.utf_base.specs.Code.{utf8, utf16};
 ghost use Rattle.utf_base.specs.CutLaws.{CodesNeverOverlap, PiecesNeverOverlap, OnePieceBegins, OnePieceEnds};
 ghost use Rattle.utf_base.specs.CutLaws.{CutsFollow, CutExists, CutIsUnique, AsciiStandsAlone};
-ghost use Rattle.utf_base.specs.KindLaws.{CodeOrOneFault, MergerCodeOrOneFault, UnitsCodeOrOneFault};
-ghost use Rattle.utf_base.specs.KindLaws.{FourBytesDecide, FourBytesDecideMerger, KindsDiffer};
+ghost use Rattle.utf_base.specs.KindLaws.{CodeOrOneFault, MergerCodeOrOneFault, UnitsCodeOrOneFault, UnitsCodeOrOneKind};
+ghost use Rattle.utf_base.specs.KindLaws.{FourBytesDecide, FourBytesDecideMerger, KindsDiffer, TwoUnitsDecide};
 
 /// Two codes that stand in one list are the same place or share no element.
 pub fn codes_never_overlap()
@@ -71,6 +71,11 @@ pub fn units_code_or_one_fault()
     ensures { UnitsCodeOrOneFault }
 {}
 
+/// Units have the code of a scalar at their front, or exactly one forward kind, and never both.
+pub fn units_code_or_one_kind()
+    ensures { UnitsCodeOrOneKind }
+{}
+
 /// The forward kind depends on the first four bytes alone, on fewer where there are fewer, and so does the
 /// kind that a merger gives.
 pub fn four_bytes_decide()
@@ -83,4 +88,9 @@ pub fn four_bytes_decide()
 /// `InterruptedSequence`, and at most three bytes are left.
 pub fn kinds_differ()
     ensures { KindsDiffer }
+{}
+
+/// The forward kind of units depends on the first two alone, on one where there is one.
+pub fn two_units_decide()
+    ensures { TwoUnitsDecide }
 {}
