@@ -49,8 +49,9 @@ pub mod laws {
     //! calls the one that its proof needs.
     pub use utf_base::laws::{
         ascii_stands_alone, code_or_one_fault, codes_never_overlap, cut_exists, cut_is_unique,
-        cuts_follow, four_bytes_decide, no_fault_in_joined_codes, one_piece_begins, one_piece_ends,
-        pieces_never_overlap, two_units_decide, units_code_or_one_fault, units_code_or_one_kind,
+        cuts_follow, four_bytes_decide, kinds_differ, merger_code_or_one_fault,
+        no_fault_in_joined_codes, one_piece_begins, one_piece_ends, pieces_never_overlap,
+        two_units_decide, units_code_or_one_fault, units_code_or_one_kind,
     };
     pub use utf_chars::laws::forms_keep_the_scalar;
 }
