@@ -1,8 +1,9 @@
 -- The laws of what is wrong with a list that no code begins.
-use Rattle.std.specs.Prelude.{◌≡◌, ℕ, List, take, None}
+use Rattle.std.specs.Prelude.{◌≡◌, ℕ, ◌<◌, ◌≤◌, List, [], ◌∷◌, length, take, Some, None}
 use Rattle.utf_base.specs.Scalar.{IsUnits}
 use Rattle.utf_base.specs.Code.{utf8, utf16}
-use Rattle.utf_base.specs.Kinds.{fault_kind, value}
+use Rattle.utf_base.specs.Ends.{last_of, EndsWith, NoCodeEnds}
+use Rattle.utf_base.specs.Kinds.{fault_kind, back_kind, value}
 use Rattle.utf_base.specs.Piece.{Stands}
 use Rattle.utf_base.specs.Units.{slice_fault, unit_value}
 
@@ -19,3 +20,9 @@ pub record UnitsCodeOrOneFault : Type 0 where
 -- the forward kind depends on the first four bytes alone
 abbrev pub FourBytesDecide : Type 0
 FourBytesDecide = (w : List ℕ) → fault_kind (take 4 w) ≡ fault_kind w
+
+-- a last byte below 0x80 is the code that ends the bytes, and one that no code ends with has its backward kind, which
+-- is its forward kind by itself
+pub record CodeOrLastByte : Type 0 where
+  pub code : (w : List ℕ) → 0 < length w → last_of w < 0x80 → EndsWith utf8 w (last_of w) 1
+  pub fault : (w : List ℕ) → 0 < length w → NoCodeEnds utf8 w → (0x80 ≤ last_of w) × (fault_kind (last_of w ∷ []) ≡ Some (back_kind (last_of w)))

@@ -62,3 +62,10 @@ fault_kind w =
     else if nat_lt (length w) (asked_by w) then Some TooFewBytes
     else if not (followers_continue w) then Some InterruptedSequence
     else value_fault w
+
+-- the backward kind of a byte from 0x80 on that no code ends with: what is wrong with it by itself
+unfoldable pub back_kind : ℕ → Utf8ErrorKind
+back_kind b =
+    if is_continuation b then UnexpectedContinuationByte
+    else if asked b == 0 then NonUtf8Byte
+    else TooFewBytes
