@@ -1,4 +1,5 @@
 pub mod Standing
+pub mod Ending
 pub mod Utf8Code
 pub mod Cuts
 pub mod FrontLemmas
@@ -10,3 +11,4 @@ pub mod UnitLemmas
 pub mod DecodedLemmas
 pub mod JoinedCodes
 pub mod MergerLemmas
+pub mod EndLemmas

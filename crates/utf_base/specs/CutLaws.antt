@@ -3,6 +3,7 @@ use Rattle.std.specs.Prelude.{◌≡◌, ℕ, ◌+◌, ◌<◌, ◌≤◌, List,
 use Rattle.std.specs.List.{flat_map}
 use Rattle.utf_base.specs.Scalar.{IsScalar}
 use Rattle.utf_base.specs.Code.{utf8}
+use Rattle.utf_base.specs.Ends.{EndsWith}
 use Rattle.utf_base.specs.Piece.{Stands, Piece, IsPiece, IsCut, end_of}
 
 -- two codes that stand in one list are the same at one place, and else the first ends before the other begins
@@ -23,6 +24,10 @@ OnePieceBegins code = (xs : List ℕ) (x y : Piece) → IsPiece code xs x → Is
 
 abbrev pub OnePieceEnds : (ℕ → List ℕ) → Type 0
 OnePieceEnds code = (xs : List ℕ) (x y : Piece) → IsPiece code xs x → IsPiece code xs y → end_of x ≡ end_of y → x ≡ y
+
+-- at most one code ends a list
+abbrev pub OneCodeEnds : (ℕ → List ℕ) → Type 0
+OneCodeEnds code = (w : List ℕ) (s t n m : ℕ) → EndsWith code w s n → EndsWith code w t m → (s ≡ t) × (n ≡ m)
 
 -- the first piece begins at i, each other where the one before it ends, and the last ends at j
 abbrev pub Follow : ℕ → List Piece → ℕ → Type 0

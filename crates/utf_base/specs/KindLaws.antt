@@ -1,9 +1,10 @@
 -- The laws of what is wrong with a list that no code begins.
-use Rattle.std.specs.Prelude.{◌≡◌, ℕ, ◌<◌, ◌≤◌, List, length, take, Some, None, true, false}
+use Rattle.std.specs.Prelude.{◌≡◌, ℕ, ◌<◌, ◌≤◌, List, length, take, Some, None, true, false, [], ◌∷◌}
 use Rattle.utf_base.specs.declared.errors.Utf8ErrorKind.TheVariants.{TooFewBytes, InterruptedSequence}
 use Rattle.utf_base.specs.Scalar.{IsUnits}
 use Rattle.utf_base.specs.Code.{utf8, utf16}
-use Rattle.utf_base.specs.Kinds.{asked_by, fault_kind, is_broken, merger_kind, value}
+use Rattle.utf_base.specs.Kinds.{asked_by, fault_kind, is_broken, merger_kind, value, back_kind}
+use Rattle.utf_base.specs.Ends.{last_of, EndsWith, NoCodeEnds}
 use Rattle.utf_base.specs.Piece.{Stands}
 use Rattle.utf_base.specs.Units.{slice_fault, unit_fault_kind, unit_value}
 
@@ -47,3 +48,8 @@ pub record KindsDiffer : Type 0 where
 -- the forward kind of units depends on the first two alone
 abbrev pub TwoUnitsDecide : Type 0
 TwoUnitsDecide = (w : List ℕ) → unit_fault_kind (take 2 w) ≡ unit_fault_kind w
+-- a last byte below 0x80 is the code that ends the bytes, and one that no code ends with has its backward kind, which
+-- is its forward kind by itself
+pub record CodeOrLastByte : Type 0 where
+  pub code : (w : List ℕ) → 0 < length w → last_of w < 0x80 → EndsWith utf8 w (last_of w) 1
+  pub fault : (w : List ℕ) → 0 < length w → NoCodeEnds utf8 w → (0x80 ≤ last_of w) × (fault_kind (last_of w ∷ []) ≡ Some (back_kind (last_of w)))

@@ -4,6 +4,7 @@ pub mod Units
 pub mod Piece
 pub mod Kinds
 pub mod Front
+pub mod Ends
 pub mod Decoded
 pub mod CutLaws
 pub mod KindLaws

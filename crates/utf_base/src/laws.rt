@@ -5,10 +5,10 @@
 ghost use Rattle.utf_base.specs.Code.{utf8, utf16};
 ghost use Rattle.utf_base.specs.CutLaws.{CodesNeverOverlap, PiecesNeverOverlap, OnePieceBegins, OnePieceEnds};
 ghost use Rattle.utf_base.specs.CutLaws.{CutsFollow, CutExists, CutIsUnique, NoFaultInJoinedCodes};
-ghost use Rattle.utf_base.specs.CutLaws.{AsciiStandsAlone};
+ghost use Rattle.utf_base.specs.CutLaws.{AsciiStandsAlone, OneCodeEnds};
 ghost use Rattle.utf_base.specs.KindLaws.{CodeOrOneFault, UnitsCodeOrOneFault, UnitsCodeOrOneKind};
 ghost use Rattle.utf_base.specs.KindLaws.{FourBytesDecide, TwoUnitsDecide, MergerCodeOrOneFault};
-ghost use Rattle.utf_base.specs.KindLaws.{FourBytesDecideMerger, KindsDiffer};
+ghost use Rattle.utf_base.specs.KindLaws.{FourBytesDecideMerger, KindsDiffer, CodeOrLastByte};
 
 /// Two codes that stand in one list are the same place or share no element.
 pub fn codes_never_overlap()
@@ -32,6 +32,12 @@ pub fn one_piece_begins()
 pub fn one_piece_ends()
     ensures utf8 { OnePieceEnds utf8 }
     ensures utf16 { OnePieceEnds utf16 }
+{}
+
+/// At most one code ends a list.
+pub fn one_code_ends()
+    ensures utf8 { OneCodeEnds utf8 }
+    ensures utf16 { OneCodeEnds utf16 }
 {}
 
 /// The pieces of a cut follow each other without gap or overlap, from the front of the list to its
@@ -73,6 +79,10 @@ pub fn code_or_one_fault()
 /// The same of the kind that a merger gives.
 pub fn merger_code_or_one_fault()
     ensures { MergerCodeOrOneFault }
+/// Bytes that no code ends have a last byte from 0x80 on, whose backward kind is what is wrong with it
+/// by itself.
+pub fn code_or_last_byte()
+    ensures { CodeOrLastByte }
 {}
 
 /// Units have the code of a scalar at their front, or exactly one fault of a slice, and never both.
