@@ -10,3 +10,4 @@ pub mod Utf16Code
 pub mod UnitLemmas
 pub mod DecodedLemmas
 pub mod EndLemmas
+pub mod BackLemmas
