@@ -10,6 +10,8 @@ pub use Rattle.utf_base.specs.Piece
 pub use Rattle.utf_base.specs.Kinds
 pub use Rattle.utf_base.specs.Refused
 pub use Rattle.utf_base.specs.Front
+pub use Rattle.utf_base.specs.Ends
+pub use Rattle.utf_base.specs.Back
 pub use Rattle.utf_base.specs.Decoded
 pub use Rattle.utf_base.specs.Texts
 pub use Rattle.utf_base.specs.CutLaws

@@ -12,3 +12,4 @@ pub mod DecodedLemmas
 pub mod JoinedCodes
 pub mod MergerLemmas
 pub mod EndLemmas
+pub mod BackLemmas
