@@ -48,6 +48,7 @@ pub record KindsDiffer : Type 0 where
 -- the forward kind of units depends on the first two alone
 abbrev pub TwoUnitsDecide : Type 0
 TwoUnitsDecide = (w : List ℕ) → unit_fault_kind (take 2 w) ≡ unit_fault_kind w
+
 -- a last byte below 0x80 is the code that ends the bytes, and one that no code ends with has its backward kind, which
 -- is its forward kind by itself
 pub record CodeOrLastByte : Type 0 where

@@ -74,6 +74,7 @@ is_broken w = breaks_at w 1 || breaks_at w 2 || breaks_at w 3
 -- the kind of a merger, which reads a byte at a time: it sees a byte that breaks a code before it sees that others are missing
 unfoldable pub merger_kind : List ℕ → Option Utf8ErrorKind
 merger_kind w = if is_broken w then Some InterruptedSequence else fault_kind w
+
 -- the backward kind of a byte from 0x80 on that no code ends with: what is wrong with it by itself
 unfoldable pub back_kind : ℕ → Utf8ErrorKind
 back_kind b =

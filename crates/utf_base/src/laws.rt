@@ -79,6 +79,8 @@ pub fn code_or_one_fault()
 /// The same of the kind that a merger gives.
 pub fn merger_code_or_one_fault()
     ensures { MergerCodeOrOneFault }
+{}
+
 /// Bytes that no code ends have a last byte from 0x80 on, whose backward kind is what is wrong with it
 /// by itself.
 pub fn code_or_last_byte()
