@@ -8,5 +8,7 @@ pub mod Ends
 pub mod Decoded
 pub mod CutLaws
 pub mod KindLaws
+pub mod Walk
+pub mod WalkLaws
 pub mod Texts
 pub mod Refused
