@@ -14,3 +14,4 @@ pub mod Walks
 pub mod WalkPieces
 pub mod WalkWords
 pub mod ByteWalks
+pub mod BackLemmas

@@ -5,6 +5,7 @@ pub mod Piece
 pub mod Kinds
 pub mod Front
 pub mod Ends
+pub mod Back
 pub mod Decoded
 pub mod CutLaws
 pub mod KindLaws
