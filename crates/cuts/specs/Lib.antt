@@ -1,6 +1,7 @@
 pub mod Failures
 pub mod Line
 pub mod Lines
+pub mod Written
 pub mod Runs
 pub mod Programs
 pub use Rattle.utf_base.specs.Scalar

@@ -2,6 +2,7 @@
 #![tactic(auto)]
 
 pub mod counted;
+mod entries;
 #[cfg(test)]
 mod fakes;
 pub mod items;

@@ -1,5 +1,6 @@
 pub mod Words
 pub mod Window
+pub mod Scan
 pub mod Hints
 pub mod Sources
 pub mod TextWindow

@@ -81,11 +81,3 @@ NextGives w (Some x) v = GivesFront w x v
 abbrev pub NextBackGives : Window → Option Item → Window → Type 0
 NextBackGives w None v = GivesNone w v
 NextBackGives w (Some x) v = GivesBack w x v
-
--- the steps of such a call: as many as a scan from the back looks at bytes, which is at least one and at most four where
--- the window has some, and never more than it has
-pub record ScanSteps (w : Window) (old new : ℕ) : Type 0 where
-  pub none : w.front ≡ w.back → new ≡ old
-  pub least : w.front < w.back → old + 1 ≤ new
-  pub most : new ≤ old + 4
-  pub within : new ≤ old + length (elements w)

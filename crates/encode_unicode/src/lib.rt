@@ -3,9 +3,11 @@
 //! The errors stand in `error`, the iterators in `iterator`, and the rest at the top.
 #![tactic(auto)]
 
+mod back_scan;
 mod decoding_iterators;
 mod iter_ext;
 mod splitting;
+mod steps;
 mod str_ext;
 #[cfg(test)]
 mod tests;
@@ -17,6 +19,7 @@ mod utf8_iterators;
 mod utf8_splitter;
 
 pub use iter_ext::{Utf8CharIterExt, Utf16CharIterExt};
+pub use steps::Steps;
 pub use str_ext::StrExt;
 pub use traits::U8SliceExt;
 pub use utf_base::traits::{U8UtfExt, U16UtfExt};

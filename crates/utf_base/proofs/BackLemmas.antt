@@ -1,16 +1,15 @@
 -- The code that ends some bytes: where a scan from their end finds it, and that the last four of them decide.
-use Rattle.std.proofs.Common.{◌≡◌, ℕ, ◌+◌, ◌-◌, ◌<◌, ◌≤◌, ◌⊎◌, ⊎_elim, inl, inr, List, length, get_or, arith, refl, ap, sym, ◌∙◌, true, false, Bool, Option, Some, None, Result, Ok, Err, eqb}
+use Rattle.std.proofs.Common.{◌≡◌, ℕ, ◌+◌, ◌-◌, ◌<◌, ◌≤◌, ⊎_elim, List, length, get_or, arith, refl, ap, sym, ◌∙◌, true, false, Bool, Option, Some, None, Result, Ok, Err, eqb}
 use Rattle.std.proofs.lemmas.Grind.{common_steps}
 use Rattle.std.proofs.lemmas.Bool.{cases_lt}
-use Rattle.std.specs.Prelude.{slice_range, is_none, IfOk}
 use Rattle.utf_base.specs.declared.errors.Utf8ErrorKind.{Utf8ErrorKind}
-use Rattle.utf_base.specs.Back.{DecodesEnd, EndsInFollowers, last_bytes, is_one_code, end_len, decoded_end, end_fault}
+use Rattle.utf_base.specs.declared.errors.Utf8ErrorKind.TheVariants.{TooFewBytes}
+use Rattle.utf_base.specs.Back.{DecodesEnd, IsWholeCode, EndsInFollowers, last_bytes, is_one_code, end_len, decoded_end, end_fault}
 use Rattle.utf_base.specs.Code.{utf8}
-use Rattle.utf_base.specs.Ends.{EndsWith, NoCodeEnds}
+use Rattle.utf_base.specs.Ends.{last_of, EndsWith, NoCodeEnds}
 use Rattle.utf_base.specs.Front.{as_scalar, BeginsWith, IsFrontLen}
-use Rattle.utf_base.specs.Kinds.{asked_by, fault_kind, is_continuation, value}
-use Rattle.utf_base.specs.Piece.{Stands}
-use Rattle.utf_base.proofs.Ending.{ends_in_part, ends_in_whole, one_code_ends}
+use Rattle.utf_base.specs.Kinds.{asked_by, back_kind, fault_kind, is_continuation, value}
+use Rattle.utf_base.proofs.Ending.{no_code_ends-empty, ends_in_part, ends_in_whole, one_code_ends}
 use Rattle.utf_base.proofs.FrontLemmas.{code_where_no_fault, no_code_where_fault, no_fault_where_code, decodes_from_stands}
 use Rattle.utf_base.proofs.Standing.{Stands-at, same_char, stands_in_part, stands_in_whole}
 use Rattle.utf_base.proofs.Utf8Code.{utf8_is_code, utf8-first, utf8-follower, length_utf8}
@@ -48,25 +47,52 @@ end_len_of_scan w t s n scan h =
     (cases_lt (t + 1) n))
     (cases_lt n (t + 1))
 
--- what is one code at the end of the bytes ends them
-pub end_found : (w : List ℕ) (s n : ℕ) → n ≤ length w → BeginsWith utf8 (last_bytes n w) s n → EndsWith utf8 w s n
-end_found w s n le h = ((stands_in_whole utf8 w (length w - n) (length w) 0 (length w - n) s (omega arith) (omega arith) (omega arith) h.0).0, h.1)
+-- the last n bytes are n, where there are so many
+length-last_bytes : (w : List ℕ) (n : ℕ) → n ≤ length w → length (last_bytes n w) ≡ n
+length-last_bytes w n le = grind (arith, common_steps)
 
--- and where those that the scan points at are no code, none ends them
-pub end_missed : (w : List ℕ) (t : ℕ) → EndsInFollowers w t → ((s : ℕ) → BeginsWith utf8 (last_bytes (t + 1) w) s (t + 1) → ⊥) → NoCodeEnds utf8 w
+-- where the last n bytes are one code, it ends the bytes
+pub end_found : (w : List ℕ) (s n : ℕ) → n ≤ length w → IsWholeCode (last_bytes n w) (Some s) → EndsWith utf8 w s n
+end_found w s n le h =
+    let len = length-last_bytes w n le in
+    ((stands_in_whole utf8 w (length w - n) (length w) 0 (length w - n) s (omega arith) (omega arith) (omega arith) h.0).0, sym len ∙ h.1)
+
+-- where those that the scan points at are none, no code does
+pub end_missed : (w : List ℕ) (t : ℕ) → EndsInFollowers w t → IsWholeCode (last_bytes (t + 1) w) None → NoCodeEnds utf8 w
 end_missed w t scan none s n h =
     let len : n ≡ t + 1 = end_len_of_scan w t s n scan h in
     let within = h.0.within in
     let n_is = h.1 in
+    let part = length-last_bytes w (t + 1) (omega arith) in
     let place : length w - (t + 1) + 0 ≡ length w - n = omega arith in
-    none s (stands_in_part utf8 w (length w - (t + 1)) (length w) 0 (length w - n) s place (omega arith) h.0 (omega arith), sym len ∙ h.1)
+    none s (stands_in_part utf8 w (length w - (t + 1)) (length w) 0 (length w - n) s place (omega arith) h.0 (omega arith), part ∙ sym len ∙ h.1)
 
--- no code is all of the bytes where a fault, or a code of another length, begins them
-pub missed_by_fault : (x : List ℕ) (k : Utf8ErrorKind) (m : ℕ) → fault_kind x ≡ Some k → (s : ℕ) → BeginsWith utf8 x s m → ⊥
-missed_by_fault x k m e s h = no_code_where_fault x k s e h.0
+-- and where the scan has met the front of the bytes, no code does either
+pub end_missed-all : (w : List ℕ) (t : ℕ) → EndsInFollowers w t → length w ≤ t → NoCodeEnds utf8 w
+end_missed-all w t scan all s n h =
+    let len : n ≡ t + 1 = end_len_of_scan w t s n scan h in
+    let within = h.0.within in
+    let n_is = h.1 in
+    omega arith
 
-pub missed_by_len : (x : List ℕ) (t n m : ℕ) → BeginsWith utf8 x t n → (n ≡ m → ⊥) → (s : ℕ) → BeginsWith utf8 x s m → ⊥
-missed_by_len x t n m g other s h = other (g.1 ∙ ap (λ c. length (utf8 c)) (same_char utf8 utf8_is_code x 0 t s g.0 h.0) ∙ sym h.1)
+pub end_missed-empty : (w : List ℕ) → length w ≡ 0 → NoCodeEnds utf8 w
+end_missed-empty w e = no_code_ends-empty utf8 utf8_is_code w e
+
+-- What is wrong then.
+
+pub end_fault-empty : (w : List ℕ) → length w ≡ 0 → end_fault w ≡ TooFewBytes
+end_fault-empty w e = rw e refl
+
+pub end_fault-some : (w : List ℕ) → 0 < length w → end_fault w ≡ back_kind (last_of w)
+end_fault-some w some = let not_empty : eqb (length w) 0 ≡ false = grind (arith, common_steps) in rw not_empty refl
+
+-- All of the bytes are no code where a fault, or a code of another length, begins them.
+
+pub no_whole_by_fault : (x : List ℕ) (k : Utf8ErrorKind) → fault_kind x ≡ Some k → IsWholeCode x None
+no_whole_by_fault x k e s h = no_code_where_fault x k s e h.0
+
+pub no_whole_by_len : (x : List ℕ) (t n : ℕ) → BeginsWith utf8 x t n → (n ≡ length x → ⊥) → IsWholeCode x None
+no_whole_by_len x t n g other s h = other (g.1 ∙ ap (λ c. length (utf8 c)) (same_char utf8 utf8_is_code x 0 t s g.0 h.0) ∙ sym h.1)
 
 -- The last four bytes.
 

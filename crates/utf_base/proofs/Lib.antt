@@ -12,4 +12,8 @@ pub mod DecodedLemmas
 pub mod JoinedCodes
 pub mod MergerLemmas
 pub mod EndLemmas
+pub mod Walks
+pub mod WalkPieces
+pub mod WalkWords
+pub mod ByteWalks
 pub mod BackLemmas

@@ -1,9 +1,10 @@
 -- What the decoding of the character at the end of some bytes answers. `scalar` tells what scalar a character is.
-use Rattle.std.specs.Prelude.{◌≡◌, ℕ, ◌+◌, ◌-◌, ◌<◌, ◌≤◌, Bool, true, false, ◌&&◌, ◌==◌, if◌then◌else◌, List, length, slice_index, slice_range, is_none, Result, Ok, Err, MatchResult}
+use Rattle.std.specs.Prelude.{◌≡◌, ℕ, ◌-◌, ◌<◌, ◌≤◌, Bool, true, false, ◌&&◌, ◌==◌, if◌then◌else◌, List, length, slice_index, slice_range, Option, Some, None, is_none, Result, Ok, Err, MatchResult}
 use Rattle.utf_base.specs.declared.errors.Utf8ErrorKind.{Utf8ErrorKind}
 use Rattle.utf_base.specs.declared.errors.Utf8ErrorKind.TheVariants.{TooFewBytes}
 use Rattle.utf_base.specs.Code.{utf8}
 use Rattle.utf_base.specs.Ends.{last_of, EndsWith, NoCodeEnds}
+use Rattle.utf_base.specs.Front.{BeginsWith}
 use Rattle.utf_base.specs.Kinds.{asked_by, value, fault_kind, back_kind, is_continuation}
 
 -- what is wrong with bytes that no code ends: the backward kind of the last one
@@ -36,6 +37,11 @@ end_len w =
 -- the scalar whose code ends the bytes, with the code's length, else what is wrong with the last of them
 unfoldable pub decoded_end : List ℕ → Result (ℕ × ℕ) Utf8ErrorKind
 decoded_end w = if end_len w == 0 then Err (end_fault w) else Ok (value (last_bytes (end_len w) w), end_len w)
+
+-- the scalar whose code all of the bytes are, or `None` where they are no code
+abbrev pub IsWholeCode : List ℕ → Option ℕ → Type 0
+IsWholeCode w (Some s) = BeginsWith utf8 w s (length w)
+IsWholeCode w None = (s : ℕ) → ¬ BeginsWith utf8 w s (length w)
 
 -- what a scan from the end has seen: t continuation bytes, at most three, and before fewer of them one that is none, or
 -- no byte at all

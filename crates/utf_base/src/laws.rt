@@ -9,6 +9,8 @@ ghost use Rattle.utf_base.specs.CutLaws.{AsciiStandsAlone, OneCodeEnds};
 ghost use Rattle.utf_base.specs.KindLaws.{CodeOrOneFault, UnitsCodeOrOneFault, UnitsCodeOrOneKind};
 ghost use Rattle.utf_base.specs.KindLaws.{FourBytesDecide, TwoUnitsDecide, MergerCodeOrOneFault};
 ghost use Rattle.utf_base.specs.KindLaws.{FourBytesDecideMerger, KindsDiffer, CodeOrLastByte};
+ghost use Rattle.utf_base.specs.Walk.{utf8_bytes};
+ghost use Rattle.utf_base.specs.WalkLaws.{WalkExists, WalkIsUnique, WalkStaysOutside, WalkGivesEachOnce};
 
 /// Two codes that stand in one list are the same place or share no element.
 pub fn codes_never_overlap()
@@ -114,4 +116,25 @@ pub fn kinds_differ()
 /// The forward kind of units depends on the first two alone, on one where there is one.
 pub fn two_units_decide()
     ensures { TwoUnitsDecide }
+{}
+
+/// Every word has a walk over every list of bytes.
+pub fn walk_exists()
+    ensures { WalkExists utf8_bytes }
+{}
+
+/// No word has two: bytes and word decide every answer.
+pub fn walk_is_unique()
+    ensures { WalkIsUnique utf8_bytes }
+{}
+
+/// After each letter of a walk, neither end of the window lies inside the encoding of a scalar.
+pub fn walk_stays_outside()
+    ensures { WalkStaysOutside utf8_bytes }
+{}
+
+/// The pieces that a walk answers are different pieces of the cut, and once none is left they are, in
+/// the order of their places, all of it.
+pub fn walk_gives_each_once()
+    ensures { WalkGivesEachOnce utf8_bytes }
 {}
