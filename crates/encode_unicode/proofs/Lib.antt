@@ -5,3 +5,4 @@ pub mod Listed
 pub mod Refills
 pub mod Splits
 pub mod TextLemmas
+pub mod UnitPieces

@@ -11,6 +11,7 @@ mod str_ext;
 mod tests;
 mod text_window;
 mod traits;
+mod utf16_decoder;
 mod utf16_iterators;
 mod utf16_splitter;
 mod utf8_iterators;
@@ -18,7 +19,7 @@ mod utf8_splitter;
 
 pub use iter_ext::{Utf8CharIterExt, Utf16CharIterExt};
 pub use str_ext::StrExt;
-pub use traits::U8SliceExt;
+pub use traits::{U8SliceExt, U16SliceExt};
 pub use utf_base::traits::{U8UtfExt, U16UtfExt};
 pub use utf_chars::traits::CharExt;
 pub use utf_chars::utf8_char::Utf8Char;
@@ -38,6 +39,7 @@ pub mod iterator {
     pub use crate::decoding_iterators::Utf8CharDecoder;
     pub use crate::utf8_iterators::{Utf8CharIndices, Utf8Chars};
     pub use crate::utf8_splitter::Utf8CharSplitter;
+    pub use crate::utf16_decoder::Utf16CharDecoder;
     pub use crate::utf16_iterators::{Utf16CharIndices, Utf16Chars};
     pub use crate::utf16_splitter::Utf16CharSplitter;
     pub use utf_chars::utf8_iterators::Utf8Iterator;
