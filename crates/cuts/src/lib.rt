@@ -4,6 +4,7 @@
 pub mod counted;
 #[cfg(test)]
 mod fakes;
+pub mod items;
 mod line;
 pub mod listing;
 pub mod runs;
