@@ -4,7 +4,10 @@
 #![tactic(auto)]
 
 mod decoding_iterators;
+mod held_bytes;
+mod held_unit;
 mod iter_ext;
+mod merging;
 mod splitting;
 mod str_ext;
 #[cfg(test)]
@@ -12,11 +15,13 @@ mod tests;
 mod text_window;
 mod traits;
 mod utf16_iterators;
+mod utf16_merger;
 mod utf16_splitter;
 mod utf8_iterators;
+mod utf8_merger;
 mod utf8_splitter;
 
-pub use iter_ext::{Utf8CharIterExt, Utf16CharIterExt};
+pub use iter_ext::{U8IterExt, U16IterExt, Utf8CharIterExt, Utf16CharIterExt};
 pub use str_ext::StrExt;
 pub use traits::U8SliceExt;
 pub use utf_base::traits::{U8UtfExt, U16UtfExt};
@@ -37,8 +42,10 @@ pub mod iterator {
     //! The iterators that the calls of this crate make.
     pub use crate::decoding_iterators::Utf8CharDecoder;
     pub use crate::utf8_iterators::{Utf8CharIndices, Utf8Chars};
+    pub use crate::utf8_merger::Utf8CharMerger;
     pub use crate::utf8_splitter::Utf8CharSplitter;
     pub use crate::utf16_iterators::{Utf16CharIndices, Utf16Chars};
+    pub use crate::utf16_merger::{RemainingUnits, Utf16CharMerger};
     pub use crate::utf16_splitter::Utf16CharSplitter;
     pub use utf_chars::utf8_iterators::Utf8Iterator;
     pub use utf_chars::utf16_iterators::Utf16Iterator;
