@@ -9,3 +9,4 @@ pub mod Utf16Code
 pub mod UnitLemmas
 pub mod DecodedLemmas
 pub mod JoinedCodes
+pub mod MergerLemmas

@@ -5,8 +5,8 @@
 ghost use Rattle.utf_base.specs.Code.{utf8, utf16};
 ghost use Rattle.utf_base.specs.CutLaws.{CodesNeverOverlap, PiecesNeverOverlap, OnePieceBegins, OnePieceEnds};
 ghost use Rattle.utf_base.specs.CutLaws.{CutsFollow, CutExists, CutIsUnique, NoFaultInJoinedCodes, AsciiStandsAlone};
-ghost use Rattle.utf_base.specs.KindLaws.{CodeOrOneFault, UnitsCodeOrOneFault, UnitsCodeOrOneKind};
-ghost use Rattle.utf_base.specs.KindLaws.{FourBytesDecide, TwoUnitsDecide};
+ghost use Rattle.utf_base.specs.KindLaws.{CodeOrOneFault, MergerCodeOrOneFault, UnitsCodeOrOneFault, UnitsCodeOrOneKind};
+ghost use Rattle.utf_base.specs.KindLaws.{FourBytesDecide, FourBytesDecideMerger, KindsDiffer, TwoUnitsDecide};
 
 /// Two codes that stand in one list are the same place or share no element.
 pub fn codes_never_overlap()
@@ -68,6 +68,11 @@ pub fn code_or_one_fault()
     ensures { CodeOrOneFault }
 {}
 
+/// The same of the kind that a merger gives.
+pub fn merger_code_or_one_fault()
+    ensures { MergerCodeOrOneFault }
+{}
+
 /// Units have the code of a scalar at their front, or exactly one fault of a slice, and never both.
 pub fn units_code_or_one_fault()
     ensures { UnitsCodeOrOneFault }
@@ -78,9 +83,18 @@ pub fn units_code_or_one_kind()
     ensures { UnitsCodeOrOneKind }
 {}
 
-/// The forward kind depends on the first four bytes alone, on fewer where there are fewer.
+/// The forward kind depends on the first four bytes alone, on fewer where there are fewer, and so does the
+/// kind that a merger gives.
 pub fn four_bytes_decide()
-    ensures { FourBytesDecide }
+    ensures decoder { FourBytesDecide }
+    ensures merger { FourBytesDecideMerger }
+{}
+
+/// A merger gives the forward kind, but where fewer bytes are left than the first asks for and one that is
+/// there is no continuation byte: then the forward kind is `TooFewBytes`, the merger's is
+/// `InterruptedSequence`, and at most three bytes are left.
+pub fn kinds_differ()
+    ensures { KindsDiffer }
 {}
 
 /// The forward kind of units depends on the first two alone, on one where there is one.
