@@ -1,18 +1,19 @@
 -- From what a scan from the end has seen to what the bytes decode to.
-use Rattle.std.proofs.Common.{◌≡◌, ℕ, zero, suc, take, ◌+◌, ◌-◌, ◌<◌, ◌≤◌, List, [], ◌∷◌, length, get_or, drop, arith, refl, ap, sym, ◌∙◌, true, false, Some, None, Result, Ok, Err}
+use Rattle.std.proofs.Common.{◌≡◌, ℕ, zero, suc, take, ◌+◌, ◌-◌, ◌<◌, ◌≤◌, List, [], ◌∷◌, length, get_or, drop, arith, refl, ap, sym, ◌∙◌, true, false, Result, Ok, Err}
 use Rattle.std.proofs.lemmas.Grind.{common_steps}
 use Rattle.std.specs.Prelude.{slice_range}
 use Rattle.utf_base.specs.declared.errors.Utf8ErrorKind.{Utf8ErrorKind}
 use Rattle.utf_base.specs.declared.errors.Utf8ErrorKind.TheVariants.{UnexpectedContinuationByte}
-use Rattle.utf_base.specs.Back.{DecodesEnd, EndsInFollowers, IsWholeCode, end_fault, last_bytes}
+use Rattle.utf_base.specs.Back.{DecodesEnd, EndsInFollowers, end_fault, last_bytes}
 use Rattle.utf_base.specs.Code.{utf8}
-use Rattle.utf_base.specs.Ends.{last_of, NoCodeEnds}
+use Rattle.utf_base.specs.Ends.{last_of, EndsWith, NoCodeEnds}
 use Rattle.utf_base.specs.Front.{as_scalar, DecodesFront}
-use Rattle.utf_base.specs.Kinds.{back_kind, is_continuation}
-use Rattle.utf_base.proofs.BackLemmas.{end_found, end_missed, end_missed-all, end_fault-some, no_whole_by_fault}
+use Rattle.utf_base.specs.Kinds.{is_continuation}
+use Rattle.utf_base.proofs.BackLemmas.{answer_of_end, decoded_end_code, end_len_utf8, end_found, end_missed, end_missed-all, end_fault-some, no_whole_by_fault}
 use Rattle.utf_base.proofs.DecodedLemmas.{front_len_utf8}
 use Rattle.utf_base.proofs.EndLemmas.{back_kind-continuation, code_or_last_byte}
 use Rattle.encode_unicode.specs.Scan.{IsWholeOrUnexpected}
+use Rattle.encode_unicode.specs.Window.{GivesBack}
 
 -- A last byte that is no continuation byte is judged by itself.
 
@@ -148,3 +149,42 @@ four_all b count k e scan h =
 
 pub take_four : (b : List ℕ) → length b ≡ 4 → take 4 (drop 0 b) ≡ b
 take_four b e = grind (arith, common_steps)
+
+-- the last four of so many bytes
+pub last_four : (w : List ℕ) → 4 ≤ length w
+    → last_bytes 4 w ≡ get_or w (length w - 4) 0 ∷ get_or w (length w - 3) 0 ∷ get_or w (length w - 2) 0 ∷ get_or w (length w - 1) 0 ∷ []
+last_four w le =
+    let third : length w - 4 + 1 ≡ length w - 3 = omega arith in
+    let second : length w - 3 + 1 ≡ length w - 2 = omega arith in
+    let first : length w - 2 + 1 ≡ length w - 1 = omega arith in
+    let end : length w - 1 + 1 ≡ length w = omega arith in
+    grind (arith, common_steps)
+
+-- One call of a decoder, from the answer of the scan.
+
+pub gives_back_char : (whole : List ℕ) (i j s n : ℕ) → i < j → j ≤ length whole → EndsWith utf8 (slice_range whole i j) s n
+    → GivesBack (record { whole = whole; front = i; back = j }) (j - n, Ok s, n) (record { whole = whole; front = i; back = j - n })
+gives_back_char whole i j s n some fits h =
+    let len = end_len_utf8 (slice_range whole i j) s n h in
+    let elements : length (slice_range whole i j) ≡ j - i = grind (arith, common_steps) in
+    record {
+      some = some;
+      place = omega arith;
+      piece = h;
+      known = rw (decoded_end_code (slice_range whole i j) s n h) refl;
+      len = len;
+      left = refl;
+    }
+
+pub gives_back_fault : (whole : List ℕ) (i j : ℕ) (k : Utf8ErrorKind) → i < j → j ≤ length whole → NoCodeEnds utf8 (slice_range whole i j) × (k ≡ end_fault (slice_range whole i j))
+    → GivesBack (record { whole = whole; front = i; back = j }) (j - 1, Err k, 1) (record { whole = whole; front = i; back = j - 1 })
+gives_back_fault whole i j k some fits h =
+    let elements : length (slice_range whole i j) ≡ j - i = grind (arith, common_steps) in
+    record {
+      some = some;
+      place = omega arith;
+      piece = (h.0, h.1 ∙ end_fault-some (slice_range whole i j) (omega arith), refl);
+      known = rw (← answer_of_end (slice_range whole i j) (Err k) h) refl;
+      len = (omega arith, omega arith, omega arith);
+      left = refl;
+    }

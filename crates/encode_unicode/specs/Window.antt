@@ -1,5 +1,5 @@
 -- A window of a slice, and what one call of a decoder gives. A place is an index into the whole slice.
-use Rattle.std.specs.Prelude.{◌≡◌, ℕ, ◌+◌, ◌-◌, ◌<◌, ◌≤◌, List, length, slice_range, Option, Some, None, Result, Ok, Err}
+use Rattle.std.specs.Prelude.{◌≡◌, ℕ, ◌+◌, ◌-◌, ◌<◌, List, length, slice_range, Option, Some, None, Result, Ok, Err}
 use Rattle.utf_base.specs.declared.errors.Utf8ErrorKind.{Utf8ErrorKind}
 use Rattle.utf_base.specs.Back.{decoded_end}
 use Rattle.utf_base.specs.Code.{utf8}

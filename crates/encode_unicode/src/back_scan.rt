@@ -22,7 +22,11 @@ pub(crate) fn decode_end(bytes: &[u8], steps: &mut Steps) -> Result<(Utf8Char, u
     if n < 4 {
         return scan(padded(bytes), n, steps);
     }
-    scan([bytes[n - 4], bytes[n - 3], bytes[n - 2], bytes[n - 1]], 4, steps)
+    scan(
+        [bytes[n - 4], bytes[n - 3], bytes[n - 2], bytes[n - 1]],
+        4,
+        steps,
+    )
 }
 
 // Fewer than four bytes, behind zeros.

@@ -169,6 +169,11 @@ impl<'a> Clone for Utf8CharDecoder<'a> {
 
 impl<'a> fmt::Debug for Utf8CharDecoder<'a> {
     fn fmt<W: fmt::Write>(&self, f: &mut fmt::Formatter<W>) -> fmt::Result {
-        write!(f, "Utf8CharDecoder {{ bytes[{}..]: {:?} }}", self.front, self.as_slice())
+        write!(
+            f,
+            "Utf8CharDecoder {{ bytes[{}..]: {:?} }}",
+            self.front,
+            self.as_slice()
+        )
     }
 }

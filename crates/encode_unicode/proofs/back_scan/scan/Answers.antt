@@ -1,5 +1,4 @@
-use Rattle.std.proofs.Common.{◌≡◌, ℕ, ◌<◌, ◌≤◌, ◌∙◌, List, length, get_or, arith, sym, rules, true, false}
-use Rattle.utf_base.specs.Kinds.{is_continuation}
+use Rattle.std.proofs.Common.{◌∙◌, arith, sym, rules}
 use Rattle.encode_unicode.proofs.ScanLemmas.{IsEndOfFour, scanned-1, scanned-2, scanned-3, four_single, four_whole, four_all, take_four}
 use Rattle.encode_unicode.proofs.back_scan.scan.Goals as goal
 
