@@ -1,17 +1,13 @@
 -- Whole runs over bytes, and what is written of them.
 use Rattle.std.specs.Prelude.{◌≡◌, ℕ, List, map, drop, flat_map, count_by, All, Option, Some, IfErr}
-use Rattle.std.specs.Result.{result_ok}
 use Rattle.utf_base.specs.Code.{utf8}
 use Rattle.utf_base.specs.Kinds.{fault_kind}
-use Rattle.utf_base.specs.Piece.{Piece, IsCut}
+use Rattle.utf_base.specs.Piece.{IsCut}
+pub use Rattle.utf_base.specs.Walk.{piece_of}
 use Rattle.encode_unicode.specs.Window.{Item}
 use Rattle.cuts.specs.Failures.{AppendsFront}
 use Rattle.cuts.specs.Lines.{item_line, is_fault}
 use Rattle.cuts.specs.Written.{WritesLines}
-
--- the piece that an item is
-abbrev pub piece_of : Item → Piece
-piece_of x = record { start = x.0; len = x.2; char = result_ok x.1 }
 
 -- an error is the forward kind of the bytes from its place on
 abbrev pub HasForwardKind : List ℕ → Item → Type 0

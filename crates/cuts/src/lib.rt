@@ -9,3 +9,4 @@ pub mod items;
 mod line;
 pub mod listing;
 pub mod runs;
+pub mod walks;
