@@ -1,10 +1,14 @@
 pub mod Failures
 pub mod Line
 pub mod Lines
+pub mod Written
 pub mod Runs
+pub mod Walks
 pub mod Programs
 pub use Rattle.utf_base.specs.Scalar
 pub use Rattle.utf_base.specs.Code
 pub use Rattle.utf_base.specs.Piece
 pub use Rattle.utf_base.specs.Kinds
+pub use Rattle.utf_base.specs.Walk
+pub use Rattle.utf_base.specs.WalkLaws
 pub use Rattle.encode_unicode.specs.Window

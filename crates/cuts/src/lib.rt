@@ -2,8 +2,11 @@
 #![tactic(auto)]
 
 pub mod counted;
+mod entries;
 #[cfg(test)]
 mod fakes;
+pub mod items;
 mod line;
 pub mod listing;
 pub mod runs;
+pub mod walks;

@@ -10,4 +10,8 @@ pub mod Utf16Code
 pub mod UnitLemmas
 pub mod DecodedLemmas
 pub mod EndLemmas
+pub mod Walks
+pub mod WalkPieces
+pub mod WalkWords
+pub mod ByteWalks
 pub mod BackLemmas

@@ -9,5 +9,7 @@ pub mod Back
 pub mod Decoded
 pub mod CutLaws
 pub mod KindLaws
+pub mod Walk
+pub mod WalkLaws
 pub mod Texts
 pub mod Refused

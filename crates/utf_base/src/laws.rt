@@ -6,6 +6,8 @@ ghost use Rattle.utf_base.specs.Code.{utf8, utf16};
 ghost use Rattle.utf_base.specs.CutLaws.{CodesNeverOverlap, PiecesNeverOverlap, OnePieceBegins, OnePieceEnds};
 ghost use Rattle.utf_base.specs.CutLaws.{OneCodeEnds, CutsFollow, CutExists, CutIsUnique, AsciiStandsAlone};
 ghost use Rattle.utf_base.specs.KindLaws.{CodeOrOneFault, CodeOrLastByte, UnitsCodeOrOneFault, FourBytesDecide};
+ghost use Rattle.utf_base.specs.Walk.{utf8_bytes};
+ghost use Rattle.utf_base.specs.WalkLaws.{WalkExists, WalkIsUnique, WalkStaysOutside, WalkGivesEachOnce};
 
 /// Two codes that stand in one list are the same place or share no element.
 pub fn codes_never_overlap()
@@ -80,4 +82,25 @@ pub fn units_code_or_one_fault()
 /// The forward kind depends on the first four bytes alone, on fewer where there are fewer.
 pub fn four_bytes_decide()
     ensures { FourBytesDecide }
+{}
+
+/// Every word has a walk over every list of bytes.
+pub fn walk_exists()
+    ensures { WalkExists utf8_bytes }
+{}
+
+/// No word has two: bytes and word decide every answer.
+pub fn walk_is_unique()
+    ensures { WalkIsUnique utf8_bytes }
+{}
+
+/// After each letter of a walk, neither end of the window lies inside the encoding of a scalar.
+pub fn walk_stays_outside()
+    ensures { WalkStaysOutside utf8_bytes }
+{}
+
+/// The pieces that a walk answers are different pieces of the cut, and once none is left they are, in
+/// the order of their places, all of it.
+pub fn walk_gives_each_once()
+    ensures { WalkGivesEachOnce utf8_bytes }
 {}
