@@ -5,6 +5,7 @@ pub mod Lines
 pub mod Written
 pub mod Runs
 pub mod Collected
+pub mod Walks
 pub mod Programs
 pub use Rattle.utf_base.specs.Scalar
 pub use Rattle.utf_base.specs.Code
@@ -12,4 +13,6 @@ pub use Rattle.utf_base.specs.Piece
 pub use Rattle.utf_base.specs.Kinds
 pub use Rattle.utf_base.specs.Units
 pub use Rattle.utf_base.specs.CutLaws
+pub use Rattle.utf_base.specs.Walk
+pub use Rattle.utf_base.specs.WalkLaws
 pub use Rattle.encode_unicode.specs.Window

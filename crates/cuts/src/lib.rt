@@ -10,3 +10,4 @@ pub mod items;
 mod line;
 pub mod listing;
 pub mod runs;
+pub mod walks;

@@ -3,7 +3,6 @@
 //! The errors stand in `error`, the iterators in `iterator`, and the rest at the top.
 #![tactic(auto)]
 
-mod back_scan;
 mod decoding_iterators;
 mod held_bytes;
 mod held_unit;
