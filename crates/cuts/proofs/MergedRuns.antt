@@ -1,5 +1,5 @@
 -- A run of a merger, one answer after another: from the contract of one call and the laws of cuts alone.
-use Rattle.std.proofs.Common.{◌≡◌, ℕ, zero, ◌+◌, ◌-◌, ◌<◌, ◌≤◌, List, [], ◌∷◌, ◌++◌, length, drop, take, map, refl, ap, sym, ◌∙◌, arith, Option, Some, None, Ok, Err, Result, length-append}
+use Rattle.std.proofs.Common.{◌≡◌, ℕ, suc, ◌+◌, ◌-◌, ◌<◌, ◌≤◌, List, [], ◌∷◌, ◌++◌, length, drop, take, map, refl, ap, sym, ◌∙◌, arith, Option, Some, None, Ok, Err, Result, length-append}
 use Rattle.std.proofs.lemmas.Grind.{common_steps}
 use Rattle.std.proofs.lemmas.List.{map-append, take_rest, drop_at, drop-drop}
 use Rattle.std.specs.Prelude.{slice_range, slice_index}
@@ -51,7 +51,7 @@ taken code kind c old new (Ok s) h =
       left = sym (ap (drop (length (code s))) h.1 ∙ drop_at (code s) new (length (code s)) refl);
     }
 taken code kind c old new (Err k) h =
-    let len : length old ≡ 1 + length new = ap length h.1 in
+    let len : length old ≡ suc (length new) = ap length h.1 in
     record { len = 1; front = (h.0, refl); some = omega arith; left = sym (ap (drop 1) h.1) }
 
 -- one answer more
