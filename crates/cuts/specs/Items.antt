@@ -1,12 +1,8 @@
 -- Whole runs: items that are the pieces of a list's cut, in order. All of it is generic in the code.
 use Rattle.std.specs.Prelude.{◌≡◌, ℕ, List, map, drop, All, Option, Some, Result, IfErr}
-use Rattle.std.specs.Result.{result_ok}
-use Rattle.utf_base.specs.Piece.{Piece, IsCut}
+use Rattle.utf_base.specs.Piece.{IsCut}
+pub use Rattle.utf_base.specs.Walk.{piece_of}
 use Rattle.encode_unicode.specs.Window.{Placed}
-
--- the piece that an item is
-abbrev pub piece_of : {E : Type 0} → Placed E → Piece
-piece_of x = record { start = x.0; len = x.2; char = result_ok x.1 }
 
 -- an error is the kind of the elements from its place on
 abbrev pub HasKind : {E : Type 0} → (List ℕ → Option E) → List ℕ → Placed E → Type 0
