@@ -103,8 +103,42 @@ impl<'a> TextWindow<'a> {
         ensures gives { BackPlaced self.old result self.new }
         ensures shorter { OnSome result (self.new.back - self.new.front < self.old.back - self.old.front) }
     {
-        let c = self.as_str().chars().next_back()?;
-        self.back -= c.len_utf8();
-        Some((self.back, Utf8Char::new(c)))
+        let text = self.as_str();
+        let mut chars = text.chars();
+        chars.next_back()?;
+        let before = chars.as_str().len();
+        // The bytes of its code are copied and not made from the scalar, which is quicker.
+        match Utf8Char::from_str_start(&text[before..]) {
+            Err(EmptyStrError) => None,
+            Ok((c, _)) => {
+                self.back = self.front + before;
+                Some((self.back, c))
+            }
+        }
+    }
+
+    /// Takes the first character as a `char`, and its place.
+    #[inline(always)]
+    pub(crate) fn next_char(&mut self) -> Option<(usize, char)>
+        ensures gives { NextPlaced self.old result self.new }
+        ensures shorter { OnSome result (self.new.back - self.new.front < self.old.back - self.old.front) }
+    {
+        let mut chars = self.as_str().chars();
+        let c = chars.next()?;
+        let place = self.front;
+        self.front = self.back - chars.as_str().len();
+        Some((place, c))
+    }
+
+    /// Takes the last character as a `char`, and its place.
+    #[inline(always)]
+    pub(crate) fn next_char_back(&mut self) -> Option<(usize, char)>
+        ensures gives { BackPlaced self.old result self.new }
+        ensures shorter { OnSome result (self.new.back - self.new.front < self.old.back - self.old.front) }
+    {
+        let mut chars = self.as_str().chars();
+        let c = chars.next_back()?;
+        self.back = self.front + chars.as_str().len();
+        Some((self.back, c))
     }
 }
