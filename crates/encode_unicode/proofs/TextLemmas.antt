@@ -11,7 +11,7 @@ use Rattle.utf_base.specs.Code.{utf8}
 use Rattle.utf_base.specs.Front.{BeginsWith}
 use Rattle.utf_base.specs.Piece.{Stands}
 use Rattle.utf_base.specs.Scalar.{IsScalar}
-use Rattle.utf_base.proofs.Standing.{Stands-at, same_char, stands_alone, stands_first, stands_in_whole}
+use Rattle.utf_base.proofs.Standing.{Stands-at, same_char, stands_alone, stands_in_whole}
 use Rattle.utf_base.proofs.StdText.{utf8_is_std}
 use Rattle.utf_base.proofs.Utf8Code.{utf8_is_code, utf8-first, length_utf8}
 use Rattle.utf_chars.proofs.Ranges.{range_behind}
@@ -71,17 +71,6 @@ first_taken xs i j s n kept begins =
       record { is_text = kept.is_text; ordered = omega arith; between = between },
       omega arith,
     )
-
--- the same, by what is left of the window
-pub front_taken : (xs rest : List ℕ) (i j s m : ℕ) → IsKeptWindow xs i j → IsScalar s → slice_range xs i j ≡ utf8 s ++ rest → m ≡ j - length rest
-    → GivesFirst (record { whole = xs; front = i; back = j }) i s (record { whole = xs; front = m; back = j }) × IsKeptWindow xs m j × (j - m < j - i)
-front_taken xs rest i j s m kept scalar split e =
-    let ordered = kept.ordered in
-    let back = kept.between.back.0 in
-    let len : length (slice_range xs i j) ≡ j - i = grind (arith, common_steps) in
-    let parts : j - i ≡ length (utf8 s) + length rest = sym len ∙ ap length split ∙ length-append (utf8 s) rest in
-    let place : m ≡ i + length (utf8 s) = omega arith in
-    rw place (first_taken xs i j s (length (utf8 s)) kept (stands_first utf8 (slice_range xs i j) rest s scalar split, refl))
 
 -- a code stands at the end of what ends with it
 stands_last : (xs rest : List ℕ) (s : ℕ) → IsScalar s → xs ≡ rest ++ utf8 s → Stands utf8 xs (length rest) s

@@ -116,29 +116,4 @@ impl<'a> TextWindow<'a> {
             }
         }
     }
-
-    /// Takes the first character as a `char`, and its place.
-    #[inline(always)]
-    pub(crate) fn next_char(&mut self) -> Option<(usize, char)>
-        ensures gives { NextPlaced self.old result self.new }
-        ensures shorter { OnSome result (self.new.back - self.new.front < self.old.back - self.old.front) }
-    {
-        let mut chars = self.as_str().chars();
-        let c = chars.next()?;
-        let place = self.front;
-        self.front = self.back - chars.as_str().len();
-        Some((place, c))
-    }
-
-    /// Takes the last character as a `char`, and its place.
-    #[inline(always)]
-    pub(crate) fn next_char_back(&mut self) -> Option<(usize, char)>
-        ensures gives { BackPlaced self.old result self.new }
-        ensures shorter { OnSome result (self.new.back - self.new.front < self.old.back - self.old.front) }
-    {
-        let mut chars = self.as_str().chars();
-        let c = chars.next_back()?;
-        self.back = self.front + chars.as_str().len();
-        Some((self.back, c))
-    }
 }

@@ -59,8 +59,8 @@ impl<'a> Iterator for Utf16CharIndices<'a> {
 
     #[inline(always)]
     fn next(&mut self) -> Option<(usize, Utf16Char)> {
-        let (place, c) = self.window.next_char()?;
-        Some((place, Utf16Char::new(c)))
+        let (place, c) = self.window.next()?;
+        Some((place, Utf16Char::from(c)))
     }
 
     /// A quarter of the bytes that are left, rounded up, and all of them.
@@ -80,8 +80,8 @@ impl<'a> DoubleEndedIterator for Utf16CharIndices<'a> {
 
     #[inline(always)]
     fn next_back(&mut self) -> Option<(usize, Utf16Char)> {
-        let (place, c) = self.window.next_char_back()?;
-        Some((place, Utf16Char::new(c)))
+        let (place, c) = self.window.next_back()?;
+        Some((place, Utf16Char::from(c)))
     }
 }
 
@@ -153,8 +153,8 @@ impl<'a> Iterator for Utf16Chars<'a> {
 
     #[inline(always)]
     fn next(&mut self) -> Option<Utf16Char> {
-        let (_, c) = self.window.next_char()?;
-        Some(Utf16Char::new(c))
+        let (_, c) = self.window.next()?;
+        Some(Utf16Char::from(c))
     }
 
     /// A quarter of the bytes that are left, rounded up, and all of them.
@@ -174,8 +174,8 @@ impl<'a> DoubleEndedIterator for Utf16Chars<'a> {
 
     #[inline(always)]
     fn next_back(&mut self) -> Option<Utf16Char> {
-        let (_, c) = self.window.next_char_back()?;
-        Some(Utf16Char::new(c))
+        let (_, c) = self.window.next_back()?;
+        Some(Utf16Char::from(c))
     }
 }
 

@@ -113,3 +113,8 @@ front_padded w bytes s n h e = e ∙ rw (taken w s n h, h.1) refl
 pub code_of_padded : (places : ℕ) (code xs : List ℕ) (n : ℕ) → xs ≡ padded places code → n ≡ length code → take n xs ≡ code
 unfolding padded
 code_of_padded places code xs n e l = rw (e, l) (take_at code (replicate (places - length code) 0) _ refl)
+
+-- a code of four bytes is that of a scalar above 0xFFFF
+pub four_bytes : (s : ℕ) → (length (utf8 s) ≡ 4 → 0x1_0000 ≤ s) × (0x1_0000 ≤ s → length (utf8 s) ≡ 4)
+unfolding utf8
+four_bytes s = grind (arith, common_steps)
