@@ -20,6 +20,14 @@ extern "C" {
         room: usize,
     ) -> usize;
     fn compare_c_char(number: u32, answers: *mut u64, room: usize) -> usize;
+    fn compare_c_ends(
+        src: *const u8,
+        len: usize,
+        word: *const u8,
+        call_count: usize,
+        answers: *mut u64,
+        room: usize,
+    ) -> usize;
     fn compare_c_error_text(family: u8, place: u8, answer: *mut u8, room: usize) -> usize;
     fn compare_c_forward(src: *const u8, len: usize, answers: *mut u64, room: usize) -> usize;
     fn compare_c_four_bytes(
@@ -116,6 +124,20 @@ pub fn forward(src: &[u8]) -> Vec<u64> {
 pub fn indices(src: &[u8]) -> Vec<u64> {
     filled(ROOM_PER_ITEM * (src.len() + 1), |at, room| unsafe {
         compare_c_indices(src.as_ptr(), src.len(), at, room)
+    })
+}
+
+/// The end of the slice, and the decoder by the word.
+pub fn ends(src: &[u8], word: &[u8]) -> Vec<u64> {
+    filled(ROOM_PER_ITEM * (word.len() + 1), |at, room| unsafe {
+        compare_c_ends(
+            src.as_ptr(),
+            src.len(),
+            word.as_ptr(),
+            word.len(),
+            at,
+            room,
+        )
     })
 }
 

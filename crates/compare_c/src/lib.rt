@@ -13,6 +13,7 @@
 mod bytes;
 mod characters;
 mod codes;
+mod ends;
 mod errors;
 mod numbers;
 mod pairs;
