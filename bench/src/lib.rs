@@ -1,6 +1,8 @@
 //! What the programs of the benchmark share.
 
 pub mod ends;
+
+pub mod decoders;
 pub mod inputs;
 pub mod report;
 pub mod texts;

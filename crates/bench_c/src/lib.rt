@@ -8,6 +8,7 @@
 #![tactic(auto)]
 
 mod ends;
+mod decoders;
 mod texts;
 
 use encode_unicode::error::{Utf8ErrorKind, Utf16SliceError};

@@ -23,5 +23,6 @@ mod shown;
 mod splitters;
 mod steps;
 mod texts;
+mod unit_decoder;
 mod units;
 mod walks;

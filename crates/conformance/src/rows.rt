@@ -21,6 +21,12 @@ pub(crate) struct Row<'a> {
 
 /// The rows of the file. A line that begins with `#` is none, and any other has five columns with `|`
 /// between them: the bytes, the pieces, what a merger gives, a word, and the walk by it.
+    /// The answers that a merger has to give, with `;` between them.
+    pub(crate) merged: &'a str,
+}
+
+/// The rows of the file. A line that begins with `#` is none, and any other has at least three columns with
+/// `|` between them: the bytes, the pieces and the merger's answers.
 pub(crate) fn parse(alloc: Global, file: &str) -> io::Result<Vec<Row<'_>>> {
     let mut rows = Vec::new(alloc);
     for line in file.lines() {
@@ -38,6 +44,9 @@ fn parse_row(alloc: Global, line: &str) -> io::Result<Row<'_>> {
         return Err(io::Error::from(ErrorKind::InvalidData));
     };
     let (Some(letters), Some(walk)) = (columns.next(), columns.next()) else {
+    let (Some(text), Some(pieces), Some(merged)) =
+        (columns.next(), columns.next(), columns.next())
+    else {
         return Err(io::Error::from(ErrorKind::InvalidData));
     };
     Ok(Row {
@@ -46,6 +55,7 @@ fn parse_row(alloc: Global, line: &str) -> io::Result<Row<'_>> {
         pieces,
         word: parse_word(alloc, letters)?,
         walk,
+        merged,
     })
 }
 
@@ -72,7 +82,7 @@ fn parse_bytes(alloc: Global, text: &str) -> io::Result<Vec<u8>> {
     Ok(bytes)
 }
 
-fn digit(byte: u8) -> io::Result<u8> {
+pub(crate) fn digit(byte: u8) -> io::Result<u8> {
     match byte {
         b'0'..=b'9' => Ok(byte - b'0'),
         b'a'..=b'f' => Ok(byte - b'a' + 10),
