@@ -1,6 +1,7 @@
 //! Whole runs over bytes, and what the programs do.
 #![tactic(auto)]
 
+pub mod collected;
 pub mod counted;
 mod entries;
 #[cfg(test)]

@@ -6,3 +6,4 @@ pub mod Refills
 pub mod Splits
 pub mod TextLemmas
 pub mod ScanLemmas
+pub mod UnitPieces

@@ -3,6 +3,9 @@ pub mod Window
 pub mod Scan
 pub mod Hints
 pub mod Sources
+pub mod Mergers
+pub mod HeldWord
+pub mod Reading
 pub mod TextWindow
 pub use Rattle.utf_base.specs.Scalar
 pub use Rattle.utf_base.specs.Code

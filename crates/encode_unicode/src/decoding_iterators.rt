@@ -6,13 +6,15 @@ ghost use Rattle.encode_unicode.specs.Hints.{BoundsPieces};
 ghost use Rattle.encode_unicode.specs.Scan.{BackSteps};
 ghost use Rattle.encode_unicode.specs.Window.{whole_window, elements, NextGives, NextBackGives};
 
-use crate::back_scan::decode_end;
 use crate::steps::Steps;
+use back_scan::decode_end;
 use std::alloc::AllocError;
 use std::fmt;
 use std::marker::Model;
 use utf_base::errors::Utf8Error;
 use utf_chars::utf8_char::Utf8Char;
+
+mod back_scan;
 
 /// Cuts a slice of bytes into the characters that stand in it and single faulty bytes.
 ///

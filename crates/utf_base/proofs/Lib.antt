@@ -9,6 +9,8 @@ pub mod KindCases
 pub mod Utf16Code
 pub mod UnitLemmas
 pub mod DecodedLemmas
+pub mod JoinedCodes
+pub mod MergerLemmas
 pub mod EndLemmas
 pub mod Walks
 pub mod WalkPieces

@@ -1,6 +1,6 @@
 use Rattle.utf_base.proofs.BackLemmas.{no_whole_by_fault, no_whole_by_len}
-use Rattle.encode_unicode.proofs.back_scan.whole_or_unexpected.Goals as goal
-use Rattle.encode_unicode.proofs.back_scan.whole_or_unexpected.Goals.{in_default-via-in-Ok+else-len-bytes, in_default-via-in_default}
+use Rattle.encode_unicode.proofs.decoding_iterators.back_scan.whole_or_unexpected.Goals as goal
+use Rattle.encode_unicode.proofs.decoding_iterators.back_scan.whole_or_unexpected.Goals.{in_default-via-in-Ok+else-len-bytes, in_default-via-in_default}
 
 pub returns-in_default : goal.returns-in_default
 returns-in_default c = (

@@ -1,6 +1,6 @@
 use Rattle.std.proofs.Common.{◌∙◌, arith, sym, rules}
 use Rattle.encode_unicode.proofs.ScanLemmas.{IsEndOfFour, scanned-1, scanned-2, scanned-3, four_single, four_whole, four_all, take_four}
-use Rattle.encode_unicode.proofs.back_scan.scan.Goals as goal
+use Rattle.encode_unicode.proofs.decoding_iterators.back_scan.scan.Goals as goal
 
 pub returns-then-not-continues-clause-decodes : goal.returns-then-not-continues-clause-decodes
 returns-then-not-continues-clause-decodes c =
