@@ -5,3 +5,8 @@ pub mod Listed
 pub mod Refills
 pub mod Splits
 pub mod TextLemmas
+pub mod HeldWords
+pub mod MergerSteps
+pub mod ByteMerging
+pub mod UnitMerging
+pub mod MergerHints
