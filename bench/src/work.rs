@@ -40,8 +40,7 @@ impl Work {
 
 /// All kinds of work, in the order of the tables.
 pub fn all() -> impl Iterator<Item = &'static Work> {
-    OF_SLICES.iter().chain(&texts::ALL).chain(&ends::ALL)
-    OF_SLICES.iter().chain(&decoders::ALL).chain(&texts::ALL)
+    OF_SLICES.iter().chain(&decoders::ALL).chain(&ends::ALL).chain(&texts::ALL)
 }
 
 // The works over slices, which take faulty ones too.

@@ -7,8 +7,8 @@
 //! `bench/run` tests.
 #![tactic(auto)]
 
-mod ends;
 mod decoders;
+mod ends;
 mod texts;
 
 use encode_unicode::error::{Utf8ErrorKind, Utf16SliceError};

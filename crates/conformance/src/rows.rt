@@ -14,6 +14,8 @@ pub(crate) struct Row<'a> {
     pub(crate) bytes: Vec<u8>,
     /// The pieces from the front, each an offset, a length and an answer.
     pub(crate) pieces: &'a str,
+    /// The answers of a merger.
+    pub(crate) merged: &'a str,
     /// A word, and the walk by it: for each letter a piece as above, or `none`.
     pub(crate) word: Vec<End>,
     pub(crate) walk: &'a str,
@@ -21,12 +23,6 @@ pub(crate) struct Row<'a> {
 
 /// The rows of the file. A line that begins with `#` is none, and any other has five columns with `|`
 /// between them: the bytes, the pieces, what a merger gives, a word, and the walk by it.
-    /// The answers that a merger has to give, with `;` between them.
-    pub(crate) merged: &'a str,
-}
-
-/// The rows of the file. A line that begins with `#` is none, and any other has at least three columns with
-/// `|` between them: the bytes, the pieces and the merger's answers.
 pub(crate) fn parse(alloc: Global, file: &str) -> io::Result<Vec<Row<'_>>> {
     let mut rows = Vec::new(alloc);
     for line in file.lines() {
@@ -39,23 +35,21 @@ pub(crate) fn parse(alloc: Global, file: &str) -> io::Result<Vec<Row<'_>>> {
 
 fn parse_row(alloc: Global, line: &str) -> io::Result<Row<'_>> {
     let mut columns = line.split('|');
-    let (Some(text), Some(pieces), Some(_)) = (columns.next(), columns.next(), columns.next())
+    let (Some(text), Some(pieces), Some(merged)) =
+        (columns.next(), columns.next(), columns.next())
     else {
         return Err(io::Error::from(ErrorKind::InvalidData));
     };
     let (Some(letters), Some(walk)) = (columns.next(), columns.next()) else {
-    let (Some(text), Some(pieces), Some(merged)) =
-        (columns.next(), columns.next(), columns.next())
-    else {
         return Err(io::Error::from(ErrorKind::InvalidData));
     };
     Ok(Row {
         text,
         bytes: parse_bytes(alloc, text)?,
         pieces,
+        merged,
         word: parse_word(alloc, letters)?,
         walk,
-        merged,
     })
 }
 

@@ -31,15 +31,11 @@ impl Run {
             Run::Decoder => "decoder",
             Run::Listing => "listing",
             Run::Walk => "walk",
-        }
-    }
-
-    /// Whether the run gives what the row says of it.
             Run::Merger => "merger",
         }
     }
 
-    /// Whether the run gives what the row says.
+    /// Whether the run gives what the row says of it.
     pub(crate) fn agrees(self, alloc: Global, row: &Row<'_>) -> io::Result<bool> {
         match self {
             Run::Front => Ok(front_agrees(alloc, row)?),
@@ -108,6 +104,8 @@ fn walk_agrees(alloc: Global, row: &Row<'_>) -> Result<bool, AllocError> {
         }
     }
     Ok(walk.as_str() == row.walk)
+}
+
 fn merger_agrees(alloc: Global, row: &Row<'_>) -> Result<bool, AllocError> {
     let mut run = String::new(alloc);
     for answer in row.bytes.iter().copied().to_utf8chars() {
