@@ -6,3 +6,8 @@ pub mod Refills
 pub mod Splits
 pub mod TextLemmas
 pub mod UnitPieces
+pub mod HeldWords
+pub mod MergerSteps
+pub mod ByteMerging
+pub mod UnitMerging
+pub mod MergerHints
