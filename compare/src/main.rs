@@ -13,6 +13,7 @@ mod text_kinds;
 mod theirs;
 mod theirs_by_calls;
 mod unicode;
+mod unit_decoder;
 
 use std::path::Path;
 use std::process::ExitCode;
@@ -42,6 +43,7 @@ fn compare_all(program: &Path, seed: u64, count: usize) -> Option<Vec<Kind>> {
     println!("seed {seed}, count {count}");
     let mut all = Vec::new();
     print_and_keep(&mut all, kinds::lists(seed, count));
+    print_and_keep(&mut all, unit_decoder::lists(seed, count));
     print_and_keep(&mut all, kinds::numbers(seed));
     print_and_keep(&mut all, kinds::neighbours());
     print_and_keep(&mut all, kinds::codes(seed));

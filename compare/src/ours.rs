@@ -100,7 +100,7 @@ const ROOM_PER_CALL: usize = 16;
 //
 // Each `call` below passes the pointer and the length on as the last two arguments, and a slice as its own
 // pointer and length. That, and the declarations above, is what makes the calls sound.
-fn filled(room: usize, call: impl FnOnce(*mut u64, usize) -> usize) -> Vec<u64> {
+pub fn filled(room: usize, call: impl FnOnce(*mut u64, usize) -> usize) -> Vec<u64> {
     let mut answers = vec![0; room];
     let used = call(answers.as_mut_ptr(), answers.len());
     answers.truncate(used);

@@ -7,6 +7,7 @@
 //! `bench/run` tests.
 #![tactic(auto)]
 
+mod decoders;
 mod texts;
 
 use encode_unicode::error::{Utf8ErrorKind, Utf16SliceError};

@@ -22,5 +22,6 @@ mod shown;
 mod splitters;
 mod steps;
 mod texts;
+mod unit_decoder;
 mod units;
 mod walks;

@@ -12,10 +12,12 @@ pub(crate) struct Row<'a> {
     pub(crate) bytes: Vec<u8>,
     /// The pieces with `;` between them, each an offset, a length and an answer.
     pub(crate) pieces: &'a str,
+    /// The answers that a merger has to give, with `;` between them.
+    pub(crate) merged: &'a str,
 }
 
-/// The rows of the file. A line that begins with `#` is none, and any other has at least two columns with
-/// `|` between them: the bytes and the pieces.
+/// The rows of the file. A line that begins with `#` is none, and any other has at least three columns with
+/// `|` between them: the bytes, the pieces and the merger's answers.
 pub(crate) fn parse(alloc: Global, file: &str) -> io::Result<Vec<Row<'_>>> {
     let mut rows = Vec::new(alloc);
     for line in file.lines() {
@@ -28,7 +30,9 @@ pub(crate) fn parse(alloc: Global, file: &str) -> io::Result<Vec<Row<'_>>> {
 
 fn parse_row(alloc: Global, line: &str) -> io::Result<Row<'_>> {
     let mut columns = line.split('|');
-    let (Some(text), Some(pieces)) = (columns.next(), columns.next()) else {
+    let (Some(text), Some(pieces), Some(merged)) =
+        (columns.next(), columns.next(), columns.next())
+    else {
         return Err(io::Error::from(ErrorKind::InvalidData));
     };
     let bytes = parse_bytes(alloc, text)?;
@@ -36,6 +40,7 @@ fn parse_row(alloc: Global, line: &str) -> io::Result<Row<'_>> {
         text,
         bytes,
         pieces,
+        merged,
     })
 }
 
@@ -50,7 +55,7 @@ fn parse_bytes(alloc: Global, text: &str) -> io::Result<Vec<u8>> {
     Ok(bytes)
 }
 
-fn digit(byte: u8) -> io::Result<u8> {
+pub(crate) fn digit(byte: u8) -> io::Result<u8> {
     match byte {
         b'0'..=b'9' => Ok(byte - b'0'),
         b'a'..=b'f' => Ok(byte - b'a' + 10),

@@ -4,7 +4,7 @@ use crate::rows::Row;
 use cuts::counted::Counted;
 use cuts::listing::write_listing;
 use encode_unicode::error::Utf8Error;
-use encode_unicode::{CharExt, U8SliceExt, Utf8Char};
+use encode_unicode::{CharExt, U8IterExt, U8SliceExt, Utf8Char};
 use std::alloc::{AllocError, Global};
 use std::io;
 
@@ -17,6 +17,8 @@ pub(crate) enum Run {
     Decoder,
     /// The lines of all pieces, and how many of them are errors.
     Listing,
+    /// Each answer in turn, by the merger.
+    Merger,
 }
 
 impl Run {
@@ -25,15 +27,17 @@ impl Run {
             Run::Front => "front",
             Run::Decoder => "decoder",
             Run::Listing => "listing",
+            Run::Merger => "merger",
         }
     }
 
-    /// Whether the run gives the pieces of the row.
+    /// Whether the run gives what the row says.
     pub(crate) fn agrees(self, alloc: Global, row: &Row<'_>) -> io::Result<bool> {
         match self {
             Run::Front => Ok(front_agrees(alloc, row)?),
             Run::Decoder => Ok(decoder_agrees(alloc, row)?),
             Run::Listing => listing_agrees(alloc, row),
+            Run::Merger => Ok(merger_agrees(alloc, row)?),
         }
     }
 }
@@ -81,6 +85,18 @@ fn listing_agrees(alloc: Global, row: &Row<'_>) -> io::Result<bool> {
     Ok(lines.is_ok_and(|lines| lines.lines().eq(pieces)) && faults == errors)
 }
 
+fn merger_agrees(alloc: Global, row: &Row<'_>) -> Result<bool, AllocError> {
+    let mut run = String::new(alloc);
+    for answer in row.bytes.iter().copied().to_utf8chars() {
+        if !run.is_empty() {
+            run.push(';')?;
+        }
+        let answer = answer_text(alloc, answer.map(|c| c.to_char()))?;
+        run.push_str(&answer)?;
+    }
+    Ok(run.as_str() == row.merged)
+}
+
 // Whether the piece names an error: its answer begins with a capital letter, which no digit here is.
 fn is_error(piece: &str) -> bool {
     piece.bytes().any(|byte| byte.is_ascii_uppercase())
@@ -93,8 +109,14 @@ fn piece_text(
     answer: Result<char, Utf8Error>,
     len: usize,
 ) -> Result<String, AllocError> {
+    let answer = answer_text(alloc, answer)?;
+    format!(in alloc; "{place} {len} {answer}")
+}
+
+// An answer alone.
+fn answer_text(alloc: Global, answer: Result<char, Utf8Error>) -> Result<String, AllocError> {
     match answer {
-        Ok(c) => format!(in alloc; "{place} {len} {:06x}", c as u32),
-        Err(error) => format!(in alloc; "{place} {len} {:?}", error.kind()),
+        Ok(c) => format!(in alloc; "{:06x}", c as u32),
+        Err(error) => format!(in alloc; "{:?}", error.kind()),
     }
 }

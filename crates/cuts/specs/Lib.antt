@@ -1,10 +1,14 @@
 pub mod Failures
+pub mod Items
 pub mod Line
 pub mod Lines
 pub mod Runs
+pub mod Collected
 pub mod Programs
 pub use Rattle.utf_base.specs.Scalar
 pub use Rattle.utf_base.specs.Code
 pub use Rattle.utf_base.specs.Piece
 pub use Rattle.utf_base.specs.Kinds
+pub use Rattle.utf_base.specs.Units
+pub use Rattle.utf_base.specs.CutLaws
 pub use Rattle.encode_unicode.specs.Window

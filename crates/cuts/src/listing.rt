@@ -4,19 +4,15 @@ ghost use Rattle.cuts.specs.Lines.{kind_name, item_line};
 ghost use Rattle.cuts.specs.Runs.{WritesListing, WritesListingFront};
 
 use crate::counted::{Counted, put_whole};
+use crate::items::Item;
 use crate::line::Line;
-use encode_unicode::Utf8Char;
-use encode_unicode::error::{Utf8Error, Utf8ErrorKind};
+use encode_unicode::error::Utf8ErrorKind;
 use encode_unicode::iterator::Utf8CharDecoder;
 use std::io;
 use std::io::Write;
 
 #[cfg(test)]
 mod tests;
-
-/// A piece of a slice of bytes: its offset from the front, the character or what is wrong with the
-/// byte, and its length in bytes.
-pub type Item = (usize, Result<Utf8Char, Utf8Error>, usize);
 
 /// Writes one line for each piece of the bytes, and answers how many of the pieces are errors.
 ///

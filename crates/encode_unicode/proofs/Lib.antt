@@ -5,6 +5,7 @@ pub mod Listed
 pub mod Refills
 pub mod Splits
 pub mod TextLemmas
+pub mod UnitPieces
 pub mod HeldWords
 pub mod MergerSteps
 pub mod ByteMerging

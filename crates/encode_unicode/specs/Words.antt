@@ -2,6 +2,6 @@
 pub use Rattle.utf_base.specs.Code.{utf8, utf16}
 pub use Rattle.utf_base.specs.Kinds.{asked, value, least_value, fault_kind, merger_kind}
 pub use Rattle.utf_base.specs.Units.{unit_value, slice_fault, array_fault, unit_fault_kind}
-pub use Rattle.utf_base.specs.Decoded.{decoded, decoded_bytes, decoded_units, decoded_two, decoded_tuple, decoded_number}
+pub use Rattle.utf_base.specs.Decoded.{decoded, decoded_bytes, decoded_units, decoded_pairs, decoded_two, decoded_tuple, decoded_number}
 pub use Rattle.utf_chars.specs.Chars.{first_of_text, parsed}
 pub use Rattle.utf_chars.specs.Padded.{padded}

@@ -8,4 +8,5 @@ pub mod KindCases
 pub mod Utf16Code
 pub mod UnitLemmas
 pub mod DecodedLemmas
+pub mod JoinedCodes
 pub mod MergerLemmas

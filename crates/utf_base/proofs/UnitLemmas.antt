@@ -147,7 +147,7 @@ utf16_finds w =
 
 -- The forward kind of units: the fault of a slice by another name.
 
-abbrev pair_error : Utf16SliceError → Utf16PairError
+abbrev pub pair_error : Utf16SliceError → Utf16PairError
 pair_error slice.EmptySlice = pair.Incomplete
 pair_error slice.FirstIsTrailingSurrogate = pair.UnexpectedTrailingSurrogate
 pair_error slice.MissingSecond = pair.Incomplete
@@ -177,6 +177,9 @@ kind_of_fault w = by_tests (eqb (length w) 0) (is_trailing_surrogate (get_or w 0
     by_tests false false true true second = refl
     by_tests false false true false false = refl
     by_tests false false true false true = refl
+
+pub kind_from_fault : (w : List ℕ) (e : Utf16SliceError) → slice_fault w ≡ Some e → unit_fault_kind w ≡ Some (pair_error e)
+kind_from_fault w e h = kind_of_fault w ∙ ap (option_map pair_error) h
 
 pub no_kind_where_units : (w : List ℕ) (s : ℕ) → Stands utf16 w 0 s → unit_fault_kind w ≡ None
 no_kind_where_units w s h = kind_of_fault w ∙ ap (option_map pair_error) (no_fault_where_units w s h)

@@ -4,7 +4,7 @@
 //! calling the function, or takes the lemma behind it from `proofs/`.
 ghost use Rattle.utf_base.specs.Code.{utf8, utf16};
 ghost use Rattle.utf_base.specs.CutLaws.{CodesNeverOverlap, PiecesNeverOverlap, OnePieceBegins, OnePieceEnds};
-ghost use Rattle.utf_base.specs.CutLaws.{CutsFollow, CutExists, CutIsUnique, AsciiStandsAlone};
+ghost use Rattle.utf_base.specs.CutLaws.{CutsFollow, CutExists, CutIsUnique, NoFaultInJoinedCodes, AsciiStandsAlone};
 ghost use Rattle.utf_base.specs.KindLaws.{CodeOrOneFault, MergerCodeOrOneFault, UnitsCodeOrOneFault, UnitsCodeOrOneKind};
 ghost use Rattle.utf_base.specs.KindLaws.{FourBytesDecide, FourBytesDecideMerger, KindsDiffer, TwoUnitsDecide};
 
@@ -49,6 +49,13 @@ pub fn cut_exists()
 pub fn cut_is_unique()
     ensures utf8 { CutIsUnique utf8 }
     ensures utf16 { CutIsUnique utf16 }
+{}
+
+/// A cut has no fault exactly where its list is the codes of some scalars, joined, and its pieces are then
+/// these scalars in order.
+pub fn no_fault_in_joined_codes()
+    ensures utf8 { NoFaultInJoinedCodes utf8 }
+    ensures utf16 { NoFaultInJoinedCodes utf16 }
 {}
 
 /// A byte below 0x80 is a piece of its own: no error hides an ASCII character.
