@@ -118,15 +118,10 @@ impl<I: Iterator<Item = u16>> Utf16CharMerger<I> {
     pub fn into_remaining_units(self) -> RemainingUnits<I>
         ensures { result ≡ self }
     {
-        let Utf16CharMerger {
-            source,
-            held,
-            ended,
-        } = self;
         RemainingUnits {
-            source,
-            held,
-            ended,
+            source: self.source,
+            held: self.held,
+            ended: self.ended,
         }
     }
 

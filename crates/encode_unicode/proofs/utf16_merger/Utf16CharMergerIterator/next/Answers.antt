@@ -1,3 +1,4 @@
+use Rattle.std.proofs.Common.{◌∷◌, ◌∙◌, ap}
 use Rattle.utf_base.specs.Code.{utf16}
 use Rattle.utf_base.specs.Units.{unit_fault_kind}
 use Rattle.encode_unicode.specs.Mergers.{IsHeldUnits}
@@ -16,9 +17,11 @@ returns-in-None-clause-goes g c = rw (← c.self.view_is) (merger_rests _ _ _ _ 
 pub returns-in-Some-clause-steps : goal.returns-in-Some-clause-steps
 returns-in-Some-clause-steps g c =
     let begun = c.in-Some.ensures.first in
-    rw (← c.self.view_is) (merger_next utf16 unit_fault_kind IsHeldUnits _ _ _ _ _ _ _ _ _ _ _ _ _ _ _ begun.reads begun.begins c.answer.ensures.answers c.answer.ensures.held)
+    let begins = begun.begins ∙ ap (λ held. c.in-Some.first ∷ held) c.in-Some.ensures.none in
+    rw (← c.self.view_is) (merger_next utf16 unit_fault_kind IsHeldUnits _ _ _ _ _ _ _ _ _ _ _ _ _ _ _ begun.reads begins c.answer.ensures.answers c.answer.ensures.held)
 
 pub returns-in-Some-clause-goes : goal.returns-in-Some-clause-goes
 returns-in-Some-clause-goes g c =
     let begun = c.in-Some.ensures.first in
-    rw (← c.self.view_is) (merger_nearer utf16 unit_fault_kind _ _ _ _ _ _ _ _ _ _ _ _ _ _ _ begun.reads begun.begins c.answer.ensures.answers)
+    let begins = begun.begins ∙ ap (λ held. c.in-Some.first ∷ held) c.in-Some.ensures.none in
+    rw (← c.self.view_is) (merger_nearer utf16 unit_fault_kind _ _ _ _ _ _ _ _ _ _ _ _ _ _ _ begun.reads begins c.answer.ensures.answers)
