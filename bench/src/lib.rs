@@ -2,6 +2,7 @@
 
 pub mod decoders;
 pub mod inputs;
+pub mod mergers;
 pub mod report;
 pub mod texts;
 pub mod work;

@@ -5,6 +5,7 @@
 
 use crate::decoders;
 use crate::inputs::Input;
+use crate::mergers;
 use crate::texts;
 use encode_unicode::error::{Utf16SliceError, Utf8ErrorKind};
 use encode_unicode::iterator::Utf8CharDecoder;
@@ -34,7 +35,7 @@ impl Work {
 
 /// All kinds of work, in the order of the tables.
 pub fn all() -> impl Iterator<Item = &'static Work> {
-    OF_SLICES.iter().chain(&decoders::ALL).chain(&texts::ALL)
+    OF_SLICES.iter().chain(&decoders::ALL).chain(&mergers::ALL).chain(&texts::ALL)
 }
 
 // The works over slices, which take faulty ones too.
@@ -115,7 +116,7 @@ pub(crate) fn word_of(place: usize, len: usize, what: u32) -> u64 {
 }
 
 #[inline(always)]
-fn number_of(kind: Utf8ErrorKind) -> u32 {
+pub(crate) fn number_of(kind: Utf8ErrorKind) -> u32 {
     ERROR
         | match kind {
             Utf8ErrorKind::TooFewBytes => 0,

@@ -5,6 +5,7 @@
 mod errors;
 mod inputs;
 mod kinds;
+mod mergers;
 mod numbers;
 mod ours;
 mod program;
@@ -44,6 +45,7 @@ fn compare_all(program: &Path, seed: u64, count: usize) -> Option<Vec<Kind>> {
     let mut all = Vec::new();
     print_and_keep(&mut all, kinds::lists(seed, count));
     print_and_keep(&mut all, unit_decoder::lists(seed, count));
+    print_and_keep(&mut all, mergers::lists(seed, count));
     print_and_keep(&mut all, kinds::numbers(seed));
     print_and_keep(&mut all, kinds::neighbours());
     print_and_keep(&mut all, kinds::codes(seed));

@@ -8,6 +8,7 @@
 #![tactic(auto)]
 
 mod decoders;
+mod mergers;
 mod texts;
 
 use encode_unicode::error::{Utf8ErrorKind, Utf16SliceError};

@@ -14,6 +14,7 @@ mod bytes;
 mod characters;
 mod codes;
 mod errors;
+mod mergers;
 mod numbers;
 mod pairs;
 mod runs;

@@ -1,12 +1,12 @@
 -- What a merger of bytes answers for the byte that has left it.
-use Rattle.std.proofs.Common.{◌≡◌, ℕ, suc, ◌+◌, ◌<◌, ◌≤◌, ◌&&◌, leb, ltb, List, [], ◌∷◌, ◌++◌, length, get_or, Some, None, Ok, Err, Bool, true, false, refl, ap, sym, ◌∙◌, arith, ⊎_elim, append-nil, lit<}
+use Rattle.std.proofs.Common.{◌≡◌, ℕ, suc, ◌<◌, ◌≤◌, ◌&&◌, leb, ltb, List, [], ◌∷◌, ◌++◌, length, get_or, Some, None, Ok, Err, Bool, true, false, refl, ap, sym, ◌∙◌, arith, ⊎_elim, append-nil, lit<}
 use Rattle.std.proofs.lemmas.Bool.{cases_lt}
 use Rattle.std.proofs.lemmas.Grind.{common_steps}
 use Rattle.std.specs.Iterator.{Count, YieldsFirst}
 use Rattle.std.specs.Prelude.{Option, Result, IsErrAnd}
 use Rattle.utf_base.specs.declared.errors.Utf8ErrorKind.{Utf8ErrorKind}
 use Rattle.utf_base.specs.Code.{utf8}
-use Rattle.utf_base.specs.Kinds.{asked, is_continuation, fault_kind, merger_kind}
+use Rattle.utf_base.specs.Kinds.{asked, is_continuation, merger_kind}
 use Rattle.utf_base.specs.Scalar.{IsScalar}
 use Rattle.utf_base.proofs.MergerLemmas.{kind_of_front, few-1, few-2, few-3, broken-1, broken-2, broken-3}
 use Rattle.utf_base.proofs.Utf8Code.{utf8-first}

@@ -1,5 +1,5 @@
 -- What one call of a merger reads and answers. All of it is generic in the code.
-use Rattle.std.proofs.Common.{◌≡◌, ℕ, suc, subst, ◌+◌, ◌<◌, ◌≤◌, List, [], ◌∷◌, ◌++◌, Some, None, Ok, Err, Bool, true, false, length, refl, ap, sym, ◌∙◌, arith, length-append, append_assoc, append-nil}
+use Rattle.std.proofs.Common.{◌≡◌, ℕ, suc, subst, List, [], ◌∷◌, ◌++◌, Some, None, Bool, true, false, length, refl, ap, sym, ◌∙◌, arith, length-append, append_assoc, append-nil}
 use Rattle.std.specs.Iterator.{Count, MakesProgress}
 use Rattle.std.specs.Prelude.{Option, Result, IfNone, IfSome}
 use Rattle.encode_unicode.specs.Mergers.{Merging, MergerNext, TakesFront, still, unread_count}

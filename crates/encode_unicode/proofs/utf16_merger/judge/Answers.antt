@@ -1,4 +1,3 @@
-use Rattle.std.proofs.Common.{sym}
 use Rattle.encode_unicode.proofs.UnitMerging.{char_of_unit, kind_of_trailing, trails}
 use Rattle.encode_unicode.proofs.utf16_merger.judge.Goals as goal
 

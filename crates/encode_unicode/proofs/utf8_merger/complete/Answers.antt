@@ -1,4 +1,4 @@
-use Rattle.std.proofs.Common.{◌≡◌, ◌<◌, ◌≤◌, [], ◌∷◌, arith}
+use Rattle.std.proofs.Common.{◌≡◌, ◌≤◌, [], ◌∷◌, arith}
 use Rattle.utf_base.specs.Kinds.{asked}
 use Rattle.utf_base.proofs.FrontLemmas.{asked-2, asked-3, asked-4}
 use Rattle.encode_unicode.proofs.ByteMerging.{asks_two, asks_three, byte_completes, held_one, held_two, held_three, returned, stops_behind_none, stops_behind_one, stops_behind_two}

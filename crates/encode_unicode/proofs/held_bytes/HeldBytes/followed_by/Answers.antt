@@ -1,4 +1,4 @@
-use Rattle.std.proofs.Common.{◌≡◌, ◌∙◌, ◌/◌, ◌≤◌, ◌<◌, length, arith}
+use Rattle.std.proofs.Common.{◌∙◌, ◌/◌, ◌≤◌, ◌<◌, length, arith}
 use Rattle.encode_unicode.specs.HeldWord.{bytes_of}
 use Rattle.encode_unicode.proofs.HeldWords.{length_bytes, none_and_one, one_and_one, two_and_one}
 use Rattle.encode_unicode.proofs.held_bytes.HeldBytes.followed_by.Goals as goal

@@ -1,4 +1,4 @@
-use Rattle.std.proofs.Common.{◌≡◌, ◌+◌, ◌-◌, ◌/◌, ◌≤◌, ◌<◌, refl, arith}
+use Rattle.std.proofs.Common.{◌-◌, ◌/◌, ◌≤◌, ◌<◌, refl, arith}
 use Rattle.encode_unicode.proofs.HeldWords.{word_none, first_of_word}
 use Rattle.encode_unicode.proofs.held_bytes.HeldBytes.next.Goals as goal
 
