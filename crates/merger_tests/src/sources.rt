@@ -42,26 +42,25 @@ fn no_byte_is_read_ahead(rt: HostRuntime) {
     assert!(rt; merger.next().is_some_and(|answer| answer.is_ok()));
     assert_eq!(rt; merger.into_inner().calls, 1);
     let mut merger = source_of(&bytes).to_utf8chars();
-    for _ in 0..2 {
-        assert!(rt; merger.next().is_some_and(|answer| answer.is_ok()));
-    }
+    assert!(rt; merger.next().is_some_and(|answer| answer.is_ok()));
+    assert!(rt; merger.next().is_some_and(|answer| answer.is_ok()));
     assert_eq!(rt; merger.into_inner().calls, 4);
     let mut merger = source_of(&bytes).to_utf8chars();
-    for _ in 0..4 {
-        assert!(rt; merger.next().is_some());
-    }
+    assert!(rt; merger.next().is_some());
+    assert!(rt; merger.next().is_some());
+    assert!(rt; merger.next().is_some());
+    assert!(rt; merger.next().is_some());
     assert_eq!(rt; merger.into_inner().calls, 6);
 }
 
 #[test]
 fn a_source_of_bytes_is_not_asked_again(rt: HostRuntime) {
     let mut merger = source_of(&[0xe2u8, 0x82]).to_utf8chars();
-    for _ in 0..2 {
-        assert!(rt; merger.next().is_some_and(|answer| answer.is_err()));
-    }
-    for _ in 0..3 {
-        assert!(rt; merger.next().is_none());
-    }
+    assert!(rt; merger.next().is_some_and(|answer| answer.is_err()));
+    assert!(rt; merger.next().is_some_and(|answer| answer.is_err()));
+    assert!(rt; merger.next().is_none());
+    assert!(rt; merger.next().is_none());
+    assert!(rt; merger.next().is_none());
     assert_eq!(rt; merger.into_inner().calls, 3);
 }
 
@@ -72,9 +71,10 @@ fn no_unit_is_read_ahead(rt: HostRuntime) {
     assert!(rt; merger.next().is_some_and(|answer| answer.is_ok()));
     assert_eq!(rt; merger.into_inner().calls, 1);
     let mut merger = source_of(&units).to_utf16chars();
-    for _ in 0..4 {
-        assert!(rt; merger.next().is_some());
-    }
+    assert!(rt; merger.next().is_some());
+    assert!(rt; merger.next().is_some());
+    assert!(rt; merger.next().is_some());
+    assert!(rt; merger.next().is_some());
     assert_eq!(rt; merger.into_inner().calls, 5);
 }
 
@@ -82,9 +82,9 @@ fn no_unit_is_read_ahead(rt: HostRuntime) {
 fn a_source_of_units_is_not_asked_again(rt: HostRuntime) {
     let mut merger = source_of(&[0xd83cu16]).to_utf16chars();
     assert!(rt; merger.next().is_some_and(|answer| answer.is_err()));
-    for _ in 0..3 {
-        assert!(rt; merger.next().is_none());
-    }
+    assert!(rt; merger.next().is_none());
+    assert!(rt; merger.next().is_none());
+    assert!(rt; merger.next().is_none());
     let mut rest = merger.into_remaining_units();
     assert_eq!(rt; rest.next(), None);
     assert_eq!(rt;
