@@ -3,11 +3,8 @@
 //!
 //! Every worker answers a checksum of all that it saw, mixed in the same way, so that answers can be compared.
 
-use crate::decoders;
 use crate::inputs::Input;
-use crate::{ends, texts};
-use crate::mergers;
-use crate::texts;
+use crate::{decoders, ends, mergers, texts};
 use encode_unicode::error::{Utf16SliceError, Utf8ErrorKind};
 use encode_unicode::iterator::Utf8CharDecoder;
 use encode_unicode::{CharExt, Utf16Char, Utf8Char};
@@ -42,8 +39,7 @@ impl Work {
 
 /// All kinds of work, in the order of the tables.
 pub fn all() -> impl Iterator<Item = &'static Work> {
-    OF_SLICES.iter().chain(&decoders::ALL).chain(&ends::ALL).chain(&texts::ALL)
-    OF_SLICES.iter().chain(&decoders::ALL).chain(&mergers::ALL).chain(&texts::ALL)
+    OF_SLICES.iter().chain(&decoders::ALL).chain(&mergers::ALL).chain(&ends::ALL).chain(&texts::ALL)
 }
 
 // The works over slices, which take faulty ones too.
