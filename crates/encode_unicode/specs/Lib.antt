@@ -2,6 +2,7 @@ pub mod Words
 pub mod Window
 pub mod Hints
 pub mod Sources
+pub mod Collections
 pub mod TextWindow
 pub use Rattle.utf_base.specs.Scalar
 pub use Rattle.utf_base.specs.Code
