@@ -1,5 +1,7 @@
 //! What the programs of the benchmark share.
 
+pub mod decoders;
+pub mod ends;
 pub mod inputs;
 pub mod report;
 pub mod texts;

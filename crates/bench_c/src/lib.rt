@@ -7,6 +7,8 @@
 //! `bench/run` tests.
 #![tactic(auto)]
 
+mod decoders;
+mod ends;
 mod texts;
 
 use encode_unicode::error::{Utf8ErrorKind, Utf16SliceError};

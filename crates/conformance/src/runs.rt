@@ -3,8 +3,9 @@
 use crate::rows::Row;
 use cuts::counted::Counted;
 use cuts::listing::write_listing;
+use cuts::walks::walk_utf8;
 use encode_unicode::error::Utf8Error;
-use encode_unicode::{CharExt, U8SliceExt, Utf8Char};
+use encode_unicode::{CharExt, U8IterExt, U8SliceExt, Utf8Char};
 use std::alloc::{AllocError, Global};
 use std::io;
 
@@ -17,6 +18,10 @@ pub(crate) enum Run {
     Decoder,
     /// The lines of all pieces, and how many of them are errors.
     Listing,
+    /// The pieces from both ends, as the letters of the row's word ask for them.
+    Walk,
+    /// Each answer in turn, by the merger.
+    Merger,
 }
 
 impl Run {
@@ -25,15 +30,19 @@ impl Run {
             Run::Front => "front",
             Run::Decoder => "decoder",
             Run::Listing => "listing",
+            Run::Walk => "walk",
+            Run::Merger => "merger",
         }
     }
 
-    /// Whether the run gives the pieces of the row.
+    /// Whether the run gives what the row says of it.
     pub(crate) fn agrees(self, alloc: Global, row: &Row<'_>) -> io::Result<bool> {
         match self {
             Run::Front => Ok(front_agrees(alloc, row)?),
             Run::Decoder => Ok(decoder_agrees(alloc, row)?),
             Run::Listing => listing_agrees(alloc, row),
+            Run::Walk => Ok(walk_agrees(alloc, row)?),
+            Run::Merger => Ok(merger_agrees(alloc, row)?),
         }
     }
 }
@@ -81,6 +90,34 @@ fn listing_agrees(alloc: Global, row: &Row<'_>) -> io::Result<bool> {
     Ok(lines.is_ok_and(|lines| lines.lines().eq(pieces)) && faults == errors)
 }
 
+fn walk_agrees(alloc: Global, row: &Row<'_>) -> Result<bool, AllocError> {
+    let mut walk = String::new(alloc);
+    for entry in walk_utf8(alloc, &row.bytes, &row.word)? {
+        if !walk.is_empty() {
+            walk.push(';')?;
+        }
+        match entry {
+            Some((place, answer, len)) => {
+                walk.push_str(&piece_text(alloc, place, answer.map(|c| c.to_char()), len)?)?;
+            }
+            None => walk.push_str("none")?,
+        }
+    }
+    Ok(walk.as_str() == row.walk)
+}
+
+fn merger_agrees(alloc: Global, row: &Row<'_>) -> Result<bool, AllocError> {
+    let mut run = String::new(alloc);
+    for answer in row.bytes.iter().copied().to_utf8chars() {
+        if !run.is_empty() {
+            run.push(';')?;
+        }
+        let answer = answer_text(alloc, answer.map(|c| c.to_char()))?;
+        run.push_str(&answer)?;
+    }
+    Ok(run.as_str() == row.merged)
+}
+
 // Whether the piece names an error: its answer begins with a capital letter, which no digit here is.
 fn is_error(piece: &str) -> bool {
     piece.bytes().any(|byte| byte.is_ascii_uppercase())
@@ -93,8 +130,14 @@ fn piece_text(
     answer: Result<char, Utf8Error>,
     len: usize,
 ) -> Result<String, AllocError> {
+    let answer = answer_text(alloc, answer)?;
+    format!(in alloc; "{place} {len} {answer}")
+}
+
+// An answer alone.
+fn answer_text(alloc: Global, answer: Result<char, Utf8Error>) -> Result<String, AllocError> {
     match answer {
-        Ok(c) => format!(in alloc; "{place} {len} {:06x}", c as u32),
-        Err(error) => format!(in alloc; "{place} {len} {:?}", error.kind()),
+        Ok(c) => format!(in alloc; "{:06x}", c as u32),
+        Err(error) => format!(in alloc; "{:?}", error.kind()),
     }
 }

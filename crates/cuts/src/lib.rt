@@ -1,9 +1,13 @@
 //! Whole runs over bytes, and what the programs do.
 #![tactic(auto)]
 
+pub mod collected;
 pub mod counted;
+mod entries;
 #[cfg(test)]
 mod fakes;
+pub mod items;
 mod line;
 pub mod listing;
 pub mod runs;
+pub mod walks;

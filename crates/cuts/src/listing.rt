@@ -1,22 +1,20 @@
-//! The listing of some bytes: a line for each piece of their one cut.
-ghost use Rattle.std.specs.Prelude.{◌≡◌, ◌<◌, ◌≤◌, length, IfOk, OnOk, OnErr};
-ghost use Rattle.cuts.specs.Lines.{kind_name, item_line};
+//! What is written of the pieces of some bytes: a line for each entry of a list.
+ghost use Rattle.std.specs.Prelude.{◌≡◌, ◌<◌, IfOk, OnOk, OnErr};
+ghost use Rattle.cuts.specs.Failures.{AppendsFront};
 ghost use Rattle.cuts.specs.Runs.{WritesListing, WritesListingFront};
+ghost use Rattle.cuts.specs.Written.{merged_lines, walk_lines, WritesMerged, WritesWalk};
 
-use crate::counted::{Counted, put_whole};
-use crate::line::Line;
+use crate::counted::Counted;
+use crate::entries::{write_entries, write_entry};
+use crate::items::Item;
 use encode_unicode::Utf8Char;
-use encode_unicode::error::{Utf8Error, Utf8ErrorKind};
+use encode_unicode::error::Utf8Error;
 use encode_unicode::iterator::Utf8CharDecoder;
 use std::io;
 use std::io::Write;
 
 #[cfg(test)]
 mod tests;
-
-/// A piece of a slice of bytes: its offset from the front, the character or what is wrong with the
-/// byte, and its length in bytes.
-pub type Item = (usize, Result<Utf8Char, Utf8Error>, usize);
 
 /// Writes one line for each piece of the bytes, and answers how many of the pieces are errors.
 ///
@@ -32,46 +30,38 @@ pub fn write_listing<W: Write>(src: &[u8], out: &mut Counted<W>) -> io::Result<u
 {
     let mut faults = 0;
     for item in Utf8CharDecoder::from(src) {
-        put_whole(line_of(item).as_bytes(), out)?;
-        if item.1.is_err() {
-            faults += 1;
-        }
+        faults += write_entry(item, out)?;
     }
     Ok(faults)
 }
 
-// The line of a piece.
-#[inline(always)]
-fn line_of(item: Item) -> Line
-    ensures { result ≡ item_line item }
+/// Writes one line for each answer of a merger, and answers how many of them are errors.
+///
+/// A line is the scalar in six hexadecimal digits or the name of the error. No memory is taken, and after
+/// an error of the writer a front of the lines stands there, as with `write_listing`.
+pub fn write_merged<W: Write>(
+    results: &[Result<Utf8Char, Utf8Error>],
+    out: &mut Counted<W>,
+) -> io::Result<usize>
+    ensures lines { IfOk result (WritesMerged results.now (W.contents out.old.inner) (W.contents out.new.inner)) }
+    ensures front { AppendsFront (W.contents out.old.inner) (W.contents out.new.inner) (merged_lines results.now) }
+    ensures quiet { OnOk result (out.new.failures ≡ out.old.failures) }
+    ensures err { OnErr result (out.old.failures < out.new.failures) }
+    ensures unflushed { out.new.flushes ≡ out.old.flushes }
 {
-    let (place, answer, len) = item;
-    let mut line = Line::new();
-    line.push_decimal(place);
-    line.push(b' ');
-    line.push_decimal(len);
-    line.push(b' ');
-    match answer {
-        Ok(c) => line.push_hex(c.to_char() as u32),
-        Err(error) => line.push_text(name_of(error.kind()).as_bytes()),
-    }
-    line.push(b'\n');
-    line
+    write_entries(results, out)
 }
 
-// The name of a kind, as its variant is spelled.
-#[inline]
-fn name_of(kind: Utf8ErrorKind) -> &'static str
-    ensures name { result.now ≡ kind_name kind }
-    ensures short { length result.now ≤ 26 }
+/// Writes one line for each answer of a walk, and answers how many of them are errors.
+///
+/// A line is that of the piece as `write_listing` has it, or `none`, which is no error. No memory is
+/// taken, and after an error of the writer a front of the lines stands there, as with `write_listing`.
+pub fn write_walk<W: Write>(steps: &[Option<Item>], out: &mut Counted<W>) -> io::Result<usize>
+    ensures lines { IfOk result (WritesWalk steps.now (W.contents out.old.inner) (W.contents out.new.inner)) }
+    ensures front { AppendsFront (W.contents out.old.inner) (W.contents out.new.inner) (walk_lines steps.now) }
+    ensures quiet { OnOk result (out.new.failures ≡ out.old.failures) }
+    ensures err { OnErr result (out.old.failures < out.new.failures) }
+    ensures unflushed { out.new.flushes ≡ out.old.flushes }
 {
-    match kind {
-        Utf8ErrorKind::TooFewBytes => "TooFewBytes",
-        Utf8ErrorKind::NonUtf8Byte => "NonUtf8Byte",
-        Utf8ErrorKind::UnexpectedContinuationByte => "UnexpectedContinuationByte",
-        Utf8ErrorKind::InterruptedSequence => "InterruptedSequence",
-        Utf8ErrorKind::OverlongEncoding => "OverlongEncoding",
-        Utf8ErrorKind::Utf16ReservedCodepoint => "Utf16ReservedCodepoint",
-        Utf8ErrorKind::TooHighCodepoint => "TooHighCodepoint",
-    }
+    write_entries(steps, out)
 }

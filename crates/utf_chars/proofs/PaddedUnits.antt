@@ -125,15 +125,6 @@ scalar_by_second units s h e =
     (λ (p : AsPair units s). let second = p.second in (λ z. absurd (omega arith), λ some. value_of_pair units s p))
     (char_cases units s h e)
 
--- the scalar, by whether the first unit is a surrogate
-pub scalar_by_first : (units : List ℕ) (s : ℕ) → IsPadded utf16 2 unit_value units → unit_value units ≡ s
-    → (if is_surrogate (get_or units 0 0) then pair_value (get_or units 0 0) (get_or units 1 0) else get_or units 0 0) ≡ s
-scalar_by_first units s h e =
-    ⊎_elim
-    (λ (u : AsUnit units s). let plain : is_surrogate (get_or units 0 0) ≡ false = rw u.first u.plain in rw plain u.first)
-    (λ (p : AsPair units s). rw (surrogate_of_pair units s p) (value_of_pair units s p))
-    (char_cases units s h e)
-
 -- the code, by whether there is a second unit
 pub code_by_second : (units : List ℕ) (s : ℕ) → IsPadded utf16 2 unit_value units → unit_value units ≡ s
     → (get_or units 1 0 ≡ 0 → get_or units 0 0 ∷ [] ≡ utf16 s) × ((get_or units 1 0 ≡ 0 → ⊥) → get_or units 0 0 ∷ get_or units 1 0 ∷ [] ≡ utf16 s)

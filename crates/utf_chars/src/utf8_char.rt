@@ -9,22 +9,23 @@ ghost use Rattle.std.specs.Result.{OkIff};
 ghost use Rattle.std.specs.Str.{IsCharBoundary};
 ghost use Rattle.std.proofs.Common.{rules};
 ghost use Rattle.utf_base.specs.Scalar.{IsScalar};
+ghost use Rattle.utf_base.specs.Back.{DecodesEnd, decoded_end, IsWholeCode};
 ghost use Rattle.utf_base.specs.Code.{utf8};
 ghost use Rattle.utf_base.specs.Decoded.{decoded, decoded_bytes};
 ghost use Rattle.utf_base.specs.Front.{as_scalar, BeginsWith, DecodesFront, DecodesBytes, IsFrontLen};
-ghost use Rattle.utf_base.specs.Kinds.{value};
+ghost use Rattle.utf_base.specs.Kinds.{value, asked};
 ghost use Rattle.utf_chars.specs.Chars.{ascii_lowercase, ascii_uppercase, BeginsText, IsFrontCode};
 ghost use Rattle.utf_chars.specs.Chars.{first_of_text, parsed, Parses};
 ghost use Rattle.utf_chars.specs.Padded.{padded, IsPadded, HasRoom};
 
-use crate::codes::utf8;
+use crate::codes::{utf8, utf8_end};
 use crate::utf16_char::Utf16Char;
 use std::cmp::Ordering;
 use std::fmt;
 use std::hash::{Hash, Hasher};
 use std::marker::Model;
 use std::str::FromStr;
-use utf_base::errors::{EmptyStrError, FromStrError, NonAsciiError, Utf8Error};
+use utf_base::errors::{EmptyStrError, FromStrError, NonAsciiError, Utf8Error, Utf8ErrorKind};
 
 /// A Unicode scalar value, kept as its code in UTF-8. Contracts see it as the scalar.
 ///
@@ -71,10 +72,12 @@ impl Utf8Char {
         ensures len { IfOk result (λ x. IsFrontLen 4 src.now x.1) }
         ensures boundary { IfOk result (λ x. IsCharBoundary src.now x.1) }
     {
-        match Utf8Char::from_slice_start(src.as_bytes()) {
-            Ok(first) => Ok(first),
-            Err(_) => Err(EmptyStrError),
+        let bytes = src.as_bytes();
+        if bytes.is_empty() {
+            return Err(EmptyStrError);
         }
+        let len = code_len(bytes[0]);
+        Ok((Utf8Char::from_front(bytes, len), len))
     }
 
     /// The character whose code begins the bytes, and how many bytes the code has: 1 to 4.
@@ -110,6 +113,42 @@ impl Utf8Char {
         ensures len { IsFrontLen 4 src.now result.1 }
     {
         Utf8Char::from_slice_start(src).unwrap()
+    }
+
+    /// The character whose code ends the bytes, and how many bytes the code has: 1 to 4.
+    ///
+    /// Where no code ends them, the error is that of the last byte by itself: a continuation byte is
+    /// `UnexpectedContinuationByte`, one that begins a code of more bytes is `TooFewBytes`, and one that
+    /// no code has is `NonUtf8Byte`. No byte at all is `TooFewBytes`.
+    ///
+    /// No more than the last four bytes matter.
+    #[inline(always)]
+    pub fn from_slice_end(src: &[u8]) -> Result<(Utf8Char, usize), Utf8Error>
+        ensures decodes { DecodesEnd as_scalar src.now result }
+        ensures known { result ≡ decoded_end src.now }
+        ensures len { IfOk result (λ x. IsFrontLen 4 src.now x.1) }
+    {
+        if src.is_empty() {
+            return Err(Utf8Error::new(Utf8ErrorKind::TooFewBytes));
+        }
+        let len = utf8_end::followers_at_end(src) + 1;
+        if len <= src.len() {
+            if let Some(c) = Utf8Char::from_whole(&src[src.len() - len..]) {
+                return Ok((c, len));
+            }
+        }
+        Err(utf8_end::fault_of_last(src[src.len() - 1]))
+    }
+
+    // The character whose code all of the bytes are.
+    #[inline(always)]
+    fn from_whole(src: &[u8]) -> Option<Utf8Char>
+        ensures { IsWholeCode src.now result }
+    {
+        match Utf8Char::from_slice_start(src) {
+            Ok((c, len)) if len == src.len() => Some(c),
+            _ => None,
+        }
     }
 
     /// The character whose code begins the four bytes. Those behind the code are not kept.
@@ -171,6 +210,21 @@ fn front_array(src: &[u8], len: usize) -> [u8; 4]
     }
 }
 
+// How many bytes a code has that the byte begins.
+#[inline(always)]
+fn code_len(first: u8) -> usize
+    ensures asked { 0 < asked first → result ≡ asked first }
+    ensures least { 1 ≤ result }
+    ensures most { result ≤ 4 }
+{
+    match first {
+        0x00..=0x7f => 1,
+        0x80..=0xdf => 2,
+        0xe0..=0xef => 3,
+        _ => 4,
+    }
+}
+
 /// What a character is.
 impl Utf8Char {
     /// How many bytes the code has: 1 to 4.
@@ -180,12 +234,7 @@ impl Utf8Char {
         ensures least { 1 ≤ result }
         ensures most { result ≤ 4 }
     {
-        match self.bytes[0] {
-            0x00..=0x7f => 1,
-            0x80..=0xdf => 2,
-            0xe0..=0xef => 3,
-            _ => 4,
-        }
+        code_len(self.bytes[0])
     }
 
     /// Whether the scalar is below 128.
@@ -274,8 +323,36 @@ impl Utf8Char {
     {
         let _ = &self.bytes;
         let len = self.len();
-        dst[..len].copy_from_slice(self.as_bytes());
+        self.store(len, dst);
         len
+    }
+
+    // Writes the code, which has `len` bytes, to the front of the slice.
+    #[inline(always)]
+    fn store(self, len: usize, dst: &mut [u8])
+        requires len { len ≡ length (utf8 self) }
+        requires least { 1 ≤ len }
+        requires most { len ≤ 4 }
+        requires room { len ≤ length dst.old }
+        ensures { dst.new ≡ utf8 self ++ drop (length (utf8 self)) dst.old }
+    {
+        match len {
+            1 => self.store_by::<1>(dst),
+            2 => self.store_by::<2>(dst),
+            3 => self.store_by::<3>(dst),
+            _ => self.store_by::<4>(dst),
+        }
+    }
+
+    // The same where the compiler knows how many bytes there are: so no call copies them.
+    #[inline(always)]
+    fn store_by<const LEN: usize>(self, dst: &mut [u8])
+        requires len { LEN ≡ length (utf8 self) }
+        requires most { LEN ≤ 4 }
+        requires room { LEN ≤ length dst.old }
+        ensures { dst.new ≡ utf8 self ++ drop (length (utf8 self)) dst.old }
+    {
+        dst[..LEN].copy_from_slice(&self.bytes[..LEN]);
     }
 }
 

@@ -1,5 +1,7 @@
 use super::*;
 use crate::fakes::FakeWriter;
+use encode_unicode::error::Utf8ErrorKind;
+use std::alloc::Global;
 use std::io::ErrorKind;
 
 #[test]
@@ -77,4 +79,104 @@ fn a_failure_ends_the_listing(rt: HostRuntime) {
             assert!(rt; line.starts_with(written.as_slice()), "after {calls} calls");
         }
     }
+}
+
+fn character(c: char) -> Result<Utf8Char, Utf8Error> {
+    Ok(Utf8Char::new(c))
+}
+
+fn fault(kind: Utf8ErrorKind) -> Result<Utf8Char, Utf8Error> {
+    Err(Utf8Error::new(kind))
+}
+
+// What a merger answers over 61 62 00 e0 bc a9 20 f3 80 77.
+fn merged() -> [Result<Utf8Char, Utf8Error>; 8] {
+    [
+        character('a'),
+        character('b'),
+        character('\0'),
+        character('\u{f29}'),
+        character(' '),
+        fault(Utf8ErrorKind::InterruptedSequence),
+        fault(Utf8ErrorKind::UnexpectedContinuationByte),
+        character('w'),
+    ]
+}
+
+const MERGED: &str =
+    "000061\n000062\n000000\n000f29\n000020\nInterruptedSequence\nUnexpectedContinuationByte\n000077\n";
+
+// What e0 80 80 answers when it is asked front, back, front, front.
+fn walk() -> [Option<Item>; 4] {
+    [
+        Some((0, fault(Utf8ErrorKind::OverlongEncoding), 1)),
+        Some((2, fault(Utf8ErrorKind::UnexpectedContinuationByte), 1)),
+        Some((1, fault(Utf8ErrorKind::UnexpectedContinuationByte), 1)),
+        None,
+    ]
+}
+
+const WALK: &str =
+    "0 1 OverlongEncoding\n2 1 UnexpectedContinuationByte\n1 1 UnexpectedContinuationByte\nnone\n";
+
+#[test]
+fn merged_answers_have_their_lines(rt: HostRuntime) {
+    for (count, faults, len) in [(0, 0, 0), (5, 0, 35), (8, 2, 89)] {
+        let mut out = Counted::new(FakeWriter::ample(rt.alloc()));
+        assert_eq!(rt;
+            write_merged(&merged()[..count], &mut out).ok(),
+            Some(faults)
+        );
+        let writer = out.into_inner();
+        assert_eq!(rt; writer.bytes.as_slice(), &MERGED.as_bytes()[..len]);
+        assert_eq!(rt; writer.given.len(), count, "a call for each line");
+        assert_eq!(rt; writer.flushes, 0);
+    }
+}
+
+#[test]
+fn walks_have_their_lines(rt: HostRuntime) {
+    for (from, to, faults, lines) in [
+        (0, 0, 0, ""),
+        (3, 4, 0, "none\n"),
+        (2, 4, 1, "1 1 UnexpectedContinuationByte\nnone\n"),
+        (0, 4, 3, WALK),
+    ] {
+        let whole = walk();
+        let steps = &whole[..];
+        let mut out = Counted::new(FakeWriter::ample(rt.alloc()));
+        assert_eq!(rt; write_walk(&steps[from..to], &mut out).ok(), Some(faults));
+        let writer = out.into_inner();
+        assert_eq!(rt; writer.bytes.as_slice(), lines.as_bytes());
+        assert_eq!(rt; writer.given.len(), to - from, "a call for each line");
+        assert_eq!(rt; writer.flushes, 0);
+    }
+}
+
+#[test]
+fn a_failure_ends_the_lines(rt: HostRuntime) {
+    for (stalls, kind) in [(false, ErrorKind::BrokenPipe), (true, ErrorKind::WriteZero)] {
+        for calls in 0..8 {
+            let mut out = Counted::new(failing(rt.alloc(), calls, stalls));
+            let answer = write_merged(&merged(), &mut out);
+            assert_eq!(rt; answer.err().map(|e| e.kind()), Some(kind));
+            let writer = out.into_inner();
+            assert!(rt; MERGED.as_bytes().starts_with(writer.bytes.as_slice()));
+            assert_eq!(rt; writer.given.len(), calls as usize + 1);
+        }
+        for calls in 0..4 {
+            let mut out = Counted::new(failing(rt.alloc(), calls, stalls));
+            let answer = write_walk(&walk(), &mut out);
+            assert_eq!(rt; answer.err().map(|e| e.kind()), Some(kind));
+            let writer = out.into_inner();
+            assert!(rt; WALK.as_bytes().starts_with(writer.bytes.as_slice()));
+            assert_eq!(rt; writer.given.len(), calls as usize + 1);
+        }
+    }
+}
+
+fn failing(alloc: Global, calls: u32, stalls: bool) -> FakeWriter {
+    let mut writer = FakeWriter::failing(alloc, calls);
+    writer.stalls = stalls;
+    writer
 }
