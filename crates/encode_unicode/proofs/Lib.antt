@@ -1,3 +1,4 @@
+pub mod Collected
 pub mod ForCallers
 pub mod HintLemmas
 pub mod Joined

@@ -3,6 +3,7 @@ pub mod Window
 pub mod Scan
 pub mod Hints
 pub mod Sources
+pub mod Collections
 pub mod Mergers
 pub mod HeldWord
 pub mod Reading

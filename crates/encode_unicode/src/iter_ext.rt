@@ -1,12 +1,17 @@
 //! Methods of iterators over bytes, units and characters.
-ghost use Rattle.std.specs.Prelude.{◌≡◌};
+ghost use Rattle.std.specs.Prelude.{◌≡◌, [], List, ℕ, IfOk, IsOk, OnOk, OnErr, string_bytes};
+ghost use Rattle.std.specs.Iterator.{IsFinite};
+ghost use Rattle.utf_base.specs.Code.{utf8, utf16};
+ghost use Rattle.encode_unicode.specs.Collections.{AddsCodes, AddsFirstCodes};
 ghost use Rattle.encode_unicode.specs.Mergers.{unasked};
-ghost use Rattle.encode_unicode.specs.Sources.{unbegun};
+ghost use Rattle.encode_unicode.specs.Sources.{IsListed, unbegun};
 
+use crate::collecting::extend;
 use crate::utf8_merger::Utf8CharMerger;
 use crate::utf8_splitter::Utf8CharSplitter;
 use crate::utf16_merger::Utf16CharMerger;
 use crate::utf16_splitter::Utf16CharSplitter;
+use std::alloc::{AllocError, Allocator};
 use utf_chars::utf8_char::Utf8Char;
 use utf_chars::utf16_char::Utf16Char;
 
@@ -39,10 +44,46 @@ impl<I: Iterator<Item = u16>> U16IterExt for I {
 }
 
 /// Methods of every iterator over characters kept in UTF-8.
+///
+/// The calls that collect and extend ask that the source ends. They take room for one character at a time,
+/// and for its whole code, so that no part of a code stands behind the others where a growth is refused.
+/// What the source's hint says is not used.
 pub trait Utf8CharIterExt: Iterator<Item = Utf8Char> + Sized {
     /// The bytes of the characters, one code after another.
     fn to_bytes(self) -> Utf8CharSplitter<Self>
         ensures { result ≡ unbegun self };
+
+    /// The bytes of all characters. The error is that a growth was refused.
+    fn collect_bytes<A: Allocator>(self, alloc: A) -> Result<Vec<u8, A>, AllocError>
+        requires can { Self.can_next self }
+        requires ends { IsFinite (Self.remaining self) }
+        ensures ok { IfOk result (λ bytes. AddsCodes utf8 Self.next_gives self [] bytes.items) }
+        ensures nothing { (rest : Self → List ℕ) → IsListed Self.next_gives rest → rest self ≡ [] → IsOk result };
+
+    /// The text of all characters. The error is that a growth was refused.
+    fn collect_string<A: Allocator>(self, alloc: A) -> Result<String<A>, AllocError>
+        requires can { Self.can_next self }
+        requires ends { IsFinite (Self.remaining self) }
+        ensures ok { IfOk result (λ text. AddsCodes utf8 Self.next_gives self [] (string_bytes text)) }
+        ensures nothing { (rest : Self → List ℕ) → IsListed Self.next_gives rest → rest self ≡ [] → IsOk result };
+
+    /// Adds the bytes of all characters behind those that are there. Where a growth is refused, the
+    /// characters before it have been added, and the source is gone.
+    fn extend_bytes<A: Allocator>(self, bytes: &mut Vec<u8, A>) -> Result<(), AllocError>
+        requires can { Self.can_next self }
+        requires ends { IsFinite (Self.remaining self) }
+        ensures ok { OnOk result (AddsCodes utf8 Self.next_gives self bytes.old.items bytes.new.items) }
+        ensures err { OnErr result (AddsFirstCodes utf8 Self.next_gives self bytes.old.items bytes.new.items) }
+        ensures nothing { (rest : Self → List ℕ) → IsListed Self.next_gives rest → rest self ≡ [] → IsOk result };
+
+    /// Adds all characters to the text. Where a growth is refused, those before it have been added, and
+    /// the source is gone.
+    fn extend_string<A: Allocator>(self, text: &mut String<A>) -> Result<(), AllocError>
+        requires can { Self.can_next self }
+        requires ends { IsFinite (Self.remaining self) }
+        ensures ok { OnOk result (AddsCodes utf8 Self.next_gives self (string_bytes text.old) (string_bytes text.new)) }
+        ensures err { OnErr result (AddsFirstCodes utf8 Self.next_gives self (string_bytes text.old) (string_bytes text.new)) }
+        ensures nothing { (rest : Self → List ℕ) → IsListed Self.next_gives rest → rest self ≡ [] → IsOk result };
 }
 
 impl<I: Iterator<Item = Utf8Char>> Utf8CharIterExt for I {
@@ -50,18 +91,102 @@ impl<I: Iterator<Item = Utf8Char>> Utf8CharIterExt for I {
     fn to_bytes(self) -> Utf8CharSplitter<I> {
         Utf8CharSplitter::from(self)
     }
+
+    #[inline]
+    fn collect_bytes<A: Allocator>(self, alloc: A) -> Result<Vec<u8, A>, AllocError> {
+        let mut bytes = Vec::new(alloc);
+        extend(self, &mut bytes)?;
+        Ok(bytes)
+    }
+
+    #[inline]
+    fn collect_string<A: Allocator>(self, alloc: A) -> Result<String<A>, AllocError> {
+        let mut text = String::new(alloc);
+        extend(self, &mut text)?;
+        Ok(text)
+    }
+
+    #[inline]
+    fn extend_bytes<A: Allocator>(self, bytes: &mut Vec<u8, A>) -> Result<(), AllocError> {
+        extend(self, bytes)
+    }
+
+    #[inline]
+    fn extend_string<A: Allocator>(self, text: &mut String<A>) -> Result<(), AllocError> {
+        extend(self, text)
+    }
 }
 
 /// Methods of every iterator over characters kept in UTF-16.
+///
+/// The calls that collect and extend ask that the source ends. They take room for one character at a time,
+/// and for its whole code, so that no part of a code stands behind the others where a growth is refused.
+/// What the source's hint says is not used.
 pub trait Utf16CharIterExt: Iterator<Item = Utf16Char> + Sized {
     /// The units of the characters, one code after another.
     fn to_units(self) -> Utf16CharSplitter<Self>
         ensures { result ≡ unbegun self };
+
+    /// The units of all characters. The error is that a growth was refused.
+    fn collect_units<A: Allocator>(self, alloc: A) -> Result<Vec<u16, A>, AllocError>
+        requires can { Self.can_next self }
+        requires ends { IsFinite (Self.remaining self) }
+        ensures ok { IfOk result (λ units. AddsCodes utf16 Self.next_gives self [] units.items) }
+        ensures nothing { (rest : Self → List ℕ) → IsListed Self.next_gives rest → rest self ≡ [] → IsOk result };
+
+    /// The string of all characters. The error is that a growth was refused.
+    fn collect_string<A: Allocator>(self, alloc: A) -> Result<String<A>, AllocError>
+        requires can { Self.can_next self }
+        requires ends { IsFinite (Self.remaining self) }
+        ensures ok { IfOk result (λ string. AddsCodes utf8 Self.next_gives self [] (string_bytes string)) }
+        ensures nothing { (rest : Self → List ℕ) → IsListed Self.next_gives rest → rest self ≡ [] → IsOk result };
+
+    /// Adds the units of all characters behind those that are there. Where a growth is refused, the
+    /// characters before it have been added, and the source is gone.
+    fn extend_units<A: Allocator>(self, units: &mut Vec<u16, A>) -> Result<(), AllocError>
+        requires can { Self.can_next self }
+        requires ends { IsFinite (Self.remaining self) }
+        ensures ok { OnOk result (AddsCodes utf16 Self.next_gives self units.old.items units.new.items) }
+        ensures err { OnErr result (AddsFirstCodes utf16 Self.next_gives self units.old.items units.new.items) }
+        ensures nothing { (rest : Self → List ℕ) → IsListed Self.next_gives rest → rest self ≡ [] → IsOk result };
+
+    /// Adds all characters to the string. Where a growth is refused, those before it have been added, and
+    /// the source is gone.
+    fn extend_string<A: Allocator>(self, string: &mut String<A>) -> Result<(), AllocError>
+        requires can { Self.can_next self }
+        requires ends { IsFinite (Self.remaining self) }
+        ensures ok { OnOk result (AddsCodes utf8 Self.next_gives self (string_bytes string.old) (string_bytes string.new)) }
+        ensures err { OnErr result (AddsFirstCodes utf8 Self.next_gives self (string_bytes string.old) (string_bytes string.new)) }
+        ensures nothing { (rest : Self → List ℕ) → IsListed Self.next_gives rest → rest self ≡ [] → IsOk result };
 }
 
 impl<I: Iterator<Item = Utf16Char>> Utf16CharIterExt for I {
     #[inline]
     fn to_units(self) -> Utf16CharSplitter<I> {
         Utf16CharSplitter::from(self)
+    }
+
+    #[inline]
+    fn collect_units<A: Allocator>(self, alloc: A) -> Result<Vec<u16, A>, AllocError> {
+        let mut units = Vec::new(alloc);
+        extend(self, &mut units)?;
+        Ok(units)
+    }
+
+    #[inline]
+    fn collect_string<A: Allocator>(self, alloc: A) -> Result<String<A>, AllocError> {
+        let mut string = String::new(alloc);
+        extend(self, &mut string)?;
+        Ok(string)
+    }
+
+    #[inline]
+    fn extend_units<A: Allocator>(self, units: &mut Vec<u16, A>) -> Result<(), AllocError> {
+        extend(self, units)
+    }
+
+    #[inline]
+    fn extend_string<A: Allocator>(self, string: &mut String<A>) -> Result<(), AllocError> {
+        extend(self, string)
     }
 }

@@ -3,6 +3,7 @@
 //! The errors stand in `error`, the iterators in `iterator`, and the rest at the top.
 #![tactic(auto)]
 
+mod collecting;
 mod decoding_iterators;
 mod held_bytes;
 mod held_unit;

@@ -1,0 +1,35 @@
+-- Items that are taken from a source one by one, and whose codes are added.
+use Rattle.std.proofs.Common.{◌≡◌, ◌+◌, ◌<◌, List, [], ◌∷◌, ◌++◌, length, take, ap, sym, ◌∙◌, arith, length-append, append_assoc, append-nil}
+use Rattle.std.proofs.Math.Seq.{take-append_seam}
+use Rattle.std.specs.List.{flat_map}
+use Rattle.encode_unicode.specs.Collections.{AddsFewer}
+
+-- one item more is taken
+pub one_more : {A : Type 0} (all taken left later : List A) (x : A) → all ≡ taken ++ left → left ≡ x ∷ later → all ≡ (taken ++ x ∷ []) ++ later
+one_more all taken left later x is first = is ∙ ap (λ ys. taken ++ ys) first ∙ sym (append_assoc taken (x ∷ []) later)
+
+-- none is left
+pub none_left : {A : Type 0} (all taken left : List A) → all ≡ taken ++ left → left ≡ [] → all ≡ taken
+none_left all taken left is none = is ∙ ap (λ ys. taken ++ ys) none ∙ append-nil taken
+
+-- one is left, so the taken ones are fewer than all
+fewer : {A : Type 0} (all taken left later : List A) (x : A) → all ≡ taken ++ left → left ≡ x ∷ later → length taken < length all
+fewer all taken left later x is first =
+    let len : length all ≡ length taken + length left = ap length is ∙ length-append taken left in
+    let some = ap length first in
+    omega arith
+
+-- then there are some
+pub not_none : {A : Type 0} (all taken left later : List A) (x : A) → all ≡ taken ++ left → left ≡ x ∷ later → all ≡ [] → ⊥
+not_none all taken left later x is first none =
+    let some = fewer all taken left later x is first in
+    let zero : length all ≡ 0 = ap length none in
+    absurd (omega arith)
+
+-- the codes of the taken ones have been added, and one is left
+pub first_added : {A B : Type 0} (code : A → List B) (all taken left later : List A) (x : A) (old new : List B) → all ≡ taken ++ left → left ≡ x ∷ later → new ≡ old ++ flat_map code taken → AddsFewer code all old new
+first_added code all taken left later x old new is first added = record {
+  count = length taken;
+  fewer = fewer all taken left later x is first;
+  added = added ∙ ap (λ ys. old ++ flat_map code ys) (sym (ap (take (length taken)) is ∙ take-append_seam taken left));
+}

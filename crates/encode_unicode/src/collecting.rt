@@ -1,0 +1,89 @@
+//! Characters added to what holds their codes, each whole or not at all.
+ghost use Rattle.std.specs.Prelude.{◌≡◌, ◌++◌, [], List, ℕ, OnOk, OnErr, IsOk, string_bytes};
+ghost use Rattle.std.specs.Iterator.{IsFinite};
+ghost use Rattle.utf_base.specs.Code.{utf8, utf16};
+ghost use Rattle.encode_unicode.specs.Sources.{IsListed};
+ghost use Rattle.encode_unicode.specs.Collections.{AddsCodes, AddsFirstCodes};
+
+use std::alloc::{AllocError, Allocator};
+use utf_chars::utf8_char::Utf8Char;
+use utf_chars::utf16_char::Utf16Char;
+
+/// What holds the codes of characters: bytes, units or a text.
+pub(crate) trait HoldsCodes<C> {
+    ghost use Rattle.std.specs.Prelude.{List, ℕ};
+
+    /// The elements that it holds.
+    ghost held: { Self → List ℕ };
+
+    /// The elements that a character is.
+    ghost code: { C → List ℕ };
+
+    /// Adds the character. Room is taken for the whole code before its first element, so that a refusal
+    /// leaves what was there.
+    fn add(&mut self, c: C) -> Result<(), AllocError>
+        ensures ok { OnOk result (held self.new ≡ held self.old ++ code c) }
+        ensures err { OnErr result (held self.new ≡ held self.old) };
+}
+
+impl<A: Allocator> HoldsCodes<Utf8Char> for Vec<u8, A> {
+    ghost held = { λ bytes. bytes.items };
+
+    ghost code = { utf8 };
+
+    #[inline(always)]
+    fn add(&mut self, c: Utf8Char) -> Result<(), AllocError> {
+        self.extend_from_slice(c.as_bytes())
+    }
+}
+
+impl<A: Allocator> HoldsCodes<Utf8Char> for String<A> {
+    ghost held = { string_bytes };
+
+    ghost code = { utf8 };
+
+    #[inline(always)]
+    fn add(&mut self, c: Utf8Char) -> Result<(), AllocError> {
+        self.push_str(c.as_str())
+    }
+}
+
+impl<A: Allocator> HoldsCodes<Utf16Char> for Vec<u16, A> {
+    ghost held = { λ units. units.items };
+
+    ghost code = { utf16 };
+
+    #[inline(always)]
+    fn add(&mut self, c: Utf16Char) -> Result<(), AllocError> {
+        self.extend_from_slice(c.as_units())
+    }
+}
+
+impl<A: Allocator> HoldsCodes<Utf16Char> for String<A> {
+    ghost held = { string_bytes };
+
+    ghost code = { utf8 };
+
+    #[inline(always)]
+    fn add(&mut self, c: Utf16Char) -> Result<(), AllocError> {
+        HoldsCodes::add(self, Utf8Char::from(c))
+    }
+}
+
+/// Adds the characters of the source, one after another, up to the first that is refused.
+#[inline(always)]
+pub(crate) fn extend<C, I: Iterator<Item = C>, T: HoldsCodes<C>>(
+    source: I,
+    out: &mut T,
+) -> Result<(), AllocError>
+    requires can { I.can_next source }
+    requires ends { IsFinite (I.remaining source) }
+    ensures ok { OnOk result (AddsCodes T.code I.next_gives source (T.held out.old) (T.held out.new)) }
+    ensures err { OnErr result (AddsFirstCodes T.code I.next_gives source (T.held out.old) (T.held out.new)) }
+    ensures nothing { (rest : I → List C) → IsListed I.next_gives rest → rest source ≡ [] → IsOk result }
+{
+    for c in source {
+        out.add(c)?;
+    }
+    Ok(())
+}
