@@ -1,8 +1,8 @@
 -- A run of a merger, one answer after another: from the contract of one call and the laws of cuts alone.
-use Rattle.std.proofs.Common.{◌≡◌, ℕ, suc, ◌+◌, ◌-◌, ◌<◌, ◌≤◌, List, [], ◌∷◌, ◌++◌, length, drop, take, map, refl, ap, sym, ◌∙◌, arith, Option, Some, None, Ok, Err, Result, length-append}
+use Rattle.std.proofs.Common.{◌≡◌, ℕ, suc, ◌+◌, ◌-◌, ◌<◌, List, [], ◌∷◌, ◌++◌, length, drop, refl, ap, sym, ◌∙◌, arith, Option, Some, None, Ok, Err, Result, length-append}
 use Rattle.std.proofs.lemmas.Grind.{common_steps}
 use Rattle.std.proofs.lemmas.List.{map-append, take_rest, drop_at, drop-drop}
-use Rattle.std.specs.Prelude.{slice_range, slice_index}
+use Rattle.std.specs.Prelude.{slice_range}
 use Rattle.utf_base.specs.declared.errors.Utf8ErrorKind.{Utf8ErrorKind}
 use Rattle.utf_base.specs.declared.errors.units.Utf16PairError.{Utf16PairError}
 use Rattle.utf_base.specs.Code.{IsCode, utf8, utf16}
@@ -17,7 +17,7 @@ use Rattle.utf_base.proofs.Utf8Code.{utf8_is_code}
 use Rattle.utf_base.proofs.Utf16Code.{utf16_is_code}
 use Rattle.encode_unicode.specs.Mergers.{TakesFront}
 use Rattle.encode_unicode.specs.Window.{Placed, UnitItem, IsFrontOf}
-use Rattle.cuts.specs.Items.{IsRun, answers_of}
+use Rattle.cuts.specs.Items.{answers_of}
 use Rattle.cuts.specs.Collected.{IsMergedRun, IsJoinedExactly, IsUnitRun}
 use Rattle.cuts.proofs.PieceRuns.{Excludes, IsRunTo, IsRunTo-none, IsRunTo-push, IsRun-all}
 use Rattle.cuts.proofs.RunLaws.{run_unique, run_of_joined, joined_of_run}
