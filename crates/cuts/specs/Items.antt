@@ -1,8 +1,7 @@
 -- Whole runs: items that are the pieces of a list's cut, in order. All of it is generic in the code.
 use Rattle.std.specs.Prelude.{◌≡◌, ℕ, List, map, drop, All, Option, Some, Result, IfErr}
 use Rattle.utf_base.specs.Piece.{IsCut}
-pub use Rattle.utf_base.specs.Walk.{piece_of}
-use Rattle.encode_unicode.specs.Window.{Placed}
+pub use Rattle.utf_base.specs.Walk.{Placed, piece_of}
 
 -- an error is the kind of the elements from its place on
 abbrev pub HasKind : {E : Type 0} → (List ℕ → Option E) → List ℕ → Placed E → Type 0

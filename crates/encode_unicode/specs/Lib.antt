@@ -21,6 +21,8 @@ pub use Rattle.utf_base.specs.Decoded
 pub use Rattle.utf_base.specs.Texts
 pub use Rattle.utf_base.specs.CutLaws
 pub use Rattle.utf_base.specs.KindLaws
+pub use Rattle.utf_base.specs.Walk
+pub use Rattle.utf_base.specs.WalkLaws
 pub use Rattle.utf_chars.specs.Chars
 pub use Rattle.utf_chars.specs.Padded
 pub use Rattle.utf_chars.specs.FormLaws

@@ -9,6 +9,7 @@ use Rattle.utf_base.specs.Front.{BeginsWith, IsFrontLen}
 use Rattle.utf_base.specs.Kinds.{fault_kind, back_kind}
 use Rattle.utf_base.specs.declared.errors.units.Utf16PairError.{Utf16PairError}
 use Rattle.utf_base.specs.Units.{unit_fault_kind}
+pub use Rattle.utf_base.specs.Walk.{Placed}
 
 -- the part of a slice from the place `front` up to and without the place `back`
 pub record Window : Type 0 where
@@ -32,11 +33,7 @@ without_front w n = record w { front = w.front + n }
 abbrev pub without_back : Window → ℕ → Window
 without_back w n = record w { back = w.back - n }
 
--- the place of a piece, its scalar or what is wrong, and its length
-abbrev pub Placed : Type 0 → Type 0
-Placed E = ℕ × Result ℕ E × ℕ
-
--- the same of bytes, and of units
+-- what a decoder of bytes answers, and one of units
 abbrev pub Item : Type 0
 Item = Placed Utf8ErrorKind
 

@@ -7,7 +7,7 @@ use Rattle.std.specs.Prelude.{All, AllPairs, Contains, IsPermutation}
 use Rattle.std.specs.Result.{result_ok}
 use Rattle.utf_base.specs.Code.{IsCode}
 use Rattle.utf_base.specs.Piece.{Piece, IsPiece, IsCut, IsCutBetween, end_of}
-use Rattle.utf_base.specs.Walk.{Encoding, Side, from_front, from_back, Answer, piece_of, Walks, answered}
+use Rattle.utf_base.specs.Walk.{Encoding, Side, from_front, from_back, Placed, piece_of, Walks, answered}
 use Rattle.utf_base.specs.WalkLaws.{WalkGivesEachOnce}
 use Rattle.utf_base.proofs.Cuts.{piece_some, cut_none, cut_one, cut_append, cut_unique}
 use Rattle.utf_base.proofs.Walks.{IsOpen, open_whole, open_front, open_back, stays_open}
@@ -52,7 +52,7 @@ gathers_back code c xs i j k l x ps h e g =
     }
 
 module _ {E : Type 0} where
-  gathers : (e : Encoding E) → IsCode e.code → (xs : List ℕ) (i j : ℕ) (word : List Side) (answers : List (Option (Answer E))) (k l : ℕ)
+  gathers : (e : Encoding E) → IsCode e.code → (xs : List ℕ) (i j : ℕ) (word : List Side) (answers : List (Option (Placed E))) (k l : ℕ)
       → Walks e xs i j word answers k l → Gathers e.code xs i j k l (answered answers)
   gathers e c xs i j [] [] k l w = rw (w.0, w.1) (record {
     fronts = [];
@@ -72,7 +72,7 @@ module _ {E : Type 0} where
       gathers_back e.code c xs i j k l (piece_of x) (answered answers) w.0.piece w.0.ends (gathers e c xs i x.0 word answers k l w.1)
 
   -- the pieces that a walk answers are within its first window
-  all_within : (e : Encoding E) → IsCode e.code → (xs : List ℕ) (i j : ℕ) (word : List Side) (answers : List (Option (Answer E))) (k l : ℕ)
+  all_within : (e : Encoding E) → IsCode e.code → (xs : List ℕ) (i j : ℕ) (word : List Side) (answers : List (Option (Placed E))) (k l : ℕ)
       → IsOpen e.code xs i j → Walks e xs i j word answers k l → All (λ p. IsPiece e.code xs p × (i ≤ p.start) × (p.start < j)) (answered answers)
   all_within e c xs i j word answers k l o w =
       let g = gathers e c xs i j word answers k l w in
@@ -85,7 +85,7 @@ module _ {E : Type 0} where
       (λ n d lt. let h = g.fronts_cut.pieces n d lt in (h.0, h.1, omega (arith, h.2)))
       (λ n d lt. let h = g.backs_cut.pieces n d lt in (h.0, omega (arith, h.1), h.2)))
 
-  each_once : (e : Encoding E) → IsCode e.code → (xs : List ℕ) (i j : ℕ) (word : List Side) (answers : List (Option (Answer E))) (k l : ℕ)
+  each_once : (e : Encoding E) → IsCode e.code → (xs : List ℕ) (i j : ℕ) (word : List Side) (answers : List (Option (Placed E))) (k l : ℕ)
       → IsOpen e.code xs i j → Walks e xs i j word answers k l → AllPairs (λ x y. x ≢ y) (answered answers)
   each_once e c xs i j [] [] k l o w = λ m n d lt h. absurd (omega arith)
   each_once e c xs i j [] (a ∷ answers) k l o w = absurd w
@@ -107,7 +107,7 @@ module _ {E : Type 0} where
 
   -- where there was no piece the window is empty, and stays so
 
-  empty_stays : (e : Encoding E) (xs : List ℕ) (i j : ℕ) (word : List Side) (answers : List (Option (Answer E))) (k l : ℕ)
+  empty_stays : (e : Encoding E) (xs : List ℕ) (i j : ℕ) (word : List Side) (answers : List (Option (Placed E))) (k l : ℕ)
       → i ≡ j → Walks e xs i j word answers k l → k ≡ l
   empty_stays e xs i j [] [] k l none w = w.0 ∙ none ∙ sym w.1
   empty_stays e xs i j [] (a ∷ answers) k l none w = absurd w
@@ -116,7 +116,7 @@ module _ {E : Type 0} where
   empty_stays e xs i j (from_front ∷ word) (Some x ∷ answers) k l none w = let some = w.0.some in absurd (omega arith)
   empty_stays e xs i j (from_back ∷ word) (Some x ∷ answers) k l none w = let some = w.0.some in absurd (omega arith)
 
-  none_left : (e : Encoding E) (xs : List ℕ) (i j : ℕ) (word : List Side) (answers : List (Option (Answer E))) (k l : ℕ)
+  none_left : (e : Encoding E) (xs : List ℕ) (i j : ℕ) (word : List Side) (answers : List (Option (Placed E))) (k l : ℕ)
       → Walks e xs i j word answers k l → Contains answers None → k ≡ l
   none_left e xs i j [] [] k l w (n, lt, is) = absurd (omega arith)
   none_left e xs i j [] (a ∷ answers) k l w h = absurd w
@@ -126,7 +126,7 @@ module _ {E : Type 0} where
   none_left e xs i j (from_front ∷ word) (Some x ∷ answers) k l w (suc n, lt, is) = none_left e xs (x.0 + x.2) j word answers k l w.1 (n, omega arith, is)
   none_left e xs i j (from_back ∷ word) (Some x ∷ answers) k l w (suc n, lt, is) = none_left e xs i x.0 word answers k l w.1 (n, omega arith, is)
 
-  all_answered : (e : Encoding E) → IsCode e.code → (xs : List ℕ) (answers : List (Option (Answer E))) (k l : ℕ) (ps : List Piece)
+  all_answered : (e : Encoding E) → IsCode e.code → (xs : List ℕ) (answers : List (Option (Placed E))) (k l : ℕ) (ps : List Piece)
       → k ≡ l → Gathers e.code xs 0 (length xs) k l (answered answers) → IsCut e.code xs ps → IsPermutation (answered answers) ps
   all_answered e c xs answers k l ps none g h =
       let whole = cut_append e.code xs 0 k (length xs) g.fronts g.backs g.up (rw none g.down) g.fronts_cut (rw none g.backs_cut) in

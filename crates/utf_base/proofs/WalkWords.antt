@@ -5,7 +5,7 @@ use Rattle.std.specs.Prelude.{slice_range, All}
 use Rattle.utf_base.specs.Code.{IsCode}
 use Rattle.utf_base.specs.CutLaws.{Follow}
 use Rattle.utf_base.specs.Piece.{Stands, Inside, Piece, IsPieceAt, IsPiece, end_of}
-use Rattle.utf_base.specs.Walk.{Encoding, Side, from_front, from_back, Answer, AnswersFront, AnswersBack, Walks, IsWalk}
+use Rattle.utf_base.specs.Walk.{Encoding, Side, from_front, from_back, Placed, AnswersFront, AnswersBack, Walks, IsWalk}
 use Rattle.utf_base.proofs.Cuts.{Finds, piece_begins, cut_exists, cuts_follow}
 use Rattle.utf_base.proofs.Standing.{stands_in_whole}
 use Rattle.utf_base.proofs.Walks.{IsOpen, open_whole, open_front, open_back, piece_over}
@@ -38,7 +38,7 @@ HasKinds {E} e xs =
 
 module _ {E : Type 0} where
   front_answer : (e : Encoding E) → IsCode e.code → (xs : List ℕ) → HasKinds e xs → (i j : ℕ) → i < j → j ≤ length xs → (p n : ℕ) (a : Option ℕ)
-      → IsPieceAt e.code xs p n a → p ≡ i → (x : Answer E) × AnswersFront e xs i j x
+      → IsPieceAt e.code xs p n a → p ≡ i → (x : Placed E) × AnswersFront e xs i j x
   front_answer e c xs judge i j lt le p n (Some s) h begins = ((p, Ok s, n), record { some = lt; piece = h; begins = begins; kind = tt })
   front_answer e c xs judge i j lt le p n None h begins =
       let k = judge i j lt le (λ s st.
@@ -47,12 +47,12 @@ module _ {E : Type 0} where
       ((p, Err k.0, n), record { some = lt; piece = h; begins = begins; kind = k.1 })
 
   back_answer : (e : Encoding E) (xs : List ℕ) (i j : ℕ) → i < j → (p n : ℕ) (a : Option ℕ)
-      → IsPieceAt e.code xs p n a → p + n ≡ j → (x : Answer E) × AnswersBack e xs i j x
+      → IsPieceAt e.code xs p n a → p + n ≡ j → (x : Placed E) × AnswersBack e xs i j x
   back_answer e xs i j lt p n (Some s) h ends = ((p, Ok s, n), record { some = lt; piece = h; ends = ends; kind = tt })
   back_answer e xs i j lt p n None h ends = ((p, Err (e.backward _), n), record { some = lt; piece = h; ends = ends; kind = refl })
 
   record HasWalk (e : Encoding E) (xs : List ℕ) (i j : ℕ) (word : List Side) : Type 0 where
-    pub answers : List (Option (Answer E))
+    pub answers : List (Option (Placed E))
     pub front : ℕ
     pub back : ℕ
     pub walks : Walks e xs i j word answers front back
@@ -82,7 +82,7 @@ module _ {E : Type 0} where
       (cases_lt i j)
 
   pub walk_exists : (e : Encoding E) → IsCode e.code → Finds e.code → (xs : List ℕ) → HasKinds e xs → (word : List Side)
-      → (answers : List (Option (Answer E))) × IsWalk e xs word answers
+      → (answers : List (Option (Placed E))) × IsWalk e xs word answers
   walk_exists e c find xs judge word =
       let w = has_walk e c find xs judge word 0 (length xs) (open_whole e.code xs) in
       (w.answers, record { front = w.front; back = w.back; walks = w.walks })

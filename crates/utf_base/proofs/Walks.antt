@@ -5,7 +5,7 @@ use Rattle.std.specs.Prelude.{slice_range, IfErr}
 use Rattle.std.specs.Result.{result_ok}
 use Rattle.utf_base.specs.Code.{IsCode}
 use Rattle.utf_base.specs.Piece.{Inside, IsPieceAt}
-use Rattle.utf_base.specs.Walk.{Encoding, Side, from_front, from_back, Answer, piece_of, AnswersFront, AnswersBack, Walks}
+use Rattle.utf_base.specs.Walk.{Encoding, Side, from_front, from_back, Placed, piece_of, AnswersFront, AnswersBack, Walks}
 use Rattle.utf_base.specs.WalkLaws.{WalkIsUnique, WalkStaysOutside}
 use Rattle.utf_base.proofs.Cuts.{one_piece_begins, one_piece_ends}
 use Rattle.utf_base.proofs.Standing.{not_inside, outside_after, outside_end, outside_front}
@@ -42,7 +42,7 @@ open_whole code xs = record { ordered = omega arith; within = omega arith; front
 module _ {E : Type 0} where
   -- One answer takes its piece off such a window and leaves one.
 
-  pub open_front : (e : Encoding E) → IsCode e.code → (xs : List ℕ) (i j : ℕ) (x : Answer E) → IsOpen e.code xs i j → AnswersFront e xs i j x
+  pub open_front : (e : Encoding E) → IsCode e.code → (xs : List ℕ) (i j : ℕ) (x : Placed E) → IsOpen e.code xs i j → AnswersFront e xs i j x
       → IsOpen e.code xs (x.0 + x.2) j
   open_front e c xs i j x o a =
       let some = a.some in
@@ -54,7 +54,7 @@ module _ {E : Type 0} where
         back = o.back;
       }
 
-  pub open_back : (e : Encoding E) → IsCode e.code → (xs : List ℕ) (i j : ℕ) (x : Answer E) → IsOpen e.code xs i j → AnswersBack e xs i j x
+  pub open_back : (e : Encoding E) → IsCode e.code → (xs : List ℕ) (i j : ℕ) (x : Placed E) → IsOpen e.code xs i j → AnswersBack e xs i j x
       → IsOpen e.code xs i x.0
   open_back e c xs i j x o a =
       let some = a.some in
@@ -70,7 +70,7 @@ module _ {E : Type 0} where
         back = piece_front e.code c xs x.0 x.2 (result_ok x.1) a.piece;
       }
 
-  pub stays_open : (e : Encoding E) → IsCode e.code → (xs : List ℕ) (i j : ℕ) (word : List Side) (answers : List (Option (Answer E))) (k l : ℕ)
+  pub stays_open : (e : Encoding E) → IsCode e.code → (xs : List ℕ) (i j : ℕ) (word : List Side) (answers : List (Option (Placed E))) (k l : ℕ)
       → IsOpen e.code xs i j → Walks e xs i j word answers k l → IsOpen e.code xs k l
   stays_open e c xs i j [] [] k l o w = rw (w.0, w.1) o
   stays_open e c xs i j [] (a ∷ answers) k l o w = absurd w
@@ -80,12 +80,12 @@ module _ {E : Type 0} where
   stays_open e c xs i j (from_back ∷ word) (Some x ∷ answers) k l o w = stays_open e c xs i x.0 word answers k l (open_back e c xs i j x o w.0) w.1
 
   -- the walk of the first letters
-  record Reaches (e : Encoding E) (xs : List ℕ) (i j : ℕ) (word : List Side) (answers : List (Option (Answer E))) : Type 0 where
+  record Reaches (e : Encoding E) (xs : List ℕ) (i j : ℕ) (word : List Side) (answers : List (Option (Placed E))) : Type 0 where
     pub front : ℕ
     pub back : ℕ
     pub walks : Walks e xs i j word answers front back
 
-  first_letters : (e : Encoding E) (xs : List ℕ) (n i j : ℕ) (word : List Side) (answers : List (Option (Answer E))) (k l : ℕ)
+  first_letters : (e : Encoding E) (xs : List ℕ) (n i j : ℕ) (word : List Side) (answers : List (Option (Placed E))) (k l : ℕ)
       → Walks e xs i j word answers k l → Reaches e xs i j (take n word) (take n answers)
   first_letters e xs zero i j word answers k l w = record { front = i; back = j; walks = (refl, refl) }
   first_letters e xs (suc n) i j [] [] k l w = record { front = i; back = j; walks = (refl, refl) }
@@ -108,7 +108,7 @@ module _ {E : Type 0} where
       (record { front = r.front; back = r.back; walks = r.walks }, o.ordered, o.front, o.back)
 
   -- one walk after another
-  pub Walks-append : (e : Encoding E) (xs : List ℕ) (i j : ℕ) (word : List Side) (answers : List (Option (Answer E))) (k l : ℕ) (more : List Side) (others : List (Option (Answer E))) (m n : ℕ)
+  pub Walks-append : (e : Encoding E) (xs : List ℕ) (i j : ℕ) (word : List Side) (answers : List (Option (Placed E))) (k l : ℕ) (more : List Side) (others : List (Option (Placed E))) (m n : ℕ)
       → Walks e xs i j word answers k l → Walks e xs k l more others m n → Walks e xs i j (word ++ more) (answers ++ others) m n
   Walks-append e xs i j [] [] k l more others m n w v = rw (← w.0, ← w.1) v
   Walks-append e xs i j [] (a ∷ answers) k l more others m n w v = absurd w
@@ -129,21 +129,21 @@ module _ {E : Type 0} where
   as_some (Ok s) k h = tt
   as_some (Err a) k h = ap Some h
 
-  same_answer : (x y : Answer E) (k : Option E) → piece_of x ≡ piece_of y → IfErr x.1 (λ a. k ≡ Some a) → IfErr y.1 (λ a. k ≡ Some a) → x ≡ y
+  same_answer : (x y : Placed E) (k : Option E) → piece_of x ≡ piece_of y → IfErr x.1 (λ a. k ≡ Some a) → IfErr y.1 (λ a. k ≡ Some a) → x ≡ y
   same_answer x y k e h g =
       let place : x.0 ≡ y.0 = ap (λ p. p.start) e in
       let len : x.2 ≡ y.2 = ap (λ p. p.len) e in
       let result : x.1 ≡ y.1 = same_result x.1 y.1 k (ap (λ p. p.char) e) h g in
       ap (λ p. (p, x.1, x.2)) place ∙ ap (λ r. (y.0, r, x.2)) result ∙ ap (λ n. (y.0, y.1, n)) len
 
-  same_front : (e : Encoding E) → IsCode e.code → (xs : List ℕ) (i j : ℕ) (x y : Answer E) → AnswersFront e xs i j x → AnswersFront e xs i j y → x ≡ y
+  same_front : (e : Encoding E) → IsCode e.code → (xs : List ℕ) (i j : ℕ) (x y : Placed E) → AnswersFront e xs i j x → AnswersFront e xs i j y → x ≡ y
   same_front e c xs i j x y a b = same_answer x y (e.forward (slice_range xs i j)) (one_piece_begins e.code c xs (piece_of x) (piece_of y) a.piece b.piece (a.begins ∙ sym b.begins)) a.kind b.kind
 
-  same_back : (e : Encoding E) → IsCode e.code → (xs : List ℕ) (i j : ℕ) (x y : Answer E) → AnswersBack e xs i j x → AnswersBack e xs i j y → x ≡ y
+  same_back : (e : Encoding E) → IsCode e.code → (xs : List ℕ) (i j : ℕ) (x y : Placed E) → AnswersBack e xs i j x → AnswersBack e xs i j y → x ≡ y
   same_back e c xs i j x y a b =
       same_answer x y _ (one_piece_ends e.code c xs (piece_of x) (piece_of y) a.piece b.piece (a.ends ∙ sym b.ends)) (as_some x.1 _ a.kind) (as_some y.1 _ b.kind)
 
-  same_walk : (e : Encoding E) → IsCode e.code → (xs : List ℕ) (i j : ℕ) (word : List Side) (answers others : List (Option (Answer E))) (k l m n : ℕ)
+  same_walk : (e : Encoding E) → IsCode e.code → (xs : List ℕ) (i j : ℕ) (word : List Side) (answers others : List (Option (Placed E))) (k l m n : ℕ)
       → Walks e xs i j word answers k l → Walks e xs i j word others m n → answers ≡ others
   same_walk e c xs i j [] [] [] k l m n w v = refl
   same_walk e c xs i j [] (a ∷ answers) others k l m n w v = absurd w

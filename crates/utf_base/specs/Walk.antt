@@ -23,22 +23,22 @@ pub data Side : Type 0 where
   from_back : Side
 
 -- the place of a piece, its scalar or what is wrong, and its length
-abbrev pub Answer : Type 0 → Type 0
-Answer E = ℕ × Result ℕ E × ℕ
+abbrev pub Placed : Type 0 → Type 0
+Placed E = ℕ × Result ℕ E × ℕ
 
--- the piece that an answer is
-abbrev pub piece_of : {E : Type 0} → Answer E → Piece
+-- the piece that it is
+abbrev pub piece_of : {E : Type 0} → Placed E → Piece
 piece_of x = record { start = x.0; len = x.2; char = result_ok x.1 }
 
 -- of the window from i to j, the piece that begins at i, a fault with the forward kind of the window
-pub record AnswersFront {E : Type 0} (e : Encoding E) (xs : List ℕ) (i j : ℕ) (x : Answer E) : Type 0 where
+pub record AnswersFront {E : Type 0} (e : Encoding E) (xs : List ℕ) (i j : ℕ) (x : Placed E) : Type 0 where
   pub some : i < j
   pub piece : IsPiece e.code xs (piece_of x)
   pub begins : x.0 ≡ i
   pub kind : IfErr x.1 (λ k. e.forward (slice_range xs i j) ≡ Some k)
 
 -- of the window from i to j, the piece that ends at j, a fault with the backward kind of the last element
-pub record AnswersBack {E : Type 0} (e : Encoding E) (xs : List ℕ) (i j : ℕ) (x : Answer E) : Type 0 where
+pub record AnswersBack {E : Type 0} (e : Encoding E) (xs : List ℕ) (i j : ℕ) (x : Placed E) : Type 0 where
   pub some : i < j
   pub piece : IsPiece e.code xs (piece_of x)
   pub ends : x.0 + x.2 ≡ j
@@ -46,7 +46,7 @@ pub record AnswersBack {E : Type 0} (e : Encoding E) (xs : List ℕ) (i j : ℕ)
 
 -- The answers to a word, one for each letter, lead from the window from i to j to the one from k to l: each takes its
 -- piece off the window, at its end, and where the window is empty there is none and nothing moves.
-abbrev pub Walks : {E : Type 0} → Encoding E → List ℕ → ℕ → ℕ → List Side → List (Option (Answer E)) → ℕ → ℕ → Type 0
+abbrev pub Walks : {E : Type 0} → Encoding E → List ℕ → ℕ → ℕ → List Side → List (Option (Placed E)) → ℕ → ℕ → Type 0
 Walks e xs i j [] [] k l = (k ≡ i) × (l ≡ j)
 Walks e xs i j [] (a ∷ answers) k l = ⊥
 Walks e xs i j (s ∷ word) [] k l = ⊥
@@ -55,11 +55,11 @@ Walks e xs i j (from_front ∷ word) (Some x ∷ answers) k l = AnswersFront e x
 Walks e xs i j (from_back ∷ word) (Some x ∷ answers) k l = AnswersBack e xs i j x × Walks e xs i x.0 word answers k l
 
 -- the walk of a word over the list, and the window that it leaves
-pub record IsWalk {E : Type 0} (e : Encoding E) (xs : List ℕ) (word : List Side) (answers : List (Option (Answer E))) : Type 0 where
+pub record IsWalk {E : Type 0} (e : Encoding E) (xs : List ℕ) (word : List Side) (answers : List (Option (Placed E))) : Type 0 where
   pub front : ℕ
   pub back : ℕ
   pub walks : Walks e xs 0 (length xs) word answers front back
 
 -- the pieces that were answered, in the order of the word
-abbrev pub answered : {E : Type 0} → List (Option (Answer E)) → List Piece
+abbrev pub answered : {E : Type 0} → List (Option (Placed E)) → List Piece
 answered answers = filter_map (option_map piece_of) answers
