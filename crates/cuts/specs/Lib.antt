@@ -3,6 +3,7 @@ pub mod Line
 pub mod Lines
 pub mod Written
 pub mod Runs
+pub mod Arguments
 pub mod Programs
 pub use Rattle.utf_base.specs.Scalar
 pub use Rattle.utf_base.specs.Code

@@ -8,4 +8,5 @@ mod fakes;
 pub mod items;
 mod line;
 pub mod listing;
+mod requests;
 pub mod runs;
