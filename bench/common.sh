@@ -13,6 +13,16 @@ need_number() {
     [[ "$2" =~ ^[1-9][0-9]{0,11}$ ]] || die "$1 asks for a number above 0, not '$2'"
 }
 
+# run_cargo ARGUMENTS: cargo in the copy of this folder. The processor is the one for which rt builds the library.
+run_cargo() {
+    if ! (cd "$work_folder/bench" && BENCH_LIBRARY_FOLDER="$root_folder/crates/bench_c/out" \
+        RUSTFLAGS="-C target-cpu=x86-64-v2" CARGO_TARGET_DIR="$work_folder/target" \
+        cargo "$@" >"$work_folder/cargo.log" 2>&1); then
+        cat "$work_folder/cargo.log" >&2
+        die "the Rust programs could not be built"
+    fi
+}
+
 # Builds the Rust programs in a temporary folder beside a copy of the Rust crate, and sets `programs`.
 build_programs() {
     local rust_crate=$1
@@ -24,12 +34,6 @@ build_programs() {
     mkdir "$work_folder/bench" "$work_folder/encode_unicode"
     cp -r "$bench_folder"/{Cargo.toml,build.rs,src} "$work_folder/bench/"
     tar -C "$rust_crate" --exclude=./target --exclude=./.git -cf - . | tar -C "$work_folder/encode_unicode" -xf -
-    # The processor is the one for which rt builds the library.
-    if ! (cd "$work_folder/bench" && BENCH_LIBRARY_FOLDER="$root_folder/crates/bench_c/out" \
-        RUSTFLAGS="-C target-cpu=x86-64-v2" CARGO_TARGET_DIR="$work_folder/target" \
-        cargo build --release --offline >"$work_folder/cargo.log" 2>&1); then
-        cat "$work_folder/cargo.log" >&2
-        die "the Rust programs could not be built"
-    fi
+    run_cargo build --release --offline
     programs="$work_folder/target/release"
 }

@@ -4,7 +4,7 @@
 //! Every worker answers a checksum of all that it saw, mixed in the same way, so that answers can be compared.
 
 use crate::inputs::Input;
-use crate::texts;
+use crate::{ends, texts};
 use encode_unicode::error::{Utf16SliceError, Utf8ErrorKind};
 use encode_unicode::iterator::Utf8CharDecoder;
 use encode_unicode::{CharExt, Utf16Char, Utf8Char};
@@ -25,6 +25,12 @@ pub struct Work {
 }
 
 impl Work {
+    /// Who does the work, each by the name of its side.
+    pub fn sides(&self) -> impl Iterator<Item = (&'static str, Worker)> {
+        let known = [("ours", Some(self.ours)), ("rust", Some(self.rust)), ("std", self.std)];
+        known.into_iter().filter_map(|(side, worker)| Some((side, worker?)))
+    }
+
     /// Whether the work takes the input.
     pub fn takes(&self, input: &Input) -> bool {
         input.is_text() || !self.of_text
@@ -33,7 +39,7 @@ impl Work {
 
 /// All kinds of work, in the order of the tables.
 pub fn all() -> impl Iterator<Item = &'static Work> {
-    OF_SLICES.iter().chain(&texts::ALL)
+    OF_SLICES.iter().chain(&texts::ALL).chain(&ends::ALL)
 }
 
 // The works over slices, which take faulty ones too.
@@ -109,12 +115,12 @@ pub(crate) fn mix(sum: u64, word: u64) -> u64 {
 }
 
 #[inline(always)]
-fn word_of(place: usize, len: usize, what: u32) -> u64 {
+pub(crate) fn word_of(place: usize, len: usize, what: u32) -> u64 {
     ((place as u64) << 32).wrapping_add((what as u64) << 3).wrapping_add(len as u64)
 }
 
 #[inline(always)]
-fn number_of(kind: Utf8ErrorKind) -> u32 {
+pub(crate) fn number_of(kind: Utf8ErrorKind) -> u32 {
     ERROR
         | match kind {
             Utf8ErrorKind::TooFewBytes => 0,

@@ -7,6 +7,7 @@
 //! `bench/run` tests.
 #![tactic(auto)]
 
+mod ends;
 mod texts;
 
 use encode_unicode::error::{Utf8ErrorKind, Utf16SliceError};
@@ -121,10 +122,9 @@ pub extern "C" fn bench_c_to_utf8(src: &[u32], factor: u64) -> u64 {
 pub extern "C" fn bench_c_to_utf16(src: &[u32], factor: u64) -> u64 {
     let mut sum = 0;
     for number in src {
-        if let Ok(c) = char::from_u32_detailed(*number) {
-            let [first, second] = c.to_utf16_array();
-            sum = mix(sum, (second as u64) << 16 | first as u64, factor);
-        }
+        let Ok(c) = char::from_u32_detailed(*number) else { continue };
+        let [first, second] = c.to_utf16_array();
+        sum = mix(sum, (second as u64) << 16 | first as u64, factor);
     }
     sum
 }

@@ -15,7 +15,7 @@ fn main(rt: HostRuntime) -> io::Result<ExitCode> {
     let text = fs::read_to_string(&rt, "bytes.txt")?;
     let rows = rows::parse(rt.alloc(), &text)?;
     let mut status = 0;
-    for run in [Run::Front, Run::Decoder, Run::Listing] {
+    for run in [Run::Front, Run::Decoder, Run::Listing, Run::Walk] {
         if !report(&rt, run, rows.as_slice())? {
             status = 1;
         }

@@ -1,21 +1,26 @@
 //! The rows of a file of vectors.
 
+use cuts::items::End;
 use std::alloc::Global;
 use std::io;
 use std::io::ErrorKind;
 
-/// What a row says: some bytes, and the pieces that a run from the front has to give, as text.
+/// What a row says: some bytes, and what runs over them have to give, as text with `;` between the
+/// answers.
 #[derive(Drop)]
 pub(crate) struct Row<'a> {
     /// The bytes as they stand in the file, in hexadecimal.
     pub(crate) text: &'a str,
     pub(crate) bytes: Vec<u8>,
-    /// The pieces with `;` between them, each an offset, a length and an answer.
+    /// The pieces from the front, each an offset, a length and an answer.
     pub(crate) pieces: &'a str,
+    /// A word, and the walk by it: for each letter a piece as above, or `none`.
+    pub(crate) word: Vec<End>,
+    pub(crate) walk: &'a str,
 }
 
-/// The rows of the file. A line that begins with `#` is none, and any other has at least two columns with
-/// `|` between them: the bytes and the pieces.
+/// The rows of the file. A line that begins with `#` is none, and any other has five columns with `|`
+/// between them: the bytes, the pieces, what a merger gives, a word, and the walk by it.
 pub(crate) fn parse(alloc: Global, file: &str) -> io::Result<Vec<Row<'_>>> {
     let mut rows = Vec::new(alloc);
     for line in file.lines() {
@@ -28,15 +33,32 @@ pub(crate) fn parse(alloc: Global, file: &str) -> io::Result<Vec<Row<'_>>> {
 
 fn parse_row(alloc: Global, line: &str) -> io::Result<Row<'_>> {
     let mut columns = line.split('|');
-    let (Some(text), Some(pieces)) = (columns.next(), columns.next()) else {
+    let (Some(text), Some(pieces), Some(_)) = (columns.next(), columns.next(), columns.next())
+    else {
         return Err(io::Error::from(ErrorKind::InvalidData));
     };
-    let bytes = parse_bytes(alloc, text)?;
+    let (Some(letters), Some(walk)) = (columns.next(), columns.next()) else {
+        return Err(io::Error::from(ErrorKind::InvalidData));
+    };
     Ok(Row {
         text,
-        bytes,
+        bytes: parse_bytes(alloc, text)?,
         pieces,
+        word: parse_word(alloc, letters)?,
+        walk,
     })
+}
+
+fn parse_word(alloc: Global, letters: &str) -> io::Result<Vec<End>> {
+    let mut word = Vec::new(alloc);
+    for letter in letters.bytes() {
+        word.push(match letter {
+            b'F' => End::Front,
+            b'B' => End::Back,
+            _ => return Err(io::Error::from(ErrorKind::InvalidData)),
+        })?;
+    }
+    Ok(word)
 }
 
 fn parse_bytes(alloc: Global, text: &str) -> io::Result<Vec<u8>> {

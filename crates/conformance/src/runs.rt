@@ -3,6 +3,7 @@
 use crate::rows::Row;
 use cuts::counted::Counted;
 use cuts::listing::write_listing;
+use cuts::walks::walk_utf8;
 use encode_unicode::error::Utf8Error;
 use encode_unicode::{CharExt, U8SliceExt, Utf8Char};
 use std::alloc::{AllocError, Global};
@@ -17,6 +18,8 @@ pub(crate) enum Run {
     Decoder,
     /// The lines of all pieces, and how many of them are errors.
     Listing,
+    /// The pieces from both ends, as the letters of the row's word ask for them.
+    Walk,
 }
 
 impl Run {
@@ -25,15 +28,17 @@ impl Run {
             Run::Front => "front",
             Run::Decoder => "decoder",
             Run::Listing => "listing",
+            Run::Walk => "walk",
         }
     }
 
-    /// Whether the run gives the pieces of the row.
+    /// Whether the run gives what the row says of it.
     pub(crate) fn agrees(self, alloc: Global, row: &Row<'_>) -> io::Result<bool> {
         match self {
             Run::Front => Ok(front_agrees(alloc, row)?),
             Run::Decoder => Ok(decoder_agrees(alloc, row)?),
             Run::Listing => listing_agrees(alloc, row),
+            Run::Walk => Ok(walk_agrees(alloc, row)?),
         }
     }
 }
@@ -79,6 +84,22 @@ fn listing_agrees(alloc: Global, row: &Row<'_>) -> io::Result<bool> {
         .filter(|piece| is_error(piece))
         .count();
     Ok(lines.is_ok_and(|lines| lines.lines().eq(pieces)) && faults == errors)
+}
+
+fn walk_agrees(alloc: Global, row: &Row<'_>) -> Result<bool, AllocError> {
+    let mut walk = String::new(alloc);
+    for entry in walk_utf8(alloc, &row.bytes, &row.word)? {
+        if !walk.is_empty() {
+            walk.push(';')?;
+        }
+        match entry {
+            Some((place, answer, len)) => {
+                walk.push_str(&piece_text(alloc, place, answer.map(|c| c.to_char()), len)?)?;
+            }
+            None => walk.push_str("none")?,
+        }
+    }
+    Ok(walk.as_str() == row.walk)
 }
 
 // Whether the piece names an error: its answer begins with a capital letter, which no digit here is.

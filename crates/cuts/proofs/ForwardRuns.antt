@@ -1,90 +1,78 @@
 -- A forward run, one answer after another: from the contract of one call and the laws of cuts alone.
-use Rattle.std.proofs.Common.{◌≡◌, ℕ, zero, suc, ◌+◌, ◌<◌, ◌≤◌, ⊎_elim, List, [], ◌∷◌, ◌++◌, length, map, refl, ap, subst, arith, append-nil, append_assoc, Option, Some, None, Ok, Err, Result}
+use Rattle.std.proofs.Common.{◌≡◌, ℕ, zero, suc, ◌+◌, ◌<◌, ◌≤◌, ⊎_elim, List, [], ◌∷◌, ◌++◌, length, refl, ◌∙◌, arith, append-nil, append_assoc, Option, Some, None, Ok, Err, Result}
 use Rattle.std.proofs.lemmas.Grind.{common_steps}
 use Rattle.std.proofs.lemmas.Bool.{cases_lt}
-use Rattle.std.proofs.lemmas.List.{map-append, take_rest}
-use Rattle.std.proofs.lemmas.List.Elements.{All-push}
-use Rattle.std.specs.Prelude.{All, slice_range}
-use Rattle.std.specs.Result.{result_ok}
+use Rattle.std.specs.Prelude.{slice_range}
 use Rattle.utf_base.specs.declared.errors.Utf8ErrorKind.{Utf8ErrorKind}
-use Rattle.utf_base.specs.Code.{utf8}
+use Rattle.utf_base.specs.Code.{IsCode, utf8, utf16}
+use Rattle.utf_base.specs.Decoded.{decoded, decoded_pairs}
 use Rattle.utf_base.specs.Kinds.{fault_kind, value}
-use Rattle.utf_base.specs.Piece.{Inside, IsPieceAt, IsCutBetween}
-use Rattle.utf_base.proofs.Cuts.{front_char, front_fault, cut_none, cut_push, piece_some}
+use Rattle.utf_base.specs.Units.{unit_fault_kind}
 use Rattle.utf_base.proofs.FrontLemmas.{code_where_no_fault, no_code_where_fault}
+use Rattle.utf_base.proofs.UnitLemmas.{no_units_where_kind}
 use Rattle.utf_base.proofs.DecodedLemmas.{answer_of_bytes, decoded_code, front_len_utf8}
-use Rattle.utf_base.proofs.Standing.{outside_front, outside_end}
 use Rattle.utf_base.proofs.Utf8Code.{utf8_is_code}
-use Rattle.encode_unicode.specs.Window.{Window, Item, elements, whole_window, without_front, GivesFront, GivesNone, IsFrontPiece}
-use Rattle.cuts.specs.Runs.{piece_of, HasForwardKind, IsForwardRun}
+use Rattle.utf_base.proofs.Utf16Code.{utf16_is_code}
+use Rattle.encode_unicode.specs.Window.{Window, Placed, Item, UnitItem, elements, whole_window, without_front, GivesFrontOf, GivesFront, GivesFrontUnits, GivesNone, IsFrontOf}
+use Rattle.cuts.specs.Items.{IsRun}
+use Rattle.cuts.specs.Collected.{IsUnitRun}
+use Rattle.cuts.specs.Runs.{IsForwardRun}
+use Rattle.cuts.proofs.PieceRuns.{Excludes, IsRunTo, IsRunTo-none, IsRunTo-push, IsRun-all}
 
 -- The items are the run as far as the window's front, and the rest of the list is in the window.
-pub record IsRunSoFar (xs : List ℕ) (items : List Item) (w : Window) : Type 0 where
+pub record IsWindowRun {E : Type 0} (code : ℕ → List ℕ) (kind : List ℕ → Option E) (xs : List ℕ) (items : List (Placed E)) (w : Window) : Type 0 where
   pub whole : w.whole ≡ xs
-  pub ordered : w.front ≤ w.back
   pub end : w.back ≡ length xs
-  pub outside : Inside utf8 xs w.front → ⊥
-  pub cut : IsCutBetween utf8 xs 0 w.front (map piece_of items)
-  pub kinds : All (HasForwardKind xs) items
+  pub run : IsRunTo code kind xs items w.front
 
-pub IsRunSoFar-none : (xs : List ℕ) → IsRunSoFar xs [] (whole_window xs)
-IsRunSoFar-none xs = record {
-  whole = refl;
-  ordered = omega arith;
-  end = refl;
-  outside = outside_front utf8 xs;
-  cut = cut_none utf8 xs 0;
-  kinds = λ k d h. absurd (omega arith);
-}
-
--- What a piece at the front of the rest is of the whole list.
-record AtFront (xs : List ℕ) (i n : ℕ) (r : Result ℕ Utf8ErrorKind) : Type 0 where
-  pub piece : IsPieceAt utf8 xs i n (result_ok r)
-  pub within : i + n ≤ length xs
-  pub outside : Inside utf8 xs (i + n) → ⊥
-  pub kind : HasForwardKind xs (i, r, n)
-
-at_front : (xs : List ℕ) (i n : ℕ) (r : Result ℕ Utf8ErrorKind) → i < length xs → (Inside utf8 xs i → ⊥) → IsFrontPiece (slice_range xs i (length xs)) r n
-    → AtFront xs i n r
-at_front xs i n (Ok s) lt b (h, e) =
-    let f = front_char utf8 utf8_is_code xs i (length xs) s (omega arith) (omega arith) h in
-    let within = f.1 in
-    record { piece = (f.0.0, e); within = omega arith; outside = rw e f.2; kind = tt }
-at_front xs i n (Err k) lt b (h, e) =
-    let f = front_fault utf8 xs i (length xs) b (outside_end utf8 xs) lt (omega arith) (λ s st. no_code_where_fault _ k s h st) in
-    record { piece = (f.0.0, e, f.0.2); within = omega arith; outside = rw e f.1; kind = rw (← take_rest xs i) h }
+IsWindowRun-none : {E : Type 0} (code : ℕ → List ℕ) (kind : List ℕ → Option E) (xs : List ℕ) → IsWindowRun code kind xs [] (whole_window xs)
+IsWindowRun-none code kind xs = record { whole = refl; end = refl; run = IsRunTo-none code kind xs }
 
 -- one answer more
-pub IsRunSoFar-push : (xs : List ℕ) (items : List Item) (w v : Window) (x : Item) → IsRunSoFar xs items w → GivesFront w x v → IsRunSoFar xs (items ++ x ∷ []) v
-IsRunSoFar-push xs items w v x f g =
+IsWindowRun-push : {E : Type 0} (code : ℕ → List ℕ) (most : ℕ) (kind : List ℕ → Option E) (answer : List ℕ → Result (ℕ × ℕ) E) → IsCode code → Excludes code kind
+    → (xs : List ℕ) (items : List (Placed E)) (w v : Window) (x : Placed E) → IsWindowRun code kind xs items w → GivesFrontOf code most kind answer w x v
+    → IsWindowRun code kind xs (items ++ x ∷ []) v
+IsWindowRun-push code most kind answer c apart xs items w v x f g =
     let lt : w.front < length xs = rw (← f.end) g.some in
-    let place = g.place in
-    let f_is : IsFrontPiece (slice_range xs w.front (length xs)) x.1 x.2 = rw (f.whole, f.end) at g.piece in
-    let p = at_front xs w.front x.2 x.1 lt f.outside f_is in
-    let within = p.within in
-    let cut : IsCutBetween utf8 xs 0 (x.0 + x.2) (map piece_of items ++ piece_of x ∷ [])
-    = cut_push utf8 utf8_is_code xs 0 (map piece_of items) (piece_of x) (omega arith) (rw g.place p.piece) (rw g.place f.cut) in
-    rw g.left (record {
-      whole = f.whole;
-      ordered = rw f.end within;
-      end = f.end;
-      outside = p.outside;
-      cut = rw map-append (subst (λ j. IsCutBetween utf8 xs 0 j (map piece_of items ++ piece_of x ∷ [])) (ap (λ p. p + x.2) g.place) cut);
-      kinds = All-push (HasForwardKind xs) items x f.kinds (rw g.place p.kind);
-    })
+    let front : IsFrontOf code kind (slice_range xs w.front (length xs)) x.1 x.2 = rw (f.whole, f.end) at g.piece in
+    rw g.left (record { whole = f.whole; end = f.end; run = IsRunTo-push code kind c apart xs items w.front x f.run g.place lt front })
 
 -- once the window is empty the run is whole
+IsWindowRun-all : {E : Type 0} (code : ℕ → List ℕ) (kind : List ℕ → Option E) (xs : List ℕ) (items : List (Placed E)) (w v : Window) → IsWindowRun code kind xs items w → GivesNone w v
+    → IsRun code kind xs items
+IsWindowRun-all code kind xs items w v f g = IsRun-all code kind xs items w.front f.run (g.none ∙ f.end)
+
+-- The same of bytes.
+
+abbrev pub IsRunSoFar : List ℕ → List Item → Window → Type 0
+IsRunSoFar = IsWindowRun utf8 fault_kind
+
+pub IsRunSoFar-none : (xs : List ℕ) → IsRunSoFar xs [] (whole_window xs)
+IsRunSoFar-none = IsWindowRun-none utf8 fault_kind
+
+pub IsRunSoFar-push : (xs : List ℕ) (items : List Item) (w v : Window) (x : Item) → IsRunSoFar xs items w → GivesFront w x v → IsRunSoFar xs (items ++ x ∷ []) v
+IsRunSoFar-push = IsWindowRun-push utf8 4 fault_kind decoded utf8_is_code no_code_where_fault
+
 pub IsForwardRun-all : (xs : List ℕ) (items : List Item) (w v : Window) → IsRunSoFar xs items w → GivesNone w v → IsForwardRun xs items
-IsForwardRun-all xs items w v f g = record { cut = rw (g.none, f.end) at f.cut; kinds = f.kinds }
+IsForwardRun-all = IsWindowRun-all utf8 fault_kind
+
+-- And of units.
+
+abbrev pub IsUnitRunSoFar : List ℕ → List UnitItem → Window → Type 0
+IsUnitRunSoFar = IsWindowRun utf16 unit_fault_kind
+
+pub IsUnitRunSoFar-none : (xs : List ℕ) → IsUnitRunSoFar xs [] (whole_window xs)
+IsUnitRunSoFar-none = IsWindowRun-none utf16 unit_fault_kind
+
+pub IsUnitRunSoFar-push : (xs : List ℕ) (items : List UnitItem) (w v : Window) (x : UnitItem) → IsUnitRunSoFar xs items w → GivesFrontUnits w x v → IsUnitRunSoFar xs (items ++ x ∷ []) v
+IsUnitRunSoFar-push = IsWindowRun-push utf16 2 unit_fault_kind decoded_pairs utf16_is_code no_units_where_kind
+
+pub IsUnitRun-all : (xs : List ℕ) (items : List UnitItem) (w v : Window) → IsUnitRunSoFar xs items w → GivesNone w v → IsUnitRun xs items
+IsUnitRun-all = IsWindowRun-all utf16 unit_fault_kind
 
 -- an item has an element
 pub item_some : (xs : List ℕ) (items : List Item) (w v : Window) (x : Item) → IsRunSoFar xs items w → GivesFront w x v → w.front < v.front
-item_some xs items w v x f g =
-    let lt : w.front < length xs = rw (← f.end) g.some in
-    let f_is : IsFrontPiece (slice_range xs w.front (length xs)) x.1 x.2 = rw (f.whole, f.end) at g.piece in
-    let p = at_front xs w.front x.2 x.1 lt f.outside f_is in
-    let some = piece_some utf8 utf8_is_code xs w.front x.2 (result_ok x.1) p.piece in
-    rw g.left (omega arith)
+item_some xs items w v x f g = let some = g.len.0 in rw g.left (omega arith)
 
 -- a window that is not empty has a first item
 front_item : (w : Window) → w.front < w.back → w.back ≤ length w.whole → (x : Item) × GivesFront w x (without_front w x.2)
@@ -124,7 +112,8 @@ pub record GoesOn (xs : List ℕ) (items : List Item) : Type 0 where
 
 goes_on_end : (xs : List ℕ) (items : List Item) (w : Window) → IsRunSoFar xs items w → w.back ≤ w.front → GoesOn xs items
 goes_on_end xs items w f none =
-    let ordered = f.ordered in
+    let ordered = f.run.within in
+    let end = f.end in
     record { more = []; run = rw append-nil (IsForwardRun-all xs items w w f (record { none = omega arith; left = refl })) }
 
 goes_on : (fuel : ℕ) (xs : List ℕ) (items : List Item) (w : Window) → IsRunSoFar xs items w → w.back ≤ w.front + fuel → GoesOn xs items

@@ -1,26 +1,17 @@
 -- Whole runs over bytes, and what is written of them.
-use Rattle.std.specs.Prelude.{◌≡◌, ℕ, List, map, drop, flat_map, count_by, All, Option, Some, IfErr}
-use Rattle.std.specs.Result.{result_ok}
+use Rattle.std.specs.Prelude.{◌≡◌, ℕ, List, flat_map, count_by, Option}
+use Rattle.std.specs.Io.KnownBytes.{Appends}
 use Rattle.utf_base.specs.Code.{utf8}
 use Rattle.utf_base.specs.Kinds.{fault_kind}
-use Rattle.utf_base.specs.Piece.{Piece, IsCut}
 use Rattle.encode_unicode.specs.Window.{Item}
 use Rattle.cuts.specs.Failures.{AppendsFront}
 use Rattle.cuts.specs.Lines.{item_line, is_fault}
 use Rattle.cuts.specs.Written.{WritesLines}
+use Rattle.cuts.specs.Items.{IsRun}
 
--- the piece that an item is
-abbrev pub piece_of : Item → Piece
-piece_of x = record { start = x.0; len = x.2; char = result_ok x.1 }
-
--- an error is the forward kind of the bytes from its place on
-abbrev pub HasForwardKind : List ℕ → Item → Type 0
-HasForwardKind xs x = IfErr x.1 (λ k. fault_kind (drop x.0 xs) ≡ Some k)
-
--- the items are the pieces of the cut in order, the faults with their forward kinds
-pub record IsForwardRun (xs : List ℕ) (items : List Item) : Type 0 where
-  pub cut : IsCut utf8 xs (map piece_of items)
-  pub kinds : All (HasForwardKind xs) items
+-- the items are the pieces of the bytes in order, the faults with their forward kinds
+abbrev pub IsForwardRun : List ℕ → List Item → Type 0
+IsForwardRun xs items = IsRun utf8 fault_kind xs items
 
 -- the listing of a run: a line for each item
 abbrev pub listing : List Item → List ℕ

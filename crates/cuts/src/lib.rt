@@ -1,6 +1,7 @@
 //! Whole runs over bytes, and what the programs do.
 #![tactic(auto)]
 
+pub mod collected;
 pub mod counted;
 mod entries;
 #[cfg(test)]
@@ -10,3 +11,4 @@ mod line;
 pub mod listing;
 mod requests;
 pub mod runs;
+pub mod walks;

@@ -5,3 +5,5 @@ pub mod Listed
 pub mod Refills
 pub mod Splits
 pub mod TextLemmas
+pub mod ScanLemmas
+pub mod UnitPieces

@@ -1,7 +1,11 @@
 pub mod Words
 pub mod Window
+pub mod Scan
 pub mod Hints
 pub mod Sources
+pub mod Mergers
+pub mod HeldWord
+pub mod Reading
 pub mod TextWindow
 pub use Rattle.utf_base.specs.Scalar
 pub use Rattle.utf_base.specs.Code
@@ -10,6 +14,8 @@ pub use Rattle.utf_base.specs.Piece
 pub use Rattle.utf_base.specs.Kinds
 pub use Rattle.utf_base.specs.Refused
 pub use Rattle.utf_base.specs.Front
+pub use Rattle.utf_base.specs.Ends
+pub use Rattle.utf_base.specs.Back
 pub use Rattle.utf_base.specs.Decoded
 pub use Rattle.utf_base.specs.Texts
 pub use Rattle.utf_base.specs.CutLaws

@@ -1,15 +1,11 @@
 -- A window of a text, and what one call of an iterator over its characters gives, from either end.
-use Rattle.std.specs.Prelude.{◌≡◌, ℕ, ◌-◌, ◌≤◌, List, ◌++◌, length, Option, Some, None}
+use Rattle.std.specs.Prelude.{◌≡◌, ℕ, ◌≤◌, List, ◌++◌, length, Option, Some, None}
 use Rattle.std.specs.List.{flat_map}
 use Rattle.std.specs.Str.{IsUtf8, IsCharBoundary}
 use Rattle.utf_base.specs.Scalar.{IsScalar}
 use Rattle.utf_base.specs.Code.{utf8}
 use Rattle.utf_chars.specs.Taking.{BoundsLength}
-use Rattle.encode_unicode.specs.Window.{Window, elements, without_front, GivesNone}
-
--- the window without its last n elements
-abbrev pub without_back : Window → ℕ → Window
-without_back w n = record w { back = w.back - n }
+use Rattle.encode_unicode.specs.Window.{Window, elements, without_front, without_back, GivesNone}
 
 -- the window begins and ends between characters of the text, and is text itself
 pub record IsTextWindow (w : Window) : Type 0 where

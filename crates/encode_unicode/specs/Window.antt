@@ -1,10 +1,14 @@
 -- A window of a slice, and what one call of a decoder gives. A place is an index into the whole slice.
-use Rattle.std.specs.Prelude.{◌≡◌, ℕ, ◌+◌, ◌<◌, List, length, slice_range, Option, Some, None, Result, Ok, Err}
+use Rattle.std.specs.Prelude.{◌≡◌, ℕ, ◌+◌, ◌-◌, ◌<◌, List, length, slice_range, Option, Some, None, Result, Ok, Err}
 use Rattle.utf_base.specs.declared.errors.Utf8ErrorKind.{Utf8ErrorKind}
-use Rattle.utf_base.specs.Code.{utf8}
-use Rattle.utf_base.specs.Decoded.{decoded}
+use Rattle.utf_base.specs.Back.{decoded_end}
+use Rattle.utf_base.specs.Code.{utf8, utf16}
+use Rattle.utf_base.specs.Decoded.{decoded, decoded_pairs}
+use Rattle.utf_base.specs.Ends.{last_of, EndsWith, NoCodeEnds}
 use Rattle.utf_base.specs.Front.{BeginsWith, IsFrontLen}
-use Rattle.utf_base.specs.Kinds.{fault_kind}
+use Rattle.utf_base.specs.Kinds.{fault_kind, back_kind}
+use Rattle.utf_base.specs.declared.errors.units.Utf16PairError.{Utf16PairError}
+use Rattle.utf_base.specs.Units.{unit_fault_kind}
 
 -- the part of a slice from the place `front` up to and without the place `back`
 pub record Window : Type 0 where
@@ -16,7 +20,7 @@ pub record Window : Type 0 where
 abbrev pub whole_window : List ℕ → Window
 whole_window xs = record { whole = xs; front = 0; back = length xs }
 
--- the bytes in the window
+-- the elements in the window
 abbrev pub elements : Window → List ℕ
 elements w = slice_range w.whole w.front w.back
 
@@ -24,35 +28,82 @@ elements w = slice_range w.whole w.front w.back
 abbrev pub without_front : Window → ℕ → Window
 without_front w n = record w { front = w.front + n }
 
--- the place of a piece, its scalar or what is wrong, and its length
-abbrev pub Item : Type 0
-Item = ℕ × Result ℕ Utf8ErrorKind × ℕ
+-- the window without its last n elements
+abbrev pub without_back : Window → ℕ → Window
+without_back w n = record w { back = w.back - n }
 
--- the scalar whose code begins the bytes, with the code's length, or their forward kind, with length 1
-abbrev pub IsFrontPiece : List ℕ → Result ℕ Utf8ErrorKind → ℕ → Type 0
-IsFrontPiece xs (Ok s) n = BeginsWith utf8 xs s n
-IsFrontPiece xs (Err k) n = (fault_kind xs ≡ Some k) × (n ≡ 1)
+-- the place of a piece, its scalar or what is wrong, and its length
+abbrev pub Placed : Type 0 → Type 0
+Placed E = ℕ × Result ℕ E × ℕ
+
+-- the same of bytes, and of units
+abbrev pub Item : Type 0
+Item = Placed Utf8ErrorKind
+
+abbrev pub UnitItem : Type 0
+UnitItem = Placed Utf16PairError
+
+-- the scalar whose code begins the elements, with the code's length, or what is wrong with them, with length 1
+abbrev pub IsFrontOf : {E : Type 0} → (ℕ → List ℕ) → (List ℕ → Option E) → List ℕ → Result ℕ E → ℕ → Type 0
+IsFrontOf code kind xs (Ok s) n = BeginsWith code xs s n
+IsFrontOf code kind xs (Err k) n = (kind xs ≡ Some k) × (n ≡ 1)
+
+-- the scalar whose code ends the bytes, with the code's length, or the backward kind of the last byte, with length 1
+abbrev pub IsBackPiece : List ℕ → Result ℕ Utf8ErrorKind → ℕ → Type 0
+IsBackPiece xs (Ok s) n = EndsWith utf8 xs s n
+IsBackPiece xs (Err k) n = NoCodeEnds utf8 xs × (k ≡ back_kind (last_of xs)) × (n ≡ 1)
 
 -- the answer of a decoding as a piece: a scalar with the length of its code, a fault with length 1
-abbrev pub as_piece : Result (ℕ × ℕ) Utf8ErrorKind → Result ℕ Utf8ErrorKind × ℕ
+abbrev pub as_piece : {E : Type 0} → Result (ℕ × ℕ) E → Result ℕ E × ℕ
 as_piece (Ok x) = (Ok x.0, x.1)
 as_piece (Err k) = (Err k, 1)
 
--- the item is the piece that begins the window, and exactly that piece has left it
-pub record GivesFront (w : Window) (x : Item) (v : Window) : Type 0 where
+-- The item is the piece that begins the window, and exactly that piece has left it. A piece has at most `most` elements,
+-- and is a function of the window's.
+pub record GivesFrontOf {E : Type 0} (code : ℕ → List ℕ) (most : ℕ) (kind : List ℕ → Option E) (answer : List ℕ → Result (ℕ × ℕ) E)
+    (w : Window) (x : Placed E) (v : Window) : Type 0 where
   pub some : w.front < w.back
   pub place : x.0 ≡ w.front
-  pub piece : IsFrontPiece (elements w) x.1 x.2
-  pub known : (x.1, x.2) ≡ as_piece (decoded (elements w))
-  pub len : IsFrontLen 4 (elements w) x.2
+  pub piece : IsFrontOf code kind (elements w) x.1 x.2
+  pub known : (x.1, x.2) ≡ as_piece (answer (elements w))
+  pub len : IsFrontLen most (elements w) x.2
   pub left : v ≡ without_front w x.2
+
+-- the same of bytes, and of units
+abbrev pub IsFrontPiece : List ℕ → Result ℕ Utf8ErrorKind → ℕ → Type 0
+IsFrontPiece = IsFrontOf utf8 fault_kind
+
+abbrev pub GivesFront : Window → Item → Window → Type 0
+GivesFront = GivesFrontOf utf8 4 fault_kind decoded
+
+abbrev pub GivesFrontUnits : Window → UnitItem → Window → Type 0
+GivesFrontUnits = GivesFrontOf utf16 2 unit_fault_kind decoded_pairs
+
+-- the item is the piece that ends the window, and exactly that piece has left it
+pub record GivesBack (w : Window) (x : Item) (v : Window) : Type 0 where
+  pub some : w.front < w.back
+  pub place : x.0 + x.2 ≡ w.back
+  pub piece : IsBackPiece (elements w) x.1 x.2
+  pub known : (x.1, x.2) ≡ as_piece (decoded_end (elements w))
+  pub len : IsFrontLen 4 (elements w) x.2
+  pub left : v ≡ without_back w x.2
 
 -- the window is empty, and stays as it is
 pub record GivesNone (w v : Window) : Type 0 where
   pub none : w.front ≡ w.back
   pub left : v ≡ w
 
--- one call of `next`, from the window w to the window v
+-- one call of `next` of a decoder of bytes, from the window w to the window v
 abbrev pub NextGives : Window → Option Item → Window → Type 0
 NextGives w None v = GivesNone w v
 NextGives w (Some x) v = GivesFront w x v
+
+-- one call of `next_back`, from the window w to the window v
+abbrev pub NextBackGives : Window → Option Item → Window → Type 0
+NextBackGives w None v = GivesNone w v
+NextBackGives w (Some x) v = GivesBack w x v
+
+-- the same of a decoder of units
+abbrev pub NextGivesUnits : Window → Option UnitItem → Window → Type 0
+NextGivesUnits w None v = GivesNone w v
+NextGivesUnits w (Some x) v = GivesFrontUnits w x v

@@ -1,13 +1,20 @@
 //! Iterators that cut slices into characters and errors.
-ghost use Rattle.std.specs.Prelude.{◌≡◌, ◌-◌, ◌/◌, IfSome, Some};
+ghost use Rattle.std.specs.Prelude.{◌≡◌, ◌-◌, ◌/◌, IfSome, Some, [], ⊤};
 ghost use Rattle.std.specs.Iterator.{at_most, UpTo};
 ghost use Rattle.std.specs.Iterator.SizeHint.{IsWithinCount};
 ghost use Rattle.encode_unicode.specs.Hints.{BoundsPieces};
-ghost use Rattle.encode_unicode.specs.Window.{whole_window, elements, NextGives};
+ghost use Rattle.encode_unicode.specs.Scan.{BackSteps};
+ghost use Rattle.encode_unicode.specs.Window.{whole_window, elements, NextGives, NextBackGives};
 
+use crate::steps::Steps;
+use back_scan::decode_end;
+use std::alloc::AllocError;
+use std::fmt;
 use std::marker::Model;
 use utf_base::errors::Utf8Error;
 use utf_chars::utf8_char::Utf8Char;
+
+mod back_scan;
 
 /// Cuts a slice of bytes into the characters that stand in it and single faulty bytes.
 ///
@@ -55,6 +62,33 @@ impl<'a> Utf8CharDecoder<'a> {
     {
         &self.slice[self.front..self.back]
     }
+
+    /// `next_back`, with one step for each byte that it looks at.
+    ///
+    /// These are the last byte and those before it, as far as they are continuation bytes and one
+    /// further: at least one byte and at most four, of a window that has any.
+    #[inline(always)]
+    pub fn next_back_counted(
+        &mut self,
+        steps: &mut Steps,
+    ) -> Option<(usize, Result<Utf8Char, Utf8Error>, usize)>
+        ensures gives { NextBackGives self.old result self.new }
+        ensures steps { BackSteps self.old steps.old steps.new }
+    {
+        if self.front == self.back {
+            return None;
+        }
+        match decode_end(self.as_slice(), steps) {
+            Ok((c, len)) => {
+                self.back -= len;
+                Some((self.back, Ok(c), len))
+            }
+            Err(error) => {
+                self.back -= 1;
+                Some((self.back, Err(error), 1))
+            }
+        }
+    }
 }
 
 impl<'a> Iterator for Utf8CharDecoder<'a> {
@@ -92,5 +126,56 @@ impl<'a> Iterator for Utf8CharDecoder<'a> {
     {
         let left = self.back - self.front;
         (left / 4, Some(left))
+    }
+}
+
+impl<'a> DoubleEndedIterator for Utf8CharDecoder<'a> {
+    ghost next_back_gives = { NextBackGives };
+
+    /// The character whose code ends the bytes that are left, else what is wrong with the last of them.
+    ///
+    /// Which error that byte gives is decided by `Utf8Char::from_slice_end`, so by the byte alone.
+    #[inline(always)]
+    fn next_back(&mut self) -> Option<(usize, Result<Utf8Char, Utf8Error>, usize)> {
+        self.next_back_counted(&mut Steps::new())
+    }
+}
+
+/// A decoder of no bytes.
+impl<'a> Default for Utf8CharDecoder<'a> {
+    ghost is_default = { λ d. d ≡ whole_window [] };
+
+    fn default() -> Utf8CharDecoder<'a> {
+        Utf8CharDecoder {
+            slice: &[],
+            front: 0,
+            back: 0,
+        }
+    }
+}
+
+/// A decoder of the same bytes of the same slice.
+impl<'a> Clone for Utf8CharDecoder<'a> {
+    ghost is_clone = { λ window copy. copy ≡ window };
+
+    ghost is_infallible = { λ _. ⊤ };
+
+    fn clone(&self) -> Result<Utf8CharDecoder<'a>, AllocError> {
+        Ok(Utf8CharDecoder {
+            slice: self.slice,
+            front: self.front,
+            back: self.back,
+        })
+    }
+}
+
+impl<'a> fmt::Debug for Utf8CharDecoder<'a> {
+    fn fmt<W: fmt::Write>(&self, f: &mut fmt::Formatter<W>) -> fmt::Result {
+        write!(
+            f,
+            "Utf8CharDecoder {{ bytes[{}..]: {:?} }}",
+            self.front,
+            self.as_slice()
+        )
     }
 }

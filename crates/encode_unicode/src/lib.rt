@@ -4,21 +4,29 @@
 #![tactic(auto)]
 
 mod decoding_iterators;
+mod held_bytes;
+mod held_unit;
 mod iter_ext;
+mod merging;
 mod splitting;
+mod steps;
 mod str_ext;
 #[cfg(test)]
 mod tests;
 mod text_window;
 mod traits;
+mod utf16_decoder;
 mod utf16_iterators;
+mod utf16_merger;
 mod utf16_splitter;
 mod utf8_iterators;
+mod utf8_merger;
 mod utf8_splitter;
 
-pub use iter_ext::{Utf8CharIterExt, Utf16CharIterExt};
+pub use iter_ext::{U8IterExt, U16IterExt, Utf8CharIterExt, Utf16CharIterExt};
+pub use steps::Steps;
 pub use str_ext::StrExt;
-pub use traits::U8SliceExt;
+pub use traits::{U8SliceExt, U16SliceExt};
 pub use utf_base::traits::{U8UtfExt, U16UtfExt};
 pub use utf_chars::traits::CharExt;
 pub use utf_chars::utf8_char::Utf8Char;
@@ -37,8 +45,11 @@ pub mod iterator {
     //! The iterators that the calls of this crate make.
     pub use crate::decoding_iterators::Utf8CharDecoder;
     pub use crate::utf8_iterators::{Utf8CharIndices, Utf8Chars};
+    pub use crate::utf8_merger::Utf8CharMerger;
     pub use crate::utf8_splitter::Utf8CharSplitter;
+    pub use crate::utf16_decoder::Utf16CharDecoder;
     pub use crate::utf16_iterators::{Utf16CharIndices, Utf16Chars};
+    pub use crate::utf16_merger::{RemainingUnits, Utf16CharMerger};
     pub use crate::utf16_splitter::Utf16CharSplitter;
     pub use utf_chars::utf8_iterators::Utf8Iterator;
     pub use utf_chars::utf16_iterators::Utf16Iterator;
@@ -49,8 +60,9 @@ pub mod laws {
     //! calls the one that its proof needs.
     pub use utf_base::laws::{
         ascii_stands_alone, code_or_one_fault, codes_never_overlap, cut_exists, cut_is_unique,
-        cuts_follow, four_bytes_decide, one_piece_begins, one_piece_ends, pieces_never_overlap,
-        units_code_or_one_fault,
+        cuts_follow, four_bytes_decide, kinds_differ, merger_code_or_one_fault,
+        no_fault_in_joined_codes, one_piece_begins, one_piece_ends, pieces_never_overlap,
+        two_units_decide, units_code_or_one_fault, units_code_or_one_kind,
     };
     pub use utf_chars::laws::forms_keep_the_scalar;
 }

@@ -3,6 +3,7 @@ ghost use Rattle.std.specs.Prelude.{◌≡◌, List, ℕ};
 ghost use Rattle.encode_unicode.specs.Window.{whole_window};
 
 use crate::decoding_iterators::Utf8CharDecoder;
+use crate::utf16_decoder::Utf16CharDecoder;
 
 /// Methods of a slice of bytes. The slice is taken by value, and what is made of it borrows the same
 /// slice for its whole life.
@@ -21,5 +22,25 @@ impl<'a> U8SliceExt<'a> for &'a [u8] {
     #[inline]
     fn utf8char_indices(self) -> Utf8CharDecoder<'a> {
         Utf8CharDecoder::from(self)
+    }
+}
+
+/// Methods of a slice of units. The slice is taken by value, and what is made of it borrows the same
+/// slice for its whole life.
+pub trait U16SliceExt<'a>: Sized {
+    // The units.
+    ghost units: { Self → List ℕ };
+
+    /// The characters and the faulty units, each with its offset and its length in units.
+    fn utf16char_indices(self) -> Utf16CharDecoder<'a>
+        ensures { result ≡ whole_window (units self) };
+}
+
+impl<'a> U16SliceExt<'a> for &'a [u16] {
+    ghost units = { λ slice. slice.now };
+
+    #[inline]
+    fn utf16char_indices(self) -> Utf16CharDecoder<'a> {
+        Utf16CharDecoder::from(self)
     }
 }

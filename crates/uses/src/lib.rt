@@ -7,6 +7,7 @@ ghost use Rattle.uses.specs.Initials.{IsInitial};
 use encode_unicode::Utf8Char;
 
 pub mod alike;
+pub mod cursor;
 pub mod damage;
 pub mod lengths;
 pub mod opened;

@@ -5,8 +5,10 @@ use Rattle.std.proofs.lemmas.List.{get_or_append_left, get_or-append_right}
 use Rattle.std.proofs.lemmas.List.Elements.{All-append, All-cons, All-nil, Contains-append_left, Contains-append_right}
 use Rattle.std.specs.Prelude.{slice_range, All, Contains}
 use Rattle.utf_base.specs.Code.{IsCode}
+use Rattle.utf_base.specs.Ends.{EndsWith, NoCodeEnds}
 use Rattle.utf_base.specs.Piece.{IsCut, Stands, Covered, Inside, Piece, IsPieceAt, IsPiece, IsCutBetween, end_of}
 use Rattle.utf_base.specs.CutLaws.{PiecesNeverOverlap, OnePieceBegins, OnePieceEnds, Follow, CutsFollow, CutExists, CutIsUnique}
+use Rattle.utf_base.proofs.Ending.{ends_in_part, ends_in_whole}
 use Rattle.utf_base.proofs.Standing.{not_inside, same_char, outside_after, outside_end, outside_front, stands_in_part, stands_in_whole}
 
 abbrev pub char_at : (ℕ → List ℕ) → ℕ → ℕ → Piece
@@ -38,6 +40,30 @@ front_fault code xs i j lo hi lt le none =
     (cases_lt v.from i) in (
       (omega arith, refl, covered),
       λ v. covered (record { from = v.from; char = v.char; stands = v.stands; begins = omega arith; ends = omega arith }),
+    )
+
+-- A code that ends a window is a piece of the list, and no code lies over its front.
+pub back_char : (code : ℕ → List ℕ) → IsCode code → (xs : List ℕ) (i j s n : ℕ) → i ≤ j → j ≤ length xs → EndsWith code (slice_range xs i j) s n
+    → IsPiece code xs (char_at code (j - n) s) × (n ≡ length (code s)) × (i + n ≤ j) × (Inside code xs (j - n) → ⊥)
+back_char code c xs i j s n lo le h =
+    let w = ends_in_whole code xs i j s n lo le h in
+    ((w.0, refl), w.1, w.2, λ v. not_inside code c xs (j - n) s w.0 v)
+
+-- Where no code ends a window whose ends lie inside no standing code, its last element is a fault of the list.
+pub back_fault : (code : ℕ → List ℕ) (xs : List ℕ) (i j : ℕ) → (Inside code xs i → ⊥) → (Inside code xs j → ⊥) → i < j → j ≤ length xs
+    → NoCodeEnds code (slice_range xs i j) → IsPiece code xs (fault_at (j - 1)) × (Inside code xs (j - 1) → ⊥)
+back_fault code xs i j lo hi lt le none =
+    let covered : Covered code xs (j - 1) → ⊥ = λ v.
+    ⊎_elim
+    (λ (out : j < v.from + length (code v.char)). hi (record { from = v.from; char = v.char; stands = v.stands; begins = omega (arith, v.begins); ends = out }))
+    (λ (fits : v.from + length (code v.char) ≤ j).
+    ⊎_elim
+    (λ (before : v.from < i). lo (record { from = v.from; char = v.char; stands = v.stands; begins = before; ends = omega (arith, v.ends) }))
+    (λ (ge : i ≤ v.from). none v.char (length (code v.char)) (ends_in_part code xs i j v.from v.char ge le v.stands (omega (arith, v.ends))))
+    (cases_lt v.from i))
+    (cases_lt j (v.from + length (code v.char))) in (
+      (omega arith, refl, covered),
+      λ v. covered (record { from = v.from; char = v.char; stands = v.stands; begins = omega (arith, v.begins); ends = v.ends }),
     )
 
 -- no piece begins within another

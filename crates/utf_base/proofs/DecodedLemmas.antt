@@ -7,17 +7,18 @@ use Rattle.utf_base.specs.declared.errors.scalars.CodepointError.{CodepointError
 use Rattle.utf_base.specs.declared.errors.units.Utf16SliceError.{Utf16SliceError}
 use Rattle.utf_base.specs.declared.errors.units.Utf16ArrayError.{Utf16ArrayError}
 use Rattle.utf_base.specs.declared.errors.units.Utf16TupleError.{Utf16TupleError}
+use Rattle.utf_base.specs.declared.errors.units.Utf16PairError.{Utf16PairError}
 use Rattle.utf_base.specs.Scalar.{IsScalar}
 use Rattle.utf_base.specs.Code.{utf8, utf16}
-use Rattle.utf_base.specs.Decoded.{decoded, decoded_bytes, decoded_units, decoded_two, decoded_tuple, decoded_number, units_asked, unless_fault, GivesChar, GivesFirst, DecodesWhole}
+use Rattle.utf_base.specs.Decoded.{decoded, decoded_bytes, decoded_units, decoded_pairs, decoded_two, decoded_tuple, decoded_number, units_asked, unless_fault, GivesChar, GivesFirst, DecodesWhole}
 use Rattle.utf_base.specs.Front.{as_scalar, BeginsWith, IsOneCode, IsFrontLen, DecodesFront, DecodesBytes, DecodesUnits, DecodesTwoUnits, DecodesTuple, DecodesNumber}
 use Rattle.utf_base.specs.Kinds.{fault_kind, asked_by, value}
 use Rattle.utf_base.specs.Piece.{Stands}
 use Rattle.utf_base.specs.Refused.{number_fault}
-use Rattle.utf_base.specs.Units.{is_padded_units, is_surrogate, is_leading_surrogate, is_trailing_surrogate, pair_value, unit_value, tuple_value, units_of, array_fault, tuple_fault}
+use Rattle.utf_base.specs.Units.{is_padded_units, is_surrogate, is_leading_surrogate, is_trailing_surrogate, pair_value, unit_value, tuple_value, units_of, array_fault, tuple_fault, unit_fault_kind}
 use Rattle.utf_base.proofs.FrontLemmas.{decodes_from_stands, code_where_no_fault, no_fault_where_code}
 use Rattle.utf_base.proofs.Standing.{same_char, stands_alone}
-use Rattle.utf_base.proofs.UnitLemmas.{no_fault_where_units}
+use Rattle.utf_base.proofs.UnitLemmas.{no_fault_where_units, no_kind_where_units}
 use Rattle.utf_base.proofs.Utf8Code.{utf8_is_code, length_utf8}
 use Rattle.utf_base.proofs.Utf16Code.{length_utf16, StandsAsUnit, StandsAsPair, stands_cases, begins_with_pair, utf16_is_code, utf16-1, unit_value-unit, unit_value-pair}
 
@@ -90,6 +91,16 @@ answer_of_units w (Ok (s, n)) h =
     let tell = units_tell w s h.0 in
     rw (no_fault_where_units w s h.0, tell.char, tell.len, h.1) refl
 answer_of_units w (Err k) h = rw h refl
+
+pub decoded_pairs_code : (w : List ℕ) (s : ℕ) → Stands utf16 w 0 s → decoded_pairs w ≡ Ok (s, length (utf16 s))
+unfolding decoded_pairs
+decoded_pairs_code w s h =
+    let tell = units_tell w s h in
+    rw (no_kind_where_units w s h, tell.char, tell.len) refl
+
+pub decoded_pairs_kind : (w : List ℕ) (k : Utf16PairError) → unit_fault_kind w ≡ Some k → decoded_pairs w ≡ Err k
+unfolding decoded_pairs
+decoded_pairs_kind w k h = rw h refl
 
 pub answer_of_two : (w : List ℕ) (r : Result ℕ Utf16ArrayError) → DecodesTwoUnits as_scalar w r → r ≡ decoded_two w
 unfolding decoded_two

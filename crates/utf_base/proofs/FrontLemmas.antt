@@ -90,7 +90,7 @@ pub asked_le : (b : ℕ) → asked b ≤ 4
 unfolding asked
 asked_le b = grind (arith, common_steps)
 
-asked-no_continuation : (b : ℕ) → 0 < asked b → is_continuation b ≡ false
+pub asked-no_continuation : (b : ℕ) → 0 < asked b → is_continuation b ≡ false
 unfolding asked
 asked-no_continuation b h = grind (arith, common_steps)
 

@@ -1,4 +1,5 @@
 pub mod Standing
+pub mod Ending
 pub mod Utf8Code
 pub mod Cuts
 pub mod FrontLemmas
@@ -8,3 +9,11 @@ pub mod KindCases
 pub mod Utf16Code
 pub mod UnitLemmas
 pub mod DecodedLemmas
+pub mod JoinedCodes
+pub mod MergerLemmas
+pub mod EndLemmas
+pub mod Walks
+pub mod WalkPieces
+pub mod WalkWords
+pub mod ByteWalks
+pub mod BackLemmas

@@ -1,14 +1,19 @@
 -- Units have the code of a scalar at their front, or exactly one fault.
-use Rattle.std.proofs.Common.{◌≡◌, ℕ, ◌<◌, ◌≤◌, ◌⊎◌, inl, inr, ⊎_elim, List, length, get_or, arith, refl, true, false, Bool, eqb, Some, None}
+use Rattle.std.proofs.Common.{◌≡◌, ℕ, ◌<◌, ◌≤◌, ◌⊎◌, inl, inr, ⊎_elim, List, length, get_or, take, arith, refl, ap, sym, ◌∙◌, true, false, not, Bool, eqb, lit<, Option, Some, None}
 use Rattle.std.proofs.lemmas.Grind.{common_steps}
 use Rattle.std.proofs.lemmas.Bool.{cases_lt}
+use Rattle.std.proofs.lemmas.List.{get_or-take}
+use Rattle.std.specs.Option.{option_map}
+use Rattle.std.specs.Prelude.{if◌then◌else◌}
 use Rattle.utf_base.specs.declared.errors.units.Utf16SliceError.{Utf16SliceError}
 use Rattle.utf_base.specs.declared.errors.units.Utf16SliceError.TheVariants as slice
+use Rattle.utf_base.specs.declared.errors.units.Utf16PairError.{Utf16PairError}
+use Rattle.utf_base.specs.declared.errors.units.Utf16PairError.TheVariants as pair
 use Rattle.utf_base.specs.Code.{utf16}
-use Rattle.utf_base.specs.KindLaws.{UnitsCodeOrOneFault}
+use Rattle.utf_base.specs.KindLaws.{UnitsCodeOrOneFault, UnitsCodeOrOneKind, TwoUnitsDecide}
 use Rattle.utf_base.specs.Piece.{Stands}
 use Rattle.utf_base.specs.Scalar.{IsUnits}
-use Rattle.utf_base.specs.Units.{slice_fault, unit_value, is_leading_surrogate, is_trailing_surrogate, is_surrogate}
+use Rattle.utf_base.specs.Units.{slice_fault, unit_fault_kind, unit_value, is_leading_surrogate, is_trailing_surrogate, is_surrogate}
 use Rattle.utf_base.proofs.Cuts.{Finds}
 use Rattle.utf_base.proofs.Utf16Code.{StandsAsUnit, StandsAsPair, stands_cases, begins_with_unit, begins_with_pair, utf16_is_code, unit_value-unit, unit_value-pair}
 
@@ -139,3 +144,63 @@ utf16_finds w =
     other)
     (front_of_units w some))
     (zero_or_more (length w))
+
+-- The forward kind of units: the fault of a slice by another name.
+
+abbrev pub pair_error : Utf16SliceError → Utf16PairError
+pair_error slice.EmptySlice = pair.Incomplete
+pair_error slice.FirstIsTrailingSurrogate = pair.UnexpectedTrailingSurrogate
+pair_error slice.MissingSecond = pair.Incomplete
+pair_error slice.SecondIsNotTrailingSurrogate = pair.UnmatchedLeadingSurrogate
+
+kind_of_fault : (w : List ℕ) → unit_fault_kind w ≡ option_map pair_error (slice_fault w)
+unfolding unit_fault_kind slice_fault
+kind_of_fault w = by_tests (eqb (length w) 0) (is_trailing_surrogate (get_or w 0 0)) (is_leading_surrogate (get_or w 0 0)) (eqb (length w) 1) (is_trailing_surrogate (get_or w 1 0))
+  where
+    by_tests : (empty trail lead alone second : Bool)
+        → (if empty then Some pair.Incomplete
+        else if trail then Some pair.UnexpectedTrailingSurrogate
+        else if not lead then None
+        else if alone then Some pair.Incomplete
+        else if not second then Some pair.UnmatchedLeadingSurrogate
+        else None)
+        ≡ option_map pair_error
+        (if empty then Some slice.EmptySlice
+        else if trail then Some slice.FirstIsTrailingSurrogate
+        else if not lead then None
+        else if alone then Some slice.MissingSecond
+        else if not second then Some slice.SecondIsNotTrailingSurrogate
+        else None)
+    by_tests true trail lead alone second = refl
+    by_tests false true lead alone second = refl
+    by_tests false false false alone second = refl
+    by_tests false false true true second = refl
+    by_tests false false true false false = refl
+    by_tests false false true false true = refl
+
+pub kind_from_fault : (w : List ℕ) (e : Utf16SliceError) → slice_fault w ≡ Some e → unit_fault_kind w ≡ Some (pair_error e)
+kind_from_fault w e h = kind_of_fault w ∙ ap (option_map pair_error) h
+
+pub no_kind_where_units : (w : List ℕ) (s : ℕ) → Stands utf16 w 0 s → unit_fault_kind w ≡ None
+no_kind_where_units w s h = kind_of_fault w ∙ ap (option_map pair_error) (no_fault_where_units w s h)
+
+-- a kind excludes a code
+pub no_units_where_kind : (w : List ℕ) (k : Utf16PairError) (s : ℕ) → unit_fault_kind w ≡ Some k → Stands utf16 w 0 s → ⊥
+no_units_where_kind w k s e h = let none = no_kind_where_units w s h in cc
+
+pub units_where_no_kind : (w : List ℕ) → IsUnits w → unit_fault_kind w ≡ None → Stands utf16 w 0 (unit_value w)
+units_where_no_kind w units none = code_of_units w units (no_fault (slice_fault w) (sym (kind_of_fault w) ∙ none))
+  where
+    no_fault : (f : Option Utf16SliceError) → option_map pair_error f ≡ None → f ≡ None
+    no_fault None e = refl
+    no_fault (Some k) e = absurd cc
+
+pub units_code_or_one_kind : UnitsCodeOrOneKind
+units_code_or_one_kind = record { code = units_where_no_kind; fault = no_kind_where_units }
+
+pub two_units_decide : TwoUnitsDecide
+unfolding unit_fault_kind
+two_units_decide w =
+    let empty : eqb (length (take 2 w)) 0 ≡ eqb (length w) 0 = grind (arith, common_steps) in
+    let alone : eqb (length (take 2 w)) 1 ≡ eqb (length w) 1 = grind (arith, common_steps) in
+    rw (empty, alone, get_or-take 2 w 0 0 (lit< tt), get_or-take 2 w 1 0 (lit< tt)) refl

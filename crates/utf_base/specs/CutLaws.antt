@@ -1,6 +1,9 @@
 -- The laws of codes and cuts, generic in the code. The functions of `laws` prove each for UTF-8.
-use Rattle.std.specs.Prelude.{◌≡◌, ℕ, ◌+◌, ◌<◌, ◌≤◌, List, [], ◌∷◌, length, Some, slice_index}
+use Rattle.std.specs.Prelude.{◌≡◌, ℕ, ◌+◌, ◌<◌, ◌≤◌, List, [], ◌∷◌, length, All, Some, is_some, slice_index, true}
+use Rattle.std.specs.List.{flat_map}
+use Rattle.utf_base.specs.Scalar.{IsScalar}
 use Rattle.utf_base.specs.Code.{utf8}
+use Rattle.utf_base.specs.Ends.{EndsWith}
 use Rattle.utf_base.specs.Piece.{Stands, Piece, IsPiece, IsCut, end_of}
 
 -- two codes that stand in one list are the same at one place, and else the first ends before the other begins
@@ -21,6 +24,10 @@ OnePieceBegins code = (xs : List ℕ) (x y : Piece) → IsPiece code xs x → Is
 
 abbrev pub OnePieceEnds : (ℕ → List ℕ) → Type 0
 OnePieceEnds code = (xs : List ℕ) (x y : Piece) → IsPiece code xs x → IsPiece code xs y → end_of x ≡ end_of y → x ≡ y
+
+-- at most one code ends a list
+abbrev pub OneCodeEnds : (ℕ → List ℕ) → Type 0
+OneCodeEnds code = (w : List ℕ) (s t n m : ℕ) → EndsWith code w s n → EndsWith code w t m → (s ≡ t) × (n ≡ m)
 
 -- the first piece begins at i, each other where the one before it ends, and the last ends at j
 abbrev pub Follow : ℕ → List Piece → ℕ → Type 0
@@ -44,3 +51,22 @@ abbrev pub AsciiStandsAlone : Type 0
 AsciiStandsAlone =
     (xs : List ℕ) (p : ℕ) → p < length xs → slice_index xs p < 0x80
     → IsPiece utf8 xs (record { start = p; len = 1; char = Some (slice_index xs p) })
+
+-- the list is the codes of these scalars, joined
+abbrev pub IsJoined : (ℕ → List ℕ) → List ℕ → List ℕ → Type 0
+IsJoined code xs scalars = All IsScalar scalars × (xs ≡ flat_map code scalars)
+
+-- the pieces that the codes of some scalars make, where the first begins at i and each other where the one before it ends
+abbrev pub char_pieces : (ℕ → List ℕ) → ℕ → List ℕ → List Piece
+char_pieces code i [] = []
+char_pieces code i (s ∷ scalars) = record { start = i; len = length (code s); char = Some s } ∷ char_pieces code (i + length (code s)) scalars
+
+-- each piece is a standing code
+abbrev pub HaveNoFault : List Piece → Type 0
+HaveNoFault ps = All (λ x. is_some x.char ≡ true) ps
+
+-- a cut has no fault exactly where its list is the codes of some scalars, joined, and then they are its pieces in order
+pub record NoFaultInJoinedCodes (code : ℕ → List ℕ) : Type 0 where
+  pub joined : (xs scalars : List ℕ) (ps : List Piece) → IsJoined code xs scalars → IsCut code xs ps → ps ≡ char_pieces code 0 scalars
+  pub whole : (xs scalars : List ℕ) (ps : List Piece) → IsJoined code xs scalars → IsCut code xs ps → HaveNoFault ps
+  pub only : (xs : List ℕ) (ps : List Piece) → IsCut code xs ps → HaveNoFault ps → (scalars : List ℕ) × IsJoined code xs scalars

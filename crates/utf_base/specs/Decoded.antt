@@ -6,9 +6,10 @@ use Rattle.utf_base.specs.declared.errors.scalars.CodepointError.{CodepointError
 use Rattle.utf_base.specs.declared.errors.units.Utf16SliceError.{Utf16SliceError}
 use Rattle.utf_base.specs.declared.errors.units.Utf16ArrayError.{Utf16ArrayError}
 use Rattle.utf_base.specs.declared.errors.units.Utf16TupleError.{Utf16TupleError}
+use Rattle.utf_base.specs.declared.errors.units.Utf16PairError.{Utf16PairError}
 use Rattle.utf_base.specs.Kinds.{asked_by, value, fault_kind}
 use Rattle.utf_base.specs.Refused.{number_fault}
-use Rattle.utf_base.specs.Units.{is_leading_surrogate, unit_value, tuple_value, slice_fault, array_fault, tuple_fault}
+use Rattle.utf_base.specs.Units.{is_leading_surrogate, unit_value, tuple_value, slice_fault, array_fault, tuple_fault, unit_fault_kind}
 
 -- the answer where nothing is wrong, else what is wrong
 abbrev pub unless_fault : {A E : Type 0} → Option E → A → Result A E
@@ -31,7 +32,11 @@ units_asked u = if is_leading_surrogate u then 2 else 1
 unfoldable pub decoded_units : List ℕ → Result (ℕ × ℕ) Utf16SliceError
 decoded_units w = unless_fault (slice_fault w) (unit_value w, units_asked (slice_index w 0))
 
--- the same of two units, the second of which may be idle
+-- the same, else their forward kind
+unfoldable pub decoded_pairs : List ℕ → Result (ℕ × ℕ) Utf16PairError
+decoded_pairs w = unless_fault (unit_fault_kind w) (unit_value w, units_asked (slice_index w 0))
+
+-- the scalar whose code begins the two units, the second of which may be idle
 unfoldable pub decoded_two : List ℕ → Result ℕ Utf16ArrayError
 decoded_two w = unless_fault (array_fault (slice_index w 0) (slice_index w 1)) (unit_value w)
 

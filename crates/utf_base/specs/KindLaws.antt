@@ -1,21 +1,56 @@
 -- The laws of what is wrong with a list that no code begins.
-use Rattle.std.specs.Prelude.{◌≡◌, ℕ, List, take, None}
+use Rattle.std.specs.Prelude.{◌≡◌, ℕ, ◌<◌, ◌≤◌, List, length, take, Some, None, true, false, [], ◌∷◌}
+use Rattle.utf_base.specs.declared.errors.Utf8ErrorKind.TheVariants.{TooFewBytes, InterruptedSequence}
 use Rattle.utf_base.specs.Scalar.{IsUnits}
 use Rattle.utf_base.specs.Code.{utf8, utf16}
-use Rattle.utf_base.specs.Kinds.{fault_kind, value}
+use Rattle.utf_base.specs.Kinds.{asked_by, fault_kind, is_broken, merger_kind, value, back_kind}
+use Rattle.utf_base.specs.Ends.{last_of, EndsWith, NoCodeEnds}
 use Rattle.utf_base.specs.Piece.{Stands}
-use Rattle.utf_base.specs.Units.{slice_fault, unit_value}
+use Rattle.utf_base.specs.Units.{slice_fault, unit_fault_kind, unit_value}
 
 -- bytes have no fault exactly where a code begins them, which is that of their value
 pub record CodeOrOneFault : Type 0 where
   pub code : (w : List ℕ) → fault_kind w ≡ None → Stands utf8 w 0 (value w)
   pub fault : (w : List ℕ) (s : ℕ) → Stands utf8 w 0 s → fault_kind w ≡ None
 
+-- the same of the merger's kind
+pub record MergerCodeOrOneFault : Type 0 where
+  pub code : (w : List ℕ) → merger_kind w ≡ None → Stands utf8 w 0 (value w)
+  pub fault : (w : List ℕ) (s : ℕ) → Stands utf8 w 0 s → merger_kind w ≡ None
+
 -- units have no fault, as a slice of them, exactly where a code begins them
 pub record UnitsCodeOrOneFault : Type 0 where
   pub code : (w : List ℕ) → IsUnits w → slice_fault w ≡ None → Stands utf16 w 0 (unit_value w)
   pub fault : (w : List ℕ) (s : ℕ) → Stands utf16 w 0 s → slice_fault w ≡ None
 
+-- and no forward kind exactly there
+pub record UnitsCodeOrOneKind : Type 0 where
+  pub code : (w : List ℕ) → IsUnits w → unit_fault_kind w ≡ None → Stands utf16 w 0 (unit_value w)
+  pub fault : (w : List ℕ) (s : ℕ) → Stands utf16 w 0 s → unit_fault_kind w ≡ None
+
 -- the forward kind depends on the first four bytes alone
 abbrev pub FourBytesDecide : Type 0
 FourBytesDecide = (w : List ℕ) → fault_kind (take 4 w) ≡ fault_kind w
+
+-- so does the merger's
+abbrev pub FourBytesDecideMerger : Type 0
+FourBytesDecideMerger = (w : List ℕ) → merger_kind (take 4 w) ≡ merger_kind w
+
+-- decoder and merger see the same fault, but where fewer bytes are left than the first asks for and one that is there breaks
+-- the code
+pub record KindsDiffer : Type 0 where
+  pub enough : (w : List ℕ) → asked_by w ≤ length w → merger_kind w ≡ fault_kind w
+  pub unbroken : (w : List ℕ) → is_broken w ≡ false → merger_kind w ≡ fault_kind w
+  pub decoder : (w : List ℕ) → length w < asked_by w → is_broken w ≡ true → fault_kind w ≡ Some TooFewBytes
+  pub merger : (w : List ℕ) → length w < asked_by w → is_broken w ≡ true → merger_kind w ≡ Some InterruptedSequence
+  pub few : (w : List ℕ) → length w < asked_by w → length w ≤ 3
+
+-- the forward kind of units depends on the first two alone
+abbrev pub TwoUnitsDecide : Type 0
+TwoUnitsDecide = (w : List ℕ) → unit_fault_kind (take 2 w) ≡ unit_fault_kind w
+
+-- a last byte below 0x80 is the code that ends the bytes, and one that no code ends with has its backward kind, which
+-- is its forward kind by itself
+pub record CodeOrLastByte : Type 0 where
+  pub code : (w : List ℕ) → 0 < length w → last_of w < 0x80 → EndsWith utf8 w (last_of w) 1
+  pub fault : (w : List ℕ) → 0 < length w → NoCodeEnds utf8 w → (0x80 ≤ last_of w) × (fault_kind (last_of w ∷ []) ≡ Some (back_kind (last_of w)))

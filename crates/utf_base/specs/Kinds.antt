@@ -62,3 +62,22 @@ fault_kind w =
     else if nat_lt (length w) (asked_by w) then Some TooFewBytes
     else if not (followers_continue w) then Some InterruptedSequence
     else value_fault w
+
+-- the byte at k is there and is asked for by the first one, and is no continuation byte
+abbrev pub breaks_at : List ℕ → ℕ → Bool
+breaks_at w k = nat_lt k (length w) && not (continues_at w k)
+
+-- some byte that the first one asks for is there, and is no continuation byte
+abbrev pub is_broken : List ℕ → Bool
+is_broken w = breaks_at w 1 || breaks_at w 2 || breaks_at w 3
+
+-- the kind of a merger, which reads a byte at a time: it sees a byte that breaks a code before it sees that others are missing
+unfoldable pub merger_kind : List ℕ → Option Utf8ErrorKind
+merger_kind w = if is_broken w then Some InterruptedSequence else fault_kind w
+
+-- the backward kind of a byte from 0x80 on that no code ends with: what is wrong with it by itself
+unfoldable pub back_kind : ℕ → Utf8ErrorKind
+back_kind b =
+    if is_continuation b then UnexpectedContinuationByte
+    else if asked b == 0 then NonUtf8Byte
+    else TooFewBytes

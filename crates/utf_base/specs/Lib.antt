@@ -4,8 +4,12 @@ pub mod Units
 pub mod Piece
 pub mod Kinds
 pub mod Front
+pub mod Ends
+pub mod Back
 pub mod Decoded
 pub mod CutLaws
 pub mod KindLaws
+pub mod Walk
+pub mod WalkLaws
 pub mod Texts
 pub mod Refused

@@ -8,6 +8,8 @@ use Rattle.utf_base.specs.declared.errors.units.Utf16ArrayError.{Utf16ArrayError
 use Rattle.utf_base.specs.declared.errors.units.Utf16ArrayError.TheVariants as array
 use Rattle.utf_base.specs.declared.errors.units.Utf16TupleError.{Utf16TupleError}
 use Rattle.utf_base.specs.declared.errors.units.Utf16TupleError.TheVariants as tuple
+use Rattle.utf_base.specs.declared.errors.units.Utf16PairError.{Utf16PairError}
+use Rattle.utf_base.specs.declared.errors.units.Utf16PairError.TheVariants as pair
 
 -- the unit begins a pair, ends one, does either
 abbrev pub is_leading_surrogate : ℕ → Bool
@@ -78,3 +80,13 @@ second_fault u (Some v) =
 
 abbrev pub tuple_fault : ℕ → Option ℕ → Option Utf16TupleError
 tuple_fault u second = if is_trailing_surrogate u then Some tuple.FirstIsTrailingSurrogate else second_fault u second
+
+-- the forward kind of units, which a decoder of many answers
+unfoldable pub unit_fault_kind : List ℕ → Option Utf16PairError
+unit_fault_kind w =
+    if length w == 0 then Some pair.Incomplete
+    else if is_trailing_surrogate (slice_index w 0) then Some pair.UnexpectedTrailingSurrogate
+    else if not (is_leading_surrogate (slice_index w 0)) then None
+    else if length w == 1 then Some pair.Incomplete
+    else if not (is_trailing_surrogate (slice_index w 1)) then Some pair.UnmatchedLeadingSurrogate
+    else None

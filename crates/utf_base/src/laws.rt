@@ -4,8 +4,13 @@
 //! calling the function, or takes the lemma behind it from `proofs/`.
 ghost use Rattle.utf_base.specs.Code.{utf8, utf16};
 ghost use Rattle.utf_base.specs.CutLaws.{CodesNeverOverlap, PiecesNeverOverlap, OnePieceBegins, OnePieceEnds};
-ghost use Rattle.utf_base.specs.CutLaws.{CutsFollow, CutExists, CutIsUnique, AsciiStandsAlone};
-ghost use Rattle.utf_base.specs.KindLaws.{CodeOrOneFault, UnitsCodeOrOneFault, FourBytesDecide};
+ghost use Rattle.utf_base.specs.CutLaws.{CutsFollow, CutExists, CutIsUnique, NoFaultInJoinedCodes};
+ghost use Rattle.utf_base.specs.CutLaws.{AsciiStandsAlone, OneCodeEnds};
+ghost use Rattle.utf_base.specs.KindLaws.{CodeOrOneFault, UnitsCodeOrOneFault, UnitsCodeOrOneKind};
+ghost use Rattle.utf_base.specs.KindLaws.{FourBytesDecide, TwoUnitsDecide, MergerCodeOrOneFault};
+ghost use Rattle.utf_base.specs.KindLaws.{FourBytesDecideMerger, KindsDiffer, CodeOrLastByte};
+ghost use Rattle.utf_base.specs.Walk.{utf8_bytes};
+ghost use Rattle.utf_base.specs.WalkLaws.{WalkExists, WalkIsUnique, WalkStaysOutside, WalkGivesEachOnce};
 
 /// Two codes that stand in one list are the same place or share no element.
 pub fn codes_never_overlap()
@@ -31,6 +36,12 @@ pub fn one_piece_ends()
     ensures utf16 { OnePieceEnds utf16 }
 {}
 
+/// At most one code ends a list.
+pub fn one_code_ends()
+    ensures utf8 { OneCodeEnds utf8 }
+    ensures utf16 { OneCodeEnds utf16 }
+{}
+
 /// The pieces of a cut follow each other without gap or overlap, from the front of the list to its
 /// end.
 pub fn cuts_follow()
@@ -50,6 +61,13 @@ pub fn cut_is_unique()
     ensures utf16 { CutIsUnique utf16 }
 {}
 
+/// A cut has no fault exactly where its list is the codes of some scalars, joined, and its pieces are then
+/// these scalars in order.
+pub fn no_fault_in_joined_codes()
+    ensures utf8 { NoFaultInJoinedCodes utf8 }
+    ensures utf16 { NoFaultInJoinedCodes utf16 }
+{}
+
 /// A byte below 0x80 is a piece of its own: no error hides an ASCII character.
 pub fn ascii_stands_alone()
     ensures { AsciiStandsAlone }
@@ -60,12 +78,63 @@ pub fn code_or_one_fault()
     ensures { CodeOrOneFault }
 {}
 
+/// The same of the kind that a merger gives.
+pub fn merger_code_or_one_fault()
+    ensures { MergerCodeOrOneFault }
+{}
+
+/// Bytes that no code ends have a last byte from 0x80 on, whose backward kind is what is wrong with it
+/// by itself.
+pub fn code_or_last_byte()
+    ensures { CodeOrLastByte }
+{}
+
 /// Units have the code of a scalar at their front, or exactly one fault of a slice, and never both.
 pub fn units_code_or_one_fault()
     ensures { UnitsCodeOrOneFault }
 {}
 
-/// The forward kind depends on the first four bytes alone, on fewer where there are fewer.
+/// Units have the code of a scalar at their front, or exactly one forward kind, and never both.
+pub fn units_code_or_one_kind()
+    ensures { UnitsCodeOrOneKind }
+{}
+
+/// The forward kind depends on the first four bytes alone, on fewer where there are fewer, and so does the
+/// kind that a merger gives.
 pub fn four_bytes_decide()
-    ensures { FourBytesDecide }
+    ensures decoder { FourBytesDecide }
+    ensures merger { FourBytesDecideMerger }
+{}
+
+/// A merger gives the forward kind, but where fewer bytes are left than the first asks for and one that is
+/// there is no continuation byte: then the forward kind is `TooFewBytes`, the merger's is
+/// `InterruptedSequence`, and at most three bytes are left.
+pub fn kinds_differ()
+    ensures { KindsDiffer }
+{}
+
+/// The forward kind of units depends on the first two alone, on one where there is one.
+pub fn two_units_decide()
+    ensures { TwoUnitsDecide }
+{}
+
+/// Every word has a walk over every list of bytes.
+pub fn walk_exists()
+    ensures { WalkExists utf8_bytes }
+{}
+
+/// No word has two: bytes and word decide every answer.
+pub fn walk_is_unique()
+    ensures { WalkIsUnique utf8_bytes }
+{}
+
+/// After each letter of a walk, neither end of the window lies inside the encoding of a scalar.
+pub fn walk_stays_outside()
+    ensures { WalkStaysOutside utf8_bytes }
+{}
+
+/// The pieces that a walk answers are different pieces of the cut, and once none is left they are, in
+/// the order of their places, all of it.
+pub fn walk_gives_each_once()
+    ensures { WalkGivesEachOnce utf8_bytes }
 {}

@@ -2,3 +2,4 @@
 pub(crate) mod number;
 pub(crate) mod utf16;
 pub(crate) mod utf8;
+pub(crate) mod utf8_end;

@@ -9,6 +9,7 @@ ghost use Rattle.std.specs.Result.{OkIff};
 ghost use Rattle.std.specs.Str.{IsCharBoundary};
 ghost use Rattle.std.proofs.Common.{rules};
 ghost use Rattle.utf_base.specs.Scalar.{IsScalar};
+ghost use Rattle.utf_base.specs.Back.{DecodesEnd, decoded_end, IsWholeCode};
 ghost use Rattle.utf_base.specs.Code.{utf8};
 ghost use Rattle.utf_base.specs.Decoded.{decoded, decoded_bytes};
 ghost use Rattle.utf_base.specs.Front.{as_scalar, BeginsWith, DecodesFront, DecodesBytes, IsFrontLen};
@@ -17,14 +18,14 @@ ghost use Rattle.utf_chars.specs.Chars.{ascii_lowercase, ascii_uppercase, Begins
 ghost use Rattle.utf_chars.specs.Chars.{first_of_text, parsed, Parses};
 ghost use Rattle.utf_chars.specs.Padded.{padded, IsPadded, HasRoom};
 
-use crate::codes::utf8;
+use crate::codes::{utf8, utf8_end};
 use crate::utf16_char::Utf16Char;
 use std::cmp::Ordering;
 use std::fmt;
 use std::hash::{Hash, Hasher};
 use std::marker::Model;
 use std::str::FromStr;
-use utf_base::errors::{EmptyStrError, FromStrError, NonAsciiError, Utf8Error};
+use utf_base::errors::{EmptyStrError, FromStrError, NonAsciiError, Utf8Error, Utf8ErrorKind};
 
 /// A Unicode scalar value, kept as its code in UTF-8. Contracts see it as the scalar.
 ///
@@ -110,6 +111,42 @@ impl Utf8Char {
         ensures len { IsFrontLen 4 src.now result.1 }
     {
         Utf8Char::from_slice_start(src).unwrap()
+    }
+
+    /// The character whose code ends the bytes, and how many bytes the code has: 1 to 4.
+    ///
+    /// Where no code ends them, the error is that of the last byte by itself: a continuation byte is
+    /// `UnexpectedContinuationByte`, one that begins a code of more bytes is `TooFewBytes`, and one that
+    /// no code has is `NonUtf8Byte`. No byte at all is `TooFewBytes`.
+    ///
+    /// No more than the last four bytes matter.
+    #[inline(always)]
+    pub fn from_slice_end(src: &[u8]) -> Result<(Utf8Char, usize), Utf8Error>
+        ensures decodes { DecodesEnd as_scalar src.now result }
+        ensures known { result ≡ decoded_end src.now }
+        ensures len { IfOk result (λ x. IsFrontLen 4 src.now x.1) }
+    {
+        if src.is_empty() {
+            return Err(Utf8Error::new(Utf8ErrorKind::TooFewBytes));
+        }
+        let len = utf8_end::followers_at_end(src) + 1;
+        if len <= src.len() {
+            if let Some(c) = Utf8Char::from_whole(&src[src.len() - len..]) {
+                return Ok((c, len));
+            }
+        }
+        Err(utf8_end::fault_of_last(src[src.len() - 1]))
+    }
+
+    // The character whose code all of the bytes are.
+    #[inline(always)]
+    fn from_whole(src: &[u8]) -> Option<Utf8Char>
+        ensures { IsWholeCode src.now result }
+    {
+        match Utf8Char::from_slice_start(src) {
+            Ok((c, len)) if len == src.len() => Some(c),
+            _ => None,
+        }
     }
 
     /// The character whose code begins the four bytes. Those behind the code are not kept.

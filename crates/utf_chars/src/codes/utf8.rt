@@ -149,9 +149,9 @@ fn continuation(bits: u32) -> u32
     0x80 | bits & 0x3f
 }
 
-// Whether the byte has the form of one behind the first of a code.
+/// Whether the byte has the form of one behind the first of a code.
 #[inline(always)]
-fn continues(byte: u8) -> bool
+pub(crate) fn continues(byte: u8) -> bool
     ensures { result ≡ is_continuation byte }
 {
     byte & 0xc0 == 0x80

@@ -1,0 +1,18 @@
+-- Whole runs: items that are the pieces of a list's cut, in order. All of it is generic in the code.
+use Rattle.std.specs.Prelude.{◌≡◌, ℕ, List, map, drop, All, Option, Some, Result, IfErr}
+use Rattle.utf_base.specs.Piece.{IsCut}
+pub use Rattle.utf_base.specs.Walk.{piece_of}
+use Rattle.encode_unicode.specs.Window.{Placed}
+
+-- an error is the kind of the elements from its place on
+abbrev pub HasKind : {E : Type 0} → (List ℕ → Option E) → List ℕ → Placed E → Type 0
+HasKind kind xs x = IfErr x.1 (λ k. kind (drop x.0 xs) ≡ Some k)
+
+-- the items are the pieces of the cut in order, the faults with their kinds
+pub record IsRun {E : Type 0} (code : ℕ → List ℕ) (kind : List ℕ → Option E) (xs : List ℕ) (items : List (Placed E)) : Type 0 where
+  pub cut : IsCut code xs (map piece_of items)
+  pub kinds : All (HasKind kind xs) items
+
+-- the answers of a run, without their places and lengths
+abbrev pub answers_of : {E : Type 0} → List (Placed E) → List (Result ℕ E)
+answers_of items = map (λ x. x.1) items

@@ -1,0 +1,22 @@
+-- What a scan from the end of a window takes and answers.
+use Rattle.std.specs.Prelude.{◌≡◌, ℕ, ◌+◌, ◌<◌, ◌≤◌, List, length, Some, None, Result, Ok, Err}
+use Rattle.utf_base.specs.declared.errors.Utf8ErrorKind.{Utf8ErrorKind}
+use Rattle.utf_base.specs.declared.errors.Utf8ErrorKind.TheVariants.{UnexpectedContinuationByte}
+use Rattle.utf_base.specs.Back.{IsWholeCode}
+use Rattle.encode_unicode.specs.Window.{Window, elements}
+
+-- a scan of n bytes took a step for each that it looked at: at least one, at most four, and no more than there are
+pub record IsScanned (old new n : ℕ) : Type 0 where
+  pub least : old + 1 ≤ new
+  pub most : new ≤ old + 4
+  pub within : new ≤ old + n
+
+-- the steps of one call of `next_back_counted`: those of a scan, and none at the empty window
+pub record BackSteps (w : Window) (old new : ℕ) : Type 0 where
+  pub some : w.front < w.back → IsScanned old new (length (elements w))
+  pub none : w.front ≡ w.back → new ≡ old
+
+-- the scalar whose code all of the bytes are, with its length, else the kind of a continuation byte
+abbrev pub IsWholeOrUnexpected : List ℕ → Result (ℕ × ℕ) Utf8ErrorKind → Type 0
+IsWholeOrUnexpected w (Ok x) = IsWholeCode w (Some x.0) × (x.1 ≡ length w)
+IsWholeOrUnexpected w (Err k) = IsWholeCode w None × (k ≡ UnexpectedContinuationByte)

@@ -1,0 +1,106 @@
+//! The code that ends a window, found by a scan from its end.
+ghost use Rattle.std.specs.Prelude.{◌≡◌, ◌+◌, ◌-◌, ◌<◌, ◌≤◌, ◌++◌, drop, replicate, length};
+ghost use Rattle.utf_base.specs.declared.errors.Utf8ErrorKind.TheVariants.{UnexpectedContinuationByte};
+ghost use Rattle.utf_base.specs.Back.{DecodesEnd};
+ghost use Rattle.utf_base.specs.Front.{as_scalar};
+ghost use Rattle.utf_base.specs.Kinds.{is_continuation};
+ghost use Rattle.encode_unicode.specs.Scan.{IsScanned, IsWholeOrUnexpected};
+
+use crate::steps::Steps;
+use utf_base::errors::{Utf8Error, Utf8ErrorKind};
+use utf_chars::utf8_char::Utf8Char;
+
+/// The character whose code ends the bytes, and how many bytes the code has, else what is wrong with the
+/// last byte.
+#[inline(always)]
+pub(crate) fn decode_end(bytes: &[u8], steps: &mut Steps) -> Result<(Utf8Char, usize), Utf8Error>
+    requires { 0 < length bytes.now }
+    ensures decodes { DecodesEnd as_scalar bytes.now result }
+    ensures steps { IsScanned steps.old steps.new (length bytes.now) }
+{
+    let n = bytes.len();
+    if n < 4 {
+        return scan(padded(bytes), n, steps);
+    }
+    scan(
+        [bytes[n - 4], bytes[n - 3], bytes[n - 2], bytes[n - 1]],
+        4,
+        steps,
+    )
+}
+
+// Fewer than four bytes, behind zeros.
+#[inline(always)]
+fn padded(bytes: &[u8]) -> [u8; 4]
+    requires { length bytes.now ≤ 3 }
+    ensures { result ≡ replicate (4 - length bytes.now) 0 ++ bytes.now }
+{
+    match bytes.len() {
+        0 => [0, 0, 0, 0],
+        1 => [0, 0, 0, bytes[0]],
+        2 => [0, 0, bytes[0], bytes[1]],
+        _ => [0, bytes[0], bytes[1], bytes[2]],
+    }
+}
+
+// The scan itself. `bytes` are the last four bytes, with 00 for each place that is not there, and `count` is
+// how many are there: so there is nothing else that it could look at. It looks at one byte after another, from
+// the last one on, and ticks once for each, until one is no continuation byte or none is left.
+#[inline(always)]
+fn scan(bytes: [u8; 4], count: usize, steps: &mut Steps) -> Result<(Utf8Char, usize), Utf8Error>
+    requires some { 1 ≤ count }
+    requires most { count ≤ 4 }
+    ensures decodes { DecodesEnd as_scalar (drop (4 - count) bytes) result }
+    ensures steps { IsScanned steps.old steps.new count }
+{
+    steps.tick();
+    if !continues(bytes[3]) {
+        return Utf8Char::from_slice_start(&bytes[3..]);
+    }
+    if count == 1 {
+        return Err(unexpected());
+    }
+    steps.tick();
+    if !continues(bytes[2]) {
+        return whole_or_unexpected(&bytes[2..]);
+    }
+    if count == 2 {
+        return Err(unexpected());
+    }
+    steps.tick();
+    if !continues(bytes[1]) {
+        return whole_or_unexpected(&bytes[1..]);
+    }
+    if count == 3 {
+        return Err(unexpected());
+    }
+    steps.tick();
+    whole_or_unexpected(&bytes)
+}
+
+// Whether the byte has the form of one behind the first of a code.
+#[inline(always)]
+fn continues(byte: u8) -> bool
+    ensures { result ≡ is_continuation byte }
+{
+    byte & 0xc0 == 0x80
+}
+
+// The character whose code all of the bytes are, else the error of a continuation byte.
+#[inline(always)]
+fn whole_or_unexpected(bytes: &[u8]) -> Result<(Utf8Char, usize), Utf8Error>
+    ensures { IsWholeOrUnexpected bytes.now result }
+{
+    match Utf8Char::from_slice_start(bytes) {
+        Ok((c, len)) if len == bytes.len() => Ok((c, len)),
+        _ => Err(unexpected()),
+    }
+}
+
+// The error of a continuation byte that no code ends with.
+#[inline(always)]
+fn unexpected() -> Utf8Error
+    ensures { result ≡ UnexpectedContinuationByte }
+{
+    Utf8Error::new(Utf8ErrorKind::UnexpectedContinuationByte)
+}

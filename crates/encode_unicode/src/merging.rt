@@ -1,0 +1,49 @@
+//! What the two mergers share.
+ghost use Rattle.std.specs.Prelude.{◌≡◌, ◌<◌, true, false, IfNone};
+ghost use Rattle.encode_unicode.specs.Mergers.{hint_until, merge_hint};
+ghost use Rattle.encode_unicode.specs.Reading.{Reads, as_list};
+
+use crate::splitting::hint_of;
+
+/// One element more, if the source has one. A source that has ended is not asked again.
+#[inline(always)]
+pub(crate) fn read<T, I: Iterator<Item = T>>(source: &mut I, ended: &mut bool) -> Option<T>
+    requires { ended.old ≡ false → I.can_next source.old }
+    ensures reads { Reads I.can_next I.remaining I.next_gives source.old ended.old (as_list result) source.new ended.new }
+    ensures ends { IfNone result (ended.new ≡ true) }
+{
+    if *ended {
+        return None;
+    }
+    match source.next() {
+        None => {
+            *ended = true;
+            None
+        }
+        Some(x) => Some(x),
+    }
+}
+
+/// The hint of a source, of which nothing more comes once it has ended.
+#[inline(always)]
+pub(crate) fn hint_of_source(hint: (usize, Option<usize>), ended: bool) -> (usize, Option<usize>)
+    ensures { result ≡ hint_until ended hint }
+{
+    let (low, high) = hint;
+    (if ended { 0 } else { low }, high)
+}
+
+/// The hint of a merger, of its source's: `held` elements are held, and a code has at most `most`. The
+/// upper bound is none where it does not fit.
+#[inline(always)]
+pub(crate) fn merged_hint(
+    source: (usize, Option<usize>),
+    most: usize,
+    held: usize,
+) -> (usize, Option<usize>)
+    requires { 0 < most }
+    ensures { result ≡ merge_hint most held source }
+{
+    let (_, high) = hint_of(source, 1, held);
+    (source.0 / most, high)
+}

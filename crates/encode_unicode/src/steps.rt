@@ -1,0 +1,42 @@
+//! A count of steps, for contracts alone.
+ghost use Rattle.std.specs.Prelude.{◌≡◌, ◌+◌};
+
+use std::marker::Model;
+use utf_base::tally::Tally;
+
+/// How many steps were taken. Contracts see it as a number without a bound; at run time it is nothing.
+///
+/// A call that takes steps, as `Utf8CharDecoder::next_back_counted` does, ticks once for each, and its
+/// contract says how many they are at most.
+#[derive(Drop)]
+pub struct Steps {
+    taken: Tally,
+}
+
+impl Model for Steps {
+    ghost use Rattle.std.specs.Prelude.{ℕ};
+
+    ghost Value = { ℕ };
+
+    ghost view = { λ s. s.taken.count };
+}
+
+impl Steps {
+    /// No steps so far.
+    #[inline(always)]
+    pub fn new() -> Steps
+        ensures { result ≡ 0 }
+    {
+        Steps {
+            taken: Tally::new(),
+        }
+    }
+
+    /// One step more.
+    #[inline(always)]
+    pub fn tick(&mut self)
+        ensures { self.new ≡ self.old + 1 }
+    {
+        self.taken.tick();
+    }
+}

@@ -1,0 +1,156 @@
+//! The iterator that cuts a slice of units into characters and errors.
+ghost use Rattle.std.specs.Prelude.{◌≡◌, ◌-◌, ◌/◌, ◌<◌, [], IfSome, Some, ⊤, length, List, ℕ};
+ghost use Rattle.std.specs.Iterator.{at_most, UpTo};
+ghost use Rattle.std.specs.Iterator.SizeHint.{IsWithinCount};
+ghost use Rattle.utf_base.specs.Code.{utf16};
+ghost use Rattle.utf_base.specs.Decoded.{decoded_pairs};
+ghost use Rattle.utf_base.specs.Front.{IsFrontLen};
+ghost use Rattle.utf_base.specs.Units.{slice_fault, unit_fault_kind};
+ghost use Rattle.encode_unicode.specs.Hints.{BoundsUnitPieces};
+ghost use Rattle.encode_unicode.specs.Window.{whole_window, elements, as_piece, IsFrontOf, NextGivesUnits};
+
+use std::alloc::AllocError;
+use std::fmt;
+use std::marker::Model;
+use utf_base::errors::{Utf16PairError, Utf16SliceError};
+use utf_chars::utf16_char::Utf16Char;
+
+/// Cuts a slice of units into the characters that stand in it and single faulty units.
+///
+/// An item is the offset of the piece from the front of the slice that the decoder was made from, the
+/// character or what is wrong with the unit, and the piece's length in units. An error always has
+/// length 1: the unit behind it is judged anew. Which error a surrogate gives is decided by what is left:
+/// it ends no pair, or what stands behind it ends none, or nothing stands there (RFC 2781, section 2.2).
+#[derive(Drop)]
+pub struct Utf16CharDecoder<'a> {
+    slice: &'a [u16],
+    front: usize,
+    back: usize,
+}
+
+impl<'a> Model for Utf16CharDecoder<'a> {
+    ghost use Rattle.std.specs.Prelude.{◌≤◌, length};
+    ghost use Rattle.encode_unicode.specs.Window.{Window};
+
+    ghost Value = { Window };
+
+    ghost view = { λ d. record { whole = d.slice.now; front = d.front; back = d.back } };
+
+    ghost invariant = { λ d. (d.front ≤ d.back) × (d.back ≤ length d.slice.now) };
+}
+
+impl<'a> From<&'a [u16]> for Utf16CharDecoder<'a> {
+    ghost from_gives = { λ slice decoder. decoder ≡ whole_window slice.now };
+
+    #[inline(always)]
+    fn from(slice: &'a [u16]) -> Utf16CharDecoder<'a> {
+        Utf16CharDecoder {
+            slice,
+            front: 0,
+            back: slice.len(),
+        }
+    }
+}
+
+impl<'a> Default for Utf16CharDecoder<'a> {
+    ghost is_default = { λ decoder. decoder ≡ whole_window [] };
+
+    /// The decoder of no units.
+    fn default() -> Utf16CharDecoder<'a> {
+        let none: &'a [u16] = &[];
+        Utf16CharDecoder::from(none)
+    }
+}
+
+impl<'a> Utf16CharDecoder<'a> {
+    /// The units that no call has answered for yet, lent from the slice for as long as it lives.
+    #[inline(always)]
+    pub fn as_slice(&self) -> &'a [u16]
+        ensures { result.now ≡ elements self.now }
+    {
+        &self.slice[self.front..self.back]
+    }
+}
+
+impl<'a> Iterator for Utf16CharDecoder<'a> {
+    type Item = (usize, Result<Utf16Char, Utf16PairError>, usize);
+
+    ghost next_gives = { NextGivesUnits };
+
+    ghost remaining = { λ w. at_most (w.back - w.front) };
+
+    #[inline(always)]
+    fn next(&mut self) -> Option<(usize, Result<Utf16Char, Utf16PairError>, usize)> {
+        if self.front == self.back {
+            return None;
+        }
+        let place = self.front;
+        let (answer, len) = first_piece(&self.slice[place..self.back]);
+        self.front += len;
+        Some((place, answer, len))
+    }
+
+    /// Half of the units that are left, rounded down, and all of them.
+    #[inline]
+    fn size_hint(&self) -> (usize, Option<usize>)
+        ensures lower { IsWithinCount result.0 (at_most (self.now.back - self.now.front)) }
+        ensures upper { IfSome result.1 (UpTo (at_most (self.now.back - self.now.front))) }
+        ensures exact { result ≡ ((self.now.back - self.now.front) / 2, Some (self.now.back - self.now.front)) }
+        ensures bounds { BoundsUnitPieces (elements self.now) result }
+    {
+        let left = self.back - self.front;
+        (left / 2, Some(left))
+    }
+}
+
+impl<'a> Clone for Utf16CharDecoder<'a> {
+    ghost is_clone = { λ window copy. copy ≡ window };
+
+    ghost is_infallible = { λ _. ⊤ };
+
+    fn clone(&self) -> Result<Utf16CharDecoder<'a>, AllocError> {
+        Ok(Utf16CharDecoder {
+            slice: self.slice,
+            front: self.front,
+            back: self.back,
+        })
+    }
+}
+
+impl<'a> fmt::Debug for Utf16CharDecoder<'a> {
+    fn fmt<W: fmt::Write>(&self, f: &mut fmt::Formatter<W>) -> fmt::Result {
+        write!(
+            f,
+            "Utf16CharDecoder {{ units[{}..]: {:?} }}",
+            self.front,
+            self.as_slice()
+        )
+    }
+}
+
+// The piece that begins some units, and its length.
+#[inline(always)]
+fn first_piece(units: &[u16]) -> (Result<Utf16Char, Utf16PairError>, usize)
+    requires { 0 < length units.now }
+    ensures piece { IsFrontOf utf16 unit_fault_kind units.now result.0 result.1 }
+    ensures known { (result.0, result.1) ≡ as_piece (decoded_pairs units.now) }
+    ensures len { IsFrontLen 2 units.now result.1 }
+{
+    match Utf16Char::from_slice_start(units) {
+        Ok((c, len)) => (Ok(c), len),
+        Err(error) => (Err(pair_error(error)), 1),
+    }
+}
+
+// The fault of a slice as that of one piece of it.
+#[inline(always)]
+fn pair_error(error: Utf16SliceError) -> Utf16PairError
+    ensures { (w : List ℕ) → slice_fault w ≡ Some error → unit_fault_kind w ≡ Some result }
+{
+    match error {
+        Utf16SliceError::FirstIsTrailingSurrogate => Utf16PairError::UnexpectedTrailingSurrogate,
+        Utf16SliceError::SecondIsNotTrailingSurrogate => Utf16PairError::UnmatchedLeadingSurrogate,
+        Utf16SliceError::MissingSecond => Utf16PairError::Incomplete,
+        Utf16SliceError::EmptySlice => Utf16PairError::Incomplete,
+    }
+}

@@ -1,0 +1,279 @@
+//! Characters, and what is wrong, from the units of an iterator.
+ghost use Rattle.std.specs.Prelude.{◌≡◌, ℕ, List, [], length, IsOk, IfOk, IfSome, false};
+ghost use Rattle.std.specs.Iterator.{UpTo};
+ghost use Rattle.std.specs.Iterator.SizeHint.{IsWithinCount};
+ghost use Rattle.utf_base.specs.Code.{utf16};
+ghost use Rattle.utf_base.specs.Units.{is_leading_surrogate, unit_fault_kind};
+ghost use Rattle.encode_unicode.specs.Mergers.{unasked, unread, unread_count, IsHeldUnits, IsSpent, MergerNext, MergesHint};
+ghost use Rattle.encode_unicode.specs.Mergers.{RemainingNext, RemainsHint};
+ghost use Rattle.encode_unicode.specs.Reading.{Answers, JudgesUnit};
+ghost use Rattle.encode_unicode.specs.Sources.{GivesTheSame};
+
+use crate::held_unit::HeldUnit;
+use crate::merging::{hint_of_source, merged_hint, read};
+use crate::splitting::hint_of;
+use std::alloc::AllocError;
+use std::fmt;
+use std::marker::Model;
+use utf_base::errors::Utf16PairError;
+use utf_base::traits::U16UtfExt;
+use utf_chars::utf16_char::Utf16Char;
+
+/// Cuts the units of an iterator into characters and single faulty units.
+///
+/// An error is for one unit, and the one behind it is judged anew. What was read behind a leading surrogate
+/// and does not complete it is held until it has been answered for: one unit at most. Nothing is held before
+/// the first call, after a character and after `None`. The source is not asked again once it has answered
+/// `None`.
+///
+/// A trailing surrogate where a character should begin is `UnexpectedTrailingSurrogate`, a leading one
+/// before another unit `UnmatchedLeadingSurrogate`, and one at the end `Incomplete` (RFC 2781, section 2.2).
+/// Contracts see what is held, the source, and whether it has ended.
+#[derive(Drop)]
+pub struct Utf16CharMerger<I: Iterator<Item = u16>> {
+    source: I,
+    held: HeldUnit,
+    ended: bool,
+}
+
+impl<I: Iterator<Item = u16>> Model for Utf16CharMerger<I> {
+    ghost use Rattle.encode_unicode.specs.Mergers.{Merging};
+
+    ghost Value = { Merging I };
+
+    ghost view = { λ m. record { held = m.held; source = m.source; ended = m.ended } };
+}
+
+impl<I: Iterator<Item = u16>> From<I> for Utf16CharMerger<I> {
+    ghost from_gives = { λ source merger. merger ≡ unasked source };
+
+    #[inline]
+    fn from(source: I) -> Utf16CharMerger<I> {
+        Utf16CharMerger {
+            source,
+            held: HeldUnit::none(),
+            ended: false,
+        }
+    }
+}
+
+impl<I: Iterator<Item = u16> + Default> Default for Utf16CharMerger<I> {
+    ghost is_default = { λ merger. (merger ≡ unasked merger.source) × I.is_default merger.source };
+
+    #[inline]
+    fn default() -> Utf16CharMerger<I> {
+        Utf16CharMerger::from(I::default())
+    }
+}
+
+impl<I: Iterator<Item = u16>> Iterator for Utf16CharMerger<I> {
+    type Item = Result<Utf16Char, Utf16PairError>;
+
+    ghost can_next = { λ m. m.ended ≡ false → I.can_next m.source };
+
+    ghost next_gives = { MergerNext utf16 unit_fault_kind IsHeldUnits I.next_gives };
+
+    ghost remaining = { unread_count I.remaining };
+
+    #[inline(always)]
+    fn next(&mut self) -> Option<Result<Utf16Char, Utf16PairError>> {
+        let first = match self.held.next() {
+            Some(unit) => unit,
+            None => read(&mut self.source, &mut self.ended)?,
+        };
+        Some(answer(first, &mut self.held, &mut self.source, &mut self.ended))
+    }
+
+    /// Half of the source's lower bound, rounded down, and its upper bound with the held unit added. Once
+    /// the source has ended its lower bound counts as 0.
+    #[inline]
+    fn size_hint(&self) -> (usize, Option<usize>)
+        ensures lower { IsWithinCount result.0 (unread_count I.remaining self.now) }
+        ensures upper { IfSome result.1 (UpTo (unread_count I.remaining self.now)) }
+        ensures merged { MergesHint utf16 2 I.remaining self.now result }
+    {
+        let source = hint_of_source(self.source.size_hint(), self.ended);
+        merged_hint(source, 2, self.held.len())
+    }
+}
+
+impl<I: Iterator<Item = u16>> Utf16CharMerger<I> {
+    /// The source as it stands. What is held is lost, which is something only after an error.
+    #[inline]
+    pub fn into_inner(self) -> I
+        ensures source { result ≡ self.source }
+        ensures held { IsHeldUnits self.held }
+        ensures whole { (rest : I → List ℕ) → IsSpent rest self.source self.ended → self.held ≡ [] → rest result ≡ unread rest self }
+    {
+        let _ = self.held.len();
+        let Utf16CharMerger {
+            source,
+            held: _,
+            ended: _,
+        } = self;
+        source
+    }
+
+    /// The units that no call has answered for: what is held, and then what the source still gives.
+    #[inline]
+    pub fn into_remaining_units(self) -> RemainingUnits<I>
+        ensures { result ≡ self }
+    {
+        let Utf16CharMerger {
+            source,
+            held,
+            ended,
+        } = self;
+        RemainingUnits {
+            source,
+            held,
+            ended,
+        }
+    }
+
+    /// A second merger with the same units to come, where a clone of the source gives the same items. It
+    /// answers as the source's `clone` does.
+    pub fn clone(&self) -> Result<Utf16CharMerger<I>, AllocError>
+    where
+        I: Clone,
+        ensures source { IfOk result (λ m. I.is_clone self.now.source m.source) }
+        ensures held { IfOk result (λ m. m.held ≡ self.now.held) }
+        ensures ended { IfOk result (λ m. m.ended ≡ self.now.ended) }
+        ensures same { IfOk result (λ m. (rest : I → List ℕ) → GivesTheSame I.is_clone rest self.now.source → unread rest m ≡ unread rest self.now) }
+        ensures succeeds { I.is_infallible self.now.source → IsOk result }
+    {
+        Ok(Utf16CharMerger {
+            source: self.source.clone()?,
+            held: self.held.copy(),
+            ended: self.ended,
+        })
+    }
+}
+
+impl<I: Iterator<Item = u16> + fmt::Debug> fmt::Debug for Utf16CharMerger<I> {
+    fn fmt<W: fmt::Write>(&self, f: &mut fmt::Formatter<W>) -> fmt::Result {
+        f.debug_struct("Utf16CharMerger")
+            .field("buffered", &self.held)
+            .field("inner", &self.source)
+            .finish()
+    }
+}
+
+// The answer for a unit that has left the merger, which holds nothing then. What is read behind it is held
+// where it is no part of the answer.
+#[inline(always)]
+fn answer<I: Iterator<Item = u16>>(
+    first: u16,
+    held: &mut HeldUnit,
+    source: &mut I,
+    ended: &mut bool,
+) -> Result<Utf16Char, Utf16PairError>
+    requires can { ended.old ≡ false → I.can_next source.old }
+    requires none { held.old ≡ [] }
+    ensures { Answers utf16 unit_fault_kind I.can_next I.remaining I.next_gives first [] source.old ended.old result held.new source.new ended.new }
+{
+    if !first.is_utf16_leading_surrogate() {
+        return judge(first);
+    }
+    match read(source, ended) {
+        None => Err(Utf16PairError::Incomplete),
+        Some(second) => match Utf16Char::from_array([first, second]) {
+            Ok(c) => Ok(c),
+            Err(_) => {
+                *held = HeldUnit::one(second);
+                Err(Utf16PairError::UnmatchedLeadingSurrogate)
+            }
+        },
+    }
+}
+
+// The character that is one unit, which is no leading surrogate, and an error for a trailing one.
+#[inline(always)]
+fn judge(unit: u16) -> Result<Utf16Char, Utf16PairError>
+    requires { is_leading_surrogate unit ≡ false }
+    ensures { JudgesUnit unit result }
+{
+    match Utf16Char::from_bmp(unit) {
+        Ok(c) => Ok(c),
+        Err(_) => Err(Utf16PairError::UnexpectedTrailingSurrogate),
+    }
+}
+
+/// The units that no call of a merger has answered for: the one that it held, and then those that its source
+/// still gives.
+///
+/// The source is not asked again once it has answered `None`. Contracts see what is held, the source, and
+/// whether it has ended.
+#[derive(Drop)]
+pub struct RemainingUnits<I: Iterator<Item = u16>> {
+    source: I,
+    held: HeldUnit,
+    ended: bool,
+}
+
+impl<I: Iterator<Item = u16>> Model for RemainingUnits<I> {
+    ghost use Rattle.encode_unicode.specs.Mergers.{Merging};
+
+    ghost Value = { Merging I };
+
+    ghost view = { λ m. record { held = m.held; source = m.source; ended = m.ended } };
+}
+
+impl<I: Iterator<Item = u16>> Iterator for RemainingUnits<I> {
+    type Item = u16;
+
+    ghost can_next = { λ m. m.ended ≡ false → I.can_next m.source };
+
+    ghost next_gives = { RemainingNext I.next_gives };
+
+    ghost remaining = { unread_count I.remaining };
+
+    #[inline(always)]
+    fn next(&mut self) -> Option<u16> {
+        match self.held.next() {
+            Some(unit) => Some(unit),
+            None => read(&mut self.source, &mut self.ended),
+        }
+    }
+
+    /// The source's bounds with the held unit added, as far as a `usize` goes. Once the source has ended its
+    /// lower bound counts as 0.
+    #[inline]
+    fn size_hint(&self) -> (usize, Option<usize>)
+        ensures lower { IsWithinCount result.0 (unread_count I.remaining self.now) }
+        ensures upper { IfSome result.1 (UpTo (unread_count I.remaining self.now)) }
+        ensures remains { RemainsHint I.remaining self.now result }
+    {
+        let source = hint_of_source(self.source.size_hint(), self.ended);
+        hint_of(source, 1, self.held.len())
+    }
+}
+
+impl<I: Iterator<Item = u16>> RemainingUnits<I> {
+    /// The same units once more, where a clone of the source gives the same items. It answers as the
+    /// source's `clone` does.
+    pub fn clone(&self) -> Result<RemainingUnits<I>, AllocError>
+    where
+        I: Clone,
+        ensures source { IfOk result (λ m. I.is_clone self.now.source m.source) }
+        ensures held { IfOk result (λ m. m.held ≡ self.now.held) }
+        ensures ended { IfOk result (λ m. m.ended ≡ self.now.ended) }
+        ensures same { IfOk result (λ m. (rest : I → List ℕ) → GivesTheSame I.is_clone rest self.now.source → unread rest m ≡ unread rest self.now) }
+        ensures succeeds { I.is_infallible self.now.source → IsOk result }
+    {
+        Ok(RemainingUnits {
+            source: self.source.clone()?,
+            held: self.held.copy(),
+            ended: self.ended,
+        })
+    }
+}
+
+impl<I: Iterator<Item = u16> + fmt::Debug> fmt::Debug for RemainingUnits<I> {
+    fn fmt<W: fmt::Write>(&self, f: &mut fmt::Formatter<W>) -> fmt::Result {
+        f.debug_struct("RemainingUnits")
+            .field("buffered", &self.held)
+            .field("inner", &self.source)
+            .finish()
+    }
+}

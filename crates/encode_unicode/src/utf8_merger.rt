@@ -1,0 +1,274 @@
+//! Characters, and what is wrong, from the bytes of an iterator.
+ghost use Rattle.std.specs.Prelude.{◌≡◌, ◌<◌, ◌≤◌, ℕ, List, [], length, IsOk, IfOk, IfSome, false, ◌&&◌, nat_le, nat_lt};
+ghost use Rattle.std.specs.Iterator.{UpTo};
+ghost use Rattle.std.specs.Iterator.SizeHint.{IsWithinCount};
+ghost use Rattle.utf_base.specs.Code.{utf8};
+ghost use Rattle.utf_base.specs.Kinds.{asked_by, is_continuation, merger_kind};
+ghost use Rattle.encode_unicode.specs.Mergers.{unasked, unread, unread_count, IsHeldBytes, IsSpent, MergerNext, MergesHint};
+ghost use Rattle.encode_unicode.specs.Reading.{Answers, Completes, Follows, JudgesBytes, JudgesHeld};
+ghost use Rattle.encode_unicode.specs.Sources.{GivesTheSame};
+
+use crate::held_bytes::HeldBytes;
+use crate::merging::{hint_of_source, merged_hint, read};
+use std::alloc::AllocError;
+use std::fmt;
+use std::marker::Model;
+use utf_base::errors::{Utf8Error, Utf8ErrorKind};
+use utf_chars::utf8_char::Utf8Char;
+
+/// Cuts the bytes of an iterator into characters and single faulty bytes.
+///
+/// An error is for one byte, and those behind it are judged anew, so that no error hides an ASCII
+/// character. A byte is read only where the ones before it ask for it, and what was read behind a faulty
+/// byte is held until it has been answered for: at most three bytes. Nothing is held before the first
+/// call, after a character and after `None`. The source is not asked again once it has answered `None`.
+///
+/// Errors are those of `CharExt::from_utf8_slice_start`, with one difference: where the source ends early,
+/// and one of the bytes that it still gave breaks the code, the error is `InterruptedSequence` and not
+/// `TooFewBytes`. Contracts see what is held, the source, and whether it has ended.
+#[derive(Drop)]
+pub struct Utf8CharMerger<I: Iterator<Item = u8>> {
+    source: I,
+    held: HeldBytes,
+    ended: bool,
+}
+
+impl<I: Iterator<Item = u8>> Model for Utf8CharMerger<I> {
+    ghost use Rattle.encode_unicode.specs.Mergers.{IsHeldBytes, Merging};
+
+    ghost Value = { Merging I };
+
+    ghost view = { λ m. record { held = m.held; source = m.source; ended = m.ended } };
+
+    ghost invariant = { λ m. IsHeldBytes m.held };
+}
+
+impl<I: Iterator<Item = u8>> From<I> for Utf8CharMerger<I> {
+    ghost from_gives = { λ source merger. merger ≡ unasked source };
+
+    #[inline]
+    fn from(source: I) -> Utf8CharMerger<I> {
+        Utf8CharMerger {
+            source,
+            held: HeldBytes::none(),
+            ended: false,
+        }
+    }
+}
+
+impl<I: Iterator<Item = u8> + Default> Default for Utf8CharMerger<I> {
+    ghost is_default = { λ merger. (merger ≡ unasked merger.source) × I.is_default merger.source };
+
+    #[inline]
+    fn default() -> Utf8CharMerger<I> {
+        Utf8CharMerger::from(I::default())
+    }
+}
+
+impl<I: Iterator<Item = u8>> Iterator for Utf8CharMerger<I> {
+    type Item = Result<Utf8Char, Utf8Error>;
+
+    ghost can_next = { λ m. m.ended ≡ false → I.can_next m.source };
+
+    ghost next_gives = { MergerNext utf8 merger_kind IsHeldBytes I.next_gives };
+
+    ghost remaining = { unread_count I.remaining };
+
+    #[inline(always)]
+    fn next(&mut self) -> Option<Result<Utf8Char, Utf8Error>> {
+        let first = match self.held.next() {
+            Some(byte) => byte,
+            None => read(&mut self.source, &mut self.ended)?,
+        };
+        Some(answer(first, &mut self.held, &mut self.source, &mut self.ended))
+    }
+
+    /// A quarter of the source's lower bound, rounded down, and its upper bound with the held bytes added.
+    /// Once the source has ended its lower bound counts as 0.
+    #[inline]
+    fn size_hint(&self) -> (usize, Option<usize>)
+        ensures lower { IsWithinCount result.0 (unread_count I.remaining self.now) }
+        ensures upper { IfSome result.1 (UpTo (unread_count I.remaining self.now)) }
+        ensures merged { MergesHint utf8 4 I.remaining self.now result }
+    {
+        let source = hint_of_source(self.source.size_hint(), self.ended);
+        merged_hint(source, 4, self.held.len())
+    }
+}
+
+impl<I: Iterator<Item = u8>> Utf8CharMerger<I> {
+    /// The source as it stands. What is held is lost, which is something only after an error.
+    #[inline]
+    pub fn into_inner(self) -> I
+        ensures source { result ≡ self.source }
+        ensures held { IsHeldBytes self.held }
+        ensures whole { (rest : I → List ℕ) → IsSpent rest self.source self.ended → self.held ≡ [] → rest result ≡ unread rest self }
+    {
+        let Utf8CharMerger {
+            source,
+            held: _,
+            ended: _,
+        } = self;
+        source
+    }
+
+    /// A second merger with the same bytes to come, where a clone of the source gives the same items. It
+    /// answers as the source's `clone` does.
+    pub fn clone(&self) -> Result<Utf8CharMerger<I>, AllocError>
+    where
+        I: Clone,
+        ensures source { IfOk result (λ m. I.is_clone self.now.source m.source) }
+        ensures held { IfOk result (λ m. m.held ≡ self.now.held) }
+        ensures ended { IfOk result (λ m. m.ended ≡ self.now.ended) }
+        ensures same { IfOk result (λ m. (rest : I → List ℕ) → GivesTheSame I.is_clone rest self.now.source → unread rest m ≡ unread rest self.now) }
+        ensures succeeds { I.is_infallible self.now.source → IsOk result }
+    {
+        Ok(Utf8CharMerger {
+            source: self.source.clone()?,
+            held: self.held.copy(),
+            ended: self.ended,
+        })
+    }
+}
+
+impl<I: Iterator<Item = u8> + fmt::Debug> fmt::Debug for Utf8CharMerger<I> {
+    fn fmt<W: fmt::Write>(&self, f: &mut fmt::Formatter<W>) -> fmt::Result {
+        f.debug_struct("Utf8CharMerger")
+            .field("buffered", &self.held)
+            .field("inner", &self.source)
+            .finish()
+    }
+}
+
+// Why no character was found, and what was read behind the byte in question.
+#[derive(Drop)]
+pub(crate) struct Fault {
+    kind: Utf8ErrorKind,
+    held: HeldBytes,
+}
+
+// The answer for a byte that has left the merger. What is read behind it is held where it is no part of the
+// answer; where something is held already, the byte is a continuation byte, and nothing is read.
+#[inline(always)]
+fn answer<I: Iterator<Item = u8>>(
+    first: u8,
+    held: &mut HeldBytes,
+    source: &mut I,
+    ended: &mut bool,
+) -> Result<Utf8Char, Utf8Error>
+    requires can { ended.old ≡ false → I.can_next source.old }
+    requires alone { is_continuation first ≡ false → held.old ≡ [] }
+    requires held { IsHeldBytes held.old }
+    ensures answers { Answers utf8 merger_kind I.can_next I.remaining I.next_gives first held.old source.old ended.old result held.new source.new ended.new }
+    ensures held { IsHeldBytes held.new }
+{
+    if !begins_many(first) {
+        return judge(&[first]);
+    }
+    match complete(first, source, ended) {
+        Ok(c) => Ok(c),
+        Err(fault) => {
+            *held = fault.held;
+            Err(Utf8Error::new(fault.kind))
+        }
+    }
+}
+
+// Whether the byte is the first of a code of two bytes or more.
+#[inline(always)]
+fn begins_many(first: u8) -> bool
+    ensures { result ≡ (nat_le 0xC2 first && nat_lt first 0xF5) }
+{
+    0xc2 <= first && first <= 0xf4
+}
+
+// Whether the byte has the form of one behind the first of a code.
+#[inline(always)]
+fn continues(byte: u8) -> bool
+    ensures { result ≡ is_continuation byte }
+{
+    byte & 0xc0 == 0x80
+}
+
+// The character whose code the bytes are, or what is wrong, where none is missing.
+#[inline(always)]
+fn judge(bytes: &[u8]) -> Result<Utf8Char, Utf8Error>
+    requires some { 0 < length bytes.now }
+    requires enough { asked_by bytes.now ≤ length bytes.now }
+    requires exact { 1 < length bytes.now → asked_by bytes.now ≡ length bytes.now }
+    ensures { JudgesBytes bytes.now result }
+{
+    match Utf8Char::from_slice_start(bytes) {
+        Ok((c, _)) => Ok(c),
+        Err(error) => Err(error),
+    }
+}
+
+// The character that begins with the byte, which asks for others: they are read one by one, up to the first
+// that breaks the code.
+#[inline(always)]
+fn complete<I: Iterator<Item = u8>>(
+    first: u8,
+    source: &mut I,
+    ended: &mut bool,
+) -> Result<Utf8Char, Fault>
+    requires low { 0xC2 ≤ first }
+    requires high { first < 0xF5 }
+    requires can { ended.old ≡ false → I.can_next source.old }
+    ensures { Completes I.can_next I.remaining I.next_gives first source.old ended.old result source.new ended.new }
+{
+    let second = follower(HeldBytes::none(), source, ended)?;
+    if first < 0xe0 {
+        return judge_and_hold(&[first, second], HeldBytes::one(second));
+    }
+    let third = follower(HeldBytes::one(second), source, ended)?;
+    if first < 0xf0 {
+        return judge_and_hold(&[first, second, third], HeldBytes::two(second, third));
+    }
+    let fourth = follower(HeldBytes::two(second, third), source, ended)?;
+    judge_and_hold(
+        &[first, second, third, fourth],
+        HeldBytes::three(second, third, fourth),
+    )
+}
+
+// The next byte, where it is a continuation byte. `before` are those that were read before it, behind the
+// first byte.
+#[inline(always)]
+fn follower<I: Iterator<Item = u8>>(
+    before: HeldBytes,
+    source: &mut I,
+    ended: &mut bool,
+) -> Result<u8, Fault>
+    requires few { length before ≤ 2 }
+    requires can { ended.old ≡ false → I.can_next source.old }
+    ensures { Follows I.can_next I.remaining I.next_gives before source.old ended.old result source.new ended.new }
+{
+    match read(source, ended) {
+        None => Err(Fault {
+            kind: Utf8ErrorKind::TooFewBytes,
+            held: before,
+        }),
+        Some(byte) if continues(byte) => Ok(byte),
+        Some(byte) => Err(Fault {
+            kind: Utf8ErrorKind::InterruptedSequence,
+            held: before.followed_by(byte),
+        }),
+    }
+}
+
+// The character whose code the bytes are, or what is wrong and what is to be held then.
+#[inline(always)]
+fn judge_and_hold(bytes: &[u8], held: HeldBytes) -> Result<Utf8Char, Fault>
+    requires some { 0 < length bytes.now }
+    requires exact { asked_by bytes.now ≡ length bytes.now }
+    ensures { JudgesHeld bytes.now held result }
+{
+    match judge(bytes) {
+        Ok(c) => Ok(c),
+        Err(error) => Err(Fault {
+            kind: error.kind(),
+            held,
+        }),
+    }
+}

@@ -1,0 +1,16 @@
+-- A place in some bytes that may be damaged, between two of their pieces.
+use Rattle.std.specs.Prelude.{◌≡◌, ℕ, ◌≤◌, List, length}
+use Rattle.encode_unicode.specs.Code.{utf8}
+use Rattle.encode_unicode.specs.Piece.{Inside, Piece, IsPiece, end_of}
+
+-- no code lies over the place
+pub record IsBetween (xs : List ℕ) (p : ℕ) : Type 0 where
+  pub within : p ≤ length xs
+  pub outside : ¬ Inside utf8 xs p
+
+-- a piece of the bytes begins at i and ends at j
+pub record IsStep (xs : List ℕ) (i j : ℕ) : Type 0 where
+  pub piece : Piece
+  pub is_piece : IsPiece utf8 xs piece
+  pub begins : piece.start ≡ i
+  pub ends : end_of piece ≡ j

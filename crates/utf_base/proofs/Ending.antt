@@ -1,0 +1,76 @@
+-- The code that ends a list: at most one, and where it stands in a list of which that one is a part.
+use Rattle.std.proofs.Common.{◌≡◌, ℕ, ◌+◌, ◌-◌, ◌<◌, ◌≤◌, ⊎_elim, List, length, take, arith, refl, ap, sym, subst, ◌∙◌}
+use Rattle.std.proofs.lemmas.Grind.{common_steps}
+use Rattle.std.proofs.lemmas.Bool.{cases_lt}
+use Rattle.std.specs.Prelude.{slice_range}
+use Rattle.utf_base.specs.Code.{IsCode}
+use Rattle.utf_base.specs.CutLaws.{OneCodeEnds}
+use Rattle.utf_base.specs.Ends.{EndsWith, NoCodeEnds}
+use Rattle.utf_base.specs.Piece.{Stands}
+use Rattle.utf_base.proofs.Standing.{codes_never_overlap, stands_in_part, stands_in_whole}
+
+-- a code that ends where the list does ends the list
+pub ends_with : (code : ℕ → List ℕ) (xs : List ℕ) (p s : ℕ) → Stands code xs p s → p + length (code s) ≡ length xs → EndsWith code xs s (length (code s))
+ends_with code xs p s h e =
+    let place : p ≡ length xs - length (code s) = omega arith in
+    (rw place at h, refl)
+
+-- the place at which the code that ends a list stands
+pub ends_at : (code : ℕ → List ℕ) (xs : List ℕ) (s n : ℕ) → EndsWith code xs s n → length xs - n + length (code s) ≡ length xs
+ends_at code xs s n h = let within = h.0.within in let len = h.1 in omega arith
+
+-- no code ends a list without an element
+pub no_code_ends-empty : (code : ℕ → List ℕ) → IsCode code → (xs : List ℕ) → length xs ≡ 0 → NoCodeEnds code xs
+no_code_ends-empty code c xs e s n h = let some = c.some s h.0.scalar in let within = h.0.within in omega arith
+
+pub one_code_ends : (code : ℕ → List ℕ) → IsCode code → OneCodeEnds code
+one_code_ends code c xs s t n m h g =
+    let some_s = c.some s h.0.scalar in
+    let some_t = c.some t g.0.scalar in
+    let end_s = ends_at code xs s n h in
+    let end_t = ends_at code xs t m g in
+    let same_place : length xs - n ≡ length xs - m =
+    ⊎_elim
+    (λ (lt : length xs - n < length xs - m).
+    let first : length xs - n + length (code s) ≤ length xs - m = (codes_never_overlap code c xs (length xs - n) (length xs - m) s t h.0 g.0).1 lt in
+    absurd (omega arith))
+    (λ (le : length xs - m ≤ length xs - n).
+    ⊎_elim
+    (λ (gt : length xs - m < length xs - n).
+    let last : length xs - m + length (code t) ≤ length xs - n = (codes_never_overlap code c xs (length xs - m) (length xs - n) t s g.0 h.0).1 gt in
+    absurd (omega arith))
+    (λ (ge : length xs - n ≤ length xs - m). omega arith)
+    (cases_lt (length xs - m) (length xs - n)))
+    (cases_lt (length xs - n) (length xs - m)) in
+    let same : s ≡ t = (codes_never_overlap code c xs (length xs - n) (length xs - m) s t h.0 g.0).0 same_place in
+    (same, h.1 ∙ ap (λ x. length (code x)) same ∙ sym g.1)
+
+-- A code ends a part of a list exactly where it stands in the list and ends at the part's end.
+
+pub ends_in_part : (code : ℕ → List ℕ) (xs : List ℕ) (i j p s : ℕ) → i ≤ p → j ≤ length xs → Stands code xs p s → p + length (code s) ≡ j
+    → EndsWith code (slice_range xs i j) s (length (code s))
+ends_in_part code xs i j p s lo le h e =
+    let len : length (slice_range xs i j) ≡ j - i = grind (arith, common_steps) in
+    ends_with code (slice_range xs i j) (p - i) s (stands_in_part code xs i j (p - i) p s (omega arith) le h (omega arith)) (omega arith)
+
+pub ends_in_whole : (code : ℕ → List ℕ) (xs : List ℕ) (i j s n : ℕ) → i ≤ j → j ≤ length xs → EndsWith code (slice_range xs i j) s n
+    → Stands code xs (j - n) s × (n ≡ length (code s)) × (i + n ≤ j)
+ends_in_whole code xs i j s n lo le h =
+    let len : length (slice_range xs i j) ≡ j - i = grind (arith, common_steps) in
+    let end = ends_at code (slice_range xs i j) s n h in
+    let within = h.0.within in
+    let n_is = h.1 in
+    let w = stands_in_whole code xs i j (length (slice_range xs i j) - n) (j - n) s (omega arith) lo le h.0 in
+    (w.0, h.1, omega arith)
+
+-- the same of the part without what is behind j
+pub ends_in_take : (code : ℕ → List ℕ) (xs : List ℕ) (j p s : ℕ) → j ≤ length xs → Stands code xs p s → p + length (code s) ≡ j
+    → EndsWith code (take j xs) s (length (code s))
+ends_in_take code xs j p s le h e =
+    subst (λ n. EndsWith code (take n xs) s (length (code s))) (omega arith) (ends_in_part code xs 0 j p s (omega arith) le h e)
+
+pub ends_take : (code : ℕ → List ℕ) (xs : List ℕ) (j s n : ℕ) → j ≤ length xs → EndsWith code (take j xs) s n
+    → Stands code xs (j - n) s × (n ≡ length (code s)) × (n ≤ j)
+ends_take code xs j s n le h =
+    let w = ends_in_whole code xs 0 j s n (omega arith) le (subst (λ m. EndsWith code (take m xs) s n) (omega arith) h) in
+    (w.0, w.1, omega (arith, w.2))

@@ -1,0 +1,7 @@
+use Rattle.utf_base.specs.Walk.{utf8_bytes}
+use Rattle.utf_base.proofs.Utf8Code.{utf8_is_code}
+use Rattle.utf_base.proofs.WalkPieces.{walk_gives_each_once}
+use Rattle.utf_base.proofs.laws.walk_gives_each_once.Goals as goal
+
+pub returns : goal.returns
+returns c = walk_gives_each_once utf8_bytes utf8_is_code

@@ -1,0 +1,52 @@
+-- What the decoding of the character at the end of some bytes answers. `scalar` tells what scalar a character is.
+use Rattle.std.specs.Prelude.{◌≡◌, ℕ, ◌-◌, ◌<◌, ◌≤◌, Bool, true, false, ◌&&◌, ◌==◌, if◌then◌else◌, List, length, slice_index, slice_range, Option, Some, None, is_none, Result, Ok, Err, MatchResult}
+use Rattle.utf_base.specs.declared.errors.Utf8ErrorKind.{Utf8ErrorKind}
+use Rattle.utf_base.specs.declared.errors.Utf8ErrorKind.TheVariants.{TooFewBytes}
+use Rattle.utf_base.specs.Code.{utf8}
+use Rattle.utf_base.specs.Ends.{last_of, EndsWith, NoCodeEnds}
+use Rattle.utf_base.specs.Front.{BeginsWith}
+use Rattle.utf_base.specs.Kinds.{asked_by, value, fault_kind, back_kind, is_continuation}
+
+-- what is wrong with bytes that no code ends: the backward kind of the last one
+abbrev pub end_fault : List ℕ → Utf8ErrorKind
+end_fault w = if length w == 0 then TooFewBytes else back_kind (last_of w)
+
+-- the character whose code ends the bytes, with its length, else what is wrong with the last of them
+abbrev pub DecodesEnd : {C : Type 0} → (C → ℕ) → List ℕ → Result (C × ℕ) Utf8ErrorKind → Type 0
+DecodesEnd scalar w r = MatchResult r (λ x. EndsWith utf8 w (scalar x.0) x.1) (λ e. NoCodeEnds utf8 w × (e ≡ end_fault w))
+
+-- The same answer as a function of the bytes.
+
+-- the last n of the bytes, or all where there are fewer
+abbrev pub last_bytes : ℕ → List ℕ → List ℕ
+last_bytes n w = slice_range w (length w - n) (length w)
+
+-- the bytes are one code, and nothing more
+abbrev pub is_one_code : List ℕ → Bool
+is_one_code w = is_none (fault_kind w) && asked_by w == length w
+
+-- how many bytes the code has that ends these, or 0 where none does
+unfoldable pub end_len : List ℕ → ℕ
+end_len w =
+    if is_one_code (last_bytes 1 w) then 1
+    else if is_one_code (last_bytes 2 w) then 2
+    else if is_one_code (last_bytes 3 w) then 3
+    else if is_one_code (last_bytes 4 w) then 4
+    else 0
+
+-- the scalar whose code ends the bytes, with the code's length, else what is wrong with the last of them
+unfoldable pub decoded_end : List ℕ → Result (ℕ × ℕ) Utf8ErrorKind
+decoded_end w = if end_len w == 0 then Err (end_fault w) else Ok (value (last_bytes (end_len w) w), end_len w)
+
+-- the scalar whose code all of the bytes are, or `None` where they are no code
+abbrev pub IsWholeCode : List ℕ → Option ℕ → Type 0
+IsWholeCode w (Some s) = BeginsWith utf8 w s (length w)
+IsWholeCode w None = (s : ℕ) → ¬ BeginsWith utf8 w s (length w)
+
+-- what a scan from the end has seen: t continuation bytes, at most three, and before fewer of them one that is none, or
+-- no byte at all
+pub record EndsInFollowers (w : List ℕ) (t : ℕ) : Type 0 where
+  pub bound : t ≤ 3
+  pub within : t ≤ length w
+  pub followers : (k : ℕ) → k < t → is_continuation (slice_index w (length w - 1 - k)) ≡ true
+  pub stops : t < 3 → t < length w → is_continuation (slice_index w (length w - 1 - t)) ≡ false
