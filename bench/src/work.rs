@@ -3,6 +3,7 @@
 //!
 //! Every worker answers a checksum of all that it saw, mixed in the same way, so that answers can be compared.
 
+use crate::decoders;
 use crate::inputs::Input;
 use crate::{ends, texts};
 use encode_unicode::error::{Utf16SliceError, Utf8ErrorKind};
@@ -39,7 +40,7 @@ impl Work {
 
 /// All kinds of work, in the order of the tables.
 pub fn all() -> impl Iterator<Item = &'static Work> {
-    OF_SLICES.iter().chain(&texts::ALL).chain(&ends::ALL)
+    OF_SLICES.iter().chain(&decoders::ALL).chain(&ends::ALL).chain(&texts::ALL)
 }
 
 // The works over slices, which take faulty ones too.
@@ -107,7 +108,7 @@ extern "C" {
 }
 
 pub(crate) const FACTOR: u64 = 0x9e37_79b9_7f4a_7c15;
-const ERROR: u32 = 0x20_0000;
+pub(crate) const ERROR: u32 = 0x20_0000;
 
 #[inline(always)]
 pub(crate) fn mix(sum: u64, word: u64) -> u64 {
@@ -203,7 +204,7 @@ fn units(src: &[u16]) -> u64 {
 }
 
 // On text the same checksum. Elsewhere std does not say which fault a unit has.
-fn std_units(src: &[u16]) -> u64 {
+pub(crate) fn std_units(src: &[u16]) -> u64 {
     let mut sum = 0;
     let mut place = 0;
     for answer in char::decode_utf16(src.iter().copied()) {

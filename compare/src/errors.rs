@@ -63,6 +63,16 @@ impl ErrorNumber for Utf16SliceError {
     }
 }
 
+impl ErrorNumber for Utf16PairError {
+    fn number(&self) -> u64 {
+        match self {
+            Utf16PairError::UnexpectedTrailingSurrogate => FIRST_ERROR,
+            Utf16PairError::UnmatchedLeadingSurrogate => FIRST_ERROR + 1,
+            Utf16PairError::Incomplete => FIRST_ERROR + 2,
+        }
+    }
+}
+
 impl ErrorNumber for FromStrError {
     fn number(&self) -> u64 {
         match self {

@@ -2,6 +2,7 @@
 //!
 //! Arguments: the program `pieces`, a seed, and how many random lists of bytes to compare.
 
+mod ends;
 mod errors;
 mod inputs;
 mod kinds;
@@ -13,9 +14,11 @@ mod text_kinds;
 mod theirs;
 mod theirs_by_calls;
 mod unicode;
+mod unit_decoder;
 
 use std::path::Path;
 use std::process::ExitCode;
+use ends::Slips;
 use tally::Kind;
 
 fn main() -> ExitCode {
@@ -28,20 +31,23 @@ fn main() -> ExitCode {
         eprintln!("compare: the seed and the count are numbers");
         return ExitCode::from(2);
     };
-    let Some(kinds) = compare_all(Path::new(program), seed, count) else {
+    let Some((kinds, slips)) = compare_all(Path::new(program), seed, count) else {
         return ExitCode::from(2);
     };
-    if print_sums(&kinds) == 0 {
+    if print_sums(&kinds, &slips) == 0 {
         ExitCode::SUCCESS
     } else {
         ExitCode::FAILURE
     }
 }
 
-fn compare_all(program: &Path, seed: u64, count: usize) -> Option<Vec<Kind>> {
+fn compare_all(program: &Path, seed: u64, count: usize) -> Option<(Vec<Kind>, Slips)> {
     println!("seed {seed}, count {count}");
     let mut all = Vec::new();
     print_and_keep(&mut all, kinds::lists(seed, count));
+    let (walks, slips) = ends::walks(seed, count);
+    print_and_keep(&mut all, walks);
+    print_and_keep(&mut all, unit_decoder::lists(seed, count));
     print_and_keep(&mut all, kinds::numbers(seed));
     print_and_keep(&mut all, kinds::neighbours());
     print_and_keep(&mut all, kinds::codes(seed));
@@ -56,7 +62,7 @@ fn compare_all(program: &Path, seed: u64, count: usize) -> Option<Vec<Kind>> {
             return None;
         }
     }
-    Some(all)
+    Some((all, slips))
 }
 
 fn print_and_keep(all: &mut Vec<Kind>, kinds: Vec<Kind>) {
@@ -65,10 +71,11 @@ fn print_and_keep(all: &mut Vec<Kind>, kinds: Vec<Kind>) {
 }
 
 // Prints the sums, and answers how many differ.
-fn print_sums(kinds: &[Kind]) -> u64 {
+fn print_sums(kinds: &[Kind], slips: &Slips) -> u64 {
     let cases: u64 = kinds.iter().map(Kind::cases).sum();
     let differ: u64 = kinds.iter().map(Kind::differ).sum();
     kinds.iter().for_each(Kind::print_meant);
+    slips.print();
     println!("{cases} cases, {differ} differ");
     differ
 }

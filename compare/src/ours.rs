@@ -20,6 +20,14 @@ extern "C" {
         room: usize,
     ) -> usize;
     fn compare_c_char(number: u32, answers: *mut u64, room: usize) -> usize;
+    fn compare_c_ends(
+        src: *const u8,
+        len: usize,
+        word: *const u8,
+        call_count: usize,
+        answers: *mut u64,
+        room: usize,
+    ) -> usize;
     fn compare_c_error_text(family: u8, place: u8, answer: *mut u8, room: usize) -> usize;
     fn compare_c_forward(src: *const u8, len: usize, answers: *mut u64, room: usize) -> usize;
     fn compare_c_four_bytes(
@@ -100,7 +108,7 @@ const ROOM_PER_CALL: usize = 16;
 //
 // Each `call` below passes the pointer and the length on as the last two arguments, and a slice as its own
 // pointer and length. That, and the declarations above, is what makes the calls sound.
-fn filled(room: usize, call: impl FnOnce(*mut u64, usize) -> usize) -> Vec<u64> {
+pub fn filled(room: usize, call: impl FnOnce(*mut u64, usize) -> usize) -> Vec<u64> {
     let mut answers = vec![0; room];
     let used = call(answers.as_mut_ptr(), answers.len());
     answers.truncate(used);
@@ -116,6 +124,20 @@ pub fn forward(src: &[u8]) -> Vec<u64> {
 pub fn indices(src: &[u8]) -> Vec<u64> {
     filled(ROOM_PER_ITEM * (src.len() + 1), |at, room| unsafe {
         compare_c_indices(src.as_ptr(), src.len(), at, room)
+    })
+}
+
+/// The end of the slice, and the decoder by the word.
+pub fn ends(src: &[u8], word: &[u8]) -> Vec<u64> {
+    filled(ROOM_PER_ITEM * (word.len() + 1), |at, room| unsafe {
+        compare_c_ends(
+            src.as_ptr(),
+            src.len(),
+            word.as_ptr(),
+            word.len(),
+            at,
+            room,
+        )
     })
 }
 

@@ -1,15 +1,12 @@
 //! Works over both ends of a slice of bytes.
 use crate::{mix, number_of, word_of};
+use encode_unicode::Utf8Char;
+use encode_unicode::error::Utf8Error;
 use encode_unicode::iterator::Utf8CharDecoder;
-use encode_unicode::{Utf8Char, error::Utf8Error};
 
 // The checksum with one item more.
 #[inline(always)]
-fn mix_item(
-    sum: u64,
-    item: (usize, Result<Utf8Char, Utf8Error>, usize),
-    factor: u64,
-) -> u64 {
+fn mix_item(sum: u64, item: (usize, Result<Utf8Char, Utf8Error>, usize), factor: u64) -> u64 {
     let (place, answer, len) = item;
     let what = match answer {
         Ok(c) => c.to_char() as u32,

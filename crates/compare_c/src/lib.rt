@@ -13,6 +13,7 @@
 mod bytes;
 mod characters;
 mod codes;
+mod ends;
 mod errors;
 mod numbers;
 mod pairs;
@@ -22,5 +23,6 @@ mod shown;
 mod splitters;
 mod steps;
 mod texts;
+mod unit_decoder;
 mod units;
 mod walks;

@@ -1,7 +1,8 @@
 //! The numbers of errors, by the order of the variants of each type.
 use encode_unicode::error::{
     CodepointError, EmptyStrError, FromStrError, NonAsciiError, NonBmpError, Utf8Error,
-    Utf8ErrorKind, Utf16ArrayError, Utf16FirstUnitError, Utf16SliceError, Utf16TupleError,
+    Utf8ErrorKind, Utf16ArrayError, Utf16FirstUnitError, Utf16PairError, Utf16SliceError,
+    Utf16TupleError,
 };
 
 /// The number of the first variant of each type.
@@ -51,6 +52,14 @@ pub fn of_slice(error: Utf16SliceError) -> u64 {
         Utf16SliceError::FirstIsTrailingSurrogate => FIRST_ERROR + 1,
         Utf16SliceError::MissingSecond => FIRST_ERROR + 2,
         Utf16SliceError::SecondIsNotTrailingSurrogate => FIRST_ERROR + 3,
+    }
+}
+
+pub fn of_pair(error: Utf16PairError) -> u64 {
+    match error {
+        Utf16PairError::UnexpectedTrailingSurrogate => FIRST_ERROR,
+        Utf16PairError::UnmatchedLeadingSurrogate => FIRST_ERROR + 1,
+        Utf16PairError::Incomplete => FIRST_ERROR + 2,
     }
 }
 

@@ -5,9 +5,11 @@
 
 mod rows;
 mod runs;
+mod units;
 
 use crate::rows::Row;
 use crate::runs::Run;
+use crate::units::{UnitRow, UnitRun};
 use std::process::ExitCode;
 use std::{fs, io};
 
@@ -15,8 +17,15 @@ fn main(rt: HostRuntime) -> io::Result<ExitCode> {
     let text = fs::read_to_string(&rt, "bytes.txt")?;
     let rows = rows::parse(rt.alloc(), &text)?;
     let mut status = 0;
-    for run in [Run::Front, Run::Decoder, Run::Listing, Run::Walk] {
-        if !report(&rt, run, rows.as_slice())? {
+    for run in [Run::Front, Run::Decoder, Run::Listing, Run::Walk, Run::Merger] {
+        if !report_bytes(&rt, run, rows.as_slice())? {
+            status = 1;
+        }
+    }
+    let text = fs::read_to_string(&rt, "units.txt")?;
+    let rows = units::parse(rt.alloc(), &text)?;
+    for run in [UnitRun::Decoder, UnitRun::Merger] {
+        if !report_units(&rt, run, rows.as_slice())? {
             status = 1;
         }
     }
@@ -24,20 +33,31 @@ fn main(rt: HostRuntime) -> io::Result<ExitCode> {
 }
 
 // Prints how many of the rows agree under one kind of run, and each that does not. Answers whether all do.
-fn report(rt: &HostRuntime, run: Run, rows: &[Row<'_>]) -> io::Result<bool> {
-    let mut equal = Vec::new(rt.alloc());
+fn report_bytes(rt: &HostRuntime, run: Run, rows: &[Row<'_>]) -> io::Result<bool> {
+    let mut differing = Vec::new(rt.alloc());
     for row in rows {
-        if run.agrees(rt.alloc(), row)? {
-            equal.push(row)?;
-        } else {
-            println!(rt; "{}: differs at {}", run.name(), row.text)?;
+        if !run.agrees(rt.alloc(), row)? {
+            differing.push(row.text)?;
         }
     }
-    println!(rt;
-        "{}: {} inputs, {} equal",
-        run.name(),
-        rows.len(),
-        equal.len()
-    )?;
-    Ok(equal.len() == rows.len())
+    report(rt, run.name(), rows.len(), &differing)
+}
+
+fn report_units(rt: &HostRuntime, run: UnitRun, rows: &[UnitRow<'_>]) -> io::Result<bool> {
+    let mut differing = Vec::new(rt.alloc());
+    for row in rows {
+        if !run.agrees(rt.alloc(), row)? {
+            differing.push(row.text)?;
+        }
+    }
+    report(rt, run.name(), rows.len(), &differing)
+}
+
+fn report(rt: &HostRuntime, name: &str, count: usize, differing: &[&str]) -> io::Result<bool> {
+    for text in differing {
+        println!(rt; "{name}: differs at {text}")?;
+    }
+    let equal = count.saturating_sub(differing.len());
+    println!(rt; "{name}: {count} inputs, {equal} equal")?;
+    Ok(differing.is_empty())
 }

@@ -14,6 +14,8 @@ pub(crate) struct Row<'a> {
     pub(crate) bytes: Vec<u8>,
     /// The pieces from the front, each an offset, a length and an answer.
     pub(crate) pieces: &'a str,
+    /// The answers of a merger.
+    pub(crate) merged: &'a str,
     /// A word, and the walk by it: for each letter a piece as above, or `none`.
     pub(crate) word: Vec<End>,
     pub(crate) walk: &'a str,
@@ -33,7 +35,8 @@ pub(crate) fn parse(alloc: Global, file: &str) -> io::Result<Vec<Row<'_>>> {
 
 fn parse_row(alloc: Global, line: &str) -> io::Result<Row<'_>> {
     let mut columns = line.split('|');
-    let (Some(text), Some(pieces), Some(_)) = (columns.next(), columns.next(), columns.next())
+    let (Some(text), Some(pieces), Some(merged)) =
+        (columns.next(), columns.next(), columns.next())
     else {
         return Err(io::Error::from(ErrorKind::InvalidData));
     };
@@ -44,6 +47,7 @@ fn parse_row(alloc: Global, line: &str) -> io::Result<Row<'_>> {
         text,
         bytes: parse_bytes(alloc, text)?,
         pieces,
+        merged,
         word: parse_word(alloc, letters)?,
         walk,
     })
@@ -72,7 +76,7 @@ fn parse_bytes(alloc: Global, text: &str) -> io::Result<Vec<u8>> {
     Ok(bytes)
 }
 
-fn digit(byte: u8) -> io::Result<u8> {
+pub(crate) fn digit(byte: u8) -> io::Result<u8> {
     match byte {
         b'0'..=b'9' => Ok(byte - b'0'),
         b'a'..=b'f' => Ok(byte - b'a' + 10),

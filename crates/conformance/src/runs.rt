@@ -5,7 +5,7 @@ use cuts::counted::Counted;
 use cuts::listing::write_listing;
 use cuts::walks::walk_utf8;
 use encode_unicode::error::Utf8Error;
-use encode_unicode::{CharExt, U8SliceExt, Utf8Char};
+use encode_unicode::{CharExt, U8IterExt, U8SliceExt, Utf8Char};
 use std::alloc::{AllocError, Global};
 use std::io;
 
@@ -20,6 +20,8 @@ pub(crate) enum Run {
     Listing,
     /// The pieces from both ends, as the letters of the row's word ask for them.
     Walk,
+    /// Each answer in turn, by the merger.
+    Merger,
 }
 
 impl Run {
@@ -29,6 +31,7 @@ impl Run {
             Run::Decoder => "decoder",
             Run::Listing => "listing",
             Run::Walk => "walk",
+            Run::Merger => "merger",
         }
     }
 
@@ -39,6 +42,7 @@ impl Run {
             Run::Decoder => Ok(decoder_agrees(alloc, row)?),
             Run::Listing => listing_agrees(alloc, row),
             Run::Walk => Ok(walk_agrees(alloc, row)?),
+            Run::Merger => Ok(merger_agrees(alloc, row)?),
         }
     }
 }
@@ -102,6 +106,18 @@ fn walk_agrees(alloc: Global, row: &Row<'_>) -> Result<bool, AllocError> {
     Ok(walk.as_str() == row.walk)
 }
 
+fn merger_agrees(alloc: Global, row: &Row<'_>) -> Result<bool, AllocError> {
+    let mut run = String::new(alloc);
+    for answer in row.bytes.iter().copied().to_utf8chars() {
+        if !run.is_empty() {
+            run.push(';')?;
+        }
+        let answer = answer_text(alloc, answer.map(|c| c.to_char()))?;
+        run.push_str(&answer)?;
+    }
+    Ok(run.as_str() == row.merged)
+}
+
 // Whether the piece names an error: its answer begins with a capital letter, which no digit here is.
 fn is_error(piece: &str) -> bool {
     piece.bytes().any(|byte| byte.is_ascii_uppercase())
@@ -114,8 +130,14 @@ fn piece_text(
     answer: Result<char, Utf8Error>,
     len: usize,
 ) -> Result<String, AllocError> {
+    let answer = answer_text(alloc, answer)?;
+    format!(in alloc; "{place} {len} {answer}")
+}
+
+// An answer alone.
+fn answer_text(alloc: Global, answer: Result<char, Utf8Error>) -> Result<String, AllocError> {
     match answer {
-        Ok(c) => format!(in alloc; "{place} {len} {:06x}", c as u32),
-        Err(error) => format!(in alloc; "{place} {len} {:?}", error.kind()),
+        Ok(c) => format!(in alloc; "{:06x}", c as u32),
+        Err(error) => format!(in alloc; "{:?}", error.kind()),
     }
 }

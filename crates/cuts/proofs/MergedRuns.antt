@@ -54,17 +54,20 @@ taken code kind c old new (Err k) h =
     let len : length old ≡ suc (length new) = ap length h.1 in
     record { len = 1; front = (h.0, refl); some = omega arith; left = sym (ap (drop 1) h.1) }
 
+place_before : (xs : List ℕ) (i : ℕ) → 0 < length (drop i xs) → i < length xs
+place_before xs i some = grind (arith, common_steps)
+
 -- one answer more
 pub IsMergedSoFar-push : {E : Type 0} (code : ℕ → List ℕ) (kind : List ℕ → Option E) → IsCode code → Excludes code kind → (xs : List ℕ) (answers : List (Result ℕ E)) (old new : List ℕ) (r : Result ℕ E)
     → IsMergedSoFar code kind xs answers old → TakesFront code kind old (Some r) new → IsMergedSoFar code kind xs (answers ++ r ∷ []) new
 IsMergedSoFar-push code kind c apart xs answers old new r f h =
     let t = taken code kind c old new r h in
-    let some : 0 < length xs - f.place = rw f.behind at t.some in
+    let lt = place_before xs f.place (rw f.behind at t.some) in
     let rest : old ≡ slice_range xs f.place (length xs) = f.behind ∙ sym (take_rest xs f.place) in
     record {
       items = f.items ++ (f.place, r, t.len) ∷ [];
       place = f.place + t.len;
-      run = IsRunTo-push code kind c apart xs f.items f.place (f.place, r, t.len) f.run refl (omega arith) (rw (← rest) t.front);
+      run = IsRunTo-push code kind c apart xs f.items f.place (f.place, r, t.len) f.run refl lt (rw (← rest) t.front);
       behind = t.left ∙ ap (drop t.len) f.behind ∙ drop-drop t.len f.place xs;
       same = ap (λ rs. rs ++ r ∷ []) f.same ∙ sym map-append;
     }
@@ -88,7 +91,7 @@ pub merged_some : {E : Type 0} (code : ℕ → List ℕ) (kind : List ℕ → Op
     → IsMergedSoFar code kind xs answers old → TakesFront code kind old (Some r) new → xs ≡ [] → ⊥
 merged_some code kind c xs answers old new r f h none =
     let t = taken code kind c old new r h in
-    let some : 0 < length xs - f.place = rw f.behind at t.some in
+    let lt = place_before xs f.place (rw f.behind at t.some) in
     let empty : length xs ≡ 0 = ap length none in
     omega arith
 

@@ -7,3 +7,8 @@ pub mod Splits
 pub mod TextLemmas
 pub mod ScanLemmas
 pub mod UnitPieces
+pub mod HeldWords
+pub mod MergerSteps
+pub mod ByteMerging
+pub mod UnitMerging
+pub mod MergerHints

@@ -38,7 +38,7 @@ fits_bound : (fits : Bool) (n k : ℕ) → k ≤ n → IfSome (if fits then Some
 fits_bound true n k le = le
 fits_bound false n k le = tt
 
-upper_bound : (m h n k : ℕ) (high : Option ℕ) → IfSome high (λ j. n ≤ j) → k ≤ m * n → IfSome (split_upper m h high) (λ j. h + k ≤ j)
+pub upper_bound : (m h n k : ℕ) (high : Option ℕ) → IfSome high (λ j. n ≤ j) → k ≤ m * n → IfSome (split_upper m h high) (λ j. h + k ≤ j)
 upper_bound m h n k None le short = tt
 upper_bound m h n k (Some high) le short =
     let times : m * n ≤ m * high = mul-le-mul_left m le in

@@ -11,7 +11,7 @@ use Rattle.utf_base.specs.Code.{utf8}
 use Rattle.utf_base.specs.Front.{BeginsWith}
 use Rattle.utf_base.specs.Piece.{Stands}
 use Rattle.utf_base.specs.Scalar.{IsScalar}
-use Rattle.utf_base.proofs.Standing.{Stands-at, stands_in_whole}
+use Rattle.utf_base.proofs.Standing.{Stands-at, same_char, stands_alone, stands_in_whole}
 use Rattle.utf_base.proofs.StdText.{utf8_is_std}
 use Rattle.utf_base.proofs.Utf8Code.{utf8_is_code, utf8-first, length_utf8}
 use Rattle.utf_chars.proofs.Ranges.{range_behind}
@@ -82,7 +82,7 @@ stands_last xs rest s scalar e =
       equal = rw (e, span, drop_at rest (utf8 s) _ refl) (take_all _ (utf8 s) (omega arith));
     }
 
-pub last_taken : (xs rest : List ℕ) (i j s m : ℕ) → IsKeptWindow xs i j → IsScalar s → slice_range xs i j ≡ rest ++ utf8 s → m ≡ j - length (utf8 s)
+pub last_taken : (xs rest : List ℕ) (i j s m : ℕ) → IsKeptWindow xs i j → IsScalar s → slice_range xs i j ≡ rest ++ utf8 s → m ≡ i + length rest
     → GivesLast (record { whole = xs; front = i; back = j }) m s (record { whole = xs; front = i; back = m }) × IsKeptWindow xs i m × (m - i < j - i)
 last_taken xs rest i j s m kept scalar split e =
     let ordered = kept.ordered in
@@ -91,7 +91,7 @@ last_taken xs rest i j s m kept scalar split e =
     let parts : j - i ≡ length rest + length (utf8 s) = sym len ∙ ap length split ∙ length-append rest (utf8 s) in
     let stands = stands_last (slice_range xs i j) rest s scalar split in
     let some = some_utf8 s in
-    let place : i + length rest ≡ m = omega arith in
+    let place = sym e in
     let whole = stands_in_whole utf8 xs i j (length rest) m s place ordered back stands in
     let span : m - i ≡ length rest = omega arith in
     let before : slice_range xs i m ≡ rest
@@ -101,7 +101,7 @@ last_taken xs rest i j s m kept scalar split e =
         scalar = scalar;
         code = split ∙ ap (λ ys. ys ++ utf8 s) (sym before);
         at_back = refl;
-        left = ap (λ (k : ℕ). record { whole = xs; front = i; back = k }) e;
+        left = ap (λ (k : ℕ). record { whole = xs; front = i; back = k }) (omega arith);
         between = between;
       },
       record { is_text = kept.is_text; ordered = omega arith; between = between },
@@ -124,3 +124,19 @@ bounds_quarter xs i j n kept e scalars is =
     let all : length (flat_map utf8 scalars) ≡ j - i = ap length is ∙ len in
     let quarter : n ≡ (j - i) / 4 + min 1 ((j - i) % 4) = e in
     (omega arith, omega arith)
+
+-- the last of the text that a window lends is the one code that the text ends with
+last_is_code : (xs rest : List ℕ) (s t n : ℕ) → IsScalar s → xs ≡ rest ++ utf8 s → BeginsWith utf8 (drop (length rest) xs) t n → s ≡ t
+last_is_code xs rest s t n scalar e begins =
+    let last : drop (length rest) xs ≡ utf8 s = ap (drop (length rest)) e ∙ drop_at rest (utf8 s) _ refl in
+    same_char utf8 utf8_is_code (drop (length rest) xs) 0 s t (stands_alone utf8 _ (s, scalar, last)) begins.0
+
+-- the same where the character was read from that code
+pub last_code_taken : (xs rest : List ℕ) (i j s t n m : ℕ) → IsKeptWindow xs i j → IsScalar s → slice_range xs i j ≡ rest ++ utf8 s → m ≡ i + length rest → BeginsWith utf8 (drop (length rest) (slice_range xs i j)) t n
+    → GivesLast (record { whole = xs; front = i; back = j }) m t (record { whole = xs; front = i; back = m })
+last_code_taken xs rest i j s t n m kept scalar split e begins =
+    rw (← last_is_code (slice_range xs i j) rest s t n scalar split begins) ((last_taken xs rest i j s m kept scalar split e).0)
+
+-- before that code the text can be cut
+pub boundary_before_last : (xs rest : List ℕ) (s : ℕ) → IsScalar s → xs ≡ rest ++ utf8 s → IsCharBoundary xs (length rest)
+boundary_before_last xs rest s scalar e = boundary_before xs (length rest) s (stands_last xs rest s scalar e)

@@ -1,5 +1,5 @@
 -- What the private functions of the mergers say. A source is seen as its state, and whether it has ended.
-use Rattle.std.specs.Prelude.{◌≡◌, ℕ, ◌+◌, ◌≤◌, Bool, true, false, List, [], ◌∷◌, ◌++◌, length, Option, Some, None, Result, Ok, Err, IfOk, MatchResult}
+use Rattle.std.specs.Prelude.{◌≡◌, ℕ, ◌+◌, ◌≤◌, Bool, true, false, List, [], ◌∷◌, ◌++◌, length, Option, Some, None, Result, Ok, Err, IfOk, MatchOption, MatchResult}
 use Rattle.std.specs.Iterator.{Count, IsFinite, size, count_unless}
 use Rattle.utf_base.specs.declared.errors.Utf8ErrorKind.{Utf8ErrorKind}
 use Rattle.utf_base.specs.declared.errors.Utf8ErrorKind.TheVariants.{TooFewBytes, InterruptedSequence}
@@ -24,6 +24,21 @@ pub record Reads {S A : Type 0} (can_next : S → Type 0) (remaining : S → Cou
 abbrev pub as_list : {A : Type 0} → Option A → List A
 as_list None = []
 as_list (Some x) = x ∷ []
+
+-- the first of the unread elements has left: one that was held, or one of the source
+pub record FirstOf {S : Type 0} (Held : List ℕ → Type 0) (can_next : S → Type 0) (remaining : S → Count) (steps : S → Option ℕ → S → Type 0)
+    (old : List ℕ) (s : S) (e : Bool) (x : ℕ) (new : List ℕ) (t : S) (f : Bool) : Type 0 where
+  pub more : List ℕ
+  pub reads : Reads can_next remaining steps s e more t f
+  pub begins : old ++ more ≡ x ∷ new
+  pub held : Held new
+
+-- it has, or there is none
+abbrev pub TakesFirst : {S : Type 0} → (List ℕ → Type 0) → (S → Type 0) → (S → Count) → (S → Option ℕ → S → Type 0) → List ℕ → S → Bool → Option ℕ → List ℕ → S → Bool → Type 0
+TakesFirst Held can_next remaining steps old s e r new t f =
+    MatchOption r
+    (Reads can_next remaining steps s e [] t f × (old ≡ []) × (new ≡ []) × (f ≡ true))
+    (λ x. FirstOf Held can_next remaining steps old s e x new t f)
 
 -- of elements that are followed by others, or by none where the source has ended, the answer takes the front
 abbrev pub Settles : {E : Type 0} → (ℕ → List ℕ) → (List ℕ → Option E) → List ℕ → Bool → Result ℕ E → List ℕ → Type 0

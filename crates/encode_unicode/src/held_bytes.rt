@@ -38,7 +38,7 @@ impl HeldBytes {
         ensures { result ≡ first ∷ [] }
     {
         HeldBytes {
-            word: 0x100_0000 | first as u32,
+            word: 0x100_0000 + first as u32,
         }
     }
 
@@ -48,7 +48,7 @@ impl HeldBytes {
         ensures { result ≡ first ∷ second ∷ [] }
     {
         HeldBytes {
-            word: 0x200_0000 | (second as u32) << 8 | first as u32,
+            word: 0x200_0000 + second as u32 * 256 + first as u32,
         }
     }
 
@@ -58,7 +58,7 @@ impl HeldBytes {
         ensures { result ≡ first ∷ second ∷ third ∷ [] }
     {
         HeldBytes {
-            word: 0x300_0000 | (third as u32) << 16 | (second as u32) << 8 | first as u32,
+            word: 0x300_0000 + third as u32 * 0x1_0000 + second as u32 * 256 + first as u32,
         }
     }
 
@@ -68,21 +68,25 @@ impl HeldBytes {
         requires { length self ≤ 2 }
         ensures { result ≡ self ++ byte ∷ [] }
     {
-        let first = (self.word & 0xff) as u8;
-        let second = (self.word >> 8 & 0xff) as u8;
-        match self.word >> 24 {
-            0 => HeldBytes::one(byte),
-            1 => HeldBytes::two(first, byte),
-            _ => HeldBytes::three(first, second, byte),
+        let count = self.word / 0x100_0000;
+        let first = (self.word % 256) as u8;
+        if count < 1 {
+            return HeldBytes::one(byte);
         }
+        if count < 2 {
+            return HeldBytes::two(first, byte);
+        }
+        let second = (self.word / 256 % 256) as u8;
+        HeldBytes::three(first, second, byte)
     }
 
     /// How many there are.
     #[inline(always)]
     pub(crate) fn len(&self) -> usize
-        ensures { result ≡ length self.now }
+        ensures len { result ≡ length self.now }
+        ensures few { result ≤ 3 }
     {
-        (self.word >> 24) as usize
+        (self.word / 0x100_0000) as usize
     }
 
     /// The same bytes once more.
@@ -98,19 +102,24 @@ impl HeldBytes {
     pub(crate) fn next(&mut self) -> Option<u8>
         ensures { YieldsFirst (λ rest. rest) self.old result self.new }
     {
-        let count = self.word >> 24;
-        if count == 0 {
+        let count = self.word / 0x100_0000;
+        if count < 1 {
             return None;
         }
-        let first = (self.word & 0xff) as u8;
-        self.word = (count - 1) << 24 | self.word >> 8 & 0xffff;
+        let first = (self.word % 256) as u8;
+        self.word = (count - 1) * 0x100_0000 + self.word / 256 % 0x1_0000;
         Some(first)
     }
 }
 
 impl fmt::Debug for HeldBytes {
     fn fmt<W: fmt::Write>(&self, f: &mut fmt::Formatter<W>) -> fmt::Result {
-        let bytes = self.word.to_le_bytes();
+        let word = self.word;
+        let bytes = [
+            (word % 256) as u8,
+            (word / 256 % 256) as u8,
+            (word / 0x1_0000 % 256) as u8,
+        ];
         fmt::Debug::fmt(&bytes[..self.len()], f)
     }
 }

@@ -103,8 +103,17 @@ impl<'a> TextWindow<'a> {
         ensures gives { BackPlaced self.old result self.new }
         ensures shorter { OnSome result (self.new.back - self.new.front < self.old.back - self.old.front) }
     {
-        let c = self.as_str().chars().next_back()?;
-        self.back -= c.len_utf8();
-        Some((self.back, Utf8Char::new(c)))
+        let text = self.as_str();
+        let mut chars = text.chars();
+        chars.next_back()?;
+        let before = chars.as_str().len();
+        // The bytes of its code are copied and not made from the scalar, which is quicker.
+        match Utf8Char::from_str_start(&text[before..]) {
+            Err(EmptyStrError) => None,
+            Ok((c, _)) => {
+                self.back = self.front + before;
+                Some((self.back, c))
+            }
+        }
     }
 }

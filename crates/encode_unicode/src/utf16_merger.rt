@@ -6,7 +6,7 @@ ghost use Rattle.utf_base.specs.Code.{utf16};
 ghost use Rattle.utf_base.specs.Units.{is_leading_surrogate, unit_fault_kind};
 ghost use Rattle.encode_unicode.specs.Mergers.{unasked, unread, unread_count, IsHeldUnits, IsSpent, MergerNext, MergesHint};
 ghost use Rattle.encode_unicode.specs.Mergers.{RemainingNext, RemainsHint};
-ghost use Rattle.encode_unicode.specs.Reading.{Answers, JudgesUnit};
+ghost use Rattle.encode_unicode.specs.Reading.{Answers, JudgesUnit, TakesFirst};
 ghost use Rattle.encode_unicode.specs.Sources.{GivesTheSame};
 
 use crate::held_unit::HeldUnit;
@@ -77,11 +77,10 @@ impl<I: Iterator<Item = u16>> Iterator for Utf16CharMerger<I> {
 
     #[inline(always)]
     fn next(&mut self) -> Option<Result<Utf16Char, Utf16PairError>> {
-        let first = match self.held.next() {
-            Some(unit) => unit,
-            None => read(&mut self.source, &mut self.ended)?,
-        };
-        Some(answer(first, &mut self.held, &mut self.source, &mut self.ended))
+        match first_unit(&mut self.held, &mut self.source, &mut self.ended) {
+            None => None,
+            Some(first) => Some(answer(first, &mut self.held, &mut self.source, &mut self.ended)),
+        }
     }
 
     /// Half of the source's lower bound, rounded down, and its upper bound with the held unit added. Once
@@ -119,15 +118,10 @@ impl<I: Iterator<Item = u16>> Utf16CharMerger<I> {
     pub fn into_remaining_units(self) -> RemainingUnits<I>
         ensures { result ≡ self }
     {
-        let Utf16CharMerger {
-            source,
-            held,
-            ended,
-        } = self;
         RemainingUnits {
-            source,
-            held,
-            ended,
+            source: self.source,
+            held: self.held,
+            ended: self.ended,
         }
     }
 
@@ -159,6 +153,23 @@ impl<I: Iterator<Item = u16> + fmt::Debug> fmt::Debug for Utf16CharMerger<I> {
     }
 }
 
+// Takes the first of the unread units: the one that is held, else one of the source.
+#[inline(always)]
+fn first_unit<I: Iterator<Item = u16>>(
+    held: &mut HeldUnit,
+    source: &mut I,
+    ended: &mut bool,
+) -> Option<u16>
+    requires can { ended.old ≡ false → I.can_next source.old }
+    ensures first { TakesFirst IsHeldUnits I.can_next I.remaining I.next_gives held.old source.old ended.old result held.new source.new ended.new }
+    ensures none { held.new ≡ [] }
+{
+    match held.next() {
+        Some(unit) => Some(unit),
+        None => read(source, ended),
+    }
+}
+
 // The answer for a unit that has left the merger, which holds nothing then. What is read behind it is held
 // where it is no part of the answer.
 #[inline(always)]
@@ -170,7 +181,8 @@ fn answer<I: Iterator<Item = u16>>(
 ) -> Result<Utf16Char, Utf16PairError>
     requires can { ended.old ≡ false → I.can_next source.old }
     requires none { held.old ≡ [] }
-    ensures { Answers utf16 unit_fault_kind I.can_next I.remaining I.next_gives first [] source.old ended.old result held.new source.new ended.new }
+    ensures answers { Answers utf16 unit_fault_kind I.can_next I.remaining I.next_gives first [] source.old ended.old result held.new source.new ended.new }
+    ensures held { IsHeldUnits held.new }
 {
     if !first.is_utf16_leading_surrogate() {
         return judge(first);

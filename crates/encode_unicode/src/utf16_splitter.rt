@@ -17,7 +17,7 @@ use utf_chars::utf16_char::Utf16Char;
 #[derive(Debug, Drop)]
 pub struct Utf16CharSplitter<I: Iterator<Item = Utf16Char>> {
     source: I,
-    begun: Unsent<u16, 2>,
+    begun: Unsent<0x1_0000>,
 }
 
 impl<I: Iterator<Item = Utf16Char>> Model for Utf16CharSplitter<I> {
@@ -51,11 +51,11 @@ impl<I: Iterator<Item = Utf16Char>> Iterator for Utf16CharSplitter<I> {
 
     #[inline(always)]
     fn next(&mut self) -> Option<u16> {
-        match self.begun.next() {
+        match self.begun.next_unit() {
             Some(unit) => Some(unit),
             None => {
                 self.begun = Unsent::from(self.source.next()?);
-                self.begun.next()
+                self.begun.next_unit()
             }
         }
     }

@@ -5,7 +5,7 @@ ghost use Rattle.std.specs.Iterator.SizeHint.{IsWithinCount};
 ghost use Rattle.utf_base.specs.Code.{utf8};
 ghost use Rattle.utf_base.specs.Kinds.{asked_by, is_continuation, merger_kind};
 ghost use Rattle.encode_unicode.specs.Mergers.{unasked, unread, unread_count, IsHeldBytes, IsSpent, MergerNext, MergesHint};
-ghost use Rattle.encode_unicode.specs.Reading.{Answers, Completes, Follows, JudgesBytes, JudgesHeld};
+ghost use Rattle.encode_unicode.specs.Reading.{Answers, Completes, Follows, JudgesBytes, JudgesHeld, TakesFirst};
 ghost use Rattle.encode_unicode.specs.Sources.{GivesTheSame};
 
 use crate::held_bytes::HeldBytes;
@@ -76,11 +76,10 @@ impl<I: Iterator<Item = u8>> Iterator for Utf8CharMerger<I> {
 
     #[inline(always)]
     fn next(&mut self) -> Option<Result<Utf8Char, Utf8Error>> {
-        let first = match self.held.next() {
-            Some(byte) => byte,
-            None => read(&mut self.source, &mut self.ended)?,
-        };
-        Some(answer(first, &mut self.held, &mut self.source, &mut self.ended))
+        match first_byte(&mut self.held, &mut self.source, &mut self.ended) {
+            None => None,
+            Some(first) => Some(answer(first, &mut self.held, &mut self.source, &mut self.ended)),
+        }
     }
 
     /// A quarter of the source's lower bound, rounded down, and its upper bound with the held bytes added.
@@ -145,6 +144,24 @@ impl<I: Iterator<Item = u8> + fmt::Debug> fmt::Debug for Utf8CharMerger<I> {
 pub(crate) struct Fault {
     kind: Utf8ErrorKind,
     held: HeldBytes,
+}
+
+// Takes the first of the unread bytes: one that is held, else one of the source.
+#[inline(always)]
+fn first_byte<I: Iterator<Item = u8>>(
+    held: &mut HeldBytes,
+    source: &mut I,
+    ended: &mut bool,
+) -> Option<u8>
+    requires can { ended.old ≡ false → I.can_next source.old }
+    requires held { IsHeldBytes held.old }
+    ensures first { TakesFirst IsHeldBytes I.can_next I.remaining I.next_gives held.old source.old ended.old result held.new source.new ended.new }
+    ensures alone { IfSome result (λ b. is_continuation b ≡ false → held.new ≡ []) }
+{
+    match held.next() {
+        Some(byte) => Some(byte),
+        None => read(source, ended),
+    }
 }
 
 // The answer for a byte that has left the merger. What is read behind it is held where it is no part of the

@@ -20,7 +20,7 @@ use utf_chars::utf8_char::Utf8Char;
 #[derive(Debug, Drop)]
 pub struct Utf8CharSplitter<I: Iterator<Item = Utf8Char>> {
     source: I,
-    begun: Unsent<u8, 4>,
+    begun: Unsent<256>,
 }
 
 impl<I: Iterator<Item = Utf8Char>> Model for Utf8CharSplitter<I> {
@@ -54,11 +54,11 @@ impl<I: Iterator<Item = Utf8Char>> Iterator for Utf8CharSplitter<I> {
 
     #[inline(always)]
     fn next(&mut self) -> Option<u8> {
-        match self.begun.next() {
+        match self.begun.next_byte() {
             Some(byte) => Some(byte),
             None => {
                 self.begun = Unsent::from(self.source.next()?);
-                self.begun.next()
+                self.begun.next_byte()
             }
         }
     }
@@ -90,8 +90,9 @@ impl<I: Iterator<Item = Utf8Char>> Utf8CharSplitter<I> {
             match self.source.next() {
                 None => break,
                 Some(c) => {
-                    self.begun = Unsent::from(c);
-                    count += self.begun.take(&mut buf[count..]);
+                    let (begun, sent) = Unsent::send(c, &mut buf[count..]);
+                    self.begun = begun;
+                    count += sent;
                 }
             }
         }

@@ -10,6 +10,7 @@ pub fn step_on(src: &[u8], place: usize) -> usize
     requires more { place < length src.now }
     ensures between { IsBetween src.now result }
     ensures step { IsStep src.now place result }
+    ensures further { place < result }
 {
     match Utf8Char::from_slice_start(&src[place..]) {
         Ok((_, len)) => place + len,

@@ -81,7 +81,7 @@ asked-0 b (inl h) = grind (arith, common_steps)
 asked-0 b (inr h) = grind (arith, common_steps)
 
 -- the class of a first byte, by what it asks for
-asked_cases : (b : ℕ) → 0 < asked b
+pub asked_cases : (b : ℕ) → 0 < asked b
     → ((b < 0x80) × (asked b ≡ 1)) ⊎ (((0xC2 ≤ b) × (b < 0xE0) × (asked b ≡ 2)) ⊎ (((0xE0 ≤ b) × (b < 0xF0) × (asked b ≡ 3)) ⊎ ((0xF0 ≤ b) × (b < 0xF5) × (asked b ≡ 4))))
 unfolding asked
 asked_cases b h = grind (arith, common_steps)

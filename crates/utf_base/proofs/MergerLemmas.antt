@@ -1,13 +1,16 @@
 -- The merger's kind beside the forward kind.
-use Rattle.std.proofs.Common.{◌≡◌, ℕ, ◌<◌, ◌≤◌, List, length, get_or, take, arith, refl, sym, ◌∙◌, Some, None, Bool, true, false, eqb, ltb, lit<, length-take}
+use Rattle.std.proofs.Common.{◌≡◌, ℕ, ◌+◌, ap, leb, ◌||◌, ◌<◌, ◌≤◌, List, length, get_or, take, arith, refl, sym, ◌∙◌, Some, None, Bool, true, false, eqb, ltb, lit<, length-take, length-append, [], ◌∷◌, ◌++◌, ◌⊎◌, inl, inr, ⊎_elim}
 use Rattle.std.proofs.lemmas.Grind.{common_steps}
-use Rattle.std.proofs.lemmas.List.{get_or-take}
+use Rattle.std.proofs.lemmas.List.{get_or-take, get_or_append_left}
+use Rattle.std.proofs.lemmas.Bool.{cases_lt}
+use Rattle.std.specs.Prelude.{slice_range}
+use Rattle.utf_base.proofs.Utf8Code.{utf8_is_code}
 use Rattle.utf_base.specs.declared.errors.Utf8ErrorKind.TheVariants.{TooFewBytes, InterruptedSequence}
 use Rattle.utf_base.specs.Code.{utf8}
-use Rattle.utf_base.specs.Kinds.{fault_kind, merger_kind, asked_by, followers_continue, is_broken}
+use Rattle.utf_base.specs.Kinds.{fault_kind, merger_kind, asked, asked_by, value, is_continuation, continues_at, followers_continue, is_broken}
 use Rattle.utf_base.specs.KindLaws.{KindsDiffer, MergerCodeOrOneFault, FourBytesDecideMerger}
 use Rattle.utf_base.specs.Piece.{Stands}
-use Rattle.utf_base.proofs.FrontLemmas.{asked_le, asked-no_continuation, code_where_no_fault, no_fault_where_code}
+use Rattle.utf_base.proofs.FrontLemmas.{asked_cases, asked_le, asked-no_continuation, value-1, value-2, value-3, value-4, decodes_from_stands, code_where_no_fault, no_fault_where_code}
 use Rattle.utf_base.proofs.KindLemmas.{four_bytes_decide}
 use Rattle.utf_base.proofs.KindCases.{kind-few}
 
@@ -98,3 +101,113 @@ broken-front w =
 pub four_bytes_decide_merger : FourBytesDecideMerger
 unfolding merger_kind
 four_bytes_decide_merger w = rw (broken-front w, four_bytes_decide w) refl
+
+or_true : (a : Bool) → (a || true) ≡ true
+or_true true = refl
+or_true false = refl
+
+-- Elements behind those that the first byte asks for do not matter.
+
+at_front : (w later : List ℕ) (k : ℕ) → k < length w → get_or (w ++ later) k 0 ≡ get_or w k 0
+at_front w later k lt = get_or_append_left w later 0 k lt
+
+asked_front : (w later : List ℕ) → 0 < length w → asked_by (w ++ later) ≡ asked_by w
+asked_front w later some = ap asked (at_front w later 0 some)
+
+continues_front : (w later : List ℕ) (k : ℕ) → 0 < length w → asked_by w ≤ length w → continues_at (w ++ later) k ≡ continues_at w k
+continues_front w later k some enough =
+    ⊎_elim
+    (λ (lt : k < length w). rw (asked_front w later some, at_front w later k lt) refl)
+    (λ (ge : length w ≤ k). let over : leb (asked_by w) k ≡ true = grind (arith, common_steps) in rw (asked_front w later some, over) refl)
+    (cases_lt k (length w))
+
+value_front : (w later : List ℕ) → 0 < asked_by w → asked_by w ≤ length w → value (w ++ later) ≡ value w
+value_front w later asks enough =
+    let a : asked_by (w ++ later) ≡ asked_by w = asked_front w later (omega arith) in
+    let e0 = at_front w later 0 (omega arith) in
+    ⊎_elim (λ c. value-1 (w ++ later) (a ∙ c.1) ∙ e0 ∙ sym (value-1 w c.1))
+    (⊎_elim
+    (λ c. let n = c.2 in value-2 (w ++ later) (a ∙ n) ∙ rw (e0, at_front w later 1 (omega arith)) refl ∙ sym (value-2 w n))
+    (⊎_elim
+    (λ c. let n = c.2 in value-3 (w ++ later) (a ∙ n) ∙ rw (e0, at_front w later 1 (omega arith), at_front w later 2 (omega arith)) refl ∙ sym (value-3 w n))
+    (λ c.
+    let n = c.2 in
+    value-4 (w ++ later) (a ∙ n) ∙ rw (e0, at_front w later 1 (omega arith), at_front w later 2 (omega arith), at_front w later 3 (omega arith)) refl ∙ sym (value-4 w n))))
+    (asked_cases (get_or w 0 0) asks)
+
+fault_front : (w later : List ℕ) → 0 < length w → asked_by w ≤ length w → fault_kind (w ++ later) ≡ fault_kind w
+unfolding fault_kind
+fault_front w later some enough =
+    let both = length-append w later in
+    let e0 = at_front w later 0 some in
+    let empty_all : eqb (length (w ++ later)) 0 ≡ false = grind (arith, common_steps) in
+    let empty : eqb (length w) 0 ≡ false = grind (arith, common_steps) in
+    ⊎_elim
+    (λ (none : asked_by w ≤ 0). let zero : eqb (asked_by w) 0 ≡ true = grind (arith, common_steps) in rw (empty_all, empty, e0, zero) refl)
+    (λ (asks : 0 < asked_by w).
+    let short_all : ltb (length (w ++ later)) (asked_by w) ≡ false = grind (arith, common_steps) in
+    let short : ltb (length w) (asked_by w) ≡ false = grind (arith, common_steps) in
+    rw (by_followers w later some enough, value_front w later asks enough, empty_all, empty, asked_front w later some, e0, short_all, short) refl)
+    (none_or_some (asked_by w))
+  where
+    none_or_some : (n : ℕ) → (n ≤ 0) ⊎ (0 < n)
+    none_or_some n = ⊎_elim (λ lt. inr lt) (λ le. inl le) (cases_lt 0 n)
+
+    by_followers : (w later : List ℕ) → 0 < length w → asked_by w ≤ length w → followers_continue (w ++ later) ≡ followers_continue w
+    by_followers w later some enough = rw (continues_front w later 1 some enough, continues_front w later 2 some enough, continues_front w later 3 some enough) refl
+
+-- the merger's kind, where all bytes that the first asks for are there, is the forward kind of these
+pub kind_of_front : (w later : List ℕ) → 0 < length w → asked_by w ≤ length w → merger_kind (w ++ later) ≡ fault_kind w
+kind_of_front w later some enough =
+    let both = length-append w later in
+    let a = asked_front w later some in
+    enough_kind (w ++ later) (omega arith) ∙ fault_front w later some enough
+
+-- some are missing, and those that are there are continuation bytes
+pub kind_of_few : (w : List ℕ) → 0 < length w → length w < asked_by w → is_broken w ≡ false → merger_kind w ≡ Some TooFewBytes
+kind_of_few w some few e = unbroken_kind w e ∙ kind-few w (asked_by w) (record { some = some; first = asked-no_continuation (get_or w 0 0) (omega arith); asks = refl; positive = omega arith }) few
+
+pub few-1 : (a : ℕ) → 1 < asked a → merger_kind (a ∷ []) ≡ Some TooFewBytes
+few-1 a asks = kind_of_few (a ∷ []) (lit< tt) asks refl
+
+pub few-2 : (a b : ℕ) → 2 < asked a → is_continuation b ≡ true → merger_kind (a ∷ b ∷ []) ≡ Some TooFewBytes
+few-2 a b asks first = kind_of_few (a ∷ b ∷ []) (lit< tt) asks (rw (first, or_true (leb (asked a) 1)) refl)
+
+pub few-3 : (a b c : ℕ) → 3 < asked a → is_continuation b ≡ true → is_continuation c ≡ true → merger_kind (a ∷ b ∷ c ∷ []) ≡ Some TooFewBytes
+few-3 a b c asks first second = kind_of_few (a ∷ b ∷ c ∷ []) (lit< tt) asks (rw (first, second, or_true (leb (asked a) 1), or_true (leb (asked a) 2)) refl)
+
+-- the first that is no continuation byte
+pub broken-1 : (a b : ℕ) (later : List ℕ) → 1 < asked a → is_continuation b ≡ false → merger_kind (a ∷ b ∷ later) ≡ Some InterruptedSequence
+broken-1 a b later asks e =
+    let there : ltb 1 (length (a ∷ b ∷ later)) ≡ true = grind (arith, common_steps) in
+    let wanted : leb (asked a) 1 ≡ false = grind (arith, common_steps) in
+    broken_kind (a ∷ b ∷ later) (rw (there, wanted, e) refl)
+
+pub broken-2 : (a b c : ℕ) (later : List ℕ) → 2 < asked a → is_continuation b ≡ true → is_continuation c ≡ false → merger_kind (a ∷ b ∷ c ∷ later) ≡ Some InterruptedSequence
+broken-2 a b c later asks first e =
+    let one : ltb 1 (length (a ∷ b ∷ c ∷ later)) ≡ true = grind (arith, common_steps) in
+    let two : ltb 2 (length (a ∷ b ∷ c ∷ later)) ≡ true = grind (arith, common_steps) in
+    let wanted : leb (asked a) 2 ≡ false = grind (arith, common_steps) in
+    broken_kind (a ∷ b ∷ c ∷ later) (rw (one, two, first, or_true (leb (asked a) 1), wanted, e) refl)
+
+pub broken-3 : (a b c d : ℕ) (later : List ℕ) → 3 < asked a → is_continuation b ≡ true → is_continuation c ≡ true → is_continuation d ≡ false
+    → merger_kind (a ∷ b ∷ c ∷ d ∷ later) ≡ Some InterruptedSequence
+broken-3 a b c d later asks first second e =
+    let one : ltb 1 (length (a ∷ b ∷ c ∷ d ∷ later)) ≡ true = grind (arith, common_steps) in
+    let two : ltb 2 (length (a ∷ b ∷ c ∷ d ∷ later)) ≡ true = grind (arith, common_steps) in
+    let three : ltb 3 (length (a ∷ b ∷ c ∷ d ∷ later)) ≡ true = grind (arith, common_steps) in
+    let wanted : leb (asked a) 3 ≡ false = grind (arith, common_steps) in
+    broken_kind (a ∷ b ∷ c ∷ d ∷ later) (rw (one, two, three, first, second, or_true (leb (asked a) 1), or_true (leb (asked a) 2), wanted, e) refl)
+
+-- the code that stands at the front of no more bytes than the first asks for is all of them
+pub whole_code : (w : List ℕ) (s : ℕ) → Stands utf8 w 0 s → asked_by w ≤ length w → (1 < length w → asked_by w ≡ length w) → w ≡ utf8 s
+whole_code w s h enough exact =
+    let len : asked_by w ≡ length (utf8 s) = (code_where_no_fault w (no_fault_where_code w s h)).1 ∙ ap (λ x. length (utf8 x)) (decodes_from_stands w s h).1 in
+    let some = utf8_is_code.some s h.scalar in
+    let within = h.within in
+    let all : length (utf8 s) ≡ length w = ⊎_elim (λ (lt : 1 < length w). sym len ∙ exact lt) (λ (le : length w ≤ 1). omega arith) (cases_lt 1 (length w)) in
+    let whole : slice_range w 0 (0 + length (utf8 s)) ≡ w = rw all (range_all w) in
+    sym whole ∙ h.equal
+  where
+    range_all : (w : List ℕ) → slice_range w 0 (0 + length w) ≡ w
+    range_all w = grind (arith, common_steps)

@@ -1,4 +1,5 @@
 pub mod Decoded
+pub mod DigitLemmas
 pub mod Interrupted
 pub mod OwnCodes
 pub mod PaddedLemmas

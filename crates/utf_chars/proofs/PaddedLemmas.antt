@@ -36,30 +36,16 @@ unfolding padded
 take-padded bytes s n h e l = rw (h.equal, e, l) (take_at (utf8 s) (replicate (4 - length (utf8 s)) 0) _ refl)
 
 -- what a first byte that begins a code asks for, by where it lies
-asked_by_range : (b : ℕ) → 0 < asked b
+pub asked_by_range : (b : ℕ) → 0 < asked b
     → (b < 0x80 → asked b ≡ 1) × (0x80 ≤ b → b < 0xE0 → asked b ≡ 2) × (0xE0 ≤ b → b < 0xF0 → asked b ≡ 3) × (0xF0 ≤ b → asked b ≡ 4)
 unfolding asked
 asked_by_range b h = grind (arith, common_steps)
 
--- the code's length, by the first byte
-pub record LenByFirst (first len : ℕ) : Type 0 where
-  pub one : first < 0x80 → 1 ≡ len
-  pub two : 0x80 ≤ first → first < 0xE0 → 2 ≡ len
-  pub three : 0xE0 ≤ first → first < 0xF0 → 3 ≡ len
-  pub four : 0xF0 ≤ first → 4 ≡ len
-
-pub len_by_first : (bytes : List ℕ) (s : ℕ) → IsPadded utf8 4 value bytes → value bytes ≡ s → LenByFirst (get_or bytes 0 0) (length (utf8 s))
-len_by_first bytes s h e =
+-- the first byte asks for as many bytes as the code has
+pub asked_by_first : (bytes : List ℕ) (s : ℕ) → IsPadded utf8 4 value bytes → value bytes ≡ s → (0 < asked (get_or bytes 0 0)) × (asked (get_or bytes 0 0) ≡ length (utf8 s))
+asked_by_first bytes s h e =
     let st = stands_in_bytes bytes h in
-    let len : asked (get_or bytes 0 0) ≡ length (utf8 s)
-    = (code_where_no_fault bytes (no_fault_where_code bytes (value bytes) st)).1 ∙ ap (λ x. length (utf8 x)) e in
-    let range = asked_by_range (get_or bytes 0 0) (decodes_from_stands bytes (value bytes) st).0.asks in
-    record {
-      one = λ a. sym (range.0 a) ∙ len;
-      two = λ a b. sym (range.1 a b) ∙ len;
-      three = λ a b. sym (range.2 a b) ∙ len;
-      four = λ a. sym (range.3 a) ∙ len;
-    }
+    ((decodes_from_stands bytes (value bytes) st).0.asks, (code_where_no_fault bytes (no_fault_where_code bytes (value bytes) st)).1 ∙ ap (λ x. length (utf8 x)) e)
 
 -- an ASCII code, then zeros
 pub padded-ascii : (s : ℕ) → s < 0x80 → s ∷ 0 ∷ 0 ∷ 0 ∷ [] ≡ padded 4 (utf8 s)
@@ -127,3 +113,8 @@ front_padded w bytes s n h e = e ∙ rw (taken w s n h, h.1) refl
 pub code_of_padded : (places : ℕ) (code xs : List ℕ) (n : ℕ) → xs ≡ padded places code → n ≡ length code → take n xs ≡ code
 unfolding padded
 code_of_padded places code xs n e l = rw (e, l) (take_at code (replicate (places - length code) 0) _ refl)
+
+-- a code of four bytes is that of a scalar above 0xFFFF
+pub four_bytes : (s : ℕ) → (length (utf8 s) ≡ 4 → 0x1_0000 ≤ s) × (0x1_0000 ≤ s → length (utf8 s) ≡ 4)
+unfolding utf8
+four_bytes s = grind (arith, common_steps)

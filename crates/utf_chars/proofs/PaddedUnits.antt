@@ -3,7 +3,7 @@ use Rattle.std.proofs.Common.{◌≡◌, ℕ, ◌+◌, ◌-◌, ◌/◌, ◌%◌
 use Rattle.std.proofs.lemmas.Grind.{common_steps}
 use Rattle.std.proofs.lemmas.Bool.{cases_lt}
 use Rattle.std.proofs.lemmas.List.{take_at}
-use Rattle.std.specs.Prelude.{replicate, if◌then◌else◌, unwrap_or, IfOk}
+use Rattle.std.specs.Prelude.{replicate, unwrap_or, IfOk}
 use Rattle.utf_base.specs.Piece.{Stands}
 use Rattle.utf_base.specs.Scalar.{IsScalar}
 use Rattle.utf_base.specs.Code.{utf16}
@@ -123,15 +123,6 @@ scalar_by_second units s h e =
     ⊎_elim
     (λ (u : AsUnit units s). (λ z. u.first, λ some. absurd (some u.second)))
     (λ (p : AsPair units s). let second = p.second in (λ z. absurd (omega arith), λ some. value_of_pair units s p))
-    (char_cases units s h e)
-
--- the scalar, by whether the first unit is a surrogate
-pub scalar_by_first : (units : List ℕ) (s : ℕ) → IsPadded utf16 2 unit_value units → unit_value units ≡ s
-    → (if is_surrogate (get_or units 0 0) then pair_value (get_or units 0 0) (get_or units 1 0) else get_or units 0 0) ≡ s
-scalar_by_first units s h e =
-    ⊎_elim
-    (λ (u : AsUnit units s). let plain : is_surrogate (get_or units 0 0) ≡ false = rw u.first u.plain in rw plain u.first)
-    (λ (p : AsPair units s). rw (surrogate_of_pair units s p) (value_of_pair units s p))
     (char_cases units s h e)
 
 -- the code, by whether there is a second unit

@@ -1,5 +1,5 @@
 -- The first character of a text, and the one character of a text, as functions of the text.
-use Rattle.std.proofs.Common.{◌≡◌, ℕ, ◌<◌, List, length, take, Ok, Err, Result, eqb, true, false, refl, ap, sym, ◌∙◌, arith}
+use Rattle.std.proofs.Common.{◌≡◌, ℕ, ◌<◌, List, [], length, ⊎_elim, take, Ok, Err, Result, eqb, true, false, refl, ap, sym, ◌∙◌, arith}
 use Rattle.std.proofs.lemmas.Grind.{common_steps}
 use Rattle.std.specs.Str.{IsCharBoundary, IsUtf8}
 use Rattle.std.proofs.lemmas.Str.{IsCharBoundary-from_take}
@@ -13,9 +13,9 @@ use Rattle.utf_base.specs.Kinds.{asked_by, value}
 use Rattle.utf_base.specs.Piece.{Stands}
 use Rattle.utf_base.proofs.FrontLemmas.{decodes_from_stands, code_where_no_fault, no_fault_where_code}
 use Rattle.utf_base.proofs.Standing.{stands_alone}
-use Rattle.utf_base.proofs.StdText.{utf8_is_text}
+use Rattle.utf_base.proofs.StdText.{utf8_is_text, text_begins}
 use Rattle.utf_base.proofs.Utf8Code.{utf8_is_code}
-use Rattle.utf_chars.specs.Chars.{BeginsText, IsOneCharText, first_of_text, parsed, Parses}
+use Rattle.utf_chars.specs.Chars.{BeginsText, IsFrontCode, IsOneCharText, first_of_text, parsed, Parses}
 
 -- what a text tells that a code begins
 record TextTells (text : List ℕ) (s : ℕ) : Type 0 where
@@ -87,3 +87,12 @@ boundary_behind text s n is_text h =
   where
     taken : (text : List ℕ) (s n : ℕ) → BeginsWith utf8 text s n → take n text ≡ utf8 s
     taken text s n h = let equal = h.0.equal in let len = h.1 in grind (arith, common_steps)
+
+-- a code begins each text but the empty one, and its first byte tells how long it is
+pub front_code : (text : List ℕ) (n : ℕ) → IsUtf8 text → 0 < length text → (0 < asked_by text → n ≡ asked_by text) → IsFrontCode text n
+front_code text n is_text some by_first =
+    ⊎_elim
+    (λ (empty : text ≡ []). let none : length text ≡ 0 = ap length empty in absurd (omega arith))
+    (λ (code : (s : ℕ) × Stands utf8 text 0 s).
+    (code.0, (code.1, by_first (decodes_from_stands text code.0 code.1).0.asks ∙ (text_tells text code.0 code.1).len)))
+    (text_begins text is_text)

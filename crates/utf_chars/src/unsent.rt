@@ -1,7 +1,8 @@
 //! What is left of the code of one character, in bytes or in units.
-ghost use Rattle.std.specs.Prelude.{◌≡◌, ◌≤◌, [], length, take, drop};
+ghost use Rattle.std.specs.Prelude.{◌≡◌, ◌≤◌, ◌<◌, [], length, drop, IfSome};
 ghost use Rattle.std.specs.Iterator.{YieldsFirst};
 ghost use Rattle.utf_base.specs.Code.{utf8, utf16};
+ghost use Rattle.utf_chars.specs.Digits.{low_digits};
 ghost use Rattle.utf_chars.specs.Taking.{fitting, filled};
 
 use crate::utf8_char::Utf8Char;
@@ -10,57 +11,45 @@ use std::fmt;
 use std::marker::Model;
 
 /// The elements of a code that have not been given yet: what iterators over codes keep. Contracts see
-/// their list.
+/// their list. They are the lowest digits of one number, which stays in a register: of bytes the base is
+/// 256, of units 65536.
 #[derive(Drop)]
-pub struct Unsent<T, const N: usize> {
-    code: [T; N],
-    front: usize,
-    back: usize,
+pub struct Unsent<const BASE: usize> {
+    code: usize,
+    left: usize,
 }
 
-impl<T, const N: usize> Model for Unsent<T, N> {
-    ghost use Rattle.std.specs.Prelude.{List, ◌≤◌, slice_range};
+impl<const BASE: usize> Model for Unsent<BASE> {
+    ghost use Rattle.std.specs.Prelude.{ℕ, List, ◌≤◌, ◌<◌};
+    ghost use Rattle.utf_chars.specs.Digits.{low_digits};
 
-    ghost Value = { List T };
+    ghost Value = { List ℕ };
 
-    ghost view = { λ u. slice_range u.code u.front u.back };
+    ghost view = { λ u. low_digits BASE u.left u.code };
 
-    ghost invariant = { λ u. (u.front ≤ u.back) × (u.back ≤ N) };
+    ghost invariant = { λ u. (0 < BASE) × (u.left ≤ 4) };
 }
 
-impl<T: Copy, const N: usize> Unsent<T, N> {
-    /// The first `len` elements of the array.
+impl<const BASE: usize> Unsent<BASE> {
+    /// The lowest digits of the number, as many as `left` says.
     #[inline(always)]
-    pub(crate) fn new(code: [T; N], len: usize) -> Unsent<T, N>
-        requires { len ≤ N }
-        ensures { result ≡ take len code }
+    pub(crate) fn new(code: usize, left: usize) -> Unsent<BASE>
+        requires base { 0 < BASE }
+        requires few { left ≤ 4 }
+        ensures { result ≡ low_digits BASE left code }
     {
-        Unsent {
-            code,
-            front: 0,
-            back: len,
-        }
+        Unsent { code, left }
     }
 
     /// The same elements once more.
     #[inline(always)]
-    pub fn copy(&self) -> Unsent<T, N>
+    pub fn copy(&self) -> Unsent<BASE>
         ensures { result ≡ self.now }
     {
         Unsent {
             code: self.code,
-            front: self.front,
-            back: self.back,
+            left: self.left,
         }
-    }
-
-    /// The elements, lent.
-    #[inline(always)]
-    pub fn as_slice(&self) -> &[T]
-        ensures { result.now ≡ self.now }
-    {
-        let code = &self.code[..];
-        &code[self.front..self.back]
     }
 
     /// How many elements there are.
@@ -68,75 +57,136 @@ impl<T: Copy, const N: usize> Unsent<T, N> {
     pub fn len(&self) -> usize
         ensures { result ≡ length self.now }
     {
-        self.back - self.front
+        self.left
     }
 
-    /// Takes the first element.
+    // Takes the first element.
     #[inline(always)]
-    pub fn next(&mut self) -> Option<T>
-        ensures { YieldsFirst (λ rest. rest) self.old result self.new }
+    fn next(&mut self) -> Option<usize>
+        ensures first { YieldsFirst (λ rest. rest) self.old result self.new }
+        ensures below { IfSome result (λ element. element < BASE) }
     {
-        if self.front == self.back {
+        if self.left == 0 {
             return None;
         }
-        let first = self.code[self.front];
-        self.front += 1;
+        let first = self.code % BASE;
+        self.code /= BASE;
+        self.left -= 1;
         Some(first)
     }
+}
 
-    /// Takes as many elements as the buffer has places, into its front, and answers how many they are.
+/// Of bytes.
+impl Unsent<256> {
+    /// Takes the first byte.
     #[inline(always)]
-    pub fn take(&mut self, buf: &mut [T]) -> usize
+    pub fn next_byte(&mut self) -> Option<u8>
+        ensures { YieldsFirst (λ rest. rest) self.old result self.new }
+    {
+        match self.next() {
+            None => None,
+            Some(byte) => Some(byte as u8),
+        }
+    }
+
+    /// Takes as many bytes as the buffer has places, into its front, and answers how many they are.
+    #[inline(always)]
+    pub fn take(&mut self, buf: &mut [u8]) -> usize
         ensures count { result ≡ fitting buf.old self.old }
         ensures written { buf.new ≡ filled buf.old self.old }
         ensures left { self.new ≡ drop (length buf.old) self.old }
     {
-        let count = buf.len().min(self.len());
-        buf[..count].copy_from_slice(&self.as_slice()[..count]);
-        self.front += count;
+        let mut count = 0;
+        while count < buf.len() {
+            match self.next_byte() {
+                None => break,
+                Some(byte) => {
+                    buf[count] = byte;
+                    count += 1;
+                }
+            }
+        }
         count
+    }
+
+    /// Moves as much of the code of the character into the front of the buffer as fits. Answers what is
+    /// left of it, and how many bytes were moved.
+    #[inline(always)]
+    pub fn send(c: Utf8Char, buf: &mut [u8]) -> (Unsent<256>, usize)
+        ensures count { result.1 ≡ fitting buf.old (utf8 c) }
+        ensures written { buf.new ≡ filled buf.old (utf8 c) }
+        ensures left { result.0 ≡ drop (length buf.old) (utf8 c) }
+    {
+        // Where every code fits, it is moved whole and not byte by byte.
+        if buf.len() >= 4 {
+            let count = c.to_slice(buf);
+            return (Unsent::default(), count);
+        }
+        let mut rest = Unsent::from(c);
+        let count = rest.take(buf);
+        (rest, count)
     }
 }
 
-impl Default for Unsent<u8, 4> {
+/// Of units.
+impl Unsent<0x1_0000> {
+    /// Takes the first unit.
+    #[inline(always)]
+    pub fn next_unit(&mut self) -> Option<u16>
+        ensures { YieldsFirst (λ rest. rest) self.old result self.new }
+    {
+        match self.next() {
+            None => None,
+            Some(unit) => Some(unit as u16),
+        }
+    }
+}
+
+impl Default for Unsent<256> {
     ghost is_default = { λ bytes. bytes ≡ [] };
 
     #[inline(always)]
-    fn default() -> Unsent<u8, 4> {
-        Unsent::new([0; 4], 0)
+    fn default() -> Unsent<256> {
+        Unsent::<256>::new(0, 0)
     }
 }
 
-impl Default for Unsent<u16, 2> {
+impl Default for Unsent<0x1_0000> {
     ghost is_default = { λ units. units ≡ [] };
 
     #[inline(always)]
-    fn default() -> Unsent<u16, 2> {
-        Unsent::new([0; 2], 0)
+    fn default() -> Unsent<0x1_0000> {
+        Unsent::<0x1_0000>::new(0, 0)
     }
 }
 
-impl From<Utf8Char> for Unsent<u8, 4> {
+impl From<Utf8Char> for Unsent<256> {
     ghost from_gives = { λ c bytes. bytes ≡ utf8 c };
 
     #[inline(always)]
-    fn from(c: Utf8Char) -> Unsent<u8, 4> {
+    fn from(c: Utf8Char) -> Unsent<256> {
         let (code, len) = c.to_array();
-        Unsent::new(code, len)
+        Unsent::new(u32::from_le_bytes(code) as usize, len)
     }
 }
 
-impl From<Utf16Char> for Unsent<u16, 2> {
+impl From<Utf16Char> for Unsent<0x1_0000> {
     ghost from_gives = { λ c units. units ≡ utf16 c };
 
     #[inline(always)]
-    fn from(c: Utf16Char) -> Unsent<u16, 2> {
-        Unsent::new(c.to_array(), c.len())
+    fn from(c: Utf16Char) -> Unsent<0x1_0000> {
+        let [first, second] = c.to_array();
+        Unsent::new((second as usize) * 0x1_0000 + first as usize, c.len())
     }
 }
 
-impl<T: Copy + fmt::Debug, const N: usize> fmt::Debug for Unsent<T, N> {
+impl<const BASE: usize> fmt::Debug for Unsent<BASE> {
     fn fmt<W: fmt::Write>(&self, f: &mut fmt::Formatter<W>) -> fmt::Result {
-        fmt::Debug::fmt(self.as_slice(), f)
+        let mut list = f.debug_list();
+        let mut rest = self.copy();
+        while let Some(element) = rest.next() {
+            list.entry(&element);
+        }
+        list.finish()
     }
 }

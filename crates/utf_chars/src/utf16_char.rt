@@ -224,8 +224,9 @@ impl Utf16Char {
         ensures char { result ≡ self }
         ensures text { encode_utf8 result ≡ utf8 self }
     {
-        let units = self.units;
-        utf16::decode_array_unchecked(units)
+        let number = self.scalar();
+        // The type keeps nothing but scalars.
+        unsafe { char::from_u32_unchecked(number) }
     }
 
     /// Writes the code to the front of the slice, and answers how many units it has. The places behind
@@ -456,10 +457,11 @@ impl From<Utf16Char> for char {
 impl From<Utf8Char> for Utf16Char {
     ghost from_gives = { λ c r. r ≡ c };
 
-    // From bytes to units, by the number that both encode.
+    // From bytes to units, by the number that both encode. The length says which code it is, and follows
+    // from the first byte as the number does: so the same tests tell both.
     #[inline(always)]
     fn from(c: Utf8Char) -> Utf16Char {
-        let units = utf16::padded_code(c.scalar());
+        let units = utf16::code_by_kind(c.scalar(), c.len() == 4);
         Utf16Char { units }
     }
 }

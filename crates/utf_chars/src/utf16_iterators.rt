@@ -14,7 +14,7 @@ use std::marker::Model;
 /// The units of a character's code that have not been given yet. Contracts see their list.
 #[derive(Drop)]
 pub struct Utf16Iterator {
-    unsent: Unsent<u16, 2>,
+    unsent: Unsent<0x1_0000>,
 }
 
 impl Model for Utf16Iterator {
@@ -67,7 +67,7 @@ impl Iterator for Utf16Iterator {
 
     #[inline(always)]
     fn next(&mut self) -> Option<u16> {
-        self.unsent.next()
+        self.unsent.next_unit()
     }
 
     /// How many units are left, from below and from above.

@@ -13,7 +13,7 @@ ghost use Rattle.utf_base.specs.Back.{DecodesEnd, decoded_end, IsWholeCode};
 ghost use Rattle.utf_base.specs.Code.{utf8};
 ghost use Rattle.utf_base.specs.Decoded.{decoded, decoded_bytes};
 ghost use Rattle.utf_base.specs.Front.{as_scalar, BeginsWith, DecodesFront, DecodesBytes, IsFrontLen};
-ghost use Rattle.utf_base.specs.Kinds.{value};
+ghost use Rattle.utf_base.specs.Kinds.{value, asked};
 ghost use Rattle.utf_chars.specs.Chars.{ascii_lowercase, ascii_uppercase, BeginsText, IsFrontCode};
 ghost use Rattle.utf_chars.specs.Chars.{first_of_text, parsed, Parses};
 ghost use Rattle.utf_chars.specs.Padded.{padded, IsPadded, HasRoom};
@@ -72,10 +72,12 @@ impl Utf8Char {
         ensures len { IfOk result (λ x. IsFrontLen 4 src.now x.1) }
         ensures boundary { IfOk result (λ x. IsCharBoundary src.now x.1) }
     {
-        match Utf8Char::from_slice_start(src.as_bytes()) {
-            Ok(first) => Ok(first),
-            Err(_) => Err(EmptyStrError),
+        let bytes = src.as_bytes();
+        if bytes.is_empty() {
+            return Err(EmptyStrError);
         }
+        let len = code_len(bytes[0]);
+        Ok((Utf8Char::from_front(bytes, len), len))
     }
 
     /// The character whose code begins the bytes, and how many bytes the code has: 1 to 4.
@@ -208,6 +210,21 @@ fn front_array(src: &[u8], len: usize) -> [u8; 4]
     }
 }
 
+// How many bytes a code has that the byte begins.
+#[inline(always)]
+fn code_len(first: u8) -> usize
+    ensures asked { 0 < asked first → result ≡ asked first }
+    ensures least { 1 ≤ result }
+    ensures most { result ≤ 4 }
+{
+    match first {
+        0x00..=0x7f => 1,
+        0x80..=0xdf => 2,
+        0xe0..=0xef => 3,
+        _ => 4,
+    }
+}
+
 /// What a character is.
 impl Utf8Char {
     /// How many bytes the code has: 1 to 4.
@@ -217,12 +234,7 @@ impl Utf8Char {
         ensures least { 1 ≤ result }
         ensures most { result ≤ 4 }
     {
-        match self.bytes[0] {
-            0x00..=0x7f => 1,
-            0x80..=0xdf => 2,
-            0xe0..=0xef => 3,
-            _ => 4,
-        }
+        code_len(self.bytes[0])
     }
 
     /// Whether the scalar is below 128.
@@ -311,8 +323,36 @@ impl Utf8Char {
     {
         let _ = &self.bytes;
         let len = self.len();
-        dst[..len].copy_from_slice(self.as_bytes());
+        self.store(len, dst);
         len
+    }
+
+    // Writes the code, which has `len` bytes, to the front of the slice.
+    #[inline(always)]
+    fn store(self, len: usize, dst: &mut [u8])
+        requires len { len ≡ length (utf8 self) }
+        requires least { 1 ≤ len }
+        requires most { len ≤ 4 }
+        requires room { len ≤ length dst.old }
+        ensures { dst.new ≡ utf8 self ++ drop (length (utf8 self)) dst.old }
+    {
+        match len {
+            1 => self.store_by::<1>(dst),
+            2 => self.store_by::<2>(dst),
+            3 => self.store_by::<3>(dst),
+            _ => self.store_by::<4>(dst),
+        }
+    }
+
+    // The same where the compiler knows how many bytes there are: so no call copies them.
+    #[inline(always)]
+    fn store_by<const LEN: usize>(self, dst: &mut [u8])
+        requires len { LEN ≡ length (utf8 self) }
+        requires most { LEN ≤ 4 }
+        requires room { LEN ≤ length dst.old }
+        ensures { dst.new ≡ utf8 self ++ drop (length (utf8 self)) dst.old }
+    {
+        dst[..LEN].copy_from_slice(&self.bytes[..LEN]);
     }
 }
 

@@ -19,7 +19,7 @@ use std::{fmt, io};
 /// `next` and `read` may be mixed: both take from the front of what is left.
 #[derive(Drop)]
 pub struct Utf8Iterator {
-    unsent: Unsent<u8, 4>,
+    unsent: Unsent<256>,
 }
 
 impl Model for Utf8Iterator {
@@ -72,7 +72,7 @@ impl Iterator for Utf8Iterator {
 
     #[inline(always)]
     fn next(&mut self) -> Option<u8> {
-        self.unsent.next()
+        self.unsent.next_byte()
     }
 
     /// How many bytes are left, from below and from above.

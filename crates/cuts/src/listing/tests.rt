@@ -142,8 +142,10 @@ fn walks_have_their_lines(rt: HostRuntime) {
         (2, 4, 1, "1 1 UnexpectedContinuationByte\nnone\n"),
         (0, 4, 3, WALK),
     ] {
+        let whole = walk();
+        let steps = &whole[..];
         let mut out = Counted::new(FakeWriter::ample(rt.alloc()));
-        assert_eq!(rt; write_walk(&walk()[from..to], &mut out).ok(), Some(faults));
+        assert_eq!(rt; write_walk(&steps[from..to], &mut out).ok(), Some(faults));
         let writer = out.into_inner();
         assert_eq!(rt; writer.bytes.as_slice(), lines.as_bytes());
         assert_eq!(rt; writer.given.len(), to - from, "a call for each line");

@@ -1,5 +1,5 @@
 //! The code of a scalar in UTF-16 (RFC 2781).
-ghost use Rattle.std.specs.Prelude.{◌≡◌, ◌+◌, ◌-◌, ◌/◌, ◌%◌, ◌≤◌, ◌<◌, ◌&&◌, nat_lt, true, false, slice_index, if◌then◌else◌, IfNone};
+ghost use Rattle.std.specs.Prelude.{◌≡◌, ◌↔◌, IsTrue, ◌+◌, ◌-◌, ◌/◌, ◌%◌, ◌≤◌, ◌<◌, ◌&&◌, nat_lt, true, false, slice_index, if◌then◌else◌, IfNone};
 ghost use Rattle.utf_base.specs.declared.errors.units.Utf16SliceError.TheVariants.{FirstIsTrailingSurrogate};
 ghost use Rattle.utf_base.specs.Code.{utf16};
 ghost use Rattle.utf_base.specs.Front.{as_scalar, DecodesUnits, DecodesTwoUnits, DecodesTuple};
@@ -11,15 +11,25 @@ use utf_base::traits::U16UtfExt;
 
 /// The code of a number below 0x110000: a unit and 0, or a pair of surrogates.
 #[inline(always)]
-#[tactic(auto, unfolding(utf_base::specs::Code::utf16, crate::specs::Padded::padded))]
 pub(crate) fn padded_code(s: u32) -> [u16; 2]
     requires { s < 0x11_0000 }
     ensures { result ≡ padded 2 (utf16 s) }
 {
-    if s < 0x1_0000 {
-        [s as u16, 0]
-    } else {
+    code_by_kind(s, s >= 0x1_0000)
+}
+
+/// The same where it is known already whether the code is a pair.
+#[inline(always)]
+#[tactic(auto, unfolding(utf_base::specs::Code::utf16, crate::specs::Padded::padded))]
+pub(crate) fn code_by_kind(s: u32, is_pair: bool) -> [u16; 2]
+    requires number { s < 0x11_0000 }
+    requires pair { IsTrue is_pair ↔ (0x1_0000 ≤ s) }
+    ensures { result ≡ padded 2 (utf16 s) }
+{
+    if is_pair {
         [leading_surrogate(s), trailing_surrogate(s)]
+    } else {
+        [s as u16, 0]
     }
 }
 

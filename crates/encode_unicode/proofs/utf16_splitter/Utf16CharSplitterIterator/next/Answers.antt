@@ -6,10 +6,10 @@ use Rattle.encode_unicode.proofs.utf16_splitter.Utf16CharSplitterIterator.next.G
 
 pub returns-in_ok-next-in-None-clause-steps : goal.returns-in_ok-next-in-None-clause-steps
 returns-in_ok-next-in-None-clause-steps g c rest listed =
-    rw (← c.self.view_is) (first_of_next utf16 rest c.self.inside.source c.next-in-None.new.self c.in_ok-next-in-None.field-0 c.self.inside.begun c.from-self-inside.result c.next-in-None-2.new.self c.next-in-None-2.result
-    c.in-None.ensures.0 (listed _ _ _ c.in_ok-next-in-None.ensures.steps) c.from-self-inside.ensures (some_utf16 c.in_ok-next-in-None.field-0) c.next-in-None-2.ensures)
+    rw (← c.self.view_is) (first_of_next utf16 rest c.self.inside.source c.next.new.self c.in_ok-next-in-None.field-0 c.self.inside.begun c.from-self-inside.result c.next_unit-in-None.new.self c.next_unit-in-None.result
+    c.in-None.ensures.0 (listed _ _ _ c.in_ok-next-in-None.ensures.steps) c.from-self-inside.ensures (some_utf16 c.in_ok-next-in-None.field-0) c.next_unit-in-None.ensures)
 
 pub returns-in_ok-next-in-None-clause-goes : goal.returns-in_ok-next-in-None-clause-goes
 returns-in_ok-next-in-None-clause-goes g c =
-    rw (← c.self.view_is) (nearer_by_next g.I.Iterator.can_next g.I.Iterator.remaining 2 c.self.inside.source c.next-in-None.new.self c.in_ok-next-in-None.field-0 c.self.inside.begun c.from-self-inside.result c.next-in-None-2.new.self c.next-in-None-2.result
-    (rw c.from-self-inside.ensures (length_utf16 c.in_ok-next-in-None.field-0)) (rw c.from-self-inside.ensures (some_utf16 c.in_ok-next-in-None.field-0)) c.next-in-None-2.ensures c.in_ok-next-in-None.ensures.goes)
+    rw (← c.self.view_is) (nearer_by_next g.I.Iterator.can_next g.I.Iterator.remaining 2 c.self.inside.source c.next.new.self c.in_ok-next-in-None.field-0 c.self.inside.begun c.from-self-inside.result c.next_unit-in-None.new.self c.next_unit-in-None.result
+    (rw c.from-self-inside.ensures (length_utf16 c.in_ok-next-in-None.field-0)) (rw c.from-self-inside.ensures (some_utf16 c.in_ok-next-in-None.field-0)) c.next_unit-in-None.ensures c.in_ok-next-in-None.ensures.goes)

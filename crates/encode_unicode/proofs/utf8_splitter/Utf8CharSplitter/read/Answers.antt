@@ -1,4 +1,4 @@
-use Rattle.std.proofs.Common.{◌≡◌, ◌∙◌, ◌++◌, ◌∷◌, ◌+◌, ◌-◌, ◌<◌, ap, sym, refl, take, drop, length, append_assoc}
+use Rattle.std.proofs.Common.{◌≡◌, ◌∙◌, ◌++◌, ◌∷◌, ◌+◌, ◌-◌, ap, sym, refl, take, drop, length, append_assoc}
 use Rattle.std.proofs.lemmas.List.{drop-drop}
 use borrow.Rule.Slice.PartMut.{put_mid}
 use Rattle.std.specs.List.{flat_map}
@@ -25,10 +25,10 @@ loop-count-init g c =
 pub loop-count-preserved : goal.loop-count-preserved
 loop-count-preserved g c =
     let n = c.loop-count.count in
-    let k = c.take-count-in-Some.result in
-    let put = put_mid n (length c.loop-count.buf - n) c.loop-count.buf c.take-count-in-Some.new.buf in
-    let more = refilled_from c.loop-count.buf c.take-count-in-Some.new.buf c.from-self-inside.result c.take-count-in-Some.new.self c.loop-count.count c.take-count-in-Some.result c.loop-count.invariant.within
-    (refilled _ _ _ _ _ c.take-count-in-Some.ensures.count c.take-count-in-Some.ensures.written c.take-count-in-Some.ensures.left) in
+    let k = c.send-begun.result.1 in
+    let put = put_mid n (length c.loop-count.buf - n) c.loop-count.buf c.send-begun.new.buf in
+    let more = refilled_from c.loop-count.buf c.send-begun.new.buf (utf8 c.in-Some.c) c.send-begun.result.0 c.loop-count.count c.send-begun.result.1 c.loop-count.invariant.within
+    (refilled _ _ _ _ _ c.send-begun.ensures.count c.send-begun.ensures.written c.send-begun.ensures.left) in
     record {
       within = more.within;
       can = c.in-Some.ensures.goes.keeps;
@@ -36,11 +36,11 @@ loop-count-preserved g c =
       after = more.after ∙ sym (drop-drop k n c.loop-count.buf) ∙ ap (drop k) c.loop-count.invariant.after ∙ drop-drop k n c.args.buf.now;
       same = λ rest listed.
           let next : rest c.loop-count.self-inside.source ≡ c.in-Some.c ∷ rest c.next.new.self = listed _ _ _ c.in-Some.ensures.steps in
-          let joined : c.loop-count.self-inside.begun ++ flat_map utf8 (rest c.loop-count.self-inside.source) ≡ c.from-self-inside.result ++ flat_map utf8 (rest c.next.new.self)
-          = rw (c.loop-count.invariant.none c.loop-count-test.true, next, c.from-self-inside.ensures) refl in
-          sym (append_assoc (take (n + k) put) c.take-count-in-Some.new.self (flat_map utf8 (rest c.next.new.self)))
+          let joined : c.loop-count.self-inside.begun ++ flat_map utf8 (rest c.loop-count.self-inside.source) ≡ utf8 c.in-Some.c ++ flat_map utf8 (rest c.next.new.self)
+          = rw (c.loop-count.invariant.none c.loop-count-test.true, next) refl in
+          sym (append_assoc (take (n + k) put) c.send-begun.result.0 (flat_map utf8 (rest c.next.new.self)))
           ∙ ap (λ xs. xs ++ flat_map utf8 (rest c.next.new.self)) more.front
-          ∙ append_assoc (take n c.loop-count.buf) c.from-self-inside.result (flat_map utf8 (rest c.next.new.self))
+          ∙ append_assoc (take n c.loop-count.buf) (utf8 c.in-Some.c) (flat_map utf8 (rest c.next.new.self))
           ∙ ap (λ xs. take n c.loop-count.buf ++ xs) (sym joined)
           ∙ c.loop-count.invariant.same rest listed;
     }
@@ -48,7 +48,7 @@ loop-count-preserved g c =
 pub loop-count-smaller : goal.loop-count-smaller
 loop-count-smaller g c =
     let n = c.loop-count.count in
-    let k = c.take-count-in-Some.result in
-    let part = refilled _ _ _ _ _ c.take-count-in-Some.ensures.count c.take-count-in-Some.ensures.written c.take-count-in-Some.ensures.left in
-    let some : 0 < length c.from-self-inside.result = rw c.from-self-inside.ensures (some_utf8 c.in-Some.c) in
-    less_left c.loop-count.buf c.take-count-in-Some.new.buf c.from-self-inside.result n k c.loop-count-test.true some c.take-count-in-Some.ensures.count part.len
+    let k = c.send-begun.result.1 in
+    let part = refilled _ _ _ _ _ c.send-begun.ensures.count c.send-begun.ensures.written c.send-begun.ensures.left in
+    let some = some_utf8 c.in-Some.c in
+    less_left c.loop-count.buf c.send-begun.new.buf (utf8 c.in-Some.c) n k c.loop-count-test.true some c.send-begun.ensures.count part.len

@@ -1,30 +1,27 @@
-use Rattle.std.proofs.Common.{◌≡◌, ℕ, [], Ok, Err, ⊎_elim}
-use Rattle.utf_base.specs.Code.{utf8}
-use Rattle.utf_base.specs.Piece.{Stands}
-use Rattle.utf_base.proofs.FrontLemmas.{no_code_where_fault}
-use Rattle.utf_base.proofs.StdText.{text_begins}
-use Rattle.utf_chars.proofs.TextLemmas.{answer_of_text, boundary_behind}
+use Rattle.std.proofs.Common.{◌≡◌, ◌<◌, [], length, Ok, Err, arith}
+use Rattle.std.proofs.lemmas.Grind.{common_steps}
+use Rattle.utf_base.proofs.DecodedLemmas.{front_len_utf8}
+use Rattle.utf_chars.proofs.TextLemmas.{answer_of_text, boundary_behind, front_code}
 use Rattle.utf_chars.proofs.utf8_char.Utf8Char.from_str_start.Goals as goal
 
--- A code begins each text but the empty one.
-pub returns-in-Err-clause-begins : goal.returns-in-Err-clause-begins
-returns-in-Err-clause-begins c =
-    let fault = rw c.as_bytes.ensures.value at c.in-Err.ensures.decodes in
-    ⊎_elim
-    (λ (empty : c.args.src.now ≡ []). empty)
-    (λ (code : (s : ℕ) × Stands utf8 c.args.src.now 0 s). absurd (no_code_where_fault _ _ _ fault code.1))
-    (text_begins c.args.src.now c.utf8.src)
+pub from_front-requires : goal.from_front-requires
+from_front-requires c =
+    let some : 0 < length c.args.src.now = grind (arith, common_steps) in
+    rw c.as_bytes-bytes.ensures.value (front_code c.args.src.now c.code_len-len.result c.utf8.src some (rw c.as_bytes-bytes.ensures.value at c.code_len-len.ensures.asked))
 
-pub returns-in-Err-clause-known : goal.returns-in-Err-clause-known
-returns-in-Err-clause-known c =
-    let fault = rw c.as_bytes.ensures.value at c.in-Err.ensures.decodes in
-    answer_of_text _ (Err _) (⊎_elim
-    (λ (empty : c.args.src.now ≡ []). empty)
-    (λ (code : (s : ℕ) × Stands utf8 c.args.src.now 0 s). absurd (no_code_where_fault _ _ _ fault code.1))
-    (text_begins c.args.src.now c.utf8.src))
+pub returns-then-is_empty-clause-known : goal.returns-then-is_empty-clause-known
+returns-then-is_empty-clause-known c =
+    let empty : c.args.src.now ≡ [] = grind (arith, common_steps) in
+    answer_of_text _ (Err _) empty
 
-pub returns-in-Ok-clause-known : goal.returns-in-Ok-clause-known
-returns-in-Ok-clause-known c = answer_of_text _ (Ok _) (rw c.as_bytes.ensures.value at c.in-Ok.ensures.decodes)
+pub returns-clause-begins : goal.returns-clause-begins
+returns-clause-begins c = rw c.as_bytes-bytes.ensures.value at c.from_front.ensures
 
-pub returns-in-Ok-clause-boundary : goal.returns-in-Ok-clause-boundary
-returns-in-Ok-clause-boundary c = boundary_behind _ _ _ c.utf8.src (rw c.as_bytes.ensures.value at c.in-Ok.ensures.decodes)
+pub returns-clause-known : goal.returns-clause-known
+returns-clause-known c = answer_of_text _ (Ok _) (rw c.as_bytes-bytes.ensures.value at c.from_front.ensures)
+
+pub returns-clause-len : goal.returns-clause-len
+returns-clause-len c = front_len_utf8 _ _ _ (rw c.as_bytes-bytes.ensures.value at c.from_front.ensures)
+
+pub returns-clause-boundary : goal.returns-clause-boundary
+returns-clause-boundary c = boundary_behind _ _ _ c.utf8.src (rw c.as_bytes-bytes.ensures.value at c.from_front.ensures)

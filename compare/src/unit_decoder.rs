@@ -1,0 +1,135 @@
+//! The decoder of units, compared.
+
+use crate::inputs::{Random, EDGE_UNITS};
+use crate::numbers::{Answers, NOTHING};
+use crate::ours::filled;
+use crate::tally::Kind;
+use encode_unicode::iterator::Utf16CharDecoder;
+use encode_unicode::SliceExt;
+
+/// Lists of units, as the decoder cuts them.
+pub fn lists(seed: u64, count: usize) -> Vec<Kind> {
+    let random = &mut Random::new(seed);
+    let many = count + count / 2;
+    vec![
+        kind_of("lists of up to four edge units", short_lists()),
+        kind_of(
+            "lists of 4 to 24 units, half of them surrogates",
+            (0..many).map(|_| random_list(random)),
+        ),
+        kind_of(
+            "lists of 4 to 24 edge units",
+            (0..many).map(|_| random_edges(random)),
+        ),
+        kind_of(
+            "texts as units, damaged",
+            (0..many).map(|_| damaged_text(random)),
+        ),
+    ]
+}
+
+fn kind_of(name: &'static str, lists: impl IntoIterator<Item = Vec<u16>>) -> Kind {
+    let mut kind = Kind::new(name);
+    for list in lists {
+        let both = [ours_from(&list), ours_indices(&list)].concat();
+        let mut judged = theirs(Utf16CharDecoder::from(list.as_slice()));
+        judged.append(theirs(list.as_slice().utf16char_indices()));
+        kind.compare(|| format!("{list:04x?}"), &both, &judged);
+    }
+    kind
+}
+
+// All lists of up to four edge units.
+fn short_lists() -> Vec<Vec<u16>> {
+    let mut lists: Vec<Vec<u16>> = vec![Vec::new()];
+    let mut from = 0;
+    for _ in 0..4 {
+        let until = lists.len();
+        for at in from..until {
+            for unit in EDGE_UNITS {
+                let longer = [lists[at].as_slice(), &[unit]].concat();
+                lists.push(longer);
+            }
+        }
+        from = until;
+    }
+    lists
+}
+
+fn random_list(random: &mut Random) -> Vec<u16> {
+    (0..4 + random.below(21))
+        .map(|_| match random.below(2) {
+            0 => random.unit(),
+            _ => 0xd800 + (random.unit() & 0x7ff),
+        })
+        .collect()
+}
+
+fn random_edges(random: &mut Random) -> Vec<u16> {
+    (0..4 + random.below(21))
+        .map(|_| random.one_of(&EDGE_UNITS))
+        .collect()
+}
+
+// A text of 4 to 16 characters, of whose units up to three are changed, left out or doubled.
+fn damaged_text(random: &mut Random) -> Vec<u16> {
+    let text: String = (0..4 + random.below(13)).map(|_| random.char()).collect();
+    let mut units: Vec<u16> = text.encode_utf16().collect();
+    for _ in 0..1 + random.below(3) {
+        let place = random.below(units.len());
+        match random.below(4) {
+            0 => units[place] = random.unit(),
+            1 => units[place] = random.one_of(&EDGE_UNITS),
+            2 => {
+                units.remove(place);
+            }
+            _ => units.insert(place, units[place]),
+        }
+    }
+    units
+}
+
+// Declared in `crates/compare_c/src/unit_decoder.rt`, as those of `ours` are.
+extern "C" {
+    fn compare_c_unit_decoder(src: *const u16, len: usize, answers: *mut u64, room: usize)
+        -> usize;
+    fn compare_c_unit_indices(src: *const u16, len: usize, answers: *mut u64, room: usize)
+        -> usize;
+}
+
+// Room for each call of `next`, beside the units that are left before it.
+const ROOM_PER_ITEM: usize = 6;
+
+fn room_of(src: &[u16]) -> usize {
+    (ROOM_PER_ITEM + src.len()) * (src.len() + 1)
+}
+
+fn ours_from(src: &[u16]) -> Vec<u64> {
+    filled(room_of(src), |at, room| unsafe {
+        compare_c_unit_decoder(src.as_ptr(), src.len(), at, room)
+    })
+}
+
+fn ours_indices(src: &[u16]) -> Vec<u64> {
+    filled(room_of(src), |at, room| unsafe {
+        compare_c_unit_indices(src.as_ptr(), src.len(), at, room)
+    })
+}
+
+fn theirs(mut decoder: Utf16CharDecoder) -> Answers {
+    let mut to = Answers::default();
+    loop {
+        let (least, most) = decoder.size_hint();
+        to.put_size("size_hint().0", least);
+        to.put("size_hint().1", most.map_or(NOTHING, |most| most as u64));
+        to.put_size("as_slice().len()", decoder.as_slice().len());
+        to.put_units("as_slice()", decoder.as_slice());
+        let Some((offset, answer, len)) = decoder.next() else {
+            to.put("next() at the end", NOTHING);
+            return to;
+        };
+        to.put_size("offset", offset);
+        to.put_size("length", len);
+        to.put_answer("item", answer);
+    }
+}

@@ -1,0 +1,30 @@
+//! The work of the decoder of units, exported for `bench/`.
+
+use crate::{ERROR, mix, word_of};
+use encode_unicode::error::Utf16PairError;
+use encode_unicode::iterator::Utf16CharDecoder;
+
+// The number of an error.
+#[inline(always)]
+fn pair_number_of(error: Utf16PairError) -> u32 {
+    ERROR
+        | match error {
+            Utf16PairError::UnexpectedTrailingSurrogate => 0,
+            Utf16PairError::UnmatchedLeadingSurrogate => 1,
+            Utf16PairError::Incomplete => 2,
+        }
+}
+
+/// Every piece that the decoder of units gives, from the front.
+#[unsafe(no_mangle)]
+pub extern "C" fn bench_c_unit_decoder(src: &[u16], factor: u64) -> u64 {
+    let mut sum = 0;
+    for (place, answer, len) in Utf16CharDecoder::from(src) {
+        let what = match answer {
+            Ok(c) => c.to_char() as u32,
+            Err(error) => pair_number_of(error),
+        };
+        sum = mix(sum, word_of(place, len, what), factor);
+    }
+    sum
+}

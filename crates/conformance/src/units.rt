@@ -1,0 +1,114 @@
+//! The rows of units, and the kinds of run that are held against them.
+
+use crate::rows::digit;
+use encode_unicode::error::Utf16PairError;
+use encode_unicode::{U16IterExt, U16SliceExt};
+use std::alloc::{AllocError, Global};
+use std::io;
+use std::io::ErrorKind;
+
+/// What a row says: some units, and the pieces that a run from the front has to give, as text.
+#[derive(Drop)]
+pub(crate) struct UnitRow<'a> {
+    /// The units as they stand in the file, each in four hexadecimal digits.
+    pub(crate) text: &'a str,
+    pub(crate) units: Vec<u16>,
+    /// The pieces with `;` between them, each an offset, a length and an answer.
+    pub(crate) pieces: &'a str,
+}
+
+/// The rows of the file. A line that begins with `#` is none, and any other has at least two columns with
+/// `|` between them: the units and the pieces.
+pub(crate) fn parse(alloc: Global, file: &str) -> io::Result<Vec<UnitRow<'_>>> {
+    let mut rows = Vec::new(alloc);
+    for line in file.lines() {
+        if !line.starts_with('#') {
+            rows.push(parse_row(alloc, line)?)?;
+        }
+    }
+    Ok(rows)
+}
+
+fn parse_row(alloc: Global, line: &str) -> io::Result<UnitRow<'_>> {
+    let mut columns = line.split('|');
+    let (Some(text), Some(pieces)) = (columns.next(), columns.next()) else {
+        return Err(io::Error::from(ErrorKind::InvalidData));
+    };
+    let units = parse_units(alloc, text)?;
+    Ok(UnitRow {
+        text,
+        units,
+        pieces,
+    })
+}
+
+fn parse_units(alloc: Global, text: &str) -> io::Result<Vec<u16>> {
+    let mut units = Vec::new(alloc);
+    for digits in text.as_bytes().chunks(4) {
+        let mut unit = 0;
+        for one in digits {
+            unit = unit << 4 | u16::from(digit(*one)?);
+        }
+        units.push(unit)?;
+    }
+    Ok(units)
+}
+
+/// A kind of run over some units.
+#[derive(Clone, Copy)]
+pub(crate) enum UnitRun {
+    /// Each piece in turn, by the decoder.
+    Decoder,
+    /// Each answer in turn, by the merger. The rows have no column of its own: it answers the same.
+    Merger,
+}
+
+impl UnitRun {
+    pub(crate) fn name(self) -> &'static str {
+        match self {
+            UnitRun::Decoder => "decoder of units",
+            UnitRun::Merger => "merger of units",
+        }
+    }
+
+    /// Whether the run gives the pieces of the row.
+    pub(crate) fn agrees(self, alloc: Global, row: &UnitRow<'_>) -> io::Result<bool> {
+        match self {
+            UnitRun::Decoder => Ok(decoder_agrees(alloc, row)?),
+            UnitRun::Merger => Ok(merger_agrees(alloc, row)?),
+        }
+    }
+}
+
+fn decoder_agrees(alloc: Global, row: &UnitRow<'_>) -> Result<bool, AllocError> {
+    let mut run = String::new(alloc);
+    for (place, answer, len) in row.units.as_slice().utf16char_indices() {
+        if !run.is_empty() {
+            run.push(';')?;
+        }
+        let answer = answer_text(alloc, answer.map(|c| c.to_char()))?;
+        run.push_str(&format!(in alloc; "{place} {len} {answer}")?)?;
+    }
+    Ok(run.as_str() == row.pieces)
+}
+
+// The answers alone: what stands behind the last space of each piece.
+fn merger_agrees(alloc: Global, row: &UnitRow<'_>) -> Result<bool, AllocError> {
+    let mut pieces = row.pieces.split_terminator(';');
+    for answer in row.units.iter().copied().to_utf16chars() {
+        let answer = answer_text(alloc, answer.map(|c| c.to_char()))?;
+        let piece = pieces.next().unwrap_or("");
+        if piece.rsplit(' ').next() != Some(answer.as_str()) {
+            return Ok(false);
+        }
+    }
+    Ok(pieces.next().is_none())
+}
+
+// An answer as the vectors write it.
+fn answer_text(alloc: Global, answer: Result<char, Utf16PairError>) -> Result<String, AllocError> {
+    match answer {
+        Ok(c) => format!(in alloc; "{:06x}", c as u32),
+        Err(error) => format!(in alloc; "{error:?}"),
+    }
+}

@@ -1,0 +1,125 @@
+-- What one call of a merger reads and answers. All of it is generic in the code.
+use Rattle.std.proofs.Common.{◌≡◌, ℕ, suc, subst, List, [], ◌∷◌, ◌++◌, Some, None, Bool, true, false, length, refl, ap, sym, ◌∙◌, arith, length-append, append_assoc, append-nil}
+use Rattle.std.specs.Iterator.{Count, MakesProgress}
+use Rattle.std.specs.Prelude.{Option, Result, IfNone, IfSome}
+use Rattle.encode_unicode.specs.Mergers.{Merging, MergerNext, TakesFront, still, unread_count}
+use Rattle.encode_unicode.specs.Reading.{Answers, FirstOf, Reads, TakesFirst, as_list}
+
+pub reads_none : {S A : Type 0} (can_next : S → Type 0) (remaining : S → Count) (steps : S → Option A → S → Type 0) (s : S) (e : Bool) → (e ≡ false → can_next s) → Reads can_next remaining steps s e [] s e
+reads_none can_next remaining steps s e can = record {
+  gives = λ rest listed. refl;
+  can = can;
+  stays = λ ends. (ends, refl);
+  spent = λ rest listed spent. spent;
+  fewer = λ finite. (finite, omega arith);
+}
+
+pub reads_more : {S A : Type 0} (can_next : S → Type 0) (remaining : S → Count) (steps : S → Option A → S → Type 0) (s t u : S) (e f g : Bool) (xs ys : List A)
+    → Reads can_next remaining steps s e xs t f → Reads can_next remaining steps t f ys u g → Reads can_next remaining steps s e (xs ++ ys) u g
+reads_more can_next remaining steps s t u e f g xs ys one two = record {
+  gives = λ rest listed. one.gives rest listed ∙ ap (λ zs. xs ++ zs) (two.gives rest listed) ∙ sym (append_assoc xs ys (still rest u g));
+  can = two.can;
+  stays = λ ends. let a = one.stays ends in let b = two.stays a.0 in (b.0, b.1 ∙ a.1);
+  spent = λ rest listed spent. two.spent rest listed (one.spent rest listed spent);
+  fewer = λ finite.
+      let a = one.fewer finite in
+      let b = two.fewer a.0 in
+      let a_size = a.1 in
+      let b_size = b.1 in
+      let len = length-append xs ys in
+      (b.0, omega arith);
+}
+
+-- a source that has ended gives nothing
+nothing_still : {S A : Type 0} (rest : S → List A) (s : S) (e : Bool) → e ≡ true → still rest s e ≡ []
+nothing_still rest s e ends = rw ends refl
+
+-- One call of `next`: the elements `held` and then those that are read at first, xs, begin with the one that is answered for.
+pub merger_next : {S E : Type 0} (code : ℕ → List ℕ) (kind : List ℕ → Option E) (Held : List ℕ → Type 0) (can_next : S → Type 0) (remaining : S → Count) (steps : S → Option ℕ → S → Type 0)
+    (held xs : List ℕ) (s u t : S) (e d f : Bool) (first : ℕ) (old : List ℕ) (r : Result ℕ E) (new : List ℕ)
+    → Reads can_next remaining steps s e xs u d → held ++ xs ≡ first ∷ old → Answers code kind can_next remaining steps first old u d r new t f → Held new
+    → MergerNext code kind Held steps (record { held = held; source = s; ended = e }) (Some r) (record { held = new; source = t; ended = f })
+merger_next code kind Held can_next remaining steps held xs s u t e d f first old r new reads begins a keeps = record {
+  takes = λ rest listed.
+      let all : held ++ still rest s e ≡ (first ∷ old ++ a.more) ++ still rest t f
+      = ap (λ zs. held ++ zs) (reads.gives rest listed)
+      ∙ sym (append_assoc held xs (still rest u d))
+      ∙ ap (λ zs. zs ++ still rest u d) begins
+      ∙ ap (λ zs. (first ∷ old) ++ zs) (a.reads.gives rest listed)
+      ∙ sym (append_assoc (first ∷ old) a.more (still rest t f)) in
+      subst (λ zs. TakesFront code kind zs (Some r) (new ++ still rest t f)) (sym all) (a.settles (still rest t f) (nothing_still rest t f));
+  held = keeps;
+  none_held = a.clear;
+  ends = tt;
+  stays = λ ends. let p = reads.stays ends in let q = a.reads.stays p.0 in (q.0, q.1 ∙ p.1);
+  spent = λ rest listed spent. a.reads.spent rest listed (reads.spent rest listed spent);
+}
+
+-- the merger comes nearer to its end
+pub merger_nearer : {S E : Type 0} (code : ℕ → List ℕ) (kind : List ℕ → Option E) (can_next : S → Type 0) (remaining : S → Count) (steps : S → Option ℕ → S → Type 0)
+    (held xs : List ℕ) (s u t : S) (e d f : Bool) (first : ℕ) (old : List ℕ) (r : Result ℕ E) (new : List ℕ)
+    → Reads can_next remaining steps s e xs u d → held ++ xs ≡ first ∷ old → Answers code kind can_next remaining steps first old u d r new t f
+    → MakesProgress (λ (m : Merging S). m.ended ≡ false → can_next m.source) (unread_count remaining) (record { held = held; source = s; ended = e }) (Some r) (record { held = new; source = t; ended = f })
+merger_nearer code kind can_next remaining steps held xs s u t e d f first old r new reads begins a = record {
+  on = λ finite.
+      let one = reads.fewer finite in
+      let two = a.reads.fewer one.0 in
+      let one_size = one.1 in
+      let two_size = two.1 in
+      let few = a.few in
+      let len : length (held ++ xs) ≡ suc (length old) = ap length begins in
+      let both = length-append held xs in
+      (a.reads.can, two.0, omega arith);
+  keeps = a.reads.can;
+  rests = λ finite. tt;
+}
+
+-- nothing is held, and the source has ended
+pub merger_ends : {S E : Type 0} (code : ℕ → List ℕ) (kind : List ℕ → Option E) (Held : List ℕ → Type 0) (can_next : S → Type 0) (remaining : S → Count) (steps : S → Option ℕ → S → Type 0)
+    (old new : List ℕ) (s t : S) (e f : Bool) → Reads can_next remaining steps s e [] t f → old ≡ [] → new ≡ [] → f ≡ true → Held []
+    → MergerNext code kind Held steps (record { held = old; source = s; ended = e }) None (record { held = new; source = t; ended = f })
+merger_ends code kind Held can_next remaining steps old new s t e f reads old_is new_is ends keeps = record {
+  takes = λ rest listed.
+      let none = nothing_still rest t f ends in
+      (ap (λ zs. zs ++ still rest s e) old_is ∙ reads.gives rest listed ∙ none, ap (λ zs. zs ++ still rest t f) new_is ∙ none);
+  held = subst Held (sym new_is) keeps;
+  none_held = new_is;
+  ends = ends;
+  stays = reads.stays;
+  spent = reads.spent;
+}
+
+pub merger_rests : {S E : Type 0} (can_next : S → Type 0) (remaining : S → Count) (steps : S → Option ℕ → S → Type 0) (old new : List ℕ) (s t : S) (e f : Bool)
+    → Reads can_next remaining steps s e [] t f
+    → MakesProgress {A = E} (λ (m : Merging S). m.ended ≡ false → can_next m.source) (unread_count remaining) (record { held = old; source = s; ended = e }) None (record { held = new; source = t; ended = f })
+merger_rests can_next remaining steps old new s t e f reads = record {
+  on = λ finite. tt;
+  keeps = tt;
+  rests = λ finite. (reads.fewer finite).0;
+}
+
+-- The first of the unread elements: one that is held, or one of the source.
+
+pub first_of_held : {S : Type 0} (Held : List ℕ → Type 0) (can_next : S → Type 0) (remaining : S → Count) (steps : S → Option ℕ → S → Type 0) (old : List ℕ) (s : S) (e : Bool) (x : ℕ) (new : List ℕ)
+    → (e ≡ false → can_next s) → old ≡ x ∷ new → Held new → FirstOf Held can_next remaining steps old s e x new s e
+first_of_held Held can_next remaining steps old s e x new can begins keeps = record {
+  more = [];
+  reads = reads_none can_next remaining steps s e can;
+  begins = append-nil old ∙ begins;
+  held = keeps;
+}
+
+pub first_of_source : {S : Type 0} (Held : List ℕ → Type 0) (can_next : S → Type 0) (remaining : S → Count) (steps : S → Option ℕ → S → Type 0) (old : List ℕ) (s : S) (e : Bool) (r : Option ℕ) (new : List ℕ) (t : S) (f : Bool)
+    → Reads can_next remaining steps s e (as_list r) t f → IfNone r (f ≡ true) → old ≡ [] → new ≡ [] → Held []
+    → TakesFirst Held can_next remaining steps old s e r new t f
+first_of_source Held can_next remaining steps old s e None new t f reads ends old_is new_is keeps = (reads, old_is, new_is, ends)
+first_of_source Held can_next remaining steps old s e (Some x) new t f reads ends old_is new_is keeps = record {
+  more = x ∷ [];
+  reads = reads;
+  begins = ap (λ zs. zs ++ x ∷ []) old_is ∙ ap (λ zs. x ∷ zs) (sym new_is);
+  held = subst Held (sym new_is) keeps;
+}
+
+pub none_behind_source : (P : ℕ → Type 0) (r : Option ℕ) (new : List ℕ) → new ≡ [] → IfSome r (λ x. P x → new ≡ [])
+none_behind_source P None new e = tt
+none_behind_source P (Some x) new e = λ p. e

@@ -1,0 +1,6 @@
+use Rattle.std.proofs.Common.{refl}
+use Rattle.encode_unicode.proofs.HeldWords.{three_bytes}
+use Rattle.encode_unicode.proofs.held_bytes.HeldBytes.three.Goals as goal
+
+pub returns : goal.returns
+returns c = three_bytes _ c.args.first c.args.second c.args.third c.ranges.first.fits c.ranges.second.fits c.ranges.third.fits refl

@@ -1,0 +1,9 @@
+//! Tests of the mergers of bytes and of units.
+#![tactic(auto)]
+
+#[cfg(test)]
+mod bytes;
+#[cfg(test)]
+mod sources;
+#[cfg(test)]
+mod units;
