@@ -1,9 +1,8 @@
 -- What arguments ask for, and when they ask for nothing.
-use Rattle.std.proofs.Common.{◌≡◌, ℕ, ◌+◌, ◌<◌, ◌≤◌, ◌==◌, ⊎_elim, inl, inr, List, [], ◌∷◌, length, map, get_or, refl, sym, ◌∙◌, ap, subst, arith, if◌then◌else◌}
-use Rattle.std.proofs.lemmas.Grind.{common_steps}
+use Rattle.std.proofs.Common.{◌≡◌, ℕ, ◌<◌, ◌≤◌, ◌==◌, ⊎_elim, inl, inr, List, [], ◌∷◌, length, map, get_or, refl, sym, ◌∙◌, ap, subst, arith, if◌then◌else◌}
 use Rattle.std.proofs.lemmas.List.{length-map}
 use Rattle.std.proofs.lemmas.List.Elements.{All-nil, All-cons, All-head, All-tail}
-use Rattle.std.specs.Prelude.{◌⊎◌, All, codes}
+use Rattle.std.specs.Prelude.{All, codes}
 use Rattle.cuts.specs.declared.items.End.{End}
 use Rattle.cuts.specs.declared.items.End.TheVariants.{Front, Back}
 use Rattle.cuts.specs.Arguments.{Asked, listed, merged, walked, letter, IsLetter, AreLetters, Asks, AreWrong}
@@ -31,8 +30,8 @@ spelled [] all = ([], refl)
 spelled (c ∷ cs) all =
     let rest = spelled cs (All-tail IsLetter c cs all) in
     ⊎_elim
-    (λ (e : c ≡ 70). (Front ∷ rest.0, rw (e, rest.1) refl))
-    (λ (e : c ≡ 66). (Back ∷ rest.0, rw (e, rest.1) refl))
+    (λ (e : c ≡ 70). (Front ∷ rest.0, ap (λ d. d ∷ map letter rest.0) (sym e) ∙ ap (λ ds. c ∷ ds) rest.1))
+    (λ (e : c ≡ 66). (Back ∷ rest.0, ap (λ d. d ∷ map letter rest.0) (sym e) ∙ ap (λ ds. c ∷ ds) rest.1))
     (All-head IsLetter c cs all)
 
 -- and the letters of a word are letters

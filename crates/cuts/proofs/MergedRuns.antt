@@ -1,8 +1,8 @@
 -- A run of a merger, one answer after another: from the contract of one call and the laws of cuts alone.
-use Rattle.std.proofs.Common.{◌≡◌, ℕ, suc, ◌+◌, ◌-◌, ◌<◌, ◌≤◌, List, [], ◌∷◌, ◌++◌, length, drop, take, map, refl, ap, sym, ◌∙◌, arith, Option, Some, None, Ok, Err, Result, length-append}
+use Rattle.std.proofs.Common.{◌≡◌, ℕ, suc, ◌+◌, ◌-◌, ◌<◌, List, [], ◌∷◌, ◌++◌, length, drop, refl, ap, sym, ◌∙◌, arith, Option, Some, None, Ok, Err, Result, length-append}
 use Rattle.std.proofs.lemmas.Grind.{common_steps}
 use Rattle.std.proofs.lemmas.List.{map-append, take_rest, drop_at, drop-drop}
-use Rattle.std.specs.Prelude.{slice_range, slice_index}
+use Rattle.std.specs.Prelude.{slice_range}
 use Rattle.utf_base.specs.declared.errors.Utf8ErrorKind.{Utf8ErrorKind}
 use Rattle.utf_base.specs.declared.errors.units.Utf16PairError.{Utf16PairError}
 use Rattle.utf_base.specs.Code.{IsCode, utf8, utf16}
@@ -17,7 +17,7 @@ use Rattle.utf_base.proofs.Utf8Code.{utf8_is_code}
 use Rattle.utf_base.proofs.Utf16Code.{utf16_is_code}
 use Rattle.encode_unicode.specs.Mergers.{TakesFront}
 use Rattle.encode_unicode.specs.Window.{Placed, UnitItem, IsFrontOf}
-use Rattle.cuts.specs.Items.{IsRun, answers_of}
+use Rattle.cuts.specs.Items.{answers_of}
 use Rattle.cuts.specs.Collected.{IsMergedRun, IsJoinedExactly, IsUnitRun}
 use Rattle.cuts.proofs.PieceRuns.{Excludes, IsRunTo, IsRunTo-none, IsRunTo-push, IsRun-all}
 use Rattle.cuts.proofs.RunLaws.{run_unique, run_of_joined, joined_of_run}
@@ -30,8 +30,9 @@ pub record IsMergedSoFar {E : Type 0} (code : ℕ → List ℕ) (kind : List ℕ
   pub behind : unread ≡ drop place xs
   pub same : answers ≡ answers_of items
 
-pub IsMergedSoFar-none : {E : Type 0} (code : ℕ → List ℕ) (kind : List ℕ → Option E) (xs : List ℕ) → IsMergedSoFar code kind xs [] xs
-IsMergedSoFar-none code kind xs = record { items = []; place = 0; run = IsRunTo-none code kind xs; behind = refl; same = refl }
+pub IsMergedSoFar-none : {E : Type 0} (code : ℕ → List ℕ) (kind : List ℕ → Option E) (xs : List ℕ) (answers : List (Result ℕ E)) (unread : List ℕ) → answers ≡ [] → unread ≡ xs
+    → IsMergedSoFar code kind xs answers unread
+IsMergedSoFar-none code kind xs answers unread none all = record { items = []; place = 0; run = IsRunTo-none code kind xs; behind = all; same = none }
 
 -- what leaves the unread elements with one answer
 record Taken {E : Type 0} (code : ℕ → List ℕ) (kind : List ℕ → Option E) (old : List ℕ) (r : Result ℕ E) (new : List ℕ) : Type 0 where
@@ -60,7 +61,7 @@ place_before xs i some = grind (arith, common_steps)
 -- one answer more
 pub IsMergedSoFar-push : {E : Type 0} (code : ℕ → List ℕ) (kind : List ℕ → Option E) → IsCode code → Excludes code kind → (xs : List ℕ) (answers : List (Result ℕ E)) (old new : List ℕ) (r : Result ℕ E)
     → IsMergedSoFar code kind xs answers old → TakesFront code kind old (Some r) new → IsMergedSoFar code kind xs (answers ++ r ∷ []) new
-IsMergedSoFar-push code kind c apart xs answers old new r f h =
+IsMergedSoFar-push {E} code kind c apart xs answers old new r f h =
     let t = taken code kind c old new r h in
     let lt = place_before xs f.place (rw f.behind at t.some) in
     let rest : old ≡ slice_range xs f.place (length xs) = f.behind ∙ sym (take_rest xs f.place) in
@@ -69,7 +70,7 @@ IsMergedSoFar-push code kind c apart xs answers old new r f h =
       place = f.place + t.len;
       run = IsRunTo-push code kind c apart xs f.items f.place (f.place, r, t.len) f.run refl lt (rw (← rest) t.front);
       behind = t.left ∙ ap (drop t.len) f.behind ∙ drop-drop t.len f.place xs;
-      same = ap (λ rs. rs ++ r ∷ []) f.same ∙ sym map-append;
+      same = ap (λ rs. rs ++ r ∷ []) f.same ∙ sym (map-append (λ (x : Placed E). x.1) f.items ((f.place, r, t.len) ∷ []));
     }
 
 -- once nothing is unread the run is whole

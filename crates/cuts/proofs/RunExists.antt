@@ -1,10 +1,11 @@
 -- Each form of run is there over all bytes.
-use Rattle.std.proofs.Common.{◌≡◌, ℕ, List, [], ◌∷◌, map, drop, refl, sym, ◌∙◌, Option, Some, None, Result, Ok, Err}
+use Rattle.std.proofs.Common.{◌≡◌, ℕ, List, [], ◌∷◌, map, drop, refl, sym, ap, subst, ◌∙◌, Option, Some, None, Result, Ok, Err}
 use Rattle.std.proofs.lemmas.List.Elements.{All-from_recursion, recursion_from_All}
 use Rattle.std.specs.List.{AllByRecursion}
 use Rattle.utf_base.specs.declared.errors.Utf8ErrorKind.{Utf8ErrorKind}
 use Rattle.utf_base.specs.Code.{utf8}
 use Rattle.utf_base.specs.Kinds.{fault_kind, merger_kind}
+use Rattle.utf_base.specs.Piece.{IsCut}
 use Rattle.utf_base.proofs.MergerLemmas.{merger_none}
 use Rattle.encode_unicode.specs.Window.{Item, whole_window}
 use Rattle.cuts.specs.Collected.{IsMergedRun}
@@ -36,16 +37,16 @@ all_merged xs [] has = record { merged = []; same = refl; kinds = tt }
 all_merged xs (x ∷ items) has =
     let first = merged_item xs x.0 x.2 x.1 has.0 in
     let rest = all_merged xs items has.1 in
-    record { merged = first.item ∷ rest.merged; same = rw (first.same, rest.same) refl; kinds = (first.kind, rest.kinds) }
+    record { merged = first.item ∷ rest.merged; same = ap (λ p. p ∷ map piece_of rest.merged) first.same ∙ ap (λ ps. piece_of x ∷ ps) rest.same; kinds = (first.kind, rest.kinds) }
 
 pub merged_exists : (xs : List ℕ) → (answers : List (Result ℕ Utf8ErrorKind)) × IsMergedRun utf8 merger_kind xs answers
 merged_exists xs =
     let forward = GoesOn-always xs [] (whole_window xs) (IsRunSoFar-none xs) in
-    let all = all_merged xs forward.more (recursion_from_All _ forward.more forward.run.kinds) in (
+    let all = all_merged xs forward.more (recursion_from_All (HasKind fault_kind xs) forward.more forward.run.kinds) in (
       answers_of all.merged,
       record {
         items = all.merged;
-        run = record { cut = rw all.same forward.run.cut; kinds = All-from_recursion _ all.merged all.kinds };
+        run = record { cut = subst (λ ps. IsCut utf8 xs ps) (sym all.same) forward.run.cut; kinds = All-from_recursion (HasKind merger_kind xs) all.merged all.kinds };
         same = refl;
       },
     )

@@ -1,5 +1,5 @@
 -- What a whole run has written.
-use Rattle.std.proofs.Common.{◌≡◌, ℕ, ◌<◌, List, [], map, flat_map, Option, Some, None, refl, ap, subst, arith, Result, Ok, Err}
+use Rattle.std.proofs.Common.{◌≡◌, ℕ, List, [], map, flat_map, Option, Some, None, refl, ap, subst, arith, Result, Ok, Err}
 use Rattle.std.specs.Prelude.{IfOk, IfErr, IfSome, OnErr}
 use Rattle.std.specs.Io.KnownBytes.{Consumes, IsAtEnd}
 use Rattle.utf_base.proofs.ByteWalks.{byte_walk_exists}
@@ -7,12 +7,11 @@ use Rattle.cuts.specs.declared.runs.Stop.{Stop}
 use Rattle.cuts.specs.declared.runs.Stop.TheVariants.{WrongArguments, CannotRead, CannotWrite, NoMemory}
 use Rattle.cuts.specs.Arguments.{Asked, listed, merged, walked, Asks}
 use Rattle.cuts.specs.Failures.{Counting}
-use Rattle.cuts.specs.Forms.{Form, WritesRun, WritesRunFront, merged_form, walk_form}
+use Rattle.cuts.specs.Forms.{Form, WritesRunFront, merged_form, walk_form}
 use Rattle.cuts.specs.Programs.{IsDrained, WritesAsked, WritesAskedFront, DoesAsked, BeginsAsked, FailsOrStays}
 use Rattle.cuts.specs.Walks.{side}
-use Rattle.cuts.specs.Written.{WritesLines}
 use Rattle.cuts.proofs.ArgumentLemmas.{one_asked}
-use Rattle.cuts.proofs.Fronts.{AppendsFront-none, AppendsFront-all}
+use Rattle.cuts.proofs.Fronts.{AppendsFront-none}
 use Rattle.cuts.proofs.ListingLemmas.{WritesListingFront-none}
 use Rattle.cuts.proofs.RunExists.{merged_exists}
 

@@ -268,7 +268,8 @@ fn merged<A: Allocator>(
 ) -> Result<Vec<Result<Utf8Char, Utf8Error>, A>, AllocError>
     ensures { IfOk result (λ answers. IsMergedRun utf8 merger_kind bytes.now answers.items) }
 {
-    merge_utf8(alloc, bytes.iter().copied())
+    let answers = merge_utf8(alloc, bytes.iter().copied())?;
+    Ok(answers)
 }
 
 // Writes the lines of what the walk of the word over the bytes answers, once it has them all.

@@ -1,5 +1,13 @@
-use Rattle.cuts.proofs.MergedRuns.{units_push, units_some, units_all, units_joined, units_alike}
+use Rattle.std.proofs.Common.{ap, ◌∙◌}
+use Rattle.utf_base.specs.Code.{utf16}
+use Rattle.utf_base.specs.Units.{unit_fault_kind}
+use Rattle.encode_unicode.specs.Mergers.{unread}
+use Rattle.cuts.proofs.MergedRuns.{IsMergedSoFar-none, units_push, units_some, units_all, units_joined, units_alike}
 use Rattle.cuts.proofs.collected.merge_utf16.Goals as goal
+
+pub loop-answer-init : goal.loop-answer-init
+loop-answer-init g c rest listed =
+    IsMergedSoFar-none utf16 unit_fault_kind _ _ _ c.new-all.ensures.items (ap (unread rest) (c.into_iter-answer-iterator.ensures.into_iter_gives ∙ c.to_utf16chars-answer-items.ensures))
 
 pub loop-answer-preserved : goal.loop-answer-preserved
 loop-answer-preserved g c rest listed =

@@ -1,5 +1,13 @@
-use Rattle.cuts.proofs.MergedRuns.{bytes_push, bytes_some, bytes_all, bytes_joined}
+use Rattle.std.proofs.Common.{ap, ◌∙◌}
+use Rattle.utf_base.specs.Code.{utf8}
+use Rattle.utf_base.specs.Kinds.{merger_kind}
+use Rattle.encode_unicode.specs.Mergers.{unread}
+use Rattle.cuts.proofs.MergedRuns.{IsMergedSoFar-none, bytes_push, bytes_some, bytes_all, bytes_joined}
 use Rattle.cuts.proofs.collected.merge_utf8.Goals as goal
+
+pub loop-answer-init : goal.loop-answer-init
+loop-answer-init g c rest listed =
+    IsMergedSoFar-none utf8 merger_kind _ _ _ c.new-all.ensures.items (ap (unread rest) (c.into_iter-answer-iterator.ensures.into_iter_gives ∙ c.to_utf8chars-answer-items.ensures))
 
 pub loop-answer-preserved : goal.loop-answer-preserved
 loop-answer-preserved g c rest listed =

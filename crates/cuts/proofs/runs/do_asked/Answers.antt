@@ -1,4 +1,3 @@
-use Rattle.std.proofs.Common.{rules}
 use Rattle.cuts.proofs.RunLemmas.{BeginsAsked-none, BeginsAsked-all, DoesAsked-all, stays_on_err}
 use Rattle.cuts.proofs.runs.do_asked.Goals as goal
 
