@@ -22,7 +22,7 @@ extern "C" {
 }
 
 #[inline(always)]
-fn number_of(error: Utf16PairError) -> u32 {
+pub(crate) fn number_of(error: Utf16PairError) -> u32 {
     ERROR
         | match error {
             Utf16PairError::UnexpectedTrailingSurrogate => 0,

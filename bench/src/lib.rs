@@ -3,6 +3,7 @@
 pub mod decoders;
 pub mod ends;
 pub mod inputs;
+pub mod mergers;
 pub mod report;
 pub mod texts;
 pub mod work;

@@ -6,6 +6,8 @@
 use crate::decoders;
 use crate::inputs::Input;
 use crate::{ends, texts};
+use crate::mergers;
+use crate::texts;
 use encode_unicode::error::{Utf16SliceError, Utf8ErrorKind};
 use encode_unicode::iterator::Utf8CharDecoder;
 use encode_unicode::{CharExt, Utf16Char, Utf8Char};
@@ -41,6 +43,7 @@ impl Work {
 /// All kinds of work, in the order of the tables.
 pub fn all() -> impl Iterator<Item = &'static Work> {
     OF_SLICES.iter().chain(&decoders::ALL).chain(&ends::ALL).chain(&texts::ALL)
+    OF_SLICES.iter().chain(&decoders::ALL).chain(&mergers::ALL).chain(&texts::ALL)
 }
 
 // The works over slices, which take faulty ones too.

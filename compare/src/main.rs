@@ -6,6 +6,7 @@ mod ends;
 mod errors;
 mod inputs;
 mod kinds;
+mod mergers;
 mod numbers;
 mod ours;
 mod program;
@@ -48,6 +49,7 @@ fn compare_all(program: &Path, seed: u64, count: usize) -> Option<(Vec<Kind>, Sl
     let (walks, slips) = ends::walks(seed, count);
     print_and_keep(&mut all, walks);
     print_and_keep(&mut all, unit_decoder::lists(seed, count));
+    print_and_keep(&mut all, mergers::lists(seed, count));
     print_and_keep(&mut all, kinds::numbers(seed));
     print_and_keep(&mut all, kinds::neighbours());
     print_and_keep(&mut all, kinds::codes(seed));

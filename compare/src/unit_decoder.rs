@@ -40,7 +40,7 @@ fn kind_of(name: &'static str, lists: impl IntoIterator<Item = Vec<u16>>) -> Kin
 }
 
 // All lists of up to four edge units.
-fn short_lists() -> Vec<Vec<u16>> {
+pub fn short_lists() -> Vec<Vec<u16>> {
     let mut lists: Vec<Vec<u16>> = vec![Vec::new()];
     let mut from = 0;
     for _ in 0..4 {
@@ -56,7 +56,7 @@ fn short_lists() -> Vec<Vec<u16>> {
     lists
 }
 
-fn random_list(random: &mut Random) -> Vec<u16> {
+pub fn random_list(random: &mut Random) -> Vec<u16> {
     (0..4 + random.below(21))
         .map(|_| match random.below(2) {
             0 => random.unit(),
@@ -72,7 +72,7 @@ fn random_edges(random: &mut Random) -> Vec<u16> {
 }
 
 // A text of 4 to 16 characters, of whose units up to three are changed, left out or doubled.
-fn damaged_text(random: &mut Random) -> Vec<u16> {
+pub fn damaged_text(random: &mut Random) -> Vec<u16> {
     let text: String = (0..4 + random.below(13)).map(|_| random.char()).collect();
     let mut units: Vec<u16> = text.encode_utf16().collect();
     for _ in 0..1 + random.below(3) {

@@ -6,7 +6,7 @@ use encode_unicode::iterator::Utf16CharDecoder;
 
 // The number of an error.
 #[inline(always)]
-fn pair_number_of(error: Utf16PairError) -> u32 {
+pub(crate) fn pair_number_of(error: Utf16PairError) -> u32 {
     ERROR
         | match error {
             Utf16PairError::UnexpectedTrailingSurrogate => 0,

@@ -9,6 +9,7 @@
 
 mod decoders;
 mod ends;
+mod mergers;
 mod texts;
 
 use encode_unicode::error::{Utf8ErrorKind, Utf16SliceError};

@@ -15,6 +15,7 @@ mod characters;
 mod codes;
 mod ends;
 mod errors;
+mod mergers;
 mod numbers;
 mod pairs;
 mod runs;

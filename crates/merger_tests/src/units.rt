@@ -72,7 +72,10 @@ fn utf16charmerger(rt: HostRuntime) -> Result<(), Fail> {
     assert_eq!(rt; merger.size_hint(), (2, Some(5)));
     let text = format!(in rt.alloc(); "{merger:?}")?;
     assert!(rt; text.starts_with("Utf16CharMerger { buffered: None, inner: "));
-    assert_eq!(rt; merger.next().map(shown), Some(Err(UnmatchedLeadingSurrogate)));
+    assert_eq!(rt;
+        merger.next().map(shown),
+        Some(Err(UnmatchedLeadingSurrogate))
+    );
     assert_eq!(rt; merger.size_hint(), (1, Some(4)));
     let text = format!(in rt.alloc(); "{merger:?}")?;
     assert!(rt; text.starts_with("Utf16CharMerger { buffered: Some(120), inner: "));
@@ -84,19 +87,25 @@ fn utf16charmerger(rt: HostRuntime) -> Result<(), Fail> {
 fn the_remaining_units_are_whole(rt: HostRuntime) -> Result<(), Fail> {
     let units = [0xd901, 0x0046, 0x0053];
     let mut merger = units.iter().copied().to_utf16chars();
-    assert_eq!(rt; merger.next().map(shown), Some(Err(UnmatchedLeadingSurrogate)));
+    assert_eq!(rt;
+        merger.next().map(shown),
+        Some(Err(UnmatchedLeadingSurrogate))
+    );
     let mut copy = merger.clone()?;
     assert_eq!(rt; copy.next().map(shown), Some(Ok('F')));
     let mut rest = merger.into_remaining_units();
     assert_eq!(rt; rest.size_hint(), (2, Some(2)));
     let mut again = rest.clone()?;
-    for unit in [0x0046, 0x0053] {
-        assert_eq!(rt; rest.next(), Some(unit));
-        assert_eq!(rt; again.next(), Some(unit));
-    }
+    assert_eq!(rt; rest.next(), Some(0x0046));
+    assert_eq!(rt; rest.next(), Some(0x0053));
+    assert_eq!(rt; again.next(), Some(0x0046));
+    assert_eq!(rt; again.next(), Some(0x0053));
     assert_eq!(rt; rest.next(), None);
     assert_eq!(rt; rest.size_hint(), (0, Some(0)));
-    assert_eq!(rt; first_of(units.iter().copied()), (Some(Err(UnmatchedLeadingSurrogate)), Some(0x0046)));
+    assert_eq!(rt;
+        first_of(units.iter().copied()),
+        (Some(Err(UnmatchedLeadingSurrogate)), Some(0x0046))
+    );
     let mut none = Utf16CharMerger::<iter::Empty<u16>>::default();
     assert_eq!(rt; none.next().map(shown), None);
     Ok(())
@@ -106,10 +115,25 @@ fn the_remaining_units_are_whole(rt: HostRuntime) -> Result<(), Fail> {
 fn hints_do_not_wrap(rt: HostRuntime) {
     let mut merger = iter::repeat(0xd800).take(usize::MAX).to_utf16chars();
     assert_eq!(rt; merger.size_hint(), (usize::MAX / 2, Some(usize::MAX)));
-    assert_eq!(rt; merger.next().map(shown), Some(Err(UnmatchedLeadingSurrogate)));
-    assert_eq!(rt; merger.size_hint(), ((usize::MAX - 2) / 2, Some(usize::MAX - 1)));
-    assert_eq!(rt; merger.into_remaining_units().size_hint(), (usize::MAX - 1, Some(usize::MAX - 1)));
+    assert_eq!(rt;
+        merger.next().map(shown),
+        Some(Err(UnmatchedLeadingSurrogate))
+    );
+    assert_eq!(rt;
+        merger.size_hint(),
+        ((usize::MAX - 2) / 2, Some(usize::MAX - 1))
+    );
+    assert_eq!(rt;
+        merger.into_remaining_units().size_hint(),
+        (usize::MAX - 1, Some(usize::MAX - 1))
+    );
     let mut endless = iter::repeat(0xd800).to_utf16chars();
-    assert_eq!(rt; endless.next().map(shown), Some(Err(UnmatchedLeadingSurrogate)));
-    assert_eq!(rt; endless.into_remaining_units().size_hint(), (usize::MAX, None));
+    assert_eq!(rt;
+        endless.next().map(shown),
+        Some(Err(UnmatchedLeadingSurrogate))
+    );
+    assert_eq!(rt;
+        endless.into_remaining_units().size_hint(),
+        (usize::MAX, None)
+    );
 }
