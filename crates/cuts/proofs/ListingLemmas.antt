@@ -3,7 +3,8 @@ use Rattle.std.proofs.Common.{◌≡◌, ℕ, ◌+◌, ◌≤◌, List, [], ◌�
 use Rattle.encode_unicode.specs.Window.{Window, Item, whole_window, GivesFront, GivesNone}
 use Rattle.cuts.specs.Failures.{AppendsFront}
 use Rattle.cuts.specs.Lines.{item_line, is_fault}
-use Rattle.cuts.specs.Runs.{listing, WritesListing, WritesListingFront}
+use Rattle.cuts.specs.Forms.{WritesListing, WritesListingFront}
+use Rattle.cuts.specs.Runs.{listing}
 use Rattle.cuts.specs.Written.{WritesLines}
 use Rattle.cuts.proofs.ForwardRuns.{IsRunSoFar, IsRunSoFar-none, IsRunSoFar-push, IsForwardRun-all, item_some, GoesOn-always}
 use Rattle.cuts.proofs.Fronts.{AppendsFront-none, AppendsFront-all, AppendsFront-first, AppendsFront-then}
@@ -34,7 +35,7 @@ IsListedSoFar-push xs old mid new faults n w v x f g line one =
 
 -- the window is empty, so the listing is whole
 pub WritesListing-all : (xs : List ℕ) (old new : Option (List ℕ)) (faults : ℕ) (w v : Window) → IsListedSoFar xs old new faults w → GivesNone w v → WritesListing xs old new faults
-WritesListing-all xs old new faults w v f g = record { items = f.items; run = IsForwardRun-all xs f.items w v f.run g; lines = f.lines }
+WritesListing-all xs old new faults w v f g = record { entries = f.items; run = IsForwardRun-all xs f.items w v f.run g; lines = f.lines }
 
 -- what is listed so far is a front, and the lines to come are the rest
 pub WritesListingFront-so_far : (xs : List ℕ) (old new : Option (List ℕ)) (items : List Item) (w : Window)
@@ -42,7 +43,7 @@ pub WritesListingFront-so_far : (xs : List ℕ) (old new : Option (List ℕ)) (i
 WritesListingFront-so_far xs old new items w run front =
     let rest = GoesOn-always xs items w run in
     record {
-      items = items ++ rest.more;
+      entries = items ++ rest.more;
       run = rest.run;
       written = rw (flat_map-append item_line items rest.more) (AppendsFront-first old new (listing items) (listing rest.more) front);
     }
@@ -57,7 +58,7 @@ WritesListingFront-failed xs old mid new faults w v x f g line =
 -- the whole listing is a front of it
 pub WritesListingFront-all : (xs : List ℕ) (old new : Option (List ℕ)) (faults : ℕ) → WritesListing xs old new faults → WritesListingFront xs old new
 WritesListingFront-all xs old new faults h =
-    record { items = h.items; run = h.run; written = AppendsFront-all old new (listing h.items) h.lines.written }
+    record { entries = h.entries; run = h.run; written = AppendsFront-all old new (listing h.entries) h.lines.written }
 
 -- and so is nothing
 pub WritesListingFront-none : (xs : List ℕ) (held : Option (List ℕ)) → WritesListingFront xs held held

@@ -6,6 +6,8 @@ pub mod Written
 pub mod Runs
 pub mod Collected
 pub mod Walks
+pub mod Forms
+pub mod Arguments
 pub mod Programs
 pub use Rattle.utf_base.specs.Scalar
 pub use Rattle.utf_base.specs.Code

@@ -3,7 +3,8 @@ use Rattle.std.specs.Prelude.{◌≡◌, ℕ, ◌<◌, ◌==◌, if◌then◌els
 use Rattle.cuts.specs.declared.runs.Stop.{Stop}
 use Rattle.cuts.specs.declared.runs.Stop.TheVariants.{WrongArguments, CannotRead, CannotWrite, NoMemory}
 use Rattle.cuts.specs.Failures.{Counting, AppendsFront}
-use Rattle.cuts.specs.Runs.{WritesListing, WritesListingFront}
+use Rattle.cuts.specs.Arguments.{Asked, listed, merged, walked}
+use Rattle.cuts.specs.Forms.{forward_form, merged_form, walk_form, WritesRun, WritesRunFront}
 
 -- the status of a program that ends early
 abbrev pub status_of : Stop → ℕ
@@ -27,23 +28,35 @@ stop_line name stop = name ++ codes ": " ++ stop_text stop ++ 10 ∷ []
 abbrev pub IsDrained : Option (List ℕ) → Option (List ℕ) → Type 0
 IsDrained old new = IfSome old (λ xs. new ≡ Some [])
 
--- the whole input was read, and its listing written, which has so many error lines
-pub record IsListingRun (input old new : Option (List ℕ)) (faults : ℕ) : Type 0 where
+-- known bytes grew by the lines of what was asked for of xs, of which so many are error lines
+abbrev pub WritesAsked : Asked → List ℕ → Option (List ℕ) → Option (List ℕ) → ℕ → Type 0
+WritesAsked listed xs old new faults = WritesRun forward_form xs old new faults
+WritesAsked merged xs old new faults = WritesRun merged_form xs old new faults
+WritesAsked (walked word) xs old new faults = WritesRun (walk_form word) xs old new faults
+
+-- known bytes grew by a front of these lines
+abbrev pub WritesAskedFront : Asked → List ℕ → Option (List ℕ) → Option (List ℕ) → Type 0
+WritesAskedFront listed xs old new = WritesRunFront forward_form xs old new
+WritesAskedFront merged xs old new = WritesRunFront merged_form xs old new
+WritesAskedFront (walked word) xs old new = WritesRunFront (walk_form word) xs old new
+
+-- the whole input was read, and the lines of what was asked for were written, of which so many are error lines
+pub record DoesAsked (asked : Asked) (input old new : Option (List ℕ)) (faults : ℕ) : Type 0 where
   pub bytes : List ℕ
   pub read : IfSome input (λ xs. bytes ≡ xs)
-  pub listing : WritesListing bytes old new faults
+  pub lines : WritesAsked asked bytes old new faults
 
 -- the same, and the status says whether there is an error line
-pub record ListsInput (input old new : Option (List ℕ)) (status : ℕ) : Type 0 where
+pub record TellsAsked (asked : Asked) (input old new : Option (List ℕ)) (status : ℕ) : Type 0 where
   pub faults : ℕ
-  pub run : IsListingRun input old new faults
+  pub run : DoesAsked asked input old new faults
   pub told : status ≡ (if faults == 0 then 0 else 1)
 
--- what was written is a front of the listing of what the input held
-pub record ListsFront (input old new : Option (List ℕ)) : Type 0 where
+-- what was written is a front of the lines of what was asked for of what the input held
+pub record BeginsAsked (asked : Asked) (input old new : Option (List ℕ)) : Type 0 where
   pub bytes : List ℕ
   pub read : IfSome input (λ xs. bytes ≡ xs)
-  pub listing : WritesListingFront bytes old new
+  pub lines : WritesAskedFront asked bytes old new
 
 -- where a program could not write, its output failed; where it ended early for another reason, the output is as it was
 abbrev pub FailsOrStays : {T : Type 0} → Stop → Counting T → Counting T → Type 0

@@ -3,9 +3,7 @@ use Rattle.std.specs.Prelude.{ℕ, List, flat_map, count_by, Option}
 use Rattle.utf_base.specs.Code.{utf8}
 use Rattle.utf_base.specs.Kinds.{fault_kind}
 use Rattle.encode_unicode.specs.Window.{Item}
-use Rattle.cuts.specs.Failures.{AppendsFront}
 use Rattle.cuts.specs.Lines.{item_line, is_fault}
-use Rattle.cuts.specs.Written.{WritesLines}
 use Rattle.cuts.specs.Items.{IsRun}
 
 -- the items are the pieces of the bytes in order, the faults with their forward kinds
@@ -19,15 +17,3 @@ listing items = flat_map item_line items
 -- how many items are errors
 abbrev pub fault_count : List Item → ℕ
 fault_count items = count_by is_fault items
-
--- known bytes grew by the listing of the forward run over xs, which has so many errors
-pub record WritesListing (xs : List ℕ) (old new : Option (List ℕ)) (faults : ℕ) : Type 0 where
-  pub items : List Item
-  pub run : IsForwardRun xs items
-  pub lines : WritesLines item_line is_fault items old new faults
-
--- known bytes grew by a front of that listing, as when a writer fails on the way
-pub record WritesListingFront (xs : List ℕ) (old new : Option (List ℕ)) : Type 0 where
-  pub items : List Item
-  pub run : IsForwardRun xs items
-  pub written : AppendsFront old new (listing items)

@@ -9,5 +9,6 @@ mod fakes;
 pub mod items;
 mod line;
 pub mod listing;
+mod requests;
 pub mod runs;
 pub mod walks;

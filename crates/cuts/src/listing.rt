@@ -1,7 +1,7 @@
 //! What is written of the pieces of some bytes: a line for each entry of a list.
 ghost use Rattle.std.specs.Prelude.{◌≡◌, ◌<◌, IfOk, OnOk, OnErr};
 ghost use Rattle.cuts.specs.Failures.{AppendsFront};
-ghost use Rattle.cuts.specs.Runs.{WritesListing, WritesListingFront};
+ghost use Rattle.cuts.specs.Forms.{WritesListing, WritesListingFront};
 ghost use Rattle.cuts.specs.Written.{merged_lines, walk_lines, WritesMerged, WritesWalk};
 
 use crate::counted::Counted;

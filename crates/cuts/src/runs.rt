@@ -3,11 +3,22 @@ ghost use Rattle.std.specs.Prelude.{◌≡◌, ◌≢◌, ◌+◌, ◌<◌, ◌�
 ghost use Rattle.std.specs.Io.KnownBytes.{Appends, Keeps};
 ghost use Rattle.std.specs.IoError.{error_kind};
 ghost use Rattle.cuts.specs.Failures.{AppendsFront};
-ghost use Rattle.cuts.specs.Programs.{status_of, stop_text, stop_line, IsDrained, FailsOrStays, EndsEarly, ListsFront, ListsInput, IsListingRun};
+ghost use Rattle.utf_base.specs.Code.{utf8};
+ghost use Rattle.utf_base.specs.Kinds.{merger_kind};
+ghost use Rattle.cuts.specs.Arguments.{Asked, Asks, AreWrong, asked_by};
+ghost use Rattle.cuts.specs.Collected.{IsMergedRun};
+ghost use Rattle.cuts.specs.Forms.{forward_form, merged_form, walk_form, WritesRun, WritesRunFront};
+ghost use Rattle.cuts.specs.Programs.{status_of, stop_text, stop_line, IsDrained, WritesAsked, WritesAskedFront, DoesAsked, TellsAsked, BeginsAsked, FailsOrStays, EndsEarly};
 
+use crate::collected::merge_utf8;
 use crate::counted::{Counted, write_whole};
-use crate::listing::write_listing;
-use std::alloc::{Allocator, Global};
+use crate::items::End;
+use crate::listing::{write_listing, write_merged, write_walk};
+use crate::requests::{Request, request_of};
+use crate::walks::walk_utf8;
+use encode_unicode::Utf8Char;
+use encode_unicode::error::Utf8Error;
+use std::alloc::{AllocError, Allocator, Global};
 use std::io::{ErrorKind, Read, Write};
 use std::{fmt, io};
 use utf_base::tally::Tally;
@@ -115,10 +126,12 @@ pub fn arguments_of(alloc: Global, words: io::Result<Vec<String>>) -> Result<Vec
 
 /// One run of `pieces` on the arguments behind the program's name, and its status.
 ///
-/// It writes the listing of all that the reader gives: 0 says that it has no error line, 1 that it has
-/// one. Any argument is wrong, and then nothing is read or written, and the status is 2. Where reading
-/// or writing fails, or memory is refused, it is 3, and before all is read nothing is written. `faults`
-/// takes the line for standard error, and nothing where the status is 0 or 1.
+/// With no argument it writes the listing of all that the reader gives; with `--merge` the lines of what a
+/// merger answers over it; with `--ends` and a word, of letters `F` and `B`, those of what the word's walk
+/// answers. The status 0 says that no line is an error line, 1 that one is. All other arguments are wrong,
+/// and then nothing is read or written, and the status is 2. Where reading or writing fails, or memory is
+/// refused, it is 3, and before all is read, merged or walked, nothing is written. `faults` takes the line
+/// for standard error, and nothing where the status is 0 or 1.
 pub fn run_pieces<A: Allocator + Copy, R: Read, W: Write, E: Write>(
     alloc: A,
     args: &[String<A>],
@@ -126,20 +139,20 @@ pub fn run_pieces<A: Allocator + Copy, R: Read, W: Write, E: Write>(
     out: &mut Counted<W>,
     faults: &mut E,
 ) -> u8
-    ensures listing { result < 2 → ListsInput (R.remaining input.old) (W.contents out.old.inner) (W.contents out.new.inner) result }
-    ensures front { ListsFront (R.remaining input.old) (W.contents out.old.inner) (W.contents out.new.inner) }
+    ensures lines { (asked : Asked) → Asks (map string_bytes args.now) asked → result < 2 → TellsAsked asked (R.remaining input.old) (W.contents out.old.inner) (W.contents out.new.inner) result }
+    ensures front { (asked : Asked) → Asks (map string_bytes args.now) asked → BeginsAsked asked (R.remaining input.old) (W.contents out.old.inner) (W.contents out.new.inner) }
     ensures drained { result < 2 → IsDrained (R.remaining input.old) (R.remaining input.new) }
     ensures quiet { result < 2 → out.new.failures ≡ out.old.failures }
     ensures silent { result < 2 → faults.new ≡ faults.old }
     ensures early { 2 ≤ result → EndsEarly (codes "pieces") out.old out.new (E.contents faults.old) (E.contents faults.new) result }
     ensures unflushed { out.new.flushes ≡ out.old.flushes }
-    ensures wrong { 0 < length args.now → result ≡ 2 }
-    ensures untouched { 0 < length args.now → (input.new ≡ input.old) × (out.new ≡ out.old) }
-    ensures right { length args.now ≡ 0 → result ≢ 2 }
+    ensures wrong { AreWrong (map string_bytes args.now) → result ≡ 2 }
+    ensures untouched { AreWrong (map string_bytes args.now) → (input.new ≡ input.old) × (out.new ≡ out.old) }
+    ensures right { (asked : Asked) → Asks (map string_bytes args.now) asked → result ≢ 2 }
     ensures known { result < 4 }
     ensures unwritten { result ≡ 3 → out.new.failures ≡ out.old.failures → out.new ≡ out.old }
 {
-    match list_input(alloc, args, input, out) {
+    match do_asked(alloc, args, input, out) {
         Ok(0) => 0,
         Ok(_) => 1,
         Err(stop) => stop.report(PROGRAM, faults),
@@ -167,29 +180,117 @@ pub fn finish_run<W: Write, E: Write>(status: u8, out: &mut Counted<W>, faults: 
     }
 }
 
-// Writes the listing of all that the reader gives, and answers how many of its lines are errors.
-fn list_input<A: Allocator + Copy, R: Read, W: Write>(
+// Does what the arguments ask for with all that the reader gives, and answers how many of the lines are
+// errors.
+fn do_asked<A: Allocator + Copy, R: Read, W: Write>(
     alloc: A,
     args: &[String<A>],
     input: &mut R,
     out: &mut Counted<W>,
 ) -> Result<usize, Stop>
-    ensures listing { IfOk result (IsListingRun (R.remaining input.old) (W.contents out.old.inner) (W.contents out.new.inner)) }
-    ensures front { ListsFront (R.remaining input.old) (W.contents out.old.inner) (W.contents out.new.inner) }
+    ensures lines { IfOk result (λ faults. (asked : Asked) → Asks (map string_bytes args.now) asked → DoesAsked asked (R.remaining input.old) (W.contents out.old.inner) (W.contents out.new.inner) faults) }
+    ensures front { (asked : Asked) → Asks (map string_bytes args.now) asked → BeginsAsked asked (R.remaining input.old) (W.contents out.old.inner) (W.contents out.new.inner) }
     ensures drained { OnOk result (IsDrained (R.remaining input.old) (R.remaining input.new)) }
     ensures quiet { OnOk result (out.new.failures ≡ out.old.failures) }
     ensures early { IfErr result (λ stop. FailsOrStays stop out.old out.new) }
     ensures unflushed { out.new.flushes ≡ out.old.flushes }
-    ensures wrong { 0 < length args.now → (result ≡ Err Stop.WrongArguments) × (input.new ≡ input.old) × (out.new ≡ out.old) }
-    ensures right { length args.now ≡ 0 → result ≢ Err Stop.WrongArguments }
+    ensures wrong { AreWrong (map string_bytes args.now) → (result ≡ Err Stop.WrongArguments) × (input.new ≡ input.old) × (out.new ≡ out.old) }
+    ensures right { result ≡ Err Stop.WrongArguments → AreWrong (map string_bytes args.now) }
     ensures unwritten { OnErr result (out.new.failures ≡ out.old.failures → out.new ≡ out.old) }
 {
-    if !args.is_empty() {
-        return Err(Stop::WrongArguments);
-    }
+    let request = request_of(alloc, args)?;
     let bytes = read_whole(alloc, input)?;
-    match write_listing(bytes.as_slice(), out) {
-        Ok(errors) => Ok(errors),
+    write_asked(alloc, &request, bytes.as_slice(), out)
+}
+
+// Writes the lines of what is asked for of the bytes, and answers how many of them are errors.
+fn write_asked<A: Allocator + Copy, W: Write>(
+    alloc: A,
+    request: &Request<A>,
+    bytes: &[u8],
+    out: &mut Counted<W>,
+) -> Result<usize, Stop>
+    ensures lines { IfOk result (WritesAsked (asked_by request.now) bytes.now (W.contents out.old.inner) (W.contents out.new.inner)) }
+    ensures front { WritesAskedFront (asked_by request.now) bytes.now (W.contents out.old.inner) (W.contents out.new.inner) }
+    ensures quiet { OnOk result (out.new.failures ≡ out.old.failures) }
+    ensures early { IfErr result (λ stop. FailsOrStays stop out.old out.new) }
+    ensures unflushed { out.new.flushes ≡ out.old.flushes }
+    ensures right { result ≢ Err Stop.WrongArguments }
+{
+    match request {
+        Request::Listing => list_bytes(bytes, out),
+        Request::Merged => merge_bytes(alloc, bytes, out),
+        Request::Walk(word) => walk_bytes(alloc, bytes, word.as_slice(), out),
+    }
+}
+
+// Writes the listing of the bytes.
+fn list_bytes<W: Write>(bytes: &[u8], out: &mut Counted<W>) -> Result<usize, Stop>
+    ensures lines { IfOk result (WritesRun forward_form bytes.now (W.contents out.old.inner) (W.contents out.new.inner)) }
+    ensures front { WritesRunFront forward_form bytes.now (W.contents out.old.inner) (W.contents out.new.inner) }
+    ensures quiet { OnOk result (out.new.failures ≡ out.old.failures) }
+    ensures early { IfErr result (λ stop. FailsOrStays stop out.old out.new) }
+    ensures unflushed { out.new.flushes ≡ out.old.flushes }
+    ensures right { result ≢ Err Stop.WrongArguments }
+{
+    match write_listing(bytes, out) {
+        Ok(faults) => Ok(faults),
+        Err(_) => Err(Stop::CannotWrite),
+    }
+}
+
+// Writes the lines of what a merger answers over the bytes, once it has them all.
+fn merge_bytes<A: Allocator, W: Write>(
+    alloc: A,
+    bytes: &[u8],
+    out: &mut Counted<W>,
+) -> Result<usize, Stop>
+    ensures lines { IfOk result (WritesRun merged_form bytes.now (W.contents out.old.inner) (W.contents out.new.inner)) }
+    ensures front { WritesRunFront merged_form bytes.now (W.contents out.old.inner) (W.contents out.new.inner) }
+    ensures quiet { OnOk result (out.new.failures ≡ out.old.failures) }
+    ensures early { IfErr result (λ stop. FailsOrStays stop out.old out.new) }
+    ensures unflushed { out.new.flushes ≡ out.old.flushes }
+    ensures right { result ≢ Err Stop.WrongArguments }
+{
+    let Ok(answers) = merged(alloc, bytes) else {
+        return Err(Stop::NoMemory);
+    };
+    match write_merged(answers.as_slice(), out) {
+        Ok(faults) => Ok(faults),
+        Err(_) => Err(Stop::CannotWrite),
+    }
+}
+
+// All that a merger answers over the bytes.
+fn merged<A: Allocator>(
+    alloc: A,
+    bytes: &[u8],
+) -> Result<Vec<Result<Utf8Char, Utf8Error>, A>, AllocError>
+    ensures { IfOk result (λ answers. IsMergedRun utf8 merger_kind bytes.now answers.items) }
+{
+    let answers = merge_utf8(alloc, bytes.iter().copied())?;
+    Ok(answers)
+}
+
+// Writes the lines of what the walk of the word over the bytes answers, once it has them all.
+fn walk_bytes<A: Allocator, W: Write>(
+    alloc: A,
+    bytes: &[u8],
+    word: &[End],
+    out: &mut Counted<W>,
+) -> Result<usize, Stop>
+    ensures lines { IfOk result (WritesRun (walk_form word.now) bytes.now (W.contents out.old.inner) (W.contents out.new.inner)) }
+    ensures front { WritesRunFront (walk_form word.now) bytes.now (W.contents out.old.inner) (W.contents out.new.inner) }
+    ensures quiet { OnOk result (out.new.failures ≡ out.old.failures) }
+    ensures early { IfErr result (λ stop. FailsOrStays stop out.old out.new) }
+    ensures unflushed { out.new.flushes ≡ out.old.flushes }
+    ensures right { result ≢ Err Stop.WrongArguments }
+{
+    let Ok(answers) = walk_utf8(alloc, bytes, word) else {
+        return Err(Stop::NoMemory);
+    };
+    match write_walk(answers.as_slice(), out) {
+        Ok(faults) => Ok(faults),
         Err(_) => Err(Stop::CannotWrite),
     }
 }

@@ -19,6 +19,21 @@ fn mixed<'a>() -> FakeReader<'a> {
     FakeReader::over(b"A\xe0\x80")
 }
 
+// The arguments of each kind of run, and its lines over them.
+fn runs_over_mixed() -> [(&'static [&'static str], &'static str); 3] {
+    [
+        (&[], MIXED),
+        (
+            &["--merge"],
+            "000041\nTooFewBytes\nUnexpectedContinuationByte\n",
+        ),
+        (
+            &["--ends", "BFBF"],
+            "2 1 UnexpectedContinuationByte\n0 1 000041\n1 1 TooFewBytes\nnone\n",
+        ),
+    ]
+}
+
 // A run over these ends with this status, and with this text on standard error.
 fn ends(
     rt: &(impl Abort + AllocGlobal),
@@ -64,20 +79,96 @@ fn words_of(alloc: Global, texts: &[&str]) -> Result<Vec<String>, AllocError> {
 }
 
 #[test]
-fn any_argument_is_wrong(rt: HostRuntime) -> Result<(), Fail> {
-    let table: [&[&str]; 3] = [&[""], &["x"], &["x", "y"]];
+fn a_merger_is_listed(rt: HostRuntime) -> Result<(), Fail> {
+    let table: [(&[u8], u8, &str); 4] = [
+        (b"", 0, ""),
+        (b"\xc3\xa9\xf0\x9f\x82\xa0", 0, "0000e9\n01f0a0\n"),
+        (b"\xe0\x80", 1, "TooFewBytes\nUnexpectedContinuationByte\n"),
+        (
+            b"ab\0\xe0\xbc\xa9 \xf3\x80w",
+            1,
+            "000061\n000062\n000000\n000f29\n000020\n\
+             InterruptedSequence\nUnexpectedContinuationByte\n000077\n",
+        ),
+    ];
+    let args = words_of(rt.alloc(), &["--merge"])?;
+    for (bytes, status, lines) in table {
+        let mut out = Counted::new(FakeWriter::ample(rt.alloc()));
+        ends(
+            &rt,
+            &args,
+            &mut FakeReader::over(bytes),
+            &mut out,
+            status,
+            "",
+        );
+        assert_eq!(rt; out.into_inner().bytes.as_slice(), lines.as_bytes());
+    }
+    Ok(())
+}
+
+#[test]
+fn a_walk_is_listed(rt: HostRuntime) -> Result<(), Fail> {
+    let table: [(&[u8], &str, u8, &str); 5] = [
+        (b"", "FB", 0, "none\nnone\n"),
+        (b"ab", "BFB", 0, "1 1 000062\n0 1 000061\nnone\n"),
+        (b"\x80", "B", 1, "0 1 UnexpectedContinuationByte\n"),
+        (
+            b"\xe0\x80\x80",
+            "FBFF",
+            1,
+            "0 1 OverlongEncoding\n2 1 UnexpectedContinuationByte\n\
+             1 1 UnexpectedContinuationByte\nnone\n",
+        ),
+        (
+            b"\xe0\x80\x80",
+            "BFBF",
+            1,
+            "2 1 UnexpectedContinuationByte\n0 1 TooFewBytes\n\
+             1 1 UnexpectedContinuationByte\nnone\n",
+        ),
+    ];
+    for (bytes, word, status, lines) in table {
+        let args = words_of(rt.alloc(), &["--ends", word])?;
+        let mut out = Counted::new(FakeWriter::ample(rt.alloc()));
+        ends(
+            &rt,
+            &args,
+            &mut FakeReader::over(bytes),
+            &mut out,
+            status,
+            "",
+        );
+        assert_eq!(rt; out.into_inner().bytes.as_slice(), lines.as_bytes());
+    }
+    Ok(())
+}
+
+#[test]
+fn other_arguments_are_wrong(rt: HostRuntime) -> Result<(), Fail> {
+    let table: [&[&str]; 16] = [
+        &[""],
+        &["x"],
+        &["FB"],
+        &["--"],
+        &["--Merge"],
+        &["--merge "],
+        &["--ends"],
+        &["--ends", ""],
+        &["--ends", "FX"],
+        &["--ends", "f"],
+        &["--ends", "F B"],
+        &["--ends", "--merge"],
+        &["--merge", "--merge"],
+        &["--merge", "F"],
+        &["--ends", "F", "B"],
+        &["--merge", "--ends", "F"],
+    ];
     for texts in table {
         let args = words_of(rt.alloc(), texts)?;
         let mut input = mixed();
         let mut out = Counted::new(FakeWriter::ample(rt.alloc()));
-        ends(
-            &rt,
-            args.as_slice(),
-            &mut input,
-            &mut out,
-            2,
-            WRONG_ARGUMENTS,
-        );
+        ends(&rt, &args, &mut input, &mut out, 2, WRONG_ARGUMENTS);
         assert_eq!(rt; input.calls, 0, "nothing is read");
         assert!(rt; out.into_inner().given.is_empty(), "nothing is written");
     }
@@ -170,57 +261,75 @@ fn a_flush_may_fail(rt: HostRuntime) {
 }
 
 #[test]
-fn a_failing_reader_ends_the_run(rt: HostRuntime) {
-    for (kind, text) in [
-        (ErrorKind::Other, CANNOT_READ),
-        (ErrorKind::UnexpectedEof, CANNOT_READ),
-        (ErrorKind::OutOfMemory, NO_MEMORY),
-    ] {
+fn a_failing_reader_ends_the_run(rt: HostRuntime) -> Result<(), Fail> {
+    for (texts, _) in runs_over_mixed() {
+        let args = words_of(rt.alloc(), texts)?;
+        for (kind, text) in [
+            (ErrorKind::Other, CANNOT_READ),
+            (ErrorKind::UnexpectedEof, CANNOT_READ),
+            (ErrorKind::OutOfMemory, NO_MEMORY),
+        ] {
+            for calls in 0..3 {
+                let mut input = mixed();
+                input.calls_left = calls;
+                input.fault = Some(kind);
+                let mut out = Counted::new(FakeWriter::ample(rt.alloc()));
+                ends(&rt, &args, &mut input, &mut out, 3, text);
+                assert!(rt; out.into_inner().given.is_empty(), "nothing is written");
+            }
+        }
+    }
+    Ok(())
+}
+
+#[test]
+fn an_interrupted_reader_goes_on(rt: HostRuntime) -> Result<(), Fail> {
+    for (texts, lines) in runs_over_mixed() {
+        let args = words_of(rt.alloc(), texts)?;
         for calls in 0..3 {
             let mut input = mixed();
             input.calls_left = calls;
-            input.fault = Some(kind);
+            input.fault = Some(ErrorKind::Interrupted);
             let mut out = Counted::new(FakeWriter::ample(rt.alloc()));
-            ends(&rt, &[], &mut input, &mut out, 3, text);
-            assert!(rt; out.into_inner().given.is_empty(), "nothing is written");
+            ends(&rt, &args, &mut input, &mut out, 1, "");
+            assert_eq!(rt; out.into_inner().bytes.as_slice(), lines.as_bytes());
         }
     }
+    Ok(())
 }
 
 #[test]
-fn an_interrupted_reader_goes_on(rt: HostRuntime) {
-    for calls in 0..3 {
-        let mut input = mixed();
-        input.calls_left = calls;
-        input.fault = Some(ErrorKind::Interrupted);
-        let mut out = Counted::new(FakeWriter::ample(rt.alloc()));
-        ends(&rt, &[], &mut input, &mut out, 1, "");
-        assert_eq!(rt; out.into_inner().bytes.as_slice(), MIXED.as_bytes());
+fn a_failing_writer_ends_the_run(rt: HostRuntime) -> Result<(), Fail> {
+    for (texts, lines) in runs_over_mixed() {
+        let args = words_of(rt.alloc(), texts)?;
+        for stalls in [false, true] {
+            fails_at_each_call(&rt, &args, lines.as_bytes(), stalls);
+        }
     }
+    Ok(())
 }
 
-#[test]
-fn a_failing_writer_ends_the_run(rt: HostRuntime) {
-    for stalls in [false, true] {
-        // Each call takes one byte, so that the last call that succeeds ends the listing.
-        for calls in 0..=58 {
-            let (status, text) = if calls < 58 {
-                (3, CANNOT_WRITE)
-            } else {
-                (1, "")
-            };
-            let mut writer = FakeWriter::failing(rt.alloc(), calls);
-            writer.most = 1;
-            writer.stalls = stalls;
-            let mut out = Counted::new(writer);
-            ends(&rt, &[], &mut mixed(), &mut out, status, text);
-            let written = out.into_inner().bytes;
-            assert_eq!(rt; written.len(), calls as usize);
-            assert!(rt;
-                MIXED.as_bytes().starts_with(written.as_slice()),
-                "after {calls} calls"
-            );
-        }
+// Each call takes one byte, so that the last call that succeeds ends the lines.
+fn fails_at_each_call(
+    rt: &(impl Abort + AllocGlobal),
+    args: &[String],
+    lines: &[u8],
+    stalls: bool,
+) {
+    for calls in 0..=100 {
+        let mut writer = FakeWriter::failing(rt.alloc(), calls);
+        writer.most = 1;
+        writer.stalls = stalls;
+        let mut out = Counted::new(writer);
+        let len = lines.len().min(calls as usize);
+        let (status, text) = if len < lines.len() {
+            (3, CANNOT_WRITE)
+        } else {
+            (1, "")
+        };
+        ends(rt, args, &mut mixed(), &mut out, status, text);
+        let written = out.into_inner().bytes;
+        assert_eq!(rt; written.as_slice(), &lines[..len], "after {calls} calls");
     }
 }
 
