@@ -124,7 +124,9 @@ pub extern "C" fn bench_c_to_utf8(src: &[u32], factor: u64) -> u64 {
 pub extern "C" fn bench_c_to_utf16(src: &[u32], factor: u64) -> u64 {
     let mut sum = 0;
     for number in src {
-        let Ok(c) = char::from_u32_detailed(*number) else { continue };
+        let Ok(c) = char::from_u32_detailed(*number) else {
+            continue
+        };
         let [first, second] = c.to_utf16_array();
         sum = mix(sum, (second as u64) << 16 | first as u64, factor);
     }

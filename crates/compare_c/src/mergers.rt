@@ -68,13 +68,14 @@ fn put_unit_item(
     merger: &mut Utf16CharMerger<Copied<Iter<'_, u16>>>,
 ) -> bool {
     sheet.put_hint(merger.size_hint());
-    let item = merger.next();
-    match item {
-        None => sheet.put(NOTHING),
-        Some(answer) => sheet.put_answer(answer.map(|c| c.to_char()).map_err(numbers::of_pair)),
-    }
+    let Some(answer) = merger.next() else {
+        sheet.put(NOTHING);
+        put_remaining(sheet, merger);
+        return false;
+    };
+    sheet.put_answer(answer.map(|c| c.to_char()).map_err(numbers::of_pair));
     put_remaining(sheet, merger);
-    item.is_some()
+    true
 }
 
 fn put_remaining(sheet: &mut Sheet<'_>, merger: &Utf16CharMerger<Copied<Iter<'_, u16>>>) {

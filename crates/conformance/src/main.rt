@@ -17,7 +17,13 @@ fn main(rt: HostRuntime) -> io::Result<ExitCode> {
     let text = fs::read_to_string(&rt, "bytes.txt")?;
     let rows = rows::parse(rt.alloc(), &text)?;
     let mut status = 0;
-    for run in [Run::Front, Run::Decoder, Run::Listing, Run::Walk, Run::Merger] {
+    for run in [
+        Run::Front,
+        Run::Decoder,
+        Run::Listing,
+        Run::Walk,
+        Run::Merger,
+    ] {
         if !report_bytes(&rt, run, rows.as_slice())? {
             status = 1;
         }

@@ -35,8 +35,7 @@ pub(crate) fn parse(alloc: Global, file: &str) -> io::Result<Vec<Row<'_>>> {
 
 fn parse_row(alloc: Global, line: &str) -> io::Result<Row<'_>> {
     let mut columns = line.split('|');
-    let (Some(text), Some(pieces), Some(merged)) =
-        (columns.next(), columns.next(), columns.next())
+    let (Some(text), Some(pieces), Some(merged)) = (columns.next(), columns.next(), columns.next())
     else {
         return Err(io::Error::from(ErrorKind::InvalidData));
     };

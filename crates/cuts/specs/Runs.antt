@@ -1,5 +1,5 @@
 -- Whole runs over bytes, and what is written of them.
-use Rattle.std.specs.Prelude.{ℕ, List, flat_map, count_by, Option}
+use Rattle.std.specs.Prelude.{ℕ, List, flat_map, count_by}
 use Rattle.utf_base.specs.Code.{utf8}
 use Rattle.utf_base.specs.Kinds.{fault_kind}
 use Rattle.encode_unicode.specs.Window.{Item}
