@@ -1,7 +1,6 @@
-use super::*;
-use crate::fakes::Refusing;
-use encode_unicode::error::Utf8ErrorKind;
-use encode_unicode::{StrExt, Utf8CharIterExt, Utf16CharIterExt};
+use cuts::collected::{forward_utf16, merge_utf8, merge_utf16};
+use encode_unicode::error::{Utf8Error, Utf8ErrorKind, Utf16PairError};
+use encode_unicode::{StrExt, Utf8Char, Utf8CharIterExt, Utf16Char, Utf16CharIterExt};
 use std::test::Fail;
 
 // Surrogates of every kind, and two characters.
@@ -82,16 +81,4 @@ fn what_was_split_is_merged_again(rt: HostRuntime) -> Result<(), Fail> {
     let merged = merge_utf16(rt.alloc(), text.utf16chars().to_units())?;
     assert!(rt; merged.iter().copied().eq(text.utf16chars().map(|c| Ok(c))));
     Ok(())
-}
-
-#[test]
-fn want_of_memory_is_answered_only_where_there_is_something(rt: HostRuntime) {
-    let none: [u8; 0] = [];
-    let no_units: [u16; 0] = [];
-    assert!(rt; merge_utf8(Refusing, none.iter().copied()).is_ok());
-    assert!(rt; merge_utf16(Refusing, no_units.iter().copied()).is_ok());
-    assert!(rt; forward_utf16(Refusing, &no_units).is_ok());
-    assert!(rt; merge_utf8(Refusing, b"a".iter().copied()).is_err());
-    assert!(rt; merge_utf16(Refusing, UNITS.iter().copied()).is_err());
-    assert!(rt; forward_utf16(Refusing, &UNITS).is_err());
 }

@@ -1,6 +1,6 @@
-use super::*;
-use crate::fakes::Refusing;
-use std::alloc::Global;
+use cuts::items::{End, Item};
+use cuts::walks::walk_utf8;
+use std::alloc::{AllocError, Global};
 use std::process::Abort;
 use std::test::Fail;
 
@@ -146,17 +146,5 @@ fn walks_from_the_back(rt: HostRuntime) -> Result<(), Fail> {
 #[test]
 fn an_empty_word_asks_for_nothing(rt: HostRuntime) -> Result<(), Fail> {
     walk_gives(&rt, b"a", "", "")?;
-    let answers = walk_utf8(Refusing, b"a", &[])?;
-    assert!(rt; answers.is_empty(), "without memory");
     Ok(())
-}
-
-#[test]
-fn refused_memory_ends_a_walk(rt: HostRuntime) {
-    for end in [End::Front, End::Back] {
-        for bytes in [b"".as_slice(), b"a"] {
-            let refused = walk_utf8(Refusing, bytes, &[end]).is_err();
-            assert!(rt; refused, "{bytes:?} by {end:?}");
-        }
-    }
 }

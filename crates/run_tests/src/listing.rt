@@ -1,6 +1,9 @@
-use super::*;
-use crate::fakes::FakeWriter;
-use encode_unicode::error::Utf8ErrorKind;
+use cuts::counted::Counted;
+use cuts::items::Item;
+use cuts::listing::{write_listing, write_merged, write_walk};
+use encode_unicode::Utf8Char;
+use encode_unicode::error::{Utf8Error, Utf8ErrorKind};
+use fakes::streams::FakeWriter;
 use std::alloc::Global;
 use std::io::ErrorKind;
 

@@ -1,6 +1,10 @@
-use super::*;
-use crate::fakes::{FakeReader, FakeWriter, Refusing};
-use std::alloc::AllocError;
+use cuts::counted::Counted;
+use cuts::listing::write_listing;
+use cuts::runs::{Stop, arguments_of, finish_run, run_pieces};
+use fakes::streams::{FakeReader, FakeWriter};
+use std::alloc::{AllocError, Global};
+use std::io;
+use std::io::ErrorKind;
 use std::process::Abort;
 use std::test::Fail;
 
@@ -331,16 +335,6 @@ fn fails_at_each_call(
         let written = out.into_inner().bytes;
         assert_eq!(rt; written.as_slice(), &lines[..len], "after {calls} calls");
     }
-}
-
-#[test]
-fn refused_memory_ends_the_run(rt: HostRuntime) {
-    let mut out = Counted::new(FakeWriter::ample(rt.alloc()));
-    let mut faults = FakeWriter::ample(rt.alloc());
-    let status = run_pieces(Refusing, &[], &mut mixed(), &mut out, &mut faults);
-    assert_eq!(rt; status, 3);
-    assert_eq!(rt; faults.bytes.as_slice(), NO_MEMORY.as_bytes());
-    assert!(rt; out.into_inner().given.is_empty(), "nothing is written");
 }
 
 #[test]

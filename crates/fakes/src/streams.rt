@@ -1,45 +1,43 @@
-//! What tests take in place of the world: a reader and a writer over memory, which work in small parts
-//! and fail when they are told to, and an allocator that has no memory.
+//! A reader and a writer over memory, which work in small parts and fail when they are told to.
 ghost use Rattle.std.specs.Prelude.{Some, ◌<◌};
-ghost use Rattle.std.specs.Borrow.{ffalse};
 
-use std::alloc::{AllocError, Allocator, Global};
+use std::alloc::Global;
 use std::io;
 use std::io::{ErrorKind, Read, Write};
 
 /// A writer that keeps what it took and what it was asked, and fails at some calls behind the first
 /// `calls_left`.
 #[derive(Drop)]
-pub(crate) struct FakeWriter {
-    pub(crate) bytes: Vec<u8>,
-    pub(crate) calls_left: u32,
+pub struct FakeWriter {
+    pub bytes: Vec<u8>,
+    pub calls_left: u32,
 
     /// How many calls then fail, before it goes on.
-    pub(crate) faults_left: u32,
-    pub(crate) fault: ErrorKind,
+    pub faults_left: u32,
+    pub fault: ErrorKind,
 
     /// Whether it fails by taking nothing instead.
-    pub(crate) stalls: bool,
+    pub stalls: bool,
 
     /// How many bytes a call takes at most.
-    pub(crate) most: usize,
+    pub most: usize,
 
     /// How many bytes each call was given.
-    pub(crate) given: Vec<usize>,
+    pub given: Vec<usize>,
 
     /// How often it was flushed.
-    pub(crate) flushes: u32,
-    pub(crate) flush_fault: Option<ErrorKind>,
+    pub flushes: u32,
+    pub flush_fault: Option<ErrorKind>,
 }
 
 impl FakeWriter {
     /// A writer that takes all that it is given.
-    pub(crate) fn ample(alloc: Global) -> FakeWriter {
+    pub fn ample(alloc: Global) -> FakeWriter {
         FakeWriter::failing(alloc, u32::MAX)
     }
 
     /// A writer that takes what the first calls give it, and then fails by `BrokenPipe`.
-    pub(crate) fn failing(alloc: Global, calls_left: u32) -> FakeWriter {
+    pub fn failing(alloc: Global, calls_left: u32) -> FakeWriter {
         FakeWriter {
             bytes: Vec::new(alloc),
             calls_left,
@@ -84,22 +82,22 @@ impl Write for FakeWriter {
 
 /// A reader over a slice that gives a fault once, after `calls_left` calls, and then goes on.
 #[derive(Drop)]
-pub(crate) struct FakeReader<'a> {
-    pub(crate) bytes: &'a [u8],
-    pub(crate) calls_left: u32,
-    pub(crate) fault: Option<ErrorKind>,
+pub struct FakeReader<'a> {
+    pub bytes: &'a [u8],
+    pub calls_left: u32,
+    pub fault: Option<ErrorKind>,
 
     /// How often it was called.
-    pub(crate) calls: u32,
+    pub calls: u32,
 
     /// How many bytes a call gives at most. None would be the end of the bytes.
-    pub(crate) most: usize,
+    pub most: usize,
     ghost some: { 0 < most },
 }
 
 impl<'a> FakeReader<'a> {
     /// A reader that gives two bytes a call, and no fault.
-    pub(crate) fn over(bytes: &'a [u8]) -> FakeReader<'a> {
+    pub fn over(bytes: &'a [u8]) -> FakeReader<'a> {
         FakeReader {
             bytes,
             calls_left: 0,
@@ -124,46 +122,5 @@ impl Read for FakeReader<'_> {
         buf[..count].copy_from_slice(&self.bytes[..count]);
         self.bytes = &self.bytes[count..];
         Ok(count)
-    }
-}
-
-/// An allocator that refuses each call.
-#[derive(Clone, Copy)]
-pub(crate) struct Refusing;
-
-unsafe impl Allocator for Refusing {
-    // There is no block to free.
-    ghost dealloc_token = { λ _ _ _. ffalse };
-
-    fn allocate(&self, _size: usize, _align: usize) -> Result<*mut u8, AllocError> {
-        Err(AllocError)
-    }
-
-    unsafe fn deallocate(&self, _ptr: *mut u8, _size: usize, _align: usize) {}
-}
-
-#[cfg(test)]
-mod tests {
-    use super::*;
-
-    #[test]
-    fn a_reader_gives_parts_and_one_fault(rt: HostRuntime) {
-        let mut reader = FakeReader {
-            bytes: b"abc",
-            calls_left: 1,
-            fault: Some(ErrorKind::Interrupted),
-            calls: 0,
-            most: 2,
-        };
-        let mut buf = [0; 4];
-        assert_eq!(rt; reader.read(&mut buf).ok(), Some(2));
-        assert_eq!(rt;
-            reader.read(&mut buf).err().map(|e| e.kind()),
-            Some(ErrorKind::Interrupted)
-        );
-        assert_eq!(rt; reader.read(&mut buf).ok(), Some(1));
-        assert_eq!(rt; reader.read(&mut buf).ok(), Some(0));
-        assert_eq!(rt; buf, *b"cb\0\0");
-        assert_eq!(rt; reader.calls, 4);
     }
 }
