@@ -12,6 +12,7 @@ pub mod damage;
 pub mod lengths;
 pub mod opened;
 pub mod runs;
+pub mod tables;
 pub mod texts;
 pub mod unchecked;
 
