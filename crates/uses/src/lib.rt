@@ -11,6 +11,7 @@ pub mod cursor;
 pub mod damage;
 pub mod lengths;
 pub mod opened;
+pub mod recoders;
 pub mod runs;
 pub mod tables;
 pub mod texts;
