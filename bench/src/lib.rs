@@ -1,5 +1,6 @@
 //! What the programs of the benchmark share.
 
+pub mod collections;
 pub mod decoders;
 pub mod ends;
 pub mod inputs;

@@ -2,6 +2,7 @@
 //!
 //! Arguments: the program `pieces`, a seed, and how many random lists of bytes to compare.
 
+mod collections;
 mod ends;
 mod errors;
 mod inputs;
@@ -57,6 +58,7 @@ fn compare_all(program: &Path, seed: u64, count: usize) -> Option<(Vec<Kind>, Sl
     print_and_keep(&mut all, text_kinds::walks(seed, count));
     print_and_keep(&mut all, vec![text_kinds::codes(seed)]);
     print_and_keep(&mut all, text_kinds::splitters(seed, count));
+    print_and_keep(&mut all, collections::texts(seed, count));
     match program::runs(program, seed) {
         Ok(runs) => print_and_keep(&mut all, runs),
         Err(error) => {
