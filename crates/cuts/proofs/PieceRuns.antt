@@ -2,7 +2,7 @@
 use Rattle.std.proofs.Common.{◌≡◌, ℕ, ◌+◌, ◌<◌, ◌≤◌, List, [], ◌∷◌, ◌++◌, length, map, ap, subst, arith, Option, Some, Ok, Err, Result}
 use Rattle.std.proofs.lemmas.List.{map-append, take_rest, length_push}
 use Rattle.std.proofs.lemmas.List.Elements.{All-push}
-use Rattle.std.specs.Prelude.{All, slice_range}
+use Rattle.std.specs.Prelude.{slice_range}
 use Rattle.std.specs.Result.{result_ok}
 use Rattle.utf_base.specs.Code.{IsCode}
 use Rattle.utf_base.specs.Piece.{Inside, IsPieceAt, IsCutBetween, Stands}
