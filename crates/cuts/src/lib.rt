@@ -9,6 +9,7 @@ mod fakes;
 pub mod items;
 mod line;
 pub mod listing;
+pub mod piece_table;
 mod requests;
 pub mod runs;
 pub mod walks;
