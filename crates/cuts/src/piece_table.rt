@@ -90,7 +90,7 @@ impl<A: Allocator + Copy> PieceTable<A> {
         self.pieces.reserve(most)?;
         put(&mut self.bytes, start, end, new)?;
         renew(
-            self.bytes.as_slice(),
+            &self.bytes,
             start,
             end,
             start + new.len(),
