@@ -5,7 +5,7 @@ use Rattle.std.proofs.lemmas.Bool.{cases_lt}
 use Rattle.std.proofs.lemmas.Grind.{common_steps}
 use Rattle.std.proofs.lemmas.List.{map-append, take-map, drop-map, get_or-map, get_or-take, get_or-drop, length-map, length-take-le}
 use Rattle.std.proofs.lemmas.List.Edits.{split_between, length-between}
-use Rattle.std.proofs.lemmas.List.Elements.{All-append, All-take, All-drop, All-map, Contains-append_left, Contains-append_right}
+use Rattle.std.proofs.lemmas.List.Elements.{All-append, All-take, All-drop, All-map, Contains-append_left, Contains-append_right, Contains-append_cases, Contains-get_or}
 use Rattle.std.specs.List.{splice, AllWithin}
 use Rattle.std.specs.List.Sorted.{IsNonDecreasingBy, IsPartitionPoint}
 use Rattle.std.specs.Prelude.{All, Contains, IfErr, IsOk, OnOk, slice_range}
@@ -237,18 +237,86 @@ Contains-drop items x r w le =
 Contains-map : (f : Item → Item) (items : List Item) (x : Item) → Contains items x → Contains (map f items) (f x)
 Contains-map f items x w = let len = length-map items f in (w.0, omega arith, get_or-map f items w.0 x (f x) w.1 ∙ ap f w.2)
 
-StayAround-renewed : (s e t k r : ℕ) (items fresh : List Item) → IsSplitAt items (s - 3) k → IsSplitAt items (e + 3) r
-    → StayAround items (take k items ++ (fresh ++ map (moved_item e t) (drop r items))) s e t
-StayAround-renewed s e t k r items fresh kept resumed x w =
+kept_item : (items : List Item) (m k : ℕ) → IsSplitAt items m k → (x : Item) → Contains items x → x.0 < m → Contains (take k items) x
+kept_item items m k split x w lt =
     let place : (get_or items w.0 x).0 ≡ x.0 = ap (λ y. y.0) w.2 in
-    let rest = map (moved_item e t) (drop r items) in (
-      λ near.
-          let first : w.0 < k = ⊎_elim (λ (lt : w.0 < k). lt) (λ (ge : k ≤ w.0). let b = kept.behind w.0 x ge w.1 in absurd (omega arith)) (cases_lt w.0 k) in
-          Contains-append_left (take k items) (fresh ++ rest) x (Contains-take items x k w first),
-      λ far.
-          let last : r ≤ w.0 = ⊎_elim (λ (lt : w.0 < r). let b = resumed.before w.0 x (omega arith) lt in absurd (omega arith)) (λ (ge : r ≤ w.0). ge) (cases_lt w.0 r) in
-          Contains-append_right (take k items) (fresh ++ rest) (moved_item e t x)
-          (Contains-append_right fresh rest (moved_item e t x) (Contains-map (moved_item e t) (drop r items) x (Contains-drop items x r w last))),
+    let first : w.0 < k = ⊎_elim (λ (lt : w.0 < k). lt) (λ (ge : k ≤ w.0). let b = split.behind w.0 x ge w.1 in absurd (omega arith)) (cases_lt w.0 k) in
+    Contains-take items x k w first
+
+left_item : (items : List Item) (m r : ℕ) → IsSplitAt items m r → (x : Item) → Contains items x → m ≤ x.0 → Contains (drop r items) x
+left_item items m r split x w ge =
+    let place : (get_or items w.0 x).0 ≡ x.0 = ap (λ y. y.0) w.2 in
+    let last : r ≤ w.0 = ⊎_elim (λ (lt : w.0 < r). let b = split.before w.0 x (omega arith) lt in absurd (omega arith)) (λ (ge : r ≤ w.0). ge) (cases_lt w.0 r) in
+    Contains-drop items x r w last
+
+-- an item of a part is one of the whole, on its side of the place
+first_item : (items : List Item) (m k : ℕ) → IsSplitAt items m k → (x : Item) → Contains (take k items) x → Contains items x × (x.0 < m)
+first_item items m k split x w =
+    let len = length-take k items in
+    let lt : w.0 < k = omega arith in
+    let is : get_or items w.0 x ≡ x = sym (get_or-take k items w.0 x lt) ∙ w.2 in
+    let place = ap (λ y. y.0) is in
+    let b = split.before w.0 x (omega arith) lt in
+    ((w.0, omega arith, is), omega arith)
+
+last_item_of : (items : List Item) (m r : ℕ) → IsSplitAt items m r → (x : Item) → Contains (drop r items) x → Contains items x × (m ≤ x.0)
+last_item_of items m r split x w =
+    let len = length-drop r items in
+    let is : get_or items (r + w.0) x ≡ x = sym (get_or-drop r items w.0 x) ∙ w.2 in
+    let place = ap (λ y. y.0) is in
+    let b = split.behind (r + w.0) x (omega arith) (omega arith) in
+    ((r + w.0, omega arith, is), omega arith)
+
+fresh_item : (ys : List ℕ) (i j : ℕ) (fresh : List Item) → IsForwardRunBetween ys i j fresh → (x : Item) → Contains fresh x → (i ≤ x.0) × (x.0 < j)
+fresh_item ys i j fresh run x w =
+    let place = ap (λ y. y.0) w.2 in
+    let b = item_of_run ys i j fresh w.0 x run w.1 in
+    (omega (arith, b.1), omega (arith, b.2))
+
+unmoved_item : (a b : ℕ) (items : List Item) (z : Item) → Contains (map (moved_item a b) items) z → (y : Item) × Contains items y × (moved_item a b y ≡ z)
+unmoved_item a b items z w =
+    let len = length-map items (moved_item a b) in
+    let lt : w.0 < length items = omega arith in
+    (get_or items w.0 some_item, Contains-get_or items w.0 some_item lt, sym (get_or-map (moved_item a b) items w.0 some_item z lt) ∙ w.2)
+
+same_unmoved : (a b : ℕ) (x y : Item) → a ≤ x.0 → a ≤ y.0 → moved_item a b y ≡ moved_item a b x → y ≡ x
+same_unmoved a b x y of_x of_y e =
+    let moved_place = ap (λ z. z.0) e in
+    let place : y.0 ≡ x.0 = omega arith in
+    ap (λ p. (p, y.1, y.2)) place ∙ ap (λ z. (x.0, z.1, z.2)) e
+
+StayAround-renewed : (ys : List ℕ) (s e t k r : ℕ) (items fresh : List Item) → s ≤ t → IsSplitAt items (s - 3) k → IsSplitAt items (e + 3) r → IsForwardRunBetween ys (s - 3) (t + 3) fresh
+    → StayAround items (take k items ++ (fresh ++ map (moved_item e t) (drop r items))) s e t
+StayAround-renewed ys s e t k r items fresh le kept resumed mid x =
+    let rest = map (moved_item e t) (drop r items) in
+    let z = moved_item e t x in (
+      λ near. (
+        λ w. Contains-append_left (take k items) (fresh ++ rest) x (kept_item items (s - 3) k kept x w (omega arith)),
+        λ w.
+            ⊎_elim
+            (λ (first : Contains (take k items) x). (first_item items (s - 3) k kept x first).0)
+            (λ (later : Contains (fresh ++ rest) x).
+            ⊎_elim
+            (λ (inner : Contains fresh x). let b = fresh_item ys (s - 3) (t + 3) fresh mid x inner in absurd (omega arith))
+            (λ (last : Contains rest x). let y = unmoved_item e t (drop r items) x last in let place = ap (λ v. v.0) y.2 in absurd (omega arith))
+            (Contains-append_cases fresh rest x later))
+            (Contains-append_cases (take k items) (fresh ++ rest) x w),
+      ),
+      λ far. (
+        λ w. Contains-append_right (take k items) (fresh ++ rest) z (Contains-append_right fresh rest z (Contains-map (moved_item e t) (drop r items) x (left_item items (e + 3) r resumed x w far))),
+        λ w.
+            ⊎_elim
+            (λ (first : Contains (take k items) z). let b = (first_item items (s - 3) k kept z first).1 in absurd (omega arith))
+            (λ (later : Contains (fresh ++ rest) z).
+            ⊎_elim
+            (λ (inner : Contains fresh z). let b = fresh_item ys (s - 3) (t + 3) fresh mid z inner in absurd (omega arith))
+            (λ (last : Contains rest z).
+            let y = unmoved_item e t (drop r items) z last in
+            let of_y = last_item_of items (e + 3) r resumed y.0 y.1 in
+            rw (same_unmoved e t x y.0 (omega arith) (omega arith) y.2) at of_y.0)
+            (Contains-append_cases fresh rest z later))
+            (Contains-append_cases (take k items) (fresh ++ rest) z w),
+      ),
     )
 
 -- Counting items.
@@ -346,7 +414,7 @@ module _ (ys : List ℕ) (s e t : ℕ) (items : List Item) (h : WereReplaced ys 
       = record { cut = cut_from_before utf8 ys (s - 3) from (t + 3) (map piece_of fresh) spot.reached spot.none run.cut; kinds = run.kinds } in
       record {
         run = rw same (run_renewed k r fresh spot.kept spot.moved mid);
-        around = rw same (StayAround-renewed s e t k r items fresh spot.kept spot.moved);
+        around = rw same (StayAround-renewed ys s e t k r items fresh (omega arith) spot.kept spot.moved mid);
         least = StepForEach-run ys (s - 3) (t + 3) steps_before steps fresh mid counted;
         most = omega arith;
       }

@@ -1,6 +1,6 @@
 -- A table of the pieces of some bytes, of which a part is replaced.
 use Rattle.std.specs.List.{AllWithin, HoldsAt, splice}
-use Rattle.std.specs.Prelude.{◌≡◌, ℕ, ◌+◌, ◌-◌, ◌^◌, ◌<◌, ◌≤◌, List, length, take, drop, All, Contains}
+use Rattle.std.specs.Prelude.{◌≡◌, ℕ, ◌+◌, ◌-◌, ◌^◌, ◌<◌, ◌≤◌, ◌↔◌, List, length, take, drop, All, Contains}
 use Rattle.utf_base.specs.Code.{utf8}
 use Rattle.utf_base.specs.Piece.{Inside, Piece, IsPiece, IsCutBetween}
 use Rattle.encode_unicode.specs.Window.{Item}
@@ -15,12 +15,13 @@ pub record Table : Type 0 where
 abbrev pub moved_item : ℕ → ℕ → Item → Item
 moved_item a b x = (b + (x.0 - a), x.1, x.2)
 
--- Where the bytes from the place s to e were replaced, and what stands there ends at t: the items that begin at s - 4 or
--- before are among the others, and so are those that begin at e + 3 or behind, at their new places.
+-- Where the bytes from the place s to e were replaced, and what stands there ends at t: of the items that begin at s - 4 or
+-- before the others are the same, and of those that begin at e + 3 or behind they are the same at their new places.
 abbrev pub StayAround : List Item → List Item → ℕ → ℕ → ℕ → Type 0
 StayAround items others s e t =
-    (x : Item) → Contains items x
-    → (x.0 + 4 ≤ s → Contains others x) × (e + 3 ≤ x.0 → Contains others (moved_item e t x))
+    (x : Item)
+    → (x.0 + 4 ≤ s → Contains items x ↔ Contains others x)
+    × (e + 3 ≤ x.0 → Contains items x ↔ Contains others (moved_item e t x))
 
 -- from one number of steps to another there was one, or more, for each piece of the bytes that begins from the place i on
 -- and before j
