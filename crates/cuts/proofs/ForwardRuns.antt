@@ -17,16 +17,16 @@ use Rattle.encode_unicode.specs.Window.{Window, Placed, Item, UnitItem, elements
 use Rattle.cuts.specs.Items.{IsRun}
 use Rattle.cuts.specs.Collected.{IsUnitRun}
 use Rattle.cuts.specs.Runs.{IsForwardRun}
-use Rattle.cuts.proofs.PieceRuns.{Excludes, IsRunTo, IsRunTo-none, IsRunTo-push, IsRun-all}
+use Rattle.cuts.proofs.PieceRuns.{Excludes, IsRunTo, IsRunTo-front, IsRunTo-push, IsRun-all}
 
 -- The items are the run as far as the window's front, and the rest of the list is in the window.
 pub record IsWindowRun {E : Type 0} (code : ℕ → List ℕ) (kind : List ℕ → Option E) (xs : List ℕ) (items : List (Placed E)) (w : Window) : Type 0 where
   pub whole : w.whole ≡ xs
   pub end : w.back ≡ length xs
-  pub run : IsRunTo code kind xs items w.front
+  pub run : IsRunTo code kind xs 0 items w.front
 
 IsWindowRun-none : {E : Type 0} (code : ℕ → List ℕ) (kind : List ℕ → Option E) (xs : List ℕ) → IsWindowRun code kind xs [] (whole_window xs)
-IsWindowRun-none code kind xs = record { whole = refl; end = refl; run = IsRunTo-none code kind xs }
+IsWindowRun-none code kind xs = record { whole = refl; end = refl; run = IsRunTo-front code kind xs }
 
 -- one answer more
 IsWindowRun-push : {E : Type 0} (code : ℕ → List ℕ) (most : ℕ) (kind : List ℕ → Option E) (answer : List ℕ → Result (ℕ × ℕ) E) → IsCode code → Excludes code kind
@@ -35,7 +35,7 @@ IsWindowRun-push : {E : Type 0} (code : ℕ → List ℕ) (most : ℕ) (kind : L
 IsWindowRun-push code most kind answer c apart xs items w v x f g =
     let lt : w.front < length xs = rw (← f.end) g.some in
     let front : IsFrontOf code kind (slice_range xs w.front (length xs)) x.1 x.2 = rw (f.whole, f.end) at g.piece in
-    rw g.left (record { whole = f.whole; end = f.end; run = IsRunTo-push code kind c apart xs items w.front x f.run g.place lt front })
+    rw g.left (record { whole = f.whole; end = f.end; run = IsRunTo-push code kind c apart xs 0 items w.front x f.run g.place lt front })
 
 -- once the window is empty the run is whole
 IsWindowRun-all : {E : Type 0} (code : ℕ → List ℕ) (kind : List ℕ → Option E) (xs : List ℕ) (items : List (Placed E)) (w v : Window) → IsWindowRun code kind xs items w → GivesNone w v

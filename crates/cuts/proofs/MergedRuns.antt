@@ -19,20 +19,20 @@ use Rattle.encode_unicode.specs.Mergers.{TakesFront}
 use Rattle.encode_unicode.specs.Window.{Placed, UnitItem, IsFrontOf}
 use Rattle.cuts.specs.Items.{answers_of}
 use Rattle.cuts.specs.Collected.{IsMergedRun, IsJoinedExactly, IsUnitRun}
-use Rattle.cuts.proofs.PieceRuns.{Excludes, IsRunTo, IsRunTo-none, IsRunTo-push, IsRun-all}
+use Rattle.cuts.proofs.PieceRuns.{Excludes, IsRunTo, IsRunTo-front, IsRunTo-push, IsRun-all}
 use Rattle.cuts.proofs.RunLaws.{run_unique, run_of_joined, joined_of_run}
 
 -- The answers are those of the run as far as a place, behind which the unread elements stand.
 pub record IsMergedSoFar {E : Type 0} (code : ℕ → List ℕ) (kind : List ℕ → Option E) (xs : List ℕ) (answers : List (Result ℕ E)) (unread : List ℕ) : Type 0 where
   pub items : List (Placed E)
   pub place : ℕ
-  pub run : IsRunTo code kind xs items place
+  pub run : IsRunTo code kind xs 0 items place
   pub behind : unread ≡ drop place xs
   pub same : answers ≡ answers_of items
 
 pub IsMergedSoFar-none : {E : Type 0} (code : ℕ → List ℕ) (kind : List ℕ → Option E) (xs : List ℕ) (answers : List (Result ℕ E)) (unread : List ℕ) → answers ≡ [] → unread ≡ xs
     → IsMergedSoFar code kind xs answers unread
-IsMergedSoFar-none code kind xs answers unread none all = record { items = []; place = 0; run = IsRunTo-none code kind xs; behind = all; same = none }
+IsMergedSoFar-none code kind xs answers unread none all = record { items = []; place = 0; run = IsRunTo-front code kind xs; behind = all; same = none }
 
 -- what leaves the unread elements with one answer
 record Taken {E : Type 0} (code : ℕ → List ℕ) (kind : List ℕ → Option E) (old : List ℕ) (r : Result ℕ E) (new : List ℕ) : Type 0 where
@@ -68,7 +68,7 @@ IsMergedSoFar-push {E} code kind c apart xs answers old new r f h =
     record {
       items = f.items ++ (f.place, r, t.len) ∷ [];
       place = f.place + t.len;
-      run = IsRunTo-push code kind c apart xs f.items f.place (f.place, r, t.len) f.run refl lt (rw (← rest) t.front);
+      run = IsRunTo-push code kind c apart xs 0 f.items f.place (f.place, r, t.len) f.run refl lt (rw (← rest) t.front);
       behind = t.left ∙ ap (drop t.len) f.behind ∙ drop-drop t.len f.place xs;
       same = ap (λ rs. rs ++ r ∷ []) f.same ∙ sym (map-append (λ (x : Placed E). x.1) f.items ((f.place, r, t.len) ∷ []));
     }

@@ -6,6 +6,7 @@ pub mod Written
 pub mod Runs
 pub mod Collected
 pub mod Walks
+pub mod Tables
 pub mod Forms
 pub mod Arguments
 pub mod Programs

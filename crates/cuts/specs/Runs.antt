@@ -4,7 +4,12 @@ use Rattle.utf_base.specs.Code.{utf8}
 use Rattle.utf_base.specs.Kinds.{fault_kind}
 use Rattle.encode_unicode.specs.Window.{Item}
 use Rattle.cuts.specs.Lines.{item_line, is_fault}
-use Rattle.cuts.specs.Items.{IsRun}
+use Rattle.cuts.specs.Items.{IsRunBetween, IsRun}
+
+-- the items are the pieces of the bytes that begin from the place i on and before j, in order, the faults with their
+-- forward kinds
+abbrev pub IsForwardRunBetween : List ℕ → ℕ → ℕ → List Item → Type 0
+IsForwardRunBetween xs i j items = IsRunBetween utf8 fault_kind xs i j items
 
 -- the items are the pieces of the bytes in order, the faults with their forward kinds
 abbrev pub IsForwardRun : List ℕ → List Item → Type 0

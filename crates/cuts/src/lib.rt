@@ -7,6 +7,7 @@ mod entries;
 pub mod items;
 mod line;
 pub mod listing;
+pub mod piece_table;
 mod requests;
 pub mod runs;
 pub mod walks;

@@ -21,6 +21,7 @@ pub use Rattle.utf_base.specs.Decoded
 pub use Rattle.utf_base.specs.Texts
 pub use Rattle.utf_base.specs.CutLaws
 pub use Rattle.utf_base.specs.KindLaws
+pub use Rattle.utf_base.specs.LocalLaws
 pub use Rattle.utf_base.specs.Walk
 pub use Rattle.utf_base.specs.WalkLaws
 pub use Rattle.utf_chars.specs.Chars

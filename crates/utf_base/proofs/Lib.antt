@@ -17,3 +17,5 @@ pub mod WalkPieces
 pub mod WalkWords
 pub mod ByteWalks
 pub mod BackLemmas
+pub mod LocalDamage
+pub mod CutChanges

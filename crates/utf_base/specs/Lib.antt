@@ -9,6 +9,7 @@ pub mod Back
 pub mod Decoded
 pub mod CutLaws
 pub mod KindLaws
+pub mod LocalLaws
 pub mod Walk
 pub mod WalkLaws
 pub mod Texts

@@ -9,6 +9,9 @@ ghost use Rattle.utf_base.specs.CutLaws.{AsciiStandsAlone, OneCodeEnds};
 ghost use Rattle.utf_base.specs.KindLaws.{CodeOrOneFault, UnitsCodeOrOneFault, UnitsCodeOrOneKind};
 ghost use Rattle.utf_base.specs.KindLaws.{FourBytesDecide, TwoUnitsDecide, MergerCodeOrOneFault};
 ghost use Rattle.utf_base.specs.KindLaws.{FourBytesDecideMerger, KindsDiffer, CodeOrLastByte};
+ghost use Rattle.utf_base.specs.Kinds.{fault_kind};
+ghost use Rattle.utf_base.specs.LocalLaws.{DamageIsLocal, FrontStays, RestStays};
+ghost use Rattle.utf_base.specs.Units.{unit_fault_kind};
 ghost use Rattle.utf_base.specs.Walk.{utf8_bytes};
 ghost use Rattle.utf_base.specs.WalkLaws.{WalkExists, WalkIsUnique, WalkStaysOutside, WalkGivesEachOnce};
 
@@ -116,6 +119,21 @@ pub fn kinds_differ()
 /// The forward kind of units depends on the first two alone, on one where there is one.
 pub fn two_units_decide()
     ensures { TwoUnitsDecide }
+{}
+
+/// A change in a list leaves every piece that begins far enough before it, and every one that begins far
+/// enough behind it but for its place: of bytes those that begin at least four before it, or behind three
+/// that it left; of units two, or one. What is wrong there stays the same too.
+pub fn damage_is_local()
+    ensures utf8 { DamageIsLocal utf8 fault_kind 4 }
+    ensures utf16 { DamageIsLocal utf16 unit_fault_kind 2 }
+{}
+
+/// A change of bytes may reach a piece that begins three before it, and one that begins behind two that it
+/// left.
+pub fn damage_reaches_its_bounds()
+    ensures front { ¬ FrontStays utf8 fault_kind 3 }
+    ensures rest { ¬ RestStays utf8 fault_kind 3 }
 {}
 
 /// Every word has a walk over every list of bytes.

@@ -1,0 +1,301 @@
+//! A table of the pieces of some bytes, which is kept up to date where a part of the bytes is replaced.
+ghost use Rattle.std.specs.List.{splice};
+ghost use Rattle.std.specs.List.Sorted.{IsNonDecreasingBy};
+ghost use Rattle.std.specs.Prelude.{◌≡◌, ◌+◌, ◌-◌, ◌^◌, ◌<◌, ◌≤◌, ◌++◌, [], length, map, slice_range, take, drop, All, IfOk, IsOk, OnOk, OnErr, vec_len, vec_capacity};
+ghost use Rattle.utf_base.specs.Code.{utf8};
+ghost use Rattle.utf_base.specs.Piece.{Inside};
+ghost use Rattle.encode_unicode.specs.Window.{Item as AnItem, IsFrontPiece};
+ghost use Rattle.cuts.specs.Runs.{IsForwardRun, IsForwardRunBetween};
+ghost use Rattle.cuts.specs.Tables.{StayAround, StepForEach, WereReplaced, IsSpot, IsRenewed, IsSplitAt, EndsAt, IsRestMoved, moved_item};
+
+use crate::items::Item;
+use encode_unicode::{Steps, Utf8Char};
+use std::alloc::{AllocError, Allocator};
+use std::marker::Model;
+
+/// Some bytes, and the pieces of their cut. Contracts see both.
+///
+/// A change of the bytes reaches few pieces: `replace` decodes those alone, and moves the others.
+#[derive(Drop)]
+pub struct PieceTable<A: Allocator + Copy> {
+    bytes: Vec<u8, A>,
+    pieces: Vec<Item, A>,
+}
+
+impl<A: Allocator + Copy> Model for PieceTable<A> {
+    ghost use Rattle.cuts.specs.Runs.{IsForwardRun};
+    ghost use Rattle.cuts.specs.Tables.{Table};
+
+    ghost Value = { Table };
+
+    ghost view = { λ t. record { bytes = t.bytes.items; pieces = t.pieces.items } };
+
+    ghost invariant = { λ t. IsForwardRun t.bytes.items t.pieces.items };
+}
+
+impl<A: Allocator + Copy> PieceTable<A> {
+    /// The table of a copy of the bytes. The error is that memory was refused.
+    pub fn new(alloc: A, bytes: &[u8]) -> Result<PieceTable<A>, AllocError>
+        ensures ok { IfOk result (λ table. table.bytes ≡ bytes.now) }
+        ensures nothing { length bytes.now ≡ 0 → IsOk result }
+    {
+        let mut held = Vec::with_capacity(alloc, bytes.len())?;
+        held.extend_from_slice(bytes)?;
+        let mut pieces = Vec::new(alloc);
+        decode(bytes, 0, bytes.len(), &mut pieces, &mut Steps::new())?;
+        Ok(PieceTable {
+            bytes: held,
+            pieces,
+        })
+    }
+
+    /// The bytes.
+    pub fn bytes(&self) -> &[u8]
+        ensures { result.now ≡ self.now.bytes }
+    {
+        self.bytes.as_slice()
+    }
+
+    /// All pieces of the bytes, in order, the faults with their forward kinds.
+    pub fn pieces(&self) -> &[Item]
+        ensures held { result.now ≡ self.now.pieces }
+        ensures run { IsForwardRun self.now.bytes result.now }
+    {
+        self.pieces.as_slice()
+    }
+
+    /// Replaces the bytes from `start` to `end` by `new`. Each piece that is decoded takes one step.
+    ///
+    /// The error is that memory was refused, or that the bytes would be more than `usize` counts. The table
+    /// is then as it was.
+    pub fn replace(
+        &mut self,
+        start: usize,
+        end: usize,
+        new: &[u8],
+        steps: &mut Steps,
+    ) -> Result<(), AllocError>
+        requires ordered { start ≤ end }
+        requires within { end ≤ length self.old.bytes }
+        ensures ok { OnOk result (self.new.bytes ≡ splice self.old.bytes start end new.now) }
+        ensures run { IsForwardRun self.new.bytes self.new.pieces }
+        ensures around { OnOk result (StayAround self.old.pieces self.new.pieces start end (start + length new.now)) }
+        ensures err { OnErr result (self.new ≡ self.old) }
+        ensures least { OnOk result (StepForEach self.new.bytes (start - 3) (start + length new.now + 3) steps.old steps.new) }
+        ensures most { steps.new ≤ steps.old + length new.now + 6 }
+    {
+        // All room is taken before the first change.
+        let most = new.len().saturating_add(6);
+        let mut fresh = Vec::with_capacity(*self.bytes.allocator(), most)?;
+        self.pieces.reserve(most)?;
+        put(&mut self.bytes, start, end, new)?;
+        renew(
+            &self.bytes,
+            start,
+            end,
+            start + new.len(),
+            &mut self.pieces,
+            &mut fresh,
+            steps,
+        )
+    }
+}
+
+// Makes the pieces of some bytes those of `bytes`, which these became where what stood from `start` to
+// `end` was replaced and now ends at `after`. There is room for what is decoded, so it never fails.
+fn renew<A: Allocator>(
+    bytes: &[u8],
+    start: usize,
+    end: usize,
+    after: usize,
+    pieces: &mut Vec<Item, A>,
+    fresh: &mut Vec<Item, A>,
+    steps: &mut Steps,
+) -> Result<(), AllocError>
+    requires replaced { WereReplaced bytes.now start end after pieces.old.items }
+    requires empty { fresh.old.items ≡ [] }
+    requires fresh_room { after - start + 6 ≤ vec_capacity fresh.old }
+    requires room { vec_len pieces.old + (after - start + 6) ≤ vec_capacity pieces.old }
+    ensures done { IsOk result }
+    ensures renewed { IsRenewed bytes.now start end after pieces.old.items pieces.new.items steps.old steps.new }
+{
+    let spot = find_spot(bytes, start, end, after, pieces.as_slice());
+    decode(bytes, spot.from, after + 3, fresh, steps)?;
+    put_pieces(pieces, spot.keep, spot.resume, fresh.as_slice(), end, after)
+}
+
+// Where the new pieces go: in place of the old ones from `keep` to `resume`, and decoded from the place
+// `from` on.
+#[derive(Drop)]
+struct Spot {
+    keep: usize,
+    resume: usize,
+    from: usize,
+}
+
+// The spot for the new pieces. A piece that ends near enough to a change to be reached by it is not kept.
+fn find_spot(bytes: &[u8], start: usize, end: usize, after: usize, pieces: &[Item]) -> Spot
+    requires replaced { WereReplaced bytes.now start end after pieces.now }
+    ensures { IsSpot bytes.now start end after pieces.now result.keep result.resume result.from }
+{
+    let keep = count_before(pieces, start.saturating_sub(3));
+    Spot {
+        keep,
+        resume: count_before(pieces, end + 3),
+        from: end_of(pieces, keep),
+    }
+}
+
+// Puts `fresh` in place of the items from `keep` to `resume`, and counts the places of those behind from
+// `to` where they were counted from `from`. It fails only where room is missing.
+fn put_pieces<A: Allocator>(
+    pieces: &mut Vec<Item, A>,
+    keep: usize,
+    resume: usize,
+    fresh: &[Item],
+    from: usize,
+    to: usize,
+) -> Result<(), AllocError>
+    requires ordered { keep ≤ resume }
+    requires within { resume ≤ vec_len pieces.old }
+    requires counted { All (λ (x : AnItem). from ≤ x.0) (drop resume pieces.old.items) }
+    requires fits { All (λ (x : AnItem). to + (x.0 - from) < 2 ^ 64) (drop resume pieces.old.items) }
+    ensures ok { OnOk result (pieces.new.items ≡ take keep pieces.old.items ++ (fresh.now ++ map (moved_item from to) (drop resume pieces.old.items))) }
+    ensures room { vec_len pieces.old + length fresh.now ≤ vec_capacity pieces.old → IsOk result }
+{
+    move_places(&mut pieces[resume..], from, to);
+    put(pieces, keep, resume, fresh)
+}
+
+// Puts `new` in place of the items from `start` to `end`. It fails only where room for it is missing,
+// and then changes nothing.
+fn put<T: Copy + Drop, A: Allocator>(
+    items: &mut Vec<T, A>,
+    start: usize,
+    end: usize,
+    new: &[T],
+) -> Result<(), AllocError>
+    requires ordered { start ≤ end }
+    requires within { end ≤ vec_len items.old }
+    ensures ok { OnOk result (items.new.items ≡ splice items.old.items start end new.now) }
+    ensures err { OnErr result (items.new.items ≡ items.old.items) }
+    ensures room { vec_len items.old + length new.now ≤ vec_capacity items.old → IsOk result }
+{
+    let after = start.checked_add(new.len()).ok_or(AllocError)?;
+    move_rest(items, end, after, new)?;
+    items[start..after].copy_from_slice(new);
+    Ok(())
+}
+
+// Moves the items behind `from` so that they begin at `to`. A gap is filled with some of `filler`.
+fn move_rest<T: Copy + Drop, A: Allocator>(
+    items: &mut Vec<T, A>,
+    from: usize,
+    to: usize,
+    filler: &[T],
+) -> Result<(), AllocError>
+    requires within { from ≤ vec_len items.old }
+    requires filled { to ≤ from + length filler.now }
+    ensures ok { OnOk result (IsRestMoved items.old.items items.new.items from to) }
+    ensures err { OnErr result (items.new.items ≡ items.old.items) }
+    ensures room { vec_len items.old + length filler.now ≤ vec_capacity items.old → IsOk result }
+{
+    let len = items.len();
+    if to == from {
+        return Ok(());
+    }
+    if to < from {
+        items.copy_within(from..len, to);
+        items.truncate(to + (len - from));
+        return Ok(());
+    }
+    items.extend_from_slice(&filler[..to - from])?;
+    items.copy_within(from..len, to);
+    Ok(())
+}
+
+// How many of the items begin before the place.
+fn count_before(items: &[Item], place: usize) -> usize
+    requires { IsNonDecreasingBy (λ (x : AnItem). x.0) items.now }
+    ensures { IsSplitAt items.now place result }
+{
+    items.partition_point(|item| item.0 < place)
+}
+
+// Where the first `count` items end.
+fn end_of(items: &[Item], count: usize) -> usize
+    requires within { count ≤ length items.now }
+    requires fits { All (λ (x : AnItem). x.0 + x.2 < 2 ^ 64) items.now }
+    ensures { EndsAt items.now count result }
+{
+    if count == 0 {
+        return 0;
+    }
+    let (place, _, len) = items[count - 1];
+    place + len
+}
+
+// Counts the places of the items from `to` where they were counted from `from`.
+fn move_places(items: &mut [Item], from: usize, to: usize)
+    requires counted { All (λ (x : AnItem). from ≤ x.0) items.old }
+    requires fits { All (λ (x : AnItem). to + (x.0 - from) < 2 ^ 64) items.old }
+    ensures { items.new ≡ map (moved_item from to) items.old }
+{
+    if from != to {
+        move_each(items, from, to);
+    }
+}
+
+// The same, place by place.
+fn move_each(items: &mut [Item], from: usize, to: usize)
+    requires counted { All (λ (x : AnItem). from ≤ x.0) items.old }
+    requires fits { All (λ (x : AnItem). to + (x.0 - from) < 2 ^ 64) items.old }
+    ensures { items.new ≡ map (moved_item from to) items.old }
+{
+    for i in 0..items.len() {
+        let item = items[i];
+        items[i] = (to + (item.0 - from), item.1, item.2);
+    }
+}
+
+// Collects the pieces of the bytes that begin from `place` on and before `until`, where no code lies over
+// `place`. Each takes one step.
+fn decode<A: Allocator>(
+    bytes: &[u8],
+    place: usize,
+    until: usize,
+    pieces: &mut Vec<Item, A>,
+    steps: &mut Steps,
+) -> Result<(), AllocError>
+    requires within { place ≤ length bytes.now }
+    requires outside { Inside utf8 bytes.now place → ⊥ }
+    requires empty { pieces.old.items ≡ [] }
+    ensures run { OnOk result (IsForwardRunBetween bytes.now place until pieces.new.items) }
+    ensures steps { OnOk result (steps.new ≡ steps.old + length pieces.new.items) }
+    ensures few { steps.new ≤ steps.old + (until - place) }
+    ensures room { until - place ≤ vec_capacity pieces.old → IsOk result }
+{
+    let end = until.min(bytes.len());
+    let mut next = place;
+    while next < end {
+        let item = piece_at(bytes, next, steps);
+        next += item.2;
+        pieces.push(item)?;
+    }
+    Ok(())
+}
+
+// The piece that begins what is left of the bytes from `place` on. This is one step.
+#[inline(always)]
+fn piece_at(bytes: &[u8], place: usize, steps: &mut Steps) -> Item
+    requires { place < length bytes.now }
+    ensures place { result.0 ≡ place }
+    ensures piece { IsFrontPiece (slice_range bytes.now place (length bytes.now)) result.1 result.2 }
+    ensures step { steps.new ≡ steps.old + 1 }
+{
+    steps.tick();
+    match Utf8Char::from_slice_start(&bytes[place..]) {
+        Ok((c, len)) => (place, Ok(c), len),
+        Err(error) => (place, Err(error), 1),
+    }
+}
