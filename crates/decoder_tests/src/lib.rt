@@ -1,8 +1,10 @@
-//! Tests of the decoder of bytes from its back, and from both ends.
+//! Tests of the decoder of bytes, from its front, its back and both.
 #![tactic(auto)]
 
 #[cfg(test)]
 mod decoders;
+#[cfg(test)]
+mod front;
 #[cfg(test)]
 mod pieces;
 #[cfg(test)]

@@ -1,9 +1,9 @@
 ghost use Rattle.std.specs.Prelude.{◌-◌, ◌^◌};
 ghost use Rattle.std.specs.Iterator.{IsFinite, UpTo};
 
-use crate::error::{Utf8Error, Utf8ErrorKind};
-use crate::iterator::Utf8CharDecoder;
-use crate::{CharExt, U8SliceExt, Utf8Char};
+use encode_unicode::error::{Utf8Error, Utf8ErrorKind};
+use encode_unicode::iterator::Utf8CharDecoder;
+use encode_unicode::{CharExt, U8SliceExt, Utf8Char};
 use std::process::Abort;
 
 // A piece with a `char` in place of the code, and the kind in place of the error.
