@@ -5,6 +5,7 @@
 
 mod collecting;
 mod decoding_iterators;
+mod followers;
 mod held_bytes;
 mod held_unit;
 mod iter_ext;
