@@ -1,3 +1,4 @@
 pub mod CursorLemmas
 pub mod RecodeLemmas
+pub mod RecordLemmas
 pub mod TableLemmas

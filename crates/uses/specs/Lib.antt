@@ -1,4 +1,5 @@
 pub mod Counts
 pub mod Cursor
 pub mod Initials
+pub mod Records
 pub mod Tables

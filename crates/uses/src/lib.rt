@@ -12,6 +12,7 @@ pub mod damage;
 pub mod lengths;
 pub mod opened;
 pub mod recoders;
+pub mod records;
 pub mod runs;
 pub mod tables;
 pub mod texts;
