@@ -2,3 +2,4 @@ pub mod CursorLemmas
 pub mod RecodeLemmas
 pub mod RecordLemmas
 pub mod TableLemmas
+pub mod TokenLemmas

@@ -3,3 +3,4 @@ pub mod Cursor
 pub mod Initials
 pub mod Records
 pub mod Tables
+pub mod Tokens
