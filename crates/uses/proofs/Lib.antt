@@ -1,3 +1,5 @@
 pub mod CursorLemmas
 pub mod RecodeLemmas
+pub mod RecordLemmas
 pub mod TableLemmas
+pub mod TokenLemmas

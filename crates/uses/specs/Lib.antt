@@ -1,4 +1,6 @@
 pub mod Counts
 pub mod Cursor
 pub mod Initials
+pub mod Records
 pub mod Tables
+pub mod Tokens
