@@ -33,6 +33,7 @@ build_programs() {
     build_crate bench_c lib libbench_c.a "the static library" || exit 2
     mkdir "$work_folder/bench" "$work_folder/encode_unicode"
     cp -r "$bench_folder"/{Cargo.toml,build.rs,src} "$work_folder/bench/"
+    cp "$root_folder/scripts/heap.rs" "$work_folder/bench/src/"
     tar -C "$rust_crate" --exclude=./target --exclude=./.git -cf - . | tar -C "$work_folder/encode_unicode" -xf -
     run_cargo build --release --offline
     programs="$work_folder/target/release"

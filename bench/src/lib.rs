@@ -2,6 +2,7 @@
 
 pub mod decoders;
 pub mod ends;
+pub mod heap;
 pub mod inputs;
 pub mod mergers;
 pub mod report;

@@ -10,6 +10,7 @@
 mod decoders;
 mod ends;
 mod mergers;
+mod tables;
 mod texts;
 
 use encode_unicode::error::{Utf8ErrorKind, Utf16SliceError};
