@@ -4,12 +4,14 @@
 
 mod ends;
 mod errors;
+mod heap;
 mod inputs;
 mod kinds;
 mod mergers;
 mod numbers;
 mod ours;
 mod program;
+mod tables;
 mod tally;
 mod text_kinds;
 mod theirs;
@@ -57,6 +59,7 @@ fn compare_all(program: &Path, seed: u64, count: usize) -> Option<(Vec<Kind>, Sl
     print_and_keep(&mut all, text_kinds::walks(seed, count));
     print_and_keep(&mut all, vec![text_kinds::codes(seed)]);
     print_and_keep(&mut all, text_kinds::splitters(seed, count));
+    print_and_keep(&mut all, tables::replacements(seed, count));
     match program::runs(program, seed) {
         Ok(runs) => print_and_keep(&mut all, runs),
         Err(error) => {
