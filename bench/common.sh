@@ -13,9 +13,11 @@ need_number() {
     [[ "$2" =~ ^[1-9][0-9]{0,11}$ ]] || die "$1 asks for a number above 0, not '$2'"
 }
 
-# run_cargo ARGUMENTS: cargo in the copy of this folder. The processor is the one for which rt builds the library.
+# run_cargo ARGUMENTS: cargo in the copy of this folder. The processor is the one for which rt builds the library,
+# which takes memory by a few C functions of the kit.
 run_cargo() {
     if ! (cd "$work_folder/bench" && BENCH_LIBRARY_FOLDER="$root_folder/crates/bench_c/out" \
+        RATTLE_C_FOLDER="$(dirname "$(rt doc)")/c" \
         RUSTFLAGS="-C target-cpu=x86-64-v2" CARGO_TARGET_DIR="$work_folder/target" \
         cargo "$@" >"$work_folder/cargo.log" 2>&1); then
         cat "$work_folder/cargo.log" >&2
@@ -33,7 +35,6 @@ build_programs() {
     build_crate bench_c lib libbench_c.a "the static library" || exit 2
     mkdir "$work_folder/bench" "$work_folder/encode_unicode"
     cp -r "$bench_folder"/{Cargo.toml,build.rs,src} "$work_folder/bench/"
-    cp "$root_folder/scripts/heap.rs" "$work_folder/bench/src/"
     tar -C "$rust_crate" --exclude=./target --exclude=./.git -cf - . | tar -C "$work_folder/encode_unicode" -xf -
     run_cargo build --release --offline
     programs="$work_folder/target/release"

@@ -1,8 +1,8 @@
 //! What the programs of the benchmark share.
 
+pub mod collections;
 pub mod decoders;
 pub mod ends;
-pub mod heap;
 pub mod inputs;
 pub mod mergers;
 pub mod report;

@@ -59,7 +59,7 @@ impl Table {
 
     pub fn print(&self) {
         println!(
-            "{:<15} {:<11} {:>9} {:>9} {:>9} {:>9}  by place",
+            "{:<16} {:<11} {:>9} {:>9} {:>9} {:>9}  by place",
             "work", "input", "ours", "rust", "ours/rust", "std"
         );
         for (work, input) in &self.rows {
@@ -78,7 +78,7 @@ impl Table {
             .map(|places| format!("{:.0}%", places.spread()))
             .collect();
         let (ours, rust) = (best("ours"), best("rust"));
-        print!("{work:<15} {input:<11} {ours:>9.3} {rust:>9.3} {:>9.2} {std:>9}  ", ours / rust);
+        print!("{work:<16} {input:<11} {ours:>9.3} {rust:>9.3} {:>9.2} {std:>9}  ", ours / rust);
         println!("{}", spreads.join(" "));
     }
 }

@@ -4,7 +4,7 @@
 //! Every worker answers a checksum of all that it saw, mixed in the same way, so that answers can be compared.
 
 use crate::inputs::Input;
-use crate::{decoders, ends, mergers, texts};
+use crate::{collections, decoders, ends, mergers, texts};
 use encode_unicode::error::{Utf16SliceError, Utf8ErrorKind};
 use encode_unicode::iterator::Utf8CharDecoder;
 use encode_unicode::{CharExt, Utf16Char, Utf8Char};
@@ -39,7 +39,8 @@ impl Work {
 
 /// All kinds of work, in the order of the tables.
 pub fn all() -> impl Iterator<Item = &'static Work> {
-    OF_SLICES.iter().chain(&decoders::ALL).chain(&mergers::ALL).chain(&ends::ALL).chain(&texts::ALL)
+    let of_slices = OF_SLICES.iter().chain(&decoders::ALL).chain(&mergers::ALL).chain(&ends::ALL);
+    of_slices.chain(&texts::ALL).chain(&collections::ALL)
 }
 
 // The works over slices, which take faulty ones too.

@@ -2,9 +2,9 @@
 //!
 //! Arguments: the program `pieces`, a seed, and how many random lists of bytes to compare.
 
+mod collections;
 mod ends;
 mod errors;
-mod heap;
 mod inputs;
 mod kinds;
 mod mergers;
@@ -59,6 +59,7 @@ fn compare_all(program: &Path, seed: u64, count: usize) -> Option<(Vec<Kind>, Sl
     print_and_keep(&mut all, text_kinds::walks(seed, count));
     print_and_keep(&mut all, vec![text_kinds::codes(seed)]);
     print_and_keep(&mut all, text_kinds::splitters(seed, count));
+    print_and_keep(&mut all, collections::texts(seed, count));
     print_and_keep(&mut all, tables::replacements(seed, count));
     match program::runs(program, seed) {
         Ok(runs) => print_and_keep(&mut all, runs),

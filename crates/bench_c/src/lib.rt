@@ -7,6 +7,7 @@
 //! `bench/run` tests.
 #![tactic(auto)]
 
+mod collections;
 mod decoders;
 mod ends;
 mod mergers;

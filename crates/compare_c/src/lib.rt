@@ -13,6 +13,7 @@
 mod bytes;
 mod characters;
 mod codes;
+mod collections;
 mod ends;
 mod errors;
 mod mergers;

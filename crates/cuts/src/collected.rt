@@ -15,9 +15,6 @@ use encode_unicode::iterator::Utf16CharDecoder;
 use encode_unicode::{U8IterExt, U16IterExt, Utf8Char, Utf16Char};
 use std::alloc::{AllocError, Allocator};
 
-#[cfg(test)]
-mod tests;
-
 /// All characters and faulty bytes of a source, in order: the pieces of the one cut of its bytes.
 ///
 /// All answers are characters exactly where the bytes are UTF-8. The error is that memory was refused.

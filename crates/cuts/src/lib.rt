@@ -4,8 +4,6 @@
 pub mod collected;
 pub mod counted;
 mod entries;
-#[cfg(test)]
-mod fakes;
 pub mod items;
 mod line;
 pub mod listing;

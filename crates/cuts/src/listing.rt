@@ -13,9 +13,6 @@ use encode_unicode::iterator::Utf8CharDecoder;
 use std::io;
 use std::io::Write;
 
-#[cfg(test)]
-mod tests;
-
 /// Writes one line for each piece of the bytes, and answers how many of the pieces are errors.
 ///
 /// A line is the offset and the length in decimal, and the scalar in six hexadecimal digits or the name

@@ -23,9 +23,6 @@ use std::io::{ErrorKind, Read, Write};
 use std::{fmt, io};
 use utf_base::tally::Tally;
 
-#[cfg(test)]
-mod tests;
-
 /// Why a program ends before its work is done.
 #[derive(Clone, Copy, Debug, PartialEq, Eq, Drop)]
 pub enum Stop {

@@ -9,9 +9,6 @@ use crate::items::{End, Item};
 use encode_unicode::iterator::Utf8CharDecoder;
 use std::alloc::{AllocError, Allocator};
 
-#[cfg(test)]
-mod tests;
-
 /// Asks the bytes for a piece at one end after another, as the letters of the word say, and answers
 /// one entry for each letter: the piece, or none where no byte was left.
 ///

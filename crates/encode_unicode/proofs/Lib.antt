@@ -5,6 +5,7 @@ pub mod Joined
 pub mod Listed
 pub mod Refills
 pub mod Splits
+pub mod TextEnds
 pub mod TextLemmas
 pub mod ScanLemmas
 pub mod UnitPieces

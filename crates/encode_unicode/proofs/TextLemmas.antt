@@ -1,21 +1,23 @@
 -- What a window of a text keeps where a character leaves it, at either end.
-use Rattle.std.proofs.Common.{◌≡◌, ℕ, ◌+◌, ◌-◌, ◌/◌, ◌%◌, ◌<◌, ◌≤◌, List, ◌++◌, length, get_or, take, drop, min, refl, ap, sym, ◌∙◌, arith, ⊎_elim, length-append}
+use Rattle.std.proofs.Common.{◌≡◌, ℕ, ◌+◌, ◌-◌, ◌/◌, ◌%◌, ◌<◌, ◌≤◌, List, ◌++◌, length, get_or, take, drop, min, refl, ap, sym, ◌∙◌, arith, ⊎_elim, length-drop}
 use Rattle.std.proofs.lemmas.Grind.{common_steps}
-use Rattle.std.proofs.lemmas.List.{take-append-drop, take_at, take_all, drop_at, take-take}
+use Rattle.std.proofs.lemmas.List.{take-append-drop, take_all, take-take}
 use Rattle.std.proofs.lemmas.Str.{IsUtf8-drop, IsUtf8-between, IsCharBoundary-past_char, IsCharBoundary-start, IsCharBoundary-end, length-encode}
 use Rattle.std.specs.Int.{div_ceil}
 use Rattle.std.specs.List.{flat_map}
-use Rattle.std.specs.Prelude.{slice_range, Some}
+use Rattle.std.specs.Prelude.{slice_range, Some, Ok}
 use Rattle.std.specs.Str.{IsUtf8, IsCharBoundary}
 use Rattle.utf_base.specs.Code.{utf8}
+use Rattle.utf_base.specs.Ends.{EndsWith}
 use Rattle.utf_base.specs.Front.{BeginsWith}
 use Rattle.utf_base.specs.Piece.{Stands}
-use Rattle.utf_base.specs.Scalar.{IsScalar}
-use Rattle.utf_base.proofs.Standing.{Stands-at, same_char, stands_alone, stands_in_whole}
+use Rattle.utf_base.proofs.Standing.{Stands-at, stands_in_whole}
 use Rattle.utf_base.proofs.StdText.{utf8_is_std}
 use Rattle.utf_base.proofs.Utf8Code.{utf8_is_code, utf8-first, length_utf8}
 use Rattle.utf_chars.proofs.Ranges.{range_behind}
-use Rattle.encode_unicode.specs.TextWindow.{IsKeptWindow, IsTextWindow, GivesFirst, GivesLast, BoundsScalars}
+use Rattle.utf_base.specs.Decoded.{decoded_bytes}
+use Rattle.encode_unicode.proofs.TextEnds.{last_is_read}
+use Rattle.encode_unicode.specs.TextWindow.{IsKeptWindow, IsLastCode, IsTextWindow, GivesFirst, GivesLast, BoundsScalars}
 use Rattle.encode_unicode.proofs.Joined.{joined_bounds, some_utf8}
 
 text_window : (xs : List ℕ) (i j : ℕ) → IsUtf8 xs → i ≤ j → IsCharBoundary xs i → IsCharBoundary xs j → IsTextWindow (record { whole = xs; front = i; back = j })
@@ -72,34 +74,28 @@ first_taken xs i j s n kept begins =
       omega arith,
     )
 
--- a code stands at the end of what ends with it
-stands_last : (xs rest : List ℕ) (s : ℕ) → IsScalar s → xs ≡ rest ++ utf8 s → Stands utf8 xs (length rest) s
-stands_last xs rest s scalar e =
-    let span : length rest + length (utf8 s) - length rest ≡ length (utf8 s) = omega arith in
-    record {
-      scalar = scalar;
-      within = rw e (omega (arith, length-append rest (utf8 s)));
-      equal = rw (e, span, drop_at rest (utf8 s) _ refl) (take_all _ (utf8 s) (omega arith));
-    }
-
-pub last_taken : (xs rest : List ℕ) (i j s m : ℕ) → IsKeptWindow xs i j → IsScalar s → slice_range xs i j ≡ rest ++ utf8 s → m ≡ i + length rest
+pub last_taken : (xs : List ℕ) (i j s n m : ℕ) → IsKeptWindow xs i j → EndsWith utf8 (slice_range xs i j) s n → m ≡ j - n
     → GivesLast (record { whole = xs; front = i; back = j }) m s (record { whole = xs; front = i; back = m }) × IsKeptWindow xs i m × (m - i < j - i)
-last_taken xs rest i j s m kept scalar split e =
+last_taken xs i j s n m kept ends e =
     let ordered = kept.ordered in
     let back = kept.between.back.0 in
+    let stands = ends.0 in
+    let within = stands.within in
+    let n_is = ends.1 in
     let len : length (slice_range xs i j) ≡ j - i = grind (arith, common_steps) in
-    let parts : j - i ≡ length rest + length (utf8 s) = sym len ∙ ap length split ∙ length-append rest (utf8 s) in
-    let stands = stands_last (slice_range xs i j) rest s scalar split in
     let some = some_utf8 s in
-    let place = sym e in
-    let whole = stands_in_whole utf8 xs i j (length rest) m s place ordered back stands in
-    let span : m - i ≡ length rest = omega arith in
-    let before : slice_range xs i m ≡ rest
-    = ap (λ k. take k (drop i xs)) span ∙ sym (take-take (length rest) (j - i) (drop i xs) (omega arith)) ∙ ap (take (length rest)) split ∙ take_at rest (utf8 s) _ refl in
+    let whole = stands_in_whole utf8 xs i j (length (slice_range xs i j) - n) m s (omega arith) ordered back stands in
+    let span : length (slice_range xs i j) - n + length (utf8 s) - (length (slice_range xs i j) - n) ≡ length (utf8 s) = omega arith in
+    let rest : length (drop (length (slice_range xs i j) - n) (slice_range xs i j)) ≤ length (utf8 s) = omega (arith, length-drop (length (slice_range xs i j) - n) (slice_range xs i j)) in
+    let last : drop (length (slice_range xs i j) - n) (slice_range xs i j) ≡ utf8 s
+    = sym (take_all _ (drop (length (slice_range xs i j) - n) (slice_range xs i j)) rest) ∙ ap (λ k. take k (drop (length (slice_range xs i j) - n) (slice_range xs i j))) (sym span) ∙ stands.equal in
+    let place : length (slice_range xs i j) - n ≡ m - i = omega arith in
+    let before : slice_range xs i m ≡ take (length (slice_range xs i j) - n) (slice_range xs i j)
+    = sym (take-take (m - i) (j - i) (drop i xs) (omega arith)) ∙ ap (λ k. take k (slice_range xs i j)) (sym place) in
     let between = text_window xs i m kept.is_text (omega arith) kept.between.front (boundary_before xs m s whole.0) in (
       record {
-        scalar = scalar;
-        code = split ∙ ap (λ ys. ys ++ utf8 s) (sym before);
+        scalar = stands.scalar;
+        code = sym (take-append-drop (length (slice_range xs i j) - n) (slice_range xs i j)) ∙ ap (λ ys. take (length (slice_range xs i j) - n) (slice_range xs i j) ++ ys) last ∙ ap (λ ys. ys ++ utf8 s) (sym before);
         at_back = refl;
         left = ap (λ (k : ℕ). record { whole = xs; front = i; back = k }) (omega arith);
         between = between;
@@ -107,6 +103,14 @@ last_taken xs rest i j s m kept scalar split e =
       record { is_text = kept.is_text; ordered = omega arith; between = between },
       omega arith,
     )
+
+-- the same where the character was made of the code that the text ends with
+pub last_char_taken : (xs text code : List ℕ) (i j t n : ℕ) → IsKeptWindow xs i j → text ≡ slice_range xs i j → IsLastCode text code n → decoded_bytes code ≡ Ok t
+    → GivesLast (record { whole = xs; front = i; back = j }) (j - n) t (record { whole = xs; front = i; back = j - n }) × IsKeptWindow xs i (j - n) × (j - n - i < j - i)
+last_char_taken xs text code i j t n kept e last known =
+    let same = last_is_read text code t n last known in
+    let ends : EndsWith utf8 (slice_range xs i j) t n = rw (← e, ← same) last.ends in
+    last_taken xs i j t n (j - n) kept ends refl
 
 pub none_left : (xs : List ℕ) (i j : ℕ) → IsKeptWindow xs i j → length (slice_range xs i j) ≡ 0 → i ≡ j
 none_left xs i j kept e =
@@ -124,19 +128,3 @@ bounds_quarter xs i j n kept e scalars is =
     let all : length (flat_map utf8 scalars) ≡ j - i = ap length is ∙ len in
     let quarter : n ≡ (j - i) / 4 + min 1 ((j - i) % 4) = e in
     (omega arith, omega arith)
-
--- the last of the text that a window lends is the one code that the text ends with
-last_is_code : (xs rest : List ℕ) (s t n : ℕ) → IsScalar s → xs ≡ rest ++ utf8 s → BeginsWith utf8 (drop (length rest) xs) t n → s ≡ t
-last_is_code xs rest s t n scalar e begins =
-    let last : drop (length rest) xs ≡ utf8 s = ap (drop (length rest)) e ∙ drop_at rest (utf8 s) _ refl in
-    same_char utf8 utf8_is_code (drop (length rest) xs) 0 s t (stands_alone utf8 _ (s, scalar, last)) begins.0
-
--- the same where the character was read from that code
-pub last_code_taken : (xs rest : List ℕ) (i j s t n m : ℕ) → IsKeptWindow xs i j → IsScalar s → slice_range xs i j ≡ rest ++ utf8 s → m ≡ i + length rest → BeginsWith utf8 (drop (length rest) (slice_range xs i j)) t n
-    → GivesLast (record { whole = xs; front = i; back = j }) m t (record { whole = xs; front = i; back = m })
-last_code_taken xs rest i j s t n m kept scalar split e begins =
-    rw (← last_is_code (slice_range xs i j) rest s t n scalar split begins) ((last_taken xs rest i j s m kept scalar split e).0)
-
--- before that code the text can be cut
-pub boundary_before_last : (xs rest : List ℕ) (s : ℕ) → IsScalar s → xs ≡ rest ++ utf8 s → IsCharBoundary xs (length rest)
-boundary_before_last xs rest s scalar e = boundary_before xs (length rest) s (stands_last xs rest s scalar e)

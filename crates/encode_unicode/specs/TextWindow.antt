@@ -4,6 +4,8 @@ use Rattle.std.specs.List.{flat_map}
 use Rattle.std.specs.Str.{IsUtf8, IsCharBoundary}
 use Rattle.utf_base.specs.Scalar.{IsScalar}
 use Rattle.utf_base.specs.Code.{utf8}
+use Rattle.utf_base.specs.Ends.{EndsWith}
+use Rattle.utf_chars.specs.Padded.{padded}
 use Rattle.utf_chars.specs.Taking.{BoundsLength}
 use Rattle.encode_unicode.specs.Window.{Window, elements, without_front, without_back, GivesNone}
 
@@ -52,6 +54,12 @@ NextScalar w (Some s) v = GivesFirst w w.front s v
 abbrev pub BackScalar : Window → Option ℕ → Window → Type 0
 BackScalar w None v = GivesNone w v
 BackScalar w (Some s) v = GivesLast w v.back s v
+
+-- the array is the code that ends the text, and zeros behind it, and the code has n bytes
+pub record IsLastCode (text code : List ℕ) (n : ℕ) : Type 0 where
+  pub char : ℕ
+  pub ends : EndsWith utf8 text char n
+  pub padded : code ≡ padded 4 (utf8 char)
 
 -- the text is the codes of at least as many scalars as the first number says, and at most as many as the second
 abbrev pub BoundsScalars : List ℕ → ℕ × Option ℕ → Type 0

@@ -1,7 +1,8 @@
 //! A window of a text that shrinks from both ends by whole characters.
-ghost use Rattle.std.specs.Prelude.{◌≡◌, ◌-◌, ◌<◌, Some, OnSome};
+ghost use Rattle.std.specs.Prelude.{◌≡◌, ◌-◌, ◌<◌, ◌≤◌, Some, OnSome, length};
 ghost use Rattle.std.specs.Int.{div_ceil};
-ghost use Rattle.encode_unicode.specs.TextWindow.{IsTextWindow, NextPlaced, BackPlaced, BoundsScalars};
+ghost use Rattle.std.specs.Str.{IsUtf8};
+ghost use Rattle.encode_unicode.specs.TextWindow.{IsLastCode, IsTextWindow, NextPlaced, BackPlaced, BoundsScalars};
 ghost use Rattle.encode_unicode.specs.Window.{whole_window, elements};
 
 use std::marker::Model;
@@ -104,16 +105,67 @@ impl<'a> TextWindow<'a> {
         ensures shorter { OnSome result (self.new.back - self.new.front < self.old.back - self.old.front) }
     {
         let text = self.as_str();
-        let mut chars = text.chars();
-        chars.next_back()?;
-        let before = chars.as_str().len();
-        // The bytes of its code are copied and not made from the scalar, which is quicker.
-        match Utf8Char::from_str_start(&text[before..]) {
-            Err(EmptyStrError) => None,
-            Ok((c, _)) => {
-                self.back = self.front + before;
-                Some((self.back, c))
-            }
+        if text.is_empty() {
+            return None;
         }
+        let (code, len) = last_code(text.as_bytes());
+        self.back -= len;
+        Some((self.back, Utf8Char::from_array_unchecked(code)))
     }
+}
+
+// The code that ends a text, then zeros, and how many bytes it has. Its last bytes are looked at, and no
+// more of them than it has.
+#[inline(always)]
+#[tactic(auto, using(crate::proofs::TextEnds::last_one, crate::proofs::TextEnds::two_there, crate::proofs::TextEnds::last_two, crate::proofs::TextEnds::three_there, crate::proofs::TextEnds::last_three, crate::proofs::TextEnds::last_four))]
+fn last_code(text: &[u8]) -> ([u8; 4], usize)
+    requires text { IsUtf8 text.now }
+    requires some { 0 < length text.now }
+    ensures { IsLastCode text.now result.0 result.1 }
+{
+    let last = text[text.len() - 1];
+    if last < 0x80 {
+        return ([last, 0, 0, 0], 1);
+    }
+    let second_last = text[text.len() - 2];
+    if second_last >= 0xc0 {
+        return ([first_of_two(second_last), last, 0, 0], 2);
+    }
+    let third_last = text[text.len() - 3];
+    if third_last >= 0xe0 {
+        return ([first_of_three(third_last), second_last, last, 0], 3);
+    }
+    let first = first_of_four(text[text.len() - 4]);
+    ([first, third_last, second_last, last], 4)
+}
+
+// The first byte of a code of two, put together of its mark and its payload. It is the byte that it was,
+// but a compiler now sees how long the code is, and tests it no more where the scalar is asked for.
+#[inline(always)]
+fn first_of_two(byte: u8) -> u8
+    requires low { 0xC0 ≤ byte }
+    requires high { byte < 0xE0 }
+    ensures { result ≡ byte }
+{
+    0xc0 | byte & 0x1f
+}
+
+// The same of a code of three.
+#[inline(always)]
+fn first_of_three(byte: u8) -> u8
+    requires low { 0xE0 ≤ byte }
+    requires high { byte < 0xF0 }
+    ensures { result ≡ byte }
+{
+    0xe0 | byte & 0x0f
+}
+
+// The same of a code of four.
+#[inline(always)]
+fn first_of_four(byte: u8) -> u8
+    requires low { 0xF0 ≤ byte }
+    requires high { byte < 0xF8 }
+    ensures { result ≡ byte }
+{
+    0xf0 | byte & 0x07
 }

@@ -111,7 +111,7 @@ impl<'a> fmt::Debug for Utf16CharIndices<'a> {
 /// Both ends may be asked in turn. Contracts see the part of the text that is left.
 #[derive(Drop)]
 pub struct Utf16Chars<'a> {
-    window: TextWindow<'a>,
+    indices: Utf16CharIndices<'a>,
 }
 
 impl<'a> Model for Utf16Chars<'a> {
@@ -119,7 +119,7 @@ impl<'a> Model for Utf16Chars<'a> {
 
     ghost Value = { Window };
 
-    ghost view = { λ c. c.window };
+    ghost view = { λ c. c.indices };
 }
 
 impl<'a> From<&'a str> for Utf16Chars<'a> {
@@ -128,7 +128,7 @@ impl<'a> From<&'a str> for Utf16Chars<'a> {
     #[inline(always)]
     fn from(text: &'a str) -> Utf16Chars<'a> {
         Utf16Chars {
-            window: TextWindow::new(text),
+            indices: Utf16CharIndices::from(text),
         }
     }
 }
@@ -140,7 +140,7 @@ impl<'a> Utf16Chars<'a> {
         ensures text { result.now ≡ elements self.now }
         ensures between { IsTextWindow self.now }
     {
-        self.window.as_str()
+        self.indices.as_str()
     }
 }
 
@@ -153,8 +153,8 @@ impl<'a> Iterator for Utf16Chars<'a> {
 
     #[inline(always)]
     fn next(&mut self) -> Option<Utf16Char> {
-        let (_, c) = self.window.next()?;
-        Some(Utf16Char::from(c))
+        let (_, c) = self.indices.next()?;
+        Some(c)
     }
 
     /// A quarter of the bytes that are left, rounded up, and all of them.
@@ -165,7 +165,7 @@ impl<'a> Iterator for Utf16Chars<'a> {
         ensures exact { result ≡ (div_ceil (self.now.back - self.now.front) 4, Some (self.now.back - self.now.front)) }
         ensures bounds { BoundsScalars (elements self.now) result }
     {
-        self.window.bounds()
+        self.indices.size_hint()
     }
 }
 
@@ -174,8 +174,8 @@ impl<'a> DoubleEndedIterator for Utf16Chars<'a> {
 
     #[inline(always)]
     fn next_back(&mut self) -> Option<Utf16Char> {
-        let (_, c) = self.window.next_back()?;
-        Some(Utf16Char::from(c))
+        let (_, c) = self.indices.next_back()?;
+        Some(c)
     }
 }
 
@@ -186,7 +186,7 @@ impl<'a> Clone for Utf16Chars<'a> {
 
     fn clone(&self) -> Result<Utf16Chars<'a>, AllocError> {
         Ok(Utf16Chars {
-            window: self.window.copy(),
+            indices: self.indices.clone()?,
         })
     }
 }

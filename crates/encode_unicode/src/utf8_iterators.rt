@@ -109,7 +109,7 @@ impl<'a> fmt::Debug for Utf8CharIndices<'a> {
 /// Both ends may be asked in turn. Contracts see the part of the text that is left.
 #[derive(Drop)]
 pub struct Utf8Chars<'a> {
-    window: TextWindow<'a>,
+    indices: Utf8CharIndices<'a>,
 }
 
 impl<'a> Model for Utf8Chars<'a> {
@@ -117,7 +117,7 @@ impl<'a> Model for Utf8Chars<'a> {
 
     ghost Value = { Window };
 
-    ghost view = { λ c. c.window };
+    ghost view = { λ c. c.indices };
 }
 
 impl<'a> From<&'a str> for Utf8Chars<'a> {
@@ -126,7 +126,7 @@ impl<'a> From<&'a str> for Utf8Chars<'a> {
     #[inline(always)]
     fn from(text: &'a str) -> Utf8Chars<'a> {
         Utf8Chars {
-            window: TextWindow::new(text),
+            indices: Utf8CharIndices::from(text),
         }
     }
 }
@@ -138,7 +138,7 @@ impl<'a> Utf8Chars<'a> {
         ensures text { result.now ≡ elements self.now }
         ensures between { IsTextWindow self.now }
     {
-        self.window.as_str()
+        self.indices.as_str()
     }
 }
 
@@ -151,7 +151,7 @@ impl<'a> Iterator for Utf8Chars<'a> {
 
     #[inline(always)]
     fn next(&mut self) -> Option<Utf8Char> {
-        let (_, c) = self.window.next()?;
+        let (_, c) = self.indices.next()?;
         Some(c)
     }
 
@@ -163,7 +163,7 @@ impl<'a> Iterator for Utf8Chars<'a> {
         ensures exact { result ≡ (div_ceil (self.now.back - self.now.front) 4, Some (self.now.back - self.now.front)) }
         ensures bounds { BoundsScalars (elements self.now) result }
     {
-        self.window.bounds()
+        self.indices.size_hint()
     }
 }
 
@@ -172,7 +172,7 @@ impl<'a> DoubleEndedIterator for Utf8Chars<'a> {
 
     #[inline(always)]
     fn next_back(&mut self) -> Option<Utf8Char> {
-        let (_, c) = self.window.next_back()?;
+        let (_, c) = self.indices.next_back()?;
         Some(c)
     }
 }
@@ -184,7 +184,7 @@ impl<'a> Clone for Utf8Chars<'a> {
 
     fn clone(&self) -> Result<Utf8Chars<'a>, AllocError> {
         Ok(Utf8Chars {
-            window: self.window.copy(),
+            indices: self.indices.clone()?,
         })
     }
 }

@@ -1,1 +1,3 @@
 pub mod CursorLemmas
+pub mod RecodeLemmas
+pub mod TableLemmas

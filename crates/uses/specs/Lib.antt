@@ -1,3 +1,4 @@
 pub mod Counts
 pub mod Cursor
 pub mod Initials
+pub mod Tables

@@ -11,7 +11,9 @@ pub mod cursor;
 pub mod damage;
 pub mod lengths;
 pub mod opened;
+pub mod recoders;
 pub mod runs;
+pub mod tables;
 pub mod texts;
 pub mod unchecked;
 

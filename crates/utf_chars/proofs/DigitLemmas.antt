@@ -1,7 +1,6 @@
 -- A number whose digits are the elements of a list.
 use Rattle.std.proofs.Common.{◌≡◌, ℕ, zero, suc, ◌+◌, ◌-◌, ◌*◌, ◌/◌, ◌%◌, ◌<◌, ◌≤◌, List, [], ◌∷◌, length, get_or, take, refl, ap, arith}
 use Rattle.std.proofs.lemmas.Nat.{div-mul-add, mod-mul-add}
-use Rattle.std.specs.Int.{w32, from_le_bytes}
 use Rattle.utf_chars.specs.Digits.{low_digits}
 
 pub number_of : ℕ → List ℕ → ℕ
@@ -34,16 +33,7 @@ first_digits base (suc n) (x ∷ xs) within below =
     rw (mod-mul-add (number_of base xs) base x first, div-mul-add (number_of base xs) base x first)
     (ap (λ zs. x ∷ zs) (first_digits base n xs (omega arith) (λ i. below (suc i))))
 
--- four bytes, and two units, as a number
-pub number_of_bytes : (xs : List ℕ) → length xs ≡ 4 → from_le_bytes w32 xs ≡ number_of 256 xs
-unfolding number_of
-number_of_bytes [] len = absurd (omega arith)
-number_of_bytes (a ∷ []) len = absurd (omega arith)
-number_of_bytes (a ∷ b ∷ []) len = absurd (omega arith)
-number_of_bytes (a ∷ b ∷ c ∷ []) len = absurd (omega arith)
-number_of_bytes (a ∷ b ∷ c ∷ d ∷ []) len = omega arith
-number_of_bytes (a ∷ b ∷ c ∷ d ∷ e ∷ xs) len = absurd (omega arith)
-
+-- two units, as a number
 pub number_of_units : (xs : List ℕ) → length xs ≡ 2 → get_or xs 1 0 * 0x1_0000 + get_or xs 0 0 ≡ number_of 0x1_0000 xs
 unfolding number_of
 number_of_units [] len = absurd (omega arith)

@@ -1,5 +1,5 @@
 //! What is left of the code of one character, in bytes or in units.
-ghost use Rattle.std.specs.Prelude.{◌≡◌, ◌≤◌, ◌<◌, [], length, drop, IfSome};
+ghost use Rattle.std.specs.Prelude.{◌≡◌, ◌≤◌, ◌<◌, [], length, take, drop, IfSome};
 ghost use Rattle.std.specs.Iterator.{YieldsFirst};
 ghost use Rattle.utf_base.specs.Code.{utf8, utf16};
 ghost use Rattle.utf_chars.specs.Digits.{low_digits};
@@ -166,8 +166,27 @@ impl From<Utf8Char> for Unsent<256> {
     #[inline(always)]
     fn from(c: Utf8Char) -> Unsent<256> {
         let (code, len) = c.to_array();
-        Unsent::new(u32::from_le_bytes(code) as usize, len)
+        Unsent::new(number_of_front(code, len), len)
     }
+}
+
+// The first bytes, as many as `len` says, as one number, whose lowest digit is the first of them. Those
+// behind the first are put together by themselves: so taking the first leaves their number as it is.
+#[inline(always)]
+#[tactic(auto, unfolding(crate::specs::Digits::low_digits))]
+fn number_of_front(code: [u8; 4], len: usize) -> usize
+    requires least { 1 ≤ len }
+    requires most { len ≤ 4 }
+    ensures { low_digits 256 len result ≡ take len code }
+{
+    let [first, second, third, fourth] = code;
+    let behind = match len {
+        1 => 0,
+        2 => second as usize,
+        3 => (third as usize) * 256 + second as usize,
+        _ => ((fourth as usize) * 256 + third as usize) * 256 + second as usize,
+    };
+    behind * 256 + first as usize
 }
 
 impl From<Utf16Char> for Unsent<0x1_0000> {
