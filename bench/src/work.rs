@@ -107,21 +107,21 @@ extern "C" {
     fn bench_c_between(src: *const u8, len: usize, factor: u64) -> u64;
 }
 
-pub(crate) const FACTOR: u64 = 0x9e37_79b9_7f4a_7c15;
+pub const FACTOR: u64 = 0x9e37_79b9_7f4a_7c15;
 pub(crate) const ERROR: u32 = 0x20_0000;
 
 #[inline(always)]
-pub(crate) fn mix(sum: u64, word: u64) -> u64 {
+pub fn mix(sum: u64, word: u64) -> u64 {
     sum.wrapping_mul(9).wrapping_add(word.wrapping_mul(FACTOR))
 }
 
 #[inline(always)]
-pub(crate) fn word_of(place: usize, len: usize, what: u32) -> u64 {
+pub fn word_of(place: usize, len: usize, what: u32) -> u64 {
     ((place as u64) << 32).wrapping_add((what as u64) << 3).wrapping_add(len as u64)
 }
 
 #[inline(always)]
-pub(crate) fn number_of(kind: Utf8ErrorKind) -> u32 {
+pub fn number_of(kind: Utf8ErrorKind) -> u32 {
     ERROR
         | match kind {
             Utf8ErrorKind::TooFewBytes => 0,

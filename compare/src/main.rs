@@ -11,6 +11,7 @@ mod mergers;
 mod numbers;
 mod ours;
 mod program;
+mod tables;
 mod tally;
 mod text_kinds;
 mod theirs;
@@ -59,6 +60,7 @@ fn compare_all(program: &Path, seed: u64, count: usize) -> Option<(Vec<Kind>, Sl
     print_and_keep(&mut all, vec![text_kinds::codes(seed)]);
     print_and_keep(&mut all, text_kinds::splitters(seed, count));
     print_and_keep(&mut all, collections::texts(seed, count));
+    print_and_keep(&mut all, tables::replacements(seed, count));
     match program::runs(program, seed) {
         Ok(runs) => print_and_keep(&mut all, runs),
         Err(error) => {

@@ -40,6 +40,14 @@ extern "C" {
     ) -> usize;
     fn compare_c_indices(src: *const u8, len: usize, answers: *mut u64, room: usize) -> usize;
     fn compare_c_number(number: u32, answers: *mut u64, room: usize) -> usize;
+    fn compare_c_replacements(
+        src: *const u8,
+        len: usize,
+        replacements: *const u8,
+        replacement_bytes: usize,
+        answers: *mut u64,
+        room: usize,
+    ) -> usize;
     fn compare_c_shown(number: u32, answers: *mut u64, room: usize) -> usize;
     fn compare_c_text(src: *const u8, len: usize, answers: *mut u64, room: usize) -> usize;
     fn compare_c_two_chars(one: u32, other: u32, answers: *mut u64, room: usize) -> usize;
@@ -135,6 +143,22 @@ pub fn ends(src: &[u8], word: &[u8]) -> Vec<u64> {
             src.len(),
             word.as_ptr(),
             word.len(),
+            at,
+            room,
+        )
+    })
+}
+
+/// The table of the bytes after each replacement of four bytes, which adds at most two.
+pub fn replacements(src: &[u8], replacements: &[u8]) -> Vec<u64> {
+    let steps = replacements.len() / 4;
+    let most = src.len() + 2 * steps;
+    filled(steps * ROOM_PER_ITEM * (most + 1), |at, room| unsafe {
+        compare_c_replacements(
+            src.as_ptr(),
+            src.len(),
+            replacements.as_ptr(),
+            replacements.len(),
             at,
             room,
         )

@@ -11,6 +11,7 @@ mod collections;
 mod decoders;
 mod ends;
 mod mergers;
+mod tables;
 mod texts;
 
 use encode_unicode::error::{Utf8ErrorKind, Utf16SliceError};

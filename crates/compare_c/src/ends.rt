@@ -31,11 +31,8 @@ pub extern "C" fn compare_c_ends(src: &[u8], word: &[u8], answers: &mut [u64]) -
 }
 
 fn put_item(sheet: &mut Sheet<'_>, item: Option<(usize, Result<Utf8Char, Utf8Error>, usize)>) {
-    let Some((offset, answer, len)) = item else {
-        sheet.put(NOTHING);
-        return;
-    };
-    sheet.put_size(offset);
-    sheet.put_size(len);
-    sheet.put_answer(answer.map(|c| c.to_char()).map_err(numbers::of_utf8));
+    match item {
+        Some(piece) => sheet.put_piece(piece),
+        None => sheet.put(NOTHING),
+    }
 }

@@ -24,6 +24,7 @@ mod sheet;
 mod shown;
 mod splitters;
 mod steps;
+mod tables;
 mod texts;
 mod unit_decoder;
 mod units;

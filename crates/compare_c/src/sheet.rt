@@ -1,5 +1,6 @@
 //! The numbers of one export.
-use crate::numbers::NOTHING;
+use crate::numbers::{self, NOTHING};
+use encode_unicode::error::Utf8Error;
 use encode_unicode::{Utf8Char, Utf16Char};
 use std::cmp::Ordering;
 use std::io;
@@ -108,6 +109,14 @@ impl<'a> Sheet<'a> {
                 self.put(0);
             }
         }
+    }
+
+    /// Adds the offset, the length and the scalar or the number of the error.
+    pub fn put_piece(&mut self, piece: (usize, Result<Utf8Char, Utf8Error>, usize)) {
+        let (offset, answer, len) = piece;
+        self.put_size(offset);
+        self.put_size(len);
+        self.put_answer(answer.map(|c| c.to_char()).map_err(numbers::of_utf8));
     }
 
     /// Adds both ends of a hint.
