@@ -50,8 +50,7 @@ read_more text seen w v s before step =
     let further : v.front ≡ w.front + length (utf8 s) = ap (λ (x : Window). x.front) step.left in
     let same : v.whole ≡ w.whole = ap (λ (x : Window). x.whole) step.left in
     let within = step.between.front.0 in
-    let few = before.few in
-    (
+    let few = before.few in (
       rw (← before.whole, ← same) (omega arith),
       record {
         whole = same ∙ before.whole;
