@@ -10,6 +10,7 @@ pub mod alike;
 pub mod cursor;
 pub mod damage;
 pub mod lengths;
+pub mod merged;
 pub mod opened;
 pub mod recoders;
 pub mod records;
