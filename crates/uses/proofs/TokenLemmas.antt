@@ -1,5 +1,5 @@
 -- Tokens, piece by piece.
-use Rattle.std.proofs.Common.{◌≡◌, ℕ, ◌+◌, ◌-◌, ◌<◌, ◌≤◌, List, [], ◌∷◌, ◌++◌, length, get_or, take, drop, refl, ap, sym, ◌∙◌, arith, Option, Some, None, Result, Ok, Err, append_assoc, append-nil, ⊎_elim, length-append}
+use Rattle.std.proofs.Common.{◌≡◌, ℕ, ◌+◌, ◌-◌, ◌<◌, ◌≤◌, List, [], ◌∷◌, ◌++◌, length, get_or, drop, refl, ap, sym, ◌∙◌, arith, Some, Ok, Err, append_assoc, append-nil, ⊎_elim, length-append}
 use Rattle.std.proofs.lemmas.Grind.{common_steps}
 use Rattle.std.proofs.lemmas.Bool.{cases_lt}
 use Rattle.std.proofs.lemmas.List.{flat_map_more, map-append, take-append-drop, drop-drop, drop_more}
@@ -122,9 +122,9 @@ tokens_other alone apart xs d start ts w v x s ascii before step is other =
     let end = next.within in
     let front = next.front in
     go_on xs d start ts w v x.2 before next (λ q lo hi e.
-        let found : Stands utf8 xs q d = rw e at ((alone xs q (omega arith) (rw e ascii)).0) in
-        let both = apart xs w.front q s d first found in
-        ⊎_elim (λ lt. let over = both.1 lt in let len = begins.1 in absurd (omega arith)) (λ ge. absurd (other (both.0 (omega arith)))) (cases_lt w.front q))
+    let found : Stands utf8 xs q d = rw e at ((alone xs q (omega arith) (rw e ascii)).0) in
+    let both = apart xs w.front q s d first found in
+    ⊎_elim (λ lt. let over = both.1 lt in let len = begins.1 in absurd (omega arith)) (λ ge. absurd (other (both.0 (omega arith)))) (cases_lt w.front q))
 
 -- nor is a faulty byte one
 pub tokens_fault : AsciiStandsAlone → (xs : List ℕ) (d start : ℕ) (ts : List (List ℕ)) (w v : Window) (x : Item) (k : Utf8ErrorKind) → d < 128
@@ -137,10 +137,10 @@ tokens_fault alone xs d start ts w v x k ascii before step is =
     let end = next.within in
     let front = next.front in
     go_on xs d start ts w v x.2 before next (λ q lo hi e.
-        let same : q ≡ w.front = omega arith in
-        let at : get_or (elements w) 0 0 ≡ d = rw next.same (at_range xs w.front (length xs) 0 0 (omega arith) (omega arith) ∙ ap (λ i. get_or xs i 0) (omega arith) ∙ e) in
-        let found : Stands utf8 (elements w) 0 d = rw at at ((alone (elements w) 0 (omega arith) (rw at ascii)).0) in
-        no_code_where_fault (elements w) k d fault.0 found)
+    let same : q ≡ w.front = omega arith in
+    let at : get_or (elements w) 0 0 ≡ d = rw next.same (at_range xs w.front (length xs) 0 0 (omega arith) (omega arith) ∙ ap (λ i. get_or xs i 0) (omega arith) ∙ e) in
+    let found : Stands utf8 (elements w) 0 d = rw at at ((alone (elements w) 0 (omega arith) (rw at ascii)).0) in
+    no_code_where_fault (elements w) k d fault.0 found)
 
 pub shown_push : (tokens before : List (Bor (List ℕ))) (token : Bor (List ℕ)) → tokens ≡ before ++ token ∷ [] → map (λ x. x.now) tokens ≡ map (λ x. x.now) before ++ token.now ∷ []
 shown_push tokens before token is = ap (map (λ x. x.now)) is ∙ map-append (λ (x : Bor (List ℕ)). x.now) before (token ∷ [])
@@ -157,9 +157,9 @@ tokens_push xs d start ts w v x s t ascii before step is delimiter token =
     let within = first.within in
     let len = begins.1 in
     let at : get_or xs w.front 0 ≡ d =
-        ap (λ i. get_or xs i 0) (omega arith) ∙ sym (at_range xs w.front (w.front + length (utf8 d)) 0 0 (omega arith) within) ∙ ap (λ l. get_or l 0 0) (first.equal ∙ code) in
+    ap (λ i. get_or xs i 0) (omega arith) ∙ sym (at_range xs w.front (w.front + length (utf8 d)) 0 0 (omega arith) within) ∙ ap (λ l. get_or l 0 0) (first.equal ∙ code) in
     let rest : drop start xs ≡ t ++ d ∷ drop (w.front + 1) xs =
-        behind_range xs start w.front before.ordered ∙ (λ i. sym token i ++ (drop_more xs w.front 0 (omega arith) ∙ ap (λ b. b ∷ drop (w.front + 1) xs) at) i) in
+    behind_range xs start w.front before.ordered ∙ (λ i. sym token i ++ (drop_more xs w.front 0 (omega arith) ∙ ap (λ b. b ∷ drop (w.front + 1) xs) at) i) in
     let front = next.front in
     record {
       whole = next.whole;
