@@ -1,3 +1,4 @@
 pub mod CursorLemmas
 pub mod RecodeLemmas
 pub mod TableLemmas
+pub mod EditorLemmas

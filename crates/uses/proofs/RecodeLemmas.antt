@@ -1,16 +1,15 @@
 -- A text that goes through its units, character by character.
-use Rattle.std.proofs.Common.{◌≡◌, ℕ, suc, ◌+◌, ◌<◌, List, [], ◌∷◌, ◌++◌, length, drop, refl, ap, sym, ◌∙◌, arith, true, Some, None, Result, Ok, Err, length-append, append_assoc, append-nil}
+use Rattle.std.proofs.Common.{◌≡◌, ℕ, suc, ◌+◌, List, [], ◌∷◌, ◌++◌, length, drop, refl, ap, sym, ◌∙◌, arith, true, Some, Result, Ok, Err, length-append, append_assoc, append-nil}
 use Rattle.std.proofs.lemmas.Grind.{common_steps}
 use Rattle.std.proofs.lemmas.List.{drop_at}
 use Rattle.std.proofs.lemmas.List.Elements.{All-cons, All-nil}
 use Rattle.std.proofs.lemmas.Str.{encodes-chars, scalars-chars}
-use Rattle.std.specs.Char.{encode_utf8, IsScalar as IsStdScalar}
+use Rattle.std.specs.Char.{IsScalar as IsStdScalar}
 use Rattle.std.specs.List.{flat_map}
 use Rattle.std.specs.Prelude.{All, encode_utf8_all, slice_range}
 use Rattle.std.specs.Str.{IsUtf8, chars, all_scalars}
 use Rattle.encode_unicode.specs.Code.{utf8, utf16}
 use Rattle.encode_unicode.specs.Mergers.{Merging, TakesFront, unasked, unread}
-use Rattle.encode_unicode.specs.Piece.{Stands}
 use Rattle.encode_unicode.specs.Scalar.{IsScalar}
 use Rattle.encode_unicode.specs.Sources.{IsListed, Splitting, SplitterNext, unbegun, unsent}
 use Rattle.encode_unicode.specs.TextWindow.{NextScalar}

@@ -1,5 +1,5 @@
 -- A table after one character more, and the characters of a text one by one.
-use Rattle.std.proofs.Common.{◌≡◌, ℕ, ◌+◌, ◌<◌, ◌≤◌, List, [], ◌∷◌, ◌++◌, length, Bool, true, false, eqb, cond, Option, Some, None, unwrap_or, refl, ap, sym, ◌∙◌, arith, append_assoc, append-nil, length-append}
+use Rattle.std.proofs.Common.{◌≡◌, ℕ, ◌+◌, ◌<◌, ◌≤◌, List, [], ◌∷◌, ◌++◌, length, Bool, true, false, cond, Option, Some, None, unwrap_or, refl, ap, sym, ◌∙◌, arith, append_assoc, append-nil, length-append}
 use Rattle.std.proofs.lemmas.Grind.{common_steps}
 use Rattle.std.proofs.lemmas.List.Sums.{sum_by_push, count_by-le-length}
 use Rattle.std.specs.Map.{count_at}
@@ -50,8 +50,7 @@ read_more text seen w v s before step =
     let further : v.front ≡ w.front + length (utf8 s) = ap (λ (x : Window). x.front) step.left in
     let same : v.whole ≡ w.whole = ap (λ (x : Window). x.whole) step.left in
     let within = step.between.front.0 in
-    let few = before.few in
-    (
+    let few = before.few in (
       rw (← before.whole, ← same) (omega arith),
       record {
         whole = same ∙ before.whole;
