@@ -237,21 +237,21 @@ Contains-drop items x r w le =
 Contains-map : (f : Item → Item) (items : List Item) (x : Item) → Contains items x → Contains (map f items) (f x)
 Contains-map f items x w = let len = length-map items f in (w.0, omega arith, get_or-map f items w.0 x (f x) w.1 ∙ ap f w.2)
 
-kept_item : (items : List Item) (m k : ℕ) → IsSplitAt items m k → (x : Item) → Contains items x → x.0 < m → Contains (take k items) x
-kept_item items m k split x w lt =
+in_front : (items : List Item) (m k : ℕ) → IsSplitAt items m k → (x : Item) → Contains items x → x.0 < m → Contains (take k items) x
+in_front items m k split x w lt =
     let place : (get_or items w.0 x).0 ≡ x.0 = ap (λ y. y.0) w.2 in
     let first : w.0 < k = ⊎_elim (λ (lt : w.0 < k). lt) (λ (ge : k ≤ w.0). let b = split.behind w.0 x ge w.1 in absurd (omega arith)) (cases_lt w.0 k) in
     Contains-take items x k w first
 
-left_item : (items : List Item) (m r : ℕ) → IsSplitAt items m r → (x : Item) → Contains items x → m ≤ x.0 → Contains (drop r items) x
-left_item items m r split x w ge =
+in_rest : (items : List Item) (m r : ℕ) → IsSplitAt items m r → (x : Item) → Contains items x → m ≤ x.0 → Contains (drop r items) x
+in_rest items m r split x w ge =
     let place : (get_or items w.0 x).0 ≡ x.0 = ap (λ y. y.0) w.2 in
     let last : r ≤ w.0 = ⊎_elim (λ (lt : w.0 < r). let b = split.before w.0 x (omega arith) lt in absurd (omega arith)) (λ (ge : r ≤ w.0). ge) (cases_lt w.0 r) in
     Contains-drop items x r w last
 
 -- an item of a part is one of the whole, on its side of the place
-first_item : (items : List Item) (m k : ℕ) → IsSplitAt items m k → (x : Item) → Contains (take k items) x → Contains items x × (x.0 < m)
-first_item items m k split x w =
+of_front : (items : List Item) (m k : ℕ) → IsSplitAt items m k → (x : Item) → Contains (take k items) x → Contains items x × (x.0 < m)
+of_front items m k split x w =
     let len = length-take k items in
     let lt : w.0 < k = omega arith in
     let is : get_or items w.0 x ≡ x = sym (get_or-take k items w.0 x lt) ∙ w.2 in
@@ -259,8 +259,8 @@ first_item items m k split x w =
     let b = split.before w.0 x (omega arith) lt in
     ((w.0, omega arith, is), omega arith)
 
-last_item_of : (items : List Item) (m r : ℕ) → IsSplitAt items m r → (x : Item) → Contains (drop r items) x → Contains items x × (m ≤ x.0)
-last_item_of items m r split x w =
+of_rest : (items : List Item) (m r : ℕ) → IsSplitAt items m r → (x : Item) → Contains (drop r items) x → Contains items x × (m ≤ x.0)
+of_rest items m r split x w =
     let len = length-drop r items in
     let is : get_or items (r + w.0) x ≡ x = sym (get_or-drop r items w.0 x) ∙ w.2 in
     let place = ap (λ y. y.0) is in
@@ -291,10 +291,10 @@ StayAround-renewed ys s e t k r items fresh le kept resumed mid x =
     let rest = map (moved_item e t) (drop r items) in
     let z = moved_item e t x in (
       λ near. (
-        λ w. Contains-append_left (take k items) (fresh ++ rest) x (kept_item items (s - 3) k kept x w (omega arith)),
+        λ w. Contains-append_left (take k items) (fresh ++ rest) x (in_front items (s - 3) k kept x w (omega arith)),
         λ w.
             ⊎_elim
-            (λ (first : Contains (take k items) x). (first_item items (s - 3) k kept x first).0)
+            (λ (first : Contains (take k items) x). (of_front items (s - 3) k kept x first).0)
             (λ (later : Contains (fresh ++ rest) x).
             ⊎_elim
             (λ (inner : Contains fresh x). let b = fresh_item ys (s - 3) (t + 3) fresh mid x inner in absurd (omega arith))
@@ -303,16 +303,16 @@ StayAround-renewed ys s e t k r items fresh le kept resumed mid x =
             (Contains-append_cases (take k items) (fresh ++ rest) x w),
       ),
       λ far. (
-        λ w. Contains-append_right (take k items) (fresh ++ rest) z (Contains-append_right fresh rest z (Contains-map (moved_item e t) (drop r items) x (left_item items (e + 3) r resumed x w far))),
+        λ w. Contains-append_right (take k items) (fresh ++ rest) z (Contains-append_right fresh rest z (Contains-map (moved_item e t) (drop r items) x (in_rest items (e + 3) r resumed x w far))),
         λ w.
             ⊎_elim
-            (λ (first : Contains (take k items) z). let b = (first_item items (s - 3) k kept z first).1 in absurd (omega arith))
+            (λ (first : Contains (take k items) z). let b = (of_front items (s - 3) k kept z first).1 in absurd (omega arith))
             (λ (later : Contains (fresh ++ rest) z).
             ⊎_elim
             (λ (inner : Contains fresh z). let b = fresh_item ys (s - 3) (t + 3) fresh mid z inner in absurd (omega arith))
             (λ (last : Contains rest z).
             let y = unmoved_item e t (drop r items) z last in
-            let of_y = last_item_of items (e + 3) r resumed y.0 y.1 in
+            let of_y = of_rest items (e + 3) r resumed y.0 y.1 in
             rw (same_unmoved e t x y.0 (omega arith) (omega arith) y.2) at of_y.0)
             (Contains-append_cases fresh rest z later))
             (Contains-append_cases (take k items) (fresh ++ rest) z w),

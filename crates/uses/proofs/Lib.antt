@@ -3,3 +3,4 @@ pub mod RecodeLemmas
 pub mod RecordLemmas
 pub mod TableLemmas
 pub mod TokenLemmas
+pub mod EditorLemmas

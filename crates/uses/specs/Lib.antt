@@ -4,3 +4,4 @@ pub mod Initials
 pub mod Records
 pub mod Tables
 pub mod Tokens
+pub mod Editor

@@ -9,6 +9,7 @@ use encode_unicode::Utf8Char;
 pub mod alike;
 pub mod cursor;
 pub mod damage;
+pub mod editor;
 pub mod lengths;
 pub mod merged;
 pub mod opened;

@@ -1,0 +1,56 @@
+//! An editor's buffer: a table of pieces, an edit in it, and the pieces that have to be drawn anew.
+ghost use Rattle.std.specs.List.{splice};
+ghost use Rattle.std.specs.Prelude.{◌≡◌, ◌+◌, ◌≤◌, ◌<◌, ◌↔◌, length, Contains, IfOk, OnOk, OnErr, filter};
+ghost use Rattle.cuts.specs.Tables.{moved_item};
+ghost use Rattle.encode_unicode.specs.Window.{Item as AnItem};
+ghost use Rattle.uses.specs.Editor.{begins_between};
+
+use cuts::items::Item;
+use cuts::piece_table::PieceTable;
+use encode_unicode::Steps;
+use std::alloc::{AllocError, Allocator};
+
+/// Where the pieces begin that an edit may have changed.
+#[derive(Clone, Copy, Debug, PartialEq, Eq, Drop)]
+pub struct Changed {
+    pub from: usize,
+    pub until: usize,
+}
+
+/// Replaces a part of the bytes, and says which pieces may have changed. Those before are the ones that stood
+/// there; those behind are old ones too, at other places.
+pub fn edit<A: Allocator + Copy>(
+    table: &mut PieceTable<A>,
+    start: usize,
+    end: usize,
+    new: &[u8],
+) -> Result<Changed, AllocError>
+    requires ordered { start ≤ end }
+    requires within { end ≤ length table.old.bytes }
+    ensures bytes { OnOk result (table.new.bytes ≡ splice table.old.bytes start end new.now) }
+    ensures before { IfOk result (λ changed. (x : AnItem) → x.0 < changed.from → Contains table.new.pieces x ↔ Contains table.old.pieces x) }
+    ensures behind { IfOk result (λ changed. (x : AnItem) → changed.until ≤ x.0 → Contains table.new.pieces x ↔ Contains table.old.pieces (moved_item (start + length new.now) end x)) }
+    ensures err { OnErr result (table.new ≡ table.old) }
+{
+    let after = start.checked_add(new.len()).ok_or(AllocError)?;
+    let until = after.checked_add(3).ok_or(AllocError)?;
+    table.replace(start, end, new, &mut Steps::new())?;
+    let from = start.saturating_sub(3);
+    Ok(Changed { from, until })
+}
+
+/// The pieces that have to be drawn anew.
+pub fn pieces_to_draw<A: Allocator + Copy>(
+    alloc: A,
+    table: &PieceTable<A>,
+    changed: Changed,
+) -> Result<Vec<Item, A>, AllocError>
+    ensures { IfOk result (λ drawn. drawn.items ≡ filter (begins_between changed.from changed.until) table.now.pieces) }
+{
+    table
+        .pieces()
+        .iter()
+        .copied()
+        .filter(|item| changed.from <= item.0 && item.0 < changed.until)
+        .collect(alloc)
+}
