@@ -191,7 +191,7 @@ end_behind can_next remaining steps first before k u t new f reads kind held sam
           rw (ends mark) (ap (λ xs. merger_kind (first ∷ xs)) (append-nil (before ++ []) ∙ append-nil before) ∙ kind),
           ap (λ xs. first ∷ xs ++ later) (append-nil before ∙ sym same),
         );
-        few = omega (arith, append-nil before, length-append before []);
+        few = omega (arith, length-append before []);
         clear = tt;
       };
       held = rw same held;

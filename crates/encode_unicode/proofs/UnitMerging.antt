@@ -10,18 +10,11 @@ use Rattle.utf_base.specs.Decoded.{decoded_two, unless_fault}
 use Rattle.utf_base.specs.Scalar.{IsScalar}
 use Rattle.utf_base.specs.Units.{is_leading_surrogate, is_trailing_surrogate, is_surrogate, is_padded_units, array_fault, pair_value, unit_fault_kind, unit_value}
 use Rattle.utf_base.proofs.Utf16Code.{code_of_pair, scalar_pair, unit_value-pair, unit_value-unit, utf16-1}
-use Rattle.encode_unicode.specs.Mergers.{IsHeldUnits}
 use Rattle.encode_unicode.specs.Reading.{Answers, CompletesUnits, Reads}
 use Rattle.encode_unicode.proofs.MergerSteps.{reads_none}
 
 no_trail : (u : ℕ) → is_leading_surrogate u ≡ true → is_trailing_surrogate u ≡ false
 no_trail u h = grind (arith, common_steps)
-
-pub no_unit : IsHeldUnits []
-no_unit = record { few = omega arith }
-
-pub one_unit : (u : ℕ) → IsHeldUnits (u ∷ [])
-one_unit u = record { few = omega arith }
 
 -- The kinds, case by case.
 
