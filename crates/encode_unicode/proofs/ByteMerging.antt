@@ -1,18 +1,22 @@
 -- What a merger of bytes answers for the byte that has left it.
-use Rattle.std.proofs.Common.{◌≡◌, ℕ, suc, ◌<◌, ◌≤◌, ◌&&◌, leb, ltb, List, [], ◌∷◌, ◌++◌, length, get_or, Some, None, Ok, Err, Bool, true, false, refl, ap, sym, ◌∙◌, arith, ⊎_elim, append-nil, lit<}
+use Rattle.std.proofs.Common.{◌≡◌, ℕ, suc, ◌<◌, ◌≤◌, ◌&&◌, leb, ltb, List, [], ◌∷◌, ◌++◌, length, get_or, Some, None, Ok, Err, Bool, true, false, refl, ap, sym, ◌∙◌, arith, ⊎_elim, append-nil, length-append, lit<}
 use Rattle.std.proofs.lemmas.Bool.{cases_lt}
 use Rattle.std.proofs.lemmas.Grind.{common_steps}
 use Rattle.std.specs.Iterator.{Count, YieldsFirst}
-use Rattle.std.specs.Prelude.{Option, Result, IsErrAnd}
+use Rattle.std.specs.Prelude.{Option, Result}
 use Rattle.utf_base.specs.declared.errors.Utf8ErrorKind.{Utf8ErrorKind}
 use Rattle.utf_base.specs.Code.{utf8}
-use Rattle.utf_base.specs.Kinds.{asked, is_continuation, merger_kind}
+use Rattle.utf_base.specs.Kinds.{asked, asked_by, fault_kind, is_continuation, merger_kind, value}
+use Rattle.utf_base.specs.Decoded.{decoded_bytes, unless_fault}
+use Rattle.utf_base.specs.declared.errors.Utf8ErrorKind.TheVariants.{TooFewBytes}
 use Rattle.utf_base.specs.Scalar.{IsScalar}
-use Rattle.utf_base.proofs.MergerLemmas.{kind_of_front, few-1, few-2, few-3, broken-1, broken-2, broken-3}
-use Rattle.utf_base.proofs.Utf8Code.{utf8-first}
-use Rattle.encode_unicode.specs.declared.utf8_merger.Fault.{Fault}
+use Rattle.utf_chars.specs.Padded.{padded}
+use Rattle.utf_chars.proofs.PaddedLemmas.{IsPadded-padded, value-padded}
+use Rattle.utf_base.proofs.MergerLemmas.{kind_of_front, few-1}
+use Rattle.utf_base.proofs.FrontLemmas.{asked-1}
+use Rattle.utf_base.proofs.Utf8Code.{utf8-1, utf8-first}
 use Rattle.encode_unicode.specs.Mergers.{IsHeldBytes}
-use Rattle.encode_unicode.specs.Reading.{Answers, Breaks, Completes, JudgesBytes, JudgesHeld, Reads, Stops}
+use Rattle.encode_unicode.specs.Reading.{Answers, Completes, CompletesBehind, JudgesBytes, Reads}
 use Rattle.encode_unicode.proofs.MergerSteps.{reads_none, reads_more}
 
 pub asks_one : (b : ℕ) → (leb 0xC2 b && ltb b 0xF5) ≡ false → asked b ≤ 1
@@ -26,6 +30,10 @@ asks_two b low high = grind (arith, common_steps)
 pub asks_three : (b : ℕ) → 0xE0 ≤ b → b < 0xF5 → 3 ≤ asked b
 unfolding asked
 asks_three b low high = grind (arith, common_steps)
+
+pub asks_four : (b : ℕ) → 0xF0 ≤ b → b < 0xF5 → 4 ≤ asked b
+unfolding asked
+asks_four b low high = grind (arith, common_steps)
 
 -- What is held.
 
@@ -66,11 +74,6 @@ held_alone old (y ∷ ys) x h held other =
     let same : true ≡ false = sym yes ∙ ap is_continuation first ∙ other in
     cc
 
--- what the exit of a `?` answers
-pub returned : {T E : Type 0} (r : Result T E) (y : E) → IsErrAnd r (λ x. x ≡ y) → r ≡ Err y
-returned (Ok x) y h = absurd h
-returned (Err x) y h = ap (λ z. Err z) h
-
 -- A byte that stands alone.
 
 no_continuation : (b s : ℕ) → IsScalar s → b ∷ [] ≡ utf8 s → is_continuation b ≡ false
@@ -104,93 +107,141 @@ byte_alone can_next remaining steps first old s e (Err k) can few alone j = reco
   clear = tt;
 }
 
--- A byte that asks for others, all of which are there.
-pub byte_completes : {S : Type 0} (can_next : S → Type 0) (remaining : S → Count) (steps : S → Option ℕ → S → Type 0) (first : ℕ) (more : List ℕ) (s t : S) (e f : Bool) (r : Result ℕ Fault)
-    → Reads can_next remaining steps s e more t f → asked first ≡ length (first ∷ more) → IsHeldBytes more → JudgesHeld (first ∷ more) more r
-    → Completes can_next remaining steps first s e r t f
-byte_completes can_next remaining steps first more s t e f (Ok c) reads exact held j = record {
-  more = more;
-  reads = reads;
-  settles = λ later ends. (j.0, ap (λ xs. xs ++ later) j.1);
-  few = omega arith;
-  clear = refl;
+-- An answer, as it completes the first byte.
+
+completes_ok : {S : Type 0} (can_next : S → Type 0) (remaining : S → Count) (steps : S → Option ℕ → S → Type 0) (first : ℕ) (old followers : List ℕ) (c : ℕ) (s t : S) (e f : Bool) (new : List ℕ)
+    → IsScalar c → first ∷ followers ≡ padded 4 (utf8 c) → Answers utf8 merger_kind can_next remaining steps first old s e (Ok c) new t f
+    → Completes can_next remaining steps first old s e (Ok followers) new t f
+completes_ok can_next remaining steps first old followers c s t e f new scalar bytes a = record {
+  answers = (IsPadded-padded (first ∷ followers) c scalar bytes, rw (value-padded (first ∷ followers) c scalar bytes) a);
+  held = rw a.clear held_none;
 }
-byte_completes can_next remaining steps first more s t e f (Err fault) reads exact held j =
-    let same : fault.held ≡ more = j.1 in
-    let len : length fault.held ≡ length more = ap length same in (
-      record {
-        more = more;
-        reads = reads;
-        settles = λ later ends. (kind_of_front (first ∷ more) later (omega arith) (omega arith) ∙ j.0, ap (λ xs. first ∷ xs ++ later) (sym same));
+
+pub alone_completes : {S : Type 0} (can_next : S → Type 0) (remaining : S → Count) (steps : S → Option ℕ → S → Type 0) (first c : ℕ) (old : List ℕ) (s : S) (e : Bool)
+    → (e ≡ false → can_next s) → asked first ≤ 1 → (is_continuation first ≡ false → old ≡ []) → JudgesBytes (first ∷ []) (Ok c)
+    → Completes can_next remaining steps first old s e (Ok (0 ∷ 0 ∷ 0 ∷ [])) old s e
+unfolding padded
+alone_completes can_next remaining steps first c old s e can few alone j =
+    let bytes : first ∷ 0 ∷ 0 ∷ 0 ∷ [] ≡ padded 4 (utf8 c) = rw (← j.1) refl in
+    completes_ok can_next remaining steps first old (0 ∷ 0 ∷ 0 ∷ []) c s s e e old j.0 bytes (byte_alone can_next remaining steps first old s e (Ok c) can few alone j)
+
+pub alone_fails : {S : Type 0} (can_next : S → Type 0) (remaining : S → Count) (steps : S → Option ℕ → S → Type 0) (first : ℕ) (k : Utf8ErrorKind) (old : List ℕ) (s : S) (e : Bool)
+    → (e ≡ false → can_next s) → asked first ≤ 1 → (is_continuation first ≡ false → old ≡ []) → IsHeldBytes old → JudgesBytes (first ∷ []) (Err k)
+    → Completes can_next remaining steps first old s e (Err k) old s e
+alone_fails can_next remaining steps first k old s e can few alone held j = record { answers = byte_alone can_next remaining steps first old s e (Err k) can few alone j; held = held }
+
+pub ascii_completes : {S : Type 0} (can_next : S → Type 0) (remaining : S → Count) (steps : S → Option ℕ → S → Type 0) (first : ℕ) (old : List ℕ) (s : S) (e : Bool)
+    → (e ≡ false → can_next s) → first < 0x80 → (is_continuation first ≡ false → old ≡ [])
+    → Completes can_next remaining steps first old s e (Ok (0 ∷ 0 ∷ 0 ∷ [])) old s e
+ascii_completes can_next remaining steps first old s e can low alone =
+    let asks = asked-1 first low in
+    alone_completes can_next remaining steps first first old s e can (omega arith) alone (record { below = omega arith; no_surrogate = λ ge. absurd (omega arith) }, sym (utf8-1 first low))
+
+pub begins_alone : (b : ℕ) → (leb 0xC2 b && ltb b 0xF5) ≡ true → is_continuation b ≡ false
+begins_alone b h = grind (arith, common_steps)
+
+pub begins_two : (b : ℕ) → (leb 0xC2 b && ltb b 0xF5) ≡ true → 2 ≤ asked b
+unfolding asked
+begins_two b h = grind (arith, common_steps)
+
+-- Behind what was read before.
+
+-- a code, whose last byte is b
+pub code_behind : {S : Type 0} (can_next : S → Type 0) (remaining : S → Count) (steps : S → Option ℕ → S → Type 0) (first : ℕ) (before : List ℕ) (b c : ℕ) (followers : List ℕ) (u t : S) (new : List ℕ) (f : Bool)
+    → Reads can_next remaining steps u false (b ∷ []) t false → IsScalar c → first ∷ before ++ b ∷ [] ≡ utf8 c → first ∷ followers ≡ padded 4 (utf8 c) → new ≡ [] → f ≡ false
+    → CompletesBehind can_next remaining steps first before u (Ok followers) new t f
+code_behind can_next remaining steps first before b c followers u t new f reads scalar code bytes none going s so_far =
+    completes_ok can_next remaining steps first [] followers c s t false f new scalar bytes
+    (record {
+      more = before ++ b ∷ [];
+      reads = rw going (reads_more can_next remaining steps s u t false false false before (b ∷ []) so_far reads);
+      settles = λ later ends. (scalar, rw none (ap (λ xs. xs ++ later) code));
+      few = rw none (omega arith);
+      clear = none;
+    })
+
+-- no code, as the byte b shows, which is held behind the others
+pub fault_behind : {S : Type 0} (can_next : S → Type 0) (remaining : S → Count) (steps : S → Option ℕ → S → Type 0) (first : ℕ) (before : List ℕ) (b : ℕ) (k : Utf8ErrorKind) (u t : S) (new : List ℕ) (f : Bool)
+    → Reads can_next remaining steps u false (b ∷ []) t false → ((later : List ℕ) → merger_kind (first ∷ (before ++ b ∷ []) ++ later) ≡ Some k) → IsHeldBytes (before ++ b ∷ []) → new ≡ before ++ b ∷ [] → f ≡ false
+    → CompletesBehind can_next remaining steps first before u (Err k) new t f
+fault_behind can_next remaining steps first before b k u t new f reads kind held same going s so_far =
+    let len : length new ≡ length (before ++ b ∷ []) = ap length same in
+    record {
+      answers = record {
+        more = before ++ b ∷ [];
+        reads = rw going (reads_more can_next remaining steps s u t false false false before (b ∷ []) so_far reads);
+        settles = λ later ends. (kind later, ap (λ xs. first ∷ xs ++ later) (sym same));
         few = omega arith;
         clear = tt;
-      },
-      rw same held,
-    )
+      };
+      held = rw same held;
+    }
 
--- One that is missing, or that is no continuation byte.
-
-kind_behind_none : (a : ℕ) (more : List ℕ) (f : Bool) (k : Utf8ErrorKind) → 1 < asked a → Breaks more f k
-    → (later : List ℕ) → (f ≡ true → later ≡ []) → merger_kind (a ∷ more ++ later) ≡ Some k
-kind_behind_none a [] f k asks b later ends = rw (ends b.0) (few-1 a asks) ∙ ap Some (sym b.1)
-kind_behind_none a (x ∷ xs) f k asks b later ends = broken-1 a x (xs ++ later) asks b.1 ∙ ap Some (sym b.2)
-
-kind_behind_one : (a b : ℕ) (more : List ℕ) (f : Bool) (k : Utf8ErrorKind) → 2 < asked a → is_continuation b ≡ true → Breaks more f k
-    → (later : List ℕ) → (f ≡ true → later ≡ []) → merger_kind (a ∷ b ∷ more ++ later) ≡ Some k
-kind_behind_one a b [] f k asks first h later ends = rw (ends h.0) (few-2 a b asks first) ∙ ap Some (sym h.1)
-kind_behind_one a b (x ∷ xs) f k asks first h later ends = broken-2 a b x (xs ++ later) asks first h.1 ∙ ap Some (sym h.2)
-
-kind_behind_two : (a b c : ℕ) (more : List ℕ) (f : Bool) (k : Utf8ErrorKind) → 3 < asked a → is_continuation b ≡ true → is_continuation c ≡ true → Breaks more f k
-    → (later : List ℕ) → (f ≡ true → later ≡ []) → merger_kind (a ∷ b ∷ c ∷ more ++ later) ≡ Some k
-kind_behind_two a b c [] f k asks first second h later ends = rw (ends h.0) (few-3 a b c asks first second) ∙ ap Some (sym h.1)
-kind_behind_two a b c (x ∷ xs) f k asks first second h later ends = broken-3 a b c x (xs ++ later) asks first second h.1 ∙ ap Some (sym h.2)
-
-held_behind_none : (more : List ℕ) (f : Bool) (k : Utf8ErrorKind) → Breaks more f k → IsHeldBytes more
-held_behind_none [] f k b = held_none
-held_behind_none (x ∷ xs) f k b = rw b.0 (held_one x)
-
-held_behind_one : (b : ℕ) (more : List ℕ) (f : Bool) (k : Utf8ErrorKind) → is_continuation b ≡ true → Breaks more f k → IsHeldBytes (b ∷ more)
-held_behind_one b [] f k first h = held_one b
-held_behind_one b (x ∷ xs) f k first h = rw h.0 (held_two b x first)
-
-held_behind_two : (b c : ℕ) (more : List ℕ) (f : Bool) (k : Utf8ErrorKind) → is_continuation b ≡ true → is_continuation c ≡ true → Breaks more f k → IsHeldBytes (b ∷ c ∷ more)
-held_behind_two b c [] f k first second h = held_two b c first
-held_behind_two b c (x ∷ xs) f k first second h = rw h.0 (held_three b c x first second)
-
-stops : {S : Type 0} (can_next : S → Type 0) (remaining : S → Count) (steps : S → Option ℕ → S → Type 0) (first : ℕ) (before more : List ℕ) (s u t : S) (e d f : Bool) (fault : Fault)
-    → Reads can_next remaining steps s e before u d → Reads can_next remaining steps u d more t f → fault.held ≡ before ++ more
-    → ((later : List ℕ) → (f ≡ true → later ≡ []) → merger_kind (first ∷ (before ++ more) ++ later) ≡ Some fault.kind) → IsHeldBytes (before ++ more)
-    → Completes can_next remaining steps first s e (Err fault) t f
-stops can_next remaining steps first before more s u t e d f fault reads then same kind held =
-    let len : length fault.held ≡ length (before ++ more) = ap length same in (
-      record {
-        more = before ++ more;
-        reads = reads_more can_next remaining steps s u t e d f before more reads then;
-        settles = λ later ends. (kind later ends, ap (λ xs. first ∷ xs ++ later) (sym same));
-        few = omega arith;
+-- no code, since the source has ended
+pub end_behind : {S : Type 0} (can_next : S → Type 0) (remaining : S → Count) (steps : S → Option ℕ → S → Type 0) (first : ℕ) (before : List ℕ) (k : Utf8ErrorKind) (u t : S) (new : List ℕ) (f : Bool)
+    → Reads can_next remaining steps u false [] t true → merger_kind (first ∷ before) ≡ Some k → IsHeldBytes before → new ≡ before → f ≡ true
+    → CompletesBehind can_next remaining steps first before u (Err k) new t f
+end_behind can_next remaining steps first before k u t new f reads kind held same mark s so_far =
+    let len : length new ≡ length before = ap length same in
+    record {
+      answers = record {
+        more = before ++ [];
+        reads = rw mark (reads_more can_next remaining steps s u t false false true before [] so_far reads);
+        settles = λ later ends. (
+          rw (ends mark) (ap (λ xs. merger_kind (first ∷ xs)) (append-nil (before ++ []) ∙ append-nil before) ∙ kind),
+          ap (λ xs. first ∷ xs ++ later) (append-nil before ∙ sym same),
+        );
+        few = omega (arith, append-nil before, length-append before []);
         clear = tt;
-      },
-      rw same held,
-    )
+      };
+      held = rw same held;
+    }
 
-pub stops_behind_none : {S : Type 0} (can_next : S → Type 0) (remaining : S → Count) (steps : S → Option ℕ → S → Type 0) (first : ℕ) (s t : S) (e f : Bool) (fault : Fault)
-    → (e ≡ false → can_next s) → 1 < asked first → Stops can_next remaining steps [] s e fault t f
-    → Completes can_next remaining steps first s e (Err fault) t f
-stops_behind_none can_next remaining steps first s t e f fault can asks p =
-    stops can_next remaining steps first [] p.more s s t e e f fault (reads_none can_next remaining steps s e can) p.reads p.held
-    (kind_behind_none first p.more f fault.kind asks p.breaks) (held_behind_none p.more f fault.kind p.breaks)
+-- of a first byte that is behind the end itself
+pub end_at_once : {S : Type 0} (can_next : S → Type 0) (remaining : S → Count) (steps : S → Option ℕ → S → Type 0) (first : ℕ) (old : List ℕ) (s : S) (e : Bool)
+    → e ≡ true → 1 < asked first → old ≡ []
+    → Completes can_next remaining steps first old s e (Err TooFewBytes) old s e
+end_at_once can_next remaining steps first old s e mark asks none = record {
+  answers = record {
+    more = [];
+    reads = reads_none can_next remaining steps s e (λ going. absurd (no mark going));
+    settles = λ later ends. (rw (none, ends mark) (few-1 first asks), rw none refl);
+    few = rw none (omega arith);
+    clear = tt;
+  };
+  held = rw none held_none;
+}
+  where
+    no : {b : Bool} → b ≡ true → b ≡ false → ⊥
+    no p q = cc
 
-pub stops_behind_one : {S : Type 0} (can_next : S → Type 0) (remaining : S → Count) (steps : S → Option ℕ → S → Type 0) (first second : ℕ) (s u t : S) (e d f : Bool) (fault : Fault)
-    → 2 < asked first → is_continuation second ≡ true → Reads can_next remaining steps s e (second ∷ []) u d → Stops can_next remaining steps (second ∷ []) u d fault t f
-    → Completes can_next remaining steps first s e (Err fault) t f
-stops_behind_one can_next remaining steps first second s u t e d f fault asks follows reads p =
-    stops can_next remaining steps first (second ∷ []) p.more s u t e d f fault reads p.reads p.held
-    (kind_behind_one first second p.more f fault.kind asks follows p.breaks) (held_behind_one second p.more f fault.kind follows p.breaks)
+-- the kind of bytes that are all there
+pub kind_of_all : (w : List ℕ) (k : Utf8ErrorKind) → 0 < length w → asked_by w ≡ length w → JudgesBytes w (Err k) → (later : List ℕ) → merger_kind (w ++ later) ≡ Some k
+kind_of_all w k some exact j later = kind_of_front w later some (omega arith) ∙ j
 
-pub stops_behind_two : {S : Type 0} (can_next : S → Type 0) (remaining : S → Count) (steps : S → Option ℕ → S → Type 0) (first second third : ℕ) (s u t : S) (e d f : Bool) (fault : Fault)
-    → 3 < asked first → is_continuation second ≡ true → is_continuation third ≡ true → Reads can_next remaining steps s e (second ∷ third ∷ []) u d
-    → Stops can_next remaining steps (second ∷ third ∷ []) u d fault t f
-    → Completes can_next remaining steps first s e (Err fault) t f
-stops_behind_two can_next remaining steps first second third s u t e d f fault asks follows follows' reads p =
-    stops can_next remaining steps first (second ∷ third ∷ []) p.more s u t e d f fault reads p.reads p.held
-    (kind_behind_two first second third p.more f fault.kind asks follows follows' p.breaks) (held_behind_two second third p.more f fault.kind follows follows' p.breaks)
+-- a code in four bytes
+pub two_padded : (a b c : ℕ) → a ∷ b ∷ [] ≡ utf8 c → a ∷ b ∷ 0 ∷ 0 ∷ [] ≡ padded 4 (utf8 c)
+unfolding padded
+two_padded a b c e = rw (← e) refl
+
+pub three_padded : (a b d c : ℕ) → a ∷ b ∷ d ∷ [] ≡ utf8 c → a ∷ b ∷ d ∷ 0 ∷ [] ≡ padded 4 (utf8 c)
+unfolding padded
+three_padded a b d c e = rw (← e) refl
+
+pub four_padded : (a b d g c : ℕ) → a ∷ b ∷ d ∷ g ∷ [] ≡ utf8 c → a ∷ b ∷ d ∷ g ∷ [] ≡ padded 4 (utf8 c)
+unfolding padded
+four_padded a b d g c e = rw (← e) refl
+
+-- The character of four bytes that are its own.
+
+value_of_answer : {A E : Type 0} (fault : Option E) (x c : A) → unless_fault fault x ≡ Ok c → x ≡ c
+value_of_answer None x c h = cc
+value_of_answer (Some e) x c h = cc
+
+pub known_bytes : {S : Type 0} (can_next : S → Type 0) (remaining : S → Count) (steps : S → Option ℕ → S → Type 0) (first : ℕ) (followers old : List ℕ) (c : ℕ) (s t : S) (e f : Bool) (new : List ℕ)
+    → Completes can_next remaining steps first old s e (Ok followers) new t f → decoded_bytes (first ∷ followers) ≡ Ok c
+    → Answers utf8 merger_kind can_next remaining steps first old s e (Ok c) new t f
+unfolding decoded_bytes
+known_bytes can_next remaining steps first followers old c s t e f new h known =
+    let is : value (first ∷ followers) ≡ c = value_of_answer (fault_kind (first ∷ followers)) _ c known in
+    rw (← is) h.answers.1

@@ -1,9 +1,9 @@
 -- What one call of a merger reads and answers. All of it is generic in the code.
 use Rattle.std.proofs.Common.{◌≡◌, ℕ, suc, subst, List, [], ◌∷◌, ◌++◌, Some, None, Bool, true, false, length, refl, ap, sym, ◌∙◌, arith, length-append, append_assoc, append-nil}
 use Rattle.std.specs.Iterator.{Count, MakesProgress}
-use Rattle.std.specs.Prelude.{Option, Result, IfNone, IfSome}
-use Rattle.encode_unicode.specs.Mergers.{Merging, MergerNext, TakesFront, still, unread_count}
-use Rattle.encode_unicode.specs.Reading.{Answers, FirstOf, Reads, TakesFirst, as_list}
+use Rattle.std.specs.Prelude.{Option, Result, MatchOption}
+use Rattle.encode_unicode.specs.Mergers.{Merging, MergerNext, RemainingNext, TakesFront, still, unread_count}
+use Rattle.encode_unicode.specs.Reading.{Answers, Reads, TakesFirst, as_list, ends}
 
 pub reads_none : {S A : Type 0} (can_next : S → Type 0) (remaining : S → Count) (steps : S → Option A → S → Type 0) (s : S) (e : Bool) → (e ≡ false → can_next s) → Reads can_next remaining steps s e [] s e
 reads_none can_next remaining steps s e can = record {
@@ -100,26 +100,65 @@ merger_rests can_next remaining steps old new s t e f reads = record {
 
 -- The first of the unread elements: one that is held, or one of the source.
 
-pub first_of_held : {S : Type 0} (Held : List ℕ → Type 0) (can_next : S → Type 0) (remaining : S → Count) (steps : S → Option ℕ → S → Type 0) (old : List ℕ) (s : S) (e : Bool) (x : ℕ) (new : List ℕ)
-    → (e ≡ false → can_next s) → old ≡ x ∷ new → Held new → FirstOf Held can_next remaining steps old s e x new s e
-first_of_held Held can_next remaining steps old s e x new can begins keeps = record {
+-- the marks, as they are known
+pub reads_as : {S A : Type 0} (can_next : S → Type 0) (remaining : S → Count) (steps : S → Option A → S → Type 0) (s t : S) (e f g : Bool) (xs : List A)
+    → e ≡ false → g ≡ f → Reads can_next remaining steps s false xs t f → Reads can_next remaining steps s e xs t g
+reads_as can_next remaining steps s t e f g xs going mark reads = rw (going, mark) reads
+
+pub takes_held : {S : Type 0} (Held : List ℕ → Type 0) (can_next : S → Type 0) (remaining : S → Count) (steps : S → Option ℕ → S → Type 0) (old : List ℕ) (s : S) (e : Bool) (r : Option ℕ) (new : List ℕ) (f : Bool)
+    → (e ≡ false → can_next s) → (old ≡ [] → e ≡ true) → f ≡ e → MatchOption r ((old ≡ []) × (new ≡ [])) (λ x. old ≡ x ∷ new) → Held new
+    → TakesFirst Held can_next remaining steps old s e r new s f
+takes_held Held can_next remaining steps old s e None new f can busy same h keeps = (rw same (reads_none can_next remaining steps s e can), h.0, h.1, same ∙ busy h.0)
+takes_held Held can_next remaining steps old s e (Some x) new f can busy same h keeps = record {
   more = [];
-  reads = reads_none can_next remaining steps s e can;
-  begins = append-nil old ∙ begins;
+  reads = rw same (reads_none can_next remaining steps s e can);
+  begins = append-nil old ∙ h;
   held = keeps;
 }
 
-pub first_of_source : {S : Type 0} (Held : List ℕ → Type 0) (can_next : S → Type 0) (remaining : S → Count) (steps : S → Option ℕ → S → Type 0) (old : List ℕ) (s : S) (e : Bool) (r : Option ℕ) (new : List ℕ) (t : S) (f : Bool)
-    → Reads can_next remaining steps s e (as_list r) t f → IfNone r (f ≡ true) → old ≡ [] → new ≡ [] → Held []
+pub takes_source : {S : Type 0} (Held : List ℕ → Type 0) (can_next : S → Type 0) (remaining : S → Count) (steps : S → Option ℕ → S → Type 0) (old : List ℕ) (s : S) (e : Bool) (r : Option ℕ) (new : List ℕ) (t : S) (f : Bool)
+    → old ≡ [] → e ≡ false → Reads can_next remaining steps s false (as_list r) t (ends r) → new ≡ [] → f ≡ ends r → Held []
     → TakesFirst Held can_next remaining steps old s e r new t f
-first_of_source Held can_next remaining steps old s e None new t f reads ends old_is new_is keeps = (reads, old_is, new_is, ends)
-first_of_source Held can_next remaining steps old s e (Some x) new t f reads ends old_is new_is keeps = record {
+takes_source Held can_next remaining steps old s e None new t f old_is going reads new_is mark keeps = (reads_as can_next remaining steps s t e true f [] going mark reads, old_is, new_is, mark)
+takes_source Held can_next remaining steps old s e (Some x) new t f old_is going reads new_is mark keeps = record {
   more = x ∷ [];
-  reads = reads;
+  reads = reads_as can_next remaining steps s t e false f (x ∷ []) going mark reads;
   begins = ap (λ zs. zs ++ x ∷ []) old_is ∙ ap (λ zs. x ∷ zs) (sym new_is);
   held = subst Held (sym new_is) keeps;
 }
 
-pub none_behind_source : (P : ℕ → Type 0) (r : Option ℕ) (new : List ℕ) → new ≡ [] → IfSome r (λ x. P x → new ≡ [])
-none_behind_source P None new e = tt
-none_behind_source P (Some x) new e = λ p. e
+-- One call of `next` of the remaining units.
+
+pub remaining_next : {S : Type 0} (Held : List ℕ → Type 0) (can_next : S → Type 0) (remaining : S → Count) (steps : S → Option ℕ → S → Type 0) (old : List ℕ) (s : S) (e : Bool) (r : Option ℕ) (new : List ℕ) (t : S) (f : Bool)
+    → TakesFirst Held can_next remaining steps old s e r new t f
+    → RemainingNext steps (record { held = old; source = s; ended = e }) r (record { held = new; source = t; ended = f })
+remaining_next Held can_next remaining steps old s e None new t f h = record {
+  takes = λ rest listed.
+      let none = nothing_still rest t f h.3 in
+      (ap (λ zs. zs ++ still rest s e) h.1 ∙ h.0.gives rest listed ∙ none, ap (λ zs. zs ++ still rest t f) h.2 ∙ none);
+  ends = h.3;
+  stays = h.0.stays;
+  spent = h.0.spent;
+}
+remaining_next Held can_next remaining steps old s e (Some x) new t f h = record {
+  takes = λ rest listed.
+      ap (λ zs. old ++ zs) (h.reads.gives rest listed) ∙ sym (append_assoc old h.more (still rest t f)) ∙ ap (λ zs. zs ++ still rest t f) h.begins;
+  ends = tt;
+  stays = h.reads.stays;
+  spent = h.reads.spent;
+}
+
+pub remaining_goes : {S : Type 0} (Held : List ℕ → Type 0) (can_next : S → Type 0) (remaining : S → Count) (steps : S → Option ℕ → S → Type 0) (old : List ℕ) (s : S) (e : Bool) (r : Option ℕ) (new : List ℕ) (t : S) (f : Bool)
+    → TakesFirst Held can_next remaining steps old s e r new t f
+    → MakesProgress (λ (m : Merging S). m.ended ≡ false → can_next m.source) (unread_count remaining) (record { held = old; source = s; ended = e }) r (record { held = new; source = t; ended = f })
+remaining_goes Held can_next remaining steps old s e None new t f h = merger_rests can_next remaining steps old new s t e f h.0
+remaining_goes Held can_next remaining steps old s e (Some x) new t f h = record {
+  on = λ finite.
+      let one = h.reads.fewer finite in
+      let one_size = one.1 in
+      let len : length (old ++ h.more) ≡ suc (length new) = ap length h.begins in
+      let both = length-append old h.more in
+      (h.reads.can, one.0, omega arith);
+  keeps = h.reads.can;
+  rests = λ finite. tt;
+}

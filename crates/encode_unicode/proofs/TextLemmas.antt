@@ -2,7 +2,7 @@
 use Rattle.std.proofs.Common.{◌≡◌, ℕ, ◌+◌, ◌-◌, ◌/◌, ◌%◌, ◌<◌, ◌≤◌, List, ◌++◌, length, get_or, take, drop, min, refl, ap, sym, ◌∙◌, arith, ⊎_elim, length-drop}
 use Rattle.std.proofs.lemmas.Grind.{common_steps}
 use Rattle.std.proofs.lemmas.List.{take-append-drop, take_all, take-take}
-use Rattle.std.proofs.lemmas.Str.{IsUtf8-drop, IsUtf8-between, IsCharBoundary-past_char, IsCharBoundary-start, IsCharBoundary-end, length-encode}
+use Rattle.std.proofs.lemmas.Str.{IsUtf8-between, IsCharBoundary-start, IsCharBoundary-end}
 use Rattle.std.specs.Int.{div_ceil}
 use Rattle.std.specs.List.{flat_map}
 use Rattle.std.specs.Prelude.{slice_range, Some, Ok}
@@ -12,9 +12,9 @@ use Rattle.utf_base.specs.Ends.{EndsWith}
 use Rattle.utf_base.specs.Front.{BeginsWith}
 use Rattle.utf_base.specs.Piece.{Stands}
 use Rattle.utf_base.proofs.Standing.{Stands-at, stands_in_whole}
-use Rattle.utf_base.proofs.StdText.{utf8_is_std}
 use Rattle.utf_base.proofs.Utf8Code.{utf8_is_code, utf8-first, length_utf8}
 use Rattle.utf_chars.proofs.Ranges.{range_behind}
+use Rattle.utf_chars.proofs.TextLemmas.{boundary_behind}
 use Rattle.utf_base.specs.Decoded.{decoded_bytes}
 use Rattle.encode_unicode.proofs.TextEnds.{last_is_read}
 use Rattle.encode_unicode.specs.TextWindow.{IsKeptWindow, IsLastCode, IsTextWindow, GivesFirst, GivesLast, BoundsScalars}
@@ -30,19 +30,7 @@ kept_whole text h = record {
   between = text_window text 0 (length text) h (omega arith) (IsCharBoundary-start text h) (IsCharBoundary-end text);
 }
 
--- the place behind a character is a boundary
-boundary_behind : (xs : List ℕ) (i s : ℕ) → IsUtf8 xs → IsCharBoundary xs i → Stands utf8 xs i s → IsCharBoundary xs (i + length (utf8 s))
-boundary_behind xs i s is_text front h =
-    let within = h.within in
-    let n : length (utf8 s) ≡ i + length (utf8 s) - i = omega arith in
-    let code : take (length (utf8 s)) (drop i xs) ≡ utf8 s = ap (λ k. take k (drop i xs)) n ∙ h.equal in
-    let split : drop i xs ≡ utf8 s ++ drop (length (utf8 s)) (drop i xs)
-    = sym (take-append-drop (length (utf8 s)) (drop i xs)) ∙ ap (λ ys. ys ++ drop (length (utf8 s)) (drop i xs)) code in
-    let seam = IsCharBoundary-past_char xs _ i s (omega arith) (IsUtf8-drop xs i is_text front) (split ∙ ap (λ ys. ys ++ drop (length (utf8 s)) (drop i xs)) (sym (utf8_is_std s))) in
-    let len = sym (length-encode s) ∙ ap length (utf8_is_std s) in
-    rw len at seam
-
--- so is the place before one
+-- the place before a character is a boundary
 boundary_before : (xs : List ℕ) (p s : ℕ) → Stands utf8 xs p s → IsCharBoundary xs p
 boundary_before xs p s h =
     let within = h.within in
@@ -61,7 +49,7 @@ first_taken xs i j s n kept begins =
     let behind = range_behind xs i j n (omega arith) in
     let span : n ≡ 0 + length (utf8 s) - 0 = omega arith in
     let code : take n (slice_range xs i j) ≡ utf8 s = ap (λ k. take k (slice_range xs i j)) span ∙ begins.0.equal in
-    let front : IsCharBoundary xs (i + n) = rw len (boundary_behind xs i s kept.is_text kept.between.front whole.0) in
+    let front = boundary_behind xs i s (i + n) kept.is_text kept.between.front whole.0 (omega arith) in
     let between = text_window xs (i + n) j kept.is_text (omega arith) front kept.between.back in (
       record {
         scalar = begins.0.scalar;

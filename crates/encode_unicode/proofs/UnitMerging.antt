@@ -1,19 +1,17 @@
 -- What a merger of units answers for the unit that has left it.
-use Rattle.std.proofs.Common.{◌≡◌, ℕ, ◌+◌, ◌<◌, ◌≤◌, List, [], ◌∷◌, ◌++◌, length, Some, None, Ok, Err, Bool, true, false, eqb, refl, ap, sym, ◌∙◌, arith, ⊎_elim}
+use Rattle.std.proofs.Common.{◌≡◌, ℕ, ◌<◌, ◌≤◌, List, [], ◌∷◌, ◌++◌, length, Some, None, Ok, Err, Bool, true, false, eqb, refl, ap, sym, arith}
 use Rattle.std.proofs.lemmas.Grind.{common_steps}
 use Rattle.std.specs.Iterator.{Count}
-use Rattle.std.specs.Prelude.{Option, Result, slice_range}
-use Rattle.utf_base.specs.declared.errors.units.Utf16ArrayError.{Utf16ArrayError}
+use Rattle.std.specs.Prelude.{Option, Result, IfOk, IfErr}
 use Rattle.utf_base.specs.declared.errors.units.Utf16PairError.{Utf16PairError}
 use Rattle.utf_base.specs.declared.errors.units.Utf16PairError.TheVariants.{Incomplete, UnexpectedTrailingSurrogate, UnmatchedLeadingSurrogate}
 use Rattle.utf_base.specs.Code.{utf16}
-use Rattle.utf_base.specs.Piece.{Stands}
+use Rattle.utf_base.specs.Decoded.{decoded_two, unless_fault}
 use Rattle.utf_base.specs.Scalar.{IsScalar}
-use Rattle.utf_base.specs.Units.{is_leading_surrogate, is_trailing_surrogate, is_surrogate, array_fault, unit_fault_kind}
-use Rattle.utf_base.proofs.Standing.{same_char}
-use Rattle.utf_base.proofs.Utf16Code.{StandsAsUnit, StandsAsPair, stands_cases, begins_with_pair, utf16_is_code, utf16-1}
+use Rattle.utf_base.specs.Units.{is_leading_surrogate, is_trailing_surrogate, is_surrogate, is_padded_units, array_fault, pair_value, unit_fault_kind, unit_value}
+use Rattle.utf_base.proofs.Utf16Code.{code_of_pair, scalar_pair, unit_value-pair, unit_value-unit, utf16-1}
 use Rattle.encode_unicode.specs.Mergers.{IsHeldUnits}
-use Rattle.encode_unicode.specs.Reading.{Answers, JudgesUnit, Reads}
+use Rattle.encode_unicode.specs.Reading.{Answers, CompletesUnits, Reads}
 use Rattle.encode_unicode.proofs.MergerSteps.{reads_none}
 
 no_trail : (u : ℕ) → is_leading_surrogate u ≡ true → is_trailing_surrogate u ≡ false
@@ -52,87 +50,111 @@ char_of_unit u fits plain = (record { below = omega arith; no_surrogate = λ ge.
     above : (u : ℕ) → is_surrogate u ≡ false → 0xD800 ≤ u → 0xE000 ≤ u
     above u plain ge = grind (arith, common_steps)
 
-pub trails : (u : ℕ) → is_leading_surrogate u ≡ false → (is_surrogate u ≡ false → ⊥) → is_trailing_surrogate u ≡ true
-trails u lead some = by_test u (is_surrogate u) refl lead some
+-- the value of the units is known
+units_answer : {S : Type 0} (can_next : S → Type 0) (remaining : S → Count) (steps : S → Option ℕ → S → Type 0) (first second c : ℕ) (s t : S) (new : List ℕ) (f : Bool)
+    → is_padded_units first second ≡ true → unit_value (first ∷ second ∷ []) ≡ c → Answers utf16 unit_fault_kind can_next remaining steps first [] s false (Ok c) new t f
+    → CompletesUnits can_next remaining steps first s (Ok second) new t f
+units_answer can_next remaining steps first second c s t new f own value a = (own, rw value a)
+
+pub unit_stands : {S : Type 0} (can_next : S → Type 0) (remaining : S → Count) (steps : S → Option ℕ → S → Type 0) (first : ℕ) (s : S) (new : List ℕ) (f : Bool)
+    → can_next s → new ≡ [] → f ≡ false → first < 0x1_0000 → is_surrogate first ≡ false
+    → CompletesUnits can_next remaining steps first s (Ok 0) new s f
+unit_stands can_next remaining steps first s new f can none going fits plain =
+    let char = char_of_unit first fits plain in
+    let lead = no_lead first plain in
+    units_answer can_next remaining steps first 0 first s s new f (own first plain) (unit_value-unit (first ∷ 0 ∷ []) lead)
+    (record {
+      more = [];
+      reads = rw going (reads_none can_next remaining steps s false (λ _. can));
+      settles = λ later ends. (char.0, rw none (ap (λ xs. xs ++ later) (sym char.1)));
+      few = rw none (omega arith);
+      clear = none;
+    })
   where
-    lead_or_trail : (u : ℕ) → is_surrogate u ≡ true → is_leading_surrogate u ≡ false → is_trailing_surrogate u ≡ true
-    lead_or_trail u h lead = grind (arith, common_steps)
+    no_lead : (u : ℕ) → is_surrogate u ≡ false → is_leading_surrogate u ≡ false
+    no_lead u plain = grind (arith, common_steps)
 
-    by_test : (u : ℕ) (b : Bool) → is_surrogate u ≡ b → is_leading_surrogate u ≡ false → (is_surrogate u ≡ false → ⊥) → is_trailing_surrogate u ≡ true
-    by_test u true h lead some = lead_or_trail u h lead
-    by_test u false h lead some = absurd (some h)
+    own : (u : ℕ) → is_surrogate u ≡ false → is_padded_units u 0 ≡ true
+    own u plain = grind (arith, common_steps)
 
-pub unit_alone : {S : Type 0} (can_next : S → Type 0) (remaining : S → Count) (steps : S → Option ℕ → S → Type 0) (first : ℕ) (held : List ℕ) (s : S) (e : Bool) (r : Result ℕ Utf16PairError)
-    → (e ≡ false → can_next s) → held ≡ [] → JudgesUnit first r
-    → Answers utf16 unit_fault_kind can_next remaining steps first [] s e r held s e
-unit_alone can_next remaining steps first held s e (Ok c) can none j = record {
+pub unit_trails : {S : Type 0} (can_next : S → Type 0) (remaining : S → Count) (steps : S → Option ℕ → S → Type 0) (first : ℕ) (s : S) (new : List ℕ) (f : Bool)
+    → can_next s → new ≡ [] → f ≡ false → is_trailing_surrogate first ≡ true
+    → CompletesUnits can_next remaining steps first s (Err UnexpectedTrailingSurrogate) new s f
+unit_trails can_next remaining steps first s new f can none going trail = record {
   more = [];
-  reads = reads_none can_next remaining steps s e can;
-  settles = λ later ends. (j.0, rw none (ap (λ xs. xs ++ later) (sym j.1)));
-  few = rw none (omega arith);
-  clear = none;
-}
-unit_alone can_next remaining steps first held s e (Err k) can none j = record {
-  more = [];
-  reads = reads_none can_next remaining steps s e can;
-  settles = λ later ends. (j later, rw none refl);
+  reads = rw going (reads_none can_next remaining steps s false (λ _. can));
+  settles = λ later ends. (kind_of_trailing first later trail, rw none refl);
   few = rw none (omega arith);
   clear = tt;
 }
+
+-- a unit that is no leading surrogate, by where it lies
+pub plain_below : (u : ℕ) → u < 0xD800 → is_surrogate u ≡ false
+plain_below u h = grind (arith, common_steps)
+
+pub plain_above : (u : ℕ) → 0xE000 ≤ u → is_surrogate u ≡ false
+plain_above u h = grind (arith, common_steps)
+
+pub leads_between : (u : ℕ) → 0xD800 ≤ u → u < 0xDC00 → is_leading_surrogate u ≡ true
+leads_between u low high = grind (arith, common_steps)
+
+trails_between : (u : ℕ) → 0xDC00 ≤ u → u < 0xE000 → is_trailing_surrogate u ≡ true
+trails_between u low high = grind (arith, common_steps)
+
+pub unit_judged : {S : Type 0} (can_next : S → Type 0) (remaining : S → Count) (steps : S → Option ℕ → S → Type 0) (first : ℕ) (s : S) (r : Result ℕ Utf16PairError) (new : List ℕ) (f : Bool)
+    → can_next s → new ≡ [] → f ≡ false → 0xDC00 ≤ first → first < 0x1_0000
+    → IfOk r (λ second. (second ≡ 0) × (0xE000 ≤ first)) → IfErr r (λ k. (k ≡ UnexpectedTrailingSurrogate) × (first < 0xE000))
+    → CompletesUnits can_next remaining steps first s r new s f
+unit_judged can_next remaining steps first s (Ok second) new f can none going low fits ok err = rw ok.0 (unit_stands can_next remaining steps first s new f can none going fits (plain_above first ok.1))
+unit_judged can_next remaining steps first s (Err k) new f can none going low fits ok err = rw err.0 (unit_trails can_next remaining steps first s new f can none going (trails_between first low err.1))
 
 -- A leading surrogate.
 
-pub unit_last : {S : Type 0} (can_next : S → Type 0) (remaining : S → Count) (steps : S → Option ℕ → S → Type 0) (first : ℕ) (held : List ℕ) (s t : S) (e f : Bool)
-    → held ≡ [] → is_leading_surrogate first ≡ true → Reads can_next remaining steps s e [] t f → f ≡ true
-    → Answers utf16 unit_fault_kind can_next remaining steps first [] s e (Err Incomplete) held t f
-unit_last can_next remaining steps first held s t e f none lead reads ended = record {
+pub unit_last : {S : Type 0} (can_next : S → Type 0) (remaining : S → Count) (steps : S → Option ℕ → S → Type 0) (first : ℕ) (s t : S) (new : List ℕ) (f : Bool)
+    → is_leading_surrogate first ≡ true → Reads can_next remaining steps s false [] t true → new ≡ [] → f ≡ true
+    → CompletesUnits can_next remaining steps first s (Err Incomplete) new t f
+unit_last can_next remaining steps first s t new f lead reads none mark = record {
   more = [];
-  reads = reads;
-  settles = λ later ends. (rw (ends ended) (kind_of_last first lead), rw none refl);
+  reads = rw mark reads;
+  settles = λ later ends. (rw (ends mark) (kind_of_last first lead), rw none refl);
   few = rw none (omega arith);
   clear = tt;
 }
 
-pair_is_code : (u v s : ℕ) → is_leading_surrogate u ≡ true → Stands utf16 (u ∷ v ∷ []) 0 s → u ∷ v ∷ [] ≡ utf16 s
-pair_is_code u v s lead h =
-    ⊎_elim
-    (λ (a : StandsAsUnit (u ∷ v ∷ []) s). absurd (no_plain u lead a.plain))
-    (λ (p : StandsAsPair (u ∷ v ∷ [])).
-    let b = begins_with_pair (u ∷ v ∷ []) p.two p.leading p.trailing in
-    let char = same_char utf16 utf16_is_code (u ∷ v ∷ []) 0 _ _ b.0 h in
-    let len : 2 ≡ length (utf16 s) = b.1 ∙ ap (λ x. length (utf16 x)) char in
-    ap (λ n. slice_range (u ∷ v ∷ []) 0 (0 + n)) len ∙ h.equal)
-    (stands_cases (u ∷ v ∷ []) s h)
-  where
-    no_plain : (u : ℕ) → is_leading_surrogate u ≡ true → is_surrogate u ≡ false → ⊥
-    no_plain u lead plain = grind (arith, common_steps)
+pub unit_pair : {S : Type 0} (can_next : S → Type 0) (remaining : S → Count) (steps : S → Option ℕ → S → Type 0) (first second : ℕ) (s t : S) (new : List ℕ) (f : Bool)
+    → is_leading_surrogate first ≡ true → is_trailing_surrogate second ≡ true → Reads can_next remaining steps s false (second ∷ []) t false → new ≡ [] → f ≡ false
+    → CompletesUnits can_next remaining steps first s (Ok second) new t f
+unit_pair can_next remaining steps first second s t new f lead trail reads none going =
+    units_answer can_next remaining steps first second (pair_value first second) s t new f (rw lead trail) (unit_value-pair (first ∷ second ∷ []) lead)
+    (record {
+      more = second ∷ [];
+      reads = rw going reads;
+      settles = λ later ends. (scalar_pair first second, rw none (ap (λ xs. xs ++ later) (sym (code_of_pair first second lead trail))));
+      few = rw none (omega arith);
+      clear = none;
+    })
 
-pub unit_pair : {S : Type 0} (can_next : S → Type 0) (remaining : S → Count) (steps : S → Option ℕ → S → Type 0) (first second c : ℕ) (held : List ℕ) (s t : S) (e f : Bool)
-    → held ≡ [] → is_leading_surrogate first ≡ true → Reads can_next remaining steps s e (second ∷ []) t f → Stands utf16 (first ∷ second ∷ []) 0 c
-    → Answers utf16 unit_fault_kind can_next remaining steps first [] s e (Ok c) held t f
-unit_pair can_next remaining steps first second c held s t e f none lead reads h = record {
+pub unit_unmatched : {S : Type 0} (can_next : S → Type 0) (remaining : S → Count) (steps : S → Option ℕ → S → Type 0) (first second : ℕ) (s t : S) (new : List ℕ) (f : Bool)
+    → is_leading_surrogate first ≡ true → is_trailing_surrogate second ≡ false → Reads can_next remaining steps s false (second ∷ []) t false → new ≡ second ∷ [] → f ≡ false
+    → CompletesUnits can_next remaining steps first s (Err UnmatchedLeadingSurrogate) new t f
+unit_unmatched can_next remaining steps first second s t new f lead trail reads one going = record {
   more = second ∷ [];
-  reads = reads;
-  settles = λ later ends. (h.scalar, rw none (ap (λ xs. xs ++ later) (pair_is_code first second c lead h)));
-  few = rw none (omega arith);
-  clear = none;
-}
-
-no_pair : (u v : ℕ) (k : Utf16ArrayError) → is_leading_surrogate u ≡ true → array_fault u v ≡ Some k → is_trailing_surrogate v ≡ false
-unfolding array_fault
-no_pair u v k lead h = by_test u v k (is_trailing_surrogate v) refl lead h
-  where
-    by_test : (u v : ℕ) (k : Utf16ArrayError) (b : Bool) → is_trailing_surrogate v ≡ b → is_leading_surrogate u ≡ true → array_fault u v ≡ Some k → is_trailing_surrogate v ≡ false
-    by_test u v k false t lead h = t
-    by_test u v k true t lead h = let none : array_fault u v ≡ None = rw (no_trail u lead, lead, t) refl in cc
-
-pub unit_unmatched : {S : Type 0} (can_next : S → Type 0) (remaining : S → Count) (steps : S → Option ℕ → S → Type 0) (first second : ℕ) (held : List ℕ) (s t : S) (e f : Bool) (k : Utf16ArrayError)
-    → held ≡ second ∷ [] → is_leading_surrogate first ≡ true → Reads can_next remaining steps s e (second ∷ []) t f → array_fault first second ≡ Some k
-    → Answers utf16 unit_fault_kind can_next remaining steps first [] s e (Err UnmatchedLeadingSurrogate) held t f
-unit_unmatched can_next remaining steps first second held s t e f k one lead reads fault = record {
-  more = second ∷ [];
-  reads = reads;
-  settles = λ later ends. (kind_of_unmatched first second later lead (no_pair first second k lead fault), rw one refl);
+  reads = rw going reads;
+  settles = λ later ends. (kind_of_unmatched first second later lead trail, rw one refl);
   few = rw one (omega arith);
   clear = tt;
 }
+
+-- The character of two units that are its own.
+
+value_of_answer : {A E : Type 0} (fault : Option E) (x c : A) → unless_fault fault x ≡ Ok c → x ≡ c
+value_of_answer None x c h = cc
+value_of_answer (Some e) x c h = cc
+
+pub known_units : {S : Type 0} (can_next : S → Type 0) (remaining : S → Count) (steps : S → Option ℕ → S → Type 0) (first second c : ℕ) (s t : S) (new : List ℕ) (f : Bool)
+    → CompletesUnits can_next remaining steps first s (Ok second) new t f → decoded_two (first ∷ second ∷ []) ≡ Ok c
+    → Answers utf16 unit_fault_kind can_next remaining steps first [] s false (Ok c) new t f
+unfolding decoded_two
+known_units can_next remaining steps first second c s t new f h known =
+    let is : unit_value (first ∷ second ∷ []) ≡ c = value_of_answer (array_fault first second) _ c known in
+    rw (← is) h.1

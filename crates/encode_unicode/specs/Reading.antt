@@ -2,13 +2,12 @@
 use Rattle.std.specs.Prelude.{◌≡◌, ℕ, ◌+◌, ◌≤◌, Bool, true, false, List, [], ◌∷◌, ◌++◌, length, Option, Some, None, Result, Ok, Err, IfOk, MatchOption, MatchResult}
 use Rattle.std.specs.Iterator.{Count, IsFinite, size, count_unless}
 use Rattle.utf_base.specs.declared.errors.Utf8ErrorKind.{Utf8ErrorKind}
-use Rattle.utf_base.specs.declared.errors.Utf8ErrorKind.TheVariants.{TooFewBytes, InterruptedSequence}
 use Rattle.utf_base.specs.declared.errors.units.Utf16PairError.{Utf16PairError}
 use Rattle.utf_base.specs.Code.{utf8, utf16}
-use Rattle.utf_base.specs.Kinds.{fault_kind, is_continuation, merger_kind}
+use Rattle.utf_base.specs.Kinds.{fault_kind, merger_kind, value}
 use Rattle.utf_base.specs.Scalar.{IsScalar}
-use Rattle.utf_base.specs.Units.{unit_fault_kind}
-use Rattle.encode_unicode.specs.declared.utf8_merger.Fault.{Fault}
+use Rattle.utf_base.specs.Units.{is_padded_units, unit_fault_kind, unit_value}
+use Rattle.utf_chars.specs.Padded.{IsPadded}
 use Rattle.encode_unicode.specs.Sources.{IsListed}
 use Rattle.encode_unicode.specs.Mergers.{IsHeldBytes, IsSpent, TakesFront, still}
 
@@ -24,6 +23,11 @@ pub record Reads {S A : Type 0} (can_next : S → Type 0) (remaining : S → Cou
 abbrev pub as_list : {A : Type 0} → Option A → List A
 as_list None = []
 as_list (Some x) = x ∷ []
+
+-- a call that gave none has come to the end
+abbrev pub ends : {A : Type 0} → Option A → Bool
+ends None = true
+ends (Some x) = false
 
 -- the first of the unread elements has left: one that was held, or one of the source
 pub record FirstOf {S : Type 0} (Held : List ℕ → Type 0) (can_next : S → Type 0) (remaining : S → Count) (steps : S → Option ℕ → S → Type 0)
@@ -53,44 +57,28 @@ pub record Answers {S E : Type 0} (code : ℕ → List ℕ) (kind : List ℕ →
   pub few : length new ≤ length old + length more
   pub clear : IfOk r (λ _. new ≡ [])
 
--- behind some continuation bytes the source has ended, or another byte has come
-abbrev pub Breaks : List ℕ → Bool → Utf8ErrorKind → Type 0
-Breaks [] ended k = (ended ≡ true) × (k ≡ TooFewBytes)
-Breaks (b ∷ bs) ended k = (bs ≡ []) × (is_continuation b ≡ false) × (k ≡ InterruptedSequence)
-
--- no code: what was read behind the continuation bytes `before` breaks it, and is held with them
-pub record Stops {S : Type 0} (can_next : S → Type 0) (remaining : S → Count) (steps : S → Option ℕ → S → Type 0)
-    (before : List ℕ) (s : S) (e : Bool) (fault : Fault) (t : S) (f : Bool) : Type 0 where
-  pub more : List ℕ
-  pub reads : Reads can_next remaining steps s e more t f
-  pub held : fault.held ≡ before ++ more
-  pub breaks : Breaks more f fault.kind
-
--- the next continuation byte, or none
-abbrev pub Follows : {S : Type 0} → (S → Type 0) → (S → Count) → (S → Option ℕ → S → Type 0) → List ℕ → S → Bool → Result ℕ Fault → S → Bool → Type 0
-Follows can_next remaining steps before s e r t f =
-    MatchResult r
-    (λ b. (is_continuation b ≡ true) × Reads can_next remaining steps s e (b ∷ []) t f)
-    (λ fault. Stops can_next remaining steps before s e fault t f)
-
 -- the scalar whose code the bytes are, or what is wrong
 abbrev pub JudgesBytes : List ℕ → Result ℕ Utf8ErrorKind → Type 0
 JudgesBytes bytes r = MatchResult r (λ s. IsScalar s × (bytes ≡ utf8 s)) (λ k. fault_kind bytes ≡ Some k)
 
--- the same, and those to hold then
-abbrev pub JudgesHeld : List ℕ → List ℕ → Result ℕ Fault → Type 0
-JudgesHeld bytes held r =
-    MatchResult r
-    (λ s. IsScalar s × (bytes ≡ utf8 s))
-    (λ fault. (fault_kind bytes ≡ Some fault.kind) × (fault.held ≡ held))
+-- the bytes that complete a code behind its first byte, with zeros behind them, and the answer that the character is; or the
+-- answer that is an error. The source was at s when the first byte had left the merger, which held `old` then
+pub record Completes {S : Type 0} (can_next : S → Type 0) (remaining : S → Count) (steps : S → Option ℕ → S → Type 0)
+    (first : ℕ) (old : List ℕ) (s : S) (e : Bool) (r : Result (List ℕ) Utf8ErrorKind) (new : List ℕ) (t : S) (f : Bool) : Type 0 where
+  pub answers : MatchResult r
+      (λ followers. IsPadded utf8 4 value (first ∷ followers) × Answers utf8 merger_kind can_next remaining steps first old s e (Ok (value (first ∷ followers))) new t f)
+      (λ k. Answers utf8 merger_kind can_next remaining steps first old s e (Err k) new t f)
+  pub held : IsHeldBytes new
 
--- the answer for the first byte of a code of two bytes or more, where nothing was held
-abbrev pub Completes : {S : Type 0} → (S → Type 0) → (S → Count) → (S → Option ℕ → S → Type 0) → ℕ → S → Bool → Result ℕ Fault → S → Bool → Type 0
-Completes can_next remaining steps first s e r t f =
-    MatchResult r
-    (λ c. Answers utf8 merger_kind can_next remaining steps first [] s e (Ok c) [] t f)
-    (λ fault. Answers utf8 merger_kind can_next remaining steps first [] s e (Err fault.kind) fault.held t f × IsHeldBytes fault.held)
+-- the same, of a first byte behind which nothing was held, where `before` have been read since
+abbrev pub CompletesBehind : {S : Type 0} → (S → Type 0) → (S → Count) → (S → Option ℕ → S → Type 0) → ℕ → List ℕ → S → Result (List ℕ) Utf8ErrorKind → List ℕ → S → Bool → Type 0
+CompletesBehind {S} can_next remaining steps first before u r new t f =
+    (s : S) → Reads can_next remaining steps s false before u false → Completes can_next remaining steps first [] s false r new t f
 
--- the scalar that one unit is, or what is wrong, whatever follows
-abbrev pub JudgesUnit : ℕ → Result ℕ Utf16PairError → Type 0
-JudgesUnit unit r = MatchResult r (λ s. IsScalar s × (utf16 s ≡ unit ∷ [])) (λ k. (later : List ℕ) → unit_fault_kind (unit ∷ later) ≡ Some k)
+-- the second unit of the code of a first one, 0 where that has one unit, and the answer that the character is; or the answer
+-- that is an error. Nothing was held
+abbrev pub CompletesUnits : {S : Type 0} → (S → Type 0) → (S → Count) → (S → Option ℕ → S → Type 0) → ℕ → S → Result ℕ Utf16PairError → List ℕ → S → Bool → Type 0
+CompletesUnits can_next remaining steps first s r new t f =
+    MatchResult r
+    (λ second. (is_padded_units first second ≡ true) × Answers utf16 unit_fault_kind can_next remaining steps first [] s false (Ok (unit_value (first ∷ second ∷ []))) new t f)
+    (λ k. Answers utf16 unit_fault_kind can_next remaining steps first [] s false (Err k) new t f)

@@ -1,33 +1,36 @@
 //! The bytes that a merger has read and not answered for.
-ghost use Rattle.std.specs.Prelude.{◌≡◌, ◌≤◌, ◌++◌, [], ◌∷◌, length};
+ghost use Rattle.std.specs.Prelude.{◌≡◌, ◌≤◌, [], ◌∷◌, length, true, false};
 ghost use Rattle.std.specs.Iterator.{YieldsFirst};
 
 use std::fmt;
 use std::marker::Model;
 
-/// At most three bytes, in one number, so that they stay in a register: the first in the lowest eight bits,
-/// the others above it, and how many there are in the highest eight. Contracts see their list.
+/// At most three bytes, and whether the source has ended, in one number, so that they stay in a register and
+/// one comparison tells that the source is to be asked: the first byte in the lowest eight bits, the others
+/// above it, and how many there are in the highest eight, with the mark of the end as the highest bit.
+/// Contracts see the list and the mark.
 #[derive(Drop)]
 pub(crate) struct HeldBytes {
     word: u32,
 }
 
 impl Model for HeldBytes {
-    ghost use Rattle.std.specs.Prelude.{List, ℕ, ◌≤◌, ◌/◌};
-    ghost use Rattle.encode_unicode.specs.HeldWord.{bytes_of};
+    ghost use Rattle.std.specs.Prelude.{◌≤◌, ◌/◌, ◌%◌};
+    ghost use Rattle.encode_unicode.specs.HeldWord.{Kept, bytes_of};
 
-    ghost Value = { List ℕ };
+    ghost Value = { Kept };
 
     ghost view = { λ h. bytes_of h.word };
 
-    ghost invariant = { λ h. h.word / 0x100_0000 ≤ 3 };
+    ghost invariant = { λ h. h.word / 0x100_0000 % 128 ≤ 3 };
 }
 
 impl HeldBytes {
     /// None.
     #[inline(always)]
     pub(crate) fn none() -> HeldBytes
-        ensures { result ≡ [] }
+        ensures held { result.held ≡ [] }
+        ensures going { result.ended ≡ false }
     {
         HeldBytes { word: 0 }
     }
@@ -35,7 +38,8 @@ impl HeldBytes {
     /// One.
     #[inline(always)]
     pub(crate) fn one(first: u8) -> HeldBytes
-        ensures { result ≡ first ∷ [] }
+        ensures held { result.held ≡ first ∷ [] }
+        ensures going { result.ended ≡ false }
     {
         HeldBytes {
             word: 0x100_0000 + first as u32,
@@ -45,7 +49,8 @@ impl HeldBytes {
     /// Two.
     #[inline(always)]
     pub(crate) fn two(first: u8, second: u8) -> HeldBytes
-        ensures { result ≡ first ∷ second ∷ [] }
+        ensures held { result.held ≡ first ∷ second ∷ [] }
+        ensures going { result.ended ≡ false }
     {
         HeldBytes {
             word: 0x200_0000 + second as u32 * 256 + first as u32,
@@ -55,38 +60,52 @@ impl HeldBytes {
     /// Three.
     #[inline(always)]
     pub(crate) fn three(first: u8, second: u8, third: u8) -> HeldBytes
-        ensures { result ≡ first ∷ second ∷ third ∷ [] }
+        ensures held { result.held ≡ first ∷ second ∷ third ∷ [] }
+        ensures going { result.ended ≡ false }
     {
         HeldBytes {
             word: 0x300_0000 + third as u32 * 0x1_0000 + second as u32 * 256 + first as u32,
         }
     }
 
-    /// The same bytes, and one more.
+    /// The same bytes, and the source has ended.
     #[inline(always)]
-    pub(crate) fn followed_by(self, byte: u8) -> HeldBytes
-        requires { length self ≤ 2 }
-        ensures { result ≡ self ++ byte ∷ [] }
+    pub(crate) fn ended(self) -> HeldBytes
+        requires { self.ended ≡ false }
+        ensures held { result.held ≡ self.held }
+        ensures ended { result.ended ≡ true }
     {
-        let count = self.word / 0x100_0000;
-        let first = (self.word % 256) as u8;
-        if count < 1 {
-            return HeldBytes::one(byte);
+        HeldBytes {
+            word: self.word + 0x8000_0000,
         }
-        if count < 2 {
-            return HeldBytes::two(first, byte);
-        }
-        let second = (self.word / 256 % 256) as u8;
-        HeldBytes::three(first, second, byte)
+    }
+
+    /// Whether nothing is held, and the source has not ended.
+    #[inline(always)]
+    pub(crate) fn is_idle(&self) -> bool
+        ensures none { result ≡ true → self.now.held ≡ [] }
+        ensures going { result ≡ true → self.now.ended ≡ false }
+        ensures busy { result ≡ false → self.now.held ≡ [] → self.now.ended ≡ true }
+    {
+        // Not a comparison with 0: a compiler would put a 0 into its register again for each byte.
+        self.word < 0x100_0000
+    }
+
+    /// Whether the source has ended.
+    #[inline(always)]
+    pub(crate) fn is_ended(&self) -> bool
+        ensures { result ≡ self.now.ended }
+    {
+        self.word >= 0x8000_0000
     }
 
     /// How many there are.
     #[inline(always)]
     pub(crate) fn len(&self) -> usize
-        ensures len { result ≡ length self.now }
+        ensures len { result ≡ length self.now.held }
         ensures few { result ≤ 3 }
     {
-        (self.word / 0x100_0000) as usize
+        (self.word / 0x100_0000 % 128) as usize
     }
 
     /// The same bytes once more.
@@ -99,15 +118,16 @@ impl HeldBytes {
 
     /// Takes the first.
     #[inline(always)]
-    pub(crate) fn next(&mut self) -> Option<u8>
-        ensures { YieldsFirst (λ rest. rest) self.old result self.new }
+    pub(crate) fn take(&mut self) -> Option<u8>
+        ensures first { YieldsFirst (λ kept. kept.held) self.old result self.new }
+        ensures same { self.new.ended ≡ self.old.ended }
     {
-        let count = self.word / 0x100_0000;
-        if count < 1 {
+        let count_and_mark = self.word / 0x100_0000;
+        if count_and_mark % 128 < 1 {
             return None;
         }
         let first = (self.word % 256) as u8;
-        self.word = (count - 1) * 0x100_0000 + self.word / 256 % 0x1_0000;
+        self.word = (count_and_mark - 1) * 0x100_0000 + self.word / 256 % 0x1_0000;
         Some(first)
     }
 }

@@ -1,77 +1,130 @@
 //! The unit that a merger has read and not answered for.
-ghost use Rattle.std.specs.Prelude.{◌≡◌, [], ◌∷◌, length};
+ghost use Rattle.std.specs.Prelude.{◌≡◌, ◌<◌, [], ◌∷◌, length, true, false, IfSome, MatchOption};
 ghost use Rattle.std.specs.Iterator.{YieldsFirst};
 ghost use Rattle.encode_unicode.specs.Mergers.{IsHeldUnits};
 
 use std::fmt;
 use std::marker::Model;
 
-/// At most one unit. Contracts see its list.
+/// At most one unit, and whether the source has ended, in one number, so that one comparison tells that
+/// the source is to be asked: 0 then, the unit above 0x1_0000 where one is held, and 0x2_0000 once the
+/// source has ended. Contracts see the list and the mark.
 #[derive(Drop)]
 pub(crate) struct HeldUnit {
-    unit: Option<u16>,
+    word: u32,
 }
 
 impl Model for HeldUnit {
-    ghost use Rattle.std.specs.Prelude.{List, ℕ};
-    ghost use Rattle.encode_unicode.specs.Reading.{as_list};
+    ghost use Rattle.encode_unicode.specs.HeldWord.{Kept, unit_of};
 
-    ghost Value = { List ℕ };
+    ghost Value = { Kept };
 
-    ghost view = { λ h. as_list h.unit };
+    ghost view = { λ h. unit_of h.word };
 }
 
 impl HeldUnit {
     /// None.
     #[inline(always)]
+    #[tactic(auto, unfolding(crate::specs::HeldWord::unit_of))]
     pub(crate) fn none() -> HeldUnit
-        ensures { result ≡ [] }
+        ensures none { result.held ≡ [] }
+        ensures going { result.ended ≡ false }
     {
-        HeldUnit { unit: None }
+        HeldUnit { word: 0 }
+    }
+
+    /// None, and the source has ended.
+    #[inline(always)]
+    #[tactic(auto, unfolding(crate::specs::HeldWord::unit_of))]
+    pub(crate) fn ended() -> HeldUnit
+        ensures none { result.held ≡ [] }
+        ensures ended { result.ended ≡ true }
+    {
+        HeldUnit { word: 0x2_0000 }
     }
 
     /// One.
     #[inline(always)]
+    #[tactic(auto, unfolding(crate::specs::HeldWord::unit_of))]
     pub(crate) fn one(unit: u16) -> HeldUnit
-        ensures { result ≡ unit ∷ [] }
+        ensures one { result.held ≡ unit ∷ [] }
+        ensures going { result.ended ≡ false }
     {
-        HeldUnit { unit: Some(unit) }
+        HeldUnit {
+            word: 0x1_0000 + unit as u32,
+        }
+    }
+
+    /// Whether nothing is held, and the source has not ended.
+    #[inline(always)]
+    #[tactic(auto, unfolding(crate::specs::HeldWord::unit_of))]
+    pub(crate) fn is_idle(&self) -> bool
+        ensures none { result ≡ true → self.now.held ≡ [] }
+        ensures going { result ≡ true → self.now.ended ≡ false }
+        ensures busy { result ≡ false → self.now.held ≡ [] → self.now.ended ≡ true }
+    {
+        // Not a comparison with 0: a compiler would put a 0 into its register again for each unit.
+        self.word < 0x1_0000
+    }
+
+    /// Whether the source has ended.
+    #[inline(always)]
+    #[tactic(auto, unfolding(crate::specs::HeldWord::unit_of))]
+    pub(crate) fn is_ended(&self) -> bool
+        ensures { result ≡ self.now.ended }
+    {
+        self.word >= 0x2_0000
     }
 
     /// How many there are: 0 or 1.
     #[inline(always)]
+    #[tactic(auto, unfolding(crate::specs::HeldWord::unit_of))]
     pub(crate) fn len(&self) -> usize
-        ensures len { result ≡ length self.now }
-        ensures few { IsHeldUnits self.now }
+        ensures len { result ≡ length self.now.held }
+        ensures few { IsHeldUnits self.now.held }
     {
-        match self.unit {
-            None => 0,
-            Some(_) => 1,
+        if 0x1_0000 <= self.word && self.word < 0x2_0000 {
+            1
+        } else {
+            0
         }
     }
 
     /// The same once more.
     #[inline(always)]
+    #[tactic(auto, unfolding(crate::specs::HeldWord::unit_of))]
     pub(crate) fn copy(&self) -> HeldUnit
         ensures { result ≡ self.now }
     {
-        HeldUnit { unit: self.unit }
+        HeldUnit { word: self.word }
     }
 
     /// Takes it.
     #[inline(always)]
-    pub(crate) fn next(&mut self) -> Option<u16>
-        ensures first { YieldsFirst (λ rest. rest) self.old result self.new }
-        ensures none { self.new ≡ [] }
+    #[tactic(auto, unfolding(crate::specs::HeldWord::unit_of))]
+    pub(crate) fn take(&mut self) -> Option<u32>
+        requires busy { self.old.held ≡ [] → self.old.ended ≡ true }
+        ensures first { YieldsFirst (λ kept. kept.held) self.old result self.new }
+        ensures unit { IfSome result (λ unit. unit < 0x1_0000) }
+        ensures none { self.new.held ≡ [] }
+        ensures same { self.new.ended ≡ self.old.ended }
+        ensures ends { MatchOption result (self.new.ended ≡ true) (λ _. self.new.ended ≡ false) }
     {
-        let unit = self.unit;
-        self.unit = None;
-        unit
+        if self.word >= 0x2_0000 {
+            return None;
+        }
+        let unit = self.word % 0x1_0000;
+        self.word = 0;
+        Some(unit)
     }
 }
 
 impl fmt::Debug for HeldUnit {
     fn fmt<W: fmt::Write>(&self, f: &mut fmt::Formatter<W>) -> fmt::Result {
-        fmt::Debug::fmt(&self.unit, f)
+        let unit = match self.len() {
+            0 => None,
+            _ => Some((self.word % 0x1_0000) as u16),
+        };
+        fmt::Debug::fmt(&unit, f)
     }
 }

@@ -1,27 +1,17 @@
 //! What the two mergers share.
-ghost use Rattle.std.specs.Prelude.{◌≡◌, ◌<◌, true, false, IfNone};
+ghost use Rattle.std.specs.Prelude.{◌≡◌, ◌<◌, false};
 ghost use Rattle.encode_unicode.specs.Mergers.{hint_until, merge_hint};
-ghost use Rattle.encode_unicode.specs.Reading.{Reads, as_list};
+ghost use Rattle.encode_unicode.specs.Reading.{Reads, as_list, ends};
 
 use crate::splitting::hint_of;
 
-/// One element more, if the source has one. A source that has ended is not asked again.
+/// One element more, if the source has one. It has ended where it has none.
 #[inline(always)]
-pub(crate) fn read<T, I: Iterator<Item = T>>(source: &mut I, ended: &mut bool) -> Option<T>
-    requires { ended.old ≡ false → I.can_next source.old }
-    ensures reads { Reads I.can_next I.remaining I.next_gives source.old ended.old (as_list result) source.new ended.new }
-    ensures ends { IfNone result (ended.new ≡ true) }
+pub(crate) fn read<T, I: Iterator<Item = T>>(source: &mut I) -> Option<T>
+    requires { I.can_next source.old }
+    ensures { Reads I.can_next I.remaining I.next_gives source.old false (as_list result) source.new (ends result) }
 {
-    if *ended {
-        return None;
-    }
-    match source.next() {
-        None => {
-            *ended = true;
-            None
-        }
-        Some(x) => Some(x),
-    }
+    source.next()
 }
 
 /// The hint of a source, of which nothing more comes once it has ended.

@@ -1,12 +1,13 @@
 //! Characters, and what is wrong, from the units of an iterator.
-ghost use Rattle.std.specs.Prelude.{◌≡◌, ℕ, List, [], length, IsOk, IfOk, IfSome, false};
+ghost use Rattle.std.specs.Prelude.{◌≡◌, ◌<◌, ◌≤◌, ℕ, List, [], length, IsOk, IfOk, IfErr, IfSome, false};
 ghost use Rattle.std.specs.Iterator.{UpTo};
 ghost use Rattle.std.specs.Iterator.SizeHint.{IsWithinCount};
 ghost use Rattle.utf_base.specs.Code.{utf16};
-ghost use Rattle.utf_base.specs.Units.{is_leading_surrogate, unit_fault_kind};
+ghost use Rattle.utf_base.specs.declared.errors.units.Utf16PairError.TheVariants.{UnexpectedTrailingSurrogate};
+ghost use Rattle.utf_base.specs.Units.{is_trailing_surrogate, unit_fault_kind};
 ghost use Rattle.encode_unicode.specs.Mergers.{unasked, unread, unread_count, IsHeldUnits, IsSpent, MergerNext, MergesHint};
 ghost use Rattle.encode_unicode.specs.Mergers.{RemainingNext, RemainsHint};
-ghost use Rattle.encode_unicode.specs.Reading.{Answers, JudgesUnit, TakesFirst};
+ghost use Rattle.encode_unicode.specs.Reading.{CompletesUnits, TakesFirst};
 ghost use Rattle.encode_unicode.specs.Sources.{GivesTheSame};
 
 use crate::held_unit::HeldUnit;
@@ -16,7 +17,6 @@ use std::alloc::AllocError;
 use std::fmt;
 use std::marker::Model;
 use utf_base::errors::Utf16PairError;
-use utf_base::traits::U16UtfExt;
 use utf_chars::utf16_char::Utf16Char;
 
 /// Cuts the units of an iterator into characters and single faulty units.
@@ -33,7 +33,6 @@ use utf_chars::utf16_char::Utf16Char;
 pub struct Utf16CharMerger<I: Iterator<Item = u16>> {
     source: I,
     held: HeldUnit,
-    ended: bool,
 }
 
 impl<I: Iterator<Item = u16>> Model for Utf16CharMerger<I> {
@@ -41,7 +40,7 @@ impl<I: Iterator<Item = u16>> Model for Utf16CharMerger<I> {
 
     ghost Value = { Merging I };
 
-    ghost view = { λ m. record { held = m.held; source = m.source; ended = m.ended } };
+    ghost view = { λ m. record { held = m.held.held; source = m.source; ended = m.held.ended } };
 }
 
 impl<I: Iterator<Item = u16>> From<I> for Utf16CharMerger<I> {
@@ -52,7 +51,6 @@ impl<I: Iterator<Item = u16>> From<I> for Utf16CharMerger<I> {
         Utf16CharMerger {
             source,
             held: HeldUnit::none(),
-            ended: false,
         }
     }
 }
@@ -77,10 +75,15 @@ impl<I: Iterator<Item = u16>> Iterator for Utf16CharMerger<I> {
 
     #[inline(always)]
     fn next(&mut self) -> Option<Result<Utf16Char, Utf16PairError>> {
-        match first_unit(&mut self.held, &mut self.source, &mut self.ended) {
-            None => None,
-            Some(first) => Some(answer(first, &mut self.held, &mut self.source, &mut self.ended)),
-        }
+        let first = match first_unit(&mut self.held, &mut self.source) {
+            None => return None,
+            Some(first) => first,
+        };
+        let second = match second_unit(first, &mut self.held, &mut self.source) {
+            Err(error) => return Some(Err(error)),
+            Ok(second) => second,
+        };
+        Some(Ok(Utf16Char::from_array_unchecked([first as u16, second])))
     }
 
     /// Half of the source's lower bound, rounded down, and its upper bound with the held unit added. Once
@@ -91,7 +94,7 @@ impl<I: Iterator<Item = u16>> Iterator for Utf16CharMerger<I> {
         ensures upper { IfSome result.1 (UpTo (unread_count I.remaining self.now)) }
         ensures merged { MergesHint utf16 2 I.remaining self.now result }
     {
-        let source = hint_of_source(self.source.size_hint(), self.ended);
+        let source = hint_of_source(self.source.size_hint(), self.held.is_ended());
         merged_hint(source, 2, self.held.len())
     }
 }
@@ -105,11 +108,7 @@ impl<I: Iterator<Item = u16>> Utf16CharMerger<I> {
         ensures whole { (rest : I → List ℕ) → IsSpent rest self.source self.ended → self.held ≡ [] → rest result ≡ unread rest self }
     {
         let _ = self.held.len();
-        let Utf16CharMerger {
-            source,
-            held: _,
-            ended: _,
-        } = self;
+        let Utf16CharMerger { source, held: _ } = self;
         source
     }
 
@@ -121,7 +120,6 @@ impl<I: Iterator<Item = u16>> Utf16CharMerger<I> {
         RemainingUnits {
             source: self.source,
             held: self.held,
-            ended: self.ended,
         }
     }
 
@@ -139,7 +137,6 @@ impl<I: Iterator<Item = u16>> Utf16CharMerger<I> {
         Ok(Utf16CharMerger {
             source: self.source.clone()?,
             held: self.held.copy(),
-            ended: self.ended,
         })
     }
 }
@@ -153,61 +150,80 @@ impl<I: Iterator<Item = u16> + fmt::Debug> fmt::Debug for Utf16CharMerger<I> {
     }
 }
 
-// Takes the first of the unread units: the one that is held, else one of the source.
+// Takes the first of the unread units: the one that is held, else one of the source. It is a number of 32
+// bits, for which a compiler has no work each time that it is used.
 #[inline(always)]
-fn first_unit<I: Iterator<Item = u16>>(
-    held: &mut HeldUnit,
-    source: &mut I,
-    ended: &mut bool,
-) -> Option<u16>
-    requires can { ended.old ≡ false → I.can_next source.old }
-    ensures first { TakesFirst IsHeldUnits I.can_next I.remaining I.next_gives held.old source.old ended.old result held.new source.new ended.new }
-    ensures none { held.new ≡ [] }
+fn first_unit<I: Iterator<Item = u16>>(held: &mut HeldUnit, source: &mut I) -> Option<u32>
+    requires can { held.old.ended ≡ false → I.can_next source.old }
+    ensures first { TakesFirst IsHeldUnits I.can_next I.remaining I.next_gives held.old.held source.old held.old.ended result held.new.held source.new held.new.ended }
+    ensures unit { IfSome result (λ unit. unit < 0x1_0000) }
+    ensures none { held.new.held ≡ [] }
+    ensures going { IfSome result (λ _. held.new.ended ≡ false) }
 {
-    match held.next() {
-        Some(unit) => Some(unit),
-        None => read(source, ended),
+    if !held.is_idle() {
+        return held.take();
+    }
+    match read(source) {
+        None => {
+            *held = HeldUnit::ended();
+            None
+        }
+        Some(unit) => Some(unit as u32),
     }
 }
 
-// The answer for a unit that has left the merger, which holds nothing then. What is read behind it is held
-// where it is no part of the answer.
+// The second unit of the code of a unit that has left the merger, and 0 where the code has no other. What is
+// read behind it is held where it is no part of the code.
 #[inline(always)]
-fn answer<I: Iterator<Item = u16>>(
-    first: u16,
+fn second_unit<I: Iterator<Item = u16>>(
+    first: u32,
     held: &mut HeldUnit,
     source: &mut I,
-    ended: &mut bool,
-) -> Result<Utf16Char, Utf16PairError>
-    requires can { ended.old ≡ false → I.can_next source.old }
-    requires none { held.old ≡ [] }
-    ensures answers { Answers utf16 unit_fault_kind I.can_next I.remaining I.next_gives first [] source.old ended.old result held.new source.new ended.new }
-    ensures held { IsHeldUnits held.new }
+) -> Result<u16, Utf16PairError>
+    requires unit { first < 0x1_0000 }
+    requires can { I.can_next source.old }
+    requires none { held.old.held ≡ [] }
+    requires going { held.old.ended ≡ false }
+    ensures answers { CompletesUnits I.can_next I.remaining I.next_gives first source.old result held.new.held source.new held.new.ended }
+    ensures held { IsHeldUnits held.new.held }
 {
-    if !first.is_utf16_leading_surrogate() {
+    if first < 0xd800 {
+        return Ok(0);
+    }
+    if first >= 0xdc00 {
         return judge(first);
     }
-    match read(source, ended) {
-        None => Err(Utf16PairError::Incomplete),
-        Some(second) => match Utf16Char::from_array([first, second]) {
-            Ok(c) => Ok(c),
-            Err(_) => {
-                *held = HeldUnit::one(second);
-                Err(Utf16PairError::UnmatchedLeadingSurrogate)
-            }
-        },
+    match read(source) {
+        None => {
+            *held = HeldUnit::ended();
+            Err(Utf16PairError::Incomplete)
+        }
+        Some(second) if trails(second) => Ok(second),
+        Some(second) => {
+            *held = HeldUnit::one(second);
+            Err(Utf16PairError::UnmatchedLeadingSurrogate)
+        }
     }
 }
 
-// The character that is one unit, which is no leading surrogate, and an error for a trailing one.
+// Whether the unit is a trailing surrogate.
 #[inline(always)]
-fn judge(unit: u16) -> Result<Utf16Char, Utf16PairError>
-    requires { is_leading_surrogate unit ≡ false }
-    ensures { JudgesUnit unit result }
+fn trails(unit: u16) -> bool
+    ensures { result ≡ is_trailing_surrogate unit }
 {
-    match Utf16Char::from_bmp(unit) {
-        Ok(c) => Ok(c),
-        Err(_) => Err(Utf16PairError::UnexpectedTrailingSurrogate),
+    unit & 0xfc00 == 0xdc00
+}
+
+// 0 for a unit above the leading surrogates, and an error for a trailing one.
+#[inline(always)]
+fn judge(first: u32) -> Result<u16, Utf16PairError>
+    ensures ok { IfOk result (λ second. (second ≡ 0) × (0xE000 ≤ first)) }
+    ensures err { IfErr result (λ k. (k ≡ UnexpectedTrailingSurrogate) × (first < 0xE000)) }
+{
+    if first < 0xe000 {
+        Err(Utf16PairError::UnexpectedTrailingSurrogate)
+    } else {
+        Ok(0)
     }
 }
 
@@ -220,7 +236,6 @@ fn judge(unit: u16) -> Result<Utf16Char, Utf16PairError>
 pub struct RemainingUnits<I: Iterator<Item = u16>> {
     source: I,
     held: HeldUnit,
-    ended: bool,
 }
 
 impl<I: Iterator<Item = u16>> Model for RemainingUnits<I> {
@@ -228,7 +243,7 @@ impl<I: Iterator<Item = u16>> Model for RemainingUnits<I> {
 
     ghost Value = { Merging I };
 
-    ghost view = { λ m. record { held = m.held; source = m.source; ended = m.ended } };
+    ghost view = { λ m. record { held = m.held.held; source = m.source; ended = m.held.ended } };
 }
 
 impl<I: Iterator<Item = u16>> Iterator for RemainingUnits<I> {
@@ -242,9 +257,9 @@ impl<I: Iterator<Item = u16>> Iterator for RemainingUnits<I> {
 
     #[inline(always)]
     fn next(&mut self) -> Option<u16> {
-        match self.held.next() {
-            Some(unit) => Some(unit),
-            None => read(&mut self.source, &mut self.ended),
+        match first_unit(&mut self.held, &mut self.source) {
+            None => None,
+            Some(unit) => Some(unit as u16),
         }
     }
 
@@ -256,7 +271,7 @@ impl<I: Iterator<Item = u16>> Iterator for RemainingUnits<I> {
         ensures upper { IfSome result.1 (UpTo (unread_count I.remaining self.now)) }
         ensures remains { RemainsHint I.remaining self.now result }
     {
-        let source = hint_of_source(self.source.size_hint(), self.ended);
+        let source = hint_of_source(self.source.size_hint(), self.held.is_ended());
         hint_of(source, 1, self.held.len())
     }
 }
@@ -276,7 +291,6 @@ impl<I: Iterator<Item = u16>> RemainingUnits<I> {
         Ok(RemainingUnits {
             source: self.source.clone()?,
             held: self.held.copy(),
-            ended: self.ended,
         })
     }
 }

@@ -1,13 +1,14 @@
 //! Characters, and what is wrong, from the bytes of an iterator.
-ghost use Rattle.std.specs.Prelude.{◌≡◌, ◌<◌, ◌≤◌, ℕ, List, [], length, IsOk, IfOk, IfSome, false, ◌&&◌, nat_le, nat_lt};
+ghost use Rattle.std.specs.Prelude.{◌≡◌, ◌<◌, ◌≤◌, ℕ, List, [], ◌∷◌, length, true, IsOk, IfOk, IfSome, false, ◌&&◌, nat_le, nat_lt};
 ghost use Rattle.std.specs.Iterator.{UpTo};
 ghost use Rattle.std.specs.Iterator.SizeHint.{IsWithinCount};
 ghost use Rattle.utf_base.specs.Code.{utf8};
 ghost use Rattle.utf_base.specs.Kinds.{asked_by, is_continuation, merger_kind};
 ghost use Rattle.encode_unicode.specs.Mergers.{unasked, unread, unread_count, IsHeldBytes, IsSpent, MergerNext, MergesHint};
-ghost use Rattle.encode_unicode.specs.Reading.{Answers, Completes, Follows, JudgesBytes, JudgesHeld, TakesFirst};
+ghost use Rattle.encode_unicode.specs.Reading.{Completes, CompletesBehind, JudgesBytes, TakesFirst};
 ghost use Rattle.encode_unicode.specs.Sources.{GivesTheSame};
 
+use crate::followers::Followers;
 use crate::held_bytes::HeldBytes;
 use crate::merging::{hint_of_source, merged_hint, read};
 use std::alloc::AllocError;
@@ -30,7 +31,6 @@ use utf_chars::utf8_char::Utf8Char;
 pub struct Utf8CharMerger<I: Iterator<Item = u8>> {
     source: I,
     held: HeldBytes,
-    ended: bool,
 }
 
 impl<I: Iterator<Item = u8>> Model for Utf8CharMerger<I> {
@@ -38,9 +38,9 @@ impl<I: Iterator<Item = u8>> Model for Utf8CharMerger<I> {
 
     ghost Value = { Merging I };
 
-    ghost view = { λ m. record { held = m.held; source = m.source; ended = m.ended } };
+    ghost view = { λ m. record { held = m.held.held; source = m.source; ended = m.held.ended } };
 
-    ghost invariant = { λ m. IsHeldBytes m.held };
+    ghost invariant = { λ m. IsHeldBytes m.held.held };
 }
 
 impl<I: Iterator<Item = u8>> From<I> for Utf8CharMerger<I> {
@@ -51,7 +51,6 @@ impl<I: Iterator<Item = u8>> From<I> for Utf8CharMerger<I> {
         Utf8CharMerger {
             source,
             held: HeldBytes::none(),
-            ended: false,
         }
     }
 }
@@ -76,10 +75,15 @@ impl<I: Iterator<Item = u8>> Iterator for Utf8CharMerger<I> {
 
     #[inline(always)]
     fn next(&mut self) -> Option<Result<Utf8Char, Utf8Error>> {
-        match first_byte(&mut self.held, &mut self.source, &mut self.ended) {
-            None => None,
-            Some(first) => Some(answer(first, &mut self.held, &mut self.source, &mut self.ended)),
-        }
+        let first = match first_byte(&mut self.held, &mut self.source) {
+            None => return None,
+            Some(first) => first,
+        };
+        let rest = match followers(first, &mut self.held, &mut self.source) {
+            Err(error) => return Some(Err(error)),
+            Ok(rest) => rest,
+        };
+        Some(Ok(Utf8Char::from_array_unchecked(rest.behind(first))))
     }
 
     /// A quarter of the source's lower bound, rounded down, and its upper bound with the held bytes added.
@@ -90,7 +94,7 @@ impl<I: Iterator<Item = u8>> Iterator for Utf8CharMerger<I> {
         ensures upper { IfSome result.1 (UpTo (unread_count I.remaining self.now)) }
         ensures merged { MergesHint utf8 4 I.remaining self.now result }
     {
-        let source = hint_of_source(self.source.size_hint(), self.ended);
+        let source = hint_of_source(self.source.size_hint(), self.held.is_ended());
         merged_hint(source, 4, self.held.len())
     }
 }
@@ -103,11 +107,7 @@ impl<I: Iterator<Item = u8>> Utf8CharMerger<I> {
         ensures held { IsHeldBytes self.held }
         ensures whole { (rest : I → List ℕ) → IsSpent rest self.source self.ended → self.held ≡ [] → rest result ≡ unread rest self }
     {
-        let Utf8CharMerger {
-            source,
-            held: _,
-            ended: _,
-        } = self;
+        let Utf8CharMerger { source, held: _ } = self;
         source
     }
 
@@ -125,7 +125,6 @@ impl<I: Iterator<Item = u8>> Utf8CharMerger<I> {
         Ok(Utf8CharMerger {
             source: self.source.clone()?,
             held: self.held.copy(),
-            ended: self.ended,
         })
     }
 }
@@ -139,56 +138,52 @@ impl<I: Iterator<Item = u8> + fmt::Debug> fmt::Debug for Utf8CharMerger<I> {
     }
 }
 
-// Why no character was found, and what was read behind the byte in question.
-#[derive(Drop)]
-pub(crate) struct Fault {
-    kind: Utf8ErrorKind,
-    held: HeldBytes,
-}
-
 // Takes the first of the unread bytes: one that is held, else one of the source.
 #[inline(always)]
-fn first_byte<I: Iterator<Item = u8>>(
-    held: &mut HeldBytes,
-    source: &mut I,
-    ended: &mut bool,
-) -> Option<u8>
-    requires can { ended.old ≡ false → I.can_next source.old }
-    requires held { IsHeldBytes held.old }
-    ensures first { TakesFirst IsHeldBytes I.can_next I.remaining I.next_gives held.old source.old ended.old result held.new source.new ended.new }
-    ensures alone { IfSome result (λ b. is_continuation b ≡ false → held.new ≡ []) }
+fn first_byte<I: Iterator<Item = u8>>(held: &mut HeldBytes, source: &mut I) -> Option<u8>
+    requires can { held.old.ended ≡ false → I.can_next source.old }
+    requires held { IsHeldBytes held.old.held }
+    ensures first { TakesFirst IsHeldBytes I.can_next I.remaining I.next_gives held.old.held source.old held.old.ended result held.new.held source.new held.new.ended }
+    ensures alone { IfSome result (λ b. is_continuation b ≡ false → held.new.held ≡ []) }
 {
-    match held.next() {
+    if !held.is_idle() {
+        return held.take();
+    }
+    match read(source) {
+        None => {
+            *held = HeldBytes::none().ended();
+            None
+        }
         Some(byte) => Some(byte),
-        None => read(source, ended),
     }
 }
 
-// The answer for a byte that has left the merger. What is read behind it is held where it is no part of the
-// answer; where something is held already, the byte is a continuation byte, and nothing is read.
+// The bytes that complete the code of a byte that has left the merger. What is read behind it is held where
+// no code is found; where something is held already, the byte is a continuation byte, and nothing is read.
 #[inline(always)]
-fn answer<I: Iterator<Item = u8>>(
+fn followers<I: Iterator<Item = u8>>(
     first: u8,
     held: &mut HeldBytes,
     source: &mut I,
-    ended: &mut bool,
-) -> Result<Utf8Char, Utf8Error>
-    requires can { ended.old ≡ false → I.can_next source.old }
-    requires alone { is_continuation first ≡ false → held.old ≡ [] }
-    requires held { IsHeldBytes held.old }
-    ensures answers { Answers utf8 merger_kind I.can_next I.remaining I.next_gives first held.old source.old ended.old result held.new source.new ended.new }
-    ensures held { IsHeldBytes held.new }
+) -> Result<Followers, Utf8Error>
+    requires can { held.old.ended ≡ false → I.can_next source.old }
+    requires alone { is_continuation first ≡ false → held.old.held ≡ [] }
+    requires held { IsHeldBytes held.old.held }
+    ensures { Completes I.can_next I.remaining I.next_gives first held.old.held source.old held.old.ended result held.new.held source.new held.new.ended }
 {
+    if first < 0x80 {
+        return Ok(Followers::new(0, 0, 0));
+    }
     if !begins_many(first) {
-        return judge(&[first]);
+        return match judge(&[first]) {
+            Ok(_) => Ok(Followers::new(0, 0, 0)),
+            Err(error) => Err(error),
+        };
     }
-    match complete(first, source, ended) {
-        Ok(c) => Ok(c),
-        Err(fault) => {
-            *held = fault.held;
-            Err(Utf8Error::new(fault.kind))
-        }
+    if held.is_ended() {
+        return Err(Utf8Error::new(Utf8ErrorKind::TooFewBytes));
     }
+    second(first, held, source)
 }
 
 // Whether the byte is the first of a code of two bytes or more.
@@ -221,71 +216,110 @@ fn judge(bytes: &[u8]) -> Result<Utf8Char, Utf8Error>
     }
 }
 
-// The character that begins with the byte, which asks for others: they are read one by one, up to the first
-// that breaks the code.
+// The second byte of a code, and those behind it, each read where the ones before it ask for it. These
+// functions return each answer where it is found: so a compiler keeps the ways to them apart.
 #[inline(always)]
-fn complete<I: Iterator<Item = u8>>(
+fn second<I: Iterator<Item = u8>>(
     first: u8,
+    held: &mut HeldBytes,
     source: &mut I,
-    ended: &mut bool,
-) -> Result<Utf8Char, Fault>
+) -> Result<Followers, Utf8Error>
     requires low { 0xC2 ≤ first }
     requires high { first < 0xF5 }
-    requires can { ended.old ≡ false → I.can_next source.old }
-    ensures { Completes I.can_next I.remaining I.next_gives first source.old ended.old result source.new ended.new }
+    requires can { I.can_next source.old }
+    requires none { held.old.held ≡ [] }
+    requires going { held.old.ended ≡ false }
+    ensures { CompletesBehind I.can_next I.remaining I.next_gives first [] source.old result held.new.held source.new held.new.ended }
 {
-    let second = follower(HeldBytes::none(), source, ended)?;
-    if first < 0xe0 {
-        return judge_and_hold(&[first, second], HeldBytes::one(second));
+    match read(source) {
+        None => {
+            *held = HeldBytes::none().ended();
+            Err(Utf8Error::new(Utf8ErrorKind::TooFewBytes))
+        }
+        Some(byte) if !continues(byte) => {
+            *held = HeldBytes::one(byte);
+            Err(Utf8Error::new(Utf8ErrorKind::InterruptedSequence))
+        }
+        Some(byte) if first < 0xe0 => match judge(&[first, byte]) {
+            Ok(_) => Ok(Followers::new(byte, 0, 0)),
+            Err(error) => {
+                *held = HeldBytes::one(byte);
+                Err(error)
+            }
+        },
+        Some(byte) => third(first, byte, held, source),
     }
-    let third = follower(HeldBytes::one(second), source, ended)?;
-    if first < 0xf0 {
-        return judge_and_hold(&[first, second, third], HeldBytes::two(second, third));
-    }
-    let fourth = follower(HeldBytes::two(second, third), source, ended)?;
-    judge_and_hold(
-        &[first, second, third, fourth],
-        HeldBytes::three(second, third, fourth),
-    )
 }
 
-// The next byte, where it is a continuation byte. `before` are those that were read before it, behind the
-// first byte.
+// The third, behind a continuation byte, and the one behind it.
 #[inline(always)]
-fn follower<I: Iterator<Item = u8>>(
-    before: HeldBytes,
+fn third<I: Iterator<Item = u8>>(
+    first: u8,
+    second: u8,
+    held: &mut HeldBytes,
     source: &mut I,
-    ended: &mut bool,
-) -> Result<u8, Fault>
-    requires few { length before ≤ 2 }
-    requires can { ended.old ≡ false → I.can_next source.old }
-    ensures { Follows I.can_next I.remaining I.next_gives before source.old ended.old result source.new ended.new }
+) -> Result<Followers, Utf8Error>
+    requires low { 0xE0 ≤ first }
+    requires high { first < 0xF5 }
+    requires continuation { is_continuation second ≡ true }
+    requires can { I.can_next source.old }
+    requires none { held.old.held ≡ [] }
+    requires going { held.old.ended ≡ false }
+    ensures { CompletesBehind I.can_next I.remaining I.next_gives first (second ∷ []) source.old result held.new.held source.new held.new.ended }
 {
-    match read(source, ended) {
-        None => Err(Fault {
-            kind: Utf8ErrorKind::TooFewBytes,
-            held: before,
-        }),
-        Some(byte) if continues(byte) => Ok(byte),
-        Some(byte) => Err(Fault {
-            kind: Utf8ErrorKind::InterruptedSequence,
-            held: before.followed_by(byte),
-        }),
+    match read(source) {
+        None => {
+            *held = HeldBytes::one(second).ended();
+            Err(Utf8Error::new(Utf8ErrorKind::TooFewBytes))
+        }
+        Some(byte) if !continues(byte) => {
+            *held = HeldBytes::two(second, byte);
+            Err(Utf8Error::new(Utf8ErrorKind::InterruptedSequence))
+        }
+        Some(byte) if first < 0xf0 => match judge(&[first, second, byte]) {
+            Ok(_) => Ok(Followers::new(second, byte, 0)),
+            Err(error) => {
+                *held = HeldBytes::two(second, byte);
+                Err(error)
+            }
+        },
+        Some(byte) => fourth(first, second, byte, held, source),
     }
 }
 
-// The character whose code the bytes are, or what is wrong and what is to be held then.
+// The fourth, behind two continuation bytes.
 #[inline(always)]
-fn judge_and_hold(bytes: &[u8], held: HeldBytes) -> Result<Utf8Char, Fault>
-    requires some { 0 < length bytes.now }
-    requires exact { asked_by bytes.now ≡ length bytes.now }
-    ensures { JudgesHeld bytes.now held result }
+fn fourth<I: Iterator<Item = u8>>(
+    first: u8,
+    second: u8,
+    third: u8,
+    held: &mut HeldBytes,
+    source: &mut I,
+) -> Result<Followers, Utf8Error>
+    requires low { 0xF0 ≤ first }
+    requires high { first < 0xF5 }
+    requires second { is_continuation second ≡ true }
+    requires third { is_continuation third ≡ true }
+    requires can { I.can_next source.old }
+    requires none { held.old.held ≡ [] }
+    requires going { held.old.ended ≡ false }
+    ensures { CompletesBehind I.can_next I.remaining I.next_gives first (second ∷ third ∷ []) source.old result held.new.held source.new held.new.ended }
 {
-    match judge(bytes) {
-        Ok(c) => Ok(c),
-        Err(error) => Err(Fault {
-            kind: error.kind(),
-            held,
-        }),
+    match read(source) {
+        None => {
+            *held = HeldBytes::two(second, third).ended();
+            Err(Utf8Error::new(Utf8ErrorKind::TooFewBytes))
+        }
+        Some(byte) if !continues(byte) => {
+            *held = HeldBytes::three(second, third, byte);
+            Err(Utf8Error::new(Utf8ErrorKind::InterruptedSequence))
+        }
+        Some(byte) => match judge(&[first, second, third, byte]) {
+            Ok(_) => Ok(Followers::new(second, third, byte)),
+            Err(error) => {
+                *held = HeldBytes::three(second, third, byte);
+                Err(error)
+            }
+        },
     }
 }

@@ -1,5 +1,7 @@
 pub mod Counts
 pub mod Cursor
 pub mod Initials
+pub mod Records
 pub mod Tables
 pub mod Editor
+pub mod Tokens

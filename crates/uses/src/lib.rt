@@ -13,9 +13,11 @@ pub mod editor;
 pub mod lengths;
 pub mod opened;
 pub mod recoders;
+pub mod records;
 pub mod runs;
 pub mod tables;
 pub mod texts;
+pub mod tokens;
 pub mod unchecked;
 
 /// The first character of a text, in upper case where it is an ASCII letter.

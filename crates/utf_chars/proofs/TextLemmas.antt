@@ -1,8 +1,9 @@
 -- The first character of a text, and the one character of a text, as functions of the text.
-use Rattle.std.proofs.Common.{◌≡◌, ℕ, ◌<◌, List, [], length, ⊎_elim, take, Ok, Err, Result, eqb, true, false, refl, ap, sym, ◌∙◌, arith}
+use Rattle.std.proofs.Common.{◌≡◌, ℕ, ◌+◌, ◌-◌, ◌<◌, List, [], ◌++◌, length, drop, ⊎_elim, take, Ok, Err, Result, eqb, true, false, refl, ap, sym, ◌∙◌, arith}
 use Rattle.std.proofs.lemmas.Grind.{common_steps}
 use Rattle.std.specs.Str.{IsCharBoundary, IsUtf8}
-use Rattle.std.proofs.lemmas.Str.{IsCharBoundary-from_take}
+use Rattle.std.proofs.lemmas.List.{take-append-drop}
+use Rattle.std.proofs.lemmas.Str.{IsUtf8-drop, IsCharBoundary-past_char, length-encode}
 use Rattle.utf_base.specs.declared.errors.scalars.EmptyStrError.{EmptyStrError}
 use Rattle.utf_base.specs.declared.errors.scalars.FromStrError.{FromStrError}
 use Rattle.utf_base.specs.declared.errors.scalars.FromStrError.TheVariants.{MultipleCodepoints, Empty}
@@ -13,7 +14,7 @@ use Rattle.utf_base.specs.Kinds.{asked_by, value}
 use Rattle.utf_base.specs.Piece.{Stands}
 use Rattle.utf_base.proofs.FrontLemmas.{decodes_from_stands, code_where_no_fault, no_fault_where_code}
 use Rattle.utf_base.proofs.Standing.{stands_alone}
-use Rattle.utf_base.proofs.StdText.{utf8_is_text, text_begins}
+use Rattle.utf_base.proofs.StdText.{utf8_is_std, text_begins}
 use Rattle.utf_base.proofs.Utf8Code.{utf8_is_code}
 use Rattle.utf_chars.specs.Chars.{BeginsText, IsFrontCode, IsOneCharText, first_of_text, parsed, Parses}
 
@@ -77,16 +78,17 @@ text_of_code text s h e = (
   sym (answer_of_parse text (Ok s) (h, e)),
 )
 
--- a text can be cut behind its first character
-pub boundary_behind : (text : List ℕ) (s n : ℕ) → IsUtf8 text → BeginsWith utf8 text s n → IsCharBoundary text n
-boundary_behind text s n is_text h =
-    let within = h.0.within in
-    let len = h.1 in
-    let front : take n text ≡ utf8 s = taken text s n h in
-    IsCharBoundary-from_take text n is_text (omega arith) (rw front (utf8_is_text s h.0.scalar))
-  where
-    taken : (text : List ℕ) (s n : ℕ) → BeginsWith utf8 text s n → take n text ≡ utf8 s
-    taken text s n h = let equal = h.0.equal in let len = h.1 in grind (arith, common_steps)
+-- a text can be cut behind a character, where it can be cut before it
+pub boundary_behind : (xs : List ℕ) (i s k : ℕ) → IsUtf8 xs → IsCharBoundary xs i → Stands utf8 xs i s → k ≡ i + length (utf8 s) → IsCharBoundary xs k
+boundary_behind xs i s k is_text front h e =
+    let within = h.within in
+    let n : length (utf8 s) ≡ i + length (utf8 s) - i = omega arith in
+    let code : take (length (utf8 s)) (drop i xs) ≡ utf8 s = ap (λ k. take k (drop i xs)) n ∙ h.equal in
+    let split : drop i xs ≡ utf8 s ++ drop (length (utf8 s)) (drop i xs)
+    = sym (take-append-drop (length (utf8 s)) (drop i xs)) ∙ ap (λ ys. ys ++ drop (length (utf8 s)) (drop i xs)) code in
+    let seam = IsCharBoundary-past_char xs _ i s (omega arith) (IsUtf8-drop xs i is_text front) (split ∙ ap (λ ys. ys ++ drop (length (utf8 s)) (drop i xs)) (sym (utf8_is_std s))) in
+    let len = sym (length-encode s) ∙ ap length (utf8_is_std s) in
+    rw e (rw len at seam)
 
 -- a code begins each text but the empty one, and its first byte tells how long it is
 pub front_code : (text : List ℕ) (n : ℕ) → IsUtf8 text → 0 < length text → (0 < asked_by text → n ≡ asked_by text) → IsFrontCode text n

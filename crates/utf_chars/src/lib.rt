@@ -2,6 +2,7 @@
 #![tactic(auto)]
 
 mod codes;
+pub mod continuation;
 pub mod laws;
 pub mod traits;
 pub mod unsent;

@@ -3,11 +3,11 @@ ghost use Rattle.std.specs.Prelude.{◌≡◌, ◌+◌, ◌-◌, ◌<◌, ◌≤
 ghost use Rattle.utf_base.specs.declared.errors.Utf8ErrorKind.TheVariants.{UnexpectedContinuationByte};
 ghost use Rattle.utf_base.specs.Back.{DecodesEnd};
 ghost use Rattle.utf_base.specs.Front.{as_scalar};
-ghost use Rattle.utf_base.specs.Kinds.{is_continuation};
 ghost use Rattle.encode_unicode.specs.Scan.{IsScanned, IsWholeOrUnexpected};
 
 use crate::steps::Steps;
 use utf_base::errors::{Utf8Error, Utf8ErrorKind};
+use utf_chars::continuation::continues;
 use utf_chars::utf8_char::Utf8Char;
 
 /// The character whose code ends the bytes, and how many bytes the code has, else what is wrong with the
@@ -76,14 +76,6 @@ fn scan(bytes: [u8; 4], count: usize, steps: &mut Steps) -> Result<(Utf8Char, us
     }
     steps.tick();
     whole_or_unexpected(&bytes)
-}
-
-// Whether the byte has the form of one behind the first of a code.
-#[inline(always)]
-fn continues(byte: u8) -> bool
-    ensures { result ≡ is_continuation byte }
-{
-    byte & 0xc0 == 0x80
 }
 
 // The character whose code all of the bytes are, else the error of a continuation byte.

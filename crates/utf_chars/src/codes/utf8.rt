@@ -6,6 +6,7 @@ ghost use Rattle.utf_base.specs.Front.{as_scalar, IsOneCode, DecodesFront, Decod
 ghost use Rattle.utf_base.specs.Kinds.{is_continuation};
 ghost use Rattle.utf_chars.specs.Padded.{padded};
 
+use crate::continuation::continues;
 use utf_base::errors::{Utf8Error, Utf8ErrorKind};
 
 /// The code, then zeros, and how many bytes the code has: 1 to 4.
@@ -147,14 +148,6 @@ fn continuation(bits: u32) -> u32
     ensures { result ≡ 0x80 + bits % 64 }
 {
     0x80 | bits & 0x3f
-}
-
-/// Whether the byte has the form of one behind the first of a code.
-#[inline(always)]
-pub(crate) fn continues(byte: u8) -> bool
-    ensures { result ≡ is_continuation byte }
-{
-    byte & 0xc0 == 0x80
 }
 
 // Whether two bytes have it.

@@ -3,7 +3,7 @@ ghost use Rattle.std.specs.Prelude.{◌≡◌};
 ghost use Rattle.utf_base.specs.Back.{EndsInFollowers};
 ghost use Rattle.utf_base.specs.Kinds.{back_kind};
 
-use crate::codes::utf8::continues;
+use crate::continuation::continues;
 use utf_base::errors::{Utf8Error, Utf8ErrorKind};
 
 /// How many continuation bytes the bytes end with, up to three.

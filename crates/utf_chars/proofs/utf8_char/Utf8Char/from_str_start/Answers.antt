@@ -1,5 +1,6 @@
 use Rattle.std.proofs.Common.{◌≡◌, ◌<◌, [], length, Ok, Err, arith}
 use Rattle.std.proofs.lemmas.Grind.{common_steps}
+use Rattle.std.proofs.lemmas.Str.{IsCharBoundary-start}
 use Rattle.utf_base.proofs.DecodedLemmas.{front_len_utf8}
 use Rattle.utf_chars.proofs.TextLemmas.{answer_of_text, boundary_behind, front_code}
 use Rattle.utf_chars.proofs.utf8_char.Utf8Char.from_str_start.Goals as goal
@@ -24,4 +25,7 @@ pub returns-clause-len : goal.returns-clause-len
 returns-clause-len c = front_len_utf8 _ _ _ (rw c.as_bytes-bytes.ensures.value at c.from_front.ensures)
 
 pub returns-clause-boundary : goal.returns-clause-boundary
-returns-clause-boundary c = boundary_behind _ _ _ c.utf8.src (rw c.as_bytes-bytes.ensures.value at c.from_front.ensures)
+returns-clause-boundary c =
+    let begins = rw c.as_bytes-bytes.ensures.value at c.from_front.ensures in
+    let len = begins.1 in
+    boundary_behind _ 0 _ _ c.utf8.src (IsCharBoundary-start _ c.utf8.src) begins.0 (omega arith)

@@ -1,0 +1,13 @@
+//! Tests of the decoder of bytes, from its front, its back and both.
+#![tactic(auto)]
+
+#[cfg(test)]
+mod decoders;
+#[cfg(test)]
+mod front;
+#[cfg(test)]
+mod pieces;
+#[cfg(test)]
+mod slice_ends;
+#[cfg(test)]
+mod walks;

@@ -1,0 +1,37 @@
+use Rattle.std.proofs.Common.{◌≡◌, ◌≤◌, [], ◌∷◌, lit<, sym, ◌∙◌, arith}
+use Rattle.utf_base.specs.Kinds.{asked, asked_by}
+use Rattle.utf_base.proofs.FrontLemmas.{asked-2}
+use Rattle.utf_base.proofs.MergerLemmas.{few-1, broken-1}
+use Rattle.encode_unicode.proofs.ByteMerging.{asks_two, code_behind, end_behind, fault_behind, held_none, held_one, kind_of_all, two_padded}
+use Rattle.encode_unicode.proofs.MergerSteps.{reads_more}
+use Rattle.encode_unicode.proofs.utf8_merger.second.Goals as goal
+
+pub judge-requires-clause-enough : goal.judge-requires-clause-enough
+judge-requires-clause-enough g c =
+    let asks : asked_by (c.args.first ∷ c.in-Some.byte ∷ []) ≡ 2 = asked-2 c.args.first c.requires.low c.if-first-lt224.true in
+    omega arith
+
+pub judge-requires-clause-exact : goal.judge-requires-clause-exact
+judge-requires-clause-exact g c many = asked-2 c.args.first c.requires.low c.if-first-lt224.true
+
+pub returns-in-None : goal.returns-in-None
+returns-in-None g c =
+    let asks : 2 ≤ asked c.args.first = asks_two c.args.first c.requires.low c.requires.high in
+    rw c.new.ensures (end_behind _ _ _ c.args.first ([]) _ _ _ _ _ c.in-None.ensures (few-1 c.args.first (omega arith)) held_none (c.ended.ensures.held ∙ c.none.ensures.held) c.ended.ensures.ended)
+
+pub returns-in-Some : goal.returns-in-Some
+returns-in-Some g c =
+    let asks : 2 ≤ asked c.args.first = asks_two c.args.first c.requires.low c.requires.high in
+    let other = sym c.continues.ensures ∙ c.if-not-continues.true in
+    rw c.new-in-Some.ensures (fault_behind _ _ _ c.args.first ([]) c.in-Some.byte _ _ _ _ _ c.in-Some.ensures (λ later. broken-1 c.args.first c.in-Some.byte later (omega arith) other) (held_one c.in-Some.byte) c.one.ensures.held c.one.ensures.going)
+
+pub returns-in-Ok : goal.returns-in-Ok
+returns-in-Ok g c =
+    rw c.new-in-Ok.ensures (code_behind _ _ _ c.args.first ([]) c.in-Some.byte c.in-Ok.field-0 _ _ _ _ _ c.in-Some.ensures c.in-Ok.ensures.0 c.in-Ok.ensures.1 (two_padded c.args.first c.in-Some.byte _ c.in-Ok.ensures.1) c.requires.none c.requires.going)
+
+pub returns-in-Err : goal.returns-in-Err
+returns-in-Err g c =
+    fault_behind _ _ _ c.args.first ([]) c.in-Some.byte _ _ _ _ _ c.in-Some.ensures (kind_of_all (c.args.first ∷ c.in-Some.byte ∷ []) _ (lit< tt) (asked-2 c.args.first c.requires.low c.if-first-lt224.true) c.in-Err.ensures) (held_one c.in-Some.byte) c.one-in-Err.ensures.held c.one-in-Err.ensures.going
+
+pub returns-in-Some-3 : goal.returns-in-Some-3
+returns-in-Some-3 g c s so_far = c.third.ensures s (reads_more _ _ _ _ _ _ _ _ _ _ _ so_far c.in-Some.ensures)
