@@ -2,5 +2,5 @@ pub mod CursorLemmas
 pub mod RecodeLemmas
 pub mod RecordLemmas
 pub mod TableLemmas
-pub mod EditorLemmas
 pub mod TokenLemmas
+pub mod EditorLemmas

@@ -3,5 +3,5 @@ pub mod Cursor
 pub mod Initials
 pub mod Records
 pub mod Tables
-pub mod Editor
 pub mod Tokens
+pub mod Editor

@@ -4,6 +4,23 @@ ghost use Rattle.uses.specs.Cursor.{IsBetween, IsStep};
 
 use encode_unicode::{Utf8Char, laws};
 
+/// The place in front of all pieces.
+pub fn front(src: &[u8]) -> usize
+    ensures between { IsBetween src.now result }
+    ensures zero { result ≡ 0 }
+{
+    let _ = src;
+    0
+}
+
+/// The place behind all pieces.
+pub fn back(src: &[u8]) -> usize
+    ensures between { IsBetween src.now result }
+    ensures len { result ≡ length src.now }
+{
+    src.len()
+}
+
 /// The place one piece further on, where there is a piece.
 pub fn step_on(src: &[u8], place: usize) -> usize
     requires between { IsBetween src.now place }

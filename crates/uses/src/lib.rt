@@ -11,6 +11,7 @@ pub mod cursor;
 pub mod damage;
 pub mod editor;
 pub mod lengths;
+pub mod merged;
 pub mod opened;
 pub mod recoders;
 pub mod records;
