@@ -107,6 +107,7 @@ impl<I: Iterator<Item = u16>> Utf16CharMerger<I> {
         ensures held { IsHeldUnits self.held }
         ensures whole { (rest : I → List ℕ) → IsSpent rest self.source self.ended → self.held ≡ [] → rest result ≡ unread rest self }
     {
+        // That at most one unit is held is what this says to the contract.
         let _ = self.held.len();
         let Utf16CharMerger { source, held: _ } = self;
         source
