@@ -1,5 +1,5 @@
 -- What the two units of a character hold.
-use Rattle.std.proofs.Common.{◌≡◌, ℕ, ◌+◌, ◌-◌, ◌/◌, ◌%◌, ◌<◌, ◌≤◌, ◌⊎◌, inl, inr, ⊎_elim, Option, Some, None, Ok, List, [], ◌∷◌, length, get_or, take, sym, ap, ◌∙◌, refl, arith, Bool, true, false, ◌&&◌}
+use Rattle.std.proofs.Common.{◌≡◌, ℕ, ◌+◌, ◌-◌, ◌/◌, ◌%◌, ◌<◌, ◌≤◌, ◌⊎◌, inl, inr, ⊎_elim, Option, Some, None, Ok, List, [], ◌∷◌, length, get_or, take, sym, ap, ◌∙◌, refl, arith, Bool, true, false}
 use Rattle.std.proofs.lemmas.Grind.{common_steps}
 use Rattle.std.proofs.lemmas.Bool.{cases_lt}
 use Rattle.std.proofs.lemmas.List.{take_at}
@@ -52,11 +52,6 @@ leading_of_pair units s p =
     let below = p.below in
     let bound : (s - 0x1_0000) / 1024 < 1024 = omega arith in
     rw first (grind (arith, common_steps))
-
-trailing_of_pair : (units : List ℕ) (s : ℕ) → AsPair units s → is_trailing_surrogate (get_or units 1 0) ≡ true
-trailing_of_pair units s p =
-    let second = p.second in
-    rw second (grind (arith, common_steps))
 
 value_of_pair : (units : List ℕ) (s : ℕ) → AsPair units s → pair_value (get_or units 0 0) (get_or units 1 0) ≡ s
 value_of_pair units s p =
@@ -128,15 +123,6 @@ scalar_by_second units s h e =
     ⊎_elim
     (λ (u : AsUnit units s). (λ z. u.first, λ some. absurd (some u.second)))
     (λ (p : AsPair units s). let second = p.second in (λ z. absurd (omega arith), λ some. value_of_pair units s p))
-    (char_cases units s h e)
-
--- with a second unit there are two surrogates
-pub surrogates_by_second : (units : List ℕ) (s : ℕ) → IsPadded utf16 2 unit_value units → unit_value units ≡ s
-    → (get_or units 1 0 ≡ 0 → ⊥) → (is_leading_surrogate (get_or units 0 0) && is_trailing_surrogate (get_or units 1 0)) ≡ true
-surrogates_by_second units s h e some =
-    ⊎_elim
-    (λ (u : AsUnit units s). absurd (some u.second))
-    (λ (p : AsPair units s). rw (leading_of_pair units s p, trailing_of_pair units s p) refl)
     (char_cases units s h e)
 
 -- the code, by whether there is a second unit

@@ -169,18 +169,6 @@ pub(crate) fn value_of_pair(first: u16, second: u16) -> u32
     0x1_0000 + (((first & 0x3ff) as u32) << 10 | (second & 0x3ff) as u32)
 }
 
-/// The same of what is known to be a leading and a trailing surrogate: one sum, with no bits to take out.
-#[inline(always)]
-pub(crate) fn value_of_surrogates(first: u16, second: u16) -> u32
-    requires { (is_leading_surrogate first && is_trailing_surrogate second) ≡ true }
-    ensures value { result ≡ pair_value first second }
-    ensures bound { result < 0x11_0000 }
-{
-    let high = first as u32 - 0xd800;
-    let low = second as u32 - 0xdc00;
-    0x1_0000 + (high << 10) + low
-}
-
 // The first unit of the pair of a scalar.
 #[inline(always)]
 fn leading_surrogate(s: u32) -> u16
@@ -264,5 +252,7 @@ fn char_of_surrogates(first: u16, second: u16) -> char
     requires { (is_leading_surrogate first && is_trailing_surrogate second) ≡ true }
     ensures { result ≡ pair_value first second }
 {
-    unsafe { char::from_u32_unchecked(value_of_surrogates(first, second)) }
+    let high = first as u32 - 0xd800;
+    let low = second as u32 - 0xdc00;
+    unsafe { char::from_u32_unchecked(0x1_0000 + (high << 10) + low) }
 }
