@@ -77,6 +77,10 @@ fn a_few_characters_in_order(rt: HostRuntime) -> Result<(), Fail> {
     assert_eq!(rt; bytes.as_slice(), [0x41, 0xe2, 0x82, 0xac].as_slice());
     let units = "\u{1f4a3}".utf16chars().collect_units(rt.alloc())?;
     assert_eq!(rt; units.as_slice(), [0xd83d, 0xdca3].as_slice());
+    let text = "\u{e9}".utf8chars().collect_string(rt.alloc())?;
+    assert_eq!(rt; text.as_bytes(), [0xc3, 0xa9].as_slice());
+    let text = "\u{e9}".utf16chars().collect_string(rt.alloc())?;
+    assert_eq!(rt; text.as_bytes(), [0xc3, 0xa9].as_slice());
     let mut text = String::from_str(rt.alloc(), "a")?;
     "\u{e9}".utf8chars().extend_string(&mut text)?;
     assert_eq!(rt; text.as_bytes(), [0x61, 0xc3, 0xa9].as_slice());
