@@ -6,6 +6,7 @@ use Rattle.std.specs.Prelude.{slice_range}
 use Rattle.utf_base.specs.Code.{IsCode}
 use Rattle.utf_base.specs.CutLaws.{OneCodeEnds}
 use Rattle.utf_base.specs.Ends.{EndsWith, NoCodeEnds}
+use Rattle.utf_base.specs.Front.{BeginsWith}
 use Rattle.utf_base.specs.Piece.{Stands}
 use Rattle.utf_base.proofs.Standing.{codes_never_overlap, stands_in_part, stands_in_whole}
 
@@ -18,6 +19,19 @@ ends_with code xs p s h e =
 -- the place at which the code that ends a list stands
 pub ends_at : (code : ℕ → List ℕ) (xs : List ℕ) (s n : ℕ) → EndsWith code xs s n → length xs - n + length (code s) ≡ length xs
 ends_at code xs s n h = let within = h.0.within in let len = h.1 in omega arith
+
+-- a code ends a list exactly where it begins the last elements, as many as it has
+
+pub ends_by_last : (code : ℕ → List ℕ) (xs : List ℕ) (s n : ℕ) → BeginsWith code (slice_range xs (length xs - n) (length xs)) s n → EndsWith code xs s n
+ends_by_last code xs s n h =
+    let whole = stands_in_whole code xs (length xs - n) (length xs) 0 (length xs - n) s (omega arith) (omega arith) (omega arith) h.0 in
+    (whole.0, h.1)
+
+pub last_of_end : (code : ℕ → List ℕ) (xs : List ℕ) (s n : ℕ) → EndsWith code xs s n → BeginsWith code (slice_range xs (length xs - n) (length xs)) s n
+last_of_end code xs s n h =
+    let within = h.0.within in
+    let n_is = h.1 in
+    (stands_in_part code xs (length xs - n) (length xs) 0 (length xs - n) s (omega arith) (omega arith) h.0 (omega arith), h.1)
 
 -- no code ends a list without an element
 pub no_code_ends-empty : (code : ℕ → List ℕ) → IsCode code → (xs : List ℕ) → length xs ≡ 0 → NoCodeEnds code xs

@@ -12,10 +12,12 @@ pub mod DecodedLemmas
 pub mod JoinedCodes
 pub mod MergerLemmas
 pub mod EndLemmas
+pub mod UnitEnds
 pub mod Walks
 pub mod WalkPieces
 pub mod WalkWords
 pub mod ByteWalks
+pub mod UnitWalks
 pub mod BackLemmas
 pub mod LocalDamage
 pub mod CutChanges

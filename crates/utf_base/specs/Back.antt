@@ -1,11 +1,16 @@
--- What the decoding of the character at the end of some bytes answers. `scalar` tells what scalar a character is.
-use Rattle.std.specs.Prelude.{◌≡◌, ℕ, ◌-◌, ◌<◌, ◌≤◌, Bool, true, false, ◌&&◌, ◌==◌, if◌then◌else◌, List, length, slice_index, slice_range, Option, Some, None, is_none, Result, Ok, Err, MatchResult}
+-- What the decoding of the character at the end of some bytes, or units, answers. `scalar` tells what scalar a character is.
+use Rattle.std.specs.Option.{ok_or}
+use Rattle.std.specs.Prelude.{◌≡◌, ℕ, ◌-◌, ◌<◌, ◌≤◌, Bool, true, false, not, ◌&&◌, nat_le, ◌==◌, if◌then◌else◌, List, length, slice_index, slice_range, Option, Some, None, is_none, Result, Ok, Err, MatchResult}
 use Rattle.utf_base.specs.declared.errors.Utf8ErrorKind.{Utf8ErrorKind}
 use Rattle.utf_base.specs.declared.errors.Utf8ErrorKind.TheVariants.{TooFewBytes}
-use Rattle.utf_base.specs.Code.{utf8}
+use Rattle.utf_base.specs.declared.errors.units.Utf16SliceError.{Utf16SliceError}
+use Rattle.utf_base.specs.declared.errors.units.Utf16SliceError.TheVariants as slice
+use Rattle.utf_base.specs.declared.errors.units.Utf16PairError.{Utf16PairError}
+use Rattle.utf_base.specs.Code.{utf8, utf16}
 use Rattle.utf_base.specs.Ends.{last_of, EndsWith, NoCodeEnds}
 use Rattle.utf_base.specs.Front.{BeginsWith}
 use Rattle.utf_base.specs.Kinds.{asked_by, value, fault_kind, back_kind, is_continuation}
+use Rattle.utf_base.specs.Units.{is_leading_surrogate, is_surrogate, is_trailing_surrogate, pair_value, unit_back_kind}
 
 -- what is wrong with bytes that no code ends: the backward kind of the last one
 abbrev pub end_fault : List ℕ → Utf8ErrorKind
@@ -50,3 +55,40 @@ pub record EndsInFollowers (w : List ℕ) (t : ℕ) : Type 0 where
   pub within : t ≤ length w
   pub followers : (k : ℕ) → k < t → is_continuation (slice_index w (length w - 1 - k)) ≡ true
   pub stops : t < 3 → t < length w → is_continuation (slice_index w (length w - 1 - t)) ≡ false
+
+-- Units.
+
+-- what is wrong with units that no code ends: the fault of the last one by itself
+abbrev pub unit_end_fault : List ℕ → Utf16SliceError
+unit_end_fault w =
+    if length w == 0 then slice.EmptySlice
+    else if is_trailing_surrogate (last_of w) then slice.FirstIsTrailingSurrogate
+    else slice.MissingSecond
+
+-- the character whose code ends the units, with its length, else what is wrong with the last of them
+abbrev pub DecodesUnitsEnd : {C : Type 0} → (C → ℕ) → List ℕ → Result (C × ℕ) Utf16SliceError → Type 0
+DecodesUnitsEnd scalar w r = MatchResult r (λ x. EndsWith utf16 w (scalar x.0) x.1) (λ e. NoCodeEnds utf16 w × (e ≡ unit_end_fault w))
+
+-- the unit before the last
+abbrev pub second_last_of : List ℕ → ℕ
+second_last_of w = slice_index w (length w - 2)
+
+-- the last two units are a pair
+abbrev pub ends_in_pair : List ℕ → Bool
+ends_in_pair w = nat_le 2 (length w) && is_leading_surrogate (second_last_of w) && is_trailing_surrogate (last_of w)
+
+-- the scalar whose code ends the units, with the code's length, or `None` where none does
+unfoldable pub unit_end : List ℕ → Option (ℕ × ℕ)
+unit_end w =
+    if length w == 0 then None
+    else if not (is_surrogate (last_of w)) then Some (last_of w, 1)
+    else if ends_in_pair w then Some (pair_value (second_last_of w) (last_of w), 2)
+    else None
+
+-- the same, else what is wrong with a slice of them
+unfoldable pub decoded_units_end : List ℕ → Result (ℕ × ℕ) Utf16SliceError
+decoded_units_end w = ok_or (unit_end w) (unit_end_fault w)
+
+-- the same, else the backward kind of the last
+unfoldable pub decoded_pairs_end : List ℕ → Result (ℕ × ℕ) Utf16PairError
+decoded_pairs_end w = ok_or (unit_end w) (unit_back_kind (last_of w))

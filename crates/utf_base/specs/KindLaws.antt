@@ -6,7 +6,7 @@ use Rattle.utf_base.specs.Code.{utf8, utf16}
 use Rattle.utf_base.specs.Kinds.{asked_by, fault_kind, is_broken, merger_kind, value, back_kind}
 use Rattle.utf_base.specs.Ends.{last_of, EndsWith, NoCodeEnds}
 use Rattle.utf_base.specs.Piece.{Stands}
-use Rattle.utf_base.specs.Units.{slice_fault, unit_fault_kind, unit_value}
+use Rattle.utf_base.specs.Units.{is_surrogate, slice_fault, unit_back_kind, unit_fault_kind, unit_value}
 
 -- bytes have no fault exactly where a code begins them, which is that of their value
 pub record CodeOrOneFault : Type 0 where
@@ -54,3 +54,9 @@ TwoUnitsDecide = (w : List ℕ) → unit_fault_kind (take 2 w) ≡ unit_fault_ki
 pub record CodeOrLastByte : Type 0 where
   pub code : (w : List ℕ) → 0 < length w → last_of w < 0x80 → EndsWith utf8 w (last_of w) 1
   pub fault : (w : List ℕ) → 0 < length w → NoCodeEnds utf8 w → (0x80 ≤ last_of w) × (fault_kind (last_of w ∷ []) ≡ Some (back_kind (last_of w)))
+
+-- a last unit that is no surrogate is the code that ends the units, and one that no code ends with is a surrogate, whose
+-- backward kind is its forward kind by itself
+pub record UnitsCodeOrLastUnit : Type 0 where
+  pub code : (w : List ℕ) → IsUnits w → 0 < length w → is_surrogate (last_of w) ≡ false → EndsWith utf16 w (last_of w) 1
+  pub fault : (w : List ℕ) → IsUnits w → 0 < length w → NoCodeEnds utf16 w → (is_surrogate (last_of w) ≡ true) × (unit_fault_kind (last_of w ∷ []) ≡ Some (unit_back_kind (last_of w)))

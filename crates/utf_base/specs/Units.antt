@@ -90,3 +90,7 @@ unit_fault_kind w =
     else if length w == 1 then Some pair.Incomplete
     else if not (is_trailing_surrogate (slice_index w 1)) then Some pair.UnmatchedLeadingSurrogate
     else None
+
+-- the backward kind of a surrogate that no code ends with: what is wrong with it by itself
+unfoldable pub unit_back_kind : ℕ → Utf16PairError
+unit_back_kind u = if is_trailing_surrogate u then pair.UnexpectedTrailingSurrogate else pair.Incomplete

@@ -4,9 +4,11 @@ use Rattle.std.specs.Prelude.{◌≡◌, ℕ, ◌+◌, ◌-◌, ◌<◌, List, [
 use Rattle.std.specs.Option.{option_map}
 use Rattle.std.specs.Result.{result_ok}
 use Rattle.utf_base.specs.declared.errors.Utf8ErrorKind.{Utf8ErrorKind}
-use Rattle.utf_base.specs.Code.{utf8}
+use Rattle.utf_base.specs.declared.errors.units.Utf16PairError.{Utf16PairError}
+use Rattle.utf_base.specs.Code.{utf8, utf16}
 use Rattle.utf_base.specs.Kinds.{fault_kind, back_kind}
 use Rattle.utf_base.specs.Piece.{Piece, IsPiece}
+use Rattle.utf_base.specs.Units.{unit_fault_kind, unit_back_kind}
 
 -- a code, what is wrong with a list that no code begins, and what is wrong with an element that no code ends with
 pub record Encoding (E : Type 0) : Type 0 where
@@ -16,6 +18,9 @@ pub record Encoding (E : Type 0) : Type 0 where
 
 abbrev pub utf8_bytes : Encoding Utf8ErrorKind
 utf8_bytes = record { code = utf8; forward = fault_kind; backward = back_kind }
+
+abbrev pub utf16_units : Encoding Utf16PairError
+utf16_units = record { code = utf16; forward = unit_fault_kind; backward = unit_back_kind }
 
 -- the end of the window that is asked
 pub data Side : Type 0 where

@@ -1,4 +1,4 @@
--- The laws of walks, generic in the encoding. The functions of `laws` prove each for bytes.
+-- The laws of walks, generic in the encoding. The functions of `laws` prove each for bytes and for units.
 use Rattle.std.specs.Prelude.{◌≡◌, ◌≢◌, ℕ, ◌≤◌, List, take, Option, None, All, AllPairs, Contains, IsPermutation}
 use Rattle.utf_base.specs.Piece.{Inside, Piece, IsPiece, IsCut}
 use Rattle.utf_base.specs.Walk.{Encoding, Side, Placed, IsWalk, answered}
@@ -6,6 +6,10 @@ use Rattle.utf_base.specs.Walk.{Encoding, Side, Placed, IsWalk, answered}
 -- each word has a walk
 abbrev pub WalkExists : {E : Type 0} → Encoding E → Type 0
 WalkExists {E} e = (xs : List ℕ) (word : List Side) → (answers : List (Option (Placed E))) × IsWalk e xs word answers
+
+-- the same over the lists of which `Fits` holds
+abbrev pub WalkExistsOver : {E : Type 0} → (List ℕ → Type 0) → Encoding E → Type 0
+WalkExistsOver {E} Fits e = (xs : List ℕ) → Fits xs → (word : List Side) → (answers : List (Option (Placed E))) × IsWalk e xs word answers
 
 -- each word has at most one
 abbrev pub WalkIsUnique : {E : Type 0} → Encoding E → Type 0

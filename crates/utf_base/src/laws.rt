@@ -9,11 +9,14 @@ ghost use Rattle.utf_base.specs.CutLaws.{AsciiStandsAlone, OneCodeEnds};
 ghost use Rattle.utf_base.specs.KindLaws.{CodeOrOneFault, UnitsCodeOrOneFault, UnitsCodeOrOneKind};
 ghost use Rattle.utf_base.specs.KindLaws.{FourBytesDecide, TwoUnitsDecide, MergerCodeOrOneFault};
 ghost use Rattle.utf_base.specs.KindLaws.{FourBytesDecideMerger, KindsDiffer, CodeOrLastByte};
+ghost use Rattle.utf_base.specs.KindLaws.{UnitsCodeOrLastUnit};
 ghost use Rattle.utf_base.specs.Kinds.{fault_kind};
 ghost use Rattle.utf_base.specs.LocalLaws.{DamageIsLocal, FrontStays, RestStays};
+ghost use Rattle.utf_base.specs.Scalar.{IsUnits};
 ghost use Rattle.utf_base.specs.Units.{unit_fault_kind};
-ghost use Rattle.utf_base.specs.Walk.{utf8_bytes};
-ghost use Rattle.utf_base.specs.WalkLaws.{WalkExists, WalkIsUnique, WalkStaysOutside, WalkGivesEachOnce};
+ghost use Rattle.utf_base.specs.Walk.{utf8_bytes, utf16_units};
+ghost use Rattle.utf_base.specs.WalkLaws.{WalkExists, WalkExistsOver, WalkIsUnique};
+ghost use Rattle.utf_base.specs.WalkLaws.{WalkStaysOutside, WalkGivesEachOnce};
 
 /// Two codes that stand in one list are the same place or share no element.
 pub fn codes_never_overlap()
@@ -102,6 +105,12 @@ pub fn units_code_or_one_kind()
     ensures { UnitsCodeOrOneKind }
 {}
 
+/// The last of some units is a character by itself where it is no surrogate, and where no code ends the
+/// units it is a surrogate, whose backward kind is what is wrong with it by itself.
+pub fn units_code_or_last_unit()
+    ensures { UnitsCodeOrLastUnit }
+{}
+
 /// The forward kind depends on the first four bytes alone, on fewer where there are fewer, and so does the
 /// kind that a merger gives.
 pub fn four_bytes_decide()
@@ -136,23 +145,27 @@ pub fn damage_reaches_its_bounds()
     ensures rest { ¬ RestStays utf8 fault_kind 3 }
 {}
 
-/// Every word has a walk over every list of bytes.
+/// Every word has a walk over every list of bytes, and of units.
 pub fn walk_exists()
-    ensures { WalkExists utf8_bytes }
+    ensures utf8 { WalkExists utf8_bytes }
+    ensures utf16 { WalkExistsOver IsUnits utf16_units }
 {}
 
-/// No word has two: bytes and word decide every answer.
+/// No word has two: list and word decide every answer.
 pub fn walk_is_unique()
-    ensures { WalkIsUnique utf8_bytes }
+    ensures utf8 { WalkIsUnique utf8_bytes }
+    ensures utf16 { WalkIsUnique utf16_units }
 {}
 
 /// After each letter of a walk, neither end of the window lies inside the encoding of a scalar.
 pub fn walk_stays_outside()
-    ensures { WalkStaysOutside utf8_bytes }
+    ensures utf8 { WalkStaysOutside utf8_bytes }
+    ensures utf16 { WalkStaysOutside utf16_units }
 {}
 
 /// The pieces that a walk answers are different pieces of the cut, and once none is left they are, in
 /// the order of their places, all of it.
 pub fn walk_gives_each_once()
-    ensures { WalkGivesEachOnce utf8_bytes }
+    ensures utf8 { WalkGivesEachOnce utf8_bytes }
+    ensures utf16 { WalkGivesEachOnce utf16_units }
 {}

@@ -11,6 +11,7 @@ ghost use Rattle.std.specs.Str.{IsCharBoundary};
 ghost use Rattle.std.proofs.Common.{rules};
 ghost use Rattle.utf_base.specs.Scalar.{IsScalar};
 ghost use Rattle.utf_base.specs.Code.{utf8, utf16};
+ghost use Rattle.utf_base.specs.Back.{decoded_units_end, DecodesUnitsEnd};
 ghost use Rattle.utf_base.specs.Decoded.{decoded_units, decoded_two, decoded_tuple};
 ghost use Rattle.utf_base.specs.Front.{as_scalar, BeginsWith, DecodesUnits, DecodesTwoUnits, DecodesTuple, IsFrontLen};
 ghost use Rattle.utf_base.specs.Units.{is_padded_units, is_surrogate, units_of};
@@ -101,6 +102,23 @@ impl Utf16Char {
         ensures len { IsFrontLen 2 src.now result.1 }
     {
         Utf16Char::from_slice_start(src).unwrap()
+    }
+
+    /// The character whose code ends the units, and how many units the code has: 1 or 2.
+    ///
+    /// Where no code ends them, the error is that of the last unit by itself: a trailing surrogate is
+    /// `FirstIsTrailingSurrogate`, and a leading one, behind which nothing stands, is `MissingSecond`. No
+    /// unit at all is `EmptySlice`.
+    ///
+    /// No more than the last two units matter.
+    #[inline(always)]
+    pub fn from_slice_end(src: &[u16]) -> Result<(Utf16Char, usize), Utf16SliceError>
+        ensures decodes { DecodesUnitsEnd as_scalar src.now result }
+        ensures known { result ≡ decoded_units_end src.now }
+        ensures len { IfOk result (λ x. IsFrontLen 2 src.now x.1) }
+    {
+        let (last, len) = utf16::decode_end(src)?;
+        Ok((Utf16Char::new(last), len))
     }
 
     /// The character whose code begins the two units. A second unit that the first does not ask for is

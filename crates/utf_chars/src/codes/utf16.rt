@@ -1,6 +1,7 @@
 //! The code of a scalar in UTF-16 (RFC 2781).
 ghost use Rattle.std.specs.Prelude.{◌≡◌, ◌↔◌, IsTrue, ◌+◌, ◌-◌, ◌/◌, ◌%◌, ◌≤◌, ◌<◌, ◌&&◌, nat_lt, true, false, slice_index, if◌then◌else◌, IfNone};
 ghost use Rattle.utf_base.specs.declared.errors.units.Utf16SliceError.TheVariants.{FirstIsTrailingSurrogate};
+ghost use Rattle.utf_base.specs.Back.{DecodesUnitsEnd};
 ghost use Rattle.utf_base.specs.Code.{utf16};
 ghost use Rattle.utf_base.specs.Front.{as_scalar, DecodesUnits, DecodesTwoUnits, DecodesTuple};
 ghost use Rattle.utf_base.specs.Units.{is_surrogate, is_leading_surrogate, is_trailing_surrogate, pair_value, tuple_value, units_of};
@@ -88,6 +89,32 @@ pub(crate) fn decode_start(src: &[u16]) -> Result<(char, usize), Utf16SliceError
         return Ok((char_of_surrogates(first, src[1]), 2));
     }
     Err(unpaired(first, Utf16SliceError::SecondIsNotTrailingSurrogate))
+}
+
+/// The character whose code ends the units, and how many units the code has: 1 or 2.
+///
+/// Where no code ends them, the error is that of the last unit by itself: `EmptySlice` where there is none,
+/// `FirstIsTrailingSurrogate` or `MissingSecond`.
+#[inline(always)]
+#[tactic(auto, using(utf_base::proofs::UnitEnds::ends_with_unit, utf_base::proofs::UnitEnds::ends_with_pair, utf_base::proofs::UnitEnds::no_units_end, utf_base::proofs::UnitEnds::no_units_end_empty))]
+pub(crate) fn decode_end(src: &[u16]) -> Result<(char, usize), Utf16SliceError>
+    ensures { DecodesUnitsEnd as_scalar src.now result }
+{
+    let count = src.len();
+    if count == 0 {
+        return Err(Utf16SliceError::EmptySlice);
+    }
+    let last = src[count - 1];
+    if !is_surrogate(last) {
+        return Ok((char_of_unit(last), 1));
+    }
+    if count >= 2 {
+        let first = src[count - 2];
+        if begins_pair(first) && ends_pair(last) {
+            return Ok((char_of_surrogates(first, last), 2));
+        }
+    }
+    Err(unpaired(last, Utf16SliceError::MissingSecond))
 }
 
 /// The character whose code begins the two units. A second unit that the first does not ask for is
@@ -207,6 +234,14 @@ fn is_pair(high: u32, second: u16) -> bool
     (high >> 10) + (low >> 10) == 0
 }
 
+// Whether the unit is a leading surrogate.
+#[inline(always)]
+fn begins_pair(unit: u16) -> bool
+    ensures { result ≡ is_leading_surrogate unit }
+{
+    unit & 0xfc00 == 0xd800
+}
+
 // Whether the unit is a trailing surrogate.
 #[inline(always)]
 fn ends_pair(unit: u16) -> bool
@@ -215,7 +250,7 @@ fn ends_pair(unit: u16) -> bool
     unit & 0xfc00 == 0xdc00
 }
 
-// Why a surrogate begins no code: that it is a trailing one, or otherwise what is wrong behind it.
+// Why a surrogate is part of no code: that it is a trailing one, or otherwise what is wrong behind it.
 #[inline(always)]
 fn unpaired(first: u16, otherwise: Utf16SliceError) -> Utf16SliceError
     ensures { result ≡ (if is_trailing_surrogate first then FirstIsTrailingSurrogate else otherwise) }
