@@ -86,3 +86,23 @@ takes_held Held can_next remaining steps old s e (Some x) new f can busy same h 
   begins = append-nil old ∙ h;
   held = keeps;
 }
+
+-- once it has left, there is less to come
+pub first_nearer : {S : Type 0} (Held : List ℕ → Type 0) (can_next : S → Type 0) (remaining : S → Count) (steps : S → Option ℕ → S → Type 0) (old : List ℕ) (s : S) (e : Bool) (r : Option ℕ) (new : List ℕ) (t : S) (f : Bool)
+    → TakesFirst Held can_next remaining steps old s e r new t f
+    → MakesProgress (λ (m : Merging S). m.ended ≡ false → can_next m.source) (unread_count remaining) (record { held = old; source = s; ended = e }) r (record { held = new; source = t; ended = f })
+first_nearer Held can_next remaining steps old s e None new t f h = record {
+  on = λ finite. tt;
+  keeps = tt;
+  rests = λ finite. (h.0.fewer finite).0;
+}
+first_nearer Held can_next remaining steps old s e (Some x) new t f h = record {
+  on = λ finite.
+      let read = h.reads.fewer finite in
+      let read_size = read.1 in
+      let len : length (old ++ h.more) ≡ suc (length new) = ap length h.begins in
+      let both = length-append old h.more in
+      (h.reads.can, read.0, omega arith);
+  keeps = h.reads.can;
+  rests = λ finite. tt;
+}

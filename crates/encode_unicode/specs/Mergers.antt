@@ -60,7 +60,7 @@ pub record MergerNext {S E : Type 0} (code : ℕ → List ℕ) (kind : List ℕ 
   pub stays : s.ended ≡ true → (t.ended ≡ true) × (t.source ≡ s.source)
   pub spent : (rest : S → List ℕ) → IsListed steps rest → IsSpent rest s.source s.ended → IsSpent rest t.source t.ended
 
--- one call of `next` of the remaining units, from s to t: the first of the unread list goes, whatever list the source gives
+-- one call of `next` of the remaining elements, from s to t: the first of the unread list goes, whatever list the source gives
 pub record RemainingNext {S : Type 0} (steps : S → Option ℕ → S → Type 0) (s : Merging S) (r : Option ℕ) (t : Merging S) : Type 0 where
   pub takes : (rest : S → List ℕ) → IsListed steps rest → YieldsFirst (unread rest) s r t
   pub ends : IfNone r (t.ended ≡ true)
@@ -85,7 +85,7 @@ pub record MergesHint {S : Type 0} (code : ℕ → List ℕ) (m : ℕ) (remainin
   pub plain : (rest : S → List ℕ) → IsSpent rest s.source s.ended → BoundsLength (rest s.source) of_source → hint ≡ merge_hint m (length s.held) of_source
   pub bounds : (rest : S → List ℕ) → BoundsLength (rest s.source) of_source → BoundsCut code (unread rest s) hint
 
--- the hint of the remaining units is the source's, with what is held added to both bounds
+-- the hint of the remaining elements is the source's, with what is held added to both bounds
 pub record RemainsHint {S : Type 0} (remaining : S → Count) (s : Merging S) (hint : ℕ × Option ℕ) : Type 0 where
   pub of_source : ℕ × Option ℕ
   pub is_hint : IsHintOf (remaining s.source) of_source

@@ -1,14 +1,14 @@
 -- A window of a slice, and what one call of a decoder gives. A place is an index into the whole slice.
 use Rattle.std.specs.Prelude.{◌≡◌, ℕ, ◌+◌, ◌-◌, ◌<◌, List, length, slice_range, Option, Some, None, Result, Ok, Err}
 use Rattle.utf_base.specs.declared.errors.Utf8ErrorKind.{Utf8ErrorKind}
-use Rattle.utf_base.specs.Back.{decoded_end}
+use Rattle.utf_base.specs.Back.{decoded_end, decoded_pairs_end}
 use Rattle.utf_base.specs.Code.{utf8, utf16}
 use Rattle.utf_base.specs.Decoded.{decoded, decoded_pairs}
 use Rattle.utf_base.specs.Ends.{last_of, EndsWith, NoCodeEnds}
 use Rattle.utf_base.specs.Front.{BeginsWith, IsFrontLen}
 use Rattle.utf_base.specs.Kinds.{fault_kind, back_kind}
 use Rattle.utf_base.specs.declared.errors.units.Utf16PairError.{Utf16PairError}
-use Rattle.utf_base.specs.Units.{unit_fault_kind}
+use Rattle.utf_base.specs.Units.{unit_fault_kind, unit_back_kind}
 pub use Rattle.utf_base.specs.Walk.{Placed}
 
 -- the part of a slice from the place `front` up to and without the place `back`
@@ -45,10 +45,10 @@ abbrev pub IsFrontOf : {E : Type 0} → (ℕ → List ℕ) → (List ℕ → Opt
 IsFrontOf code kind xs (Ok s) n = BeginsWith code xs s n
 IsFrontOf code kind xs (Err k) n = (kind xs ≡ Some k) × (n ≡ 1)
 
--- the scalar whose code ends the bytes, with the code's length, or the backward kind of the last byte, with length 1
-abbrev pub IsBackPiece : List ℕ → Result ℕ Utf8ErrorKind → ℕ → Type 0
-IsBackPiece xs (Ok s) n = EndsWith utf8 xs s n
-IsBackPiece xs (Err k) n = NoCodeEnds utf8 xs × (k ≡ back_kind (last_of xs)) × (n ≡ 1)
+-- the scalar whose code ends the elements, with the code's length, or the backward kind of the last, with length 1
+abbrev pub IsBackOf : {E : Type 0} → (ℕ → List ℕ) → (ℕ → E) → List ℕ → Result ℕ E → ℕ → Type 0
+IsBackOf code kind xs (Ok s) n = EndsWith code xs s n
+IsBackOf code kind xs (Err k) n = NoCodeEnds code xs × (k ≡ kind (last_of xs)) × (n ≡ 1)
 
 -- the answer of a decoding as a piece: a scalar with the length of its code, a fault with length 1
 abbrev pub as_piece : {E : Type 0} → Result (ℕ × ℕ) E → Result ℕ E × ℕ
@@ -76,14 +76,26 @@ GivesFront = GivesFrontOf utf8 4 fault_kind decoded
 abbrev pub GivesFrontUnits : Window → UnitItem → Window → Type 0
 GivesFrontUnits = GivesFrontOf utf16 2 unit_fault_kind decoded_pairs
 
--- the item is the piece that ends the window, and exactly that piece has left it
-pub record GivesBack (w : Window) (x : Item) (v : Window) : Type 0 where
+-- The item is the piece that ends the window, and exactly that piece has left it. A piece has at most `most` elements,
+-- and is a function of the window's.
+pub record GivesBackOf {E : Type 0} (code : ℕ → List ℕ) (most : ℕ) (kind : ℕ → E) (answer : List ℕ → Result (ℕ × ℕ) E)
+    (w : Window) (x : Placed E) (v : Window) : Type 0 where
   pub some : w.front < w.back
   pub place : x.0 + x.2 ≡ w.back
-  pub piece : IsBackPiece (elements w) x.1 x.2
-  pub known : (x.1, x.2) ≡ as_piece (decoded_end (elements w))
-  pub len : IsFrontLen 4 (elements w) x.2
+  pub piece : IsBackOf code kind (elements w) x.1 x.2
+  pub known : (x.1, x.2) ≡ as_piece (answer (elements w))
+  pub len : IsFrontLen most (elements w) x.2
   pub left : v ≡ without_back w x.2
+
+-- the same of bytes, and of units
+abbrev pub IsBackPiece : List ℕ → Result ℕ Utf8ErrorKind → ℕ → Type 0
+IsBackPiece = IsBackOf utf8 back_kind
+
+abbrev pub GivesBack : Window → Item → Window → Type 0
+GivesBack = GivesBackOf utf8 4 back_kind decoded_end
+
+abbrev pub GivesBackUnits : Window → UnitItem → Window → Type 0
+GivesBackUnits = GivesBackOf utf16 2 unit_back_kind decoded_pairs_end
 
 -- the window is empty, and stays as it is
 pub record GivesNone (w v : Window) : Type 0 where
@@ -104,3 +116,7 @@ NextBackGives w (Some x) v = GivesBack w x v
 abbrev pub NextGivesUnits : Window → Option UnitItem → Window → Type 0
 NextGivesUnits w None v = GivesNone w v
 NextGivesUnits w (Some x) v = GivesFrontUnits w x v
+
+abbrev pub NextBackGivesUnits : Window → Option UnitItem → Window → Type 0
+NextBackGivesUnits w None v = GivesNone w v
+NextBackGivesUnits w (Some x) v = GivesBackUnits w x v

@@ -10,6 +10,7 @@ mod held_bytes;
 mod held_unit;
 mod iter_ext;
 mod merging;
+mod remaining;
 mod splitting;
 mod steps;
 mod str_ext;
@@ -44,6 +45,7 @@ pub mod error {
 pub mod iterator {
     //! The iterators that the calls of this crate make.
     pub use crate::decoding_iterators::Utf8CharDecoder;
+    pub use crate::remaining::RemainingBytes;
     pub use crate::utf8_iterators::{Utf8CharIndices, Utf8Chars};
     pub use crate::utf8_merger::Utf8CharMerger;
     pub use crate::utf8_splitter::Utf8CharSplitter;
@@ -63,8 +65,8 @@ pub mod laws {
         cut_is_unique, cuts_follow, damage_is_local, damage_reaches_its_bounds, four_bytes_decide,
         kinds_differ, merger_code_or_one_fault, no_fault_in_joined_codes, one_code_ends,
         one_piece_begins, one_piece_ends, pieces_never_overlap, two_units_decide,
-        units_code_or_one_fault, units_code_or_one_kind, walk_exists, walk_gives_each_once,
-        walk_is_unique, walk_stays_outside,
+        units_code_or_last_unit, units_code_or_one_fault, units_code_or_one_kind, walk_exists,
+        walk_gives_each_once, walk_is_unique, walk_stays_outside,
     };
     pub use utf_chars::laws::forms_keep_the_scalar;
 }

@@ -2,12 +2,15 @@
 ghost use Rattle.std.specs.Prelude.{◌≡◌, ◌-◌, ◌/◌, ◌<◌, [], IfSome, Some, ⊤, length, List, ℕ};
 ghost use Rattle.std.specs.Iterator.{at_most, UpTo};
 ghost use Rattle.std.specs.Iterator.SizeHint.{IsWithinCount};
+ghost use Rattle.utf_base.specs.Back.{decoded_pairs_end, unit_end_fault};
 ghost use Rattle.utf_base.specs.Code.{utf16};
 ghost use Rattle.utf_base.specs.Decoded.{decoded_pairs};
+ghost use Rattle.utf_base.specs.Ends.{last_of};
 ghost use Rattle.utf_base.specs.Front.{IsFrontLen};
-ghost use Rattle.utf_base.specs.Units.{slice_fault, unit_fault_kind};
+ghost use Rattle.utf_base.specs.Units.{slice_fault, unit_back_kind, unit_fault_kind};
 ghost use Rattle.encode_unicode.specs.Hints.{BoundsUnitPieces};
-ghost use Rattle.encode_unicode.specs.Window.{whole_window, elements, as_piece, IsFrontOf, NextGivesUnits};
+ghost use Rattle.encode_unicode.specs.Window.{whole_window, elements, as_piece, IsBackOf, IsFrontOf};
+ghost use Rattle.encode_unicode.specs.Window.{NextGivesUnits, NextBackGivesUnits};
 
 use std::alloc::AllocError;
 use std::fmt;
@@ -19,8 +22,9 @@ use utf_chars::utf16_char::Utf16Char;
 ///
 /// An item is the offset of the piece from the front of the slice that the decoder was made from, the
 /// character or what is wrong with the unit, and the piece's length in units. An error always has
-/// length 1: the unit behind it is judged anew. Which error a surrogate gives is decided by what is left:
-/// it ends no pair, or what stands behind it ends none, or nothing stands there (RFC 2781, section 2.2).
+/// length 1: the unit behind it is judged anew. Which error a surrogate gives is decided by the units that
+/// are left, those that were taken from the back excepted: it ends no pair, or what stands behind it ends
+/// none, or nothing stands there (RFC 2781, section 2.2).
 #[derive(Drop)]
 pub struct Utf16CharDecoder<'a> {
     slice: &'a [u16],
@@ -103,6 +107,22 @@ impl<'a> Iterator for Utf16CharDecoder<'a> {
     }
 }
 
+impl<'a> DoubleEndedIterator for Utf16CharDecoder<'a> {
+    ghost next_back_gives = { NextBackGivesUnits };
+
+    /// The character whose code ends the units that are left, else what is wrong with the last of them: a
+    /// trailing surrogate ends no pair, and a leading one has nothing behind it.
+    #[inline(always)]
+    fn next_back(&mut self) -> Option<(usize, Result<Utf16Char, Utf16PairError>, usize)> {
+        if self.front == self.back {
+            return None;
+        }
+        let (answer, len) = last_piece(self.as_slice());
+        self.back -= len;
+        Some((self.back, answer, len))
+    }
+}
+
 impl<'a> Clone for Utf16CharDecoder<'a> {
     ghost is_clone = { λ window copy. copy ≡ window };
 
@@ -142,10 +162,25 @@ fn first_piece(units: &[u16]) -> (Result<Utf16Char, Utf16PairError>, usize)
     }
 }
 
-// The fault of a slice as that of one piece of it.
+// The piece that ends some units, and its length.
+#[inline(always)]
+fn last_piece(units: &[u16]) -> (Result<Utf16Char, Utf16PairError>, usize)
+    requires { 0 < length units.now }
+    ensures piece { IsBackOf utf16 unit_back_kind units.now result.0 result.1 }
+    ensures known { (result.0, result.1) ≡ as_piece (decoded_pairs_end units.now) }
+    ensures len { IsFrontLen 2 units.now result.1 }
+{
+    match Utf16Char::from_slice_end(units) {
+        Ok((c, len)) => (Ok(c), len),
+        Err(fault) => (Err(pair_error(fault)), 1),
+    }
+}
+
+// The fault of a slice as that of one piece of it: of the first, and of the last.
 #[inline(always)]
 fn pair_error(error: Utf16SliceError) -> Utf16PairError
-    ensures { (w : List ℕ) → slice_fault w ≡ Some error → unit_fault_kind w ≡ Some result }
+    ensures first { (w : List ℕ) → slice_fault w ≡ Some error → unit_fault_kind w ≡ Some result }
+    ensures last { (w : List ℕ) → 0 < length w → error ≡ unit_end_fault w → result ≡ unit_back_kind (last_of w) }
 {
     match error {
         Utf16SliceError::FirstIsTrailingSurrogate => Utf16PairError::UnexpectedTrailingSurrogate,

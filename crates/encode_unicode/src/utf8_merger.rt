@@ -11,6 +11,7 @@ ghost use Rattle.encode_unicode.specs.Sources.{GivesTheSame};
 use crate::followers::Followers;
 use crate::held_bytes::HeldBytes;
 use crate::merging::{hint_of_source, merged_hint, read};
+use crate::remaining::RemainingBytes;
 use std::alloc::AllocError;
 use std::fmt;
 use std::marker::Model;
@@ -111,6 +112,15 @@ impl<I: Iterator<Item = u8>> Utf8CharMerger<I> {
         source
     }
 
+    /// The bytes that no call has answered for: those that are held, in order, and then what the source
+    /// still gives.
+    #[inline]
+    pub fn into_remaining_bytes(self) -> RemainingBytes<I>
+        ensures { result ≡ self }
+    {
+        RemainingBytes::new(self.source, self.held)
+    }
+
     /// A second merger with the same bytes to come, where a clone of the source gives the same items. It
     /// answers as the source's `clone` does.
     pub fn clone(&self) -> Result<Utf8CharMerger<I>, AllocError>
@@ -140,7 +150,7 @@ impl<I: Iterator<Item = u8> + fmt::Debug> fmt::Debug for Utf8CharMerger<I> {
 
 // Takes the first of the unread bytes: one that is held, else one of the source.
 #[inline(always)]
-fn first_byte<I: Iterator<Item = u8>>(held: &mut HeldBytes, source: &mut I) -> Option<u8>
+pub(crate) fn first_byte<I: Iterator<Item = u8>>(held: &mut HeldBytes, source: &mut I) -> Option<u8>
     requires can { held.old.ended ≡ false → I.can_next source.old }
     requires held { IsHeldBytes held.old.held }
     ensures first { TakesFirst IsHeldBytes I.can_next I.remaining I.next_gives held.old.held source.old held.old.ended result held.new.held source.new held.new.ended }
