@@ -1,7 +1,6 @@
--- A walk by the calls of a decoder of bytes.
+-- A walk by the calls of a decoder.
 use Rattle.std.specs.Prelude.{Option}
 use Rattle.utf_base.specs.Walk.{Side, from_front, from_back}
-use Rattle.encode_unicode.specs.Window.{Window, Item, NextGives, NextBackGives}
 use Rattle.cuts.specs.declared.items.End.{End}
 use Rattle.cuts.specs.declared.items.End.TheVariants.{Front, Back}
 
@@ -10,7 +9,7 @@ abbrev pub side : End → Side
 side Front = from_front
 side Back = from_back
 
--- one call at that end, from one window to the next
-abbrev pub CallGives : End → Window → Option Item → Window → Type 0
-CallGives Front = NextGives
-CallGives Back = NextBackGives
+-- one call at that end, where `next` and `next_back` say what calls of them give
+abbrev pub CallGives : {S A : Type 0} → (S → Option A → S → Type 0) → (S → Option A → S → Type 0) → End → S → Option A → S → Type 0
+CallGives next next_back Front = next
+CallGives next next_back Back = next_back
