@@ -30,7 +30,7 @@ fn main(rt: HostRuntime) -> io::Result<ExitCode> {
     }
     let text = fs::read_to_string(&rt, "units.txt")?;
     let rows = units::parse(rt.alloc(), &text)?;
-    for run in [UnitRun::Decoder, UnitRun::Merger] {
+    for run in [UnitRun::Decoder, UnitRun::Merger, UnitRun::Walk] {
         if !report_units(&rt, run, rows.as_slice())? {
             status = 1;
         }

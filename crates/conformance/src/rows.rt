@@ -52,7 +52,7 @@ fn parse_row(alloc: Global, line: &str) -> io::Result<Row<'_>> {
     })
 }
 
-fn parse_word(alloc: Global, letters: &str) -> io::Result<Vec<End>> {
+pub(crate) fn parse_word(alloc: Global, letters: &str) -> io::Result<Vec<End>> {
     let mut word = Vec::new(alloc);
     for letter in letters.bytes() {
         word.push(match letter {

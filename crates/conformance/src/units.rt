@@ -1,24 +1,30 @@
 //! The rows of units, and the kinds of run that are held against them.
 
-use crate::rows::digit;
+use crate::rows::{digit, parse_word};
+use cuts::items::End;
+use cuts::walks::walk_utf16;
 use encode_unicode::error::Utf16PairError;
 use encode_unicode::{U16IterExt, U16SliceExt};
 use std::alloc::{AllocError, Global};
 use std::io;
 use std::io::ErrorKind;
 
-/// What a row says: some units, and the pieces that a run from the front has to give, as text.
+/// What a row says: some units, and what runs over them have to give, as text with `;` between the
+/// answers.
 #[derive(Drop)]
 pub(crate) struct UnitRow<'a> {
     /// The units as they stand in the file, each in four hexadecimal digits.
     pub(crate) text: &'a str,
     pub(crate) units: Vec<u16>,
-    /// The pieces with `;` between them, each an offset, a length and an answer.
+    /// The pieces from the front, each an offset, a length and an answer.
     pub(crate) pieces: &'a str,
+    /// A word, and the walk by it: for each letter a piece as above, or `none`.
+    pub(crate) word: Vec<End>,
+    pub(crate) walk: &'a str,
 }
 
-/// The rows of the file. A line that begins with `#` is none, and any other has at least two columns with
-/// `|` between them: the units and the pieces.
+/// The rows of the file. A line that begins with `#` is none, and any other has four columns with `|`
+/// between them: the units, the pieces, a word, and the walk by it.
 pub(crate) fn parse(alloc: Global, file: &str) -> io::Result<Vec<UnitRow<'_>>> {
     let mut rows = Vec::new(alloc);
     for line in file.lines() {
@@ -34,11 +40,15 @@ fn parse_row(alloc: Global, line: &str) -> io::Result<UnitRow<'_>> {
     let (Some(text), Some(pieces)) = (columns.next(), columns.next()) else {
         return Err(io::Error::from(ErrorKind::InvalidData));
     };
-    let units = parse_units(alloc, text)?;
+    let (Some(letters), Some(walk)) = (columns.next(), columns.next()) else {
+        return Err(io::Error::from(ErrorKind::InvalidData));
+    };
     Ok(UnitRow {
         text,
-        units,
+        units: parse_units(alloc, text)?,
         pieces,
+        word: parse_word(alloc, letters)?,
+        walk,
     })
 }
 
@@ -61,6 +71,8 @@ pub(crate) enum UnitRun {
     Decoder,
     /// Each answer in turn, by the merger. The rows have no column of its own: it answers the same.
     Merger,
+    /// The pieces from both ends, as the letters of the row's word ask for them.
+    Walk,
 }
 
 impl UnitRun {
@@ -68,6 +80,7 @@ impl UnitRun {
         match self {
             UnitRun::Decoder => "decoder of units",
             UnitRun::Merger => "merger of units",
+            UnitRun::Walk => "walk over units",
         }
     }
 
@@ -76,6 +89,7 @@ impl UnitRun {
         match self {
             UnitRun::Decoder => Ok(decoder_agrees(alloc, row)?),
             UnitRun::Merger => Ok(merger_agrees(alloc, row)?),
+            UnitRun::Walk => Ok(walk_agrees(alloc, row)?),
         }
     }
 }
@@ -86,10 +100,25 @@ fn decoder_agrees(alloc: Global, row: &UnitRow<'_>) -> Result<bool, AllocError> 
         if !run.is_empty() {
             run.push(';')?;
         }
-        let answer = answer_text(alloc, answer.map(|c| c.to_char()))?;
-        run.push_str(&format!(in alloc; "{place} {len} {answer}")?)?;
+        run.push_str(&piece_text(alloc, place, answer.map(|c| c.to_char()), len)?)?;
     }
     Ok(run.as_str() == row.pieces)
+}
+
+fn walk_agrees(alloc: Global, row: &UnitRow<'_>) -> Result<bool, AllocError> {
+    let mut walk = String::new(alloc);
+    for entry in walk_utf16(alloc, &row.units, &row.word)? {
+        if !walk.is_empty() {
+            walk.push(';')?;
+        }
+        match entry {
+            Some((place, answer, len)) => {
+                walk.push_str(&piece_text(alloc, place, answer.map(|c| c.to_char()), len)?)?;
+            }
+            None => walk.push_str("none")?,
+        }
+    }
+    Ok(walk.as_str() == row.walk)
 }
 
 // The answers alone: what stands behind the last space of each piece.
@@ -105,7 +134,18 @@ fn merger_agrees(alloc: Global, row: &UnitRow<'_>) -> Result<bool, AllocError> {
     Ok(pieces.next().is_none())
 }
 
-// An answer as the vectors write it.
+// A piece as the vectors write it.
+fn piece_text(
+    alloc: Global,
+    place: usize,
+    answer: Result<char, Utf16PairError>,
+    len: usize,
+) -> Result<String, AllocError> {
+    let answer = answer_text(alloc, answer)?;
+    format!(in alloc; "{place} {len} {answer}")
+}
+
+// An answer alone.
 fn answer_text(alloc: Global, answer: Result<char, Utf16PairError>) -> Result<String, AllocError> {
     match answer {
         Ok(c) => format!(in alloc; "{:06x}", c as u32),

@@ -1,4 +1,4 @@
-//! Tests of the decoder of bytes, from its front, its back and both.
+//! Tests of the decoder of bytes, from its front, its back and both, and of that of units from its back.
 #![tactic(auto)]
 
 #[cfg(test)]
@@ -9,5 +9,7 @@ mod front;
 mod pieces;
 #[cfg(test)]
 mod slice_ends;
+#[cfg(test)]
+mod unit_ends;
 #[cfg(test)]
 mod walks;

@@ -4,6 +4,8 @@
 #[cfg(test)]
 mod bytes;
 #[cfg(test)]
+mod remaining;
+#[cfg(test)]
 mod sources;
 #[cfg(test)]
 mod units;

@@ -14,4 +14,6 @@ mod memory;
 #[cfg(test)]
 mod runs;
 #[cfg(test)]
+mod unit_walks;
+#[cfg(test)]
 mod walks;

@@ -3,7 +3,7 @@ use cuts::collected::{forward_utf16, merge_utf8, merge_utf16};
 use cuts::counted::Counted;
 use cuts::items::End;
 use cuts::runs::run_pieces;
-use cuts::walks::walk_utf8;
+use cuts::walks::{walk_utf8, walk_utf16};
 use fakes::budget::Budget;
 use fakes::streams::{FakeReader, FakeWriter};
 use std::alloc::{AllocError, Allocator};
@@ -29,6 +29,22 @@ fn of_a_walk(rt: HostRuntime) -> Result<(), Fail> {
     for growths in 0..8 {
         let budget = Budget::new(rt.alloc(), growths);
         match walk_utf8(&budget, LOG, &word) {
+            Ok(answers) => assert!(rt; answers.iter().copied().eq(whole.iter().copied())),
+            Err(AllocError) => { refused = refused.saturating_add(1) }
+        }
+    }
+    assert_eq!(rt; refused, 4);
+    Ok(())
+}
+
+#[test]
+fn of_a_walk_over_units(rt: HostRuntime) -> Result<(), Fail> {
+    let word = [End::Back; 20];
+    let whole = walk_utf16(rt.alloc(), &units(), &word)?;
+    let mut refused = 0u32;
+    for growths in 0..8 {
+        let budget = Budget::new(rt.alloc(), growths);
+        match walk_utf16(&budget, &units(), &word) {
             Ok(answers) => assert!(rt; answers.iter().copied().eq(whole.iter().copied())),
             Err(AllocError) => { refused = refused.saturating_add(1) }
         }
