@@ -1,4 +1,6 @@
-//! The work of the decoder of units, by the Rust crate and by std.
+//! The works of the decoder of units, by the Rust crate and by std.
+//!
+//! The Rust crate and std go over units from the front alone, so beside `units_back` they do that.
 
 use crate::inputs::Input;
 use crate::work::{mix, std_units, word_of, Work, ERROR, FACTOR};
@@ -6,19 +8,37 @@ use encode_unicode::error::Utf16PairError;
 use encode_unicode::iterator::Utf16CharDecoder;
 
 /// The works of decoders, in the order of the tables.
-pub const ALL: [Work; 1] = [Work {
-    name: "unit_decoder",
-    ours: |input| unsafe { bench_c_unit_decoder(input.units.as_ptr(), input.units.len(), FACTOR) },
-    rust: |input| unit_decoder(&input.units),
-    std: Some(|input| std_units(&input.units)),
-    bytes: |input| 2 * input.units.len(),
-    of_text: false,
-}];
+pub const ALL: [Work; 2] = [
+    Work {
+        name: "unit_decoder",
+        ours: |input| ours(bench_c_unit_decoder, input),
+        rust: |input| unit_decoder(&input.units),
+        std: Some(|input| std_units(&input.units)),
+        bytes: |input| 2 * input.units.len(),
+        of_text: false,
+    },
+    Work {
+        name: "units_back",
+        ours: |input| ours(bench_c_units_back, input),
+        rust: |input| units_in_any_order(&input.units),
+        std: Some(|input| std_units_in_any_order(&input.units)),
+        bytes: |input| 2 * input.units.len(),
+        of_text: false,
+    },
+];
+
+type Export = unsafe extern "C" fn(*const u16, usize, u64) -> u64;
 
 // As in `work`: a slice crosses as a pointer and a length.
 #[link(name = "bench_c", kind = "static")]
 extern "C" {
     fn bench_c_unit_decoder(src: *const u16, len: usize, factor: u64) -> u64;
+    fn bench_c_units_back(src: *const u16, len: usize, factor: u64) -> u64;
+}
+
+// An export asks for nothing but what a slice promises.
+fn ours(export: Export, input: &Input) -> u64 {
+    unsafe { export(input.units.as_ptr(), input.units.len(), FACTOR) }
 }
 
 #[inline(always)]
@@ -39,6 +59,35 @@ fn unit_decoder(src: &[u16]) -> u64 {
             Err(error) => number_of(error),
         };
         sum = mix(sum, word_of(place, len, what));
+    }
+    sum
+}
+
+// A checksum that is the same in any order.
+#[inline(always)]
+fn add(sum: u64, word: u64) -> u64 {
+    sum.wrapping_add(word.wrapping_mul(FACTOR))
+}
+
+fn units_in_any_order(src: &[u16]) -> u64 {
+    let mut sum = 0;
+    for (place, answer, len) in Utf16CharDecoder::from(src) {
+        let what = answer.map_or(ERROR, |c| c.to_char() as u32);
+        sum = add(sum, word_of(place, len, what));
+    }
+    sum
+}
+
+fn std_units_in_any_order(src: &[u16]) -> u64 {
+    let mut sum = 0;
+    let mut place = 0;
+    for answer in char::decode_utf16(src.iter().copied()) {
+        let (what, len) = match answer {
+            Ok(c) => (c as u32, c.len_utf16()),
+            Err(_) => (ERROR, 1),
+        };
+        sum = add(sum, word_of(place, len, what));
+        place += len;
     }
     sum
 }

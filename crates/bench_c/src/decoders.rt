@@ -1,4 +1,4 @@
-//! The work of the decoder of units, exported for `bench/`.
+//! The works of the decoder of units, exported for `bench/`.
 
 use crate::{ERROR, mix, word_of};
 use encode_unicode::error::Utf16PairError;
@@ -25,6 +25,23 @@ pub extern "C" fn bench_c_unit_decoder(src: &[u16], factor: u64) -> u64 {
             Err(error) => pair_number_of(error),
         };
         sum = mix(sum, word_of(place, len, what), factor);
+    }
+    sum
+}
+
+/// Every piece that the decoder of units gives, from the back.
+///
+/// The checksum is the same in any order, and of a fault it tells only that there is one: so it is that of the
+/// pieces from the front, with which others begin.
+#[unsafe(no_mangle)]
+pub extern "C" fn bench_c_units_back(src: &[u16], factor: u64) -> u64 {
+    let mut sum = 0u64;
+    for (place, answer, len) in Utf16CharDecoder::from(src).rev() {
+        let what = match answer {
+            Ok(c) => c.to_char() as u32,
+            Err(_) => ERROR,
+        };
+        sum = sum.wrapping_add(word_of(place, len, what).wrapping_mul(factor));
     }
     sum
 }
