@@ -2,11 +2,14 @@
 ghost use Rattle.std.specs.Prelude.{◌≡◌, ◌++◌, List, ℕ, IfOk, IfSome};
 ghost use Rattle.std.specs.Iterator.{IsFinite};
 ghost use Rattle.encode_unicode.specs.Code.{utf8, utf16};
+ghost use Rattle.encode_unicode.specs.Kinds.{merger_kind};
+ghost use Rattle.encode_unicode.specs.Mergers.{unread, TakesFront};
 ghost use Rattle.encode_unicode.specs.Sources.{IsListed};
 ghost use Rattle.cuts.specs.Collected.{IsJoinedExactly};
 
 use cuts::collected::{merge_utf8, merge_utf16};
 use encode_unicode::error::{Utf8Error, Utf16PairError};
+use encode_unicode::iterator::RemainingBytes;
 use encode_unicode::{U8IterExt, U16IterExt, Utf8Char, Utf16Char};
 use std::alloc::{AllocError, Allocator};
 
@@ -32,6 +35,19 @@ pub fn split_utf16_char<I: Iterator<Item = u16>>(source: I) -> Option<(Utf16Char
         Some(Ok(c)) => Some((c, merger.into_inner())),
         _ => None,
     }
+}
+
+/// The first piece of a source of bytes, damaged or not, and all bytes behind it: of a faulty byte each one
+/// that was read to judge it as well.
+pub fn split_piece<I: Iterator<Item = u8>>(
+    source: I,
+) -> (Option<Result<Utf8Char, Utf8Error>>, RemainingBytes<I>)
+    requires { I.can_next source }
+    ensures { (rest : I → List ℕ) → IsListed I.next_gives rest → TakesFront utf8 merger_kind (rest source) result.0 (unread rest result.1) }
+{
+    let mut merger = source.to_utf8chars();
+    let first = merger.next();
+    (first, merger.into_remaining_bytes())
 }
 
 /// What a source of bytes holds, piece by piece: characters alone exactly where its bytes are UTF-8.

@@ -1,9 +1,10 @@
 //! A damaged log, and units with lone surrogates.
 use encode_unicode::U16IterExt;
-use encode_unicode::error::Utf16PairError;
+use encode_unicode::error::{Utf8ErrorKind, Utf16PairError};
 use std::process::Abort;
 use std::test::Fail;
 use uses::cursor;
+use uses::merged::split_piece;
 use uses::records::{Ending, first_record, next_record};
 use uses::tokens::tokens;
 
@@ -85,4 +86,18 @@ fn a_record_may_have_no_end(rt: HostRuntime) -> Result<(), Fail> {
     );
     assert_eq!(rt; behind.next(), Some(0x61));
     Ok(())
+}
+
+#[test]
+fn nothing_behind_a_faulty_byte_is_lost(rt: HostRuntime) {
+    let bytes = [0xf4, 0xa1, 0xb2, 0x46, 0x53];
+    let (first, mut rest) = split_piece(bytes.iter().copied());
+    let kind = match first {
+        Some(Err(error)) => Some(error.kind()),
+        _ => None,
+    };
+    assert_eq!(rt; kind, Some(Utf8ErrorKind::InterruptedSequence));
+    for byte in [Some(0xa1), Some(0xb2), Some(0x46), Some(0x53), None] {
+        assert_eq!(rt; rest.next(), byte);
+    }
 }
