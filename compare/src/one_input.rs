@@ -7,9 +7,11 @@ use crate::tables::{self, Replacement};
 use crate::tally::Kind;
 use crate::{collections, kinds, mergers, text_kinds, unit_decoder};
 
-/// How many letters a word has at most, and how many replacements there are.
+/// How many letters a word has at most.
 const MOST_LETTERS: usize = 32;
-const MOST_REPLACEMENTS: usize = 4;
+
+/// How many replacements there are at most: what the two highest bits of a byte can say.
+const MOST_REPLACEMENTS: usize = 3;
 
 /// Some bytes, and what they are asked.
 pub struct Input {
@@ -24,9 +26,9 @@ impl Input {
     /// and then the bytes.
     pub fn of(list: &[u8]) -> Input {
         let (first, rest) = list.split_first().unwrap_or((&0, &[]));
-        let letters = usize::from(first % 64).min(MOST_LETTERS);
+        let letters = usize::from(first & 0x3f).min(MOST_LETTERS);
         let (steps, rest) = rest.split_at(letters.min(rest.len()));
-        let replacements = usize::from(first / 64) % MOST_REPLACEMENTS;
+        let replacements = usize::from(first >> 6);
         let (replacements, bytes) = rest.split_at((4 * replacements).min(rest.len()));
         Input {
             bytes: bytes.to_vec(),
@@ -43,7 +45,7 @@ impl Input {
             _ => inputs::damaged_text(random),
         };
         let step_count = random.below(MOST_LETTERS + 1);
-        let replacement_count = random.below(MOST_REPLACEMENTS);
+        let replacement_count = random.below(MOST_REPLACEMENTS + 1);
         Input {
             bytes,
             steps: inputs::steps(random, step_count),
