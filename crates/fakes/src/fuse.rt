@@ -24,7 +24,7 @@ pub struct Plan {
 }
 
 impl Plan {
-    /// Each call passes.
+    /// Each call passes, up to the 2^32nd.
     pub fn pass() -> Plan {
         Plan::fail_once(u32::MAX, ErrorKind::BrokenPipe)
     }
