@@ -24,7 +24,7 @@ pub struct Plan {
 }
 
 impl Plan {
-    /// Each call passes, up to the 2^32nd.
+    /// Each call before the 2^32nd passes.
     pub fn pass() -> Plan {
         Plan::fail_once(u32::MAX, ErrorKind::BrokenPipe)
     }
