@@ -23,7 +23,7 @@ pub fn texts(seed: u64, count: usize) -> Vec<Kind> {
     vec![edges, texts]
 }
 
-fn compare(kind: &mut Kind, text: &str, before: &str) {
+pub(crate) fn compare(kind: &mut Kind, text: &str, before: &str) {
     let input = || format!("{text:?} behind {before:?}");
     let both = [our_collected(text), our_extended(text, before)].concat();
     let mut judged = their_collected(text);

@@ -94,7 +94,7 @@ fn beside<'a>(
         .flat_map(move |list| words.iter().map(move |word| (list.clone(), word.clone())))
 }
 
-fn walk_kind(
+pub(crate) fn walk_kind(
     name: &'static str,
     slips: &mut Slips,
     walks: impl Iterator<Item = (Vec<u8>, Vec<u8>)>,

@@ -242,7 +242,7 @@ pub fn word(random: &mut Random) -> Vec<u8> {
 pub const MOST_PLACES: usize = 9;
 
 // The step that calls `next`.
-const NEXT: u8 = MOST_PLACES as u8 + 1;
+pub const NEXT: u8 = MOST_PLACES as u8 + 1;
 
 /// Six calls of `next`: a code has at most four bytes.
 pub const NEXTS: [u8; 6] = [NEXT; 6];

@@ -29,7 +29,7 @@ pub fn lists(seed: u64, count: usize) -> Vec<Kind> {
     ]
 }
 
-fn list_kind(name: &'static str, lists: impl IntoIterator<Item = Vec<u8>>) -> Kind {
+pub(crate) fn list_kind(name: &'static str, lists: impl IntoIterator<Item = Vec<u8>>) -> Kind {
     let mut kind = Kind::new(name);
     for list in lists {
         let input = || format!("{list:02x?}");

@@ -2,27 +2,11 @@
 //!
 //! Arguments: the program `pieces`, a seed, and how many random lists of bytes to compare.
 
-mod collections;
-mod ends;
-mod errors;
-mod inputs;
-mod kinds;
-mod mergers;
-mod numbers;
-mod ours;
-mod program;
-mod tables;
-mod tally;
-mod text_kinds;
-mod theirs;
-mod theirs_by_calls;
-mod unicode;
-mod unit_decoder;
-
+use compare::ends::{self, Slips};
+use compare::tally::Kind;
+use compare::{collections, kinds, mergers, program, tables, text_kinds, unit_decoder};
 use std::path::Path;
 use std::process::ExitCode;
-use ends::Slips;
-use tally::Kind;
 
 fn main() -> ExitCode {
     let args: Vec<String> = std::env::args().skip(1).collect();

@@ -42,7 +42,7 @@ pub fn lists(seed: u64, count: usize) -> Vec<Kind> {
     ]
 }
 
-fn bytes_kind(name: &'static str, lists: impl IntoIterator<Item = Vec<u8>>) -> Kind {
+pub(crate) fn bytes_kind(name: &'static str, lists: impl IntoIterator<Item = Vec<u8>>) -> Kind {
     let mut kind = Kind::new(name);
     for list in lists {
         kind.compare(|| format!("{list:02x?}"), &ours(&list), &theirs(&list));
@@ -50,7 +50,7 @@ fn bytes_kind(name: &'static str, lists: impl IntoIterator<Item = Vec<u8>>) -> K
     kind
 }
 
-fn units_kind(name: &'static str, lists: impl IntoIterator<Item = Vec<u16>>) -> Kind {
+pub(crate) fn units_kind(name: &'static str, lists: impl IntoIterator<Item = Vec<u16>>) -> Kind {
     let mut kind = Kind::new(name);
     for list in lists {
         kind.compare(|| format!("{list:04x?}"), &our_units(&list), &their_units(&list));

@@ -10,7 +10,7 @@ const REPLACEMENTS: usize = 10;
 
 /// A place, how many bytes are replaced there, and the two bytes that take their place, the first alone where
 /// the second is 0.
-type Replacement = [u8; 4];
+pub(crate) type Replacement = [u8; 4];
 
 /// Damaged texts and random edge bytes, with ten replacements in each. The judge is what the Rust crate's
 /// decoder gives of the bytes behind each.
@@ -23,14 +23,19 @@ pub fn replacements(seed: u64, count: usize) -> Vec<Kind> {
             _ => inputs::damaged_text(random),
         };
         let steps: Vec<Replacement> = (0..REPLACEMENTS).map(|_| replacement(random)).collect();
-        let input = || format!("{list:02x?} by {steps:02x?}");
-        kind.compare(input, &ours::replacements(&list, &steps.concat()), &judged(&list, &steps));
+        compare(&mut kind, &list, &steps);
     }
     vec![kind]
 }
 
+// One list, and these replacements in it.
+pub(crate) fn compare(kind: &mut Kind, list: &[u8], steps: &[Replacement]) {
+    let input = || format!("{list:02x?} by {steps:02x?}");
+    kind.compare(input, &ours::replacements(list, &steps.concat()), &judged(list, steps));
+}
+
 // One that takes up to seven bytes away.
-fn replacement(random: &mut Random) -> Replacement {
+pub(crate) fn replacement(random: &mut Random) -> Replacement {
     let [first, second] = [random.one_of(&EDGE_BYTES), random.one_of(&EDGE_BYTES)];
     [random.byte(), random.below(8) as u8, first, second]
 }

@@ -54,6 +54,12 @@ impl Kind {
         self.why = SHOWN_MEANT;
     }
 
+    /// What differed first, where something did.
+    pub fn first(&self) -> Option<String> {
+        let Kind { name, shown, .. } = self;
+        shown.first().map(|difference| format!("{name}: {difference}"))
+    }
+
     /// How many cases differed and were meant to, where there are any.
     pub fn print_meant(&self) {
         if self.meant > 0 {

@@ -35,7 +35,7 @@ fn beside<'a>(
         .flat_map(|text| words.iter().map(move |word| (text.clone(), word.clone())))
 }
 
-fn walk_kind(name: &'static str, walks: impl Iterator<Item = (String, Vec<u8>)>) -> Kind {
+pub(crate) fn walk_kind(name: &'static str, walks: impl Iterator<Item = (String, Vec<u8>)>) -> Kind {
     let mut kind = Kind::new(name);
     for (text, word) in walks {
         let input = || format!("{text:?} by {}", String::from_utf8_lossy(&word));
@@ -94,13 +94,18 @@ fn compare_split(kind: &mut Kind, random: &mut Random, text: &str) {
     let step_count = random.below(21);
     let steps = inputs::steps(random, step_count);
     let calls = random.below(20);
+    compare_steps(kind, text, &steps, calls);
+}
+
+// By these steps, and by so many calls for units.
+pub(crate) fn compare_steps(kind: &mut Kind, text: &str, steps: &[u8], calls: usize) {
     let input = || format!("{text:?} by {steps:?} and {calls} calls");
     let both = [
-        ours::bytes_of_text(text, &steps),
+        ours::bytes_of_text(text, steps),
         ours::units_of_text(text, calls),
     ]
     .concat();
-    let mut judged = theirs::bytes_of_text(text, &steps);
+    let mut judged = theirs::bytes_of_text(text, steps);
     judged.append(theirs::units_of_text(text, calls));
     kind.compare(input, &both, &judged);
 }

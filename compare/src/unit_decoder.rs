@@ -28,7 +28,7 @@ pub fn lists(seed: u64, count: usize) -> Vec<Kind> {
     ]
 }
 
-fn kind_of(name: &'static str, lists: impl IntoIterator<Item = Vec<u16>>) -> Kind {
+pub(crate) fn kind_of(name: &'static str, lists: impl IntoIterator<Item = Vec<u16>>) -> Kind {
     let mut kind = Kind::new(name);
     for list in lists {
         let both = [ours_from(&list), ours_indices(&list)].concat();

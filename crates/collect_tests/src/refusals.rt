@@ -81,7 +81,7 @@ fn of_bytes_that_are_extended(rt: HostRuntime) -> Result<(), Fail> {
             assert_eq!(rt; added.len(), TEXT.len());
         }
     }
-    assert!(rt; refused > 2, "{refused}");
+    assert_eq!(rt; refused, 4);
     Ok(())
 }
 
@@ -104,7 +104,7 @@ fn of_units_that_are_extended(rt: HostRuntime) -> Result<(), Fail> {
             assert_eq!(rt; added.len(), whole.len());
         }
     }
-    assert!(rt; refused > 2, "{refused}");
+    assert_eq!(rt; refused, 4);
     Ok(())
 }
 
@@ -130,7 +130,7 @@ fn of_texts_that_are_extended(rt: HostRuntime) -> Result<(), Fail> {
             }
         }
     }
-    assert!(rt; refused > 4, "{refused}");
+    assert_eq!(rt; refused, 8);
     Ok(())
 }
 

@@ -3,7 +3,6 @@ use crate::pieces::{Piece, character, fault, piece_of, stray};
 use encode_unicode::error::Utf8ErrorKind;
 use encode_unicode::iterator::Utf8CharDecoder;
 use std::process::Abort;
-use std::test::Fail;
 
 // The decoder of the bytes answers the calls of the word so.
 fn walks(rt: &impl Abort, bytes: &[u8], word: &str, answers: &[Option<Piece>]) {
@@ -113,16 +112,4 @@ fn bytes_that_end_no_code_are_judged_alone(rt: HostRuntime) {
     );
     // The offset is that of the byte itself.
     walks(&rt, &[0x00, 0x00, 0x80], "B", &[stray(2)]);
-}
-
-// A scan of the whole run for each of its bytes would not end in time.
-#[test]
-fn a_million_continuation_bytes_come_byte_by_byte(rt: HostRuntime) -> Result<(), Fail> {
-    let bytes = vec![in rt.alloc(); 0x80; 1_000_000]?;
-    let mut decoder = Utf8CharDecoder::from(bytes.as_slice());
-    for place in (0..1_000_000).rev() {
-        assert_eq!(rt; decoder.next_back().map(piece_of), stray(place));
-    }
-    assert!(rt; decoder.next_back().is_none());
-    Ok(())
 }

@@ -3,4 +3,4 @@
 #![tactic(auto)]
 
 pub mod budget;
-pub mod streams;
+pub mod fuse;

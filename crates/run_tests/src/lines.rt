@@ -1,17 +1,17 @@
 use cuts::counted::Counted;
 use cuts::listing::{write_merged, write_walk};
 use encode_unicode::Utf8Char;
-use fakes::streams::{FakeReader, FakeWriter};
+use fakes::fuse::{Fault, Fuse, Plan};
 use std::alloc::Global;
 use std::io::{ErrorKind, Read};
 use std::process::Abort;
 
 // The line of this character, with this place and length.
 fn has_line(rt: &(impl Abort + AllocGlobal), place: usize, c: char, len: usize, line: &str) {
-    let mut out = Counted::new(FakeWriter::ample(rt.alloc()));
+    let mut out = Counted::new(Fuse::ample(rt.alloc()));
     let entry = Some((place, Ok(Utf8Char::new(c)), len));
     assert_eq!(rt; write_walk(&[entry], &mut out).ok(), Some(0));
-    assert_eq!(rt; out.into_inner().bytes.as_slice(), line.as_bytes());
+    assert_eq!(rt; out.into_inner().written.as_slice(), line.as_bytes());
 }
 
 #[test]
@@ -47,45 +47,43 @@ fn scalars_have_six_hexadecimal_digits(rt: HostRuntime) {
 }
 
 // A writer that takes two bytes a call.
-fn small_writer(alloc: Global, calls_left: u32) -> FakeWriter {
-    let mut writer = FakeWriter::failing(alloc, calls_left);
+fn small_writer<'a>(alloc: Global, plan: Plan) -> Fuse<'a> {
+    let mut writer = Fuse::ample(alloc);
     writer.most = 2;
+    writer.plan = plan;
     writer
 }
 
 #[test]
 fn parts_make_a_line(rt: HostRuntime) {
-    let mut out = Counted::new(small_writer(rt.alloc(), 4));
+    let mut out = Counted::new(small_writer(rt.alloc(), Plan::pass()));
     let line = [Ok(Utf8Char::new('A'))];
     assert_eq!(rt; write_merged(&line, &mut out).ok(), Some(0));
     let writer = out.into_inner();
-    assert_eq!(rt; writer.bytes.as_slice(), b"000041\n".as_slice());
+    assert_eq!(rt; writer.written.as_slice(), b"000041\n".as_slice());
     assert_eq!(rt; writer.given.as_slice(), [7, 5, 3, 1].as_slice());
 }
 
 #[test]
 fn a_failure_in_mid_line_is_told(rt: HostRuntime) {
     for (calls, written) in [(0, ""), (1, "00"), (2, "0000"), (3, "000041")] {
-        for (stalls, kind) in [(false, ErrorKind::BrokenPipe), (true, ErrorKind::WriteZero)] {
-            let mut writer = small_writer(rt.alloc(), calls);
-            writer.stalls = stalls;
+        for (fault, kind) in [
+            (Fault::Error(ErrorKind::BrokenPipe), ErrorKind::BrokenPipe),
+            (Fault::Nothing, ErrorKind::WriteZero),
+        ] {
+            let writer = small_writer(rt.alloc(), Plan::fail(calls, fault));
             let mut out = Counted::new(writer);
             let answer = write_merged(&[Ok(Utf8Char::new('A'))], &mut out);
             assert_eq!(rt; answer.err().map(|e| e.kind()), Some(kind));
-            assert_eq!(rt; out.into_inner().bytes.as_slice(), written.as_bytes());
+            assert_eq!(rt; out.into_inner().written.as_slice(), written.as_bytes());
         }
     }
 }
 
 #[test]
 fn a_reader_gives_parts_and_one_fault(rt: HostRuntime) {
-    let mut reader = FakeReader {
-        bytes: b"abc",
-        calls_left: 1,
-        fault: Some(ErrorKind::Interrupted),
-        calls: 0,
-        most: 2,
-    };
+    let mut reader = Fuse::over(rt.alloc(), b"abc");
+    reader.plan = Plan::fail_once(1, ErrorKind::Interrupted);
     let mut buf = [0; 4];
     assert_eq!(rt; reader.read(&mut buf).ok(), Some(2));
     assert_eq!(rt;
@@ -95,5 +93,5 @@ fn a_reader_gives_parts_and_one_fault(rt: HostRuntime) {
     assert_eq!(rt; reader.read(&mut buf).ok(), Some(1));
     assert_eq!(rt; reader.read(&mut buf).ok(), Some(0));
     assert_eq!(rt; buf, *b"cb\0\0");
-    assert_eq!(rt; reader.calls, 4);
+    assert_eq!(rt; reader.given.as_slice(), [4, 4, 4, 4].as_slice());
 }

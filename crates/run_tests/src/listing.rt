@@ -3,8 +3,7 @@ use cuts::items::Item;
 use cuts::listing::{write_listing, write_merged, write_walk};
 use encode_unicode::Utf8Char;
 use encode_unicode::error::{Utf8Error, Utf8ErrorKind};
-use fakes::streams::FakeWriter;
-use std::alloc::Global;
+use fakes::fuse::{Fault, Fuse};
 use std::io::ErrorKind;
 
 #[test]
@@ -45,14 +44,14 @@ fn pieces_have_their_lines(rt: HostRuntime) {
         ),
     ];
     for (bytes, faults, lines) in table {
-        let mut out = Counted::new(FakeWriter::ample(rt.alloc()));
+        let mut out = Counted::new(Fuse::ample(rt.alloc()));
         assert_eq!(rt;
             write_listing(bytes, &mut out).ok(),
             Some(faults),
             "{lines}"
         );
         let writer = out.into_inner();
-        assert_eq!(rt; writer.bytes.as_slice(), lines.as_bytes());
+        assert_eq!(rt; writer.written.as_slice(), lines.as_bytes());
         assert_eq!(rt;
             writer.given.len(),
             lines.lines().count(),
@@ -65,11 +64,13 @@ fn pieces_have_their_lines(rt: HostRuntime) {
 #[test]
 fn a_failure_ends_the_listing(rt: HostRuntime) {
     let line = b"0 2 0000e9\n".as_slice();
-    for (stalls, kind) in [(false, ErrorKind::BrokenPipe), (true, ErrorKind::WriteZero)] {
+    for (fault, kind) in [
+        (Fault::Error(ErrorKind::BrokenPipe), ErrorKind::BrokenPipe),
+        (Fault::Nothing, ErrorKind::WriteZero),
+    ] {
         for calls in 0..11 {
-            let mut writer = FakeWriter::failing(rt.alloc(), calls);
+            let mut writer = Fuse::failing(rt.alloc(), calls, fault);
             writer.most = 1;
-            writer.stalls = stalls;
             let mut out = Counted::new(writer);
             let answer = write_listing(b"\xc3\xa9", &mut out);
             assert_eq!(rt;
@@ -77,7 +78,7 @@ fn a_failure_ends_the_listing(rt: HostRuntime) {
                 Some(kind),
                 "after {calls} calls"
             );
-            let written = out.into_inner().bytes;
+            let written = out.into_inner().written;
             assert_eq!(rt; written.len(), calls as usize);
             assert!(rt; line.starts_with(written.as_slice()), "after {calls} calls");
         }
@@ -125,13 +126,13 @@ const WALK: &str =
 #[test]
 fn merged_answers_have_their_lines(rt: HostRuntime) {
     for (count, faults, len) in [(0, 0, 0), (5, 0, 35), (8, 2, 89)] {
-        let mut out = Counted::new(FakeWriter::ample(rt.alloc()));
+        let mut out = Counted::new(Fuse::ample(rt.alloc()));
         assert_eq!(rt;
             write_merged(&merged()[..count], &mut out).ok(),
             Some(faults)
         );
         let writer = out.into_inner();
-        assert_eq!(rt; writer.bytes.as_slice(), &MERGED.as_bytes()[..len]);
+        assert_eq!(rt; writer.written.as_slice(), &MERGED.as_bytes()[..len]);
         assert_eq!(rt; writer.given.len(), count, "a call for each line");
         assert_eq!(rt; writer.flushes, 0);
     }
@@ -147,10 +148,10 @@ fn walks_have_their_lines(rt: HostRuntime) {
     ] {
         let whole = walk();
         let steps = &whole[..];
-        let mut out = Counted::new(FakeWriter::ample(rt.alloc()));
+        let mut out = Counted::new(Fuse::ample(rt.alloc()));
         assert_eq!(rt; write_walk(&steps[from..to], &mut out).ok(), Some(faults));
         let writer = out.into_inner();
-        assert_eq!(rt; writer.bytes.as_slice(), lines.as_bytes());
+        assert_eq!(rt; writer.written.as_slice(), lines.as_bytes());
         assert_eq!(rt; writer.given.len(), to - from, "a call for each line");
         assert_eq!(rt; writer.flushes, 0);
     }
@@ -158,28 +159,25 @@ fn walks_have_their_lines(rt: HostRuntime) {
 
 #[test]
 fn a_failure_ends_the_lines(rt: HostRuntime) {
-    for (stalls, kind) in [(false, ErrorKind::BrokenPipe), (true, ErrorKind::WriteZero)] {
+    for (fault, kind) in [
+        (Fault::Error(ErrorKind::BrokenPipe), ErrorKind::BrokenPipe),
+        (Fault::Nothing, ErrorKind::WriteZero),
+    ] {
         for calls in 0..8 {
-            let mut out = Counted::new(failing(rt.alloc(), calls, stalls));
+            let mut out = Counted::new(Fuse::failing(rt.alloc(), calls, fault));
             let answer = write_merged(&merged(), &mut out);
             assert_eq!(rt; answer.err().map(|e| e.kind()), Some(kind));
             let writer = out.into_inner();
-            assert!(rt; MERGED.as_bytes().starts_with(writer.bytes.as_slice()));
+            assert!(rt; MERGED.as_bytes().starts_with(writer.written.as_slice()));
             assert_eq!(rt; writer.given.len(), calls as usize + 1);
         }
         for calls in 0..4 {
-            let mut out = Counted::new(failing(rt.alloc(), calls, stalls));
+            let mut out = Counted::new(Fuse::failing(rt.alloc(), calls, fault));
             let answer = write_walk(&walk(), &mut out);
             assert_eq!(rt; answer.err().map(|e| e.kind()), Some(kind));
             let writer = out.into_inner();
-            assert!(rt; WALK.as_bytes().starts_with(writer.bytes.as_slice()));
+            assert!(rt; WALK.as_bytes().starts_with(writer.written.as_slice()));
             assert_eq!(rt; writer.given.len(), calls as usize + 1);
         }
     }
-}
-
-fn failing(alloc: Global, calls: u32, stalls: bool) -> FakeWriter {
-    let mut writer = FakeWriter::failing(alloc, calls);
-    writer.stalls = stalls;
-    writer
 }

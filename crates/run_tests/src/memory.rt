@@ -5,7 +5,7 @@ use cuts::items::End;
 use cuts::runs::run_pieces;
 use cuts::walks::{walk_utf8, walk_utf16};
 use fakes::budget::Budget;
-use fakes::streams::{FakeReader, FakeWriter};
+use fakes::fuse::Fuse;
 use std::alloc::{AllocError, Allocator};
 use std::process::Abort;
 use std::test::Fail;
@@ -124,14 +124,14 @@ fn run_over<A: Allocator + Copy>(
     args: &[String<A>],
     bytes: &[u8],
 ) -> Ending {
-    let mut out = Counted::new(FakeWriter::ample(rt.alloc()));
-    let mut faults = FakeWriter::ample(rt.alloc());
-    let mut input = FakeReader::over(bytes);
+    let mut out = Counted::new(Fuse::ample(rt.alloc()));
+    let mut faults = Fuse::ample(rt.alloc());
+    let mut input = Fuse::over(rt.alloc(), bytes);
     let status = run_pieces(alloc, args, &mut input, &mut out, &mut faults);
     Ending {
         status,
-        lines: out.into_inner().bytes,
-        faults: faults.bytes,
+        lines: out.into_inner().written,
+        faults: faults.written,
     }
 }
 

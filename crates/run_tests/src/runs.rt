@@ -1,7 +1,7 @@
 use cuts::counted::Counted;
 use cuts::listing::write_listing;
 use cuts::runs::{Stop, arguments_of, finish_run, run_pieces};
-use fakes::streams::{FakeReader, FakeWriter};
+use fakes::fuse::{Fault, Fuse, Plan};
 use std::alloc::{AllocError, Global};
 use std::io;
 use std::io::ErrorKind;
@@ -19,8 +19,8 @@ const NO_MEMORY: &str = "pieces: no memory\n";
 // A character and two faults, and their listing.
 const MIXED: &str = "0 1 000041\n1 1 TooFewBytes\n2 1 UnexpectedContinuationByte\n";
 
-fn mixed<'a>() -> FakeReader<'a> {
-    FakeReader::over(b"A\xe0\x80")
+fn mixed<'a>(alloc: Global) -> Fuse<'a> {
+    Fuse::over(alloc, b"A\xe0\x80")
 }
 
 // The arguments of each kind of run, and its lines over them.
@@ -42,17 +42,17 @@ fn runs_over_mixed() -> [(&'static [&'static str], &'static str); 3] {
 fn ends(
     rt: &(impl Abort + AllocGlobal),
     args: &[String],
-    input: &mut FakeReader<'_>,
-    out: &mut Counted<FakeWriter>,
+    input: &mut Fuse<'_>,
+    out: &mut Counted<Fuse<'_>>,
     status: u8,
     text: &str,
 ) {
-    let mut faults = FakeWriter::ample(rt.alloc());
+    let mut faults = Fuse::ample(rt.alloc());
     assert_eq!(rt;
         run_pieces(rt.alloc(), args, input, out, &mut faults),
         status
     );
-    assert_eq!(rt; faults.bytes.as_slice(), text.as_bytes());
+    assert_eq!(rt; faults.written.as_slice(), text.as_bytes());
 }
 
 #[test]
@@ -68,9 +68,16 @@ fn a_run_lists_its_input(rt: HostRuntime) {
         (b"A\xe0\x80", 1, MIXED),
     ];
     for (bytes, status, listing) in table {
-        let mut out = Counted::new(FakeWriter::ample(rt.alloc()));
-        ends(&rt, &[], &mut FakeReader::over(bytes), &mut out, status, "");
-        assert_eq!(rt; out.into_inner().bytes.as_slice(), listing.as_bytes());
+        let mut out = Counted::new(Fuse::ample(rt.alloc()));
+        ends(
+            &rt,
+            &[],
+            &mut Fuse::over(rt.alloc(), bytes),
+            &mut out,
+            status,
+            "",
+        );
+        assert_eq!(rt; out.into_inner().written.as_slice(), listing.as_bytes());
     }
 }
 
@@ -97,16 +104,16 @@ fn a_merger_is_listed(rt: HostRuntime) -> Result<(), Fail> {
     ];
     let args = words_of(rt.alloc(), &["--merge"])?;
     for (bytes, status, lines) in table {
-        let mut out = Counted::new(FakeWriter::ample(rt.alloc()));
+        let mut out = Counted::new(Fuse::ample(rt.alloc()));
         ends(
             &rt,
             &args,
-            &mut FakeReader::over(bytes),
+            &mut Fuse::over(rt.alloc(), bytes),
             &mut out,
             status,
             "",
         );
-        assert_eq!(rt; out.into_inner().bytes.as_slice(), lines.as_bytes());
+        assert_eq!(rt; out.into_inner().written.as_slice(), lines.as_bytes());
     }
     Ok(())
 }
@@ -134,16 +141,16 @@ fn a_walk_is_listed(rt: HostRuntime) -> Result<(), Fail> {
     ];
     for (bytes, word, status, lines) in table {
         let args = words_of(rt.alloc(), &["--ends", word])?;
-        let mut out = Counted::new(FakeWriter::ample(rt.alloc()));
+        let mut out = Counted::new(Fuse::ample(rt.alloc()));
         ends(
             &rt,
             &args,
-            &mut FakeReader::over(bytes),
+            &mut Fuse::over(rt.alloc(), bytes),
             &mut out,
             status,
             "",
         );
-        assert_eq!(rt; out.into_inner().bytes.as_slice(), lines.as_bytes());
+        assert_eq!(rt; out.into_inner().written.as_slice(), lines.as_bytes());
     }
     Ok(())
 }
@@ -170,10 +177,10 @@ fn other_arguments_are_wrong(rt: HostRuntime) -> Result<(), Fail> {
     ];
     for texts in table {
         let args = words_of(rt.alloc(), texts)?;
-        let mut input = mixed();
-        let mut out = Counted::new(FakeWriter::ample(rt.alloc()));
+        let mut input = mixed(rt.alloc());
+        let mut out = Counted::new(Fuse::ample(rt.alloc()));
         ends(&rt, &args, &mut input, &mut out, 2, WRONG_ARGUMENTS);
-        assert_eq!(rt; input.calls, 0, "nothing is read");
+        assert!(rt; input.given.is_empty(), "nothing is read");
         assert!(rt; out.into_inner().given.is_empty(), "nothing is written");
     }
     Ok(())
@@ -224,20 +231,20 @@ fn long_input(alloc: Global) -> Result<Vec<u8>, AllocError> {
 #[test]
 fn a_long_input_is_listed_whole(rt: HostRuntime) -> Result<(), Fail> {
     let bytes = long_input(rt.alloc())?;
-    let mut out = Counted::new(FakeWriter::ample(rt.alloc()));
+    let mut out = Counted::new(Fuse::ample(rt.alloc()));
     assert_eq!(rt; write_listing(bytes.as_slice(), &mut out).ok(), Some(1100));
-    let mut input = FakeReader::over(bytes.as_slice());
-    let mut out = Counted::new(FakeWriter::ample(rt.alloc()));
+    let mut input = Fuse::over(rt.alloc(), bytes.as_slice());
+    let mut out = Counted::new(Fuse::ample(rt.alloc()));
     ends(&rt, &[], &mut input, &mut out, 1, "");
     let writer = out.into_inner();
     assert_eq!(rt; writer.given.len(), 1_100_000);
 
     // 6,588,890 digits of offsets; a length and four separators a line; six digits, or the name of a fault.
     assert_eq!(rt;
-        writer.bytes.len(),
+        writer.written.len(),
         6_588_890 + 4 * 1_100_000 + 6 * 1_098_900 + 26 * 1100
     );
-    let text = writer.bytes.as_slice();
+    let text = writer.written.as_slice();
     assert!(rt; text.starts_with(b"0 1 000041\n1 1 000041\n"));
     assert!(rt; text.ends_with(b"\n1099998 1 000041\n1099999 1 UnexpectedContinuationByte\n"));
     Ok(())
@@ -254,12 +261,12 @@ fn a_flush_may_fail(rt: HostRuntime) {
         (3, Some(ErrorKind::Other), 3, "", 0),
     ];
     for (before, fault, status, text, flushes) in table {
-        let mut writer = FakeWriter::ample(rt.alloc());
+        let mut writer = Fuse::ample(rt.alloc());
         writer.flush_fault = fault;
         let mut out = Counted::new(writer);
-        let mut faults = FakeWriter::ample(rt.alloc());
+        let mut faults = Fuse::ample(rt.alloc());
         assert_eq!(rt; finish_run(before, &mut out, &mut faults), status);
-        assert_eq!(rt; faults.bytes.as_slice(), text.as_bytes());
+        assert_eq!(rt; faults.written.as_slice(), text.as_bytes());
         assert_eq!(rt; out.into_inner().flushes, flushes);
     }
 }
@@ -274,10 +281,9 @@ fn a_failing_reader_ends_the_run(rt: HostRuntime) -> Result<(), Fail> {
             (ErrorKind::OutOfMemory, NO_MEMORY),
         ] {
             for calls in 0..3 {
-                let mut input = mixed();
-                input.calls_left = calls;
-                input.fault = Some(kind);
-                let mut out = Counted::new(FakeWriter::ample(rt.alloc()));
+                let mut input = mixed(rt.alloc());
+                input.plan = Plan::fail_once(calls, kind);
+                let mut out = Counted::new(Fuse::ample(rt.alloc()));
                 ends(&rt, &args, &mut input, &mut out, 3, text);
                 assert!(rt; out.into_inner().given.is_empty(), "nothing is written");
             }
@@ -291,12 +297,11 @@ fn an_interrupted_reader_goes_on(rt: HostRuntime) -> Result<(), Fail> {
     for (texts, lines) in runs_over_mixed() {
         let args = words_of(rt.alloc(), texts)?;
         for calls in 0..3 {
-            let mut input = mixed();
-            input.calls_left = calls;
-            input.fault = Some(ErrorKind::Interrupted);
-            let mut out = Counted::new(FakeWriter::ample(rt.alloc()));
+            let mut input = mixed(rt.alloc());
+            input.plan = Plan::fail_once(calls, ErrorKind::Interrupted);
+            let mut out = Counted::new(Fuse::ample(rt.alloc()));
             ends(&rt, &args, &mut input, &mut out, 1, "");
-            assert_eq!(rt; out.into_inner().bytes.as_slice(), lines.as_bytes());
+            assert_eq!(rt; out.into_inner().written.as_slice(), lines.as_bytes());
         }
     }
     Ok(())
@@ -306,8 +311,8 @@ fn an_interrupted_reader_goes_on(rt: HostRuntime) -> Result<(), Fail> {
 fn a_failing_writer_ends_the_run(rt: HostRuntime) -> Result<(), Fail> {
     for (texts, lines) in runs_over_mixed() {
         let args = words_of(rt.alloc(), texts)?;
-        for stalls in [false, true] {
-            fails_at_each_call(&rt, &args, lines.as_bytes(), stalls);
+        for fault in [Fault::Error(ErrorKind::BrokenPipe), Fault::Nothing] {
+            fails_at_each_call(&rt, &args, lines.as_bytes(), fault);
         }
     }
     Ok(())
@@ -318,12 +323,11 @@ fn fails_at_each_call(
     rt: &(impl Abort + AllocGlobal),
     args: &[String],
     lines: &[u8],
-    stalls: bool,
+    fault: Fault,
 ) {
     for calls in 0..=100 {
-        let mut writer = FakeWriter::failing(rt.alloc(), calls);
+        let mut writer = Fuse::failing(rt.alloc(), calls, fault);
         writer.most = 1;
-        writer.stalls = stalls;
         let mut out = Counted::new(writer);
         let len = lines.len().min(calls as usize);
         let (status, text) = if len < lines.len() {
@@ -331,22 +335,21 @@ fn fails_at_each_call(
         } else {
             (1, "")
         };
-        ends(rt, args, &mut mixed(), &mut out, status, text);
-        let written = out.into_inner().bytes;
+        ends(rt, args, &mut mixed(rt.alloc()), &mut out, status, text);
+        let written = out.into_inner().written;
         assert_eq!(rt; written.as_slice(), &lines[..len], "after {calls} calls");
     }
 }
 
 #[test]
 fn standard_error_may_fail(rt: HostRuntime) {
-    for stalls in [false, true] {
-        let mut faults = FakeWriter::failing(rt.alloc(), 0);
-        faults.stalls = stalls;
-        let mut input = mixed();
-        input.fault = Some(ErrorKind::Other);
-        let mut out = Counted::new(FakeWriter::ample(rt.alloc()));
+    for fault in [Fault::Error(ErrorKind::BrokenPipe), Fault::Nothing] {
+        let mut faults = Fuse::failing(rt.alloc(), 0, fault);
+        let mut input = mixed(rt.alloc());
+        input.plan = Plan::fail_once(0, ErrorKind::Other);
+        let mut out = Counted::new(Fuse::ample(rt.alloc()));
         let status = run_pieces(rt.alloc(), &[], &mut input, &mut out, &mut faults);
-        assert_eq!(rt; status, 3, "where it stalls: {stalls}");
+        assert_eq!(rt; status, 3);
     }
 }
 
@@ -369,9 +372,9 @@ fn stops_have_their_lines(rt: HostRuntime) -> Result<(), Fail> {
         (Stop::NoMemory, 3, "no memory", "other: no memory\n"),
     ] {
         assert_eq!(rt; stop.to_string(rt.alloc())?.as_str(), text);
-        let mut faults = FakeWriter::ample(rt.alloc());
+        let mut faults = Fuse::ample(rt.alloc());
         assert_eq!(rt; stop.report("other", &mut faults), status);
-        assert_eq!(rt; faults.bytes.as_slice(), line.as_bytes());
+        assert_eq!(rt; faults.written.as_slice(), line.as_bytes());
     }
     Ok(())
 }

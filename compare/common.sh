@@ -1,0 +1,54 @@
+# What the scripts of this folder share that ask the Rust crate. They set `name` to their own.
+compare_folder=$(cd "$(dirname "${BASH_SOURCE[0]}")" && pwd)
+root_folder=$(dirname "$compare_folder")
+source "$root_folder/scripts/build.sh"
+
+die() {
+    echo "$name: $*" >&2
+    exit 2
+}
+
+# need_number OPTION NUMBER: a whole number.
+need_number() {
+    [[ "$2" =~ ^[0-9]{1,18}$ ]] || die "$1 asks for a number, not '$2'"
+}
+
+# The Rust crate's sources as they are. Its manifest is replaced: it may name crates that only its own
+# tests and options use, and Cargo would look for them.
+copy_crate() {
+    mkdir "$work/encode_unicode"
+    cp -R "$1/src" "$work/encode_unicode/src"
+    cat >"$work/encode_unicode/Cargo.toml" <<MANIFEST
+[package]
+name = "encode_unicode"
+version = "1.0.0"
+edition = "2021"
+[features]
+default = ["std"]
+std = []
+MANIFEST
+}
+
+# prepare PATH: the static library, the Rust crate and this folder, side by side in `work`, which is new and goes
+# when the script ends.
+prepare() {
+    [ -f "$1/src/lib.rs" ] || die "no Rust crate in $1"
+    command -v cargo >/dev/null || die "cargo is not on the path"
+    work=$(mktemp -d)
+    trap 'rm -rf "$work"' EXIT
+    build_crate compare_c lib libcompare_c.a "the library" || exit 2
+    copy_crate "$1"
+    cp -R "$compare_folder" "$work/compare"
+    cp "$root_folder/crates/compare_c/out/libcompare_c.a" "$work/"
+}
+
+# run_cargo COMMAND ARGUMENTS: cargo in that copy of this folder.
+run_cargo() {
+    local command=$1
+    shift
+    if ! (cd "$work/compare" && RATTLE_C_FOLDER="$(dirname "$(rt doc)")/c" \
+        cargo "$command" --release --offline --target-dir "$work/target" "$@" >"$work/log" 2>&1); then
+        cat "$work/log" >&2
+        die "the comparison could not be built"
+    fi
+}

@@ -1,0 +1,160 @@
+//! A stream over memory that passes some calls and then fails.
+ghost use Rattle.std.specs.Prelude.{Some, ◌<◌};
+
+use std::alloc::Global;
+use std::io;
+use std::io::{ErrorKind, Read, Write};
+
+/// How a call fails.
+#[derive(Clone, Copy, Drop)]
+pub enum Fault {
+    /// By an error of this kind.
+    Error(ErrorKind),
+
+    /// By taking nothing. Of a reader that would be the end of its bytes, so it answers `WouldBlock`.
+    Nothing,
+}
+
+/// Which calls fail: of those behind the first `passes`, the first `faults`.
+#[derive(Clone, Copy, Drop)]
+pub struct Plan {
+    pub passes: u32,
+    pub faults: u32,
+    pub fault: Fault,
+}
+
+impl Plan {
+    /// Each call before the 2^32nd passes.
+    pub fn pass() -> Plan {
+        Plan::fail_once(u32::MAX, ErrorKind::BrokenPipe)
+    }
+
+    /// So many calls pass, and all others fail.
+    pub fn fail(passes: u32, fault: Fault) -> Plan {
+        Plan {
+            passes,
+            faults: u32::MAX,
+            fault,
+        }
+    }
+
+    /// So many calls pass, one answers this error, and all others pass.
+    pub fn fail_once(passes: u32, kind: ErrorKind) -> Plan {
+        Plan {
+            passes,
+            faults: 1,
+            fault: Fault::Error(kind),
+        }
+    }
+
+    // How the next call fails, if it does.
+    fn step(&mut self) -> Option<Fault> {
+        if self.passes > 0 {
+            self.passes -= 1;
+            None
+        } else if self.faults > 0 {
+            self.faults -= 1;
+            Some(self.fault)
+        } else {
+            None
+        }
+    }
+}
+
+/// A reader and a writer over memory, whose calls fail by a plan.
+#[derive(Drop)]
+pub struct Fuse<'a> {
+    /// What can still be read.
+    pub unread: &'a [u8],
+
+    /// What was written.
+    pub written: Vec<u8>,
+    pub plan: Plan,
+
+    /// How many bytes a call passes at most.
+    pub most: usize,
+
+    /// How many bytes each call was given, to be written or to be filled.
+    pub given: Vec<usize>,
+
+    /// How often it was flushed.
+    pub flushes: u32,
+    pub flush_fault: Option<ErrorKind>,
+    ghost some: { 0 < most },
+}
+
+impl<'a> Fuse<'a> {
+    /// A reader that gives two bytes a call, and does not fail.
+    pub fn over(alloc: Global, unread: &'a [u8]) -> Fuse<'a> {
+        Fuse {
+            unread,
+            written: Vec::new(alloc),
+            plan: Plan::pass(),
+            most: 2,
+            given: Vec::new(alloc),
+            flushes: 0,
+            flush_fault: None,
+        }
+    }
+
+    /// A writer that takes all that it is given.
+    pub fn ample(alloc: Global) -> Fuse<'a> {
+        Fuse {
+            unread: &[],
+            written: Vec::new(alloc),
+            plan: Plan::pass(),
+            most: usize::MAX,
+            given: Vec::new(alloc),
+            flushes: 0,
+            flush_fault: None,
+        }
+    }
+
+    /// A writer that takes what the first calls give it, and then fails.
+    pub fn failing(alloc: Global, passes: u32, fault: Fault) -> Fuse<'a> {
+        let mut writer = Fuse::ample(alloc);
+        writer.plan = Plan::fail(passes, fault);
+        writer
+    }
+}
+
+impl Read for Fuse<'_> {
+    ghost remaining = { λ f. Some f.unread.now };
+
+    fn read(&mut self, buf: &mut [u8]) -> io::Result<usize> {
+        self.given.push(buf.len())?;
+        match self.plan.step() {
+            Some(Fault::Error(kind)) => return Err(io::Error::from(kind)),
+            Some(Fault::Nothing) => return Err(io::Error::from(ErrorKind::WouldBlock)),
+            None => {}
+        }
+        let count = buf.len().min(self.most).min(self.unread.len());
+        buf[..count].copy_from_slice(&self.unread[..count]);
+        self.unread = &self.unread[count..];
+        Ok(count)
+    }
+}
+
+impl Write for Fuse<'_> {
+    ghost contents = { λ f. Some f.written.items };
+
+    fn write(&mut self, buf: &[u8]) -> io::Result<usize> {
+        self.given.push(buf.len())?;
+        match self.plan.step() {
+            Some(Fault::Error(kind)) => return Err(io::Error::from(kind)),
+            Some(Fault::Nothing) => return Ok(0),
+            None => {}
+        }
+        let count = buf.len().min(self.most);
+        self.written.extend_from_slice(&buf[..count])?;
+        Ok(count)
+    }
+
+    fn flush(&mut self) -> io::Result<()> {
+        self.flushes = self.flushes.saturating_add(1);
+        match self.flush_fault {
+            Some(kind) => Err(io::Error::from(kind)),
+            None => Ok(()),
+        }
+    }
+}
