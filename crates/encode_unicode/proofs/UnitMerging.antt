@@ -2,8 +2,7 @@
 use Rattle.std.proofs.Common.{◌≡◌, ℕ, ◌<◌, ◌≤◌, List, [], ◌∷◌, ◌++◌, length, Some, None, Ok, Err, Bool, true, false, eqb, refl, ap, sym, arith}
 use Rattle.std.proofs.lemmas.Grind.{common_steps}
 use Rattle.std.specs.Iterator.{Count}
-use Rattle.std.specs.Prelude.{Option, Result, IfOk, IfErr}
-use Rattle.utf_base.specs.declared.errors.units.Utf16PairError.{Utf16PairError}
+use Rattle.std.specs.Prelude.{Option}
 use Rattle.utf_base.specs.declared.errors.units.Utf16PairError.TheVariants.{Incomplete, UnexpectedTrailingSurrogate, UnmatchedLeadingSurrogate}
 use Rattle.utf_base.specs.Code.{utf16}
 use Rattle.utf_base.specs.Decoded.{decoded_two, unless_fault}
@@ -81,25 +80,12 @@ unit_trails can_next remaining steps first s new f can none going trail = record
   clear = tt;
 }
 
--- a unit that is no leading surrogate, by where it lies
-pub plain_below : (u : ℕ) → u < 0xD800 → is_surrogate u ≡ false
-plain_below u h = grind (arith, common_steps)
+-- a surrogate, by where it lies
+pub leads_below : (u : ℕ) → is_surrogate u ≡ true → u < 0xDC00 → is_leading_surrogate u ≡ true
+leads_below u h low = grind (arith, common_steps)
 
-pub plain_above : (u : ℕ) → 0xE000 ≤ u → is_surrogate u ≡ false
-plain_above u h = grind (arith, common_steps)
-
-pub leads_between : (u : ℕ) → 0xD800 ≤ u → u < 0xDC00 → is_leading_surrogate u ≡ true
-leads_between u low high = grind (arith, common_steps)
-
-trails_between : (u : ℕ) → 0xDC00 ≤ u → u < 0xE000 → is_trailing_surrogate u ≡ true
-trails_between u low high = grind (arith, common_steps)
-
-pub unit_judged : {S : Type 0} (can_next : S → Type 0) (remaining : S → Count) (steps : S → Option ℕ → S → Type 0) (first : ℕ) (s : S) (r : Result ℕ Utf16PairError) (new : List ℕ) (f : Bool)
-    → can_next s → new ≡ [] → f ≡ false → 0xDC00 ≤ first → first < 0x1_0000
-    → IfOk r (λ second. (second ≡ 0) × (0xE000 ≤ first)) → IfErr r (λ k. (k ≡ UnexpectedTrailingSurrogate) × (first < 0xE000))
-    → CompletesUnits can_next remaining steps first s r new s f
-unit_judged can_next remaining steps first s (Ok second) new f can none going low fits ok err = rw ok.0 (unit_stands can_next remaining steps first s new f can none going fits (plain_above first ok.1))
-unit_judged can_next remaining steps first s (Err k) new f can none going low fits ok err = rw err.0 (unit_trails can_next remaining steps first s new f can none going (trails_between first low err.1))
+pub trails_from : (u : ℕ) → is_surrogate u ≡ true → 0xDC00 ≤ u → is_trailing_surrogate u ≡ true
+trails_from u h high = grind (arith, common_steps)
 
 -- A leading surrogate.
 

@@ -11,7 +11,7 @@ use std::marker::Model;
 /// source has ended. Contracts see the list and the mark.
 #[derive(Drop)]
 pub(crate) struct HeldUnit {
-    word: u32,
+    word: u64,
 }
 
 impl Model for HeldUnit {
@@ -51,7 +51,7 @@ impl HeldUnit {
         ensures going { result.ended ≡ false }
     {
         HeldUnit {
-            word: 0x1_0000 + unit as u32,
+            word: 0x1_0000 + unit as u64,
         }
     }
 
@@ -102,7 +102,7 @@ impl HeldUnit {
     /// Takes it.
     #[inline(always)]
     #[tactic(auto, unfolding(crate::specs::HeldWord::unit_of))]
-    pub(crate) fn take(&mut self) -> Option<u32>
+    pub(crate) fn take(&mut self) -> Option<u64>
         requires busy { self.old.held ≡ [] → self.old.ended ≡ true }
         ensures first { YieldsFirst (λ kept. kept.held) self.old result self.new }
         ensures unit { IfSome result (λ unit. unit < 0x1_0000) }

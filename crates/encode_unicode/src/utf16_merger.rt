@@ -1,10 +1,9 @@
 //! Characters, and what is wrong, from the units of an iterator.
-ghost use Rattle.std.specs.Prelude.{◌≡◌, ◌<◌, ◌≤◌, ℕ, List, [], length, IsOk, IfOk, IfErr, IfSome, false};
+ghost use Rattle.std.specs.Prelude.{◌≡◌, ◌<◌, ℕ, List, [], length, IsOk, IfOk, IfSome, true, false};
 ghost use Rattle.std.specs.Iterator.{UpTo};
 ghost use Rattle.std.specs.Iterator.SizeHint.{IsWithinCount};
 ghost use Rattle.utf_base.specs.Code.{utf16};
-ghost use Rattle.utf_base.specs.declared.errors.units.Utf16PairError.TheVariants.{UnexpectedTrailingSurrogate};
-ghost use Rattle.utf_base.specs.Units.{is_trailing_surrogate, unit_fault_kind};
+ghost use Rattle.utf_base.specs.Units.{is_surrogate, is_trailing_surrogate, unit_fault_kind};
 ghost use Rattle.encode_unicode.specs.Mergers.{unasked, unread, unread_count, IsHeldUnits, IsSpent, MergerNext, MergesHint};
 ghost use Rattle.encode_unicode.specs.Mergers.{RemainingNext, RemainsHint};
 ghost use Rattle.encode_unicode.specs.Reading.{CompletesUnits, TakesFirst};
@@ -151,25 +150,26 @@ impl<I: Iterator<Item = u16> + fmt::Debug> fmt::Debug for Utf16CharMerger<I> {
     }
 }
 
-// Takes the first of the unread units: the one that is held, else one of the source. It is a number of 32
+// Takes the first of the unread units: the one that is held, else one of the source. It is a number of 64
 // bits, for which a compiler has no work each time that it is used.
 #[inline(always)]
-fn first_unit<I: Iterator<Item = u16>>(held: &mut HeldUnit, source: &mut I) -> Option<u32>
+fn first_unit<I: Iterator<Item = u16>>(held: &mut HeldUnit, source: &mut I) -> Option<u64>
     requires can { held.old.ended ≡ false → I.can_next source.old }
     ensures first { TakesFirst IsHeldUnits I.can_next I.remaining I.next_gives held.old.held source.old held.old.ended result held.new.held source.new held.new.ended }
     ensures unit { IfSome result (λ unit. unit < 0x1_0000) }
     ensures none { held.new.held ≡ [] }
     ensures going { IfSome result (λ _. held.new.ended ≡ false) }
 {
-    if !held.is_idle() {
-        return held.take();
-    }
-    match read(source) {
-        None => {
-            *held = HeldUnit::ended();
-            None
+    if held.is_idle() {
+        match read(source) {
+            None => {
+                *held = HeldUnit::ended();
+                None
+            }
+            Some(unit) => Some(unit as u64),
         }
-        Some(unit) => Some(unit as u32),
+    } else {
+        held.take()
     }
 }
 
@@ -177,7 +177,7 @@ fn first_unit<I: Iterator<Item = u16>>(held: &mut HeldUnit, source: &mut I) -> O
 // read behind it is held where it is no part of the code.
 #[inline(always)]
 fn second_unit<I: Iterator<Item = u16>>(
-    first: u32,
+    first: u64,
     held: &mut HeldUnit,
     source: &mut I,
 ) -> Result<u16, Utf16PairError>
@@ -188,11 +188,11 @@ fn second_unit<I: Iterator<Item = u16>>(
     ensures answers { CompletesUnits I.can_next I.remaining I.next_gives first source.old result held.new.held source.new held.new.ended }
     ensures held { IsHeldUnits held.new.held }
 {
-    if first < 0xd800 {
+    if stands_alone(first) {
         return Ok(0);
     }
     if first >= 0xdc00 {
-        return judge(first);
+        return Err(Utf16PairError::UnexpectedTrailingSurrogate);
     }
     match read(source) {
         None => {
@@ -215,17 +215,16 @@ fn trails(unit: u16) -> bool
     unit & 0xfc00 == 0xdc00
 }
 
-// 0 for a unit above the leading surrogates, and an error for a trailing one.
+// Whether the unit is a character by itself, which is to be no surrogate. One comparison tells of the units
+// below the surrogates and of those above, so that a processor foresees it. It counts from behind the
+// surrogates: counted from the first of them, a compiler would take a mask and one instruction more.
 #[inline(always)]
-fn judge(first: u32) -> Result<u16, Utf16PairError>
-    ensures ok { IfOk result (λ second. (second ≡ 0) × (0xE000 ≤ first)) }
-    ensures err { IfErr result (λ k. (k ≡ UnexpectedTrailingSurrogate) × (first < 0xE000)) }
+fn stands_alone(unit: u64) -> bool
+    requires { unit < 0x1_0000 }
+    ensures alone { result ≡ true → is_surrogate unit ≡ false }
+    ensures surrogate { result ≡ false → is_surrogate unit ≡ true }
 {
-    if first < 0xe000 {
-        Err(Utf16PairError::UnexpectedTrailingSurrogate)
-    } else {
-        Ok(0)
-    }
+    unit.wrapping_sub(0xe000) < 0xffff_ffff_ffff_f800
 }
 
 /// The units that no call of a merger has answered for: the one that it held, and then those that its source
