@@ -19,3 +19,4 @@ pub mod ByteWalks
 pub mod BackLemmas
 pub mod LocalDamage
 pub mod CutChanges
+pub mod TableLemmas
