@@ -21,3 +21,4 @@ pub mod UnitWalks
 pub mod BackLemmas
 pub mod LocalDamage
 pub mod CutChanges
+pub mod TableLemmas

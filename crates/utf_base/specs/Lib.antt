@@ -14,3 +14,4 @@ pub mod Walk
 pub mod WalkLaws
 pub mod Texts
 pub mod Refused
+pub mod Table

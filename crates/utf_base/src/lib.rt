@@ -3,5 +3,6 @@
 
 pub mod errors;
 pub mod laws;
+pub mod table;
 pub mod tally;
 pub mod traits;

@@ -5,6 +5,7 @@ ghost use Rattle.utf_base.specs.Front.{AsksForMore};
 ghost use Rattle.utf_base.specs.Units.{is_leading_surrogate, NeedsExtraUnit};
 
 use crate::errors::{Utf8Error, Utf8ErrorKind, Utf16FirstUnitError};
+use crate::table::{State, class_of, step};
 
 #[cfg(test)]
 mod tests;
@@ -38,12 +39,12 @@ impl U8UtfExt for u8 {
     #[inline(always)]
     #[tactic(auto, unfolding(crate::specs::Kinds::asked))]
     fn extra_utf8_bytes(self) -> Result<usize, Utf8Error> {
-        match self {
-            0x00..=0x7f => Ok(0),
-            0x80..=0xbf => Err(Utf8Error::new(Utf8ErrorKind::UnexpectedContinuationByte)),
-            0xc2..=0xdf => Ok(1),
-            0xe0..=0xef => Ok(2),
-            0xf0..=0xf4 => Ok(3),
+        match step(State::Start, class_of(self)) {
+            State::Done => Ok(0),
+            State::OneMore => Ok(1),
+            State::TwoMore | State::BehindE0 | State::BehindEd => Ok(2),
+            State::ThreeMore | State::BehindF0 | State::BehindF4 => Ok(3),
+            State::Unexpected => Err(Utf8Error::new(Utf8ErrorKind::UnexpectedContinuationByte)),
             _ => Err(Utf8Error::new(Utf8ErrorKind::NonUtf8Byte)),
         }
     }

@@ -1,0 +1,83 @@
+-- The table of byte classes and states by which bytes in UTF-8 are judged one by one (RFC 3629, section 4).
+use Rattle.std.specs.Prelude.{ℕ, Bool, nat_lt, ◌==◌, if◌then◌else◌}
+use Rattle.utf_base.specs.declared.table.State.{State}
+use Rattle.utf_base.specs.declared.table.State.TheVariants.{Start, OneMore, TwoMore, ThreeMore, BehindE0, BehindEd, BehindF0, BehindF4, TwoMoreOverlong, OneMoreOverlong, OneMoreReserved, TwoMoreTooHigh, OneMoreTooHigh, Done, Unexpected, Never, Interrupted, Overlong, Reserved, TooHigh}
+
+-- the class of a byte
+unfoldable pub class : ℕ → ℕ
+class b =
+    if nat_lt b 0x80 then 0
+    else if nat_lt b 0x90 then 1
+    else if nat_lt b 0xA0 then 2
+    else if nat_lt b 0xC0 then 3
+    else if nat_lt b 0xC2 then 4
+    else if nat_lt b 0xE0 then 5
+    else if b == 0xE0 then 6
+    else if b == 0xED then 8
+    else if nat_lt b 0xF0 then 7
+    else if b == 0xF0 then 9
+    else if nat_lt b 0xF4 then 10
+    else if b == 0xF4 then 11
+    else 4
+
+-- the place of a state among all: its row in the table, where it has one
+abbrev pub row : State → ℕ
+row Start = 0
+row OneMore = 1
+row TwoMore = 2
+row ThreeMore = 3
+row BehindE0 = 4
+row BehindEd = 5
+row BehindF0 = 6
+row BehindF4 = 7
+row TwoMoreOverlong = 8
+row OneMoreOverlong = 9
+row OneMoreReserved = 10
+row TwoMoreTooHigh = 11
+row OneMoreTooHigh = 12
+row Done = 13
+row Unexpected = 14
+row Never = 15
+row Interrupted = 16
+row Overlong = 17
+row Reserved = 18
+row TooHigh = 19
+
+-- the state asks for a byte, so it has a row; the others are ends
+abbrev pub is_running : State → Bool
+is_running state = nat_lt (row state) 13
+
+-- the state behind a first byte
+abbrev pub begun : ℕ → State
+begun c =
+    if c == 0 then Done
+    else if nat_lt c 4 then Unexpected
+    else if c == 4 then Never
+    else if c == 5 then OneMore
+    else if c == 6 then BehindE0
+    else if c == 7 then TwoMore
+    else if c == 8 then BehindEd
+    else if c == 9 then BehindF0
+    else if c == 10 then ThreeMore
+    else BehindF4
+
+-- the state behind one more byte: those behind the three classes of continuation bytes are given
+abbrev pub continued : State → State → State → ℕ → State
+continued one two three c = if c == 1 then one else if c == 2 then two else if c == 3 then three else Interrupted
+
+-- the state behind a byte of the class; an end has none
+unfoldable pub next_state : State → ℕ → State
+next_state Start c = begun c
+next_state OneMore c = continued Done Done Done c
+next_state TwoMore c = continued OneMore OneMore OneMore c
+next_state ThreeMore c = continued TwoMore TwoMore TwoMore c
+next_state BehindE0 c = continued OneMoreOverlong OneMoreOverlong OneMore c
+next_state BehindEd c = continued OneMore OneMore OneMoreReserved c
+next_state BehindF0 c = continued TwoMoreOverlong TwoMore TwoMore c
+next_state BehindF4 c = continued TwoMore TwoMoreTooHigh TwoMoreTooHigh c
+next_state TwoMoreOverlong c = continued OneMoreOverlong OneMoreOverlong OneMoreOverlong c
+next_state OneMoreOverlong c = continued Overlong Overlong Overlong c
+next_state OneMoreReserved c = continued Reserved Reserved Reserved c
+next_state TwoMoreTooHigh c = continued OneMoreTooHigh OneMoreTooHigh OneMoreTooHigh c
+next_state OneMoreTooHigh c = continued TooHigh TooHigh TooHigh c
+next_state ended c = ended
