@@ -19,3 +19,6 @@ pub mod ByteWalks
 pub mod BackLemmas
 pub mod LocalDamage
 pub mod CutChanges
+pub mod Rests
+pub mod LaterLemmas
+pub mod ShownTexts

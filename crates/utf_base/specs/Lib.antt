@@ -14,3 +14,5 @@ pub mod Walk
 pub mod WalkLaws
 pub mod Texts
 pub mod Refused
+pub mod Shown
+pub mod LaterLaws

@@ -10,7 +10,9 @@ ghost use Rattle.utf_base.specs.KindLaws.{CodeOrOneFault, UnitsCodeOrOneFault, U
 ghost use Rattle.utf_base.specs.KindLaws.{FourBytesDecide, TwoUnitsDecide, MergerCodeOrOneFault};
 ghost use Rattle.utf_base.specs.KindLaws.{FourBytesDecideMerger, KindsDiffer, CodeOrLastByte};
 ghost use Rattle.utf_base.specs.Kinds.{fault_kind};
+ghost use Rattle.utf_base.specs.LaterLaws.{KindStays, UnitsFaultStays};
 ghost use Rattle.utf_base.specs.LocalLaws.{DamageIsLocal, FrontStays, RestStays};
+ghost use Rattle.utf_base.specs.Shown.{FirstPieceStays, ShowsOne, ShowsSome, CodeShowsFirst, FaultShowsFirst};
 ghost use Rattle.utf_base.specs.Units.{unit_fault_kind};
 ghost use Rattle.utf_base.specs.Walk.{utf8_bytes};
 ghost use Rattle.utf_base.specs.WalkLaws.{WalkExists, WalkIsUnique, WalkStaysOutside, WalkGivesEachOnce};
@@ -155,4 +157,32 @@ pub fn walk_stays_outside()
 /// the order of their places, all of it.
 pub fn walk_gives_each_once()
     ensures { WalkGivesEachOnce utf8_bytes }
+{}
+
+/// Each list shows something, and nothing else.
+pub fn shows_one()
+    ensures utf8 { ShowsOne utf8 }
+    ensures utf16 { ShowsOne utf16 }
+    ensures utf8_some { ShowsSome utf8 }
+    ensures utf16_some { ShowsSome utf16 }
+{}
+
+/// A code that begins a list is shown first, whatever follows, and where none begins it a fault is.
+pub fn first_is_shown()
+    ensures utf8_code { CodeShowsFirst utf8 }
+    ensures utf16_code { CodeShowsFirst utf16 }
+    ensures utf8_fault { FaultShowsFirst utf8 }
+    ensures utf16_fault { FaultShowsFirst utf16 }
+{}
+
+/// Where the front of a list is decided, its first piece is the same whatever follows.
+pub fn first_piece_stays()
+    ensures utf8 { FirstPieceStays utf8 }
+    ensures utf16 { FirstPieceStays utf16 }
+{}
+
+/// What is wrong with the front of bytes or units stays so, whatever follows, but where some are missing.
+pub fn faults_stay()
+    ensures utf8 { KindStays }
+    ensures utf16 { UnitsFaultStays }
 {}
