@@ -21,5 +21,6 @@ pub use Rattle.utf_base.specs.WalkLaws
 pub use Rattle.encode_unicode.specs.Window
 pub mod Recoded
 pub mod ShownFronts
+pub mod Relayed
 pub use Rattle.utf_base.specs.Shown
-pub use Rattle.utf_base.specs.LaterLaws
+pub use Rattle.utf_base.specs.ShownLaws

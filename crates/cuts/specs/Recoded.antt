@@ -1,5 +1,6 @@
 -- Bytes of one form of text recoded as bytes of another: the codes of what they show.
 use Rattle.std.specs.Prelude.{◌≡◌, ℕ, ◌+◌, ◌*◌, ◌/◌, ◌%◌, ◌≤◌, Bool, true, false, if◌then◌else◌, List, [], ◌∷◌, ◌++◌, length, flat_map}
+use Rattle.std.specs.List.{concat}
 use Rattle.utf_base.specs.Code.{utf8, utf16}
 use Rattle.utf_base.specs.Shown.{Shows}
 use Rattle.cuts.specs.declared.form.Form.{Form}
@@ -78,3 +79,21 @@ pub record Finishes (r : Recoding) (old new : List ℕ) : Type 0 where
   pub grown : List ℕ
   pub appended : new ≡ old ++ grown
   pub recoded : IsRecoded r.from r.to r.held grown
+
+-- A recoder is fed these parts one after another and then finished, and what an output holds grows by what comes of it.
+abbrev pub FeedsEach : Recoding → List (List ℕ) → List ℕ → List ℕ → Type 0
+FeedsEach r [] old new = Finishes r old new
+FeedsEach r (part ∷ parts) old new = (s : Recoding) × (mid : List ℕ) × Feeds r part old mid s × FeedsEach s parts mid new
+
+-- what comes of some parts is what they are recoded as, joined
+abbrev pub PartsAreRecoded : Type 0
+PartsAreRecoded =
+    (from to : Form) (parts : List (List ℕ)) (out : List ℕ)
+    → FeedsEach (record { from = from; to = to; held = [] }) parts [] out → IsRecoded from to (concat parts) out
+
+-- so it is the same however they are cut
+abbrev pub PartsDoNotMatter : Type 0
+PartsDoNotMatter =
+    (from to : Form) (parts others : List (List ℕ)) (out other : List ℕ) → concat parts ≡ concat others
+    → FeedsEach (record { from = from; to = to; held = [] }) parts [] out
+    → FeedsEach (record { from = from; to = to; held = [] }) others [] other → out ≡ other

@@ -1,4 +1,4 @@
-//! Recoding in parts.
+//! Recoding of text that comes in parts, which may be cut anywhere, also inside of a code or of a unit.
 ghost use Rattle.std.specs.Prelude.{◌≡◌, ◌<◌, ◌≤◌, [], ◌+◌, ◌*◌, length, OnOk, OnErr, IsOk, IfErr, vec_len, vec_capacity};
 ghost use Rattle.cuts.specs.Recoded.{Feeds, Finishes};
 
@@ -7,8 +7,11 @@ use crate::recoder_runs::{join, recode_joined, recode_last, recode_whole};
 use std::alloc::{AllocError, Allocator};
 use std::marker::Model;
 
-
 /// Recodes text that comes in parts, and holds at most three bytes between them.
+///
+/// Each fault becomes one U+FFFD, the replacement character: a byte that belongs to no code, a surrogate
+/// without its other half (RFC 2781, section 2.2), and an odd byte at the end of units. A code may begin in
+/// one part and end in another, and what is put out does not depend on how the input was cut.
 #[derive(Debug, Drop)]
 pub struct Recoder {
     from: Form,
@@ -50,7 +53,12 @@ impl Recoder {
         }
     }
 
-    /// Takes the next part, and appends to `out` what no later byte can change.
+    /// Takes the next part, and appends to `out` what no later byte can change. Where the last bytes
+    /// are fewer than the first of them asks for, they are held, and so is half a unit.
+    ///
+    /// All memory is asked for before the first byte is put out: three times as many bytes as are held and
+    /// in the part. Where it is refused, nothing has changed, and the same part can be fed again. A part
+    /// without bytes asks for none.
     pub fn feed<A: Allocator>(
         &mut self,
         piece: &[u8],
@@ -97,7 +105,11 @@ impl Recoder {
         self.count = bytes.len();
     }
 
-    /// Appends to `out` what the held bytes are where nothing follows them.
+    /// Appends to `out` what the held bytes are where nothing follows them. A code whose rest never came is
+    /// one U+FFFD for each of its bytes, or for its unit, and half a unit is one more.
+    ///
+    /// Where memory is refused, the error has the recoder as it was, which can be finished again. Where
+    /// nothing is held none is asked for.
     pub fn finish<A: Allocator>(self, out: &mut Vec<u8, A>) -> Result<(), Unfinished>
         ensures ok { OnOk result (Finishes self out.old.items out.new.items) }
         ensures err { IfErr result (λ e. e.recoder ≡ self) }

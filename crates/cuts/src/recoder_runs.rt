@@ -2,9 +2,9 @@
 ghost use Rattle.std.specs.Prelude.{◌≡◌, ◌+◌, ◌-◌, ◌*◌, ◌<◌, ◌≤◌, length, take, drop, ◌++◌, min, vec_len, vec_capacity, IsUtf8};
 ghost use Rattle.cuts.specs.Recoded.{Grows, Finishes};
 
+use crate::code_puts::{put_code, put_eight};
 use crate::form::Form;
 use crate::shown_fronts::{front, last_front};
-use crate::code_puts::{put_code, put_eight};
 use std::alloc::Allocator;
 
 // How far runs go piece by piece before they look for a stretch again.

@@ -15,4 +15,4 @@ pub mod WalkLaws
 pub mod Texts
 pub mod Refused
 pub mod Shown
-pub mod LaterLaws
+pub mod ShownLaws

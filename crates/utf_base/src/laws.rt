@@ -10,9 +10,9 @@ ghost use Rattle.utf_base.specs.KindLaws.{CodeOrOneFault, UnitsCodeOrOneFault, U
 ghost use Rattle.utf_base.specs.KindLaws.{FourBytesDecide, TwoUnitsDecide, MergerCodeOrOneFault};
 ghost use Rattle.utf_base.specs.KindLaws.{FourBytesDecideMerger, KindsDiffer, CodeOrLastByte};
 ghost use Rattle.utf_base.specs.Kinds.{fault_kind};
-ghost use Rattle.utf_base.specs.LaterLaws.{KindStays, UnitsFaultStays};
 ghost use Rattle.utf_base.specs.LocalLaws.{DamageIsLocal, FrontStays, RestStays};
-ghost use Rattle.utf_base.specs.Shown.{FirstPieceStays, ShowsOne, ShowsSome, CodeShowsFirst, FaultShowsFirst};
+ghost use Rattle.utf_base.specs.ShownLaws.{ShowsSome, ShowsOne, CodeShowsFirst, FaultShowsFirst};
+ghost use Rattle.utf_base.specs.ShownLaws.{FirstPieceStays, KindStays, UnitsFaultStays};
 ghost use Rattle.utf_base.specs.Units.{unit_fault_kind};
 ghost use Rattle.utf_base.specs.Walk.{utf8_bytes};
 ghost use Rattle.utf_base.specs.WalkLaws.{WalkExists, WalkIsUnique, WalkStaysOutside, WalkGivesEachOnce};
@@ -159,7 +159,7 @@ pub fn walk_gives_each_once()
     ensures { WalkGivesEachOnce utf8_bytes }
 {}
 
-/// Each list shows something, and nothing else.
+/// Each list shows some scalars, one for each piece of its cut, and nothing else.
 pub fn shows_one()
     ensures utf8 { ShowsOne utf8 }
     ensures utf16 { ShowsOne utf16 }
@@ -167,7 +167,8 @@ pub fn shows_one()
     ensures utf16_some { ShowsSome utf16 }
 {}
 
-/// A code that begins a list is shown first, whatever follows, and where none begins it a fault is.
+/// A code that begins a list is shown first, whatever follows, and where none begins it U+FFFD is, for the
+/// fault of one element.
 pub fn first_is_shown()
     ensures utf8_code { CodeShowsFirst utf8 }
     ensures utf16_code { CodeShowsFirst utf16 }
@@ -175,7 +176,8 @@ pub fn first_is_shown()
     ensures utf16_fault { FaultShowsFirst utf16 }
 {}
 
-/// Where the front of a list is decided, its first piece is the same whatever follows.
+/// Where the front of a list is decided, by a code that stands there or since none ever can, the first piece
+/// is the same whatever follows.
 pub fn first_piece_stays()
     ensures utf8 { FirstPieceStays utf8 }
     ensures utf16 { FirstPieceStays utf16 }
