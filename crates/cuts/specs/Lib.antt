@@ -19,3 +19,8 @@ pub use Rattle.utf_base.specs.CutLaws
 pub use Rattle.utf_base.specs.Walk
 pub use Rattle.utf_base.specs.WalkLaws
 pub use Rattle.encode_unicode.specs.Window
+pub mod Recoded
+pub mod ShownFronts
+pub mod Relayed
+pub use Rattle.utf_base.specs.Shown
+pub use Rattle.utf_base.specs.ShownLaws

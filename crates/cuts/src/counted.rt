@@ -1,19 +1,20 @@
-//! A writer whose failures and flushes are counted, for contracts alone.
+//! A reader or writer whose failures and flushes are counted, for contracts alone.
 //!
-//! A contract can then say that a function answers an error only where its writer failed, since the count
-//! rose, and that it flushed. The counts take no memory. Nothing here hands out a counter or the writer
-//! behind a `&mut`, so that only a call that failed raises the one count, and only `flush` the other.
+//! A contract can then say that a function answers an error only where its reader or writer failed, since
+//! the count rose, and that it flushed. The counts take no memory. Nothing here hands out a counter, or the
+//! reader or writer behind a `&mut`, so that only a call that failed raises the one count, and only `flush`
+//! the other.
 ghost use Rattle.std.specs.Prelude.{◌≡◌, ◌+◌, ◌<◌, ◌≤◌, OnOk, OnErr};
-ghost use Rattle.std.specs.Io.{WritesAtMost};
-ghost use Rattle.std.specs.Io.KnownBytes.{Appends, Keeps, WriteAppends};
-ghost use Rattle.cuts.specs.Failures.{put_failures, flush_failures, AppendsFront};
+ghost use Rattle.std.specs.Io.{ReadsAtMost, WritesAtMost};
+ghost use Rattle.std.specs.Io.KnownBytes.{Appends, Keeps, ReadConsumes, WriteAppends};
+ghost use Rattle.cuts.specs.Failures.{put_failures, take_failures, flush_failures, AppendsFront};
 
 use std::io;
-use std::io::Write;
+use std::io::{Read, Write};
 use std::marker::Model;
 use utf_base::tally::Tally;
 
-/// A writer, how many of its calls failed, and how often it was flushed.
+/// A reader or writer, how many of its calls failed, and how often it was flushed.
 #[derive(Drop)]
 pub struct Counted<T> {
     inner: T,
@@ -44,7 +45,7 @@ impl<T> Counted<T> {
         }
     }
 
-    /// The writer, whose calls are counted no more.
+    /// The reader or writer, whose calls are counted no more.
     #[inline(always)]
     pub fn into_inner(self) -> T
         ensures { result ≡ self.inner }
@@ -86,6 +87,26 @@ impl<W: Write> Counted<W> {
             self.failures.tick();
         }
         answer
+    }
+}
+
+impl<R: Read> Counted<R> {
+    /// One call of the inner `read`, with its answer, the error included.
+    ///
+    /// A failure is an error. `Ok(0)` is none: it is the end, or there was no room.
+    #[inline(always)]
+    pub fn take(&mut self, buf: &mut [u8]) -> io::Result<usize>
+        ensures at_most { ReadsAtMost result buf.new }
+        ensures consumes { ReadConsumes (R.remaining self.old.inner) (R.remaining self.new.inner)
+            result buf.new }
+        ensures failures { self.new.failures ≡ self.old.failures + take_failures result }
+        ensures flushes { self.new.flushes ≡ self.old.flushes }
+    {
+        let given = self.inner.read(buf);
+        if given.is_err() {
+            self.failures.tick();
+        }
+        given
     }
 }
 

@@ -22,3 +22,6 @@ pub mod BackLemmas
 pub mod LocalDamage
 pub mod CutChanges
 pub mod TableLemmas
+pub mod Rests
+pub mod LaterLemmas
+pub mod ShownTexts

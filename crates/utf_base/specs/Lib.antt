@@ -15,3 +15,5 @@ pub mod WalkLaws
 pub mod Texts
 pub mod Refused
 pub mod Table
+pub mod Shown
+pub mod ShownLaws

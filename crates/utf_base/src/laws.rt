@@ -13,6 +13,8 @@ ghost use Rattle.utf_base.specs.KindLaws.{UnitsCodeOrLastUnit};
 ghost use Rattle.utf_base.specs.Kinds.{fault_kind};
 ghost use Rattle.utf_base.specs.LocalLaws.{DamageIsLocal, FrontStays, RestStays};
 ghost use Rattle.utf_base.specs.Scalar.{IsUnits};
+ghost use Rattle.utf_base.specs.ShownLaws.{ShowsSome, ShowsOne, CodeShowsFirst, FaultShowsFirst};
+ghost use Rattle.utf_base.specs.ShownLaws.{FirstPieceStays, KindStays, UnitsFaultStays};
 ghost use Rattle.utf_base.specs.Units.{unit_fault_kind};
 ghost use Rattle.utf_base.specs.Walk.{utf8_bytes, utf16_units};
 ghost use Rattle.utf_base.specs.WalkLaws.{WalkExists, WalkExistsOver, WalkIsUnique};
@@ -168,4 +170,34 @@ pub fn walk_stays_outside()
 pub fn walk_gives_each_once()
     ensures utf8 { WalkGivesEachOnce utf8_bytes }
     ensures utf16 { WalkGivesEachOnce utf16_units }
+{}
+
+/// Each list shows some scalars, one for each piece of its cut, and nothing else.
+pub fn shows_one()
+    ensures utf8 { ShowsOne utf8 }
+    ensures utf16 { ShowsOne utf16 }
+    ensures utf8_some { ShowsSome utf8 }
+    ensures utf16_some { ShowsSome utf16 }
+{}
+
+/// A code that begins a list is shown first, whatever follows, and where none begins it U+FFFD is, for the
+/// fault of one element.
+pub fn first_is_shown()
+    ensures utf8_code { CodeShowsFirst utf8 }
+    ensures utf16_code { CodeShowsFirst utf16 }
+    ensures utf8_fault { FaultShowsFirst utf8 }
+    ensures utf16_fault { FaultShowsFirst utf16 }
+{}
+
+/// Where the front of a list is decided, by a code that stands there or since none ever can, the first piece
+/// is the same whatever follows.
+pub fn first_piece_stays()
+    ensures utf8 { FirstPieceStays utf8 }
+    ensures utf16 { FirstPieceStays utf16 }
+{}
+
+/// What is wrong with the front of bytes or units stays so, whatever follows, but where some are missing.
+pub fn faults_stay()
+    ensures utf8 { KindStays }
+    ensures utf16 { UnitsFaultStays }
 {}

@@ -1,0 +1,17 @@
+use Rattle.std.proofs.Common.{◌≡◌, ◌≤◌, ◌++◌, length, take, drop, arith, ap, ◌∙◌, append_assoc, take-append-drop}
+use Rattle.cuts.specs.Recoded.{Grows}
+use Rattle.cuts.proofs.Growing.{Grows-more}
+use Rattle.cuts.proofs.recoder_runs.recode_joined.Goals as goal
+
+pub returns-clause-grows : goal.returns-clause-grows
+returns-clause-grows g c =
+    let held = c.args.held.now in
+    let piece = c.args.piece.now in
+    let p = c.recode_decided.result in
+    let within = c.recode_decided.ensures.within in
+    let bytes : take c.join-len.result.1 c.join-len.result.0 ≡ held ++ take 3 piece = c.join-len.ensures.bytes in
+    let le : p ≤ length (held ++ take 3 piece) = omega (arith, ap length bytes) in
+    let grows : Grows c.args.from c.args.to (held ++ take 3 piece) c.args.out.now.items c.recode_decided.new.out.items (drop p (held ++ take 3 piece))
+    = rw bytes at c.recode_decided.ensures.grows in
+    let whole : (held ++ take 3 piece) ++ drop 3 piece ≡ held ++ piece = append_assoc held (take 3 piece) (drop 3 piece) ∙ ap (λ xs. held ++ xs) (take-append-drop 3 piece) in
+    rw whole at (Grows-more c.args.from c.args.to (held ++ take 3 piece) (drop 3 piece) c.args.out.now.items c.recode_decided.new.out.items p le grows)

@@ -1,0 +1,38 @@
+use Rattle.std.proofs.Common.{◌+◌, arith, length-drop}
+use Rattle.std.proofs.lemmas.List.{take_rest}
+use Rattle.cuts.specs.declared.form.Form.TheVariants.{Utf8}
+use Rattle.cuts.proofs.Growing.{Grows-behind}
+use Rattle.cuts.proofs.recoder_runs.widen_decided.Goals as goal
+
+pub returns-then-done-stop-clause-grows : goal.returns-then-done-stop-clause-grows
+returns-then-done-stop-clause-grows g c =
+    let bytes = c.args.bytes.now in
+    let p = c.loop-place.place in
+    let n = c.widen_ascii-place.result in
+    let first = Grows-behind Utf8 c.args.to bytes _ _ _ p n c.loop-place.invariant.grows (rw (take_rest bytes p) at c.widen_ascii-place.ensures.grows) in
+    Grows-behind Utf8 c.args.to bytes _ _ _ (p + n) c.recode_decided-done.result first (rw (take_rest bytes (p + n)) at c.recode_decided-done.ensures.grows)
+
+pub loop-place-preserved : goal.loop-place-preserved
+loop-place-preserved g c =
+    let bytes = c.args.bytes.now in
+    let p = c.loop-place.place in
+    let n = c.widen_ascii-place.result in
+    let before = c.loop-place.invariant in
+    let within = before.within in
+    let short = before.short in
+    let capacity = before.capacity in
+    let call = c.widen_ascii-place.ensures in
+    let call_within = call.within in
+    let call_short = call.short in
+    let call_capacity = call.capacity in
+    let run = c.recode_decided-done.ensures in
+    let run_within = run.within in
+    let run_short = run.short in
+    let run_capacity = run.capacity in
+    let first = Grows-behind Utf8 c.args.to bytes _ _ _ p n c.loop-place.invariant.grows (rw (take_rest bytes p) at c.widen_ascii-place.ensures.grows) in
+    record {
+      within = omega (arith, length-drop p bytes, length-drop (p + n) bytes);
+      grows = Grows-behind Utf8 c.args.to bytes _ _ _ (p + n) c.recode_decided-done.result first (rw (take_rest bytes (p + n)) at run.grows);
+      short = omega arith;
+      capacity = omega arith;
+    }

@@ -1,0 +1,52 @@
+-- Bytes recoded on their way from a reader to a writer.
+use Rattle.std.specs.Prelude.{◌≡◌, ℕ, ◌<◌, List, [], ◌∷◌, Option, IfSome, codes}
+use Rattle.std.specs.Io.KnownBytes.{Appends}
+use Rattle.cuts.specs.declared.form.Form.{Form}
+use Rattle.cuts.specs.declared.form.Form.TheVariants.{Utf8, Utf16Le, Utf16Be}
+use Rattle.cuts.specs.declared.recoding.RecodeFault.{RecodeFault}
+use Rattle.cuts.specs.declared.recoding.RecodeFault.TheVariants.{Read, Write, Memory}
+use Rattle.cuts.specs.declared.runs.Stop.{Stop}
+use Rattle.cuts.specs.declared.runs.Stop.TheVariants.{WrongArguments, CannotRead, CannotWrite, NoMemory}
+use Rattle.cuts.specs.Failures.{Counting, AppendsFront}
+use Rattle.cuts.specs.Programs.{status_of, stop_line}
+use Rattle.cuts.specs.Recoded.{Recoding, IsRecoded, Feeds, Finishes}
+
+-- known bytes grew by what the whole input is recoded as
+pub record WritesRecoded (from to : Form) (input old new : Option (List ℕ)) : Type 0 where
+  pub bytes : List ℕ
+  pub recoded : List ℕ
+  pub read : IfSome input (λ xs. bytes ≡ xs)
+  pub is_recoded : IsRecoded from to bytes recoded
+  pub written : Appends old new recoded
+
+-- a part was fed, and known bytes grew by what came of it
+abbrev pub Passes : Recoding → List ℕ → Option (List ℕ) → Option (List ℕ) → Recoding → Type 0
+Passes r part old new s = (grown : List ℕ) × Feeds r part [] grown s × Appends old new grown
+
+-- the recoder was finished, and known bytes grew by what came of it
+abbrev pub PassesLast : Recoding → Option (List ℕ) → Option (List ℕ) → Type 0
+PassesLast r old new = (grown : List ℕ) × Finishes r [] grown × Appends old new grown
+
+-- the name of a form among the arguments of `recode`
+abbrev pub form_name : Form → List ℕ
+form_name Utf8 = codes "utf8"
+form_name Utf16Le = codes "utf16le"
+form_name Utf16Be = codes "utf16be"
+
+-- the arguments, each as its bytes, are the names of two forms
+abbrev pub AsksForms : List (List ℕ) → Form → Form → Type 0
+AsksForms args from to = args ≡ form_name from ∷ form_name to ∷ []
+
+-- why a program ends at a fault
+abbrev pub reason_of : RecodeFault → Stop
+reason_of Read = CannotRead
+reason_of Write = CannotWrite
+reason_of Memory = NoMemory
+
+-- `recode` ended early: its line on standard error and its status are of one reason, and where it could not write the output
+-- failed
+pub record EndsRecoding {T : Type 0} (out_old out_new : Counting T) (faults_old faults_new : Option (List ℕ)) (status : ℕ) : Type 0 where
+  pub reason : Stop
+  pub failed : reason ≡ CannotWrite → out_old.failures < out_new.failures
+  pub line : AppendsFront faults_old faults_new (stop_line (codes "recode") reason)
+  pub told : status ≡ status_of reason

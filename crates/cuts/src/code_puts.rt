@@ -1,0 +1,107 @@
+//! Codes written to the end of an output that has room for them.
+ghost use Rattle.std.specs.Prelude.{◌≡◌, ◌+◌, ◌≤◌, ◌++◌, length, vec_len, vec_capacity, IsAscii};
+ghost use Rattle.std.specs.Prelude.{flat_map};
+ghost use Rattle.utf_base.specs.Code.{utf8, utf16};
+ghost use Rattle.cuts.specs.Recoded.{written, bytes_of};
+
+use crate::form::Form;
+use encode_unicode::CharExt;
+use std::alloc::Allocator;
+
+// Appends the code of the character.
+#[inline(always)]
+pub(crate) fn put_code<A: Allocator>(to: Form, c: char, out: &mut Vec<u8, A>)
+    requires { vec_len out.old + length (written to c) ≤ vec_capacity out.old }
+    ensures items { out.new.items ≡ out.old.items ++ written to c }
+    ensures len { vec_len out.new ≡ vec_len out.old + length (written to c) }
+    ensures capacity { vec_capacity out.old ≤ vec_capacity out.new }
+{
+    match to {
+        Form::Utf8 => put_bytes(c, out),
+        Form::Utf16Le => put_units(false, c, out),
+        Form::Utf16Be => put_units(true, c, out),
+    }
+}
+
+#[inline(always)]
+fn put_bytes<A: Allocator>(c: char, out: &mut Vec<u8, A>)
+    requires { vec_len out.old + length (utf8 c) ≤ vec_capacity out.old }
+    ensures items { out.new.items ≡ out.old.items ++ utf8 c }
+    ensures len { vec_len out.new ≡ vec_len out.old + length (utf8 c) }
+    ensures capacity { vec_capacity out.new ≡ vec_capacity out.old }
+{
+    let (code, len) = c.to_utf8_array();
+    out.push_reserved(code[0]);
+    if len == 1 {
+        return;
+    }
+    out.push_reserved(code[1]);
+    if len == 2 {
+        return;
+    }
+    out.push_reserved(code[2]);
+    if len == 3 {
+        return;
+    }
+    out.push_reserved(code[3]);
+}
+
+#[inline(always)]
+fn put_units<A: Allocator>(high_first: bool, c: char, out: &mut Vec<u8, A>)
+    requires { vec_len out.old + length (flat_map (bytes_of high_first) (utf16 c)) ≤ vec_capacity out.old }
+    ensures items { out.new.items ≡ out.old.items ++ flat_map (bytes_of high_first) (utf16 c) }
+    ensures len { vec_len out.new ≡ vec_len out.old + length (flat_map (bytes_of high_first) (utf16 c)) }
+    ensures capacity { vec_capacity out.old ≤ vec_capacity out.new }
+{
+    let (first, second) = c.to_utf16_tuple();
+    put_unit(high_first, first, out);
+    if let Some(second) = second {
+        put_unit(high_first, second, out);
+    }
+}
+
+#[inline(always)]
+fn put_unit<A: Allocator>(high_first: bool, unit: u16, out: &mut Vec<u8, A>)
+    requires { vec_len out.old + 2 ≤ vec_capacity out.old }
+    ensures items { out.new.items ≡ out.old.items ++ bytes_of high_first unit }
+    ensures len { vec_len out.new ≡ vec_len out.old + 2 }
+    ensures capacity { vec_capacity out.new ≡ vec_capacity out.old }
+{
+    let high = (unit / 256) as u8;
+    let low = (unit % 256) as u8;
+    if high_first {
+        out.push_reserved(high);
+        out.push_reserved(low);
+    } else {
+        out.push_reserved(low);
+        out.push_reserved(high);
+    }
+}
+
+// Appends the codes of eight bytes of ASCII.
+#[inline(always)]
+#[tactic(auto, using(crate::proofs::Ascii::eight_same, crate::proofs::Ascii::eight_low, crate::proofs::Ascii::eight_high))]
+pub(crate) fn put_eight<A: Allocator>(to: Form, block: &[u8], out: &mut Vec<u8, A>)
+    requires eight { length block.now ≡ 8 }
+    requires ascii { IsAscii block.now }
+    requires room { vec_len out.old + 16 ≤ vec_capacity out.old }
+    ensures items { out.new.items ≡ out.old.items ++ flat_map (written to) block.now }
+    ensures len { vec_len out.new ≤ vec_len out.old + 16 }
+    ensures capacity { vec_capacity out.old ≤ vec_capacity out.new }
+{
+    let [a, b, c, d] = [block[0], block[1], block[2], block[3]];
+    let [e, f, g, h] = [block[4], block[5], block[6], block[7]];
+    match to {
+        Form::Utf8 => {
+            let _ = out.extend_from_slice(block);
+        }
+        Form::Utf16Le => {
+            let wide = [a, 0, b, 0, c, 0, d, 0, e, 0, f, 0, g, 0, h, 0];
+            let _ = out.extend_from_slice(&wide);
+        }
+        Form::Utf16Be => {
+            let wide = [0, a, 0, b, 0, c, 0, d, 0, e, 0, f, 0, g, 0, h];
+            let _ = out.extend_from_slice(&wide);
+        }
+    }
+}

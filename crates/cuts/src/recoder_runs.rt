@@ -1,0 +1,218 @@
+//! Runs over bytes, into an output that has room for what comes of them.
+ghost use Rattle.std.specs.Prelude.{◌≡◌, ◌+◌, ◌-◌, ◌*◌, ◌<◌, ◌≤◌, length, take, drop, ◌++◌, min, vec_len, vec_capacity, IsUtf8};
+ghost use Rattle.cuts.specs.Recoded.{Grows, Finishes};
+
+use crate::code_puts::{put_code, put_eight};
+use crate::form::Form;
+use crate::shown_fronts::{front, last_front};
+use std::alloc::Allocator;
+
+// How far runs go piece by piece before they look for a stretch again.
+const STRIDE: usize = 16;
+
+// Recodes the bytes as far as no later byte can change what they show, and not past the place `stop`
+// but by the rest of a code that begins before it. Answers how many bytes were recoded.
+#[inline(always)]
+pub(crate) fn recode_decided<A: Allocator>(
+    from: Form,
+    to: Form,
+    bytes: &[u8],
+    stop: usize,
+    out: &mut Vec<u8, A>,
+) -> usize
+    requires stop { stop ≤ length bytes.now }
+    requires room { vec_len out.old + 3 * length bytes.now ≤ vec_capacity out.old }
+    ensures within { result ≤ length bytes.now }
+    ensures waits { result < stop → length bytes.now ≤ result + 3 }
+    ensures grows { Grows from to bytes.now out.old.items out.new.items (drop result bytes.now) }
+    ensures short { vec_len out.new ≤ vec_len out.old + 3 * result }
+    ensures capacity { vec_capacity out.old ≤ vec_capacity out.new }
+{
+    let mut place = 0;
+    while place < stop {
+        match front(from, &bytes[place..]) {
+            None => return place,
+            Some((c, len)) => {
+                put_code(to, c, out);
+                place += len;
+            }
+        }
+    }
+    place
+}
+
+// Recodes the bytes, which nothing follows.
+#[inline(always)]
+pub(crate) fn recode_last<A: Allocator>(from: Form, to: Form, bytes: &[u8], out: &mut Vec<u8, A>)
+    requires { vec_len out.old + 3 * length bytes.now ≤ vec_capacity out.old }
+    ensures { Finishes (record { from = from; to = to; held = bytes.now }) out.old.items out.new.items }
+{
+    let mut place = 0;
+    while place < bytes.len() {
+        let (c, len) = last_front(from, &bytes[place..]);
+        put_code(to, c, out);
+        place += len;
+    }
+}
+
+// Recodes the held bytes with those that follow them, as far as a code that begins among the held ones
+// reaches. Answers how many bytes of both were recoded.
+#[inline]
+pub(crate) fn recode_joined<A: Allocator>(
+    from: Form,
+    to: Form,
+    held: &[u8],
+    piece: &[u8],
+    out: &mut Vec<u8, A>,
+) -> usize
+    requires few { length held.now ≤ 3 }
+    requires room { vec_len out.old + 3 * (length held.now + length piece.now) ≤ vec_capacity out.old }
+    ensures within { result ≤ length held.now + length piece.now }
+    ensures waits { result < length held.now → length held.now + length piece.now ≤ result + 3 }
+    ensures grows { Grows from to (held.now ++ piece.now) out.old.items out.new.items (drop result (held.now ++ piece.now)) }
+    ensures short { vec_len out.new ≤ vec_len out.old + 3 * result }
+    ensures capacity { vec_capacity out.old ≤ vec_capacity out.new }
+{
+    if held.is_empty() {
+        return 0;
+    }
+    let (joined, len) = join(held, piece);
+    recode_decided(from, to, &joined[..len], held.len(), out)
+}
+
+// The held bytes and at most three that follow them.
+#[inline]
+pub(crate) fn join(held: &[u8], piece: &[u8]) -> ([u8; 6], usize)
+    requires { length held.now ≤ 3 }
+    ensures len { result.1 ≡ length held.now + min 3 (length piece.now) }
+    ensures bytes { take result.1 result.0 ≡ held.now ++ take 3 piece.now }
+{
+    let count = held.len();
+    let taken = 3usize.min(piece.len());
+    let mut joined = [0; 6];
+    joined[..count].copy_from_slice(held);
+    joined[count..count + taken].copy_from_slice(&piece[..taken]);
+    (joined, count + taken)
+}
+
+// `recode_decided` to the end of the bytes, by the way that is quickest for the forms.
+pub(crate) fn recode_whole<A: Allocator>(
+    from: Form,
+    to: Form,
+    bytes: &[u8],
+    out: &mut Vec<u8, A>,
+) -> usize
+    requires { vec_len out.old + 3 * length bytes.now ≤ vec_capacity out.old }
+    ensures within { result ≤ length bytes.now }
+    ensures waits { result < length bytes.now → length bytes.now ≤ result + 3 }
+    ensures grows { Grows from to bytes.now out.old.items out.new.items (drop result bytes.now) }
+    ensures short { vec_len out.new ≤ vec_len out.old + 3 * result }
+    ensures capacity { vec_capacity out.old ≤ vec_capacity out.new }
+{
+    let len = bytes.len();
+    match (from, to) {
+        (Form::Utf8, Form::Utf8) => copy_decided(bytes, out),
+        (Form::Utf8, Form::Utf16Le) => widen_decided(Form::Utf16Le, bytes, out),
+        (Form::Utf8, Form::Utf16Be) => widen_decided(Form::Utf16Be, bytes, out),
+        (Form::Utf16Le, Form::Utf8) => recode_decided(Form::Utf16Le, Form::Utf8, bytes, len, out),
+        (Form::Utf16Be, Form::Utf8) => recode_decided(Form::Utf16Be, Form::Utf8, bytes, len, out),
+        _ => recode_decided(from, to, bytes, len, out),
+    }
+}
+
+// `recode_decided` from UTF-8 to UTF-8, to the end: whole stretches of text are copied.
+#[inline]
+pub(crate) fn copy_decided<A: Allocator>(bytes: &[u8], out: &mut Vec<u8, A>) -> usize
+    requires { vec_len out.old + 3 * length bytes.now ≤ vec_capacity out.old }
+    ensures within { result ≤ length bytes.now }
+    ensures waits { result < length bytes.now → length bytes.now ≤ result + 3 }
+    ensures grows { Grows Form.Utf8 Form.Utf8 bytes.now out.old.items out.new.items (drop result bytes.now) }
+    ensures short { vec_len out.new ≤ vec_len out.old + 3 * result }
+    ensures capacity { vec_capacity out.old ≤ vec_capacity out.new }
+{
+    let mut place = 0;
+    while place < bytes.len() {
+        place += copy_text(&bytes[place..], out);
+        let rest = &bytes[place..];
+        let stop = STRIDE.min(rest.len());
+        let done = recode_decided(Form::Utf8, Form::Utf8, rest, stop, out);
+        place += done;
+        if done < stop {
+            return place;
+        }
+    }
+    place
+}
+
+// Appends the text at the front of the bytes, and answers how many bytes it has.
+#[inline(always)]
+fn copy_text<A: Allocator>(bytes: &[u8], out: &mut Vec<u8, A>) -> usize
+    requires { vec_len out.old + length bytes.now ≤ vec_capacity out.old }
+    ensures within { result ≤ length bytes.now }
+    ensures text { IsUtf8 (take result bytes.now) }
+    ensures items { out.new.items ≡ out.old.items ++ take result bytes.now }
+    ensures len { vec_len out.new ≡ vec_len out.old + result }
+    ensures capacity { vec_capacity out.old ≤ vec_capacity out.new }
+{
+    let len = text_len(bytes);
+    let _ = out.extend_from_slice(&bytes[..len]);
+    len
+}
+
+// How many bytes at the front are text.
+#[inline(always)]
+fn text_len(bytes: &[u8]) -> usize
+    ensures within { result ≤ length bytes.now }
+    ensures text { IsUtf8 (take result bytes.now) }
+{
+    match str::from_utf8(bytes) {
+        Ok(_) => bytes.len(),
+        Err(error) => error.valid_up_to(),
+    }
+}
+
+// `recode_decided` from UTF-8 to the end: ASCII goes in blocks of eight.
+#[inline(always)]
+fn widen_decided<A: Allocator>(to: Form, bytes: &[u8], out: &mut Vec<u8, A>) -> usize
+    requires { vec_len out.old + 3 * length bytes.now ≤ vec_capacity out.old }
+    ensures within { result ≤ length bytes.now }
+    ensures waits { result < length bytes.now → length bytes.now ≤ result + 3 }
+    ensures grows { Grows Form.Utf8 to bytes.now out.old.items out.new.items (drop result bytes.now) }
+    ensures short { vec_len out.new ≤ vec_len out.old + 3 * result }
+    ensures capacity { vec_capacity out.old ≤ vec_capacity out.new }
+{
+    let mut place = 0;
+    while place < bytes.len() {
+        place += widen_ascii(to, &bytes[place..], out);
+        let rest = &bytes[place..];
+        let stop = STRIDE.min(rest.len());
+        let done = recode_decided(Form::Utf8, to, rest, stop, out);
+        place += done;
+        if done < stop {
+            return place;
+        }
+    }
+    place
+}
+
+// Appends the codes of the blocks of ASCII at the front of the bytes, and answers how many bytes they
+// have.
+#[inline(always)]
+fn widen_ascii<A: Allocator>(to: Form, bytes: &[u8], out: &mut Vec<u8, A>) -> usize
+    requires { vec_len out.old + 3 * length bytes.now ≤ vec_capacity out.old }
+    ensures within { result ≤ length bytes.now }
+    ensures grows { Grows Form.Utf8 to bytes.now out.old.items out.new.items (drop result bytes.now) }
+    ensures short { vec_len out.new ≤ vec_len out.old + 3 * result }
+    ensures capacity { vec_capacity out.old ≤ vec_capacity out.new }
+{
+    let mut place = 0;
+    while 8 <= bytes.len() - place {
+        let block = &bytes[place..place + 8];
+        if !block.is_ascii() {
+            return place;
+        }
+        put_eight(to, block, out);
+        place += 8;
+    }
+    place
+}
