@@ -11,6 +11,7 @@ mod collections;
 mod decoders;
 mod ends;
 mod mergers;
+mod recoding;
 mod tables;
 mod texts;
 

@@ -19,6 +19,7 @@ mod errors;
 mod mergers;
 mod numbers;
 mod pairs;
+mod recoding;
 mod runs;
 mod sheet;
 mod shown;

@@ -3,10 +3,12 @@
 //! A row that differs is printed too, and the status is then 1.
 #![tactic(auto)]
 
+mod recodings;
 mod rows;
 mod runs;
 mod units;
 
+use crate::recodings::{Feeding, RecodedRow};
 use crate::rows::Row;
 use crate::runs::Run;
 use crate::units::{UnitRow, UnitRun};
@@ -35,6 +37,13 @@ fn main(rt: HostRuntime) -> io::Result<ExitCode> {
             status = 1;
         }
     }
+    let text = fs::read_to_string(&rt, "recode.txt")?;
+    let rows = recodings::parse(rt.alloc(), &text)?;
+    for feeding in [Feeding::Whole, Feeding::ByteByByte] {
+        if !report_recoded(&rt, feeding, rows.as_slice())? {
+            status = 1;
+        }
+    }
     Ok(ExitCode::from(status))
 }
 
@@ -57,6 +66,20 @@ fn report_units(rt: &HostRuntime, run: UnitRun, rows: &[UnitRow<'_>]) -> io::Res
         }
     }
     report(rt, run.name(), rows.len(), &differing)
+}
+
+fn report_recoded(
+    rt: &HostRuntime,
+    feeding: Feeding,
+    rows: &[RecodedRow<'_>],
+) -> io::Result<bool> {
+    let mut differing = Vec::new(rt.alloc());
+    for row in rows {
+        if !feeding.agrees(rt.alloc(), row)? {
+            differing.push(row.text)?;
+        }
+    }
+    report(rt, feeding.name(), rows.len(), &differing)
 }
 
 fn report(rt: &HostRuntime, name: &str, count: usize, differing: &[&str]) -> io::Result<bool> {

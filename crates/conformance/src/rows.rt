@@ -64,7 +64,7 @@ pub(crate) fn parse_word(alloc: Global, letters: &str) -> io::Result<Vec<End>> {
     Ok(word)
 }
 
-fn parse_bytes(alloc: Global, text: &str) -> io::Result<Vec<u8>> {
+pub(crate) fn parse_bytes(alloc: Global, text: &str) -> io::Result<Vec<u8>> {
     let mut bytes = Vec::new(alloc);
     for digits in text.as_bytes().chunks(2) {
         match digits {

@@ -2,7 +2,7 @@
 use cuts::counted::Counted;
 use cuts::recoding::run_recode;
 use fakes::budget::Budget;
-use fakes::streams::{FakeReader, FakeWriter};
+use fakes::fuse::{Fault, Fuse, Plan};
 use std::alloc::{AllocError, Allocator, Global};
 use std::io::ErrorKind;
 use std::process::Abort;
@@ -24,18 +24,18 @@ fn ends<A: Allocator + Copy>(
     rt: &(impl Abort + AllocGlobal),
     alloc: A,
     texts: &[&str],
-    input: &mut Counted<FakeReader<'_>>,
-    out: &mut Counted<FakeWriter>,
+    input: &mut Counted<Fuse<'_>>,
+    out: &mut Counted<Fuse<'_>>,
     status: u8,
     text: &str,
 ) -> Result<(), AllocError> {
     let args = words_of(alloc, texts)?;
-    let mut faults = FakeWriter::ample(rt.alloc());
+    let mut faults = Fuse::ample(rt.alloc());
     assert_eq!(rt;
         run_recode(alloc, args.as_slice(), input, out, &mut faults),
         status
     );
-    assert_eq!(rt; faults.bytes.as_slice(), text.as_bytes());
+    assert_eq!(rt; faults.written.as_slice(), text.as_bytes());
     Ok(())
 }
 
@@ -65,10 +65,10 @@ fn recodes_its_input(rt: HostRuntime) -> Result<(), Fail> {
         (["utf16be", "utf16be"], b"", b""),
     ];
     for (texts, bytes, recoded) in table {
-        let mut input = Counted::new(FakeReader::over(bytes));
-        let mut out = Counted::new(FakeWriter::ample(rt.alloc()));
+        let mut input = Counted::new(Fuse::over(rt.alloc(), bytes));
+        let mut out = Counted::new(Fuse::ample(rt.alloc()));
         ends(&rt, rt.alloc(), &texts, &mut input, &mut out, 0, "")?;
-        assert_eq!(rt; out.into_inner().bytes.as_slice(), recoded);
+        assert_eq!(rt; out.into_inner().written.as_slice(), recoded);
     }
     Ok(())
 }
@@ -88,11 +88,11 @@ fn other_arguments_are_wrong(rt: HostRuntime) -> Result<(), Fail> {
         &["utf8", "utf8", "utf8"],
     ];
     for texts in table {
-        let mut input = Counted::new(FakeReader::over(b"A"));
-        let mut out = Counted::new(FakeWriter::ample(rt.alloc()));
+        let mut input = Counted::new(Fuse::over(rt.alloc(), b"A"));
+        let mut out = Counted::new(Fuse::ample(rt.alloc()));
         let text = "recode: wrong arguments\n";
         ends(&rt, rt.alloc(), texts, &mut input, &mut out, 2, text)?;
-        assert_eq!(rt; input.into_inner().calls, 0, "nothing is read");
+        assert_eq!(rt; input.into_inner().given.len(), 0, "nothing is read");
         assert!(rt; out.into_inner().given.is_empty(), "nothing is written");
     }
     Ok(())
@@ -101,21 +101,21 @@ fn other_arguments_are_wrong(rt: HostRuntime) -> Result<(), Fail> {
 #[test]
 fn failures_are_told(rt: HostRuntime) -> Result<(), Fail> {
     let texts = ["utf8", "utf8"];
-    let mut reader = FakeReader::over(b"A");
-    reader.fault = Some(ErrorKind::BrokenPipe);
+    let mut reader = Fuse::over(rt.alloc(), b"A");
+    reader.plan = Plan::fail_once(0, ErrorKind::BrokenPipe);
     let mut input = Counted::new(reader);
-    let mut out = Counted::new(FakeWriter::ample(rt.alloc()));
+    let mut out = Counted::new(Fuse::ample(rt.alloc()));
     let text = "recode: cannot read\n";
     ends(&rt, rt.alloc(), &texts, &mut input, &mut out, 3, text)?;
 
-    let mut input = Counted::new(FakeReader::over(b"A"));
-    let mut out = Counted::new(FakeWriter::failing(rt.alloc(), 0));
+    let mut input = Counted::new(Fuse::over(rt.alloc(), b"A"));
+    let mut out = Counted::new(Fuse::failing(rt.alloc(), 0, Fault::Error(ErrorKind::BrokenPipe)));
     let text = "recode: cannot write\n";
     ends(&rt, rt.alloc(), &texts, &mut input, &mut out, 3, text)?;
 
     let budget = Budget::new(rt.alloc(), 3);
-    let mut input = Counted::new(FakeReader::over(b"A"));
-    let mut out = Counted::new(FakeWriter::ample(rt.alloc()));
+    let mut input = Counted::new(Fuse::over(rt.alloc(), b"A"));
+    let mut out = Counted::new(Fuse::ample(rt.alloc()));
     let text = "recode: no memory\n";
     ends(&rt, &budget, &texts, &mut input, &mut out, 3, text)?;
     Ok(())

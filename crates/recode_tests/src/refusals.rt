@@ -6,7 +6,7 @@ use cuts::form::Form;
 use cuts::recoder::Recoder;
 use cuts::recoding::{RecodeFault, recode};
 use fakes::budget::Budget;
-use fakes::streams::{FakeReader, FakeWriter};
+use fakes::fuse::Fuse;
 use std::alloc::{AllocError, Global};
 use std::process::Abort;
 use std::test::Fail;
@@ -101,11 +101,11 @@ fn of_units(rt: HostRuntime) -> Result<(), Fail> {
 #[test]
 fn of_a_stream(rt: HostRuntime) {
     let budget = Budget::new(rt.alloc(), 0);
-    let mut input = Counted::new(FakeReader::over(b"A\xe0\x80"));
-    let mut out = Counted::new(FakeWriter::ample(rt.alloc()));
+    let mut input = Counted::new(Fuse::over(rt.alloc(), b"A\xe0\x80"));
+    let mut out = Counted::new(Fuse::ample(rt.alloc()));
     assert_eq!(rt;
         recode(&budget, &mut input, &mut out, Form::Utf8, Form::Utf8),
         Err(RecodeFault::Memory)
     );
-    assert!(rt; out.into_inner().bytes.is_empty());
+    assert!(rt; out.into_inner().written.is_empty());
 }

@@ -3,7 +3,7 @@ use crate::rows::{Row, rows_of_bytes, rows_of_units};
 use cuts::counted::Counted;
 use cuts::form::Form;
 use cuts::recoding::{RecodeFault, recode};
-use fakes::streams::{FakeReader, FakeWriter};
+use fakes::fuse::{Fault, Fuse, Plan};
 use std::io::ErrorKind;
 use std::process::Abort;
 use std::test::Fail;
@@ -12,19 +12,19 @@ use std::test::Fail;
 fn recode_row(
     rt: &impl AllocGlobal,
     row: &Row,
-    input: FakeReader<'_>,
-    out: &mut Counted<FakeWriter>,
+    input: Fuse<'_>,
+    out: &mut Counted<Fuse<'_>>,
 ) -> Result<(), RecodeFault> {
     recode(rt.alloc(), &mut Counted::new(input), out, row.from, row.to)
 }
 
 // The row holds over a reader that gives one byte a call and a writer that takes one.
 fn holds(rt: &(impl Abort + AllocGlobal), row: &Row) {
-    let mut input = FakeReader::over(row.input);
+    let mut input = Fuse::over(rt.alloc(), row.input);
     input.most = 1;
-    let mut out = Counted::new(FakeWriter::ample(rt.alloc()));
+    let mut out = Counted::new(Fuse::ample(rt.alloc()));
     assert_eq!(rt; recode_row(rt, row, input, &mut out), Ok(()));
-    assert_eq!(rt; out.into_inner().bytes.as_slice(), row.output);
+    assert_eq!(rt; out.into_inner().written.as_slice(), row.output);
 }
 
 #[test]
@@ -52,18 +52,17 @@ fn damaged() -> Row {
 }
 
 // The row's input, two bytes a call, with this fault behind so many calls.
-fn failing<'a>(calls: u32, fault: ErrorKind) -> FakeReader<'a> {
-    let mut input = FakeReader::over(damaged().input);
-    input.calls_left = calls;
-    input.fault = Some(fault);
+fn failing<'a>(rt: &impl AllocGlobal, calls: u32, kind: ErrorKind) -> Fuse<'a> {
+    let mut input = Fuse::over(rt.alloc(), damaged().input);
+    input.plan = Plan::fail_once(calls, kind);
     input
 }
 
 #[test]
 fn that_fail_to_read_end_it(rt: HostRuntime) {
     for calls in 0..4 {
-        let input = failing(calls, ErrorKind::BrokenPipe);
-        let mut out = Counted::new(FakeWriter::ample(rt.alloc()));
+        let input = failing(&rt, calls, ErrorKind::BrokenPipe);
+        let mut out = Counted::new(Fuse::ample(rt.alloc()));
         assert_eq!(rt;
             recode_row(&rt, &damaged(), input, &mut out),
             Err(RecodeFault::Read)
@@ -74,42 +73,38 @@ fn that_fail_to_read_end_it(rt: HostRuntime) {
 #[test]
 fn that_are_interrupted_are_read_again(rt: HostRuntime) {
     for calls in 0..4 {
-        let input = failing(calls, ErrorKind::Interrupted);
-        let mut out = Counted::new(FakeWriter::ample(rt.alloc()));
+        let input = failing(&rt, calls, ErrorKind::Interrupted);
+        let mut out = Counted::new(Fuse::ample(rt.alloc()));
         assert_eq!(rt; recode_row(&rt, &damaged(), input, &mut out), Ok(()));
-        assert_eq!(rt; out.into_inner().bytes.as_slice(), damaged().output);
+        assert_eq!(rt; out.into_inner().written.as_slice(), damaged().output);
+    }
+}
+
+// A writer that fails so behind some calls ends it.
+fn writing_ends(rt: &(impl Abort + AllocGlobal), fault: Fault) {
+    for calls in 0..3 {
+        let mut out = Counted::new(Fuse::failing(rt.alloc(), calls, fault));
+        let input = Fuse::over(rt.alloc(), damaged().input);
+        assert_eq!(rt;
+            recode_row(rt, &damaged(), input, &mut out),
+            Err(RecodeFault::Write)
+        );
     }
 }
 
 #[test]
 fn that_fail_to_write_end_it(rt: HostRuntime) {
-    for calls in 0..3 {
-        let mut out = Counted::new(FakeWriter::failing(rt.alloc(), calls));
-        let input = FakeReader::over(damaged().input);
-        assert_eq!(rt;
-            recode_row(&rt, &damaged(), input, &mut out),
-            Err(RecodeFault::Write)
-        );
-    }
+    writing_ends(&rt, Fault::Error(ErrorKind::BrokenPipe));
 }
 
 #[test]
 fn that_take_nothing_end_it(rt: HostRuntime) {
-    for calls in 0..3 {
-        let mut writer = FakeWriter::failing(rt.alloc(), calls);
-        writer.stalls = true;
-        let mut out = Counted::new(writer);
-        let input = FakeReader::over(damaged().input);
-        assert_eq!(rt;
-            recode_row(&rt, &damaged(), input, &mut out),
-            Err(RecodeFault::Write)
-        );
-    }
+    writing_ends(&rt, Fault::Nothing);
 }
 
 #[test]
 fn take_is_one_read(rt: HostRuntime) -> Result<(), Fail> {
-    let mut input = Counted::new(failing(1, ErrorKind::BrokenPipe));
+    let mut input = Counted::new(failing(&rt, 1, ErrorKind::BrokenPipe));
     let mut part = [0; 8];
     assert_eq!(rt; input.take(&mut part)?, 2);
     assert_eq!(rt; &part[..2], b"A\xe0".as_slice());
@@ -121,7 +116,7 @@ fn take_is_one_read(rt: HostRuntime) -> Result<(), Fail> {
     assert_eq!(rt; input.take(&mut part)?, 2);
     assert_eq!(rt; input.take(&mut part)?, 2);
     assert_eq!(rt; input.take(&mut part)?, 0);
-    assert_eq!(rt; input.into_inner().calls, 6);
+    assert_eq!(rt; input.into_inner().given.len(), 6);
     Ok(())
 }
 

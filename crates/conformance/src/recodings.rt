@@ -1,0 +1,94 @@
+//! The rows of recoded bytes, and the ways of feeding them that are held against the rows.
+
+use crate::rows::parse_bytes;
+use cuts::form::Form;
+use cuts::recoder::Recoder;
+use std::alloc::{AllocError, Global};
+use std::io;
+use std::io::ErrorKind;
+
+/// What a row says: two forms, some bytes in the first, and what they are in the second.
+#[derive(Drop)]
+pub(crate) struct RecodedRow<'a> {
+    /// The line as it stands in the file.
+    pub(crate) text: &'a str,
+    from: Form,
+    to: Form,
+    bytes: Vec<u8>,
+    recoded: Vec<u8>,
+}
+
+/// The rows of the file. A line that begins with `#` is none, and any other has three columns with `|`
+/// between them: the names of both forms, with a space between them, the bytes, and what they are recoded as.
+pub(crate) fn parse(alloc: Global, file: &str) -> io::Result<Vec<RecodedRow<'_>>> {
+    let mut rows = Vec::new(alloc);
+    for line in file.lines() {
+        if !line.starts_with('#') {
+            rows.push(parse_row(alloc, line)?)?;
+        }
+    }
+    Ok(rows)
+}
+
+fn parse_row(alloc: Global, line: &str) -> io::Result<RecodedRow<'_>> {
+    let mut columns = line.split('|');
+    let (Some(forms), Some(bytes), Some(recoded)) = (columns.next(), columns.next(), columns.next())
+    else {
+        return Err(io::Error::from(ErrorKind::InvalidData));
+    };
+    let mut names = forms.split(' ');
+    let (Some(from), Some(to)) = (names.next(), names.next()) else {
+        return Err(io::Error::from(ErrorKind::InvalidData));
+    };
+    Ok(RecodedRow {
+        text: line,
+        from: form_of(from)?,
+        to: form_of(to)?,
+        bytes: parse_bytes(alloc, bytes)?,
+        recoded: parse_bytes(alloc, recoded)?,
+    })
+}
+
+fn form_of(name: &str) -> io::Result<Form> {
+    match name {
+        "utf8" => Ok(Form::Utf8),
+        "utf16le" => Ok(Form::Utf16Le),
+        "utf16be" => Ok(Form::Utf16Be),
+        _ => Err(io::Error::from(ErrorKind::InvalidData)),
+    }
+}
+
+/// A way of feeding the bytes.
+#[derive(Clone, Copy)]
+pub(crate) enum Feeding {
+    /// All at once.
+    Whole,
+    /// One by one.
+    ByteByByte,
+}
+
+impl Feeding {
+    pub(crate) fn name(self) -> &'static str {
+        match self {
+            Feeding::Whole => "recoder, fed at once",
+            Feeding::ByteByByte => "recoder, fed byte by byte",
+        }
+    }
+
+    /// Whether the recoder then makes of the row's bytes what the row says.
+    pub(crate) fn agrees(self, alloc: Global, row: &RecodedRow<'_>) -> Result<bool, AllocError> {
+        let most = match self {
+            Feeding::Whole => usize::MAX,
+            Feeding::ByteByByte => 1,
+        };
+        let mut recoder = Recoder::new(row.from, row.to);
+        let mut made = Vec::new(alloc);
+        for part in row.bytes.as_slice().chunks(most) {
+            recoder.feed(part, &mut made)?;
+        }
+        match recoder.finish(&mut made) {
+            Ok(()) => Ok(made.as_slice() == row.recoded.as_slice()),
+            Err(unfinished) => Err(unfinished.cause),
+        }
+    }
+}
