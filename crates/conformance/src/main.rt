@@ -68,11 +68,7 @@ fn report_units(rt: &HostRuntime, run: UnitRun, rows: &[UnitRow<'_>]) -> io::Res
     report(rt, run.name(), rows.len(), &differing)
 }
 
-fn report_recoded(
-    rt: &HostRuntime,
-    feeding: Feeding,
-    rows: &[RecodedRow<'_>],
-) -> io::Result<bool> {
+fn report_recoded(rt: &HostRuntime, feeding: Feeding, rows: &[RecodedRow<'_>]) -> io::Result<bool> {
     let mut differing = Vec::new(rt.alloc());
     for row in rows {
         if !feeding.agrees(rt.alloc(), row)? {
