@@ -2,7 +2,6 @@
 use Rattle.std.proofs.Common.{◌≡◌, ℕ, List, [], ◌∷◌, ◌++◌, ap, sym, ◌∙◌, subst, append_assoc}
 use Rattle.std.proofs.lemmas.List.{append-nil}
 use Rattle.std.specs.List.{concat}
-use Rattle.cuts.specs.declared.form.Form.{Form}
 use Rattle.cuts.specs.Recoded.{Recoding, IsRecoded, FeedsEach, PartsAreRecoded, PartsDoNotMatter}
 use Rattle.cuts.proofs.Growing.{recoded_once}
 

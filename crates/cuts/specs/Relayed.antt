@@ -6,7 +6,7 @@ use Rattle.cuts.specs.declared.form.Form.TheVariants.{Utf8, Utf16Le, Utf16Be}
 use Rattle.cuts.specs.declared.recoding.RecodeFault.{RecodeFault}
 use Rattle.cuts.specs.declared.recoding.RecodeFault.TheVariants.{Read, Write, Memory}
 use Rattle.cuts.specs.declared.runs.Stop.{Stop}
-use Rattle.cuts.specs.declared.runs.Stop.TheVariants.{WrongArguments, CannotRead, CannotWrite, NoMemory}
+use Rattle.cuts.specs.declared.runs.Stop.TheVariants.{CannotRead, CannotWrite, NoMemory}
 use Rattle.cuts.specs.Failures.{Counting, AppendsFront}
 use Rattle.cuts.specs.Programs.{status_of, stop_line}
 use Rattle.cuts.specs.Recoded.{Recoding, IsRecoded, Feeds, Finishes}

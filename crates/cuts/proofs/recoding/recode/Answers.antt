@@ -1,4 +1,4 @@
-use Rattle.std.proofs.Common.{rules, arith, ◌<◌, ◌≡◌, length, refl, ◌∙◌}
+use Rattle.std.proofs.Common.{rules, arith, refl, ◌∙◌}
 use Rattle.std.proofs.lemmas.Result.{on_ok_weaker}
 use Rattle.cuts.proofs.Relays.{IsRelayed-none, IsRelayed-part, IsRelayed-idle, IsRelayed-all, IsRelayed-long}
 use Rattle.cuts.proofs.recoding.recode.Goals.{in-Ok+in_ok-pass-in-Ok, in-Err}
