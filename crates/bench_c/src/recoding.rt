@@ -18,13 +18,7 @@ pub extern "C" fn bench_c_recode(
     }
 }
 
-fn recode(
-    from: Form,
-    to: Form,
-    src: &[u8],
-    part: usize,
-    alloc: Global,
-) -> Result<u64, AllocError> {
+fn recode(from: Form, to: Form, src: &[u8], part: usize, alloc: Global) -> Result<u64, AllocError> {
     let mut recoder = Recoder::new(from, to);
     let mut out: Vec<u8> = Vec::new(alloc);
     let mut made: u64 = 0;

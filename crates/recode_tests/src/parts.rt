@@ -71,8 +71,10 @@ fn stand_behind_what_was_there(rt: HostRuntime) -> Result<(), Fail> {
         let mut out = Vec::new(rt.alloc());
         out.extend_from_slice(b"before")?;
         recode_each(&row, &mut out)?;
-        assert_eq!(rt; &out[..6], b"before".as_slice());
-        assert_eq!(rt; &out[6..], row.output);
+        let mut expected = Vec::new(rt.alloc());
+        expected.extend_from_slice(b"before")?;
+        expected.extend_from_slice(row.output)?;
+        assert_eq!(rt; out.as_slice(), expected.as_slice());
     }
     Ok(())
 }
