@@ -8,11 +8,12 @@ is_stale() {
     [ -n "$(find "$top_folder/crates" -name out -prune -o \( -name '*.rt' -o -name '*.antt' \) -newer "$1" -print -quit)" ]
 }
 
-# The crates that one stands on, and it itself, each behind those that it uses.
+# The crates that one stands on, and it itself, each behind those that it uses. Those that the list does not have are
+# the kit's, and stand already.
 crates_up_to() {
     awk -v top="$1" '
         function visit(crate, used, count, i) {
-            if (seen[crate]++) return
+            if (!(crate in uses) || seen[crate]++) return
             count = split(uses[crate], used, " ")
             for (i = 1; i <= count; i++) visit(used[i])
             print crate
