@@ -1,5 +1,5 @@
 -- Each entry of the table of classes and states is its rule.
-use Rattle.std.proofs.Common.{◌≡◌, ℕ, zero, suc, ◌+◌, ◌<◌, ◌≤◌, List, [], ◌∷◌, get_or, true, refl, arith, ◌∙◌, ap, map, ◌⊎◌, inl, inr, ⊎_elim}
+use Rattle.std.proofs.Common.{◌≡◌, ℕ, zero, suc, ◌+◌, ◌<◌, ◌≤◌, List, [], ◌∷◌, get_or, true, refl, arith, ◌∙◌, ap, ◌⊎◌, inl, inr, ⊎_elim}
 use Rattle.std.proofs.lemmas.Bool.{cases_lt}
 use Rattle.std.proofs.lemmas.Grind.{common_steps}
 use Rattle.utf_base.specs.declared.table.State.{State}
@@ -25,14 +25,7 @@ classes = refl
 pub class_at : (b d : ℕ) → b < 256 → get_or CLASSES b d ≡ class b
 class_at b d lt = ap (λ xs. get_or xs b d) classes ∙ values-at class 0 256 b b d (omega arith) lt
 
-abbrev running_states : List State
-running_states = Start ∷ OneMore ∷ TwoMore ∷ ThreeMore ∷ BehindE0 ∷ BehindEd ∷ BehindF0 ∷ BehindF4 ∷ TwoMoreOverlong ∷ OneMoreOverlong ∷ OneMoreReserved ∷ TwoMoreTooHigh ∷ OneMoreTooHigh ∷ []
-
--- The whole table of steps, computed.
-steps : STEPS ≡ map (λ state. values (next_state state) 0 12) running_states
-unfolding next_state
-steps = refl
-
+-- The whole table of steps, computed row by row.
 row_at : (state : State) → is_running state ≡ true → (d : List State) → get_or STEPS (row state) d ≡ values (next_state state) 0 12
 unfolding next_state
 row_at Start r d = refl
