@@ -13,6 +13,7 @@ pub mod editor;
 pub mod lengths;
 pub mod merged;
 pub mod opened;
+pub mod parts;
 pub mod recoders;
 pub mod records;
 pub mod runs;

@@ -1,10 +1,12 @@
 //! A damaged log, and units with lone surrogates.
+use cuts::form::Form;
 use encode_unicode::U16IterExt;
 use encode_unicode::error::{Utf8ErrorKind, Utf16PairError};
 use std::process::Abort;
 use std::test::Fail;
 use uses::cursor;
 use uses::merged::split_piece;
+use uses::parts::recode_in_parts;
 use uses::records::{Ending, first_record, next_record};
 use uses::tokens::tokens;
 
@@ -100,4 +102,15 @@ fn nothing_behind_a_faulty_byte_is_lost(rt: HostRuntime) {
     for byte in [Some(0xa1), Some(0xb2), Some(0x46), Some(0x53), None] {
         assert_eq!(rt; rest.next(), byte);
     }
+}
+
+#[test]
+fn parts_of_any_size_are_recoded_alike(rt: HostRuntime) -> Result<(), Fail> {
+    let bytes = b"A\xf0\x9f\x82\xa0\xe2\x82B\xff";
+    let units = b"A\0\x3c\xd8\xa0\xdc\xfd\xff\xfd\xffB\0\xfd\xff";
+    for size in 1..=10 {
+        let recoded = recode_in_parts(rt.alloc(), Form::Utf8, Form::Utf16Le, bytes, size)?;
+        assert_eq!(rt; recoded.as_slice(), units.as_slice(), "in parts of {size}");
+    }
+    Ok(())
 }

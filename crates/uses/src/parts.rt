@@ -1,0 +1,33 @@
+//! Text that comes in parts, as from a socket.
+ghost use Rattle.std.specs.Prelude.{◌<◌, IfOk};
+ghost use Rattle.cuts.specs.Recoded.{IsRecoded};
+
+use cuts::form::Form;
+use cuts::recoder::Recoder;
+use std::alloc::{AllocError, Allocator};
+
+/// The bytes in another form of text, recoded in parts of so many bytes, which end where they end: inside of a
+/// character, or of a unit. What comes of them does not depend on it.
+pub fn recode_in_parts<A: Allocator>(
+    alloc: A,
+    from: Form,
+    to: Form,
+    bytes: &[u8],
+    size: usize,
+) -> Result<Vec<u8, A>, AllocError>
+    requires { 0 < size }
+    ensures { IfOk result (λ out. IsRecoded from to bytes.now out.items) }
+{
+    let mut out = Vec::new(alloc);
+    let mut recoder = Recoder::new(from, to);
+    let mut place = 0;
+    while place < bytes.len() {
+        let len = size.min(bytes.len() - place);
+        recoder.feed(&bytes[place..place + len], &mut out)?;
+        place += len;
+    }
+    match recoder.finish(&mut out) {
+        Ok(()) => Ok(out),
+        Err(unfinished) => Err(unfinished.cause),
+    }
+}
