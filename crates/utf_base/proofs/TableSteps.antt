@@ -1,15 +1,15 @@
 -- A walk over the table tells the kind of the bytes: step by step, what is known of them by the state that is reached.
-use Rattle.std.proofs.Common.{◌≡◌, ℕ, zero, suc, ◌+◌, ◌-◌, ◌*◌, ◌<◌, ◌≤◌, ◌⊎◌, inl, inr, ⊎_elim, List, length, get_or, arith, refl, sym, ◌∙◌, ap, Some, None, Bool, true, false, eqb, ltb, leb, ◌&&◌, ◌||◌, lit<}
+use Rattle.std.proofs.Common.{◌≡◌, ℕ, zero, suc, ◌+◌, ◌<◌, ◌≤◌, ◌⊎◌, inl, inr, ⊎_elim, List, length, get_or, arith, refl, ◌∙◌, ap, Some, None, true, false, lit<}
 use Rattle.std.proofs.lemmas.Grind.{common_steps}
 use Rattle.std.proofs.lemmas.Bool.{cases_lt}
-use Rattle.utf_base.specs.declared.errors.Utf8ErrorKind.TheVariants.{TooFewBytes, NonUtf8Byte, UnexpectedContinuationByte, InterruptedSequence, OverlongEncoding, Utf16ReservedCodepoint, TooHighCodepoint}
+use Rattle.utf_base.specs.declared.errors.Utf8ErrorKind.TheVariants.{TooFewBytes, InterruptedSequence, OverlongEncoding, Utf16ReservedCodepoint, TooHighCodepoint}
 use Rattle.utf_base.specs.declared.table.State.{State}
 use Rattle.utf_base.specs.declared.table.State.TheVariants.{Start, OneMore, TwoMore, ThreeMore, BehindE0, BehindEd, BehindF0, BehindF4, TwoMoreOverlong, OneMoreOverlong, OneMoreReserved, TwoMoreTooHigh, OneMoreTooHigh, Done, Unexpected, Never, Interrupted, Overlong, Reserved, TooHigh}
 use Rattle.utf_base.specs.Scalar.{IsScalar}
-use Rattle.utf_base.specs.Kinds.{fault_kind, merger_kind, asked_by, value, least_value, is_continuation, continues_at, followers_continue, breaks_at, is_broken}
+use Rattle.utf_base.specs.Kinds.{merger_kind, asked_by, value, least_value, is_continuation, continues_at, followers_continue, breaks_at, is_broken}
 use Rattle.utf_base.specs.Table.{class, continued, fault_of, is_running, missing, next_state, state_after}
 use Rattle.utf_base.proofs.FrontLemmas.{asked-0, asked-1, asked-2, asked-3, asked-4, asked_le, asked-no_continuation, value-1, value-2, value-3, value-4, least_value-below_3, least_value-3, least_value-4}
-use Rattle.utf_base.proofs.KindCases.{Asks, Sums, kind-empty, kind-continuation, kind-never, kind-overlong, kind-surrogate, kind-too_high, kind-none}
+use Rattle.utf_base.proofs.KindCases.{Sums, kind-empty, kind-continuation, kind-never, kind-overlong, kind-surrogate, kind-too_high, kind-none}
 use Rattle.utf_base.proofs.MergerLemmas.{broken_kind, unbroken_kind, enough_kind, kind_of_few}
 use Rattle.utf_base.proofs.TableLemmas.{Begins, begins}
 
