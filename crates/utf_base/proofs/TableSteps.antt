@@ -555,6 +555,12 @@ last_ends Overlong c e = absurd (omega arith)
 last_ends Reserved c e = absurd (omega arith)
 last_ends TooHigh c e = absurd (omega arith)
 
+-- where one byte is missing and any continuation byte completes a code, no other fault is left
+pub one_more_breaks : (c : ℕ) → (next_state OneMore c ≡ Done → ⊥) → next_state OneMore c ≡ Interrupted
+unfolding next_state
+one_more_breaks c =
+    by_continued (λ next. (next ≡ Done → ⊥) → next ≡ Interrupted) Done Done Done c (λ n. absurd (n refl)) (λ n. absurd (n refl)) (λ n. absurd (n refl)) (λ n. refl)
+
 -- The state behind a first byte of two, three and four.
 
 pub first-2 : (b : ℕ) → 0xC2 ≤ b → b < 0xE0 → next_state Start (class b) ≡ OneMore
