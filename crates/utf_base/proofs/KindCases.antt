@@ -130,7 +130,7 @@ kind-too_high w n v s h high =
     let above : ltb 0x10_FFFF v ≡ true = grind (arith, common_steps) in
     kind-value w n v s ∙ rw (long, from, to, above) refl
 
-kind-none : (w : List ℕ) (n v : ℕ) → Sums w n v → least_value n ≤ v → IsScalar v → fault_kind w ≡ None
+pub kind-none : (w : List ℕ) (n v : ℕ) → Sums w n v → least_value n ≤ v → IsScalar v → fault_kind w ≡ None
 kind-none w n v s h scalar =
     let below = scalar.below in
     let no_surrogate = scalar.no_surrogate in

@@ -22,6 +22,7 @@ pub mod BackLemmas
 pub mod LocalDamage
 pub mod CutChanges
 pub mod TableLemmas
+pub mod TableSteps
 pub mod Rests
 pub mod LaterLemmas
 pub mod ShownTexts

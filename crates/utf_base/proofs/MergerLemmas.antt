@@ -49,7 +49,7 @@ broken_enough w enough e =
     let short : ltb (length w) (asked_by w) ≡ false = grind (arith, common_steps) in
     rw (not_empty, asked-no_continuation (get_or w 0 0) (omega arith), occurs, short, broken_follower w enough e) refl
 
-enough_kind : (w : List ℕ) → asked_by w ≤ length w → merger_kind w ≡ fault_kind w
+pub enough_kind : (w : List ℕ) → asked_by w ≤ length w → merger_kind w ≡ fault_kind w
 enough_kind w enough = by_break (is_broken w) refl
   where
     by_break : (b : Bool) → is_broken w ≡ b → merger_kind w ≡ fault_kind w

@@ -60,7 +60,7 @@ Begins b Never = (0xC0 ≤ b) × (b < 0xC2) ⊎ (0xF5 ≤ b)
 Begins b OneMore = (0xC2 ≤ b) × (b < 0xE0)
 Begins b BehindE0 = b ≡ 0xE0
 Begins b BehindEd = b ≡ 0xED
-Begins b TwoMore = (0xE0 < b) × (b < 0xF0)
+Begins b TwoMore = (0xE0 < b) × (b < 0xF0) × (b ≡ 0xED → ⊥)
 Begins b BehindF0 = b ≡ 0xF0
 Begins b ThreeMore = (0xF0 < b) × (b < 0xF4)
 Begins b BehindF4 = b ≡ 0xF4
@@ -80,9 +80,9 @@ begins b =
     (λ (l3 : 0xC0 ≤ b). ⊎_elim (λ (h : b < 0xC2). begins_as b 4 Never (grind (arith, common_steps)) refl (inl (omega arith, omega arith)))
     (λ (l4 : 0xC2 ≤ b). ⊎_elim (λ (h : b < 0xE0). begins_as b 5 OneMore (grind (arith, common_steps)) refl (omega arith, omega arith))
     (λ (l5 : 0xE0 ≤ b). ⊎_elim (λ (h : b < 0xE1). begins_as b 6 BehindE0 (grind (arith, common_steps)) refl (omega arith))
-    (λ (l6 : 0xE1 ≤ b). ⊎_elim (λ (h : b < 0xED). begins_as b 7 TwoMore (grind (arith, common_steps)) refl (omega arith, omega arith))
+    (λ (l6 : 0xE1 ≤ b). ⊎_elim (λ (h : b < 0xED). begins_as b 7 TwoMore (grind (arith, common_steps)) refl (omega arith, omega arith, λ e. omega arith))
     (λ (l7 : 0xED ≤ b). ⊎_elim (λ (h : b < 0xEE). begins_as b 8 BehindEd (grind (arith, common_steps)) refl (omega arith))
-    (λ (l8 : 0xEE ≤ b). ⊎_elim (λ (h : b < 0xF0). begins_as b 7 TwoMore (grind (arith, common_steps)) refl (omega arith, omega arith))
+    (λ (l8 : 0xEE ≤ b). ⊎_elim (λ (h : b < 0xF0). begins_as b 7 TwoMore (grind (arith, common_steps)) refl (omega arith, omega arith, λ e. omega arith))
     (λ (l9 : 0xF0 ≤ b). ⊎_elim (λ (h : b < 0xF1). begins_as b 9 BehindF0 (grind (arith, common_steps)) refl (omega arith))
     (λ (l10 : 0xF1 ≤ b). ⊎_elim (λ (h : b < 0xF4). begins_as b 10 ThreeMore (grind (arith, common_steps)) refl (omega arith, omega arith))
     (λ (l11 : 0xF4 ≤ b). ⊎_elim (λ (h : b < 0xF5). begins_as b 11 BehindF4 (grind (arith, common_steps)) refl (omega arith))

@@ -1,5 +1,7 @@
 -- The table of byte classes and states by which bytes in UTF-8 are judged one by one (RFC 3629, section 4).
-use Rattle.std.specs.Prelude.{ℕ, Bool, nat_lt, ◌==◌, if◌then◌else◌}
+use Rattle.std.specs.Prelude.{ℕ, zero, suc, Bool, nat_lt, ◌==◌, if◌then◌else◌, List, slice_index, Option, Some, None}
+use Rattle.utf_base.specs.declared.errors.Utf8ErrorKind.{Utf8ErrorKind}
+use Rattle.utf_base.specs.declared.errors.Utf8ErrorKind.TheVariants.{TooFewBytes, NonUtf8Byte, UnexpectedContinuationByte, InterruptedSequence, OverlongEncoding, Utf16ReservedCodepoint, TooHighCodepoint}
 use Rattle.utf_base.specs.declared.table.State.{State}
 use Rattle.utf_base.specs.declared.table.State.TheVariants.{Start, OneMore, TwoMore, ThreeMore, BehindE0, BehindEd, BehindF0, BehindF4, TwoMoreOverlong, OneMoreOverlong, OneMoreReserved, TwoMoreTooHigh, OneMoreTooHigh, Done, Unexpected, Never, Interrupted, Overlong, Reserved, TooHigh}
 
@@ -81,3 +83,35 @@ next_state OneMoreReserved c = continued Reserved Reserved Reserved c
 next_state TwoMoreTooHigh c = continued OneMoreTooHigh OneMoreTooHigh OneMoreTooHigh c
 next_state OneMoreTooHigh c = continued TooHigh TooHigh TooHigh c
 next_state ended c = ended
+
+-- the state behind the first k bytes
+abbrev pub state_after : List ℕ → ℕ → State
+state_after w zero = Start
+state_after w (suc k) = next_state (state_after w k) (class (slice_index w k))
+
+-- how many bytes a running state asks for; at the start that is not known
+abbrev pub missing : State → ℕ
+missing OneMore = 1
+missing TwoMore = 2
+missing ThreeMore = 3
+missing BehindE0 = 2
+missing BehindEd = 2
+missing BehindF0 = 3
+missing BehindF4 = 3
+missing TwoMoreOverlong = 2
+missing OneMoreOverlong = 1
+missing OneMoreReserved = 1
+missing TwoMoreTooHigh = 2
+missing OneMoreTooHigh = 1
+missing state = 0
+
+-- what is wrong with bytes that led to the state, where no more follow
+abbrev pub fault_of : State → Option Utf8ErrorKind
+fault_of Done = None
+fault_of Unexpected = Some UnexpectedContinuationByte
+fault_of Never = Some NonUtf8Byte
+fault_of Interrupted = Some InterruptedSequence
+fault_of Overlong = Some OverlongEncoding
+fault_of Reserved = Some Utf16ReservedCodepoint
+fault_of TooHigh = Some TooHighCodepoint
+fault_of running = Some TooFewBytes

@@ -1,0 +1,620 @@
+-- A walk over the table tells the kind of the bytes: step by step, what is known of them by the state that is reached.
+use Rattle.std.proofs.Common.{◌≡◌, ℕ, zero, suc, ◌+◌, ◌<◌, ◌≤◌, ◌⊎◌, inl, inr, ⊎_elim, List, length, get_or, arith, refl, sym, ◌∙◌, ◌==◌, if◌then◌else◌, ap, Some, None, Bool, true, false, lit<}
+use Rattle.std.proofs.lemmas.Grind.{common_steps}
+use Rattle.std.proofs.lemmas.Bool.{cases_lt}
+use Rattle.utf_base.specs.declared.errors.Utf8ErrorKind.TheVariants.{TooFewBytes, InterruptedSequence, OverlongEncoding, Utf16ReservedCodepoint, TooHighCodepoint}
+use Rattle.utf_base.specs.declared.table.State.{State}
+use Rattle.utf_base.specs.declared.table.State.TheVariants.{Start, OneMore, TwoMore, ThreeMore, BehindE0, BehindEd, BehindF0, BehindF4, TwoMoreOverlong, OneMoreOverlong, OneMoreReserved, TwoMoreTooHigh, OneMoreTooHigh, Done, Unexpected, Never, Interrupted, Overlong, Reserved, TooHigh}
+use Rattle.utf_base.specs.Scalar.{IsScalar}
+use Rattle.utf_base.specs.Kinds.{fault_kind, merger_kind, asked_by, value, least_value, is_continuation, continues_at, followers_continue, breaks_at, is_broken}
+use Rattle.utf_base.specs.Table.{class, continued, fault_of, is_running, missing, next_state, state_after}
+use Rattle.utf_base.proofs.FrontLemmas.{asked-0, asked-1, asked-2, asked-3, asked-4, asked_le, asked-no_continuation, value-1, value-2, value-3, value-4, least_value-below_3, least_value-3, least_value-4}
+use Rattle.utf_base.proofs.KindCases.{Sums, kind-empty, kind-continuation, kind-never, kind-overlong, kind-surrogate, kind-too_high, kind-none}
+use Rattle.utf_base.proofs.MergerLemmas.{broken_kind, unbroken_kind, enough_kind, kind_of_few}
+use Rattle.utf_base.proofs.TableLemmas.{Begins, begins}
+
+-- the byte at j is a continuation byte
+abbrev Continues : List ℕ → ℕ → Type 0
+Continues w j = (0x80 ≤ get_or w j 0) × (get_or w j 0 < 0xC0)
+
+-- those in front of k are, but for the first
+abbrev ContinueTo : List ℕ → ℕ → Type 0
+ContinueTo w k = (j : ℕ) → 0 < j → j < k → Continues w j
+
+-- What the value is, by the kind that it leads to.
+
+abbrev IsGood : List ℕ → Type 0
+IsGood w = (least_value (asked_by w) ≤ value w) × IsScalar (value w)
+
+abbrev IsOverlong : List ℕ → Type 0
+IsOverlong w = value w < least_value (asked_by w)
+
+abbrev IsReserved : List ℕ → Type 0
+IsReserved w = (least_value (asked_by w) ≤ value w) × (0xD800 ≤ value w) × (value w < 0xE000)
+
+abbrev IsTooHigh : List ℕ → Type 0
+IsTooHigh w = (least_value (asked_by w) ≤ value w) × (0x11_0000 ≤ value w)
+
+-- what a running state tells of the value, or of the byte in front of it where the next one decides
+abbrev Leads : List ℕ → State → Type 0
+Leads w BehindE0 = get_or w 0 0 ≡ 0xE0
+Leads w BehindEd = get_or w 0 0 ≡ 0xED
+Leads w BehindF0 = get_or w 0 0 ≡ 0xF0
+Leads w BehindF4 = get_or w 0 0 ≡ 0xF4
+Leads w TwoMoreOverlong = ContinueTo w (asked_by w) → IsOverlong w
+Leads w OneMoreOverlong = ContinueTo w (asked_by w) → IsOverlong w
+Leads w OneMoreReserved = ContinueTo w (asked_by w) → IsReserved w
+Leads w TwoMoreTooHigh = ContinueTo w (asked_by w) → IsTooHigh w
+Leads w OneMoreTooHigh = ContinueTo w (asked_by w) → IsTooHigh w
+Leads w _ = ContinueTo w (asked_by w) → IsGood w
+
+-- k bytes, the first of which begins a code, led to a running state
+pub record Runs (w : List ℕ) (k : ℕ) (state : State) : Type 0 where
+  pub some : 0 < k
+  pub asks : asked_by w ≡ k + missing state
+  pub before : ContinueTo w k
+  pub leads : Leads w state
+
+-- k bytes led to the state; an end tells the kind
+abbrev pub Reached : List ℕ → ℕ → State → Type 0
+Reached w k Start = k ≡ 0
+Reached w k OneMore = Runs w k OneMore
+Reached w k TwoMore = Runs w k TwoMore
+Reached w k ThreeMore = Runs w k ThreeMore
+Reached w k BehindE0 = Runs w k BehindE0
+Reached w k BehindEd = Runs w k BehindEd
+Reached w k BehindF0 = Runs w k BehindF0
+Reached w k BehindF4 = Runs w k BehindF4
+Reached w k TwoMoreOverlong = Runs w k TwoMoreOverlong
+Reached w k OneMoreOverlong = Runs w k OneMoreOverlong
+Reached w k OneMoreReserved = Runs w k OneMoreReserved
+Reached w k TwoMoreTooHigh = Runs w k TwoMoreTooHigh
+Reached w k OneMoreTooHigh = Runs w k OneMoreTooHigh
+Reached w k end = merger_kind w ≡ fault_of end
+
+-- A byte that does not continue breaks the code, whatever else follows.
+
+breaks : (w : List ℕ) (k : ℕ) → 0 < k → k < asked_by w → k < length w → is_continuation (get_or w k 0) ≡ false → is_broken w ≡ true
+breaks w k some asks there e =
+    let most = asked_le (get_or w 0 0) in
+    ⊎_elim (λ (h : k < 2). let one : k ≡ 1 = omega arith in at_1 w (omega arith) (omega arith) (rw (← one) e))
+    (λ (g : 2 ≤ k).
+    ⊎_elim (λ (h : k < 3). let two : k ≡ 2 = omega arith in at_2 w (omega arith) (omega arith) (rw (← two) e))
+    (λ (h : 3 ≤ k). let three : k ≡ 3 = omega arith in at_3 w (omega arith) (omega arith) (rw (← three) e))
+    (cases_lt k 3))
+    (cases_lt k 2)
+  where
+    at_1 : (w : List ℕ) → 1 < asked_by w → 1 < length w → is_continuation (get_or w 1 0) ≡ false → is_broken w ≡ true
+    at_1 w asks there e = grind (arith, common_steps)
+
+    at_2 : (w : List ℕ) → 2 < asked_by w → 2 < length w → is_continuation (get_or w 2 0) ≡ false → is_broken w ≡ true
+    at_2 w asks there e = grind (arith, common_steps)
+
+    at_3 : (w : List ℕ) → 3 < asked_by w → 3 < length w → is_continuation (get_or w 3 0) ≡ false → is_broken w ≡ true
+    at_3 w asks there e = grind (arith, common_steps)
+
+interrupted : (w : List ℕ) (k : ℕ) (state : State) → Runs w k state → 0 < missing state → k < length w → (get_or w k 0 < 0x80) ⊎ (0xC0 ≤ get_or w k 0)
+    → merger_kind w ≡ Some InterruptedSequence
+interrupted w k state r more there out =
+    let asks = r.asks in
+    broken_kind w (breaks w k r.some (omega arith) there (no_continuation (get_or w k 0) out))
+  where
+    no_continuation : (b : ℕ) → (b < 0x80) ⊎ (0xC0 ≤ b) → is_continuation b ≡ false
+    no_continuation b (inl h) = grind (arith, common_steps)
+    no_continuation b (inr h) = grind (arith, common_steps)
+
+-- One more byte that continues.
+
+continued_to : (w : List ℕ) (k : ℕ) → ContinueTo w k → Continues w k → ContinueTo w (suc k)
+continued_to w k before here j some lt = ⊎_elim (λ (h : j < k). before j some h) (λ (h : k ≤ j). let e : j ≡ k = omega arith in rw e here) (cases_lt j k)
+
+runs_on : (w : List ℕ) (k : ℕ) (state next : State) → Runs w k state → Continues w k → missing state ≡ 1 + missing next → Leads w next → Runs w (suc k) next
+runs_on w k state next r here less leads =
+    let asks = r.asks in
+    record { some = omega arith; asks = omega arith; before = continued_to w k r.before here; leads = leads }
+
+-- The last one: all that the first byte asks for are there, and the value decides.
+
+follows : (w : List ℕ) (k : ℕ) → ContinueTo w (asked_by w) → 0 < k → continues_at w k ≡ true
+follows w k all some =
+    ⊎_elim (λ (h : k < asked_by w). let c = all k some h in grind (arith, common_steps)) (λ (h : asked_by w ≤ k). grind (arith, common_steps)) (cases_lt k (asked_by w))
+
+all_follow : (w : List ℕ) → ContinueTo w (asked_by w) → followers_continue w ≡ true
+all_follow w all = rw (follows w 1 all (lit< tt), follows w 2 all (lit< tt), follows w 3 all (lit< tt)) refl
+
+sums : (w : List ℕ) → 0 < asked_by w → asked_by w ≤ length w → ContinueTo w (asked_by w) → Sums w (asked_by w) (value w)
+sums w some enough all = record {
+  asks = record { some = omega arith; first = asked-no_continuation (get_or w 0 0) some; asks = refl; positive = some };
+  enough = enough;
+  follow = all_follow w all;
+  sum = refl;
+}
+
+-- what a last byte that continues completes
+record Ends (w : List ℕ) : Type 0 where
+  all : ContinueTo w (asked_by w)
+  enough : asked_by w ≤ length w
+  sums : Sums w (asked_by w) (value w)
+
+ends : (w : List ℕ) (k : ℕ) (state : State) → Runs w k state → Continues w k → missing state ≡ 1 → k < length w → Ends w
+ends w k state r here last there =
+    let asks = r.asks in
+    let e : suc k ≡ asked_by w = omega arith in
+    let all : ContinueTo w (asked_by w) = rw (← e) (continued_to w k r.before here) in
+    record { all = all; enough = omega arith; sums = sums w (omega arith) (omega arith) all }
+
+done : (w : List ℕ) → Ends w → IsGood w → merger_kind w ≡ None
+done w e good = enough_kind w e.enough ∙ kind-none w _ _ e.sums good.0 good.1
+
+overlong : (w : List ℕ) → Ends w → IsOverlong w → merger_kind w ≡ Some OverlongEncoding
+overlong w e h = enough_kind w e.enough ∙ kind-overlong w _ _ e.sums h
+
+reserved : (w : List ℕ) → Ends w → IsReserved w → merger_kind w ≡ Some Utf16ReservedCodepoint
+reserved w e h = enough_kind w e.enough ∙ kind-surrogate w _ _ e.sums h.0 h.1 h.2
+
+too_high : (w : List ℕ) → Ends w → IsTooHigh w → merger_kind w ≡ Some TooHighCodepoint
+too_high w e h = enough_kind w e.enough ∙ kind-too_high w _ _ e.sums h.0 h.1
+
+-- Where a byte lies, and the state behind it as a follower.
+
+outside : (one two three : State) (b : ℕ) → (b < 0x80) ⊎ (0xC0 ≤ b) → continued one two three (class b) ≡ Interrupted
+unfolding class
+outside one two three b (inl h) = grind (arith, common_steps)
+outside one two three b (inr h) = grind (arith, common_steps)
+
+class-1 : (b : ℕ) → 0x80 ≤ b → b < 0x90 → class b ≡ 1
+unfolding class
+class-1 b l h = grind (arith, common_steps)
+
+class-2 : (b : ℕ) → 0x90 ≤ b → b < 0xA0 → class b ≡ 2
+unfolding class
+class-2 b l h = grind (arith, common_steps)
+
+class-3 : (b : ℕ) → 0xA0 ≤ b → b < 0xC0 → class b ≡ 3
+unfolding class
+class-3 b l h = grind (arith, common_steps)
+
+by_follower : (P : State → Type 0) (one two three : State) (b : ℕ) → ((b < 0x80) ⊎ (0xC0 ≤ b) → P Interrupted) → (0x80 ≤ b → b < 0x90 → P one)
+    → (0x90 ≤ b → b < 0xA0 → P two) → (0xA0 ≤ b → b < 0xC0 → P three) → P (continued one two three (class b))
+by_follower P one two three b out low middle high =
+    ⊎_elim (λ (h : b < 0x80). rw (outside one two three b (inl h)) (out (inl h)))
+    (λ (l0 : 0x80 ≤ b).
+    ⊎_elim (λ (h : b < 0x90). rw (class-1 b l0 h) (low l0 h))
+    (λ (l1 : 0x90 ≤ b).
+    ⊎_elim (λ (h : b < 0xA0). rw (class-2 b l1 h) (middle l1 h))
+    (λ (l2 : 0xA0 ≤ b).
+    ⊎_elim (λ (h : b < 0xC0). rw (class-3 b l2 h) (high l2 h))
+    (λ (l3 : 0xC0 ≤ b). rw (outside one two three b (inr l3)) (out (inr l3)))
+    (cases_lt b 0xC0)) (cases_lt b 0xA0)) (cases_lt b 0x90)) (cases_lt b 0x80)
+
+-- the same where all that continue lead to one state
+by_any : (P : State → Type 0) (next : State) (b : ℕ) → ((b < 0x80) ⊎ (0xC0 ≤ b) → P Interrupted) → ((0x80 ≤ b) × (b < 0xC0) → P next) → P (continued next next next (class b))
+by_any P next b out on = by_follower P next next next b out (λ l h. on (omega arith, omega arith)) (λ l h. on (omega arith, omega arith)) (λ l h. on (omega arith, omega arith))
+
+-- The first byte.
+
+two_are_good : (w : List ℕ) → 0xC2 ≤ get_or w 0 0 → get_or w 0 0 < 0xE0 → ContinueTo w (asked_by w) → IsGood w
+two_are_good w low high all =
+    let n : asked_by w ≡ 2 = asked-2 (get_or w 0 0) low high in
+    let sum = value-2 w n in
+    let c = all 1 (lit< tt) (omega arith) in
+    let least = least_value-below_3 (asked_by w) (omega arith) in
+    (omega arith, record { below = omega arith; no_surrogate = λ h. absurd (omega arith) })
+
+three_are_good : (w : List ℕ) → 0xE0 < get_or w 0 0 → get_or w 0 0 < 0xF0 → (get_or w 0 0 ≡ 0xED → ⊥) → ContinueTo w (asked_by w) → IsGood w
+three_are_good w low high other all =
+    let n : asked_by w ≡ 3 = asked-3 (get_or w 0 0) (omega arith) high in
+    let sum = value-3 w n in
+    let c = all 1 (lit< tt) (omega arith) in
+    let d = all 2 (lit< tt) (omega arith) in
+    let least = ap least_value n ∙ least_value-3 in
+    (omega arith, record { below = omega arith; no_surrogate = λ h. ⊎_elim (λ (g : get_or w 0 0 < 0xEE). absurd (other (omega arith))) (λ (g : 0xEE ≤ get_or w 0 0). omega arith) (cases_lt (get_or w 0 0) 0xEE) })
+
+four_are_good : (w : List ℕ) → 0xF0 < get_or w 0 0 → get_or w 0 0 < 0xF4 → ContinueTo w (asked_by w) → IsGood w
+four_are_good w low high all =
+    let n : asked_by w ≡ 4 = asked-4 (get_or w 0 0) (omega arith) (omega arith) in
+    let sum = value-4 w n in
+    let c = all 1 (lit< tt) (omega arith) in
+    let d = all 2 (lit< tt) (omega arith) in
+    let f = all 3 (lit< tt) (omega arith) in
+    let least = ap least_value n ∙ least_value-4 in
+    (omega arith, record { below = omega arith; no_surrogate = λ h. omega arith })
+
+-- a first byte that begins a code runs on
+runs-1 : (w : List ℕ) (state : State) → asked_by w ≡ 1 + missing state → Leads w state → Runs w 1 state
+runs-1 w state asks leads = record { some = lit< tt; asks = asks; before = λ j some lt. absurd (omega arith); leads = leads }
+
+first : (w : List ℕ) (state : State) → 0 < length w → Begins (get_or w 0 0) state → Reached w 1 state
+first w Start some h = absurd h
+first w OneMore some h = runs-1 w OneMore (asked-2 _ h.0 h.1) (two_are_good w h.0 h.1)
+first w TwoMore some h = runs-1 w TwoMore (asked-3 _ (omega arith) h.1) (three_are_good w h.0 h.1 h.2)
+first w ThreeMore some h = runs-1 w ThreeMore (asked-4 _ (omega arith) (omega arith)) (four_are_good w h.0 h.1)
+first w BehindE0 some h = runs-1 w BehindE0 (asked-3 _ (omega arith) (omega arith)) h
+first w BehindEd some h = runs-1 w BehindEd (asked-3 _ (omega arith) (omega arith)) h
+first w BehindF0 some h = runs-1 w BehindF0 (asked-4 _ (omega arith) (omega arith)) h
+first w BehindF4 some h = runs-1 w BehindF4 (asked-4 _ (omega arith) (omega arith)) h
+first w TwoMoreOverlong some h = absurd h
+first w OneMoreOverlong some h = absurd h
+first w OneMoreReserved some h = absurd h
+first w TwoMoreTooHigh some h = absurd h
+first w OneMoreTooHigh some h = absurd h
+first w Done some h =
+    let n : asked_by w ≡ 1 = asked-1 _ h in
+    let sum = value-1 w n in
+    let least = least_value-below_3 (asked_by w) (omega arith) in
+    let all : ContinueTo w (asked_by w) = λ j some lt. absurd (omega arith) in
+    done w
+    (record { all = all; enough = omega arith; sums = sums w (omega arith) (omega arith) all })
+    (omega arith, record { below = omega arith; no_surrogate = λ g. absurd (omega arith) })
+first w Unexpected some h = let n : asked_by w ≡ 0 = asked-0 _ (inl (omega arith, omega arith)) in enough_kind w (omega arith) ∙ kind-continuation w some h.0 h.1
+first w Never some (inl h) =
+    let n : asked_by w ≡ 0 = asked-0 _ (inl (omega arith, h.1)) in
+    enough_kind w (omega arith) ∙ kind-never w some n (grind (arith, common_steps))
+first w Never some (inr h) =
+    let n : asked_by w ≡ 0 = asked-0 _ (inr h) in
+    enough_kind w (omega arith) ∙ kind-never w some n (grind (arith, common_steps))
+first w Interrupted some h = absurd h
+first w Overlong some h = absurd h
+first w Reserved some h = absurd h
+first w TooHigh some h = absurd h
+
+-- The second byte, where it decides.
+
+e0_is_overlong : (w : List ℕ) (k : ℕ) → Runs w k BehindE0 → get_or w k 0 < 0xA0 → ContinueTo w (asked_by w) → IsOverlong w
+e0_is_overlong w k r high all =
+    let n : asked_by w ≡ 3 = asked-3 _ (omega (arith, r.leads)) (omega (arith, r.leads)) in
+    let e : k ≡ 1 = omega (arith, r.asks) in
+    let second : get_or w 1 0 < 0xA0 = rw (← e) high in
+    let sum = value-3 w n in
+    let d = all 2 (lit< tt) (omega arith) in
+    let least = ap least_value n ∙ least_value-3 in
+    omega (arith, r.leads)
+
+e0_is_good : (w : List ℕ) (k : ℕ) → Runs w k BehindE0 → 0xA0 ≤ get_or w k 0 → ContinueTo w (asked_by w) → IsGood w
+e0_is_good w k r low all =
+    let n : asked_by w ≡ 3 = asked-3 _ (omega (arith, r.leads)) (omega (arith, r.leads)) in
+    let e : k ≡ 1 = omega (arith, r.asks) in
+    let second : 0xA0 ≤ get_or w 1 0 = rw (← e) low in
+    let sum = value-3 w n in
+    let c = all 1 (lit< tt) (omega arith) in
+    let d = all 2 (lit< tt) (omega arith) in
+    let least = ap least_value n ∙ least_value-3 in
+    (omega (arith, r.leads), record { below = omega (arith, r.leads); no_surrogate = λ h. absurd (omega (arith, r.leads)) })
+
+ed_is_good : (w : List ℕ) (k : ℕ) → Runs w k BehindEd → get_or w k 0 < 0xA0 → ContinueTo w (asked_by w) → IsGood w
+ed_is_good w k r high all =
+    let n : asked_by w ≡ 3 = asked-3 _ (omega (arith, r.leads)) (omega (arith, r.leads)) in
+    let e : k ≡ 1 = omega (arith, r.asks) in
+    let second : get_or w 1 0 < 0xA0 = rw (← e) high in
+    let sum = value-3 w n in
+    let d = all 2 (lit< tt) (omega arith) in
+    let least = ap least_value n ∙ least_value-3 in
+    (omega (arith, r.leads), record { below = omega (arith, r.leads); no_surrogate = λ h. absurd (omega (arith, r.leads)) })
+
+ed_is_reserved : (w : List ℕ) (k : ℕ) → Runs w k BehindEd → 0xA0 ≤ get_or w k 0 → ContinueTo w (asked_by w) → IsReserved w
+ed_is_reserved w k r low all =
+    let n : asked_by w ≡ 3 = asked-3 _ (omega (arith, r.leads)) (omega (arith, r.leads)) in
+    let e : k ≡ 1 = omega (arith, r.asks) in
+    let second : 0xA0 ≤ get_or w 1 0 = rw (← e) low in
+    let sum = value-3 w n in
+    let c = all 1 (lit< tt) (omega arith) in
+    let d = all 2 (lit< tt) (omega arith) in
+    let least = ap least_value n ∙ least_value-3 in
+    (omega (arith, r.leads), omega (arith, r.leads), omega (arith, r.leads))
+
+f0_is_overlong : (w : List ℕ) (k : ℕ) → Runs w k BehindF0 → get_or w k 0 < 0x90 → ContinueTo w (asked_by w) → IsOverlong w
+f0_is_overlong w k r high all =
+    let n : asked_by w ≡ 4 = asked-4 _ (omega (arith, r.leads)) (omega (arith, r.leads)) in
+    let e : k ≡ 1 = omega (arith, r.asks) in
+    let second : get_or w 1 0 < 0x90 = rw (← e) high in
+    let sum = value-4 w n in
+    let d = all 2 (lit< tt) (omega arith) in
+    let f = all 3 (lit< tt) (omega arith) in
+    let least = ap least_value n ∙ least_value-4 in
+    omega (arith, r.leads)
+
+f0_is_good : (w : List ℕ) (k : ℕ) → Runs w k BehindF0 → 0x90 ≤ get_or w k 0 → ContinueTo w (asked_by w) → IsGood w
+f0_is_good w k r low all =
+    let n : asked_by w ≡ 4 = asked-4 _ (omega (arith, r.leads)) (omega (arith, r.leads)) in
+    let e : k ≡ 1 = omega (arith, r.asks) in
+    let second : 0x90 ≤ get_or w 1 0 = rw (← e) low in
+    let sum = value-4 w n in
+    let c = all 1 (lit< tt) (omega arith) in
+    let d = all 2 (lit< tt) (omega arith) in
+    let f = all 3 (lit< tt) (omega arith) in
+    let least = ap least_value n ∙ least_value-4 in
+    (omega (arith, r.leads), record { below = omega (arith, r.leads); no_surrogate = λ h. omega (arith, r.leads) })
+
+f4_is_good : (w : List ℕ) (k : ℕ) → Runs w k BehindF4 → get_or w k 0 < 0x90 → ContinueTo w (asked_by w) → IsGood w
+f4_is_good w k r high all =
+    let n : asked_by w ≡ 4 = asked-4 _ (omega (arith, r.leads)) (omega (arith, r.leads)) in
+    let e : k ≡ 1 = omega (arith, r.asks) in
+    let second : get_or w 1 0 < 0x90 = rw (← e) high in
+    let sum = value-4 w n in
+    let d = all 2 (lit< tt) (omega arith) in
+    let f = all 3 (lit< tt) (omega arith) in
+    let least = ap least_value n ∙ least_value-4 in
+    (omega (arith, r.leads), record { below = omega (arith, r.leads); no_surrogate = λ h. omega (arith, r.leads) })
+
+f4_is_too_high : (w : List ℕ) (k : ℕ) → Runs w k BehindF4 → 0x90 ≤ get_or w k 0 → ContinueTo w (asked_by w) → IsTooHigh w
+f4_is_too_high w k r low all =
+    let n : asked_by w ≡ 4 = asked-4 _ (omega (arith, r.leads)) (omega (arith, r.leads)) in
+    let e : k ≡ 1 = omega (arith, r.asks) in
+    let second : 0x90 ≤ get_or w 1 0 = rw (← e) low in
+    let sum = value-4 w n in
+    let least = ap least_value n ∙ least_value-4 in
+    (omega (arith, r.leads), omega (arith, r.leads))
+
+-- One more byte, in any state.
+
+next : (w : List ℕ) (k : ℕ) (state : State) → k < length w → Reached w k state → Reached w (suc k) (next_state state (class (get_or w k 0)))
+unfolding next_state
+next w k Start there r = let e : k ≡ 0 = r in rw e (first w (next_state Start (class (get_or w 0 0))) (omega arith) (begins (get_or w 0 0)))
+next w k OneMore there r =
+    by_any (Reached w (suc k)) Done _ (interrupted w k OneMore r (lit< tt) there)
+    (λ c. let e = ends w k OneMore r c refl there in done w e (r.leads e.all))
+next w k TwoMore there r = by_any (Reached w (suc k)) OneMore _ (interrupted w k TwoMore r (lit< tt) there) (λ c. runs_on w k TwoMore OneMore r c refl r.leads)
+next w k ThreeMore there r =
+    by_any (Reached w (suc k)) TwoMore _ (interrupted w k ThreeMore r (lit< tt) there) (λ c. runs_on w k ThreeMore TwoMore r c refl r.leads)
+next w k BehindE0 there r =
+    by_follower (Reached w (suc k)) OneMoreOverlong OneMoreOverlong OneMore _ (interrupted w k BehindE0 r (lit< tt) there)
+    (λ l h. runs_on w k BehindE0 OneMoreOverlong r (omega arith, omega arith) refl (λ all. e0_is_overlong w k r (omega arith) all))
+    (λ l h. runs_on w k BehindE0 OneMoreOverlong r (omega arith, omega arith) refl (λ all. e0_is_overlong w k r h all))
+    (λ l h. runs_on w k BehindE0 OneMore r (omega arith, omega arith) refl (λ all. e0_is_good w k r l all))
+next w k BehindEd there r =
+    by_follower (Reached w (suc k)) OneMore OneMore OneMoreReserved _ (interrupted w k BehindEd r (lit< tt) there)
+    (λ l h. runs_on w k BehindEd OneMore r (omega arith, omega arith) refl (λ all. ed_is_good w k r (omega arith) all))
+    (λ l h. runs_on w k BehindEd OneMore r (omega arith, omega arith) refl (λ all. ed_is_good w k r h all))
+    (λ l h. runs_on w k BehindEd OneMoreReserved r (omega arith, omega arith) refl (λ all. ed_is_reserved w k r l all))
+next w k BehindF0 there r =
+    by_follower (Reached w (suc k)) TwoMoreOverlong TwoMore TwoMore _ (interrupted w k BehindF0 r (lit< tt) there)
+    (λ l h. runs_on w k BehindF0 TwoMoreOverlong r (omega arith, omega arith) refl (λ all. f0_is_overlong w k r h all))
+    (λ l h. runs_on w k BehindF0 TwoMore r (omega arith, omega arith) refl (λ all. f0_is_good w k r l all))
+    (λ l h. runs_on w k BehindF0 TwoMore r (omega arith, omega arith) refl (λ all. f0_is_good w k r (omega arith) all))
+next w k BehindF4 there r =
+    by_follower (Reached w (suc k)) TwoMore TwoMoreTooHigh TwoMoreTooHigh _ (interrupted w k BehindF4 r (lit< tt) there)
+    (λ l h. runs_on w k BehindF4 TwoMore r (omega arith, omega arith) refl (λ all. f4_is_good w k r h all))
+    (λ l h. runs_on w k BehindF4 TwoMoreTooHigh r (omega arith, omega arith) refl (λ all. f4_is_too_high w k r l all))
+    (λ l h. runs_on w k BehindF4 TwoMoreTooHigh r (omega arith, omega arith) refl (λ all. f4_is_too_high w k r (omega arith) all))
+next w k TwoMoreOverlong there r =
+    by_any (Reached w (suc k)) OneMoreOverlong _ (interrupted w k TwoMoreOverlong r (lit< tt) there)
+    (λ c. runs_on w k TwoMoreOverlong OneMoreOverlong r c refl r.leads)
+next w k OneMoreOverlong there r =
+    by_any (Reached w (suc k)) Overlong _ (interrupted w k OneMoreOverlong r (lit< tt) there)
+    (λ c. let e = ends w k OneMoreOverlong r c refl there in overlong w e (r.leads e.all))
+next w k OneMoreReserved there r =
+    by_any (Reached w (suc k)) Reserved _ (interrupted w k OneMoreReserved r (lit< tt) there)
+    (λ c. let e = ends w k OneMoreReserved r c refl there in reserved w e (r.leads e.all))
+next w k TwoMoreTooHigh there r =
+    by_any (Reached w (suc k)) OneMoreTooHigh _ (interrupted w k TwoMoreTooHigh r (lit< tt) there)
+    (λ c. runs_on w k TwoMoreTooHigh OneMoreTooHigh r c refl r.leads)
+next w k OneMoreTooHigh there r =
+    by_any (Reached w (suc k)) TooHigh _ (interrupted w k OneMoreTooHigh r (lit< tt) there)
+    (λ c. let e = ends w k OneMoreTooHigh r c refl there in too_high w e (r.leads e.all))
+next w k Done there r = r
+next w k Unexpected there r = r
+next w k Never there r = r
+next w k Interrupted there r = r
+next w k Overlong there r = r
+next w k Reserved there r = r
+next w k TooHigh there r = r
+
+pub reached : (w : List ℕ) (k : ℕ) → k ≤ length w → Reached w k (state_after w k)
+reached w zero le = refl
+reached w (suc k) le = next w k (state_after w k) (omega arith) (reached w k (omega arith))
+
+-- The first end that is reached tells the kind.
+
+end_tells : (w : List ℕ) (k : ℕ) (state : State) → is_running state ≡ false → Reached w k state → merger_kind w ≡ fault_of state
+end_tells w k Start e r = cc
+end_tells w k OneMore e r = cc
+end_tells w k TwoMore e r = cc
+end_tells w k ThreeMore e r = cc
+end_tells w k BehindE0 e r = cc
+end_tells w k BehindEd e r = cc
+end_tells w k BehindF0 e r = cc
+end_tells w k BehindF4 e r = cc
+end_tells w k TwoMoreOverlong e r = cc
+end_tells w k OneMoreOverlong e r = cc
+end_tells w k OneMoreReserved e r = cc
+end_tells w k TwoMoreTooHigh e r = cc
+end_tells w k OneMoreTooHigh e r = cc
+end_tells w k Done e r = r
+end_tells w k Unexpected e r = r
+end_tells w k Never e r = r
+end_tells w k Interrupted e r = r
+end_tells w k Overlong e r = r
+end_tells w k Reserved e r = r
+end_tells w k TooHigh e r = r
+
+pub kind_at_end : (w : List ℕ) (k : ℕ) → k ≤ length w → is_running (state_after w k) ≡ false → merger_kind w ≡ fault_of (state_after w k)
+kind_at_end w k le e = end_tells w k (state_after w k) e (reached w k le)
+
+-- All bytes together tell it in any state: a running one asks for more.
+
+unbroken : (w : List ℕ) → ContinueTo w (length w) → is_broken w ≡ false
+unbroken w all = rw (no_break w 1 (lit< tt) all, no_break w 2 (lit< tt) all, no_break w 3 (lit< tt) all) refl
+  where
+    no_break : (w : List ℕ) (k : ℕ) → 0 < k → ContinueTo w (length w) → breaks_at w k ≡ false
+    no_break w k some all =
+        ⊎_elim (λ (h : k < length w). let c = all k some h in grind (arith, common_steps)) (λ (h : length w ≤ k). grind (arith, common_steps)) (cases_lt k (length w))
+
+too_few : (w : List ℕ) (state : State) → 0 < missing state → Runs w (length w) state → merger_kind w ≡ Some TooFewBytes
+too_few w state more r = let asks = r.asks in kind_of_few w r.some (omega arith) (unbroken w r.before)
+
+nothing : (w : List ℕ) → length w ≡ 0 → merger_kind w ≡ Some TooFewBytes
+nothing w e = unbroken_kind w (unbroken w (λ j some lt. absurd (omega arith))) ∙ kind-empty w e
+
+all_tell : (w : List ℕ) (state : State) → Reached w (length w) state → merger_kind w ≡ fault_of state
+all_tell w Start r = nothing w r
+all_tell w OneMore r = too_few w _ (lit< tt) r
+all_tell w TwoMore r = too_few w _ (lit< tt) r
+all_tell w ThreeMore r = too_few w _ (lit< tt) r
+all_tell w BehindE0 r = too_few w _ (lit< tt) r
+all_tell w BehindEd r = too_few w _ (lit< tt) r
+all_tell w BehindF0 r = too_few w _ (lit< tt) r
+all_tell w BehindF4 r = too_few w _ (lit< tt) r
+all_tell w TwoMoreOverlong r = too_few w _ (lit< tt) r
+all_tell w OneMoreOverlong r = too_few w _ (lit< tt) r
+all_tell w OneMoreReserved r = too_few w _ (lit< tt) r
+all_tell w TwoMoreTooHigh r = too_few w _ (lit< tt) r
+all_tell w OneMoreTooHigh r = too_few w _ (lit< tt) r
+all_tell w Done r = r
+all_tell w Unexpected r = r
+all_tell w Never r = r
+all_tell w Interrupted r = r
+all_tell w Overlong r = r
+all_tell w Reserved r = r
+all_tell w TooHigh r = r
+
+pub kind_of_all : (w : List ℕ) → merger_kind w ≡ fault_of (state_after w (length w))
+kind_of_all w = all_tell w _ (reached w (length w) (omega arith))
+
+-- the forward kind, where all bytes are there that the first asks for
+pub fault_at_end : (w : List ℕ) (k : ℕ) (state : State) → k ≤ length w → asked_by w ≤ length w → state_after w k ≡ state → is_running state ≡ false → fault_kind w ≡ fault_of state
+fault_at_end w k state le enough e end = sym (enough_kind w enough) ∙ kind_at_end w k le (ap is_running e ∙ end) ∙ ap fault_of e
+
+-- What a walk needs from step to step: a state that asks for a byte is running, and each byte that continues is one less.
+
+pub asks_runs : (state : State) → 0 < missing state → is_running state ≡ true
+asks_runs Start more = absurd (omega arith)
+asks_runs OneMore more = refl
+asks_runs TwoMore more = refl
+asks_runs ThreeMore more = refl
+asks_runs BehindE0 more = refl
+asks_runs BehindEd more = refl
+asks_runs BehindF0 more = refl
+asks_runs BehindF4 more = refl
+asks_runs TwoMoreOverlong more = refl
+asks_runs OneMoreOverlong more = refl
+asks_runs OneMoreReserved more = refl
+asks_runs TwoMoreTooHigh more = refl
+asks_runs OneMoreTooHigh more = refl
+asks_runs Done more = absurd (omega arith)
+asks_runs Unexpected more = absurd (omega arith)
+asks_runs Never more = absurd (omega arith)
+asks_runs Interrupted more = absurd (omega arith)
+asks_runs Overlong more = absurd (omega arith)
+asks_runs Reserved more = absurd (omega arith)
+asks_runs TooHigh more = absurd (omega arith)
+
+by_continued : (P : State → Type 0) (one two three : State) (c : ℕ) → P one → P two → P three → P Interrupted → P (continued one two three c)
+by_continued P one two three c p q r out = choose P (c == 1) p (choose P (c == 2) q (choose P (c == 3) r out))
+  where
+    choose : (P : State → Type 0) (b : Bool) {x y : State} → P x → P y → P (if b then x else y)
+    choose P true p q = p
+    choose P false p q = q
+
+abbrev IsLess : State → State → Type 0
+IsLess state next = (next ≡ Interrupted → ⊥) → missing state ≡ 1 + missing next
+
+pub one_less : (state : State) (c : ℕ) → 0 < missing state → (next_state state c ≡ Interrupted → ⊥) → missing state ≡ 1 + missing (next_state state c)
+unfolding next_state
+one_less Start c more = absurd (omega arith)
+one_less OneMore c more = by_continued (IsLess OneMore) Done Done Done c (λ n. refl) (λ n. refl) (λ n. refl) (λ n. absurd (n refl))
+one_less TwoMore c more = by_continued (IsLess TwoMore) OneMore OneMore OneMore c (λ n. refl) (λ n. refl) (λ n. refl) (λ n. absurd (n refl))
+one_less ThreeMore c more = by_continued (IsLess ThreeMore) TwoMore TwoMore TwoMore c (λ n. refl) (λ n. refl) (λ n. refl) (λ n. absurd (n refl))
+one_less BehindE0 c more = by_continued (IsLess BehindE0) OneMoreOverlong OneMoreOverlong OneMore c (λ n. refl) (λ n. refl) (λ n. refl) (λ n. absurd (n refl))
+one_less BehindEd c more = by_continued (IsLess BehindEd) OneMore OneMore OneMoreReserved c (λ n. refl) (λ n. refl) (λ n. refl) (λ n. absurd (n refl))
+one_less BehindF0 c more = by_continued (IsLess BehindF0) TwoMoreOverlong TwoMore TwoMore c (λ n. refl) (λ n. refl) (λ n. refl) (λ n. absurd (n refl))
+one_less BehindF4 c more = by_continued (IsLess BehindF4) TwoMore TwoMoreTooHigh TwoMoreTooHigh c (λ n. refl) (λ n. refl) (λ n. refl) (λ n. absurd (n refl))
+one_less TwoMoreOverlong c more = by_continued (IsLess TwoMoreOverlong) OneMoreOverlong OneMoreOverlong OneMoreOverlong c (λ n. refl) (λ n. refl) (λ n. refl) (λ n. absurd (n refl))
+one_less OneMoreOverlong c more = by_continued (IsLess OneMoreOverlong) Overlong Overlong Overlong c (λ n. refl) (λ n. refl) (λ n. refl) (λ n. absurd (n refl))
+one_less OneMoreReserved c more = by_continued (IsLess OneMoreReserved) Reserved Reserved Reserved c (λ n. refl) (λ n. refl) (λ n. refl) (λ n. absurd (n refl))
+one_less TwoMoreTooHigh c more = by_continued (IsLess TwoMoreTooHigh) OneMoreTooHigh OneMoreTooHigh OneMoreTooHigh c (λ n. refl) (λ n. refl) (λ n. refl) (λ n. absurd (n refl))
+one_less OneMoreTooHigh c more = by_continued (IsLess OneMoreTooHigh) TooHigh TooHigh TooHigh c (λ n. refl) (λ n. refl) (λ n. refl) (λ n. absurd (n refl))
+one_less Done c more = absurd (omega arith)
+one_less Unexpected c more = absurd (omega arith)
+one_less Never c more = absurd (omega arith)
+one_less Interrupted c more = absurd (omega arith)
+one_less Overlong c more = absurd (omega arith)
+one_less Reserved c more = absurd (omega arith)
+one_less TooHigh c more = absurd (omega arith)
+
+-- the last byte that a state asks for leads to an end
+pub last_ends : (state : State) (c : ℕ) → missing state ≡ 1 → is_running (next_state state c) ≡ false
+unfolding next_state
+last_ends Start c e = absurd (omega arith)
+last_ends OneMore c e = by_continued (λ next. is_running next ≡ false) Done Done Done c refl refl refl refl
+last_ends TwoMore c e = absurd (omega arith)
+last_ends ThreeMore c e = absurd (omega arith)
+last_ends BehindE0 c e = absurd (omega arith)
+last_ends BehindEd c e = absurd (omega arith)
+last_ends BehindF0 c e = absurd (omega arith)
+last_ends BehindF4 c e = absurd (omega arith)
+last_ends TwoMoreOverlong c e = absurd (omega arith)
+last_ends OneMoreOverlong c e = by_continued (λ next. is_running next ≡ false) Overlong Overlong Overlong c refl refl refl refl
+last_ends OneMoreReserved c e = by_continued (λ next. is_running next ≡ false) Reserved Reserved Reserved c refl refl refl refl
+last_ends TwoMoreTooHigh c e = absurd (omega arith)
+last_ends OneMoreTooHigh c e = by_continued (λ next. is_running next ≡ false) TooHigh TooHigh TooHigh c refl refl refl refl
+last_ends Done c e = absurd (omega arith)
+last_ends Unexpected c e = absurd (omega arith)
+last_ends Never c e = absurd (omega arith)
+last_ends Interrupted c e = absurd (omega arith)
+last_ends Overlong c e = absurd (omega arith)
+last_ends Reserved c e = absurd (omega arith)
+last_ends TooHigh c e = absurd (omega arith)
+
+-- where one byte is missing and any continuation byte completes a code, no other fault is left
+pub one_more_breaks : (c : ℕ) → (next_state OneMore c ≡ Done → ⊥) → next_state OneMore c ≡ Interrupted
+unfolding next_state
+one_more_breaks c =
+    by_continued (λ next. (next ≡ Done → ⊥) → next ≡ Interrupted) Done Done Done c (λ n. absurd (n refl)) (λ n. absurd (n refl)) (λ n. absurd (n refl)) (λ n. refl)
+
+-- The state behind a first byte of two, three and four.
+
+pub first-2 : (b : ℕ) → 0xC2 ≤ b → b < 0xE0 → next_state Start (class b) ≡ OneMore
+unfolding class next_state
+first-2 b low high = grind (arith, common_steps)
+
+pub first-3 : (b : ℕ) → 0xE0 ≤ b → b < 0xF0 → missing (next_state Start (class b)) ≡ 2
+first-3 b low high = by_begins (next_state Start (class b)) low high (begins b)
+  where
+    by_begins : {b : ℕ} (state : State) → 0xE0 ≤ b → b < 0xF0 → Begins b state → missing state ≡ 2
+    by_begins Start low high h = absurd h
+    by_begins OneMore low high h = absurd (omega arith)
+    by_begins TwoMore low high h = refl
+    by_begins ThreeMore low high h = absurd (omega arith)
+    by_begins BehindE0 low high h = refl
+    by_begins BehindEd low high h = refl
+    by_begins BehindF0 low high h = absurd (omega arith)
+    by_begins BehindF4 low high h = absurd (omega arith)
+    by_begins TwoMoreOverlong low high h = absurd h
+    by_begins OneMoreOverlong low high h = absurd h
+    by_begins OneMoreReserved low high h = absurd h
+    by_begins TwoMoreTooHigh low high h = absurd h
+    by_begins OneMoreTooHigh low high h = absurd h
+    by_begins Done low high h = absurd (omega arith)
+    by_begins Unexpected low high h = absurd (omega arith)
+    by_begins Never low high (inl h) = absurd (omega arith)
+    by_begins Never low high (inr h) = absurd (omega arith)
+    by_begins Interrupted low high h = absurd h
+    by_begins Overlong low high h = absurd h
+    by_begins Reserved low high h = absurd h
+    by_begins TooHigh low high h = absurd h
+
+pub first-4 : (b : ℕ) → 0xF0 ≤ b → b < 0xF5 → missing (next_state Start (class b)) ≡ 3
+first-4 b low high = by_begins (next_state Start (class b)) low high (begins b)
+  where
+    by_begins : {b : ℕ} (state : State) → 0xF0 ≤ b → b < 0xF5 → Begins b state → missing state ≡ 3
+    by_begins Start low high h = absurd h
+    by_begins OneMore low high h = absurd (omega arith)
+    by_begins TwoMore low high h = absurd (omega arith)
+    by_begins ThreeMore low high h = refl
+    by_begins BehindE0 low high h = absurd (omega arith)
+    by_begins BehindEd low high h = absurd (omega arith)
+    by_begins BehindF0 low high h = refl
+    by_begins BehindF4 low high h = refl
+    by_begins TwoMoreOverlong low high h = absurd h
+    by_begins OneMoreOverlong low high h = absurd h
+    by_begins OneMoreReserved low high h = absurd h
+    by_begins TwoMoreTooHigh low high h = absurd h
+    by_begins OneMoreTooHigh low high h = absurd h
+    by_begins Done low high h = absurd (omega arith)
+    by_begins Unexpected low high h = absurd (omega arith)
+    by_begins Never low high (inl h) = absurd (omega arith)
+    by_begins Never low high (inr h) = absurd (omega arith)
+    by_begins Interrupted low high h = absurd h
+    by_begins Overlong low high h = absurd h
+    by_begins Reserved low high h = absurd h
+    by_begins TooHigh low high h = absurd h
