@@ -114,10 +114,7 @@ pub fn step(state: State, c: u8) -> State
 }
 
 /// What is wrong with bytes that led to the state, where no more follow.
-///
-/// It is not inlined, so that a caller's test of the state stays one comparison.
-#[cold]
-#[inline(never)]
+#[inline(always)]
 pub fn error_behind(state: State) -> Utf8Error
     requires { state ≡ Done → ⊥ }
     ensures { fault_of state ≡ Some result }
