@@ -1,5 +1,7 @@
--- A code in UTF-8 that is written byte by byte.
-use Rattle.std.proofs.Common.{◌≡◌, ℕ, ◌<◌, List, [], ◌∷◌, ◌++◌, length, get_or, arith, ap, ◌∙◌, append_assoc}
+-- Codes that are written.
+use Rattle.std.proofs.Common.{◌≡◌, ℕ, ◌<◌, List, [], ◌∷◌, ◌++◌, length, get_or, arith, rules, ap, ◌∙◌, append_assoc, Ok, Err, Result}
+use Rattle.std.specs.Prelude.{is_ok, IsOk, if◌then◌else◌}
+use Rattle.std.specs.declared.alloc.AllocError.{AllocError}
 use Rattle.std.proofs.lemmas.Grind.{common_steps}
 use Rattle.utf_base.specs.Code.{utf8}
 use Rattle.encode_unicode.specs.Padded.{padded}
@@ -7,6 +9,11 @@ use Rattle.encode_unicode.specs.Padded.{padded}
 pub utf8_some : (s : ℕ) → 0 < length (utf8 s)
 unfolding utf8
 utf8_some s = grind (arith, common_steps)
+
+-- what an output holds after a call that could not fail
+pub sent : (old new ys zs : List ℕ) (r : Result (Unit {0}) AllocError) → IsOk r → new ≡ (if is_ok r then old ++ ys else old) → ys ≡ zs → new ≡ old ++ zs
+sent old new ys zs (Ok x) h e f = e ∙ ap (λ xs. old ++ xs) f
+sent old new ys zs (Err x) h e f = absurd (search (rules, h))
 
 -- the list after each byte of a padded code was pushed
 pub pushed_1 : (old a xs w : List ℕ) → w ≡ padded 4 xs → length xs ≡ 1 → a ≡ old ++ get_or w 0 0 ∷ [] → a ≡ old ++ xs
