@@ -114,14 +114,54 @@ pub(crate) fn recode_whole<A: Allocator>(
 {
     match (from, to) {
         (Form::Utf8, Form::Utf8) => copy_decided(bytes, out),
-        (Form::Utf8, Form::Utf16Le) => recode_quickly(Form::Utf8, Form::Utf16Le, bytes, out),
-        (Form::Utf8, Form::Utf16Be) => recode_quickly(Form::Utf8, Form::Utf16Be, bytes, out),
-        (Form::Utf16Le, Form::Utf8) => recode_quickly(Form::Utf16Le, Form::Utf8, bytes, out),
-        (Form::Utf16Be, Form::Utf8) => recode_quickly(Form::Utf16Be, Form::Utf8, bytes, out),
-        (Form::Utf16Le, Form::Utf16Le) => recode_quickly(Form::Utf16Le, Form::Utf16Le, bytes, out),
-        (Form::Utf16Le, Form::Utf16Be) => recode_quickly(Form::Utf16Le, Form::Utf16Be, bytes, out),
-        (Form::Utf16Be, Form::Utf16Le) => recode_quickly(Form::Utf16Be, Form::Utf16Le, bytes, out),
-        (Form::Utf16Be, Form::Utf16Be) => recode_quickly(Form::Utf16Be, Form::Utf16Be, bytes, out),
+        (Form::Utf8, Form::Utf16Le) => recode_quickly::<A, 0>(
+            Form::Utf8,
+            Form::Utf16Le,
+            bytes,
+            out,
+        ),
+        (Form::Utf8, Form::Utf16Be) => recode_quickly::<A, 1>(
+            Form::Utf8,
+            Form::Utf16Be,
+            bytes,
+            out,
+        ),
+        (Form::Utf16Le, Form::Utf8) => recode_quickly::<A, 2>(
+            Form::Utf16Le,
+            Form::Utf8,
+            bytes,
+            out,
+        ),
+        (Form::Utf16Le, Form::Utf16Le) => recode_quickly::<A, 3>(
+            Form::Utf16Le,
+            Form::Utf16Le,
+            bytes,
+            out,
+        ),
+        (Form::Utf16Le, Form::Utf16Be) => recode_quickly::<A, 4>(
+            Form::Utf16Le,
+            Form::Utf16Be,
+            bytes,
+            out,
+        ),
+        (Form::Utf16Be, Form::Utf8) => recode_quickly::<A, 5>(
+            Form::Utf16Be,
+            Form::Utf8,
+            bytes,
+            out,
+        ),
+        (Form::Utf16Be, Form::Utf16Le) => recode_quickly::<A, 6>(
+            Form::Utf16Be,
+            Form::Utf16Le,
+            bytes,
+            out,
+        ),
+        (Form::Utf16Be, Form::Utf16Be) => recode_quickly::<A, 7>(
+            Form::Utf16Be,
+            Form::Utf16Be,
+            bytes,
+            out,
+        ),
     }
 }
 
@@ -178,8 +218,16 @@ fn text_len(bytes: &[u8]) -> usize
 
 // `recode_decided` to the end, in blocks where the bytes allow it, then piece by piece, and with care only
 // where a piece is faulty or near the end.
-#[inline(always)]
-fn recode_quickly<A: Allocator>(from: Form, to: Form, bytes: &[u8], out: &mut Vec<u8, A>) -> usize
+//
+// Each pair of forms is called under a number of its own. So each has a copy of the code, in which a compiler
+// knows the forms.
+#[inline(never)]
+fn recode_quickly<A: Allocator, const PAIR: usize>(
+    from: Form,
+    to: Form,
+    bytes: &[u8],
+    out: &mut Vec<u8, A>,
+) -> usize
     requires { vec_len out.old + 3 * length bytes.now ≤ vec_capacity out.old }
     ensures within { result ≤ length bytes.now }
     ensures waits { result < length bytes.now → length bytes.now ≤ result + 3 }
