@@ -1,8 +1,6 @@
 -- Blocks of units, each of which is a character by itself.
-use Rattle.std.proofs.Common.{◌≡◌, ℕ, zero, suc, ◌+◌, ◌-◌, ◌*◌, ◌/◌, ◌%◌, ◌<◌, Bool, true, false, List, [], ◌∷◌, ◌++◌, length, get_or, take, drop, flat_map, arith, refl, ap, ap₂, sym, ◌∙◌, subst, append_assoc, take-append-drop}
+use Rattle.std.proofs.Common.{◌≡◌, ℕ, zero, suc, ◌-◌, ◌*◌, ◌/◌, ◌%◌, ◌<◌, Bool, true, false, List, [], ◌∷◌, ◌++◌, length, get_or, flat_map, arith, refl, ap, ap₂, sym, ◌∙◌, subst, append_assoc}
 use Rattle.std.specs.List.{All}
-use Rattle.std.proofs.lemmas.List.{drop-drop}
-use Rattle.std.proofs.lemmas.List.Concat.{flat_map-append}
 use Rattle.utf_base.specs.Scalar.{IsScalar}
 use Rattle.utf_base.specs.Code.{utf8, utf16}
 use Rattle.utf_base.specs.Shown.{Shows}
@@ -11,7 +9,7 @@ use Rattle.utf_base.proofs.Utf8Code.{utf8-1, ascii_is_scalar}
 use Rattle.utf_base.proofs.Utf16Code.{utf16_is_code, utf16-1}
 use Rattle.cuts.specs.declared.form.Form.{Form}
 use Rattle.cuts.specs.declared.form.Form.TheVariants.{Utf8, Utf16Le, Utf16Be}
-use Rattle.cuts.specs.Recoded.{Reads, ShowsUnits, unit_of, units_of, odd_end, written, bytes_of, Continues, Grows}
+use Rattle.cuts.specs.Recoded.{ShowsUnits, unit_of, units_of, odd_end, written, bytes_of}
 use Rattle.cuts.specs.ShownFronts.{ShowsEach, IsPlain}
 
 -- a unit that is a character by itself
@@ -53,25 +51,6 @@ pub block_shows : (high : Bool) (to : Form) (v us : List ℕ) → length v ≡ 1
 block_shows high to v us even e h =
     let plain : All (IsPlain to) (units_of high v) = subst (All (IsPlain to)) e h in
     subst (ShowsEach (ShowsUnits high) v) (sym e) (units_show high v even (λ k d lt. plain_is_character to _ (plain k d lt)))
-
--- An output that grows by what a block shows.
-
-Continues-each : (from to : Form) (bytes grown mid ts : List ℕ) (n : ℕ) → Continues from to bytes grown mid → ShowsEach (Reads from) (take n mid) ts
-    → Continues from to bytes (grown ++ flat_map (written to) ts) (drop n mid)
-Continues-each from to bytes grown mid ts n h shows later rest (ss, r, e) =
-    let whole : take n mid ++ (drop n mid ++ later) ≡ mid ++ later = sym (append_assoc (take n mid) (drop n mid) later) ∙ ap (λ xs. xs ++ later) (take-append-drop n mid) in
-    let first : Reads from (mid ++ later) (ts ++ ss) = rw whole at (shows (drop n mid ++ later) ss r) in
-    let codes : flat_map (written to) ts ++ rest ≡ flat_map (written to) (ts ++ ss)
-    = ap (λ xs. flat_map (written to) ts ++ xs) e ∙ sym (flat_map-append (written to) ts ss) in
-    rw (append_assoc grown (flat_map (written to) ts) rest) (h later (flat_map (written to) ts ++ rest) (ts ++ ss, first, codes))
-
-pub Grows-each : (from to : Form) (bytes old mid new ts : List ℕ) (p n : ℕ) → Grows from to bytes old mid (drop p bytes) → ShowsEach (Reads from) (take n (drop p bytes)) ts
-    → new ≡ mid ++ flat_map (written to) ts → Grows from to bytes old new (drop (p + n) bytes)
-Grows-each from to bytes old mid new ts p n g shows e = record {
-  grown = g.grown ++ flat_map (written to) ts;
-  appended = e ∙ ap (λ x. x ++ flat_map (written to) ts) g.appended ∙ append_assoc old g.grown (flat_map (written to) ts);
-  continues = rw (drop-drop n p bytes) at (Continues-each from to bytes g.grown (drop p bytes) ts n g.continues shows);
-}
 
 -- The bytes that come of a block.
 

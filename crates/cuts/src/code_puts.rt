@@ -33,18 +33,24 @@ fn put_bytes<A: Allocator>(c: char, out: &mut Vec<u8, A>)
     ensures capacity { vec_capacity out.new ≡ vec_capacity out.old }
 {
     let (code, len) = c.to_utf8_array();
-    out.push_reserved(code[0]);
     if len == 1 {
+        out.push_reserved(code[0]);
         return;
     }
-    out.push_reserved(code[1]);
     if len == 2 {
+        out.push_reserved(code[0]);
+        out.push_reserved(code[1]);
         return;
     }
-    out.push_reserved(code[2]);
     if len == 3 {
+        out.push_reserved(code[0]);
+        out.push_reserved(code[1]);
+        out.push_reserved(code[2]);
         return;
     }
+    out.push_reserved(code[0]);
+    out.push_reserved(code[1]);
+    out.push_reserved(code[2]);
     out.push_reserved(code[3]);
 }
 
@@ -57,24 +63,11 @@ fn put_units<A: Allocator>(high_first: bool, c: char, out: &mut Vec<u8, A>)
 {
     match c.to_utf16_tuple() {
         (unit, None) => put_unit(high_first, unit, out),
-        (first, Some(second)) => put_pair(high_first, first, second, out),
+        (first, Some(second)) => {
+            put_unit(high_first, first, out);
+            put_unit(high_first, second, out);
+        }
     }
-}
-
-// The four bytes at once.
-#[inline(always)]
-fn put_pair<A: Allocator>(high_first: bool, first: u16, second: u16, out: &mut Vec<u8, A>)
-    requires { vec_len out.old + 4 ≤ vec_capacity out.old }
-    ensures items { out.new.items ≡ out.old.items ++ (bytes_of high_first first ++ bytes_of high_first second) }
-    ensures len { vec_len out.new ≡ vec_len out.old + 4 }
-    ensures capacity { vec_capacity out.old ≤ vec_capacity out.new }
-{
-    let code = if high_first {
-        [high(first), low(first), high(second), low(second)]
-    } else {
-        [low(first), high(first), low(second), high(second)]
-    };
-    let _ = out.extend_from_slice(&code);
 }
 
 #[inline(always)]

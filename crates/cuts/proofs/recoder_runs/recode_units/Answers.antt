@@ -1,5 +1,5 @@
 use Rattle.std.proofs.Common.{◌≡◌, ◌+◌, ◌-◌, arith}
-use Rattle.cuts.proofs.Blocks.{Grows-each}
+use Rattle.cuts.proofs.Growing.{Grows-each}
 use Rattle.cuts.proofs.recoder_runs.recode_units.Goals as goal
 
 pub loop-place-preserved : goal.loop-place-preserved
