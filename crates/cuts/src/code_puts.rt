@@ -25,6 +25,7 @@ pub(crate) fn put_code<A: Allocator>(to: Form, c: char, out: &mut Vec<u8, A>)
     }
 }
 
+// Each length has writes of its own, so that between them nothing is tested.
 #[inline(always)]
 fn put_bytes<A: Allocator>(c: char, out: &mut Vec<u8, A>)
     requires { vec_len out.old + length (utf8 c) ≤ vec_capacity out.old }

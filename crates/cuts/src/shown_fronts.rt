@@ -89,7 +89,7 @@ fn front_of_utf16(high_first: bool, bytes: &[u8]) -> Option<(char, usize)>
     }
 }
 
-// The character that begins the bytes, and how many bytes it has, where one does and four bytes are there.
+// The character that begins the bytes, and how many bytes it has; `None` at a fault, and near the end.
 #[inline(always)]
 pub(crate) fn text_front(from: Form, bytes: &[u8]) -> Option<(char, usize)>
     ensures { IfSome result (λ x. Decides (Reads from) bytes.now x.0 x.1) }
