@@ -1,8 +1,6 @@
 -- ASCII, which shows itself byte by byte.
-use Rattle.std.proofs.Common.{◌≡◌, ℕ, suc, ◌+◌, ◌/◌, ◌%◌, ◌<◌, true, false, List, [], ◌∷◌, ◌++◌, length, get_or, take, drop, flat_map, arith, refl, ap, ap₂, sym, ◌∙◌, append_assoc, take-append-drop}
+use Rattle.std.proofs.Common.{◌≡◌, ℕ, suc, ◌+◌, ◌/◌, ◌%◌, ◌<◌, true, false, List, [], ◌∷◌, ◌++◌, length, get_or, take, drop, flat_map, arith, refl, ap₂, sym, ◌∙◌}
 use Rattle.std.specs.Str.{IsAscii}
-use Rattle.std.proofs.lemmas.List.{drop-drop}
-use Rattle.std.proofs.lemmas.List.Concat.{flat_map-append}
 use Rattle.utf_base.specs.Code.{utf8, utf16}
 use Rattle.utf_base.specs.Shown.{Shows}
 use Rattle.utf_base.proofs.Rests.{whole_code_shows_first}
@@ -10,7 +8,8 @@ use Rattle.utf_base.proofs.Utf8Code.{utf8_is_code, utf8-1, ascii_is_scalar}
 use Rattle.utf_base.proofs.Utf16Code.{utf16-1}
 use Rattle.cuts.specs.declared.form.Form.{Form}
 use Rattle.cuts.specs.declared.form.Form.TheVariants.{Utf8, Utf16Le, Utf16Be}
-use Rattle.cuts.specs.Recoded.{written, bytes_of, Continues, Grows}
+use Rattle.cuts.specs.Recoded.{written, bytes_of, Grows}
+use Rattle.cuts.proofs.Growing.{Grows-each}
 
 ascii_shows_first : (v later ss : List ℕ) → IsAscii v → Shows utf8 later ss → Shows utf8 (v ++ later) (v ++ ss)
 ascii_shows_first [] later ss h r = r
@@ -18,22 +17,10 @@ ascii_shows_first (b ∷ v) later ss h r =
     let low : b < 128 = h 0 in
     whole_code_shows_first utf8 utf8_is_code (b ∷ []) (v ++ later) b (v ++ ss) (ascii_is_scalar b low) (sym (utf8-1 b low)) (ascii_shows_first v later ss (λ i. h (suc i)) r)
 
-Continues-ascii : (to : Form) (bytes grown mid : List ℕ) (n : ℕ) → Continues Utf8 to bytes grown mid → IsAscii (take n mid)
-    → Continues Utf8 to bytes (grown ++ flat_map (written to) (take n mid)) (drop n mid)
-Continues-ascii to bytes grown mid n h ascii later rest (ss, r, e) =
-    let shows = ascii_shows_first (take n mid) (drop n mid ++ later) ss ascii r in
-    let whole : take n mid ++ (drop n mid ++ later) ≡ mid ++ later = sym (append_assoc (take n mid) (drop n mid) later) ∙ ap (λ xs. xs ++ later) (take-append-drop n mid) in
-    let codes : flat_map (written to) (take n mid) ++ rest ≡ flat_map (written to) (take n mid ++ ss)
-    = ap (λ xs. flat_map (written to) (take n mid) ++ xs) e ∙ sym (flat_map-append (written to) (take n mid) ss) in
-    rw (append_assoc grown (flat_map (written to) (take n mid)) rest) (h later (flat_map (written to) (take n mid) ++ rest) (take n mid ++ ss, rw whole at shows, codes))
-
 pub Grows-ascii : (to : Form) (bytes old mid new : List ℕ) (p n : ℕ) → Grows Utf8 to bytes old mid (drop p bytes) → IsAscii (take n (drop p bytes))
     → new ≡ mid ++ flat_map (written to) (take n (drop p bytes)) → Grows Utf8 to bytes old new (drop (p + n) bytes)
-Grows-ascii to bytes old mid new p n g ascii e = record {
-  grown = g.grown ++ flat_map (written to) (take n (drop p bytes));
-  appended = e ∙ ap (λ x. x ++ flat_map (written to) (take n (drop p bytes))) g.appended ∙ append_assoc old g.grown (flat_map (written to) (take n (drop p bytes)));
-  continues = rw (drop-drop n p bytes) at (Continues-ascii to bytes g.grown (drop p bytes) n g.continues ascii);
-}
+Grows-ascii to bytes old mid new p n g ascii e =
+    Grows-each Utf8 to bytes old mid new (take n (drop p bytes)) p n g (λ later ss r. ascii_shows_first (take n (drop p bytes)) later ss ascii r) e
 
 -- The bytes that come of ASCII.
 

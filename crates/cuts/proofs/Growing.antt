@@ -15,7 +15,7 @@ use Rattle.utf_base.proofs.Utf16Code.{utf16_is_code, utf16-1, utf16-2}
 use Rattle.cuts.specs.declared.form.Form.{Form}
 use Rattle.cuts.specs.declared.form.Form.TheVariants.{Utf8, Utf16Le, Utf16Be}
 use Rattle.cuts.specs.Recoded.{Reads, ShowsUnits, units_of, odd_end, written, bytes_of, IsRecoded, Continues, RecodedOnce, Recoding, Grows, Feeds, Finishes}
-use Rattle.cuts.specs.ShownFronts.{Decides, Ends}
+use Rattle.cuts.specs.ShownFronts.{Decides, Ends, ShowsEach}
 
 -- Bytes show one list.
 
@@ -121,6 +121,24 @@ Feeds-whole r s from to held piece rest old mid new p q e f i g le j h few k =
     let first : Grows from to (held ++ piece) old mid rest = rw (drop_past held piece p le ∙ sym j) at g in
     let whole : Grows from to (held ++ piece) old new (drop q rest) = Grows-trans from to (held ++ piece) rest (drop q rest) old mid new first h in
     rw k (record { grows = rw (e, f, i) at whole; from = refl; to = refl; few = few })
+
+-- Bytes that show several scalars.
+Continues-each : (from to : Form) (bytes grown mid ts : List ℕ) (n : ℕ) → Continues from to bytes grown mid → ShowsEach (Reads from) (take n mid) ts
+    → Continues from to bytes (grown ++ flat_map (written to) ts) (drop n mid)
+Continues-each from to bytes grown mid ts n h shows later rest (ss, r, e) =
+    let whole : take n mid ++ (drop n mid ++ later) ≡ mid ++ later = sym (append_assoc (take n mid) (drop n mid) later) ∙ ap (λ xs. xs ++ later) (take-append-drop n mid) in
+    let first : Reads from (mid ++ later) (ts ++ ss) = rw whole at (shows (drop n mid ++ later) ss r) in
+    let codes : flat_map (written to) ts ++ rest ≡ flat_map (written to) (ts ++ ss)
+    = ap (λ xs. flat_map (written to) ts ++ xs) e ∙ sym (flat_map-append (written to) ts ss) in
+    rw (append_assoc grown (flat_map (written to) ts) rest) (h later (flat_map (written to) ts ++ rest) (ts ++ ss, first, codes))
+
+pub Grows-each : (from to : Form) (bytes old mid new ts : List ℕ) (p n : ℕ) → Grows from to bytes old mid (drop p bytes) → ShowsEach (Reads from) (take n (drop p bytes)) ts
+    → new ≡ mid ++ flat_map (written to) ts → Grows from to bytes old new (drop (p + n) bytes)
+Grows-each from to bytes old mid new ts p n g shows e = record {
+  grown = g.grown ++ flat_map (written to) ts;
+  appended = e ∙ ap (λ x. x ++ flat_map (written to) ts) g.appended ∙ append_assoc old g.grown (flat_map (written to) ts);
+  continues = rw (drop-drop n p bytes) at (Continues-each from to bytes g.grown (drop p bytes) ts n g.continues shows);
+}
 
 -- Text in UTF-8 stays as it is.
 Continues-text : (bytes grown mid : List ℕ) (n : ℕ) → Continues Utf8 Utf8 bytes grown mid → IsUtf8 (take n mid) → Continues Utf8 Utf8 bytes (grown ++ take n mid) (drop n mid)

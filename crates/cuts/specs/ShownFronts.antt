@@ -30,3 +30,13 @@ fault_len Utf16Be = 2
 pub record Waits (reads : List ℕ → List ℕ → Type 0) (fault : ℕ) (w : List ℕ) : Type 0 where
   pub few : length w ≤ 3
   pub last : 0 < length w → (ss : List ℕ) → reads (drop fault w) ss → reads w (0xFFFD ∷ ss)
+
+-- The bytes show these scalars, and then what follows them does.
+abbrev pub ShowsEach : (List ℕ → List ℕ → Type 0) → List ℕ → List ℕ → Type 0
+ShowsEach reads w ts = (later ss : List ℕ) → reads later ss → reads (w ++ later) (ts ++ ss)
+
+-- a unit that is a character by itself, and in UTF-8 one byte
+abbrev pub IsPlain : Form → ℕ → Type 0
+IsPlain Utf8 u = u < 0x80
+IsPlain Utf16Le u = IsScalar u × (u < 0x1_0000)
+IsPlain Utf16Be u = IsScalar u × (u < 0x1_0000)

@@ -1,8 +1,10 @@
 //! Codes written to the end of an output that has room for them.
-ghost use Rattle.std.specs.Prelude.{◌≡◌, ◌+◌, ◌≤◌, ◌++◌, length, vec_len, vec_capacity, IsAscii};
+ghost use Rattle.std.specs.Prelude.{◌≡◌, ◌+◌, ◌/◌, ◌%◌, ◌≤◌, ◌++◌, length, vec_len, vec_capacity, IsAscii};
 ghost use Rattle.std.specs.Prelude.{flat_map};
 ghost use Rattle.utf_base.specs.Code.{utf8, utf16};
+ghost use Rattle.std.specs.List.{All};
 ghost use Rattle.cuts.specs.Recoded.{written, bytes_of};
+ghost use Rattle.cuts.specs.ShownFronts.{IsPlain};
 
 use crate::form::Form;
 use encode_unicode::CharExt;
@@ -23,6 +25,7 @@ pub(crate) fn put_code<A: Allocator>(to: Form, c: char, out: &mut Vec<u8, A>)
     }
 }
 
+// Each length has writes of its own, so that between them nothing is tested.
 #[inline(always)]
 fn put_bytes<A: Allocator>(c: char, out: &mut Vec<u8, A>)
     requires { vec_len out.old + length (utf8 c) ≤ vec_capacity out.old }
@@ -31,18 +34,24 @@ fn put_bytes<A: Allocator>(c: char, out: &mut Vec<u8, A>)
     ensures capacity { vec_capacity out.new ≡ vec_capacity out.old }
 {
     let (code, len) = c.to_utf8_array();
-    out.push_reserved(code[0]);
     if len == 1 {
+        out.push_reserved(code[0]);
         return;
     }
-    out.push_reserved(code[1]);
     if len == 2 {
+        out.push_reserved(code[0]);
+        out.push_reserved(code[1]);
         return;
     }
-    out.push_reserved(code[2]);
     if len == 3 {
+        out.push_reserved(code[0]);
+        out.push_reserved(code[1]);
+        out.push_reserved(code[2]);
         return;
     }
+    out.push_reserved(code[0]);
+    out.push_reserved(code[1]);
+    out.push_reserved(code[2]);
     out.push_reserved(code[3]);
 }
 
@@ -53,11 +62,27 @@ fn put_units<A: Allocator>(high_first: bool, c: char, out: &mut Vec<u8, A>)
     ensures len { vec_len out.new ≡ vec_len out.old + length (flat_map (bytes_of high_first) (utf16 c)) }
     ensures capacity { vec_capacity out.old ≤ vec_capacity out.new }
 {
-    let (first, second) = c.to_utf16_tuple();
-    put_unit(high_first, first, out);
-    if let Some(second) = second {
-        put_unit(high_first, second, out);
+    match c.to_utf16_tuple() {
+        (unit, None) => put_unit(high_first, unit, out),
+        (first, Some(second)) => {
+            put_unit(high_first, first, out);
+            put_unit(high_first, second, out);
+        }
     }
+}
+
+#[inline(always)]
+fn high(unit: u16) -> u8
+    ensures { result ≡ unit / 256 }
+{
+    (unit / 256) as u8
+}
+
+#[inline(always)]
+fn low(unit: u16) -> u8
+    ensures { result ≡ unit % 256 }
+{
+    (unit % 256) as u8
 }
 
 #[inline(always)]
@@ -67,14 +92,12 @@ fn put_unit<A: Allocator>(high_first: bool, unit: u16, out: &mut Vec<u8, A>)
     ensures len { vec_len out.new ≡ vec_len out.old + 2 }
     ensures capacity { vec_capacity out.new ≡ vec_capacity out.old }
 {
-    let high = (unit / 256) as u8;
-    let low = (unit % 256) as u8;
     if high_first {
-        out.push_reserved(high);
-        out.push_reserved(low);
+        out.push_reserved(high(unit));
+        out.push_reserved(low(unit));
     } else {
-        out.push_reserved(low);
-        out.push_reserved(high);
+        out.push_reserved(low(unit));
+        out.push_reserved(high(unit));
     }
 }
 
@@ -101,6 +124,40 @@ pub(crate) fn put_eight<A: Allocator>(to: Form, block: &[u8], out: &mut Vec<u8, 
         }
         Form::Utf16Be => {
             let wide = [0, a, 0, b, 0, c, 0, d, 0, e, 0, f, 0, g, 0, h];
+            let _ = out.extend_from_slice(&wide);
+        }
+    }
+}
+
+// Appends the codes of eight units, each a character by itself.
+#[inline(always)]
+#[tactic(auto, using(crate::proofs::Blocks::block_bytes, crate::proofs::Blocks::block_low, crate::proofs::Blocks::block_high))]
+pub(crate) fn put_block<A: Allocator>(to: Form, units: [u16; 8], out: &mut Vec<u8, A>)
+    requires plain { All (IsPlain to) units }
+    requires room { vec_len out.old + 16 ≤ vec_capacity out.old }
+    ensures items { out.new.items ≡ out.old.items ++ flat_map (written to) units }
+    ensures len { vec_len out.new ≤ vec_len out.old + 16 }
+    ensures capacity { vec_capacity out.old ≤ vec_capacity out.new }
+{
+    let [a, b, c, d, e, f, g, h] = units;
+    let [la, lb, lc, ld] = [low(a), low(b), low(c), low(d)];
+    let [le, lf, lg, lh] = [low(e), low(f), low(g), low(h)];
+    let [ha, hb, hc, hd] = [high(a), high(b), high(c), high(d)];
+    let [he, hf, hg, hh] = [high(e), high(f), high(g), high(h)];
+    match to {
+        Form::Utf8 => {
+            let _ = out.extend_from_slice(&[la, lb, lc, ld, le, lf, lg, lh]);
+        }
+        Form::Utf16Le => {
+            let wide = [
+                la, ha, lb, hb, lc, hc, ld, hd, le, he, lf, hf, lg, hg, lh, hh,
+            ];
+            let _ = out.extend_from_slice(&wide);
+        }
+        Form::Utf16Be => {
+            let wide = [
+                ha, la, hb, lb, hc, lc, hd, ld, he, le, hf, lf, hg, lg, hh, lh,
+            ];
             let _ = out.extend_from_slice(&wide);
         }
     }

@@ -2,13 +2,16 @@
 ghost use Rattle.std.specs.Prelude.{◌≡◌, ◌+◌, ◌-◌, ◌*◌, ◌<◌, ◌≤◌, length, take, drop, ◌++◌, min, vec_len, vec_capacity, IsUtf8};
 ghost use Rattle.cuts.specs.Recoded.{Grows, Finishes};
 
-use crate::code_puts::{put_code, put_eight};
+use crate::code_puts::{put_block, put_code, put_eight};
 use crate::form::Form;
-use crate::shown_fronts::{front, last_front};
+use crate::shown_fronts::{front, last_front, text_front, unit_block};
 use std::alloc::Allocator;
 
 // How far runs go piece by piece before they look for a stretch again.
 const STRIDE: usize = 16;
+
+// How many bytes of text go piece by piece before runs look for a block again.
+const STRETCH: usize = 64;
 
 // Recodes the bytes as far as no later byte can change what they show, and not past the place `stop`
 // but by the rest of a code that begins before it. Answers how many bytes were recoded.
@@ -109,14 +112,56 @@ pub(crate) fn recode_whole<A: Allocator>(
     ensures short { vec_len out.new ≤ vec_len out.old + 3 * result }
     ensures capacity { vec_capacity out.old ≤ vec_capacity out.new }
 {
-    let len = bytes.len();
     match (from, to) {
         (Form::Utf8, Form::Utf8) => copy_decided(bytes, out),
-        (Form::Utf8, Form::Utf16Le) => widen_decided(Form::Utf16Le, bytes, out),
-        (Form::Utf8, Form::Utf16Be) => widen_decided(Form::Utf16Be, bytes, out),
-        (Form::Utf16Le, Form::Utf8) => recode_decided(Form::Utf16Le, Form::Utf8, bytes, len, out),
-        (Form::Utf16Be, Form::Utf8) => recode_decided(Form::Utf16Be, Form::Utf8, bytes, len, out),
-        _ => recode_decided(from, to, bytes, len, out),
+        (Form::Utf8, Form::Utf16Le) => recode_quickly::<A, 0>(
+            Form::Utf8,
+            Form::Utf16Le,
+            bytes,
+            out,
+        ),
+        (Form::Utf8, Form::Utf16Be) => recode_quickly::<A, 1>(
+            Form::Utf8,
+            Form::Utf16Be,
+            bytes,
+            out,
+        ),
+        (Form::Utf16Le, Form::Utf8) => recode_quickly::<A, 2>(
+            Form::Utf16Le,
+            Form::Utf8,
+            bytes,
+            out,
+        ),
+        (Form::Utf16Le, Form::Utf16Le) => recode_quickly::<A, 3>(
+            Form::Utf16Le,
+            Form::Utf16Le,
+            bytes,
+            out,
+        ),
+        (Form::Utf16Le, Form::Utf16Be) => recode_quickly::<A, 4>(
+            Form::Utf16Le,
+            Form::Utf16Be,
+            bytes,
+            out,
+        ),
+        (Form::Utf16Be, Form::Utf8) => recode_quickly::<A, 5>(
+            Form::Utf16Be,
+            Form::Utf8,
+            bytes,
+            out,
+        ),
+        (Form::Utf16Be, Form::Utf16Le) => recode_quickly::<A, 6>(
+            Form::Utf16Be,
+            Form::Utf16Le,
+            bytes,
+            out,
+        ),
+        (Form::Utf16Be, Form::Utf16Be) => recode_quickly::<A, 7>(
+            Form::Utf16Be,
+            Form::Utf16Be,
+            bytes,
+            out,
+        ),
     }
 }
 
@@ -171,25 +216,131 @@ fn text_len(bytes: &[u8]) -> usize
     }
 }
 
-// `recode_decided` from UTF-8 to the end: ASCII goes in blocks of eight.
-#[inline(always)]
-fn widen_decided<A: Allocator>(to: Form, bytes: &[u8], out: &mut Vec<u8, A>) -> usize
+// `recode_decided` to the end, in blocks where the bytes allow it, then piece by piece, and with care only
+// where a piece is faulty or near the end.
+//
+// Each pair of forms is called under a number of its own. So each has a copy of the code, in which a compiler
+// knows the forms.
+#[inline(never)]
+fn recode_quickly<A: Allocator, const PAIR: usize>(
+    from: Form,
+    to: Form,
+    bytes: &[u8],
+    out: &mut Vec<u8, A>,
+) -> usize
     requires { vec_len out.old + 3 * length bytes.now ≤ vec_capacity out.old }
     ensures within { result ≤ length bytes.now }
     ensures waits { result < length bytes.now → length bytes.now ≤ result + 3 }
-    ensures grows { Grows Form.Utf8 to bytes.now out.old.items out.new.items (drop result bytes.now) }
+    ensures grows { Grows from to bytes.now out.old.items out.new.items (drop result bytes.now) }
     ensures short { vec_len out.new ≤ vec_len out.old + 3 * result }
     ensures capacity { vec_capacity out.old ≤ vec_capacity out.new }
 {
     let mut place = 0;
     while place < bytes.len() {
-        place += widen_ascii(to, &bytes[place..], out);
-        let rest = &bytes[place..];
-        let stop = STRIDE.min(rest.len());
-        let done = recode_decided(Form::Utf8, to, rest, stop, out);
-        place += done;
-        if done < stop {
-            return place;
+        place += recode_blocks(from, to, &bytes[place..], out);
+        let count = recode_stretch(from, to, &bytes[place..], out);
+        place += count;
+        if count == 0 {
+            let rest = &bytes[place..];
+            let stop = STRIDE.min(rest.len());
+            let done = recode_apart(from, to, rest, stop, out);
+            place += done;
+            if done < stop {
+                return place;
+            }
+        }
+    }
+    place
+}
+
+// `recode_decided`, kept out of the loops that seldom call it.
+#[inline(never)]
+fn recode_apart<A: Allocator>(
+    from: Form,
+    to: Form,
+    bytes: &[u8],
+    stop: usize,
+    out: &mut Vec<u8, A>,
+) -> usize
+    requires stop { stop ≤ length bytes.now }
+    requires room { vec_len out.old + 3 * length bytes.now ≤ vec_capacity out.old }
+    ensures within { result ≤ length bytes.now }
+    ensures waits { result < stop → length bytes.now ≤ result + 3 }
+    ensures grows { Grows from to bytes.now out.old.items out.new.items (drop result bytes.now) }
+    ensures short { vec_len out.new ≤ vec_len out.old + 3 * result }
+    ensures capacity { vec_capacity out.old ≤ vec_capacity out.new }
+{
+    recode_decided(from, to, bytes, stop, out)
+}
+
+// Recodes text at the front of the bytes, and answers how many bytes of it: as far as a stretch goes, and
+// no fault and none of the last bytes.
+#[inline(always)]
+fn recode_stretch<A: Allocator>(from: Form, to: Form, bytes: &[u8], out: &mut Vec<u8, A>) -> usize
+    requires { vec_len out.old + 3 * length bytes.now ≤ vec_capacity out.old }
+    ensures within { result ≤ length bytes.now }
+    ensures grows { Grows from to bytes.now out.old.items out.new.items (drop result bytes.now) }
+    ensures short { vec_len out.new ≤ vec_len out.old + 3 * result }
+    ensures capacity { vec_capacity out.old ≤ vec_capacity out.new }
+{
+    recode_text(from, to, &bytes[..STRETCH.min(bytes.len())], out)
+}
+
+// Recodes text at the front of the bytes, and answers how many bytes of it: no fault, and not the last.
+#[inline(always)]
+fn recode_text<A: Allocator>(from: Form, to: Form, bytes: &[u8], out: &mut Vec<u8, A>) -> usize
+    requires { vec_len out.old + 3 * length bytes.now ≤ vec_capacity out.old }
+    ensures within { result ≤ length bytes.now }
+    ensures grows { Grows from to bytes.now out.old.items out.new.items (drop result bytes.now) }
+    ensures short { vec_len out.new ≤ vec_len out.old + 3 * result }
+    ensures capacity { vec_capacity out.old ≤ vec_capacity out.new }
+{
+    let mut place = 0;
+    while 4 <= bytes.len() - place {
+        match text_front(from, &bytes[place..]) {
+            None => return place,
+            Some((c, len)) => {
+                put_code(to, c, out);
+                place += len;
+            }
+        }
+    }
+    place
+}
+
+// Recodes what goes in blocks at the front of the bytes, and answers how many bytes it has.
+#[inline(always)]
+fn recode_blocks<A: Allocator>(from: Form, to: Form, bytes: &[u8], out: &mut Vec<u8, A>) -> usize
+    requires { vec_len out.old + 3 * length bytes.now ≤ vec_capacity out.old }
+    ensures within { result ≤ length bytes.now }
+    ensures grows { Grows from to bytes.now out.old.items out.new.items (drop result bytes.now) }
+    ensures short { vec_len out.new ≤ vec_len out.old + 3 * result }
+    ensures capacity { vec_capacity out.old ≤ vec_capacity out.new }
+{
+    match from {
+        Form::Utf8 => widen_ascii(to, bytes, out),
+        Form::Utf16Le | Form::Utf16Be => recode_units(from, to, bytes, out),
+    }
+}
+
+// Recodes the blocks of units at the front of the bytes, each unit a character by itself, and answers how
+// many bytes they have.
+#[inline(always)]
+fn recode_units<A: Allocator>(from: Form, to: Form, bytes: &[u8], out: &mut Vec<u8, A>) -> usize
+    requires { vec_len out.old + 3 * length bytes.now ≤ vec_capacity out.old }
+    ensures within { result ≤ length bytes.now }
+    ensures grows { Grows from to bytes.now out.old.items out.new.items (drop result bytes.now) }
+    ensures short { vec_len out.new ≤ vec_len out.old + 3 * result }
+    ensures capacity { vec_capacity out.old ≤ vec_capacity out.new }
+{
+    let mut place = 0;
+    while 16 <= bytes.len() - place {
+        match unit_block(from, to, &bytes[place..place + 16]) {
+            None => return place,
+            Some(units) => {
+                put_block(to, units, out);
+                place += 16;
+            }
         }
     }
     place

@@ -1,13 +1,12 @@
 use Rattle.std.proofs.Common.{◌+◌, ◌-◌, ◌*◌, ◌≤◌, length, drop}
 use Rattle.std.specs.Prelude.{vec_len, vec_capacity}
-use Rattle.cuts.specs.declared.form.Form.TheVariants.{Utf8}
 use Rattle.cuts.specs.Recoded.{Grows}
-use Rattle.cuts.proofs.recoder_runs.widen_decided.Given as goal
+use Rattle.cuts.proofs.recoder_runs.recode_units.Given as goal
 
 abbrev pub invariant-loop-place : goal.invariant-loop-place
 invariant-loop-place g l = record {
   within : l.place ≤ length l.bytes;
-  grows : Grows Utf8 l.to l.bytes l.fn.out.items l.out.items (drop l.place l.bytes);
+  grows : Grows l.from l.to l.bytes l.fn.out.items l.out.items (drop l.place l.bytes);
   short : vec_len l.out ≤ vec_len l.fn.out + 3 * l.place;
   capacity : vec_capacity l.fn.out ≤ vec_capacity l.out;
 }
