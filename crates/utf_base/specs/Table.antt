@@ -1,7 +1,8 @@
 -- The table of byte classes and states by which bytes in UTF-8 are judged one by one (RFC 3629, section 4).
-use Rattle.std.specs.Prelude.{ℕ, zero, suc, Bool, nat_lt, ◌==◌, if◌then◌else◌, List, slice_index, Option, Some, None}
+use Rattle.std.specs.Prelude.{ℕ, zero, suc, Bool, nat_lt, ◌==◌, if◌then◌else◌, List, length, slice_index, Option, Some, None, ◌≡◌}
 use Rattle.utf_base.specs.declared.errors.Utf8ErrorKind.{Utf8ErrorKind}
 use Rattle.utf_base.specs.declared.errors.Utf8ErrorKind.TheVariants.{TooFewBytes, NonUtf8Byte, UnexpectedContinuationByte, InterruptedSequence, OverlongEncoding, Utf16ReservedCodepoint, TooHighCodepoint}
+use Rattle.utf_base.specs.Kinds.{merger_kind}
 use Rattle.utf_base.specs.declared.table.State.{State}
 use Rattle.utf_base.specs.declared.table.State.TheVariants.{Start, OneMore, TwoMore, ThreeMore, BehindE0, BehindEd, BehindF0, BehindF4, TwoMoreOverlong, OneMoreOverlong, OneMoreReserved, TwoMoreTooHigh, OneMoreTooHigh, Done, Unexpected, Never, Interrupted, Overlong, Reserved, TooHigh}
 
@@ -115,3 +116,7 @@ fault_of Overlong = Some OverlongEncoding
 fault_of Reserved = Some Utf16ReservedCodepoint
 fault_of TooHigh = Some TooHighCodepoint
 fault_of running = Some TooFewBytes
+
+-- the state behind all of some bytes tells the merger's kind of them
+abbrev pub WalkTellsTheKind : Type 0
+WalkTellsTheKind = (w : List ℕ) → merger_kind w ≡ fault_of (state_after w (length w))

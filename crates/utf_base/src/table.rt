@@ -1,9 +1,7 @@
 //! The table of byte classes and states by which bytes in UTF-8 are judged one by one (RFC 3629, section 4).
-ghost use Rattle.std.specs.Prelude.{◌≡◌, ◌<◌, true, Some};
-ghost use Rattle.utf_base.specs.declared.table.State.TheVariants.{Done};
-ghost use Rattle.utf_base.specs.Table.{class, fault_of, is_running, next_state, row};
+ghost use Rattle.std.specs.Prelude.{◌≡◌, ◌<◌, true};
+ghost use Rattle.utf_base.specs.Table.{class, is_running, next_state, row, WalkTellsTheKind};
 
-use crate::errors::{Utf8Error, Utf8ErrorKind};
 use State::*;
 
 #[cfg(test)]
@@ -113,22 +111,11 @@ pub fn step(state: State, c: u8) -> State
     STEPS[row_of(state) as usize][c as usize]
 }
 
-/// What is wrong with bytes that led to the state, where no more follow.
-#[inline(always)]
-pub fn error_behind(state: State) -> Utf8Error
-    requires { state ≡ Done → ⊥ }
-    ensures { fault_of state ≡ Some result }
-{
-    Utf8Error::new(match state {
-        Unexpected => Utf8ErrorKind::UnexpectedContinuationByte,
-        Never => Utf8ErrorKind::NonUtf8Byte,
-        Interrupted => Utf8ErrorKind::InterruptedSequence,
-        Overlong => Utf8ErrorKind::OverlongEncoding,
-        Reserved => Utf8ErrorKind::Utf16ReservedCodepoint,
-        TooHigh => Utf8ErrorKind::TooHighCodepoint,
-        _ => Utf8ErrorKind::TooFewBytes,
-    })
-}
+/// The law of the table: the state behind some bytes tells what is wrong with them, as a merger says it that
+/// steps with each byte. So the end `Done` is that of a code, and a running state is that of too few bytes.
+pub fn walk_tells_the_kind()
+    ensures { WalkTellsTheKind }
+{}
 
 // The row of a running state in the table of steps.
 #[inline(always)]

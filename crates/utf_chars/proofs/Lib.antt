@@ -1,9 +1,9 @@
 pub mod Decoded
 pub mod DigitLemmas
+pub mod Interrupted
 pub mod OwnCodes
 pub mod PaddedLemmas
 pub mod PaddedUnits
 pub mod Ranges
 pub mod ScalarTest
 pub mod TextLemmas
-pub mod Walked

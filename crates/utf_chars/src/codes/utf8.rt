@@ -6,8 +6,8 @@ ghost use Rattle.utf_base.specs.Front.{as_scalar, IsOneCode, DecodesFront, Decod
 ghost use Rattle.utf_base.specs.Kinds.{is_continuation};
 ghost use Rattle.utf_chars.specs.Padded.{padded};
 
+use crate::continuation::continues;
 use utf_base::errors::{Utf8Error, Utf8ErrorKind};
-use utf_base::table::{State, class_of, error_behind, step};
 
 /// The code, then zeros, and how many bytes the code has: 1 to 4.
 #[inline(always)]
@@ -150,6 +150,22 @@ fn continuation(bits: u32) -> u32
     0x80 | bits & 0x3f
 }
 
+// Whether two bytes have it.
+#[inline(always)]
+fn both_continue(second: u8, third: u8) -> bool
+    ensures { result ≡ (is_continuation second && is_continuation third) }
+{
+    continues(second) && continues(third)
+}
+
+// Whether three bytes have it.
+#[inline(always)]
+fn all_continue(second: u8, third: u8, fourth: u8) -> bool
+    ensures { result ≡ (is_continuation second && is_continuation third && is_continuation fourth) }
+{
+    both_continue(second, third) && continues(fourth)
+}
+
 // Whether the byte is the first of a code of two bytes or more.
 #[inline(always)]
 fn begins_many(first: u8) -> bool
@@ -166,6 +182,25 @@ fn decode_many(src: &[u8]) -> Result<(char, usize), Utf8Error>
     requires high { slice_index src.now 0 < 0xF5 }
     ensures { DecodesFront as_scalar src.now result }
 {
+    if src.len() < 4 {
+        return decode_asked(src);
+    }
+    // Before the first byte says how many: in damaged text this answer is the easier to foresee. With so
+    // many bytes and this one known, a compiler leaves out most tests of what follows.
+    if !continues(src[1]) {
+        return Err(Utf8Error::new(Utf8ErrorKind::InterruptedSequence));
+    }
+    decode_asked(src)
+}
+
+// The same, by how many the first asks for.
+#[inline(always)]
+fn decode_asked(src: &[u8]) -> Result<(char, usize), Utf8Error>
+    requires some { 0 < length src.now }
+    requires low { 0xC2 ≤ slice_index src.now 0 }
+    requires high { slice_index src.now 0 < 0xF5 }
+    ensures { DecodesFront as_scalar src.now result }
+{
     match src[0] {
         0x00..=0xdf => decode_two(src),
         0xe0..=0xef => decode_three(src),
@@ -173,7 +208,7 @@ fn decode_many(src: &[u8]) -> Result<(char, usize), Utf8Error>
     }
 }
 
-// The character that begins the bytes, where the first asks for two: any continuation byte completes a code.
+// The character that begins the bytes, where the first asks for two.
 #[inline(always)]
 fn decode_two(src: &[u8]) -> Result<(char, usize), Utf8Error>
     requires some { 0 < length src.now }
@@ -184,16 +219,14 @@ fn decode_two(src: &[u8]) -> Result<(char, usize), Utf8Error>
     if src.len() < 2 {
         return Err(Utf8Error::new(Utf8ErrorKind::TooFewBytes));
     }
-    let second = step(State::OneMore, class_of(src[1]));
-    if second != State::Done {
+    if !continues(src[1]) {
         return Err(Utf8Error::new(Utf8ErrorKind::InterruptedSequence));
     }
     let value = value_of_two(src[0], src[1]);
-    Ok((unsafe { char::from_u32_unchecked(value) }, 2))
+    Ok((char::from_u32(value).unwrap(), 2))
 }
 
-// The character that begins the bytes, where the first asks for three. The state behind the last says whether
-// they are a code, so no value is judged.
+// The character that begins the bytes, where the first asks for three.
 #[inline(always)]
 fn decode_three(src: &[u8]) -> Result<(char, usize), Utf8Error>
     requires some { 0 < length src.now }
@@ -204,17 +237,15 @@ fn decode_three(src: &[u8]) -> Result<(char, usize), Utf8Error>
     if src.len() < 3 {
         return Err(Utf8Error::new(Utf8ErrorKind::TooFewBytes));
     }
-    let first = step(State::Start, class_of(src[0]));
-    let second = step(first, class_of(src[1]));
-    if second == State::Interrupted {
+    if !both_continue(src[1], src[2]) {
         return Err(Utf8Error::new(Utf8ErrorKind::InterruptedSequence));
     }
-    let third = step(second, class_of(src[2]));
-    if third != State::Done {
-        return Err(error_behind(third));
-    }
     let value = value_of_three(src[0], src[1], src[2]);
-    Ok((unsafe { char::from_u32_unchecked(value) }, 3))
+    match value {
+        0x0000..=0x07ff => Err(Utf8Error::new(Utf8ErrorKind::OverlongEncoding)),
+        0xd800..=0xdfff => Err(Utf8Error::new(Utf8ErrorKind::Utf16ReservedCodepoint)),
+        _ => Ok((unsafe { char::from_u32_unchecked(value) }, 3)),
+    }
 }
 
 // The character that begins the bytes, where the first asks for four.
@@ -228,19 +259,13 @@ fn decode_four(src: &[u8]) -> Result<(char, usize), Utf8Error>
     if src.len() < 4 {
         return Err(Utf8Error::new(Utf8ErrorKind::TooFewBytes));
     }
-    let first = step(State::Start, class_of(src[0]));
-    let second = step(first, class_of(src[1]));
-    if second == State::Interrupted {
+    if !all_continue(src[1], src[2], src[3]) {
         return Err(Utf8Error::new(Utf8ErrorKind::InterruptedSequence));
-    }
-    let third = step(second, class_of(src[2]));
-    if third == State::Interrupted {
-        return Err(Utf8Error::new(Utf8ErrorKind::InterruptedSequence));
-    }
-    let fourth = step(third, class_of(src[3]));
-    if fourth != State::Done {
-        return Err(error_behind(fourth));
     }
     let value = value_of_four(src[0], src[1], src[2], src[3]);
-    Ok((unsafe { char::from_u32_unchecked(value) }, 4))
+    match value {
+        0x0000..=0xffff => Err(Utf8Error::new(Utf8ErrorKind::OverlongEncoding)),
+        0x1_0000..=0x10_ffff => Ok((unsafe { char::from_u32_unchecked(value) }, 4)),
+        _ => Err(Utf8Error::new(Utf8ErrorKind::TooHighCodepoint)),
+    }
 }

@@ -1,12 +1,7 @@
-use Rattle.std.proofs.Common.{◌≡◌, ◌≤◌, ◌<◌, ◌∙◌, ap, arith, lit<, refl, rules, sym, None}
-use denote.Enum.Bare.{same_true, same_false, differs_false}
-use Rattle.utf_base.specs.contracts.table.State.{the_type}
-use Rattle.utf_base.specs.declared.table.State.TheVariants.{Done}
-use Rattle.utf_base.specs.Kinds.{fault_kind}
-use Rattle.utf_base.specs.Table.{fault_of}
-use Rattle.utf_base.proofs.FrontLemmas.{asked-4, value-4}
-use Rattle.utf_base.proofs.KindCases.{Asks-4, kind-few}
-use Rattle.utf_chars.proofs.Walked.{Walk-4, continues_in_code, running, std_scalar, walk_breaks, walk_ends, walk_finds, walk_on}
+use Rattle.std.proofs.Common.{◌<◌, ◌≤◌, ◌∙◌, arith, sym}
+use Rattle.utf_base.specs.Scalar.{IsScalar}
+use Rattle.utf_base.proofs.FrontLemmas.{least_value-4}
+use Rattle.utf_base.proofs.KindCases.{Asks-4, kind-few, interrupted-4, Sums-4, kind-overlong, kind-too_high, begins_with}
 use Rattle.utf_chars.proofs.codes.utf8.decode_four.Goals as goal
 
 pub returns-then-src-lt4 : goal.returns-then-src-lt4
@@ -14,73 +9,31 @@ returns-then-src-lt4 c =
     let asks = Asks-4 _ c.requires.some c.requires.low c.requires.high in
     rw c.new.ensures (kind-few _ 4 asks c.if-src-lt4.true)
 
-pub step-second-requires-clause-running : goal.step-second-requires-clause-running
-step-second-requires-clause-running c =
-    let first = Walk-4 c.args.src.now _ _ c.requires.low c.requires.high (record { class = c.class_of.ensures.class; step = c.step-first.ensures }) in
-    running _ 1 2 _ first
+pub returns-then-not-all_continue : goal.returns-then-not-all_continue
+returns-then-not-all_continue c =
+    let asks = Asks-4 _ c.requires.some c.requires.low c.requires.high in
+    rw c.new-then-not-all_continue.ensures
+    (interrupted-4 _ asks c.if-src-lt4.false (sym c.all_continue.ensures ∙ c.if-not-all_continue.true))
 
-pub returns-then-eq : goal.returns-then-eq
-returns-then-eq c =
-    let asks = asked-4 _ c.requires.low c.requires.high in
-    let first = Walk-4 c.args.src.now _ _ c.requires.low c.requires.high (record { class = c.class_of.ensures.class; step = c.step-first.ensures }) in
-    let broken = same_true the_type (search rules) _ _ (sym c.eq.ensures ∙ c.if-eq.true) in
-    rw c.new-then-eq.ensures (walk_breaks _ 1 _ _ _ first.at (record { class = c.class_of-2.ensures.class; step = c.step-second.ensures }) (omega arith) (omega arith) broken)
+pub returns-in-0-to-65535 : goal.returns-in-0-to-65535
+returns-in-0-to-65535 c =
+    let low : c.value_of_four-value.result < 0x1_0000 = omega arith in
+    let asks = Asks-4 _ c.requires.some c.requires.low c.requires.high in
+    let sums = Sums-4 _ _ asks c.if-src-lt4.false (sym c.all_continue.ensures ∙ c.if-not-all_continue.false) c.value_of_four-value.ensures in
+    rw c.new-in-0-to-65535.ensures (kind-overlong _ 4 _ sums (rw least_value-4 low))
 
-pub step-third-requires-clause-running : goal.step-third-requires-clause-running
-step-third-requires-clause-running c =
-    let first = Walk-4 c.args.src.now _ _ c.requires.low c.requires.high (record { class = c.class_of.ensures.class; step = c.step-first.ensures }) in
-    let second = walk_on _ 1 2 _ _ _ first (record { class = c.class_of-2.ensures.class; step = c.step-second.ensures }) (same_false the_type _ _ (sym c.eq.ensures ∙ c.if-eq.false)) in
-    running _ 2 1 _ second
+pub returns-in-65536-to-1114111 : goal.returns-in-65536-to-1114111
+returns-in-65536-to-1114111 c =
+    let least : 0x1_0000 ≤ c.value_of_four-value.result = omega arith in
+    let scalar : IsScalar c.value_of_four-value.result = record { below = omega arith; no_surrogate = λ h. omega arith } in
+    let asks = Asks-4 _ c.requires.some c.requires.low c.requires.high in
+    let sums = Sums-4 _ _ asks c.if-src-lt4.false (sym c.all_continue.ensures ∙ c.if-not-all_continue.false) c.value_of_four-value.ensures in
+    rw c.from_u32_unchecked.ensures (begins_with _ 4 _ sums (rw least_value-4 least) scalar)
 
-pub returns-then-eq-2 : goal.returns-then-eq-2
-returns-then-eq-2 c =
-    let asks = asked-4 _ c.requires.low c.requires.high in
-    let first = Walk-4 c.args.src.now _ _ c.requires.low c.requires.high (record { class = c.class_of.ensures.class; step = c.step-first.ensures }) in
-    let second = walk_on _ 1 2 _ _ _ first (record { class = c.class_of-2.ensures.class; step = c.step-second.ensures }) (same_false the_type _ _ (sym c.eq.ensures ∙ c.if-eq.false)) in
-    let broken = same_true the_type (search rules) _ _ (sym c.eq-2.ensures ∙ c.if-eq-2.true) in
-    rw c.new-then-eq-2.ensures (walk_breaks _ 2 _ _ _ second.at (record { class = c.class_of-3.ensures.class; step = c.step-third.ensures }) (omega arith) (omega arith) broken)
-
-pub step-fourth-requires-clause-running : goal.step-fourth-requires-clause-running
-step-fourth-requires-clause-running c =
-    let first = Walk-4 c.args.src.now _ _ c.requires.low c.requires.high (record { class = c.class_of.ensures.class; step = c.step-first.ensures }) in
-    let second = walk_on _ 1 2 _ _ _ first (record { class = c.class_of-2.ensures.class; step = c.step-second.ensures }) (same_false the_type _ _ (sym c.eq.ensures ∙ c.if-eq.false)) in
-    let third = walk_on _ 2 1 _ _ _ second (record { class = c.class_of-3.ensures.class; step = c.step-third.ensures }) (same_false the_type _ _ (sym c.eq-2.ensures ∙ c.if-eq-2.false)) in
-    running _ 3 0 _ third
-
-pub returns-then-ne : goal.returns-then-ne
-returns-then-ne c =
-    let asks = asked-4 _ c.requires.low c.requires.high in
-    let first = Walk-4 c.args.src.now _ _ c.requires.low c.requires.high (record { class = c.class_of.ensures.class; step = c.step-first.ensures }) in
-    let second = walk_on _ 1 2 _ _ _ first (record { class = c.class_of-2.ensures.class; step = c.step-second.ensures }) (same_false the_type _ _ (sym c.eq.ensures ∙ c.if-eq.false)) in
-    let third = walk_on _ 2 1 _ _ _ second (record { class = c.class_of-3.ensures.class; step = c.step-third.ensures }) (same_false the_type _ _ (sym c.eq-2.ensures ∙ c.if-eq-2.false)) in
-    walk_ends _ 3 _ _ _ third (record { class = c.class_of-4.ensures.class; step = c.step-fourth.ensures }) (omega arith) (omega arith) ∙ c.error_behind.ensures
-
-pub value_of_four-value-requires-clause-followers : goal.value_of_four-value-requires-clause-followers
-value_of_four-value-requires-clause-followers c =
-    let asks = asked-4 _ c.requires.low c.requires.high in
-    let first = Walk-4 c.args.src.now _ _ c.requires.low c.requires.high (record { class = c.class_of.ensures.class; step = c.step-first.ensures }) in
-    let second = walk_on _ 1 2 _ _ _ first (record { class = c.class_of-2.ensures.class; step = c.step-second.ensures }) (same_false the_type _ _ (sym c.eq.ensures ∙ c.if-eq.false)) in
-    let third = walk_on _ 2 1 _ _ _ second (record { class = c.class_of-3.ensures.class; step = c.step-third.ensures }) (same_false the_type _ _ (sym c.eq-2.ensures ∙ c.if-eq-2.false)) in
-    let done = differs_false the_type (search rules) c.step-fourth.result Done (sym c.ne.ensures ∙ c.if-ne.false) in
-    let none : fault_kind c.args.src.now ≡ None = walk_ends _ 3 _ _ _ third (record { class = c.class_of-4.ensures.class; step = c.step-fourth.ensures }) (omega arith) (omega arith) ∙ ap fault_of done in
-    rw (continues_in_code _ 1 none (lit< tt) (omega arith), continues_in_code _ 2 none (lit< tt) (omega arith), continues_in_code _ 3 none (lit< tt) (omega arith)) refl
-
-pub from_u32_unchecked-requires : goal.from_u32_unchecked-requires
-from_u32_unchecked-requires c =
-    let asks = asked-4 _ c.requires.low c.requires.high in
-    let first = Walk-4 c.args.src.now _ _ c.requires.low c.requires.high (record { class = c.class_of.ensures.class; step = c.step-first.ensures }) in
-    let second = walk_on _ 1 2 _ _ _ first (record { class = c.class_of-2.ensures.class; step = c.step-second.ensures }) (same_false the_type _ _ (sym c.eq.ensures ∙ c.if-eq.false)) in
-    let third = walk_on _ 2 1 _ _ _ second (record { class = c.class_of-3.ensures.class; step = c.step-third.ensures }) (same_false the_type _ _ (sym c.eq-2.ensures ∙ c.if-eq-2.false)) in
-    let done = differs_false the_type (search rules) c.step-fourth.result Done (sym c.ne.ensures ∙ c.if-ne.false) in
-    let none : fault_kind c.args.src.now ≡ None = walk_ends _ 3 _ _ _ third (record { class = c.class_of-4.ensures.class; step = c.step-fourth.ensures }) (omega arith) (omega arith) ∙ ap fault_of done in
-    std_scalar _ _ none (value-4 c.args.src.now asks ∙ sym c.value_of_four-value.ensures)
-
-pub returns : goal.returns
-returns c =
-    let asks = asked-4 _ c.requires.low c.requires.high in
-    let first = Walk-4 c.args.src.now _ _ c.requires.low c.requires.high (record { class = c.class_of.ensures.class; step = c.step-first.ensures }) in
-    let second = walk_on _ 1 2 _ _ _ first (record { class = c.class_of-2.ensures.class; step = c.step-second.ensures }) (same_false the_type _ _ (sym c.eq.ensures ∙ c.if-eq.false)) in
-    let third = walk_on _ 2 1 _ _ _ second (record { class = c.class_of-3.ensures.class; step = c.step-third.ensures }) (same_false the_type _ _ (sym c.eq-2.ensures ∙ c.if-eq-2.false)) in
-    let done = differs_false the_type (search rules) c.step-fourth.result Done (sym c.ne.ensures ∙ c.if-ne.false) in
-    let none : fault_kind c.args.src.now ≡ None = walk_ends _ 3 _ _ _ third (record { class = c.class_of-4.ensures.class; step = c.step-fourth.ensures }) (omega arith) (omega arith) ∙ ap fault_of done in
-    rw c.from_u32_unchecked.ensures (walk_finds _ 4 _ none asks (value-4 _ asks ∙ sym c.value_of_four-value.ensures))
+pub returns-in_default : goal.returns-in_default
+returns-in_default c =
+    let least : 0x1_0000 ≤ c.value_of_four-value.result = omega arith in
+    let high : 0x11_0000 ≤ c.value_of_four-value.result = omega arith in
+    let asks = Asks-4 _ c.requires.some c.requires.low c.requires.high in
+    let sums = Sums-4 _ _ asks c.if-src-lt4.false (sym c.all_continue.ensures ∙ c.if-not-all_continue.false) c.value_of_four-value.ensures in
+    rw c.new-in_default.ensures (kind-too_high _ 4 _ sums (rw least_value-4 least) high)
