@@ -35,11 +35,13 @@ pub struct Utf16CharMerger<I: Iterator<Item = u16>> {
 }
 
 impl<I: Iterator<Item = u16>> Model for Utf16CharMerger<I> {
-    ghost use Rattle.encode_unicode.specs.Mergers.{Merging};
+    ghost use Rattle.encode_unicode.specs.Mergers.{IsHeldUnits, Merging};
 
     ghost Value = { Merging I };
 
     ghost view = { λ m. record { held = m.held.held; source = m.source; ended = m.held.ended } };
+
+    ghost invariant = { λ m. IsHeldUnits m.held.held };
 }
 
 impl<I: Iterator<Item = u16>> From<I> for Utf16CharMerger<I> {
@@ -106,8 +108,6 @@ impl<I: Iterator<Item = u16>> Utf16CharMerger<I> {
         ensures held { IsHeldUnits self.held }
         ensures whole { (rest : I → List ℕ) → IsSpent rest self.source self.ended → self.held ≡ [] → rest result ≡ unread rest self }
     {
-        // That at most one unit is held is what this says to the contract.
-        let _ = self.held.len();
         let Utf16CharMerger { source, held: _ } = self;
         source
     }

@@ -16,6 +16,7 @@ use std::alloc::AllocError;
 use std::fmt;
 use std::marker::Model;
 use utf_base::errors::{Utf8Error, Utf8ErrorKind};
+use utf_chars::continuation::continues;
 use utf_chars::utf8_char::Utf8Char;
 
 /// Cuts the bytes of an iterator into characters and single faulty bytes.
@@ -202,14 +203,6 @@ fn begins_many(first: u8) -> bool
     ensures { result ≡ (nat_le 0xC2 first && nat_lt first 0xF5) }
 {
     0xc2 <= first && first <= 0xf4
-}
-
-// Whether the byte has the form of one behind the first of a code.
-#[inline(always)]
-fn continues(byte: u8) -> bool
-    ensures { result ≡ is_continuation byte }
-{
-    byte & 0xc0 == 0x80
 }
 
 // The character whose code the bytes are, or what is wrong, where none is missing.
