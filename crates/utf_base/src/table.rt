@@ -1,7 +1,9 @@
 //! The table of byte classes and states by which bytes in UTF-8 are judged one by one (RFC 3629, section 4).
-ghost use Rattle.std.specs.Prelude.{◌≡◌, ◌<◌, true};
-ghost use Rattle.utf_base.specs.Table.{class, is_running, next_state, row};
+ghost use Rattle.std.specs.Prelude.{◌≡◌, ◌<◌, true, Some};
+ghost use Rattle.utf_base.specs.declared.table.State.TheVariants.{Done};
+ghost use Rattle.utf_base.specs.Table.{class, fault_of, is_running, next_state, row};
 
+use crate::errors::{Utf8Error, Utf8ErrorKind};
 use State::*;
 
 #[cfg(test)]
@@ -109,6 +111,26 @@ pub fn step(state: State, c: u8) -> State
     ensures { result ≡ next_state state c }
 {
     STEPS[row_of(state) as usize][c as usize]
+}
+
+/// What is wrong with bytes that led to the state, where no more follow.
+///
+/// It is not inlined, so that a caller's test of the state stays one comparison.
+#[cold]
+#[inline(never)]
+pub fn error_behind(state: State) -> Utf8Error
+    requires { state ≡ Done → ⊥ }
+    ensures { fault_of state ≡ Some result }
+{
+    Utf8Error::new(match state {
+        Unexpected => Utf8ErrorKind::UnexpectedContinuationByte,
+        Never => Utf8ErrorKind::NonUtf8Byte,
+        Interrupted => Utf8ErrorKind::InterruptedSequence,
+        Overlong => Utf8ErrorKind::OverlongEncoding,
+        Reserved => Utf8ErrorKind::Utf16ReservedCodepoint,
+        TooHigh => Utf8ErrorKind::TooHighCodepoint,
+        _ => Utf8ErrorKind::TooFewBytes,
+    })
 }
 
 // The row of a running state in the table of steps.
