@@ -12,5 +12,6 @@ pub mod UnitPieces
 pub mod HeldWords
 pub mod MergerSteps
 pub mod ByteMerging
+pub mod ByteWalks
 pub mod UnitMerging
 pub mod MergerHints

@@ -1,11 +1,12 @@
 //! Characters, and what is wrong, from the bytes of an iterator.
-ghost use Rattle.std.specs.Prelude.{◌≡◌, ◌<◌, ◌≤◌, ℕ, List, [], ◌∷◌, length, true, IsOk, IfOk, IfSome, false, ◌&&◌, nat_le, nat_lt};
+ghost use Rattle.std.specs.Prelude.{◌≡◌, ℕ, List, [], ◌∷◌, true, IsOk, IfOk, IfSome, false};
 ghost use Rattle.std.specs.Iterator.{UpTo};
 ghost use Rattle.std.specs.Iterator.SizeHint.{IsWithinCount};
 ghost use Rattle.utf_base.specs.Code.{utf8};
-ghost use Rattle.utf_base.specs.Kinds.{asked_by, is_continuation, merger_kind};
+ghost use Rattle.utf_base.specs.Kinds.{is_continuation, merger_kind};
+ghost use Rattle.utf_base.specs.Table.{is_running, state_after};
 ghost use Rattle.encode_unicode.specs.Mergers.{unasked, unread, unread_count, IsHeldBytes, IsSpent, MergerNext, MergesHint};
-ghost use Rattle.encode_unicode.specs.Reading.{Completes, CompletesBehind, JudgesBytes, TakesFirst};
+ghost use Rattle.encode_unicode.specs.Reading.{Completes, CompletesBehind, TakesFirst};
 ghost use Rattle.encode_unicode.specs.Sources.{GivesTheSame};
 
 use crate::followers::Followers;
@@ -16,7 +17,7 @@ use std::alloc::AllocError;
 use std::fmt;
 use std::marker::Model;
 use utf_base::errors::{Utf8Error, Utf8ErrorKind};
-use utf_chars::continuation::continues;
+use utf_base::table::{State, class_of, error_of, runs, step};
 use utf_chars::utf8_char::Utf8Char;
 
 /// Cuts the bytes of an iterator into characters and single faulty bytes.
@@ -185,50 +186,30 @@ fn followers<I: Iterator<Item = u8>>(
     if first < 0x80 {
         return Ok(Followers::new(0, 0, 0));
     }
-    if !begins_many(first) {
-        return match judge(&[first]) {
-            Ok(_) => Ok(Followers::new(0, 0, 0)),
-            Err(error) => Err(error),
-        };
+    let state = step(State::Start, class_of(first));
+    match state {
+        State::Unexpected => return Err(Utf8Error::new(Utf8ErrorKind::UnexpectedContinuationByte)),
+        State::Never => return Err(Utf8Error::new(Utf8ErrorKind::NonUtf8Byte)),
+        _ => {}
     }
     if held.is_ended() {
         return Err(Utf8Error::new(Utf8ErrorKind::TooFewBytes));
     }
-    second(first, held, source)
+    second(first, state, held, source)
 }
 
-// Whether the byte is the first of a code of two bytes or more.
-#[inline(always)]
-fn begins_many(first: u8) -> bool
-    ensures { result ≡ (nat_le 0xC2 first && nat_lt first 0xF5) }
-{
-    0xc2 <= first && first <= 0xf4
-}
-
-// The character whose code the bytes are, or what is wrong, where none is missing.
-#[inline(always)]
-fn judge(bytes: &[u8]) -> Result<Utf8Char, Utf8Error>
-    requires some { 0 < length bytes.now }
-    requires enough { asked_by bytes.now ≤ length bytes.now }
-    requires exact { 1 < length bytes.now → asked_by bytes.now ≡ length bytes.now }
-    ensures { JudgesBytes bytes.now result }
-{
-    match Utf8Char::from_slice_start(bytes) {
-        Ok((c, _)) => Ok(c),
-        Err(error) => Err(error),
-    }
-}
-
-// The second byte of a code, and those behind it, each read where the ones before it ask for it. These
-// functions return each answer where it is found: so a compiler keeps the ways to them apart.
+// The second byte of a code, and those behind it, each read where the ones before it ask for it: the state that
+// they led to is running. These functions return each answer where it is found: so a compiler keeps the ways to
+// them apart.
 #[inline(always)]
 fn second<I: Iterator<Item = u8>>(
     first: u8,
+    state: State,
     held: &mut HeldBytes,
     source: &mut I,
 ) -> Result<Followers, Utf8Error>
-    requires low { 0xC2 ≤ first }
-    requires high { first < 0xF5 }
+    requires walked { state ≡ state_after (first ∷ []) 1 }
+    requires running { is_running state ≡ true }
     requires can { I.can_next source.old }
     requires none { held.old.held ≡ [] }
     requires going { held.old.ended ≡ false }
@@ -239,32 +220,29 @@ fn second<I: Iterator<Item = u8>>(
             *held = HeldBytes::none().ended();
             Err(Utf8Error::new(Utf8ErrorKind::TooFewBytes))
         }
-        Some(byte) if !continues(byte) => {
-            *held = HeldBytes::one(byte);
-            Err(Utf8Error::new(Utf8ErrorKind::InterruptedSequence))
-        }
-        Some(byte) if first < 0xe0 => match judge(&[first, byte]) {
-            Ok(_) => Ok(Followers::new(byte, 0, 0)),
-            Err(error) => {
+        Some(byte) => match step(state, class_of(byte)) {
+            State::Interrupted => {
                 *held = HeldBytes::one(byte);
-                Err(error)
+                Err(Utf8Error::new(Utf8ErrorKind::InterruptedSequence))
             }
+            State::Done => Ok(Followers::new(byte, 0, 0)),
+            // Two bytes are wrong in no other way.
+            next => third(first, byte, next, held, source),
         },
-        Some(byte) => third(first, byte, held, source),
     }
 }
 
-// The third, behind a continuation byte, and the one behind it.
+// The third, and the one behind it.
 #[inline(always)]
 fn third<I: Iterator<Item = u8>>(
     first: u8,
     second: u8,
+    state: State,
     held: &mut HeldBytes,
     source: &mut I,
 ) -> Result<Followers, Utf8Error>
-    requires low { 0xE0 ≤ first }
-    requires high { first < 0xF5 }
-    requires continuation { is_continuation second ≡ true }
+    requires walked { state ≡ state_after (first ∷ second ∷ []) 2 }
+    requires running { is_running state ≡ true }
     requires can { I.can_next source.old }
     requires none { held.old.held ≡ [] }
     requires going { held.old.ended ≡ false }
@@ -275,34 +253,29 @@ fn third<I: Iterator<Item = u8>>(
             *held = HeldBytes::one(second).ended();
             Err(Utf8Error::new(Utf8ErrorKind::TooFewBytes))
         }
-        Some(byte) if !continues(byte) => {
-            *held = HeldBytes::two(second, byte);
-            Err(Utf8Error::new(Utf8ErrorKind::InterruptedSequence))
-        }
-        Some(byte) if first < 0xf0 => match judge(&[first, second, byte]) {
-            Ok(_) => Ok(Followers::new(second, byte, 0)),
-            Err(error) => {
+        Some(byte) => match step(state, class_of(byte)) {
+            State::Done => Ok(Followers::new(second, byte, 0)),
+            next if runs(next) => fourth(first, second, byte, next, held, source),
+            end => {
                 *held = HeldBytes::two(second, byte);
-                Err(error)
+                Err(error_of(end))
             }
         },
-        Some(byte) => fourth(first, second, byte, held, source),
     }
 }
 
-// The fourth, behind two continuation bytes.
+// The fourth, which is the last.
 #[inline(always)]
 fn fourth<I: Iterator<Item = u8>>(
     first: u8,
     second: u8,
     third: u8,
+    state: State,
     held: &mut HeldBytes,
     source: &mut I,
 ) -> Result<Followers, Utf8Error>
-    requires low { 0xF0 ≤ first }
-    requires high { first < 0xF5 }
-    requires second { is_continuation second ≡ true }
-    requires third { is_continuation third ≡ true }
+    requires walked { state ≡ state_after (first ∷ second ∷ third ∷ []) 3 }
+    requires running { is_running state ≡ true }
     requires can { I.can_next source.old }
     requires none { held.old.held ≡ [] }
     requires going { held.old.ended ≡ false }
@@ -313,15 +286,11 @@ fn fourth<I: Iterator<Item = u8>>(
             *held = HeldBytes::two(second, third).ended();
             Err(Utf8Error::new(Utf8ErrorKind::TooFewBytes))
         }
-        Some(byte) if !continues(byte) => {
-            *held = HeldBytes::three(second, third, byte);
-            Err(Utf8Error::new(Utf8ErrorKind::InterruptedSequence))
-        }
-        Some(byte) => match judge(&[first, second, third, byte]) {
-            Ok(_) => Ok(Followers::new(second, third, byte)),
-            Err(error) => {
+        Some(byte) => match step(state, class_of(byte)) {
+            State::Done => Ok(Followers::new(second, third, byte)),
+            end => {
                 *held = HeldBytes::three(second, third, byte);
-                Err(error)
+                Err(error_of(end))
             }
         },
     }

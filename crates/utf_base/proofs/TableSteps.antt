@@ -498,7 +498,7 @@ asks_runs Overlong more = absurd (omega arith)
 asks_runs Reserved more = absurd (omega arith)
 asks_runs TooHigh more = absurd (omega arith)
 
-by_continued : (P : State → Type 0) (one two three : State) (c : ℕ) → P one → P two → P three → P Interrupted → P (continued one two three c)
+pub by_continued : (P : State → Type 0) (one two three : State) (c : ℕ) → P one → P two → P three → P Interrupted → P (continued one two three c)
 by_continued P one two three c p q r out = choose P (c == 1) p (choose P (c == 2) q (choose P (c == 3) r out))
   where
     choose : (P : State → Type 0) (b : Bool) {x y : State} → P x → P y → P (if b then x else y)

@@ -113,12 +113,17 @@ pub fn step(state: State, c: u8) -> State
     STEPS[row_of(state) as usize][c as usize]
 }
 
+/// Whether the state asks for a byte.
+#[inline(always)]
+pub fn runs(state: State) -> bool
+    ensures { result ≡ is_running state }
+{
+    row_of(state) < 13
+}
+
 /// What is wrong with bytes that led to the state, where no more follow.
-///
-/// It is not inlined, so that a caller's test of the state stays one comparison.
-#[cold]
-#[inline(never)]
-pub fn error_behind(state: State) -> Utf8Error
+#[inline(always)]
+pub fn error_of(state: State) -> Utf8Error
     requires { state ≡ Done → ⊥ }
     ensures { fault_of state ≡ Some result }
 {
@@ -131,6 +136,16 @@ pub fn error_behind(state: State) -> Utf8Error
         TooHigh => Utf8ErrorKind::TooHighCodepoint,
         _ => Utf8ErrorKind::TooFewBytes,
     })
+}
+
+/// The same. It is not inlined, so that a caller's test of the state stays one comparison.
+#[cold]
+#[inline(never)]
+pub fn error_behind(state: State) -> Utf8Error
+    requires { state ≡ Done → ⊥ }
+    ensures { fault_of state ≡ Some result }
+{
+    error_of(state)
 }
 
 // The row of a running state in the table of steps.
