@@ -78,7 +78,7 @@ const CLASSES: [u8; 256] = [
 
 // The state behind a byte of each class, twelve classes for each running state.
 #[rattlefmt::skip]
-const STEPS: [[State; 12]; 13] = [
+static STEPS: [[State; 12]; 13] = [
     [Done, Unexpected, Unexpected, Unexpected, Never, OneMore, BehindE0, TwoMore, BehindEd, BehindF0, ThreeMore, BehindF4],
     [Interrupted, Done, Done, Done, Interrupted, Interrupted, Interrupted, Interrupted, Interrupted, Interrupted, Interrupted, Interrupted],
     [Interrupted, OneMore, OneMore, OneMore, Interrupted, Interrupted, Interrupted, Interrupted, Interrupted, Interrupted, Interrupted, Interrupted],

@@ -53,11 +53,6 @@ leading_of_pair units s p =
     let bound : (s - 0x1_0000) / 1024 < 1024 = omega arith in
     rw first (grind (arith, common_steps))
 
-trailing_of_pair : (units : List ℕ) (s : ℕ) → AsPair units s → is_trailing_surrogate (get_or units 1 0) ≡ true
-trailing_of_pair units s p =
-    let second = p.second in
-    rw second (grind (arith, common_steps))
-
 value_of_pair : (units : List ℕ) (s : ℕ) → AsPair units s → pair_value (get_or units 0 0) (get_or units 1 0) ≡ s
 value_of_pair units s p =
     let first = p.first in
@@ -129,11 +124,6 @@ scalar_by_second units s h e =
     (λ (u : AsUnit units s). (λ z. u.first, λ some. absurd (some u.second)))
     (λ (p : AsPair units s). let second = p.second in (λ z. absurd (omega arith), λ some. value_of_pair units s p))
     (char_cases units s h e)
-
--- a second unit is a trailing surrogate
-pub trailing_by_second : (units : List ℕ) (s : ℕ) → IsPadded utf16 2 unit_value units → unit_value units ≡ s → (get_or units 1 0 ≡ 0 → ⊥) → is_trailing_surrogate (get_or units 1 0) ≡ true
-trailing_by_second units s h e some =
-    ⊎_elim (λ (u : AsUnit units s). absurd (some u.second)) (λ (p : AsPair units s). trailing_of_pair units s p) (char_cases units s h e)
 
 -- the code, by whether there is a second unit
 pub code_by_second : (units : List ℕ) (s : ℕ) → IsPadded utf16 2 unit_value units → unit_value units ≡ s

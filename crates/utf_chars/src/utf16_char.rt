@@ -232,7 +232,7 @@ impl Utf16Char {
         if second == 0 {
             first as u32
         } else {
-            utf16::value_of_surrogates(first, second)
+            utf16::value_of_pair(first, second)
         }
     }
 

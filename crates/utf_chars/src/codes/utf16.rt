@@ -196,17 +196,6 @@ pub(crate) fn value_of_pair(first: u16, second: u16) -> u32
     0x1_0000 + (((first & 0x3ff) as u32) << 10 | (second & 0x3ff) as u32)
 }
 
-/// The same where the second is known to be a trailing surrogate: its ten bits need not be taken out.
-#[inline(always)]
-pub(crate) fn value_of_surrogates(first: u16, second: u16) -> u32
-    requires { is_trailing_surrogate second ≡ true }
-    ensures value { result ≡ pair_value first second }
-    ensures bound { result < 0x11_0000 }
-{
-    // 0x10000 without the 0xdc00 that the second has above its ten bits.
-    0x2400 + (((first & 0x3ff) as u32) << 10) + second as u32
-}
-
 // The first unit of the pair of a scalar.
 #[inline(always)]
 fn leading_surrogate(s: u32) -> u16

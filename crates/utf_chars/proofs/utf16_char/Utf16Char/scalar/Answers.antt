@@ -1,15 +1,12 @@
 use Rattle.std.proofs.Common.{◌∙◌}
-use Rattle.utf_chars.proofs.PaddedUnits.{scalar_by_second, trailing_by_second}
+use Rattle.utf_chars.proofs.PaddedUnits.{scalar_by_second}
 use Rattle.utf_chars.proofs.utf16_char.Utf16Char.scalar.Goals as goal
 
 pub returns-then-second-eq0-clause-value : goal.returns-then-second-eq0-clause-value
 returns-then-second-eq0-clause-value c = (scalar_by_second _ _ c.self.invariant c.self.view_is).0 c.if-second-eq0.true
 
 pub returns-else-second-eq0-clause-value : goal.returns-else-second-eq0-clause-value
-returns-else-second-eq0-clause-value c = c.value_of_surrogates.ensures.value ∙ (scalar_by_second _ _ c.self.invariant c.self.view_is).1 c.if-second-eq0.false
-
-pub value_of_surrogates-requires : goal.value_of_surrogates-requires
-value_of_surrogates-requires c = trailing_by_second _ _ c.self.invariant c.self.view_is c.if-second-eq0.false
+returns-else-second-eq0-clause-value c = c.value_of_pair.ensures.value ∙ (scalar_by_second _ _ c.self.invariant c.self.view_is).1 c.if-second-eq0.false
 
 -- The result is the value of the units, so it is a scalar.
 pub returns-then-second-eq0-clause-scalar : goal.returns-then-second-eq0-clause-scalar
