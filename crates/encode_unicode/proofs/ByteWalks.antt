@@ -8,7 +8,7 @@ use Rattle.utf_base.specs.declared.table.State.TheVariants.{Start, OneMore, TwoM
 use Rattle.utf_base.specs.Code.{utf8}
 use Rattle.utf_base.specs.Kinds.{asked, asked_by, is_continuation, merger_kind, value}
 use Rattle.utf_base.specs.Scalar.{IsScalar}
-use Rattle.utf_base.specs.Table.{class, continued, fault_of, is_running, missing, next_state, state_after}
+use Rattle.utf_base.specs.Table.{class, fault_of, is_running, missing, next_state, state_after}
 use Rattle.utf_base.proofs.FrontLemmas.{asked-0, asked_le, code_where_no_fault}
 use Rattle.utf_base.proofs.MergerLemmas.{merger_none, whole_code}
 use Rattle.utf_base.proofs.TableLemmas.{Begins, begins}

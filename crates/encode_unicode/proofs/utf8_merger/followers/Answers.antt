@@ -1,4 +1,4 @@
-use Rattle.std.proofs.Common.{◌≡◌, ◌≤◌, sym, ap, ◌∙◌, arith, refl}
+use Rattle.std.proofs.Common.{◌≤◌, sym, ap, ◌∙◌, arith, refl}
 use Rattle.utf_base.specs.Kinds.{asked}
 use Rattle.utf_base.specs.Table.{is_running}
 use Rattle.utf_base.proofs.FrontLemmas.{asked-no_continuation}
