@@ -8,49 +8,49 @@ use State::*;
 mod tests;
 
 /// What is known of a code of which some bytes were read: a state is running while it asks for more, and else
-/// an end.
+/// an end. The number of a running state is where its row begins among the steps, and an end has a higher one.
 #[derive(Clone, Copy, Debug, PartialEq, Eq)]
 pub enum State {
     /// No byte was read.
-    Start,
+    Start = 0,
     /// One continuation byte is missing, and any completes a code.
-    OneMore,
+    OneMore = 12,
     /// Two are missing, and any two complete it.
-    TwoMore,
+    TwoMore = 24,
     /// Three are missing, and any three complete it.
-    ThreeMore,
+    ThreeMore = 36,
     /// Behind 0xe0: two are missing, and the value is overlong where the first of them is below 0xa0.
-    BehindE0,
+    BehindE0 = 48,
     /// Behind 0xed: two are missing, and the value is a surrogate where the first of them is from 0xa0 on.
-    BehindEd,
+    BehindEd = 60,
     /// Behind 0xf0: three are missing, and the value is overlong where the first of them is below 0x90.
-    BehindF0,
+    BehindF0 = 72,
     /// Behind 0xf4: three are missing, and the value is too high where the first of them is from 0x90 on.
-    BehindF4,
+    BehindF4 = 84,
     /// Two are missing, and the value is overlong whatever they are.
-    TwoMoreOverlong,
+    TwoMoreOverlong = 96,
     /// One is missing, and the value is overlong whatever it is.
-    OneMoreOverlong,
+    OneMoreOverlong = 108,
     /// One is missing, and the value is a surrogate whatever it is.
-    OneMoreReserved,
+    OneMoreReserved = 120,
     /// Two are missing, and the value is too high whatever they are.
-    TwoMoreTooHigh,
+    TwoMoreTooHigh = 132,
     /// One is missing, and the value is too high whatever it is.
-    OneMoreTooHigh,
+    OneMoreTooHigh = 144,
     /// The bytes are a code.
-    Done,
+    Done = 156,
     /// The first byte is a continuation byte.
-    Unexpected,
+    Unexpected = 157,
     /// The first byte is one that no code has.
-    Never,
+    Never = 158,
     /// The last byte is no continuation byte, and one was asked for.
-    Interrupted,
+    Interrupted = 159,
     /// The bytes encode a number that needs fewer.
-    Overlong,
+    Overlong = 160,
     /// The bytes encode a surrogate.
-    Reserved,
+    Reserved = 161,
     /// The bytes encode a number above the last scalar.
-    TooHigh,
+    TooHigh = 162,
 }
 
 // The class of each byte, sixteen a line.
@@ -74,22 +74,22 @@ static CLASSES: [u8; 256] = [
     9, 10, 10, 10, 11, 4, 4, 4, 4, 4, 4, 4, 4, 4, 4, 4,
 ];
 
-// The state behind a byte of each class, twelve classes for each running state.
+// The state behind a byte of each class: a row of twelve classes for each running state, one behind another.
 #[rattlefmt::skip]
-static STEPS: [[State; 12]; 13] = [
-    [Done, Unexpected, Unexpected, Unexpected, Never, OneMore, BehindE0, TwoMore, BehindEd, BehindF0, ThreeMore, BehindF4],
-    [Interrupted, Done, Done, Done, Interrupted, Interrupted, Interrupted, Interrupted, Interrupted, Interrupted, Interrupted, Interrupted],
-    [Interrupted, OneMore, OneMore, OneMore, Interrupted, Interrupted, Interrupted, Interrupted, Interrupted, Interrupted, Interrupted, Interrupted],
-    [Interrupted, TwoMore, TwoMore, TwoMore, Interrupted, Interrupted, Interrupted, Interrupted, Interrupted, Interrupted, Interrupted, Interrupted],
-    [Interrupted, OneMoreOverlong, OneMoreOverlong, OneMore, Interrupted, Interrupted, Interrupted, Interrupted, Interrupted, Interrupted, Interrupted, Interrupted],
-    [Interrupted, OneMore, OneMore, OneMoreReserved, Interrupted, Interrupted, Interrupted, Interrupted, Interrupted, Interrupted, Interrupted, Interrupted],
-    [Interrupted, TwoMoreOverlong, TwoMore, TwoMore, Interrupted, Interrupted, Interrupted, Interrupted, Interrupted, Interrupted, Interrupted, Interrupted],
-    [Interrupted, TwoMore, TwoMoreTooHigh, TwoMoreTooHigh, Interrupted, Interrupted, Interrupted, Interrupted, Interrupted, Interrupted, Interrupted, Interrupted],
-    [Interrupted, OneMoreOverlong, OneMoreOverlong, OneMoreOverlong, Interrupted, Interrupted, Interrupted, Interrupted, Interrupted, Interrupted, Interrupted, Interrupted],
-    [Interrupted, Overlong, Overlong, Overlong, Interrupted, Interrupted, Interrupted, Interrupted, Interrupted, Interrupted, Interrupted, Interrupted],
-    [Interrupted, Reserved, Reserved, Reserved, Interrupted, Interrupted, Interrupted, Interrupted, Interrupted, Interrupted, Interrupted, Interrupted],
-    [Interrupted, OneMoreTooHigh, OneMoreTooHigh, OneMoreTooHigh, Interrupted, Interrupted, Interrupted, Interrupted, Interrupted, Interrupted, Interrupted, Interrupted],
-    [Interrupted, TooHigh, TooHigh, TooHigh, Interrupted, Interrupted, Interrupted, Interrupted, Interrupted, Interrupted, Interrupted, Interrupted],
+static STEPS: [State; 156] = [
+    Done, Unexpected, Unexpected, Unexpected, Never, OneMore, BehindE0, TwoMore, BehindEd, BehindF0, ThreeMore, BehindF4,
+    Interrupted, Done, Done, Done, Interrupted, Interrupted, Interrupted, Interrupted, Interrupted, Interrupted, Interrupted, Interrupted,
+    Interrupted, OneMore, OneMore, OneMore, Interrupted, Interrupted, Interrupted, Interrupted, Interrupted, Interrupted, Interrupted, Interrupted,
+    Interrupted, TwoMore, TwoMore, TwoMore, Interrupted, Interrupted, Interrupted, Interrupted, Interrupted, Interrupted, Interrupted, Interrupted,
+    Interrupted, OneMoreOverlong, OneMoreOverlong, OneMore, Interrupted, Interrupted, Interrupted, Interrupted, Interrupted, Interrupted, Interrupted, Interrupted,
+    Interrupted, OneMore, OneMore, OneMoreReserved, Interrupted, Interrupted, Interrupted, Interrupted, Interrupted, Interrupted, Interrupted, Interrupted,
+    Interrupted, TwoMoreOverlong, TwoMore, TwoMore, Interrupted, Interrupted, Interrupted, Interrupted, Interrupted, Interrupted, Interrupted, Interrupted,
+    Interrupted, TwoMore, TwoMoreTooHigh, TwoMoreTooHigh, Interrupted, Interrupted, Interrupted, Interrupted, Interrupted, Interrupted, Interrupted, Interrupted,
+    Interrupted, OneMoreOverlong, OneMoreOverlong, OneMoreOverlong, Interrupted, Interrupted, Interrupted, Interrupted, Interrupted, Interrupted, Interrupted, Interrupted,
+    Interrupted, Overlong, Overlong, Overlong, Interrupted, Interrupted, Interrupted, Interrupted, Interrupted, Interrupted, Interrupted, Interrupted,
+    Interrupted, Reserved, Reserved, Reserved, Interrupted, Interrupted, Interrupted, Interrupted, Interrupted, Interrupted, Interrupted, Interrupted,
+    Interrupted, OneMoreTooHigh, OneMoreTooHigh, OneMoreTooHigh, Interrupted, Interrupted, Interrupted, Interrupted, Interrupted, Interrupted, Interrupted, Interrupted,
+    Interrupted, TooHigh, TooHigh, TooHigh, Interrupted, Interrupted, Interrupted, Interrupted, Interrupted, Interrupted, Interrupted, Interrupted,
 ];
 
 /// The class of a byte: bytes of one class lead from each state to the same one.
@@ -108,7 +108,7 @@ pub fn step(state: State, c: u8) -> State
     requires bound { c < 12 }
     ensures { result ≡ next_state state c }
 {
-    STEPS[row_of(state) as usize][c as usize]
+    STEPS[row_of(state) as usize + c as usize]
 }
 
 /// The law of the table: the state behind some bytes tells what is wrong with them, as a merger says it that
@@ -117,7 +117,7 @@ pub fn walk_tells_the_kind()
     ensures { WalkTellsTheKind }
 {}
 
-// The row of a running state in the table of steps.
+// Where the row of a running state begins among the steps.
 #[inline(always)]
 fn row_of(state: State) -> u8
     ensures { result ≡ row state }
