@@ -1,12 +1,12 @@
 -- A walk over the table tells the kind of the bytes: step by step, what is known of them by the state that is reached.
-use Rattle.std.proofs.Common.{◌≡◌, ℕ, zero, suc, ◌+◌, ◌<◌, ◌≤◌, ◌⊎◌, inl, inr, ⊎_elim, List, length, get_or, arith, refl, ◌∙◌, ap, Some, None, true, false, lit<}
+use Rattle.std.proofs.Common.{◌≡◌, ℕ, zero, suc, ◌+◌, ◌<◌, ◌≤◌, ◌⊎◌, inl, inr, ⊎_elim, List, length, get_or, arith, refl, sym, ◌∙◌, ◌==◌, if◌then◌else◌, ap, Some, None, Bool, true, false, lit<}
 use Rattle.std.proofs.lemmas.Grind.{common_steps}
 use Rattle.std.proofs.lemmas.Bool.{cases_lt}
 use Rattle.utf_base.specs.declared.errors.Utf8ErrorKind.TheVariants.{TooFewBytes, InterruptedSequence, OverlongEncoding, Utf16ReservedCodepoint, TooHighCodepoint}
 use Rattle.utf_base.specs.declared.table.State.{State}
 use Rattle.utf_base.specs.declared.table.State.TheVariants.{Start, OneMore, TwoMore, ThreeMore, BehindE0, BehindEd, BehindF0, BehindF4, TwoMoreOverlong, OneMoreOverlong, OneMoreReserved, TwoMoreTooHigh, OneMoreTooHigh, Done, Unexpected, Never, Interrupted, Overlong, Reserved, TooHigh}
 use Rattle.utf_base.specs.Scalar.{IsScalar}
-use Rattle.utf_base.specs.Kinds.{merger_kind, asked_by, value, least_value, is_continuation, continues_at, followers_continue, breaks_at, is_broken}
+use Rattle.utf_base.specs.Kinds.{fault_kind, merger_kind, asked_by, value, least_value, is_continuation, continues_at, followers_continue, breaks_at, is_broken}
 use Rattle.utf_base.specs.Table.{class, continued, fault_of, is_running, missing, next_state, state_after}
 use Rattle.utf_base.proofs.FrontLemmas.{asked-0, asked-1, asked-2, asked-3, asked-4, asked_le, asked-no_continuation, value-1, value-2, value-3, value-4, least_value-below_3, least_value-3, least_value-4}
 use Rattle.utf_base.proofs.KindCases.{Sums, kind-empty, kind-continuation, kind-never, kind-overlong, kind-surrogate, kind-too_high, kind-none}
@@ -469,3 +469,152 @@ all_tell w TooHigh r = r
 
 pub kind_of_all : (w : List ℕ) → merger_kind w ≡ fault_of (state_after w (length w))
 kind_of_all w = all_tell w _ (reached w (length w) (omega arith))
+
+-- the forward kind, where all bytes are there that the first asks for
+pub fault_at_end : (w : List ℕ) (k : ℕ) (state : State) → k ≤ length w → asked_by w ≤ length w → state_after w k ≡ state → is_running state ≡ false → fault_kind w ≡ fault_of state
+fault_at_end w k state le enough e end = sym (enough_kind w enough) ∙ kind_at_end w k le (ap is_running e ∙ end) ∙ ap fault_of e
+
+-- What a walk needs from step to step: a state that asks for a byte is running, and each byte that continues is one less.
+
+pub asks_runs : (state : State) → 0 < missing state → is_running state ≡ true
+asks_runs Start more = absurd (omega arith)
+asks_runs OneMore more = refl
+asks_runs TwoMore more = refl
+asks_runs ThreeMore more = refl
+asks_runs BehindE0 more = refl
+asks_runs BehindEd more = refl
+asks_runs BehindF0 more = refl
+asks_runs BehindF4 more = refl
+asks_runs TwoMoreOverlong more = refl
+asks_runs OneMoreOverlong more = refl
+asks_runs OneMoreReserved more = refl
+asks_runs TwoMoreTooHigh more = refl
+asks_runs OneMoreTooHigh more = refl
+asks_runs Done more = absurd (omega arith)
+asks_runs Unexpected more = absurd (omega arith)
+asks_runs Never more = absurd (omega arith)
+asks_runs Interrupted more = absurd (omega arith)
+asks_runs Overlong more = absurd (omega arith)
+asks_runs Reserved more = absurd (omega arith)
+asks_runs TooHigh more = absurd (omega arith)
+
+pub by_continued : (P : State → Type 0) (one two three : State) (c : ℕ) → P one → P two → P three → P Interrupted → P (continued one two three c)
+by_continued P one two three c p q r out = choose P (c == 1) p (choose P (c == 2) q (choose P (c == 3) r out))
+  where
+    choose : (P : State → Type 0) (b : Bool) {x y : State} → P x → P y → P (if b then x else y)
+    choose P true p q = p
+    choose P false p q = q
+
+abbrev IsLess : State → State → Type 0
+IsLess state next = (next ≡ Interrupted → ⊥) → missing state ≡ 1 + missing next
+
+pub one_less : (state : State) (c : ℕ) → 0 < missing state → (next_state state c ≡ Interrupted → ⊥) → missing state ≡ 1 + missing (next_state state c)
+unfolding next_state
+one_less Start c more = absurd (omega arith)
+one_less OneMore c more = by_continued (IsLess OneMore) Done Done Done c (λ n. refl) (λ n. refl) (λ n. refl) (λ n. absurd (n refl))
+one_less TwoMore c more = by_continued (IsLess TwoMore) OneMore OneMore OneMore c (λ n. refl) (λ n. refl) (λ n. refl) (λ n. absurd (n refl))
+one_less ThreeMore c more = by_continued (IsLess ThreeMore) TwoMore TwoMore TwoMore c (λ n. refl) (λ n. refl) (λ n. refl) (λ n. absurd (n refl))
+one_less BehindE0 c more = by_continued (IsLess BehindE0) OneMoreOverlong OneMoreOverlong OneMore c (λ n. refl) (λ n. refl) (λ n. refl) (λ n. absurd (n refl))
+one_less BehindEd c more = by_continued (IsLess BehindEd) OneMore OneMore OneMoreReserved c (λ n. refl) (λ n. refl) (λ n. refl) (λ n. absurd (n refl))
+one_less BehindF0 c more = by_continued (IsLess BehindF0) TwoMoreOverlong TwoMore TwoMore c (λ n. refl) (λ n. refl) (λ n. refl) (λ n. absurd (n refl))
+one_less BehindF4 c more = by_continued (IsLess BehindF4) TwoMore TwoMoreTooHigh TwoMoreTooHigh c (λ n. refl) (λ n. refl) (λ n. refl) (λ n. absurd (n refl))
+one_less TwoMoreOverlong c more = by_continued (IsLess TwoMoreOverlong) OneMoreOverlong OneMoreOverlong OneMoreOverlong c (λ n. refl) (λ n. refl) (λ n. refl) (λ n. absurd (n refl))
+one_less OneMoreOverlong c more = by_continued (IsLess OneMoreOverlong) Overlong Overlong Overlong c (λ n. refl) (λ n. refl) (λ n. refl) (λ n. absurd (n refl))
+one_less OneMoreReserved c more = by_continued (IsLess OneMoreReserved) Reserved Reserved Reserved c (λ n. refl) (λ n. refl) (λ n. refl) (λ n. absurd (n refl))
+one_less TwoMoreTooHigh c more = by_continued (IsLess TwoMoreTooHigh) OneMoreTooHigh OneMoreTooHigh OneMoreTooHigh c (λ n. refl) (λ n. refl) (λ n. refl) (λ n. absurd (n refl))
+one_less OneMoreTooHigh c more = by_continued (IsLess OneMoreTooHigh) TooHigh TooHigh TooHigh c (λ n. refl) (λ n. refl) (λ n. refl) (λ n. absurd (n refl))
+one_less Done c more = absurd (omega arith)
+one_less Unexpected c more = absurd (omega arith)
+one_less Never c more = absurd (omega arith)
+one_less Interrupted c more = absurd (omega arith)
+one_less Overlong c more = absurd (omega arith)
+one_less Reserved c more = absurd (omega arith)
+one_less TooHigh c more = absurd (omega arith)
+
+-- the last byte that a state asks for leads to an end
+pub last_ends : (state : State) (c : ℕ) → missing state ≡ 1 → is_running (next_state state c) ≡ false
+unfolding next_state
+last_ends Start c e = absurd (omega arith)
+last_ends OneMore c e = by_continued (λ next. is_running next ≡ false) Done Done Done c refl refl refl refl
+last_ends TwoMore c e = absurd (omega arith)
+last_ends ThreeMore c e = absurd (omega arith)
+last_ends BehindE0 c e = absurd (omega arith)
+last_ends BehindEd c e = absurd (omega arith)
+last_ends BehindF0 c e = absurd (omega arith)
+last_ends BehindF4 c e = absurd (omega arith)
+last_ends TwoMoreOverlong c e = absurd (omega arith)
+last_ends OneMoreOverlong c e = by_continued (λ next. is_running next ≡ false) Overlong Overlong Overlong c refl refl refl refl
+last_ends OneMoreReserved c e = by_continued (λ next. is_running next ≡ false) Reserved Reserved Reserved c refl refl refl refl
+last_ends TwoMoreTooHigh c e = absurd (omega arith)
+last_ends OneMoreTooHigh c e = by_continued (λ next. is_running next ≡ false) TooHigh TooHigh TooHigh c refl refl refl refl
+last_ends Done c e = absurd (omega arith)
+last_ends Unexpected c e = absurd (omega arith)
+last_ends Never c e = absurd (omega arith)
+last_ends Interrupted c e = absurd (omega arith)
+last_ends Overlong c e = absurd (omega arith)
+last_ends Reserved c e = absurd (omega arith)
+last_ends TooHigh c e = absurd (omega arith)
+
+-- where one byte is missing and any continuation byte completes a code, no other fault is left
+pub one_more_breaks : (c : ℕ) → (next_state OneMore c ≡ Done → ⊥) → next_state OneMore c ≡ Interrupted
+unfolding next_state
+one_more_breaks c =
+    by_continued (λ next. (next ≡ Done → ⊥) → next ≡ Interrupted) Done Done Done c (λ n. absurd (n refl)) (λ n. absurd (n refl)) (λ n. absurd (n refl)) (λ n. refl)
+
+-- The state behind a first byte of two, three and four.
+
+pub first-2 : (b : ℕ) → 0xC2 ≤ b → b < 0xE0 → next_state Start (class b) ≡ OneMore
+unfolding class next_state
+first-2 b low high = grind (arith, common_steps)
+
+pub first-3 : (b : ℕ) → 0xE0 ≤ b → b < 0xF0 → missing (next_state Start (class b)) ≡ 2
+first-3 b low high = by_begins (next_state Start (class b)) low high (begins b)
+  where
+    by_begins : {b : ℕ} (state : State) → 0xE0 ≤ b → b < 0xF0 → Begins b state → missing state ≡ 2
+    by_begins Start low high h = absurd h
+    by_begins OneMore low high h = absurd (omega arith)
+    by_begins TwoMore low high h = refl
+    by_begins ThreeMore low high h = absurd (omega arith)
+    by_begins BehindE0 low high h = refl
+    by_begins BehindEd low high h = refl
+    by_begins BehindF0 low high h = absurd (omega arith)
+    by_begins BehindF4 low high h = absurd (omega arith)
+    by_begins TwoMoreOverlong low high h = absurd h
+    by_begins OneMoreOverlong low high h = absurd h
+    by_begins OneMoreReserved low high h = absurd h
+    by_begins TwoMoreTooHigh low high h = absurd h
+    by_begins OneMoreTooHigh low high h = absurd h
+    by_begins Done low high h = absurd (omega arith)
+    by_begins Unexpected low high h = absurd (omega arith)
+    by_begins Never low high (inl h) = absurd (omega arith)
+    by_begins Never low high (inr h) = absurd (omega arith)
+    by_begins Interrupted low high h = absurd h
+    by_begins Overlong low high h = absurd h
+    by_begins Reserved low high h = absurd h
+    by_begins TooHigh low high h = absurd h
+
+pub first-4 : (b : ℕ) → 0xF0 ≤ b → b < 0xF5 → missing (next_state Start (class b)) ≡ 3
+first-4 b low high = by_begins (next_state Start (class b)) low high (begins b)
+  where
+    by_begins : {b : ℕ} (state : State) → 0xF0 ≤ b → b < 0xF5 → Begins b state → missing state ≡ 3
+    by_begins Start low high h = absurd h
+    by_begins OneMore low high h = absurd (omega arith)
+    by_begins TwoMore low high h = absurd (omega arith)
+    by_begins ThreeMore low high h = refl
+    by_begins BehindE0 low high h = absurd (omega arith)
+    by_begins BehindEd low high h = absurd (omega arith)
+    by_begins BehindF0 low high h = refl
+    by_begins BehindF4 low high h = refl
+    by_begins TwoMoreOverlong low high h = absurd h
+    by_begins OneMoreOverlong low high h = absurd h
+    by_begins OneMoreReserved low high h = absurd h
+    by_begins TwoMoreTooHigh low high h = absurd h
+    by_begins OneMoreTooHigh low high h = absurd h
+    by_begins Done low high h = absurd (omega arith)
+    by_begins Unexpected low high h = absurd (omega arith)
+    by_begins Never low high (inl h) = absurd (omega arith)
+    by_begins Never low high (inr h) = absurd (omega arith)
+    by_begins Interrupted low high h = absurd h
+    by_begins Overlong low high h = absurd h
+    by_begins Reserved low high h = absurd h
+    by_begins TooHigh low high h = absurd h

@@ -1,7 +1,9 @@
 //! The table of byte classes and states by which bytes in UTF-8 are judged one by one (RFC 3629, section 4).
-ghost use Rattle.std.specs.Prelude.{◌≡◌, ◌<◌, true};
-ghost use Rattle.utf_base.specs.Table.{class, is_running, next_state, row, WalkTellsTheKind};
+ghost use Rattle.std.specs.Prelude.{◌≡◌, ◌<◌, true, false, Some};
+ghost use Rattle.utf_base.specs.declared.table.State.TheVariants.{Done, Unexpected, Never};
+ghost use Rattle.utf_base.specs.Table.{class, fault_of, is_running, next_state, row, WalkTellsTheKind};
 
+use crate::errors::{Utf8Error, Utf8ErrorKind};
 use State::*;
 
 #[cfg(test)]
@@ -116,6 +118,24 @@ pub fn step(state: State, c: u8) -> State
 pub fn walk_tells_the_kind()
     ensures { WalkTellsTheKind }
 {}
+
+/// What is wrong with bytes that led to an end, other than that of a code. The ends that a first byte may lead
+/// to are not among them.
+#[inline(always)]
+pub fn error_behind(end: State) -> Utf8Error
+    requires some { end ≡ Done → ⊥ }
+    requires followed { end ≡ Unexpected → ⊥ }
+    requires known { end ≡ Never → ⊥ }
+    requires ended { is_running end ≡ false }
+    ensures { fault_of end ≡ Some result }
+{
+    Utf8Error::new(match end {
+        Interrupted => Utf8ErrorKind::InterruptedSequence,
+        Overlong => Utf8ErrorKind::OverlongEncoding,
+        Reserved => Utf8ErrorKind::Utf16ReservedCodepoint,
+        _ => Utf8ErrorKind::TooHighCodepoint,
+    })
+}
 
 // Where the row of a running state begins among the steps.
 #[inline(always)]
