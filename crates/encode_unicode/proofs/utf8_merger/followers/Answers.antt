@@ -1,18 +1,15 @@
 use Rattle.std.proofs.Common.{◌≤◌, sym, ◌∙◌, arith}
 use Rattle.utf_base.specs.Kinds.{asked}
-use Rattle.encode_unicode.proofs.ByteMerging.{alone_completes, alone_fails, ascii_completes, asks_one, begins_alone, begins_two, end_at_once}
+use Rattle.encode_unicode.proofs.ByteMerging.{alone_completes, alone_fails, asks_one, begins_alone, begins_two, end_at_once}
 use Rattle.encode_unicode.proofs.MergerSteps.{reads_none}
 use Rattle.encode_unicode.proofs.utf8_merger.followers.Goals as goal
-
-pub returns-then-first-lt128 : goal.returns-then-first-lt128
-returns-then-first-lt128 g c = rw c.new.ensures (ascii_completes _ _ _ _ _ _ _ c.requires.can c.if-first-lt128.true c.requires.alone)
 
 pub judge-requires-clause-enough : goal.judge-requires-clause-enough
 judge-requires-clause-enough g c = asks_one _ (sym c.begins_many.ensures ∙ c.if-not-begins_many.true)
 
 pub returns-in-Ok : goal.returns-in-Ok
 returns-in-Ok g c =
-    rw c.new-in-Ok.ensures (alone_completes _ _ _ _ _ _ _ _ c.requires.can (asks_one _ (sym c.begins_many.ensures ∙ c.if-not-begins_many.true)) c.requires.alone c.in-Ok.ensures)
+    rw c.new.ensures (alone_completes _ _ _ _ _ _ _ _ c.requires.can (asks_one _ (sym c.begins_many.ensures ∙ c.if-not-begins_many.true)) c.requires.alone c.in-Ok.ensures)
 
 pub returns-in-Err : goal.returns-in-Err
 returns-in-Err g c =
