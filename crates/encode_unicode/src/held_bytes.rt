@@ -122,6 +122,12 @@ impl HeldBytes {
         ensures first { YieldsFirst (λ kept. kept.held) self.old result self.new }
         ensures same { self.new.ended ≡ self.old.ended }
     {
+        // One is held most of the time.
+        if 0x100_0000 <= self.word && self.word < 0x200_0000 {
+            let only = (self.word % 256) as u8;
+            self.word = 0;
+            return Some(only);
+        }
         let count_and_mark = self.word / 0x100_0000;
         if count_and_mark % 128 < 1 {
             return None;

@@ -188,8 +188,8 @@ fn followers<I: Iterator<Item = u8>>(
     // First whether there is more to read: in damaged text this answer is the easier to foresee.
     if !begins_many(first) {
         return match judge(&[first]) {
-            Ok(_) => Ok(Followers::new(0, 0, 0)),
             Err(error) => Err(error),
+            Ok(_) => Ok(Followers::new(0, 0, 0)),
         };
     }
     if held.is_ended() {
