@@ -192,7 +192,8 @@ fn followers<I: Iterator<Item = u8>>(
             Ok(_) => Ok(Followers::new(0, 0, 0)),
         };
     }
-    if held.is_ended() {
+    // It stands alone, so nothing is held behind it.
+    if !held.is_idle() {
         return Err(Utf8Error::new(Utf8ErrorKind::TooFewBytes));
     }
     second(first, held, source)
