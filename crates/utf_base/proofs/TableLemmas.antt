@@ -1,7 +1,6 @@
 -- Each entry of the table of classes and states is its rule.
-use Rattle.std.proofs.Common.{◌≡◌, ℕ, zero, suc, ◌+◌, ◌<◌, ◌≤◌, List, [], ◌∷◌, get_or, take, drop, true, refl, sym, arith, ◌∙◌, ap, ◌⊎◌, inl, inr, ⊎_elim}
+use Rattle.std.proofs.Common.{◌≡◌, ℕ, zero, suc, ◌+◌, ◌<◌, ◌≤◌, List, [], ◌∷◌, get_or, true, refl, arith, ◌∙◌, ap, ◌⊎◌, inl, inr, ⊎_elim}
 use Rattle.std.proofs.lemmas.Bool.{cases_lt}
-use Rattle.std.proofs.lemmas.List.{get_or-drop, get_or-take}
 use Rattle.std.proofs.lemmas.Grind.{common_steps}
 use Rattle.utf_base.specs.declared.table.State.{State}
 use Rattle.utf_base.specs.declared.table.State.TheVariants.{Start, OneMore, TwoMore, ThreeMore, BehindE0, BehindEd, BehindF0, BehindF4, TwoMoreOverlong, OneMoreOverlong, OneMoreReserved, TwoMoreTooHigh, OneMoreTooHigh, Done, Unexpected, Never, Interrupted, Overlong, Reserved, TooHigh}
@@ -27,34 +26,31 @@ pub class_at : (b d : ℕ) → b < 256 → get_or CLASSES b d ≡ class b
 class_at b d lt = ap (λ xs. get_or xs b d) classes ∙ values-at class 0 256 b b d (omega arith) lt
 
 -- The whole table of steps, computed row by row.
-row_at : (state : State) → is_running state ≡ true → take 12 (drop (row state) STEPS) ≡ values (next_state state) 0 12
+row_at : (state : State) → is_running state ≡ true → (d : List State) → get_or STEPS (row state) d ≡ values (next_state state) 0 12
 unfolding next_state
-row_at Start r = refl
-row_at OneMore r = refl
-row_at TwoMore r = refl
-row_at ThreeMore r = refl
-row_at BehindE0 r = refl
-row_at BehindEd r = refl
-row_at BehindF0 r = refl
-row_at BehindF4 r = refl
-row_at TwoMoreOverlong r = refl
-row_at OneMoreOverlong r = refl
-row_at OneMoreReserved r = refl
-row_at TwoMoreTooHigh r = refl
-row_at OneMoreTooHigh r = refl
-row_at Done r = cc
-row_at Unexpected r = cc
-row_at Never r = cc
-row_at Interrupted r = cc
-row_at Overlong r = cc
-row_at Reserved r = cc
-row_at TooHigh r = cc
+row_at Start r d = refl
+row_at OneMore r d = refl
+row_at TwoMore r d = refl
+row_at ThreeMore r d = refl
+row_at BehindE0 r d = refl
+row_at BehindEd r d = refl
+row_at BehindF0 r d = refl
+row_at BehindF4 r d = refl
+row_at TwoMoreOverlong r d = refl
+row_at OneMoreOverlong r d = refl
+row_at OneMoreReserved r d = refl
+row_at TwoMoreTooHigh r d = refl
+row_at OneMoreTooHigh r d = refl
+row_at Done r d = cc
+row_at Unexpected r d = cc
+row_at Never r d = cc
+row_at Interrupted r d = cc
+row_at Overlong r d = cc
+row_at Reserved r d = cc
+row_at TooHigh r d = cc
 
-pub step_at : (state : State) → is_running state ≡ true → (c : ℕ) → c < 12 → (d : State) → get_or STEPS (row state + c) d ≡ next_state state c
-step_at state running c lt d =
-    let at : get_or (drop (row state) STEPS) c d ≡ get_or STEPS (row state + c) d = get_or-drop (row state) STEPS c d in
-    let near : get_or (take 12 (drop (row state) STEPS)) c d ≡ get_or (drop (row state) STEPS) c d = get_or-take 12 (drop (row state) STEPS) c d lt in
-    sym at ∙ sym near ∙ ap (λ xs. get_or xs c d) (row_at state running) ∙ values-at (next_state state) 0 12 c c d (omega arith) lt
+pub step_at : (state : State) → is_running state ≡ true → (c : ℕ) → c < 12 → (d : List State) (e : State) → get_or (get_or STEPS (row state) d) c e ≡ next_state state c
+step_at state running c lt d e = ap (λ xs. get_or xs c e) (row_at state running d) ∙ values-at (next_state state) 0 12 c c e (omega arith) lt
 
 -- In which range a first byte lies, by the state behind it.
 abbrev pub Begins : ℕ → State → Type 0

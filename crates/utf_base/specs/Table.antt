@@ -23,32 +23,32 @@ class b =
     else if b == 0xF4 then 11
     else 4
 
--- the number of a state: where its row begins in the table of steps, which has twelve classes a row, or past all rows
+-- the place of a state among all: its row in the table, where it has one
 abbrev pub row : State → ℕ
 row Start = 0
-row OneMore = 12
-row TwoMore = 24
-row ThreeMore = 36
-row BehindE0 = 48
-row BehindEd = 60
-row BehindF0 = 72
-row BehindF4 = 84
-row TwoMoreOverlong = 96
-row OneMoreOverlong = 108
-row OneMoreReserved = 120
-row TwoMoreTooHigh = 132
-row OneMoreTooHigh = 144
-row Done = 156
-row Unexpected = 157
-row Never = 158
-row Interrupted = 159
-row Overlong = 160
-row Reserved = 161
-row TooHigh = 162
+row OneMore = 1
+row TwoMore = 2
+row ThreeMore = 3
+row BehindE0 = 4
+row BehindEd = 5
+row BehindF0 = 6
+row BehindF4 = 7
+row TwoMoreOverlong = 8
+row OneMoreOverlong = 9
+row OneMoreReserved = 10
+row TwoMoreTooHigh = 11
+row OneMoreTooHigh = 12
+row Done = 13
+row Unexpected = 14
+row Never = 15
+row Interrupted = 16
+row Overlong = 17
+row Reserved = 18
+row TooHigh = 19
 
--- the state asks for a byte, so it has one of the thirteen rows; the others are ends
+-- the state asks for a byte, so it has a row; the others are ends
 abbrev pub is_running : State → Bool
-is_running state = nat_lt (row state) 156
+is_running state = nat_lt (row state) 13
 
 -- the state behind a first byte
 abbrev pub begun : ℕ → State

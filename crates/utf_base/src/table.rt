@@ -10,49 +10,49 @@ use State::*;
 mod tests;
 
 /// What is known of a code of which some bytes were read: a state is running while it asks for more, and else
-/// an end. The number of a running state is where its row begins among the steps, and an end has a higher one.
+/// an end.
 #[derive(Clone, Copy, Debug, PartialEq, Eq)]
 pub enum State {
     /// No byte was read.
-    Start = 0,
+    Start,
     /// One continuation byte is missing, and any completes a code.
-    OneMore = 12,
+    OneMore,
     /// Two are missing, and any two complete it.
-    TwoMore = 24,
+    TwoMore,
     /// Three are missing, and any three complete it.
-    ThreeMore = 36,
+    ThreeMore,
     /// Behind 0xe0: two are missing, and the value is overlong where the first of them is below 0xa0.
-    BehindE0 = 48,
+    BehindE0,
     /// Behind 0xed: two are missing, and the value is a surrogate where the first of them is from 0xa0 on.
-    BehindEd = 60,
+    BehindEd,
     /// Behind 0xf0: three are missing, and the value is overlong where the first of them is below 0x90.
-    BehindF0 = 72,
+    BehindF0,
     /// Behind 0xf4: three are missing, and the value is too high where the first of them is from 0x90 on.
-    BehindF4 = 84,
+    BehindF4,
     /// Two are missing, and the value is overlong whatever they are.
-    TwoMoreOverlong = 96,
+    TwoMoreOverlong,
     /// One is missing, and the value is overlong whatever it is.
-    OneMoreOverlong = 108,
+    OneMoreOverlong,
     /// One is missing, and the value is a surrogate whatever it is.
-    OneMoreReserved = 120,
+    OneMoreReserved,
     /// Two are missing, and the value is too high whatever they are.
-    TwoMoreTooHigh = 132,
+    TwoMoreTooHigh,
     /// One is missing, and the value is too high whatever it is.
-    OneMoreTooHigh = 144,
+    OneMoreTooHigh,
     /// The bytes are a code.
-    Done = 156,
+    Done,
     /// The first byte is a continuation byte.
-    Unexpected = 157,
+    Unexpected,
     /// The first byte is one that no code has.
-    Never = 158,
+    Never,
     /// The last byte is no continuation byte, and one was asked for.
-    Interrupted = 159,
+    Interrupted,
     /// The bytes encode a number that needs fewer.
-    Overlong = 160,
+    Overlong,
     /// The bytes encode a surrogate.
-    Reserved = 161,
+    Reserved,
     /// The bytes encode a number above the last scalar.
-    TooHigh = 162,
+    TooHigh,
 }
 
 // The class of each byte, sixteen a line.
@@ -76,22 +76,22 @@ static CLASSES: [u8; 256] = [
     9, 10, 10, 10, 11, 4, 4, 4, 4, 4, 4, 4, 4, 4, 4, 4,
 ];
 
-// The state behind a byte of each class: a row of twelve classes for each running state, one behind another.
+// The state behind a byte of each class, twelve classes for each running state.
 #[rattlefmt::skip]
-static STEPS: [State; 156] = [
-    Done, Unexpected, Unexpected, Unexpected, Never, OneMore, BehindE0, TwoMore, BehindEd, BehindF0, ThreeMore, BehindF4,
-    Interrupted, Done, Done, Done, Interrupted, Interrupted, Interrupted, Interrupted, Interrupted, Interrupted, Interrupted, Interrupted,
-    Interrupted, OneMore, OneMore, OneMore, Interrupted, Interrupted, Interrupted, Interrupted, Interrupted, Interrupted, Interrupted, Interrupted,
-    Interrupted, TwoMore, TwoMore, TwoMore, Interrupted, Interrupted, Interrupted, Interrupted, Interrupted, Interrupted, Interrupted, Interrupted,
-    Interrupted, OneMoreOverlong, OneMoreOverlong, OneMore, Interrupted, Interrupted, Interrupted, Interrupted, Interrupted, Interrupted, Interrupted, Interrupted,
-    Interrupted, OneMore, OneMore, OneMoreReserved, Interrupted, Interrupted, Interrupted, Interrupted, Interrupted, Interrupted, Interrupted, Interrupted,
-    Interrupted, TwoMoreOverlong, TwoMore, TwoMore, Interrupted, Interrupted, Interrupted, Interrupted, Interrupted, Interrupted, Interrupted, Interrupted,
-    Interrupted, TwoMore, TwoMoreTooHigh, TwoMoreTooHigh, Interrupted, Interrupted, Interrupted, Interrupted, Interrupted, Interrupted, Interrupted, Interrupted,
-    Interrupted, OneMoreOverlong, OneMoreOverlong, OneMoreOverlong, Interrupted, Interrupted, Interrupted, Interrupted, Interrupted, Interrupted, Interrupted, Interrupted,
-    Interrupted, Overlong, Overlong, Overlong, Interrupted, Interrupted, Interrupted, Interrupted, Interrupted, Interrupted, Interrupted, Interrupted,
-    Interrupted, Reserved, Reserved, Reserved, Interrupted, Interrupted, Interrupted, Interrupted, Interrupted, Interrupted, Interrupted, Interrupted,
-    Interrupted, OneMoreTooHigh, OneMoreTooHigh, OneMoreTooHigh, Interrupted, Interrupted, Interrupted, Interrupted, Interrupted, Interrupted, Interrupted, Interrupted,
-    Interrupted, TooHigh, TooHigh, TooHigh, Interrupted, Interrupted, Interrupted, Interrupted, Interrupted, Interrupted, Interrupted, Interrupted,
+static STEPS: [[State; 12]; 13] = [
+    [Done, Unexpected, Unexpected, Unexpected, Never, OneMore, BehindE0, TwoMore, BehindEd, BehindF0, ThreeMore, BehindF4],
+    [Interrupted, Done, Done, Done, Interrupted, Interrupted, Interrupted, Interrupted, Interrupted, Interrupted, Interrupted, Interrupted],
+    [Interrupted, OneMore, OneMore, OneMore, Interrupted, Interrupted, Interrupted, Interrupted, Interrupted, Interrupted, Interrupted, Interrupted],
+    [Interrupted, TwoMore, TwoMore, TwoMore, Interrupted, Interrupted, Interrupted, Interrupted, Interrupted, Interrupted, Interrupted, Interrupted],
+    [Interrupted, OneMoreOverlong, OneMoreOverlong, OneMore, Interrupted, Interrupted, Interrupted, Interrupted, Interrupted, Interrupted, Interrupted, Interrupted],
+    [Interrupted, OneMore, OneMore, OneMoreReserved, Interrupted, Interrupted, Interrupted, Interrupted, Interrupted, Interrupted, Interrupted, Interrupted],
+    [Interrupted, TwoMoreOverlong, TwoMore, TwoMore, Interrupted, Interrupted, Interrupted, Interrupted, Interrupted, Interrupted, Interrupted, Interrupted],
+    [Interrupted, TwoMore, TwoMoreTooHigh, TwoMoreTooHigh, Interrupted, Interrupted, Interrupted, Interrupted, Interrupted, Interrupted, Interrupted, Interrupted],
+    [Interrupted, OneMoreOverlong, OneMoreOverlong, OneMoreOverlong, Interrupted, Interrupted, Interrupted, Interrupted, Interrupted, Interrupted, Interrupted, Interrupted],
+    [Interrupted, Overlong, Overlong, Overlong, Interrupted, Interrupted, Interrupted, Interrupted, Interrupted, Interrupted, Interrupted, Interrupted],
+    [Interrupted, Reserved, Reserved, Reserved, Interrupted, Interrupted, Interrupted, Interrupted, Interrupted, Interrupted, Interrupted, Interrupted],
+    [Interrupted, OneMoreTooHigh, OneMoreTooHigh, OneMoreTooHigh, Interrupted, Interrupted, Interrupted, Interrupted, Interrupted, Interrupted, Interrupted, Interrupted],
+    [Interrupted, TooHigh, TooHigh, TooHigh, Interrupted, Interrupted, Interrupted, Interrupted, Interrupted, Interrupted, Interrupted, Interrupted],
 ];
 
 /// The class of a byte: bytes of one class lead from each state to the same one.
@@ -110,7 +110,7 @@ pub fn step(state: State, c: u8) -> State
     requires bound { c < 12 }
     ensures { result ≡ next_state state c }
 {
-    STEPS[row_of(state) as usize + c as usize]
+    STEPS[row_of(state) as usize][c as usize]
 }
 
 /// The law of the table: the state behind some bytes tells what is wrong with them, as a merger says it that
@@ -137,7 +137,7 @@ pub fn error_behind(end: State) -> Utf8Error
     })
 }
 
-// Where the row of a running state begins among the steps.
+// The row of a running state in the table of steps.
 #[inline(always)]
 fn row_of(state: State) -> u8
     ensures { result ≡ row state }
