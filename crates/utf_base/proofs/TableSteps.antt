@@ -531,6 +531,69 @@ one_less Overlong c more = absurd (omega arith)
 one_less Reserved c more = absurd (omega arith)
 one_less TooHigh c more = absurd (omega arith)
 
+-- what only a first byte leads to
+abbrev pub is_of_first : State → Bool
+is_of_first Unexpected = true
+is_of_first Never = true
+is_of_first state = false
+
+-- a byte that is asked for leads to none of these
+pub never_of_first : (state : State) (c : ℕ) → 0 < missing state → is_of_first (next_state state c) ≡ false
+unfolding next_state
+never_of_first Start c more = absurd (omega arith)
+never_of_first OneMore c more = by_continued (λ next. is_of_first next ≡ false) Done Done Done c refl refl refl refl
+never_of_first TwoMore c more = by_continued (λ next. is_of_first next ≡ false) OneMore OneMore OneMore c refl refl refl refl
+never_of_first ThreeMore c more = by_continued (λ next. is_of_first next ≡ false) TwoMore TwoMore TwoMore c refl refl refl refl
+never_of_first BehindE0 c more = by_continued (λ next. is_of_first next ≡ false) OneMoreOverlong OneMoreOverlong OneMore c refl refl refl refl
+never_of_first BehindEd c more = by_continued (λ next. is_of_first next ≡ false) OneMore OneMore OneMoreReserved c refl refl refl refl
+never_of_first BehindF0 c more = by_continued (λ next. is_of_first next ≡ false) TwoMoreOverlong TwoMore TwoMore c refl refl refl refl
+never_of_first BehindF4 c more = by_continued (λ next. is_of_first next ≡ false) TwoMore TwoMoreTooHigh TwoMoreTooHigh c refl refl refl refl
+never_of_first TwoMoreOverlong c more = by_continued (λ next. is_of_first next ≡ false) OneMoreOverlong OneMoreOverlong OneMoreOverlong c refl refl refl refl
+never_of_first OneMoreOverlong c more = by_continued (λ next. is_of_first next ≡ false) Overlong Overlong Overlong c refl refl refl refl
+never_of_first OneMoreReserved c more = by_continued (λ next. is_of_first next ≡ false) Reserved Reserved Reserved c refl refl refl refl
+never_of_first TwoMoreTooHigh c more = by_continued (λ next. is_of_first next ≡ false) OneMoreTooHigh OneMoreTooHigh OneMoreTooHigh c refl refl refl refl
+never_of_first OneMoreTooHigh c more = by_continued (λ next. is_of_first next ≡ false) TooHigh TooHigh TooHigh c refl refl refl refl
+never_of_first Done c more = absurd (omega arith)
+never_of_first Unexpected c more = absurd (omega arith)
+never_of_first Never c more = absurd (omega arith)
+never_of_first Interrupted c more = absurd (omega arith)
+never_of_first Overlong c more = absurd (omega arith)
+never_of_first Reserved c more = absurd (omega arith)
+never_of_first TooHigh c more = absurd (omega arith)
+
+continues_no : (b : ℕ) → is_continuation b ≡ true → (b < 0x80) ⊎ (0xC0 ≤ b) → ⊥
+continues_no b follows (inl h) = grind (arith, common_steps)
+continues_no b follows (inr h) = grind (arith, common_steps)
+
+by_class : (state one two three : State) (b : ℕ) → is_continuation b ≡ true → missing state ≡ 1 + missing one → missing state ≡ 1 + missing two
+    → missing state ≡ 1 + missing three → missing state ≡ 1 + missing (continued one two three (class b))
+by_class state one two three b follows p q r =
+    by_follower (λ next. missing state ≡ 1 + missing next) one two three b (λ out. absurd (continues_no b follows out)) (λ l h. p) (λ l h. q) (λ l h. r)
+
+-- a byte that is asked for and continues does not interrupt, so one less is missing
+pub follower_is_less : (state : State) (b : ℕ) → 0 < missing state → is_continuation b ≡ true → missing state ≡ 1 + missing (next_state state (class b))
+unfolding next_state
+follower_is_less Start b more follows = absurd (omega arith)
+follower_is_less OneMore b more follows = by_class OneMore Done Done Done b follows refl refl refl
+follower_is_less TwoMore b more follows = by_class TwoMore OneMore OneMore OneMore b follows refl refl refl
+follower_is_less ThreeMore b more follows = by_class ThreeMore TwoMore TwoMore TwoMore b follows refl refl refl
+follower_is_less BehindE0 b more follows = by_class BehindE0 OneMoreOverlong OneMoreOverlong OneMore b follows refl refl refl
+follower_is_less BehindEd b more follows = by_class BehindEd OneMore OneMore OneMoreReserved b follows refl refl refl
+follower_is_less BehindF0 b more follows = by_class BehindF0 TwoMoreOverlong TwoMore TwoMore b follows refl refl refl
+follower_is_less BehindF4 b more follows = by_class BehindF4 TwoMore TwoMoreTooHigh TwoMoreTooHigh b follows refl refl refl
+follower_is_less TwoMoreOverlong b more follows = by_class TwoMoreOverlong OneMoreOverlong OneMoreOverlong OneMoreOverlong b follows refl refl refl
+follower_is_less OneMoreOverlong b more follows = by_class OneMoreOverlong Overlong Overlong Overlong b follows refl refl refl
+follower_is_less OneMoreReserved b more follows = by_class OneMoreReserved Reserved Reserved Reserved b follows refl refl refl
+follower_is_less TwoMoreTooHigh b more follows = by_class TwoMoreTooHigh OneMoreTooHigh OneMoreTooHigh OneMoreTooHigh b follows refl refl refl
+follower_is_less OneMoreTooHigh b more follows = by_class OneMoreTooHigh TooHigh TooHigh TooHigh b follows refl refl refl
+follower_is_less Done b more follows = absurd (omega arith)
+follower_is_less Unexpected b more follows = absurd (omega arith)
+follower_is_less Never b more follows = absurd (omega arith)
+follower_is_less Interrupted b more follows = absurd (omega arith)
+follower_is_less Overlong b more follows = absurd (omega arith)
+follower_is_less Reserved b more follows = absurd (omega arith)
+follower_is_less TooHigh b more follows = absurd (omega arith)
+
 -- the last byte that a state asks for leads to an end
 pub last_ends : (state : State) (c : ℕ) → missing state ≡ 1 → is_running (next_state state c) ≡ false
 unfolding next_state

@@ -7,3 +7,4 @@ pub mod PaddedUnits
 pub mod Ranges
 pub mod ScalarTest
 pub mod TextLemmas
+pub mod Walked

@@ -4,10 +4,13 @@ ghost use Rattle.std.specs.Int.{w32, from_le_bytes};
 ghost use Rattle.utf_base.specs.Code.{utf8};
 ghost use Rattle.utf_base.specs.Front.{as_scalar, IsOneCode, DecodesFront, DecodesBytes};
 ghost use Rattle.utf_base.specs.Kinds.{is_continuation};
+ghost use Rattle.utf_base.specs.Table.{class, next_state};
+ghost use Rattle.utf_base.specs.declared.table.State.TheVariants.{Start};
 ghost use Rattle.utf_chars.specs.Padded.{padded};
 
 use crate::continuation::continues;
 use utf_base::errors::{Utf8Error, Utf8ErrorKind};
+use utf_base::table::{State, class_of, error_behind, step};
 
 /// The code, then zeros, and how many bytes the code has: 1 to 4.
 #[inline(always)]
@@ -158,14 +161,6 @@ fn both_continue(second: u8, third: u8) -> bool
     continues(second) && continues(third)
 }
 
-// Whether three bytes have it.
-#[inline(always)]
-fn all_continue(second: u8, third: u8, fourth: u8) -> bool
-    ensures { result ≡ (is_continuation second && is_continuation third && is_continuation fourth) }
-{
-    both_continue(second, third) && continues(fourth)
-}
-
 // Whether the byte is the first of a code of two bytes or more.
 #[inline(always)]
 fn begins_many(first: u8) -> bool
@@ -208,7 +203,7 @@ fn decode_asked(src: &[u8]) -> Result<(char, usize), Utf8Error>
     }
 }
 
-// The character that begins the bytes, where the first asks for two.
+// The character that begins the bytes, where the first asks for two: any continuation byte completes a code.
 #[inline(always)]
 fn decode_two(src: &[u8]) -> Result<(char, usize), Utf8Error>
     requires some { 0 < length src.now }
@@ -219,14 +214,16 @@ fn decode_two(src: &[u8]) -> Result<(char, usize), Utf8Error>
     if src.len() < 2 {
         return Err(Utf8Error::new(Utf8ErrorKind::TooFewBytes));
     }
-    if !continues(src[1]) {
+    let end = step(State::OneMore, class_of(src[1]));
+    if end != State::Done {
         return Err(Utf8Error::new(Utf8ErrorKind::InterruptedSequence));
     }
     let value = value_of_two(src[0], src[1]);
     Ok((char::from_u32(value).unwrap(), 2))
 }
 
-// The character that begins the bytes, where the first asks for three.
+// The character that begins the bytes, where the first asks for three. The end that they lead to says whether
+// they are a code, and else what is wrong with them: no value is judged.
 #[inline(always)]
 fn decode_three(src: &[u8]) -> Result<(char, usize), Utf8Error>
     requires some { 0 < length src.now }
@@ -237,18 +234,18 @@ fn decode_three(src: &[u8]) -> Result<(char, usize), Utf8Error>
     if src.len() < 3 {
         return Err(Utf8Error::new(Utf8ErrorKind::TooFewBytes));
     }
-    if !both_continue(src[1], src[2]) {
+    if !continues(src[1]) {
         return Err(Utf8Error::new(Utf8ErrorKind::InterruptedSequence));
     }
-    let value = value_of_three(src[0], src[1], src[2]);
-    match value {
-        0x0000..=0x07ff => Err(Utf8Error::new(Utf8ErrorKind::OverlongEncoding)),
-        0xd800..=0xdfff => Err(Utf8Error::new(Utf8ErrorKind::Utf16ReservedCodepoint)),
-        _ => Ok((unsafe { char::from_u32_unchecked(value) }, 3)),
+    let end = step(behind_two(src[0], src[1]), class_of(src[2]));
+    if end != State::Done {
+        return Err(error_behind(end));
     }
+    let value = value_of_three(src[0], src[1], src[2]);
+    Ok((unsafe { char::from_u32_unchecked(value) }, 3))
 }
 
-// The character that begins the bytes, where the first asks for four.
+// The character that begins the bytes, where the first asks for four, by the end that they lead to.
 #[inline(always)]
 fn decode_four(src: &[u8]) -> Result<(char, usize), Utf8Error>
     requires some { 0 < length src.now }
@@ -259,13 +256,34 @@ fn decode_four(src: &[u8]) -> Result<(char, usize), Utf8Error>
     if src.len() < 4 {
         return Err(Utf8Error::new(Utf8ErrorKind::TooFewBytes));
     }
-    if !all_continue(src[1], src[2], src[3]) {
+    if !both_continue(src[1], src[2]) {
         return Err(Utf8Error::new(Utf8ErrorKind::InterruptedSequence));
     }
-    let value = value_of_four(src[0], src[1], src[2], src[3]);
-    match value {
-        0x0000..=0xffff => Err(Utf8Error::new(Utf8ErrorKind::OverlongEncoding)),
-        0x1_0000..=0x10_ffff => Ok((unsafe { char::from_u32_unchecked(value) }, 4)),
-        _ => Err(Utf8Error::new(Utf8ErrorKind::TooHighCodepoint)),
+    let end = step(behind_three(src[0], src[1], src[2]), class_of(src[3]));
+    if end != State::Done {
+        return Err(error_behind(end));
     }
+    let value = value_of_four(src[0], src[1], src[2], src[3]);
+    Ok((unsafe { char::from_u32_unchecked(value) }, 4))
+}
+
+// The state behind two bytes, where the first asks for three or four.
+#[inline(always)]
+fn behind_two(first: u8, second: u8) -> State
+    requires low { 0xE0 ≤ first }
+    requires high { first < 0xF5 }
+    ensures { result ≡ next_state (next_state Start (class first)) (class second) }
+{
+    step(step(State::Start, class_of(first)), class_of(second))
+}
+
+// The state behind three bytes, where the first asks for four and the second continues the code.
+#[inline(always)]
+fn behind_three(first: u8, second: u8, third: u8) -> State
+    requires low { 0xF0 ≤ first }
+    requires high { first < 0xF5 }
+    requires follower { is_continuation second ≡ true }
+    ensures { result ≡ next_state (next_state (next_state Start (class first)) (class second)) (class third) }
+{
+    step(behind_two(first, second), class_of(third))
 }

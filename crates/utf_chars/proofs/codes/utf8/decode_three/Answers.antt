@@ -1,8 +1,13 @@
-use Rattle.std.proofs.Common.{◌≤◌, ◌<◌, ◌∙◌, arith, sym}
-use Rattle.utf_base.specs.Scalar.{IsScalar}
-use Rattle.utf_base.proofs.FrontLemmas.{least_value-3}
-use Rattle.utf_base.proofs.KindCases.{Asks-3, kind-few, interrupted-3, Sums-3, kind-overlong, kind-surrogate, begins_with}
-use Rattle.utf_chars.proofs.codes.utf8.decode_three.Goals.{in_default-via-then-this-lt55296, in_default-via-else-this-lt55296+else-this-lt57344}
+use Rattle.std.proofs.Common.{◌≡◌, ◌∙◌, ap, arith, lit<, refl, rules, sym, None}
+use denote.Enum.Bare.{differs_false}
+use Rattle.utf_base.specs.contracts.table.State.{the_type}
+use Rattle.utf_base.specs.declared.table.State.TheVariants.{Done}
+use Rattle.utf_base.specs.Kinds.{fault_kind}
+use Rattle.utf_base.specs.Table.{fault_of, missing}
+use Rattle.utf_base.proofs.FrontLemmas.{asked-3, value-3}
+use Rattle.utf_base.proofs.KindCases.{Asks-3, interrupted-3, kind-few}
+use Rattle.utf_base.proofs.TableSteps.{asks_runs}
+use Rattle.utf_chars.proofs.Walked.{continues_in_code, ends-3, second_asks-3, std_scalar, walk_finds}
 use Rattle.utf_chars.proofs.codes.utf8.decode_three.Goals as goal
 
 pub returns-then-src-lt3 : goal.returns-then-src-lt3
@@ -10,36 +15,65 @@ returns-then-src-lt3 c =
     let asks = Asks-3 _ c.requires.some c.requires.low c.requires.high in
     rw c.new.ensures (kind-few _ 3 asks c.if-src-lt3.true)
 
-pub returns-then-not-both_continue : goal.returns-then-not-both_continue
-returns-then-not-both_continue c =
+pub returns-then-not-continues : goal.returns-then-not-continues
+returns-then-not-continues c =
     let asks = Asks-3 _ c.requires.some c.requires.low c.requires.high in
-    rw c.new-then-not-both_continue.ensures
-    (interrupted-3 _ asks c.if-src-lt3.false (sym c.both_continue.ensures ∙ c.if-not-both_continue.true))
+    let breaks = sym c.continues.ensures ∙ c.if-not-continues.true in
+    rw c.new-then-not-continues.ensures (interrupted-3 _ asks c.if-src-lt3.false (rw breaks refl))
 
-pub returns-in-0-to-2047 : goal.returns-in-0-to-2047
-returns-in-0-to-2047 c =
-    let low : c.value_of_three-value.result < 0x800 = omega arith in
-    let asks = Asks-3 _ c.requires.some c.requires.low c.requires.high in
-    let sums = Sums-3 _ _ asks c.if-src-lt3.false (sym c.both_continue.ensures ∙ c.if-not-both_continue.false) c.value_of_three-value.ensures.sum in
-    rw c.new-in-0-to-2047.ensures (kind-overlong _ 3 _ sums (rw least_value-3 low))
+pub step-end-requires-clause-running : goal.step-end-requires-clause-running
+step-end-requires-clause-running c =
+    let follows = sym c.continues.ensures ∙ c.if-not-continues.false in
+    let asks = ap missing c.behind_two.ensures ∙ second_asks-3 _ _ c.requires.low c.requires.high follows in
+    asks_runs _ (omega arith)
 
-pub returns-in-55296-to-57343 : goal.returns-in-55296-to-57343
-returns-in-55296-to-57343 c =
-    let least : 0x800 ≤ c.value_of_three-value.result = omega arith in
-    let low : 0xD800 ≤ c.value_of_three-value.result = omega arith in
-    let high : c.value_of_three-value.result < 0xE000 = omega arith in
-    let asks = Asks-3 _ c.requires.some c.requires.low c.requires.high in
-    let sums = Sums-3 _ _ asks c.if-src-lt3.false (sym c.both_continue.ensures ∙ c.if-not-both_continue.false) c.value_of_three-value.ensures.sum in
-    rw c.new-in-55296-to-57343.ensures (kind-surrogate _ 3 _ sums (rw least_value-3 least) low high)
+pub error_behind-requires-clause-followed : goal.error_behind-requires-clause-followed
+error_behind-requires-clause-followed c =
+    let follows = sym c.continues.ensures ∙ c.if-not-continues.false in
+    let end = ends-3 c.args.src.now _ _ _ c.requires.low c.requires.high c.if-src-lt3.false follows c.behind_two.ensures c.class_of.ensures.class c.step-end.ensures in
+    end.followed
 
-pub returns-in_default : goal.returns-in_default
-returns-in_default c =
-    let bound = c.value_of_three-value.ensures.bound in
-    let least : 0x800 ≤ c.value_of_three-value.result = omega arith in
-    let scalar : IsScalar c.value_of_three-value.result = elim c.in_default.branch [
-      | in_default-via-then-this-lt55296 w ↦ record { below = omega arith; no_surrogate = λ g. omega arith }
-      | in_default-via-else-this-lt55296+else-this-lt57344 w ↦ record { below = omega arith; no_surrogate = λ g. omega arith }
-    ] in
-    let asks = Asks-3 _ c.requires.some c.requires.low c.requires.high in
-    let sums = Sums-3 _ _ asks c.if-src-lt3.false (sym c.both_continue.ensures ∙ c.if-not-both_continue.false) c.value_of_three-value.ensures.sum in
-    rw c.from_u32_unchecked.ensures (begins_with _ 3 _ sums (rw least_value-3 least) scalar)
+pub error_behind-requires-clause-known : goal.error_behind-requires-clause-known
+error_behind-requires-clause-known c =
+    let follows = sym c.continues.ensures ∙ c.if-not-continues.false in
+    let end = ends-3 c.args.src.now _ _ _ c.requires.low c.requires.high c.if-src-lt3.false follows c.behind_two.ensures c.class_of.ensures.class c.step-end.ensures in
+    end.known
+
+pub error_behind-requires-clause-ended : goal.error_behind-requires-clause-ended
+error_behind-requires-clause-ended c =
+    let follows = sym c.continues.ensures ∙ c.if-not-continues.false in
+    let end = ends-3 c.args.src.now _ _ _ c.requires.low c.requires.high c.if-src-lt3.false follows c.behind_two.ensures c.class_of.ensures.class c.step-end.ensures in
+    end.ended
+
+pub returns-then-ne : goal.returns-then-ne
+returns-then-ne c =
+    let follows = sym c.continues.ensures ∙ c.if-not-continues.false in
+    let end = ends-3 c.args.src.now _ _ _ c.requires.low c.requires.high c.if-src-lt3.false follows c.behind_two.ensures c.class_of.ensures.class c.step-end.ensures in
+    end.fault ∙ c.error_behind.ensures
+
+pub value_of_three-value-requires-clause-followers : goal.value_of_three-value-requires-clause-followers
+value_of_three-value-requires-clause-followers c =
+    let asks = asked-3 _ c.requires.low c.requires.high in
+    let follows = sym c.continues.ensures ∙ c.if-not-continues.false in
+    let end = ends-3 c.args.src.now _ _ _ c.requires.low c.requires.high c.if-src-lt3.false follows c.behind_two.ensures c.class_of.ensures.class c.step-end.ensures in
+    let done = differs_false the_type (search rules) c.step-end.result Done (sym c.ne.ensures ∙ c.if-ne.false) in
+    let none : fault_kind c.args.src.now ≡ None = end.fault ∙ ap fault_of done in
+    rw (follows, continues_in_code _ 2 none (lit< tt) (omega arith)) refl
+
+pub from_u32_unchecked-requires : goal.from_u32_unchecked-requires
+from_u32_unchecked-requires c =
+    let asks = asked-3 _ c.requires.low c.requires.high in
+    let follows = sym c.continues.ensures ∙ c.if-not-continues.false in
+    let end = ends-3 c.args.src.now _ _ _ c.requires.low c.requires.high c.if-src-lt3.false follows c.behind_two.ensures c.class_of.ensures.class c.step-end.ensures in
+    let done = differs_false the_type (search rules) c.step-end.result Done (sym c.ne.ensures ∙ c.if-ne.false) in
+    let none : fault_kind c.args.src.now ≡ None = end.fault ∙ ap fault_of done in
+    std_scalar _ _ none (value-3 c.args.src.now asks ∙ sym c.value_of_three-value.ensures.sum)
+
+pub returns : goal.returns
+returns c =
+    let asks = asked-3 _ c.requires.low c.requires.high in
+    let follows = sym c.continues.ensures ∙ c.if-not-continues.false in
+    let end = ends-3 c.args.src.now _ _ _ c.requires.low c.requires.high c.if-src-lt3.false follows c.behind_two.ensures c.class_of.ensures.class c.step-end.ensures in
+    let done = differs_false the_type (search rules) c.step-end.result Done (sym c.ne.ensures ∙ c.if-ne.false) in
+    let none : fault_kind c.args.src.now ≡ None = end.fault ∙ ap fault_of done in
+    rw c.from_u32_unchecked.ensures (walk_finds _ 3 _ none asks (value-3 _ asks ∙ sym c.value_of_three-value.ensures.sum))
