@@ -11,7 +11,7 @@ use Rattle.utf_base.specs.Scalar.{IsScalar}
 use Rattle.utf_base.specs.Table.{class, fault_of, is_running, missing, next_state, state_after}
 use Rattle.utf_base.proofs.FrontLemmas.{asked_le, code_where_no_fault}
 use Rattle.utf_base.proofs.MergerLemmas.{merger_none, whole_code}
-use Rattle.utf_base.proofs.TableSteps.{Reached, Runs, asks_runs, first-2, first-3, first-4, goes_on, kind_at_end, kind_of_all, last_ends, one_less, one_more_ends, reached}
+use Rattle.utf_base.proofs.TableSteps.{Reached, Runs, asks_runs, first-2, first-3, first-4, follower_is_less, is_of_first, kind_at_end, kind_of_all, last_ends, one_less, one_more_ends, reached}
 use Rattle.std.proofs.lemmas.Bool.{cases_lt}
 
 -- A running state behind some bytes asks for more of them.
@@ -80,8 +80,7 @@ two_end a b low high e =
 two_miss : (a b n : ℕ) → missing (next_state Start (class a)) ≡ suc n → is_continuation b ≡ true → missing (state_after (a ∷ b ∷ []) 2) ≡ n
 two_miss a b n e c =
     let state = next_state Start (class a) in
-    let some : 0 < missing state = omega arith in
-    let less = one_less state (class b) some (goes_on state b some c) in
+    let less = follower_is_less state b (omega arith) c in
     omega arith
 
 pub two_of_three : (a b : ℕ) → 0xE0 ≤ a → a < 0xF0 → is_continuation b ≡ true → missing (state_after (a ∷ b ∷ []) 2) ≡ 1
@@ -102,6 +101,10 @@ fourth_ends a b c d e =
     let more = r.1 in
     let most = asked_le a in
     last_ends state (class d) (omega arith)
+
+-- A follower does not lead to what only a first byte leads to.
+pub other_than : (end first : State) → is_of_first end ≡ false → is_of_first first ≡ true → end ≡ first → ⊥
+other_than end first later begins e = let same : true ≡ false = sym begins ∙ sym (ap is_of_first e) ∙ later in cc
 
 -- A step that the code made, as one of the walk.
 pub stepped : (state s next : State) (c b : ℕ) → next ≡ next_state state c → c ≡ class b → state ≡ s → next ≡ next_state s (class b)

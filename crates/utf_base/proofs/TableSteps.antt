@@ -1,5 +1,5 @@
 -- A walk over the table tells the kind of the bytes: step by step, what is known of them by the state that is reached.
-use Rattle.std.proofs.Common.{◌≡◌, ℕ, zero, suc, ◌+◌, ◌<◌, ◌≤◌, ◌⊎◌, inl, inr, ⊎_elim, List, [], ◌∷◌, length, get_or, arith, refl, sym, ◌∙◌, ◌==◌, if◌then◌else◌, ap, Some, None, Bool, true, false, lit<}
+use Rattle.std.proofs.Common.{◌≡◌, ℕ, zero, suc, ◌+◌, ◌<◌, ◌≤◌, ◌⊎◌, inl, inr, ⊎_elim, List, length, get_or, arith, refl, sym, ◌∙◌, ◌==◌, if◌then◌else◌, ap, Some, None, Bool, true, false, lit<}
 use Rattle.std.proofs.lemmas.Grind.{common_steps}
 use Rattle.std.proofs.lemmas.Bool.{cases_lt}
 use Rattle.utf_base.specs.declared.errors.Utf8ErrorKind.TheVariants.{TooFewBytes, InterruptedSequence, OverlongEncoding, Utf16ReservedCodepoint, TooHighCodepoint}
@@ -618,74 +618,13 @@ last_ends Overlong c e = absurd (omega arith)
 last_ends Reserved c e = absurd (omega arith)
 last_ends TooHigh c e = absurd (omega arith)
 
--- a continuation byte breaks no code
-by_continuation : (P : State → Type 0) (one two three : State) (b : ℕ) → is_continuation b ≡ true → P one → P two → P three → P (continued one two three (class b))
-unfolding class
-by_continuation P one two three b e p q r =
-    let between : Continues (b ∷ []) 0 = grind (arith, common_steps) in
-    let low : 0x80 ≤ b = between.0 in
-    let high : b < 0xC0 = between.1 in
-    ⊎_elim (λ (h : b < 0x90). let is : class b ≡ 1 = grind (arith, common_steps) in rw is p)
-    (λ (l : 0x90 ≤ b). ⊎_elim (λ (h : b < 0xA0). let is : class b ≡ 2 = grind (arith, common_steps) in rw is q)
-    (λ (m : 0xA0 ≤ b). let is : class b ≡ 3 = grind (arith, common_steps) in rw is r)
-    (cases_lt b 0xA0)) (cases_lt b 0x90)
-
-pub goes_on : (state : State) (b : ℕ) → 0 < missing state → is_continuation b ≡ true → next_state state (class b) ≡ Interrupted → ⊥
-unfolding next_state
-goes_on Start b more e = absurd (omega arith)
-goes_on OneMore b more e = by_continuation (λ next. next ≡ Interrupted → ⊥) Done Done Done b e (λ i. cc) (λ i. cc) (λ i. cc)
-goes_on TwoMore b more e = by_continuation (λ next. next ≡ Interrupted → ⊥) OneMore OneMore OneMore b e (λ i. cc) (λ i. cc) (λ i. cc)
-goes_on ThreeMore b more e = by_continuation (λ next. next ≡ Interrupted → ⊥) TwoMore TwoMore TwoMore b e (λ i. cc) (λ i. cc) (λ i. cc)
-goes_on BehindE0 b more e = by_continuation (λ next. next ≡ Interrupted → ⊥) OneMoreOverlong OneMoreOverlong OneMore b e (λ i. cc) (λ i. cc) (λ i. cc)
-goes_on BehindEd b more e = by_continuation (λ next. next ≡ Interrupted → ⊥) OneMore OneMore OneMoreReserved b e (λ i. cc) (λ i. cc) (λ i. cc)
-goes_on BehindF0 b more e = by_continuation (λ next. next ≡ Interrupted → ⊥) TwoMoreOverlong TwoMore TwoMore b e (λ i. cc) (λ i. cc) (λ i. cc)
-goes_on BehindF4 b more e = by_continuation (λ next. next ≡ Interrupted → ⊥) TwoMore TwoMoreTooHigh TwoMoreTooHigh b e (λ i. cc) (λ i. cc) (λ i. cc)
-goes_on TwoMoreOverlong b more e = by_continuation (λ next. next ≡ Interrupted → ⊥) OneMoreOverlong OneMoreOverlong OneMoreOverlong b e (λ i. cc) (λ i. cc) (λ i. cc)
-goes_on OneMoreOverlong b more e = by_continuation (λ next. next ≡ Interrupted → ⊥) Overlong Overlong Overlong b e (λ i. cc) (λ i. cc) (λ i. cc)
-goes_on OneMoreReserved b more e = by_continuation (λ next. next ≡ Interrupted → ⊥) Reserved Reserved Reserved b e (λ i. cc) (λ i. cc) (λ i. cc)
-goes_on TwoMoreTooHigh b more e = by_continuation (λ next. next ≡ Interrupted → ⊥) OneMoreTooHigh OneMoreTooHigh OneMoreTooHigh b e (λ i. cc) (λ i. cc) (λ i. cc)
-goes_on OneMoreTooHigh b more e = by_continuation (λ next. next ≡ Interrupted → ⊥) TooHigh TooHigh TooHigh b e (λ i. cc) (λ i. cc) (λ i. cc)
-goes_on Done b more e = absurd (omega arith)
-goes_on Unexpected b more e = absurd (omega arith)
-goes_on Never b more e = absurd (omega arith)
-goes_on Interrupted b more e = absurd (omega arith)
-goes_on Overlong b more e = absurd (omega arith)
-goes_on Reserved b more e = absurd (omega arith)
-goes_on TooHigh b more e = absurd (omega arith)
-
--- and where one is missing and any completes a code, it does
+-- where one byte is missing and any continuation byte completes a code, that does
 pub one_more_ends : (b : ℕ) → is_continuation b ≡ true → next_state OneMore (class b) ≡ Done
 unfolding next_state
-one_more_ends b e = by_continuation (λ next. next ≡ Done) Done Done Done b e refl refl refl
+one_more_ends b follows =
+    by_follower (λ next. next ≡ Done) Done Done Done b (λ out. absurd (continues_no b follows out)) (λ l h. refl) (λ l h. refl) (λ l h. refl)
 
--- only a first byte leads to these ends
-abbrev IsBehind : State → Type 0
-IsBehind next = (next ≡ Unexpected → ⊥) × (next ≡ Never → ⊥)
-
-pub behind_first : (state : State) (c : ℕ) → 0 < missing state → (next_state state c ≡ Unexpected → ⊥) × (next_state state c ≡ Never → ⊥)
-unfolding next_state
-behind_first Start c more = absurd (omega arith)
-behind_first OneMore c more = by_continued IsBehind Done Done Done c (λ i. cc, λ i. cc) (λ i. cc, λ i. cc) (λ i. cc, λ i. cc) (λ i. cc, λ i. cc)
-behind_first TwoMore c more = by_continued IsBehind OneMore OneMore OneMore c (λ i. cc, λ i. cc) (λ i. cc, λ i. cc) (λ i. cc, λ i. cc) (λ i. cc, λ i. cc)
-behind_first ThreeMore c more = by_continued IsBehind TwoMore TwoMore TwoMore c (λ i. cc, λ i. cc) (λ i. cc, λ i. cc) (λ i. cc, λ i. cc) (λ i. cc, λ i. cc)
-behind_first BehindE0 c more = by_continued IsBehind OneMoreOverlong OneMoreOverlong OneMore c (λ i. cc, λ i. cc) (λ i. cc, λ i. cc) (λ i. cc, λ i. cc) (λ i. cc, λ i. cc)
-behind_first BehindEd c more = by_continued IsBehind OneMore OneMore OneMoreReserved c (λ i. cc, λ i. cc) (λ i. cc, λ i. cc) (λ i. cc, λ i. cc) (λ i. cc, λ i. cc)
-behind_first BehindF0 c more = by_continued IsBehind TwoMoreOverlong TwoMore TwoMore c (λ i. cc, λ i. cc) (λ i. cc, λ i. cc) (λ i. cc, λ i. cc) (λ i. cc, λ i. cc)
-behind_first BehindF4 c more = by_continued IsBehind TwoMore TwoMoreTooHigh TwoMoreTooHigh c (λ i. cc, λ i. cc) (λ i. cc, λ i. cc) (λ i. cc, λ i. cc) (λ i. cc, λ i. cc)
-behind_first TwoMoreOverlong c more = by_continued IsBehind OneMoreOverlong OneMoreOverlong OneMoreOverlong c (λ i. cc, λ i. cc) (λ i. cc, λ i. cc) (λ i. cc, λ i. cc) (λ i. cc, λ i. cc)
-behind_first OneMoreOverlong c more = by_continued IsBehind Overlong Overlong Overlong c (λ i. cc, λ i. cc) (λ i. cc, λ i. cc) (λ i. cc, λ i. cc) (λ i. cc, λ i. cc)
-behind_first OneMoreReserved c more = by_continued IsBehind Reserved Reserved Reserved c (λ i. cc, λ i. cc) (λ i. cc, λ i. cc) (λ i. cc, λ i. cc) (λ i. cc, λ i. cc)
-behind_first TwoMoreTooHigh c more = by_continued IsBehind OneMoreTooHigh OneMoreTooHigh OneMoreTooHigh c (λ i. cc, λ i. cc) (λ i. cc, λ i. cc) (λ i. cc, λ i. cc) (λ i. cc, λ i. cc)
-behind_first OneMoreTooHigh c more = by_continued IsBehind TooHigh TooHigh TooHigh c (λ i. cc, λ i. cc) (λ i. cc, λ i. cc) (λ i. cc, λ i. cc) (λ i. cc, λ i. cc)
-behind_first Done c more = absurd (omega arith)
-behind_first Unexpected c more = absurd (omega arith)
-behind_first Never c more = absurd (omega arith)
-behind_first Interrupted c more = absurd (omega arith)
-behind_first Overlong c more = absurd (omega arith)
-behind_first Reserved c more = absurd (omega arith)
-behind_first TooHigh c more = absurd (omega arith)
-
--- where one byte is missing and any continuation byte completes a code, no other fault is left
+-- and no other fault is left
 pub one_more_breaks : (c : ℕ) → (next_state OneMore c ≡ Done → ⊥) → next_state OneMore c ≡ Interrupted
 unfolding next_state
 one_more_breaks c =

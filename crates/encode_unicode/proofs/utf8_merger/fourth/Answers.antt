@@ -1,10 +1,10 @@
 use Rattle.std.proofs.Common.{◌≡◌, [], ◌∷◌, lit<, ap, sym, ◌∙◌, arith, refl}
 use Rattle.utf_base.specs.Kinds.{value}
 use Rattle.utf_base.specs.Table.{class, is_running, state_after}
-use Rattle.utf_base.specs.declared.table.State.TheVariants.{Done}
-use Rattle.utf_base.proofs.TableSteps.{behind_first}
+use Rattle.utf_base.specs.declared.table.State.TheVariants.{Done, Never, Unexpected}
+use Rattle.utf_base.proofs.TableSteps.{is_of_first, never_of_first}
 use Rattle.encode_unicode.proofs.ByteMerging.{code_behind, end_behind, fault_behind, held_two, held_three, four_padded}
-use Rattle.encode_unicode.proofs.ByteWalks.{code_behind_walk, continues_behind, few_behind, fourth_ends, fourth_misses, kind_of_end, stepped}
+use Rattle.encode_unicode.proofs.ByteWalks.{code_behind_walk, continues_behind, few_behind, fourth_ends, fourth_misses, kind_of_end, other_than, stepped}
 use Rattle.encode_unicode.proofs.utf8_merger.fourth.Goals as goal
 
 pub error_of-requires : goal.error_of-requires
@@ -12,11 +12,11 @@ error_of-requires g c =
     let runs = sym (ap is_running c.requires.walked) ∙ c.requires.running in
     let at = stepped _ _ _ _ _ c.step.ensures c.class_of.ensures.class c.requires.walked in
     let more = fourth_misses c.args.first c.args.second c.args.third runs in
-    let other = behind_first (state_after (c.args.first ∷ c.args.second ∷ c.args.third ∷ []) 3) (class c.in-Some.byte) more in
+    let later = ap is_of_first at ∙ never_of_first (state_after (c.args.first ∷ c.args.second ∷ c.args.third ∷ []) 3) (class c.in-Some.byte) more in
     record {
       some = c.in_default.not-Done;
-      followed = λ u. other.0 (sym at ∙ u);
-      known = λ n. other.1 (sym at ∙ n);
+      followed = other_than c.step.result Unexpected later refl;
+      known = other_than c.step.result Never later refl;
       ended = ap is_running at ∙ fourth_ends c.args.first c.args.second c.args.third c.in-Some.byte runs;
     }
 

@@ -1,10 +1,10 @@
 use Rattle.std.proofs.Common.{◌≡◌, [], ◌∷◌, lit<, ap, sym, ◌∙◌, arith, refl}
 use Rattle.utf_base.specs.Kinds.{value}
 use Rattle.utf_base.specs.Table.{is_running, missing, state_after}
-use Rattle.utf_base.specs.declared.table.State.TheVariants.{Done}
-use Rattle.utf_base.proofs.TableSteps.{asks_runs, behind_first, last_ends}
+use Rattle.utf_base.specs.declared.table.State.TheVariants.{Done, Never, Unexpected}
+use Rattle.utf_base.proofs.TableSteps.{asks_runs, is_of_first, last_ends, never_of_first}
 use Rattle.encode_unicode.proofs.ByteMerging.{code_behind, end_behind, fault_behind, held_one, held_two, three_padded}
-use Rattle.encode_unicode.proofs.ByteWalks.{code_behind_walk, few_behind, kind_of_end, stepped, two_of_three}
+use Rattle.encode_unicode.proofs.ByteWalks.{code_behind_walk, few_behind, kind_of_end, other_than, stepped, two_of_three}
 use Rattle.encode_unicode.proofs.utf8_merger.third_of_three.Goals as goal
 
 pub step-requires-clause-running : goal.step-requires-clause-running
@@ -15,11 +15,11 @@ step-requires-clause-running g c =
 pub error_of-requires : goal.error_of-requires
 error_of-requires g c =
     let one = ap missing c.behind_two.ensures ∙ two_of_three c.args.first c.args.second c.requires.low c.requires.high c.requires.continuation in
-    let other = behind_first c.behind_two.result c.class_of.result (omega arith) in
+    let later = ap is_of_first c.step.ensures ∙ never_of_first c.behind_two.result c.class_of.result (omega arith) in
     record {
       some = c.in_default.not-Done;
-      followed = λ u. other.0 (sym c.step.ensures ∙ u);
-      known = λ n. other.1 (sym c.step.ensures ∙ n);
+      followed = other_than c.step.result Unexpected later refl;
+      known = other_than c.step.result Never later refl;
       ended = ap is_running c.step.ensures ∙ last_ends c.behind_two.result c.class_of.result one;
     }
 
