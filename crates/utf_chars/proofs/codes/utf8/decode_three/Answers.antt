@@ -1,9 +1,9 @@
-use Rattle.std.proofs.Common.{◌≡◌, ◌≤◌, ◌<◌, ◌∙◌, ap, arith, lit<, refl, rules, sym, None}
+use Rattle.std.proofs.Common.{◌≡◌, ◌∙◌, ap, arith, refl, rules, sym, None}
 use denote.Enum.Bare.{differs_true, differs_false}
 use Rattle.utf_base.specs.contracts.table.State.{the_type}
 use Rattle.utf_base.specs.declared.table.State.TheVariants.{OneMore}
 use Rattle.utf_base.specs.Kinds.{fault_kind}
-use Rattle.utf_base.specs.Table.{class, fault_of, missing, next_state}
+use Rattle.utf_base.specs.Table.{fault_of, missing}
 use Rattle.utf_base.proofs.FrontLemmas.{asked-3, value-3}
 use Rattle.utf_base.proofs.KindCases.{Asks-3, interrupted-3, kind-few}
 use Rattle.utf_base.proofs.TableSteps.{asks_runs}
