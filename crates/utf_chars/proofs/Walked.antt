@@ -4,13 +4,13 @@ use Rattle.std.proofs.lemmas.Bool.{cases_lt}
 use Rattle.std.proofs.lemmas.Grind.{common_steps}
 use Rattle.std.specs.Char.{IsScalar as IsStdScalar}
 use Rattle.utf_base.specs.declared.table.State.{State}
-use Rattle.utf_base.specs.declared.table.State.TheVariants.{Start, OneMore, Unexpected, Never}
+use Rattle.utf_base.specs.declared.table.State.TheVariants.{Start, OneMore, TwoMore, ThreeMore, BehindE0, BehindEd, BehindF0, BehindF4, TwoMoreOverlong, OneMoreOverlong, OneMoreReserved, TwoMoreTooHigh, OneMoreTooHigh, Done, Unexpected, Never, Interrupted, Overlong, Reserved, TooHigh}
 use Rattle.utf_base.specs.Code.{utf8}
 use Rattle.utf_base.specs.Front.{BeginsWith}
 use Rattle.utf_base.specs.Kinds.{fault_kind, asked_by, value, is_continuation}
-use Rattle.utf_base.specs.Table.{class, fault_of, is_running, missing, next_state, state_after}
+use Rattle.utf_base.specs.Table.{class, continued, fault_of, is_running, missing, next_state, state_after}
 use Rattle.utf_base.proofs.FrontLemmas.{asked-2, asked-3, asked-4, decodes_from_none, code_where_no_fault}
-use Rattle.utf_base.proofs.TableSteps.{fault_at_end, first-2, first-3, first-4, follower_is_less, is_of_first, last_ends, never_of_first}
+use Rattle.utf_base.proofs.TableSteps.{by_continued, fault_at_end, first-2, first-3, first-4, follower_is_less, is_of_first, last_ends, never_of_first}
 
 -- How many bytes the state behind some asks for.
 
@@ -36,6 +36,127 @@ third_asks first second third low high follows follows' =
     let asks = second_asks-4 first second low high follows in
     let less = follower_is_less (next_state (next_state Start (class first)) (class second)) third (omega arith) follows' in
     omega arith
+
+-- Where any that continue complete a code, and where none do.
+
+any_leads : (next : State) (b : ℕ) → is_continuation b ≡ true → continued next next next (class b) ≡ next
+unfolding class
+any_leads next b follows = grind (arith, common_steps)
+
+pub completes-1 : (state : State) (b : ℕ) → state ≡ OneMore → is_continuation b ≡ true → next_state state (class b) ≡ Done
+unfolding next_state
+completes-1 state b e follows = rw e (any_leads Done b follows)
+
+pub completes-2 : (state : State) (b : ℕ) → state ≡ TwoMore → is_continuation b ≡ true → next_state state (class b) ≡ OneMore
+unfolding next_state
+completes-2 state b e follows = rw e (any_leads OneMore b follows)
+
+abbrev is_done : State → Bool
+is_done Done = true
+is_done state = false
+
+abbrev is_one_more : State → Bool
+is_one_more OneMore = true
+is_one_more state = false
+
+-- the state may stand behind two bytes, where the first asks for four
+abbrev is_second_of_four : State → Bool
+is_second_of_four TwoMore = true
+is_second_of_four TwoMoreOverlong = true
+is_second_of_four TwoMoreTooHigh = true
+is_second_of_four Interrupted = true
+is_second_of_four state = false
+
+never_done : (state : State) (c : ℕ) → missing state ≡ 1 → (state ≡ OneMore → ⊥) → is_done (next_state state c) ≡ false
+unfolding next_state
+never_done Start c e other = absurd (omega arith)
+never_done OneMore c e other = absurd (other refl)
+never_done TwoMore c e other = absurd (omega arith)
+never_done ThreeMore c e other = absurd (omega arith)
+never_done BehindE0 c e other = absurd (omega arith)
+never_done BehindEd c e other = absurd (omega arith)
+never_done BehindF0 c e other = absurd (omega arith)
+never_done BehindF4 c e other = absurd (omega arith)
+never_done TwoMoreOverlong c e other = absurd (omega arith)
+never_done OneMoreOverlong c e other = by_continued (λ next. is_done next ≡ false) Overlong Overlong Overlong c refl refl refl refl
+never_done OneMoreReserved c e other = by_continued (λ next. is_done next ≡ false) Reserved Reserved Reserved c refl refl refl refl
+never_done TwoMoreTooHigh c e other = absurd (omega arith)
+never_done OneMoreTooHigh c e other = by_continued (λ next. is_done next ≡ false) TooHigh TooHigh TooHigh c refl refl refl refl
+never_done Done c e other = absurd (omega arith)
+never_done Unexpected c e other = absurd (omega arith)
+never_done Never c e other = absurd (omega arith)
+never_done Interrupted c e other = absurd (omega arith)
+never_done Overlong c e other = absurd (omega arith)
+never_done Reserved c e other = absurd (omega arith)
+never_done TooHigh c e other = absurd (omega arith)
+
+second_of_four : (state : State) (c : ℕ) → missing state ≡ 3 → is_second_of_four (next_state state c) ≡ true
+unfolding next_state
+second_of_four Start c e = absurd (omega arith)
+second_of_four OneMore c e = absurd (omega arith)
+second_of_four TwoMore c e = absurd (omega arith)
+second_of_four ThreeMore c e = by_continued (λ next. is_second_of_four next ≡ true) TwoMore TwoMore TwoMore c refl refl refl refl
+second_of_four BehindE0 c e = absurd (omega arith)
+second_of_four BehindEd c e = absurd (omega arith)
+second_of_four BehindF0 c e = by_continued (λ next. is_second_of_four next ≡ true) TwoMoreOverlong TwoMore TwoMore c refl refl refl refl
+second_of_four BehindF4 c e = by_continued (λ next. is_second_of_four next ≡ true) TwoMore TwoMoreTooHigh TwoMoreTooHigh c refl refl refl refl
+second_of_four TwoMoreOverlong c e = absurd (omega arith)
+second_of_four OneMoreOverlong c e = absurd (omega arith)
+second_of_four OneMoreReserved c e = absurd (omega arith)
+second_of_four TwoMoreTooHigh c e = absurd (omega arith)
+second_of_four OneMoreTooHigh c e = absurd (omega arith)
+second_of_four Done c e = absurd (omega arith)
+second_of_four Unexpected c e = absurd (omega arith)
+second_of_four Never c e = absurd (omega arith)
+second_of_four Interrupted c e = absurd (omega arith)
+second_of_four Overlong c e = absurd (omega arith)
+second_of_four Reserved c e = absurd (omega arith)
+second_of_four TooHigh c e = absurd (omega arith)
+
+never_one_more : (state : State) (c : ℕ) → missing state ≡ 2 → is_second_of_four state ≡ true → (state ≡ TwoMore → ⊥) → is_one_more (next_state state c) ≡ false
+unfolding next_state
+never_one_more Start c e second other = absurd (omega arith)
+never_one_more OneMore c e second other = absurd (omega arith)
+never_one_more TwoMore c e second other = absurd (other refl)
+never_one_more ThreeMore c e second other = absurd (omega arith)
+never_one_more BehindE0 c e second other = cc
+never_one_more BehindEd c e second other = cc
+never_one_more BehindF0 c e second other = absurd (omega arith)
+never_one_more BehindF4 c e second other = absurd (omega arith)
+never_one_more TwoMoreOverlong c e second other = by_continued (λ next. is_one_more next ≡ false) OneMoreOverlong OneMoreOverlong OneMoreOverlong c refl refl refl refl
+never_one_more OneMoreOverlong c e second other = absurd (omega arith)
+never_one_more OneMoreReserved c e second other = absurd (omega arith)
+never_one_more TwoMoreTooHigh c e second other = by_continued (λ next. is_one_more next ≡ false) OneMoreTooHigh OneMoreTooHigh OneMoreTooHigh c refl refl refl refl
+never_one_more OneMoreTooHigh c e second other = absurd (omega arith)
+never_one_more Done c e second other = absurd (omega arith)
+never_one_more Unexpected c e second other = absurd (omega arith)
+never_one_more Never c e second other = absurd (omega arith)
+never_one_more Interrupted c e second other = absurd (omega arith)
+never_one_more Overlong c e second other = absurd (omega arith)
+never_one_more Reserved c e second other = absurd (omega arith)
+never_one_more TooHigh c e second other = absurd (omega arith)
+
+pub fails-3 : (state end : State) (c : ℕ) → missing state ≡ 1 → (state ≡ OneMore → ⊥) → end ≡ next_state state c → end ≡ Done → ⊥
+fails-3 state end c one other step e =
+    let no : is_done end ≡ false = ap is_done step ∙ never_done state c one other in
+    no_both (sym (ap is_done e) ∙ no)
+  where
+    no_both : true ≡ false → ⊥
+    no_both e = cc
+
+pub fails-4 : (w : List ℕ) (state third end : State) (c d : ℕ) → 0xF0 ≤ get_or w 0 0 → get_or w 0 0 < 0xF5 → is_continuation (get_or w 1 0) ≡ true
+    → state ≡ state_after w 2 → third ≡ next_state state c → missing third ≡ 1 → (state ≡ TwoMore → ⊥) → end ≡ next_state third d → end ≡ Done → ⊥
+fails-4 w state third end c d low high follows at step one other last e =
+    let two : missing state ≡ 2 = ap missing at ∙ second_asks-4 (get_or w 0 0) (get_or w 1 0) low high follows in
+    let second : is_second_of_four state ≡ true = ap is_second_of_four at ∙ second_of_four (next_state Start (class (get_or w 0 0))) (class (get_or w 1 0)) (first-4 (get_or w 0 0) low high) in
+    let no : is_one_more third ≡ false = ap is_one_more step ∙ never_one_more state c two second other in
+    fails-3 third end d one (λ x. no_both (sym (ap is_one_more x) ∙ no)) last e
+  where
+    no_both : true ≡ false → ⊥
+    no_both e = cc
+
+pub behind_third : (w : List ℕ) (c : ℕ) (state next : State) → state ≡ state_after w 2 → c ≡ class (get_or w 2 0) → next ≡ next_state state c → next ≡ state_after w 3
+behind_third w c state next at of step = step ∙ ap (λ s. next_state s c) at ∙ ap (λ x. next_state (state_after w 2) x) of
 
 -- the walk has come to an end, which tells what is wrong with the bytes, and is none that a first byte leads to
 pub record Ended (w : List ℕ) (end : State) : Type 0 where

@@ -161,6 +161,14 @@ fn both_continue(second: u8, third: u8) -> bool
     continues(second) && continues(third)
 }
 
+// Whether three bytes have it.
+#[inline(always)]
+fn all_continue(second: u8, third: u8, fourth: u8) -> bool
+    ensures { result ≡ (is_continuation second && is_continuation third && is_continuation fourth) }
+{
+    both_continue(second, third) && continues(fourth)
+}
+
 // Whether the byte is the first of a code of two bytes or more.
 #[inline(always)]
 fn begins_many(first: u8) -> bool
@@ -234,12 +242,12 @@ fn decode_three(src: &[u8]) -> Result<(char, usize), Utf8Error>
     if src.len() < 3 {
         return Err(Utf8Error::new(Utf8ErrorKind::TooFewBytes));
     }
-    if !continues(src[1]) {
+    if !both_continue(src[1], src[2]) {
         return Err(Utf8Error::new(Utf8ErrorKind::InterruptedSequence));
     }
-    let end = step(behind_two(src[0], src[1]), class_of(src[2]));
-    if end != State::Done {
-        return Err(error_behind(end));
+    let state = behind_two(src[0], src[1]);
+    if state != State::OneMore {
+        return Err(error_behind(step(state, class_of(src[2]))));
     }
     let value = value_of_three(src[0], src[1], src[2]);
     Ok((unsafe { char::from_u32_unchecked(value) }, 3))
@@ -256,12 +264,12 @@ fn decode_four(src: &[u8]) -> Result<(char, usize), Utf8Error>
     if src.len() < 4 {
         return Err(Utf8Error::new(Utf8ErrorKind::TooFewBytes));
     }
-    if !both_continue(src[1], src[2]) {
+    if !all_continue(src[1], src[2], src[3]) {
         return Err(Utf8Error::new(Utf8ErrorKind::InterruptedSequence));
     }
-    let end = step(behind_three(src[0], src[1], src[2]), class_of(src[3]));
-    if end != State::Done {
-        return Err(error_behind(end));
+    let state = behind_two(src[0], src[1]);
+    if state != State::TwoMore {
+        return Err(error_behind(step(step(state, class_of(src[2])), class_of(src[3]))));
     }
     let value = value_of_four(src[0], src[1], src[2], src[3]);
     Ok((unsafe { char::from_u32_unchecked(value) }, 4))
@@ -275,15 +283,4 @@ fn behind_two(first: u8, second: u8) -> State
     ensures { result ≡ next_state (next_state Start (class first)) (class second) }
 {
     step(step(State::Start, class_of(first)), class_of(second))
-}
-
-// The state behind three bytes, where the first asks for four and the second continues the code.
-#[inline(always)]
-fn behind_three(first: u8, second: u8, third: u8) -> State
-    requires low { 0xF0 ≤ first }
-    requires high { first < 0xF5 }
-    requires follower { is_continuation second ≡ true }
-    ensures { result ≡ next_state (next_state (next_state Start (class first)) (class second)) (class third) }
-{
-    step(behind_two(first, second), class_of(third))
 }
