@@ -9,6 +9,7 @@ ghost use Rattle.cuts.specs.ShownFronts.{Decides, Ends, Waits, fault_len, ShowsE
 use crate::form::Form;
 use encode_unicode::error::Utf8ErrorKind;
 use encode_unicode::{CharExt, U16UtfExt};
+use utf_chars::text_front::front_of_text;
 
 // The scalar that begins the bytes, or U+FFFD for a fault, and how many bytes it has; `None` where that
 // depends on what follows them.
@@ -105,9 +106,9 @@ pub(crate) fn text_front(from: Form, bytes: &[u8]) -> Option<(char, usize)>
 fn char_of_utf8(bytes: &[u8]) -> Option<(char, usize)>
     ensures { IfSome result (λ x. Decides (Shows utf8) bytes.now x.0 x.1) }
 {
-    match char::from_utf8_slice_start(bytes) {
-        Ok((c, len)) => Some((c, len)),
-        Err(_) => None,
+    match front_of_text(bytes) {
+        None => None,
+        Some((c, len)) => Some((c, len)),
     }
 }
 
