@@ -71,6 +71,14 @@ marked w v le below e =
     let third : v / 0x1_0000 % 256 ≡ w / 0x1_0000 % 256 = omega arith in
     holds v (w / 0x100_0000 % 128) count ∙ rw (first, second, third) refl ∙ sym (holds w (w / 0x100_0000 % 128) refl)
 
+-- the word without the only one
+pub only_of_word : (w : ℕ) → 0x100_0000 ≤ w → w < 0x200_0000 → (bytes_of w).held ≡ w % 256 ∷ (bytes_of 0).held
+unfolding bytes_of
+only_of_word w low high = holds w 1 (omega arith)
+
+pub only_goes_on : (w : ℕ) → w < 0x200_0000 → (bytes_of 0).ended ≡ (bytes_of w).ended
+only_goes_on w high = goes_on 0 (omega arith) ∙ sym (goes_on w (omega arith))
+
 -- the word without its first byte
 pub first_of_word : (w v n : ℕ) → w / 0x100_0000 % 128 ≡ n + 1 → n ≤ 2 → v ≡ (w / 0x100_0000 - 1) * 0x100_0000 + w / 256 % 0x1_0000 → (bytes_of w).held ≡ w % 256 ∷ (bytes_of v).held
 first_of_word w v n count le e =

@@ -1,3 +1,4 @@
+pub mod ByteWalks
 pub mod Collected
 pub mod ForCallers
 pub mod HintLemmas

@@ -1,5 +1,5 @@
 //! The bytes that a merger has read and not answered for.
-ghost use Rattle.std.specs.Prelude.{◌≡◌, ◌≤◌, [], ◌∷◌, length, true, false};
+ghost use Rattle.std.specs.Prelude.{◌≡◌, ◌≤◌, ◌+◌, ◌-◌, ◌*◌, ◌/◌, ◌%◌, [], ◌∷◌, length, true, false};
 ghost use Rattle.std.specs.Iterator.{YieldsFirst};
 
 use std::fmt;
@@ -122,14 +122,31 @@ impl HeldBytes {
         ensures first { YieldsFirst (λ kept. kept.held) self.old result self.new }
         ensures same { self.new.ended ≡ self.old.ended }
     {
+        // One is held most of the time.
+        if 0x100_0000 <= self.word && self.word < 0x200_0000 {
+            let only = (self.word % 256) as u8;
+            self.word = 0;
+            return Some(only);
+        }
         let count_and_mark = self.word / 0x100_0000;
         if count_and_mark % 128 < 1 {
             return None;
         }
         let first = (self.word % 256) as u8;
-        self.word = (count_and_mark - 1) * 0x100_0000 + self.word / 256 % 0x1_0000;
+        self.word = without_first(self.word);
         Some(first)
     }
+}
+
+// The number without its first byte. It is seldom asked for, and out of line: so a compiler keeps the ways that
+// do not ask for it together.
+#[cold]
+#[inline(never)]
+fn without_first(word: u32) -> u32
+    requires { 1 ≤ word / 0x100_0000 }
+    ensures { result ≡ (word / 0x100_0000 - 1) * 0x100_0000 + word / 256 % 0x1_0000 }
+{
+    (word / 0x100_0000 - 1) * 0x100_0000 + word / 256 % 0x1_0000
 }
 
 impl fmt::Debug for HeldBytes {

@@ -1,9 +1,11 @@
 //! Characters, and what is wrong, from the bytes of an iterator.
-ghost use Rattle.std.specs.Prelude.{◌≡◌, ◌<◌, ◌≤◌, ℕ, List, [], ◌∷◌, length, true, IsOk, IfOk, IfSome, false, ◌&&◌, nat_le, nat_lt};
+ghost use Rattle.std.specs.Prelude.{◌≡◌, ◌<◌, ◌≤◌, ℕ, List, [], ◌∷◌, length, true, IsOk, IfOk, IfSome, Some, false, ◌&&◌, nat_le, nat_lt};
 ghost use Rattle.std.specs.Iterator.{UpTo};
 ghost use Rattle.std.specs.Iterator.SizeHint.{IsWithinCount};
 ghost use Rattle.utf_base.specs.Code.{utf8};
 ghost use Rattle.utf_base.specs.Kinds.{asked_by, is_continuation, merger_kind};
+ghost use Rattle.utf_base.specs.Table.{fault_of, is_running, state_after};
+ghost use Rattle.utf_base.specs.declared.table.State.TheVariants.{Done, Unexpected, Never};
 ghost use Rattle.encode_unicode.specs.Mergers.{unasked, unread, unread_count, IsHeldBytes, IsSpent, MergerNext, MergesHint};
 ghost use Rattle.encode_unicode.specs.Reading.{Completes, CompletesBehind, JudgesBytes, TakesFirst};
 ghost use Rattle.encode_unicode.specs.Sources.{GivesTheSame};
@@ -16,6 +18,7 @@ use std::alloc::AllocError;
 use std::fmt;
 use std::marker::Model;
 use utf_base::errors::{Utf8Error, Utf8ErrorKind};
+use utf_base::table::{State, class_of, error_behind, step};
 use utf_chars::continuation::continues;
 use utf_chars::utf8_char::Utf8Char;
 
@@ -182,16 +185,15 @@ fn followers<I: Iterator<Item = u8>>(
     requires held { IsHeldBytes held.old.held }
     ensures { Completes I.can_next I.remaining I.next_gives first held.old.held source.old held.old.ended result held.new.held source.new held.new.ended }
 {
-    if first < 0x80 {
-        return Ok(Followers::new(0, 0, 0));
-    }
+    // First whether there is more to read: in damaged text this answer is the easier to foresee.
     if !begins_many(first) {
         return match judge(&[first]) {
-            Ok(_) => Ok(Followers::new(0, 0, 0)),
             Err(error) => Err(error),
+            Ok(_) => Ok(Followers::new(0, 0, 0)),
         };
     }
-    if held.is_ended() {
+    // It stands alone, so nothing is held behind it.
+    if !held.is_idle() {
         return Err(Utf8Error::new(Utf8ErrorKind::TooFewBytes));
     }
     second(first, held, source)
@@ -219,8 +221,10 @@ fn judge(bytes: &[u8]) -> Result<Utf8Char, Utf8Error>
     }
 }
 
-// The second byte of a code, and those behind it, each read where the ones before it ask for it. These
-// functions return each answer where it is found: so a compiler keeps the ways to them apart.
+// The second byte of a code, and those behind it, each read where the ones before it ask for it. Behind a
+// continuation byte the table tells the state: it is an end behind the last byte of a code, and what is wrong
+// with the bytes where it is another end than `Done`. Codes of different lengths have functions of their own,
+// which return each answer where it is found: so a compiler keeps the ways to them apart.
 #[inline(always)]
 fn second<I: Iterator<Item = u8>>(
     first: u8,
@@ -243,26 +247,63 @@ fn second<I: Iterator<Item = u8>>(
             *held = HeldBytes::one(byte);
             Err(Utf8Error::new(Utf8ErrorKind::InterruptedSequence))
         }
-        Some(byte) if first < 0xe0 => match judge(&[first, byte]) {
-            Ok(_) => Ok(Followers::new(byte, 0, 0)),
-            Err(error) => {
-                *held = HeldBytes::one(byte);
-                Err(error)
-            }
-        },
-        Some(byte) => third(first, byte, held, source),
+        // The state is `Done` behind any two such bytes, as it was `OneMore` behind the first.
+        Some(byte) if first < 0xe0 => Ok(Followers::new(byte, 0, 0)),
+        Some(byte) if first < 0xf0 => third_of_three(first, byte, held, source),
+        Some(byte) => third_of_four(first, byte, held, source),
     }
 }
 
-// The third, behind a continuation byte, and the one behind it.
+// The state behind the first two bytes of a code.
 #[inline(always)]
-fn third<I: Iterator<Item = u8>>(
+fn behind_two(first: u8, second: u8) -> State
+    requires low { 0xC2 ≤ first }
+    requires high { first < 0xF5 }
+    ensures { result ≡ state_after (first ∷ second ∷ []) 2 }
+{
+    step(step(State::Start, class_of(first)), class_of(second))
+}
+
+// The third byte of three, behind a continuation byte.
+#[inline(always)]
+fn third_of_three<I: Iterator<Item = u8>>(
     first: u8,
     second: u8,
     held: &mut HeldBytes,
     source: &mut I,
 ) -> Result<Followers, Utf8Error>
     requires low { 0xE0 ≤ first }
+    requires high { first < 0xF0 }
+    requires continuation { is_continuation second ≡ true }
+    requires can { I.can_next source.old }
+    requires none { held.old.held ≡ [] }
+    requires going { held.old.ended ≡ false }
+    ensures { CompletesBehind I.can_next I.remaining I.next_gives first (second ∷ []) source.old result held.new.held source.new held.new.ended }
+{
+    match read(source) {
+        None => {
+            *held = HeldBytes::one(second).ended();
+            Err(Utf8Error::new(Utf8ErrorKind::TooFewBytes))
+        }
+        Some(byte) => match step(behind_two(first, second), class_of(byte)) {
+            State::Done => Ok(Followers::new(second, byte, 0)),
+            end => {
+                *held = HeldBytes::two(second, byte);
+                Err(error_of(end))
+            }
+        },
+    }
+}
+
+// The third byte of four, behind a continuation byte, and the one behind it.
+#[inline(always)]
+fn third_of_four<I: Iterator<Item = u8>>(
+    first: u8,
+    second: u8,
+    held: &mut HeldBytes,
+    source: &mut I,
+) -> Result<Followers, Utf8Error>
+    requires low { 0xF0 ≤ first }
     requires high { first < 0xF5 }
     requires continuation { is_continuation second ≡ true }
     requires can { I.can_next source.old }
@@ -275,34 +316,28 @@ fn third<I: Iterator<Item = u8>>(
             *held = HeldBytes::one(second).ended();
             Err(Utf8Error::new(Utf8ErrorKind::TooFewBytes))
         }
-        Some(byte) if !continues(byte) => {
-            *held = HeldBytes::two(second, byte);
-            Err(Utf8Error::new(Utf8ErrorKind::InterruptedSequence))
-        }
-        Some(byte) if first < 0xf0 => match judge(&[first, second, byte]) {
-            Ok(_) => Ok(Followers::new(second, byte, 0)),
-            Err(error) => {
+        Some(byte) => match step(behind_two(first, second), class_of(byte)) {
+            State::Interrupted => {
                 *held = HeldBytes::two(second, byte);
-                Err(error)
+                Err(Utf8Error::new(Utf8ErrorKind::InterruptedSequence))
             }
+            state => fourth(first, second, byte, state, held, source),
         },
-        Some(byte) => fourth(first, second, byte, held, source),
     }
 }
 
-// The fourth, behind two continuation bytes.
+// The fourth, which is the last: the bytes before it led to the state.
 #[inline(always)]
 fn fourth<I: Iterator<Item = u8>>(
     first: u8,
     second: u8,
     third: u8,
+    state: State,
     held: &mut HeldBytes,
     source: &mut I,
 ) -> Result<Followers, Utf8Error>
-    requires low { 0xF0 ≤ first }
-    requires high { first < 0xF5 }
-    requires second { is_continuation second ≡ true }
-    requires third { is_continuation third ≡ true }
+    requires walked { state ≡ state_after (first ∷ second ∷ third ∷ []) 3 }
+    requires running { is_running state ≡ true }
     requires can { I.can_next source.old }
     requires none { held.old.held ≡ [] }
     requires going { held.old.ended ≡ false }
@@ -313,16 +348,26 @@ fn fourth<I: Iterator<Item = u8>>(
             *held = HeldBytes::two(second, third).ended();
             Err(Utf8Error::new(Utf8ErrorKind::TooFewBytes))
         }
-        Some(byte) if !continues(byte) => {
-            *held = HeldBytes::three(second, third, byte);
-            Err(Utf8Error::new(Utf8ErrorKind::InterruptedSequence))
-        }
-        Some(byte) => match judge(&[first, second, third, byte]) {
-            Ok(_) => Ok(Followers::new(second, third, byte)),
-            Err(error) => {
+        Some(byte) => match step(state, class_of(byte)) {
+            State::Done => Ok(Followers::new(second, third, byte)),
+            end => {
                 *held = HeldBytes::three(second, third, byte);
-                Err(error)
+                Err(error_of(end))
             }
         },
     }
+}
+
+// What is wrong with bytes of which the last led to an end. It is out of line: so the ways without a fault stay
+// short.
+#[cold]
+#[inline(never)]
+fn error_of(end: State) -> Utf8Error
+    requires some { end ≡ Done → ⊥ }
+    requires followed { end ≡ Unexpected → ⊥ }
+    requires known { end ≡ Never → ⊥ }
+    requires ended { is_running end ≡ false }
+    ensures { fault_of end ≡ Some result }
+{
+    error_behind(end)
 }

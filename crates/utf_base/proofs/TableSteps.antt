@@ -618,7 +618,13 @@ last_ends Overlong c e = absurd (omega arith)
 last_ends Reserved c e = absurd (omega arith)
 last_ends TooHigh c e = absurd (omega arith)
 
--- where one byte is missing and any continuation byte completes a code, no other fault is left
+-- where one byte is missing and any continuation byte completes a code, that does
+pub one_more_ends : (b : ℕ) → is_continuation b ≡ true → next_state OneMore (class b) ≡ Done
+unfolding next_state
+one_more_ends b follows =
+    by_follower (λ next. next ≡ Done) Done Done Done b (λ out. absurd (continues_no b follows out)) (λ l h. refl) (λ l h. refl) (λ l h. refl)
+
+-- and no other fault is left
 pub one_more_breaks : (c : ℕ) → (next_state OneMore c ≡ Done → ⊥) → next_state OneMore c ≡ Interrupted
 unfolding next_state
 one_more_breaks c =

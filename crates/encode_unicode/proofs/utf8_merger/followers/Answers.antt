@@ -1,32 +1,30 @@
 use Rattle.std.proofs.Common.{◌≤◌, sym, ◌∙◌, arith}
 use Rattle.utf_base.specs.Kinds.{asked}
-use Rattle.encode_unicode.proofs.ByteMerging.{alone_completes, alone_fails, ascii_completes, asks_one, begins_alone, begins_two, end_at_once}
+use Rattle.encode_unicode.proofs.ByteMerging.{alone_completes, alone_fails, asks_one, begins_alone, begins_two, end_at_once}
 use Rattle.encode_unicode.proofs.MergerSteps.{reads_none}
 use Rattle.encode_unicode.proofs.utf8_merger.followers.Goals as goal
-
-pub returns-then-first-lt128 : goal.returns-then-first-lt128
-returns-then-first-lt128 g c = rw c.new.ensures (ascii_completes _ _ _ _ _ _ _ c.requires.can c.if-first-lt128.true c.requires.alone)
 
 pub judge-requires-clause-enough : goal.judge-requires-clause-enough
 judge-requires-clause-enough g c = asks_one _ (sym c.begins_many.ensures ∙ c.if-not-begins_many.true)
 
 pub returns-in-Ok : goal.returns-in-Ok
 returns-in-Ok g c =
-    rw c.new-in-Ok.ensures (alone_completes _ _ _ _ _ _ _ _ c.requires.can (asks_one _ (sym c.begins_many.ensures ∙ c.if-not-begins_many.true)) c.requires.alone c.in-Ok.ensures)
+    rw c.new.ensures (alone_completes _ _ _ _ _ _ _ _ c.requires.can (asks_one _ (sym c.begins_many.ensures ∙ c.if-not-begins_many.true)) c.requires.alone c.in-Ok.ensures)
 
 pub returns-in-Err : goal.returns-in-Err
 returns-in-Err g c =
     alone_fails _ _ _ _ _ _ _ _ c.requires.can (asks_one _ (sym c.begins_many.ensures ∙ c.if-not-begins_many.true)) c.requires.alone c.requires.held c.in-Err.ensures
 
-pub returns-then-is_ended : goal.returns-then-is_ended
-returns-then-is_ended g c =
+pub returns-then-not-is_idle : goal.returns-then-not-is_idle
+returns-then-not-is_idle g c =
     let many = sym c.begins_many.ensures ∙ c.if-not-begins_many.false in
     let asks : 2 ≤ asked c.args.first = begins_two c.args.first many in
-    rw c.new-then-is_ended.ensures (end_at_once _ _ _ _ _ _ _ (sym c.is_ended.ensures ∙ c.if-is_ended.true) (omega arith) (c.requires.alone (begins_alone c.args.first many)))
+    let none = c.requires.alone (begins_alone c.args.first many) in
+    rw c.new-then-not-is_idle.ensures (end_at_once _ _ _ _ _ _ _ (c.is_idle.ensures.busy c.if-not-is_idle.true none) (omega arith) none)
 
 pub returns : goal.returns
 returns g c =
     let many = sym c.begins_many.ensures ∙ c.if-not-begins_many.false in
     let none = c.requires.alone (begins_alone c.args.first many) in
-    let going = sym c.is_ended.ensures ∙ c.if-is_ended.false in
+    let going = c.is_idle.ensures.going c.if-not-is_idle.false in
     rw (none, going) (c.second.ensures _ (reads_none _ _ _ _ _ (λ _. c.requires.can going)))

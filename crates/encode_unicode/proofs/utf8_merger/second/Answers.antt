@@ -1,18 +1,10 @@
-use Rattle.std.proofs.Common.{◌≡◌, ◌≤◌, [], ◌∷◌, lit<, sym, ◌∙◌, arith}
-use Rattle.utf_base.specs.Kinds.{asked, asked_by}
-use Rattle.utf_base.proofs.FrontLemmas.{asked-2}
+use Rattle.std.proofs.Common.{◌≤◌, [], ◌∷◌, lit<, sym, ◌∙◌, arith, refl}
+use Rattle.utf_base.specs.Kinds.{asked, value}
 use Rattle.utf_base.proofs.MergerLemmas.{few-1, broken-1}
-use Rattle.encode_unicode.proofs.ByteMerging.{asks_two, code_behind, end_behind, fault_behind, held_none, held_one, kind_of_all, two_padded}
+use Rattle.encode_unicode.proofs.ByteMerging.{asks_two, code_behind, end_behind, fault_behind, held_none, held_one, two_padded}
+use Rattle.encode_unicode.proofs.ByteWalks.{code_behind_walk, first_runs, two_end}
 use Rattle.encode_unicode.proofs.MergerSteps.{reads_more}
 use Rattle.encode_unicode.proofs.utf8_merger.second.Goals as goal
-
-pub judge-requires-clause-enough : goal.judge-requires-clause-enough
-judge-requires-clause-enough g c =
-    let asks : asked_by (c.args.first ∷ c.in-Some.byte ∷ []) ≡ 2 = asked-2 c.args.first c.requires.low c.if-first-lt224.true in
-    omega arith
-
-pub judge-requires-clause-exact : goal.judge-requires-clause-exact
-judge-requires-clause-exact g c many = asked-2 c.args.first c.requires.low c.if-first-lt224.true
 
 pub returns-in-None : goal.returns-in-None
 returns-in-None g c =
@@ -25,13 +17,15 @@ returns-in-Some g c =
     let other = sym c.continues.ensures ∙ c.if-not-continues.true in
     rw c.new-in-Some.ensures (fault_behind _ _ _ c.args.first ([]) c.in-Some.byte _ _ _ _ _ c.in-Some.ensures (λ later. broken-1 c.args.first c.in-Some.byte later (omega arith) other) (held_one c.in-Some.byte) c.one.ensures.held c.one.ensures.going)
 
-pub returns-in-Ok : goal.returns-in-Ok
-returns-in-Ok g c =
-    rw c.new-in-Ok.ensures (code_behind _ _ _ c.args.first ([]) c.in-Some.byte c.in-Ok.field-0 _ _ _ _ _ c.in-Some.ensures c.in-Ok.ensures.0 c.in-Ok.ensures.1 (two_padded c.args.first c.in-Some.byte _ c.in-Ok.ensures.1) c.requires.none c.requires.going)
-
-pub returns-in-Err : goal.returns-in-Err
-returns-in-Err g c =
-    fault_behind _ _ _ c.args.first ([]) c.in-Some.byte _ _ _ _ _ c.in-Some.ensures (kind_of_all (c.args.first ∷ c.in-Some.byte ∷ []) _ (lit< tt) (asked-2 c.args.first c.requires.low c.if-first-lt224.true) c.in-Err.ensures) (held_one c.in-Some.byte) c.one-in-Err.ensures.held c.one-in-Err.ensures.going
+pub returns-in-Some-2 : goal.returns-in-Some-2
+returns-in-Some-2 g c =
+    let continues = sym c.continues.ensures ∙ c.if-not-continues.false in
+    let at = two_end c.args.first c.in-Some.byte c.requires.low c.if-first-lt224.true continues in
+    let code = code_behind_walk (c.args.first ∷ c.in-Some.byte ∷ []) 1 refl (lit< tt) (first_runs c.args.first c.requires.low c.requires.high) at in
+    rw c.new-in-Some-2.ensures (code_behind _ _ _ c.args.first ([]) c.in-Some.byte (value (c.args.first ∷ c.in-Some.byte ∷ [])) _ _ _ _ _ c.in-Some.ensures code.0 code.1 (two_padded c.args.first c.in-Some.byte _ code.1) c.requires.none c.requires.going)
 
 pub returns-in-Some-3 : goal.returns-in-Some-3
-returns-in-Some-3 g c s so_far = c.third.ensures s (reads_more _ _ _ _ _ _ _ _ _ _ _ so_far c.in-Some.ensures)
+returns-in-Some-3 g c s so_far = c.third_of_three.ensures s (reads_more _ _ _ _ _ _ _ _ _ _ _ so_far c.in-Some.ensures)
+
+pub returns-in-Some-4 : goal.returns-in-Some-4
+returns-in-Some-4 g c s so_far = c.third_of_four.ensures s (reads_more _ _ _ _ _ _ _ _ _ _ _ so_far c.in-Some.ensures)

@@ -1,0 +1,115 @@
+-- What a walk over the table tells a merger of bytes.
+use Rattle.std.proofs.Common.{◌≡◌, ℕ, suc, ◌+◌, ◌<◌, ◌≤◌, ⊎_elim, List, [], ◌∷◌, length, get_or, Some, None, true, false, refl, ap, sym, ◌∙◌, arith, lit<}
+use Rattle.std.proofs.lemmas.Grind.{common_steps}
+use Rattle.utf_base.specs.declared.errors.Utf8ErrorKind.TheVariants.{TooFewBytes}
+use Rattle.utf_base.specs.declared.errors.Utf8ErrorKind.{Utf8ErrorKind}
+use Rattle.utf_base.specs.declared.table.State.{State}
+use Rattle.utf_base.specs.declared.table.State.TheVariants.{Start, OneMore, TwoMore, ThreeMore, BehindE0, BehindEd, BehindF0, BehindF4, TwoMoreOverlong, OneMoreOverlong, OneMoreReserved, TwoMoreTooHigh, OneMoreTooHigh, Done, Unexpected, Never, Interrupted, Overlong, Reserved, TooHigh}
+use Rattle.utf_base.specs.Code.{utf8}
+use Rattle.utf_base.specs.Kinds.{asked, asked_by, is_continuation, merger_kind, value}
+use Rattle.utf_base.specs.Scalar.{IsScalar}
+use Rattle.utf_base.specs.Table.{class, fault_of, is_running, missing, next_state, state_after}
+use Rattle.utf_base.proofs.FrontLemmas.{asked_le, code_where_no_fault}
+use Rattle.utf_base.proofs.MergerLemmas.{merger_none, whole_code}
+use Rattle.utf_base.proofs.TableSteps.{Reached, Runs, asks_runs, first-2, first-3, first-4, follower_is_less, is_of_first, kind_at_end, kind_of_all, last_ends, one_less, one_more_ends, reached}
+use Rattle.std.proofs.lemmas.Bool.{cases_lt}
+
+-- A running state behind some bytes asks for more of them.
+pub runs_behind : (w : List ℕ) (k : ℕ) (state : State) → 0 < k → is_running state ≡ true → Reached w k state → Runs w k state × (0 < missing state) × (fault_of state ≡ Some TooFewBytes)
+runs_behind w k Start some e r = let none : k ≡ 0 = r in absurd (omega arith)
+runs_behind w k OneMore some e r = (r, lit< tt, refl)
+runs_behind w k TwoMore some e r = (r, lit< tt, refl)
+runs_behind w k ThreeMore some e r = (r, lit< tt, refl)
+runs_behind w k BehindE0 some e r = (r, lit< tt, refl)
+runs_behind w k BehindEd some e r = (r, lit< tt, refl)
+runs_behind w k BehindF0 some e r = (r, lit< tt, refl)
+runs_behind w k BehindF4 some e r = (r, lit< tt, refl)
+runs_behind w k TwoMoreOverlong some e r = (r, lit< tt, refl)
+runs_behind w k OneMoreOverlong some e r = (r, lit< tt, refl)
+runs_behind w k OneMoreReserved some e r = (r, lit< tt, refl)
+runs_behind w k TwoMoreTooHigh some e r = (r, lit< tt, refl)
+runs_behind w k OneMoreTooHigh some e r = (r, lit< tt, refl)
+runs_behind w k Done some e r = cc
+runs_behind w k Unexpected some e r = cc
+runs_behind w k Never some e r = cc
+runs_behind w k Interrupted some e r = cc
+runs_behind w k Overlong some e r = cc
+runs_behind w k Reserved some e r = cc
+runs_behind w k TooHigh some e r = cc
+
+-- all but the first continue
+pub continues_behind : (w : List ℕ) (k : ℕ) → k ≤ length w → is_running (state_after w k) ≡ true → (j : ℕ) → 0 < j → j < k → is_continuation (get_or w j 0) ≡ true
+continues_behind w k le e j some lt =
+    let r = runs_behind w k (state_after w k) (omega arith) e (reached w k le) in
+    let c = r.0.before j some lt in
+    grind (arith, common_steps)
+
+-- and there are too few of them
+pub few_behind : (w : List ℕ) → 0 < length w → is_running (state_after w (length w)) ≡ true → merger_kind w ≡ Some TooFewBytes
+few_behind w some e = kind_of_all w ∙ (runs_behind w (length w) (state_after w (length w)) some e (reached w (length w) (omega arith))).2
+
+-- A byte that leads to the end of a code is the last of it.
+pub code_behind_walk : (w : List ℕ) (k : ℕ) → length w ≡ suc k → 0 < k → is_running (state_after w k) ≡ true → state_after w (suc k) ≡ Done → IsScalar (value w) × (w ≡ utf8 (value w))
+code_behind_walk w k len some e done =
+    let r = runs_behind w k (state_after w k) some e (reached w k (omega arith)) in
+    let less = one_less (state_after w k) (class (get_or w k 0)) r.1 (λ i. no (sym done ∙ i)) in
+    let none = ap missing done in
+    let asks = r.0.asks in
+    let all : asked_by w ≡ length w = omega arith in
+    let kind : merger_kind w ≡ None = kind_at_end w (suc k) (omega arith) (ap is_running done) ∙ ap fault_of done in
+    let stands = (code_where_no_fault w (merger_none w kind)).0 in
+    (stands.scalar, whole_code w (value w) stands (omega arith) (λ _. all))
+  where
+    no : Done ≡ Interrupted → ⊥
+    no e = cc
+
+-- The first two bytes, the second of which continues the code.
+
+pub first_runs : (a : ℕ) → 0xC2 ≤ a → a < 0xF5 → is_running (next_state Start (class a)) ≡ true
+first_runs a low high =
+    ⊎_elim (λ (h : a < 0xE0). ap is_running (first-2 a low h))
+    (λ (l : 0xE0 ≤ a). ⊎_elim (λ (h : a < 0xF0). let two = first-3 a l h in asks_runs _ (omega arith))
+    (λ (m : 0xF0 ≤ a). let three = first-4 a m high in asks_runs _ (omega arith))
+    (cases_lt a 0xF0)) (cases_lt a 0xE0)
+
+pub two_end : (a b : ℕ) → 0xC2 ≤ a → a < 0xE0 → is_continuation b ≡ true → state_after (a ∷ b ∷ []) 2 ≡ Done
+two_end a b low high e =
+    let first = first-2 a low high in
+    ap (λ (x : State). next_state x (class b)) first ∙ one_more_ends b e
+
+two_miss : (a b n : ℕ) → missing (next_state Start (class a)) ≡ suc n → is_continuation b ≡ true → missing (state_after (a ∷ b ∷ []) 2) ≡ n
+two_miss a b n e c =
+    let state = next_state Start (class a) in
+    let less = follower_is_less state b (omega arith) c in
+    omega arith
+
+pub two_of_three : (a b : ℕ) → 0xE0 ≤ a → a < 0xF0 → is_continuation b ≡ true → missing (state_after (a ∷ b ∷ []) 2) ≡ 1
+two_of_three a b low high c = two_miss a b 1 (first-3 a low high) c
+
+pub two_of_four : (a b : ℕ) → 0xF0 ≤ a → a < 0xF5 → is_continuation b ≡ true → missing (state_after (a ∷ b ∷ []) 2) ≡ 2
+two_of_four a b low high c = two_miss a b 2 (first-4 a low high) c
+
+-- The fourth byte is the last.
+pub fourth_misses : (a b c : ℕ) → is_running (state_after (a ∷ b ∷ c ∷ []) 3) ≡ true → 0 < missing (state_after (a ∷ b ∷ c ∷ []) 3)
+fourth_misses a b c e = (runs_behind (a ∷ b ∷ c ∷ []) 3 (state_after (a ∷ b ∷ c ∷ []) 3) (lit< tt) e (reached (a ∷ b ∷ c ∷ []) 3 (omega arith))).1
+
+pub fourth_ends : (a b c d : ℕ) → is_running (state_after (a ∷ b ∷ c ∷ []) 3) ≡ true → is_running (state_after (a ∷ b ∷ c ∷ d ∷ []) 4) ≡ false
+fourth_ends a b c d e =
+    let state = state_after (a ∷ b ∷ c ∷ []) 3 in
+    let r = runs_behind (a ∷ b ∷ c ∷ []) 3 state (lit< tt) e (reached (a ∷ b ∷ c ∷ []) 3 (omega arith)) in
+    let asks : asked a ≡ 3 + missing state = r.0.asks in
+    let more = r.1 in
+    let most = asked_le a in
+    last_ends state (class d) (omega arith)
+
+-- A follower does not lead to what only a first byte leads to.
+pub other_than : (end first : State) → is_of_first end ≡ false → is_of_first first ≡ true → end ≡ first → ⊥
+other_than end first later begins e = let same : true ≡ false = sym begins ∙ sym (ap is_of_first e) ∙ later in cc
+
+-- A step that the code made, as one of the walk.
+pub stepped : (state s next : State) (c b : ℕ) → next ≡ next_state state c → c ≡ class b → state ≡ s → next ≡ next_state s (class b)
+stepped state s next c b h e f = h ∙ ap (next_state state) e ∙ ap (λ (x : State). next_state x (class b)) f
+
+-- An end tells the kind, whatever follows.
+pub kind_of_end : (w : List ℕ) (k : ℕ) (end : State) (kind : Utf8ErrorKind) → k ≤ length w → state_after w k ≡ end → is_running end ≡ false → fault_of end ≡ Some kind → merger_kind w ≡ Some kind
+kind_of_end w k end kind le at stops fault = kind_at_end w k le (ap is_running at ∙ stops) ∙ ap fault_of at ∙ fault

@@ -1,0 +1,45 @@
+use Rattle.std.proofs.Common.{◌≡◌, [], ◌∷◌, lit<, ap, sym, ◌∙◌, arith, refl}
+use Rattle.utf_base.specs.Kinds.{value}
+use Rattle.utf_base.specs.Table.{is_running, missing, state_after}
+use Rattle.utf_base.specs.declared.table.State.TheVariants.{Done, Never, Unexpected}
+use Rattle.utf_base.proofs.TableSteps.{asks_runs, is_of_first, last_ends, never_of_first}
+use Rattle.encode_unicode.proofs.ByteMerging.{code_behind, end_behind, fault_behind, held_one, held_two, three_padded}
+use Rattle.encode_unicode.proofs.ByteWalks.{code_behind_walk, few_behind, kind_of_end, other_than, stepped, two_of_three}
+use Rattle.encode_unicode.proofs.utf8_merger.third_of_three.Goals as goal
+
+pub step-requires-clause-running : goal.step-requires-clause-running
+step-requires-clause-running g c =
+    let one = ap missing c.behind_two.ensures ∙ two_of_three c.args.first c.args.second c.requires.low c.requires.high c.requires.continuation in
+    asks_runs _ (omega arith)
+
+pub error_of-requires : goal.error_of-requires
+error_of-requires g c =
+    let one = ap missing c.behind_two.ensures ∙ two_of_three c.args.first c.args.second c.requires.low c.requires.high c.requires.continuation in
+    let later = ap is_of_first c.step.ensures ∙ never_of_first c.behind_two.result c.class_of.result (omega arith) in
+    record {
+      some = c.in_default.not-Done;
+      followed = other_than c.step.result Unexpected later refl;
+      known = other_than c.step.result Never later refl;
+      ended = ap is_running c.step.ensures ∙ last_ends c.behind_two.result c.class_of.result one;
+    }
+
+pub returns-in-None : goal.returns-in-None
+returns-in-None g c =
+    let one = two_of_three c.args.first c.args.second c.requires.low c.requires.high c.requires.continuation in
+    let runs = asks_runs (state_after (c.args.first ∷ c.args.second ∷ []) 2) (omega arith) in
+    rw c.new.ensures (end_behind _ _ _ c.args.first (c.args.second ∷ []) _ _ _ _ _ c.in-None.ensures (few_behind (c.args.first ∷ c.args.second ∷ []) (lit< tt) runs) (held_one c.args.second) (c.ended.ensures.held ∙ c.one.ensures.held) c.ended.ensures.ended)
+
+pub returns-in-Done : goal.returns-in-Done
+returns-in-Done g c =
+    let one = two_of_three c.args.first c.args.second c.requires.low c.requires.high c.requires.continuation in
+    let runs = asks_runs (state_after (c.args.first ∷ c.args.second ∷ []) 2) (omega arith) in
+    let at : state_after (c.args.first ∷ c.args.second ∷ c.in-Some.byte ∷ []) 3 ≡ Done = sym (stepped _ _ _ _ _ c.step.ensures c.class_of.ensures.class c.behind_two.ensures) ∙ c.in-Done.is in
+    let code = code_behind_walk (c.args.first ∷ c.args.second ∷ c.in-Some.byte ∷ []) 2 refl (lit< tt) runs at in
+    rw c.new-in-Done.ensures (code_behind _ _ _ c.args.first (c.args.second ∷ []) c.in-Some.byte (value (c.args.first ∷ c.args.second ∷ c.in-Some.byte ∷ [])) _ _ _ _ _ c.in-Some.ensures code.0 code.1 (three_padded c.args.first c.args.second c.in-Some.byte _ code.1) c.requires.none c.requires.going)
+
+pub returns-in_default : goal.returns-in_default
+returns-in_default g c =
+    let one = ap missing c.behind_two.ensures ∙ two_of_three c.args.first c.args.second c.requires.low c.requires.high c.requires.continuation in
+    let at = sym (stepped _ _ _ _ _ c.step.ensures c.class_of.ensures.class c.behind_two.ensures) in
+    let ends = ap is_running c.step.ensures ∙ last_ends c.behind_two.result c.class_of.result one in
+    fault_behind _ _ _ c.args.first (c.args.second ∷ []) c.in-Some.byte _ _ _ _ _ c.in-Some.ensures (λ later. kind_of_end (c.args.first ∷ c.args.second ∷ c.in-Some.byte ∷ later) 3 c.step.result _ (omega arith) at ends c.error_of.ensures) (held_two c.args.second c.in-Some.byte c.requires.continuation) c.two.ensures.held c.two.ensures.going
