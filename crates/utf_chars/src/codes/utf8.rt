@@ -222,8 +222,7 @@ fn decode_two(src: &[u8]) -> Result<(char, usize), Utf8Error>
     if src.len() < 2 {
         return Err(Utf8Error::new(Utf8ErrorKind::TooFewBytes));
     }
-    let end = step(State::OneMore, class_of(src[1]));
-    if end != State::Done {
+    if !continues(src[1]) {
         return Err(Utf8Error::new(Utf8ErrorKind::InterruptedSequence));
     }
     let value = value_of_two(src[0], src[1]);
