@@ -229,8 +229,9 @@ fn decode_two(src: &[u8]) -> Result<(char, usize), Utf8Error>
     Ok((char::from_u32(value).unwrap(), 2))
 }
 
-// The character that begins the bytes, where the first asks for three. The end that they lead to says whether
-// they are a code, and else what is wrong with them: no value is judged.
+// The character that begins the bytes, where the first asks for three. The states say whether they are a code, and
+// no value is judged: behind two bytes of a code any continuation byte completes it. Else the end that all three
+// lead to tells what is wrong with them.
 #[inline(always)]
 fn decode_three(src: &[u8]) -> Result<(char, usize), Utf8Error>
     requires some { 0 < length src.now }
@@ -252,7 +253,7 @@ fn decode_three(src: &[u8]) -> Result<(char, usize), Utf8Error>
     Ok((unsafe { char::from_u32_unchecked(value) }, 3))
 }
 
-// The character that begins the bytes, where the first asks for four, by the end that they lead to.
+// The character that begins the bytes, where the first asks for four: the same, with two that complete the code.
 #[inline(always)]
 fn decode_four(src: &[u8]) -> Result<(char, usize), Utf8Error>
     requires some { 0 < length src.now }
