@@ -9,8 +9,8 @@ use Rattle.utf_base.specs.Code.{utf8}
 use Rattle.utf_base.specs.Front.{BeginsWith}
 use Rattle.utf_base.specs.Kinds.{fault_kind, asked_by, value, is_continuation}
 use Rattle.utf_base.specs.Table.{class, continued, fault_of, is_running, missing, next_state, state_after}
-use Rattle.utf_base.proofs.FrontLemmas.{asked-2, asked-3, asked-4, decodes_from_none, code_where_no_fault}
-use Rattle.utf_base.proofs.TableSteps.{by_continued, fault_at_end, first-2, first-3, first-4, follower_is_less, is_of_first, last_ends, never_of_first}
+use Rattle.utf_base.proofs.FrontLemmas.{asked-3, asked-4, decodes_from_none, code_where_no_fault}
+use Rattle.utf_base.proofs.TableSteps.{by_continued, fault_at_end, first-3, first-4, follower_is_less, is_of_first, last_ends, never_of_first}
 
 -- How many bytes the state behind some asks for.
 
@@ -180,11 +180,6 @@ ends w k c state end one at of step there enough =
   where
     true_is_not_false : true ≡ false → ⊥
     true_is_not_false e = cc
-
-pub ends-2 : (w : List ℕ) (c : ℕ) (end : State) → 0xC2 ≤ get_or w 0 0 → get_or w 0 0 < 0xE0 → 2 ≤ length w → c ≡ class (get_or w 1 0) → end ≡ next_state OneMore c → Ended w end
-ends-2 w c end low high enough of step =
-    let asks = asked-2 (get_or w 0 0) low high in
-    ends w 1 c OneMore end refl (first-2 (get_or w 0 0) low high) of step (omega arith) (omega arith)
 
 pub ends-3 : (w : List ℕ) (c : ℕ) (state end : State) → 0xE0 ≤ get_or w 0 0 → get_or w 0 0 < 0xF0 → 3 ≤ length w → is_continuation (get_or w 1 0) ≡ true
     → state ≡ state_after w 2 → c ≡ class (get_or w 2 0) → end ≡ next_state state c → Ended w end

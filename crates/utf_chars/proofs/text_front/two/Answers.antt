@@ -1,4 +1,4 @@
-use Rattle.std.proofs.Common.{◌≤◌, ◌<◌, length, lit<, arith}
+use Rattle.std.proofs.Common.{◌≤◌, length, lit<, arith}
 use Rattle.utf_base.specs.Scalar.{IsScalar}
 use Rattle.utf_base.proofs.FrontLemmas.{least_value-below_3}
 use Rattle.utf_base.proofs.KindCases.{Asks-2, Sums-2, begins_with}
