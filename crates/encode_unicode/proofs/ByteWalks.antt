@@ -1,17 +1,16 @@
 -- What a walk over the table tells a merger of bytes.
-use Rattle.std.proofs.Common.{◌≡◌, ℕ, suc, ◌+◌, ◌<◌, ◌≤◌, ⊎_elim, List, [], ◌∷◌, length, get_or, Some, None, true, false, refl, ap, sym, ◌∙◌, arith, lit<}
-use Rattle.std.proofs.lemmas.Grind.{common_steps}
+use Rattle.std.proofs.Common.{◌≡◌, ℕ, suc, ◌<◌, ◌≤◌, ⊎_elim, List, [], ◌∷◌, length, get_or, Some, None, true, false, refl, ap, sym, ◌∙◌, arith, lit<}
 use Rattle.utf_base.specs.declared.errors.Utf8ErrorKind.TheVariants.{TooFewBytes}
 use Rattle.utf_base.specs.declared.errors.Utf8ErrorKind.{Utf8ErrorKind}
 use Rattle.utf_base.specs.declared.table.State.{State}
 use Rattle.utf_base.specs.declared.table.State.TheVariants.{Start, OneMore, TwoMore, ThreeMore, BehindE0, BehindEd, BehindF0, BehindF4, TwoMoreOverlong, OneMoreOverlong, OneMoreReserved, TwoMoreTooHigh, OneMoreTooHigh, Done, Unexpected, Never, Interrupted, Overlong, Reserved, TooHigh}
 use Rattle.utf_base.specs.Code.{utf8}
-use Rattle.utf_base.specs.Kinds.{asked, asked_by, is_continuation, merger_kind, value}
+use Rattle.utf_base.specs.Kinds.{asked_by, is_continuation, merger_kind, value}
 use Rattle.utf_base.specs.Scalar.{IsScalar}
 use Rattle.utf_base.specs.Table.{class, fault_of, is_running, missing, next_state, state_after}
-use Rattle.utf_base.proofs.FrontLemmas.{asked_le, code_where_no_fault}
+use Rattle.utf_base.proofs.FrontLemmas.{code_where_no_fault}
 use Rattle.utf_base.proofs.MergerLemmas.{merger_none, whole_code}
-use Rattle.utf_base.proofs.TableSteps.{Reached, Runs, asks_runs, first-2, first-3, first-4, follower_is_less, is_of_first, kind_at_end, kind_of_all, last_ends, one_less, one_more_ends, reached}
+use Rattle.utf_base.proofs.TableSteps.{Reached, Runs, asks_runs, first-2, first-3, first-4, is_of_first, kind_at_end, one_less, one_more_ends, reached}
 use Rattle.std.proofs.lemmas.Bool.{cases_lt}
 
 -- A running state behind some bytes asks for more of them.
@@ -36,17 +35,6 @@ runs_behind w k Interrupted some e r = cc
 runs_behind w k Overlong some e r = cc
 runs_behind w k Reserved some e r = cc
 runs_behind w k TooHigh some e r = cc
-
--- all but the first continue
-pub continues_behind : (w : List ℕ) (k : ℕ) → k ≤ length w → is_running (state_after w k) ≡ true → (j : ℕ) → 0 < j → j < k → is_continuation (get_or w j 0) ≡ true
-continues_behind w k le e j some lt =
-    let r = runs_behind w k (state_after w k) (omega arith) e (reached w k le) in
-    let c = r.0.before j some lt in
-    grind (arith, common_steps)
-
--- and there are too few of them
-pub few_behind : (w : List ℕ) → 0 < length w → is_running (state_after w (length w)) ≡ true → merger_kind w ≡ Some TooFewBytes
-few_behind w some e = kind_of_all w ∙ (runs_behind w (length w) (state_after w (length w)) some e (reached w (length w) (omega arith))).2
 
 -- A byte that leads to the end of a code is the last of it.
 pub code_behind_walk : (w : List ℕ) (k : ℕ) → length w ≡ suc k → 0 < k → is_running (state_after w k) ≡ true → state_after w (suc k) ≡ Done → IsScalar (value w) × (w ≡ utf8 (value w))
@@ -76,31 +64,6 @@ pub two_end : (a b : ℕ) → 0xC2 ≤ a → a < 0xE0 → is_continuation b ≡ 
 two_end a b low high e =
     let first = first-2 a low high in
     ap (λ (x : State). next_state x (class b)) first ∙ one_more_ends b e
-
-two_miss : (a b n : ℕ) → missing (next_state Start (class a)) ≡ suc n → is_continuation b ≡ true → missing (state_after (a ∷ b ∷ []) 2) ≡ n
-two_miss a b n e c =
-    let state = next_state Start (class a) in
-    let less = follower_is_less state b (omega arith) c in
-    omega arith
-
-pub two_of_three : (a b : ℕ) → 0xE0 ≤ a → a < 0xF0 → is_continuation b ≡ true → missing (state_after (a ∷ b ∷ []) 2) ≡ 1
-two_of_three a b low high c = two_miss a b 1 (first-3 a low high) c
-
-pub two_of_four : (a b : ℕ) → 0xF0 ≤ a → a < 0xF5 → is_continuation b ≡ true → missing (state_after (a ∷ b ∷ []) 2) ≡ 2
-two_of_four a b low high c = two_miss a b 2 (first-4 a low high) c
-
--- The fourth byte is the last.
-pub fourth_misses : (a b c : ℕ) → is_running (state_after (a ∷ b ∷ c ∷ []) 3) ≡ true → 0 < missing (state_after (a ∷ b ∷ c ∷ []) 3)
-fourth_misses a b c e = (runs_behind (a ∷ b ∷ c ∷ []) 3 (state_after (a ∷ b ∷ c ∷ []) 3) (lit< tt) e (reached (a ∷ b ∷ c ∷ []) 3 (omega arith))).1
-
-pub fourth_ends : (a b c d : ℕ) → is_running (state_after (a ∷ b ∷ c ∷ []) 3) ≡ true → is_running (state_after (a ∷ b ∷ c ∷ d ∷ []) 4) ≡ false
-fourth_ends a b c d e =
-    let state = state_after (a ∷ b ∷ c ∷ []) 3 in
-    let r = runs_behind (a ∷ b ∷ c ∷ []) 3 state (lit< tt) e (reached (a ∷ b ∷ c ∷ []) 3 (omega arith)) in
-    let asks : asked a ≡ 3 + missing state = r.0.asks in
-    let more = r.1 in
-    let most = asked_le a in
-    last_ends state (class d) (omega arith)
 
 -- A follower does not lead to what only a first byte leads to.
 pub other_than : (end first : State) → is_of_first end ≡ false → is_of_first first ≡ true → end ≡ first → ⊥

@@ -221,9 +221,9 @@ fn judge(bytes: &[u8]) -> Result<Utf8Char, Utf8Error>
     }
 }
 
-// The second byte of a code, and those behind it, each read where the ones before it ask for it. Behind a
-// continuation byte the table tells the state: it is an end behind the last byte of a code, and what is wrong
-// with the bytes where it is another end than `Done`. Codes of different lengths have functions of their own,
+// The second byte of a code, and those behind it, each read where the ones before it ask for it. The state that
+// the first two led to tells whether any that continue complete the code; the walk over the table goes on only
+// where they do not, to the end that says what is wrong. Codes of different lengths have functions of their own,
 // which return each answer where it is found: so a compiler keeps the ways to them apart.
 #[inline(always)]
 fn second<I: Iterator<Item = u8>>(
@@ -247,7 +247,7 @@ fn second<I: Iterator<Item = u8>>(
             *held = HeldBytes::one(byte);
             Err(Utf8Error::new(Utf8ErrorKind::InterruptedSequence))
         }
-        // The state is `Done` behind any two such bytes, as it was `OneMore` behind the first.
+        // The first led to `OneMore`, from which any byte that continues leads to `Done`.
         Some(byte) if first < 0xe0 => Ok(Followers::new(byte, 0, 0)),
         Some(byte) if first < 0xf0 => third_of_three(first, byte, held, source),
         Some(byte) => third_of_four(first, byte, held, source),
@@ -285,11 +285,15 @@ fn third_of_three<I: Iterator<Item = u8>>(
             *held = HeldBytes::one(second).ended();
             Err(Utf8Error::new(Utf8ErrorKind::TooFewBytes))
         }
-        Some(byte) => match step(behind_two(first, second), class_of(byte)) {
-            State::Done => Ok(Followers::new(second, byte, 0)),
-            end => {
+        Some(byte) if !continues(byte) => {
+            *held = HeldBytes::two(second, byte);
+            Err(Utf8Error::new(Utf8ErrorKind::InterruptedSequence))
+        }
+        Some(byte) => match behind_two(first, second) {
+            State::OneMore => Ok(Followers::new(second, byte, 0)),
+            state => {
                 *held = HeldBytes::two(second, byte);
-                Err(error_of(end))
+                Err(error_of(step(state, class_of(byte))))
             }
         },
     }
@@ -316,28 +320,27 @@ fn third_of_four<I: Iterator<Item = u8>>(
             *held = HeldBytes::one(second).ended();
             Err(Utf8Error::new(Utf8ErrorKind::TooFewBytes))
         }
-        Some(byte) => match step(behind_two(first, second), class_of(byte)) {
-            State::Interrupted => {
-                *held = HeldBytes::two(second, byte);
-                Err(Utf8Error::new(Utf8ErrorKind::InterruptedSequence))
-            }
-            state => fourth(first, second, byte, state, held, source),
-        },
+        Some(byte) if !continues(byte) => {
+            *held = HeldBytes::two(second, byte);
+            Err(Utf8Error::new(Utf8ErrorKind::InterruptedSequence))
+        }
+        Some(byte) => fourth(first, second, byte, held, source),
     }
 }
 
-// The fourth, which is the last: the bytes before it led to the state.
+// The fourth, behind two continuation bytes.
 #[inline(always)]
 fn fourth<I: Iterator<Item = u8>>(
     first: u8,
     second: u8,
     third: u8,
-    state: State,
     held: &mut HeldBytes,
     source: &mut I,
 ) -> Result<Followers, Utf8Error>
-    requires walked { state ≡ state_after (first ∷ second ∷ third ∷ []) 3 }
-    requires running { is_running state ≡ true }
+    requires low { 0xF0 ≤ first }
+    requires high { first < 0xF5 }
+    requires second { is_continuation second ≡ true }
+    requires third { is_continuation third ≡ true }
     requires can { I.can_next source.old }
     requires none { held.old.held ≡ [] }
     requires going { held.old.ended ≡ false }
@@ -348,11 +351,15 @@ fn fourth<I: Iterator<Item = u8>>(
             *held = HeldBytes::two(second, third).ended();
             Err(Utf8Error::new(Utf8ErrorKind::TooFewBytes))
         }
-        Some(byte) => match step(state, class_of(byte)) {
-            State::Done => Ok(Followers::new(second, third, byte)),
-            end => {
+        Some(byte) if !continues(byte) => {
+            *held = HeldBytes::three(second, third, byte);
+            Err(Utf8Error::new(Utf8ErrorKind::InterruptedSequence))
+        }
+        Some(byte) => match behind_two(first, second) {
+            State::TwoMore => Ok(Followers::new(second, third, byte)),
+            state => {
                 *held = HeldBytes::three(second, third, byte);
-                Err(error_of(end))
+                Err(error_of(step(step(state, class_of(third)), class_of(byte))))
             }
         },
     }
