@@ -1,5 +1,5 @@
 -- What a walk over the table tells a merger of bytes.
-use Rattle.std.proofs.Common.{◌≡◌, ℕ, suc, ◌<◌, ◌≤◌, ⊎_elim, List, [], ◌∷◌, length, get_or, Some, None, true, false, refl, ap, sym, ◌∙◌, arith, lit<}
+use Rattle.std.proofs.Common.{◌≡◌, ℕ, suc, ◌<◌, ◌≤◌, List, [], ◌∷◌, length, get_or, Some, None, true, false, refl, ap, sym, ◌∙◌, arith, lit<}
 use Rattle.utf_base.specs.declared.errors.Utf8ErrorKind.TheVariants.{TooFewBytes}
 use Rattle.utf_base.specs.declared.errors.Utf8ErrorKind.{Utf8ErrorKind}
 use Rattle.utf_base.specs.declared.table.State.{State}
@@ -10,8 +10,7 @@ use Rattle.utf_base.specs.Scalar.{IsScalar}
 use Rattle.utf_base.specs.Table.{class, fault_of, is_running, missing, next_state, state_after}
 use Rattle.utf_base.proofs.FrontLemmas.{code_where_no_fault}
 use Rattle.utf_base.proofs.MergerLemmas.{merger_none, whole_code}
-use Rattle.utf_base.proofs.TableSteps.{Reached, Runs, asks_runs, first-2, first-3, first-4, is_of_first, kind_at_end, one_less, one_more_ends, reached}
-use Rattle.std.proofs.lemmas.Bool.{cases_lt}
+use Rattle.utf_base.proofs.TableSteps.{Reached, Runs, first-2, is_of_first, kind_at_end, one_less, one_more_ends, reached}
 
 -- A running state behind some bytes asks for more of them.
 pub runs_behind : (w : List ℕ) (k : ℕ) (state : State) → 0 < k → is_running state ≡ true → Reached w k state → Runs w k state × (0 < missing state) × (fault_of state ≡ Some TooFewBytes)
@@ -51,15 +50,7 @@ code_behind_walk w k len some e done =
     no : Done ≡ Interrupted → ⊥
     no e = cc
 
--- The first two bytes, the second of which continues the code.
-
-pub first_runs : (a : ℕ) → 0xC2 ≤ a → a < 0xF5 → is_running (next_state Start (class a)) ≡ true
-first_runs a low high =
-    ⊎_elim (λ (h : a < 0xE0). ap is_running (first-2 a low h))
-    (λ (l : 0xE0 ≤ a). ⊎_elim (λ (h : a < 0xF0). let two = first-3 a l h in asks_runs _ (omega arith))
-    (λ (m : 0xF0 ≤ a). let three = first-4 a m high in asks_runs _ (omega arith))
-    (cases_lt a 0xF0)) (cases_lt a 0xE0)
-
+-- The first two bytes of a code of two.
 pub two_end : (a b : ℕ) → 0xC2 ≤ a → a < 0xE0 → is_continuation b ≡ true → state_after (a ∷ b ∷ []) 2 ≡ Done
 two_end a b low high e =
     let first = first-2 a low high in

@@ -4,7 +4,7 @@ ghost use Rattle.std.specs.Iterator.{UpTo};
 ghost use Rattle.std.specs.Iterator.SizeHint.{IsWithinCount};
 ghost use Rattle.utf_base.specs.Code.{utf8};
 ghost use Rattle.utf_base.specs.Kinds.{asked_by, is_continuation, merger_kind};
-ghost use Rattle.utf_base.specs.Table.{fault_of, is_running, state_after};
+ghost use Rattle.utf_base.specs.Table.{fault_of, is_running};
 ghost use Rattle.utf_base.specs.declared.table.State.TheVariants.{Done, Unexpected, Never};
 ghost use Rattle.encode_unicode.specs.Mergers.{unasked, unread, unread_count, IsHeldBytes, IsSpent, MergerNext, MergesHint};
 ghost use Rattle.encode_unicode.specs.Reading.{Completes, CompletesBehind, JudgesBytes, TakesFirst};
@@ -18,7 +18,7 @@ use std::alloc::AllocError;
 use std::fmt;
 use std::marker::Model;
 use utf_base::errors::{Utf8Error, Utf8ErrorKind};
-use utf_base::table::{State, class_of, error_behind, step};
+use utf_base::table::{State, behind_two, class_of, error_behind, step};
 use utf_chars::continuation::continues;
 use utf_chars::utf8_char::Utf8Char;
 
@@ -252,16 +252,6 @@ fn second<I: Iterator<Item = u8>>(
         Some(byte) if first < 0xf0 => third_of_three(first, byte, held, source),
         Some(byte) => third_of_four(first, byte, held, source),
     }
-}
-
-// The state behind the first two bytes of a code.
-#[inline(always)]
-fn behind_two(first: u8, second: u8) -> State
-    requires low { 0xC2 ≤ first }
-    requires high { first < 0xF5 }
-    ensures { result ≡ state_after (first ∷ second ∷ []) 2 }
-{
-    step(step(State::Start, class_of(first)), class_of(second))
 }
 
 // The third byte of three, behind a continuation byte.

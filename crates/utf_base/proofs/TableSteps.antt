@@ -687,3 +687,11 @@ first-4 b low high = by_begins (next_state Start (class b)) low high (begins b)
     by_begins Overlong low high h = absurd h
     by_begins Reserved low high h = absurd h
     by_begins TooHigh low high h = absurd h
+
+-- behind any of them the state is running
+pub first_runs : (a : ℕ) → 0xC2 ≤ a → a < 0xF5 → is_running (next_state Start (class a)) ≡ true
+first_runs a low high =
+    ⊎_elim (λ (h : a < 0xE0). ap is_running (first-2 a low h))
+    (λ (l : 0xE0 ≤ a). ⊎_elim (λ (h : a < 0xF0). let two = first-3 a l h in asks_runs _ (omega arith))
+    (λ (m : 0xF0 ≤ a). let three = first-4 a m high in asks_runs _ (omega arith))
+    (cases_lt a 0xF0)) (cases_lt a 0xE0)

@@ -1,7 +1,7 @@
 //! The table of byte classes and states by which bytes in UTF-8 are judged one by one (RFC 3629, section 4).
-ghost use Rattle.std.specs.Prelude.{◌≡◌, ◌<◌, true, false, Some};
+ghost use Rattle.std.specs.Prelude.{◌≡◌, ◌<◌, ◌≤◌, [], ◌∷◌, true, false, Some};
 ghost use Rattle.utf_base.specs.declared.table.State.TheVariants.{Done, Unexpected, Never};
-ghost use Rattle.utf_base.specs.Table.{class, fault_of, is_running, next_state, row, WalkTellsTheKind};
+ghost use Rattle.utf_base.specs.Table.{class, fault_of, is_running, next_state, row, state_after, WalkTellsTheKind};
 
 use crate::errors::{Utf8Error, Utf8ErrorKind};
 use State::*;
@@ -111,6 +111,16 @@ pub fn step(state: State, c: u8) -> State
     ensures { result ≡ next_state state c }
 {
     STEPS[row_of(state) as usize][c as usize]
+}
+
+/// The state behind two bytes, the first of which begins a code of more than one.
+#[inline(always)]
+pub fn behind_two(first: u8, second: u8) -> State
+    requires low { 0xC2 ≤ first }
+    requires high { first < 0xF5 }
+    ensures { result ≡ state_after (first ∷ second ∷ []) 2 }
+{
+    step(step(State::Start, class_of(first)), class_of(second))
 }
 
 /// The law of the table: the state behind some bytes tells what is wrong with them, as a merger says it that

@@ -4,13 +4,11 @@ ghost use Rattle.std.specs.Int.{w32, from_le_bytes};
 ghost use Rattle.utf_base.specs.Code.{utf8};
 ghost use Rattle.utf_base.specs.Front.{as_scalar, IsOneCode, DecodesFront, DecodesBytes};
 ghost use Rattle.utf_base.specs.Kinds.{is_continuation};
-ghost use Rattle.utf_base.specs.Table.{class, next_state};
-ghost use Rattle.utf_base.specs.declared.table.State.TheVariants.{Start};
 ghost use Rattle.utf_chars.specs.Padded.{padded};
 
 use crate::continuation::continues;
 use utf_base::errors::{Utf8Error, Utf8ErrorKind};
-use utf_base::table::{State, class_of, error_behind, step};
+use utf_base::table::{State, behind_two, class_of, error_behind, step};
 
 /// The code, then zeros, and how many bytes the code has: 1 to 4.
 #[inline(always)]
@@ -273,14 +271,4 @@ fn decode_four(src: &[u8]) -> Result<(char, usize), Utf8Error>
     }
     let value = value_of_four(src[0], src[1], src[2], src[3]);
     Ok((unsafe { char::from_u32_unchecked(value) }, 4))
-}
-
-// The state behind two bytes, where the first asks for three or four.
-#[inline(always)]
-fn behind_two(first: u8, second: u8) -> State
-    requires low { 0xE0 ≤ first }
-    requires high { first < 0xF5 }
-    ensures { result ≡ next_state (next_state Start (class first)) (class second) }
-{
-    step(step(State::Start, class_of(first)), class_of(second))
 }
