@@ -1,11 +1,10 @@
 -- The pieces from one place to another, decoded one after another.
 use Rattle.std.proofs.Common.{◌≡◌, ℕ, ◌+◌, ◌-◌, ◌<◌, ◌≤◌, List, [], ◌∷◌, ◌++◌, length, map, arith}
 use Rattle.std.proofs.lemmas.List.{length_push}
-use Rattle.std.proofs.lemmas.List.Elements.{All-push, All-nil, All-map}
+use Rattle.std.proofs.lemmas.List.Elements.{All-push, All-map}
 use Rattle.std.specs.Prelude.{All, slice_range}
 use Rattle.utf_base.specs.Code.{utf8}
 use Rattle.utf_base.specs.Kinds.{fault_kind}
-use Rattle.utf_base.specs.Piece.{Inside}
 use Rattle.utf_base.proofs.CutChanges.{cut_up_to}
 use Rattle.utf_base.proofs.Cuts.{piece_some}
 use Rattle.utf_base.proofs.FrontLemmas.{no_code_where_fault}
@@ -13,20 +12,13 @@ use Rattle.utf_base.proofs.Utf8Code.{utf8_is_code}
 use Rattle.encode_unicode.specs.Window.{Item, IsFrontPiece}
 use Rattle.cuts.specs.Items.{piece_of}
 use Rattle.cuts.specs.Runs.{IsForwardRunBetween}
-use Rattle.cuts.proofs.PieceRuns.{IsRunTo, IsRunTo-none, IsRunTo-push, at_front}
+use Rattle.cuts.proofs.PieceRuns.{IsRunTo, IsRunTo-push, at_front}
 
 -- The items are the pieces from `place` as far as `next`, and each begins before `until`.
 pub record IsDecodedTo (xs : List ℕ) (place until next : ℕ) (items : List Item) : Type 0 where
   pub run : IsRunTo utf8 fault_kind xs place items next
   pub before : All (λ x. x.0 < until) items
   pub few : length items ≤ until - place
-
-pub IsDecodedTo-none : (xs : List ℕ) (place until : ℕ) (items : List Item) → items ≡ [] → place ≤ length xs → (Inside utf8 xs place → ⊥) → IsDecodedTo xs place until place items
-IsDecodedTo-none xs place until items none within outside = rw none (record {
-  run = IsRunTo-none utf8 fault_kind xs place within outside;
-  before = All-nil (λ x. x.0 < until);
-  few = omega arith;
-})
 
 -- the piece at the next place has an element
 pub item_has_some : (xs : List ℕ) (place until next : ℕ) (items : List Item) (x : Item) → IsDecodedTo xs place until next items → next < length xs

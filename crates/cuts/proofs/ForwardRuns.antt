@@ -15,7 +15,6 @@ use Rattle.utf_base.proofs.Utf8Code.{utf8_is_code}
 use Rattle.utf_base.proofs.Utf16Code.{utf16_is_code}
 use Rattle.encode_unicode.specs.Window.{Window, Placed, Item, UnitItem, elements, whole_window, without_front, GivesFrontOf, GivesFront, GivesFrontUnits, GivesNone, IsFrontOf}
 use Rattle.cuts.specs.Items.{IsRun}
-use Rattle.cuts.specs.Collected.{IsUnitRun}
 use Rattle.cuts.specs.Runs.{IsForwardRun}
 use Rattle.cuts.proofs.PieceRuns.{Excludes, IsRunTo, IsRunTo-front, IsRunTo-push, IsRun-all}
 
@@ -61,14 +60,8 @@ IsForwardRun-all = IsWindowRun-all utf8 fault_kind
 abbrev pub IsUnitRunSoFar : List ℕ → List UnitItem → Window → Type 0
 IsUnitRunSoFar = IsWindowRun utf16 unit_fault_kind
 
-pub IsUnitRunSoFar-none : (xs : List ℕ) → IsUnitRunSoFar xs [] (whole_window xs)
-IsUnitRunSoFar-none = IsWindowRun-none utf16 unit_fault_kind
-
 pub IsUnitRunSoFar-push : (xs : List ℕ) (items : List UnitItem) (w v : Window) (x : UnitItem) → IsUnitRunSoFar xs items w → GivesFrontUnits w x v → IsUnitRunSoFar xs (items ++ x ∷ []) v
 IsUnitRunSoFar-push = IsWindowRun-push utf16 2 unit_fault_kind decoded_pairs utf16_is_code no_units_where_kind
-
-pub IsUnitRun-all : (xs : List ℕ) (items : List UnitItem) (w v : Window) → IsUnitRunSoFar xs items w → GivesNone w v → IsUnitRun xs items
-IsUnitRun-all = IsWindowRun-all utf16 unit_fault_kind
 
 -- an item has an element
 pub item_some : (xs : List ℕ) (items : List Item) (w v : Window) (x : Item) → IsRunSoFar xs items w → GivesFront w x v → w.front < v.front

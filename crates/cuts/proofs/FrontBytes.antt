@@ -1,8 +1,8 @@
 -- What the front of some bytes shows, from the answer of a decoder.
-use Rattle.std.proofs.Common.{◌≡◌, ◌≢◌, ℕ, ◌<◌, ◌≤◌, ⊎_elim, min, List, [], ◌∷◌, ◌++◌, length, get_or, drop, arith, refl, ap, sym, ◌∙◌, Some, None, Bool, true, false, not, if◌then◌else◌, lit<, length-drop}
+use Rattle.std.proofs.Common.{◌≡◌, ◌≢◌, ℕ, ◌<◌, ◌≤◌, ⊎_elim, List, [], ◌∷◌, ◌++◌, length, get_or, drop, arith, refl, ap, sym, ◌∙◌, Some, None, Bool, true, false, not, if◌then◌else◌, lit<, length-drop}
 use Rattle.std.proofs.lemmas.Grind.{common_steps}
 use Rattle.std.proofs.lemmas.Bool.{cases_lt}
-use Rattle.std.proofs.lemmas.List.{append-nil, drop_min}
+use Rattle.std.proofs.lemmas.List.{append-nil}
 use Rattle.utf_base.specs.declared.errors.Utf8ErrorKind.{Utf8ErrorKind}
 use Rattle.utf_base.specs.declared.errors.Utf8ErrorKind.TheVariants.{TooFewBytes}
 use Rattle.utf_base.specs.Scalar.{IsScalar}
@@ -34,16 +34,6 @@ Ends-from_decides reads w s n d = record {
   scalar = d.scalar;
   wide = d.wide;
   first = λ ss r. rw (append-nil w) at (d.first [] ss (rw (append-nil (drop n w)) r));
-}
-
-pub Ends-from_waits : (reads : List ℕ → List ℕ → Type 0) (fault : ℕ) (w : List ℕ) → 0 < fault → 0 < length w → Waits reads fault w
-    → Ends reads w 0xFFFD (min fault (length w))
-Ends-from_waits reads fault w positive some h = record {
-  some = omega arith;
-  within = omega arith;
-  scalar = replacement;
-  wide = λ high. absurd (omega arith);
-  first = λ ss r. h.last some ss (rw (drop_min fault w) at r);
 }
 
 -- UTF-8.

@@ -72,9 +72,6 @@ Continues-trans from to a g b k c h i later rest r = rw (append_assoc g k rest) 
 pub Continues-append : (from to : Form) (a g b x : List ℕ) → Continues from to a g b → Continues from to (a ++ x) g (b ++ x)
 Continues-append from to a g b x h later rest r = rw (append_assoc a x later) (h (x ++ later) rest (rw (append_assoc b x later) at r))
 
-pub Grows-none : (from to : Form) (bytes out : List ℕ) → Grows from to bytes out out bytes
-Grows-none from to bytes out = record { grown = []; appended = sym (append-nil out); continues = Continues-none from to bytes }
-
 pub Grows-step : (from to : Form) (bytes old mid new : List ℕ) (p s n : ℕ) → Grows from to bytes old mid (drop p bytes) → Decides (Reads from) (drop p bytes) s n
     → new ≡ mid ++ written to s → Grows from to bytes old new (drop (p + n) bytes)
 Grows-step from to bytes old mid new p s n g d e = record {
@@ -162,9 +159,6 @@ pub record Remains (from to : Form) (bytes old new held : List ℕ) : Type 0 whe
   pub appended : new ≡ old ++ grown
   pub continues : (rest : List ℕ) → IsRecoded from to held rest → IsRecoded from to bytes (grown ++ rest)
 
-pub Remains-none : (from to : Form) (bytes out : List ℕ) → Remains from to bytes out out bytes
-Remains-none from to bytes out = record { grown = []; appended = sym (append-nil out); continues = λ rest h. h }
-
 pub Remains-step : (from to : Form) (bytes old mid new : List ℕ) (p s n : ℕ) → Remains from to bytes old mid (drop p bytes) → Ends (Reads from) (drop p bytes) s n
     → new ≡ mid ++ written to s → Remains from to bytes old new (drop (p + n) bytes)
 Remains-step from to bytes old mid new p s n g d e = record {
@@ -187,10 +181,6 @@ Remains-all from to bytes old new g = record {
 short_utf8 : (s : ℕ) → s < 0x1_0000 → length (utf8 s) ≤ 3
 unfolding utf8
 short_utf8 s h = grind (arith, common_steps)
-
-length_bytes : (high : Bool) (u : ℕ) → length (bytes_of high u) ≡ 2
-length_bytes true u = refl
-length_bytes false u = refl
 
 length_units : (high : Bool) (s n : ℕ) → 0 < n → (0x1_0000 ≤ s → 2 ≤ n) → length (flat_map (bytes_of high) (utf16 s)) ≤ 3 * n
 length_units true s n some wide =

@@ -1,5 +1,5 @@
 -- The lines of some entries, one after another.
-use Rattle.std.proofs.Common.{◌≡◌, ℕ, ◌+◌, ◌<◌, Bool, List, [], ◌∷◌, ◌++◌, Option, length, take, drop, get_or, refl, subst, arith, if◌then◌else◌}
+use Rattle.std.proofs.Common.{◌≡◌, ℕ, ◌+◌, ◌<◌, Bool, List, [], ◌∷◌, ◌++◌, Option, length, take, drop, get_or, refl, subst, arith}
 use Rattle.std.specs.Prelude.{flat_map, count_by}
 use Rattle.std.proofs.lemmas.List.{take-append-drop, take_more}
 use Rattle.std.proofs.lemmas.Grind.{common_steps}
@@ -19,17 +19,9 @@ count_by-append wrong xs ys = grind (arith, common_steps)
 pub flat_map-one : {X : Type 0} (line : X → List ℕ) (x : X) → flat_map line (x ∷ []) ≡ line x
 flat_map-one line x = grind (arith, common_steps)
 
-count_by-one : {X : Type 0} (wrong : X → Bool) (x : X) → count_by wrong (x ∷ []) ≡ (if wrong x then 1 else 0)
-count_by-one wrong x = grind (arith, common_steps)
-
 -- nothing is written of nothing
 pub WritesLines-none : {X : Type 0} (line : X → List ℕ) (wrong : X → Bool) (held : Option (List ℕ)) → WritesLines line wrong [] held held 0
 WritesLines-none line wrong held = record { written = Appends-nil held; counted = refl }
-
--- one entry
-pub WritesLines-one : {X : Type 0} (line : X → List ℕ) (wrong : X → Bool) (x : X) (old new : Option (List ℕ)) (n : ℕ)
-    → Appends old new (line x) → n ≡ (if wrong x then 1 else 0) → WritesLines line wrong (x ∷ []) old new n
-WritesLines-one line wrong x old new n h e = record { written = rw (flat_map-one line x) h; counted = rw (count_by-one wrong x) e }
 
 -- and then more of them
 pub WritesLines-append : {X : Type 0} (line : X → List ℕ) (wrong : X → Bool) (xs ys : List X) (old mid new : Option (List ℕ)) (m n : ℕ)

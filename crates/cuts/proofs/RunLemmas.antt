@@ -1,14 +1,13 @@
 -- What a whole run has written.
-use Rattle.std.proofs.Common.{◌≡◌, ℕ, List, [], map, flat_map, Option, Some, None, refl, ap, subst, arith, Result, Ok, Err}
+use Rattle.std.proofs.Common.{◌≡◌, ℕ, List, [], map, flat_map, Option, Some, None, refl, subst, arith, Result, Ok, Err}
 use Rattle.std.specs.Prelude.{IfOk, IfErr, IfSome, OnErr}
-use Rattle.std.specs.Io.KnownBytes.{Consumes, IsAtEnd}
 use Rattle.utf_base.proofs.ByteWalks.{byte_walk_exists}
 use Rattle.cuts.specs.declared.runs.Stop.{Stop}
 use Rattle.cuts.specs.declared.runs.Stop.TheVariants.{WrongArguments, CannotRead, CannotWrite, NoMemory}
 use Rattle.cuts.specs.Arguments.{Asked, listed, merged, walked, Asks}
 use Rattle.cuts.specs.Failures.{Counting}
 use Rattle.cuts.specs.Forms.{Form, WritesRunFront, merged_form, walk_form}
-use Rattle.cuts.specs.Programs.{IsDrained, WritesAsked, WritesAskedFront, DoesAsked, BeginsAsked, FailsOrStays}
+use Rattle.cuts.specs.Programs.{WritesAsked, WritesAskedFront, DoesAsked, BeginsAsked, FailsOrStays}
 use Rattle.cuts.specs.Walks.{side}
 use Rattle.cuts.proofs.ArgumentLemmas.{one_asked}
 use Rattle.cuts.proofs.Fronts.{AppendsFront-none}
@@ -54,9 +53,3 @@ stays NoMemory old new same quiet = same
 pub stays_on_err : {T : Type 0} (r : Result ℕ Stop) (old new : Counting T) → IfErr r (λ stop. FailsOrStays stop old new) → OnErr r (new.failures ≡ old.failures → new ≡ old)
 stays_on_err (Ok faults) old new early = tt
 stays_on_err (Err stop) old new early = stays stop old new early
-
--- a reader at its end that gave known bytes is drained
-pub drained : (old new : Option (List ℕ)) (taken : List ℕ) → Consumes old new taken → IsAtEnd new → IsDrained old new
-drained None new taken h end = tt
-drained (Some xs) None taken h end = absurd h
-drained (Some xs) (Some ys) taken h end = ap Some end

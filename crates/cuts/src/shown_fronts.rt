@@ -96,19 +96,9 @@ pub(crate) fn text_front(from: Form, bytes: &[u8]) -> Option<(char, usize)>
     ensures { IfSome result (λ x. Decides (Reads from) bytes.now x.0 x.1) }
 {
     match from {
-        Form::Utf8 => char_of_utf8(bytes),
+        Form::Utf8 => front_of_text(bytes),
         Form::Utf16Le => char_of_utf16(false, bytes),
         Form::Utf16Be => char_of_utf16(true, bytes),
-    }
-}
-
-#[inline(always)]
-fn char_of_utf8(bytes: &[u8]) -> Option<(char, usize)>
-    ensures { IfSome result (λ x. Decides (Shows utf8) bytes.now x.0 x.1) }
-{
-    match front_of_text(bytes) {
-        None => None,
-        Some((c, len)) => Some((c, len)),
     }
 }
 

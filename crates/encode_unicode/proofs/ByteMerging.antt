@@ -6,15 +6,14 @@ use Rattle.std.specs.Iterator.{Count, YieldsFirst}
 use Rattle.std.specs.Prelude.{Option, Result}
 use Rattle.utf_base.specs.declared.errors.Utf8ErrorKind.{Utf8ErrorKind}
 use Rattle.utf_base.specs.Code.{utf8}
-use Rattle.utf_base.specs.Kinds.{asked, asked_by, fault_kind, is_continuation, merger_kind, value}
+use Rattle.utf_base.specs.Kinds.{asked, fault_kind, is_continuation, merger_kind, value}
 use Rattle.utf_base.specs.Decoded.{decoded_bytes, unless_fault}
 use Rattle.utf_base.specs.declared.errors.Utf8ErrorKind.TheVariants.{TooFewBytes}
 use Rattle.utf_base.specs.Scalar.{IsScalar}
 use Rattle.utf_chars.specs.Padded.{padded}
 use Rattle.utf_chars.proofs.PaddedLemmas.{IsPadded-padded, value-padded}
 use Rattle.utf_base.proofs.MergerLemmas.{kind_of_front, few-1}
-use Rattle.utf_base.proofs.FrontLemmas.{asked-1}
-use Rattle.utf_base.proofs.Utf8Code.{utf8-1, utf8-first}
+use Rattle.utf_base.proofs.Utf8Code.{utf8-first}
 use Rattle.encode_unicode.specs.Mergers.{IsHeldBytes}
 use Rattle.encode_unicode.specs.Reading.{Answers, Completes, CompletesBehind, JudgesBytes, Reads}
 use Rattle.encode_unicode.proofs.MergerSteps.{reads_none, reads_more}
@@ -63,16 +62,6 @@ held_rest old new (Some x) h held =
       few = omega arith;
       continuing = λ k lt. ap (λ xs. is_continuation (get_or xs (suc k) 0)) (sym h) ∙ held.continuing (suc k) (omega arith);
     }
-
--- the last byte that is held may be any, and the others are continuation bytes
-pub held_alone : (old new : List ℕ) (x : ℕ) → old ≡ x ∷ new → IsHeldBytes old → is_continuation x ≡ false → new ≡ []
-held_alone old [] x h held other = refl
-held_alone old (y ∷ ys) x h held other =
-    let len : length old ≡ suc (suc (length ys)) = ap length h in
-    let yes : is_continuation (get_or old 0 0) ≡ true = held.continuing 0 (omega arith) in
-    let first : get_or old 0 0 ≡ x = ap (λ xs. get_or xs 0 0) h in
-    let same : true ≡ false = sym yes ∙ ap is_continuation first ∙ other in
-    cc
 
 -- A byte that stands alone.
 
@@ -129,13 +118,6 @@ pub alone_fails : {S : Type 0} (can_next : S → Type 0) (remaining : S → Coun
     → (e ≡ false → can_next s) → asked first ≤ 1 → (is_continuation first ≡ false → old ≡ []) → IsHeldBytes old → JudgesBytes (first ∷ []) (Err k)
     → Completes can_next remaining steps first old s e (Err k) old s e
 alone_fails can_next remaining steps first k old s e can few alone held j = record { answers = byte_alone can_next remaining steps first old s e (Err k) can few alone j; held = held }
-
-pub ascii_completes : {S : Type 0} (can_next : S → Type 0) (remaining : S → Count) (steps : S → Option ℕ → S → Type 0) (first : ℕ) (old : List ℕ) (s : S) (e : Bool)
-    → (e ≡ false → can_next s) → first < 0x80 → (is_continuation first ≡ false → old ≡ [])
-    → Completes can_next remaining steps first old s e (Ok (0 ∷ 0 ∷ 0 ∷ [])) old s e
-ascii_completes can_next remaining steps first old s e can low alone =
-    let asks = asked-1 first low in
-    alone_completes can_next remaining steps first first old s e can (omega arith) alone (record { below = omega arith; no_surrogate = λ ge. absurd (omega arith) }, sym (utf8-1 first low))
 
 pub begins_alone : (b : ℕ) → (leb 0xC2 b && ltb b 0xF5) ≡ true → is_continuation b ≡ false
 begins_alone b h = grind (arith, common_steps)
@@ -214,10 +196,6 @@ end_at_once can_next remaining steps first old s e mark asks none = record {
   where
     no : {b : Bool} → b ≡ true → b ≡ false → ⊥
     no p q = cc
-
--- the kind of bytes that are all there
-pub kind_of_all : (w : List ℕ) (k : Utf8ErrorKind) → 0 < length w → asked_by w ≡ length w → JudgesBytes w (Err k) → (later : List ℕ) → merger_kind (w ++ later) ≡ Some k
-kind_of_all w k some exact j later = kind_of_front w later some (omega arith) ∙ j
 
 -- a code in four bytes
 pub two_padded : (a b c : ℕ) → a ∷ b ∷ [] ≡ utf8 c → a ∷ b ∷ 0 ∷ 0 ∷ [] ≡ padded 4 (utf8 c)

@@ -1,4 +1,4 @@
-pub mod ByteWalks
+pub mod TableWalks
 pub mod Collected
 pub mod ForCallers
 pub mod HintLemmas

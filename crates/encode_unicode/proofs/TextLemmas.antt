@@ -100,13 +100,6 @@ last_char_taken xs text code i j t n kept e last known =
     let ends : EndsWith utf8 (slice_range xs i j) t n = rw (← e, ← same) last.ends in
     last_taken xs i j t n (j - n) kept ends refl
 
-pub none_left : (xs : List ℕ) (i j : ℕ) → IsKeptWindow xs i j → length (slice_range xs i j) ≡ 0 → i ≡ j
-none_left xs i j kept e =
-    let ordered = kept.ordered in
-    let back = kept.between.back.0 in
-    let len : length (slice_range xs i j) ≡ j - i = grind (arith, common_steps) in
-    omega arith
-
 pub bounds_quarter : (xs : List ℕ) (i j n : ℕ) → IsKeptWindow xs i j → n ≡ div_ceil (j - i) 4 → BoundsScalars (slice_range xs i j) (n, Some (j - i))
 bounds_quarter xs i j n kept e scalars is =
     let ordered = kept.ordered in

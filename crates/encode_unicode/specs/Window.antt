@@ -88,9 +88,6 @@ pub record GivesBackOf {E : Type 0} (code : ℕ → List ℕ) (most : ℕ) (kind
   pub left : v ≡ without_back w x.2
 
 -- the same of bytes, and of units
-abbrev pub IsBackPiece : List ℕ → Result ℕ Utf8ErrorKind → ℕ → Type 0
-IsBackPiece = IsBackOf utf8 back_kind
-
 abbrev pub GivesBack : Window → Item → Window → Type 0
 GivesBack = GivesBackOf utf8 4 back_kind decoded_end
 

@@ -3,9 +3,8 @@ ghost use Rattle.std.specs.Prelude.{◌≡◌, ◌<◌, ◌≤◌, ℕ, List, []
 ghost use Rattle.std.specs.Iterator.{UpTo};
 ghost use Rattle.std.specs.Iterator.SizeHint.{IsWithinCount};
 ghost use Rattle.utf_base.specs.Code.{utf8};
-ghost use Rattle.utf_base.specs.Kinds.{asked_by, is_continuation, merger_kind};
-ghost use Rattle.utf_base.specs.Table.{fault_of, is_running};
-ghost use Rattle.utf_base.specs.declared.table.State.TheVariants.{Done, Unexpected, Never};
+ghost use Rattle.utf_base.specs.Kinds.{asked, is_continuation, merger_kind};
+ghost use Rattle.utf_base.specs.Table.{fault_of, is_later_fault};
 ghost use Rattle.encode_unicode.specs.Mergers.{unasked, unread, unread_count, IsHeldBytes, IsSpent, MergerNext, MergesHint};
 ghost use Rattle.encode_unicode.specs.Reading.{Completes, CompletesBehind, JudgesBytes, TakesFirst};
 ghost use Rattle.encode_unicode.specs.Sources.{GivesTheSame};
@@ -187,7 +186,7 @@ fn followers<I: Iterator<Item = u8>>(
 {
     // First whether there is more to read: in damaged text this answer is the easier to foresee.
     if !begins_many(first) {
-        return match judge(&[first]) {
+        return match alone(first) {
             Err(error) => Err(error),
             Ok(_) => Ok(Followers::new(0, 0, 0)),
         };
@@ -207,18 +206,14 @@ fn begins_many(first: u8) -> bool
     0xc2 <= first && first <= 0xf4
 }
 
-// The character whose code the bytes are, or what is wrong, where none is missing.
+// The character that a byte is which asks for no other, or what is wrong with it.
 #[inline(always)]
-fn judge(bytes: &[u8]) -> Result<Utf8Char, Utf8Error>
-    requires some { 0 < length bytes.now }
-    requires enough { asked_by bytes.now ≤ length bytes.now }
-    requires exact { 1 < length bytes.now → asked_by bytes.now ≡ length bytes.now }
-    ensures { JudgesBytes bytes.now result }
+fn alone(byte: u8) -> Result<Utf8Char, Utf8Error>
+    requires { asked byte ≤ 1 }
+    ensures { JudgesBytes (byte ∷ []) result }
 {
-    match Utf8Char::from_slice_start(bytes) {
-        Ok((c, _)) => Ok(c),
-        Err(error) => Err(error),
-    }
+    let (c, _) = Utf8Char::from_slice_start(&[byte])?;
+    Ok(c)
 }
 
 // The second byte of a code, and those behind it, each read where the ones before it ask for it. The state that
@@ -360,10 +355,7 @@ fn fourth<I: Iterator<Item = u8>>(
 #[cold]
 #[inline(never)]
 fn error_of(end: State) -> Utf8Error
-    requires some { end ≡ Done → ⊥ }
-    requires followed { end ≡ Unexpected → ⊥ }
-    requires known { end ≡ Never → ⊥ }
-    requires ended { is_running end ≡ false }
+    requires { is_later_fault end ≡ true }
     ensures { fault_of end ≡ Some result }
 {
     error_behind(end)

@@ -1,10 +1,10 @@
 -- A text that is recoded in parts.
-use Rattle.std.proofs.Common.{◌≡◌, ℕ, ◌+◌, ◌-◌, ◌≤◌, List, [], ◌++◌, length, take, drop, refl, sym, ◌∙◌, ap, arith}
+use Rattle.std.proofs.Common.{◌≡◌, ℕ, ◌+◌, ◌-◌, ◌≤◌, List, [], ◌++◌, length, take, drop, sym, ◌∙◌, ap, arith}
 use Rattle.std.proofs.lemmas.List.{append-nil, take_all}
 use Rattle.std.specs.Prelude.{slice_range}
 use Rattle.cuts.specs.declared.form.Form.{Form}
 use Rattle.cuts.specs.Recoded.{Recoding, Continues, Feeds, Finishes, IsRecoded}
-use Rattle.cuts.proofs.Growing.{Continues-append, Continues-none, Continues-trans}
+use Rattle.cuts.proofs.Growing.{Continues-append, Continues-trans}
 use Rattle.cuts.proofs.Parts.{take_plus}
 
 -- so many bytes were fed, and this came of them, up to what the recoder holds
@@ -13,9 +13,6 @@ pub record IsFedSoFar (from to : Form) (bytes : List ℕ) (place : ℕ) (out : L
   pub from_same : r.from ≡ from
   pub to_same : r.to ≡ to
   pub continues : Continues from to (take place bytes) out r.held
-
-pub fed_none : (from to : Form) (bytes : List ℕ) (r : Recoding) → r ≡ record { from = from; to = to; held = [] } → IsFedSoFar from to bytes 0 [] r
-fed_none from to bytes r e = rw e (record { within = omega arith; from_same = refl; to_same = refl; continues = Continues-none from to [] })
 
 pub fed_part : (from to : Form) (bytes piece out new : List ℕ) (p n : ℕ) (r s : Recoding) → IsFedSoFar from to bytes p out r
     → piece ≡ slice_range bytes p (p + n) → p + n ≤ length bytes → Feeds r piece out new s → IsFedSoFar from to bytes (p + n) new s

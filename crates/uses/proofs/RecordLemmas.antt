@@ -1,7 +1,7 @@
 -- A record of units, character by character.
-use Rattle.std.proofs.Common.{◌≡◌, ℕ, List, [], ◌∷◌, ◌++◌, refl, ap, sym, ◌∙◌, Some, None, Result, Ok, Err, append_assoc}
+use Rattle.std.proofs.Common.{◌≡◌, ℕ, List, [], ◌∷◌, ◌++◌, refl, ap, sym, ◌∙◌, Some, Result, Ok, Err, append_assoc}
 use Rattle.std.proofs.lemmas.List.{flat_map_more}
-use Rattle.std.proofs.lemmas.List.Elements.{All-nil, All-push}
+use Rattle.std.proofs.lemmas.List.Elements.{All-push}
 use Rattle.std.specs.List.{flat_map}
 use Rattle.std.specs.Prelude.{◌≢◌, All}
 use Rattle.encode_unicode.specs.Code.{utf8, utf16}
@@ -10,7 +10,7 @@ use Rattle.encode_unicode.specs.Scalar.{IsScalar}
 use Rattle.encode_unicode.specs.Units.{unit_fault_kind}
 use Rattle.encode_unicode.specs.declared.error.Utf16PairError.{Utf16PairError}
 use Rattle.uses.specs.Records.{IsRecord}
-use Rattle.uses.specs.declared.records.Ending.TheVariants.{Zero, Damaged, Missing}
+use Rattle.uses.specs.declared.records.Ending.TheVariants.{Zero}
 
 -- the units are the codes of the characters so far, which are the text, and those behind them
 pub record IsRecordSoFar (units text behind : List ℕ) : Type 0 where
@@ -18,9 +18,6 @@ pub record IsRecordSoFar (units text behind : List ℕ) : Type 0 where
   pub all : All (λ s. IsScalar s × (s ≢ 0)) scalars
   pub is_text : text ≡ flat_map utf8 scalars
   pub split : units ≡ flat_map utf16 scalars ++ behind
-
-pub record_none : (units text : List ℕ) → text ≡ [] → IsRecordSoFar units text units
-record_none units text empty = record { scalars = []; all = All-nil (λ s. IsScalar s × (s ≢ 0)); is_text = empty; split = refl }
 
 pub record_char : (units text old new : List ℕ) (r : Result ℕ Utf16PairError) (s : ℕ) → IsRecordSoFar units text old → r ≡ Ok s → s ≢ 0 → TakesFront utf16 unit_fault_kind old (Some r) new
     → IsRecordSoFar units (text ++ utf8 s) new
@@ -46,13 +43,3 @@ record_zero units text old new (Ok t) s before is zero takes =
     let same : t ≡ 0 = cc in
     let h : IsScalar 0 × (old ≡ utf16 0 ++ new) = rw (← same) takes in
     record { scalars = before.scalars; all = before.all; is_text = before.is_text; end = old; split = before.split; ends = h.1 ∙ ap (λ ys. ys ++ new) zero_unit }
-
-pub record_damaged : (units text old new : List ℕ) (r : Result ℕ Utf16PairError) (k : Utf16PairError) → IsRecordSoFar units text old → r ≡ Err k → TakesFront utf16 unit_fault_kind old (Some r) new
-    → IsRecord units text (Damaged k) new
-record_damaged units text old new (Ok s) k before is takes = absurd (cc is)
-record_damaged units text old new (Err e) k before is takes =
-    let same : e ≡ k = cc in
-    record { scalars = before.scalars; all = before.all; is_text = before.is_text; end = old; split = before.split; ends = rw (← same) takes }
-
-pub record_missing : (units text old new : List ℕ) → IsRecordSoFar units text old → TakesFront utf16 unit_fault_kind old None new → IsRecord units text Missing new
-record_missing units text old new before takes = record { scalars = before.scalars; all = before.all; is_text = before.is_text; end = old; split = before.split; ends = takes }

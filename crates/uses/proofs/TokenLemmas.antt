@@ -3,7 +3,7 @@ use Rattle.std.proofs.Common.{◌≡◌, ℕ, ◌+◌, ◌-◌, ◌<◌, ◌≤�
 use Rattle.std.proofs.lemmas.Grind.{common_steps}
 use Rattle.std.proofs.lemmas.Bool.{cases_lt}
 use Rattle.std.proofs.lemmas.List.{flat_map_more, map-append, take-append-drop, drop-drop, drop_more}
-use Rattle.std.proofs.lemmas.List.Elements.{All-push, All-nil}
+use Rattle.std.proofs.lemmas.List.Elements.{All-push}
 use Rattle.std.specs.Borrow.{Bor}
 use Rattle.std.specs.List.{flat_map}
 use Rattle.std.specs.Prelude.{◌≢◌, All, map, slice_range}
@@ -11,7 +11,7 @@ use Rattle.encode_unicode.specs.Code.{utf8}
 use Rattle.encode_unicode.specs.CutLaws.{AsciiStandsAlone, CodesNeverOverlap}
 use Rattle.encode_unicode.specs.Kinds.{fault_kind}
 use Rattle.encode_unicode.specs.Piece.{Stands}
-use Rattle.encode_unicode.specs.Window.{Window, Item, GivesFront, elements, whole_window}
+use Rattle.encode_unicode.specs.Window.{Window, Item, GivesFront, elements}
 use Rattle.encode_unicode.specs.declared.error.Utf8ErrorKind.{Utf8ErrorKind}
 use Rattle.encode_unicode.proofs.ForCallers.{utf8_is_code, front_char, no_code_where_fault}
 use Rattle.uses.specs.Tokens.{AreTokensOf, joined}
@@ -58,17 +58,6 @@ behind_range xs i j le =
 ascii_code : (s : ℕ) → s < 128 → utf8 s ≡ s ∷ []
 unfolding utf8
 ascii_code s lt = grind (arith, common_steps)
-
-pub tokens_none : (xs : List ℕ) (d : ℕ) (ts : List (List ℕ)) (w : Window) → ts ≡ [] → w ≡ whole_window xs → IsTokenizedSoFar xs d ts 0 w
-tokens_none xs d ts w none is = rw (none, is) (record {
-  whole = refl;
-  back = refl;
-  ordered = omega arith;
-  within = omega arith;
-  split = refl;
-  apart = All-nil (λ t. All (λ b. b ≢ d) t);
-  clean = λ q lo hi. absurd (omega arith);
-})
 
 -- where the window is after one piece
 record IsNext (xs : List ℕ) (w v : Window) (n : ℕ) : Type 0 where

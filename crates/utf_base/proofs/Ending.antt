@@ -1,5 +1,5 @@
 -- The code that ends a list: at most one, and where it stands in a list of which that one is a part.
-use Rattle.std.proofs.Common.{◌≡◌, ℕ, ◌+◌, ◌-◌, ◌<◌, ◌≤◌, ⊎_elim, List, length, take, arith, refl, ap, sym, subst, ◌∙◌}
+use Rattle.std.proofs.Common.{◌≡◌, ℕ, ◌+◌, ◌-◌, ◌<◌, ◌≤◌, ⊎_elim, List, length, arith, refl, ap, sym, ◌∙◌}
 use Rattle.std.proofs.lemmas.Grind.{common_steps}
 use Rattle.std.proofs.lemmas.Bool.{cases_lt}
 use Rattle.std.specs.Prelude.{slice_range}
@@ -76,15 +76,3 @@ ends_in_whole code xs i j s n lo le h =
     let n_is = h.1 in
     let w = stands_in_whole code xs i j (length (slice_range xs i j) - n) (j - n) s (omega arith) lo le h.0 in
     (w.0, h.1, omega arith)
-
--- the same of the part without what is behind j
-pub ends_in_take : (code : ℕ → List ℕ) (xs : List ℕ) (j p s : ℕ) → j ≤ length xs → Stands code xs p s → p + length (code s) ≡ j
-    → EndsWith code (take j xs) s (length (code s))
-ends_in_take code xs j p s le h e =
-    subst (λ n. EndsWith code (take n xs) s (length (code s))) (omega arith) (ends_in_part code xs 0 j p s (omega arith) le h e)
-
-pub ends_take : (code : ℕ → List ℕ) (xs : List ℕ) (j s n : ℕ) → j ≤ length xs → EndsWith code (take j xs) s n
-    → Stands code xs (j - n) s × (n ≡ length (code s)) × (n ≤ j)
-ends_take code xs j s n le h =
-    let w = ends_in_whole code xs 0 j s n (omega arith) le (subst (λ m. EndsWith code (take m xs) s n) (omega arith) h) in
-    (w.0, w.1, omega (arith, w.2))

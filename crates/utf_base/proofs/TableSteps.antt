@@ -7,7 +7,7 @@ use Rattle.utf_base.specs.declared.table.State.{State}
 use Rattle.utf_base.specs.declared.table.State.TheVariants.{Start, OneMore, TwoMore, ThreeMore, BehindE0, BehindEd, BehindF0, BehindF4, TwoMoreOverlong, OneMoreOverlong, OneMoreReserved, TwoMoreTooHigh, OneMoreTooHigh, Done, Unexpected, Never, Interrupted, Overlong, Reserved, TooHigh}
 use Rattle.utf_base.specs.Scalar.{IsScalar}
 use Rattle.utf_base.specs.Kinds.{fault_kind, merger_kind, asked_by, value, least_value, is_continuation, continues_at, followers_continue, breaks_at, is_broken}
-use Rattle.utf_base.specs.Table.{class, continued, fault_of, is_running, missing, next_state, state_after}
+use Rattle.utf_base.specs.Table.{class, continued, fault_of, is_later_fault, is_running, missing, next_state, state_after}
 use Rattle.utf_base.proofs.FrontLemmas.{asked-0, asked-1, asked-2, asked-3, asked-4, asked_le, asked-no_continuation, value-1, value-2, value-3, value-4, least_value-below_3, least_value-3, least_value-4}
 use Rattle.utf_base.proofs.KindCases.{Sums, kind-empty, kind-continuation, kind-never, kind-overlong, kind-surrogate, kind-too_high, kind-none}
 use Rattle.utf_base.proofs.MergerLemmas.{broken_kind, unbroken_kind, enough_kind, kind_of_few}
@@ -531,35 +531,29 @@ one_less Overlong c more = absurd (omega arith)
 one_less Reserved c more = absurd (omega arith)
 one_less TooHigh c more = absurd (omega arith)
 
--- what only a first byte leads to
-abbrev pub is_of_first : State → Bool
-is_of_first Unexpected = true
-is_of_first Never = true
-is_of_first state = false
-
--- a byte that is asked for leads to none of these
-pub never_of_first : (state : State) (c : ℕ) → 0 < missing state → is_of_first (next_state state c) ≡ false
+-- the last byte that a state asks for leads to a fault, but where any that continues completes a code
+pub faults_later : (state : State) (c : ℕ) → missing state ≡ 1 → (state ≡ OneMore → ⊥) → is_later_fault (next_state state c) ≡ true
 unfolding next_state
-never_of_first Start c more = absurd (omega arith)
-never_of_first OneMore c more = by_continued (λ next. is_of_first next ≡ false) Done Done Done c refl refl refl refl
-never_of_first TwoMore c more = by_continued (λ next. is_of_first next ≡ false) OneMore OneMore OneMore c refl refl refl refl
-never_of_first ThreeMore c more = by_continued (λ next. is_of_first next ≡ false) TwoMore TwoMore TwoMore c refl refl refl refl
-never_of_first BehindE0 c more = by_continued (λ next. is_of_first next ≡ false) OneMoreOverlong OneMoreOverlong OneMore c refl refl refl refl
-never_of_first BehindEd c more = by_continued (λ next. is_of_first next ≡ false) OneMore OneMore OneMoreReserved c refl refl refl refl
-never_of_first BehindF0 c more = by_continued (λ next. is_of_first next ≡ false) TwoMoreOverlong TwoMore TwoMore c refl refl refl refl
-never_of_first BehindF4 c more = by_continued (λ next. is_of_first next ≡ false) TwoMore TwoMoreTooHigh TwoMoreTooHigh c refl refl refl refl
-never_of_first TwoMoreOverlong c more = by_continued (λ next. is_of_first next ≡ false) OneMoreOverlong OneMoreOverlong OneMoreOverlong c refl refl refl refl
-never_of_first OneMoreOverlong c more = by_continued (λ next. is_of_first next ≡ false) Overlong Overlong Overlong c refl refl refl refl
-never_of_first OneMoreReserved c more = by_continued (λ next. is_of_first next ≡ false) Reserved Reserved Reserved c refl refl refl refl
-never_of_first TwoMoreTooHigh c more = by_continued (λ next. is_of_first next ≡ false) OneMoreTooHigh OneMoreTooHigh OneMoreTooHigh c refl refl refl refl
-never_of_first OneMoreTooHigh c more = by_continued (λ next. is_of_first next ≡ false) TooHigh TooHigh TooHigh c refl refl refl refl
-never_of_first Done c more = absurd (omega arith)
-never_of_first Unexpected c more = absurd (omega arith)
-never_of_first Never c more = absurd (omega arith)
-never_of_first Interrupted c more = absurd (omega arith)
-never_of_first Overlong c more = absurd (omega arith)
-never_of_first Reserved c more = absurd (omega arith)
-never_of_first TooHigh c more = absurd (omega arith)
+faults_later Start c e other = absurd (omega arith)
+faults_later OneMore c e other = absurd (other refl)
+faults_later TwoMore c e other = absurd (omega arith)
+faults_later ThreeMore c e other = absurd (omega arith)
+faults_later BehindE0 c e other = absurd (omega arith)
+faults_later BehindEd c e other = absurd (omega arith)
+faults_later BehindF0 c e other = absurd (omega arith)
+faults_later BehindF4 c e other = absurd (omega arith)
+faults_later TwoMoreOverlong c e other = absurd (omega arith)
+faults_later OneMoreOverlong c e other = by_continued (λ next. is_later_fault next ≡ true) Overlong Overlong Overlong c refl refl refl refl
+faults_later OneMoreReserved c e other = by_continued (λ next. is_later_fault next ≡ true) Reserved Reserved Reserved c refl refl refl refl
+faults_later TwoMoreTooHigh c e other = absurd (omega arith)
+faults_later OneMoreTooHigh c e other = by_continued (λ next. is_later_fault next ≡ true) TooHigh TooHigh TooHigh c refl refl refl refl
+faults_later Done c e other = absurd (omega arith)
+faults_later Unexpected c e other = absurd (omega arith)
+faults_later Never c e other = absurd (omega arith)
+faults_later Interrupted c e other = absurd (omega arith)
+faults_later Overlong c e other = absurd (omega arith)
+faults_later Reserved c e other = absurd (omega arith)
+faults_later TooHigh c e other = absurd (omega arith)
 
 continues_no : (b : ℕ) → is_continuation b ≡ true → (b < 0x80) ⊎ (0xC0 ≤ b) → ⊥
 continues_no b follows (inl h) = grind (arith, common_steps)
@@ -623,12 +617,6 @@ pub one_more_ends : (b : ℕ) → is_continuation b ≡ true → next_state OneM
 unfolding next_state
 one_more_ends b follows =
     by_follower (λ next. next ≡ Done) Done Done Done b (λ out. absurd (continues_no b follows out)) (λ l h. refl) (λ l h. refl) (λ l h. refl)
-
--- and no other fault is left
-pub one_more_breaks : (c : ℕ) → (next_state OneMore c ≡ Done → ⊥) → next_state OneMore c ≡ Interrupted
-unfolding next_state
-one_more_breaks c =
-    by_continued (λ next. (next ≡ Done → ⊥) → next ≡ Interrupted) Done Done Done c (λ n. absurd (n refl)) (λ n. absurd (n refl)) (λ n. absurd (n refl)) (λ n. refl)
 
 -- The state behind a first byte of two, three and four.
 

@@ -21,6 +21,10 @@ as_scalar s = s
 abbrev pub BeginsWith : (ℕ → List ℕ) → List ℕ → ℕ → ℕ → Type 0
 BeginsWith code w s n = Stands code w 0 s × (n ≡ length (code s))
 
+-- no code begins the list
+abbrev pub NoneBegins : (ℕ → List ℕ) → List ℕ → Type 0
+NoneBegins code w = (s : ℕ) → Stands code w 0 s → ⊥
+
 -- the length of something at the front of the list: at least 1, at most `most`, and no more than the list has
 abbrev pub IsFrontLen : ℕ → List ℕ → ℕ → Type 0
 IsFrontLen most w n = (1 ≤ n) × (n ≤ most) × (n ≤ length w)

@@ -1,5 +1,5 @@
 -- The table of byte classes and states by which bytes in UTF-8 are judged one by one (RFC 3629, section 4).
-use Rattle.std.specs.Prelude.{ℕ, zero, suc, Bool, nat_lt, ◌==◌, if◌then◌else◌, List, length, slice_index, Option, Some, None, ◌≡◌}
+use Rattle.std.specs.Prelude.{ℕ, zero, suc, Bool, true, false, nat_lt, ◌==◌, if◌then◌else◌, List, length, slice_index, Option, Some, None, ◌≡◌}
 use Rattle.utf_base.specs.declared.errors.Utf8ErrorKind.{Utf8ErrorKind}
 use Rattle.utf_base.specs.declared.errors.Utf8ErrorKind.TheVariants.{TooFewBytes, NonUtf8Byte, UnexpectedContinuationByte, InterruptedSequence, OverlongEncoding, Utf16ReservedCodepoint, TooHighCodepoint}
 use Rattle.utf_base.specs.Kinds.{merger_kind}
@@ -116,6 +116,14 @@ fault_of Overlong = Some OverlongEncoding
 fault_of Reserved = Some Utf16ReservedCodepoint
 fault_of TooHigh = Some TooHighCodepoint
 fault_of running = Some TooFewBytes
+
+-- an end behind a first byte that asks for others, and not that of a code
+abbrev pub is_later_fault : State → Bool
+is_later_fault Interrupted = true
+is_later_fault Overlong = true
+is_later_fault Reserved = true
+is_later_fault TooHigh = true
+is_later_fault state = false
 
 -- the state behind all of some bytes tells the merger's kind of them
 abbrev pub WalkTellsTheKind : Type 0

@@ -1,7 +1,6 @@
 //! The table of byte classes and states by which bytes in UTF-8 are judged one by one (RFC 3629, section 4).
-ghost use Rattle.std.specs.Prelude.{◌≡◌, ◌<◌, ◌≤◌, [], ◌∷◌, true, false, Some};
-ghost use Rattle.utf_base.specs.declared.table.State.TheVariants.{Done, Unexpected, Never};
-ghost use Rattle.utf_base.specs.Table.{class, fault_of, is_running, next_state, row, state_after, WalkTellsTheKind};
+ghost use Rattle.std.specs.Prelude.{◌≡◌, ◌<◌, ◌≤◌, [], ◌∷◌, true, Some};
+ghost use Rattle.utf_base.specs.Table.{class, fault_of, is_later_fault, is_running, next_state, row, state_after, WalkTellsTheKind};
 
 use crate::errors::{Utf8Error, Utf8ErrorKind};
 use State::*;
@@ -129,14 +128,10 @@ pub fn walk_tells_the_kind()
     ensures { WalkTellsTheKind }
 {}
 
-/// What is wrong with bytes that led to an end, other than that of a code. The ends that a first byte may lead
-/// to are not among them.
+/// What is wrong with bytes, of which the first asked for others, that led to another end than that of a code.
 #[inline(always)]
 pub fn error_behind(end: State) -> Utf8Error
-    requires some { end ≡ Done → ⊥ }
-    requires followed { end ≡ Unexpected → ⊥ }
-    requires known { end ≡ Never → ⊥ }
-    requires ended { is_running end ≡ false }
+    requires { is_later_fault end ≡ true }
     ensures { fault_of end ≡ Some result }
 {
     Utf8Error::new(match end {

@@ -2,17 +2,11 @@
 use Rattle.std.proofs.Common.{ℕ, List, refl}
 use Rattle.std.specs.Prelude.{Result, Ok, Err, IsOk}
 use Rattle.utf_base.specs.declared.errors.Utf8ErrorKind.{Utf8ErrorKind}
-use Rattle.utf_base.specs.declared.errors.units.Utf16SliceError.{Utf16SliceError}
-use Rattle.utf_base.specs.Code.{utf8, utf16}
-use Rattle.utf_base.specs.Front.{as_scalar, DecodesFront, DecodesUnits}
+use Rattle.utf_base.specs.Code.{utf8}
+use Rattle.utf_base.specs.Front.{as_scalar, DecodesFront}
 use Rattle.utf_base.specs.Piece.{Stands}
 use Rattle.utf_base.proofs.FrontLemmas.{no_code_where_fault}
-use Rattle.utf_base.proofs.UnitLemmas.{no_units_where_fault}
 
 pub IsOk-DecodesFront : (w : List ℕ) (s : ℕ) (r : Result (ℕ × ℕ) Utf8ErrorKind) → Stands utf8 w 0 s → DecodesFront as_scalar w r → IsOk r
 IsOk-DecodesFront w s (Ok x) h d = refl
 IsOk-DecodesFront w s (Err k) h d = absurd (no_code_where_fault w k s d h)
-
-pub IsOk-DecodesUnits : (w : List ℕ) (s : ℕ) (r : Result (ℕ × ℕ) Utf16SliceError) → Stands utf16 w 0 s → DecodesUnits as_scalar w r → IsOk r
-IsOk-DecodesUnits w s (Ok x) h d = refl
-IsOk-DecodesUnits w s (Err k) h d = absurd (no_units_where_fault w k s d h)

@@ -4,12 +4,10 @@ use Rattle.std.proofs.lemmas.Grind.{common_steps}
 use Rattle.std.proofs.lemmas.Bool.{cases_lt}
 use Rattle.std.proofs.lemmas.List.{take_at}
 use Rattle.std.specs.Prelude.{replicate, unwrap_or, IfOk}
-use Rattle.utf_base.specs.Piece.{Stands}
 use Rattle.utf_base.specs.Scalar.{IsScalar}
 use Rattle.utf_base.specs.Code.{utf16}
 use Rattle.utf_base.specs.Decoded.{decoded_two, decoded_tuple}
 use Rattle.utf_base.specs.Units.{array_fault, is_padded_units, is_leading_surrogate, is_trailing_surrogate, is_surrogate, pair_value, unit_value}
-use Rattle.utf_base.proofs.Standing.{stands_first}
 use Rattle.utf_base.proofs.Utf16Code.{utf16-1, utf16-2, unit_value-unit, unit_value-pair, code_of_pair, scalar_pair, scalar_unit}
 use Rattle.utf_chars.specs.Padded.{padded, IsPadded}
 
@@ -109,13 +107,6 @@ length-unit s h = sym (ap length (utf16-1 s h))
 pub length-pair : (s : ℕ) → 0x1_0000 ≤ s → 2 ≡ length (utf16 s)
 length-pair s h = sym (ap length (utf16-2 s h))
 
-surrogate_of_pair : (units : List ℕ) (s : ℕ) → AsPair units s → is_surrogate (get_or units 0 0) ≡ true
-surrogate_of_pair units s p =
-    let first = p.first in
-    let below = p.below in
-    let bound : (s - 0x1_0000) / 1024 < 1024 = omega arith in
-    rw first (grind (arith, common_steps))
-
 -- the scalar, by whether there is a second unit
 pub scalar_by_second : (units : List ℕ) (s : ℕ) → IsPadded utf16 2 unit_value units → unit_value units ≡ s
     → (get_or units 1 0 ≡ 0 → get_or units 0 0 ≡ s) × ((get_or units 1 0 ≡ 0 → ⊥) → pair_value (get_or units 0 0) (get_or units 1 0) ≡ s)
@@ -133,11 +124,6 @@ code_by_second units s h e =
     (λ (u : AsUnit units s). (λ z. rw u.first (sym (utf16-1 s u.small)), λ some. absurd (some u.second)))
     (λ (p : AsPair units s). let second = p.second in (λ z. absurd (omega arith), λ some. rw (p.first, p.second) (sym (utf16-2 s p.large))))
     (char_cases units s h e)
-
--- the code of a scalar begins the array that it is kept in
-pub stands_in_units : (units : List ℕ) (s : ℕ) → IsScalar s → units ≡ padded 2 (utf16 s) → Stands utf16 units 0 s
-unfolding padded
-stands_in_units units s h e = stands_first utf16 units (replicate (2 - length (utf16 s)) 0) s h e
 
 -- an array of a code is two units as the unchecked forms ask for
 pub padded_cases : (units : List ℕ) (s : ℕ) → IsScalar s → units ≡ padded 2 (utf16 s) → is_padded_units (get_or units 0 0) (get_or units 1 0) ≡ true

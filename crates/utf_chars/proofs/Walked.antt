@@ -1,6 +1,5 @@
 -- A walk of some bytes over the table of classes and states: to where it leads, and what its end tells of them.
-use Rattle.std.proofs.Common.{◌≡◌, ℕ, suc, ◌<◌, ◌≤◌, ⊎_elim, List, length, get_or, arith, refl, ap, sym, ◌∙◌, ◌&&◌, None, Bool, true, false}
-use Rattle.std.proofs.lemmas.Bool.{cases_lt}
+use Rattle.std.proofs.Common.{◌≡◌, ℕ, suc, ◌<◌, ◌≤◌, List, length, get_or, arith, refl, ap, sym, ◌∙◌, ◌&&◌, None, Bool, true, false}
 use Rattle.std.proofs.lemmas.Grind.{common_steps}
 use Rattle.std.specs.Char.{IsScalar as IsStdScalar}
 use Rattle.utf_base.specs.declared.table.State.{State}
@@ -10,13 +9,9 @@ use Rattle.utf_base.specs.Front.{BeginsWith}
 use Rattle.utf_base.specs.Kinds.{fault_kind, asked_by, value, is_continuation}
 use Rattle.utf_base.specs.Table.{class, continued, fault_of, is_running, missing, next_state, state_after}
 use Rattle.utf_base.proofs.FrontLemmas.{asked-3, asked-4, decodes_from_none, code_where_no_fault}
-use Rattle.utf_base.proofs.TableSteps.{by_continued, fault_at_end, first-3, first-4, follower_is_less, is_of_first, last_ends, never_of_first}
+use Rattle.utf_base.proofs.TableSteps.{by_continued, fault_at_end, first-3, first-4, follower_is_less, last_ends}
 
 -- How many bytes the state behind some asks for.
-
-pub first_asks : (first : ℕ) → 0xE0 ≤ first → first < 0xF5 → 0 < missing (next_state Start (class first))
-first_asks first low high =
-    ⊎_elim (λ (three : first < 0xF0). let asks = first-3 first low three in omega arith) (λ (four : 0xF0 ≤ first). let asks = first-4 first four high in omega arith) (cases_lt first 0xF0)
 
 pub second_asks-3 : (first second : ℕ) → 0xE0 ≤ first → first < 0xF0 → is_continuation second ≡ true → missing (next_state (next_state Start (class first)) (class second)) ≡ 1
 second_asks-3 first second low high follows =
@@ -51,10 +46,6 @@ pub completes-2 : (state : State) (b : ℕ) → state ≡ TwoMore → is_continu
 unfolding next_state
 completes-2 state b e follows = rw e (any_leads OneMore b follows)
 
-abbrev is_done : State → Bool
-is_done Done = true
-is_done state = false
-
 abbrev is_one_more : State → Bool
 is_one_more OneMore = true
 is_one_more state = false
@@ -66,29 +57,6 @@ is_second_of_four TwoMoreOverlong = true
 is_second_of_four TwoMoreTooHigh = true
 is_second_of_four Interrupted = true
 is_second_of_four state = false
-
-never_done : (state : State) (c : ℕ) → missing state ≡ 1 → (state ≡ OneMore → ⊥) → is_done (next_state state c) ≡ false
-unfolding next_state
-never_done Start c e other = absurd (omega arith)
-never_done OneMore c e other = absurd (other refl)
-never_done TwoMore c e other = absurd (omega arith)
-never_done ThreeMore c e other = absurd (omega arith)
-never_done BehindE0 c e other = absurd (omega arith)
-never_done BehindEd c e other = absurd (omega arith)
-never_done BehindF0 c e other = absurd (omega arith)
-never_done BehindF4 c e other = absurd (omega arith)
-never_done TwoMoreOverlong c e other = absurd (omega arith)
-never_done OneMoreOverlong c e other = by_continued (λ next. is_done next ≡ false) Overlong Overlong Overlong c refl refl refl refl
-never_done OneMoreReserved c e other = by_continued (λ next. is_done next ≡ false) Reserved Reserved Reserved c refl refl refl refl
-never_done TwoMoreTooHigh c e other = absurd (omega arith)
-never_done OneMoreTooHigh c e other = by_continued (λ next. is_done next ≡ false) TooHigh TooHigh TooHigh c refl refl refl refl
-never_done Done c e other = absurd (omega arith)
-never_done Unexpected c e other = absurd (omega arith)
-never_done Never c e other = absurd (omega arith)
-never_done Interrupted c e other = absurd (omega arith)
-never_done Overlong c e other = absurd (omega arith)
-never_done Reserved c e other = absurd (omega arith)
-never_done TooHigh c e other = absurd (omega arith)
 
 second_of_four : (state : State) (c : ℕ) → missing state ≡ 3 → is_second_of_four (next_state state c) ≡ true
 unfolding next_state
@@ -136,21 +104,14 @@ never_one_more Overlong c e second other = absurd (omega arith)
 never_one_more Reserved c e second other = absurd (omega arith)
 never_one_more TooHigh c e second other = absurd (omega arith)
 
-pub fails-3 : (state end : State) (c : ℕ) → missing state ≡ 1 → (state ≡ OneMore → ⊥) → end ≡ next_state state c → end ≡ Done → ⊥
-fails-3 state end c one other step e =
-    let no : is_done end ≡ false = ap is_done step ∙ never_done state c one other in
-    no_both (sym (ap is_done e) ∙ no)
-  where
-    no_both : true ≡ false → ⊥
-    no_both e = cc
-
-pub fails-4 : (w : List ℕ) (state third end : State) (c d : ℕ) → 0xF0 ≤ get_or w 0 0 → get_or w 0 0 < 0xF5 → is_continuation (get_or w 1 0) ≡ true
-    → state ≡ state_after w 2 → third ≡ next_state state c → missing third ≡ 1 → (state ≡ TwoMore → ⊥) → end ≡ next_state third d → end ≡ Done → ⊥
-fails-4 w state third end c d low high follows at step one other last e =
+-- behind the third byte of four a fault is known already, where one is
+pub fails_in_third : (w : List ℕ) (state third : State) (c : ℕ) → 0xF0 ≤ get_or w 0 0 → get_or w 0 0 < 0xF5 → is_continuation (get_or w 1 0) ≡ true
+    → state ≡ state_after w 2 → third ≡ next_state state c → (state ≡ TwoMore → ⊥) → third ≡ OneMore → ⊥
+fails_in_third w state third c low high follows at step other e =
     let two : missing state ≡ 2 = ap missing at ∙ second_asks-4 (get_or w 0 0) (get_or w 1 0) low high follows in
     let second : is_second_of_four state ≡ true = ap is_second_of_four at ∙ second_of_four (next_state Start (class (get_or w 0 0))) (class (get_or w 1 0)) (first-4 (get_or w 0 0) low high) in
     let no : is_one_more third ≡ false = ap is_one_more step ∙ never_one_more state c two second other in
-    fails-3 third end d one (λ x. no_both (sym (ap is_one_more x) ∙ no)) last e
+    no_both (sym (ap is_one_more e) ∙ no)
   where
     no_both : true ≡ false → ⊥
     no_both e = cc
@@ -158,37 +119,20 @@ fails-4 w state third end c d low high follows at step one other last e =
 pub behind_third : (w : List ℕ) (c : ℕ) (state next : State) → state ≡ state_after w 2 → c ≡ class (get_or w 2 0) → next ≡ next_state state c → next ≡ state_after w 3
 behind_third w c state next at of step = step ∙ ap (λ s. next_state s c) at ∙ ap (λ x. next_state (state_after w 2) x) of
 
--- the walk has come to an end, which tells what is wrong with the bytes, and is none that a first byte leads to
-pub record Ended (w : List ℕ) (end : State) : Type 0 where
-  pub fault : fault_kind w ≡ fault_of end
-  pub ended : is_running end ≡ false
-  pub followed : end ≡ Unexpected → ⊥
-  pub known : end ≡ Never → ⊥
-
--- the last byte that the first asks for leads to such an end
+-- the last byte that the first asks for leads to an end, which tells what is wrong with the bytes
 ends : (w : List ℕ) (k c : ℕ) (state end : State) → missing state ≡ 1 → state_after w k ≡ state → c ≡ class (get_or w k 0) → end ≡ next_state state c
-    → k < length w → asked_by w ≤ length w → Ended w end
+    → k < length w → asked_by w ≤ length w → fault_kind w ≡ fault_of end
 ends w k c state end one at of step there enough =
-    let ended : is_running end ≡ false = ap is_running step ∙ last_ends state c one in
-    let later : is_of_first end ≡ false = ap is_of_first step ∙ never_of_first state c (omega arith) in
-    record {
-      fault = fault_at_end w (suc k) end (omega arith) enough (rw (at, ← of) (sym step)) ended;
-      ended = ended;
-      followed = λ e. true_is_not_false (sym (ap is_of_first e) ∙ later);
-      known = λ e. true_is_not_false (sym (ap is_of_first e) ∙ later);
-    }
-  where
-    true_is_not_false : true ≡ false → ⊥
-    true_is_not_false e = cc
+    fault_at_end w (suc k) end (omega arith) enough (rw (at, ← of) (sym step)) (ap is_running step ∙ last_ends state c one)
 
 pub ends-3 : (w : List ℕ) (c : ℕ) (state end : State) → 0xE0 ≤ get_or w 0 0 → get_or w 0 0 < 0xF0 → 3 ≤ length w → is_continuation (get_or w 1 0) ≡ true
-    → state ≡ state_after w 2 → c ≡ class (get_or w 2 0) → end ≡ next_state state c → Ended w end
+    → state ≡ state_after w 2 → c ≡ class (get_or w 2 0) → end ≡ next_state state c → fault_kind w ≡ fault_of end
 ends-3 w c state end low high enough follows at of step =
     let asks = asked-3 (get_or w 0 0) low high in
     ends w 2 c state end (ap missing at ∙ second_asks-3 (get_or w 0 0) (get_or w 1 0) low high follows) (sym at) of step (omega arith) (omega arith)
 
 pub ends-4 : (w : List ℕ) (c : ℕ) (state end : State) → 0xF0 ≤ get_or w 0 0 → get_or w 0 0 < 0xF5 → 4 ≤ length w → is_continuation (get_or w 1 0) ≡ true
-    → is_continuation (get_or w 2 0) ≡ true → state ≡ state_after w 3 → c ≡ class (get_or w 3 0) → end ≡ next_state state c → Ended w end
+    → is_continuation (get_or w 2 0) ≡ true → state ≡ state_after w 3 → c ≡ class (get_or w 3 0) → end ≡ next_state state c → fault_kind w ≡ fault_of end
 ends-4 w c state end low high enough follows follows' at of step =
     let asks = asked-4 (get_or w 0 0) low high in
     ends w 3 c state end (ap missing at ∙ third_asks (get_or w 0 0) (get_or w 1 0) (get_or w 2 0) low high follows follows') (sym at) of step (omega arith) (omega arith)
@@ -196,9 +140,6 @@ ends-4 w c state end low high enough follows follows' at of step =
 -- the value of bytes that are a code is a scalar, whose code they are
 pub walk_finds : (w : List ℕ) (n v : ℕ) → fault_kind w ≡ None → asked_by w ≡ n → value w ≡ v → BeginsWith utf8 w v n
 walk_finds w n v none asks sum = let r = code_where_no_fault w none in (rw sum at r.0, sym asks ∙ r.1 ∙ ap (λ x. length (utf8 x)) sum)
-
-pub continues_in_code : (w : List ℕ) (k : ℕ) → fault_kind w ≡ None → 0 < k → k < asked_by w → is_continuation (get_or w k 0) ≡ true
-continues_in_code w k none some lt = let c = (decodes_from_none w none).follow k some lt in grind (arith, common_steps)
 
 -- std's word for the same scalar
 pub std_scalar : (w : List ℕ) (v : ℕ) → fault_kind w ≡ None → value w ≡ v → IsStdScalar v

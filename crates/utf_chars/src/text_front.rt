@@ -1,21 +1,22 @@
 //! The character at the front of bytes that are text for the most part.
-ghost use Rattle.std.specs.Prelude.{◌≡◌, ◌≤◌, ◌<◌, length, slice_index, IfSome, true};
+ghost use Rattle.std.specs.Prelude.{◌≡◌, ◌≤◌, ◌<◌, length, slice_index, IfSome, IfNone, true};
 ghost use Rattle.utf_base.specs.Code.{utf8};
-ghost use Rattle.utf_base.specs.Front.{as_scalar, BeginsWith};
+ghost use Rattle.utf_base.specs.Front.{as_scalar, BeginsWith, NoneBegins};
 ghost use Rattle.utf_base.specs.Kinds.{is_continuation};
 
 use crate::codes::utf8::{value_of_four, value_of_three, value_of_two};
 use crate::continuation::continues;
 
 /// The character whose code begins the bytes, and how many bytes the code has: 1 to 4 (RFC 3629, section 4).
-/// `None` tells no more than that no code begins them, or that they are fewer than four.
+/// `None` where no code begins them, and where they are fewer than four.
 ///
 /// What the bytes add up to is judged, and no table: whoever writes the character in another code makes that
 /// number anyway. So this is the quicker way to recode text; what is wrong with other bytes is for
 /// `CharExt::from_utf8_slice_start` to say.
 #[inline(always)]
 pub fn front_of_text(src: &[u8]) -> Option<(char, usize)>
-    ensures { IfSome result (λ x. BeginsWith utf8 src.now (as_scalar x.0) x.1) }
+    ensures some { IfSome result (λ x. BeginsWith utf8 src.now (as_scalar x.0) x.1) }
+    ensures none { 4 ≤ length src.now → IfNone result (NoneBegins utf8 src.now) }
 {
     if src.len() < 4 {
         return None;
@@ -41,7 +42,8 @@ fn two(src: &[u8]) -> Option<(char, usize)>
     requires low { 0xC2 ≤ slice_index src.now 0 }
     requires high { slice_index src.now 0 < 0xE0 }
     requires second { is_continuation (slice_index src.now 1) ≡ true }
-    ensures { IfSome result (λ x. BeginsWith utf8 src.now (as_scalar x.0) x.1) }
+    ensures some { IfSome result (λ x. BeginsWith utf8 src.now (as_scalar x.0) x.1) }
+    ensures none { IfNone result (NoneBegins utf8 src.now) }
 {
     let value = value_of_two(src[0], src[1]);
     Some((unsafe { char::from_u32_unchecked(value) }, 2))
@@ -54,16 +56,18 @@ fn three(src: &[u8]) -> Option<(char, usize)>
     requires low { 0xE0 ≤ slice_index src.now 0 }
     requires high { slice_index src.now 0 < 0xF0 }
     requires second { is_continuation (slice_index src.now 1) ≡ true }
-    ensures { IfSome result (λ x. BeginsWith utf8 src.now (as_scalar x.0) x.1) }
+    ensures some { IfSome result (λ x. BeginsWith utf8 src.now (as_scalar x.0) x.1) }
+    ensures none { IfNone result (NoneBegins utf8 src.now) }
 {
     if !continues(src[2]) {
         return None;
     }
     let value = value_of_three(src[0], src[1], src[2]);
-    match value {
-        0x0000..=0x07ff | 0xd800..=0xdfff => None,
-        _ => Some((unsafe { char::from_u32_unchecked(value) }, 3)),
+    // Surrogates are told by the bits that they share: comparing with both ends makes a branch hard to foresee.
+    if value < 0x800 || value >> 11 == 0xd800 >> 11 {
+        return None;
     }
+    Some((unsafe { char::from_u32_unchecked(value) }, 3))
 }
 
 // The character of four.
@@ -73,14 +77,15 @@ fn four(src: &[u8]) -> Option<(char, usize)>
     requires low { 0xF0 ≤ slice_index src.now 0 }
     requires high { slice_index src.now 0 < 0xF5 }
     requires second { is_continuation (slice_index src.now 1) ≡ true }
-    ensures { IfSome result (λ x. BeginsWith utf8 src.now (as_scalar x.0) x.1) }
+    ensures some { IfSome result (λ x. BeginsWith utf8 src.now (as_scalar x.0) x.1) }
+    ensures none { IfNone result (NoneBegins utf8 src.now) }
 {
     if !continues(src[2]) || !continues(src[3]) {
         return None;
     }
     let value = value_of_four(src[0], src[1], src[2], src[3]);
-    match value {
-        0x1_0000..=0x10_ffff => Some((unsafe { char::from_u32_unchecked(value) }, 4)),
-        _ => None,
+    if value < 0x1_0000 || value > 0x10_ffff {
+        return None;
     }
+    Some((unsafe { char::from_u32_unchecked(value) }, 4))
 }

@@ -4,8 +4,8 @@ use Rattle.encode_unicode.proofs.ByteMerging.{alone_completes, alone_fails, asks
 use Rattle.encode_unicode.proofs.MergerSteps.{reads_none}
 use Rattle.encode_unicode.proofs.utf8_merger.followers.Goals as goal
 
-pub judge-requires-clause-enough : goal.judge-requires-clause-enough
-judge-requires-clause-enough g c = asks_one _ (sym c.begins_many.ensures ∙ c.if-not-begins_many.true)
+pub alone-requires : goal.alone-requires
+alone-requires g c = asks_one _ (sym c.begins_many.ensures ∙ c.if-not-begins_many.true)
 
 pub returns-in-Ok : goal.returns-in-Ok
 returns-in-Ok g c =

@@ -1,12 +1,12 @@
 use Rattle.std.proofs.Common.{◌≡◌, ◌≤◌, [], ◌∷◌, lit<, ap, sym, ◌∙◌, arith, refl}
 use Rattle.utf_base.specs.Kinds.{asked, value}
-use Rattle.utf_base.specs.Table.{is_running, missing, state_after}
-use Rattle.utf_base.specs.declared.table.State.TheVariants.{Done, Never, Unexpected}
+use Rattle.utf_base.specs.Table.{is_later_fault, is_running, missing, state_after}
+use Rattle.utf_base.specs.declared.table.State.TheVariants.{Done}
 use Rattle.utf_base.proofs.MergerLemmas.{few-3, broken-3}
-use Rattle.utf_base.proofs.TableSteps.{asks_runs, is_of_first, last_ends, never_of_first}
-use Rattle.utf_chars.proofs.Walked.{completes-1, completes-2, fails-4, second_asks-4, third_asks}
+use Rattle.utf_base.proofs.TableSteps.{asks_runs, faults_later, last_ends}
+use Rattle.utf_chars.proofs.Walked.{completes-1, completes-2, fails_in_third, second_asks-4, third_asks}
 use Rattle.encode_unicode.proofs.ByteMerging.{asks_four, code_behind, end_behind, fault_behind, held_two, held_three, four_padded}
-use Rattle.encode_unicode.proofs.ByteWalks.{code_behind_walk, kind_of_end, other_than, stepped}
+use Rattle.encode_unicode.proofs.TableWalks.{code_behind_walk, kind_of_end, stepped}
 use Rattle.encode_unicode.proofs.utf8_merger.fourth.Goals as goal
 
 pub returns-in-None : goal.returns-in-None
@@ -46,13 +46,8 @@ pub error_of-requires : goal.error_of-requires
 error_of-requires g c =
     let at = stepped _ _ _ _ _ c.step.ensures c.class_of.ensures.class c.behind_two.ensures in
     let one = ap missing at ∙ third_asks c.args.first c.args.second c.args.third c.requires.low c.requires.high c.requires.second c.requires.third in
-    let later = ap is_of_first c.step-in_default.ensures ∙ never_of_first c.step.result c.class_of-in_default.result (omega arith) in
-    record {
-      some = fails-4 (c.args.first ∷ c.args.second ∷ []) c.behind_two.result c.step.result c.step-in_default.result c.class_of.result c.class_of-in_default.result c.requires.low c.requires.high c.requires.second c.behind_two.ensures c.step.ensures one c.in_default.not-TwoMore c.step-in_default.ensures;
-      followed = other_than c.step-in_default.result Unexpected later refl;
-      known = other_than c.step-in_default.result Never later refl;
-      ended = ap is_running c.step-in_default.ensures ∙ last_ends c.step.result c.class_of-in_default.result one;
-    }
+    let other = fails_in_third (c.args.first ∷ c.args.second ∷ []) c.behind_two.result c.step.result c.class_of.result c.requires.low c.requires.high c.requires.second c.behind_two.ensures c.step.ensures c.in_default.not-TwoMore in
+    ap is_later_fault c.step-in_default.ensures ∙ faults_later c.step.result c.class_of-in_default.result one other
 
 pub returns-in_default : goal.returns-in_default
 returns-in_default g c =

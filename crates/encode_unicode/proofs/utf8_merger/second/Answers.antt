@@ -3,7 +3,7 @@ use Rattle.utf_base.specs.Kinds.{asked, value}
 use Rattle.utf_base.proofs.MergerLemmas.{few-1, broken-1}
 use Rattle.encode_unicode.proofs.ByteMerging.{asks_two, code_behind, end_behind, fault_behind, held_none, held_one, two_padded}
 use Rattle.utf_base.proofs.TableSteps.{first_runs}
-use Rattle.encode_unicode.proofs.ByteWalks.{code_behind_walk, two_end}
+use Rattle.encode_unicode.proofs.TableWalks.{code_behind_walk, two_end}
 use Rattle.encode_unicode.proofs.MergerSteps.{reads_more}
 use Rattle.encode_unicode.proofs.utf8_merger.second.Goals as goal
 

@@ -1,12 +1,12 @@
 use Rattle.std.proofs.Common.{◌≡◌, ◌≤◌, [], ◌∷◌, lit<, ap, sym, ◌∙◌, arith, refl}
 use Rattle.utf_base.specs.Kinds.{asked, value}
-use Rattle.utf_base.specs.Table.{is_running, missing, state_after}
-use Rattle.utf_base.specs.declared.table.State.TheVariants.{Done, Never, Unexpected}
+use Rattle.utf_base.specs.Table.{is_later_fault, is_running, missing, state_after}
+use Rattle.utf_base.specs.declared.table.State.TheVariants.{Done}
 use Rattle.utf_base.proofs.MergerLemmas.{few-2, broken-2}
-use Rattle.utf_base.proofs.TableSteps.{asks_runs, is_of_first, last_ends, never_of_first}
-use Rattle.utf_chars.proofs.Walked.{completes-1, fails-3, second_asks-3}
+use Rattle.utf_base.proofs.TableSteps.{asks_runs, faults_later, last_ends}
+use Rattle.utf_chars.proofs.Walked.{completes-1, second_asks-3}
 use Rattle.encode_unicode.proofs.ByteMerging.{asks_three, code_behind, end_behind, fault_behind, held_one, held_two, three_padded}
-use Rattle.encode_unicode.proofs.ByteWalks.{code_behind_walk, kind_of_end, other_than, stepped}
+use Rattle.encode_unicode.proofs.TableWalks.{code_behind_walk, kind_of_end, stepped}
 use Rattle.encode_unicode.proofs.utf8_merger.third_of_three.Goals as goal
 
 pub returns-in-None : goal.returns-in-None
@@ -37,13 +37,7 @@ step-requires-clause-running g c =
 pub error_of-requires : goal.error_of-requires
 error_of-requires g c =
     let one = ap missing c.behind_two.ensures ∙ second_asks-3 c.args.first c.args.second c.requires.low c.requires.high c.requires.continuation in
-    let later = ap is_of_first c.step.ensures ∙ never_of_first c.behind_two.result c.class_of.result (omega arith) in
-    record {
-      some = fails-3 c.behind_two.result c.step.result c.class_of.result one c.in_default.not-OneMore c.step.ensures;
-      followed = other_than c.step.result Unexpected later refl;
-      known = other_than c.step.result Never later refl;
-      ended = ap is_running c.step.ensures ∙ last_ends c.behind_two.result c.class_of.result one;
-    }
+    ap is_later_fault c.step.ensures ∙ faults_later c.behind_two.result c.class_of.result one c.in_default.not-OneMore
 
 pub returns-in_default : goal.returns-in_default
 returns-in_default g c =

@@ -4,8 +4,8 @@ use Rattle.utf_base.proofs.FrontLemmas.{least_value-below_3}
 use Rattle.utf_base.proofs.KindCases.{Asks-2, Sums-2, begins_with}
 use Rattle.utf_chars.proofs.text_front.two.Goals as goal
 
-pub returns : goal.returns
-returns c =
+pub returns-clause-some : goal.returns-clause-some
+returns-clause-some c =
     let any : 0 ≤ c.value_of_two-value.result = omega arith in
     let sum = c.value_of_two-value.ensures in
     let low = c.requires.low in

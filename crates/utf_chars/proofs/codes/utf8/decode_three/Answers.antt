@@ -3,11 +3,11 @@ use denote.Enum.Bare.{differs_true, differs_false}
 use Rattle.utf_base.specs.contracts.table.State.{the_type}
 use Rattle.utf_base.specs.declared.table.State.TheVariants.{OneMore}
 use Rattle.utf_base.specs.Kinds.{fault_kind}
-use Rattle.utf_base.specs.Table.{fault_of, missing}
+use Rattle.utf_base.specs.Table.{fault_of, is_later_fault, missing}
 use Rattle.utf_base.proofs.FrontLemmas.{asked-3, value-3}
 use Rattle.utf_base.proofs.KindCases.{Asks-3, interrupted-3, kind-few}
-use Rattle.utf_base.proofs.TableSteps.{asks_runs}
-use Rattle.utf_chars.proofs.Walked.{completes-1, each, ends-3, fails-3, second_asks-3, std_scalar, walk_finds}
+use Rattle.utf_base.proofs.TableSteps.{asks_runs, faults_later}
+use Rattle.utf_chars.proofs.Walked.{completes-1, each, ends-3, second_asks-3, std_scalar, walk_finds}
 use Rattle.utf_chars.proofs.codes.utf8.decode_three.Goals as goal
 
 pub returns-then-src-lt3 : goal.returns-then-src-lt3
@@ -27,43 +27,26 @@ step-requires-clause-running c =
     let one = ap missing c.behind_two-state.ensures ∙ second_asks-3 _ _ c.requires.low c.requires.high follow.0 in
     asks_runs _ (omega arith)
 
-pub error_behind-requires-clause-some : goal.error_behind-requires-clause-some
-error_behind-requires-clause-some c =
+pub error_behind-requires : goal.error_behind-requires
+error_behind-requires c =
     let follow = each _ _ (sym c.both_continue.ensures ∙ c.if-not-both_continue.false) in
     let one = ap missing c.behind_two-state.ensures ∙ second_asks-3 _ _ c.requires.low c.requires.high follow.0 in
-    fails-3 _ _ _ one (differs_true the_type c.behind_two-state.result OneMore (sym c.ne.ensures ∙ c.if-ne.true)) c.step.ensures
-
-pub error_behind-requires-clause-followed : goal.error_behind-requires-clause-followed
-error_behind-requires-clause-followed c =
-    let follow = each _ _ (sym c.both_continue.ensures ∙ c.if-not-both_continue.false) in
-    let end = ends-3 c.args.src.now _ _ _ c.requires.low c.requires.high c.if-src-lt3.false follow.0 c.behind_two-state.ensures c.class_of.ensures.class c.step.ensures in
-    end.followed
-
-pub error_behind-requires-clause-known : goal.error_behind-requires-clause-known
-error_behind-requires-clause-known c =
-    let follow = each _ _ (sym c.both_continue.ensures ∙ c.if-not-both_continue.false) in
-    let end = ends-3 c.args.src.now _ _ _ c.requires.low c.requires.high c.if-src-lt3.false follow.0 c.behind_two-state.ensures c.class_of.ensures.class c.step.ensures in
-    end.known
-
-pub error_behind-requires-clause-ended : goal.error_behind-requires-clause-ended
-error_behind-requires-clause-ended c =
-    let follow = each _ _ (sym c.both_continue.ensures ∙ c.if-not-both_continue.false) in
-    let end = ends-3 c.args.src.now _ _ _ c.requires.low c.requires.high c.if-src-lt3.false follow.0 c.behind_two-state.ensures c.class_of.ensures.class c.step.ensures in
-    end.ended
+    let other = differs_true the_type c.behind_two-state.result OneMore (sym c.ne.ensures ∙ c.if-ne.true) in
+    ap is_later_fault c.step.ensures ∙ faults_later _ _ one other
 
 pub returns-then-ne : goal.returns-then-ne
 returns-then-ne c =
     let follow = each _ _ (sym c.both_continue.ensures ∙ c.if-not-both_continue.false) in
-    let end = ends-3 c.args.src.now _ _ _ c.requires.low c.requires.high c.if-src-lt3.false follow.0 c.behind_two-state.ensures c.class_of.ensures.class c.step.ensures in
-    end.fault ∙ c.error_behind.ensures
+    let fault = ends-3 c.args.src.now _ _ _ c.requires.low c.requires.high c.if-src-lt3.false follow.0 c.behind_two-state.ensures c.class_of.ensures.class c.step.ensures in
+    fault ∙ c.error_behind.ensures
 
 pub from_u32_unchecked-requires : goal.from_u32_unchecked-requires
 from_u32_unchecked-requires c =
     let asks = asked-3 _ c.requires.low c.requires.high in
     let follow = each _ _ (sym c.both_continue.ensures ∙ c.if-not-both_continue.false) in
     let good = differs_false the_type (search rules) c.behind_two-state.result OneMore (sym c.ne.ensures ∙ c.if-ne.false) in
-    let end = ends-3 c.args.src.now _ _ _ c.requires.low c.requires.high c.if-src-lt3.false follow.0 c.behind_two-state.ensures refl refl in
-    let none : fault_kind c.args.src.now ≡ None = end.fault ∙ ap fault_of (completes-1 _ _ good follow.1) in
+    let fault = ends-3 c.args.src.now _ _ _ c.requires.low c.requires.high c.if-src-lt3.false follow.0 c.behind_two-state.ensures refl refl in
+    let none : fault_kind c.args.src.now ≡ None = fault ∙ ap fault_of (completes-1 _ _ good follow.1) in
     std_scalar _ _ none (value-3 c.args.src.now asks ∙ sym c.value_of_three-value.ensures.sum)
 
 pub returns : goal.returns
@@ -71,6 +54,6 @@ returns c =
     let asks = asked-3 _ c.requires.low c.requires.high in
     let follow = each _ _ (sym c.both_continue.ensures ∙ c.if-not-both_continue.false) in
     let good = differs_false the_type (search rules) c.behind_two-state.result OneMore (sym c.ne.ensures ∙ c.if-ne.false) in
-    let end = ends-3 c.args.src.now _ _ _ c.requires.low c.requires.high c.if-src-lt3.false follow.0 c.behind_two-state.ensures refl refl in
-    let none : fault_kind c.args.src.now ≡ None = end.fault ∙ ap fault_of (completes-1 _ _ good follow.1) in
+    let fault = ends-3 c.args.src.now _ _ _ c.requires.low c.requires.high c.if-src-lt3.false follow.0 c.behind_two-state.ensures refl refl in
+    let none : fault_kind c.args.src.now ≡ None = fault ∙ ap fault_of (completes-1 _ _ good follow.1) in
     rw c.from_u32_unchecked.ensures (walk_finds _ 3 _ none asks (value-3 _ asks ∙ sym c.value_of_three-value.ensures.sum))

@@ -10,7 +10,7 @@ use Rattle.utf_base.specs.Scalar.{IsScalar}
 use Rattle.utf_base.specs.Table.{class, fault_of, is_running, missing, next_state, state_after}
 use Rattle.utf_base.proofs.FrontLemmas.{code_where_no_fault}
 use Rattle.utf_base.proofs.MergerLemmas.{merger_none, whole_code}
-use Rattle.utf_base.proofs.TableSteps.{Reached, Runs, first-2, is_of_first, kind_at_end, one_less, one_more_ends, reached}
+use Rattle.utf_base.proofs.TableSteps.{Reached, Runs, first-2, kind_at_end, one_less, one_more_ends, reached}
 
 -- A running state behind some bytes asks for more of them.
 pub runs_behind : (w : List ℕ) (k : ℕ) (state : State) → 0 < k → is_running state ≡ true → Reached w k state → Runs w k state × (0 < missing state) × (fault_of state ≡ Some TooFewBytes)
@@ -55,10 +55,6 @@ pub two_end : (a b : ℕ) → 0xC2 ≤ a → a < 0xE0 → is_continuation b ≡ 
 two_end a b low high e =
     let first = first-2 a low high in
     ap (λ (x : State). next_state x (class b)) first ∙ one_more_ends b e
-
--- A follower does not lead to what only a first byte leads to.
-pub other_than : (end first : State) → is_of_first end ≡ false → is_of_first first ≡ true → end ≡ first → ⊥
-other_than end first later begins e = let same : true ≡ false = sym begins ∙ sym (ap is_of_first e) ∙ later in cc
 
 -- A step that the code made, as one of the walk.
 pub stepped : (state s next : State) (c b : ℕ) → next ≡ next_state state c → c ≡ class b → state ≡ s → next ≡ next_state s (class b)
