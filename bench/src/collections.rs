@@ -1,7 +1,7 @@
 //! The works that collect the characters of a text or add them to what is there, by the Rust crate and by std.
 
 use crate::inputs::Input;
-use crate::work::{mix, Work, FACTOR};
+use crate::work::{Checksum, Work};
 use encode_unicode::StrExt;
 
 /// The works over collections, in the order of the tables. Those whose names end in 16 take characters kept
@@ -74,24 +74,24 @@ pub const ALL: [Work; 8] = [
 ];
 
 // The exports take the bytes of a text as a pointer and a length, and take memory by `malloc`, as std does.
-type Export = unsafe extern "C" fn(*const u8, usize, u64) -> u64;
+type Export = unsafe extern "C" fn(*const u8, usize) -> u64;
 
 #[link(name = "bench_c", kind = "static")]
 extern "C" {
-    fn bench_c_collect_bytes(src: *const u8, len: usize, factor: u64) -> u64;
-    fn bench_c_collect_string(src: *const u8, len: usize, factor: u64) -> u64;
-    fn bench_c_extend_bytes(src: *const u8, len: usize, factor: u64) -> u64;
-    fn bench_c_extend_string(src: *const u8, len: usize, factor: u64) -> u64;
-    fn bench_c_collect_units(src: *const u8, len: usize, factor: u64) -> u64;
-    fn bench_c_extend_units(src: *const u8, len: usize, factor: u64) -> u64;
-    fn bench_c_collect_string16(src: *const u8, len: usize, factor: u64) -> u64;
-    fn bench_c_extend_string16(src: *const u8, len: usize, factor: u64) -> u64;
+    fn bench_c_collect_bytes(src: *const u8, len: usize) -> u64;
+    fn bench_c_collect_string(src: *const u8, len: usize) -> u64;
+    fn bench_c_extend_bytes(src: *const u8, len: usize) -> u64;
+    fn bench_c_extend_string(src: *const u8, len: usize) -> u64;
+    fn bench_c_collect_units(src: *const u8, len: usize) -> u64;
+    fn bench_c_extend_units(src: *const u8, len: usize) -> u64;
+    fn bench_c_collect_string16(src: *const u8, len: usize) -> u64;
+    fn bench_c_extend_string16(src: *const u8, len: usize) -> u64;
 }
 
 // They ask that the bytes are a text, which those of a `str` are.
 fn ours(export: Export, input: &Input) -> u64 {
     let text = input.text();
-    unsafe { export(text.as_ptr(), text.len(), FACTOR) }
+    unsafe { export(text.as_ptr(), text.len()) }
 }
 
 fn text_len(input: &Input) -> usize {
@@ -134,27 +134,29 @@ fn sum_of_string(string: String) -> u64 {
 #[inline(always)]
 fn sum_of_bytes(bytes: Vec<u8>) -> u64 {
     let (words, rest) = bytes.as_chunks();
-    let mut sum = mix(0, bytes.len() as u64);
+    let mut sum = Checksum::default();
+    sum.add(bytes.len() as u64);
     for word in words {
-        sum = mix(sum, u64::from_le_bytes(*word));
+        sum.add(u64::from_le_bytes(*word));
     }
     for byte in rest {
-        sum = mix(sum, u64::from(*byte));
+        sum.add(u64::from(*byte));
     }
-    sum
+    sum.value()
 }
 
 // By words of four units.
 #[inline(always)]
 fn sum_of_units(units: Vec<u16>) -> u64 {
     let (words, rest) = units.as_chunks();
-    let mut sum = mix(0, units.len() as u64);
+    let mut sum = Checksum::default();
+    sum.add(units.len() as u64);
     for [first, second, third, fourth] in words {
         let word = u64::from(*first) | u64::from(*second) << 16 | u64::from(*third) << 32 | u64::from(*fourth) << 48;
-        sum = mix(sum, word);
+        sum.add(word);
     }
     for unit in rest {
-        sum = mix(sum, u64::from(*unit));
+        sum.add(u64::from(*unit));
     }
-    sum
+    sum.value()
 }

@@ -3,7 +3,7 @@
 //! The Rust crate and std go over units from the front alone, so beside `units_back` they do that.
 
 use crate::inputs::Input;
-use crate::work::{mix, std_units, word_of, Work, ERROR, FACTOR};
+use crate::work::{std_units, word_of, Checksum, Work, ERROR};
 use encode_unicode::error::Utf16PairError;
 use encode_unicode::iterator::Utf16CharDecoder;
 
@@ -27,18 +27,18 @@ pub const ALL: [Work; 2] = [
     },
 ];
 
-type Export = unsafe extern "C" fn(*const u16, usize, u64) -> u64;
+type Export = unsafe extern "C" fn(*const u16, usize) -> u64;
 
 // As in `work`: a slice crosses as a pointer and a length.
 #[link(name = "bench_c", kind = "static")]
 extern "C" {
-    fn bench_c_unit_decoder(src: *const u16, len: usize, factor: u64) -> u64;
-    fn bench_c_units_back(src: *const u16, len: usize, factor: u64) -> u64;
+    fn bench_c_unit_decoder(src: *const u16, len: usize) -> u64;
+    fn bench_c_units_back(src: *const u16, len: usize) -> u64;
 }
 
 // An export asks for nothing but what a slice promises.
 fn ours(export: Export, input: &Input) -> u64 {
-    unsafe { export(input.units.as_ptr(), input.units.len(), FACTOR) }
+    unsafe { export(input.units.as_ptr(), input.units.len()) }
 }
 
 #[inline(always)]
@@ -52,41 +52,36 @@ pub(crate) fn number_of(error: Utf16PairError) -> u32 {
 }
 
 fn unit_decoder(src: &[u16]) -> u64 {
-    let mut sum = 0;
+    let mut sum = Checksum::default();
     for (place, answer, len) in Utf16CharDecoder::from(src) {
         let what = match answer {
             Ok(c) => c.to_char() as u32,
             Err(error) => number_of(error),
         };
-        sum = mix(sum, word_of(place, len, what));
+        sum.add(word_of(place, len, what));
     }
-    sum
+    sum.value()
 }
 
-// A checksum that is the same in any order.
-#[inline(always)]
-fn add(sum: u64, word: u64) -> u64 {
-    sum.wrapping_add(word.wrapping_mul(FACTOR))
-}
-
+// The sum of the words, which is the same in any order.
 fn units_in_any_order(src: &[u16]) -> u64 {
-    let mut sum = 0;
+    let mut sum: u64 = 0;
     for (place, answer, len) in Utf16CharDecoder::from(src) {
         let what = answer.map_or(ERROR, |c| c.to_char() as u32);
-        sum = add(sum, word_of(place, len, what));
+        sum = sum.wrapping_add(word_of(place, len, what));
     }
     sum
 }
 
 fn std_units_in_any_order(src: &[u16]) -> u64 {
-    let mut sum = 0;
+    let mut sum: u64 = 0;
     let mut place = 0;
     for answer in char::decode_utf16(src.iter().copied()) {
         let (what, len) = match answer {
             Ok(c) => (c as u32, c.len_utf16()),
             Err(_) => (ERROR, 1),
         };
-        sum = add(sum, word_of(place, len, what));
+        sum = sum.wrapping_add(word_of(place, len, what));
         place += len;
     }
     sum

@@ -4,7 +4,7 @@
 //! passed over, and the place that it gives of an error from the back is one too low, so that one is added.
 
 use crate::inputs::Input;
-use crate::work::{mix, number_of, word_of, Work, FACTOR};
+use crate::work::{number_of, word_of, Checksum, Work};
 use encode_unicode::error::Utf8Error;
 use encode_unicode::iterator::Utf8CharDecoder;
 use encode_unicode::Utf8Char;
@@ -37,18 +37,18 @@ pub const ALL: [Work; 3] = [
     },
 ];
 
-type Export = unsafe extern "C" fn(*const u8, usize, u64) -> u64;
+type Export = unsafe extern "C" fn(*const u8, usize) -> u64;
 
 #[link(name = "bench_c", kind = "static")]
 extern "C" {
-    fn bench_c_backward(src: *const u8, len: usize, factor: u64) -> u64;
-    fn bench_c_ends(src: *const u8, len: usize, factor: u64) -> u64;
+    fn bench_c_backward(src: *const u8, len: usize) -> u64;
+    fn bench_c_ends(src: *const u8, len: usize) -> u64;
 }
 
 // An export asks for nothing but what a slice promises.
 fn ours(export: Export, input: &Input) -> u64 {
     let src = bytes_of(input);
-    unsafe { export(src.as_ptr(), src.len(), FACTOR) }
+    unsafe { export(src.as_ptr(), src.len()) }
 }
 
 // The input without the continuation bytes that it begins with.
@@ -60,45 +60,45 @@ fn bytes_of(input: &Input) -> &[u8] {
 type Item = (usize, Result<Utf8Char, Utf8Error>, usize);
 
 #[inline(always)]
-fn mix_front(sum: u64, (place, answer, len): Item) -> u64 {
+fn add_front(sum: &mut Checksum, (place, answer, len): Item) {
     match answer {
-        Ok(c) => mix(sum, word_of(place, len, c.to_char() as u32)),
-        Err(error) => mix(sum, word_of(place, len, number_of(error.kind()))),
+        Ok(c) => sum.add(word_of(place, len, c.to_char() as u32)),
+        Err(error) => sum.add(word_of(place, len, number_of(error.kind()))),
     }
 }
 
 #[inline(always)]
-fn mix_back(sum: u64, (place, answer, len): Item) -> u64 {
+fn add_back(sum: &mut Checksum, (place, answer, len): Item) {
     match answer {
-        Ok(c) => mix(sum, word_of(place, len, c.to_char() as u32)),
-        Err(error) => mix(sum, word_of(place.wrapping_add(1), len, number_of(error.kind()))),
+        Ok(c) => sum.add(word_of(place, len, c.to_char() as u32)),
+        Err(error) => sum.add(word_of(place.wrapping_add(1), len, number_of(error.kind()))),
     }
 }
 
 fn backward(src: &[u8]) -> u64 {
-    let mut sum = 0;
+    let mut sum = Checksum::default();
     for item in Utf8CharDecoder::from(src).rev() {
-        sum = mix_back(sum, item);
+        add_back(&mut sum, item);
     }
-    sum
+    sum.value()
 }
 
 fn ends(src: &[u8]) -> u64 {
-    let mut sum = 0;
+    let mut sum = Checksum::default();
     let mut pieces = Utf8CharDecoder::from(src);
     while let Some(first) = pieces.next() {
-        sum = mix_front(sum, first);
+        add_front(&mut sum, first);
         if let Some(last) = pieces.next_back() {
-            sum = mix_back(sum, last);
+            add_back(&mut sum, last);
         }
     }
-    sum
+    sum.value()
 }
 
 fn std_backward(text: &str) -> u64 {
-    let mut sum = 0;
+    let mut sum = Checksum::default();
     for (place, c) in text.char_indices().rev() {
-        sum = mix(sum, word_of(place, c.len_utf8(), c as u32));
+        sum.add(word_of(place, c.len_utf8(), c as u32));
     }
-    sum
+    sum.value()
 }

@@ -1,7 +1,7 @@
 //! The works over the iterators of a text, by the Rust crate and by std.
 
 use crate::inputs::Input;
-use crate::work::{mix, Work, FACTOR};
+use crate::work::{Checksum, Work};
 use encode_unicode::{IterExt, StrExt};
 use std::io::Read;
 
@@ -82,25 +82,25 @@ pub const ALL: [Work; 9] = [
 ];
 
 // The exports take the bytes of a text as a pointer and a length.
-type Export = unsafe extern "C" fn(*const u8, usize, u64) -> u64;
+type Export = unsafe extern "C" fn(*const u8, usize) -> u64;
 
 #[link(name = "bench_c", kind = "static")]
 extern "C" {
-    fn bench_c_bytes_next(src: *const u8, len: usize, factor: u64) -> u64;
-    fn bench_c_bytes_read(src: *const u8, len: usize, factor: u64) -> u64;
-    fn bench_c_units_next(src: *const u8, len: usize, factor: u64) -> u64;
-    fn bench_c_utf8chars(src: *const u8, len: usize, factor: u64) -> u64;
-    fn bench_c_utf8chars_back(src: *const u8, len: usize, factor: u64) -> u64;
-    fn bench_c_indices(src: *const u8, len: usize, factor: u64) -> u64;
-    fn bench_c_indices_back(src: *const u8, len: usize, factor: u64) -> u64;
-    fn bench_c_utf16chars(src: *const u8, len: usize, factor: u64) -> u64;
-    fn bench_c_utf16chars_back(src: *const u8, len: usize, factor: u64) -> u64;
+    fn bench_c_bytes_next(src: *const u8, len: usize) -> u64;
+    fn bench_c_bytes_read(src: *const u8, len: usize) -> u64;
+    fn bench_c_units_next(src: *const u8, len: usize) -> u64;
+    fn bench_c_utf8chars(src: *const u8, len: usize) -> u64;
+    fn bench_c_utf8chars_back(src: *const u8, len: usize) -> u64;
+    fn bench_c_indices(src: *const u8, len: usize) -> u64;
+    fn bench_c_indices_back(src: *const u8, len: usize) -> u64;
+    fn bench_c_utf16chars(src: *const u8, len: usize) -> u64;
+    fn bench_c_utf16chars_back(src: *const u8, len: usize) -> u64;
 }
 
 // They ask that the bytes are a text, which those of a `str` are.
 fn ours(export: Export, input: &Input) -> u64 {
     let text = input.text();
-    unsafe { export(text.as_ptr(), text.len(), FACTOR) }
+    unsafe { export(text.as_ptr(), text.len()) }
 }
 
 fn text_len(input: &Input) -> usize {
@@ -109,11 +109,11 @@ fn text_len(input: &Input) -> usize {
 
 #[inline(always)]
 fn sum_of(words: impl Iterator<Item = u64>) -> u64 {
-    let mut sum = 0;
+    let mut sum = Checksum::default();
     for word in words {
-        sum = mix(sum, word);
+        sum.add(word);
     }
-    sum
+    sum.value()
 }
 
 #[inline(always)]
@@ -130,22 +130,22 @@ fn placed(place: usize, c: char) -> u64 {
 const ROOM: usize = 4096;
 
 fn bytes_read(text: &str) -> u64 {
-    let mut sum = 0;
+    let mut sum = Checksum::default();
     let mut buffer = [0; ROOM];
     let mut bytes = text.utf8chars().to_bytes();
     loop {
         let count = bytes.read(&mut buffer).unwrap_or(0);
-        sum = mix_buffer(mix(sum, count as u64), &buffer);
+        sum.add(count as u64);
+        add_buffer(&mut sum, &buffer);
         if count < ROOM {
-            return sum;
+            return sum.value();
         }
     }
 }
 
 #[inline(always)]
-fn mix_buffer(mut sum: u64, buffer: &[u8; ROOM]) -> u64 {
+fn add_buffer(sum: &mut Checksum, buffer: &[u8; ROOM]) {
     for word in buffer.as_chunks().0 {
-        sum = mix(sum, u64::from_le_bytes(*word));
+        sum.add(u64::from_le_bytes(*word));
     }
-    sum
 }

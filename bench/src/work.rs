@@ -1,7 +1,7 @@
 //! The kinds of work, each done by this repository's crates (through `crates/bench_c`), by the Rust crate
 //! and, where it does the same work, by std.
 //!
-//! Every worker answers a checksum of all that it saw, mixed in the same way, so that answers can be compared.
+//! Every worker answers a checksum of all that it saw, added up in the same way, so that answers can be compared.
 
 use crate::inputs::Input;
 use crate::{collections, decoders, ends, mergers, texts};
@@ -47,7 +47,7 @@ pub fn all() -> impl Iterator<Item = &'static Work> {
 const OF_SLICES: [Work; 6] = [
     Work {
         name: "forward",
-        ours: |input| unsafe { bench_c_forward(input.bytes.as_ptr(), input.bytes.len(), FACTOR) },
+        ours: |input| unsafe { bench_c_forward(input.bytes.as_ptr(), input.bytes.len()) },
         rust: |input| forward(&input.bytes),
         std: Some(|input| std_forward(&input.bytes)),
         bytes: |input| input.bytes.len(),
@@ -55,7 +55,7 @@ const OF_SLICES: [Work; 6] = [
     },
     Work {
         name: "starts",
-        ours: |input| unsafe { bench_c_starts(input.bytes.as_ptr(), input.bytes.len(), FACTOR) },
+        ours: |input| unsafe { bench_c_starts(input.bytes.as_ptr(), input.bytes.len()) },
         rust: |input| starts(&input.bytes),
         std: None,
         bytes: |input| input.bytes.len(),
@@ -63,7 +63,7 @@ const OF_SLICES: [Work; 6] = [
     },
     Work {
         name: "units",
-        ours: |input| unsafe { bench_c_units(input.units.as_ptr(), input.units.len(), FACTOR) },
+        ours: |input| unsafe { bench_c_units(input.units.as_ptr(), input.units.len()) },
         rust: |input| units(&input.units),
         std: Some(|input| std_units(&input.units)),
         bytes: |input| 2 * input.units.len(),
@@ -71,7 +71,7 @@ const OF_SLICES: [Work; 6] = [
     },
     Work {
         name: "to_utf8",
-        ours: |input| unsafe { bench_c_to_utf8(input.numbers.as_ptr(), input.numbers.len(), FACTOR) },
+        ours: |input| unsafe { bench_c_to_utf8(input.numbers.as_ptr(), input.numbers.len()) },
         rust: |input| to_utf8(&input.numbers),
         std: Some(|input| std_to_utf8(&input.numbers)),
         bytes: |input| 4 * input.numbers.len(),
@@ -79,7 +79,7 @@ const OF_SLICES: [Work; 6] = [
     },
     Work {
         name: "to_utf16",
-        ours: |input| unsafe { bench_c_to_utf16(input.numbers.as_ptr(), input.numbers.len(), FACTOR) },
+        ours: |input| unsafe { bench_c_to_utf16(input.numbers.as_ptr(), input.numbers.len()) },
         rust: |input| to_utf16(&input.numbers),
         std: Some(|input| std_to_utf16(&input.numbers)),
         bytes: |input| 4 * input.numbers.len(),
@@ -87,7 +87,7 @@ const OF_SLICES: [Work; 6] = [
     },
     Work {
         name: "between",
-        ours: |input| unsafe { bench_c_between(input.bytes.as_ptr(), input.bytes.len(), FACTOR) },
+        ours: |input| unsafe { bench_c_between(input.bytes.as_ptr(), input.bytes.len()) },
         rust: |input| between(&input.bytes),
         std: None,
         bytes: |input| input.bytes.len(),
@@ -99,20 +99,38 @@ const OF_SLICES: [Work; 6] = [
 // promises, so each call above is one of a slice borrowed for the call.
 #[link(name = "bench_c", kind = "static")]
 extern "C" {
-    fn bench_c_forward(src: *const u8, len: usize, factor: u64) -> u64;
-    fn bench_c_starts(src: *const u8, len: usize, factor: u64) -> u64;
-    fn bench_c_units(src: *const u16, len: usize, factor: u64) -> u64;
-    fn bench_c_to_utf8(src: *const u32, len: usize, factor: u64) -> u64;
-    fn bench_c_to_utf16(src: *const u32, len: usize, factor: u64) -> u64;
-    fn bench_c_between(src: *const u8, len: usize, factor: u64) -> u64;
+    fn bench_c_forward(src: *const u8, len: usize) -> u64;
+    fn bench_c_starts(src: *const u8, len: usize) -> u64;
+    fn bench_c_units(src: *const u16, len: usize) -> u64;
+    fn bench_c_to_utf8(src: *const u32, len: usize) -> u64;
+    fn bench_c_to_utf16(src: *const u32, len: usize) -> u64;
+    fn bench_c_between(src: *const u8, len: usize) -> u64;
 }
 
-pub const FACTOR: u64 = 0x9e37_79b9_7f4a_7c15;
 pub(crate) const ERROR: u32 = 0x20_0000;
 
-#[inline(always)]
-pub fn mix(sum: u64, word: u64) -> u64 {
-    sum.wrapping_mul(9).wrapping_add(word.wrapping_mul(FACTOR))
+/// A checksum of words, which depends on their order: the sum of all sums that they have had.
+///
+/// Each of its two sums takes one addition for a word, and neither waits for more than the word before. So it
+/// holds the work up as little as a checksum can.
+#[derive(Default)]
+pub struct Checksum {
+    words: u64,
+    sums: u64,
+}
+
+impl Checksum {
+    /// One word more.
+    #[inline(always)]
+    pub fn add(&mut self, word: u64) {
+        self.words = self.words.wrapping_add(word);
+        self.sums = self.sums.wrapping_add(self.words);
+    }
+
+    #[inline(always)]
+    pub fn value(self) -> u64 {
+        self.sums
+    }
 }
 
 #[inline(always)]
@@ -146,134 +164,134 @@ fn unit_number_of(error: Utf16SliceError) -> u32 {
 }
 
 fn forward(src: &[u8]) -> u64 {
-    let mut sum = 0;
+    let mut sum = Checksum::default();
     for (place, answer, len) in Utf8CharDecoder::from(src) {
         let what = match answer {
             Ok(c) => c.to_char() as u32,
             Err(error) => number_of(error.kind()),
         };
-        sum = mix(sum, word_of(place, len, what));
+        sum.add(word_of(place, len, what));
     }
-    sum
+    sum.value()
 }
 
 // On text the same checksum. Elsewhere std cuts otherwise and names no kinds; a byte of a faulty chunk counts as
 // an error of its own.
 fn std_forward(src: &[u8]) -> u64 {
-    let mut sum = 0;
+    let mut sum = Checksum::default();
     let mut start = 0;
     for chunk in src.utf8_chunks() {
         for (place, c) in chunk.valid().char_indices() {
-            sum = mix(sum, word_of(start + place, c.len_utf8(), c as u32));
+            sum.add(word_of(start + place, c.len_utf8(), c as u32));
         }
         start += chunk.valid().len();
         for _ in chunk.invalid() {
-            sum = mix(sum, word_of(start, 1, ERROR));
+            sum.add(word_of(start, 1, ERROR));
             start += 1;
         }
     }
-    sum
+    sum.value()
 }
 
 fn starts(src: &[u8]) -> u64 {
-    let mut sum = 0;
+    let mut sum = Checksum::default();
     let mut place = 0;
     while place < src.len() {
         let (what, len) = match char::from_utf8_slice_start(&src[place..]) {
             Ok((c, len)) => (c as u32, len),
             Err(error) => (number_of(error.kind()), 1),
         };
-        sum = mix(sum, word_of(place, len, what));
+        sum.add(word_of(place, len, what));
         place += len;
     }
-    sum
+    sum.value()
 }
 
 fn units(src: &[u16]) -> u64 {
-    let mut sum = 0;
+    let mut sum = Checksum::default();
     let mut place = 0;
     while place < src.len() {
         let (what, len) = match char::from_utf16_slice_start(&src[place..]) {
             Ok((c, len)) => (c as u32, len),
             Err(error) => (unit_number_of(error), 1),
         };
-        sum = mix(sum, word_of(place, len, what));
+        sum.add(word_of(place, len, what));
         place += len;
     }
-    sum
+    sum.value()
 }
 
 // On text the same checksum. Elsewhere std does not say which fault a unit has.
 pub(crate) fn std_units(src: &[u16]) -> u64 {
-    let mut sum = 0;
+    let mut sum = Checksum::default();
     let mut place = 0;
     for answer in char::decode_utf16(src.iter().copied()) {
         let (what, len) = match answer {
             Ok(c) => (c as u32, c.len_utf16()),
             Err(_) => (ERROR, 1),
         };
-        sum = mix(sum, word_of(place, len, what));
+        sum.add(word_of(place, len, what));
         place += len;
     }
-    sum
+    sum.value()
 }
 
 fn to_utf8(src: &[u32]) -> u64 {
-    let mut sum = 0;
+    let mut sum = Checksum::default();
     for number in src {
         if let Ok(c) = char::from_u32_detailed(*number) {
             let (code, len) = c.to_utf8_array();
-            sum = mix(sum, word_of(len, 0, u32::from_le_bytes(code)));
+            sum.add(word_of(len, 0, u32::from_le_bytes(code)));
         }
     }
-    sum
+    sum.value()
 }
 
 fn std_to_utf8(src: &[u32]) -> u64 {
-    let mut sum = 0;
+    let mut sum = Checksum::default();
     for number in src {
         if let Some(c) = char::from_u32(*number) {
             let mut code = [0; 4];
             let len = c.encode_utf8(&mut code).len();
-            sum = mix(sum, word_of(len, 0, u32::from_le_bytes(code)));
+            sum.add(word_of(len, 0, u32::from_le_bytes(code)));
         }
     }
-    sum
+    sum.value()
 }
 
 fn to_utf16(src: &[u32]) -> u64 {
-    let mut sum = 0;
+    let mut sum = Checksum::default();
     for number in src {
         if let Ok(c) = char::from_u32_detailed(*number) {
             let [first, second] = c.to_utf16_array();
-            sum = mix(sum, (second as u64) << 16 | first as u64);
+            sum.add((second as u64) << 16 | first as u64);
         }
     }
-    sum
+    sum.value()
 }
 
 fn std_to_utf16(src: &[u32]) -> u64 {
-    let mut sum = 0;
+    let mut sum = Checksum::default();
     for number in src {
         if let Some(c) = char::from_u32(*number) {
             let mut code = [0; 2];
             c.encode_utf16(&mut code);
-            sum = mix(sum, (code[1] as u64) << 16 | code[0] as u64);
+            sum.add((code[1] as u64) << 16 | code[0] as u64);
         }
     }
-    sum
+    sum.value()
 }
 
 fn between(src: &[u8]) -> u64 {
-    let mut sum = 0;
+    let mut sum = Checksum::default();
     for (_, answer, _) in Utf8CharDecoder::from(src) {
         if let Ok(c) = answer {
             let other = Utf16Char::from(c);
             let [first, second] = other.to_array();
             let (code, _) = Utf8Char::from(other).to_array();
             let units = (second as u32) << 16 | first as u32;
-            sum = mix(sum, (units as u64) << 32 | u32::from_le_bytes(code) as u64);
+            sum.add((units as u64) << 32 | u32::from_le_bytes(code) as u64);
         }
     }
-    sum
+    sum.value()
 }

@@ -5,7 +5,7 @@
 //! places. What making the table takes is measured too, and taken off.
 
 use bench::inputs;
-use bench::work::{mix, number_of, word_of, FACTOR};
+use bench::work::{number_of, word_of, Checksum};
 use encode_unicode::error::Utf8Error;
 use encode_unicode::iterator::Utf8CharDecoder;
 use encode_unicode::Utf8Char;
@@ -17,7 +17,7 @@ const SEED: u64 = 0x5eed;
 
 #[link(name = "bench_c", kind = "static")]
 extern "C" {
-    fn bench_c_replacements(src: *const u8, len: usize, seed: u64, count: u64, factor: u64) -> u64;
+    fn bench_c_replacements(src: *const u8, len: usize, seed: u64, count: u64) -> u64;
 }
 
 type Item = (usize, Result<Utf8Char, Utf8Error>, usize);
@@ -70,7 +70,7 @@ fn row(name: &str, size: usize, rounds: usize) -> bool {
 }
 
 fn ours(src: &[u8], count: u64) -> u64 {
-    unsafe { bench_c_replacements(src.as_ptr(), src.len(), SEED, count, FACTOR) }
+    unsafe { bench_c_replacements(src.as_ptr(), src.len(), SEED, count) }
 }
 
 // The best time of the rounds, and the answer.
@@ -94,7 +94,7 @@ fn best_splice(rounds: usize, src: &[u8], steps: &[Step]) -> (Duration, u64) {
         }
         let time = start.elapsed();
         black_box(&bytes);
-        (time, pieces.iter().fold(0, mix_item))
+        (time, checksum_of(&pieces))
     });
     timed.min_by_key(|(time, _)| *time).expect("there is a round")
 }
@@ -105,12 +105,16 @@ fn splice(bytes: &mut Vec<u8>, pieces: &mut Vec<Item>, step: &Step) {
     pieces.splice(step.keep..step.resume, step.fresh.iter().copied());
 }
 
-fn mix_item(sum: u64, item: &Item) -> u64 {
-    let (place, answer, len) = *item;
-    match answer {
-        Ok(c) => mix(sum, word_of(place, len, c.to_char() as u32)),
-        Err(error) => mix(sum, word_of(place, len, number_of(error.kind()))),
+fn checksum_of(pieces: &[Item]) -> u64 {
+    let mut sum = Checksum::default();
+    for (place, answer, len) in pieces {
+        let what = match answer {
+            Ok(c) => c.to_char() as u32,
+            Err(error) => number_of(error.kind()),
+        };
+        sum.add(word_of(*place, *len, what));
     }
+    sum.value()
 }
 
 // The replacements that `bench_c_replacements` makes, each with the pieces that it changes.

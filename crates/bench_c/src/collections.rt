@@ -1,7 +1,7 @@
 //! Works that collect the characters of a text or add them to what is there. The text crosses as in `texts`.
 ghost use Rattle.std.specs.Str.{IsUtf8};
 
-use crate::mix;
+use crate::checksum::Checksum;
 use encode_unicode::{StrExt, Utf8CharIterExt, Utf16CharIterExt};
 use std::alloc::{AllocError, Global};
 
@@ -10,36 +10,38 @@ const MARK: u8 = b'>';
 
 // The checksum of some bytes, by words of eight, or 0 where there was no memory for them.
 #[inline(always)]
-fn sum_of_bytes(made: Result<Vec<u8>, AllocError>, factor: u64) -> u64 {
+fn sum_of_bytes(made: Result<Vec<u8>, AllocError>) -> u64 {
     let Ok(bytes) = made else {
         return 0;
     };
     let (words, rest) = bytes.as_slice().as_chunks();
-    let mut sum = mix(0, bytes.len() as u64, factor);
+    let mut sum = Checksum::new();
+    sum.add(bytes.len() as u64);
     for word in words {
-        sum = mix(sum, u64::from_le_bytes(*word), factor);
+        sum.add(u64::from_le_bytes(*word));
     }
     for byte in rest {
-        sum = mix(sum, *byte as u64, factor);
+        sum.add(*byte as u64);
     }
-    sum
+    sum.value()
 }
 
 // The same of some units, by words of four.
 #[inline(always)]
-fn sum_of_units(made: Result<Vec<u16>, AllocError>, factor: u64) -> u64 {
+fn sum_of_units(made: Result<Vec<u16>, AllocError>) -> u64 {
     let Ok(units) = made else {
         return 0;
     };
     let (words, rest) = units.as_slice().as_chunks();
-    let mut sum = mix(0, units.len() as u64, factor);
+    let mut sum = Checksum::new();
+    sum.add(units.len() as u64);
     for word in words {
-        sum = mix(sum, word_of_units(*word), factor);
+        sum.add(word_of_units(*word));
     }
     for unit in rest {
-        sum = mix(sum, *unit as u64, factor);
+        sum.add(*unit as u64);
     }
-    sum
+    sum.value()
 }
 
 #[inline(always)]
@@ -50,29 +52,29 @@ fn word_of_units(units: [u16; 4]) -> u64 {
 
 /// The bytes of the characters.
 #[unsafe(no_mangle)]
-pub extern "C" fn bench_c_collect_bytes(src: &[u8], factor: u64, alloc: Global) -> u64
+pub extern "C" fn bench_c_collect_bytes(src: &[u8], alloc: Global) -> u64
     requires { IsUtf8 src.now }
 {
     let text = unsafe { str::from_utf8_unchecked(src) };
-    sum_of_bytes(text.utf8chars().collect_bytes(alloc), factor)
+    sum_of_bytes(text.utf8chars().collect_bytes(alloc))
 }
 
 /// The text of the characters.
 #[unsafe(no_mangle)]
-pub extern "C" fn bench_c_collect_string(src: &[u8], factor: u64, alloc: Global) -> u64
+pub extern "C" fn bench_c_collect_string(src: &[u8], alloc: Global) -> u64
     requires { IsUtf8 src.now }
 {
     let text = unsafe { str::from_utf8_unchecked(src) };
     let made = text.utf8chars().collect_string(alloc);
-    sum_of_bytes(made.map(|string| string.into_bytes()), factor)
+    sum_of_bytes(made.map(|string| string.into_bytes()))
 }
 
 /// The bytes of the characters behind a mark, with room for all of them.
 #[unsafe(no_mangle)]
-pub extern "C" fn bench_c_extend_bytes(src: &[u8], factor: u64, alloc: Global) -> u64
+pub extern "C" fn bench_c_extend_bytes(src: &[u8], alloc: Global) -> u64
     requires { IsUtf8 src.now }
 {
-    sum_of_bytes(extend_bytes(src, alloc), factor)
+    sum_of_bytes(extend_bytes(src, alloc))
 }
 
 #[inline(always)]
@@ -88,11 +90,11 @@ fn extend_bytes(src: &[u8], alloc: Global) -> Result<Vec<u8>, AllocError>
 
 /// The text of the characters behind a mark, with room for all of them.
 #[unsafe(no_mangle)]
-pub extern "C" fn bench_c_extend_string(src: &[u8], factor: u64, alloc: Global) -> u64
+pub extern "C" fn bench_c_extend_string(src: &[u8], alloc: Global) -> u64
     requires { IsUtf8 src.now }
 {
     let made = extend_string(src, alloc);
-    sum_of_bytes(made.map(|string| string.into_bytes()), factor)
+    sum_of_bytes(made.map(|string| string.into_bytes()))
 }
 
 #[inline(always)]
@@ -108,19 +110,19 @@ fn extend_string(src: &[u8], alloc: Global) -> Result<String, AllocError>
 
 /// The units of the characters.
 #[unsafe(no_mangle)]
-pub extern "C" fn bench_c_collect_units(src: &[u8], factor: u64, alloc: Global) -> u64
+pub extern "C" fn bench_c_collect_units(src: &[u8], alloc: Global) -> u64
     requires { IsUtf8 src.now }
 {
     let text = unsafe { str::from_utf8_unchecked(src) };
-    sum_of_units(text.utf16chars().collect_units(alloc), factor)
+    sum_of_units(text.utf16chars().collect_units(alloc))
 }
 
 /// The units of the characters behind a mark, with room for all of them.
 #[unsafe(no_mangle)]
-pub extern "C" fn bench_c_extend_units(src: &[u8], factor: u64, alloc: Global) -> u64
+pub extern "C" fn bench_c_extend_units(src: &[u8], alloc: Global) -> u64
     requires { IsUtf8 src.now }
 {
-    sum_of_units(extend_units(src, alloc), factor)
+    sum_of_units(extend_units(src, alloc))
 }
 
 #[inline(always)]
@@ -136,21 +138,21 @@ fn extend_units(src: &[u8], alloc: Global) -> Result<Vec<u16>, AllocError>
 
 /// The text of the characters, kept in UTF-16.
 #[unsafe(no_mangle)]
-pub extern "C" fn bench_c_collect_string16(src: &[u8], factor: u64, alloc: Global) -> u64
+pub extern "C" fn bench_c_collect_string16(src: &[u8], alloc: Global) -> u64
     requires { IsUtf8 src.now }
 {
     let text = unsafe { str::from_utf8_unchecked(src) };
     let made = text.utf16chars().collect_string(alloc);
-    sum_of_bytes(made.map(|string| string.into_bytes()), factor)
+    sum_of_bytes(made.map(|string| string.into_bytes()))
 }
 
 /// The text of the characters, kept in UTF-16, behind a mark, with room for all of them.
 #[unsafe(no_mangle)]
-pub extern "C" fn bench_c_extend_string16(src: &[u8], factor: u64, alloc: Global) -> u64
+pub extern "C" fn bench_c_extend_string16(src: &[u8], alloc: Global) -> u64
     requires { IsUtf8 src.now }
 {
     let made = extend_string16(src, alloc);
-    sum_of_bytes(made.map(|string| string.into_bytes()), factor)
+    sum_of_bytes(made.map(|string| string.into_bytes()))
 }
 
 #[inline(always)]

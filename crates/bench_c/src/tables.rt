@@ -1,5 +1,6 @@
 //! Replacements in a table of pieces.
-use crate::{mix, number_of, word_of};
+use crate::checksum::Checksum;
+use crate::{number_of, word_of};
 use cuts::piece_table::PieceTable;
 use encode_unicode::Steps;
 use std::alloc::Global;
@@ -7,13 +8,7 @@ use std::alloc::Global;
 /// The pieces of the table of the bytes once so many bytes are replaced one after another, by others that
 /// `seed` decides and at such places. The answer is 0 where memory was refused.
 #[unsafe(no_mangle)]
-pub extern "C" fn bench_c_replacements(
-    alloc: Global,
-    src: &[u8],
-    seed: u64,
-    count: u64,
-    factor: u64,
-) -> u64 {
+pub extern "C" fn bench_c_replacements(alloc: Global, src: &[u8], seed: u64, count: u64) -> u64 {
     let Ok(mut table) = PieceTable::new(alloc, src) else {
         return 0;
     };
@@ -35,13 +30,13 @@ pub extern "C" fn bench_c_replacements(
             return 0;
         }
     }
-    let mut sum = 0;
+    let mut sum = Checksum::new();
     for (place, answer, len) in table.pieces() {
         let what = match answer {
             Ok(c) => c.to_char() as u32,
             Err(error) => number_of(error.kind()),
         };
-        sum = mix(sum, word_of(*place, *len, what), factor);
+        sum.add(word_of(*place, *len, what));
     }
-    sum
+    sum.value()
 }
