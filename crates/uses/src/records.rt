@@ -1,7 +1,7 @@
 //! Records of UTF-16 units, each ended by a zero unit, from an iterator.
-ghost use Rattle.std.specs.Prelude.{ℕ, List, IfOk, string_bytes};
+ghost use Rattle.std.specs.Prelude.{◌≡◌, ℕ, List, false, IfOk, string_bytes};
 ghost use Rattle.std.specs.Iterator.{IsFinite};
-ghost use Rattle.encode_unicode.specs.Mergers.{unread};
+ghost use Rattle.encode_unicode.specs.Mergers.{unread, unread_count};
 ghost use Rattle.encode_unicode.specs.Sources.{IsListed};
 ghost use Rattle.uses.specs.Records.{IsRecord};
 
@@ -21,14 +21,17 @@ pub enum Ending {
     Missing,
 }
 
-/// The text of the record that the units begin with, and how it ends. Exactly the record is taken.
+/// The text of the record that the units begin with, and how it ends. Exactly the record is taken, so another
+/// call gives the next one.
 pub fn next_record<I: Iterator<Item = u16>>(
     alloc: Global,
     units: &mut Utf16CharMerger<I>,
 ) -> Result<(String, Ending), AllocError>
-    requires can { I.can_next units.old.source }
-    requires ends { IsFinite (I.remaining units.old.source) }
-    ensures { IfOk result (λ taken. (rest : I → List ℕ) → IsListed I.next_gives rest → IsRecord (unread rest units.old) (string_bytes taken.0) taken.1 (unread rest units.new)) }
+    requires can { units.old.ended ≡ false → I.can_next units.old.source }
+    requires ends { IsFinite (unread_count I.remaining units.old) }
+    ensures record { IfOk result (λ taken. (rest : I → List ℕ) → IsListed I.next_gives rest → IsRecord (unread rest units.old) (string_bytes taken.0) taken.1 (unread rest units.new)) }
+    ensures can { IfOk result (λ _. units.new.ended ≡ false → I.can_next units.new.source) }
+    ensures ends { IfOk result (λ _. IsFinite (unread_count I.remaining units.new)) }
 {
     let mut text = String::new(alloc);
     while let Some(answer) = units.next() {

@@ -1,5 +1,5 @@
 //! The character at the front of bytes that are text for the most part.
-ghost use Rattle.std.specs.Prelude.{◌≡◌, ◌≤◌, ◌<◌, length, slice_index, IfSome, IfNone, true};
+ghost use Rattle.std.specs.Prelude.{◌≡◌, ◌≤◌, ◌<◌, length, slice_index, IfSome, IfNone, None, true};
 ghost use Rattle.utf_base.specs.Code.{utf8};
 ghost use Rattle.utf_base.specs.Front.{as_scalar, BeginsWith, NoneBegins};
 ghost use Rattle.utf_base.specs.Kinds.{is_continuation};
@@ -17,6 +17,7 @@ use crate::continuation::continues;
 pub fn front_of_text(src: &[u8]) -> Option<(char, usize)>
     ensures some { IfSome result (λ x. BeginsWith utf8 src.now (as_scalar x.0) x.1) }
     ensures none { 4 ≤ length src.now → IfNone result (NoneBegins utf8 src.now) }
+    ensures few { length src.now < 4 → result ≡ None }
 {
     if src.len() < 4 {
         return None;

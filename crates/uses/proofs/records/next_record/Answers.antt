@@ -4,8 +4,8 @@ use Rattle.encode_unicode.proofs.ForCallers.{utf8_is_std}
 use Rattle.uses.proofs.RecordLemmas.{record_char, record_zero}
 use Rattle.uses.proofs.records.next_record.Goals as goal
 
-pub returns-then-eq_u16 : goal.returns-then-eq_u16
-returns-then-eq_u16 g c rest listed =
+pub returns-then-eq_u16-clause-record : goal.returns-then-eq_u16-clause-record
+returns-then-eq_u16-clause-record g c rest listed =
     record_zero _ _ _ _ _ _ (c.loop-answer.invariant.taken rest listed) c.in-Ok.is (c.if-eq_u16.ensures.0 refl) (c.in-Some.ensures.steps.takes rest listed)
 
 pub loop-answer-preserved : goal.loop-answer-preserved
