@@ -3,7 +3,7 @@ ghost use Rattle.std.specs.Prelude.{◌≡◌, ◌+◌, ◌-◌, ◌*◌, ◌<�
 ghost use Rattle.cuts.specs.Recoded.{Grows, Finishes};
 
 use crate::code_puts::{put_block, put_code, put_eight};
-use crate::form::Form;
+use crate::form::Form::{self, Utf8, Utf16Be, Utf16Le};
 use crate::shown_fronts::{front, last_front, text_front, unit_block};
 use std::alloc::Allocator;
 
@@ -113,55 +113,15 @@ pub(crate) fn recode_whole<A: Allocator>(
     ensures capacity { vec_capacity out.old ≤ vec_capacity out.new }
 {
     match (from, to) {
-        (Form::Utf8, Form::Utf8) => copy_decided(bytes, out),
-        (Form::Utf8, Form::Utf16Le) => recode_quickly::<A, 0>(
-            Form::Utf8,
-            Form::Utf16Le,
-            bytes,
-            out,
-        ),
-        (Form::Utf8, Form::Utf16Be) => recode_quickly::<A, 1>(
-            Form::Utf8,
-            Form::Utf16Be,
-            bytes,
-            out,
-        ),
-        (Form::Utf16Le, Form::Utf8) => recode_quickly::<A, 2>(
-            Form::Utf16Le,
-            Form::Utf8,
-            bytes,
-            out,
-        ),
-        (Form::Utf16Le, Form::Utf16Le) => recode_quickly::<A, 3>(
-            Form::Utf16Le,
-            Form::Utf16Le,
-            bytes,
-            out,
-        ),
-        (Form::Utf16Le, Form::Utf16Be) => recode_quickly::<A, 4>(
-            Form::Utf16Le,
-            Form::Utf16Be,
-            bytes,
-            out,
-        ),
-        (Form::Utf16Be, Form::Utf8) => recode_quickly::<A, 5>(
-            Form::Utf16Be,
-            Form::Utf8,
-            bytes,
-            out,
-        ),
-        (Form::Utf16Be, Form::Utf16Le) => recode_quickly::<A, 6>(
-            Form::Utf16Be,
-            Form::Utf16Le,
-            bytes,
-            out,
-        ),
-        (Form::Utf16Be, Form::Utf16Be) => recode_quickly::<A, 7>(
-            Form::Utf16Be,
-            Form::Utf16Be,
-            bytes,
-            out,
-        ),
+        (Utf8, Utf8) => copy_decided(bytes, out),
+        (Utf8, Utf16Le) => recode_quickly::<A, 0>(Utf8, Utf16Le, bytes, out),
+        (Utf8, Utf16Be) => recode_quickly::<A, 1>(Utf8, Utf16Be, bytes, out),
+        (Utf16Le, Utf8) => recode_quickly::<A, 2>(Utf16Le, Utf8, bytes, out),
+        (Utf16Le, Utf16Le) => recode_quickly::<A, 3>(Utf16Le, Utf16Le, bytes, out),
+        (Utf16Le, Utf16Be) => recode_quickly::<A, 4>(Utf16Le, Utf16Be, bytes, out),
+        (Utf16Be, Utf8) => recode_quickly::<A, 5>(Utf16Be, Utf8, bytes, out),
+        (Utf16Be, Utf16Le) => recode_quickly::<A, 6>(Utf16Be, Utf16Le, bytes, out),
+        (Utf16Be, Utf16Be) => recode_quickly::<A, 7>(Utf16Be, Utf16Be, bytes, out),
     }
 }
 
@@ -180,7 +140,7 @@ pub(crate) fn copy_decided<A: Allocator>(bytes: &[u8], out: &mut Vec<u8, A>) -> 
         place += copy_text(&bytes[place..], out);
         let rest = &bytes[place..];
         let stop = STRIDE.min(rest.len());
-        let done = recode_decided(Form::Utf8, Form::Utf8, rest, stop, out);
+        let done = recode_decided(Utf8, Utf8, rest, stop, out);
         place += done;
         if done < stop {
             return place;
@@ -318,8 +278,8 @@ fn recode_blocks<A: Allocator>(from: Form, to: Form, bytes: &[u8], out: &mut Vec
     ensures capacity { vec_capacity out.old ≤ vec_capacity out.new }
 {
     match from {
-        Form::Utf8 => widen_ascii(to, bytes, out),
-        Form::Utf16Le | Form::Utf16Be => recode_units(from, to, bytes, out),
+        Utf8 => widen_ascii(to, bytes, out),
+        Utf16Le | Utf16Be => recode_units(from, to, bytes, out),
     }
 }
 
