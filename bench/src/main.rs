@@ -1,4 +1,5 @@
-//! `bench times SIZE ROUNDS`: a line for each kind of work, input and side: the best time of the rounds.
+//! `bench times SIZE ROUNDS WORK..`: a line for each kind of work, input and side: the best time of the rounds. No
+//! name stands for all kinds of work.
 //! `bench table FILE..`: the table of such lines, one file for each place at which the program was linked.
 //! `bench one WORK INPUT SIDE SIZE CALLS`: just these calls, for counting instructions.
 //! `bench input INPUT SIZE`: the bytes of an input.
@@ -11,13 +12,15 @@ use std::io::Write;
 use std::process::ExitCode;
 use std::time::Instant;
 
-const USAGE: &str = "bench times SIZE ROUNDS | table FILE.. | one WORK INPUT ours|rust|std|none SIZE CALLS | input INPUT SIZE | list";
+const USAGE: &str = "bench times SIZE ROUNDS WORK.. | table FILE.. | one WORK INPUT ours|rust|std|none SIZE CALLS | input INPUT SIZE | list";
 
 fn main() -> ExitCode {
     let args: Vec<String> = std::env::args().skip(1).collect();
     let words: Vec<&str> = args.iter().map(String::as_str).collect();
     let done = match words.as_slice() {
-        ["times", size, rounds] => number(size).zip(number(rounds)).map(|(size, rounds)| times(size, rounds)),
+        ["times", size, rounds, names @ ..] => number(size)
+            .zip(number(rounds))
+            .map(|(size, rounds)| times(names, size, rounds)),
         ["table", files @ ..] => table(files),
         ["one", work, input, side, size, calls] => number(size)
             .zip(number(calls))
@@ -37,9 +40,9 @@ fn number(word: &str) -> Option<usize> {
 }
 
 // A line for each work, input and side. The status is 1 where two that should agree do not.
-fn times(size: usize, rounds: usize) -> ExitCode {
+fn times(names: &[&str], size: usize, rounds: usize) -> ExitCode {
     let mut agree = true;
-    for work in work::all() {
+    for work in work::all().filter(|work| names.is_empty() || names.contains(&work.name)) {
         for name in inputs::NAMES {
             let input = inputs::make(name, size).expect("the names are known");
             if work.takes(&input) {

@@ -6,9 +6,7 @@ pub use Rattle.utf_base.proofs.Standing.{same_char, stands_first, stands_alone, 
 pub use Rattle.utf_base.proofs.FrontLemmas.{code_where_no_fault, no_fault_where_code, no_code_where_fault}
 pub use Rattle.utf_base.proofs.DecodedLemmas.{decoded_code, decoded_bytes_code, decoded_units_code, decoded_pairs_code, decoded_pairs_kind, decoded_two_code, decoded_tuple_code}
 pub use Rattle.utf_base.proofs.MergerLemmas.{unbroken_kind, broken_kind, merger_none, merger_none_where_code}
-pub use Rattle.utf_base.proofs.DecodedLemmas.{decoded_code, decoded_bytes_code, decoded_units_code, decoded_two_code, decoded_tuple_code}
 pub use Rattle.utf_base.proofs.BackLemmas.{decoded_end_code, end_found, last_four_decide}
 pub use Rattle.utf_base.proofs.UnitEnds.{decoded_units_end_code, decoded_pairs_end_code, ends_with_unit, ends_with_pair}
-pub use Rattle.utf_base.proofs.Cuts.{front_char, front_fault, cut_none, cut_one, cut_push, cut_append}
 pub use Rattle.utf_base.proofs.UnitLemmas.{no_kind_where_units, no_units_where_kind, units_where_no_kind}
 pub use Rattle.utf_base.proofs.Cuts.{front_char, front_fault, back_char, back_fault, piece_some, cut_none, cut_one, cut_push, cut_append}

@@ -23,7 +23,7 @@ mod back_scan;
 /// length 1: the byte behind it is judged anew, so that no error hides an ASCII character.
 ///
 /// One call looks at the bytes that are left and at nothing else. Which error a byte gives is decided
-/// by `CharExt::from_utf8_slice_start` on what is left.
+/// by `CharExt::from_utf8_slice_start` on what is left; from the back by `Utf8Char::from_slice_end`.
 #[derive(Drop)]
 pub struct Utf8CharDecoder<'a> {
     slice: &'a [u8],

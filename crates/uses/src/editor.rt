@@ -13,7 +13,9 @@ use std::alloc::{AllocError, Allocator};
 /// Where the pieces begin that an edit may have changed.
 #[derive(Clone, Copy, Debug, PartialEq, Eq, Drop)]
 pub struct Changed {
+    /// The first place that may have changed.
     pub from: usize,
+    /// The place behind the last.
     pub until: usize,
 }
 
