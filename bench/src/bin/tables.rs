@@ -37,8 +37,7 @@ fn main() -> ExitCode {
         eprintln!("usage: tables SIZE ROUNDS");
         return ExitCode::from(2);
     };
-    println!("| input | replacements | table | both lists | ratio | all anew |");
-    println!("|---|---|---|---|---|---|");
+    println!("{:<11} {:>12} {:>9} {:>11} {:>12} {:>9}", "input", "replacements", "table", "both lists", "table/lists", "all anew");
     let agree: Vec<bool> = inputs::NAMES.iter().map(|name| row(name, size, rounds)).collect();
     match agree.iter().all(|agrees| *agrees) {
         true => ExitCode::SUCCESS,
@@ -59,7 +58,7 @@ fn row(name: &str, size: usize, rounds: usize) -> bool {
     let each = |time: Duration| time.as_secs_f64() * 1e6 / count as f64;
     let (table, lists) = (each(replaced.0.saturating_sub(made.0)), each(spliced.0));
     println!(
-        "| {name} | {count} | {table:.3} | {lists:.3} | {:.2} | {:.0} |",
+        "{name:<11} {count:>12} {table:>9.3} {lists:>11.3} {:>12.2} {:>9.0}",
         table / lists,
         anew.0.as_secs_f64() * 1e6
     );

@@ -40,6 +40,7 @@ fn cases_of_ascii_letters_alone_change(rt: HostRuntime) {
         ('[', '[', '['),
         ('`', '`', '`'),
         ('a', 'A', 'a'),
+        ('m', 'M', 'm'),
         ('n', 'N', 'n'),
         ('z', 'Z', 'z'),
         ('{', '{', '{'),
@@ -58,6 +59,7 @@ fn cases_of_ascii_letters_alone_change(rt: HostRuntime) {
         }
     }
     for c in characters() {
-        assert!(rt; has_cases(c, c, c), "at {c:?}");
+        let is_letter = c.is_ascii_alphabetic();
+        assert!(rt; is_letter || has_cases(c, c, c), "at {c:?}");
     }
 }

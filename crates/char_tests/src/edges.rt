@@ -3,10 +3,17 @@
 // A character, a longer text that it begins, and its codes in UTF-8 and in UTF-16.
 pub(crate) type Edge = (char, &'static str, &'static [u8], &'static [u16]);
 
-// Characters next to where the length of a code changes, and some between, in their order.
+// Characters next to where the length of a code changes, letters of both cases, and some between, in their order.
 pub(crate) fn edges() -> &'static [Edge] {
     &[
         ('\0', "\0\0?", &[0x00], &[0x0000]),
+        (';', ";;?", &[0x3b], &[0x003b]),
+        ('A', "AA?", &[0x41], &[0x0041]),
+        ('N', "NN?", &[0x4e], &[0x004e]),
+        ('Z', "ZZ?", &[0x5a], &[0x005a]),
+        ('a', "aa?", &[0x61], &[0x0061]),
+        ('m', "mm?", &[0x6d], &[0x006d]),
+        ('z', "zz?", &[0x7a], &[0x007a]),
         ('\u{7f}', "\u{7f}\u{7f}?", &[0x7f], &[0x007f]),
         ('\u{80}', "\u{80}\u{80}?", &[0xc2, 0x80], &[0x0080]),
         ('\u{111}', "\u{111}\u{111}?", &[0xc4, 0x91], &[0x0111]),
@@ -59,8 +66,8 @@ pub(crate) fn edges() -> &'static [Edge] {
 }
 
 // The characters of the table.
-pub(crate) fn characters() -> [char; 14] {
-    let mut characters = ['\0'; 14];
+pub(crate) fn characters() -> [char; 21] {
+    let mut characters = ['\0'; 21];
     for (place, (c, _, _, _)) in characters.iter_mut().zip(edges()) {
         *place = *c;
     }

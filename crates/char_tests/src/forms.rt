@@ -72,7 +72,7 @@ fn gives_utf8(edge: &Edge) -> bool {
         && char::from(kept) == c
         && Utf16Char::from(kept).as_units() == units
         && kept.to_array() == (filled(bytes, 0), bytes.len())
-        && written_utf8(c) == (filled(bytes, 45), bytes.len())
+        && written_utf8(c) == (filled(bytes, 0x45), bytes.len())
         && kept.as_bytes() == bytes
         && text.starts_with(kept.as_str())
         && kept.as_str().len() == bytes.len()
@@ -115,14 +115,14 @@ fn gives_utf16(edge: &Edge) -> bool {
         && Utf8Char::from(kept).as_bytes() == bytes
         && kept.to_array() == filled(units, 0)
         && Some(kept.to_tuple()) == as_tuple(units)
-        && written_utf16(c) == (filled(units, 45), units.len())
+        && written_utf16(c) == (filled(units, 0x45), units.len())
         && kept.as_units() == units
 }
 
 // The places that a `Utf8Char` is written to, and how many it says that it took.
 fn written_utf8(c: char) -> ([u8; 6], usize) {
     let kept = Utf8Char::new(c);
-    let mut places = [45; 6];
+    let mut places = [0x45; 6];
     if kept.len() > places.len() {
         return (places, 0);
     }
@@ -133,7 +133,7 @@ fn written_utf8(c: char) -> ([u8; 6], usize) {
 // The places that a `Utf16Char` is written to, and how many it says that it took.
 fn written_utf16(c: char) -> ([u16; 4], usize) {
     let kept = Utf16Char::new(c);
-    let mut places = [45; 4];
+    let mut places = [0x45; 4];
     if kept.len() > places.len() {
         return (places, 0);
     }
@@ -163,5 +163,5 @@ fn the_forms_follow_the_table(rt: HostRuntime) {
     assert!(rt; kept_bytes([0xc3, 0xa9, 0xff, 0x41]) == Some(([0xc3, 0xa9, 0, 0], 2)));
     assert!(rt; kept_units([0x78, 0x79]) == Some([0x78, 0]));
     let euro = written_utf8('\u{20ac}');
-    assert!(rt; euro == ([0xe2, 0x82, 0xac, 45, 45, 45], 3));
+    assert!(rt; euro == ([0xe2, 0x82, 0xac, 0x45, 0x45, 0x45], 3));
 }

@@ -80,7 +80,7 @@ fn maps_find<T: From<char> + Ord + Hash + Copy + Debug + Drop>(
         ordered.insert(T::from(c), row)?;
         hashed.insert(T::from(c), row)?;
     }
-    let mut found = (ordered.len(), hashed.len()) == (14, 14);
+    let mut found = (ordered.len(), hashed.len()) == (21, 21);
     for (row, c) in characters().into_iter().enumerate() {
         let places = (
             ordered.get(&T::from(c)).copied(),

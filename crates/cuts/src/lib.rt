@@ -18,3 +18,12 @@ mod requests;
 pub mod runs;
 mod shown_fronts;
 pub mod walks;
+
+pub use collected::{forward_utf16, merge_utf8, merge_utf16};
+pub use counted::Counted;
+pub use form::Form;
+pub use listing::{write_listing, write_merged, write_walk};
+pub use piece_table::PieceTable;
+pub use recoder::Recoder;
+pub use recoding::recode;
+pub use walks::{walk_utf8, walk_utf16};

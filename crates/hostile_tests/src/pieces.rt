@@ -27,8 +27,9 @@ pub(crate) fn character(place: usize, c: char) -> Option<Piece> {
 }
 
 // Bytes that decoders, mergers and tables are shown with elsewhere, the shorter ones first.
-pub(crate) fn damaged_bytes() -> [&'static [u8]; 19] {
+pub(crate) fn damaged_bytes() -> [&'static [u8]; 20] {
     [
+        b"",
         b"\x80",
         b"\xc0\x80",
         b"a\xc3",
@@ -52,4 +53,4 @@ pub(crate) fn damaged_bytes() -> [&'static [u8]; 19] {
 }
 
 // How many of them have at most eight bytes.
-pub(crate) const SHORT: usize = 16;
+pub(crate) const SHORT: usize = 17;

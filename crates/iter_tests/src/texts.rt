@@ -118,13 +118,13 @@ fn the_lent_text_outlives_the_iterator(rt: HostRuntime) {
 
 #[test]
 fn what_is_left_is_shown_and_cloned(rt: HostRuntime) -> Result<(), Fail> {
-    let (mut indices, chars, _, mut units) = iterators_of("abc");
+    let (mut indices, chars, places, mut units) = iterators_of("abc");
     assert!(rt; indices.next().is_some());
     assert!(rt; units.next_back().is_some());
-    let shown = format!(in rt.alloc(); "{indices:?} {chars:?} {units:?}")?;
+    let shown = format!(in rt.alloc(); "{indices:?} {chars:?} {places:?} {units:?}")?;
     assert_eq!(rt;
         shown.as_str(),
-        "Utf8CharIndices(1, \"bc\") Utf8Chars(\"abc\") Utf16Chars(\"ab\")"
+        "Utf8CharIndices(1, \"bc\") Utf8Chars(\"abc\") Utf16CharIndices(0, \"abc\") Utf16Chars(\"ab\")"
     );
     let mut copy = indices.clone()?;
     assert_eq!(rt;

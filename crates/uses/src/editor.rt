@@ -5,8 +5,8 @@ ghost use Rattle.cuts.specs.Tables.{moved_item};
 ghost use Rattle.encode_unicode.specs.Window.{Item as AnItem};
 ghost use Rattle.uses.specs.Editor.{begins_between};
 
+use cuts::PieceTable;
 use cuts::items::Item;
-use cuts::piece_table::PieceTable;
 use encode_unicode::Steps;
 use std::alloc::{AllocError, Allocator};
 

@@ -7,7 +7,7 @@ ghost use Rattle.encode_unicode.specs.Mergers.{unread, TakesFront};
 ghost use Rattle.encode_unicode.specs.Sources.{IsListed};
 ghost use Rattle.cuts.specs.Collected.{IsJoinedExactly};
 
-use cuts::collected::{merge_utf8, merge_utf16};
+use cuts::{merge_utf8, merge_utf16};
 use encode_unicode::error::{Utf8Error, Utf16PairError};
 use encode_unicode::iterator::RemainingBytes;
 use encode_unicode::{U8IterExt, U16IterExt, Utf8Char, Utf16Char};

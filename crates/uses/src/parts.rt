@@ -2,8 +2,7 @@
 ghost use Rattle.std.specs.Prelude.{◌<◌, IfOk};
 ghost use Rattle.cuts.specs.Recoded.{IsRecoded};
 
-use cuts::form::Form;
-use cuts::recoder::Recoder;
+use cuts::{Form, Recoder};
 use std::alloc::{AllocError, Allocator};
 
 /// The bytes in another form of text, recoded in parts of so many bytes, which end where they end: inside of a
