@@ -46,7 +46,7 @@ fn every_beginning_is_cut_alike(rt: HostRuntime) {
             beginnings = beginnings.saturating_add(1);
         }
     }
-    assert_eq!(rt; (beginnings, broken), (112, 4));
+    assert_eq!(rt; (beginnings, broken), (113, 4));
 }
 
 #[test]
