@@ -3,39 +3,42 @@ use Rattle.std.proofs.Common.{◌≡◌, ℕ, zero, suc, ◌+◌, ◌<◌, ◌�
 use Rattle.std.proofs.lemmas.Bool.{cases_lt}
 use Rattle.std.proofs.lemmas.Grind.{common_steps}
 use Rattle.utf_base.specs.declared.table.State.{State}
-use Rattle.utf_base.specs.declared.table.State.TheVariants.{Start, OneMore, TwoMore, ThreeMore, BehindE0, BehindEd, BehindF0, BehindF4, TwoMoreOverlong, OneMoreOverlong, OneMoreReserved, TwoMoreTooHigh, OneMoreTooHigh, Done, Unexpected, Never, Interrupted, Overlong, Reserved, TooHigh}
+use Rattle.utf_base.specs.declared.table.State.TheVariants.{Start, OneMore, TwoMore, ThreeMore, AfterE0, AfterEd, AfterF0, AfterF4, TwoMoreOverlong, OneMoreOverlong, OneMoreReserved, TwoMoreTooHigh, OneMoreTooHigh, Done, Unexpected, Never, Interrupted, Overlong, Reserved, TooHigh}
 use Rattle.utf_base.specs.declared.table.TheConstants.{CLASSES, STEPS}
 use Rattle.utf_base.specs.Table.{begun, class, is_running, next_state, row}
 
--- the values of a rule at n numbers from k on
-abbrev values : {A : Type 0} → (ℕ → A) → ℕ → ℕ → List A
-values f k zero = []
-values f k (suc n) = f k ∷ values f (suc k) n
+-- the values of a rule at n numbers from k on, and then some others
+abbrev values : {A : Type 0} → (ℕ → A) → ℕ → ℕ → List A → List A
+values f k zero others = others
+values f k (suc n) others = f k ∷ values f (suc k) n others
 
-values-at : {A : Type 0} (f : ℕ → A) (k n c j : ℕ) (d : A) → k + c ≡ j → c < n → get_or (values f k n) c d ≡ f j
-values-at f k zero c j d e lt = absurd (omega arith)
-values-at f k (suc n) zero j d e lt = let same : k ≡ j = omega arith in ap f same
-values-at f k (suc n) (suc c) j d e lt = values-at f (suc k) n c j d (omega arith) (omega arith)
+values-at : {A : Type 0} (f : ℕ → A) (k n c j : ℕ) (others : List A) (d : A) → k + c ≡ j → c < n → get_or (values f k n others) c d ≡ f j
+values-at f k zero c j others d e lt = absurd (omega arith)
+values-at f k (suc n) zero j others d e lt = let same : k ≡ j = omega arith in ap f same
+values-at f k (suc n) (suc c) j others d e lt = values-at f (suc k) n c j others d (omega arith) (omega arith)
 
 -- The whole table of classes, computed.
-classes : CLASSES ≡ values class 0 256
+classes : CLASSES ≡ values class 0 256 []
 unfolding class
 classes = refl
 
 pub class_at : (b d : ℕ) → b < 256 → get_or CLASSES b d ≡ class b
-class_at b d lt = ap (λ xs. get_or xs b d) classes ∙ values-at class 0 256 b b d (omega arith) lt
+class_at b d lt = ap (λ xs. get_or xs b d) classes ∙ values-at class 0 256 b b [] d (omega arith) lt
 
--- The whole table of steps, computed row by row.
-row_at : (state : State) → is_running state ≡ true → (d : List State) → get_or STEPS (row state) d ≡ values (next_state state) 0 12
+-- The whole table of steps, computed row by row. The last four places of a row have no class.
+abbrev unused : List State
+unused = Interrupted ∷ Interrupted ∷ Interrupted ∷ Interrupted ∷ []
+
+row_at : (state : State) → is_running state ≡ true → (d : List State) → get_or STEPS (row state) d ≡ values (next_state state) 0 12 unused
 unfolding next_state
 row_at Start r d = refl
 row_at OneMore r d = refl
 row_at TwoMore r d = refl
 row_at ThreeMore r d = refl
-row_at BehindE0 r d = refl
-row_at BehindEd r d = refl
-row_at BehindF0 r d = refl
-row_at BehindF4 r d = refl
+row_at AfterE0 r d = refl
+row_at AfterEd r d = refl
+row_at AfterF0 r d = refl
+row_at AfterF4 r d = refl
 row_at TwoMoreOverlong r d = refl
 row_at OneMoreOverlong r d = refl
 row_at OneMoreReserved r d = refl
@@ -50,20 +53,20 @@ row_at Reserved r d = cc
 row_at TooHigh r d = cc
 
 pub step_at : (state : State) → is_running state ≡ true → (c : ℕ) → c < 12 → (d : List State) (e : State) → get_or (get_or STEPS (row state) d) c e ≡ next_state state c
-step_at state running c lt d e = ap (λ xs. get_or xs c e) (row_at state running d) ∙ values-at (next_state state) 0 12 c c e (omega arith) lt
+step_at state running c lt d e = ap (λ xs. get_or xs c e) (row_at state running d) ∙ values-at (next_state state) 0 12 c c unused e (omega arith) lt
 
--- In which range a first byte lies, by the state behind it.
+-- In which range a first byte lies, by the state after it.
 abbrev pub Begins : ℕ → State → Type 0
 Begins b Done = b < 0x80
 Begins b Unexpected = (0x80 ≤ b) × (b < 0xC0)
 Begins b Never = (0xC0 ≤ b) × (b < 0xC2) ⊎ (0xF5 ≤ b)
 Begins b OneMore = (0xC2 ≤ b) × (b < 0xE0)
-Begins b BehindE0 = b ≡ 0xE0
-Begins b BehindEd = b ≡ 0xED
+Begins b AfterE0 = b ≡ 0xE0
+Begins b AfterEd = b ≡ 0xED
 Begins b TwoMore = (0xE0 < b) × (b < 0xF0) × (b ≡ 0xED → ⊥)
-Begins b BehindF0 = b ≡ 0xF0
+Begins b AfterF0 = b ≡ 0xF0
 Begins b ThreeMore = (0xF0 < b) × (b < 0xF4)
-Begins b BehindF4 = b ≡ 0xF4
+Begins b AfterF4 = b ≡ 0xF4
 Begins b _ = ⊥
 
 begins_as : (b c : ℕ) (state : State) → class b ≡ c → begun c ≡ state → Begins b state → Begins b (next_state Start (class b))
@@ -79,12 +82,12 @@ begins b =
     (λ (l2 : 0xA0 ≤ b). ⊎_elim (λ (h : b < 0xC0). begins_as b 3 Unexpected (grind (arith, common_steps)) refl (omega arith, omega arith))
     (λ (l3 : 0xC0 ≤ b). ⊎_elim (λ (h : b < 0xC2). begins_as b 4 Never (grind (arith, common_steps)) refl (inl (omega arith, omega arith)))
     (λ (l4 : 0xC2 ≤ b). ⊎_elim (λ (h : b < 0xE0). begins_as b 5 OneMore (grind (arith, common_steps)) refl (omega arith, omega arith))
-    (λ (l5 : 0xE0 ≤ b). ⊎_elim (λ (h : b < 0xE1). begins_as b 6 BehindE0 (grind (arith, common_steps)) refl (omega arith))
+    (λ (l5 : 0xE0 ≤ b). ⊎_elim (λ (h : b < 0xE1). begins_as b 6 AfterE0 (grind (arith, common_steps)) refl (omega arith))
     (λ (l6 : 0xE1 ≤ b). ⊎_elim (λ (h : b < 0xED). begins_as b 7 TwoMore (grind (arith, common_steps)) refl (omega arith, omega arith, λ e. omega arith))
-    (λ (l7 : 0xED ≤ b). ⊎_elim (λ (h : b < 0xEE). begins_as b 8 BehindEd (grind (arith, common_steps)) refl (omega arith))
+    (λ (l7 : 0xED ≤ b). ⊎_elim (λ (h : b < 0xEE). begins_as b 8 AfterEd (grind (arith, common_steps)) refl (omega arith))
     (λ (l8 : 0xEE ≤ b). ⊎_elim (λ (h : b < 0xF0). begins_as b 7 TwoMore (grind (arith, common_steps)) refl (omega arith, omega arith, λ e. omega arith))
-    (λ (l9 : 0xF0 ≤ b). ⊎_elim (λ (h : b < 0xF1). begins_as b 9 BehindF0 (grind (arith, common_steps)) refl (omega arith))
+    (λ (l9 : 0xF0 ≤ b). ⊎_elim (λ (h : b < 0xF1). begins_as b 9 AfterF0 (grind (arith, common_steps)) refl (omega arith))
     (λ (l10 : 0xF1 ≤ b). ⊎_elim (λ (h : b < 0xF4). begins_as b 10 ThreeMore (grind (arith, common_steps)) refl (omega arith, omega arith))
-    (λ (l11 : 0xF4 ≤ b). ⊎_elim (λ (h : b < 0xF5). begins_as b 11 BehindF4 (grind (arith, common_steps)) refl (omega arith))
+    (λ (l11 : 0xF4 ≤ b). ⊎_elim (λ (h : b < 0xF5). begins_as b 11 AfterF4 (grind (arith, common_steps)) refl (omega arith))
     (λ (l12 : 0xF5 ≤ b). begins_as b 4 Never (grind (arith, common_steps)) refl (inr (omega arith)))
     (cases_lt b 0xF5)) (cases_lt b 0xF4)) (cases_lt b 0xF1)) (cases_lt b 0xF0)) (cases_lt b 0xEE)) (cases_lt b 0xED)) (cases_lt b 0xE1)) (cases_lt b 0xE0)) (cases_lt b 0xC2)) (cases_lt b 0xC0)) (cases_lt b 0xA0)) (cases_lt b 0x90)) (cases_lt b 0x80)

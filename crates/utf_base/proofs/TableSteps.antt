@@ -1,10 +1,10 @@
 -- A walk over the table tells the kind of the bytes: step by step, what is known of them by the state that is reached.
-use Rattle.std.proofs.Common.{◌≡◌, ℕ, zero, suc, ◌+◌, ◌<◌, ◌≤◌, ◌⊎◌, inl, inr, ⊎_elim, List, length, get_or, arith, refl, sym, ◌∙◌, ◌==◌, if◌then◌else◌, ap, Some, None, Bool, true, false, lit<}
+use Rattle.std.proofs.Common.{◌≡◌, ℕ, zero, suc, ◌+◌, ◌<◌, ◌≤◌, ◌⊎◌, inl, inr, ⊎_elim, List, length, get_or, arith, refl, subst, sym, ◌∙◌, ◌==◌, if◌then◌else◌, ap, Some, None, Bool, true, false, lit<}
 use Rattle.std.proofs.lemmas.Grind.{common_steps}
 use Rattle.std.proofs.lemmas.Bool.{cases_lt}
 use Rattle.utf_base.specs.declared.errors.Utf8ErrorKind.TheVariants.{TooFewBytes, InterruptedSequence, OverlongEncoding, Utf16ReservedCodepoint, TooHighCodepoint}
 use Rattle.utf_base.specs.declared.table.State.{State}
-use Rattle.utf_base.specs.declared.table.State.TheVariants.{Start, OneMore, TwoMore, ThreeMore, BehindE0, BehindEd, BehindF0, BehindF4, TwoMoreOverlong, OneMoreOverlong, OneMoreReserved, TwoMoreTooHigh, OneMoreTooHigh, Done, Unexpected, Never, Interrupted, Overlong, Reserved, TooHigh}
+use Rattle.utf_base.specs.declared.table.State.TheVariants.{Start, OneMore, TwoMore, ThreeMore, AfterE0, AfterEd, AfterF0, AfterF4, TwoMoreOverlong, OneMoreOverlong, OneMoreReserved, TwoMoreTooHigh, OneMoreTooHigh, Done, Unexpected, Never, Interrupted, Overlong, Reserved, TooHigh}
 use Rattle.utf_base.specs.Scalar.{IsScalar}
 use Rattle.utf_base.specs.Kinds.{fault_kind, merger_kind, asked_by, value, least_value, is_continuation, continues_at, followers_continue, breaks_at, is_broken}
 use Rattle.utf_base.specs.Table.{class, continued, fault_of, is_later_fault, is_running, missing, next_state, state_after}
@@ -37,10 +37,10 @@ IsTooHigh w = (least_value (asked_by w) ≤ value w) × (0x11_0000 ≤ value w)
 
 -- what a running state tells of the value, or of the byte in front of it where the next one decides
 abbrev Leads : List ℕ → State → Type 0
-Leads w BehindE0 = get_or w 0 0 ≡ 0xE0
-Leads w BehindEd = get_or w 0 0 ≡ 0xED
-Leads w BehindF0 = get_or w 0 0 ≡ 0xF0
-Leads w BehindF4 = get_or w 0 0 ≡ 0xF4
+Leads w AfterE0 = get_or w 0 0 ≡ 0xE0
+Leads w AfterEd = get_or w 0 0 ≡ 0xED
+Leads w AfterF0 = get_or w 0 0 ≡ 0xF0
+Leads w AfterF4 = get_or w 0 0 ≡ 0xF4
 Leads w TwoMoreOverlong = ContinueTo w (asked_by w) → IsOverlong w
 Leads w OneMoreOverlong = ContinueTo w (asked_by w) → IsOverlong w
 Leads w OneMoreReserved = ContinueTo w (asked_by w) → IsReserved w
@@ -61,10 +61,10 @@ Reached w k Start = k ≡ 0
 Reached w k OneMore = Runs w k OneMore
 Reached w k TwoMore = Runs w k TwoMore
 Reached w k ThreeMore = Runs w k ThreeMore
-Reached w k BehindE0 = Runs w k BehindE0
-Reached w k BehindEd = Runs w k BehindEd
-Reached w k BehindF0 = Runs w k BehindF0
-Reached w k BehindF4 = Runs w k BehindF4
+Reached w k AfterE0 = Runs w k AfterE0
+Reached w k AfterEd = Runs w k AfterEd
+Reached w k AfterF0 = Runs w k AfterF0
+Reached w k AfterF4 = Runs w k AfterF4
 Reached w k TwoMoreOverlong = Runs w k TwoMoreOverlong
 Reached w k OneMoreOverlong = Runs w k OneMoreOverlong
 Reached w k OneMoreReserved = Runs w k OneMoreReserved
@@ -155,7 +155,7 @@ reserved w e h = enough_kind w e.enough ∙ kind-surrogate w _ _ e.sums h.0 h.1 
 too_high : (w : List ℕ) → Ends w → IsTooHigh w → merger_kind w ≡ Some TooHighCodepoint
 too_high w e h = enough_kind w e.enough ∙ kind-too_high w _ _ e.sums h.0 h.1
 
--- Where a byte lies, and the state behind it as a follower.
+-- Where a byte lies, and the state after it as a follower.
 
 outside : (one two three : State) (b : ℕ) → (b < 0x80) ⊎ (0xC0 ≤ b) → continued one two three (class b) ≡ Interrupted
 unfolding class
@@ -229,10 +229,10 @@ first w Start some h = absurd h
 first w OneMore some h = runs-1 w OneMore (asked-2 _ h.0 h.1) (two_are_good w h.0 h.1)
 first w TwoMore some h = runs-1 w TwoMore (asked-3 _ (omega arith) h.1) (three_are_good w h.0 h.1 h.2)
 first w ThreeMore some h = runs-1 w ThreeMore (asked-4 _ (omega arith) (omega arith)) (four_are_good w h.0 h.1)
-first w BehindE0 some h = runs-1 w BehindE0 (asked-3 _ (omega arith) (omega arith)) h
-first w BehindEd some h = runs-1 w BehindEd (asked-3 _ (omega arith) (omega arith)) h
-first w BehindF0 some h = runs-1 w BehindF0 (asked-4 _ (omega arith) (omega arith)) h
-first w BehindF4 some h = runs-1 w BehindF4 (asked-4 _ (omega arith) (omega arith)) h
+first w AfterE0 some h = runs-1 w AfterE0 (asked-3 _ (omega arith) (omega arith)) h
+first w AfterEd some h = runs-1 w AfterEd (asked-3 _ (omega arith) (omega arith)) h
+first w AfterF0 some h = runs-1 w AfterF0 (asked-4 _ (omega arith) (omega arith)) h
+first w AfterF4 some h = runs-1 w AfterF4 (asked-4 _ (omega arith) (omega arith)) h
 first w TwoMoreOverlong some h = absurd h
 first w OneMoreOverlong some h = absurd h
 first w OneMoreReserved some h = absurd h
@@ -260,7 +260,7 @@ first w TooHigh some h = absurd h
 
 -- The second byte, where it decides.
 
-e0_is_overlong : (w : List ℕ) (k : ℕ) → Runs w k BehindE0 → get_or w k 0 < 0xA0 → ContinueTo w (asked_by w) → IsOverlong w
+e0_is_overlong : (w : List ℕ) (k : ℕ) → Runs w k AfterE0 → get_or w k 0 < 0xA0 → ContinueTo w (asked_by w) → IsOverlong w
 e0_is_overlong w k r high all =
     let n : asked_by w ≡ 3 = asked-3 _ (omega (arith, r.leads)) (omega (arith, r.leads)) in
     let e : k ≡ 1 = omega (arith, r.asks) in
@@ -270,7 +270,7 @@ e0_is_overlong w k r high all =
     let least = ap least_value n ∙ least_value-3 in
     omega (arith, r.leads)
 
-e0_is_good : (w : List ℕ) (k : ℕ) → Runs w k BehindE0 → 0xA0 ≤ get_or w k 0 → ContinueTo w (asked_by w) → IsGood w
+e0_is_good : (w : List ℕ) (k : ℕ) → Runs w k AfterE0 → 0xA0 ≤ get_or w k 0 → ContinueTo w (asked_by w) → IsGood w
 e0_is_good w k r low all =
     let n : asked_by w ≡ 3 = asked-3 _ (omega (arith, r.leads)) (omega (arith, r.leads)) in
     let e : k ≡ 1 = omega (arith, r.asks) in
@@ -281,7 +281,7 @@ e0_is_good w k r low all =
     let least = ap least_value n ∙ least_value-3 in
     (omega (arith, r.leads), record { below = omega (arith, r.leads); no_surrogate = λ h. absurd (omega (arith, r.leads)) })
 
-ed_is_good : (w : List ℕ) (k : ℕ) → Runs w k BehindEd → get_or w k 0 < 0xA0 → ContinueTo w (asked_by w) → IsGood w
+ed_is_good : (w : List ℕ) (k : ℕ) → Runs w k AfterEd → get_or w k 0 < 0xA0 → ContinueTo w (asked_by w) → IsGood w
 ed_is_good w k r high all =
     let n : asked_by w ≡ 3 = asked-3 _ (omega (arith, r.leads)) (omega (arith, r.leads)) in
     let e : k ≡ 1 = omega (arith, r.asks) in
@@ -291,7 +291,7 @@ ed_is_good w k r high all =
     let least = ap least_value n ∙ least_value-3 in
     (omega (arith, r.leads), record { below = omega (arith, r.leads); no_surrogate = λ h. absurd (omega (arith, r.leads)) })
 
-ed_is_reserved : (w : List ℕ) (k : ℕ) → Runs w k BehindEd → 0xA0 ≤ get_or w k 0 → ContinueTo w (asked_by w) → IsReserved w
+ed_is_reserved : (w : List ℕ) (k : ℕ) → Runs w k AfterEd → 0xA0 ≤ get_or w k 0 → ContinueTo w (asked_by w) → IsReserved w
 ed_is_reserved w k r low all =
     let n : asked_by w ≡ 3 = asked-3 _ (omega (arith, r.leads)) (omega (arith, r.leads)) in
     let e : k ≡ 1 = omega (arith, r.asks) in
@@ -302,7 +302,7 @@ ed_is_reserved w k r low all =
     let least = ap least_value n ∙ least_value-3 in
     (omega (arith, r.leads), omega (arith, r.leads), omega (arith, r.leads))
 
-f0_is_overlong : (w : List ℕ) (k : ℕ) → Runs w k BehindF0 → get_or w k 0 < 0x90 → ContinueTo w (asked_by w) → IsOverlong w
+f0_is_overlong : (w : List ℕ) (k : ℕ) → Runs w k AfterF0 → get_or w k 0 < 0x90 → ContinueTo w (asked_by w) → IsOverlong w
 f0_is_overlong w k r high all =
     let n : asked_by w ≡ 4 = asked-4 _ (omega (arith, r.leads)) (omega (arith, r.leads)) in
     let e : k ≡ 1 = omega (arith, r.asks) in
@@ -313,7 +313,7 @@ f0_is_overlong w k r high all =
     let least = ap least_value n ∙ least_value-4 in
     omega (arith, r.leads)
 
-f0_is_good : (w : List ℕ) (k : ℕ) → Runs w k BehindF0 → 0x90 ≤ get_or w k 0 → ContinueTo w (asked_by w) → IsGood w
+f0_is_good : (w : List ℕ) (k : ℕ) → Runs w k AfterF0 → 0x90 ≤ get_or w k 0 → ContinueTo w (asked_by w) → IsGood w
 f0_is_good w k r low all =
     let n : asked_by w ≡ 4 = asked-4 _ (omega (arith, r.leads)) (omega (arith, r.leads)) in
     let e : k ≡ 1 = omega (arith, r.asks) in
@@ -325,7 +325,7 @@ f0_is_good w k r low all =
     let least = ap least_value n ∙ least_value-4 in
     (omega (arith, r.leads), record { below = omega (arith, r.leads); no_surrogate = λ h. omega (arith, r.leads) })
 
-f4_is_good : (w : List ℕ) (k : ℕ) → Runs w k BehindF4 → get_or w k 0 < 0x90 → ContinueTo w (asked_by w) → IsGood w
+f4_is_good : (w : List ℕ) (k : ℕ) → Runs w k AfterF4 → get_or w k 0 < 0x90 → ContinueTo w (asked_by w) → IsGood w
 f4_is_good w k r high all =
     let n : asked_by w ≡ 4 = asked-4 _ (omega (arith, r.leads)) (omega (arith, r.leads)) in
     let e : k ≡ 1 = omega (arith, r.asks) in
@@ -336,7 +336,7 @@ f4_is_good w k r high all =
     let least = ap least_value n ∙ least_value-4 in
     (omega (arith, r.leads), record { below = omega (arith, r.leads); no_surrogate = λ h. omega (arith, r.leads) })
 
-f4_is_too_high : (w : List ℕ) (k : ℕ) → Runs w k BehindF4 → 0x90 ≤ get_or w k 0 → ContinueTo w (asked_by w) → IsTooHigh w
+f4_is_too_high : (w : List ℕ) (k : ℕ) → Runs w k AfterF4 → 0x90 ≤ get_or w k 0 → ContinueTo w (asked_by w) → IsTooHigh w
 f4_is_too_high w k r low all =
     let n : asked_by w ≡ 4 = asked-4 _ (omega (arith, r.leads)) (omega (arith, r.leads)) in
     let e : k ≡ 1 = omega (arith, r.asks) in
@@ -356,26 +356,26 @@ next w k OneMore there r =
 next w k TwoMore there r = by_any (Reached w (suc k)) OneMore _ (interrupted w k TwoMore r (lit< tt) there) (λ c. runs_on w k TwoMore OneMore r c refl r.leads)
 next w k ThreeMore there r =
     by_any (Reached w (suc k)) TwoMore _ (interrupted w k ThreeMore r (lit< tt) there) (λ c. runs_on w k ThreeMore TwoMore r c refl r.leads)
-next w k BehindE0 there r =
-    by_follower (Reached w (suc k)) OneMoreOverlong OneMoreOverlong OneMore _ (interrupted w k BehindE0 r (lit< tt) there)
-    (λ l h. runs_on w k BehindE0 OneMoreOverlong r (omega arith, omega arith) refl (λ all. e0_is_overlong w k r (omega arith) all))
-    (λ l h. runs_on w k BehindE0 OneMoreOverlong r (omega arith, omega arith) refl (λ all. e0_is_overlong w k r h all))
-    (λ l h. runs_on w k BehindE0 OneMore r (omega arith, omega arith) refl (λ all. e0_is_good w k r l all))
-next w k BehindEd there r =
-    by_follower (Reached w (suc k)) OneMore OneMore OneMoreReserved _ (interrupted w k BehindEd r (lit< tt) there)
-    (λ l h. runs_on w k BehindEd OneMore r (omega arith, omega arith) refl (λ all. ed_is_good w k r (omega arith) all))
-    (λ l h. runs_on w k BehindEd OneMore r (omega arith, omega arith) refl (λ all. ed_is_good w k r h all))
-    (λ l h. runs_on w k BehindEd OneMoreReserved r (omega arith, omega arith) refl (λ all. ed_is_reserved w k r l all))
-next w k BehindF0 there r =
-    by_follower (Reached w (suc k)) TwoMoreOverlong TwoMore TwoMore _ (interrupted w k BehindF0 r (lit< tt) there)
-    (λ l h. runs_on w k BehindF0 TwoMoreOverlong r (omega arith, omega arith) refl (λ all. f0_is_overlong w k r h all))
-    (λ l h. runs_on w k BehindF0 TwoMore r (omega arith, omega arith) refl (λ all. f0_is_good w k r l all))
-    (λ l h. runs_on w k BehindF0 TwoMore r (omega arith, omega arith) refl (λ all. f0_is_good w k r (omega arith) all))
-next w k BehindF4 there r =
-    by_follower (Reached w (suc k)) TwoMore TwoMoreTooHigh TwoMoreTooHigh _ (interrupted w k BehindF4 r (lit< tt) there)
-    (λ l h. runs_on w k BehindF4 TwoMore r (omega arith, omega arith) refl (λ all. f4_is_good w k r h all))
-    (λ l h. runs_on w k BehindF4 TwoMoreTooHigh r (omega arith, omega arith) refl (λ all. f4_is_too_high w k r l all))
-    (λ l h. runs_on w k BehindF4 TwoMoreTooHigh r (omega arith, omega arith) refl (λ all. f4_is_too_high w k r (omega arith) all))
+next w k AfterE0 there r =
+    by_follower (Reached w (suc k)) OneMoreOverlong OneMoreOverlong OneMore _ (interrupted w k AfterE0 r (lit< tt) there)
+    (λ l h. runs_on w k AfterE0 OneMoreOverlong r (omega arith, omega arith) refl (λ all. e0_is_overlong w k r (omega arith) all))
+    (λ l h. runs_on w k AfterE0 OneMoreOverlong r (omega arith, omega arith) refl (λ all. e0_is_overlong w k r h all))
+    (λ l h. runs_on w k AfterE0 OneMore r (omega arith, omega arith) refl (λ all. e0_is_good w k r l all))
+next w k AfterEd there r =
+    by_follower (Reached w (suc k)) OneMore OneMore OneMoreReserved _ (interrupted w k AfterEd r (lit< tt) there)
+    (λ l h. runs_on w k AfterEd OneMore r (omega arith, omega arith) refl (λ all. ed_is_good w k r (omega arith) all))
+    (λ l h. runs_on w k AfterEd OneMore r (omega arith, omega arith) refl (λ all. ed_is_good w k r h all))
+    (λ l h. runs_on w k AfterEd OneMoreReserved r (omega arith, omega arith) refl (λ all. ed_is_reserved w k r l all))
+next w k AfterF0 there r =
+    by_follower (Reached w (suc k)) TwoMoreOverlong TwoMore TwoMore _ (interrupted w k AfterF0 r (lit< tt) there)
+    (λ l h. runs_on w k AfterF0 TwoMoreOverlong r (omega arith, omega arith) refl (λ all. f0_is_overlong w k r h all))
+    (λ l h. runs_on w k AfterF0 TwoMore r (omega arith, omega arith) refl (λ all. f0_is_good w k r l all))
+    (λ l h. runs_on w k AfterF0 TwoMore r (omega arith, omega arith) refl (λ all. f0_is_good w k r (omega arith) all))
+next w k AfterF4 there r =
+    by_follower (Reached w (suc k)) TwoMore TwoMoreTooHigh TwoMoreTooHigh _ (interrupted w k AfterF4 r (lit< tt) there)
+    (λ l h. runs_on w k AfterF4 TwoMore r (omega arith, omega arith) refl (λ all. f4_is_good w k r h all))
+    (λ l h. runs_on w k AfterF4 TwoMoreTooHigh r (omega arith, omega arith) refl (λ all. f4_is_too_high w k r l all))
+    (λ l h. runs_on w k AfterF4 TwoMoreTooHigh r (omega arith, omega arith) refl (λ all. f4_is_too_high w k r (omega arith) all))
 next w k TwoMoreOverlong there r =
     by_any (Reached w (suc k)) OneMoreOverlong _ (interrupted w k TwoMoreOverlong r (lit< tt) there)
     (λ c. runs_on w k TwoMoreOverlong OneMoreOverlong r c refl r.leads)
@@ -410,10 +410,10 @@ end_tells w k Start e r = cc
 end_tells w k OneMore e r = cc
 end_tells w k TwoMore e r = cc
 end_tells w k ThreeMore e r = cc
-end_tells w k BehindE0 e r = cc
-end_tells w k BehindEd e r = cc
-end_tells w k BehindF0 e r = cc
-end_tells w k BehindF4 e r = cc
+end_tells w k AfterE0 e r = cc
+end_tells w k AfterEd e r = cc
+end_tells w k AfterF0 e r = cc
+end_tells w k AfterF4 e r = cc
 end_tells w k TwoMoreOverlong e r = cc
 end_tells w k OneMoreOverlong e r = cc
 end_tells w k OneMoreReserved e r = cc
@@ -450,10 +450,10 @@ all_tell w Start r = nothing w r
 all_tell w OneMore r = too_few w _ (lit< tt) r
 all_tell w TwoMore r = too_few w _ (lit< tt) r
 all_tell w ThreeMore r = too_few w _ (lit< tt) r
-all_tell w BehindE0 r = too_few w _ (lit< tt) r
-all_tell w BehindEd r = too_few w _ (lit< tt) r
-all_tell w BehindF0 r = too_few w _ (lit< tt) r
-all_tell w BehindF4 r = too_few w _ (lit< tt) r
+all_tell w AfterE0 r = too_few w _ (lit< tt) r
+all_tell w AfterEd r = too_few w _ (lit< tt) r
+all_tell w AfterF0 r = too_few w _ (lit< tt) r
+all_tell w AfterF4 r = too_few w _ (lit< tt) r
 all_tell w TwoMoreOverlong r = too_few w _ (lit< tt) r
 all_tell w OneMoreOverlong r = too_few w _ (lit< tt) r
 all_tell w OneMoreReserved r = too_few w _ (lit< tt) r
@@ -481,10 +481,10 @@ asks_runs Start more = absurd (omega arith)
 asks_runs OneMore more = refl
 asks_runs TwoMore more = refl
 asks_runs ThreeMore more = refl
-asks_runs BehindE0 more = refl
-asks_runs BehindEd more = refl
-asks_runs BehindF0 more = refl
-asks_runs BehindF4 more = refl
+asks_runs AfterE0 more = refl
+asks_runs AfterEd more = refl
+asks_runs AfterF0 more = refl
+asks_runs AfterF4 more = refl
 asks_runs TwoMoreOverlong more = refl
 asks_runs OneMoreOverlong more = refl
 asks_runs OneMoreReserved more = refl
@@ -498,7 +498,7 @@ asks_runs Overlong more = absurd (omega arith)
 asks_runs Reserved more = absurd (omega arith)
 asks_runs TooHigh more = absurd (omega arith)
 
-pub by_continued : (P : State → Type 0) (one two three : State) (c : ℕ) → P one → P two → P three → P Interrupted → P (continued one two three c)
+by_continued : (P : State → Type 0) (one two three : State) (c : ℕ) → P one → P two → P three → P Interrupted → P (continued one two three c)
 by_continued P one two three c p q r out = choose P (c == 1) p (choose P (c == 2) q (choose P (c == 3) r out))
   where
     choose : (P : State → Type 0) (b : Bool) {x y : State} → P x → P y → P (if b then x else y)
@@ -514,10 +514,10 @@ one_less Start c more = absurd (omega arith)
 one_less OneMore c more = by_continued (IsLess OneMore) Done Done Done c (λ n. refl) (λ n. refl) (λ n. refl) (λ n. absurd (n refl))
 one_less TwoMore c more = by_continued (IsLess TwoMore) OneMore OneMore OneMore c (λ n. refl) (λ n. refl) (λ n. refl) (λ n. absurd (n refl))
 one_less ThreeMore c more = by_continued (IsLess ThreeMore) TwoMore TwoMore TwoMore c (λ n. refl) (λ n. refl) (λ n. refl) (λ n. absurd (n refl))
-one_less BehindE0 c more = by_continued (IsLess BehindE0) OneMoreOverlong OneMoreOverlong OneMore c (λ n. refl) (λ n. refl) (λ n. refl) (λ n. absurd (n refl))
-one_less BehindEd c more = by_continued (IsLess BehindEd) OneMore OneMore OneMoreReserved c (λ n. refl) (λ n. refl) (λ n. refl) (λ n. absurd (n refl))
-one_less BehindF0 c more = by_continued (IsLess BehindF0) TwoMoreOverlong TwoMore TwoMore c (λ n. refl) (λ n. refl) (λ n. refl) (λ n. absurd (n refl))
-one_less BehindF4 c more = by_continued (IsLess BehindF4) TwoMore TwoMoreTooHigh TwoMoreTooHigh c (λ n. refl) (λ n. refl) (λ n. refl) (λ n. absurd (n refl))
+one_less AfterE0 c more = by_continued (IsLess AfterE0) OneMoreOverlong OneMoreOverlong OneMore c (λ n. refl) (λ n. refl) (λ n. refl) (λ n. absurd (n refl))
+one_less AfterEd c more = by_continued (IsLess AfterEd) OneMore OneMore OneMoreReserved c (λ n. refl) (λ n. refl) (λ n. refl) (λ n. absurd (n refl))
+one_less AfterF0 c more = by_continued (IsLess AfterF0) TwoMoreOverlong TwoMore TwoMore c (λ n. refl) (λ n. refl) (λ n. refl) (λ n. absurd (n refl))
+one_less AfterF4 c more = by_continued (IsLess AfterF4) TwoMore TwoMoreTooHigh TwoMoreTooHigh c (λ n. refl) (λ n. refl) (λ n. refl) (λ n. absurd (n refl))
 one_less TwoMoreOverlong c more = by_continued (IsLess TwoMoreOverlong) OneMoreOverlong OneMoreOverlong OneMoreOverlong c (λ n. refl) (λ n. refl) (λ n. refl) (λ n. absurd (n refl))
 one_less OneMoreOverlong c more = by_continued (IsLess OneMoreOverlong) Overlong Overlong Overlong c (λ n. refl) (λ n. refl) (λ n. refl) (λ n. absurd (n refl))
 one_less OneMoreReserved c more = by_continued (IsLess OneMoreReserved) Reserved Reserved Reserved c (λ n. refl) (λ n. refl) (λ n. refl) (λ n. absurd (n refl))
@@ -531,17 +531,18 @@ one_less Overlong c more = absurd (omega arith)
 one_less Reserved c more = absurd (omega arith)
 one_less TooHigh c more = absurd (omega arith)
 
--- the last byte that a state asks for leads to a fault, but where any that continues completes a code
-pub faults_later : (state : State) (c : ℕ) → missing state ≡ 1 → (state ≡ OneMore → ⊥) → is_later_fault (next_state state c) ≡ true
+-- the last byte that a state asks for leads to a fault, where it does not complete a code
+pub faults_later : (state : State) (c : ℕ) → missing state ≡ 1 → (next_state state c ≡ Done → ⊥) → is_later_fault (next_state state c) ≡ true
 unfolding next_state
 faults_later Start c e other = absurd (omega arith)
-faults_later OneMore c e other = absurd (other refl)
+faults_later OneMore c e other =
+    by_continued (λ next. (next ≡ Done → ⊥) → is_later_fault next ≡ true) Done Done Done c (λ n. absurd (n refl)) (λ n. absurd (n refl)) (λ n. absurd (n refl)) (λ n. refl) other
 faults_later TwoMore c e other = absurd (omega arith)
 faults_later ThreeMore c e other = absurd (omega arith)
-faults_later BehindE0 c e other = absurd (omega arith)
-faults_later BehindEd c e other = absurd (omega arith)
-faults_later BehindF0 c e other = absurd (omega arith)
-faults_later BehindF4 c e other = absurd (omega arith)
+faults_later AfterE0 c e other = absurd (omega arith)
+faults_later AfterEd c e other = absurd (omega arith)
+faults_later AfterF0 c e other = absurd (omega arith)
+faults_later AfterF4 c e other = absurd (omega arith)
 faults_later TwoMoreOverlong c e other = absurd (omega arith)
 faults_later OneMoreOverlong c e other = by_continued (λ next. is_later_fault next ≡ true) Overlong Overlong Overlong c refl refl refl refl
 faults_later OneMoreReserved c e other = by_continued (λ next. is_later_fault next ≡ true) Reserved Reserved Reserved c refl refl refl refl
@@ -555,39 +556,6 @@ faults_later Overlong c e other = absurd (omega arith)
 faults_later Reserved c e other = absurd (omega arith)
 faults_later TooHigh c e other = absurd (omega arith)
 
-continues_no : (b : ℕ) → is_continuation b ≡ true → (b < 0x80) ⊎ (0xC0 ≤ b) → ⊥
-continues_no b follows (inl h) = grind (arith, common_steps)
-continues_no b follows (inr h) = grind (arith, common_steps)
-
-by_class : (state one two three : State) (b : ℕ) → is_continuation b ≡ true → missing state ≡ 1 + missing one → missing state ≡ 1 + missing two
-    → missing state ≡ 1 + missing three → missing state ≡ 1 + missing (continued one two three (class b))
-by_class state one two three b follows p q r =
-    by_follower (λ next. missing state ≡ 1 + missing next) one two three b (λ out. absurd (continues_no b follows out)) (λ l h. p) (λ l h. q) (λ l h. r)
-
--- a byte that is asked for and continues does not interrupt, so one less is missing
-pub follower_is_less : (state : State) (b : ℕ) → 0 < missing state → is_continuation b ≡ true → missing state ≡ 1 + missing (next_state state (class b))
-unfolding next_state
-follower_is_less Start b more follows = absurd (omega arith)
-follower_is_less OneMore b more follows = by_class OneMore Done Done Done b follows refl refl refl
-follower_is_less TwoMore b more follows = by_class TwoMore OneMore OneMore OneMore b follows refl refl refl
-follower_is_less ThreeMore b more follows = by_class ThreeMore TwoMore TwoMore TwoMore b follows refl refl refl
-follower_is_less BehindE0 b more follows = by_class BehindE0 OneMoreOverlong OneMoreOverlong OneMore b follows refl refl refl
-follower_is_less BehindEd b more follows = by_class BehindEd OneMore OneMore OneMoreReserved b follows refl refl refl
-follower_is_less BehindF0 b more follows = by_class BehindF0 TwoMoreOverlong TwoMore TwoMore b follows refl refl refl
-follower_is_less BehindF4 b more follows = by_class BehindF4 TwoMore TwoMoreTooHigh TwoMoreTooHigh b follows refl refl refl
-follower_is_less TwoMoreOverlong b more follows = by_class TwoMoreOverlong OneMoreOverlong OneMoreOverlong OneMoreOverlong b follows refl refl refl
-follower_is_less OneMoreOverlong b more follows = by_class OneMoreOverlong Overlong Overlong Overlong b follows refl refl refl
-follower_is_less OneMoreReserved b more follows = by_class OneMoreReserved Reserved Reserved Reserved b follows refl refl refl
-follower_is_less TwoMoreTooHigh b more follows = by_class TwoMoreTooHigh OneMoreTooHigh OneMoreTooHigh OneMoreTooHigh b follows refl refl refl
-follower_is_less OneMoreTooHigh b more follows = by_class OneMoreTooHigh TooHigh TooHigh TooHigh b follows refl refl refl
-follower_is_less Done b more follows = absurd (omega arith)
-follower_is_less Unexpected b more follows = absurd (omega arith)
-follower_is_less Never b more follows = absurd (omega arith)
-follower_is_less Interrupted b more follows = absurd (omega arith)
-follower_is_less Overlong b more follows = absurd (omega arith)
-follower_is_less Reserved b more follows = absurd (omega arith)
-follower_is_less TooHigh b more follows = absurd (omega arith)
-
 -- the last byte that a state asks for leads to an end
 pub last_ends : (state : State) (c : ℕ) → missing state ≡ 1 → is_running (next_state state c) ≡ false
 unfolding next_state
@@ -595,10 +563,10 @@ last_ends Start c e = absurd (omega arith)
 last_ends OneMore c e = by_continued (λ next. is_running next ≡ false) Done Done Done c refl refl refl refl
 last_ends TwoMore c e = absurd (omega arith)
 last_ends ThreeMore c e = absurd (omega arith)
-last_ends BehindE0 c e = absurd (omega arith)
-last_ends BehindEd c e = absurd (omega arith)
-last_ends BehindF0 c e = absurd (omega arith)
-last_ends BehindF4 c e = absurd (omega arith)
+last_ends AfterE0 c e = absurd (omega arith)
+last_ends AfterEd c e = absurd (omega arith)
+last_ends AfterF0 c e = absurd (omega arith)
+last_ends AfterF4 c e = absurd (omega arith)
 last_ends TwoMoreOverlong c e = absurd (omega arith)
 last_ends OneMoreOverlong c e = by_continued (λ next. is_running next ≡ false) Overlong Overlong Overlong c refl refl refl refl
 last_ends OneMoreReserved c e = by_continued (λ next. is_running next ≡ false) Reserved Reserved Reserved c refl refl refl refl
@@ -612,13 +580,13 @@ last_ends Overlong c e = absurd (omega arith)
 last_ends Reserved c e = absurd (omega arith)
 last_ends TooHigh c e = absurd (omega arith)
 
--- where one byte is missing and any continuation byte completes a code, that does
-pub one_more_ends : (b : ℕ) → is_continuation b ≡ true → next_state OneMore (class b) ≡ Done
+-- where one byte is missing and any continuation byte completes a code, no other fault is left
+pub one_more_breaks : (c : ℕ) → (next_state OneMore c ≡ Done → ⊥) → next_state OneMore c ≡ Interrupted
 unfolding next_state
-one_more_ends b follows =
-    by_follower (λ next. next ≡ Done) Done Done Done b (λ out. absurd (continues_no b follows out)) (λ l h. refl) (λ l h. refl) (λ l h. refl)
+one_more_breaks c =
+    by_continued (λ next. (next ≡ Done → ⊥) → next ≡ Interrupted) Done Done Done c (λ n. absurd (n refl)) (λ n. absurd (n refl)) (λ n. absurd (n refl)) (λ n. refl)
 
--- The state behind a first byte of two, three and four.
+-- The state after a first byte of two, three and four.
 
 pub first-2 : (b : ℕ) → 0xC2 ≤ b → b < 0xE0 → next_state Start (class b) ≡ OneMore
 unfolding class next_state
@@ -632,10 +600,10 @@ first-3 b low high = by_begins (next_state Start (class b)) low high (begins b)
     by_begins OneMore low high h = absurd (omega arith)
     by_begins TwoMore low high h = refl
     by_begins ThreeMore low high h = absurd (omega arith)
-    by_begins BehindE0 low high h = refl
-    by_begins BehindEd low high h = refl
-    by_begins BehindF0 low high h = absurd (omega arith)
-    by_begins BehindF4 low high h = absurd (omega arith)
+    by_begins AfterE0 low high h = refl
+    by_begins AfterEd low high h = refl
+    by_begins AfterF0 low high h = absurd (omega arith)
+    by_begins AfterF4 low high h = absurd (omega arith)
     by_begins TwoMoreOverlong low high h = absurd h
     by_begins OneMoreOverlong low high h = absurd h
     by_begins OneMoreReserved low high h = absurd h
@@ -658,10 +626,10 @@ first-4 b low high = by_begins (next_state Start (class b)) low high (begins b)
     by_begins OneMore low high h = absurd (omega arith)
     by_begins TwoMore low high h = absurd (omega arith)
     by_begins ThreeMore low high h = refl
-    by_begins BehindE0 low high h = absurd (omega arith)
-    by_begins BehindEd low high h = absurd (omega arith)
-    by_begins BehindF0 low high h = refl
-    by_begins BehindF4 low high h = refl
+    by_begins AfterE0 low high h = absurd (omega arith)
+    by_begins AfterEd low high h = absurd (omega arith)
+    by_begins AfterF0 low high h = refl
+    by_begins AfterF4 low high h = refl
     by_begins TwoMoreOverlong low high h = absurd h
     by_begins OneMoreOverlong low high h = absurd h
     by_begins OneMoreReserved low high h = absurd h
@@ -676,10 +644,28 @@ first-4 b low high = by_begins (next_state Start (class b)) low high (begins b)
     by_begins Reserved low high h = absurd h
     by_begins TooHigh low high h = absurd h
 
--- behind any of them the state is running
-pub first_runs : (a : ℕ) → 0xC2 ≤ a → a < 0xF5 → is_running (next_state Start (class a)) ≡ true
-first_runs a low high =
-    ⊎_elim (λ (h : a < 0xE0). ap is_running (first-2 a low h))
-    (λ (l : 0xE0 ≤ a). ⊎_elim (λ (h : a < 0xF0). let two = first-3 a l h in asks_runs _ (omega arith))
-    (λ (m : 0xF0 ≤ a). let three = first-4 a m high in asks_runs _ (omega arith))
-    (cases_lt a 0xF0)) (cases_lt a 0xE0)
+-- the other way round: a first byte that leads to none of the three ends asks for others
+pub asks_for_others : (b : ℕ) (state : State) → state ≡ next_state Start (class b) → (state ≡ Done → ⊥) → (state ≡ Unexpected → ⊥) → (state ≡ Never → ⊥) → (0xC2 ≤ b) × (b < 0xF5)
+asks_for_others b state e d u n = by_begins state (subst (λ (s : State). Begins b s) (sym e) (begins b)) d u n
+  where
+    by_begins : {b : ℕ} (state : State) → Begins b state → (state ≡ Done → ⊥) → (state ≡ Unexpected → ⊥) → (state ≡ Never → ⊥) → (0xC2 ≤ b) × (b < 0xF5)
+    by_begins Start h d u n = absurd h
+    by_begins OneMore h d u n = (omega arith, omega arith)
+    by_begins TwoMore h d u n = (omega arith, omega arith)
+    by_begins ThreeMore h d u n = (omega arith, omega arith)
+    by_begins AfterE0 h d u n = (omega arith, omega arith)
+    by_begins AfterEd h d u n = (omega arith, omega arith)
+    by_begins AfterF0 h d u n = (omega arith, omega arith)
+    by_begins AfterF4 h d u n = (omega arith, omega arith)
+    by_begins TwoMoreOverlong h d u n = absurd h
+    by_begins OneMoreOverlong h d u n = absurd h
+    by_begins OneMoreReserved h d u n = absurd h
+    by_begins TwoMoreTooHigh h d u n = absurd h
+    by_begins OneMoreTooHigh h d u n = absurd h
+    by_begins Done h d u n = absurd (d refl)
+    by_begins Unexpected h d u n = absurd (u refl)
+    by_begins Never h d u n = absurd (n refl)
+    by_begins Interrupted h d u n = absurd h
+    by_begins Overlong h d u n = absurd h
+    by_begins Reserved h d u n = absurd h
+    by_begins TooHigh h d u n = absurd h

@@ -4,7 +4,7 @@ use Rattle.utf_base.specs.declared.errors.Utf8ErrorKind.{Utf8ErrorKind}
 use Rattle.utf_base.specs.declared.errors.Utf8ErrorKind.TheVariants.{TooFewBytes, NonUtf8Byte, UnexpectedContinuationByte, InterruptedSequence, OverlongEncoding, Utf16ReservedCodepoint, TooHighCodepoint}
 use Rattle.utf_base.specs.Kinds.{merger_kind}
 use Rattle.utf_base.specs.declared.table.State.{State}
-use Rattle.utf_base.specs.declared.table.State.TheVariants.{Start, OneMore, TwoMore, ThreeMore, BehindE0, BehindEd, BehindF0, BehindF4, TwoMoreOverlong, OneMoreOverlong, OneMoreReserved, TwoMoreTooHigh, OneMoreTooHigh, Done, Unexpected, Never, Interrupted, Overlong, Reserved, TooHigh}
+use Rattle.utf_base.specs.declared.table.State.TheVariants.{Start, OneMore, TwoMore, ThreeMore, AfterE0, AfterEd, AfterF0, AfterF4, TwoMoreOverlong, OneMoreOverlong, OneMoreReserved, TwoMoreTooHigh, OneMoreTooHigh, Done, Unexpected, Never, Interrupted, Overlong, Reserved, TooHigh}
 
 -- the class of a byte
 unfoldable pub class : ℕ → ℕ
@@ -29,10 +29,10 @@ row Start = 0
 row OneMore = 1
 row TwoMore = 2
 row ThreeMore = 3
-row BehindE0 = 4
-row BehindEd = 5
-row BehindF0 = 6
-row BehindF4 = 7
+row AfterE0 = 4
+row AfterEd = 5
+row AfterF0 = 6
+row AfterF4 = 7
 row TwoMoreOverlong = 8
 row OneMoreOverlong = 9
 row OneMoreReserved = 10
@@ -50,34 +50,34 @@ row TooHigh = 19
 abbrev pub is_running : State → Bool
 is_running state = nat_lt (row state) 13
 
--- the state behind a first byte
+-- the state after a first byte
 abbrev pub begun : ℕ → State
 begun c =
     if c == 0 then Done
     else if nat_lt c 4 then Unexpected
     else if c == 4 then Never
     else if c == 5 then OneMore
-    else if c == 6 then BehindE0
+    else if c == 6 then AfterE0
     else if c == 7 then TwoMore
-    else if c == 8 then BehindEd
-    else if c == 9 then BehindF0
+    else if c == 8 then AfterEd
+    else if c == 9 then AfterF0
     else if c == 10 then ThreeMore
-    else BehindF4
+    else AfterF4
 
--- the state behind one more byte: those behind the three classes of continuation bytes are given
+-- the state after one more byte: those after the three classes of continuation bytes are given
 abbrev pub continued : State → State → State → ℕ → State
 continued one two three c = if c == 1 then one else if c == 2 then two else if c == 3 then three else Interrupted
 
--- the state behind a byte of the class; an end has none
+-- the state after a byte of the class; an end has none
 unfoldable pub next_state : State → ℕ → State
 next_state Start c = begun c
 next_state OneMore c = continued Done Done Done c
 next_state TwoMore c = continued OneMore OneMore OneMore c
 next_state ThreeMore c = continued TwoMore TwoMore TwoMore c
-next_state BehindE0 c = continued OneMoreOverlong OneMoreOverlong OneMore c
-next_state BehindEd c = continued OneMore OneMore OneMoreReserved c
-next_state BehindF0 c = continued TwoMoreOverlong TwoMore TwoMore c
-next_state BehindF4 c = continued TwoMore TwoMoreTooHigh TwoMoreTooHigh c
+next_state AfterE0 c = continued OneMoreOverlong OneMoreOverlong OneMore c
+next_state AfterEd c = continued OneMore OneMore OneMoreReserved c
+next_state AfterF0 c = continued TwoMoreOverlong TwoMore TwoMore c
+next_state AfterF4 c = continued TwoMore TwoMoreTooHigh TwoMoreTooHigh c
 next_state TwoMoreOverlong c = continued OneMoreOverlong OneMoreOverlong OneMoreOverlong c
 next_state OneMoreOverlong c = continued Overlong Overlong Overlong c
 next_state OneMoreReserved c = continued Reserved Reserved Reserved c
@@ -85,7 +85,7 @@ next_state TwoMoreTooHigh c = continued OneMoreTooHigh OneMoreTooHigh OneMoreToo
 next_state OneMoreTooHigh c = continued TooHigh TooHigh TooHigh c
 next_state ended c = ended
 
--- the state behind the first k bytes
+-- the state after the first k bytes
 abbrev pub state_after : List ℕ → ℕ → State
 state_after w zero = Start
 state_after w (suc k) = next_state (state_after w k) (class (slice_index w k))
@@ -95,10 +95,10 @@ abbrev pub missing : State → ℕ
 missing OneMore = 1
 missing TwoMore = 2
 missing ThreeMore = 3
-missing BehindE0 = 2
-missing BehindEd = 2
-missing BehindF0 = 3
-missing BehindF4 = 3
+missing AfterE0 = 2
+missing AfterEd = 2
+missing AfterF0 = 3
+missing AfterF4 = 3
 missing TwoMoreOverlong = 2
 missing OneMoreOverlong = 1
 missing OneMoreReserved = 1
@@ -117,7 +117,7 @@ fault_of Reserved = Some Utf16ReservedCodepoint
 fault_of TooHigh = Some TooHighCodepoint
 fault_of running = Some TooFewBytes
 
--- an end behind a first byte that asks for others, and not that of a code
+-- an end after a first byte that asks for others, and not that of a code
 abbrev pub is_later_fault : State → Bool
 is_later_fault Interrupted = true
 is_later_fault Overlong = true
@@ -125,6 +125,6 @@ is_later_fault Reserved = true
 is_later_fault TooHigh = true
 is_later_fault state = false
 
--- the state behind all of some bytes tells the merger's kind of them
+-- the state after all of some bytes tells the merger's kind of them
 abbrev pub WalkTellsTheKind : Type 0
 WalkTellsTheKind = (w : List ℕ) → merger_kind w ≡ fault_of (state_after w (length w))

@@ -7,8 +7,6 @@ use std::fmt;
 use std::marker::Model;
 
 mod scalars;
-#[cfg(test)]
-mod tests;
 mod units;
 
 pub use scalars::{CodepointError, EmptyStrError, FromStrError, NonAsciiError, NonBmpError};

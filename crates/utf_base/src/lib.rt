@@ -4,5 +4,4 @@
 pub mod errors;
 pub mod laws;
 pub mod table;
-pub mod tally;
 pub mod traits;

@@ -1,12 +1,10 @@
 //! The table of byte classes and states by which bytes in UTF-8 are judged one by one (RFC 3629, section 4).
-ghost use Rattle.std.specs.Prelude.{◌≡◌, ◌<◌, ◌≤◌, [], ◌∷◌, true, Some};
-ghost use Rattle.utf_base.specs.Table.{class, fault_of, is_later_fault, is_running, next_state, row, state_after, WalkTellsTheKind};
+ghost use Rattle.std.specs.Prelude.{◌≡◌, ◌<◌, true};
+ghost use Rattle.utf_base.specs.Table.{class, is_running, next_state, row};
 
-use crate::errors::{Utf8Error, Utf8ErrorKind};
 use State::*;
 
-#[cfg(test)]
-mod tests;
+pub mod walks;
 
 /// What is known of a code of which some bytes were read: a state is running while it asks for more, and else
 /// an end.
@@ -20,14 +18,14 @@ pub enum State {
     TwoMore,
     /// Three are missing, and any three complete it.
     ThreeMore,
-    /// Behind 0xe0: two are missing, and the value is overlong where the first of them is below 0xa0.
-    BehindE0,
-    /// Behind 0xed: two are missing, and the value is a surrogate where the first of them is from 0xa0 on.
-    BehindEd,
-    /// Behind 0xf0: three are missing, and the value is overlong where the first of them is below 0x90.
-    BehindF0,
-    /// Behind 0xf4: three are missing, and the value is too high where the first of them is from 0x90 on.
-    BehindF4,
+    /// After 0xe0: two are missing, and the value is overlong where the first of them is below 0xa0.
+    AfterE0,
+    /// After 0xed: two are missing, and the value is a surrogate where the first of them is from 0xa0 on.
+    AfterEd,
+    /// After 0xf0: three are missing, and the value is overlong where the first of them is below 0x90.
+    AfterF0,
+    /// After 0xf4: three are missing, and the value is too high where the first of them is from 0x90 on.
+    AfterF4,
     /// Two are missing, and the value is overlong whatever they are.
     TwoMoreOverlong,
     /// One is missing, and the value is overlong whatever it is.
@@ -75,22 +73,23 @@ static CLASSES: [u8; 256] = [
     9, 10, 10, 10, 11, 4, 4, 4, 4, 4, 4, 4, 4, 4, 4, 4,
 ];
 
-// The state behind a byte of each class, twelve classes for each running state.
+// The state after a byte of each class, a row for each running state. The last four places of a row have no class:
+// they are there so that its address is a shift.
 #[rattlefmt::skip]
-static STEPS: [[State; 12]; 13] = [
-    [Done, Unexpected, Unexpected, Unexpected, Never, OneMore, BehindE0, TwoMore, BehindEd, BehindF0, ThreeMore, BehindF4],
-    [Interrupted, Done, Done, Done, Interrupted, Interrupted, Interrupted, Interrupted, Interrupted, Interrupted, Interrupted, Interrupted],
-    [Interrupted, OneMore, OneMore, OneMore, Interrupted, Interrupted, Interrupted, Interrupted, Interrupted, Interrupted, Interrupted, Interrupted],
-    [Interrupted, TwoMore, TwoMore, TwoMore, Interrupted, Interrupted, Interrupted, Interrupted, Interrupted, Interrupted, Interrupted, Interrupted],
-    [Interrupted, OneMoreOverlong, OneMoreOverlong, OneMore, Interrupted, Interrupted, Interrupted, Interrupted, Interrupted, Interrupted, Interrupted, Interrupted],
-    [Interrupted, OneMore, OneMore, OneMoreReserved, Interrupted, Interrupted, Interrupted, Interrupted, Interrupted, Interrupted, Interrupted, Interrupted],
-    [Interrupted, TwoMoreOverlong, TwoMore, TwoMore, Interrupted, Interrupted, Interrupted, Interrupted, Interrupted, Interrupted, Interrupted, Interrupted],
-    [Interrupted, TwoMore, TwoMoreTooHigh, TwoMoreTooHigh, Interrupted, Interrupted, Interrupted, Interrupted, Interrupted, Interrupted, Interrupted, Interrupted],
-    [Interrupted, OneMoreOverlong, OneMoreOverlong, OneMoreOverlong, Interrupted, Interrupted, Interrupted, Interrupted, Interrupted, Interrupted, Interrupted, Interrupted],
-    [Interrupted, Overlong, Overlong, Overlong, Interrupted, Interrupted, Interrupted, Interrupted, Interrupted, Interrupted, Interrupted, Interrupted],
-    [Interrupted, Reserved, Reserved, Reserved, Interrupted, Interrupted, Interrupted, Interrupted, Interrupted, Interrupted, Interrupted, Interrupted],
-    [Interrupted, OneMoreTooHigh, OneMoreTooHigh, OneMoreTooHigh, Interrupted, Interrupted, Interrupted, Interrupted, Interrupted, Interrupted, Interrupted, Interrupted],
-    [Interrupted, TooHigh, TooHigh, TooHigh, Interrupted, Interrupted, Interrupted, Interrupted, Interrupted, Interrupted, Interrupted, Interrupted],
+static STEPS: [[State; 16]; 13] = [
+    [Done, Unexpected, Unexpected, Unexpected, Never, OneMore, AfterE0, TwoMore, AfterEd, AfterF0, ThreeMore, AfterF4, Interrupted, Interrupted, Interrupted, Interrupted],
+    [Interrupted, Done, Done, Done, Interrupted, Interrupted, Interrupted, Interrupted, Interrupted, Interrupted, Interrupted, Interrupted, Interrupted, Interrupted, Interrupted, Interrupted],
+    [Interrupted, OneMore, OneMore, OneMore, Interrupted, Interrupted, Interrupted, Interrupted, Interrupted, Interrupted, Interrupted, Interrupted, Interrupted, Interrupted, Interrupted, Interrupted],
+    [Interrupted, TwoMore, TwoMore, TwoMore, Interrupted, Interrupted, Interrupted, Interrupted, Interrupted, Interrupted, Interrupted, Interrupted, Interrupted, Interrupted, Interrupted, Interrupted],
+    [Interrupted, OneMoreOverlong, OneMoreOverlong, OneMore, Interrupted, Interrupted, Interrupted, Interrupted, Interrupted, Interrupted, Interrupted, Interrupted, Interrupted, Interrupted, Interrupted, Interrupted],
+    [Interrupted, OneMore, OneMore, OneMoreReserved, Interrupted, Interrupted, Interrupted, Interrupted, Interrupted, Interrupted, Interrupted, Interrupted, Interrupted, Interrupted, Interrupted, Interrupted],
+    [Interrupted, TwoMoreOverlong, TwoMore, TwoMore, Interrupted, Interrupted, Interrupted, Interrupted, Interrupted, Interrupted, Interrupted, Interrupted, Interrupted, Interrupted, Interrupted, Interrupted],
+    [Interrupted, TwoMore, TwoMoreTooHigh, TwoMoreTooHigh, Interrupted, Interrupted, Interrupted, Interrupted, Interrupted, Interrupted, Interrupted, Interrupted, Interrupted, Interrupted, Interrupted, Interrupted],
+    [Interrupted, OneMoreOverlong, OneMoreOverlong, OneMoreOverlong, Interrupted, Interrupted, Interrupted, Interrupted, Interrupted, Interrupted, Interrupted, Interrupted, Interrupted, Interrupted, Interrupted, Interrupted],
+    [Interrupted, Overlong, Overlong, Overlong, Interrupted, Interrupted, Interrupted, Interrupted, Interrupted, Interrupted, Interrupted, Interrupted, Interrupted, Interrupted, Interrupted, Interrupted],
+    [Interrupted, Reserved, Reserved, Reserved, Interrupted, Interrupted, Interrupted, Interrupted, Interrupted, Interrupted, Interrupted, Interrupted, Interrupted, Interrupted, Interrupted, Interrupted],
+    [Interrupted, OneMoreTooHigh, OneMoreTooHigh, OneMoreTooHigh, Interrupted, Interrupted, Interrupted, Interrupted, Interrupted, Interrupted, Interrupted, Interrupted, Interrupted, Interrupted, Interrupted, Interrupted],
+    [Interrupted, TooHigh, TooHigh, TooHigh, Interrupted, Interrupted, Interrupted, Interrupted, Interrupted, Interrupted, Interrupted, Interrupted, Interrupted, Interrupted, Interrupted, Interrupted],
 ];
 
 /// The class of a byte: bytes of one class lead from each state to the same one.
@@ -102,7 +101,7 @@ pub fn class_of(b: u8) -> u8
     CLASSES[b as usize]
 }
 
-/// The state behind one more byte, of which the class is given.
+/// The state after one more byte, of which the class is given.
 #[inline(always)]
 pub fn step(state: State, c: u8) -> State
     requires running { is_running state ≡ true }
@@ -110,36 +109,6 @@ pub fn step(state: State, c: u8) -> State
     ensures { result ≡ next_state state c }
 {
     STEPS[row_of(state) as usize][c as usize]
-}
-
-/// The state behind two bytes, the first of which begins a code of more than one.
-#[inline(always)]
-pub fn behind_two(first: u8, second: u8) -> State
-    requires low { 0xC2 ≤ first }
-    requires high { first < 0xF5 }
-    ensures { result ≡ state_after (first ∷ second ∷ []) 2 }
-{
-    step(step(State::Start, class_of(first)), class_of(second))
-}
-
-/// The law of the table: the state behind some bytes tells what is wrong with them, as a merger says it that
-/// steps with each byte. So the end `Done` is that of a code, and a running state is that of too few bytes.
-pub fn walk_tells_the_kind()
-    ensures { WalkTellsTheKind }
-{}
-
-/// What is wrong with bytes, of which the first asked for others, that led to another end than that of a code.
-#[inline(always)]
-pub fn error_behind(end: State) -> Utf8Error
-    requires { is_later_fault end ≡ true }
-    ensures { fault_of end ≡ Some result }
-{
-    Utf8Error::new(match end {
-        Interrupted => Utf8ErrorKind::InterruptedSequence,
-        Overlong => Utf8ErrorKind::OverlongEncoding,
-        Reserved => Utf8ErrorKind::Utf16ReservedCodepoint,
-        _ => Utf8ErrorKind::TooHighCodepoint,
-    })
 }
 
 // The row of a running state in the table of steps.

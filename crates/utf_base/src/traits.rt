@@ -7,9 +7,6 @@ ghost use Rattle.utf_base.specs.Units.{is_leading_surrogate, NeedsExtraUnit};
 use crate::errors::{Utf8Error, Utf8ErrorKind, Utf16FirstUnitError};
 use crate::table::{State, class_of, step};
 
-#[cfg(test)]
-mod tests;
-
 /// Methods of a byte as the first of a code in UTF-8.
 pub trait U8UtfExt: Sized {
     // The byte as a number.
@@ -42,8 +39,8 @@ impl U8UtfExt for u8 {
         match step(State::Start, class_of(self)) {
             State::Done => Ok(0),
             State::OneMore => Ok(1),
-            State::TwoMore | State::BehindE0 | State::BehindEd => Ok(2),
-            State::ThreeMore | State::BehindF0 | State::BehindF4 => Ok(3),
+            State::TwoMore | State::AfterE0 | State::AfterEd => Ok(2),
+            State::ThreeMore | State::AfterF0 | State::AfterF4 => Ok(3),
             State::Unexpected => Err(Utf8Error::new(Utf8ErrorKind::UnexpectedContinuationByte)),
             _ => Err(Utf8Error::new(Utf8ErrorKind::NonUtf8Byte)),
         }

@@ -3,7 +3,7 @@ use Rattle.std.proofs.lemmas.Grind.{common_steps}
 use Rattle.std.specs.Int.{w8, leading_ones}
 use Rattle.std.specs.Int.Count.{leading_unique}
 use Rattle.utf_base.specs.declared.table.State.{State}
-use Rattle.utf_base.specs.declared.table.State.TheVariants.{Start, OneMore, TwoMore, ThreeMore, BehindE0, BehindEd, BehindF0, BehindF4, TwoMoreOverlong, OneMoreOverlong, OneMoreReserved, TwoMoreTooHigh, OneMoreTooHigh, Done, Unexpected, Never, Interrupted, Overlong, Reserved, TooHigh}
+use Rattle.utf_base.specs.declared.table.State.TheVariants.{Start, OneMore, TwoMore, ThreeMore, AfterE0, AfterEd, AfterF0, AfterF4, TwoMoreOverlong, OneMoreOverlong, OneMoreReserved, TwoMoreTooHigh, OneMoreTooHigh, Done, Unexpected, Never, Interrupted, Overlong, Reserved, TooHigh}
 use Rattle.utf_base.specs.Kinds.{asked, is_continuation}
 use Rattle.utf_base.specs.Table.{class, next_state}
 use Rattle.utf_base.proofs.FrontLemmas.{asked-0, asked-1, asked-2, asked-3, asked-4}
@@ -19,15 +19,15 @@ found : (b c : ℕ) (r state : State) → c ≡ class b → r ≡ next_state Sta
 found b c r state e f g = let h = begins b in let same : next_state Start (class b) ≡ state = cc in rw same at h
 
 -- the states that three bytes and four have in common with their range
-found-3 : (b c : ℕ) (r : State) → c ≡ class b → r ≡ next_state Start c → (r ≡ TwoMore) ⊎ ((r ≡ BehindE0) ⊎ (r ≡ BehindEd)) → (0xE0 ≤ b) × (b < 0xF0)
+found-3 : (b c : ℕ) (r : State) → c ≡ class b → r ≡ next_state Start c → (r ≡ TwoMore) ⊎ ((r ≡ AfterE0) ⊎ (r ≡ AfterEd)) → (0xE0 ≤ b) × (b < 0xF0)
 found-3 b c r e f (inl g) = let h = found b c r TwoMore e f g in (omega arith, omega arith)
-found-3 b c r e f (inr (inl g)) = let h = found b c r BehindE0 e f g in (omega arith, omega arith)
-found-3 b c r e f (inr (inr g)) = let h = found b c r BehindEd e f g in (omega arith, omega arith)
+found-3 b c r e f (inr (inl g)) = let h = found b c r AfterE0 e f g in (omega arith, omega arith)
+found-3 b c r e f (inr (inr g)) = let h = found b c r AfterEd e f g in (omega arith, omega arith)
 
-found-4 : (b c : ℕ) (r : State) → c ≡ class b → r ≡ next_state Start c → (r ≡ ThreeMore) ⊎ ((r ≡ BehindF0) ⊎ (r ≡ BehindF4)) → (0xF0 ≤ b) × (b < 0xF5)
+found-4 : (b c : ℕ) (r : State) → c ≡ class b → r ≡ next_state Start c → (r ≡ ThreeMore) ⊎ ((r ≡ AfterF0) ⊎ (r ≡ AfterF4)) → (0xF0 ≤ b) × (b < 0xF5)
 found-4 b c r e f (inl g) = let h = found b c r ThreeMore e f g in (omega arith, omega arith)
-found-4 b c r e f (inr (inl g)) = let h = found b c r BehindF0 e f g in (omega arith, omega arith)
-found-4 b c r e f (inr (inr g)) = let h = found b c r BehindF4 e f g in (omega arith, omega arith)
+found-4 b c r e f (inr (inl g)) = let h = found b c r AfterF0 e f g in (omega arith, omega arith)
+found-4 b c r e f (inr (inr g)) = let h = found b c r AfterF4 e f g in (omega arith, omega arith)
 
 pub returns-in-Done-clause-asks : goal.returns-in-Done-clause-asks
 returns-in-Done-clause-asks c = let h = found _ _ _ Done c.class_of.ensures.class c.step.ensures c.in-Done.is in asked-1 _ h
@@ -68,14 +68,14 @@ returns-in-Unexpected-clause-asks c =
     (asked-0 _ (inl (omega arith, omega arith)), rw (c.new.ensures, first) refl)
 
 -- what is left is a byte that no code has
-never : (b : ℕ) (r : State) → Begins b r → (r ≡ OneMore → ⊥) → (r ≡ TwoMore → ⊥) → (r ≡ ThreeMore → ⊥) → (r ≡ BehindE0 → ⊥) → (r ≡ BehindEd → ⊥) → (r ≡ BehindF0 → ⊥) → (r ≡ BehindF4 → ⊥) → (r ≡ Done → ⊥) → (r ≡ Unexpected → ⊥) → (0xC0 ≤ b) × (b < 0xC2) ⊎ (0xF5 ≤ b)
+never : (b : ℕ) (r : State) → Begins b r → (r ≡ OneMore → ⊥) → (r ≡ TwoMore → ⊥) → (r ≡ ThreeMore → ⊥) → (r ≡ AfterE0 → ⊥) → (r ≡ AfterEd → ⊥) → (r ≡ AfterF0 → ⊥) → (r ≡ AfterF4 → ⊥) → (r ≡ Done → ⊥) → (r ≡ Unexpected → ⊥) → (0xC0 ≤ b) × (b < 0xC2) ⊎ (0xF5 ≤ b)
 never b OneMore h n _ _ _ _ _ _ _ _ = absurd (n refl)
 never b TwoMore h _ n _ _ _ _ _ _ _ = absurd (n refl)
 never b ThreeMore h _ _ n _ _ _ _ _ _ = absurd (n refl)
-never b BehindE0 h _ _ _ n _ _ _ _ _ = absurd (n refl)
-never b BehindEd h _ _ _ _ n _ _ _ _ = absurd (n refl)
-never b BehindF0 h _ _ _ _ _ n _ _ _ = absurd (n refl)
-never b BehindF4 h _ _ _ _ _ _ n _ _ = absurd (n refl)
+never b AfterE0 h _ _ _ n _ _ _ _ _ = absurd (n refl)
+never b AfterEd h _ _ _ _ n _ _ _ _ = absurd (n refl)
+never b AfterF0 h _ _ _ _ _ n _ _ _ = absurd (n refl)
+never b AfterF4 h _ _ _ _ _ _ n _ _ = absurd (n refl)
 never b Done h _ _ _ _ _ _ _ n _ = absurd (n refl)
 never b Unexpected h _ _ _ _ _ _ _ _ n = absurd (n refl)
 never b Never h _ _ _ _ _ _ _ _ _ = h
@@ -97,6 +97,6 @@ outside b (inr h) = (grind (arith, common_steps), asked-0 b (inr h))
 pub returns-in_default : goal.returns-in_default
 returns-in_default c =
     let n = c.in_default in
-    let range = never c.args.self c.step.result (found _ _ _ c.step.result c.class_of.ensures.class c.step.ensures refl) n.not-OneMore n.not-TwoMore n.not-ThreeMore n.not-BehindE0 n.not-BehindEd n.not-BehindF0 n.not-BehindF4 n.not-Done n.not-Unexpected in
+    let range = never c.args.self c.step.result (found _ _ _ c.step.result c.class_of.ensures.class c.step.ensures refl) n.not-OneMore n.not-TwoMore n.not-ThreeMore n.not-AfterE0 n.not-AfterEd n.not-AfterF0 n.not-AfterF4 n.not-Done n.not-Unexpected in
     let byte = outside c.args.self range in
     record { asks = (byte.1, rw (c.new-in_default.ensures, byte.0) refl); most = tt; unchecked = tt }
