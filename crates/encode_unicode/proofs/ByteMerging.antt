@@ -1,5 +1,5 @@
 -- What a merger of bytes answers for the byte that has left it.
-use Rattle.std.proofs.Common.{◌≡◌, ℕ, suc, ◌<◌, ◌≤◌, ◌&&◌, leb, ltb, List, [], ◌∷◌, ◌++◌, length, get_or, Some, None, Ok, Err, Bool, true, false, refl, ap, sym, ◌∙◌, arith, ⊎_elim, append-nil, length-append, lit<}
+use Rattle.std.proofs.Common.{◌≡◌, ℕ, suc, ◌<◌, ◌≤◌, List, [], ◌∷◌, ◌++◌, length, get_or, Some, None, Ok, Err, Bool, true, false, refl, ap, sym, ◌∙◌, arith, ⊎_elim, append-nil, length-append, lit<}
 use Rattle.std.proofs.lemmas.Bool.{cases_lt}
 use Rattle.std.proofs.lemmas.Grind.{common_steps}
 use Rattle.std.specs.Iterator.{Count, YieldsFirst}
@@ -17,10 +17,6 @@ use Rattle.utf_base.proofs.Utf8Code.{utf8-first}
 use Rattle.encode_unicode.specs.Mergers.{IsHeldBytes}
 use Rattle.encode_unicode.specs.Reading.{Answers, Completes, CompletesBehind, JudgesBytes, Reads}
 use Rattle.encode_unicode.proofs.MergerSteps.{reads_none, reads_more}
-
-pub asks_one : (b : ℕ) → (leb 0xC2 b && ltb b 0xF5) ≡ false → asked b ≤ 1
-unfolding asked
-asks_one b h = grind (arith, common_steps)
 
 pub asks_two : (b : ℕ) → 0xC2 ≤ b → b < 0xF5 → 2 ≤ asked b
 unfolding asked
@@ -119,20 +115,16 @@ pub alone_fails : {S : Type 0} (can_next : S → Type 0) (remaining : S → Coun
     → Completes can_next remaining steps first old s e (Err k) old s e
 alone_fails can_next remaining steps first k old s e can few alone held j = record { answers = byte_alone can_next remaining steps first old s e (Err k) can few alone j; held = held }
 
-pub begins_alone : (b : ℕ) → (leb 0xC2 b && ltb b 0xF5) ≡ true → is_continuation b ≡ false
+pub begins_alone : (b : ℕ) → 0xC2 ≤ b → is_continuation b ≡ false
 begins_alone b h = grind (arith, common_steps)
-
-pub begins_two : (b : ℕ) → (leb 0xC2 b && ltb b 0xF5) ≡ true → 2 ≤ asked b
-unfolding asked
-begins_two b h = grind (arith, common_steps)
 
 -- Behind what was read before.
 
 -- a code, whose last byte is b
-pub code_behind : {S : Type 0} (can_next : S → Type 0) (remaining : S → Count) (steps : S → Option ℕ → S → Type 0) (first : ℕ) (before : List ℕ) (b c : ℕ) (followers : List ℕ) (u t : S) (new : List ℕ) (f : Bool)
+pub code_after : {S : Type 0} (can_next : S → Type 0) (remaining : S → Count) (steps : S → Option ℕ → S → Type 0) (first : ℕ) (before : List ℕ) (b c : ℕ) (followers : List ℕ) (u t : S) (new : List ℕ) (f : Bool)
     → Reads can_next remaining steps u false (b ∷ []) t false → IsScalar c → first ∷ before ++ b ∷ [] ≡ utf8 c → first ∷ followers ≡ padded 4 (utf8 c) → new ≡ [] → f ≡ false
     → CompletesBehind can_next remaining steps first before u (Ok followers) new t f
-code_behind can_next remaining steps first before b c followers u t new f reads scalar code bytes none going s so_far =
+code_after can_next remaining steps first before b c followers u t new f reads scalar code bytes none going s so_far =
     completes_ok can_next remaining steps first [] followers c s t false f new scalar bytes
     (record {
       more = before ++ b ∷ [];
@@ -143,10 +135,10 @@ code_behind can_next remaining steps first before b c followers u t new f reads 
     })
 
 -- no code, as the byte b shows, which is held behind the others
-pub fault_behind : {S : Type 0} (can_next : S → Type 0) (remaining : S → Count) (steps : S → Option ℕ → S → Type 0) (first : ℕ) (before : List ℕ) (b : ℕ) (k : Utf8ErrorKind) (u t : S) (new : List ℕ) (f : Bool)
+pub fault_after : {S : Type 0} (can_next : S → Type 0) (remaining : S → Count) (steps : S → Option ℕ → S → Type 0) (first : ℕ) (before : List ℕ) (b : ℕ) (k : Utf8ErrorKind) (u t : S) (new : List ℕ) (f : Bool)
     → Reads can_next remaining steps u false (b ∷ []) t false → ((later : List ℕ) → merger_kind (first ∷ (before ++ b ∷ []) ++ later) ≡ Some k) → IsHeldBytes (before ++ b ∷ []) → new ≡ before ++ b ∷ [] → f ≡ false
     → CompletesBehind can_next remaining steps first before u (Err k) new t f
-fault_behind can_next remaining steps first before b k u t new f reads kind held same going s so_far =
+fault_after can_next remaining steps first before b k u t new f reads kind held same going s so_far =
     let len : length new ≡ length (before ++ b ∷ []) = ap length same in
     record {
       answers = record {
@@ -160,10 +152,10 @@ fault_behind can_next remaining steps first before b k u t new f reads kind held
     }
 
 -- no code, since the source has ended
-pub end_behind : {S : Type 0} (can_next : S → Type 0) (remaining : S → Count) (steps : S → Option ℕ → S → Type 0) (first : ℕ) (before : List ℕ) (k : Utf8ErrorKind) (u t : S) (new : List ℕ) (f : Bool)
+pub end_after : {S : Type 0} (can_next : S → Type 0) (remaining : S → Count) (steps : S → Option ℕ → S → Type 0) (first : ℕ) (before : List ℕ) (k : Utf8ErrorKind) (u t : S) (new : List ℕ) (f : Bool)
     → Reads can_next remaining steps u false [] t true → merger_kind (first ∷ before) ≡ Some k → IsHeldBytes before → new ≡ before → f ≡ true
     → CompletesBehind can_next remaining steps first before u (Err k) new t f
-end_behind can_next remaining steps first before k u t new f reads kind held same mark s so_far =
+end_after can_next remaining steps first before k u t new f reads kind held same mark s so_far =
     let len : length new ≡ length before = ap length same in
     record {
       answers = record {

@@ -1,6 +1,7 @@
 -- Items that are taken from a source one by one, and whose codes are added.
-use Rattle.std.proofs.Common.{◌≡◌, ◌+◌, ◌<◌, List, [], ◌∷◌, ◌++◌, length, take, ap, sym, ◌∙◌, arith, length-append, append_assoc, append-nil}
+use Rattle.std.proofs.Common.{◌≡◌, ℕ, ◌+◌, ◌<◌, List, [], ◌∷◌, ◌++◌, length, take, ap, sym, ◌∙◌, arith, length-append, append_assoc, append-nil}
 use Rattle.std.proofs.Math.Seq.{take-append_seam}
+use Rattle.std.proofs.lemmas.List.{flat_map_more}
 use Rattle.std.specs.List.{flat_map}
 use Rattle.encode_unicode.specs.Collections.{AddsFewer}
 
@@ -26,10 +27,16 @@ not_none all taken left later x is first none =
     let zero : length all ≡ 0 = ap length none in
     absurd (omega arith)
 
--- the codes of the taken ones have been added, and one is left
-pub first_added : {A B : Type 0} (code : A → List B) (all taken left later : List A) (x : A) (old new : List B) → all ≡ taken ++ left → left ≡ x ∷ later → new ≡ old ++ flat_map code taken → AddsFewer code all old new
-first_added code all taken left later x old new is first added = record {
-  count = length taken;
-  fewer = fewer all taken left later x is first;
-  added = added ∙ ap (λ ys. old ++ flat_map code ys) (sym (ap (take (length taken)) is ∙ take-append_seam taken left));
-}
+-- the codes of the taken ones have been added, and for that of the next there was no room
+pub first_added : {A B : Type 0} (code : A → List B) (all taken left later : List A) (x : A) (room : ℕ) (old new : List B) → all ≡ taken ++ left → left ≡ x ∷ later
+    → new ≡ old ++ flat_map code taken → room < length ((old ++ flat_map code taken) ++ code x) → AddsFewer code all room old new
+first_added code all taken left later x room old new is first added full =
+    let whole : all ≡ (taken ++ x ∷ []) ++ later = one_more all taken left later x is first in
+    let len : length (taken ++ x ∷ []) ≡ length taken + 1 = length-append taken (x ∷ []) in
+    let next : take (length taken + 1) all ≡ taken ++ x ∷ [] = sym (ap (λ n. take n all) len) ∙ ap (take (length (taken ++ x ∷ []))) whole ∙ take-append_seam (taken ++ x ∷ []) later in
+    record {
+      count = length taken;
+      fewer = fewer all taken left later x is first;
+      added = added ∙ ap (λ ys. old ++ flat_map code ys) (sym (ap (take (length taken)) is ∙ take-append_seam taken left));
+      full = rw (next, ← flat_map_more code old taken x) full;
+    }

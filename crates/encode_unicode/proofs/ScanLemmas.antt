@@ -1,5 +1,5 @@
 -- From what a scan from the end has seen to what the bytes decode to.
-use Rattle.std.proofs.Common.{◌≡◌, ℕ, zero, suc, take, ◌+◌, ◌-◌, ◌<◌, ◌≤◌, List, [], ◌∷◌, length, get_or, drop, arith, refl, ap, sym, ◌∙◌, true, false, Result, Ok, Err}
+use Rattle.std.proofs.Common.{◌≡◌, ℕ, zero, suc, take, ◌+◌, ◌-◌, ◌<◌, ◌≤◌, List, [], ◌∷◌, length, get_or, drop, min, arith, refl, ap, sym, ◌∙◌, true, false, Result, Ok, Err}
 use Rattle.std.proofs.lemmas.Grind.{common_steps}
 use Rattle.std.specs.Prelude.{slice_range}
 use Rattle.utf_base.specs.declared.errors.Utf8ErrorKind.{Utf8ErrorKind}
@@ -12,7 +12,7 @@ use Rattle.utf_base.specs.Kinds.{is_continuation}
 use Rattle.utf_base.proofs.BackLemmas.{answer_of_end, decoded_end_code, end_len_utf8, end_found, end_missed, end_missed-all, end_fault-some, no_whole_by_fault}
 use Rattle.utf_base.proofs.DecodedLemmas.{front_len_utf8}
 use Rattle.utf_base.proofs.EndLemmas.{back_kind-continuation, code_or_last_byte}
-use Rattle.encode_unicode.specs.Scan.{IsWholeOrUnexpected}
+use Rattle.encode_unicode.specs.Scan.{IsScanned, IsWholeOrUnexpected}
 use Rattle.encode_unicode.specs.Window.{GivesBack}
 
 -- A last byte that is no continuation byte is judged by itself.
@@ -125,6 +125,34 @@ pub scanned-3 : (b : List ℕ) (count : ℕ) → IsEndOfFour b count → 3 ≤ c
 scanned-3 b count e three last third second =
     scanned b count 3 e (omega arith) three (below_3 (λ k. is_continuation (get_or b (3 - k) 0) ≡ true) last third second) (λ short fits. absurd (omega arith))
 
+-- The steps that were taken then.
+
+looked : (w : List ℕ) (t old new : ℕ) → 0 < length w → EndsInFollowers w t → new ≡ old + min (t + 1) (length w) → IsScanned w old new
+looked w t old new some scan e =
+    let bound = scan.bound in
+    let least : 1 ≤ min (t + 1) (length w) = grind (arith, common_steps) in
+    let most : min (t + 1) (length w) ≤ 4 = grind (arith, common_steps) in
+    let within : min (t + 1) (length w) ≤ length w = grind (arith, common_steps) in
+    record { least = omega arith; most = omega arith; within = omega arith; exact = (t, scan, omega arith) }
+
+-- a byte before the last that continue
+pub four_looked : (b : List ℕ) (count t old new : ℕ) → IsEndOfFour b count → EndsInFollowers (drop (4 - count) b) t → t < count → new ≡ old + (t + 1)
+    → IsScanned (drop (4 - count) b) old new
+four_looked b count t old new e scan fits taken =
+    let some = e.some in
+    let len = length_of b count e in
+    let all : min (t + 1) (length (drop (4 - count) b)) ≡ t + 1 = grind (arith, common_steps) in
+    looked (drop (4 - count) b) t old new (omega arith) scan (omega arith)
+
+-- no other byte
+pub four_looked-all : (b : List ℕ) (count old new : ℕ) → IsEndOfFour b count → EndsInFollowers (drop (4 - count) b) count → new ≡ old + count
+    → IsScanned (drop (4 - count) b) old new
+four_looked-all b count old new e scan taken =
+    let some = e.some in
+    let len = length_of b count e in
+    let all : min (count + 1) (length (drop (4 - count) b)) ≡ count = grind (arith, common_steps) in
+    looked (drop (4 - count) b) count old new (omega arith) scan (omega arith)
+
 -- What is answered then.
 
 pub four_single : (b : List ℕ) (count : ℕ) (r : Result (ℕ × ℕ) Utf8ErrorKind) → IsEndOfFour b count → is_continuation (get_or b 3 0) ≡ false
@@ -159,6 +187,25 @@ last_four w le =
     let first : length w - 2 + 1 ≡ length w - 1 = omega arith in
     let end : length w - 1 + 1 ≡ length w = omega arith in
     grind (arith, common_steps)
+
+-- a scan of the last four bytes is one of all
+pub last_four_scanned : (w : List ℕ) (old new : ℕ) → 4 ≤ length w → IsScanned (last_bytes 4 w) old new → IsScanned w old new
+last_four_scanned w old new le s =
+    let least = s.least in
+    let most = s.most in
+    let four : length (last_bytes 4 w) ≡ 4 = grind (arith, common_steps) in
+    let t = s.exact.0 in
+    let scan = s.exact.1 in
+    let bound = scan.bound in
+    let at : (k : ℕ) → k < 4 → get_or (last_bytes 4 w) (length (last_bytes 4 w) - 1 - k) 0 ≡ get_or w (length w - 1 - k) 0 = λ k lt. grind (arith, common_steps) in
+    let same : min (t + 1) (length (last_bytes 4 w)) ≡ min (t + 1) (length w) = grind (arith, common_steps) in
+    let all : EndsInFollowers w t = record {
+      bound = bound;
+      within = omega arith;
+      followers = λ k lt. rw (at k (omega arith)) at (scan.followers k lt);
+      stops = λ short fits. rw (at t (omega arith)) at (scan.stops short (omega arith));
+    } in
+    record { least = least; most = most; within = omega arith; exact = (t, all, s.exact.2 ∙ same) }
 
 -- One call of a decoder, from the answer of the scan.
 

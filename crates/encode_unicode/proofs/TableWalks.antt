@@ -1,44 +1,48 @@
 -- What a walk over the table tells a merger of bytes.
-use Rattle.std.proofs.Common.{◌≡◌, ℕ, suc, ◌<◌, ◌≤◌, List, [], ◌∷◌, length, get_or, Some, None, true, false, refl, ap, sym, ◌∙◌, arith, lit<}
+use Rattle.std.proofs.Common.{◌≡◌, ℕ, ◌+◌, suc, ◌<◌, ◌≤◌, List, [], ◌∷◌, length, get_or, Some, None, Ok, Err, true, false, refl, ap, sym, ◌∙◌, arith, lit<, ⊎_elim}
+use Rattle.std.proofs.lemmas.Bool.{cases_lt}
+use Rattle.std.proofs.lemmas.Grind.{common_steps}
 use Rattle.utf_base.specs.declared.errors.Utf8ErrorKind.TheVariants.{TooFewBytes}
 use Rattle.utf_base.specs.declared.errors.Utf8ErrorKind.{Utf8ErrorKind}
 use Rattle.utf_base.specs.declared.table.State.{State}
-use Rattle.utf_base.specs.declared.table.State.TheVariants.{Start, OneMore, TwoMore, ThreeMore, BehindE0, BehindEd, BehindF0, BehindF4, TwoMoreOverlong, OneMoreOverlong, OneMoreReserved, TwoMoreTooHigh, OneMoreTooHigh, Done, Unexpected, Never, Interrupted, Overlong, Reserved, TooHigh}
+use Rattle.utf_base.specs.declared.table.State.TheVariants.{Start, OneMore, TwoMore, ThreeMore, AfterE0, AfterEd, AfterF0, AfterF4, TwoMoreOverlong, OneMoreOverlong, OneMoreReserved, TwoMoreTooHigh, OneMoreTooHigh, Done, Unexpected, Never, Interrupted, Overlong, Reserved, TooHigh}
 use Rattle.utf_base.specs.Code.{utf8}
-use Rattle.utf_base.specs.Kinds.{asked_by, is_continuation, merger_kind, value}
+use Rattle.utf_base.specs.Kinds.{asked, asked_by, fault_kind, is_continuation, merger_kind, value}
 use Rattle.utf_base.specs.Scalar.{IsScalar}
 use Rattle.utf_base.specs.Table.{class, fault_of, is_running, missing, next_state, state_after}
+use Rattle.encode_unicode.specs.Reading.{JudgesBytes}
 use Rattle.utf_base.proofs.FrontLemmas.{code_where_no_fault}
-use Rattle.utf_base.proofs.MergerLemmas.{merger_none, whole_code}
-use Rattle.utf_base.proofs.TableSteps.{Reached, Runs, first-2, kind_at_end, one_less, one_more_ends, reached}
+use Rattle.utf_base.proofs.MergerLemmas.{few-1, merger_none, whole_code}
+use Rattle.utf_base.proofs.Utf8Code.{utf8_is_code}
+use Rattle.utf_base.proofs.TableSteps.{Reached, Runs, asks_runs, fault_at_end, first-2, first-3, first-4, kind_at_end, one_less, one_more_breaks, reached}
 
--- A running state behind some bytes asks for more of them.
-pub runs_behind : (w : List ℕ) (k : ℕ) (state : State) → 0 < k → is_running state ≡ true → Reached w k state → Runs w k state × (0 < missing state) × (fault_of state ≡ Some TooFewBytes)
-runs_behind w k Start some e r = let none : k ≡ 0 = r in absurd (omega arith)
-runs_behind w k OneMore some e r = (r, lit< tt, refl)
-runs_behind w k TwoMore some e r = (r, lit< tt, refl)
-runs_behind w k ThreeMore some e r = (r, lit< tt, refl)
-runs_behind w k BehindE0 some e r = (r, lit< tt, refl)
-runs_behind w k BehindEd some e r = (r, lit< tt, refl)
-runs_behind w k BehindF0 some e r = (r, lit< tt, refl)
-runs_behind w k BehindF4 some e r = (r, lit< tt, refl)
-runs_behind w k TwoMoreOverlong some e r = (r, lit< tt, refl)
-runs_behind w k OneMoreOverlong some e r = (r, lit< tt, refl)
-runs_behind w k OneMoreReserved some e r = (r, lit< tt, refl)
-runs_behind w k TwoMoreTooHigh some e r = (r, lit< tt, refl)
-runs_behind w k OneMoreTooHigh some e r = (r, lit< tt, refl)
-runs_behind w k Done some e r = cc
-runs_behind w k Unexpected some e r = cc
-runs_behind w k Never some e r = cc
-runs_behind w k Interrupted some e r = cc
-runs_behind w k Overlong some e r = cc
-runs_behind w k Reserved some e r = cc
-runs_behind w k TooHigh some e r = cc
+-- A running state after some bytes asks for more of them.
+pub runs_after : (w : List ℕ) (k : ℕ) (state : State) → 0 < k → is_running state ≡ true → Reached w k state → Runs w k state × (0 < missing state) × (fault_of state ≡ Some TooFewBytes)
+runs_after w k Start some e r = let none : k ≡ 0 = r in absurd (omega arith)
+runs_after w k OneMore some e r = (r, lit< tt, refl)
+runs_after w k TwoMore some e r = (r, lit< tt, refl)
+runs_after w k ThreeMore some e r = (r, lit< tt, refl)
+runs_after w k AfterE0 some e r = (r, lit< tt, refl)
+runs_after w k AfterEd some e r = (r, lit< tt, refl)
+runs_after w k AfterF0 some e r = (r, lit< tt, refl)
+runs_after w k AfterF4 some e r = (r, lit< tt, refl)
+runs_after w k TwoMoreOverlong some e r = (r, lit< tt, refl)
+runs_after w k OneMoreOverlong some e r = (r, lit< tt, refl)
+runs_after w k OneMoreReserved some e r = (r, lit< tt, refl)
+runs_after w k TwoMoreTooHigh some e r = (r, lit< tt, refl)
+runs_after w k OneMoreTooHigh some e r = (r, lit< tt, refl)
+runs_after w k Done some e r = cc
+runs_after w k Unexpected some e r = cc
+runs_after w k Never some e r = cc
+runs_after w k Interrupted some e r = cc
+runs_after w k Overlong some e r = cc
+runs_after w k Reserved some e r = cc
+runs_after w k TooHigh some e r = cc
 
 -- A byte that leads to the end of a code is the last of it.
-pub code_behind_walk : (w : List ℕ) (k : ℕ) → length w ≡ suc k → 0 < k → is_running (state_after w k) ≡ true → state_after w (suc k) ≡ Done → IsScalar (value w) × (w ≡ utf8 (value w))
-code_behind_walk w k len some e done =
-    let r = runs_behind w k (state_after w k) some e (reached w k (omega arith)) in
+pub code_after_walk : (w : List ℕ) (k : ℕ) → length w ≡ suc k → 0 < k → is_running (state_after w k) ≡ true → state_after w (suc k) ≡ Done → IsScalar (value w) × (w ≡ utf8 (value w))
+code_after_walk w k len some e done =
+    let r = runs_after w k (state_after w k) some e (reached w k (omega arith)) in
     let less = one_less (state_after w k) (class (get_or w k 0)) r.1 (λ i. no (sym done ∙ i)) in
     let none = ap missing done in
     let asks = r.0.asks in
@@ -50,15 +54,78 @@ code_behind_walk w k len some e done =
     no : Done ≡ Interrupted → ⊥
     no e = cc
 
--- The first two bytes of a code of two.
-pub two_end : (a b : ℕ) → 0xC2 ≤ a → a < 0xE0 → is_continuation b ≡ true → state_after (a ∷ b ∷ []) 2 ≡ Done
-two_end a b low high e =
-    let first = first-2 a low high in
-    ap (λ (x : State). next_state x (class b)) first ∙ one_more_ends b e
+-- Bytes that led to a state which asks for more of them all continue, but for the first.
+pub before : (w : List ℕ) (k j : ℕ) (state : State) → state ≡ state_after w k → k ≤ length w → 0 < missing state → 0 < j → j < k → is_continuation (get_or w j 0) ≡ true
+before w k j state at le asks some lt =
+    let same = ap missing at in
+    let runs = asks_runs (state_after w k) (omega arith) in
+    let range = (runs_after w k (state_after w k) (omega arith) runs (reached w k le)).0.before j some lt in
+    grind (arith, common_steps)
+
+-- What the state after a first byte asks for.
+pub first_asks : (b : ℕ) (state : State) → state ≡ state_after (b ∷ []) 1 → 0xC2 ≤ b → b < 0xF5 → 0 < missing state
+first_asks b state at low high =
+    let same = ap missing at in
+    ⊎_elim (λ (h : b < 0xE0). let one = ap missing (first-2 b low h) in omega arith)
+    (λ (l : 0xE0 ≤ b). ⊎_elim (λ (h : b < 0xF0). let two = first-3 b l h in omega arith)
+    (λ (m : 0xF0 ≤ b). let three = first-4 b m high in omega arith)
+    (cases_lt b 0xF0)) (cases_lt b 0xE0)
+
+-- A first byte that leads to an end asks for no other.
+pub asks_no_other : (b : ℕ) (end : State) → end ≡ state_after (b ∷ []) 1 → is_running end ≡ false → (fault_of end ≡ Some TooFewBytes → ⊥) → asked b ≤ 1
+asks_no_other b end at stops other =
+    ⊎_elim
+    (λ (many : 1 < asked b).
+    let kind = kind_at_end (b ∷ []) 1 (lit< tt) (sym (ap is_running at) ∙ stops) in
+    absurd (other (ap fault_of at ∙ sym kind ∙ few-1 b many)))
+    (λ (few : asked b ≤ 1). few) (cases_lt 1 (asked b))
+
+ascii : (b : ℕ) → 0 < asked b → asked b ≤ 1 → b < 0x80
+unfolding asked
+ascii b some few = grind (arith, common_steps)
+
+-- One that leads to the end of a code is that code, and it is ASCII.
+pub code_of_one : (b : ℕ) (end : State) → end ≡ state_after (b ∷ []) 1 → end ≡ Done → (asked b ≤ 1) × JudgesBytes (b ∷ []) (Ok (value (b ∷ []))) × (b < 0x80)
+code_of_one b end at done =
+    let few : asked b ≤ 1 = asks_no_other b end at (ap is_running done) (λ e. no (sym (ap fault_of done) ∙ e)) in
+    let kind : fault_kind (b ∷ []) ≡ None = fault_at_end (b ∷ []) 1 Done (lit< tt) few (sym at ∙ done) refl in
+    let code = code_where_no_fault (b ∷ []) kind in
+    let scalar = code.0.scalar in
+    let len : asked b ≡ length (utf8 (value (b ∷ []))) = code.1 in
+    let some = utf8_is_code.some (value (b ∷ [])) scalar in
+    (few, (scalar, whole_code (b ∷ []) (value (b ∷ [])) code.0 few (λ more. absurd (omega arith))), ascii b (omega arith) few)
+  where
+    no : None ≡ Some TooFewBytes → ⊥
+    no e = cc
+
+-- One that leads to another end is at fault by itself.
+pub fault_of_one : (b : ℕ) (end state : State) (k : Utf8ErrorKind) → end ≡ state_after (b ∷ []) 1 → end ≡ state → is_running state ≡ false → fault_of state ≡ Some k → (Some k ≡ Some TooFewBytes → ⊥) → (asked b ≤ 1) × JudgesBytes (b ∷ []) (Err k)
+fault_of_one b end state k at is stops fault other =
+    let few : asked b ≤ 1 = asks_no_other b end at (ap is_running is ∙ stops) (λ e. other (sym fault ∙ sym (ap fault_of is) ∙ e)) in
+    (few, fault_at_end (b ∷ []) 1 state (lit< tt) few (sym at ∙ is) stops ∙ fault)
+
+-- The state after two bytes, that is no end: the first asks for three or more, and the second continues.
+pub third_asked : (a b c : ℕ) (state next : State) → state ≡ state_after (a ∷ []) 1 → 0xC2 ≤ a → c ≡ class b → next ≡ next_state state c → (next ≡ Interrupted → ⊥) → (next ≡ Done → ⊥) → 0xE0 ≤ a
+third_asked a b c state next at low of step on go =
+    ⊎_elim (λ (h : a < 0xE0). absurd (on (two h)))
+    (λ (l : 0xE0 ≤ a). l) (cases_lt a 0xE0)
+  where
+    two : a < 0xE0 → next ≡ Interrupted
+    two h =
+        let one : state ≡ OneMore = at ∙ first-2 a low h in
+        let same : next ≡ next_state OneMore c = step ∙ ap (λ (s : State). next_state s c) one in
+        same ∙ one_more_breaks c (λ e. go (same ∙ e))
+
+-- One byte less is missing after one that does not interrupt.
+pub less : (state next : State) (c : ℕ) → 0 < missing state → next ≡ next_state state c → (next ≡ Interrupted → ⊥) → missing state ≡ 1 + missing next
+less state next c asks step on =
+    let one = one_less state c asks (λ e. on (step ∙ e)) in
+    let same = ap missing step in
+    omega arith
 
 -- A step that the code made, as one of the walk.
-pub stepped : (state s next : State) (c b : ℕ) → next ≡ next_state state c → c ≡ class b → state ≡ s → next ≡ next_state s (class b)
-stepped state s next c b h e f = h ∙ ap (next_state state) e ∙ ap (λ (x : State). next_state x (class b)) f
+pub stepped : (w : List ℕ) (k c : ℕ) (state next : State) → next ≡ next_state state c → c ≡ class (get_or w k 0) → state ≡ state_after w k → next ≡ state_after w (suc k)
+stepped w k c state next h e f = h ∙ ap (next_state state) e ∙ ap (λ (x : State). next_state x (class (get_or w k 0))) f
 
 -- An end tells the kind, whatever follows.
 pub kind_of_end : (w : List ℕ) (k : ℕ) (end : State) (kind : Utf8ErrorKind) → k ≤ length w → state_after w k ≡ end → is_running end ≡ false → fault_of end ≡ Some kind → merger_kind w ≡ Some kind

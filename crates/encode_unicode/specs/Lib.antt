@@ -24,6 +24,8 @@ pub use Rattle.utf_base.specs.KindLaws
 pub use Rattle.utf_base.specs.LocalLaws
 pub use Rattle.utf_base.specs.Walk
 pub use Rattle.utf_base.specs.WalkLaws
+pub use Rattle.utf_base.specs.Shown
+pub use Rattle.utf_base.specs.ShownLaws
 pub use Rattle.utf_chars.specs.Chars
 pub use Rattle.utf_chars.specs.Padded
 pub use Rattle.utf_chars.specs.FormLaws

@@ -3,7 +3,7 @@
 //! A code is added by a match on its length, with the same call in each arm: an arm knows how many elements
 //! it copies, which are then a few moves. One call for all lengths copies by a call of its own, and takes up
 //! to three times as many instructions.
-ghost use Rattle.std.specs.Prelude.{◌≡◌, ◌++◌, [], List, ℕ, OnOk, OnErr, IsOk, string_bytes};
+ghost use Rattle.std.specs.Prelude.{◌≡◌, ◌<◌, ◌≤◌, ◌++◌, [], List, ℕ, length, OnOk, OnErr, IsOk, string_bytes, string_capacity, vec_capacity};
 ghost use Rattle.std.specs.Iterator.{IsFinite};
 ghost use Rattle.utf_base.specs.Code.{utf8, utf16};
 ghost use Rattle.encode_unicode.specs.Sources.{IsListed};
@@ -23,17 +23,24 @@ pub(crate) trait HoldsCodes<C> {
     /// The elements that a character is.
     ghost code: { C → List ℕ };
 
+    /// How many elements it has room for.
+    ghost room: { Self → ℕ };
+
     /// Adds the character. Room is taken for the whole code before its first element, so that a refusal
     /// leaves what was there.
     fn add(&mut self, c: C) -> Result<(), AllocError>
         ensures ok { OnOk result (held self.new ≡ held self.old ++ code c) }
-        ensures err { OnErr result (held self.new ≡ held self.old) };
+        ensures err { OnErr result (held self.new ≡ held self.old) }
+        ensures full { OnErr result (room self.old < length (held self.old ++ code c)) }
+        ensures room { room self.old ≤ room self.new };
 }
 
 impl<A: Allocator> HoldsCodes<Utf8Char> for Vec<u8, A> {
     ghost held = { λ bytes. bytes.items };
 
     ghost code = { utf8 };
+
+    ghost room = { vec_capacity };
 
     #[inline(always)]
     fn add(&mut self, c: Utf8Char) -> Result<(), AllocError> {
@@ -52,6 +59,8 @@ impl<A: Allocator> HoldsCodes<Utf8Char> for String<A> {
 
     ghost code = { utf8 };
 
+    ghost room = { string_capacity };
+
     #[inline(always)]
     fn add(&mut self, c: Utf8Char) -> Result<(), AllocError> {
         let code = c.as_str();
@@ -69,6 +78,8 @@ impl<A: Allocator> HoldsCodes<Utf16Char> for Vec<u16, A> {
 
     ghost code = { utf16 };
 
+    ghost room = { vec_capacity };
+
     #[inline(always)]
     fn add(&mut self, c: Utf16Char) -> Result<(), AllocError> {
         let code = c.as_units();
@@ -83,6 +94,8 @@ impl<A: Allocator> HoldsCodes<Utf16Char> for String<A> {
     ghost held = { string_bytes };
 
     ghost code = { utf8 };
+
+    ghost room = { string_capacity };
 
     #[inline(always)]
     fn add(&mut self, c: Utf16Char) -> Result<(), AllocError> {
@@ -99,7 +112,7 @@ pub(crate) fn extend<C, I: Iterator<Item = C>, T: HoldsCodes<C>>(
     requires can { I.can_next source }
     requires ends { IsFinite (I.remaining source) }
     ensures ok { OnOk result (AddsCodes T.code I.next_gives source (T.held out.old) (T.held out.new)) }
-    ensures err { OnErr result (AddsFirstCodes T.code I.next_gives source (T.held out.old) (T.held out.new)) }
+    ensures err { OnErr result (AddsFirstCodes T.code I.next_gives source (T.room out.old) (T.held out.old) (T.held out.new)) }
     ensures nothing { (rest : I → List C) → IsListed I.next_gives rest → rest source ≡ [] → IsOk result }
 {
     for c in source {

@@ -5,24 +5,25 @@ ghost use Rattle.std.specs.Iterator.{YieldsFirst};
 use std::fmt;
 use std::marker::Model;
 
-/// At most three bytes, and whether the source has ended, in one number, so that they stay in a register and
-/// one comparison tells that the source is to be asked: the first byte in the lowest eight bits, the others
-/// above it, and how many there are in the highest eight, with the mark of the end as the highest bit.
-/// Contracts see the list and the mark.
+/// At most three bytes in one word, and whether the source has ended. Contracts see the list and the mark.
+///
+/// Of the word the lowest 24 bits have the bytes, the next one in the lowest eight, and the highest eight have their
+/// number. So they stay in a register, and one comparison tells that none is held.
 #[derive(Drop)]
 pub(crate) struct HeldBytes {
     word: u32,
+    ended: bool,
 }
 
 impl Model for HeldBytes {
-    ghost use Rattle.std.specs.Prelude.{◌≤◌, ◌/◌, ◌%◌};
+    ghost use Rattle.std.specs.Prelude.{◌≤◌, ◌/◌};
     ghost use Rattle.encode_unicode.specs.HeldWord.{Kept, bytes_of};
 
     ghost Value = { Kept };
 
-    ghost view = { λ h. bytes_of h.word };
+    ghost view = { λ h. record { held = bytes_of h.word; ended = h.ended } };
 
-    ghost invariant = { λ h. h.word / 0x100_0000 % 128 ≤ 3 };
+    ghost invariant = { λ h. h.word / 0x100_0000 ≤ 3 };
 }
 
 impl HeldBytes {
@@ -32,7 +33,10 @@ impl HeldBytes {
         ensures held { result.held ≡ [] }
         ensures going { result.ended ≡ false }
     {
-        HeldBytes { word: 0 }
+        HeldBytes {
+            word: 0,
+            ended: false,
+        }
     }
 
     /// One.
@@ -43,6 +47,7 @@ impl HeldBytes {
     {
         HeldBytes {
             word: 0x100_0000 + first as u32,
+            ended: false,
         }
     }
 
@@ -54,6 +59,7 @@ impl HeldBytes {
     {
         HeldBytes {
             word: 0x200_0000 + second as u32 * 256 + first as u32,
+            ended: false,
         }
     }
 
@@ -65,18 +71,19 @@ impl HeldBytes {
     {
         HeldBytes {
             word: 0x300_0000 + third as u32 * 0x1_0000 + second as u32 * 256 + first as u32,
+            ended: false,
         }
     }
 
     /// The same bytes, and the source has ended.
     #[inline(always)]
     pub(crate) fn ended(self) -> HeldBytes
-        requires { self.ended ≡ false }
         ensures held { result.held ≡ self.held }
         ensures ended { result.ended ≡ true }
     {
         HeldBytes {
-            word: self.word + 0x8000_0000,
+            word: self.word,
+            ended: true,
         }
     }
 
@@ -88,7 +95,7 @@ impl HeldBytes {
         ensures busy { result ≡ false → self.now.held ≡ [] → self.now.ended ≡ true }
     {
         // Not a comparison with 0: a compiler would put a 0 into its register again for each byte.
-        self.word < 0x100_0000
+        self.word < 0x100_0000 && !self.ended
     }
 
     /// Whether the source has ended.
@@ -96,7 +103,7 @@ impl HeldBytes {
     pub(crate) fn is_ended(&self) -> bool
         ensures { result ≡ self.now.ended }
     {
-        self.word >= 0x8000_0000
+        self.ended
     }
 
     /// How many there are.
@@ -105,7 +112,7 @@ impl HeldBytes {
         ensures len { result ≡ length self.now.held }
         ensures few { result ≤ 3 }
     {
-        (self.word / 0x100_0000 % 128) as usize
+        (self.word / 0x100_0000) as usize
     }
 
     /// The same bytes once more.
@@ -113,7 +120,10 @@ impl HeldBytes {
     pub(crate) fn copy(&self) -> HeldBytes
         ensures { result ≡ self.now }
     {
-        HeldBytes { word: self.word }
+        HeldBytes {
+            word: self.word,
+            ended: self.ended,
+        }
     }
 
     /// Takes the first.
@@ -128,8 +138,7 @@ impl HeldBytes {
             self.word = 0;
             return Some(only);
         }
-        let count_and_mark = self.word / 0x100_0000;
-        if count_and_mark % 128 < 1 {
+        if self.word < 0x100_0000 {
             return None;
         }
         let first = (self.word % 256) as u8;
@@ -138,7 +147,7 @@ impl HeldBytes {
     }
 }
 
-// The number without its first byte. It is seldom asked for, and out of line: so a compiler keeps the ways that
+// The word without its first byte. It is seldom asked for, and out of line: so a compiler keeps the ways that
 // do not ask for it together.
 #[cold]
 #[inline(never)]

@@ -6,20 +6,24 @@ ghost use Rattle.encode_unicode.specs.Mergers.{IsHeldUnits};
 use std::fmt;
 use std::marker::Model;
 
-/// At most one unit, and whether the source has ended, in one number, so that one comparison tells that
-/// the source is to be asked: 0 then, the unit above 0x1_0000 where one is held, and 0x2_0000 once the
-/// source has ended. Contracts see the list and the mark.
+/// At most one unit in one word, and whether the source has ended. Contracts see the list and the mark.
+///
+/// The word is 0 where none is held, else the unit above 0x1_0000. None is held once the source has ended.
 #[derive(Drop)]
 pub(crate) struct HeldUnit {
     word: u64,
+    ended: bool,
 }
 
 impl Model for HeldUnit {
+    ghost use Rattle.std.specs.Prelude.{◌≡◌, ◌<◌, true};
     ghost use Rattle.encode_unicode.specs.HeldWord.{Kept, unit_of};
 
     ghost Value = { Kept };
 
-    ghost view = { λ h. unit_of h.word };
+    ghost view = { λ h. record { held = unit_of h.word; ended = h.ended } };
+
+    ghost invariant = { λ h. h.ended ≡ true → h.word < 0x1_0000 };
 }
 
 impl HeldUnit {
@@ -30,7 +34,10 @@ impl HeldUnit {
         ensures none { result.held ≡ [] }
         ensures going { result.ended ≡ false }
     {
-        HeldUnit { word: 0 }
+        HeldUnit {
+            word: 0,
+            ended: false,
+        }
     }
 
     /// None, and the source has ended.
@@ -40,7 +47,10 @@ impl HeldUnit {
         ensures none { result.held ≡ [] }
         ensures ended { result.ended ≡ true }
     {
-        HeldUnit { word: 0x2_0000 }
+        HeldUnit {
+            word: 0,
+            ended: true,
+        }
     }
 
     /// One.
@@ -52,6 +62,7 @@ impl HeldUnit {
     {
         HeldUnit {
             word: 0x1_0000 + unit as u64,
+            ended: false,
         }
     }
 
@@ -64,7 +75,7 @@ impl HeldUnit {
         ensures busy { result ≡ false → self.now.held ≡ [] → self.now.ended ≡ true }
     {
         // Not a comparison with 0: a compiler would put a 0 into its register again for each unit.
-        self.word < 0x1_0000
+        self.word < 0x1_0000 && !self.ended
     }
 
     /// Whether the source has ended.
@@ -73,7 +84,7 @@ impl HeldUnit {
     pub(crate) fn is_ended(&self) -> bool
         ensures { result ≡ self.now.ended }
     {
-        self.word >= 0x2_0000
+        self.ended
     }
 
     /// How many there are: 0 or 1.
@@ -83,11 +94,7 @@ impl HeldUnit {
         ensures len { result ≡ length self.now.held }
         ensures few { IsHeldUnits self.now.held }
     {
-        if 0x1_0000 <= self.word && self.word < 0x2_0000 {
-            1
-        } else {
-            0
-        }
+        if self.word >= 0x1_0000 { 1 } else { 0 }
     }
 
     /// The same once more.
@@ -96,7 +103,10 @@ impl HeldUnit {
     pub(crate) fn copy(&self) -> HeldUnit
         ensures { result ≡ self.now }
     {
-        HeldUnit { word: self.word }
+        HeldUnit {
+            word: self.word,
+            ended: self.ended,
+        }
     }
 
     /// Takes it.
@@ -110,7 +120,7 @@ impl HeldUnit {
         ensures same { self.new.ended ≡ self.old.ended }
         ensures ends { MatchOption result (self.new.ended ≡ true) (λ _. self.new.ended ≡ false) }
     {
-        if self.word >= 0x2_0000 {
+        if self.word < 0x1_0000 {
             return None;
         }
         let unit = self.word % 0x1_0000;

@@ -1,5 +1,5 @@
 //! Methods of iterators over bytes, units and characters.
-ghost use Rattle.std.specs.Prelude.{◌≡◌, [], List, ℕ, IfOk, IsOk, OnOk, OnErr, string_bytes};
+ghost use Rattle.std.specs.Prelude.{◌≡◌, [], List, ℕ, IfOk, IsOk, OnOk, OnErr, string_bytes, string_capacity, vec_capacity};
 ghost use Rattle.std.specs.Iterator.{IsFinite};
 ghost use Rattle.utf_base.specs.Code.{utf8, utf16};
 ghost use Rattle.encode_unicode.specs.Collections.{AddsCodes, AddsFirstCodes};
@@ -73,7 +73,7 @@ pub trait Utf8CharIterExt: Iterator<Item = Utf8Char> + Sized {
         requires can { Self.can_next self }
         requires ends { IsFinite (Self.remaining self) }
         ensures ok { OnOk result (AddsCodes utf8 Self.next_gives self bytes.old.items bytes.new.items) }
-        ensures err { OnErr result (AddsFirstCodes utf8 Self.next_gives self bytes.old.items bytes.new.items) }
+        ensures err { OnErr result (AddsFirstCodes utf8 Self.next_gives self (vec_capacity bytes.old) bytes.old.items bytes.new.items) }
         ensures nothing { (rest : Self → List ℕ) → IsListed Self.next_gives rest → rest self ≡ [] → IsOk result };
 
     /// Adds all characters to the text. Where a growth is refused, those before it have been added, and
@@ -82,7 +82,7 @@ pub trait Utf8CharIterExt: Iterator<Item = Utf8Char> + Sized {
         requires can { Self.can_next self }
         requires ends { IsFinite (Self.remaining self) }
         ensures ok { OnOk result (AddsCodes utf8 Self.next_gives self (string_bytes text.old) (string_bytes text.new)) }
-        ensures err { OnErr result (AddsFirstCodes utf8 Self.next_gives self (string_bytes text.old) (string_bytes text.new)) }
+        ensures err { OnErr result (AddsFirstCodes utf8 Self.next_gives self (string_capacity text.old) (string_bytes text.old) (string_bytes text.new)) }
         ensures nothing { (rest : Self → List ℕ) → IsListed Self.next_gives rest → rest self ≡ [] → IsOk result };
 }
 
@@ -147,7 +147,7 @@ pub trait Utf16CharIterExt: Iterator<Item = Utf16Char> + Sized {
         requires can { Self.can_next self }
         requires ends { IsFinite (Self.remaining self) }
         ensures ok { OnOk result (AddsCodes utf16 Self.next_gives self units.old.items units.new.items) }
-        ensures err { OnErr result (AddsFirstCodes utf16 Self.next_gives self units.old.items units.new.items) }
+        ensures err { OnErr result (AddsFirstCodes utf16 Self.next_gives self (vec_capacity units.old) units.old.items units.new.items) }
         ensures nothing { (rest : Self → List ℕ) → IsListed Self.next_gives rest → rest self ≡ [] → IsOk result };
 
     /// Adds all characters to the string. Where a growth is refused, those before it have been added, and
@@ -156,7 +156,7 @@ pub trait Utf16CharIterExt: Iterator<Item = Utf16Char> + Sized {
         requires can { Self.can_next self }
         requires ends { IsFinite (Self.remaining self) }
         ensures ok { OnOk result (AddsCodes utf8 Self.next_gives self (string_bytes string.old) (string_bytes string.new)) }
-        ensures err { OnErr result (AddsFirstCodes utf8 Self.next_gives self (string_bytes string.old) (string_bytes string.new)) }
+        ensures err { OnErr result (AddsFirstCodes utf8 Self.next_gives self (string_capacity string.old) (string_bytes string.old) (string_bytes string.new)) }
         ensures nothing { (rest : Self → List ℕ) → IsListed Self.next_gives rest → rest self ≡ [] → IsOk result };
 }
 

@@ -14,6 +14,7 @@ mod remaining;
 mod splitting;
 mod steps;
 mod str_ext;
+mod tally;
 mod text_window;
 mod traits;
 mod utf16_decoder;
@@ -62,11 +63,12 @@ pub mod laws {
     //! calls the one that its proof needs.
     pub use utf_base::laws::{
         ascii_stands_alone, code_or_last_byte, code_or_one_fault, codes_never_overlap, cut_exists,
-        cut_is_unique, cuts_follow, damage_is_local, damage_reaches_its_bounds, four_bytes_decide,
-        kinds_differ, merger_code_or_one_fault, no_fault_in_joined_codes, one_code_ends,
-        one_piece_begins, one_piece_ends, pieces_never_overlap, two_units_decide,
-        units_code_or_last_unit, units_code_or_one_fault, units_code_or_one_kind, walk_exists,
-        walk_gives_each_once, walk_is_unique, walk_stays_outside,
+        cut_is_unique, cuts_follow, damage_is_local, damage_reaches_its_bounds, faults_stay,
+        first_is_shown, first_piece_stays, four_bytes_decide, kinds_differ,
+        merger_code_or_one_fault, no_fault_in_joined_codes, one_code_ends, one_piece_begins,
+        one_piece_ends, pieces_never_overlap, shows_one, two_units_decide, units_code_or_last_unit,
+        units_code_or_one_fault, units_code_or_one_kind, walk_exists, walk_gives_each_once,
+        walk_is_unique, walk_stays_outside,
     };
     pub use utf_chars::laws::forms_keep_the_scalar;
 }

@@ -1,10 +1,11 @@
 //! A count of steps, for contracts alone.
 ghost use Rattle.std.specs.Prelude.{◌≡◌, ◌+◌};
 
+use crate::tally::Tally;
 use std::marker::Model;
-use utf_base::tally::Tally;
 
-/// How many steps were taken. Contracts see it as a number without a bound; at run time it is nothing.
+/// How many steps were taken, or how many calls failed. Contracts see it as a number without a bound; at
+/// run time it is nothing.
 ///
 /// A call that takes steps, as `Utf8CharDecoder::next_back_counted` does, ticks once for each, and its
 /// contract says how many they are at most.

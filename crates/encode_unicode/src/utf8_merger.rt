@@ -1,12 +1,12 @@
 //! Characters, and what is wrong, from the bytes of an iterator.
-ghost use Rattle.std.specs.Prelude.{◌≡◌, ◌<◌, ◌≤◌, ℕ, List, [], ◌∷◌, length, true, IsOk, IfOk, IfSome, Some, false, ◌&&◌, nat_le, nat_lt};
+ghost use Rattle.std.specs.Prelude.{◌≡◌, ◌<◌, ◌≤◌, ℕ, List, [], ◌∷◌, length, true, IsOk, IfOk, IfSome, Some, false};
 ghost use Rattle.std.specs.Iterator.{UpTo};
 ghost use Rattle.std.specs.Iterator.SizeHint.{IsWithinCount};
 ghost use Rattle.utf_base.specs.Code.{utf8};
-ghost use Rattle.utf_base.specs.Kinds.{asked, is_continuation, merger_kind};
-ghost use Rattle.utf_base.specs.Table.{fault_of, is_later_fault};
+ghost use Rattle.utf_base.specs.Kinds.{is_continuation, merger_kind};
+ghost use Rattle.utf_base.specs.Table.{fault_of, is_later_fault, missing, state_after};
 ghost use Rattle.encode_unicode.specs.Mergers.{unasked, unread, unread_count, IsHeldBytes, IsSpent, MergerNext, MergesHint};
-ghost use Rattle.encode_unicode.specs.Reading.{Completes, CompletesBehind, JudgesBytes, TakesFirst};
+ghost use Rattle.encode_unicode.specs.Reading.{Completes, CompletesBehind, TakesFirst};
 ghost use Rattle.encode_unicode.specs.Sources.{GivesTheSame};
 
 use crate::followers::Followers;
@@ -17,8 +17,8 @@ use std::alloc::AllocError;
 use std::fmt;
 use std::marker::Model;
 use utf_base::errors::{Utf8Error, Utf8ErrorKind};
-use utf_base::table::{State, behind_two, class_of, error_behind, step};
-use utf_chars::continuation::continues;
+use utf_base::table::walks::error_after;
+use utf_base::table::{State, class_of, step};
 use utf_chars::utf8_char::Utf8Char;
 
 /// Cuts the bytes of an iterator into characters and single faulty bytes.
@@ -184,50 +184,46 @@ fn followers<I: Iterator<Item = u8>>(
     requires held { IsHeldBytes held.old.held }
     ensures { Completes I.can_next I.remaining I.next_gives first held.old.held source.old held.old.ended result held.new.held source.new held.new.ended }
 {
-    // First whether there is more to read: in damaged text this answer is the easier to foresee.
-    if !begins_many(first) {
-        return match alone(first) {
-            Err(error) => Err(error),
-            Ok(_) => Ok(Followers::new(0, 0, 0)),
-        };
+    let state = step(State::Start, class_of(first));
+    match state {
+        State::Done => return Ok(none_follow(first)),
+        State::Unexpected => return Err(Utf8Error::new(Utf8ErrorKind::UnexpectedContinuationByte)),
+        State::Never => return Err(Utf8Error::new(Utf8ErrorKind::NonUtf8Byte)),
+        _ => {}
     }
-    // It stands alone, so nothing is held behind it.
+    // It asks for others and is no continuation byte, so nothing is held after it.
     if !held.is_idle() {
         return Err(Utf8Error::new(Utf8ErrorKind::TooFewBytes));
     }
-    second(first, held, source)
+    second(first, state, held, source)
 }
 
-// Whether the byte is the first of a code of two bytes or more.
+// The bytes that follow an ASCII byte in its code, which are none. A compiler takes from it that the byte is one, and
+// asks no more where the character is used.
 #[inline(always)]
-fn begins_many(first: u8) -> bool
-    ensures { result ≡ (nat_le 0xC2 first && nat_lt first 0xF5) }
+fn none_follow(first: u8) -> Followers
+    requires { first < 0x80 }
+    ensures { result ≡ 0 ∷ 0 ∷ 0 ∷ [] }
 {
-    0xc2 <= first && first <= 0xf4
+    match first {
+        0x00..=0x7f => Followers::new(0, 0, 0),
+        _ => unreachable!(),
+    }
 }
 
-// The character that a byte is which asks for no other, or what is wrong with it.
-#[inline(always)]
-fn alone(byte: u8) -> Result<Utf8Char, Utf8Error>
-    requires { asked byte ≤ 1 }
-    ensures { JudgesBytes (byte ∷ []) result }
-{
-    let (c, _) = Utf8Char::from_slice_start(&[byte])?;
-    Ok(c)
-}
-
-// The second byte of a code, and those behind it, each read where the ones before it ask for it. The state that
-// the first two led to tells whether any that continue complete the code; the walk over the table goes on only
-// where they do not, to the end that says what is wrong. Codes of different lengths have functions of their own,
-// which return each answer where it is found: so a compiler keeps the ways to them apart.
+// The second byte of a code, and those after it, each read where the state that the ones before it led to asks for
+// it. Codes of different lengths have functions of their own, which return each answer where it is found: so a
+// compiler keeps the ways to them apart.
 #[inline(always)]
 fn second<I: Iterator<Item = u8>>(
     first: u8,
+    state: State,
     held: &mut HeldBytes,
     source: &mut I,
 ) -> Result<Followers, Utf8Error>
     requires low { 0xC2 ≤ first }
     requires high { first < 0xF5 }
+    requires walked { state ≡ state_after (first ∷ []) 1 }
     requires can { I.can_next source.old }
     requires none { held.old.held ≡ [] }
     requires going { held.old.ended ≡ false }
@@ -238,27 +234,31 @@ fn second<I: Iterator<Item = u8>>(
             *held = HeldBytes::none().ended();
             Err(Utf8Error::new(Utf8ErrorKind::TooFewBytes))
         }
-        Some(byte) if !continues(byte) => {
-            *held = HeldBytes::one(byte);
-            Err(Utf8Error::new(Utf8ErrorKind::InterruptedSequence))
-        }
-        // The first led to `OneMore`, from which any byte that continues leads to `Done`.
-        Some(byte) if first < 0xe0 => Ok(Followers::new(byte, 0, 0)),
-        Some(byte) if first < 0xf0 => third_of_three(first, byte, held, source),
-        Some(byte) => third_of_four(first, byte, held, source),
+        Some(byte) => match step(state, class_of(byte)) {
+            State::Interrupted => {
+                *held = HeldBytes::one(byte);
+                Err(Utf8Error::new(Utf8ErrorKind::InterruptedSequence))
+            }
+            State::Done => Ok(Followers::new(byte, 0, 0)),
+            next if first < 0xf0 => third_of_three(first, byte, next, held, source),
+            next => third_of_four(first, byte, next, held, source),
+        },
     }
 }
 
-// The third byte of three, behind a continuation byte.
+// The third byte of three.
 #[inline(always)]
 fn third_of_three<I: Iterator<Item = u8>>(
     first: u8,
     second: u8,
+    state: State,
     held: &mut HeldBytes,
     source: &mut I,
 ) -> Result<Followers, Utf8Error>
     requires low { 0xE0 ≤ first }
     requires high { first < 0xF0 }
+    requires walked { state ≡ state_after (first ∷ second ∷ []) 2 }
+    requires asks { missing state ≡ 1 }
     requires continuation { is_continuation second ≡ true }
     requires can { I.can_next source.old }
     requires none { held.old.held ≡ [] }
@@ -270,30 +270,29 @@ fn third_of_three<I: Iterator<Item = u8>>(
             *held = HeldBytes::one(second).ended();
             Err(Utf8Error::new(Utf8ErrorKind::TooFewBytes))
         }
-        Some(byte) if !continues(byte) => {
-            *held = HeldBytes::two(second, byte);
-            Err(Utf8Error::new(Utf8ErrorKind::InterruptedSequence))
-        }
-        Some(byte) => match behind_two(first, second) {
-            State::OneMore => Ok(Followers::new(second, byte, 0)),
-            state => {
+        Some(byte) => match step(state, class_of(byte)) {
+            State::Done => Ok(Followers::new(second, byte, 0)),
+            end => {
                 *held = HeldBytes::two(second, byte);
-                Err(error_of(step(state, class_of(byte))))
+                Err(error_of(end))
             }
         },
     }
 }
 
-// The third byte of four, behind a continuation byte, and the one behind it.
+// The third byte of four, and the one after it.
 #[inline(always)]
 fn third_of_four<I: Iterator<Item = u8>>(
     first: u8,
     second: u8,
+    state: State,
     held: &mut HeldBytes,
     source: &mut I,
 ) -> Result<Followers, Utf8Error>
     requires low { 0xF0 ≤ first }
     requires high { first < 0xF5 }
+    requires walked { state ≡ state_after (first ∷ second ∷ []) 2 }
+    requires asks { missing state ≡ 2 }
     requires continuation { is_continuation second ≡ true }
     requires can { I.can_next source.old }
     requires none { held.old.held ≡ [] }
@@ -305,25 +304,30 @@ fn third_of_four<I: Iterator<Item = u8>>(
             *held = HeldBytes::one(second).ended();
             Err(Utf8Error::new(Utf8ErrorKind::TooFewBytes))
         }
-        Some(byte) if !continues(byte) => {
-            *held = HeldBytes::two(second, byte);
-            Err(Utf8Error::new(Utf8ErrorKind::InterruptedSequence))
-        }
-        Some(byte) => fourth(first, second, byte, held, source),
+        Some(byte) => match step(state, class_of(byte)) {
+            State::Interrupted => {
+                *held = HeldBytes::two(second, byte);
+                Err(Utf8Error::new(Utf8ErrorKind::InterruptedSequence))
+            }
+            next => fourth(first, second, byte, next, held, source),
+        },
     }
 }
 
-// The fourth, behind two continuation bytes.
+// The fourth.
 #[inline(always)]
 fn fourth<I: Iterator<Item = u8>>(
     first: u8,
     second: u8,
     third: u8,
+    state: State,
     held: &mut HeldBytes,
     source: &mut I,
 ) -> Result<Followers, Utf8Error>
     requires low { 0xF0 ≤ first }
     requires high { first < 0xF5 }
+    requires walked { state ≡ state_after (first ∷ second ∷ third ∷ []) 3 }
+    requires asks { missing state ≡ 1 }
     requires second { is_continuation second ≡ true }
     requires third { is_continuation third ≡ true }
     requires can { I.can_next source.old }
@@ -336,15 +340,11 @@ fn fourth<I: Iterator<Item = u8>>(
             *held = HeldBytes::two(second, third).ended();
             Err(Utf8Error::new(Utf8ErrorKind::TooFewBytes))
         }
-        Some(byte) if !continues(byte) => {
-            *held = HeldBytes::three(second, third, byte);
-            Err(Utf8Error::new(Utf8ErrorKind::InterruptedSequence))
-        }
-        Some(byte) => match behind_two(first, second) {
-            State::TwoMore => Ok(Followers::new(second, third, byte)),
-            state => {
+        Some(byte) => match step(state, class_of(byte)) {
+            State::Done => Ok(Followers::new(second, third, byte)),
+            end => {
                 *held = HeldBytes::three(second, third, byte);
-                Err(error_of(step(step(state, class_of(third)), class_of(byte))))
+                Err(error_of(end))
             }
         },
     }
@@ -358,5 +358,5 @@ fn error_of(end: State) -> Utf8Error
     requires { is_later_fault end ≡ true }
     ensures { fault_of end ≡ Some result }
 {
-    error_behind(end)
+    error_after(end)
 }

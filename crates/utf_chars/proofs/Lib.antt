@@ -1,7 +1,5 @@
 pub mod Decoded
 pub mod DigitLemmas
-pub mod Interrupted
-pub mod NoneBegins
 pub mod OwnCodes
 pub mod PaddedLemmas
 pub mod PaddedUnits

@@ -1,145 +1,75 @@
--- A walk of some bytes over the table of classes and states: to where it leads, and what its end tells of them.
-use Rattle.std.proofs.Common.{◌≡◌, ℕ, suc, ◌<◌, ◌≤◌, List, length, get_or, arith, refl, ap, sym, ◌∙◌, ◌&&◌, None, Bool, true, false}
+-- A walk of some bytes over the table of classes and states, step by step.
+use Rattle.std.proofs.Common.{◌≡◌, ℕ, suc, ◌<◌, ◌≤◌, List, length, get_or, arith, refl, ap, sym, ◌∙◌, Some, None, true}
 use Rattle.std.proofs.lemmas.Grind.{common_steps}
 use Rattle.std.specs.Char.{IsScalar as IsStdScalar}
+use Rattle.utf_base.specs.declared.errors.Utf8ErrorKind.TheVariants.{InterruptedSequence}
 use Rattle.utf_base.specs.declared.table.State.{State}
-use Rattle.utf_base.specs.declared.table.State.TheVariants.{Start, OneMore, TwoMore, ThreeMore, BehindE0, BehindEd, BehindF0, BehindF4, TwoMoreOverlong, OneMoreOverlong, OneMoreReserved, TwoMoreTooHigh, OneMoreTooHigh, Done, Unexpected, Never, Interrupted, Overlong, Reserved, TooHigh}
+use Rattle.utf_base.specs.declared.table.State.TheVariants.{Start, OneMore, Done, Interrupted}
 use Rattle.utf_base.specs.Code.{utf8}
 use Rattle.utf_base.specs.Front.{BeginsWith}
 use Rattle.utf_base.specs.Kinds.{fault_kind, asked_by, value, is_continuation}
-use Rattle.utf_base.specs.Table.{class, continued, fault_of, is_running, missing, next_state, state_after}
-use Rattle.utf_base.proofs.FrontLemmas.{asked-3, asked-4, decodes_from_none, code_where_no_fault}
-use Rattle.utf_base.proofs.TableSteps.{by_continued, fault_at_end, first-3, first-4, follower_is_less, last_ends}
+use Rattle.utf_base.specs.Table.{class, fault_of, is_later_fault, is_running, missing, next_state, state_after}
+use Rattle.utf_base.proofs.FrontLemmas.{decodes_from_none, code_where_no_fault}
+use Rattle.utf_base.proofs.TableSteps.{asks_runs, fault_at_end, faults_later, first-2, first-3, first-4, last_ends, one_less}
 
--- How many bytes the state behind some asks for.
+-- after k bytes the walk has come to the state, which asks for n more
+pub record Walk (w : List ℕ) (k : ℕ) (state : State) (n : ℕ) : Type 0 where
+  pub at : state_after w k ≡ state
+  pub asks : missing state ≡ n
 
-pub second_asks-3 : (first second : ℕ) → 0xE0 ≤ first → first < 0xF0 → is_continuation second ≡ true → missing (next_state (next_state Start (class first)) (class second)) ≡ 1
-second_asks-3 first second low high follows =
-    let asks = first-3 first low high in
-    let less = follower_is_less (next_state Start (class first)) second (omega arith) follows in
-    omega arith
+-- the next state, after a byte of which the class is given
+pub record Next (w : List ℕ) (k : ℕ) (state : State) (c : ℕ) (next : State) : Type 0 where
+  pub class : c ≡ class (get_or w k 0)
+  pub step : next ≡ next_state state c
 
-pub second_asks-4 : (first second : ℕ) → 0xF0 ≤ first → first < 0xF5 → is_continuation second ≡ true → missing (next_state (next_state Start (class first)) (class second)) ≡ 2
-second_asks-4 first second low high follows =
-    let asks = first-4 first low high in
-    let less = follower_is_less (next_state Start (class first)) second (omega arith) follows in
-    omega arith
+-- what the first byte of a code leads to
 
-pub third_asks : (first second third : ℕ) → 0xF0 ≤ first → first < 0xF5 → is_continuation second ≡ true → is_continuation third ≡ true
-    → missing (next_state (next_state (next_state Start (class first)) (class second)) (class third)) ≡ 1
-third_asks first second third low high follows follows' =
-    let asks = second_asks-4 first second low high follows in
-    let less = follower_is_less (next_state (next_state Start (class first)) (class second)) third (omega arith) follows' in
-    omega arith
+pub Walk-2 : (w : List ℕ) → 0xC2 ≤ get_or w 0 0 → get_or w 0 0 < 0xE0 → Walk w 1 OneMore 1
+Walk-2 w low high = record { at = first-2 (get_or w 0 0) low high; asks = refl }
 
--- Where any that continue complete a code, and where none do.
+pub Walk-3 : (w : List ℕ) (c : ℕ) (first : State) → 0xE0 ≤ get_or w 0 0 → get_or w 0 0 < 0xF0 → Next w 0 Start c first → Walk w 1 first 2
+Walk-3 w c first low high x =
+    let e : next_state Start (class (get_or w 0 0)) ≡ first = rw (← x.class) (sym x.step) in
+    record { at = e; asks = sym (ap missing e) ∙ first-3 (get_or w 0 0) low high }
 
-any_leads : (next : State) (b : ℕ) → is_continuation b ≡ true → continued next next next (class b) ≡ next
-unfolding class
-any_leads next b follows = grind (arith, common_steps)
+pub Walk-4 : (w : List ℕ) (c : ℕ) (first : State) → 0xF0 ≤ get_or w 0 0 → get_or w 0 0 < 0xF5 → Next w 0 Start c first → Walk w 1 first 3
+Walk-4 w c first low high x =
+    let e : next_state Start (class (get_or w 0 0)) ≡ first = rw (← x.class) (sym x.step) in
+    record { at = e; asks = sym (ap missing e) ∙ first-4 (get_or w 0 0) low high }
 
-pub completes-1 : (state : State) (b : ℕ) → state ≡ OneMore → is_continuation b ≡ true → next_state state (class b) ≡ Done
-unfolding next_state
-completes-1 state b e follows = rw e (any_leads Done b follows)
+pub running : (w : List ℕ) (k n : ℕ) (state : State) → Walk w k state (suc n) → is_running state ≡ true
+running w k n state h = asks_runs state (omega (arith, h.asks))
 
-pub completes-2 : (state : State) (b : ℕ) → state ≡ TwoMore → is_continuation b ≡ true → next_state state (class b) ≡ OneMore
-unfolding next_state
-completes-2 state b e follows = rw e (any_leads OneMore b follows)
+-- the state after one more byte
+stepped : (w : List ℕ) (k c : ℕ) (state next : State) → state_after w k ≡ state → Next w k state c next → state_after w (suc k) ≡ next
+stepped w k c state next e x = rw (e, ← x.class) (sym x.step)
 
-abbrev is_one_more : State → Bool
-is_one_more OneMore = true
-is_one_more state = false
+pub walk_on : (w : List ℕ) (k n c : ℕ) (state next : State) → Walk w k state (suc n) → Next w k state c next → (next ≡ Interrupted → ⊥) → Walk w (suc k) next n
+walk_on w k n c state next h x on =
+    let less = one_less state c (omega (arith, h.asks)) (λ e. on (x.step ∙ e)) in
+    let same : missing next ≡ missing (next_state state c) = ap missing x.step in
+    record { at = stepped w k c state next h.at x; asks = omega (arith, h.asks) }
 
--- the state may stand behind two bytes, where the first asks for four
-abbrev is_second_of_four : State → Bool
-is_second_of_four TwoMore = true
-is_second_of_four TwoMoreOverlong = true
-is_second_of_four TwoMoreTooHigh = true
-is_second_of_four Interrupted = true
-is_second_of_four state = false
+-- A byte that is asked for and does not continue, and the last one that is asked for.
 
-second_of_four : (state : State) (c : ℕ) → missing state ≡ 3 → is_second_of_four (next_state state c) ≡ true
-unfolding next_state
-second_of_four Start c e = absurd (omega arith)
-second_of_four OneMore c e = absurd (omega arith)
-second_of_four TwoMore c e = absurd (omega arith)
-second_of_four ThreeMore c e = by_continued (λ next. is_second_of_four next ≡ true) TwoMore TwoMore TwoMore c refl refl refl refl
-second_of_four BehindE0 c e = absurd (omega arith)
-second_of_four BehindEd c e = absurd (omega arith)
-second_of_four BehindF0 c e = by_continued (λ next. is_second_of_four next ≡ true) TwoMoreOverlong TwoMore TwoMore c refl refl refl refl
-second_of_four BehindF4 c e = by_continued (λ next. is_second_of_four next ≡ true) TwoMore TwoMoreTooHigh TwoMoreTooHigh c refl refl refl refl
-second_of_four TwoMoreOverlong c e = absurd (omega arith)
-second_of_four OneMoreOverlong c e = absurd (omega arith)
-second_of_four OneMoreReserved c e = absurd (omega arith)
-second_of_four TwoMoreTooHigh c e = absurd (omega arith)
-second_of_four OneMoreTooHigh c e = absurd (omega arith)
-second_of_four Done c e = absurd (omega arith)
-second_of_four Unexpected c e = absurd (omega arith)
-second_of_four Never c e = absurd (omega arith)
-second_of_four Interrupted c e = absurd (omega arith)
-second_of_four Overlong c e = absurd (omega arith)
-second_of_four Reserved c e = absurd (omega arith)
-second_of_four TooHigh c e = absurd (omega arith)
+pub walk_breaks : (w : List ℕ) (k c : ℕ) (state next : State) → state_after w k ≡ state → Next w k state c next → k < length w → asked_by w ≤ length w → next ≡ Interrupted
+    → fault_kind w ≡ Some InterruptedSequence
+walk_breaks w k c state next h x there enough e = fault_at_end w (suc k) Interrupted (omega arith) enough (stepped w k c state next h x ∙ e) refl
 
-never_one_more : (state : State) (c : ℕ) → missing state ≡ 2 → is_second_of_four state ≡ true → (state ≡ TwoMore → ⊥) → is_one_more (next_state state c) ≡ false
-unfolding next_state
-never_one_more Start c e second other = absurd (omega arith)
-never_one_more OneMore c e second other = absurd (omega arith)
-never_one_more TwoMore c e second other = absurd (other refl)
-never_one_more ThreeMore c e second other = absurd (omega arith)
-never_one_more BehindE0 c e second other = cc
-never_one_more BehindEd c e second other = cc
-never_one_more BehindF0 c e second other = absurd (omega arith)
-never_one_more BehindF4 c e second other = absurd (omega arith)
-never_one_more TwoMoreOverlong c e second other = by_continued (λ next. is_one_more next ≡ false) OneMoreOverlong OneMoreOverlong OneMoreOverlong c refl refl refl refl
-never_one_more OneMoreOverlong c e second other = absurd (omega arith)
-never_one_more OneMoreReserved c e second other = absurd (omega arith)
-never_one_more TwoMoreTooHigh c e second other = by_continued (λ next. is_one_more next ≡ false) OneMoreTooHigh OneMoreTooHigh OneMoreTooHigh c refl refl refl refl
-never_one_more OneMoreTooHigh c e second other = absurd (omega arith)
-never_one_more Done c e second other = absurd (omega arith)
-never_one_more Unexpected c e second other = absurd (omega arith)
-never_one_more Never c e second other = absurd (omega arith)
-never_one_more Interrupted c e second other = absurd (omega arith)
-never_one_more Overlong c e second other = absurd (omega arith)
-never_one_more Reserved c e second other = absurd (omega arith)
-never_one_more TooHigh c e second other = absurd (omega arith)
+pub walk_ends : (w : List ℕ) (k c : ℕ) (state next : State) → Walk w k state 1 → Next w k state c next → k < length w → asked_by w ≤ length w → fault_kind w ≡ fault_of next
+walk_ends w k c state next h x there enough =
+    fault_at_end w (suc k) next (omega arith) enough (stepped w k c state next h.at x) (ap is_running x.step ∙ last_ends state c h.asks)
 
--- behind the third byte of four a fault is known already, where one is
-pub fails_in_third : (w : List ℕ) (state third : State) (c : ℕ) → 0xF0 ≤ get_or w 0 0 → get_or w 0 0 < 0xF5 → is_continuation (get_or w 1 0) ≡ true
-    → state ≡ state_after w 2 → third ≡ next_state state c → (state ≡ TwoMore → ⊥) → third ≡ OneMore → ⊥
-fails_in_third w state third c low high follows at step other e =
-    let two : missing state ≡ 2 = ap missing at ∙ second_asks-4 (get_or w 0 0) (get_or w 1 0) low high follows in
-    let second : is_second_of_four state ≡ true = ap is_second_of_four at ∙ second_of_four (next_state Start (class (get_or w 0 0))) (class (get_or w 1 0)) (first-4 (get_or w 0 0) low high) in
-    let no : is_one_more third ≡ false = ap is_one_more step ∙ never_one_more state c two second other in
-    no_both (sym (ap is_one_more e) ∙ no)
-  where
-    no_both : true ≡ false → ⊥
-    no_both e = cc
-
-pub behind_third : (w : List ℕ) (c : ℕ) (state next : State) → state ≡ state_after w 2 → c ≡ class (get_or w 2 0) → next ≡ next_state state c → next ≡ state_after w 3
-behind_third w c state next at of step = step ∙ ap (λ s. next_state s c) at ∙ ap (λ x. next_state (state_after w 2) x) of
-
--- the last byte that the first asks for leads to an end, which tells what is wrong with the bytes
-ends : (w : List ℕ) (k c : ℕ) (state end : State) → missing state ≡ 1 → state_after w k ≡ state → c ≡ class (get_or w k 0) → end ≡ next_state state c
-    → k < length w → asked_by w ≤ length w → fault_kind w ≡ fault_of end
-ends w k c state end one at of step there enough =
-    fault_at_end w (suc k) end (omega arith) enough (rw (at, ← of) (sym step)) (ap is_running step ∙ last_ends state c one)
-
-pub ends-3 : (w : List ℕ) (c : ℕ) (state end : State) → 0xE0 ≤ get_or w 0 0 → get_or w 0 0 < 0xF0 → 3 ≤ length w → is_continuation (get_or w 1 0) ≡ true
-    → state ≡ state_after w 2 → c ≡ class (get_or w 2 0) → end ≡ next_state state c → fault_kind w ≡ fault_of end
-ends-3 w c state end low high enough follows at of step =
-    let asks = asked-3 (get_or w 0 0) low high in
-    ends w 2 c state end (ap missing at ∙ second_asks-3 (get_or w 0 0) (get_or w 1 0) low high follows) (sym at) of step (omega arith) (omega arith)
-
-pub ends-4 : (w : List ℕ) (c : ℕ) (state end : State) → 0xF0 ≤ get_or w 0 0 → get_or w 0 0 < 0xF5 → 4 ≤ length w → is_continuation (get_or w 1 0) ≡ true
-    → is_continuation (get_or w 2 0) ≡ true → state ≡ state_after w 3 → c ≡ class (get_or w 3 0) → end ≡ next_state state c → fault_kind w ≡ fault_of end
-ends-4 w c state end low high enough follows follows' at of step =
-    let asks = asked-4 (get_or w 0 0) low high in
-    ends w 3 c state end (ap missing at ∙ third_asks (get_or w 0 0) (get_or w 1 0) (get_or w 2 0) low high follows follows') (sym at) of step (omega arith) (omega arith)
+-- where it does not complete a code, that end is a fault
+pub walk_fails : (w : List ℕ) (k c : ℕ) (state next : State) → Walk w k state 1 → next ≡ next_state state c → (next ≡ Done → ⊥) → is_later_fault next ≡ true
+walk_fails w k c state next h step other = ap is_later_fault step ∙ faults_later state c h.asks (λ e. other (step ∙ e))
 
 -- the value of bytes that are a code is a scalar, whose code they are
 pub walk_finds : (w : List ℕ) (n v : ℕ) → fault_kind w ≡ None → asked_by w ≡ n → value w ≡ v → BeginsWith utf8 w v n
 walk_finds w n v none asks sum = let r = code_where_no_fault w none in (rw sum at r.0, sym asks ∙ r.1 ∙ ap (λ x. length (utf8 x)) sum)
+
+pub continues_in_code : (w : List ℕ) (k : ℕ) → fault_kind w ≡ None → 0 < k → k < asked_by w → is_continuation (get_or w k 0) ≡ true
+continues_in_code w k none some lt = let c = (decodes_from_none w none).follow k some lt in grind (arith, common_steps)
 
 -- std's word for the same scalar
 pub std_scalar : (w : List ℕ) (v : ℕ) → fault_kind w ≡ None → value w ≡ v → IsStdScalar v
@@ -148,8 +78,3 @@ std_scalar w v none sum =
     let below = h.below in
     let no_surrogate = h.no_surrogate in
     grind (arith, common_steps)
-
--- where both are so, each is
-pub each : (a b : Bool) → (a && b) ≡ true → (a ≡ true) × (b ≡ true)
-each true b e = (refl, e)
-each false b e = cc

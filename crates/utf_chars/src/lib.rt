@@ -4,7 +4,6 @@
 mod codes;
 pub mod continuation;
 pub mod laws;
-pub mod text_front;
 pub mod traits;
 pub mod unsent;
 pub mod utf16_char;

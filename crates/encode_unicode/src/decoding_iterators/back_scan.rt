@@ -16,7 +16,7 @@ use utf_chars::utf8_char::Utf8Char;
 pub(crate) fn decode_end(bytes: &[u8], steps: &mut Steps) -> Result<(Utf8Char, usize), Utf8Error>
     requires { 0 < length bytes.now }
     ensures decodes { DecodesEnd as_scalar bytes.now result }
-    ensures steps { IsScanned steps.old steps.new (length bytes.now) }
+    ensures steps { IsScanned bytes.now steps.old steps.new }
 {
     let n = bytes.len();
     if n < 4 {
@@ -51,7 +51,7 @@ fn scan(bytes: [u8; 4], count: usize, steps: &mut Steps) -> Result<(Utf8Char, us
     requires some { 1 ≤ count }
     requires most { count ≤ 4 }
     ensures decodes { DecodesEnd as_scalar (drop (4 - count) bytes) result }
-    ensures steps { IsScanned steps.old steps.new count }
+    ensures steps { IsScanned (drop (4 - count) bytes) steps.old steps.new }
 {
     steps.tick();
     if !continues(bytes[3]) {

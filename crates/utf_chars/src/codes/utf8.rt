@@ -1,14 +1,14 @@
 //! The code of a scalar in UTF-8 (RFC 3629).
-ghost use Rattle.std.specs.Prelude.{◌≡◌, ◌+◌, ◌-◌, ◌*◌, ◌%◌, ◌≤◌, ◌<◌, ◌&&◌, nat_le, nat_lt, true, length, slice_index};
+ghost use Rattle.std.specs.Prelude.{◌≡◌, ◌+◌, ◌-◌, ◌*◌, ◌%◌, ◌≤◌, ◌<◌, ◌&&◌, true, length, slice_index};
 ghost use Rattle.std.specs.Int.{w32, from_le_bytes};
 ghost use Rattle.utf_base.specs.Code.{utf8};
 ghost use Rattle.utf_base.specs.Front.{as_scalar, IsOneCode, DecodesFront, DecodesBytes};
 ghost use Rattle.utf_base.specs.Kinds.{is_continuation};
 ghost use Rattle.utf_chars.specs.Padded.{padded};
 
-use crate::continuation::continues;
 use utf_base::errors::{Utf8Error, Utf8ErrorKind};
-use utf_base::table::{State, behind_two, class_of, error_behind, step};
+use utf_base::table::walks::error_after;
+use utf_base::table::{State, class_of, step};
 
 /// The code, then zeros, and how many bytes the code has: 1 to 4.
 #[inline(always)]
@@ -31,7 +31,7 @@ pub(crate) fn padded_code(s: u32) -> [u8; 4]
 
 /// The character whose code begins the bytes, and how many bytes the code has: 1 to 4.
 ///
-/// Bytes behind the code do not matter. Where no code begins them, the error is the first that applies:
+/// Bytes after the code do not matter. Where no code begins them, the error is the first that applies:
 /// no byte at all or fewer than the first asks for, whatever they are, is `TooFewBytes`; a first byte that
 /// begins no code is `UnexpectedContinuationByte` or `NonUtf8Byte`; one that is asked for and is no
 /// continuation byte is `InterruptedSequence`; and then the value itself is judged, as
@@ -43,19 +43,15 @@ pub(crate) fn decode_start(src: &[u8]) -> Result<(char, usize), Utf8Error>
     if src.is_empty() {
         return Err(Utf8Error::new(Utf8ErrorKind::TooFewBytes));
     }
-    if src[0] < 0x80 {
-        return Ok((char::from(src[0]), 1));
-    }
-    if begins_many(src[0]) {
-        return decode_many(src);
-    }
-    match src[0] {
-        0x80..=0xbf => Err(Utf8Error::new(Utf8ErrorKind::UnexpectedContinuationByte)),
-        _ => Err(Utf8Error::new(Utf8ErrorKind::NonUtf8Byte)),
+    match step(State::Start, class_of(src[0])) {
+        State::Done => Ok((ascii(src[0]), 1)),
+        State::Unexpected => Err(Utf8Error::new(Utf8ErrorKind::UnexpectedContinuationByte)),
+        State::Never => Err(Utf8Error::new(Utf8ErrorKind::NonUtf8Byte)),
+        _ => decode_asked(src),
     }
 }
 
-/// The character whose code begins the four bytes. Those behind the code are ignored.
+/// The character whose code begins the four bytes. Those after the code are ignored.
 ///
 /// The error is that of `decode_start`, and never `TooFewBytes`.
 #[inline(always)]
@@ -151,50 +147,20 @@ fn continuation(bits: u32) -> u32
     0x80 | bits & 0x3f
 }
 
-// Whether two bytes have it.
+// The character of an ASCII code. A compiler takes from it that the byte is one, and asks no more where the character
+// is used.
 #[inline(always)]
-fn both_continue(second: u8, third: u8) -> bool
-    ensures { result ≡ (is_continuation second && is_continuation third) }
+fn ascii(byte: u8) -> char
+    requires { byte < 0x80 }
+    ensures { result ≡ byte }
 {
-    continues(second) && continues(third)
-}
-
-// Whether three bytes have it.
-#[inline(always)]
-fn all_continue(second: u8, third: u8, fourth: u8) -> bool
-    ensures { result ≡ (is_continuation second && is_continuation third && is_continuation fourth) }
-{
-    both_continue(second, third) && continues(fourth)
-}
-
-// Whether the byte is the first of a code of two bytes or more.
-#[inline(always)]
-fn begins_many(first: u8) -> bool
-    ensures { result ≡ (nat_le 0xC2 first && nat_lt first 0xF5) }
-{
-    0xc2 <= first && first <= 0xf4
-}
-
-// The character that begins the bytes, where the first asks for two or more.
-#[inline(always)]
-fn decode_many(src: &[u8]) -> Result<(char, usize), Utf8Error>
-    requires some { 0 < length src.now }
-    requires low { 0xC2 ≤ slice_index src.now 0 }
-    requires high { slice_index src.now 0 < 0xF5 }
-    ensures { DecodesFront as_scalar src.now result }
-{
-    if src.len() < 4 {
-        return decode_asked(src);
+    match byte {
+        0x00..=0x7f => char::from(byte),
+        _ => unreachable!(),
     }
-    // Before the first byte says how many: in damaged text this answer is the easier to foresee. With so
-    // many bytes and this one known, a compiler leaves out most tests of what follows.
-    if !continues(src[1]) {
-        return Err(Utf8Error::new(Utf8ErrorKind::InterruptedSequence));
-    }
-    decode_asked(src)
 }
 
-// The same, by how many the first asks for.
+// The character that begins the bytes, where the first asks for two or more: one walk for each number of bytes.
 #[inline(always)]
 fn decode_asked(src: &[u8]) -> Result<(char, usize), Utf8Error>
     requires some { 0 < length src.now }
@@ -209,7 +175,7 @@ fn decode_asked(src: &[u8]) -> Result<(char, usize), Utf8Error>
     }
 }
 
-// The character that begins the bytes, where the first asks for two: any continuation byte completes a code.
+// The character that begins the bytes, where the first asks for two: its class is known, and so is the state after it.
 #[inline(always)]
 fn decode_two(src: &[u8]) -> Result<(char, usize), Utf8Error>
     requires some { 0 < length src.now }
@@ -220,16 +186,16 @@ fn decode_two(src: &[u8]) -> Result<(char, usize), Utf8Error>
     if src.len() < 2 {
         return Err(Utf8Error::new(Utf8ErrorKind::TooFewBytes));
     }
-    if !continues(src[1]) {
+    let second = step(State::OneMore, class_of(src[1]));
+    if second != State::Done {
         return Err(Utf8Error::new(Utf8ErrorKind::InterruptedSequence));
     }
     let value = value_of_two(src[0], src[1]);
-    Ok((char::from_u32(value).unwrap(), 2))
+    Ok((unsafe { char::from_u32_unchecked(value) }, 2))
 }
 
-// The character that begins the bytes, where the first asks for three. The states say whether they are a code, and
-// no value is judged: behind two bytes of a code any continuation byte completes it. Else the end that all three
-// lead to tells what is wrong with them.
+// The character that begins the bytes, where the first asks for three. The state after the last says whether they
+// are a code, so no value is judged.
 #[inline(always)]
 fn decode_three(src: &[u8]) -> Result<(char, usize), Utf8Error>
     requires some { 0 < length src.now }
@@ -240,18 +206,20 @@ fn decode_three(src: &[u8]) -> Result<(char, usize), Utf8Error>
     if src.len() < 3 {
         return Err(Utf8Error::new(Utf8ErrorKind::TooFewBytes));
     }
-    if !both_continue(src[1], src[2]) {
+    let first = step(State::Start, class_of(src[0]));
+    let second = step(first, class_of(src[1]));
+    if second == State::Interrupted {
         return Err(Utf8Error::new(Utf8ErrorKind::InterruptedSequence));
     }
-    let state = behind_two(src[0], src[1]);
-    if state != State::OneMore {
-        return Err(error_behind(step(state, class_of(src[2]))));
+    let third = step(second, class_of(src[2]));
+    if third != State::Done {
+        return Err(error_after(third));
     }
     let value = value_of_three(src[0], src[1], src[2]);
     Ok((unsafe { char::from_u32_unchecked(value) }, 3))
 }
 
-// The character that begins the bytes, where the first asks for four: the same, with two that complete the code.
+// The character that begins the bytes, where the first asks for four: the same, with one step more.
 #[inline(always)]
 fn decode_four(src: &[u8]) -> Result<(char, usize), Utf8Error>
     requires some { 0 < length src.now }
@@ -262,12 +230,18 @@ fn decode_four(src: &[u8]) -> Result<(char, usize), Utf8Error>
     if src.len() < 4 {
         return Err(Utf8Error::new(Utf8ErrorKind::TooFewBytes));
     }
-    if !all_continue(src[1], src[2], src[3]) {
+    let first = step(State::Start, class_of(src[0]));
+    let second = step(first, class_of(src[1]));
+    if second == State::Interrupted {
         return Err(Utf8Error::new(Utf8ErrorKind::InterruptedSequence));
     }
-    let state = behind_two(src[0], src[1]);
-    if state != State::TwoMore {
-        return Err(error_behind(step(step(state, class_of(src[2])), class_of(src[3]))));
+    let third = step(second, class_of(src[2]));
+    if third == State::Interrupted {
+        return Err(Utf8Error::new(Utf8ErrorKind::InterruptedSequence));
+    }
+    let fourth = step(third, class_of(src[3]));
+    if fourth != State::Done {
+        return Err(error_after(fourth));
     }
     let value = value_of_four(src[0], src[1], src[2], src[3]);
     Ok((unsafe { char::from_u32_unchecked(value) }, 4))

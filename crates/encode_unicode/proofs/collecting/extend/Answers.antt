@@ -1,4 +1,4 @@
-use Rattle.std.proofs.Common.{sym, ap, ◌∙◌, ◌++◌}
+use Rattle.std.proofs.Common.{sym, ap, ◌∙◌, ◌++◌, arith}
 use Rattle.std.proofs.lemmas.List.{flat_map_more}
 use Rattle.std.proofs.lemmas.Result.{err_from_is_err_and}
 use Rattle.std.specs.List.{flat_map}
@@ -9,12 +9,15 @@ pub loop-c-preserved : goal.loop-c-preserved
 loop-c-preserved g c = record {
   added = c.in_ok-add.ensures.ok ∙ ap (λ ys. ys ++ g.T.HoldsCodes.code c.in-Some.c) c.loop-c.invariant.added ∙ flat_map_more g.T.HoldsCodes.code (g.T.HoldsCodes.held c.args.out.now) c.loop-c.yielded c.in-Some.c;
   left = λ rest listed. one_more _ _ _ _ _ (c.loop-c.invariant.left rest listed) (listed _ _ _ c.in-Some.ensures.steps);
+  room = let before = c.loop-c.invariant.room in let grown = c.in_ok-add.ensures.room in omega arith;
 }
 
 pub returns-in_err-add-clause-err : goal.returns-in_err-add-clause-err
 returns-in_err-add-clause-err g c =
     let from = err_from_is_err_and c.from_residual.result c.from_residual.ensures.1 in
-    rw from.1 (λ rest listed. first_added g.T.HoldsCodes.code _ _ _ _ _ _ _ (c.loop-c.invariant.left rest listed) (listed _ _ _ c.in-Some.ensures.steps) (c.in_err-add.ensures.err ∙ c.loop-c.invariant.added))
+    let before = c.loop-c.invariant.room in
+    let full = rw c.loop-c.invariant.added at c.in_err-add.ensures.full in
+    rw from.1 (λ rest listed. first_added g.T.HoldsCodes.code _ _ _ _ _ _ _ _ (c.loop-c.invariant.left rest listed) (listed _ _ _ c.in-Some.ensures.steps) (c.in_err-add.ensures.err ∙ c.loop-c.invariant.added) (omega arith))
 
 pub returns-in_err-add-clause-nothing : goal.returns-in_err-add-clause-nothing
 returns-in_err-add-clause-nothing g c rest listed none = absurd (not_none _ _ _ _ _ (c.loop-c.invariant.left rest listed) (listed _ _ _ c.in-Some.ensures.steps) none)

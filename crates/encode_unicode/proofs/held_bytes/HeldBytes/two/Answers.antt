@@ -1,12 +1,6 @@
-use Rattle.std.proofs.Common.{◌<◌, refl, arith}
-use Rattle.encode_unicode.proofs.HeldWords.{goes_on, two_bytes}
+use Rattle.std.proofs.Common.{refl}
+use Rattle.encode_unicode.proofs.HeldWords.{two_bytes}
 use Rattle.encode_unicode.proofs.held_bytes.HeldBytes.two.Goals as goal
 
 pub returns-clause-held : goal.returns-clause-held
 returns-clause-held c = two_bytes _ c.args.first c.args.second c.ranges.first.fits c.ranges.second.fits refl
-
-pub returns-clause-going : goal.returns-clause-going
-returns-clause-going c =
-    let fits : c.args.first < 256 = c.ranges.first.fits in
-    let fits' : c.args.second < 256 = c.ranges.second.fits in
-    goes_on _ (omega arith)

@@ -1,31 +1,51 @@
-use Rattle.std.proofs.Common.{◌≡◌, ◌<◌, ◌≤◌, ◌⊎◌, inl, inr, ⊎_elim, length, get_or, arith, false}
-use Rattle.std.proofs.lemmas.Bool.{cases_lt}
+use Rattle.std.proofs.Common.{◌≡◌, ℕ, ◌<◌, ◌≤◌, ◌⊎◌, inl, inr, length, get_or, arith, ap, sym, subst, ◌∙◌, false}
 use Rattle.std.proofs.lemmas.Grind.{common_steps}
-use Rattle.utf_base.specs.Kinds.{is_continuation}
+use Rattle.utf_base.specs.declared.table.State.{State}
+use Rattle.utf_base.specs.declared.table.State.TheVariants.{Start, Done, Unexpected, Never}
+use Rattle.utf_base.specs.Kinds.{asked, is_continuation}
+use Rattle.utf_base.specs.Table.{class, next_state}
 use Rattle.utf_base.proofs.FrontLemmas.{asked-0}
 use Rattle.utf_base.proofs.KindCases.{kind-empty, kind-continuation, kind-never, begins_with-1}
+use Rattle.utf_base.proofs.TableLemmas.{Begins, begins}
+use Rattle.utf_base.proofs.TableSteps.{asks_for_others}
 use Rattle.utf_chars.proofs.codes.utf8.decode_start.Goals as goal
+
+-- the range of the byte, by the state that was found
+found : (b c : ℕ) (r state : State) → c ≡ class b → r ≡ next_state Start c → r ≡ state → Begins b state
+found b c r state e f g = subst (λ (s : State). Begins b s) (sym (ap (next_state Start) e) ∙ sym f ∙ g) (begins b)
+
+-- a byte that no code has
+outside : (b : ℕ) → (0xC0 ≤ b) × (b < 0xC2) ⊎ (0xF5 ≤ b) → (asked b ≡ 0) × (is_continuation b ≡ false)
+outside b (inl h) = (asked-0 b (inl (omega arith, h.1)), grind (arith, common_steps))
+outside b (inr h) = (asked-0 b (inr h), grind (arith, common_steps))
 
 pub returns-then-is_empty : goal.returns-then-is_empty
 returns-then-is_empty c = rw c.new.ensures (kind-empty _ (grind (arith, common_steps)))
 
-pub returns-then-src-lt128 : goal.returns-then-src-lt128
-returns-then-src-lt128 c =
-    let some : 0 < length c.args.src.now = grind (arith, common_steps) in
-    rw c.from.ensures (begins_with-1 _ some (omega arith))
+pub ascii-requires : goal.ascii-requires
+ascii-requires c = found _ _ _ Done c.class_of.ensures.class c.step.ensures c.in-Done.is
 
-pub returns-in-128-to-191 : goal.returns-in-128-to-191
-returns-in-128-to-191 c =
+pub decode_asked-requires : goal.decode_asked-requires
+decode_asked-requires c =
     let some : 0 < length c.args.src.now = grind (arith, common_steps) in
-    rw c.new-in-128-to-191.ensures (kind-continuation _ some (omega arith) (omega arith))
+    let n = c.in_default in
+    let range = asks_for_others (get_or c.args.src.now 0 0) c.step.result (c.step.ensures ∙ ap (next_state Start) c.class_of.ensures.class) n.not-Done n.not-Unexpected n.not-Never in
+    record { some = some; low = range.0; high = range.1 }
 
-pub returns-in_default : goal.returns-in_default
-returns-in_default c =
+pub returns-in-Done : goal.returns-in-Done
+returns-in-Done c =
     let some : 0 < length c.args.src.now = grind (arith, common_steps) in
-    let never : ((0x80 ≤ get_or c.args.src.now 0 0) × (get_or c.args.src.now 0 0 < 0xC2)) ⊎ (0xF5 ≤ get_or c.args.src.now 0 0)
-    = ⊎_elim
-    (λ (low : get_or c.args.src.now 0 0 < 0xC2). inl (omega arith, low))
-    (λ (high : 0xC2 ≤ get_or c.args.src.now 0 0). inr (grind (arith, common_steps)))
-    (cases_lt (get_or c.args.src.now 0 0) 0xC2) in
-    let first : is_continuation (get_or c.args.src.now 0 0) ≡ false = grind (arith, common_steps) in
-    rw c.new-in_default.ensures (kind-never _ some (asked-0 _ never) first)
+    let first = found _ _ _ Done c.class_of.ensures.class c.step.ensures c.in-Done.is in
+    rw c.ascii.ensures (begins_with-1 _ some first)
+
+pub returns-in-Unexpected : goal.returns-in-Unexpected
+returns-in-Unexpected c =
+    let some : 0 < length c.args.src.now = grind (arith, common_steps) in
+    let first = found _ _ _ Unexpected c.class_of.ensures.class c.step.ensures c.in-Unexpected.is in
+    rw c.new-in-Unexpected.ensures (kind-continuation _ some first.0 first.1)
+
+pub returns-in-Never : goal.returns-in-Never
+returns-in-Never c =
+    let some : 0 < length c.args.src.now = grind (arith, common_steps) in
+    let first = outside _ (found _ _ _ Never c.class_of.ensures.class c.step.ensures c.in-Never.is) in
+    rw c.new-in-Never.ensures (kind-never _ some first.0 first.1)

@@ -1,7 +1,13 @@
-use Rattle.std.proofs.Common.{◌≤◌, ◌∙◌, arith, sym, lit<}
-use Rattle.utf_base.proofs.FrontLemmas.{least_value-below_3}
-use Rattle.utf_base.proofs.KindCases.{Asks-2, kind-few, interrupted-2, Sums-2, begins_with}
-use Rattle.utf_base.proofs.StdText.{scalar_from_std}
+use Rattle.std.proofs.Common.{◌≡◌, ◌∙◌, ap, arith, lit<, rules, sym, None}
+use denote.Enum.Bare.{differs_true, differs_false}
+use Rattle.utf_base.specs.contracts.table.State.{the_type}
+use Rattle.utf_base.specs.declared.table.State.TheVariants.{Done}
+use Rattle.utf_base.specs.Kinds.{fault_kind}
+use Rattle.utf_base.specs.Table.{fault_of}
+use Rattle.utf_base.proofs.FrontLemmas.{asked-2, value-2}
+use Rattle.utf_base.proofs.KindCases.{Asks-2, kind-few}
+use Rattle.utf_base.proofs.TableSteps.{one_more_breaks}
+use Rattle.utf_chars.proofs.Walked.{Walk-2, continues_in_code, std_scalar, walk_breaks, walk_ends, walk_finds}
 use Rattle.utf_chars.proofs.codes.utf8.decode_two.Goals as goal
 
 pub returns-then-src-lt2 : goal.returns-then-src-lt2
@@ -9,16 +15,34 @@ returns-then-src-lt2 c =
     let asks = Asks-2 _ c.requires.some c.requires.low c.requires.high in
     rw c.new.ensures (kind-few _ 2 asks c.if-src-lt2.true)
 
-pub returns-then-not-continues : goal.returns-then-not-continues
-returns-then-not-continues c =
-    let asks = Asks-2 _ c.requires.some c.requires.low c.requires.high in
-    rw c.new-then-not-continues.ensures
-    (interrupted-2 _ asks c.if-src-lt2.false (sym c.continues.ensures ∙ c.if-not-continues.true))
+pub returns-then-ne : goal.returns-then-ne
+returns-then-ne c =
+    let asks = asked-2 _ c.requires.low c.requires.high in
+    let first = Walk-2 c.args.src.now c.requires.low c.requires.high in
+    let other = differs_true the_type c.step-second.result Done (sym c.ne.ensures ∙ c.if-ne.true) in
+    let broken = c.step-second.ensures ∙ one_more_breaks _ (λ e. other (c.step-second.ensures ∙ e)) in
+    rw c.new-then-ne.ensures (walk_breaks _ 1 _ _ _ first.at (record { class = c.class_of.ensures.class; step = c.step-second.ensures }) (omega arith) (omega arith) broken)
+
+pub value_of_two-value-requires-clause-second : goal.value_of_two-value-requires-clause-second
+value_of_two-value-requires-clause-second c =
+    let asks = asked-2 _ c.requires.low c.requires.high in
+    let first = Walk-2 c.args.src.now c.requires.low c.requires.high in
+    let done = differs_false the_type (search rules) c.step-second.result Done (sym c.ne.ensures ∙ c.if-ne.false) in
+    let none : fault_kind c.args.src.now ≡ None = walk_ends _ 1 _ _ _ first (record { class = c.class_of.ensures.class; step = c.step-second.ensures }) (omega arith) (omega arith) ∙ ap fault_of done in
+    continues_in_code _ 1 none (lit< tt) (omega arith)
+
+pub from_u32_unchecked-requires : goal.from_u32_unchecked-requires
+from_u32_unchecked-requires c =
+    let asks = asked-2 _ c.requires.low c.requires.high in
+    let first = Walk-2 c.args.src.now c.requires.low c.requires.high in
+    let done = differs_false the_type (search rules) c.step-second.result Done (sym c.ne.ensures ∙ c.if-ne.false) in
+    let none : fault_kind c.args.src.now ≡ None = walk_ends _ 1 _ _ _ first (record { class = c.class_of.ensures.class; step = c.step-second.ensures }) (omega arith) (omega arith) ∙ ap fault_of done in
+    std_scalar _ _ none (value-2 c.args.src.now asks ∙ sym c.value_of_two-value.ensures)
 
 pub returns : goal.returns
 returns c =
-    let any : 0 ≤ c.value_of_two-value.result = omega arith in
-    let asks = Asks-2 _ c.requires.some c.requires.low c.requires.high in
-    let sums = Sums-2 _ _ asks c.if-src-lt2.false (sym c.continues.ensures ∙ c.if-not-continues.false) c.value_of_two-value.ensures in
-    let made = rw c.unwrap.ensures at c.from_u32.ensures.value in
-    rw made.1 (begins_with _ 2 _ sums (rw (least_value-below_3 2 (lit< tt)) any) (scalar_from_std _ made.0))
+    let asks = asked-2 _ c.requires.low c.requires.high in
+    let first = Walk-2 c.args.src.now c.requires.low c.requires.high in
+    let done = differs_false the_type (search rules) c.step-second.result Done (sym c.ne.ensures ∙ c.if-ne.false) in
+    let none : fault_kind c.args.src.now ≡ None = walk_ends _ 1 _ _ _ first (record { class = c.class_of.ensures.class; step = c.step-second.ensures }) (omega arith) (omega arith) ∙ ap fault_of done in
+    rw c.from_u32_unchecked.ensures (walk_finds _ 2 _ none asks (value-2 _ asks ∙ sym c.value_of_two-value.ensures))
