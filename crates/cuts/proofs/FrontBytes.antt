@@ -1,8 +1,8 @@
 -- What the front of some bytes shows, from the answer of a decoder.
-use Rattle.std.proofs.Common.{◌≡◌, ◌≢◌, ℕ, ◌<◌, ◌≤◌, ⊎_elim, List, [], ◌∷◌, ◌++◌, length, get_or, drop, arith, refl, ap, sym, ◌∙◌, Some, None, Bool, true, false, not, if◌then◌else◌, lit<, length-drop}
+use Rattle.std.proofs.Common.{◌≡◌, ◌≢◌, ℕ, ◌+◌, take, ◌<◌, ◌≤◌, ⊎_elim, List, [], ◌∷◌, ◌++◌, length, get_or, drop, arith, refl, ap, sym, ◌∙◌, Some, None, Bool, true, false, not, if◌then◌else◌, lit<, length-drop, length-append}
 use Rattle.std.proofs.lemmas.Grind.{common_steps}
 use Rattle.std.proofs.lemmas.Bool.{cases_lt}
-use Rattle.std.proofs.lemmas.List.{append-nil}
+use Rattle.std.proofs.lemmas.List.{append-nil, take_all, drop_all}
 use Rattle.utf_base.specs.declared.errors.Utf8ErrorKind.{Utf8ErrorKind}
 use Rattle.utf_base.specs.declared.errors.Utf8ErrorKind.TheVariants.{TooFewBytes}
 use Rattle.utf_base.specs.Scalar.{IsScalar}
@@ -13,14 +13,17 @@ use Rattle.utf_base.specs.Piece.{Stands}
 use Rattle.utf_base.specs.Shown.{Shows}
 use Rattle.utf_base.specs.declared.errors.units.Utf16TupleError.{Utf16TupleError}
 use Rattle.utf_base.specs.declared.errors.units.Utf16TupleError.TheVariants.{FirstIsTrailingSurrogate, SuperfluousSecond, MissingSecond, SecondIsNotTrailingSurrogate}
-use Rattle.utf_base.specs.Units.{is_leading_surrogate, is_trailing_surrogate, tuple_fault}
+use Rattle.utf_base.specs.declared.errors.units.Utf16PairError.TheVariants.{Incomplete}
+use Rattle.cuts.specs.declared.form.Form.{Form}
+use Rattle.cuts.specs.declared.form.Form.TheVariants.{Utf8, Utf16Le, Utf16Be}
+use Rattle.utf_base.specs.Units.{is_leading_surrogate, is_trailing_surrogate, tuple_fault, unit_fault_kind}
 use Rattle.utf_base.proofs.FrontLemmas.{no_code_where_fault}
 use Rattle.utf_base.proofs.KindCases.{kind-empty}
 use Rattle.utf_base.proofs.LaterLemmas.{kind_stays, few_where_too_few, no_code_at_trailing, no_code_at_unmatched, no_code_at_last}
 use Rattle.utf_base.proofs.Rests.{code_shows_first, whole_code_shows_first, fault_shows_first, shows_none, shows_one}
 use Rattle.utf_base.proofs.Utf8Code.{utf8_is_code, utf8-4}
 use Rattle.utf_base.proofs.Utf16Code.{utf16_is_code}
-use Rattle.cuts.specs.Recoded.{ShowsUnits, units_of, unit_of, odd_end}
+use Rattle.cuts.specs.Recoded.{ShowsUnits, units_of, unit_of, odd_end, Lacks}
 use Rattle.cuts.specs.ShownFronts.{Decides, Ends, Waits}
 
 replacement : IsScalar 0xFFFD
@@ -205,6 +208,47 @@ Waits-leading high w two few l = record {
       );
 }
 
+-- Such bytes lack elements.
+
+pub lacks_byte : (high : Bool) (w : List ℕ) → length w < 2 → unit_fault_kind (units_of high w) ≡ Some Incomplete
+unfolding unit_fault_kind
+lacks_byte high w few = rw (few_units high w few) refl
+
+leading_is_not_trailing : (u : ℕ) → is_leading_surrogate u ≡ true → is_trailing_surrogate u ≡ false
+leading_is_not_trailing u l = grind (arith, common_steps)
+
+-- a leading surrogate by itself
+alone : (u : ℕ) → is_leading_surrogate u ≡ true → unit_fault_kind (u ∷ []) ≡ Some Incomplete
+unfolding unit_fault_kind
+alone u l = rw (leading_is_not_trailing u l, l) refl
+
+pub lacks_second : (high : Bool) (w : List ℕ) → 2 ≤ length w → length w < 4 → is_leading_surrogate (first_unit high w) ≡ true
+    → unit_fault_kind (units_of high w) ≡ Some Incomplete
+lacks_second high w two few l =
+    let units : units_of high w ≡ first_unit high w ∷ units_of high (drop 2 w) = rw (append-nil w, append-nil (drop 2 w)) at (units_two high w [] two) in
+    let rest : units_of high (drop 2 w) ≡ [] = few_units high (drop 2 w) (omega (arith, length-drop 2 w)) in
+    rw (units, rest) (alone (first_unit high w) l)
+
+-- and so does nothing at all
+lacks_all : (from : Form) → Lacks from []
+lacks_all Utf8 = kind-empty [] refl
+lacks_all Utf16Le = lacks_byte false [] (lit< tt)
+lacks_all Utf16Be = lacks_byte true [] (lit< tt)
+
+-- what a run leaves that stopped before the end, or at it
+pub lacks_left : (from : Form) (rest : List ℕ) (q : ℕ) → (q < length rest → Lacks from (drop q rest)) → Lacks from (drop q rest)
+lacks_left from rest q waits =
+    ⊎_elim (λ (lt : q < length rest). waits lt) (λ (ge : length rest ≤ q). rw (drop_all q rest ge) (lacks_all from)) (cases_lt q (length rest))
+
+-- the bytes after those that were taken of two lists, of which the second is short
+pub lacks_joined : (from : Form) (held piece : List ℕ) (p : ℕ) → length (held ++ take 3 piece) ≤ p + 3 → p < length held
+    → Lacks from (drop p (held ++ take 3 piece)) → Lacks from (drop p (held ++ piece))
+lacks_joined from held piece p few lt h =
+    let both = length-append held (take 3 piece) in
+    let part : length (take 3 piece) < 3 = omega arith in
+    let short : length piece ≤ 3 = grind (arith, common_steps) in
+    rw (take_all 3 piece short) at h
+
 -- What the decoding of one or two units answers.
 
 trailing_by_tests : (t l : Bool) (e : Utf16TupleError) → l ≡ false → (if t then Some FirstIsTrailingSurrogate else if l then Some MissingSecond else None) ≡ Some e → t ≡ true
@@ -221,9 +265,6 @@ unmatched_by_tests t l false e f g h = refl
 unmatched_by_tests true l true e f g h = cc
 unmatched_by_tests false false true e f g h = cc
 unmatched_by_tests false true true e f g h = cc
-
-leading_is_not_trailing : (u : ℕ) → is_leading_surrogate u ≡ true → is_trailing_surrogate u ≡ false
-leading_is_not_trailing u l = grind (arith, common_steps)
 
 pub unmatched_where_fault : (u v : ℕ) (e : Utf16TupleError) → is_leading_surrogate u ≡ true → tuple_fault u (Some v) ≡ Some e → is_trailing_surrogate v ≡ false
 unmatched_where_fault u v e l h = unmatched_by_tests (is_trailing_surrogate u) (is_leading_surrogate u) (is_trailing_surrogate v) e l (leading_is_not_trailing u l) h

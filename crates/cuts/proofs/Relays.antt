@@ -2,12 +2,16 @@
 use Rattle.std.proofs.Common.{◌≡◌, ℕ, ◌+◌, ◌<◌, ◌≤◌, ◌⊎◌, inl, inr, ⊎_elim, List, [], ◌++◌, length, Option, Some, None, refl, ap, sym, ◌∙◌, arith, length-append}
 use Rattle.std.proofs.lemmas.List.{append-nil}
 use Rattle.std.proofs.KnownBytes.{Appends-nil, Appends-trans, Consumes-nil, Consumes-trans, Consumes-kept}
-use Rattle.std.specs.Prelude.{IfSome}
+use Rattle.std.specs.Prelude.{IfSome, OnOk, Result, Ok, Err}
+use Rattle.cuts.specs.declared.recoding.RecodeFault.{RecodeFault}
+use Rattle.cuts.specs.declared.recoding.RecodeFault.TheVariants.{Read, Write, Memory}
 use Rattle.std.specs.Io.KnownBytes.{Appends, Consumes, Keeps, IsAtEnd}
 use Rattle.cuts.specs.declared.form.Form.{Form}
 use Rattle.cuts.specs.Recoded.{Recoding, Continues, IsRecoded}
-use Rattle.cuts.specs.Relayed.{WritesRecoded, Passes, PassesLast}
-use Rattle.cuts.proofs.Growing.{Continues-none, Continues-append, Continues-trans}
+use Rattle.cuts.specs.Failures.{AppendsFront}
+use Rattle.cuts.specs.Relayed.{WritesRecoded, BeginsRecoded, HoldsBack, Passes, PassesFront, PassesLast, PassesLastFront}
+use Rattle.cuts.proofs.Fronts.{AppendsFront-all, AppendsFront-first, AppendsFront-then}
+use Rattle.cuts.proofs.Growing.{Continues-none, Continues-append, Continues-trans, recoded_once}
 
 -- What was read so far was recoded and written, up to what the recoder holds. Of so many reads each gave a byte, or one
 -- failed.
@@ -19,6 +23,7 @@ pub record IsRelayed (from to : Form) (in_old in_now out_old out_now : Option (L
   pub read : Consumes in_old in_now bytes
   pub written : Appends out_old out_now grown
   pub continues : Continues from to bytes grown r.held
+  pub few : length r.held ≤ 3
   pub paced : (failures_old < failures_now) ⊎ (turns ≤ length bytes)
 
 pub IsRelayed-none : (from to : Form) (input out : Option (List ℕ)) (failures : ℕ) (r : Recoding) → r ≡ record { from = from; to = to; held = [] }
@@ -32,6 +37,7 @@ IsRelayed-none from to input out failures r e =
       read = Consumes-nil input;
       written = Appends-nil out;
       continues = Continues-none from to [];
+      few = omega arith;
       paced = inr (omega arith);
     })
 
@@ -52,6 +58,7 @@ IsRelayed-part from to in_old in_mid in_new out_old out_mid out_new f g h n r s 
       read = Consumes-trans in_old in_mid in_new now.bytes part now.read taken;
       written = Appends-trans out_old out_mid out_new now.grown grows.grown now.written (rw all at put);
       continues = Continues-trans from to (now.bytes ++ part) now.grown (r.held ++ part) grows.grown s.held first then;
+      few = fed.few;
       paced =
           ⊎_elim
           (λ (failed : f < g). inl (omega arith))
@@ -71,6 +78,7 @@ IsRelayed-idle from to in_old in_mid in_new out_old out_now f g h n r now keeps 
   read = Consumes-kept in_old in_mid in_new now.bytes now.read keeps;
   written = now.written;
   continues = now.continues;
+  few = now.few;
   paced = inl (omega arith);
 }
 
@@ -107,3 +115,106 @@ IsRelayed-long from to in_old in_now out_old out_now f g n most r now le = by_by
     by_bytes (Some zs) (Some us) xs f g n most h paced le = λ few.
         let e = ap length h in
         ⊎_elim (λ (failed : f < g). failed) (λ (each : n ≤ length xs). absurd (omega (arith, length-append xs us))) paced
+
+-- a read failed, and what was held stays held
+pub HoldsBack-now : (from to : Form) (in_old in_mid in_new out_old out_now : Option (List ℕ)) (f g n : ℕ) (r : Recoding)
+    → IsRelayed from to in_old in_mid out_old out_now f g n r → Keeps in_mid in_new → HoldsBack from to in_old in_new out_old out_now
+HoldsBack-now from to in_old in_mid in_new out_old out_now f g n r now keeps = record {
+  bytes = now.bytes;
+  grown = now.grown;
+  held = r.held;
+  few = now.few;
+  read = Consumes-kept in_old in_mid in_new now.bytes now.read keeps;
+  continues = now.continues;
+  written = now.written;
+}
+
+-- what some bytes are recoded as whatever follows is a front of what they are recoded as
+front_of : (from to : Form) (bytes grown held : List ℕ) → Continues from to bytes grown held
+    → (rest : List ℕ) × IsRecoded from to bytes (grown ++ rest)
+front_of from to bytes grown held continues =
+    let once = recoded_once from to held in
+    let whole = continues [] once.0 (rw (append-nil held) once.1) in
+    (once.0, rw (append-nil bytes) at whole)
+
+BeginsRecoded-held : (from to : Form) (in_old in_new out_old out_new : Option (List ℕ)) (bytes grown held : List ℕ)
+    → Consumes in_old in_new bytes → Continues from to bytes grown held → AppendsFront out_old out_new grown
+    → BeginsRecoded from to in_old in_new out_old out_new
+BeginsRecoded-held from to in_old in_new out_old out_new bytes grown held read continues written =
+    let whole = front_of from to bytes grown held continues in
+    record {
+      bytes = bytes;
+      recoded = grown ++ whole.0;
+      read = read;
+      is_recoded = whole.1;
+      written = AppendsFront-first out_old out_new grown whole.0 written;
+    }
+
+-- a read failed, so no more was written
+pub BeginsRecoded-now : (from to : Form) (in_old in_mid in_new out_old out_now : Option (List ℕ)) (f g n : ℕ) (r : Recoding)
+    → IsRelayed from to in_old in_mid out_old out_now f g n r → Keeps in_mid in_new → BeginsRecoded from to in_old in_new out_old out_now
+BeginsRecoded-now from to in_old in_mid in_new out_old out_now f g n r now keeps =
+    BeginsRecoded-held from to in_old in_new out_old out_now now.bytes now.grown r.held
+    (Consumes-kept in_old in_mid in_new now.bytes now.read keeps) now.continues (AppendsFront-all out_old out_now now.grown now.written)
+
+-- a part was read, and memory for it was refused
+pub BeginsRecoded-refused : (from to : Form) (in_old in_mid in_new out_old out_now : Option (List ℕ)) (f g n : ℕ) (r : Recoding) (part : List ℕ)
+    → IsRelayed from to in_old in_mid out_old out_now f g n r → Consumes in_mid in_new part → BeginsRecoded from to in_old in_new out_old out_now
+BeginsRecoded-refused from to in_old in_mid in_new out_old out_now f g n r part now taken =
+    BeginsRecoded-held from to in_old in_new out_old out_now (now.bytes ++ part) now.grown (r.held ++ part)
+    (Consumes-trans in_old in_mid in_new now.bytes part now.read taken)
+    (Continues-append from to now.bytes now.grown r.held part now.continues) (AppendsFront-all out_old out_now now.grown now.written)
+
+-- a part was read and fed, and a write of what came of it failed
+pub BeginsRecoded-part : (from to : Form) (in_old in_mid in_new out_old out_mid out_new : Option (List ℕ)) (f g n : ℕ) (r s : Recoding) (part : List ℕ)
+    → IsRelayed from to in_old in_mid out_old out_mid f g n r → Consumes in_mid in_new part → PassesFront r part out_mid out_new s
+    → BeginsRecoded from to in_old in_new out_old out_new
+BeginsRecoded-part from to in_old in_mid in_new out_old out_mid out_new f g n r s part now taken (grown, fed, put) =
+    let grows = fed.grows in
+    let then : Continues from to (r.held ++ part) grows.grown s.held = rw (now.from_same, now.to_same) at grows.continues in
+    let first : Continues from to (now.bytes ++ part) now.grown (r.held ++ part) = Continues-append from to now.bytes now.grown r.held part now.continues in
+    let all : grown ≡ grows.grown = grows.appended in
+    BeginsRecoded-held from to in_old in_new out_old out_new (now.bytes ++ part) (now.grown ++ grows.grown) s.held
+    (Consumes-trans in_old in_mid in_new now.bytes part now.read taken)
+    (Continues-trans from to (now.bytes ++ part) now.grown (r.held ++ part) grows.grown s.held first then)
+    (AppendsFront-then out_old out_mid out_new now.grown grows.grown now.written (rw all at put))
+
+-- the reader was at its end, and a front of what was held was written
+pub BeginsRecoded-last : (from to : Form) (in_old in_mid in_new out_old out_mid out_new : Option (List ℕ)) (f g n : ℕ) (r : Recoding)
+    → IsRelayed from to in_old in_mid out_old out_mid f g n r → Consumes in_mid in_new [] → PassesLastFront r out_mid out_new
+    → BeginsRecoded from to in_old in_new out_old out_new
+BeginsRecoded-last from to in_old in_mid in_new out_old out_mid out_new f g n r now taken (grown, last, put) =
+    let all : grown ≡ last.grown = last.appended in
+    let held : IsRecoded from to r.held last.grown = rw (now.from_same, now.to_same) at last.recoded in
+    let whole : IsRecoded from to (now.bytes ++ []) (now.grown ++ last.grown) = now.continues [] last.grown (rw (append-nil r.held) held) in
+    record {
+      bytes = now.bytes ++ [];
+      recoded = now.grown ++ last.grown;
+      read = Consumes-trans in_old in_mid in_new now.bytes [] now.read taken;
+      is_recoded = whole;
+      written = AppendsFront-then out_old out_mid out_new now.grown last.grown now.written (rw all at put);
+    }
+
+-- whatever the last write answered
+pub BeginsRecoded-end : {U : Type 0} (from to : Form) (in_old in_mid in_new out_old out_mid out_new : Option (List ℕ)) (f g n : ℕ) (r : Recoding) (result : Result U RecodeFault)
+    → IsRelayed from to in_old in_mid out_old out_mid f g n r → Consumes in_mid in_new [] → OnOk result (PassesLast r out_mid out_new)
+    → (result ≡ Err Write → PassesLastFront r out_mid out_new) → (result ≡ Err Memory → out_new ≡ out_mid) → (result ≡ Err Read → ⊥)
+    → BeginsRecoded from to in_old in_new out_old out_new
+BeginsRecoded-end from to in_old in_mid in_new out_old out_mid out_new f g n r (Ok done) now taken all front refused other =
+    BeginsRecoded-last from to in_old in_mid in_new out_old out_mid out_new f g n r now taken (all.0, all.1, AppendsFront-all out_mid out_new all.0 all.2)
+BeginsRecoded-end from to in_old in_mid in_new out_old out_mid out_new f g n r (Err Write) now taken all front refused other =
+    BeginsRecoded-last from to in_old in_mid in_new out_old out_mid out_new f g n r now taken (front refl)
+BeginsRecoded-end from to in_old in_mid in_new out_old out_mid out_new f g n r (Err Memory) now taken all front refused other =
+    rw (refused refl) (BeginsRecoded-refused from to in_old in_mid in_new out_old out_mid f g n r [] now taken)
+BeginsRecoded-end from to in_old in_mid in_new out_old out_mid out_new f g n r (Err Read) now taken all front refused other = absurd (other refl)
+
+-- whatever fault a part had
+pub BeginsRecoded-fault : (from to : Form) (in_old in_mid in_new out_old out_mid out_new : Option (List ℕ)) (f g n : ℕ) (r s : Recoding) (part : List ℕ) (fault : RecodeFault)
+    → IsRelayed from to in_old in_mid out_old out_mid f g n r → Consumes in_mid in_new part
+    → (fault ≡ Write → PassesFront r part out_mid out_new s) → (fault ≡ Memory → out_new ≡ out_mid) → (fault ≡ Read → ⊥)
+    → BeginsRecoded from to in_old in_new out_old out_new
+BeginsRecoded-fault from to in_old in_mid in_new out_old out_mid out_new f g n r s part Write now taken front refused other =
+    BeginsRecoded-part from to in_old in_mid in_new out_old out_mid out_new f g n r s part now taken (front refl)
+BeginsRecoded-fault from to in_old in_mid in_new out_old out_mid out_new f g n r s part Memory now taken front refused other =
+    rw (refused refl) (BeginsRecoded-refused from to in_old in_mid in_new out_old out_mid f g n r part now taken)
+BeginsRecoded-fault from to in_old in_mid in_new out_old out_mid out_new f g n r s part Read now taken front refused other = absurd (other refl)

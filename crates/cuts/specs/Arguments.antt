@@ -1,5 +1,8 @@
 -- What the arguments of `pieces` ask for.
-use Rattle.std.specs.Prelude.{◌≡◌, ℕ, ◌<◌, ◌⊎◌, List, [], ◌∷◌, length, map, All, codes}
+use Rattle.std.specs.Prelude.{◌≡◌, ℕ, ◌<◌, ◌⊎◌, List, [], ◌∷◌, length, map, All, codes, Result, Ok, Err}
+use Rattle.std.specs.IoError.{error_kind}
+use Rattle.std.specs.declared.io.Error.{Error}
+use Rattle.std.specs.declared.io.ErrorKind.TheVariants.{InvalidData}
 use Rattle.cuts.specs.declared.items.End.{End}
 use Rattle.cuts.specs.declared.items.End.TheVariants.{Front, Back}
 use Rattle.cuts.specs.declared.requests.Request.{Request}
@@ -38,3 +41,9 @@ abbrev pub asked_by : {A : Type 0} → Request A → Asked
 asked_by Listing = listed
 asked_by Merged = merged
 asked_by (Walk word) = walked word.items
+
+-- These are the arguments among the words that a program was started with, which stand after its name; where a word is not
+-- UTF-8, which is an error of the kind `InvalidData`, the empty text stands for them all.
+abbrev pub HaveArguments : {V : Type 0} → Result V Error → (V → List (List ℕ)) → List (List ℕ) → Type 0
+HaveArguments (Ok words) after_name args = args ≡ after_name words
+HaveArguments (Err error) after_name args = (error_kind error ≡ InvalidData) × (args ≡ [] ∷ [])

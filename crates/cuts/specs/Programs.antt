@@ -1,8 +1,9 @@
 -- What a run of a program has done once it ends.
-use Rattle.std.specs.Prelude.{◌≡◌, ℕ, ◌<◌, ◌==◌, if◌then◌else◌, List, [], ◌∷◌, ◌++◌, Option, Some, IfSome, codes}
+use Rattle.std.specs.Prelude.{◌≡◌, ℕ, ◌-◌, ◌^◌, ◌<◌, ◌==◌, ◌⊎◌, Bool, IsTrue, if◌then◌else◌, List, [], ◌∷◌, ◌++◌, length, Option, Some, IfSome, codes}
+use Rattle.std.specs.Io.KnownBytes.{Appends}
 use Rattle.cuts.specs.declared.runs.Stop.{Stop}
 use Rattle.cuts.specs.declared.runs.Stop.TheVariants.{WrongArguments, CannotRead, CannotWrite, NoMemory}
-use Rattle.cuts.specs.Failures.{Counting, AppendsFront}
+use Rattle.cuts.specs.Failures.{Counting, Reads, AppendsFront}
 use Rattle.cuts.specs.Arguments.{Asked, listed, merged, walked}
 use Rattle.cuts.specs.Forms.{forward_form, merged_form, walk_form, WritesRun, WritesRunFront}
 
@@ -65,9 +66,38 @@ FailsOrStays CannotRead old new = new ≡ old
 FailsOrStays CannotWrite old new = old.failures < new.failures
 FailsOrStays NoMemory old new = new ≡ old
 
--- a program ended early, and its output, its line on standard error and its status are all of one reason
-pub record EndsEarly {T : Type 0} (name : List ℕ) (out_old out_new : Counting T) (faults_old faults_new : Option (List ℕ)) (status : ℕ) : Type 0 where
+-- where a program could not write, its output failed; where it ended early for another reason, it did not
+abbrev pub FailsOrIsQuiet : {T : Type 0} → Stop → Counting T → Counting T → Type 0
+FailsOrIsQuiet WrongArguments old new = new.failures ≡ old.failures
+FailsOrIsQuiet CannotRead old new = new.failures ≡ old.failures
+FailsOrIsQuiet CannotWrite old new = old.failures < new.failures
+FailsOrIsQuiet NoMemory old new = new.failures ≡ old.failures
+
+-- where a program could not write, a write or a flush of its output failed; where it ended early for another reason, the output
+-- is as it was
+abbrev pub FlushFailsOrStays : {T : Type 0} → Stop → Counting T → Counting T → Type 0
+FlushFailsOrStays WrongArguments old new = new ≡ old
+FlushFailsOrStays CannotRead old new = new ≡ old
+FlushFailsOrStays CannotWrite old new = (old.failures < new.failures) ⊎ (old.extras.failed_flushes < new.extras.failed_flushes)
+FlushFailsOrStays NoMemory old new = new ≡ old
+
+-- Where reads are counted and a program could not read, one of them failed, but for a reader of as many bytes as there are
+-- reads; where it ended for another reason, no read was broken off.
+abbrev pub ReadsUntil : Bool → Option (List ℕ) → ℕ → ℕ → Reads → Reads → Stop → Type 0
+ReadsUntil counted left failures_old failures_new old new CannotRead = IsTrue counted → IfSome left (λ xs. length xs < 2 ^ 64 - 1 → failures_old < failures_new)
+ReadsUntil counted left failures_old failures_new old new WrongArguments = IsTrue counted → new.broken ≡ old.broken
+ReadsUntil counted left failures_old failures_new old new CannotWrite = IsTrue counted → new.broken ≡ old.broken
+ReadsUntil counted left failures_old failures_new old new NoMemory = IsTrue counted → new.broken ≡ old.broken
+
+-- known bytes grew by a front of this line, and by the whole of it where writes are counted and none failed
+pub record Says (counted : Bool) (failures_old failures_new : ℕ) (old new : Option (List ℕ)) (line : List ℕ) : Type 0 where
+  pub front : AppendsFront old new line
+  pub whole : IsTrue counted → failures_new ≡ failures_old → Appends old new line
+
+-- a program ended early, and its input, its output, its line on standard error and its status are all of one reason
+pub record EndsEarly (name : List ℕ) (reads writes : Stop → Type 0) (says : List ℕ → Type 0) (status : ℕ) : Type 0 where
   pub reason : Stop
-  pub output : FailsOrStays reason out_old out_new
-  pub line : AppendsFront faults_old faults_new (stop_line name reason)
+  pub input : reads reason
+  pub output : writes reason
+  pub line : says (stop_line name reason)
   pub told : status ≡ status_of reason

@@ -1,8 +1,12 @@
 -- Bytes of one form of text recoded as bytes of another: the codes of what they show.
-use Rattle.std.specs.Prelude.{◌≡◌, ℕ, ◌+◌, ◌*◌, ◌/◌, ◌%◌, ◌≤◌, Bool, true, false, if◌then◌else◌, List, [], ◌∷◌, ◌++◌, length, flat_map}
+use Rattle.std.specs.Prelude.{◌≡◌, ℕ, ◌+◌, ◌*◌, ◌/◌, ◌%◌, ◌≤◌, Bool, true, false, if◌then◌else◌, List, [], ◌∷◌, ◌++◌, length, flat_map, Some}
 use Rattle.std.specs.List.{concat}
 use Rattle.utf_base.specs.Code.{utf8, utf16}
+use Rattle.utf_base.specs.Kinds.{fault_kind}
+use Rattle.utf_base.specs.Units.{unit_fault_kind}
 use Rattle.utf_base.specs.Shown.{Shows}
+use Rattle.utf_base.specs.declared.errors.Utf8ErrorKind.TheVariants.{TooFewBytes}
+use Rattle.utf_base.specs.declared.errors.units.Utf16PairError.TheVariants.{Incomplete}
 use Rattle.cuts.specs.declared.form.Form.{Form}
 use Rattle.cuts.specs.declared.form.Form.TheVariants.{Utf8, Utf16Le, Utf16Be}
 
@@ -34,6 +38,13 @@ abbrev pub Reads : Form → List ℕ → List ℕ → Type 0
 Reads Utf8 = Shows utf8
 Reads Utf16Le = ShowsUnits false
 Reads Utf16Be = ShowsUnits true
+
+-- The bytes lack elements: there is none, or fewer than the first asks for. Of units a leading surrogate is alone, and half a
+-- unit is none.
+abbrev pub Lacks : Form → List ℕ → Type 0
+Lacks Utf8 bytes = fault_kind bytes ≡ Some TooFewBytes
+Lacks Utf16Le bytes = unit_fault_kind (units_of false bytes) ≡ Some Incomplete
+Lacks Utf16Be bytes = unit_fault_kind (units_of true bytes) ≡ Some Incomplete
 
 -- the code of a scalar, as bytes of that form
 abbrev pub written : Form → ℕ → List ℕ

@@ -1,25 +1,30 @@
-//! A reader or writer whose failures and flushes are counted, for contracts alone.
+//! A reader or writer whose failures are counted, for contracts alone.
 //!
 //! A contract can then say that a function answers an error only where its reader or writer failed, since
-//! the count rose, and that it flushed. The counts take no memory. Nothing here hands out a counter, or the
-//! reader or writer behind a `&mut`, so that only a call that failed raises the one count, and only `flush`
-//! the other.
-ghost use Rattle.std.specs.Prelude.{◌≡◌, ◌+◌, ◌<◌, ◌≤◌, OnOk, OnErr};
+//! the count rose. The counts take no memory. This module holds `Counted` and its five calls and nothing
+//! else, and no call hands out a count, or the reader or writer inside: so a count rises only where a call
+//! of the reader or writer was made and failed.
+ghost use Rattle.std.specs.Prelude.{◌≡◌, ◌+◌, false};
 ghost use Rattle.std.specs.Io.{ReadsAtMost, WritesAtMost};
-ghost use Rattle.std.specs.Io.KnownBytes.{Appends, Keeps, ReadConsumes, WriteAppends};
-ghost use Rattle.cuts.specs.Failures.{put_failures, take_failures, flush_failures, AppendsFront};
+ghost use Rattle.std.specs.Io.KnownBytes.{Keeps, ReadConsumes, WriteAppends};
+ghost use Rattle.cuts.specs.Failures.{put_failures, take_failures, flush_failures, after_put, after_flush, CountsRead};
 
+use encode_unicode::Steps;
 use std::io;
-use std::io::{Read, Write};
+use std::io::{ErrorKind, Read, Write};
 use std::marker::Model;
-use utf_base::tally::Tally;
 
-/// A reader or writer, how many of its calls failed, and how often it was flushed.
+/// A reader or writer, and counts of its calls.
 #[derive(Drop)]
 pub struct Counted<T> {
     inner: T,
-    failures: Tally,
-    flushes: Tally,
+    failures: Steps,
+    broken: Steps,
+    ended: bool,
+    late: Steps,
+    empty_puts: Steps,
+    flushes: Steps,
+    failed_flushes: Steps,
 }
 
 impl<T> Model for Counted<T> {
@@ -27,7 +32,12 @@ impl<T> Model for Counted<T> {
 
     ghost Value = { Counting T };
 
-    ghost view = { λ c. record { inner = c.inner; failures = c.failures.count; flushes = c.flushes.count } };
+    ghost view = { λ c. record {
+      inner = c.inner;
+      failures = c.failures;
+      reads = record { broken = c.broken; ended = c.ended; late = c.late };
+      extras = record { empty_puts = c.empty_puts; flushes = c.flushes; failed_flushes = c.failed_flushes };
+    } };
 }
 
 impl<T> Counted<T> {
@@ -36,12 +46,22 @@ impl<T> Counted<T> {
     pub fn new(inner: T) -> Counted<T>
         ensures inner { result.inner ≡ inner }
         ensures failures { result.failures ≡ 0 }
-        ensures flushes { result.flushes ≡ 0 }
+        ensures broken { result.reads.broken ≡ 0 }
+        ensures ended { result.reads.ended ≡ false }
+        ensures late { result.reads.late ≡ 0 }
+        ensures empty_puts { result.extras.empty_puts ≡ 0 }
+        ensures flushes { result.extras.flushes ≡ 0 }
+        ensures failed_flushes { result.extras.failed_flushes ≡ 0 }
     {
         Counted {
             inner,
-            failures: Tally::new(),
-            flushes: Tally::new(),
+            failures: Steps::new(),
+            broken: Steps::new(),
+            ended: false,
+            late: Steps::new(),
+            empty_puts: Steps::new(),
+            flushes: Steps::new(),
+            failed_flushes: Steps::new(),
         }
     }
 
@@ -53,7 +73,12 @@ impl<T> Counted<T> {
         let Counted {
             inner,
             failures: _,
+            broken: _,
+            ended: _,
+            late: _,
+            empty_puts: _,
             flushes: _,
+            failed_flushes: _,
         } = self;
         inner
     }
@@ -69,22 +94,36 @@ impl<W: Write> Counted<W> {
         ensures appends { WriteAppends (W.contents self.old.inner) (W.contents self.new.inner)
             result bytes.now }
         ensures failures { self.new.failures ≡ self.old.failures + put_failures result bytes.now }
-        ensures flushes { self.new.flushes ≡ self.old.flushes }
+        ensures extras { self.new.extras ≡ after_put self.old.extras bytes.now }
+        ensures reads { self.new.reads ≡ self.old.reads }
     {
-        write_once(bytes, &mut self.inner, &mut self.failures)
+        if bytes.is_empty() {
+            self.empty_puts.tick();
+        }
+        let answer = self.inner.write(bytes);
+        match answer {
+            Err(_) => self.failures.tick(),
+            Ok(count) => {
+                if count == 0 && !bytes.is_empty() {
+                    self.failures.tick();
+                }
+            }
+        }
+        answer
     }
 
-    /// One call of the inner `flush`, with its answer. A failure is an error.
+    /// One call of the inner `flush`, with its answer. Its error is counted apart from the failures.
     #[inline(always)]
     pub fn flush(&mut self) -> io::Result<()>
         ensures keeps { Keeps (W.contents self.old.inner) (W.contents self.new.inner) }
-        ensures failures { self.new.failures ≡ self.old.failures + flush_failures result }
-        ensures flushes { self.new.flushes ≡ self.old.flushes + 1 }
+        ensures failures { self.new.failures ≡ self.old.failures }
+        ensures extras { self.new.extras ≡ after_flush self.old.extras result }
+        ensures reads { self.new.reads ≡ self.old.reads }
     {
         self.flushes.tick();
         let answer = self.inner.flush();
         if answer.is_err() {
-            self.failures.tick();
+            self.failed_flushes.tick();
         }
         answer
     }
@@ -100,72 +139,21 @@ impl<R: Read> Counted<R> {
         ensures consumes { ReadConsumes (R.remaining self.old.inner) (R.remaining self.new.inner)
             result buf.new }
         ensures failures { self.new.failures ≡ self.old.failures + take_failures result }
-        ensures flushes { self.new.flushes ≡ self.old.flushes }
+        ensures reads { CountsRead self.old.reads self.new.reads result buf.new }
+        ensures extras { self.new.extras ≡ self.old.extras }
     {
+        if self.ended {
+            self.late.tick();
+        }
         let given = self.inner.read(buf);
         if given.is_err() {
             self.failures.tick();
         }
+        match &given {
+            Ok(count) => self.ended = self.ended || (*count == 0 && !buf.is_empty()),
+            Err(error) if error.kind() != ErrorKind::Interrupted => self.broken.tick(),
+            Err(_) => {}
+        }
         given
     }
-}
-
-// One call of `write`, with its answer, and the count of failures.
-#[inline(always)]
-fn write_once<W: Write>(bytes: &[u8], to: &mut W, failures: &mut Tally) -> io::Result<usize>
-    ensures at_most { WritesAtMost result bytes.now }
-    ensures appends { WriteAppends (W.contents to.old) (W.contents to.new) result bytes.now }
-    ensures failures { failures.new.count ≡ failures.old.count + put_failures result bytes.now }
-{
-    let answer = to.write(bytes);
-    match answer {
-        Err(_) => failures.tick(),
-        Ok(count) => {
-            if count == 0 && !bytes.is_empty() {
-                failures.tick();
-            }
-        }
-    }
-    answer
-}
-
-/// Writes all the bytes to a writer whose failures it counts, in as many calls of `write` as it takes,
-/// none for no bytes.
-///
-/// The first failure ends it, `Interrupted` too: with the writer's error, or with `WriteZero` where the
-/// writer took nothing.
-#[inline(always)]
-pub(crate) fn write_whole<W: Write>(
-    bytes: &[u8],
-    to: &mut W,
-    failures: &mut Tally,
-) -> io::Result<()>
-    ensures ok { OnOk result (Appends (W.contents to.old) (W.contents to.new) bytes.now) }
-    ensures front { AppendsFront (W.contents to.old) (W.contents to.new) bytes.now }
-    ensures quiet { OnOk result (failures.new.count ≡ failures.old.count) }
-    ensures err { OnErr result (failures.old.count < failures.new.count) }
-{
-    let mut sent = 0;
-    while sent < bytes.len() {
-        let count = write_once(&bytes[sent..], to, failures)?;
-        if count == 0 {
-            return Err(io::Error::from(io::ErrorKind::WriteZero));
-        }
-        sent += count;
-    }
-    Ok(())
-}
-
-/// Writes all the bytes, as `write_whole` does.
-#[inline(always)]
-pub(crate) fn put_whole<W: Write>(bytes: &[u8], out: &mut Counted<W>) -> io::Result<()>
-    ensures ok { OnOk result
-        (Appends (W.contents out.old.inner) (W.contents out.new.inner) bytes.now) }
-    ensures front { AppendsFront (W.contents out.old.inner) (W.contents out.new.inner) bytes.now }
-    ensures quiet { OnOk result (out.new.failures ≡ out.old.failures) }
-    ensures err { OnErr result (out.old.failures < out.new.failures) }
-    ensures never_fewer { out.old.failures ≤ out.new.failures }
-    ensures unflushed { out.new.flushes ≡ out.old.flushes }
-{
-    write_whole(bytes, &mut out.inner, &mut out.failures)
 }

@@ -5,9 +5,10 @@ ghost use Rattle.cuts.specs.Lines.{kind_name, answer_text};
 ghost use Rattle.cuts.specs.Written.{WritesLines};
 ghost use Rattle.cuts.specs.declared.line.TheConstants.{ROOM};
 
-use crate::counted::{Counted, put_whole};
+use crate::counted::Counted;
 use crate::items::Item;
 use crate::line::Line;
+use crate::streams::put_whole;
 use encode_unicode::Utf8Char;
 use encode_unicode::error::{Utf8Error, Utf8ErrorKind};
 use std::io;
@@ -111,7 +112,7 @@ pub(crate) fn write_entry<T: Entry, W: Write>(entry: T, out: &mut Counted<W>) ->
     ensures few { IfOk result (λ faults. faults ≤ 1) }
     ensures quiet { OnOk result (out.new.failures ≡ out.old.failures) }
     ensures err { OnErr result (out.old.failures < out.new.failures) }
-    ensures unflushed { out.new.flushes ≡ out.old.flushes }
+    ensures extras { out.new.extras ≡ out.old.extras }
 {
     put_whole(entry.line().as_bytes(), out)?;
     Ok(if entry.is_wrong() { 1 } else { 0 })
@@ -126,7 +127,7 @@ pub(crate) fn write_entries<T: Entry, W: Write>(
     ensures front { AppendsFront (W.contents out.old.inner) (W.contents out.new.inner) (flat_map T.line entries.now) }
     ensures quiet { OnOk result (out.new.failures ≡ out.old.failures) }
     ensures err { OnErr result (out.old.failures < out.new.failures) }
-    ensures unflushed { out.new.flushes ≡ out.old.flushes }
+    ensures extras { out.new.extras ≡ out.old.extras }
 {
     let mut faults = 0;
     for entry in entries {

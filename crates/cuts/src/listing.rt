@@ -23,7 +23,7 @@ pub fn write_listing<W: Write>(src: &[u8], out: &mut Counted<W>) -> io::Result<u
     ensures front { WritesListingFront src.now (W.contents out.old.inner) (W.contents out.new.inner) }
     ensures quiet { OnOk result (out.new.failures ≡ out.old.failures) }
     ensures err { OnErr result (out.old.failures < out.new.failures) }
-    ensures unflushed { out.new.flushes ≡ out.old.flushes }
+    ensures extras { out.new.extras ≡ out.old.extras }
 {
     let mut faults = 0;
     for item in Utf8CharDecoder::from(src) {
@@ -44,7 +44,7 @@ pub fn write_merged<W: Write>(
     ensures front { AppendsFront (W.contents out.old.inner) (W.contents out.new.inner) (merged_lines results.now) }
     ensures quiet { OnOk result (out.new.failures ≡ out.old.failures) }
     ensures err { OnErr result (out.old.failures < out.new.failures) }
-    ensures unflushed { out.new.flushes ≡ out.old.flushes }
+    ensures extras { out.new.extras ≡ out.old.extras }
 {
     write_entries(results, out)
 }
@@ -58,7 +58,7 @@ pub fn write_walk<W: Write>(steps: &[Option<Item>], out: &mut Counted<W>) -> io:
     ensures front { AppendsFront (W.contents out.old.inner) (W.contents out.new.inner) (walk_lines steps.now) }
     ensures quiet { OnOk result (out.new.failures ≡ out.old.failures) }
     ensures err { OnErr result (out.old.failures < out.new.failures) }
-    ensures unflushed { out.new.flushes ≡ out.old.flushes }
+    ensures extras { out.new.extras ≡ out.old.extras }
 {
     write_entries(steps, out)
 }

@@ -1,6 +1,6 @@
 //! Recoding of text that comes in parts, which may be cut anywhere, also inside of a code or of a unit.
 ghost use Rattle.std.specs.Prelude.{◌≡◌, ◌<◌, ◌≤◌, [], ◌+◌, ◌*◌, length, OnOk, OnErr, IsOk, IfErr, vec_len, vec_capacity};
-ghost use Rattle.cuts.specs.Recoded.{Feeds, Finishes};
+ghost use Rattle.cuts.specs.Recoded.{Feeds, Finishes, Lacks};
 
 use crate::form::Form;
 use crate::recoder_runs::{join, recode_joined, recode_last, recode_whole};
@@ -67,7 +67,9 @@ impl Recoder {
         ensures ok { OnOk result (Feeds self.old piece.now out.old.items out.new.items self.new) }
         ensures err { OnErr result (self.new ≡ self.old) }
         ensures unwritten { OnErr result (out.new.items ≡ out.old.items) }
+        ensures waits { 0 < length piece.now → OnOk result (Lacks self.old.from self.new.held) }
         ensures nothing { length piece.now ≡ 0 → IsOk result × (out.new ≡ out.old) }
+        ensures unchanged { length piece.now ≡ 0 → self.new ≡ self.old }
         ensures succeeds { vec_len out.old + 3 * (length self.old.held + length piece.now) ≤ vec_capacity out.old → IsOk result }
     {
         let held = self.held_bytes();

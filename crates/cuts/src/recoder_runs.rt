@@ -1,6 +1,6 @@
 //! Runs over bytes, into an output that has room for what comes of them.
 ghost use Rattle.std.specs.Prelude.{◌≡◌, ◌+◌, ◌-◌, ◌*◌, ◌<◌, ◌≤◌, length, take, drop, ◌++◌, min, vec_len, vec_capacity, IsUtf8};
-ghost use Rattle.cuts.specs.Recoded.{Grows, Finishes};
+ghost use Rattle.cuts.specs.Recoded.{Grows, Finishes, Lacks};
 
 use crate::code_puts::{put_block, put_code, put_eight};
 use crate::form::Form::{self, Utf8, Utf16Be, Utf16Le};
@@ -27,6 +27,7 @@ pub(crate) fn recode_decided<A: Allocator>(
     requires room { vec_len out.old + 3 * length bytes.now ≤ vec_capacity out.old }
     ensures within { result ≤ length bytes.now }
     ensures waits { result < stop → length bytes.now ≤ result + 3 }
+    ensures lacks { result < stop → Lacks from (drop result bytes.now) }
     ensures grows { Grows from to bytes.now out.old.items out.new.items (drop result bytes.now) }
     ensures short { vec_len out.new ≤ vec_len out.old + 3 * result }
     ensures capacity { vec_capacity out.old ≤ vec_capacity out.new }
@@ -72,6 +73,7 @@ pub(crate) fn recode_joined<A: Allocator>(
     requires room { vec_len out.old + 3 * (length held.now + length piece.now) ≤ vec_capacity out.old }
     ensures within { result ≤ length held.now + length piece.now }
     ensures waits { result < length held.now → length held.now + length piece.now ≤ result + 3 }
+    ensures lacks { result < length held.now → Lacks from (drop result (held.now ++ piece.now)) }
     ensures grows { Grows from to (held.now ++ piece.now) out.old.items out.new.items (drop result (held.now ++ piece.now)) }
     ensures short { vec_len out.new ≤ vec_len out.old + 3 * result }
     ensures capacity { vec_capacity out.old ≤ vec_capacity out.new }
@@ -108,6 +110,7 @@ pub(crate) fn recode_whole<A: Allocator>(
     requires { vec_len out.old + 3 * length bytes.now ≤ vec_capacity out.old }
     ensures within { result ≤ length bytes.now }
     ensures waits { result < length bytes.now → length bytes.now ≤ result + 3 }
+    ensures lacks { result < length bytes.now → Lacks from (drop result bytes.now) }
     ensures grows { Grows from to bytes.now out.old.items out.new.items (drop result bytes.now) }
     ensures short { vec_len out.new ≤ vec_len out.old + 3 * result }
     ensures capacity { vec_capacity out.old ≤ vec_capacity out.new }
@@ -131,6 +134,7 @@ pub(crate) fn copy_decided<A: Allocator>(bytes: &[u8], out: &mut Vec<u8, A>) -> 
     requires { vec_len out.old + 3 * length bytes.now ≤ vec_capacity out.old }
     ensures within { result ≤ length bytes.now }
     ensures waits { result < length bytes.now → length bytes.now ≤ result + 3 }
+    ensures lacks { result < length bytes.now → Lacks Form.Utf8 (drop result bytes.now) }
     ensures grows { Grows Form.Utf8 Form.Utf8 bytes.now out.old.items out.new.items (drop result bytes.now) }
     ensures short { vec_len out.new ≤ vec_len out.old + 3 * result }
     ensures capacity { vec_capacity out.old ≤ vec_capacity out.new }
@@ -191,6 +195,7 @@ fn recode_quickly<A: Allocator, const PAIR: usize>(
     requires { vec_len out.old + 3 * length bytes.now ≤ vec_capacity out.old }
     ensures within { result ≤ length bytes.now }
     ensures waits { result < length bytes.now → length bytes.now ≤ result + 3 }
+    ensures lacks { result < length bytes.now → Lacks from (drop result bytes.now) }
     ensures grows { Grows from to bytes.now out.old.items out.new.items (drop result bytes.now) }
     ensures short { vec_len out.new ≤ vec_len out.old + 3 * result }
     ensures capacity { vec_capacity out.old ≤ vec_capacity out.new }
@@ -226,6 +231,7 @@ fn recode_apart<A: Allocator>(
     requires room { vec_len out.old + 3 * length bytes.now ≤ vec_capacity out.old }
     ensures within { result ≤ length bytes.now }
     ensures waits { result < stop → length bytes.now ≤ result + 3 }
+    ensures lacks { result < stop → Lacks from (drop result bytes.now) }
     ensures grows { Grows from to bytes.now out.old.items out.new.items (drop result bytes.now) }
     ensures short { vec_len out.new ≤ vec_len out.old + 3 * result }
     ensures capacity { vec_capacity out.old ≤ vec_capacity out.new }

@@ -1,13 +1,14 @@
 //! Recoding from a reader to a writer, and what the program `recode` does.
-ghost use Rattle.std.specs.Prelude.{◌≡◌, ◌≢◌, ◌+◌, ◌-◌, ◌^◌, ◌<◌, ◌≤◌, [], ◌∷◌, length, map, string_bytes, Some, None, IfSome, IfNone, IfOk, OnOk};
-ghost use Rattle.cuts.specs.Programs.{IsDrained};
+ghost use Rattle.std.specs.Prelude.{◌≡◌, ◌≢◌, ◌+◌, ◌-◌, ◌^◌, ◌<◌, ◌≤◌, [], ◌∷◌, length, map, codes, string_bytes, true, false, Some, None, IfSome, IfNone, IfOk, OnOk};
+ghost use Rattle.cuts.specs.Programs.{IsDrained, ReadsUntil, FailsOrIsQuiet, Says, EndsEarly};
 ghost use Rattle.cuts.specs.Recoded.{Recoding};
-ghost use Rattle.cuts.specs.Relayed.{form_name, AsksForms, WritesRecoded, Passes, PassesLast, EndsRecoding, reason_of};
+ghost use Rattle.cuts.specs.Relayed.{form_name, AsksForms, WritesRecoded, BeginsRecoded, HoldsBack, Passes, PassesFront, PassesLast, PassesLastFront, reason_of};
 
-use crate::counted::{Counted, put_whole};
+use crate::counted::Counted;
 use crate::form::Form;
 use crate::recoder::Recoder;
 use crate::runs::Stop;
+use crate::streams::{Sink, put_whole};
 use std::alloc::Allocator;
 use std::io::{ErrorKind, Read, Write};
 use thiserror::Error;
@@ -35,7 +36,7 @@ const PART: usize = 16384;
 /// Recodes all that the reader gives, from one form into another, and holds no more of it than a part of
 /// fixed size and what comes of that.
 ///
-/// A read that is interrupted is made again. After a fault nothing is said of how much went out.
+/// A read that is interrupted is made again, and none is made once the reader is at its end.
 pub fn recode<A: Allocator, R: Read, W: Write>(
     alloc: A,
     input: &mut Counted<R>,
@@ -44,11 +45,15 @@ pub fn recode<A: Allocator, R: Read, W: Write>(
     to: Form,
 ) -> Result<(), RecodeFault>
     ensures recoded { OnOk result (WritesRecoded from to (R.remaining input.old.inner) (W.contents out.old.inner) (W.contents out.new.inner)) }
+    ensures front { BeginsRecoded from to (R.remaining input.old.inner) (R.remaining input.new.inner) (W.contents out.old.inner) (W.contents out.new.inner) }
+    ensures held_back { result ≡ Err RecodeFault.Read → HoldsBack from to (R.remaining input.old.inner) (R.remaining input.new.inner) (W.contents out.old.inner) (W.contents out.new.inner) }
     ensures drained { OnOk result (IsDrained (R.remaining input.old.inner) (R.remaining input.new.inner)) }
-    ensures quiet { OnOk result (out.new.failures ≡ out.old.failures) }
+    ensures quiet { result ≢ Err RecodeFault.Write → out.new.failures ≡ out.old.failures }
+    ensures unbroken { result ≢ Err RecodeFault.Read → input.new.reads.broken ≡ input.old.reads.broken }
+    ensures in_time { input.old.reads.ended ≡ false → input.new.reads.late ≡ input.old.reads.late }
     ensures cannot_read { result ≡ Err RecodeFault.Read → IfSome (R.remaining input.old.inner) (λ xs. length xs < 2 ^ 64 - 1 → input.old.failures < input.new.failures) }
     ensures cannot_write { result ≡ Err RecodeFault.Write → out.old.failures < out.new.failures }
-    ensures unflushed { out.new.flushes ≡ out.old.flushes }
+    ensures extras { out.new.extras ≡ out.old.extras }
 {
     let mut recoder = Recoder::new(from, to);
     let mut recoded = Vec::new(alloc);
@@ -73,11 +78,13 @@ fn pass<A: Allocator, W: Write>(
 ) -> Result<(), RecodeFault>
     requires { recoded.old.items ≡ [] }
     ensures passes { OnOk result (Passes recoder.old part.now (W.contents out.old.inner) (W.contents out.new.inner) recoder.new) }
+    ensures front { result ≡ Err RecodeFault.Write → PassesFront recoder.old part.now (W.contents out.old.inner) (W.contents out.new.inner) recoder.new }
+    ensures refused { result ≡ Err RecodeFault.Memory → out.new ≡ out.old }
     ensures empty { OnOk result (recoded.new.items ≡ []) }
-    ensures quiet { OnOk result (out.new.failures ≡ out.old.failures) }
+    ensures quiet { result ≢ Err RecodeFault.Write → out.new.failures ≡ out.old.failures }
     ensures can_read { result ≢ Err RecodeFault.Read }
     ensures cannot_write { result ≡ Err RecodeFault.Write → out.old.failures < out.new.failures }
-    ensures unflushed { out.new.flushes ≡ out.old.flushes }
+    ensures extras { out.new.extras ≡ out.old.extras }
 {
     if recoder.feed(part, recoded).is_err() {
         return Err(RecodeFault::Memory);
@@ -97,10 +104,12 @@ fn pass_last<A: Allocator, W: Write>(
 ) -> Result<(), RecodeFault>
     requires { recoded.old.items ≡ [] }
     ensures passes { OnOk result (PassesLast recoder (W.contents out.old.inner) (W.contents out.new.inner)) }
-    ensures quiet { OnOk result (out.new.failures ≡ out.old.failures) }
+    ensures front { result ≡ Err RecodeFault.Write → PassesLastFront recoder (W.contents out.old.inner) (W.contents out.new.inner) }
+    ensures refused { result ≡ Err RecodeFault.Memory → out.new ≡ out.old }
+    ensures quiet { result ≢ Err RecodeFault.Write → out.new.failures ≡ out.old.failures }
     ensures can_read { result ≢ Err RecodeFault.Read }
     ensures cannot_write { result ≡ Err RecodeFault.Write → out.old.failures < out.new.failures }
-    ensures unflushed { out.new.flushes ≡ out.old.flushes }
+    ensures extras { out.new.extras ≡ out.old.extras }
 {
     if recoder.finish(recoded).is_err() {
         return Err(RecodeFault::Memory);
@@ -118,7 +127,7 @@ fn pass_last<A: Allocator, W: Write>(
 /// wrong, and then nothing is read or written, and the status is 2. Where reading or writing fails, or
 /// memory is refused, it is 3. `faults` takes the line for standard error, and nothing where the status
 /// is 0.
-pub fn run_recode<A: Allocator + Copy, R: Read, W: Write, E: Write>(
+pub fn run_recode<A: Allocator + Copy, R: Read, W: Write, E: Sink>(
     alloc: A,
     args: &[String<A>],
     input: &mut Counted<R>,
@@ -126,11 +135,14 @@ pub fn run_recode<A: Allocator + Copy, R: Read, W: Write, E: Write>(
     faults: &mut E,
 ) -> u8
     ensures recoded { (from to : Form) → AsksForms (map string_bytes args.now) from to → result ≡ 0 → WritesRecoded from to (R.remaining input.old.inner) (W.contents out.old.inner) (W.contents out.new.inner) }
+    ensures front { (from to : Form) → AsksForms (map string_bytes args.now) from to → BeginsRecoded from to (R.remaining input.old.inner) (R.remaining input.new.inner) (W.contents out.old.inner) (W.contents out.new.inner) }
     ensures drained { result ≡ 0 → IsDrained (R.remaining input.old.inner) (R.remaining input.new.inner) }
     ensures quiet { result ≡ 0 → out.new.failures ≡ out.old.failures }
+    ensures unbroken { result ≡ 0 → input.new.reads.broken ≡ input.old.reads.broken }
+    ensures in_time { input.old.reads.ended ≡ false → input.new.reads.late ≡ input.old.reads.late }
     ensures silent { result ≡ 0 → faults.new ≡ faults.old }
-    ensures early { 0 < result → EndsRecoding out.old out.new (E.contents faults.old) (E.contents faults.new) result }
-    ensures unflushed { out.new.flushes ≡ out.old.flushes }
+    ensures early { 0 < result → EndsEarly (codes "recode") (ReadsUntil true (R.remaining input.old.inner) input.old.failures input.new.failures input.old.reads input.new.reads) (λ reason. FailsOrIsQuiet reason out.old out.new) (Says E.is_counted (E.failures faults.old) (E.failures faults.new) (E.contents faults.old) (E.contents faults.new)) result }
+    ensures extras { out.new.extras ≡ out.old.extras }
     ensures wrong { ((from to : Form) → ¬ AsksForms (map string_bytes args.now) from to) → (result ≡ 2) × (input.new ≡ input.old) × (out.new ≡ out.old) }
     ensures right { (from to : Form) → AsksForms (map string_bytes args.now) from to → result ≢ 2 }
 {

@@ -1,27 +1,27 @@
 //! What the program `pieces` does, over any reader and writers.
-ghost use Rattle.std.specs.Prelude.{◌≡◌, ◌≢◌, ◌+◌, ◌<◌, ◌≤◌, [], ◌∷◌, length, drop, codes, map, string_bytes, Contains, IfOk, IfErr, IfSome, IsOkAnd, OnOk, OnErr};
+ghost use Rattle.std.specs.Prelude.{◌≡◌, ◌≢◌, ◌+◌, ◌<◌, ◌≤◌, ◌++◌, [], ◌∷◌, ℕ, List, false, length, drop, codes, map, string_bytes, Contains, IsTrue, IfOk, IfErr, IfSome, IsOkAnd, OnOk, OnErr};
 ghost use Rattle.std.specs.Io.KnownBytes.{Appends, Keeps};
 ghost use Rattle.std.specs.IoError.{error_kind};
 ghost use Rattle.cuts.specs.Failures.{AppendsFront};
 ghost use Rattle.utf_base.specs.Code.{utf8};
 ghost use Rattle.utf_base.specs.Kinds.{merger_kind};
-ghost use Rattle.cuts.specs.Arguments.{Asked, Asks, AreWrong, asked_by};
+ghost use Rattle.cuts.specs.Arguments.{Asked, Asks, AreWrong, HaveArguments, asked_by};
 ghost use Rattle.cuts.specs.Collected.{IsMergedRun};
 ghost use Rattle.cuts.specs.Forms.{forward_form, merged_form, walk_form, WritesRun, WritesRunFront};
-ghost use Rattle.cuts.specs.Programs.{status_of, stop_text, stop_line, IsDrained, WritesAsked, WritesAskedFront, DoesAsked, TellsAsked, BeginsAsked, FailsOrStays, EndsEarly};
+ghost use Rattle.cuts.specs.Programs.{status_of, stop_text, stop_line, IsDrained, WritesAsked, WritesAskedFront, DoesAsked, TellsAsked, BeginsAsked, FailsOrStays, ReadsUntil, Says, EndsEarly};
 
 use crate::collected::merge_utf8;
-use crate::counted::{Counted, write_whole};
+use crate::counted::Counted;
 use crate::items::End;
 use crate::listing::{write_listing, write_merged, write_walk};
 use crate::requests::{Request, request_of};
+use crate::streams::{Sink, Source, write_whole};
 use crate::walks::walk_utf8;
 use encode_unicode::Utf8Char;
 use encode_unicode::error::Utf8Error;
 use std::alloc::{AllocError, Allocator, Global};
-use std::io::{ErrorKind, Read, Write};
+use std::io::{ErrorKind, Write};
 use std::{fmt, io};
-use utf_base::tally::Tally;
 
 /// Why a program ends before its work is done.
 #[derive(Clone, Copy, Debug, PartialEq, Eq, Drop)]
@@ -39,37 +39,31 @@ pub enum Stop {
 impl Stop {
     /// The status of the program, after the line that says why on standard error. Whether the line
     /// could be written is ignored.
-    pub fn report<E: Write>(self, program: &str, faults: &mut E) -> u8
+    pub fn report<E: Sink>(self, program: &str, faults: &mut E) -> u8
         ensures status { result ≡ status_of self }
-        ensures line { AppendsFront (E.contents faults.old) (E.contents faults.new) (stop_line program.now self) }
+        ensures line { Says E.is_counted (E.failures faults.old) (E.failures faults.new) (E.contents faults.old) (E.contents faults.new) (stop_line program.now self) }
     {
-        let _ = self.write_line(program, faults, &mut Tally::new());
+        let _ = self.write_line(program, faults);
         match self {
             Stop::WrongArguments => 2,
             Stop::CannotRead | Stop::CannotWrite | Stop::NoMemory => 3,
         }
     }
 
-    // Writes the line that says why, with the program's name before it, up to the writer's first failure,
-    // which is counted.
-    fn write_line<E: Write>(
-        self,
-        program: &str,
-        faults: &mut E,
-        failures: &mut Tally,
-    ) -> io::Result<()>
+    // Writes the line that says why, with the program's name before it, up to the writer's first failure.
+    fn write_line<E: Sink>(self, program: &str, faults: &mut E) -> io::Result<()>
         ensures whole { OnOk result (Appends (E.contents faults.old) (E.contents faults.new) (stop_line program.now self)) }
         ensures front { AppendsFront (E.contents faults.old) (E.contents faults.new) (stop_line program.now self) }
-        ensures err { OnErr result (failures.old.count < failures.new.count) }
+        ensures err { IsTrue E.is_counted → OnErr result (E.failures faults.old < E.failures faults.new) }
     {
-        write_whole(program.as_bytes(), faults, failures)?;
-        write_whole(b": ", faults, failures)?;
-        write_whole(self.text().as_bytes(), faults, failures)?;
-        write_whole(b"\n", faults, failures)
+        write_whole(program.as_bytes(), faults)?;
+        write_whole(b": ", faults)?;
+        write_whole(self.text().as_bytes(), faults)?;
+        write_whole(b"\n", faults)
     }
 
     // What is said of it.
-    fn text(self) -> &'static str
+    pub(crate) fn text(self) -> &'static str
         ensures { result.now ≡ stop_text self }
     {
         match self {
@@ -97,6 +91,9 @@ impl fmt::Display for Stop {
 /// The name that `pieces` gives itself on standard error.
 pub const PROGRAM: &str = "pieces";
 
+// How many bytes are read at a time.
+const PART: usize = 16384;
+
 /// The arguments behind the program's name, out of all its words.
 ///
 /// Where a word is not UTF-8, which is an error of the kind `InvalidData`, the empty text stands for them
@@ -106,6 +103,7 @@ pub fn arguments_of(alloc: Global, words: io::Result<Vec<String>>) -> Result<Vec
     ensures no_text { IfErr words (λ error. error_kind error ≡ ErrorKind.InvalidData → IfOk result (λ args. map string_bytes args.items ≡ [] ∷ [])) }
     ensures refused { IfErr words (λ error. error_kind error ≢ ErrorKind.InvalidData → result ≡ Err Stop.NoMemory) }
     ensures err { IfErr result (λ stop. stop ≡ Stop.NoMemory) }
+    ensures given { (args : List (List ℕ)) → HaveArguments words (λ all. map string_bytes (drop 1 all.items)) args → IfOk result (λ given. map string_bytes given.items ≡ args) }
 {
     match words {
         Ok(mut words) => {
@@ -129,7 +127,7 @@ pub fn arguments_of(alloc: Global, words: io::Result<Vec<String>>) -> Result<Vec
 /// and then nothing is read or written, and the status is 2. Where reading or writing fails, or memory is
 /// refused, it is 3, and before all is read, merged or walked, nothing is written. `faults` takes the line
 /// for standard error, and nothing where the status is 0 or 1.
-pub fn run_pieces<A: Allocator + Copy, R: Read, W: Write, E: Write>(
+pub fn run_pieces<A: Allocator + Copy, R: Source, W: Write, E: Sink>(
     alloc: A,
     args: &[String<A>],
     input: &mut R,
@@ -139,10 +137,12 @@ pub fn run_pieces<A: Allocator + Copy, R: Read, W: Write, E: Write>(
     ensures lines { (asked : Asked) → Asks (map string_bytes args.now) asked → result < 2 → TellsAsked asked (R.remaining input.old) (W.contents out.old.inner) (W.contents out.new.inner) result }
     ensures front { (asked : Asked) → Asks (map string_bytes args.now) asked → BeginsAsked asked (R.remaining input.old) (W.contents out.old.inner) (W.contents out.new.inner) }
     ensures drained { result < 2 → IsDrained (R.remaining input.old) (R.remaining input.new) }
+    ensures unbroken { result < 2 → IsTrue R.is_counted → (R.reads input.new).broken ≡ (R.reads input.old).broken }
+    ensures in_time { IsTrue R.is_counted → (R.reads input.old).ended ≡ false → (R.reads input.new).late ≡ (R.reads input.old).late }
     ensures quiet { result < 2 → out.new.failures ≡ out.old.failures }
     ensures silent { result < 2 → faults.new ≡ faults.old }
-    ensures early { 2 ≤ result → EndsEarly (codes "pieces") out.old out.new (E.contents faults.old) (E.contents faults.new) result }
-    ensures unflushed { out.new.flushes ≡ out.old.flushes }
+    ensures early { 2 ≤ result → EndsEarly (codes "pieces") (ReadsUntil R.is_counted (R.remaining input.old) (R.failures input.old) (R.failures input.new) (R.reads input.old) (R.reads input.new)) (λ reason. FailsOrStays reason out.old out.new) (Says E.is_counted (E.failures faults.old) (E.failures faults.new) (E.contents faults.old) (E.contents faults.new)) result }
+    ensures extras { out.new.extras ≡ out.old.extras }
     ensures wrong { AreWrong (map string_bytes args.now) → result ≡ 2 }
     ensures untouched { AreWrong (map string_bytes args.now) → (input.new ≡ input.old) × (out.new ≡ out.old) }
     ensures right { (asked : Asked) → Asks (map string_bytes args.now) asked → result ≢ 2 }
@@ -160,13 +160,16 @@ pub fn run_pieces<A: Allocator + Copy, R: Read, W: Write, E: Write>(
 ///
 /// Where the input was listed the output is flushed, once, and where that fails the status is 3 and
 /// `faults` takes the line for standard error. Any other status stays, and nothing is done.
-pub fn finish_run<W: Write, E: Write>(status: u8, out: &mut Counted<W>, faults: &mut E) -> u8
-    ensures flushed { status < 2 → out.new.flushes ≡ out.old.flushes + 1 }
+pub fn finish_run<W: Write, E: Sink>(status: u8, out: &mut Counted<W>, faults: &mut E) -> u8
+    ensures flushed { status < 2 → out.new.extras.flushes ≡ out.old.extras.flushes + 1 }
     ensures keeps { Keeps (W.contents out.old.inner) (W.contents out.new.inner) }
-    ensures whole { out.new.failures ≡ out.old.failures → (result ≡ status) × (faults.new ≡ faults.old) }
+    ensures whole { out.new.extras.failed_flushes ≡ out.old.extras.failed_flushes → (result ≡ status) × (faults.new ≡ faults.old) }
     ensures early { 2 ≤ status → out.new ≡ out.old }
-    ensures never_fewer { out.old.failures ≤ out.new.failures }
-    ensures failed { out.old.failures < out.new.failures → EndsEarly (codes "pieces") out.old out.new (E.contents faults.old) (E.contents faults.new) result }
+    ensures quiet { out.new.failures ≡ out.old.failures }
+    ensures never_fewer { out.old.extras.failed_flushes ≤ out.new.extras.failed_flushes }
+    ensures failed { out.old.extras.failed_flushes < out.new.extras.failed_flushes → result ≡ 3 }
+    ensures kept { result < 3 → (result ≡ status) × (faults.new ≡ faults.old) × (out.new.extras.failed_flushes ≡ out.old.extras.failed_flushes) }
+    ensures line { out.old.extras.failed_flushes < out.new.extras.failed_flushes → Says E.is_counted (E.failures faults.old) (E.failures faults.new) (E.contents faults.old) (E.contents faults.new) (stop_line (codes "pieces") Stop.CannotWrite) }
 {
     if status >= 2 {
         return status;
@@ -179,7 +182,7 @@ pub fn finish_run<W: Write, E: Write>(status: u8, out: &mut Counted<W>, faults: 
 
 // Does what the arguments ask for with all that the reader gives, and answers how many of the lines are
 // errors.
-fn do_asked<A: Allocator + Copy, R: Read, W: Write>(
+fn do_asked<A: Allocator + Copy, R: Source, W: Write>(
     alloc: A,
     args: &[String<A>],
     input: &mut R,
@@ -188,9 +191,12 @@ fn do_asked<A: Allocator + Copy, R: Read, W: Write>(
     ensures lines { IfOk result (λ faults. (asked : Asked) → Asks (map string_bytes args.now) asked → DoesAsked asked (R.remaining input.old) (W.contents out.old.inner) (W.contents out.new.inner) faults) }
     ensures front { (asked : Asked) → Asks (map string_bytes args.now) asked → BeginsAsked asked (R.remaining input.old) (W.contents out.old.inner) (W.contents out.new.inner) }
     ensures drained { OnOk result (IsDrained (R.remaining input.old) (R.remaining input.new)) }
+    ensures unbroken { OnOk result (IsTrue R.is_counted → (R.reads input.new).broken ≡ (R.reads input.old).broken) }
+    ensures until { IfErr result (ReadsUntil R.is_counted (R.remaining input.old) (R.failures input.old) (R.failures input.new) (R.reads input.old) (R.reads input.new)) }
+    ensures in_time { IsTrue R.is_counted → (R.reads input.old).ended ≡ false → (R.reads input.new).late ≡ (R.reads input.old).late }
     ensures quiet { OnOk result (out.new.failures ≡ out.old.failures) }
     ensures early { IfErr result (λ stop. FailsOrStays stop out.old out.new) }
-    ensures unflushed { out.new.flushes ≡ out.old.flushes }
+    ensures extras { out.new.extras ≡ out.old.extras }
     ensures wrong { AreWrong (map string_bytes args.now) → (result ≡ Err Stop.WrongArguments) × (input.new ≡ input.old) × (out.new ≡ out.old) }
     ensures right { result ≡ Err Stop.WrongArguments → AreWrong (map string_bytes args.now) }
     ensures unwritten { OnErr result (out.new.failures ≡ out.old.failures → out.new ≡ out.old) }
@@ -211,8 +217,8 @@ fn write_asked<A: Allocator + Copy, W: Write>(
     ensures front { WritesAskedFront (asked_by request.now) bytes.now (W.contents out.old.inner) (W.contents out.new.inner) }
     ensures quiet { OnOk result (out.new.failures ≡ out.old.failures) }
     ensures early { IfErr result (λ stop. FailsOrStays stop out.old out.new) }
-    ensures unflushed { out.new.flushes ≡ out.old.flushes }
-    ensures right { result ≢ Err Stop.WrongArguments }
+    ensures extras { out.new.extras ≡ out.old.extras }
+    ensures right { IfErr result (λ stop. Contains (Stop.CannotWrite ∷ Stop.NoMemory ∷ []) stop) }
 {
     match request {
         Request::Listing => list_bytes(bytes, out),
@@ -227,8 +233,8 @@ fn list_bytes<W: Write>(bytes: &[u8], out: &mut Counted<W>) -> Result<usize, Sto
     ensures front { WritesRunFront forward_form bytes.now (W.contents out.old.inner) (W.contents out.new.inner) }
     ensures quiet { OnOk result (out.new.failures ≡ out.old.failures) }
     ensures early { IfErr result (λ stop. FailsOrStays stop out.old out.new) }
-    ensures unflushed { out.new.flushes ≡ out.old.flushes }
-    ensures right { result ≢ Err Stop.WrongArguments }
+    ensures extras { out.new.extras ≡ out.old.extras }
+    ensures right { IfErr result (λ stop. Contains (Stop.CannotWrite ∷ Stop.NoMemory ∷ []) stop) }
 {
     match write_listing(bytes, out) {
         Ok(faults) => Ok(faults),
@@ -246,8 +252,8 @@ fn merge_bytes<A: Allocator, W: Write>(
     ensures front { WritesRunFront merged_form bytes.now (W.contents out.old.inner) (W.contents out.new.inner) }
     ensures quiet { OnOk result (out.new.failures ≡ out.old.failures) }
     ensures early { IfErr result (λ stop. FailsOrStays stop out.old out.new) }
-    ensures unflushed { out.new.flushes ≡ out.old.flushes }
-    ensures right { result ≢ Err Stop.WrongArguments }
+    ensures extras { out.new.extras ≡ out.old.extras }
+    ensures right { IfErr result (λ stop. Contains (Stop.CannotWrite ∷ Stop.NoMemory ∷ []) stop) }
 {
     let Ok(answers) = merged(alloc, bytes) else {
         return Err(Stop::NoMemory);
@@ -280,8 +286,8 @@ fn walk_bytes<A: Allocator, W: Write>(
     ensures front { WritesRunFront (walk_form word.now) bytes.now (W.contents out.old.inner) (W.contents out.new.inner) }
     ensures quiet { OnOk result (out.new.failures ≡ out.old.failures) }
     ensures early { IfErr result (λ stop. FailsOrStays stop out.old out.new) }
-    ensures unflushed { out.new.flushes ≡ out.old.flushes }
-    ensures right { result ≢ Err Stop.WrongArguments }
+    ensures extras { out.new.extras ≡ out.old.extras }
+    ensures right { IfErr result (λ stop. Contains (Stop.CannotWrite ∷ Stop.NoMemory ∷ []) stop) }
 {
     let Ok(answers) = walk_utf8(alloc, bytes, word) else {
         return Err(Stop::NoMemory);
@@ -292,19 +298,37 @@ fn walk_bytes<A: Allocator, W: Write>(
     }
 }
 
-// All bytes that the reader still gives.
-fn read_whole<A: Allocator, R: Read>(alloc: A, input: &mut R) -> Result<Vec<u8, A>, Stop>
+// All bytes that the reader still gives, read until it answers the end, and no more then. A read that is
+// interrupted is made again.
+fn read_whole<A: Allocator, R: Source>(alloc: A, input: &mut R) -> Result<Vec<u8, A>, Stop>
     ensures bytes { IfOk result (λ bytes. IfSome (R.remaining input.old) (λ xs. bytes.items ≡ xs)) }
     ensures drained { OnOk result (IsDrained (R.remaining input.old) (R.remaining input.new)) }
+    ensures unbroken { OnOk result (IsTrue R.is_counted → (R.reads input.new).broken ≡ (R.reads input.old).broken) }
+    ensures until { IfErr result (ReadsUntil R.is_counted (R.remaining input.old) (R.failures input.old) (R.failures input.new) (R.reads input.old) (R.reads input.new)) }
+    ensures in_time { IsTrue R.is_counted → (R.reads input.old).ended ≡ false → (R.reads input.new).late ≡ (R.reads input.old).late }
     ensures right { IfErr result (λ stop. Contains (Stop.CannotRead ∷ Stop.NoMemory ∷ []) stop) }
 {
     let mut bytes = Vec::new(alloc);
-    match input.read_to_end(&mut bytes) {
-        Ok(_) => Ok(bytes),
-        Err(error) => Err(if error.kind() == ErrorKind::OutOfMemory {
-            Stop::NoMemory
-        } else {
-            Stop::CannotRead
-        }),
+    let mut part = [0; PART];
+    for _ in 0..u64::MAX {
+        match input.read_once(&mut part) {
+            Ok(0) => return Ok(bytes),
+            Ok(count) => add(&part[..count], &mut bytes)?,
+            Err(error) if error.kind() == ErrorKind::Interrupted => {}
+            Err(_) => return Err(Stop::CannotRead),
+        }
     }
+    Err(Stop::CannotRead)
+}
+
+// Adds what was read to the bytes.
+fn add<A: Allocator>(part: &[u8], bytes: &mut Vec<u8, A>) -> Result<(), Stop>
+    ensures items { OnOk result (bytes.new.items ≡ bytes.old.items ++ part.now) }
+    ensures err { IfErr result (λ stop. stop ≡ Stop.NoMemory) }
+    ensures right { IfErr result (λ stop. Contains (Stop.CannotRead ∷ Stop.NoMemory ∷ []) stop) }
+{
+    if bytes.extend_from_slice(part).is_err() {
+        return Err(Stop::NoMemory);
+    }
+    Ok(())
 }

@@ -1,15 +1,17 @@
 //! What the front of some bytes shows.
-ghost use Rattle.std.specs.Prelude.{◌≡◌, ◌<◌, length, IfSome, IfNone, IsTrue};
+ghost use Rattle.std.specs.Prelude.{◌≡◌, ◌<◌, length, IfSome, IfNone, IsTrue, Some};
 ghost use Rattle.std.specs.List.{All};
 ghost use Rattle.utf_base.specs.Code.{utf8};
 ghost use Rattle.utf_base.specs.Shown.{Shows};
-ghost use Rattle.cuts.specs.Recoded.{Reads, ShowsUnits, unit_of, units_of};
+ghost use Rattle.utf_base.specs.Units.{unit_fault_kind};
+ghost use Rattle.utf_base.specs.declared.errors.units.Utf16PairError.TheVariants.{Incomplete};
+ghost use Rattle.cuts.specs.Recoded.{Reads, Lacks, ShowsUnits, unit_of, units_of};
 ghost use Rattle.cuts.specs.ShownFronts.{Decides, Ends, Waits, fault_len, ShowsEach, IsPlain};
 
 use crate::form::Form;
+use crate::text_front::front_of_text;
 use encode_unicode::error::Utf8ErrorKind;
 use encode_unicode::{CharExt, U16UtfExt};
-use utf_chars::text_front::front_of_text;
 
 // The scalar that begins the bytes, or U+FFFD for a fault, and how many bytes it has; `None` where that
 // depends on what follows them.
@@ -17,6 +19,7 @@ use utf_chars::text_front::front_of_text;
 pub(crate) fn front(from: Form, bytes: &[u8]) -> Option<(char, usize)>
     ensures some { IfSome result (λ x. Decides (Reads from) bytes.now x.0 x.1) }
     ensures none { IfNone result (Waits (Reads from) (fault_len from) bytes.now) }
+    ensures lacks { IfNone result (Lacks from bytes.now) }
 {
     match from {
         Form::Utf8 => front_of_utf8(bytes),
@@ -55,6 +58,7 @@ fn fault_bytes(from: Form) -> usize
 fn front_of_utf8(bytes: &[u8]) -> Option<(char, usize)>
     ensures some { IfSome result (λ x. Decides (Shows utf8) bytes.now x.0 x.1) }
     ensures none { IfNone result (Waits (Shows utf8) 1 bytes.now) }
+    ensures lacks { IfNone result (Lacks Form.Utf8 bytes.now) }
 {
     match char::from_utf8_slice_start(bytes) {
         Ok((c, len)) => Some((c, len)),
@@ -69,6 +73,7 @@ fn front_of_utf8(bytes: &[u8]) -> Option<(char, usize)>
 fn front_of_utf16(high_first: bool, bytes: &[u8]) -> Option<(char, usize)>
     ensures some { IfSome result (λ x. Decides (ShowsUnits high_first) bytes.now x.0 x.1) }
     ensures none { IfNone result (Waits (ShowsUnits high_first) 2 bytes.now) }
+    ensures lacks { IfNone result (unit_fault_kind (units_of high_first bytes.now) ≡ Some Incomplete) }
 {
     if bytes.len() < 2 {
         return None;

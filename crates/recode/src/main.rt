@@ -3,27 +3,16 @@
 #![tactic(auto)]
 
 use cuts::counted::Counted;
-use cuts::recoding::{PROGRAM, run_recode};
-use cuts::runs::{Stop, arguments_of};
+use cuts::programs::recode;
 use std::process::ExitCode;
 use std::{env, io};
 
-fn main(rt: HostRuntime) -> ExitCode {
-    ExitCode::from(match run(&rt) {
-        Ok(status) => status,
-        Err(stop) => stop.report(PROGRAM, &mut rt.stderr()),
-    })
-}
-
 // One run over the standard streams.
-fn run(rt: &HostRuntime) -> Result<u8, Stop> {
-    let alloc = rt.alloc();
-    let args = arguments_of(alloc, words(rt))?;
+fn main(rt: HostRuntime) -> ExitCode {
     let mut input = Counted::new(rt.stdin());
-    let mut out = Counted::new(io::writer(rt));
-    let mut faults = rt.stderr();
-    let status = run_recode(alloc, args.as_slice(), &mut input, &mut out, &mut faults);
-    Ok(status)
+    let mut out = Counted::new(io::writer(&rt));
+    let mut faults = Counted::new(rt.stderr());
+    ExitCode::from(recode(rt.alloc(), words(&rt), &mut input, &mut out, &mut faults))
 }
 
 // The words that the program was started with.

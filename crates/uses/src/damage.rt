@@ -2,6 +2,7 @@
 ghost use Rattle.std.specs.Prelude.{◌≡◌, ◌<◌, ℕ, IsTrue, Some, length, slice_index};
 ghost use Rattle.encode_unicode.specs.Code.{utf8};
 ghost use Rattle.encode_unicode.specs.Piece.{IsPiece, Stands};
+ghost use Rattle.encode_unicode.specs.ShownLaws.{CodeShowsFirst, FaultShowsFirst, FirstPieceStays, KindStays, ShowsOne, ShowsSome};
 
 use encode_unicode::{Utf8Char, laws};
 
@@ -20,4 +21,20 @@ pub fn begins_no_code(bytes: &[u8]) -> bool
 {
     laws::code_or_one_fault();
     Utf8Char::from_slice_start(bytes).is_err()
+}
+
+/// What bytes show, with U+FFFD for each fault, can be told from their front on: there is one list of it, the
+/// first piece is shown first, and what is decided stays as more bytes come.
+pub fn shown_from_the_front()
+    ensures some { ShowsSome utf8 }
+    ensures one { ShowsOne utf8 }
+    ensures code { CodeShowsFirst utf8 }
+    ensures fault { FaultShowsFirst utf8 }
+    ensures piece { FirstPieceStays utf8 }
+    ensures kind { KindStays }
+{
+    laws::shows_one();
+    laws::first_is_shown();
+    laws::first_piece_stays();
+    laws::faults_stay();
 }

@@ -12,6 +12,7 @@ pub mod damage;
 pub mod editor;
 pub mod lengths;
 pub mod merged;
+pub mod names;
 pub mod opened;
 pub mod parts;
 pub mod recoders;

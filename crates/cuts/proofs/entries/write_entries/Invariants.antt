@@ -7,5 +7,5 @@ invariant-loop-entry g l = record {
   lines : WritesLines g.T.Entry.line g.T.Entry.wrong (take l.entry-index l.entries) (g.W.Write.contents l.fn.out.inner) (g.W.Write.contents l.out.inner) l.faults;
   few : l.faults ≤ l.entry-index;
   quiet : l.out.failures ≡ l.fn.out.failures;
-  unflushed : l.out.flushes ≡ l.fn.out.flushes;
+  extras : l.out.extras ≡ l.fn.out.extras;
 }

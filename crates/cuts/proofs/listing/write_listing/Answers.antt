@@ -6,14 +6,14 @@ pub loop-item-init : goal.loop-item-init
 loop-item-init g c = record {
   listed = IsListedSoFar-none _ _ _ (c.into_iter-item-iterator.ensures.into_iter_gives ∙ c.from-item-items.ensures);
   quiet = refl;
-  unflushed = refl;
+  extras = refl;
 }
 
 pub loop-item-preserved : goal.loop-item-preserved
 loop-item-preserved g c = record {
   listed = IsListedSoFar-push _ _ _ _ _ _ _ _ _ c.loop-item.invariant.listed c.in-Some.ensures.steps c.in_ok-faults.ensures.lines c.in_ok-faults.ensures.few;
   quiet = search rules;
-  unflushed = search rules;
+  extras = search rules;
 }
 
 pub returns-in_err-faults-clause-front : goal.returns-in_err-faults-clause-front

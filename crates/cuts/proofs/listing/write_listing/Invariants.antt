@@ -6,5 +6,5 @@ abbrev pub invariant-loop-item : goal.invariant-loop-item
 invariant-loop-item g l = record {
   listed : IsListedSoFar l.src (g.W.Write.contents l.fn.out.inner) (g.W.Write.contents l.out.inner) l.faults l.item-iterator;
   quiet : l.out.failures ≡ l.fn.out.failures;
-  unflushed : l.out.flushes ≡ l.fn.out.flushes;
+  extras : l.out.extras ≡ l.fn.out.extras;
 }

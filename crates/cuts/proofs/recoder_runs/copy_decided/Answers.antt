@@ -1,5 +1,5 @@
 use Rattle.std.proofs.Common.{◌+◌, arith, length-drop}
-use Rattle.std.proofs.lemmas.List.{take_rest}
+use Rattle.std.proofs.lemmas.List.{take_rest, drop-drop}
 use Rattle.cuts.specs.declared.form.Form.TheVariants.{Utf8}
 use Rattle.cuts.proofs.Growing.{Grows-behind, Grows-text}
 use Rattle.cuts.proofs.recoder_runs.copy_decided.Goals as goal
@@ -36,3 +36,9 @@ loop-place-preserved g c =
       short = omega arith;
       capacity = omega arith;
     }
+
+pub returns-then-done-stop-clause-lacks : goal.returns-then-done-stop-clause-lacks
+returns-then-done-stop-clause-lacks g c lt =
+    let bytes = c.args.bytes.now in
+    let p = c.loop-place.place + c.copy_text-place.result in
+    rw (take_rest bytes p, drop-drop c.recode_decided-done.result p bytes) at (c.recode_decided-done.ensures.lacks c.if-done-stop.true)

@@ -1,5 +1,6 @@
 use Rattle.std.proofs.Common.{◌≡◌, ◌≤◌, ◌++◌, length, take, drop, arith, ap, ◌∙◌, append_assoc, take-append-drop}
 use Rattle.cuts.specs.Recoded.{Grows}
+use Rattle.cuts.proofs.FrontBytes.{lacks_joined}
 use Rattle.cuts.proofs.Growing.{Grows-more}
 use Rattle.cuts.proofs.recoder_runs.recode_joined.Goals as goal
 
@@ -15,3 +16,8 @@ returns-clause-grows g c =
     = rw bytes at c.recode_decided.ensures.grows in
     let whole : (held ++ take 3 piece) ++ drop 3 piece ≡ held ++ piece = append_assoc held (take 3 piece) (drop 3 piece) ∙ ap (λ xs. held ++ xs) (take-append-drop 3 piece) in
     rw whole at (Grows-more c.args.from c.args.to (held ++ take 3 piece) (drop 3 piece) c.args.out.now.items c.recode_decided.new.out.items p le grows)
+
+pub returns-clause-lacks : goal.returns-clause-lacks
+returns-clause-lacks g c lt =
+    let bytes : take c.join-len.result.1 c.join-len.result.0 ≡ c.args.held.now ++ take 3 c.args.piece.now = c.join-len.ensures.bytes in
+    lacks_joined c.args.from c.args.held.now c.args.piece.now c.recode_decided.result (rw bytes at (c.recode_decided.ensures.waits lt)) lt (rw bytes at (c.recode_decided.ensures.lacks lt))

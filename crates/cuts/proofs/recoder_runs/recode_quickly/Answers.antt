@@ -1,5 +1,5 @@
 use Rattle.std.proofs.Common.{◌+◌, arith, length-drop}
-use Rattle.std.proofs.lemmas.List.{take_rest}
+use Rattle.std.proofs.lemmas.List.{take_rest, drop-drop}
 use Rattle.cuts.proofs.Growing.{Grows-behind}
 use Rattle.cuts.proofs.recoder_runs.recode_quickly.Goals as goal
 
@@ -70,3 +70,9 @@ loop-place-preserved g c =
       short = omega arith;
       capacity = omega arith;
     }
+
+pub returns-then-done-stop-clause-lacks : goal.returns-then-done-stop-clause-lacks
+returns-then-done-stop-clause-lacks g c lt =
+    let bytes = c.args.bytes.now in
+    let p = c.loop-place.place + c.recode_blocks-place.result + c.recode_stretch-count.result in
+    rw (take_rest bytes p, drop-drop c.recode_apart-done.result p bytes) at (c.recode_apart-done.ensures.lacks c.if-done-stop.true)

@@ -1,4 +1,4 @@
-use Rattle.std.proofs.Common.{◌≡◌, ◌≤◌, []}
+use Rattle.std.proofs.Common.{◌≡◌, ◌≤◌, [], false}
 use Rattle.cuts.proofs.Relays.{IsRelayed}
 use Rattle.cuts.proofs.recoding.recode.Given as goal
 
@@ -9,5 +9,8 @@ invariant-loop g l = record {
       (g.W.Write.contents l.fn.out.inner) (g.W.Write.contents l.out.inner) l.fn.input.failures l.input.failures l.counter l.recoder;
   never_fewer : l.fn.input.failures ≤ l.input.failures;
   quiet : l.out.failures ≡ l.fn.out.failures;
-  unflushed : l.out.flushes ≡ l.fn.out.flushes;
+  unbroken : l.input.reads.broken ≡ l.fn.input.reads.broken;
+  unended : l.fn.input.reads.ended ≡ false → l.input.reads.ended ≡ false;
+  in_time : l.fn.input.reads.ended ≡ false → l.input.reads.late ≡ l.fn.input.reads.late;
+  extras : l.out.extras ≡ l.fn.out.extras;
 }

@@ -8,3 +8,6 @@ returns-in-Ok-clause-wrong g c wrong = absurd (wrong c.in-Some.from c.in-Some.to
 
 pub returns-in-Err-clause-wrong : goal.returns-in-Err-clause-wrong
 returns-in-Err-clause-wrong g c wrong = absurd (wrong c.in-Some.from c.in-Some.to c.in-Some.ensures.some)
+
+pub returns-in_default-clause-front : goal.returns-in_default-clause-front
+returns-in_default-clause-front g c from to asks = absurd (c.in_default.ensures.none from to asks)

@@ -1,5 +1,5 @@
 use Rattle.std.proofs.Common.{sym, ◌∙◌}
-use Rattle.cuts.proofs.FrontBytes.{Decides-unit, Decides-pair, Decides-trailing, Decides-unmatched, Waits-byte, Waits-leading, trailing_where_fault, unmatched_where_fault}
+use Rattle.cuts.proofs.FrontBytes.{Decides-unit, Decides-pair, Decides-trailing, Decides-unmatched, Waits-byte, Waits-leading, lacks_byte, lacks_second, trailing_where_fault, unmatched_where_fault}
 use Rattle.cuts.proofs.shown_fronts.front_of_utf16.Goals as goal
 
 pub returns-then-bytes-lt2-clause-none : goal.returns-then-bytes-lt2-clause-none
@@ -31,3 +31,11 @@ returns-in-Err-from_utf16_tuple-clause-some c =
     let leading = sym c.is_utf16_leading_surrogate.ensures ∙ c.if-not-is_utf16_leading_surrogate.false in
     let unmatched = unmatched_where_fault c.unit-first.result c.unit-second.result _ leading c.in-Err-from_utf16_tuple.ensures.decodes in
     Decides-unmatched _ _ c.if-bytes-lt4.false (rw c.unit-first.ensures at leading) (rw c.unit-second.ensures at unmatched)
+
+pub returns-then-bytes-lt2-clause-lacks : goal.returns-then-bytes-lt2-clause-lacks
+returns-then-bytes-lt2-clause-lacks c = lacks_byte _ _ c.if-bytes-lt2.true
+
+pub returns-then-bytes-lt4-clause-lacks : goal.returns-then-bytes-lt4-clause-lacks
+returns-then-bytes-lt4-clause-lacks c =
+    let leading = sym c.is_utf16_leading_surrogate.ensures ∙ c.if-not-is_utf16_leading_surrogate.false in
+    lacks_second _ _ c.if-bytes-lt2.false c.if-bytes-lt4.true (rw c.unit-first.ensures at leading)

@@ -1,5 +1,6 @@
 use Rattle.std.proofs.Common.{◌≡◌, ◌-◌, ℕ, List, length, take, drop, refl, ap}
 use Rattle.std.proofs.lemmas.List.{take_rest}
+use Rattle.cuts.proofs.FrontBytes.{lacks_left}
 use Rattle.cuts.proofs.Growing.{Feeds-whole, few_left}
 use Rattle.cuts.proofs.recoder.Recoder.feed.Goals as goal
 
@@ -17,3 +18,14 @@ returns-clause-ok g c =
     Feeds-whole c.args.self.now c.hold-2.new.self c.self.inside.from c.self.inside.to held c.args.piece.now rest c.args.out.now.items _ _ p q
     (ap (λ r. r.from) c.self.view_is) (ap (λ r. r.to) c.self.view_is) c.held_bytes-held.ensures.bytes
     grows c.if-place-held.false refl (rw whole at decided.grows) (few_left rest q waits) hold
+
+pub returns-clause-waits : goal.returns-clause-waits
+returns-clause-waits g c some =
+    let held = c.held_bytes-held.result.now in
+    let p = c.recode_joined-place.result in
+    let q = c.recode_whole-place.result in
+    let rest : List ℕ = drop (p - length held) c.args.piece.now in
+    let whole : take (length c.args.piece.now - (p - length held)) rest ≡ rest = take_rest c.args.piece.now (p - length held) in
+    let decided = rw whole at c.recode_whole-place.ensures.lacks in
+    let hold = rw (whole, take_rest rest q) at c.hold-2.ensures in
+    rw (hold, ← ap (λ r. r.from) c.self.view_is) (lacks_left c.self.inside.from rest q decided)

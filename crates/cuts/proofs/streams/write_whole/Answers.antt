@@ -1,0 +1,11 @@
+use Rattle.std.proofs.Common.{rules}
+use Rattle.cuts.proofs.Parts.{sent_more}
+use Rattle.cuts.proofs.streams.write_whole.Goals as goal
+
+pub loop-sent-preserved : goal.loop-sent-preserved
+loop-sent-preserved g c = record {
+  in_range = search rules;
+  front = sent_more _ _ _ _ c.loop-sent.sent _ c.loop-sent.invariant.front c.in_ok-count.ensures.appends;
+  quiet = search rules;
+  extras = search rules;
+}

@@ -1,0 +1,15 @@
+use Rattle.std.proofs.Common.{◌≡◌, ◌≤◌, ◌-◌, length, take}
+use Rattle.std.specs.Prelude.{IsTrue}
+use Rattle.std.specs.Io.KnownBytes.{Appends}
+use Rattle.cuts.proofs.streams.write_whole.Given as goal
+
+abbrev pub invariant-loop-sent : goal.invariant-loop-sent
+invariant-loop-sent g l = record {
+  in_range : l.sent ≤ length l.bytes;
+  front : Appends (g.S.Sink.contents l.fn.to) (g.S.Sink.contents l.to) (take l.sent l.bytes);
+  quiet : IsTrue g.S.Sink.is_counted → g.S.Sink.failures l.to ≡ g.S.Sink.failures l.fn.to;
+  extras : IsTrue g.S.Sink.is_counted → g.S.Sink.extras l.to ≡ g.S.Sink.extras l.fn.to;
+}
+
+abbrev pub decreases-loop-sent : goal.decreases-loop-sent
+decreases-loop-sent g l = length l.bytes - l.sent
