@@ -74,7 +74,7 @@ pub(crate) fn characters() -> [char; 21] {
     characters
 }
 
-// The code, and the filler in the places behind it.
+// The code, and the filler in the places after it.
 pub(crate) fn filled<T: Copy, const N: usize>(code: &[T], filler: T) -> [T; N] {
     let mut places = [filler; N];
     for (place, element) in places.iter_mut().zip(code) {

@@ -1,8 +1,8 @@
 //! What each form makes of a row of the table, and the row of it.
-use crate::edges::{Edge, edges, filled};
+use crate::edges::{Edge, filled};
 use encode_unicode::{CharExt, Utf8Char, Utf16Char};
 
-// The code as a unit and the one behind it, if any.
+// The code as a unit and the one after it, if any.
 fn as_tuple(code: &[u16]) -> Option<(u16, Option<u16>)> {
     let first = code.first().copied()?;
     Some((first, code.get(1).copied()))
@@ -141,27 +141,23 @@ fn written_utf16(c: char) -> ([u16; 4], usize) {
     (places, len)
 }
 
+// Whether each call gives the row, and makes a character of it.
+pub(crate) fn follow_the_table(edge: &Edge) -> bool {
+    gives_codes(edge.0, edge)
+        && is_made_of_bytes(edge.0, edge)
+        && is_made_of_units(edge.0, edge)
+        && is_made_in_utf8(edge)
+        && gives_utf8(edge)
+        && is_made_in_utf16(edge)
+        && gives_utf16(edge)
+}
+
 #[test]
-fn the_forms_follow_the_table(rt: HostRuntime) {
-    for edge in edges() {
-        let c = edge.0;
-        let plain = [
-            gives_codes(c, edge),
-            is_made_of_bytes(c, edge),
-            is_made_of_units(c, edge),
-        ];
-        assert_eq!(rt; plain, [true; 3], "at {c:?}");
-        let kept = [
-            is_made_in_utf8(edge),
-            gives_utf8(edge),
-            is_made_in_utf16(edge),
-            gives_utf16(edge),
-        ];
-        assert_eq!(rt; kept, [true; 4], "at {c:?}");
-    }
-    assert!(rt; '@'.to_utf16_array() == [0x40, 0]);
-    assert!(rt; kept_bytes([0xc3, 0xa9, 0xff, 0x41]) == Some(([0xc3, 0xa9, 0, 0], 2)));
-    assert!(rt; kept_units([0x78, 0x79]) == Some([0x78, 0]));
-    let euro = written_utf8('\u{20ac}');
-    assert!(rt; euro == ([0xe2, 0x82, 0xac, 0x45, 0x45, 0x45], 3));
+fn nothing_of_what_follows_is_kept(rt: HostRuntime) {
+    let written = ([0xe2, 0x82, 0xac, 0x45, 0x45, 0x45], 3);
+    let same = '@'.to_utf16_array() == [0x40, 0]
+        && kept_bytes([0xc3, 0xa9, 0xff, 0x41]) == Some(([0xc3, 0xa9, 0, 0], 2))
+        && kept_units([0x78, 0x79]) == Some([0x78, 0])
+        && written_utf8('\u{20ac}') == written;
+    assert!(rt; same);
 }

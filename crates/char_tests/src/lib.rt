@@ -1,4 +1,5 @@
-//! Tests of the three forms of a character: `char`, `Utf8Char` and `Utf16Char`.
+//! Tests of the three forms of a character, `char`, `Utf8Char` and `Utf16Char`, of decoding one, of single bytes and
+//! units, of the errors, and of the table of classes and states.
 #![tactic(auto)]
 
 #[cfg(test)]
@@ -6,11 +7,25 @@ mod cases;
 #[cfg(test)]
 mod edges;
 #[cfg(test)]
+mod edges_and_middle;
+#[cfg(test)]
+mod error_texts;
+#[cfg(test)]
+mod first_elements;
+#[cfg(test)]
 mod forms;
+#[cfg(test)]
+mod front_bytes;
+#[cfg(test)]
+mod front_units;
+#[cfg(test)]
+mod numbers;
 #[cfg(test)]
 mod orders;
 #[cfg(test)]
 mod singles;
+#[cfg(test)]
+mod steps;
 #[cfg(test)]
 mod texts;
 #[cfg(test)]

@@ -1,9 +1,9 @@
 //! Equality, order and hashes of the three forms, in each and across them.
 use crate::edges::characters;
 use encode_unicode::{CharExt, Utf8Char, Utf16Char};
+use std::alloc::{AllocError, Global};
 use std::cmp::Ordering;
 use std::collections::{BTreeMap, HashMap};
-use std::fmt::Debug;
 use std::hash::{BuildHasher, BuildHasherDefault, FoldHasher, Hash};
 use std::test::Fail;
 
@@ -16,14 +16,14 @@ fn compares<T: Ord>(one: &T, other: &T, order: Ordering) -> bool {
 }
 
 // Whether each form compares by the order.
-fn forms_compare(one: char, other: char, order: Ordering) -> bool {
+pub(crate) fn forms_compare(one: char, other: char, order: Ordering) -> bool {
     compares(&one, &other, order)
         && compares(&one.to_utf8(), &other.to_utf8(), order)
         && compares(&one.to_utf16(), &other.to_utf16(), order)
 }
 
 // Whether two forms compare by the order.
-fn forms_mix(one: char, other: char, order: Ordering) -> bool {
+pub(crate) fn forms_mix(one: char, other: char, order: Ordering) -> bool {
     let same = order.is_eq();
     let (bytes, other_bytes) = (one.to_utf8(), other.to_utf8());
     let (units, other_units) = (one.to_utf16(), other.to_utf16());
@@ -62,33 +62,15 @@ fn hash_of<T: Hash + Drop>(value: T) -> u64 {
     BuildHasherDefault::<FoldHasher>::new().hash_one(value)
 }
 
-#[test]
-fn the_three_forms_hash_alike(rt: HostRuntime) {
-    for c in characters() {
-        let hashes = [hash_of(c.to_utf8()), hash_of(c.to_utf16())];
-        assert!(rt; hashes == [hash_of(c); 2], "at {c:?}");
-    }
+// Whether the three forms hash alike.
+pub(crate) fn hash_alike(c: char) -> bool {
+    let hash = hash_of(c);
+    hash_of(c.to_utf8()) == hash && hash_of(c.to_utf16()) == hash
 }
 
-// Whether maps with the characters of the table as keys find each at its place, and no other.
-fn maps_find<T: From<char> + Ord + Hash + Copy + Debug + Drop>(
-    rt: &impl AllocGlobal,
-) -> Result<bool, Fail> {
-    let mut ordered = BTreeMap::new(rt.alloc());
-    let mut hashed = HashMap::new(rt.alloc());
-    for (row, c) in characters().into_iter().enumerate() {
-        ordered.insert(T::from(c), row)?;
-        hashed.insert(T::from(c), row)?;
-    }
-    let mut found = (ordered.len(), hashed.len()) == (21, 21);
-    for (row, c) in characters().into_iter().enumerate() {
-        let places = (
-            ordered.get(&T::from(c)).copied(),
-            hashed.get(&T::from(c)).copied(),
-        );
-        found = found && places == (Some(row), Some(row));
-    }
-    let strangers = [
+// Characters beside those of the table.
+fn strangers() -> [char; 10] {
+    [
         '\u{1}',
         '\u{7e}',
         '\u{81}',
@@ -99,17 +81,51 @@ fn maps_find<T: From<char> + Ord + Hash + Copy + Debug + Drop>(
         '\u{fffe}',
         '\u{10001}',
         '\u{10fffe}',
-    ];
-    for c in strangers {
-        let key = T::from(c);
-        found = found && !ordered.contains_key(&key) && !hashed.contains_key(&key);
+    ]
+}
+
+// Whether an ordered map with the characters of the table as keys finds each at its place, and no other.
+fn ordered_map_finds<T: From<char> + Ord + Copy + Drop>(alloc: Global) -> Result<bool, AllocError> {
+    let mut map = BTreeMap::new(alloc);
+    for (row, c) in characters().into_iter().enumerate() {
+        map.insert(T::from(c), row)?;
     }
-    Ok(found)
+    let mut found = map.len() == 21;
+    for (row, c) in characters().into_iter().enumerate() {
+        found = found && map.get(&T::from(c)).copied() == Some(row);
+    }
+    Ok(
+        found
+            && strangers()
+                .into_iter()
+                .all(|c| !map.contains_key(&T::from(c))),
+    )
+}
+
+// The same of a map by hashes.
+fn hashed_map_finds<T: From<char> + Eq + Hash + Copy + Drop>(
+    alloc: Global,
+) -> Result<bool, AllocError> {
+    let mut map = HashMap::new(alloc);
+    for (row, c) in characters().into_iter().enumerate() {
+        map.insert(T::from(c), row)?;
+    }
+    let mut found = map.len() == 21;
+    for (row, c) in characters().into_iter().enumerate() {
+        found = found && map.get(&T::from(c)).copied() == Some(row);
+    }
+    Ok(
+        found
+            && strangers()
+                .into_iter()
+                .all(|c| !map.contains_key(&T::from(c))),
+    )
 }
 
 #[test]
 fn maps_find_their_characters(rt: HostRuntime) -> Result<(), Fail> {
-    assert!(rt; maps_find::<Utf8Char>(&rt)?, "in UTF-8");
-    assert!(rt; maps_find::<Utf16Char>(&rt)?, "in UTF-16");
+    let alloc = rt.alloc();
+    assert!(rt; ordered_map_finds::<Utf8Char>(alloc)? && ordered_map_finds::<Utf16Char>(alloc)?);
+    assert!(rt; hashed_map_finds::<Utf8Char>(alloc)? && hashed_map_finds::<Utf16Char>(alloc)?);
     Ok(())
 }

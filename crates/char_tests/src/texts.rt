@@ -1,7 +1,8 @@
 //! Texts as characters, and characters as texts.
-use crate::edges::{characters, edges};
+use crate::edges::Edge;
 use encode_unicode::error::{EmptyStrError, FromStrError};
 use encode_unicode::{CharExt, Utf8Char, Utf16Char};
+use std::alloc::{AllocError, Global};
 use std::str::FromStr;
 use std::test::Fail;
 
@@ -54,28 +55,37 @@ fn texts_are_characters_or_faults(rt: HostRuntime) {
     for (text, start, whole) in table {
         assert!(rt; reads(text, start, whole), "at {text:?}");
     }
-    for (c, text, bytes, _) in edges() {
-        let start = Ok((*c, bytes.len()));
-        assert!(rt; reads(text, start, many), "at {text:?}");
-        let alone = text.get(..bytes.len()).expect(&rt, "its own text");
-        assert!(rt; reads(alone, start, Ok(*c)), "at {alone:?}");
-    }
+}
+
+// Whether a longer text begins with the character of the row, and its own text is it.
+pub(crate) fn begins_its_texts(edge: &Edge) -> bool {
+    let (c, text, bytes, _) = *edge;
+    let start = Ok((c, bytes.len()));
+    let alone = text.get(..bytes.len()).unwrap_or("");
+    reads(text, start, Err(FromStrError::MultipleCodepoints)) && reads(alone, start, Ok(c))
+}
+
+// Whether both forms are shown and written as the `char` is, whatever width is asked for.
+pub(crate) fn is_shown(alloc: Global, c: char) -> Result<bool, AllocError> {
+    let (bytes, units) = (c.to_utf8(), c.to_utf16());
+    let shown = format!(in alloc; "{bytes:?}{units:?}")? == format!(in alloc; "{c:?}{c:?}")?;
+    let plain = format!(in alloc; "{c}{c}")?;
+    let written = format!(in alloc; "{bytes}{units}")? == plain;
+    let wide = format!(in alloc; "{bytes:>10}{units:>10}")? == plain;
+    Ok(shown && written && wide)
+}
+
+// Whether both forms are shown so.
+fn shows(alloc: Global, c: char, text: &str) -> Result<bool, AllocError> {
+    let bytes = format!(in alloc; "{:?}", c.to_utf8())?;
+    let units = format!(in alloc; "{:?}", c.to_utf16())?;
+    Ok(bytes.as_str() == text && units.as_str() == text)
 }
 
 #[test]
 fn characters_show_as_a_char_does(rt: HostRuntime) -> Result<(), Fail> {
     for (c, text) in [('a', "'a'"), ('\n', "'\\n'"), ('\u{e9}', "'\u{e9}'")] {
-        let shown = format!(in rt.alloc(); "{:?}{:?}", c.to_utf8(), c.to_utf16())?;
-        let expected = format!(in rt.alloc(); "{text}{text}")?;
-        assert_eq!(rt; shown.as_str(), expected.as_str());
-    }
-    for c in characters() {
-        let (bytes, units) = (c.to_utf8(), c.to_utf16());
-        let shown = format!(in rt.alloc();
-            "{bytes}{bytes:>10}{bytes:?}{units}{units:>10}{units:?}"
-        )?;
-        let expected = format!(in rt.alloc(); "{c}{c}{c:?}{c}{c}{c:?}")?;
-        assert_eq!(rt; shown.as_str(), expected.as_str());
+        assert!(rt; shows(rt.alloc(), c, text)?, "at {c:?}");
     }
     Ok(())
 }

@@ -1,7 +1,7 @@
 //! The forms that ask their caller, called on codes that are known.
 ghost use Rattle.encode_unicode.specs.Decoded.{DecodesWhole};
 
-use crate::edges::edges;
+use crate::edges::Edge;
 use encode_unicode::{CharExt, Utf8Char, Utf16Char};
 
 // The character of the bytes, taken through the bound for the code of one.
@@ -51,21 +51,22 @@ fn of_own_tuple(c: char) -> [Utf16Char; 2] {
     [padded, Utf16Char::from_tuple_unchecked((first, None))]
 }
 
+// Whether each form that asks its caller gives the character of the row.
+pub(crate) fn answer_unchecked(edge: &Edge) -> bool {
+    let (c, _, bytes, units) = *edge;
+    let (in_bytes, in_units) = (c.to_utf8(), c.to_utf16());
+    of_own_code(c) == c
+        && of_own_bytes(c) == in_bytes
+        && of_own_units(c) == in_units
+        && of_own_tuple(c) == [in_units; 2]
+        && at_front_of_bytes(bytes) == Some((in_bytes, bytes.len()))
+        && at_front_of_units(units) == Some((in_units, units.len()))
+}
+
 #[test]
-fn unchecked_forms_answer_the_same(rt: HostRuntime) {
+fn single_elements_are_taken_unchecked(rt: HostRuntime) {
     let (in_bytes, in_units) = ('A'.to_utf8(), 'A'.to_utf16());
     assert!(rt; Utf8Char::from_ascii_unchecked(0x41) == in_bytes);
     assert!(rt; Utf16Char::from_bmp_unchecked(0x41) == in_units);
     assert!(rt; of_own_tuple('A') == [in_units; 2]);
-    for (c, _, bytes, units) in edges() {
-        let (in_bytes, in_units) = (c.to_utf8(), c.to_utf16());
-        let whole = of_own_code(*c) == *c
-            && of_own_bytes(*c) == in_bytes
-            && of_own_units(*c) == in_units
-            && of_own_tuple(*c) == [in_units; 2];
-        assert!(rt; whole, "at {c:?}");
-        let front = at_front_of_bytes(bytes) == Some((in_bytes, bytes.len()))
-            && at_front_of_units(units) == Some((in_units, units.len()));
-        assert!(rt; front, "at {c:?}");
-    }
 }

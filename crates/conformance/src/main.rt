@@ -3,11 +3,16 @@
 //! A row that differs is printed too, and the status is then 1.
 #![tactic(auto)]
 
+mod asked;
+mod characters;
+mod decoders;
 mod recodings;
 mod rows;
 mod runs;
+mod texts;
 mod units;
 
+use crate::asked::CallRow;
 use crate::recodings::{Feeding, RecodedRow};
 use crate::rows::Row;
 use crate::runs::Run;
@@ -16,9 +21,18 @@ use std::process::ExitCode;
 use std::{fs, io};
 
 fn main(rt: HostRuntime) -> io::Result<ExitCode> {
-    let text = fs::read_to_string(&rt, "bytes.txt")?;
+    let bytes = bytes_agree(&rt)?;
+    let units = units_agree(&rt)?;
+    let recoded = recoded_agree(&rt)?;
+    let calls = calls_agree(&rt)?;
+    Ok(ExitCode::from(u8::from(!(bytes && units && recoded && calls))))
+}
+
+// Holds each kind of run against the rows of bytes. Answers whether all agree.
+fn bytes_agree(rt: &HostRuntime) -> io::Result<bool> {
+    let text = fs::read_to_string(rt, "bytes.txt")?;
     let rows = rows::parse(rt.alloc(), &text)?;
-    let mut status = 0;
+    let mut all = true;
     for run in [
         Run::Front,
         Run::Decoder,
@@ -26,25 +40,35 @@ fn main(rt: HostRuntime) -> io::Result<ExitCode> {
         Run::Walk,
         Run::Merger,
     ] {
-        if !report_bytes(&rt, run, rows.as_slice())? {
-            status = 1;
-        }
+        all &= report_bytes(rt, run, rows.as_slice())?;
     }
-    let text = fs::read_to_string(&rt, "units.txt")?;
+    Ok(all)
+}
+
+fn units_agree(rt: &HostRuntime) -> io::Result<bool> {
+    let text = fs::read_to_string(rt, "units.txt")?;
     let rows = units::parse(rt.alloc(), &text)?;
+    let mut all = true;
     for run in [UnitRun::Decoder, UnitRun::Merger, UnitRun::Walk] {
-        if !report_units(&rt, run, rows.as_slice())? {
-            status = 1;
-        }
+        all &= report_units(rt, run, rows.as_slice())?;
     }
-    let text = fs::read_to_string(&rt, "recode.txt")?;
+    Ok(all)
+}
+
+fn recoded_agree(rt: &HostRuntime) -> io::Result<bool> {
+    let text = fs::read_to_string(rt, "recode.txt")?;
     let rows = recodings::parse(rt.alloc(), &text)?;
+    let mut all = true;
     for feeding in [Feeding::Whole, Feeding::ByteByByte] {
-        if !report_recoded(&rt, feeding, rows.as_slice())? {
-            status = 1;
-        }
+        all &= report_recoded(rt, feeding, rows.as_slice())?;
     }
-    Ok(ExitCode::from(status))
+    Ok(all)
+}
+
+fn calls_agree(rt: &HostRuntime) -> io::Result<bool> {
+    let text = fs::read_to_string(rt, "calls.txt")?;
+    let rows = asked::parse(rt.alloc(), &text)?;
+    report_calls(rt, rows.as_slice())
 }
 
 // Prints how many of the rows agree under one kind of run, and each that does not. Answers whether all do.
@@ -76,6 +100,16 @@ fn report_recoded(rt: &HostRuntime, feeding: Feeding, rows: &[RecodedRow<'_>]) -
         }
     }
     report(rt, feeding.name(), rows.len(), &differing)
+}
+
+fn report_calls(rt: &HostRuntime, rows: &[CallRow<'_>]) -> io::Result<bool> {
+    let mut differing = Vec::new(rt.alloc());
+    for row in rows {
+        if !row.agrees(rt.alloc())? {
+            differing.push(row.text)?;
+        }
+    }
+    report(rt, "calls", rows.len(), &differing)
 }
 
 fn report(rt: &HostRuntime, name: &str, count: usize, differing: &[&str]) -> io::Result<bool> {

@@ -52,7 +52,7 @@ fn parse_row(alloc: Global, line: &str) -> io::Result<UnitRow<'_>> {
     })
 }
 
-fn parse_units(alloc: Global, text: &str) -> io::Result<Vec<u16>> {
+pub(crate) fn parse_units(alloc: Global, text: &str) -> io::Result<Vec<u16>> {
     let mut units = Vec::new(alloc);
     for digits in text.as_bytes().chunks(4) {
         let mut unit = 0;
@@ -121,7 +121,7 @@ fn walk_agrees(alloc: Global, row: &UnitRow<'_>) -> Result<bool, AllocError> {
     Ok(walk.as_str() == row.walk)
 }
 
-// The answers alone: what stands behind the last space of each piece.
+// The answers alone: what stands after the last space of each piece.
 fn merger_agrees(alloc: Global, row: &UnitRow<'_>) -> Result<bool, AllocError> {
     let mut pieces = row.pieces.split_terminator(';');
     for answer in row.units.iter().copied().to_utf16chars() {

@@ -1,19 +1,18 @@
-//! Tests of whole runs, and of what a program does.
+//! Tests of what no row of text says: single calls of failing streams, long inputs, every word of eight letters,
+//! tables that change again and again, what a program says, and the callers in `uses`.
 #![tactic(auto)]
 
 #[cfg(test)]
-mod collected;
+mod callers;
 #[cfg(test)]
-mod counted;
+mod long_inputs;
 #[cfg(test)]
-mod lines;
+mod programs;
 #[cfg(test)]
-mod listing;
+mod streams;
 #[cfg(test)]
-mod memory;
+mod streams_out_of_memory;
 #[cfg(test)]
-mod runs;
+mod tables;
 #[cfg(test)]
-mod unit_walks;
-#[cfg(test)]
-mod walks;
+mod words;

@@ -1,0 +1,128 @@
+//! UTF-16 at the front of units, decoded to a `char` and to a `Utf16Char`.
+use encode_unicode::error::{Utf16ArrayError, Utf16SliceError, Utf16TupleError};
+use encode_unicode::{CharExt, Utf16Char};
+
+// Units at both ends of what stands by itself, of what begins a pair and of what ends one.
+const ENDS: [u16; 8] = [
+    0x0000, 0xd7ff, 0xd800, 0xdbff, 0xdc00, 0xdfff, 0xe000, 0xffff,
+];
+
+// What two units are, asked through the bound.
+fn of_array<T: CharExt>(units: [u16; 2]) -> Result<T, Utf16ArrayError> {
+    T::from_utf16_array(units)
+}
+
+fn kept_array_of(units: [u16; 2]) -> Result<char, Utf16ArrayError> {
+    Ok(Utf16Char::from_array(units)?.to_char())
+}
+
+// Whether each call answers so for two units.
+fn are(units: [u16; 2], answer: Result<char, Utf16ArrayError>) -> bool {
+    char::from_utf16_array(units) == answer
+        && of_array(units) == answer
+        && kept_array_of(units) == answer
+}
+
+// What one or two units are, asked through the bound.
+fn of_tuple<T: CharExt>(units: (u16, Option<u16>)) -> Result<T, Utf16TupleError> {
+    T::from_utf16_tuple(units)
+}
+
+fn kept_tuple_of(units: (u16, Option<u16>)) -> Result<char, Utf16TupleError> {
+    Ok(Utf16Char::from_tuple(units)?.to_char())
+}
+
+// Whether each call answers so for one or two units.
+fn are_exactly(units: (u16, Option<u16>), answer: Result<char, Utf16TupleError>) -> bool {
+    char::from_utf16_tuple(units) == answer
+        && of_tuple(units) == answer
+        && kept_tuple_of(units) == answer
+}
+
+// What begins a slice, asked through the bound.
+fn front_of<T: CharExt>(src: &[u16]) -> Result<(T, usize), Utf16SliceError> {
+    T::from_utf16_slice_start(src)
+}
+
+fn kept_front_of(src: &[u16]) -> Result<(char, usize), Utf16SliceError> {
+    let (c, len) = Utf16Char::from_slice_start(src)?;
+    Ok((c.to_char(), len))
+}
+
+// Whether each call answers so at the front of a slice.
+fn begin(src: &[u16], answer: Result<(char, usize), Utf16SliceError>) -> bool {
+    char::from_utf16_slice_start(src) == answer
+        && front_of(src) == answer
+        && kept_front_of(src) == answer
+}
+
+#[test]
+fn two_units_are_decoded_unchecked(rt: HostRuntime) {
+    for (units, c) in [([0xd802, 0], '\u{10800}'), ([0xdbad, 0xf19e], '\u{fb59e}')] {
+        assert!(rt;
+            char::from_utf16_array_unchecked(units) == c,
+            "at {units:?}"
+        );
+    }
+}
+
+// Whether each call refuses the two units so.
+fn are_refused(
+    units: [u16; 2],
+    tuple: Utf16TupleError,
+    slice: Utf16SliceError,
+    array: Utf16ArrayError,
+) -> bool {
+    let [first, second] = units;
+    are_exactly((first, Some(second)), Err(tuple))
+        && begin(&units, Err(slice))
+        && are(units, Err(array))
+}
+
+#[test]
+fn trailing_surrogates_begin_nothing(rt: HostRuntime) {
+    let tuple = Utf16TupleError::FirstIsTrailingSurrogate;
+    let slice = Utf16SliceError::FirstIsTrailingSurrogate;
+    let array = Utf16ArrayError::FirstIsTrailingSurrogate;
+    for first in 0xdc00..=0xdfff {
+        let alone = are_exactly((first, None), Err(tuple)) && begin(&[first], Err(slice));
+        assert!(rt; alone, "at {first:x}");
+        for second in ENDS {
+            let units = [first, second];
+            assert!(rt; are_refused(units, tuple, slice, array), "at {units:?}");
+        }
+    }
+}
+
+#[test]
+fn leading_surrogates_need_a_trailing_one(rt: HostRuntime) {
+    let tuple = Utf16TupleError::SecondIsNotTrailingSurrogate;
+    let slice = Utf16SliceError::SecondIsNotTrailingSurrogate;
+    let array = Utf16ArrayError::SecondIsNotTrailingSurrogate;
+    for first in 0xd800..=0xdbff {
+        let alone = are_exactly((first, None), Err(Utf16TupleError::MissingSecond))
+            && begin(&[first], Err(Utf16SliceError::MissingSecond));
+        assert!(rt; alone, "at {first:x}");
+        for second in [0x0000, 0xd7ff, 0xd800, 0xdbff, 0xe000, 0xffff] {
+            let units = [first, second];
+            assert!(rt; are_refused(units, tuple, slice, array), "at {units:?}");
+        }
+    }
+}
+
+#[test]
+fn units_that_stand_alone_need_no_second(rt: HostRuntime) {
+    let superfluous = Err(Utf16TupleError::SuperfluousSecond);
+    for (lowest, highest) in [(0x0000, 0xd7ff), (0xe000, 0xffff)] {
+        for first in lowest..=highest {
+            let c = char::from_u32(first as u32).expect(&rt, "no surrogate");
+            for second in ENDS {
+                let units = [first, second];
+                let holds = are_exactly((first, Some(second)), superfluous)
+                    && begin(&units, Ok((c, 1)))
+                    && are(units, Ok(c));
+                assert!(rt; holds, "at {units:?}");
+            }
+        }
+    }
+}

@@ -1,0 +1,115 @@
+//! Rows of calls: what is asked, by which calls, and what each has to answer.
+
+use crate::characters::{Number, TextOfOne};
+use crate::decoders::{BytesAtEnds, UnitsAtEnds};
+use crate::rows::parse_bytes;
+use crate::texts::{BytesOf, CharactersOf, CodeOfOne, UnitsOf};
+use crate::units::parse_units;
+use encode_unicode::{U8IterExt, U8SliceExt, U16IterExt, U16SliceExt};
+use std::alloc::{AllocError, Global};
+use std::io;
+use std::io::ErrorKind;
+
+/// What answers calls that are named.
+pub(crate) trait Asked {
+    /// The answer to the next call, as `Debug` writes it.
+    fn answer(&mut self, alloc: Global, call: &str) -> Result<String, AllocError>;
+}
+
+/// What a row says: what is asked, its input, the calls and their answers.
+#[derive(Drop)]
+pub(crate) struct CallRow<'a> {
+    /// The line as it stands in the file.
+    pub(crate) text: &'a str,
+    asked: &'a str,
+    input: &'a str,
+    calls: &'a str,
+    answers: &'a str,
+}
+
+/// The rows of the file. A line that begins with `#` is none, and any other has four columns with ` | `
+/// between them: what is asked, its input, the calls with spaces between them, and the answers with ` ; `
+/// between them.
+pub(crate) fn parse(alloc: Global, file: &str) -> io::Result<Vec<CallRow<'_>>> {
+    let mut rows = Vec::new(alloc);
+    for line in file.lines() {
+        if !line.starts_with('#') {
+            rows.push(parse_row(line)?)?;
+        }
+    }
+    Ok(rows)
+}
+
+fn parse_row(line: &str) -> io::Result<CallRow<'_>> {
+    let mut columns = line.split(" | ");
+    let (Some(asked), Some(input)) = (columns.next(), columns.next()) else {
+        return Err(io::Error::from(ErrorKind::InvalidData));
+    };
+    let (Some(calls), Some(answers)) = (columns.next(), columns.next()) else {
+        return Err(io::Error::from(ErrorKind::InvalidData));
+    };
+    Ok(CallRow {
+        text: line,
+        asked,
+        input,
+        calls,
+        answers,
+    })
+}
+
+impl<'a> CallRow<'a> {
+    /// Whether each call answers what the row says.
+    pub(crate) fn agrees(&self, alloc: Global) -> io::Result<bool> {
+        match self.asked {
+            "bytes" | "decoder" | "merger" => self.bytes_agree(alloc),
+            "units" | "decoder of units" | "merger of units" => self.units_agree(alloc),
+            _ => self.text_agrees(alloc),
+        }
+    }
+
+    fn bytes_agree(&self, alloc: Global) -> io::Result<bool> {
+        let bytes = parse_bytes(alloc, self.input)?;
+        let bytes = bytes.as_slice();
+        Ok(match self.asked {
+            "bytes" => self.holds(alloc, BytesAtEnds { bytes })?,
+            "decoder" => self.holds(alloc, bytes.utf8char_indices())?,
+            _ => self.holds(alloc, bytes.iter().copied().to_utf8chars())?,
+        })
+    }
+
+    fn units_agree(&self, alloc: Global) -> io::Result<bool> {
+        let units = parse_units(alloc, self.input)?;
+        let units = units.as_slice();
+        Ok(match self.asked {
+            "units" => self.holds(alloc, UnitsAtEnds { units })?,
+            "decoder of units" => self.holds(alloc, units.utf16char_indices())?,
+            _ => self.holds(alloc, units.iter().copied().to_utf16chars())?,
+        })
+    }
+
+    fn text_agrees(&self, alloc: Global) -> io::Result<bool> {
+        let text = self.input;
+        Ok(match self.asked {
+            "text" => self.holds(alloc, TextOfOne { text })?,
+            "number" => self.holds(alloc, Number { text })?,
+            "code" => self.holds(alloc, CodeOfOne::new(text))?,
+            "characters" => self.holds(alloc, CharactersOf::new(text))?,
+            "bytes of a text" => self.holds(alloc, BytesOf::new(text))?,
+            "units of a text" => self.holds(alloc, UnitsOf::new(text))?,
+            _ => false,
+        })
+    }
+
+    // Whether what is asked gives the row's answers.
+    fn holds<A: Asked + Drop>(&self, alloc: Global, asked: A) -> Result<bool, AllocError> {
+        let mut asked = asked;
+        let mut answers = self.answers.split(" ; ");
+        for call in self.calls.split(' ') {
+            let answer = asked.answer(alloc, call)?;
+            if answers.next() != Some(answer.as_str()) {
+                return Ok(false);
+            }
+        }
+        Ok(answers.next().is_none())
+    }
+}

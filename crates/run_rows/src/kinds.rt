@@ -1,0 +1,90 @@
+//! What is held against the rows.
+
+use crate::recodings::{parts_agree, refused_parts_agree};
+use crate::trials::{growths_agree, interrupted_agree, reads_agree, writes_agree};
+use crate::{entries, lines, lists, replacements, runs};
+use std::alloc::{AllocError, Global};
+
+/// What is held against the rows of one file.
+#[derive(Clone, Copy)]
+pub(crate) enum Kind {
+    Runs,
+    Reads,
+    Interrupted,
+    Writes,
+    Growths,
+    LongGrowths,
+    Lines,
+    Entries,
+    Lists,
+    Parts,
+    RefusedParts,
+    Replacements,
+}
+
+impl Kind {
+    pub(crate) fn all() -> [Kind; 12] {
+        [
+            Kind::Runs,
+            Kind::Reads,
+            Kind::Interrupted,
+            Kind::Writes,
+            Kind::Growths,
+            Kind::LongGrowths,
+            Kind::Lines,
+            Kind::Entries,
+            Kind::Lists,
+            Kind::Parts,
+            Kind::RefusedParts,
+            Kind::Replacements,
+        ]
+    }
+
+    /// What stands before its count.
+    pub(crate) fn name(self) -> &'static str {
+        match self {
+            Kind::Runs => "runs of both programs",
+            Kind::Reads => "each read refused",
+            Kind::Interrupted => "each read interrupted",
+            Kind::Writes => "each write refused",
+            Kind::Growths => "each growth refused",
+            Kind::LongGrowths => "each growth of a longer run refused",
+            Kind::Lines => "each write of lines refused",
+            Kind::Entries => "entries written",
+            Kind::Lists => "lists collected, each growth refused",
+            Kind::Parts => "recoded in parts",
+            Kind::RefusedParts => "recoded in parts, each growth refused",
+            Kind::Replacements => "replacements, each growth refused",
+        }
+    }
+
+    /// The file of its rows.
+    pub(crate) fn file(self) -> &'static str {
+        match self {
+            Kind::Runs | Kind::Reads | Kind::Interrupted => "runs.txt",
+            Kind::Writes | Kind::Growths | Kind::Lines => "runs.txt",
+            Kind::LongGrowths => "long_runs.txt",
+            Kind::Entries => "entries.txt",
+            Kind::Lists => "lists.txt",
+            Kind::Parts | Kind::RefusedParts => "recodings.txt",
+            Kind::Replacements => "replacements.txt",
+        }
+    }
+
+    /// Whether the row holds.
+    pub(crate) fn agrees(self, alloc: Global, row: &str) -> Result<bool, AllocError> {
+        match self {
+            Kind::Runs => runs::agrees(alloc, row),
+            Kind::Reads => reads_agree(alloc, row),
+            Kind::Interrupted => interrupted_agree(alloc, row),
+            Kind::Writes => writes_agree(alloc, row),
+            Kind::Growths | Kind::LongGrowths => growths_agree(alloc, row),
+            Kind::Lines => lines::agrees(alloc, row),
+            Kind::Entries => entries::agrees(alloc, row),
+            Kind::Lists => lists::agrees(alloc, row),
+            Kind::Parts => parts_agree(alloc, row),
+            Kind::RefusedParts => refused_parts_agree(alloc, row),
+            Kind::Replacements => replacements::agrees(alloc, row),
+        }
+    }
+}

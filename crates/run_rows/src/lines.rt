@@ -1,0 +1,80 @@
+//! Each write of some lines is refused in turn, until none is: there is an error, and never `Ok` with a line
+//! missing. The rows are those of whole runs of `pieces`.
+
+use crate::columns::word_of;
+use crate::runs::{Row, parse};
+use crate::trials::writes_of;
+use cuts::collected::merge_utf8;
+use cuts::counted::Counted;
+use cuts::listing::{write_listing, write_merged, write_walk};
+use cuts::walks::walk_utf8;
+use fakes::fuse::{Fault, Fuse};
+use std::alloc::{AllocError, Global};
+use std::io;
+use std::io::ErrorKind;
+
+// Writes the lines of the row's run.
+fn write(alloc: Global, row: &Row<'_>, out: &mut Counted<Fuse<'_>>) -> io::Result<usize> {
+    match row.args.strip_prefix("--ends,") {
+        Some(letters) => {
+            let word = word_of(alloc, letters.trim_end_matches(','))?;
+            write_walk(&walk_utf8(alloc, &row.input, &word)?, out)
+        }
+        None if row.args.is_empty() => write_listing(&row.input, out),
+        None => write_merged(&merge_utf8(alloc, row.input.iter().copied())?, out),
+    }
+}
+
+// How many of the lines name an error: these alone have a capital letter.
+fn errors_of(lines: &[u8]) -> usize {
+    let mut errors = 0usize;
+    for line in lines.split(|byte| *byte == b'\n') {
+        if line.iter().any(|byte| byte.is_ascii_uppercase()) {
+            errors = errors.saturating_add(1);
+        }
+    }
+    errors
+}
+
+// How often the writes are refused before all are taken, or none where they then end in another way.
+fn refusals(alloc: Global, row: &Row<'_>, fault: Fault, most: usize) -> Option<usize> {
+    let kind = match fault {
+        Fault::Error(kind) => kind,
+        Fault::Nothing => ErrorKind::WriteZero,
+    };
+    for passes in 0..10_000 {
+        let mut writer = Fuse::failing(alloc, passes, fault);
+        writer.most = most.max(1);
+        let mut out = Counted::new(writer);
+        let answer = write(alloc, row, &mut out).map_err(|error| error.kind());
+        let writer = out.into_inner();
+        if answer == Ok(errors_of(&row.output)) {
+            return (writer.written.as_slice() == row.output.as_slice()).then_some(passes as usize);
+        }
+        let is_last = writer.given.len() == passes as usize + 1;
+        if answer != Err(kind) || !is_last || !row.output.starts_with(&writer.written) {
+            return None;
+        }
+    }
+    None
+}
+
+/// Whether each write is refused that there is, however it fails.
+pub(crate) fn agrees(alloc: Global, row: &str) -> Result<bool, AllocError> {
+    let row = parse(alloc, row)?;
+    if row.recodes || row.status == 2 {
+        return Ok(true);
+    }
+    for fault in [
+        Fault::Error(ErrorKind::BrokenPipe),
+        Fault::Error(ErrorKind::Interrupted),
+        Fault::Nothing,
+    ] {
+        for most in [usize::MAX, 3, 1] {
+            if refusals(alloc, &row, fault, most) != Some(writes_of(&row.output, most)) {
+                return Ok(false);
+            }
+        }
+    }
+    Ok(true)
+}

@@ -1,0 +1,49 @@
+//! Whole runs, programs, tables and recoders against rows that another program computed. Each read, write and
+//! growth of each row is also refused in turn, until none is.
+//!
+//! It prints how many rows agree. A row that differs is printed too, and the status is then 1.
+#![tactic(auto)]
+
+mod columns;
+mod entries;
+mod kinds;
+mod lines;
+mod lists;
+mod recodings;
+mod replacements;
+mod runs;
+mod trials;
+
+use crate::kinds::Kind;
+use std::process::ExitCode;
+use std::{fs, io};
+
+fn main(rt: HostRuntime) -> io::Result<ExitCode> {
+    let mut status = 0;
+    for kind in Kind::all() {
+        if !report(&rt, kind)? {
+            status = 1;
+        }
+    }
+    Ok(ExitCode::from(status))
+}
+
+// Prints how many rows of the kind's file agree, and each that does not. Answers whether all do.
+fn report(rt: &HostRuntime, kind: Kind) -> io::Result<bool> {
+    let file = fs::read_to_string(rt, kind.file())?;
+    let mut count = 0u32;
+    let mut equal = 0u32;
+    for row in file.lines() {
+        if row.starts_with('#') {
+            continue;
+        }
+        count = count.saturating_add(1);
+        if kind.agrees(rt.alloc(), row)? {
+            equal = equal.saturating_add(1);
+        } else {
+            println!(rt; "{}: differs at {row}", kind.name())?;
+        }
+    }
+    println!(rt; "{}: {count} rows, {equal} equal", kind.name())?;
+    Ok(count == equal)
+}

@@ -1,0 +1,140 @@
+//! Rows of bytes and what they are recoded as: `FROM TO|INPUT|OUTPUT|GROWTHS`, in hexadecimal.
+//!
+//! The last column says how many growths are refused where the bytes are fed one by one: one for each of them, and
+//! one for an end that leaves some held. Bytes are held while fewer are there than the first of them asks for.
+
+use crate::columns::{bytes_of, column, number};
+use cuts::form::Form;
+use cuts::recoder::Recoder;
+use fakes::budget::Budget;
+use std::alloc::{AllocError, Allocator, Global};
+
+fn form_of(name: &str) -> Form {
+    match name {
+        "utf16le" => Form::Utf16Le,
+        "utf16be" => Form::Utf16Be,
+        _ => Form::Utf8,
+    }
+}
+
+// The recoder that the row asks for.
+fn recoder_of(row: &str) -> Recoder {
+    let forms = column(row, 0);
+    let (from, to) = forms.split_once(' ').unwrap_or((forms, forms));
+    Recoder::new(form_of(from), form_of(to))
+}
+
+fn finish<A: Allocator>(recoder: Recoder, out: &mut Vec<u8, A>) -> Result<(), AllocError> {
+    match recoder.finish(out) {
+        Ok(()) => Ok(()),
+        Err(unfinished) => Err(unfinished.cause),
+    }
+}
+
+// Appends what comes of the input, cut at this place with nothing between.
+fn recode_two(row: &str, front: &[u8], back: &[u8], out: &mut Vec<u8>) -> Result<(), AllocError> {
+    let mut recoder = recoder_of(row);
+    recoder.feed(front, out)?;
+    recoder.feed(&[], out)?;
+    recoder.feed(back, out)?;
+    finish(recoder, out)
+}
+
+// Appends what comes of the input, fed in parts of so many bytes.
+fn recode_parts(row: &str, input: &[u8], size: usize, out: &mut Vec<u8>) -> Result<(), AllocError> {
+    let mut recoder = recoder_of(row);
+    for part in input.chunks(size.max(1)) {
+        recoder.feed(part, out)?;
+    }
+    finish(recoder, out)
+}
+
+// Whether what stands after the word is the output of the row.
+fn is_output(alloc: Global, row: &str, out: &[u8]) -> Result<bool, AllocError> {
+    let output = bytes_of(alloc, column(row, 2))?;
+    Ok(out.strip_prefix(BEFORE) == Some(output.as_slice()))
+}
+
+// What stands in the output before.
+const BEFORE: &[u8] = b"before";
+
+fn before(alloc: Global) -> Result<Vec<u8>, AllocError> {
+    let mut out = Vec::new(alloc);
+    out.extend_from_slice(BEFORE)?;
+    Ok(out)
+}
+
+/// Whether the row holds however its input is cut: into two parts, with an empty one between them, and into parts
+/// of any one size. What comes of them stands after what was there.
+pub(crate) fn parts_agree(alloc: Global, row: &str) -> Result<bool, AllocError> {
+    let input = bytes_of(alloc, column(row, 1))?;
+    for place in 0..=input.len() {
+        let mut out = before(alloc)?;
+        let (front, back) = input.split_at(place);
+        recode_two(row, front, back, &mut out)?;
+        let mut parts = before(alloc)?;
+        recode_parts(row, &input, place, &mut parts)?;
+        if !is_output(alloc, row, &out)? || !is_output(alloc, row, &parts)? {
+            return Ok(false);
+        }
+    }
+    Ok(true)
+}
+
+// Feeds the byte with no growth allowed, and where that is refused with one more. Answers whether it was and left
+// the output as it is.
+fn feed_refused(
+    recoder: &mut Recoder,
+    byte: u8,
+    budget: &Budget<Global>,
+    out: &mut Vec<u8, &Budget<Global>>,
+) -> Result<bool, AllocError> {
+    budget.allow(0);
+    if recoder.feed(&[byte], out).is_ok() {
+        return Ok(false);
+    }
+    let is_unchanged = out.is_empty();
+    budget.allow(1);
+    recoder.feed(&[byte], out)?;
+    Ok(is_unchanged)
+}
+
+// The same of the end.
+fn finish_refused(
+    recoder: Recoder,
+    budget: &Budget<Global>,
+    out: &mut Vec<u8, &Budget<Global>>,
+) -> Result<bool, AllocError> {
+    budget.allow(0);
+    match recoder.finish(out) {
+        Ok(()) => Ok(false),
+        Err(unfinished) => {
+            let is_unchanged = out.is_empty();
+            budget.allow(1);
+            finish(unfinished.recoder, out)?;
+            Ok(is_unchanged)
+        }
+    }
+}
+
+/// Whether each growth of `feed` and `finish` that is refused leaves recoder and output as they were, and the call
+/// made again gives what it should. The output is taken out after each byte, so that each growth is refused.
+pub(crate) fn refused_parts_agree(alloc: Global, row: &str) -> Result<bool, AllocError> {
+    let budget = Budget::new(alloc, 0);
+    let mut all = before(alloc)?;
+    let mut recoder = recoder_of(row);
+    let mut refused = 0usize;
+    for byte in bytes_of(alloc, column(row, 1))?.iter() {
+        let mut out = Vec::new(&budget);
+        if feed_refused(&mut recoder, *byte, &budget, &mut out)? {
+            refused = refused.saturating_add(1);
+        }
+        all.extend_from_slice(out.as_slice())?;
+    }
+    let mut out = Vec::new(&budget);
+    if finish_refused(recoder, &budget, &mut out)? {
+        refused = refused.saturating_add(1);
+    }
+    all.extend_from_slice(out.as_slice())?;
+    Ok(number(column(row, 3)) == Some(refused) && is_output(alloc, row, &all)?)
+}

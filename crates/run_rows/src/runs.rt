@@ -1,0 +1,194 @@
+//! Rows of whole runs of `pieces` and `recode`: `WORDS|INPUT|STATUS|OUTPUT|SAID|GROWTHS`.
+//!
+//! The words have `,` after each, and the first is the program's name. The input is in hexadecimal, and so is the
+//! output of `recode`, and that of `pieces` has `;` in place of each line feed. What is said on standard error
+//! has no line feed, and the last column may say how many growths the run asks for.
+
+use crate::columns::{bytes_of, column, lines_of, number, words_of};
+use cuts::counted::Counted;
+use cuts::recoding::run_recode;
+use cuts::runs::{arguments_of, run_pieces};
+use fakes::budget::Budget;
+use fakes::fuse::{Fuse, Plan};
+use std::alloc::{AllocError, Allocator, Global};
+
+/// What a row says.
+#[derive(Drop)]
+pub(crate) struct Row<'a> {
+    pub(crate) recodes: bool,
+    pub(crate) args: &'a str,
+    pub(crate) input: Vec<u8>,
+    pub(crate) status: usize,
+    pub(crate) output: Vec<u8>,
+    pub(crate) said: &'a str,
+    pub(crate) growths: Option<usize>,
+}
+
+pub(crate) fn parse(alloc: Global, row: &str) -> Result<Row<'_>, AllocError> {
+    let words = column(row, 0);
+    let recodes = words.starts_with("recode,");
+    let output = column(row, 3);
+    Ok(Row {
+        recodes,
+        args: words.split_once(',').map_or("", |(_, args)| args),
+        input: bytes_of(alloc, column(row, 1))?,
+        status: number(column(row, 2)).unwrap_or(usize::MAX),
+        output: if recodes {
+            bytes_of(alloc, output)?
+        } else {
+            lines_of(alloc, output)?
+        },
+        said: column(row, 4),
+        growths: number(column(row, 5)),
+    })
+}
+
+/// How the streams of a run fail, how many bytes they pass a call, and how many growths are allowed.
+#[derive(Clone, Copy)]
+pub(crate) struct Trial {
+    pub(crate) reads: Plan,
+    pub(crate) writes: Plan,
+    pub(crate) most: usize,
+    pub(crate) growths: u32,
+}
+
+impl Trial {
+    /// Nothing fails, with so many bytes a call.
+    pub(crate) fn pass(most: usize) -> Trial {
+        Trial {
+            reads: Plan::pass(),
+            writes: Plan::pass(),
+            most,
+            growths: u32::MAX,
+        }
+    }
+}
+
+/// What a run did.
+#[derive(Drop)]
+pub(crate) struct Ended<'a> {
+    pub(crate) status: u8,
+    /// How often it read.
+    pub(crate) reads: usize,
+    pub(crate) out: Fuse<'a>,
+    pub(crate) faults: Fuse<'a>,
+}
+
+/// The row's run on its input.
+pub(crate) fn run<'a>(
+    alloc: Global,
+    row: &'a Row<'_>,
+    trial: Trial,
+) -> Result<Ended<'a>, AllocError> {
+    let budget = Budget::new(alloc, u32::MAX);
+    let args = words_of(&budget, row.args)?;
+    budget.allow(trial.growths);
+    let mut input = Fuse::over(alloc, &row.input);
+    input.plan = trial.reads;
+    input.most = trial.most.max(1);
+    let mut writer = Fuse::ample(alloc);
+    writer.plan = trial.writes;
+    writer.most = trial.most.max(1);
+    let out = Counted::new(writer);
+    Ok(if row.recodes {
+        recode(alloc, &budget, &args, input, out)
+    } else {
+        list(alloc, &budget, &args, input, out)
+    })
+}
+
+fn list<'a, A: Allocator + Copy>(
+    alloc: Global,
+    budget: A,
+    args: &[String<A>],
+    mut input: Fuse<'a>,
+    mut out: Counted<Fuse<'a>>,
+) -> Ended<'a> {
+    let mut faults = Fuse::ample(alloc);
+    let status = run_pieces(budget, args, &mut input, &mut out, &mut faults);
+    Ended {
+        status,
+        reads: input.given.len(),
+        out: out.into_inner(),
+        faults,
+    }
+}
+
+fn recode<'a, A: Allocator + Copy>(
+    alloc: Global,
+    budget: A,
+    args: &[String<A>],
+    input: Fuse<'a>,
+    mut out: Counted<Fuse<'a>>,
+) -> Ended<'a> {
+    let mut faults = Fuse::ample(alloc);
+    let mut input = Counted::new(input);
+    let status = run_recode(budget, args, &mut input, &mut out, &mut faults);
+    let input = input.into_inner();
+    let reads = input.given.len();
+    drop(input);
+    let out = out.into_inner();
+    Ended {
+        status,
+        reads,
+        out,
+        faults,
+    }
+}
+
+impl Ended<'_> {
+    /// Whether it is the whole run of the row.
+    pub(crate) fn is_whole(&self, row: &Row<'_>) -> bool {
+        usize::from(self.status) == row.status
+            && self.out.written.as_slice() == row.output.as_slice()
+            && self.out.flushes == 0
+            && self.says(row.said)
+    }
+
+    /// Whether it ended early, with this text on standard error after the program's name.
+    pub(crate) fn is_stopped(&self, row: &Row<'_>, text: &str) -> bool {
+        let name = if row.recodes { "recode: " } else { "pieces: " };
+        self.status == 3
+            && row
+                .output
+                .as_slice()
+                .starts_with(self.out.written.as_slice())
+            && self.faults.written.as_slice().starts_with(name.as_bytes())
+            && self.says_behind(name.len(), text)
+    }
+
+    // Whether nothing was read or written.
+    fn is_idle(&self) -> bool {
+        self.reads == 0 && self.out.given.is_empty()
+    }
+
+    // Whether the text, and a line feed, was said, or nothing where there is none.
+    fn says(&self, text: &str) -> bool {
+        text.is_empty() && self.faults.written.is_empty() || self.says_behind(0, text)
+    }
+
+    fn says_behind(&self, place: usize, text: &str) -> bool {
+        match self.faults.written.get(place..) {
+            Some([said @ .., b'\n']) => said == text.as_bytes(),
+            _ => false,
+        }
+    }
+}
+
+/// Whether the row's run is as it says: by the arguments after the program's name, with one write for each line,
+/// and idle where the arguments are wrong.
+pub(crate) fn agrees(alloc: Global, row: &str) -> Result<bool, AllocError> {
+    let words = words_of(alloc, column(row, 0))?;
+    let row = parse(alloc, row)?;
+    let args = words_of(alloc, row.args)?;
+    if arguments_of(alloc, Ok(words)) != Ok(args) {
+        return Ok(false);
+    }
+    let ended = run(alloc, &row, Trial::pass(usize::MAX))?;
+    let lines = row.output.iter().filter(|byte| **byte == b'\n').count();
+    Ok(
+        ended.is_whole(&row)
+            && (row.recodes || ended.out.given.len() == lines)
+            && (row.status != 2 || ended.is_idle()),
+    )
+}

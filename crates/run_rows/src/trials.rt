@@ -1,0 +1,139 @@
+//! Each read, write and growth of a run is refused in turn, until none is.
+
+use crate::runs::{Row, Trial, parse, run};
+use fakes::fuse::{Fault, Plan};
+use std::alloc::{AllocError, Global};
+use std::io::ErrorKind;
+
+// What is refused of a run.
+#[derive(Clone, Copy)]
+enum Refused {
+    Read(ErrorKind),
+    Reads,
+    Write(Fault),
+    Growth,
+}
+
+impl Refused {
+    // The trial that passes so many calls.
+    fn trial(self, passes: u32, most: usize) -> Trial {
+        let mut trial = Trial::pass(most);
+        match self {
+            Refused::Read(kind) => trial.reads = Plan::fail_once(passes, kind),
+            Refused::Reads => trial.reads = Plan::fail(passes, Fault::Nothing),
+            Refused::Write(fault) => trial.writes = Plan::fail(passes, fault),
+            Refused::Growth => trial.growths = passes,
+        }
+        trial
+    }
+
+    // What is said of it.
+    fn text(self) -> &'static str {
+        match self {
+            Refused::Read(_) | Refused::Reads => "cannot read",
+            Refused::Write(_) => "cannot write",
+            Refused::Growth => "no memory",
+        }
+    }
+}
+
+// How often it is refused before the run is whole, or none where it then ends in another way. Nothing is written
+// by `pieces` where a read or a growth is refused, and each write that is refused is its last.
+fn refusals(
+    alloc: Global,
+    row: &Row<'_>,
+    refused: Refused,
+    most: usize,
+) -> Result<Option<usize>, AllocError> {
+    for passes in 0..10_000 {
+        let ended = run(alloc, row, refused.trial(passes, most))?;
+        if ended.is_whole(row) {
+            return Ok(Some(passes as usize));
+        }
+        let writes = match refused {
+            Refused::Write(_) => passes as usize + 1,
+            _ => 0,
+        };
+        let is_last = row.recodes || ended.out.given.len() == writes;
+        if !is_last || !ended.is_stopped(row, refused.text()) {
+            return Ok(None);
+        }
+    }
+    Ok(None)
+}
+
+/// Whether each read can be refused, by errors and for good.
+pub(crate) fn reads_agree(alloc: Global, row: &str) -> Result<bool, AllocError> {
+    let row = parse(alloc, row)?;
+    let count = if row.status == 2 {
+        Some(0)
+    } else {
+        Some(row.input.len().div_ceil(2) + 1)
+    };
+    for refused in [
+        Refused::Read(ErrorKind::Other),
+        Refused::Read(ErrorKind::UnexpectedEof),
+        Refused::Reads,
+    ] {
+        if refusals(alloc, &row, refused, 2)? != count {
+            return Ok(false);
+        }
+    }
+    Ok(true)
+}
+
+/// Whether a run whose read is interrupted goes on.
+pub(crate) fn interrupted_agree(alloc: Global, row: &str) -> Result<bool, AllocError> {
+    let row = parse(alloc, row)?;
+    for passes in 0..row.input.len().min(100) {
+        let refused = Refused::Read(ErrorKind::Interrupted);
+        let ended = run(alloc, &row, refused.trial(passes as u32, 1))?;
+        if !ended.is_whole(&row) {
+            return Ok(false);
+        }
+    }
+    Ok(true)
+}
+
+/// Whether each write can be refused, of whole lines, of parts of them, and of bytes.
+pub(crate) fn writes_agree(alloc: Global, row: &str) -> Result<bool, AllocError> {
+    let row = parse(alloc, row)?;
+    for fault in [
+        Fault::Error(ErrorKind::BrokenPipe),
+        Fault::Error(ErrorKind::Interrupted),
+        Fault::Nothing,
+    ] {
+        for most in [usize::MAX, 3, 1] {
+            let count = refusals(alloc, &row, Refused::Write(fault), most)?;
+            if count.is_none() || !row.recodes && count != Some(writes_of(&row.output, most)) {
+                return Ok(false);
+            }
+        }
+    }
+    Ok(true)
+}
+
+/// How many writes of so many bytes at most the lines take, where each line takes its own.
+pub(crate) fn writes_of(lines: &[u8], most: usize) -> usize {
+    let mut writes = 0usize;
+    let mut left = 0;
+    for byte in lines {
+        if left == 0 {
+            writes = writes.saturating_add(1);
+            left = most;
+        }
+        left = if *byte == b'\n' {
+            0
+        } else {
+            left.saturating_sub(1)
+        };
+    }
+    writes
+}
+
+/// Whether each growth can be refused.
+pub(crate) fn growths_agree(alloc: Global, row: &str) -> Result<bool, AllocError> {
+    let row = parse(alloc, row)?;
+    let count = refusals(alloc, &row, Refused::Growth, 2)?;
+    Ok(count.is_some() && (row.growths.is_none() || count == row.growths))
+}

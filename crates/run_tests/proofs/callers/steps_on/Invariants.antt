@@ -1,0 +1,5 @@
+use Rattle.uses.specs.Cursor.{IsBetween}
+use Rattle.run_tests.proofs.callers.steps_on.Given as goal
+
+abbrev pub invariant-loop-next : goal.invariant-loop-next
+invariant-loop-next g l = IsBetween l.src l.place

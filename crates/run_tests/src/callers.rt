@@ -1,0 +1,134 @@
+//! The callers in `uses`, over a damaged log, units with lone surrogates, and a text of several scripts.
+use cuts::form::Form;
+use encode_unicode::error::{Utf8ErrorKind, Utf16PairError};
+use encode_unicode::{U16IterExt, Utf8Char};
+use std::process::Abort;
+use std::test::Fail;
+use uses::cursor;
+use uses::merged::split_piece;
+use uses::parts::recode_in_parts;
+use uses::recoders::recode;
+use uses::records::{Ending, first_record, next_record};
+use uses::tables::{count_characters, hash_characters};
+use uses::tokens::tokens;
+
+fn log() -> &'static [u8] {
+    b"12:01 caf\xc3\xa9\n12:02 \xe2\x82 7\n\n\xff\xc3\n\xf0\x9f\x82\xa0\xf0\x9f\n"
+}
+
+#[test]
+fn a_log_is_cut_into_lines(rt: HostRuntime) -> Result<(), Fail> {
+    let lines = tokens(rt.alloc(), log(), b'\n')?;
+    assert_eq!(rt; lines.len(), 6);
+    assert!(rt; lines[0] == b"12:01 caf\xc3\xa9".as_slice());
+    assert!(rt; lines[1] == b"12:02 \xe2\x82 7".as_slice());
+    assert!(rt; lines[2].is_empty());
+    assert!(rt; lines[3] == b"\xff\xc3".as_slice());
+    assert!(rt; lines[4] == b"\xf0\x9f\x82\xa0\xf0\x9f".as_slice());
+    assert!(rt; lines[5].is_empty());
+    Ok(())
+}
+
+// Steps on from place to place, and at each of them back again.
+fn steps_on(rt: &impl Abort, src: &[u8], places: &[usize]) {
+    let mut place = cursor::front(src);
+    for next in places {
+        assert!(rt; place < src.len());
+        let on = cursor::step_on(src, place);
+        assert!(rt; on == *next);
+        assert!(rt; cursor::step_back(src, on) == place);
+        assert!(rt; cursor::on_and_back(src, place) == place);
+        place = on;
+    }
+    assert!(rt; place == cursor::back(src));
+}
+
+#[test]
+fn a_viewer_steps_over_the_end_of_the_log(rt: HostRuntime) {
+    let end = b"\xff\xc3\n\xf0\x9f\x82\xa0\xf0\x9f\n";
+    steps_on(&rt, end, &[1, 2, 3, 7, 8, 9, 10]);
+}
+
+#[test]
+fn records_end_with_a_zero_or_with_damage(rt: HostRuntime) -> Result<(), Fail> {
+    let units = [
+        0x61, 0xf1, 0x0000, 0xd83c, 0xdca0, 0x0000, 0x0000, 0x62, 0xd800, 0x63, 0x0000,
+    ];
+    let mut merger = units.iter().copied().to_utf16chars();
+    for want in ["a\u{f1}", "\u{1f0a0}", ""] {
+        let (text, ending) = next_record(rt.alloc(), &mut merger)?;
+        assert!(rt; text.as_str() == want && ending == Ending::Zero);
+    }
+    let (text, ending, after) = first_record(rt.alloc(), merger.into_remaining_units())?;
+    let damage = Utf16PairError::UnmatchedLeadingSurrogate;
+    assert!(rt; text.as_str() == "b" && ending == Ending::Damaged(damage));
+    assert!(rt; after.eq([0x63, 0]));
+    Ok(())
+}
+
+#[test]
+fn a_record_may_have_no_end(rt: HostRuntime) -> Result<(), Fail> {
+    let damage = Utf16PairError::UnexpectedTrailingSurrogate;
+    let none: &[u16] = &[];
+    let table: [(&[u16], &str, Ending, &[u16]); 2] = [
+        (&[0x61], "a", Ending::Missing, none),
+        (&[0xdc00, 0x61], "", Ending::Damaged(damage), &[0x61]),
+    ];
+    for (units, want, end, left) in table {
+        let (text, ending, after) = first_record(rt.alloc(), units.iter().copied())?;
+        assert!(rt; text.as_str() == want && ending == end);
+        assert!(rt; after.eq(left.iter().copied()));
+    }
+    Ok(())
+}
+
+#[test]
+fn nothing_after_a_faulty_byte_is_lost(rt: HostRuntime) {
+    let bytes = [0xf4, 0xa1, 0xb2, 0x46, 0x53];
+    let (first, rest) = split_piece(bytes.iter().copied());
+    let kind = first
+        .and_then(|answer| answer.err())
+        .map(|error| error.kind());
+    assert!(rt; kind == Some(Utf8ErrorKind::InterruptedSequence));
+    assert!(rt; rest.eq([0xa1, 0xb2, 0x46, 0x53]));
+}
+
+#[test]
+fn parts_of_any_size_are_recoded_alike(rt: HostRuntime) -> Result<(), Fail> {
+    let bytes = b"A\xf0\x9f\x82\xa0\xe2\x82B\xff";
+    let units = b"A\0\x3c\xd8\xa0\xdc\xfd\xff\xfd\xffB\0\xfd\xff";
+    for size in 1..=10 {
+        let recoded = recode_in_parts(rt.alloc(), Form::Utf8, Form::Utf16Le, bytes, size)?;
+        assert!(rt;
+            recoded.as_slice() == units.as_slice(),
+            "in parts of {size}"
+        );
+    }
+    Ok(())
+}
+
+fn text() -> &'static str {
+    "Grüße, Γειά σας, здравствуйте, 你好你, 🂠🂡🂠"
+}
+
+#[test]
+fn each_character_is_counted(rt: HostRuntime) -> Result<(), Fail> {
+    let ordered = count_characters(rt.alloc(), text())?;
+    let hashed = hash_characters(rt.alloc(), text())?;
+    assert!(rt; ordered.len() == 28 && hashed.len() == 28);
+    // As Python's `Counter` counts them.
+    for (c, count) in " ,в你好🂠ςσx".chars().zip([5, 4, 2, 2, 1, 2, 1, 1, 0]) {
+        let key = Utf8Char::from(c);
+        assert!(rt; ordered.get(&key).copied().unwrap_or(0) == count);
+        assert!(rt; hashed.get(&key).copied().unwrap_or(0) == count);
+    }
+    Ok(())
+}
+
+#[test]
+fn the_text_comes_back(rt: HostRuntime) -> Result<(), Fail> {
+    for text in [text(), ""] {
+        assert!(rt; recode(rt.alloc(), text)?.as_str() == text);
+    }
+    Ok(())
+}

@@ -1,0 +1,152 @@
+//! What programs say, and what comes of their words.
+use cuts::collected::{forward_utf16, merge_utf8, merge_utf16};
+use cuts::counted::Counted;
+use cuts::form::Form;
+use cuts::recoding::{RecodeFault, recode};
+use cuts::runs::{Stop, arguments_of, finish_run, run_pieces};
+use cuts::walks::walk_utf8;
+use encode_unicode::{StrExt, Utf8CharIterExt, Utf16CharIterExt};
+use fakes::budget::Budget;
+use fakes::fuse::{Fault, Fuse, Plan};
+use std::alloc::{AllocError, Global};
+use std::io;
+use std::io::ErrorKind;
+use std::test::Fail;
+
+fn words_of(alloc: Global, texts: &str) -> Result<Vec<String>, AllocError> {
+    let mut words = Vec::new(alloc);
+    for text in texts.split_terminator(',') {
+        words.push(String::from_str(alloc, text)?)?;
+    }
+    Ok(words)
+}
+
+#[test]
+fn arguments_stand_after_the_name(rt: HostRuntime) -> Result<(), Fail> {
+    let alloc = rt.alloc();
+    for (words, args) in [
+        ("", ""),
+        ("pieces,", ""),
+        ("pieces,x,", "x,"),
+        (",,pieces,", ",pieces,"),
+    ] {
+        let args = words_of(alloc, args)?;
+        assert!(rt; arguments_of(alloc, Ok(words_of(alloc, words)?)) == Ok(args));
+    }
+    Ok(())
+}
+
+#[test]
+fn words_may_be_no_text(rt: HostRuntime) -> Result<(), Fail> {
+    let one = words_of(rt.alloc(), ",")?;
+    let not_text = io::Error::from(ErrorKind::InvalidData);
+    assert!(rt; arguments_of(rt.alloc(), Err(not_text)) == Ok(one));
+    let refused = io::Error::from(ErrorKind::OutOfMemory);
+    assert!(rt; arguments_of(rt.alloc(), Err(refused)) == Err(Stop::NoMemory));
+    Ok(())
+}
+
+#[test]
+fn a_flush_may_fail(rt: HostRuntime) {
+    let other = Some(ErrorKind::Other);
+    for (before, fault, status, text, flushes) in [
+        (0, None, 0, "", 1),
+        (1, None, 1, "", 1),
+        (0, other, 3, "pieces: cannot write\n", 1),
+        (
+            1,
+            Some(ErrorKind::Interrupted),
+            3,
+            "pieces: cannot write\n",
+            1,
+        ),
+        (2, other, 2, "", 0),
+        (3, other, 3, "", 0),
+    ] {
+        let mut writer = Fuse::ample(rt.alloc());
+        writer.flush_fault = fault;
+        let mut out = Counted::new(writer);
+        let mut faults = Fuse::ample(rt.alloc());
+        assert!(rt; finish_run(before, &mut out, &mut faults) == status);
+        assert!(rt; faults.written.as_slice() == text.as_bytes());
+        assert!(rt; out.into_inner().flushes == flushes);
+    }
+}
+
+#[test]
+fn standard_error_may_fail(rt: HostRuntime) {
+    for fault in [Fault::Error(ErrorKind::BrokenPipe), Fault::Nothing] {
+        let mut faults = Fuse::failing(rt.alloc(), 0, fault);
+        let mut input = Fuse::over(rt.alloc(), b"A");
+        input.plan = Plan::fail_once(0, ErrorKind::Other);
+        let mut out = Counted::new(Fuse::ample(rt.alloc()));
+        let status = run_pieces(rt.alloc(), &[], &mut input, &mut out, &mut faults);
+        assert!(rt; status == 3);
+    }
+}
+
+#[test]
+fn stops_have_their_lines(rt: HostRuntime) -> Result<(), Fail> {
+    for (stop, status, line) in [
+        (Stop::WrongArguments, 2, "other: wrong arguments\n"),
+        (Stop::CannotRead, 3, "other: cannot read\n"),
+        (Stop::CannotWrite, 3, "other: cannot write\n"),
+        (Stop::NoMemory, 3, "other: no memory\n"),
+    ] {
+        let text = format!(in rt.alloc(); "other: {stop}\n")?;
+        let mut faults = Fuse::ample(rt.alloc());
+        assert!(rt; stop.report("other", &mut faults) == status);
+        assert!(rt; text.as_str() == line && faults.written.as_slice() == line.as_bytes());
+    }
+    Ok(())
+}
+
+#[test]
+fn faults_of_recoding_have_texts(rt: HostRuntime) -> Result<(), Fail> {
+    for (fault, text) in [
+        (RecodeFault::Read, "cannot read"),
+        (RecodeFault::Write, "cannot write"),
+        (RecodeFault::Memory, "no memory"),
+    ] {
+        assert!(rt; format!(in rt.alloc(); "{fault}")?.as_str() == text);
+    }
+    Ok(())
+}
+
+#[test]
+fn recoding_tells_what_failed(rt: HostRuntime) {
+    for (reads, writes, growths, fault) in [
+        (1, u32::MAX, u32::MAX, RecodeFault::Read),
+        (u32::MAX, 0, u32::MAX, RecodeFault::Write),
+        (u32::MAX, u32::MAX, 0, RecodeFault::Memory),
+    ] {
+        let budget = Budget::new(rt.alloc(), growths);
+        let mut reader = Fuse::over(rt.alloc(), b"A\xe0\x80");
+        reader.plan = Plan::fail_once(reads, ErrorKind::BrokenPipe);
+        let mut input = Counted::new(reader);
+        let mut out = Counted::new(Fuse::failing(rt.alloc(), writes, Fault::Nothing));
+        let answer = recode(&budget, &mut input, &mut out, Form::Utf8, Form::Utf8);
+        assert!(rt; answer == Err(fault));
+    }
+}
+
+#[test]
+fn what_was_split_is_merged_again(rt: HostRuntime) -> Result<(), Fail> {
+    let text = "A\u{e9}\u{20ac}\u{1f4a3}";
+    let merged = merge_utf8(rt.alloc(), text.utf8chars().to_bytes())?;
+    assert!(rt; merged.iter().copied().eq(text.utf8chars().map(|c| Ok(c))));
+    let merged = merge_utf16(rt.alloc(), text.utf16chars().to_units())?;
+    assert!(rt; merged.iter().copied().eq(text.utf16chars().map(|c| Ok(c))));
+    Ok(())
+}
+
+#[test]
+fn nothing_to_hold_needs_no_memory(rt: HostRuntime) {
+    let budget = Budget::new(rt.alloc(), 0);
+    let none: [u8; 0] = [];
+    let no_units: [u16; 0] = [];
+    assert!(rt; merge_utf8(&budget, none.iter().copied()).is_ok());
+    assert!(rt; merge_utf16(&budget, no_units.iter().copied()).is_ok());
+    assert!(rt; forward_utf16(&budget, &no_units).is_ok());
+    assert!(rt; walk_utf8(&budget, b"a", &[]).is_ok());
+}

@@ -1,0 +1,57 @@
+//! Tables that change again and again, and a long one.
+ghost use Rattle.std.specs.Prelude.{◌<◌, ◌≤◌, ◌+◌, length};
+
+use cuts::piece_table::PieceTable;
+use encode_unicode::{Steps, Utf8Char};
+use std::alloc::{AllocError, Allocator};
+use std::test::Fail;
+
+// One byte becomes two, in at most eight steps, whatever the table.
+fn put_two<A: Allocator + Copy>(
+    table: &mut PieceTable<A>,
+    place: u32,
+    steps: &mut Steps,
+) -> Result<(), AllocError>
+    requires { place < length table.old.bytes }
+    ensures { steps.new ≤ steps.old + 8 }
+{
+    let start = place as usize;
+    table.replace(start, start + 1, b"\xc3\xa9", steps)
+}
+
+#[test]
+fn one_character_changes_among_ten_thousand(rt: HostRuntime) -> Result<(), Fail> {
+    let bytes = vec![in rt.alloc(); b'a'; 10_000]?;
+    let mut table = PieceTable::new(rt.alloc(), bytes.as_slice())?;
+    put_two(&mut table, 5_000, &mut Steps::new())?;
+    assert!(rt; table.pieces().len() == 10_000);
+    for (count, item) in table.pieces().iter().enumerate() {
+        let place = if count <= 5_000 { count } else { count + 1 };
+        let c = if count == 5_000 { '\u{e9}' } else { 'a' };
+        assert!(rt; *item == (place, Ok(Utf8Char::new(c)), c.len_utf8()));
+    }
+    Ok(())
+}
+
+// One replacement after another leaves what a table made anew of the bytes has.
+#[test]
+fn replacements_follow_each_other(rt: HostRuntime) -> Result<(), Fail> {
+    let mut table = PieceTable::new(rt.alloc(), b"\xf0\x9f\x92\xa3a\xc3\xa9\xe2\x82\xac")?;
+    let news: [&[u8]; 6] = [
+        b"",
+        b"\x80",
+        b"\xe2\x82",
+        b"ab\xf4",
+        b"\xf0\x90\x80\x80\x80",
+        b"\xff",
+    ];
+    for round in 0..60 {
+        let start = round * 7 % (table.bytes().len() + 1);
+        let end = (start + round % 4).min(table.bytes().len());
+        table.replace(start, end, news[round % 6], &mut Steps::new())?;
+        let anew = PieceTable::new(rt.alloc(), table.bytes())?;
+        assert!(rt; table.pieces() == anew.pieces(), "in round {round}");
+    }
+    assert!(rt; table.bytes().len() == 46);
+    Ok(())
+}

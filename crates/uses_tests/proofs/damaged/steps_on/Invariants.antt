@@ -1,5 +1,0 @@
-use Rattle.uses.specs.Cursor.{IsBetween}
-use Rattle.uses_tests.proofs.damaged.steps_on.Given as goal
-
-abbrev pub invariant-loop-next : goal.invariant-loop-next
-invariant-loop-next g l = IsBetween l.src l.place
