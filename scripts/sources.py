@@ -1,0 +1,181 @@
+"""Reads the functions of the crates out of their sources, as `rt fmt` lays them out."""
+import os
+import re
+
+TOP = os.path.dirname(os.path.dirname(os.path.abspath(__file__)))
+LIBRARIES = ("utf_base", "utf_chars", "encode_unicode", "cuts")
+HEAD = re.compile(r"^(pub(?:\([^)]*\))? )?(?:(?:const|unsafe|final) )*(fn|impl|trait)\b(.*)")
+
+
+class Function:
+    """A function: where it stands, its `///` lines, signature, clauses and body."""
+
+    def __init__(self, crate, file, owner, is_public, name):
+        self.crate, self.file, self.owner, self.is_public, self.name = crate, file, owner, is_public, name
+        self.document, self.signature, self.clauses, self.body = [], "", [], ""
+        self.lines = range(0)
+
+    def module(self):
+        """Its modules, as the prover's path for it has them."""
+        path = self.file.removeprefix("src/").removesuffix(".rt")
+        return [] if path == "lib" else path.split("/")
+
+    def owner_words(self):
+        """The trait of its impl, what follows that in brackets, and the type; or of a trait its name alone."""
+        head = re.sub(r"\bwhere\b.*", "", self.owner)
+        head = head if head.startswith("trait") else without_parameters(re.sub(r"^(pub(\(.*?\))? )?", "", head))
+        found = re.match(r"(?:impl )?(?:([\w:]+)(<.*>)? for )?(.+)", head)
+        if not self.owner or self.is_declared():
+            return "", "", re.sub(r".*\btrait (\w+).*", r"\1", self.owner)
+        return (found[1] or "").rpartition("::")[2], found[2] or "", found[3].strip()
+
+    def is_declared(self):
+        """Whether it is a method that a trait declares."""
+        return bool(re.match(r"(pub(\(.*?\))? )?trait\b", self.owner))
+
+    def owner_type(self):
+        return re.sub(r"<.*", "", self.owner_words()[2]).rpartition("::")[2]
+
+    def owner_trait(self):
+        return self.owner_words()[0]
+
+    def is_of(self, path):
+        """Whether the prover's path for a function names this one."""
+        parts = path.split("::")
+        module = [self.crate, *self.module()]
+        if self.is_declared() or parts[: len(module)] != module or parts[-1] != self.name:
+            return False
+        between = parts[len(module) : -1]
+        if not between or not self.owner:
+            return not between and not self.owner
+        trait, brackets, of = self.owner_words()
+        if not trait:
+            return between[0].partition("+")[0].rstrip("0123456789") == self.owner_type()
+        of_what = camel(brackets) if brackets else ""
+        return re.sub(r"0x10000|256", "", between[0]) == f"{camel(of)}{trait}{'' if of_what == 'Any' else of_what}"
+
+    def shown(self):
+        """Its name as a reader calls it."""
+        where = "::".join([*self.module(), *([self.owner_type()] if self.owner else [])])
+        told = f" ({self.owner_trait()})" if self.owner_trait() else ""
+        return f"{where}::{self.name}{told}" if where else self.name
+
+
+def without_parameters(head):
+    """The head of an impl without the parameters that it declares."""
+    if not head.startswith("impl<"):
+        return head
+    depth, at = 0, len("impl")
+    while True:
+        depth += {"<": 1, ">": -1 if head[at - 1] not in "-=" else 0}.get(head[at], 0)
+        at += 1
+        if depth == 0:
+            return f"impl{head[at:]}"
+
+
+def camel(of):
+    """A type as the prover's paths write it."""
+    words = re.findall(r"&|\[|[A-Za-z]\w*(?:::\w+)*", re.sub(r"'\w+\s?", "", of))
+    words = [it.rpartition("::")[2] for it in words]
+    if len(words) == 1 and len(words[0]) == 1 and words[0].isalpha():
+        return "Any"
+    named = {"&": "Ref", "[": "Slice"}
+    return "".join(named.get(it, it[0].upper() + it[1:]) for it in words if len(it) > 1 or it in named)
+
+
+def indent_of(line):
+    return len(line) - len(line.lstrip(" "))
+
+
+def functions_of(crate):
+    """The functions of a crate, but for its tests, file by file."""
+    found = []
+    for at, folders, files in os.walk(f"{TOP}/crates/{crate}/src"):
+        folders.sort()
+        for name in sorted(files):
+            path = os.path.relpath(f"{at}/{name}", f"{TOP}/crates/{crate}")
+            if name.endswith(".rt") and name != "tests.rt":
+                found += functions_in(crate, path)
+    return found
+
+
+def functions_in(crate, path):
+    with open(f"{TOP}/crates/{crate}/{path}", encoding="utf-8") as file:
+        lines = file.read().split("\n")
+    found, owner, document, in_trait = [], "", [], False
+    for number, line in enumerate(lines):
+        head, text = HEAD.match(line.strip()), line.strip()
+        if text.startswith("///"):
+            document.append(text.removeprefix("///").strip())
+        elif head and head[2] in ("impl", "trait") and indent_of(line) == 0:
+            owner, in_trait, document = whole_head(lines, number), head[2] == "trait", []
+        elif head and head[2] == "fn" and indent_of(line) in (0, 4):
+            made = Function(crate, path, owner if indent_of(line) else "", bool(head[1]), re.match(r"\s*(\w+)", head[3])[1])
+            made.is_public = head[1] == "pub " or bool(made.owner) and (in_trait or bool(made.owner_trait()))
+            made.document, document = document, []
+            read_rest(made, lines, number)
+            found.append(made)
+        elif not text.startswith("#["):
+            document = []
+    return found
+
+
+def whole_head(lines, number):
+    """The head of an impl or a trait, in one line."""
+    head = []
+    for line in lines[number:]:
+        head.append(line.strip())
+        if line.rstrip().endswith(("{", "}")):
+            return " ".join(head).rstrip("{} ")
+    return " ".join(head)
+
+
+def read_rest(function, lines, number):
+    """Reads the signature, the clauses and the body of the function that begins at this line."""
+    indent, signature, at = indent_of(lines[number]), [], number
+    while at < len(lines):
+        text = lines[at].strip()
+        if re.match(r"(requires|ensures|ghost)\b", text):
+            clause = [text]
+            while at + 1 < len(lines) and indent_of(lines[at + 1]) > indent + 4 and lines[at + 1].strip():
+                at += 1
+                clause.append(lines[at].strip())
+            function.clauses.append(" ".join(clause).rstrip(";"))
+        elif not text.startswith("//") and text:
+            signature.append(text)
+        if text.endswith((";", " {")) or text in ("{", "{}") or text.endswith("}") and not function.clauses:
+            break
+        at += 1
+    function.signature = re.sub(r"\s*(\{.*|;)?$", "", " ".join(it for it in signature if it != "{"))
+    begun = at
+    while at < len(lines) and not (lines[at].startswith(" " * indent + "}") or lines[at].rstrip().endswith(";") and at == begun):
+        at += 1
+    function.body = "\n".join(lines[begun : at + 1])
+    function.lines = range(number, at + 1)
+
+
+def pairs_of(edit):
+    """The pairs of texts of a wrong body: the file, what stands there, and what is put in its place."""
+    found, path, old = [], "", None
+    with open(edit, encoding="utf-8") as file:
+        for line in file.read().split("\n"):
+            if line.startswith("file: "):
+                path = line.removeprefix("file: ").strip()
+            elif line.startswith("old: "):
+                old = line.removeprefix("old: ")
+            elif line.startswith("new:"):
+                found.append((path, old, line.removeprefix("new:").removeprefix(" ")))
+    return found
+
+
+def places_of(crate, edit):
+    """What a wrong body changes: functions, and of other items the names."""
+    found = []
+    for path, old, _ in pairs_of(edit):
+        with open(f"{TOP}/crates/{crate}/{path}", encoding="utf-8") as file:
+            before = file.read().partition(old)[0]
+        number = before.count("\n")
+        inside = [it for it in functions_in(crate, path) if number in it.lines]
+        named = re.findall(r"^[ \t]*(?:pub(?:\([^)]*\))? )?(?:static|const|struct|enum) (\w+)", f"{before}{old}", re.M)
+        found.append(inside[0] if inside else named[-1] if named else path)
+    return found
