@@ -99,6 +99,12 @@ def functions_of(crate):
     return found
 
 
+def function_at(crate, file, line):
+    """The function of a crate that has the line, counted from 1, of the file, or an attribute there; None if none has."""
+    fit = [it for it in functions_of(crate) if it.file == file and int(line) <= it.lines.stop]
+    return min(fit, key=lambda it: it.lines.stop, default=None)
+
+
 def functions_in(crate, path):
     with open(f"{TOP}/crates/{crate}/{path}", encoding="utf-8") as file:
         lines = file.read().split("\n")
