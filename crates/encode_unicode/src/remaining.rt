@@ -19,12 +19,12 @@ use std::marker::Model;
 /// The source is not asked again once it has answered `None`. Contracts see what is held, the source, and
 /// whether it has ended.
 #[derive(Drop)]
-pub struct RemainingBytes<I: Iterator<Item = u8>> {
+pub struct RemainingBytes<I> {
     source: I,
     held: HeldBytes,
 }
 
-impl<I: Iterator<Item = u8>> Model for RemainingBytes<I> {
+impl<I> Model for RemainingBytes<I> {
     ghost use Rattle.encode_unicode.specs.Mergers.{IsHeldBytes, Merging};
 
     ghost Value = { Merging I };

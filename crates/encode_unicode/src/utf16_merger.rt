@@ -29,12 +29,12 @@ use utf_chars::utf16_char::Utf16Char;
 /// before another unit `UnmatchedLeadingSurrogate`, and one at the end `Incomplete` (RFC 2781, section 2.2).
 /// Contracts see what is held, the source, and whether it has ended.
 #[derive(Drop)]
-pub struct Utf16CharMerger<I: Iterator<Item = u16>> {
+pub struct Utf16CharMerger<I> {
     source: I,
     held: HeldUnit,
 }
 
-impl<I: Iterator<Item = u16>> Model for Utf16CharMerger<I> {
+impl<I> Model for Utf16CharMerger<I> {
     ghost use Rattle.encode_unicode.specs.Mergers.{IsHeldUnits, Merging};
 
     ghost Value = { Merging I };
@@ -233,12 +233,12 @@ fn stands_alone(unit: u64) -> bool
 /// The source is not asked again once it has answered `None`. Contracts see what is held, the source, and
 /// whether it has ended.
 #[derive(Drop)]
-pub struct RemainingUnits<I: Iterator<Item = u16>> {
+pub struct RemainingUnits<I> {
     source: I,
     held: HeldUnit,
 }
 
-impl<I: Iterator<Item = u16>> Model for RemainingUnits<I> {
+impl<I> Model for RemainingUnits<I> {
     ghost use Rattle.encode_unicode.specs.Mergers.{Merging};
 
     ghost Value = { Merging I };

@@ -15,12 +15,12 @@ use utf_chars::utf16_char::Utf16Char;
 ///
 /// Contracts see what is left of the begun code, and the source.
 #[derive(Debug, Drop)]
-pub struct Utf16CharSplitter<I: Iterator<Item = Utf16Char>> {
+pub struct Utf16CharSplitter<I> {
     source: I,
     begun: Unsent<0x1_0000>,
 }
 
-impl<I: Iterator<Item = Utf16Char>> Model for Utf16CharSplitter<I> {
+impl<I> Model for Utf16CharSplitter<I> {
     ghost use Rattle.encode_unicode.specs.Sources.{Splitting};
 
     ghost Value = { Splitting I };

@@ -32,12 +32,12 @@ use utf_chars::utf8_char::Utf8Char;
 /// and one of the bytes that it still gave breaks the code, the error is `InterruptedSequence` and not
 /// `TooFewBytes`. Contracts see what is held, the source, and whether it has ended.
 #[derive(Drop)]
-pub struct Utf8CharMerger<I: Iterator<Item = u8>> {
+pub struct Utf8CharMerger<I> {
     source: I,
     held: HeldBytes,
 }
 
-impl<I: Iterator<Item = u8>> Model for Utf8CharMerger<I> {
+impl<I> Model for Utf8CharMerger<I> {
     ghost use Rattle.encode_unicode.specs.Mergers.{IsHeldBytes, Merging};
 
     ghost Value = { Merging I };

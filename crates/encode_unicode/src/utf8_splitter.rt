@@ -18,12 +18,12 @@ use utf_chars::utf8_char::Utf8Char;
 /// `next` and `read` may be mixed: both take from the front of what is left. Contracts see what is left of
 /// the begun code, and the source.
 #[derive(Debug, Drop)]
-pub struct Utf8CharSplitter<I: Iterator<Item = Utf8Char>> {
+pub struct Utf8CharSplitter<I> {
     source: I,
     begun: Unsent<256>,
 }
 
-impl<I: Iterator<Item = Utf8Char>> Model for Utf8CharSplitter<I> {
+impl<I> Model for Utf8CharSplitter<I> {
     ghost use Rattle.encode_unicode.specs.Sources.{Splitting};
 
     ghost Value = { Splitting I };
