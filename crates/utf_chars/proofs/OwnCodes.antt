@@ -1,15 +1,21 @@
 -- The code that a character keeps or lends decodes to the character.
-use Rattle.std.proofs.Common.{◌≡◌, ℕ, ◌-◌, List, [], ◌++◌, length, take, Ok, true, refl, ap, sym, ◌∙◌}
-use Rattle.std.proofs.lemmas.List.{append-nil, take_at}
-use Rattle.std.specs.Prelude.{replicate, slice_index}
+use Rattle.std.proofs.Common.{◌≡◌, ℕ, ◌+◌, ◌-◌, ◌≤◌, List, [], ◌++◌, length, take, drop, Ok, true, refl, ap, sym, ◌∙◌, arith}
+use Rattle.std.proofs.lemmas.List.{append-nil, take_at, take_rest}
+use Rattle.std.specs.Prelude.{IfOk, Result, Err, replicate, slice_index, slice_range}
 use Rattle.utf_base.specs.Scalar.{IsScalar}
 use Rattle.utf_base.specs.Code.{utf8, utf16}
+use Rattle.utf_base.specs.declared.errors.Utf8ErrorKind.{Utf8ErrorKind}
+use Rattle.utf_base.specs.declared.errors.units.Utf16SliceError.{Utf16SliceError}
 use Rattle.utf_base.specs.Decoded.{decoded, decoded_bytes, decoded_units, decoded_two}
-use Rattle.utf_base.specs.Front.{IsFrontLen}
+use Rattle.utf_base.specs.Back.{decoded_end, decoded_units_end}
+use Rattle.utf_base.specs.Ends.{EndsWith}
+use Rattle.utf_base.specs.Front.{as_scalar, BeginsWith, DecodesFront, DecodesUnits, IsFrontLen}
 use Rattle.utf_base.specs.Kinds.{value}
 use Rattle.utf_base.specs.Piece.{Stands}
 use Rattle.utf_base.specs.Units.{is_padded_units}
 use Rattle.utf_base.proofs.DecodedLemmas.{decoded_code, decoded_bytes_code, decoded_units_code, decoded_two_code, front_len_utf8, front_len_utf16}
+use Rattle.utf_base.proofs.BackLemmas.{decoded_end_code}
+use Rattle.utf_base.proofs.UnitEnds.{decoded_units_end_code}
 use Rattle.utf_base.proofs.Standing.{stands_first}
 use Rattle.utf_chars.specs.Padded.{padded, IsPadded}
 use Rattle.utf_chars.proofs.PaddedLemmas.{IsPadded-padded}
@@ -102,3 +108,70 @@ pub own_unit_front : (xs rest : List ℕ) (s n : ℕ) → IsScalar s → xs ≡ 
 own_unit_front xs rest s n h e l =
     let stands = stands_first utf16 xs rest s h e in
     record { bounds = front_len_utf16 xs s n (stands, l); decodes = decoded_units_code xs s stands ∙ ap (λ k. Ok (s, k)) (sym l) }
+
+-- The code at the front of a list, or at its end, decodes to the same by itself.
+
+front_code : (code : ℕ → List ℕ) (xs : List ℕ) (s n : ℕ) → BeginsWith code xs s n → take n xs ≡ code s
+front_code code xs s n h =
+    let len = h.1 in
+    let span : n ≡ 0 + length (code s) - 0 = omega arith in
+    ap (λ k. take k xs) span ∙ h.0.equal
+
+pub front_alone : (xs : List ℕ) (s n : ℕ) → BeginsWith utf8 xs s n → decoded (take n xs) ≡ Ok (s, n)
+front_alone xs s n h =
+    let front = front_code utf8 xs s n h in
+    (own_view (take n xs) s h.0.scalar front).decodes ∙ ap (λ k. Ok (s, k)) (ap length front ∙ sym h.1)
+
+pub unit_front_alone : (xs : List ℕ) (s n : ℕ) → BeginsWith utf16 xs s n → decoded_units (take n xs) ≡ Ok (s, n)
+unit_front_alone xs s n h =
+    let front = front_code utf16 xs s n h in
+    (own_unit_view (take n xs) s h.0.scalar front).decodes ∙ ap (λ k. Ok (s, k)) (ap length front ∙ sym h.1)
+
+end_code : (code : ℕ → List ℕ) (xs : List ℕ) (s n : ℕ) → EndsWith code xs s n → drop (length xs - n) xs ≡ code s
+end_code code xs s n h =
+    let len = h.1 in
+    let within = h.0.within in
+    let end : length xs ≡ length xs - n + length (code s) = whole (length xs) n (length (code s)) len within in
+    sym (take_rest xs (length xs - n)) ∙ ap (λ k. slice_range xs (length xs - n) k) end ∙ h.0.equal
+  where
+    whole : (all n m : ℕ) → n ≡ m → all - n + m ≤ all → all ≡ all - n + m
+    whole all n m e h = omega arith
+
+code_ends : (code : ℕ → List ℕ) (xs : List ℕ) (s n : ℕ) → IsScalar s → xs ≡ code s → n ≡ length (code s) → EndsWith code xs s n
+code_ends code xs s n h e len =
+    let zero : length xs - n ≡ 0 = omega (arith, ap length e) in
+    (rw zero (alone code xs s h e), len)
+
+-- what the last n elements tell
+pub record OwnEnd (xs : List ℕ) (s n : ℕ) : Type 0 where
+  pub exact : decoded xs ≡ Ok (s, n)
+  pub exact_end : decoded_end xs ≡ Ok (s, n)
+
+pub end_alone : (xs : List ℕ) (s n : ℕ) → EndsWith utf8 xs s n → OwnEnd (drop (length xs - n) xs) s n
+end_alone xs s n h =
+    let end = end_code utf8 xs s n h in
+    record {
+      exact = (own_view _ s h.0.scalar end).decodes ∙ ap (λ k. Ok (s, k)) (ap length end ∙ sym h.1);
+      exact_end = decoded_end_code _ s n (code_ends utf8 _ s n h.0.scalar end h.1);
+    }
+
+pub record OwnUnitEnd (xs : List ℕ) (s n : ℕ) : Type 0 where
+  pub exact : decoded_units xs ≡ Ok (s, n)
+  pub exact_end : decoded_units_end xs ≡ Ok (s, n)
+
+pub unit_end_alone : (xs : List ℕ) (s n : ℕ) → EndsWith utf16 xs s n → OwnUnitEnd (drop (length xs - n) xs) s n
+unit_end_alone xs s n h =
+    let end = end_code utf16 xs s n h in
+    record {
+      exact = (own_unit_view _ s h.0.scalar end).decodes ∙ ap (λ k. Ok (s, k)) (ap length end ∙ sym h.1);
+      exact_end = decoded_units_end_code _ s n (code_ends utf16 _ s n h.0.scalar end h.1);
+    }
+
+-- as the methods of `char` say it
+pub front_alone_of : (xs : List ℕ) (r : Result (ℕ × ℕ) Utf8ErrorKind) → DecodesFront as_scalar xs r → IfOk r (λ x. decoded (take x.1 xs) ≡ Ok (x.0, x.1))
+front_alone_of xs (Ok (s, n)) h = front_alone xs s n h
+front_alone_of xs (Err k) h = tt
+
+pub unit_front_alone_of : (xs : List ℕ) (r : Result (ℕ × ℕ) Utf16SliceError) → DecodesUnits as_scalar xs r → IfOk r (λ x. decoded_units (take x.1 xs) ≡ Ok (x.0, x.1))
+unit_front_alone_of xs (Ok (s, n)) h = unit_front_alone xs s n h
+unit_front_alone_of xs (Err k) h = tt

@@ -75,7 +75,8 @@ pub trait CharExt: Sized {
     fn from_utf8_slice_start(src: &[u8]) -> Result<(Self, usize), Utf8Error>
         ensures decodes { DecodesFront scalar src.now result }
         ensures known { GivesFirst scalar (decoded src.now) result }
-        ensures len { IfOk result (λ x. IsFrontLen 4 src.now x.1) };
+        ensures len { IfOk result (λ x. IsFrontLen 4 src.now x.1) }
+        ensures exact { IfOk result (λ x. decoded (take x.1 src.now) ≡ Ok (scalar x.0, x.1)) };
 
     /// The character whose code in UTF-8 begins the four bytes. Those behind the code are ignored.
     ///
@@ -98,7 +99,8 @@ pub trait CharExt: Sized {
     fn from_utf16_slice_start(src: &[u16]) -> Result<(Self, usize), Utf16SliceError>
         ensures decodes { DecodesUnits scalar src.now result }
         ensures known { GivesFirst scalar (decoded_units src.now) result }
-        ensures len { IfOk result (λ x. IsFrontLen 2 src.now x.1) };
+        ensures len { IfOk result (λ x. IsFrontLen 2 src.now x.1) }
+        ensures exact { IfOk result (λ x. decoded_units (take x.1 src.now) ≡ Ok (scalar x.0, x.1)) };
 
     /// The character whose code in UTF-16 begins the two units. A second unit that the first does not
     /// ask for is ignored.

@@ -1,5 +1,5 @@
 //! A character kept as its code in UTF-16.
-ghost use Rattle.std.specs.Prelude.{◌≡◌, ◌==◌, ◌<◌, ◌≤◌, ◌↔◌, ◌++◌, [], ◌∷◌, Some, IsTrue, IsOk, IfOk, length, drop};
+ghost use Rattle.std.specs.Prelude.{◌≡◌, ◌==◌, ◌<◌, ◌≤◌, ◌↔◌, ◌++◌, [], ◌∷◌, Some, IsTrue, IsOk, IfOk, Ok, length, take, drop, ◌-◌};
 ghost use Rattle.std.specs.Prelude.{true, false, unwrap_or, slice_index};
 ghost use Rattle.std.specs.Char.{encode_utf8};
 ghost use Rattle.std.specs.Cmp.{partial_order_from_own_ties};
@@ -88,6 +88,7 @@ impl Utf16Char {
         ensures decodes { DecodesUnits as_scalar src.now result }
         ensures known { result ≡ decoded_units src.now }
         ensures len { IfOk result (λ x. IsFrontLen 2 src.now x.1) }
+        ensures exact { IfOk result (λ x. decoded_units (take x.1 src.now) ≡ Ok x) }
     {
         let (c, len) = utf16::decode_start(src)?;
         Ok((Utf16Char::new(c), len))
@@ -116,6 +117,8 @@ impl Utf16Char {
         ensures decodes { DecodesUnitsEnd as_scalar src.now result }
         ensures known { result ≡ decoded_units_end src.now }
         ensures len { IfOk result (λ x. IsFrontLen 2 src.now x.1) }
+        ensures exact { IfOk result (λ x. decoded_units (drop (length src.now - x.1) src.now) ≡ Ok x) }
+        ensures exact_end { IfOk result (λ x. decoded_units_end (drop (length src.now - x.1) src.now) ≡ Ok x) }
     {
         let (last, len) = utf16::decode_end(src)?;
         Ok((Utf16Char::new(last), len))

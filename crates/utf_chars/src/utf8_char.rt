@@ -1,5 +1,5 @@
 //! A character kept as its code in UTF-8.
-ghost use Rattle.std.specs.Prelude.{◌≡◌, ◌==◌, ◌<◌, ◌≤◌, ◌↔◌, ◌++◌, [], ◌∷◌, Some, IsTrue, IsOk, IfOk, length, take, drop, replicate, ◌-◌};
+ghost use Rattle.std.specs.Prelude.{◌≡◌, ◌==◌, ◌<◌, ◌≤◌, ◌↔◌, ◌++◌, [], ◌∷◌, Some, IsTrue, IsOk, IfOk, Ok, length, take, drop, replicate, ◌-◌};
 ghost use Rattle.std.specs.Char.{encode_utf8};
 ghost use Rattle.std.specs.Cmp.{partial_order_from_own_ties};
 ghost use Rattle.std.specs.Cmp.Rules.{comparing, hashing};
@@ -88,6 +88,7 @@ impl Utf8Char {
         ensures decodes { DecodesFront as_scalar src.now result }
         ensures known { result ≡ decoded src.now }
         ensures len { IfOk result (λ x. IsFrontLen 4 src.now x.1) }
+        ensures exact { IfOk result (λ x. decoded (take x.1 src.now) ≡ Ok x) }
     {
         let (_, len) = utf8::decode_start(src)?;
         Ok((Utf8Char::from_front(src, len), len))
@@ -127,6 +128,8 @@ impl Utf8Char {
         ensures decodes { DecodesEnd as_scalar src.now result }
         ensures known { result ≡ decoded_end src.now }
         ensures len { IfOk result (λ x. IsFrontLen 4 src.now x.1) }
+        ensures exact { IfOk result (λ x. decoded (drop (length src.now - x.1) src.now) ≡ Ok x) }
+        ensures exact_end { IfOk result (λ x. decoded_end (drop (length src.now - x.1) src.now) ≡ Ok x) }
     {
         if src.is_empty() {
             return Err(Utf8Error::new(Utf8ErrorKind::TooFewBytes));

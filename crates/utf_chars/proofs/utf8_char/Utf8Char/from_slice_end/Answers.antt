@@ -4,6 +4,7 @@ use Rattle.utf_base.specs.Back.{end_fault}
 use Rattle.utf_base.specs.Code.{utf8}
 use Rattle.utf_base.specs.Ends.{NoCodeEnds}
 use Rattle.utf_base.proofs.BackLemmas.{answer_of_end, end_found, end_missed, end_missed-all, end_missed-empty, end_fault-empty, end_fault-some, end_len_utf8}
+use Rattle.utf_chars.proofs.OwnCodes.{end_alone}
 use Rattle.utf_chars.proofs.utf8_char.Utf8Char.from_slice_end.Goals as goal
 use Rattle.utf_chars.proofs.utf8_char.Utf8Char.from_slice_end.Goals.{then-len-src+in_default, else-len-src}
 
@@ -42,3 +43,9 @@ returns-clause-decodes c = missed c
 
 pub returns-clause-known : goal.returns-clause-known
 returns-clause-known c = answer_of_end _ (Err _) (missed c)
+
+pub returns-in-Some-clause-exact : goal.returns-in-Some-clause-exact
+returns-in-Some-clause-exact c = (end_alone _ _ _ (end_found _ _ _ c.if-len-src.true c.in-Some.ensures)).exact
+
+pub returns-in-Some-clause-exact_end : goal.returns-in-Some-clause-exact_end
+returns-in-Some-clause-exact_end c = (end_alone _ _ _ (end_found _ _ _ c.if-len-src.true c.in-Some.ensures)).exact_end
