@@ -14,6 +14,8 @@ use Rattle.utf_base.proofs.DecodedLemmas.{answer_of_bytes, decoded_code, front_l
 use Rattle.utf_base.proofs.Utf8Code.{utf8_is_code}
 use Rattle.utf_base.proofs.Utf16Code.{utf16_is_code}
 use Rattle.encode_unicode.specs.Window.{Window, Placed, Item, UnitItem, elements, whole_window, without_front, GivesFrontOf, GivesFront, GivesFrontUnits, GivesNone, IsFrontOf}
+use Rattle.encode_unicode.specs.Pieces.{pieces, pieces_left}
+use Rattle.encode_unicode.proofs.Listed.{decoder_listed}
 use Rattle.cuts.specs.Items.{IsRun}
 use Rattle.cuts.specs.Runs.{IsForwardRun}
 use Rattle.cuts.proofs.PieceRuns.{Excludes, IsRunTo, IsRunTo-front, IsRunTo-push, IsRun-all}
@@ -98,29 +100,35 @@ front_item w some fits = by_kind w some fits (fault_kind (elements w)) refl
           },
         )
 
--- The run, whatever it has come to, goes on to the end.
-pub record GoesOn (xs : List ℕ) (items : List Item) : Type 0 where
-  pub more : List Item
-  pub run : IsForwardRun xs (items ++ more)
+-- The run, whatever it has come to, goes on to the end, with what the decoder still gives.
 
-goes_on_end : (xs : List ℕ) (items : List Item) (w : Window) → IsRunSoFar xs items w → w.back ≤ w.front → GoesOn xs items
-goes_on_end xs items w f none =
+run_out_end : (xs : List ℕ) (items : List Item) (w : Window) → IsRunSoFar xs items w → w.back ≤ w.front → IsForwardRun xs (items ++ pieces_left w)
+run_out_end xs items w f none =
     let ordered = f.run.within in
     let end = f.end in
-    record { more = []; run = rw append-nil (IsForwardRun-all xs items w w f (record { none = omega arith; left = refl })) }
+    let nothing : GivesNone w w = record { none = omega arith; left = refl } in
+    rw ((decoder_listed w None w nothing).0, append-nil) (IsForwardRun-all xs items w w f nothing)
 
-goes_on : (fuel : ℕ) (xs : List ℕ) (items : List Item) (w : Window) → IsRunSoFar xs items w → w.back ≤ w.front + fuel → GoesOn xs items
-goes_on zero xs items w f enough = goes_on_end xs items w f (omega arith)
-goes_on (suc fuel) xs items w f enough =
+run_out : (fuel : ℕ) (xs : List ℕ) (items : List Item) (w : Window) → IsRunSoFar xs items w → w.back ≤ w.front + fuel → IsForwardRun xs (items ++ pieces_left w)
+run_out zero xs items w f enough = run_out_end xs items w f (omega arith)
+run_out (suc fuel) xs items w f enough =
     ⊎_elim
     (λ (some : w.front < w.back).
     let first = front_item w some (rw (f.whole, f.end) (omega arith)) in
     let v = without_front w first.0.2 in
     let shorter = item_some xs items w v first.0 f first.1 in
-    let rest = goes_on fuel xs (items ++ first.0 ∷ []) v (IsRunSoFar-push xs items w v first.0 f first.1) (omega arith) in
-    record { more = first.0 ∷ rest.more; run = rw (← append_assoc items (first.0 ∷ []) rest.more) rest.run })
-    (λ (none : w.back ≤ w.front). goes_on_end xs items w f none)
+    let rest = run_out fuel xs (items ++ first.0 ∷ []) v (IsRunSoFar-push xs items w v first.0 f first.1) (omega arith) in
+    rw (decoder_listed w (Some first.0) v first.1) (rw (← append_assoc items (first.0 ∷ []) (pieces_left v)) rest))
+    (λ (none : w.back ≤ w.front). run_out_end xs items w f none)
     (cases_lt w.front w.back)
 
+pub record GoesOn (xs : List ℕ) (items : List Item) : Type 0 where
+  pub more : List Item
+  pub run : IsForwardRun xs (items ++ more)
+
 pub GoesOn-always : (xs : List ℕ) (items : List Item) (w : Window) → IsRunSoFar xs items w → GoesOn xs items
-GoesOn-always xs items w f = goes_on w.back xs items w f (omega arith)
+GoesOn-always xs items w f = record { more = pieces_left w; run = run_out w.back xs items w f (omega arith) }
+
+-- what a decoder gives of some bytes is the forward run over them
+pub pieces_are_the_run : (xs : List ℕ) → IsForwardRun xs (pieces xs)
+pieces_are_the_run xs = run_out (length xs) xs [] (whole_window xs) (IsRunSoFar-none xs) (omega arith)

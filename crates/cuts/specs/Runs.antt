@@ -1,7 +1,8 @@
 -- Whole runs over bytes, and what is written of them.
-use Rattle.std.specs.Prelude.{ℕ, List, flat_map, count_by}
+use Rattle.std.specs.Prelude.{◌≡◌, ◌↔◌, ℕ, List, flat_map, count_by}
 use Rattle.utf_base.specs.Code.{utf8}
 use Rattle.utf_base.specs.Kinds.{fault_kind}
+use Rattle.encode_unicode.specs.Pieces.{pieces}
 use Rattle.encode_unicode.specs.Window.{Item}
 use Rattle.cuts.specs.Lines.{item_line, is_fault}
 use Rattle.cuts.specs.Items.{IsRunBetween, IsRun}
@@ -22,3 +23,7 @@ listing items = flat_map item_line items
 -- how many items are errors
 abbrev pub fault_count : List Item → ℕ
 fault_count items = count_by is_fault items
+
+-- the forward run over some bytes is what a decoder gives of them, piece by piece, and nothing else
+abbrev pub PiecesAreTheRun : Type 0
+PiecesAreTheRun = (xs : List ℕ) (items : List Item) → IsForwardRun xs items ↔ (items ≡ pieces xs)

@@ -1,6 +1,7 @@
-//! The laws of recoding.
+//! The laws of recoding, and of whole runs over bytes.
 //!
 //! Each function does nothing: its contract is the law.
+ghost use Rattle.cuts.specs.Runs.{PiecesAreTheRun};
 ghost use Rattle.cuts.specs.Recoded.{RecodedOnce, PartsAreRecoded, PartsDoNotMatter};
 
 /// Bytes are recoded in exactly one way.
@@ -13,4 +14,9 @@ pub fn recoded_once()
 pub fn parts_do_not_matter()
     ensures recoded { PartsAreRecoded }
     ensures same { PartsDoNotMatter }
+{}
+
+/// What a decoder gives of some bytes, one piece after another, is the forward run over them, of which there is one.
+pub fn pieces_are_the_run()
+    ensures { PiecesAreTheRun }
 {}

@@ -1,3 +1,4 @@
+pub mod PieceRuns
 pub mod TableWalks
 pub mod Collected
 pub mod ForCallers

@@ -1,5 +1,8 @@
 //! Methods of texts.
 ghost use Rattle.std.specs.Prelude.{◌≡◌, List, ℕ};
+ghost use Rattle.std.specs.Iterator.Runs.{AllItems, EachRunFrom, EveryRun};
+ghost use Rattle.encode_unicode.specs.Pieces.{Gives, LiesInText, chars_left, placed_chars_left};
+ghost use Rattle.encode_unicode.specs.TextWindow.{NextPlaced, NextScalar};
 ghost use Rattle.encode_unicode.specs.Window.{whole_window};
 
 use crate::utf8_iterators::{Utf8CharIndices, Utf8Chars};
@@ -13,40 +16,50 @@ pub trait StrExt<'a>: Sized {
 
     /// The characters, kept as their codes in UTF-8.
     fn utf8chars(self) -> Utf8Chars<'a>
-        ensures { result ≡ whole_window (text self) };
+        ensures window { result ≡ whole_window (text self) }
+        ensures runs { EveryRun NextScalar (λ p. Gives p (chars_left p.from)) };
 
     /// The characters, kept as their codes in UTF-16.
     fn utf16chars(self) -> Utf16Chars<'a>
-        ensures { result ≡ whole_window (text self) };
+        ensures window { result ≡ whole_window (text self) }
+        ensures runs { EveryRun NextScalar (λ p. Gives p (chars_left p.from)) };
 
     /// The characters, kept as their codes in UTF-8, each with its offset in bytes.
     fn utf8char_indices(self) -> Utf8CharIndices<'a>
-        ensures { result ≡ whole_window (text self) };
+        ensures window { result ≡ whole_window (text self) }
+        ensures runs { EveryRun NextPlaced (λ p. Gives p (placed_chars_left p.from)) }
+        ensures places { EachRunFrom NextPlaced result (λ p. AllItems p (LiesInText (text self))) };
 
     /// The characters, kept as their codes in UTF-16, each with its offset in bytes.
     fn utf16char_indices(self) -> Utf16CharIndices<'a>
-        ensures { result ≡ whole_window (text self) };
+        ensures window { result ≡ whole_window (text self) }
+        ensures runs { EveryRun NextPlaced (λ p. Gives p (placed_chars_left p.from)) }
+        ensures places { EachRunFrom NextPlaced result (λ p. AllItems p (LiesInText (text self))) };
 }
 
 impl<'a> StrExt<'a> for &'a str {
     ghost text = { λ text. text.now };
 
     #[inline]
+    #[tactic(auto, using(crate::proofs::PieceRuns::scalars_runs))]
     fn utf8chars(self) -> Utf8Chars<'a> {
         Utf8Chars::from(self)
     }
 
     #[inline]
+    #[tactic(auto, using(crate::proofs::PieceRuns::scalars_runs))]
     fn utf16chars(self) -> Utf16Chars<'a> {
         Utf16Chars::from(self)
     }
 
     #[inline]
+    #[tactic(auto, using(crate::proofs::PieceRuns::placed_runs, crate::proofs::PieceRuns::text_places))]
     fn utf8char_indices(self) -> Utf8CharIndices<'a> {
         Utf8CharIndices::from(self)
     }
 
     #[inline]
+    #[tactic(auto, using(crate::proofs::PieceRuns::placed_runs, crate::proofs::PieceRuns::text_places))]
     fn utf16char_indices(self) -> Utf16CharIndices<'a> {
         Utf16CharIndices::from(self)
     }

@@ -1,6 +1,8 @@
 //! Methods of slices.
-ghost use Rattle.std.specs.Prelude.{◌≡◌, List, ℕ};
-ghost use Rattle.encode_unicode.specs.Window.{whole_window};
+ghost use Rattle.std.specs.Prelude.{◌≡◌, length, List, ℕ};
+ghost use Rattle.std.specs.Iterator.Runs.{AllItems, EachRunFrom, EveryRun};
+ghost use Rattle.encode_unicode.specs.Pieces.{Gives, LiesWithin, pieces_left, unit_pieces_left};
+ghost use Rattle.encode_unicode.specs.Window.{whole_window, NextGives, NextGivesUnits};
 
 use crate::decoding_iterators::Utf8CharDecoder;
 use crate::utf16_decoder::Utf16CharDecoder;
@@ -13,13 +15,16 @@ pub trait U8SliceExt<'a>: Sized {
 
     /// The characters and the faulty bytes, each with its offset and its length in bytes.
     fn utf8char_indices(self) -> Utf8CharDecoder<'a>
-        ensures { result ≡ whole_window (bytes self) };
+        ensures window { result ≡ whole_window (bytes self) }
+        ensures runs { EveryRun NextGives (λ p. Gives p (pieces_left p.from)) }
+        ensures places { EachRunFrom NextGives result (λ p. AllItems p (LiesWithin (length (bytes self)))) };
 }
 
 impl<'a> U8SliceExt<'a> for &'a [u8] {
     ghost bytes = { λ slice. slice.now };
 
     #[inline]
+    #[tactic(auto, using(crate::proofs::PieceRuns::decoder_runs, crate::proofs::PieceRuns::decoder_places))]
     fn utf8char_indices(self) -> Utf8CharDecoder<'a> {
         Utf8CharDecoder::from(self)
     }
@@ -33,13 +38,16 @@ pub trait U16SliceExt<'a>: Sized {
 
     /// The characters and the faulty units, each with its offset and its length in units.
     fn utf16char_indices(self) -> Utf16CharDecoder<'a>
-        ensures { result ≡ whole_window (units self) };
+        ensures window { result ≡ whole_window (units self) }
+        ensures runs { EveryRun NextGivesUnits (λ p. Gives p (unit_pieces_left p.from)) }
+        ensures places { EachRunFrom NextGivesUnits result (λ p. AllItems p (LiesWithin (length (units self)))) };
 }
 
 impl<'a> U16SliceExt<'a> for &'a [u16] {
     ghost units = { λ slice. slice.now };
 
     #[inline]
+    #[tactic(auto, using(crate::proofs::PieceRuns::unit_decoder_runs, crate::proofs::PieceRuns::unit_decoder_places))]
     fn utf16char_indices(self) -> Utf16CharDecoder<'a> {
         Utf16CharDecoder::from(self)
     }

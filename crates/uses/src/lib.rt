@@ -7,6 +7,7 @@ ghost use Rattle.uses.specs.Initials.{IsInitial};
 use encode_unicode::Utf8Char;
 
 pub mod alike;
+pub mod chains;
 pub mod cursor;
 pub mod damage;
 pub mod editor;
@@ -18,6 +19,7 @@ pub mod parts;
 pub mod recoders;
 pub mod records;
 pub mod runs;
+pub mod sources;
 pub mod tables;
 pub mod texts;
 pub mod tokens;

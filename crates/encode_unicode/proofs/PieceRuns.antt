@@ -1,0 +1,245 @@
+-- A run of a decoder, or of an iterator over a text, gives the list of its pieces, or of its characters.
+use Rattle.std.proofs.Common.{◌≡◌, ℕ, zero, suc, ◌+◌, ◌-◌, ◌≤◌, List, [], ◌∷◌, ◌++◌, length, take, drop, Option, Some, None, Err, Result, refl, ap, sym, subst, ◌∙◌, arith, length-drop}
+use Rattle.std.specs.Iterator.{Yields}
+use Rattle.std.specs.Iterator.Runs.{Run, EveryRun, EachRunFrom, AllItems}
+use Rattle.std.proofs.iter.runs.Lists.{Everywhere}
+use Rattle.std.proofs.iter.runs.Made.{took, each}
+use Rattle.std.proofs.iter.runs.Sources.{as_is, from_front}
+use Rattle.std.specs.Prelude.{slice_index, option_map}
+use Rattle.std.specs.Str.{chars, IsCharBoundary, IsUtf8}
+use Rattle.std.proofs.lemmas.Grind.{common_steps}
+use Rattle.std.proofs.lemmas.Str.{IsCharBoundary-start, IsUtf8-append, chars-nil, chars_past_char}
+use Rattle.std.proofs.lemmas.Iterator.{YieldsList}
+use Rattle.std.proofs.lemmas.Iterator.Consumers.{YieldsList-from_shown}
+use Rattle.std.proofs.lemmas.List.{take_all}
+use Rattle.utf_base.specs.Code.{utf8, utf16}
+use Rattle.utf_base.specs.declared.errors.Utf8ErrorKind.{Utf8ErrorKind}
+use Rattle.utf_base.specs.declared.errors.units.Utf16PairError.{Utf16PairError}
+use Rattle.utf_base.specs.Decoded.{decoded, decoded_pairs, unless_fault, units_asked}
+use Rattle.utf_base.specs.Units.{unit_fault_kind, unit_value}
+use Rattle.utf_base.specs.Kinds.{fault_kind, value}
+use Rattle.utf_base.proofs.DecodedLemmas.{answer_of_bytes, decoded_code}
+use Rattle.utf_base.proofs.FrontLemmas.{code_where_no_fault}
+use Rattle.utf_base.proofs.Utf8Code.{utf8_is_code}
+use Rattle.utf_base.proofs.StdText.{utf8_is_std, utf8_is_text}
+use Rattle.utf_chars.proofs.Ranges.{range_behind}
+use Rattle.encode_unicode.proofs.Joined.{some_utf8}
+use Rattle.encode_unicode.specs.Pieces.{Gives, LiesWithin, LiesInText, pieces, unit_pieces, pieces_by, pieces_left, unit_pieces_left, placed_chars, chars_left, placed_chars_left}
+use Rattle.encode_unicode.specs.Sources.{IsListed}
+use Rattle.encode_unicode.specs.TextWindow.{NextScalar, NextPlaced, GivesFirst}
+use Rattle.encode_unicode.specs.Window.{Window, Placed, elements, whole_window, without_front, as_piece, GivesNone, GivesFrontOf, NextGives, NextGivesUnits}
+
+-- A list that tells what each state still gives is what each run gives.
+pub listed_run : {S A : Type 0} (steps : S → Option A → S → Type 0) (rest : S → List A) → IsListed steps rest → EveryRun steps (λ p. Gives p (rest p.from))
+listed_run {S} {A} steps rest listed p seen =
+    let mapped = from_front steps (λ (x : A). x) rest (λ s t h. ap length (listed s None t h).0) (λ s x t h. listed s (Some x) t h) p seen in
+    (as_is p (rest p.from) mapped, mapped)
+
+-- Pieces.
+
+pieces_none : {E : Type 0} (answer : List ℕ → Result (ℕ × ℕ) E) (n place : ℕ) (xs : List ℕ) → length xs ≤ 0 → pieces_by answer n place xs ≡ []
+unfolding pieces_by
+pieces_none answer zero place xs h = refl
+pieces_none answer (suc n) place [] h = refl
+pieces_none answer (suc n) place (x ∷ xs) h = absurd (omega arith)
+
+-- the number does not matter where it is no less than there are elements
+pieces_enough : {E : Type 0} (answer : List ℕ → Result (ℕ × ℕ) E) → ((xs : List ℕ) → 1 ≤ (as_piece (answer xs)).1) → (n m place : ℕ) (xs : List ℕ) → length xs ≤ n → length xs ≤ m
+    → pieces_by answer n place xs ≡ pieces_by answer m place xs
+unfolding pieces_by
+pieces_enough answer some zero m place xs a b = sym (pieces_none answer m place xs a)
+pieces_enough answer some (suc n) zero place xs a b = pieces_none answer (suc n) place xs b
+pieces_enough answer some (suc n) (suc m) place [] a b = refl
+pieces_enough answer some (suc n) (suc m) place (x ∷ xs) a b =
+    let one = some (x ∷ xs) in
+    let less = length-drop (as_piece (answer (x ∷ xs))).1 (x ∷ xs) in
+    ap (λ rest. (place, (as_piece (answer (x ∷ xs))).0, (as_piece (answer (x ∷ xs))).1) ∷ rest) (pieces_enough answer some n m (place + (as_piece (answer (x ∷ xs))).1) (drop (as_piece (answer (x ∷ xs))).1 (x ∷ xs)) (omega arith) (omega arith))
+
+-- each piece has an element
+some_bytes : (xs : List ℕ) → 1 ≤ (as_piece (decoded xs)).1
+some_bytes xs = by_kind xs (fault_kind xs) refl
+  where
+    by_kind : (xs : List ℕ) (k : Option Utf8ErrorKind) → fault_kind xs ≡ k → 1 ≤ (as_piece (decoded xs)).1
+    by_kind xs None e =
+        let code = code_where_no_fault xs e in
+        let some = utf8_is_code.some (value xs) code.0.scalar in
+        rw (decoded_code xs (value xs) code.0) (omega arith)
+    by_kind xs (Some k) e = rw (← answer_of_bytes xs (Err k) e) (omega arith)
+
+some_units : (xs : List ℕ) → 1 ≤ (as_piece (decoded_pairs xs)).1
+unfolding decoded_pairs
+some_units xs = by_kind xs (unit_fault_kind xs)
+  where
+    asks : (u : ℕ) → 1 ≤ units_asked u
+    asks u = grind (arith, common_steps)
+
+    by_kind : (xs : List ℕ) (k : Option Utf16PairError) → 1 ≤ (as_piece (unless_fault k (unit_value xs, units_asked (slice_index xs 0)))).1
+    by_kind xs None = asks (slice_index xs 0)
+    by_kind xs (Some k) = omega arith
+
+module _ {E : Type 0} (code : ℕ → List ℕ) (most : ℕ) (kind : List ℕ → Option E) (answer : List ℕ → Result (ℕ × ℕ) E) (some : (xs : List ℕ) → 1 ≤ (as_piece (answer xs)).1) where
+  first_piece : (n place : ℕ) (xs ys : List ℕ) (x : Placed E) → 1 ≤ length xs → length xs ≤ n → x.0 ≡ place → (x.1, x.2) ≡ as_piece (answer xs) → ys ≡ drop x.2 xs
+      → pieces_by answer n place xs ≡ x ∷ pieces_by answer (length ys) (place + x.2) ys
+  unfolding pieces_by
+  first_piece zero place xs ys x h enough e known rest = absurd (omega arith)
+  first_piece (suc n) place [] ys x h enough e known rest = absurd (omega arith)
+  first_piece (suc n) place (b ∷ bs) ys x h enough e known rest =
+      let one = some (b ∷ bs) in
+      let len : x.2 ≡ (as_piece (answer (b ∷ bs))).1 = ap (λ y. y.1) known in
+      let less : length ys ≡ length (b ∷ bs) - x.2 = ap length rest ∙ length-drop x.2 (b ∷ bs) in
+      let same : pieces_by answer n (place + x.2) ys ≡ pieces_by answer (length ys) (place + x.2) ys
+      = pieces_enough answer some n (length ys) (place + x.2) ys (omega arith) (omega arith) in
+      let first : (place, (as_piece (answer (b ∷ bs))).0, (as_piece (answer (b ∷ bs))).1) ≡ x = ap (λ y. (place, y.0, y.1)) (sym known) ∙ ap (λ p. (p, x.1, x.2)) (sym e) in
+      let behind : pieces_by answer n (place + (as_piece (answer (b ∷ bs))).1) (drop (as_piece (answer (b ∷ bs))).1 (b ∷ bs)) ≡ pieces_by answer n (place + x.2) ys
+      = ap (λ k. pieces_by answer n (place + k) (drop k (b ∷ bs))) (sym len) ∙ ap (pieces_by answer n (place + x.2)) (sym rest) in
+      ap (λ y. y ∷ pieces_by answer n (place + (as_piece (answer (b ∷ bs))).1) (drop (as_piece (answer (b ∷ bs))).1 (b ∷ bs))) first ∙ ap (λ l. x ∷ l) (behind ∙ same)
+
+  piece_taken : (w v : Window) (x : Placed E) → GivesFrontOf code most kind answer w x v
+      → pieces_by answer (length (elements w)) w.front (elements w) ≡ x ∷ pieces_by answer (length (elements v)) v.front (elements v)
+  piece_taken w v x g =
+      let one = g.len.0 in
+      let fits = g.len.2 in
+      let most : length (elements w) ≤ w.back - w.front = grind (arith, common_steps) in
+      let rest : elements (without_front w x.2) ≡ drop x.2 (elements w) = range_behind w.whole w.front w.back x.2 (omega arith) in
+      rw g.left (first_piece (length (elements w)) w.front (elements w) (elements (without_front w x.2)) x (omega arith) (omega arith) g.place g.known rest)
+
+  no_piece : (w v : Window) → GivesNone w v → pieces_by answer (length (elements w)) w.front (elements w) ≡ []
+  no_piece w v g =
+      let none = g.none in
+      let zero : length (elements w) ≤ 0 = grind (arith, common_steps) in
+      pieces_none answer (length (elements w)) w.front (elements w) zero
+
+-- what a decoder of bytes still gives, and one of units
+pub decoder_listed : IsListed NextGives pieces_left
+decoder_listed w None v h = (no_piece utf8 4 fault_kind decoded some_bytes w v h, rw h.left (no_piece utf8 4 fault_kind decoded some_bytes w v h))
+decoder_listed w (Some x) v h = piece_taken utf8 4 fault_kind decoded some_bytes w v x h
+
+pub unit_decoder_listed : IsListed NextGivesUnits unit_pieces_left
+unit_decoder_listed w None v h = (no_piece utf16 2 unit_fault_kind decoded_pairs some_units w v h, rw h.left (no_piece utf16 2 unit_fault_kind decoded_pairs some_units w v h))
+unit_decoder_listed w (Some x) v h = piece_taken utf16 2 unit_fault_kind decoded_pairs some_units w v x h
+
+-- Characters.
+
+no_chars : (w v : Window) → GivesNone w v → chars_left w ≡ []
+no_chars w v h =
+    let none = h.none in
+    let zero : w.back - w.front ≡ 0 = omega arith in
+    ap (λ n. chars (take n (drop w.front w.whole))) zero ∙ chars-nil
+
+first_char : (w v : Window) (place s : ℕ) → GivesFirst w place s v → chars_left w ≡ s ∷ chars_left v
+first_char w v place s h =
+    chars_past_char (elements w) (elements v) s (rw h.code (IsUtf8-append (utf8 s) (elements v) (utf8_is_text s h.scalar) h.between.text))
+    (h.code ∙ ap (λ code. code ++ elements v) (sym (utf8_is_std s)))
+
+-- an iterator over the characters of a text gives those of the window
+pub scalars_listed : IsListed NextScalar chars_left
+scalars_listed w None v h = (no_chars w v h, ap chars_left h.left ∙ no_chars w v h)
+scalars_listed w (Some s) v h = first_char w v w.front s h
+
+-- and one that gives their offsets too
+pub placed_listed : IsListed NextPlaced placed_chars_left
+placed_listed w None v h =
+    let none = ap (placed_chars w.front) (no_chars w v h) in
+    (none, ap placed_chars_left h.left ∙ none)
+placed_listed w (Some x) v h =
+    let front : v.front ≡ w.front + length (utf8 x.1) = ap (λ (u : Window). u.front) h.left in
+    ap (placed_chars w.front) (first_char w v x.0 x.1 h) ∙ ap (λ p. (p, x.1) ∷ placed_chars (w.front + length (utf8 x.1)) (chars_left v)) (sym h.at_front)
+    ∙ ap (λ p. x ∷ placed_chars p (chars_left v)) (sym front)
+
+-- What their runs give.
+
+pub decoder_runs : EveryRun NextGives (λ p. Gives p (pieces_left p.from))
+decoder_runs = listed_run NextGives pieces_left decoder_listed
+
+pub unit_decoder_runs : EveryRun NextGivesUnits (λ p. Gives p (unit_pieces_left p.from))
+unit_decoder_runs = listed_run NextGivesUnits unit_pieces_left unit_decoder_listed
+
+pub scalars_runs : EveryRun NextScalar (λ p. Gives p (chars_left p.from))
+scalars_runs = listed_run NextScalar chars_left scalars_listed
+
+pub placed_runs : EveryRun NextPlaced (λ p. Gives p (placed_chars_left p.from))
+placed_runs = listed_run NextPlaced placed_chars_left placed_listed
+
+-- Where their items lie.
+
+at_cons : {A : Type 0} (P : A → Type 0) (x : A) (xs : List A) → P x → Everywhere xs P → Everywhere (x ∷ xs) P
+at_cons P x xs h rest zero = h
+at_cons P x xs h rest (suc k) = rest k
+
+module _ {S A : Type 0} (steps : S → Option A → S → Type 0) (Keeps : S → Type 0) (P : A → Type 0) (step : (s : S) (x : A) (t : S) → Keeps s → steps s (Some x) t → P x × Keeps t) where
+  everywhere : (xs : List A) (s t : S) → Keeps s → Yields steps s xs t → Everywhere xs P
+  everywhere [] s t k y = λ n. tt
+  everywhere (x ∷ xs) s t k y =
+      let one = step s x y.0 k y.1 in
+      at_cons P x xs one.0 (everywhere xs y.0 t one.1 y.2)
+
+  all_items : (p : Run steps) → Keeps p.from → AllItems p P
+  all_items p k = each p P (everywhere p.items p.from (took p).0 k (took p).1)
+
+place_kept : {E : Type 0} (code : ℕ → List ℕ) (most : ℕ) (kind : List ℕ → Option E) (answer : List ℕ → Result (ℕ × ℕ) E) (n : ℕ) (w v : Window) (x : Placed E)
+    → w.back ≡ n → GivesFrontOf code most kind answer w x v → LiesWithin n x × (v.back ≡ n)
+place_kept code most kind answer n w v x end g =
+    let place = g.place in
+    let one = g.len.0 in
+    let fits = g.len.2 in
+    let some = g.some in
+    let most : length (elements w) ≤ w.back - w.front = grind (arith, common_steps) in
+    ((omega arith, omega arith, omega arith), ap (λ (u : Window). u.back) g.left ∙ end)
+
+pub decoder_places : (xs : List ℕ) (s : Window) → s ≡ whole_window xs → EachRunFrom NextGives s (λ p. AllItems p (LiesWithin (length xs)))
+decoder_places xs s e p seen from =
+    all_items NextGives (λ w. w.back ≡ length xs) (LiesWithin (length xs)) (λ w x v k g. place_kept utf8 4 fault_kind decoded (length xs) w v x k g) p
+    (ap (λ (u : Window). u.back) (from ∙ e))
+
+pub unit_decoder_places : (xs : List ℕ) (s : Window) → s ≡ whole_window xs → EachRunFrom NextGivesUnits s (λ p. AllItems p (LiesWithin (length xs)))
+unit_decoder_places xs s e p seen from =
+    all_items NextGivesUnits (λ w. w.back ≡ length xs) (LiesWithin (length xs)) (λ w x v k g. place_kept utf16 2 unit_fault_kind decoded_pairs (length xs) w v x k g) p
+    (ap (λ (u : Window). u.back) (from ∙ e))
+
+-- what a window of a text keeps
+record KeepsText (text : List ℕ) (w : Window) : Type 0 where
+  whole : w.whole ≡ text
+  front : IsCharBoundary text w.front
+
+char_kept : (text : List ℕ) (w v : Window) (x : ℕ × ℕ) → KeepsText text w → GivesFirst w x.0 x.1 v → LiesInText text x × KeepsText text v
+char_kept text w v x k g =
+    let whole : v.whole ≡ text = ap (λ (u : Window). u.whole) g.left ∙ k.whole in
+    let front : v.front ≡ x.0 + length (utf8 x.1) = ap (λ (u : Window). u.front) g.left ∙ ap (λ p. p + length (utf8 x.1)) (sym g.at_front) in
+    let behind : IsCharBoundary text v.front = rw whole at g.between.front in
+    let some = some_utf8 x.1 in
+    let here : IsCharBoundary text x.0 = rw (← g.at_front) at k.front in
+    let after : IsCharBoundary text (x.0 + length (utf8 x.1)) = rw front at behind in
+    let end = after.0 in
+    ((omega arith, here, omega arith, after), record { whole = whole; front = behind })
+
+pub text_places : (text : List ℕ) (s : Window) → IsUtf8 text → s ≡ whole_window text → EachRunFrom NextPlaced s (λ p. AllItems p (LiesInText text))
+text_places text s h e p seen from =
+    all_items NextPlaced (KeepsText text) (LiesInText text) (λ w x v k g. char_kept text w v x k g) p (rw (from, e) (record { whole = refl; front = IsCharBoundary-start text h }))
+
+-- As std's lemmas on chains take it: the list that runs give.
+
+pub listed_yields : {S A : Type 0} (steps : S → Option A → S → Type 0) (rest : S → List A) → IsListed steps rest → (s : S) → YieldsList steps (λ x. x) s (rest s)
+listed_yields {S} {A} steps rest listed = YieldsList-from_shown steps (λ (x : A). x) rest (λ s t h. ap length (listed s None t h).0) (λ s x t h. listed s (Some x) t h)
+
+pub as_it_is : {A : Type 0} (r : Option A) → option_map (λ x. x) r ≡ r
+as_it_is None = refl
+as_it_is (Some x) = refl
+
+pub pieces_yielded : {s : Window} (xs : List ℕ) → s ≡ whole_window xs → YieldsList NextGives (λ x. x) s (pieces xs)
+pieces_yielded xs e = rw e (listed_yields NextGives pieces_left decoder_listed (whole_window xs))
+
+pub unit_pieces_yielded : {s : Window} (xs : List ℕ) → s ≡ whole_window xs → YieldsList NextGivesUnits (λ x. x) s (unit_pieces xs)
+unit_pieces_yielded xs e = rw e (listed_yields NextGivesUnits unit_pieces_left unit_decoder_listed (whole_window xs))
+
+whole_text : (text : List ℕ) → elements (whole_window text) ≡ text
+whole_text text = take_all _ text (omega arith)
+
+pub chars_yielded : {s : Window} (text : List ℕ) → s ≡ whole_window text → YieldsList NextScalar (λ x. x) s (chars text)
+chars_yielded text e =
+    let all = listed_yields NextScalar chars_left scalars_listed (whole_window text) in
+    rw e (subst (λ xs. YieldsList NextScalar (λ x. x) (whole_window text) (chars xs)) (whole_text text) all)
+
+pub placed_yielded : {s : Window} (text : List ℕ) → s ≡ whole_window text → YieldsList NextPlaced (λ x. x) s (placed_chars 0 (chars text))
+placed_yielded text e =
+    let all = listed_yields NextPlaced placed_chars_left placed_listed (whole_window text) in
+    rw e (subst (λ xs. YieldsList NextPlaced (λ x. x) (whole_window text) (placed_chars 0 (chars xs))) (whole_text text) all)

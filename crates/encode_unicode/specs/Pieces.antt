@@ -1,0 +1,53 @@
+-- What whole runs of decoders and of iterators over a text give, as lists.
+use Rattle.std.specs.Prelude.{ℕ, zero, suc, ◌+◌, ◌<◌, ◌≤◌, List, [], ◌∷◌, length, drop, Result, Option}
+use Rattle.std.specs.Iterator.Runs.{Run, ItemsAre, ItemsMapTo}
+use Rattle.std.specs.Str.{chars, IsCharBoundary}
+use Rattle.utf_base.specs.Code.{utf8}
+use Rattle.utf_base.specs.Decoded.{decoded, decoded_pairs}
+use Rattle.encode_unicode.specs.Window.{Window, Placed, Item, UnitItem, elements, whole_window, as_piece}
+
+-- the pieces of a list whose first element stands at a place, one after another, by what is decoded at the front of what is
+-- left: n of them, or all where they are fewer
+unfoldable pub pieces_by : {E : Type 0} → (List ℕ → Result (ℕ × ℕ) E) → ℕ → ℕ → List ℕ → List (Placed E)
+pieces_by answer zero place xs = []
+pieces_by answer (suc n) place [] = []
+pieces_by answer (suc n) place (x ∷ xs) =
+    (place, (as_piece (answer (x ∷ xs))).0, (as_piece (answer (x ∷ xs))).1) ∷ pieces_by answer n (place + (as_piece (answer (x ∷ xs))).1) (drop (as_piece (answer (x ∷ xs))).1 (x ∷ xs))
+
+-- what a decoder of bytes still gives from the front, and one of units
+abbrev pub pieces_left : Window → List Item
+pieces_left w = pieces_by decoded (length (elements w)) w.front (elements w)
+
+abbrev pub unit_pieces_left : Window → List UnitItem
+unit_pieces_left w = pieces_by decoded_pairs (length (elements w)) w.front (elements w)
+
+-- all pieces of some bytes, and of some units: what a decoder gives of them
+abbrev pub pieces : List ℕ → List Item
+pieces xs = pieces_left (whole_window xs)
+
+abbrev pub unit_pieces : List ℕ → List UnitItem
+unit_pieces xs = unit_pieces_left (whole_window xs)
+
+-- scalars with their places, where the first stands at this one
+abbrev pub placed_chars : ℕ → List ℕ → List (ℕ × ℕ)
+placed_chars place [] = []
+placed_chars place (s ∷ scalars) = (place, s) ∷ placed_chars (place + length (utf8 s)) scalars
+
+-- the characters that a window of a text still gives, without and with their offsets in the text
+abbrev pub chars_left : Window → List ℕ
+chars_left w = chars (elements w)
+
+abbrev pub placed_chars_left : Window → List (ℕ × ℕ)
+placed_chars_left w = placed_chars w.front (chars (elements w))
+
+-- a run gives the elements of the list, in order: said of the elements and of what is made of them
+abbrev pub Gives : {S A : Type 0} {steps : S → Option A → S → Type 0} → Run steps → List A → Type 0
+Gives p xs = ItemsAre p xs × ItemsMapTo p (λ x. x) xs
+
+-- a piece lies within so many elements
+abbrev pub LiesWithin : {E : Type 0} → ℕ → Placed E → Type 0
+LiesWithin n x = (x.0 < n) × (1 ≤ x.2) × (x.0 + x.2 ≤ n)
+
+-- a character with its offset lies in the text, between two places at which the text can be cut
+abbrev pub LiesInText : List ℕ → ℕ × ℕ → Type 0
+LiesInText text x = (x.0 < length text) × IsCharBoundary text x.0 × (x.0 + length (utf8 x.1) ≤ length text) × IsCharBoundary text (x.0 + length (utf8 x.1))
