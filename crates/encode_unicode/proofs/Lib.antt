@@ -15,3 +15,4 @@ pub mod MergerSteps
 pub mod ByteMerging
 pub mod UnitMerging
 pub mod MergerHints
+pub mod Wholes
