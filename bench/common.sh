@@ -3,6 +3,13 @@ bench_folder=$(cd "$(dirname "${BASH_SOURCE[0]}")" && pwd)
 root_folder=$(dirname "$bench_folder")
 source "$root_folder/scripts/build.sh"
 
+# The comment at the head of the script that sources this, and its usage.
+if [ "${1-}" = --help ] || [ "${1-}" = -h ]; then
+    sed -n '2,/^set/{/^set/d;s/^# \{0,1\}//p}' "$0"
+    grep -m 1 -o 'usage: [^"]*' "$0"
+    exit 0
+fi
+
 die() {
     echo "$name: $*" >&2
     exit 2

@@ -8,7 +8,7 @@ is_stale() {
     [ -n "$(find "$top_folder/crates" -name out -prune -o \( -name '*.rt' -o -name '*.antt' \) -newer "$1" -print -quit)" ]
 }
 
-# The crates that one stands on, and it itself, each behind those that it uses. Those that the list does not have are
+# The crates that one stands on, and it itself, each after those that it uses. Those that the list does not have are
 # the kit's, and stand already.
 crates_up_to() {
     awk -v top="$1" '

@@ -13,6 +13,7 @@ class Function:
     def __init__(self, crate, file, owner, is_public, name):
         self.crate, self.file, self.owner, self.is_public, self.name = crate, file, owner, is_public, name
         self.document, self.signature, self.clauses, self.body = [], "", [], ""
+        self.owner_document, self.ghosts = [], []
         self.lines = range(0)
 
     def module(self):
@@ -108,17 +109,19 @@ def function_at(crate, file, line):
 def functions_in(crate, path):
     with open(f"{TOP}/crates/{crate}/{path}", encoding="utf-8") as file:
         lines = file.read().split("\n")
-    found, owner, document, in_trait = [], "", [], False
+    found, owner, document, in_trait, of_owner, ghosts = [], "", [], False, [], []
     for number, line in enumerate(lines):
         head, text = HEAD.match(line.strip()), line.strip()
         if text.startswith("///"):
             document.append(text.removeprefix("///").strip())
         elif head and head[2] in ("impl", "trait") and indent_of(line) == 0:
-            owner, in_trait, document = whole_head(lines, number), head[2] == "trait", []
+            owner, in_trait, of_owner, document = whole_head(lines, number), head[2] == "trait", document, []
+            ghosts = ghosts_of(lines, number)
         elif head and head[2] == "fn" and indent_of(line) in (0, 4):
             made = Function(crate, path, owner if indent_of(line) else "", bool(head[1]), re.match(r"\s*(\w+)", head[3])[1])
             made.is_public = head[1] == "pub " or bool(made.owner) and (in_trait or bool(made.owner_trait()))
             made.document, document = document, []
+            made.owner_document, made.ghosts = (of_owner, ghosts) if made.owner else ([], [])
             read_rest(made, lines, number)
             found.append(made)
         elif not text.startswith("#["):
@@ -134,6 +137,19 @@ def whole_head(lines, number):
         if line.rstrip().endswith(("{", "}")):
             return " ".join(head).rstrip("{} ")
     return " ".join(head)
+
+
+def ghosts_of(lines, number):
+    """The ghost items of the impl or trait that begins at this line, by which its contracts speak."""
+    found = []
+    for line in lines[number + 1 :]:
+        if line.startswith("}"):
+            break
+        if indent_of(line) == 4 and re.match(r" +ghost (?!use\b)", line):
+            found.append(line.strip().rstrip(";"))
+        elif found and not found[-1].endswith("}") and line.strip():
+            found[-1] += " " + line.strip().rstrip(";")
+    return found
 
 
 def read_rest(function, lines, number):

@@ -54,7 +54,7 @@ pub fn make(name: &str, size: usize) -> Option<Input> {
     Some(input)
 }
 
-// Words of 1 to 12 characters, each with a space behind it. All characters of a word have codes of one
+// Words of 1 to 12 characters, each with a space after it. All characters of a word have codes of one
 // length, 1 more than what `class` answers for the word.
 fn text(random: &mut Random, size: usize, class: impl Fn(&mut Random) -> u64) -> String {
     let mut text = String::with_capacity(size + 64);

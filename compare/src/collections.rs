@@ -6,7 +6,7 @@ use crate::ours::filled;
 use crate::tally::Kind;
 use encode_unicode::{IterExt, StrExt};
 
-/// Each text, collected and behind another.
+/// Each text, collected and after another.
 pub fn texts(seed: u64, count: usize) -> Vec<Kind> {
     let random = &mut Random::new(seed);
     let mut edges = Kind::new("texts of up to three edge characters, collected");
@@ -24,7 +24,7 @@ pub fn texts(seed: u64, count: usize) -> Vec<Kind> {
 }
 
 pub(crate) fn compare(kind: &mut Kind, text: &str, before: &str) {
-    let input = || format!("{text:?} behind {before:?}");
+    let input = || format!("{text:?} after {before:?}");
     let both = [our_collected(text), our_extended(text, before)].concat();
     let mut judged = their_collected(text);
     judged.append(their_extended(text, before));

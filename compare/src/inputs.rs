@@ -101,7 +101,7 @@ pub fn short_lists() -> Vec<Vec<u8>> {
     lists
 }
 
-// The list with each of the edge bytes behind it.
+// The list with each of the edge bytes after it.
 fn extended(list: &[u8]) -> impl Iterator<Item = Vec<u8>> + '_ {
     EDGE_BYTES.iter().map(move |byte| [list, &[*byte]].concat())
 }

@@ -23,7 +23,7 @@ pub fn runs(program: &Path, seed: u64) -> io::Result<Vec<Kind>> {
     ])
 }
 
-// Two thousand damaged texts behind one another.
+// Two thousand damaged texts after one another.
 fn joined_texts(random: &mut Random) -> Vec<u8> {
     (0..2_000)
         .flat_map(|_| inputs::damaged_text(random))

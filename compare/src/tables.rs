@@ -13,7 +13,7 @@ const REPLACEMENTS: usize = 10;
 pub(crate) type Replacement = [u8; 4];
 
 /// Damaged texts and random edge bytes, with ten replacements in each. The judge is what the Rust crate's
-/// decoder gives of the bytes behind each.
+/// decoder gives of the bytes after each.
 pub fn replacements(seed: u64, count: usize) -> Vec<Kind> {
     let random = &mut Random::new(seed);
     let mut kind = Kind::new("tables of damaged bytes, ten replacements in each");

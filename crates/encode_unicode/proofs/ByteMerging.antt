@@ -204,7 +204,7 @@ four_padded a b d g c e = rw (← e) refl
 
 -- The character of four bytes that are its own.
 
-value_of_answer : {A E : Type 0} (fault : Option E) (x c : A) → unless_fault fault x ≡ Ok c → x ≡ c
+pub value_of_answer : {A E : Type 0} (fault : Option E) (x c : A) → unless_fault fault x ≡ Ok c → x ≡ c
 value_of_answer None x c h = cc
 value_of_answer (Some e) x c h = cc
 

@@ -16,3 +16,4 @@ pub mod MergerSteps
 pub mod ByteMerging
 pub mod UnitMerging
 pub mod MergerHints
+pub mod Wholes

@@ -175,6 +175,12 @@ four_all b count k e scan h =
     let len = length_of b count e in
     all_decides (drop (4 - count) b) count k scan some (omega arith) h
 
+pub last_two : (b : List ℕ) → length b ≡ 4 → take 2 (drop 2 b) ≡ get_or b 2 0 ∷ get_or b 3 0 ∷ []
+last_two b e = grind (arith, common_steps)
+
+pub last_three : (b : List ℕ) → length b ≡ 4 → take 3 (drop 1 b) ≡ get_or b 1 0 ∷ get_or b 2 0 ∷ get_or b 3 0 ∷ []
+last_three b e = grind (arith, common_steps)
+
 pub take_four : (b : List ℕ) → length b ≡ 4 → take 4 (drop 0 b) ≡ b
 take_four b e = grind (arith, common_steps)
 

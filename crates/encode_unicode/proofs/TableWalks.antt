@@ -1,5 +1,5 @@
 -- What a walk over the table tells a merger of bytes.
-use Rattle.std.proofs.Common.{◌≡◌, ℕ, ◌+◌, suc, ◌<◌, ◌≤◌, List, [], ◌∷◌, length, get_or, Some, None, Ok, Err, true, false, refl, ap, sym, ◌∙◌, arith, lit<, ⊎_elim}
+use Rattle.std.proofs.Common.{◌≡◌, ℕ, ◌+◌, suc, ◌<◌, ◌≤◌, List, [], ◌∷◌, length, get_or, Some, None, Err, true, false, refl, ap, sym, ◌∙◌, arith, lit<, ⊎_elim}
 use Rattle.std.proofs.lemmas.Bool.{cases_lt}
 use Rattle.std.proofs.lemmas.Grind.{common_steps}
 use Rattle.utf_base.specs.declared.errors.Utf8ErrorKind.TheVariants.{TooFewBytes}
@@ -7,14 +7,13 @@ use Rattle.utf_base.specs.declared.errors.Utf8ErrorKind.{Utf8ErrorKind}
 use Rattle.utf_base.specs.declared.table.State.{State}
 use Rattle.utf_base.specs.declared.table.State.TheVariants.{Start, OneMore, TwoMore, ThreeMore, AfterE0, AfterEd, AfterF0, AfterF4, TwoMoreOverlong, OneMoreOverlong, OneMoreReserved, TwoMoreTooHigh, OneMoreTooHigh, Done, Unexpected, Never, Interrupted, Overlong, Reserved, TooHigh}
 use Rattle.utf_base.specs.Code.{utf8}
-use Rattle.utf_base.specs.Kinds.{asked, asked_by, fault_kind, is_continuation, merger_kind, value}
+use Rattle.utf_base.specs.Kinds.{asked, asked_by, is_continuation, merger_kind, value}
 use Rattle.utf_base.specs.Scalar.{IsScalar}
 use Rattle.utf_base.specs.Table.{class, fault_of, is_running, missing, next_state, state_after}
 use Rattle.encode_unicode.specs.Reading.{JudgesBytes}
 use Rattle.utf_base.proofs.FrontLemmas.{code_where_no_fault}
 use Rattle.utf_base.proofs.MergerLemmas.{few-1, merger_none, whole_code}
-use Rattle.utf_base.proofs.Utf8Code.{utf8_is_code}
-use Rattle.utf_base.proofs.TableSteps.{Reached, Runs, asks_runs, fault_at_end, first-2, first-3, first-4, kind_at_end, one_less, one_more_breaks, reached}
+use Rattle.utf_base.proofs.TableSteps.{Reached, Runs, asks_runs, fault_at_end, first-2, first-3, first-4, kind_at_end, one_less, reached}
 
 -- A running state after some bytes asks for more of them.
 pub runs_after : (w : List ℕ) (k : ℕ) (state : State) → 0 < k → is_running state ≡ true → Reached w k state → Runs w k state × (0 < missing state) × (fault_of state ≡ Some TooFewBytes)
@@ -80,41 +79,11 @@ asks_no_other b end at stops other =
     absurd (other (ap fault_of at ∙ sym kind ∙ few-1 b many)))
     (λ (few : asked b ≤ 1). few) (cases_lt 1 (asked b))
 
-ascii : (b : ℕ) → 0 < asked b → asked b ≤ 1 → b < 0x80
-unfolding asked
-ascii b some few = grind (arith, common_steps)
-
--- One that leads to the end of a code is that code, and it is ASCII.
-pub code_of_one : (b : ℕ) (end : State) → end ≡ state_after (b ∷ []) 1 → end ≡ Done → (asked b ≤ 1) × JudgesBytes (b ∷ []) (Ok (value (b ∷ []))) × (b < 0x80)
-code_of_one b end at done =
-    let few : asked b ≤ 1 = asks_no_other b end at (ap is_running done) (λ e. no (sym (ap fault_of done) ∙ e)) in
-    let kind : fault_kind (b ∷ []) ≡ None = fault_at_end (b ∷ []) 1 Done (lit< tt) few (sym at ∙ done) refl in
-    let code = code_where_no_fault (b ∷ []) kind in
-    let scalar = code.0.scalar in
-    let len : asked b ≡ length (utf8 (value (b ∷ []))) = code.1 in
-    let some = utf8_is_code.some (value (b ∷ [])) scalar in
-    (few, (scalar, whole_code (b ∷ []) (value (b ∷ [])) code.0 few (λ more. absurd (omega arith))), ascii b (omega arith) few)
-  where
-    no : None ≡ Some TooFewBytes → ⊥
-    no e = cc
-
--- One that leads to another end is at fault by itself.
+-- One that leads to an end which is no code's is at fault by itself.
 pub fault_of_one : (b : ℕ) (end state : State) (k : Utf8ErrorKind) → end ≡ state_after (b ∷ []) 1 → end ≡ state → is_running state ≡ false → fault_of state ≡ Some k → (Some k ≡ Some TooFewBytes → ⊥) → (asked b ≤ 1) × JudgesBytes (b ∷ []) (Err k)
 fault_of_one b end state k at is stops fault other =
     let few : asked b ≤ 1 = asks_no_other b end at (ap is_running is ∙ stops) (λ e. other (sym fault ∙ sym (ap fault_of is) ∙ e)) in
     (few, fault_at_end (b ∷ []) 1 state (lit< tt) few (sym at ∙ is) stops ∙ fault)
-
--- The state after two bytes, that is no end: the first asks for three or more, and the second continues.
-pub third_asked : (a b c : ℕ) (state next : State) → state ≡ state_after (a ∷ []) 1 → 0xC2 ≤ a → c ≡ class b → next ≡ next_state state c → (next ≡ Interrupted → ⊥) → (next ≡ Done → ⊥) → 0xE0 ≤ a
-third_asked a b c state next at low of step on go =
-    ⊎_elim (λ (h : a < 0xE0). absurd (on (two h)))
-    (λ (l : 0xE0 ≤ a). l) (cases_lt a 0xE0)
-  where
-    two : a < 0xE0 → next ≡ Interrupted
-    two h =
-        let one : state ≡ OneMore = at ∙ first-2 a low h in
-        let same : next ≡ next_state OneMore c = step ∙ ap (λ (s : State). next_state s c) one in
-        same ∙ one_more_breaks c (λ e. go (same ∙ e))
 
 -- One byte less is missing after one that does not interrupt.
 pub less : (state next : State) (c : ℕ) → 0 < missing state → next ≡ next_state state c → (next ≡ Interrupted → ⊥) → missing state ≡ 1 + missing next

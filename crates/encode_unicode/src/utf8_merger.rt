@@ -3,7 +3,7 @@ ghost use Rattle.std.specs.Prelude.{◌≡◌, ◌<◌, ◌≤◌, ℕ, List, []
 ghost use Rattle.std.specs.Iterator.{UpTo};
 ghost use Rattle.std.specs.Iterator.SizeHint.{IsWithinCount};
 ghost use Rattle.utf_base.specs.Code.{utf8};
-ghost use Rattle.utf_base.specs.Kinds.{is_continuation, merger_kind};
+ghost use Rattle.utf_base.specs.Kinds.{fault_kind, is_continuation, merger_kind};
 ghost use Rattle.utf_base.specs.Table.{fault_of, is_later_fault, missing, state_after};
 ghost use Rattle.encode_unicode.specs.Mergers.{unasked, unread, unread_count, IsHeldBytes, IsSpent, MergerNext, MergesHint};
 ghost use Rattle.encode_unicode.specs.Reading.{Completes, CompletesBehind, TakesFirst};
@@ -184,18 +184,57 @@ fn followers<I: Iterator<Item = u8>>(
     requires held { IsHeldBytes held.old.held }
     ensures { Completes I.can_next I.remaining I.next_gives first held.old.held source.old held.old.ended result held.new.held source.new held.new.ended }
 {
+    // Where the classes of bytes below 0xe0 lead is known.
+    if first < 0x80 {
+        return Ok(none_follow(first));
+    }
+    if first < 0xc2 {
+        return Err(error_below_two(first));
+    }
+    if first < 0xe0 {
+        return followers_of_two(first, held, source);
+    }
     let state = step(State::Start, class_of(first));
-    match state {
-        State::Done => return Ok(none_follow(first)),
-        State::Unexpected => return Err(Utf8Error::new(Utf8ErrorKind::UnexpectedContinuationByte)),
-        State::Never => return Err(Utf8Error::new(Utf8ErrorKind::NonUtf8Byte)),
-        _ => {}
+    if state == State::Never {
+        return Err(Utf8Error::new(Utf8ErrorKind::NonUtf8Byte));
     }
     // It asks for others and is no continuation byte, so nothing is held after it.
-    if !held.is_idle() {
+    if held.is_ended() {
         return Err(Utf8Error::new(Utf8ErrorKind::TooFewBytes));
     }
     second(first, state, held, source)
+}
+
+// The same of a byte that begins a code of two.
+#[inline(always)]
+fn followers_of_two<I: Iterator<Item = u8>>(
+    first: u8,
+    held: &mut HeldBytes,
+    source: &mut I,
+) -> Result<Followers, Utf8Error>
+    requires low { 0xC2 ≤ first }
+    requires high { first < 0xE0 }
+    requires can { held.old.ended ≡ false → I.can_next source.old }
+    requires none { held.old.held ≡ [] }
+    ensures { Completes I.can_next I.remaining I.next_gives first held.old.held source.old held.old.ended result held.new.held source.new held.new.ended }
+{
+    if held.is_ended() {
+        return Err(Utf8Error::new(Utf8ErrorKind::TooFewBytes));
+    }
+    second_of_two(first, held, source)
+}
+
+// What is wrong with a byte that is not ASCII and begins no code, below the first that begins one.
+#[inline(always)]
+fn error_below_two(first: u8) -> Utf8Error
+    requires low { 0x80 ≤ first }
+    requires high { first < 0xC2 }
+    ensures { fault_kind (first ∷ []) ≡ Some result }
+{
+    if first < 0xc0 {
+        return Utf8Error::new(Utf8ErrorKind::UnexpectedContinuationByte);
+    }
+    Utf8Error::new(Utf8ErrorKind::NonUtf8Byte)
 }
 
 // The bytes that follow an ASCII byte in its code, which are none. A compiler takes from it that the byte is one, and
@@ -211,8 +250,37 @@ fn none_follow(first: u8) -> Followers
     }
 }
 
-// The second byte of a code, and those after it, each read where the state that the ones before it led to asks for
-// it. Codes of different lengths have functions of their own, which return each answer where it is found: so a
+// The second byte of two. A first byte of two leads to one state.
+#[inline(always)]
+fn second_of_two<I: Iterator<Item = u8>>(
+    first: u8,
+    held: &mut HeldBytes,
+    source: &mut I,
+) -> Result<Followers, Utf8Error>
+    requires low { 0xC2 ≤ first }
+    requires high { first < 0xE0 }
+    requires can { I.can_next source.old }
+    requires none { held.old.held ≡ [] }
+    requires going { held.old.ended ≡ false }
+    ensures { CompletesBehind I.can_next I.remaining I.next_gives first [] source.old result held.new.held source.new held.new.ended }
+{
+    match read(source) {
+        None => {
+            *held = HeldBytes::none().ended();
+            Err(Utf8Error::new(Utf8ErrorKind::TooFewBytes))
+        }
+        Some(byte) => {
+            if step(State::OneMore, class_of(byte)) == State::Done {
+                return Ok(Followers::new(byte, 0, 0));
+            }
+            *held = HeldBytes::one(byte);
+            Err(Utf8Error::new(Utf8ErrorKind::InterruptedSequence))
+        }
+    }
+}
+
+// The second byte of three or four, and those after it, each read where the state that the ones before it led to asks
+// for it. Codes of different lengths have functions of their own, which return each answer where it is found: so a
 // compiler keeps the ways to them apart.
 #[inline(always)]
 fn second<I: Iterator<Item = u8>>(
@@ -221,7 +289,7 @@ fn second<I: Iterator<Item = u8>>(
     held: &mut HeldBytes,
     source: &mut I,
 ) -> Result<Followers, Utf8Error>
-    requires low { 0xC2 ≤ first }
+    requires low { 0xE0 ≤ first }
     requires high { first < 0xF5 }
     requires walked { state ≡ state_after (first ∷ []) 1 }
     requires can { I.can_next source.old }
@@ -234,15 +302,17 @@ fn second<I: Iterator<Item = u8>>(
             *held = HeldBytes::none().ended();
             Err(Utf8Error::new(Utf8ErrorKind::TooFewBytes))
         }
-        Some(byte) => match step(state, class_of(byte)) {
-            State::Interrupted => {
+        Some(byte) => {
+            let next = step(state, class_of(byte));
+            if next == State::Interrupted {
                 *held = HeldBytes::one(byte);
-                Err(Utf8Error::new(Utf8ErrorKind::InterruptedSequence))
+                return Err(Utf8Error::new(Utf8ErrorKind::InterruptedSequence));
             }
-            State::Done => Ok(Followers::new(byte, 0, 0)),
-            next if first < 0xf0 => third_of_three(first, byte, next, held, source),
-            next => third_of_four(first, byte, next, held, source),
-        },
+            if first < 0xf0 {
+                return third_of_three(first, byte, next, held, source);
+            }
+            third_of_four(first, byte, next, held, source)
+        }
     }
 }
 
@@ -304,13 +374,14 @@ fn third_of_four<I: Iterator<Item = u8>>(
             *held = HeldBytes::one(second).ended();
             Err(Utf8Error::new(Utf8ErrorKind::TooFewBytes))
         }
-        Some(byte) => match step(state, class_of(byte)) {
-            State::Interrupted => {
+        Some(byte) => {
+            let next = step(state, class_of(byte));
+            if next == State::Interrupted {
                 *held = HeldBytes::two(second, byte);
-                Err(Utf8Error::new(Utf8ErrorKind::InterruptedSequence))
+                return Err(Utf8Error::new(Utf8ErrorKind::InterruptedSequence));
             }
-            next => fourth(first, second, byte, next, held, source),
-        },
+            fourth(first, second, byte, next, held, source)
+        }
     }
 }
 

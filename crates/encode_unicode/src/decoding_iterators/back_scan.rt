@@ -1,5 +1,5 @@
 //! The code that ends a window, found by a scan from its end.
-ghost use Rattle.std.specs.Prelude.{◌≡◌, ◌+◌, ◌-◌, ◌<◌, ◌≤◌, ◌++◌, drop, replicate, length};
+ghost use Rattle.std.specs.Prelude.{◌≡◌, ◌+◌, ◌-◌, ◌<◌, ◌≤◌, ◌++◌, [], ◌∷◌, drop, replicate, length};
 ghost use Rattle.utf_base.specs.declared.errors.Utf8ErrorKind.TheVariants.{UnexpectedContinuationByte};
 ghost use Rattle.utf_base.specs.Back.{DecodesEnd};
 ghost use Rattle.utf_base.specs.Front.{as_scalar};
@@ -7,6 +7,7 @@ ghost use Rattle.encode_unicode.specs.Scan.{IsScanned, IsWholeOrUnexpected};
 
 use crate::steps::Steps;
 use utf_base::errors::{Utf8Error, Utf8ErrorKind};
+use utf_base::table::{State, class_of, step};
 use utf_chars::continuation::continues;
 use utf_chars::utf8_char::Utf8Char;
 
@@ -20,7 +21,7 @@ pub(crate) fn decode_end(bytes: &[u8], steps: &mut Steps) -> Result<(Utf8Char, u
 {
     let n = bytes.len();
     if n < 4 {
-        return scan(padded(bytes), n, steps);
+        return decode_few(bytes, steps);
     }
     scan(
         [bytes[n - 4], bytes[n - 3], bytes[n - 2], bytes[n - 1]],
@@ -29,7 +30,19 @@ pub(crate) fn decode_end(bytes: &[u8], steps: &mut Steps) -> Result<(Utf8Char, u
     )
 }
 
-// Fewer than four bytes, behind zeros.
+// The same of fewer than four bytes. They are few of all, and it is out of line: so the way of the others is short.
+#[cold]
+#[inline(never)]
+fn decode_few(bytes: &[u8], steps: &mut Steps) -> Result<(Utf8Char, usize), Utf8Error>
+    requires some { 0 < length bytes.now }
+    requires few { length bytes.now < 4 }
+    ensures decodes { DecodesEnd as_scalar bytes.now result }
+    ensures steps { IsScanned bytes.now steps.old steps.new }
+{
+    scan(padded(bytes), bytes.len(), steps)
+}
+
+// Fewer than four bytes, with zeros before them.
 #[inline(always)]
 fn padded(bytes: &[u8]) -> [u8; 4]
     requires { length bytes.now ≤ 3 }
@@ -62,31 +75,80 @@ fn scan(bytes: [u8; 4], count: usize, steps: &mut Steps) -> Result<(Utf8Char, us
     }
     steps.tick();
     if !continues(bytes[2]) {
-        return whole_or_unexpected(&bytes[2..]);
+        return two_or_unexpected(bytes[2], bytes[3]);
     }
     if count == 2 {
         return Err(unexpected());
     }
     steps.tick();
     if !continues(bytes[1]) {
-        return whole_or_unexpected(&bytes[1..]);
+        return three_or_unexpected(bytes[1], bytes[2], bytes[3]);
     }
     if count == 3 {
         return Err(unexpected());
     }
     steps.tick();
-    whole_or_unexpected(&bytes)
+    four_or_unexpected(bytes)
 }
 
-// The character whose code all of the bytes are, else the error of a continuation byte.
+// The character whose code the two bytes are, else the error of a continuation byte. A first byte of two leads to one
+// state.
 #[inline(always)]
-fn whole_or_unexpected(bytes: &[u8]) -> Result<(Utf8Char, usize), Utf8Error>
-    ensures { IsWholeOrUnexpected bytes.now result }
+fn two_or_unexpected(first: u8, second: u8) -> Result<(Utf8Char, usize), Utf8Error>
+    ensures { IsWholeOrUnexpected (first ∷ second ∷ []) result }
 {
-    match Utf8Char::from_slice_start(bytes) {
-        Ok((c, len)) if len == bytes.len() => Ok((c, len)),
-        _ => Err(unexpected()),
+    if first < 0xc2 || 0xe0 <= first {
+        return Err(unexpected());
     }
+    if step(State::OneMore, class_of(second)) != State::Done {
+        return Err(unexpected());
+    }
+    let c = Utf8Char::from_array_unchecked([first, second, 0, 0]);
+    Ok((c, 2))
+}
+
+// The same of three bytes.
+#[inline(always)]
+fn three_or_unexpected(first: u8, second: u8, third: u8) -> Result<(Utf8Char, usize), Utf8Error>
+    ensures { IsWholeOrUnexpected (first ∷ second ∷ third ∷ []) result }
+{
+    if first < 0xe0 || 0xf0 <= first {
+        return Err(unexpected());
+    }
+    let two_more = step(State::Start, class_of(first));
+    let one_more = step(two_more, class_of(second));
+    if one_more == State::Interrupted {
+        return Err(unexpected());
+    }
+    if step(one_more, class_of(third)) != State::Done {
+        return Err(unexpected());
+    }
+    let c = Utf8Char::from_array_unchecked([first, second, third, 0]);
+    Ok((c, 3))
+}
+
+// The same of four.
+#[inline(always)]
+fn four_or_unexpected(bytes: [u8; 4]) -> Result<(Utf8Char, usize), Utf8Error>
+    ensures { IsWholeOrUnexpected bytes result }
+{
+    if bytes[0] < 0xf0 || 0xf5 <= bytes[0] {
+        return Err(unexpected());
+    }
+    let three_more = step(State::Start, class_of(bytes[0]));
+    let two_more = step(three_more, class_of(bytes[1]));
+    if two_more == State::Interrupted {
+        return Err(unexpected());
+    }
+    let one_more = step(two_more, class_of(bytes[2]));
+    if one_more == State::Interrupted {
+        return Err(unexpected());
+    }
+    if step(one_more, class_of(bytes[3])) != State::Done {
+        return Err(unexpected());
+    }
+    let c = Utf8Char::from_array_unchecked(bytes);
+    Ok((c, 4))
 }
 
 // The error of a continuation byte that no code ends with.

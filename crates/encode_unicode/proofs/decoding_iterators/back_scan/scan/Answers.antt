@@ -1,5 +1,5 @@
 use Rattle.std.proofs.Common.{◌∙◌, arith, sym, rules}
-use Rattle.encode_unicode.proofs.ScanLemmas.{IsEndOfFour, scanned-0, scanned-1, scanned-2, scanned-3, four_single, four_whole, four_all, four_looked, four_looked-all, take_four}
+use Rattle.encode_unicode.proofs.ScanLemmas.{IsEndOfFour, scanned-0, scanned-1, scanned-2, scanned-3, four_single, four_whole, four_all, four_looked, four_looked-all, last_two, last_three, take_four}
 use Rattle.encode_unicode.proofs.decoding_iterators.back_scan.scan.Goals as goal
 
 pub returns-then-not-continues-clause-decodes : goal.returns-then-not-continues-clause-decodes
@@ -34,7 +34,7 @@ returns-then-not-continues-2-clause-decodes c =
     let not_one = c.if-count-eq1.false in
     let last = sym c.continues.ensures ∙ c.if-not-continues.false in
     let stops = sym c.continues-2.ensures ∙ c.if-not-continues-2.true in
-    four_whole _ _ 1 _ e (omega arith) (omega arith) (scanned-1 _ _ e last (λ more. stops)) c.whole_or_unexpected.ensures
+    four_whole _ _ 1 _ e (omega arith) (omega arith) (scanned-1 _ _ e last (λ more. stops)) (rw (last_two _ e.four) c.two_or_unexpected.ensures)
 
 pub returns-then-not-continues-2-clause-steps : goal.returns-then-not-continues-2-clause-steps
 returns-then-not-continues-2-clause-steps c =
@@ -70,7 +70,7 @@ returns-then-not-continues-3-clause-decodes c =
     let last = sym c.continues.ensures ∙ c.if-not-continues.false in
     let third = sym c.continues-2.ensures ∙ c.if-not-continues-2.false in
     let stops = sym c.continues-3.ensures ∙ c.if-not-continues-3.true in
-    four_whole _ _ 2 _ e (omega arith) (omega arith) (scanned-2 _ _ e (omega arith) last third (λ more. stops)) c.whole_or_unexpected-then-not-continues-3.ensures
+    four_whole _ _ 2 _ e (omega arith) (omega arith) (scanned-2 _ _ e (omega arith) last third (λ more. stops)) (rw (last_three _ e.four) c.three_or_unexpected.ensures)
 
 pub returns-then-not-continues-3-clause-steps : goal.returns-then-not-continues-3-clause-steps
 returns-then-not-continues-3-clause-steps c =
@@ -112,7 +112,7 @@ returns-clause-decodes c =
     let last = sym c.continues.ensures ∙ c.if-not-continues.false in
     let third = sym c.continues-2.ensures ∙ c.if-not-continues-2.false in
     let second = sym c.continues-3.ensures ∙ c.if-not-continues-3.false in
-    four_whole _ _ 3 _ e (omega arith) (omega arith) (scanned-3 _ _ e (omega arith) last third second) (rw (take_four _ e.four) c.whole_or_unexpected-2.ensures)
+    four_whole _ _ 3 _ e (omega arith) (omega arith) (scanned-3 _ _ e (omega arith) last third second) (rw (take_four _ e.four) c.four_or_unexpected.ensures)
 
 pub returns-clause-steps : goal.returns-clause-steps
 returns-clause-steps c =

@@ -1,0 +1,79 @@
+-- All of some bytes are one code, or they are none, as a walk over the table says.
+use Rattle.std.proofs.Common.{◌≡◌, ℕ, ◌<◌, ◌≤◌, List, length, arith, refl, ap, sym, ◌∙◌, None, Ok, false, append-nil}
+use Rattle.std.proofs.lemmas.Grind.{common_steps}
+use Rattle.utf_base.specs.declared.table.State.{State}
+use Rattle.utf_base.specs.declared.table.State.TheVariants.{Start, OneMore, TwoMore, ThreeMore, AfterE0, AfterEd, AfterF0, AfterF4, TwoMoreOverlong, OneMoreOverlong, OneMoreReserved, TwoMoreTooHigh, OneMoreTooHigh, Done, Unexpected, Never, Interrupted, Overlong, Reserved, TooHigh}
+use Rattle.utf_base.specs.Back.{IsWholeCode}
+use Rattle.utf_base.specs.Code.{utf8}
+use Rattle.utf_base.specs.Decoded.{decoded_bytes}
+use Rattle.utf_base.specs.Front.{BeginsWith}
+use Rattle.utf_base.specs.Kinds.{asked, asked_by, fault_kind, value}
+use Rattle.utf_base.specs.Scalar.{IsScalar}
+use Rattle.utf_base.specs.Table.{fault_of, is_running, state_after}
+use Rattle.utf_chars.specs.Padded.{padded}
+use Rattle.utf_chars.proofs.PaddedLemmas.{value-padded}
+use Rattle.utf_base.proofs.FrontLemmas.{code_where_no_fault, decodes_from_stands, no_fault_where_code}
+use Rattle.utf_base.proofs.MergerLemmas.{merger_none_where_code}
+use Rattle.utf_base.proofs.Standing.{stands_alone}
+use Rattle.utf_base.proofs.TableSteps.{kind_at_end}
+use Rattle.encode_unicode.proofs.ByteMerging.{value_of_answer}
+
+-- only the end of a code has no fault
+done_alone : (state : State) → fault_of state ≡ None → state ≡ Done
+done_alone Start e = cc
+done_alone OneMore e = cc
+done_alone TwoMore e = cc
+done_alone ThreeMore e = cc
+done_alone AfterE0 e = cc
+done_alone AfterEd e = cc
+done_alone AfterF0 e = cc
+done_alone AfterF4 e = cc
+done_alone TwoMoreOverlong e = cc
+done_alone OneMoreOverlong e = cc
+done_alone OneMoreReserved e = cc
+done_alone TwoMoreTooHigh e = cc
+done_alone OneMoreTooHigh e = cc
+done_alone Done e = refl
+done_alone Unexpected e = cc
+done_alone Never e = cc
+done_alone Interrupted e = cc
+done_alone Overlong e = cc
+done_alone Reserved e = cc
+done_alone TooHigh e = cc
+
+-- bytes of which some led to another end are no code
+pub none_by_end : (w : List ℕ) (n : ℕ) (end : State) → n ≤ length w → state_after w n ≡ end → is_running end ≡ false → (end ≡ Done → ⊥) → IsWholeCode w None
+none_by_end w n end le at stops other s h =
+    let kind = kind_at_end w n le (ap is_running at ∙ stops) in
+    other (done_alone end (sym (ap fault_of at) ∙ sym kind ∙ merger_none_where_code w s h.0))
+
+-- nor are bytes of which the first asks for another number of them
+pub none_by_first : (w : List ℕ) (n : ℕ) → length w ≡ n → (asked_by w ≡ n → ⊥) → IsWholeCode w None
+none_by_first w n len other s h =
+    let code = code_where_no_fault w (no_fault_where_code w s h.0) in
+    other (code.1 ∙ ap (λ c. length (utf8 c)) (decodes_from_stands w s h.0).1 ∙ sym h.1 ∙ len)
+
+-- the range of a first byte, by how many bytes it asks for
+pub range_of_two : (b : ℕ) → asked b ≡ 2 → (0xC2 ≤ b) × (b < 0xE0)
+unfolding asked
+range_of_two b e = grind (arith, common_steps)
+
+pub range_of_three : (b : ℕ) → asked b ≡ 3 → (0xE0 ≤ b) × (b < 0xF0)
+unfolding asked
+range_of_three b e = grind (arith, common_steps)
+
+pub range_of_four : (b : ℕ) → asked b ≡ 4 → (0xF0 ≤ b) × (b < 0xF5)
+unfolding asked
+range_of_four b e = grind (arith, common_steps)
+
+-- a code of four bytes in four places
+pub all_padded : (bytes : List ℕ) (s : ℕ) → length bytes ≡ 4 → bytes ≡ utf8 s → bytes ≡ padded 4 (utf8 s)
+unfolding padded
+all_padded bytes s len e = let four : length (utf8 s) ≡ 4 = sym (ap length e) ∙ len in e ∙ rw four (sym (append-nil (utf8 s)))
+
+-- bytes that are a code are so in four places too
+pub whole_in_four : (w bytes : List ℕ) (s : ℕ) → IsScalar (value w) → w ≡ utf8 (value w) → bytes ≡ padded 4 (utf8 (value w)) → decoded_bytes bytes ≡ Ok s → BeginsWith utf8 w s (length w)
+unfolding decoded_bytes
+whole_in_four w bytes s scalar code padding known =
+    let is : value w ≡ s = sym (value-padded bytes (value w) scalar padding) ∙ value_of_answer (fault_kind bytes) _ s known in
+    rw (← is) (stands_alone utf8 w (value w, scalar, code), ap length code)
