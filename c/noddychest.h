@@ -1,0 +1,133 @@
+/* Noddychest for C and C++: UTF-8 and UTF-16 cut, decoded and recoded, over proved code.
+ *
+ * Bytes and units cross as a pointer and then a length. At the length 0 the pointer may be NULL; else it has to be valid
+ * for that length, and what a call writes must not overlap what it reads. Nothing is allocated and nothing is kept: all
+ * that lasts from call to call stands in the caller's structs, which may be copied. Calls on different structs may run at
+ * the same time. No call fails in any other way than the comments say.
+ *
+ * A piece is a character, or a single byte (of UTF-16 a single unit) in which no character stands.
+ */
+#ifndef NODDYCHEST_H
+#define NODDYCHEST_H
+
+#include <stddef.h>
+#include <stdint.h>
+
+#define NODY_VERSION 1
+
+#ifdef __cplusplus
+extern "C" {
+#endif
+
+/* Kinds of pieces. */
+enum {
+    NODY_OK = 0,                            /* a character */
+    NODY_TOO_FEW_BYTES = 1,                 /* fewer bytes are left than the first asks for */
+    NODY_NON_UTF8_BYTE = 2,                 /* 0xC0, 0xC1, or above 0xF4 */
+    NODY_UNEXPECTED_CONTINUATION_BYTE = 3,  /* 0x80 to 0xBF where a character should begin */
+    NODY_INTERRUPTED_SEQUENCE = 4,          /* a byte that should be a continuation byte is none */
+    NODY_OVERLONG_ENCODING = 5,             /* the value fits in fewer bytes */
+    NODY_UTF16_RESERVED_CODEPOINT = 6,      /* the value is a surrogate */
+    NODY_TOO_HIGH_CODEPOINT = 7,            /* the value is above 0x10FFFF */
+    NODY_UNEXPECTED_TRAILING_SURROGATE = 8, /* of units: a trailing surrogate where a character should begin */
+    NODY_UNMATCHED_LEADING_SURROGATE = 9,   /* of units: what follows does not complete it */
+    NODY_INCOMPLETE = 10,                   /* of units: the last one is a leading surrogate */
+    NODY_NONE = 11                          /* no piece: nothing is left */
+};
+
+/* Forms of text in bytes. */
+enum { NODY_UTF8 = 0, NODY_UTF16LE = 1, NODY_UTF16BE = 2 };
+
+/* What a recoder answers. */
+enum {
+    NODY_DONE = 0,    /* all was read, or put out */
+    NODY_FULL = 1,    /* the next code does not fit in the room that is left: call again with more */
+    NODY_REFUSED = 2  /* the struct is no recoder: a form above 2, or more than three bytes held. Nothing changed */
+};
+
+typedef struct {
+    size_t place;    /* offset from the front, in bytes or units */
+    uint32_t scalar; /* the scalar value, or 0 for a fault */
+    uint8_t kind;    /* NODY_OK, or what is wrong, or NODY_NONE */
+    uint8_t len;     /* in bytes or units: 1 to 4, or 1 to 2; 1 for a fault; 0 for NODY_NONE */
+} nody_piece;
+
+/* What is left of some bytes or units: from `front` up to and without `back`. */
+typedef struct {
+    size_t front;
+    size_t back;
+} nody_cursor_t;
+
+/* A recoder. It holds at most three bytes, of which it cannot say yet what they are or for which there was no room. */
+typedef struct {
+    uint8_t from;
+    uint8_t to;
+    uint8_t count;
+    uint8_t held[3];
+} nody_recoder_t;
+
+/* The name of a kind, with zeros after it. */
+typedef struct {
+    char text[32];
+} nody_name;
+
+/* One piece. The first judges all bytes from the front, the last the byte at the end; of no bytes the piece is NODY_NONE. */
+nody_piece nody_utf8_first(const uint8_t *bytes, size_t len);
+nody_piece nody_utf8_last(const uint8_t *bytes, size_t len);
+nody_piece nody_utf16_first(const uint16_t *units, size_t len);
+nody_piece nody_utf16_last(const uint16_t *units, size_t len);
+
+/* How many bytes or units the code of a scalar has, or 0 where the number is none. It is written where `room` has so many;
+ * the other places stay. Four bytes, or two units, are always enough. */
+size_t nody_utf8_encode(uint32_t scalar, uint8_t *out, size_t room);
+size_t nody_utf16_encode(uint32_t scalar, uint16_t *out, size_t room);
+
+/* A cursor that leaves all of so many bytes or units. */
+nody_cursor_t nody_cursor(size_t len);
+
+/* The piece that begins, or ends, what the cursor leaves; it then leaves the cursor. What is wrong is judged by what is left.
+ * The bytes are the same at each call. NODY_NONE where nothing is left, or where the cursor ends after the bytes. Asked from
+ * both ends in any order, a cursor gives each piece once. */
+nody_piece nody_utf8_next(const uint8_t *bytes, size_t len, nody_cursor_t *cursor);
+nody_piece nody_utf8_next_back(const uint8_t *bytes, size_t len, nody_cursor_t *cursor);
+nody_piece nody_utf16_next(const uint16_t *units, size_t len, nody_cursor_t *cursor);
+nody_piece nody_utf16_next_back(const uint16_t *units, size_t len, nody_cursor_t *cursor);
+
+/* As many calls of `next` as give a piece and as there is room for. Answers how many; the other places stay. */
+size_t nody_utf8_pieces(const uint8_t *bytes, size_t len, nody_cursor_t *cursor, nody_piece *out, size_t room);
+size_t nody_utf16_pieces(const uint16_t *units, size_t len, nody_cursor_t *cursor, nody_piece *out, size_t room);
+
+/* A recoder that holds nothing. The forms may be the same. Each fault becomes one U+FFFD. */
+nody_recoder_t nody_recoder(uint8_t from, uint8_t to);
+
+/* Feeds a part of the input, as far as there is room, in the manner of iconv(3): `*read` bytes of it were fed, and `*written`
+ * bytes at the front of the room came of it. NODY_DONE: the whole part was read. NODY_FULL: call again with the rest of the
+ * part and more room; at most three bytes were read of which nothing was written yet. In room for four bytes each call with a
+ * part that is not empty reads or writes something. What comes out is the same however the input is cut into parts. */
+uint8_t nody_recoder_feed(nody_recoder_t *recoder, const uint8_t *in, size_t in_len, uint8_t *out, size_t room, size_t *read,
+                          size_t *written);
+
+/* Puts out what is held, when no more input follows: at most nine bytes. NODY_FULL: call this again with more room. */
+uint8_t nody_recoder_finish(nody_recoder_t *recoder, uint8_t *out, size_t room, size_t *written);
+
+/* The most bytes that so many bytes are recoded as; add to `len` those that the recoder holds. SIZE_MAX where a size_t cannot
+ * count them, or a form is above 2. */
+size_t nody_room_for(uint8_t from, uint8_t to, size_t len);
+
+/* Writes the address of the name of a kind, which lives for ever, to `*name`, which has to be the address of a name before;
+ * of a number that is no kind it stays. */
+void nody_put_kind_name(uint8_t kind, const nody_name **name);
+
+/* The name of a kind, which lives for ever; "?" of a number that is no kind. */
+static inline const char *nody_kind_name(uint8_t kind) {
+    static const nody_name unknown = {"?"};
+    const nody_name *name = &unknown;
+    nody_put_kind_name(kind, &name);
+    return name->text;
+}
+
+#ifdef __cplusplus
+}
+#endif
+
+#endif

@@ -1,0 +1,14 @@
+use Rattle.std.proofs.Common.{◌≡◌, ◌-◌, ◌≤◌, length, take, drop}
+use Rattle.c_api.specs.Api.{GivesEach, first_of_units}
+use Rattle.c_api.proofs.cursors.nody_utf16_pieces.Given as goal
+
+abbrev pub invariant-loop-count : goal.invariant-loop-count
+invariant-loop-count l = record {
+  within : l.count ≤ length l.fn.room;
+  len : length l.room ≡ length l.fn.room;
+  each : GivesEach first_of_units l.units l.fn.cursor (take l.count l.room) l.cursor;
+  rest : drop l.count l.room ≡ drop l.count l.fn.room;
+}
+
+abbrev pub decreases-loop-count : goal.decreases-loop-count
+decreases-loop-count l = length l.fn.room - l.count

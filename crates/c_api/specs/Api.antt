@@ -1,0 +1,139 @@
+-- What C sees: numbers of kinds and forms, pieces, cursors and recoders.
+use Rattle.std.specs.Prelude.{◌≡◌, ℕ, zero, suc, ◌+◌, ◌-◌, ◌<◌, ◌≤◌, List, [], ◌∷◌, length, take, get_or, slice_range, Result, Ok, Err}
+use Rattle.utf_base.specs.declared.errors.Utf8ErrorKind.{Utf8ErrorKind}
+use Rattle.utf_base.specs.declared.errors.Utf8ErrorKind.TheVariants.{TooFewBytes, NonUtf8Byte, UnexpectedContinuationByte, InterruptedSequence, OverlongEncoding, Utf16ReservedCodepoint, TooHighCodepoint}
+use Rattle.utf_base.specs.declared.errors.units.Utf16PairError.{Utf16PairError}
+use Rattle.utf_base.specs.declared.errors.units.Utf16PairError.TheVariants.{UnexpectedTrailingSurrogate, UnmatchedLeadingSurrogate, Incomplete}
+use Rattle.utf_base.specs.Back.{decoded_end, decoded_pairs_end}
+use Rattle.utf_base.specs.Decoded.{decoded, decoded_pairs}
+use Rattle.encode_unicode.specs.Window.{as_piece}
+use Rattle.cuts.specs.declared.form.Form.{Form}
+use Rattle.cuts.specs.declared.form.Form.TheVariants.{Utf8, Utf16Le, Utf16Be}
+use Rattle.cuts.specs.Recoded.{Recoding}
+use Rattle.c_api.specs.declared.cursors.NodyPiece.{NodyPiece}
+use Rattle.c_api.specs.declared.cursors.NodyCursor.{NodyCursor}
+use Rattle.c_api.specs.declared.recoding.NodyRecoder.{NodyRecoder}
+
+-- the number of an error
+abbrev pub kind_number : Utf8ErrorKind → ℕ
+kind_number TooFewBytes = 1
+kind_number NonUtf8Byte = 2
+kind_number UnexpectedContinuationByte = 3
+kind_number InterruptedSequence = 4
+kind_number OverlongEncoding = 5
+kind_number Utf16ReservedCodepoint = 6
+kind_number TooHighCodepoint = 7
+
+abbrev pub pair_number : Utf16PairError → ℕ
+pair_number UnexpectedTrailingSurrogate = 8
+pair_number UnmatchedLeadingSurrogate = 9
+pair_number Incomplete = 10
+
+-- a piece at a place: a scalar has the kind 0, and a fault its number and no scalar
+abbrev pub piece_at : {E : Type 0} → (E → ℕ) → ℕ → Result ℕ E × ℕ → NodyPiece
+piece_at number place (Ok s, n) = record { place = place; scalar = s; kind = 0; len = n }
+piece_at number place (Err e, n) = record { place = place; scalar = 0; kind = number e; len = n }
+
+-- the same of a piece that ends at a place
+abbrev pub piece_before : {E : Type 0} → (E → ℕ) → ℕ → Result ℕ E × ℕ → NodyPiece
+piece_before number end x = piece_at number (end - x.1) x
+
+-- that nothing is left
+abbrev pub no_piece : NodyPiece
+no_piece = record { place = 0; scalar = 0; kind = 11; len = 0 }
+
+-- the cursor leaves something of so many elements
+abbrev pub LeavesSome : NodyCursor → ℕ → Type 0
+LeavesSome c n = (c.front < c.back) × (c.back ≤ n)
+
+-- the pieces that begin and end what the cursor leaves of the elements
+abbrev pub first_of : NodyCursor → List ℕ → NodyPiece
+first_of c xs = piece_at kind_number c.front (as_piece (decoded (slice_range xs c.front c.back)))
+
+abbrev pub last_of : NodyCursor → List ℕ → NodyPiece
+last_of c xs = piece_before kind_number c.back (as_piece (decoded_end (slice_range xs c.front c.back)))
+
+abbrev pub first_of_units : NodyCursor → List ℕ → NodyPiece
+first_of_units c xs = piece_at pair_number c.front (as_piece (decoded_pairs (slice_range xs c.front c.back)))
+
+abbrev pub last_of_units : NodyCursor → List ℕ → NodyPiece
+last_of_units c xs = piece_before pair_number c.back (as_piece (decoded_pairs_end (slice_range xs c.front c.back)))
+
+-- the cursor after a piece at its front, and before one at its back
+abbrev pub after : NodyCursor → NodyPiece → NodyCursor
+after c x = record { front = c.front + x.len; back = c.back }
+
+abbrev pub before : NodyCursor → NodyPiece → NodyCursor
+before c x = record { front = c.front; back = c.back - x.len }
+
+-- One call on a cursor: the piece at its end, which leaves; where nothing is left, or the cursor does not fit the elements,
+-- nothing changes.
+pub record Gives (piece : NodyCursor → List ℕ → NodyPiece) (left : NodyCursor → NodyPiece → NodyCursor) (xs : List ℕ) (c : NodyCursor) (x : NodyPiece) (d : NodyCursor) : Type 0 where
+  pub some : c.front < c.back → c.back ≤ length xs → x ≡ piece c xs
+  pub leaves : c.front < c.back → c.back ≤ length xs → d ≡ left c x
+  pub least : c.front < c.back → c.back ≤ length xs → (1 ≤ x.len) × (x.len ≤ c.back - c.front)
+  pub none : c.back ≤ c.front → (x ≡ no_piece) × (d ≡ c)
+  pub outside : length xs < c.back → (x ≡ no_piece) × (d ≡ c)
+
+-- These pieces begin what is left, one after another, from one cursor to another.
+abbrev pub GivesEach : (NodyCursor → List ℕ → NodyPiece) → List ℕ → NodyCursor → List NodyPiece → NodyCursor → Type 0
+GivesEach piece xs c [] d = d ≡ c
+GivesEach piece xs c (x ∷ ps) d = LeavesSome c (length xs) × (x ≡ piece c xs) × GivesEach piece xs (after c x) ps d
+
+-- the form of a number below three
+abbrev pub form_of : ℕ → Form
+form_of zero = Utf8
+form_of (suc zero) = Utf16Le
+form_of (suc (suc n)) = Utf16Be
+
+-- The struct is a recoder.
+pub record IsRecoder (r : NodyRecoder) : Type 0 where
+  pub from : r.from < 3
+  pub to : r.to < 3
+  pub few : r.count ≤ 3
+
+-- the recoder that it is
+abbrev pub recoder_of : NodyRecoder → Recoding
+recoder_of r = record { from = form_of r.from; to = form_of r.to; held = take r.count r.held }
+
+-- statuses
+abbrev pub done : ℕ
+done = 0
+
+abbrev pub full : ℕ
+full = 1
+
+abbrev pub refused : ℕ
+refused = 2
+
+-- The names of kinds in ASCII, with zeros after them.
+abbrev pub name_at : List (List ℕ)
+name_at =
+    -- Ok
+    (79 ∷ 107 ∷ 0 ∷ 0 ∷ 0 ∷ 0 ∷ 0 ∷ 0 ∷ 0 ∷ 0 ∷ 0 ∷ 0 ∷ 0 ∷ 0 ∷ 0 ∷ 0 ∷ 0 ∷ 0 ∷ 0 ∷ 0 ∷ 0 ∷ 0 ∷ 0 ∷ 0 ∷ 0 ∷ 0 ∷ 0 ∷ 0 ∷ 0 ∷ 0 ∷ 0 ∷ 0 ∷ []) ∷
+    -- TooFewBytes
+    (84 ∷ 111 ∷ 111 ∷ 70 ∷ 101 ∷ 119 ∷ 66 ∷ 121 ∷ 116 ∷ 101 ∷ 115 ∷ 0 ∷ 0 ∷ 0 ∷ 0 ∷ 0 ∷ 0 ∷ 0 ∷ 0 ∷ 0 ∷ 0 ∷ 0 ∷ 0 ∷ 0 ∷ 0 ∷ 0 ∷ 0 ∷ 0 ∷ 0 ∷ 0 ∷ 0 ∷ 0 ∷ []) ∷
+    -- NonUtf8Byte
+    (78 ∷ 111 ∷ 110 ∷ 85 ∷ 116 ∷ 102 ∷ 56 ∷ 66 ∷ 121 ∷ 116 ∷ 101 ∷ 0 ∷ 0 ∷ 0 ∷ 0 ∷ 0 ∷ 0 ∷ 0 ∷ 0 ∷ 0 ∷ 0 ∷ 0 ∷ 0 ∷ 0 ∷ 0 ∷ 0 ∷ 0 ∷ 0 ∷ 0 ∷ 0 ∷ 0 ∷ 0 ∷ []) ∷
+    -- UnexpectedContinuationByte
+    (85 ∷ 110 ∷ 101 ∷ 120 ∷ 112 ∷ 101 ∷ 99 ∷ 116 ∷ 101 ∷ 100 ∷ 67 ∷ 111 ∷ 110 ∷ 116 ∷ 105 ∷ 110 ∷ 117 ∷ 97 ∷ 116 ∷ 105 ∷ 111 ∷ 110 ∷ 66 ∷ 121 ∷ 116 ∷ 101 ∷ 0 ∷ 0 ∷ 0 ∷ 0 ∷ 0 ∷ 0 ∷ []) ∷
+    -- InterruptedSequence
+    (73 ∷ 110 ∷ 116 ∷ 101 ∷ 114 ∷ 114 ∷ 117 ∷ 112 ∷ 116 ∷ 101 ∷ 100 ∷ 83 ∷ 101 ∷ 113 ∷ 117 ∷ 101 ∷ 110 ∷ 99 ∷ 101 ∷ 0 ∷ 0 ∷ 0 ∷ 0 ∷ 0 ∷ 0 ∷ 0 ∷ 0 ∷ 0 ∷ 0 ∷ 0 ∷ 0 ∷ 0 ∷ []) ∷
+    -- OverlongEncoding
+    (79 ∷ 118 ∷ 101 ∷ 114 ∷ 108 ∷ 111 ∷ 110 ∷ 103 ∷ 69 ∷ 110 ∷ 99 ∷ 111 ∷ 100 ∷ 105 ∷ 110 ∷ 103 ∷ 0 ∷ 0 ∷ 0 ∷ 0 ∷ 0 ∷ 0 ∷ 0 ∷ 0 ∷ 0 ∷ 0 ∷ 0 ∷ 0 ∷ 0 ∷ 0 ∷ 0 ∷ 0 ∷ []) ∷
+    -- Utf16ReservedCodepoint
+    (85 ∷ 116 ∷ 102 ∷ 49 ∷ 54 ∷ 82 ∷ 101 ∷ 115 ∷ 101 ∷ 114 ∷ 118 ∷ 101 ∷ 100 ∷ 67 ∷ 111 ∷ 100 ∷ 101 ∷ 112 ∷ 111 ∷ 105 ∷ 110 ∷ 116 ∷ 0 ∷ 0 ∷ 0 ∷ 0 ∷ 0 ∷ 0 ∷ 0 ∷ 0 ∷ 0 ∷ 0 ∷ []) ∷
+    -- TooHighCodepoint
+    (84 ∷ 111 ∷ 111 ∷ 72 ∷ 105 ∷ 103 ∷ 104 ∷ 67 ∷ 111 ∷ 100 ∷ 101 ∷ 112 ∷ 111 ∷ 105 ∷ 110 ∷ 116 ∷ 0 ∷ 0 ∷ 0 ∷ 0 ∷ 0 ∷ 0 ∷ 0 ∷ 0 ∷ 0 ∷ 0 ∷ 0 ∷ 0 ∷ 0 ∷ 0 ∷ 0 ∷ 0 ∷ []) ∷
+    -- UnexpectedTrailingSurrogate
+    (85 ∷ 110 ∷ 101 ∷ 120 ∷ 112 ∷ 101 ∷ 99 ∷ 116 ∷ 101 ∷ 100 ∷ 84 ∷ 114 ∷ 97 ∷ 105 ∷ 108 ∷ 105 ∷ 110 ∷ 103 ∷ 83 ∷ 117 ∷ 114 ∷ 114 ∷ 111 ∷ 103 ∷ 97 ∷ 116 ∷ 101 ∷ 0 ∷ 0 ∷ 0 ∷ 0 ∷ 0 ∷ []) ∷
+    -- UnmatchedLeadingSurrogate
+    (85 ∷ 110 ∷ 109 ∷ 97 ∷ 116 ∷ 99 ∷ 104 ∷ 101 ∷ 100 ∷ 76 ∷ 101 ∷ 97 ∷ 100 ∷ 105 ∷ 110 ∷ 103 ∷ 83 ∷ 117 ∷ 114 ∷ 114 ∷ 111 ∷ 103 ∷ 97 ∷ 116 ∷ 101 ∷ 0 ∷ 0 ∷ 0 ∷ 0 ∷ 0 ∷ 0 ∷ 0 ∷ []) ∷
+    -- Incomplete
+    (73 ∷ 110 ∷ 99 ∷ 111 ∷ 109 ∷ 112 ∷ 108 ∷ 101 ∷ 116 ∷ 101 ∷ 0 ∷ 0 ∷ 0 ∷ 0 ∷ 0 ∷ 0 ∷ 0 ∷ 0 ∷ 0 ∷ 0 ∷ 0 ∷ 0 ∷ 0 ∷ 0 ∷ 0 ∷ 0 ∷ 0 ∷ 0 ∷ 0 ∷ 0 ∷ 0 ∷ 0 ∷ []) ∷
+    -- None
+    (78 ∷ 111 ∷ 110 ∷ 101 ∷ 0 ∷ 0 ∷ 0 ∷ 0 ∷ 0 ∷ 0 ∷ 0 ∷ 0 ∷ 0 ∷ 0 ∷ 0 ∷ 0 ∷ 0 ∷ 0 ∷ 0 ∷ 0 ∷ 0 ∷ 0 ∷ 0 ∷ 0 ∷ 0 ∷ 0 ∷ 0 ∷ 0 ∷ 0 ∷ 0 ∷ 0 ∷ 0 ∷ []) ∷
+    []
+
+abbrev pub name_of : ℕ → List ℕ
+name_of kind = get_or name_at kind []
