@@ -1,5 +1,6 @@
 -- Whole runs over bytes, and what is written of them.
 use Rattle.std.specs.Prelude.{◌≡◌, ◌↔◌, ℕ, List, flat_map, count_by}
+use Rattle.std.specs.Str.{IsUtf8}
 use Rattle.utf_base.specs.Code.{utf8}
 use Rattle.utf_base.specs.Kinds.{fault_kind}
 use Rattle.encode_unicode.specs.Pieces.{pieces}
@@ -27,3 +28,7 @@ fault_count items = count_by is_fault items
 -- the forward run over some bytes is what a decoder gives of them, piece by piece, and nothing else
 abbrev pub PiecesAreTheRun : Type 0
 PiecesAreTheRun = (xs : List ℕ) (items : List Item) → IsForwardRun xs items ↔ (items ≡ pieces xs)
+
+-- the forward run over some bytes has no error exactly where they are text
+abbrev pub TextHasNoFault : Type 0
+TextHasNoFault = (xs : List ℕ) (items : List Item) → IsForwardRun xs items → (fault_count items ≡ 0) ↔ IsUtf8 xs

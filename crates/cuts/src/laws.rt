@@ -1,7 +1,7 @@
 //! The laws of recoding, and of whole runs over bytes.
 //!
 //! Each function does nothing: its contract is the law.
-ghost use Rattle.cuts.specs.Runs.{PiecesAreTheRun};
+ghost use Rattle.cuts.specs.Runs.{PiecesAreTheRun, TextHasNoFault};
 ghost use Rattle.cuts.specs.Recoded.{RecodedOnce, PartsAreRecoded, PartsDoNotMatter};
 
 /// Bytes are recoded in exactly one way.
@@ -19,4 +19,9 @@ pub fn parts_do_not_matter()
 /// What a decoder gives of some bytes, one piece after another, is the forward run over them, of which there is one.
 pub fn pieces_are_the_run()
     ensures { PiecesAreTheRun }
+{}
+
+/// Bytes have no fault exactly where they are UTF-8.
+pub fn text_has_no_fault()
+    ensures { TextHasNoFault }
 {}

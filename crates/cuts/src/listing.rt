@@ -1,5 +1,6 @@
 //! What is written of the pieces of some bytes: a line for each entry of a list.
-ghost use Rattle.std.specs.Prelude.{◌≡◌, ◌<◌, IfOk, OnOk, OnErr};
+ghost use Rattle.std.specs.Prelude.{◌≡◌, ◌<◌, ◌↔◌, IfOk, OnOk, OnErr};
+ghost use Rattle.std.specs.Str.{IsUtf8};
 ghost use Rattle.cuts.specs.Failures.{AppendsFront};
 ghost use Rattle.cuts.specs.Forms.{WritesListing, WritesListingFront};
 ghost use Rattle.cuts.specs.Written.{merged_lines, walk_lines, WritesMerged, WritesWalk};
@@ -20,6 +21,7 @@ use std::io::Write;
 /// of the writer a front of the same lines stands there, the last of them perhaps in part.
 pub fn write_listing<W: Write>(src: &[u8], out: &mut Counted<W>) -> io::Result<usize>
     ensures listing { IfOk result (WritesListing src.now (W.contents out.old.inner) (W.contents out.new.inner)) }
+    ensures text { IfOk result (λ faults. (faults ≡ 0) ↔ IsUtf8 src.now) }
     ensures front { WritesListingFront src.now (W.contents out.old.inner) (W.contents out.new.inner) }
     ensures quiet { OnOk result (out.new.failures ≡ out.old.failures) }
     ensures err { OnErr result (out.old.failures < out.new.failures) }

@@ -1,8 +1,10 @@
 //! Chains over a decoder: what a chain answers is said of `pieces`, the list of what the decoder gives.
-ghost use Rattle.std.specs.Prelude.{◌≡◌, count_by, is_err, is_ok, position};
+ghost use Rattle.std.specs.Prelude.{◌≡◌, ◌↔◌, IsTrue, count_by, is_err, is_ok, position};
 ghost use Rattle.std.specs.List.{find, list_all, list_any};
+ghost use Rattle.std.specs.Str.{IsUtf8};
 ghost use Rattle.encode_unicode.specs.Pieces.{pieces};
 
+use cuts::laws;
 use encode_unicode::error::Utf8Error;
 use encode_unicode::{StrExt, U8SliceExt, Utf8Char};
 
@@ -71,4 +73,13 @@ pub fn before_space(text: &str) -> &str {
         Some((place, _)) => &text[..place],
         None => text,
     }
+}
+
+/// Whether the bytes are UTF-8.
+pub fn is_text(bytes: &[u8]) -> bool
+    ensures { IsTrue result ↔ IsUtf8 bytes.now }
+{
+    laws::pieces_are_the_run();
+    laws::text_has_no_fault();
+    fault_count(bytes) == 0
 }

@@ -1,5 +1,6 @@
 use Rattle.std.proofs.Common.{rules, refl, ◌∙◌}
 use Rattle.cuts.proofs.ListingLemmas.{IsListedSoFar-none, IsListedSoFar-push, WritesListing-all, WritesListingFront-failed, WritesListingFront-all}
+use Rattle.cuts.proofs.TextRuns.{listing_of_text}
 use Rattle.cuts.proofs.listing.write_listing.Goals as goal
 
 pub loop-item-init : goal.loop-item-init
@@ -23,3 +24,6 @@ returns-in_err-faults-clause-front g c =
 pub returns-clause-front : goal.returns-clause-front
 returns-clause-front g c =
     WritesListingFront-all _ _ _ _ (WritesListing-all _ _ _ _ _ _ c.loop-item.invariant.listed c.in-None.ensures.steps)
+
+pub returns-clause-text : goal.returns-clause-text
+returns-clause-text g c = listing_of_text _ _ _ _ (WritesListing-all _ _ _ _ _ _ c.loop-item.invariant.listed c.in-None.ensures.steps)
