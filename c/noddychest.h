@@ -77,6 +77,10 @@ nody_piece nody_utf8_last(const uint8_t *bytes, size_t len);
 nody_piece nody_utf16_first(const uint16_t *units, size_t len);
 nody_piece nody_utf16_last(const uint16_t *units, size_t len);
 
+/* The offset of the first fault, or `len` where there is none: all is then UTF-8, or UTF-16. */
+size_t nody_utf8_valid_up_to(const uint8_t *bytes, size_t len);
+size_t nody_utf16_valid_up_to(const uint16_t *units, size_t len);
+
 /* How many bytes or units the code of a scalar has, or 0 where the number is none. It is written where `room` has so many;
  * the other places stay. Four bytes, or two units, are always enough. */
 size_t nody_utf8_encode(uint32_t scalar, uint8_t *out, size_t room);

@@ -126,6 +126,8 @@ static void cursors(void) {
     cursor = nody_cursor(5);
     expect(nody_utf16_pieces(units, 5, &cursor, more, 8) == 4 && more[1].scalar == 0x1f0a0 && more[1].len == 2, "units");
     expect(more[2].kind == NODY_UNEXPECTED_TRAILING_SURROGATE && more[3].kind == NODY_INCOMPLETE, "surrogates");
+    expect(nody_utf8_valid_up_to(bytes, sizeof bytes) == 4 && nody_utf8_valid_up_to(bytes, 4) == 4 && nody_utf8_valid_up_to(bytes, 3) == 1, "the first faulty byte");
+    expect(nody_utf16_valid_up_to(units, 5) == 3 && nody_utf16_valid_up_to(units, 3) == 3 && nody_utf16_valid_up_to(units, 2) == 1, "the first faulty unit");
     cursor = nody_cursor(5);
     expect(nody_utf16_next_back(units, 5, &cursor).kind == NODY_INCOMPLETE || cursor.back == 4, "a unit at the end");
 }
@@ -139,6 +141,7 @@ static void nothing(void) {
     expect(nody_utf8_next(NULL, 0, &cursor).kind == NODY_NONE && nody_utf8_next_back(NULL, 0, &cursor).kind == NODY_NONE, "a cursor over no bytes");
     expect(nody_utf16_next(NULL, 0, &cursor).kind == NODY_NONE && nody_utf16_next_back(NULL, 0, &cursor).kind == NODY_NONE, "a cursor over no units");
     expect(nody_utf8_pieces(NULL, 0, &cursor, NULL, 0) == 0 && nody_utf16_pieces(NULL, 0, &cursor, NULL, 0) == 0, "room for no piece");
+    expect(nody_utf8_valid_up_to(NULL, 0) == 0 && nody_utf16_valid_up_to(NULL, 0) == 0, "nothing is well-formed");
     expect(nody_utf8_encode('a', NULL, 0) == 1 && nody_utf16_encode('a', NULL, 0) == 1, "no room for a code");
     expect(nody_recoder_feed(&recoder, NULL, 0, NULL, 0, &read, &written) == NODY_DONE && read == 0 && written == 0, "an empty part");
     expect(nody_recoder_finish(&recoder, NULL, 0, &written) == NODY_DONE && written == 0, "nothing to finish");

@@ -8,3 +8,4 @@ mod characters;
 mod cursors;
 mod kinds;
 mod recoding;
+mod well_formed;

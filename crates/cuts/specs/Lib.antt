@@ -21,6 +21,7 @@ pub use Rattle.utf_base.specs.WalkLaws
 pub use Rattle.encode_unicode.specs.Window
 pub mod Recoded
 pub mod Rooms
+pub mod WellFormed
 pub mod ShownFronts
 pub mod Relayed
 pub use Rattle.utf_base.specs.Shown

@@ -23,6 +23,7 @@ mod shown_fronts;
 pub mod streams;
 mod text_front;
 pub mod walks;
+pub mod well_formed;
 
 pub use collected::{forward_utf16, merge_utf8, merge_utf16};
 pub use counted::Counted;
@@ -35,3 +36,4 @@ pub use recoding::{RecodeFault, recode, run_recode};
 pub use rooms::room_for;
 pub use runs::run_pieces;
 pub use walks::{walk_utf8, walk_utf16};
+pub use well_formed::{units_valid_up_to, valid_up_to};

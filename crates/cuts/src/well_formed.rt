@@ -1,0 +1,33 @@
+//! How far bytes and units are well-formed.
+ghost use Rattle.utf_base.specs.Code.{utf8, utf16};
+ghost use Rattle.cuts.specs.WellFormed.{IsFirstFault};
+
+use encode_unicode::CharExt;
+
+/// The offset of the first fault in the bytes, or how many bytes there are where there is none: these are then UTF-8.
+pub fn valid_up_to(bytes: &[u8]) -> usize
+    ensures { IsFirstFault utf8 bytes.now result }
+{
+    let mut place = 0;
+    while place < bytes.len() {
+        match char::from_utf8_slice_start(&bytes[place..]) {
+            Ok((_, len)) => place += len,
+            Err(_) => return place,
+        }
+    }
+    place
+}
+
+/// The offset of the first fault in the units, or how many units there are where there is none: these are then UTF-16.
+pub fn units_valid_up_to(units: &[u16]) -> usize
+    ensures { IsFirstFault utf16 units.now result }
+{
+    let mut place = 0;
+    while place < units.len() {
+        match char::from_utf16_slice_start(&units[place..]) {
+            Ok((_, len)) => place += len,
+            Err(_) => return place,
+        }
+    }
+    place
+}
