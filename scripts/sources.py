@@ -3,8 +3,8 @@ import os
 import re
 
 TOP = os.path.dirname(os.path.dirname(os.path.abspath(__file__)))
-LIBRARIES = ("utf_base", "utf_chars", "encode_unicode", "cuts")
-HEAD = re.compile(r"^(pub(?:\([^)]*\))? )?(?:(?:const|unsafe|final) )*(fn|impl|trait)\b(.*)")
+LIBRARIES = ("utf_base", "utf_chars", "encode_unicode", "cuts", "c_api")
+HEAD = re.compile(r'^(pub(?:\([^)]*\))? )?(?:(?:const|unsafe|final|extern "C") )*(fn|impl|trait)\b(.*)')
 
 
 class Function:
