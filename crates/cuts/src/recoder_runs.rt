@@ -11,7 +11,7 @@ use std::alloc::Allocator;
 const STRIDE: usize = 16;
 
 // How many bytes of text go piece by piece before runs look for a block again.
-const STRETCH: usize = 64;
+const STRETCH: usize = 128;
 
 // Recodes the bytes as far as no later byte can change what they show, and not past the place `stop`
 // but by the rest of a code that begins before it. Answers how many bytes were recoded.
