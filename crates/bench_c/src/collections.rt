@@ -69,7 +69,7 @@ pub extern "C" fn bench_c_collect_string(src: &[u8], alloc: Global) -> u64
     sum_of_bytes(made.map(|string| string.into_bytes()))
 }
 
-/// The bytes of the characters behind a mark, with room for all of them.
+/// The bytes of the characters after a mark, with room for all of them.
 #[unsafe(no_mangle)]
 pub extern "C" fn bench_c_extend_bytes(src: &[u8], alloc: Global) -> u64
     requires { IsUtf8 src.now }
@@ -88,7 +88,7 @@ fn extend_bytes(src: &[u8], alloc: Global) -> Result<Vec<u8>, AllocError>
     Ok(bytes)
 }
 
-/// The text of the characters behind a mark, with room for all of them.
+/// The text of the characters after a mark, with room for all of them.
 #[unsafe(no_mangle)]
 pub extern "C" fn bench_c_extend_string(src: &[u8], alloc: Global) -> u64
     requires { IsUtf8 src.now }
@@ -117,7 +117,7 @@ pub extern "C" fn bench_c_collect_units(src: &[u8], alloc: Global) -> u64
     sum_of_units(text.utf16chars().collect_units(alloc))
 }
 
-/// The units of the characters behind a mark, with room for all of them.
+/// The units of the characters after a mark, with room for all of them.
 #[unsafe(no_mangle)]
 pub extern "C" fn bench_c_extend_units(src: &[u8], alloc: Global) -> u64
     requires { IsUtf8 src.now }
@@ -146,7 +146,7 @@ pub extern "C" fn bench_c_collect_string16(src: &[u8], alloc: Global) -> u64
     sum_of_bytes(made.map(|string| string.into_bytes()))
 }
 
-/// The text of the characters, kept in UTF-16, behind a mark, with room for all of them.
+/// The text of the characters, kept in UTF-16, after a mark, with room for all of them.
 #[unsafe(no_mangle)]
 pub extern "C" fn bench_c_extend_string16(src: &[u8], alloc: Global) -> u64
     requires { IsUtf8 src.now }

@@ -72,7 +72,7 @@ pub extern "C" fn bench_c_forward(src: &[u8]) -> u64 {
     sum.value()
 }
 
-/// The character that begins what is left of the bytes, again and again; behind an error one byte on.
+/// The character that begins what is left of the bytes, again and again; after an error one byte on.
 #[unsafe(no_mangle)]
 pub extern "C" fn bench_c_starts(src: &[u8]) -> u64 {
     let mut sum = Checksum::new();

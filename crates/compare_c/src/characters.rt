@@ -65,7 +65,7 @@ pub extern "C" fn compare_c_utf8_char(number: u32, byte: u8, answers: &mut [u64]
     sheet.finish()
 }
 
-// What it writes, and the places behind it.
+// What it writes, and the places after it.
 fn put_utf8_written(sheet: &mut Sheet<'_>, c: Utf8Char) {
     let mut room = [0xaa; 4];
     sheet.put_size(c.to_slice(&mut room));
@@ -125,7 +125,7 @@ pub extern "C" fn compare_c_utf16_char(
     sheet.finish()
 }
 
-// What it writes, and the places behind it.
+// What it writes, and the places after it.
 fn put_utf16_written(sheet: &mut Sheet<'_>, c: Utf16Char) {
     let mut room = [0xaaaa; 2];
     sheet.put_size(c.to_slice(&mut room));

@@ -35,7 +35,7 @@ fn put_collected(sheet: &mut Sheet<'_>, text: &str, alloc: Global) -> Result<(),
     Ok(())
 }
 
-/// The calls that extend, each behind the characters of the text `before`.
+/// The calls that extend, each after the characters of the text `before`.
 #[unsafe(no_mangle)]
 pub extern "C" fn compare_c_extended(
     src: &[u8],

@@ -1,7 +1,7 @@
 //! What the mergers answer over the elements of a slice, call by call.
 //!
 //! For each call of `next`, the one that gives nothing included: both ends of `size_hint` before it, and the
-//! scalar or error, or `NOTHING`. Then what is left, and `NOTHING` behind it: of bytes by `into_inner` of a
+//! scalar or error, or `NOTHING`. Then what is left, and `NOTHING` after it: of bytes by `into_inner` of a
 //! clone, after a character and after nothing; of units by `into_remaining_units`, after every answer.
 use crate::numbers::{self, NOTHING};
 use crate::sheet::Sheet;

@@ -5,7 +5,7 @@ use encode_unicode::{Utf8Char, Utf16Char};
 use std::cmp::Ordering;
 use std::io;
 
-/// Numbers that are written to a slice one behind the other.
+/// Numbers that are written to a slice one after the other.
 #[derive(Drop)]
 pub struct Sheet<'a> {
     room: &'a mut [u64],

@@ -192,7 +192,7 @@ Waits-byte high (a ∷ []) h = record {
 }
 Waits-byte high (a ∷ b ∷ w) h = absurd (omega arith)
 
--- a leading surrogate, and at most one byte behind it
+-- a leading surrogate, and at most one byte after it
 pub Waits-leading : (high : Bool) (w : List ℕ) → 2 ≤ length w → length w < 4 → is_leading_surrogate (first_unit high w) ≡ true → Waits (ShowsUnits high) 2 w
 Waits-leading high w two few l = record {
   few = omega arith;

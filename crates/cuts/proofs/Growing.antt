@@ -68,7 +68,7 @@ Continues-step from to bytes grown mid s n h d later rest (ss, r, e) =
 pub Continues-trans : (from to : Form) (a g b k c : List ℕ) → Continues from to a g b → Continues from to b k c → Continues from to a (g ++ k) c
 Continues-trans from to a g b k c h i later rest r = rw (append_assoc g k rest) (h later (k ++ rest) (i later rest r))
 
--- the same bytes behind both
+-- the same bytes after both
 pub Continues-append : (from to : Form) (a g b x : List ℕ) → Continues from to a g b → Continues from to (a ++ x) g (b ++ x)
 Continues-append from to a g b x h later rest r = rw (append_assoc a x later) (h (x ++ later) rest (rw (append_assoc b x later) at r))
 
@@ -95,7 +95,7 @@ Grows-behind from to bytes old mid new p n g h = rw (drop-drop n p bytes) at (Gr
 pub Grows-append : (from to : Form) (a b x old new : List ℕ) → Grows from to a old new b → Grows from to (a ++ x) old new (b ++ x)
 Grows-append from to a b x old new g = record { grown = g.grown; appended = g.appended; continues = Continues-append from to a g.grown b x g.continues }
 
--- the same with more bytes behind them
+-- the same with more bytes after them
 pub Grows-more : (from to : Form) (w x old new : List ℕ) (p : ℕ) → p ≤ length w → Grows from to w old new (drop p w) → Grows from to (w ++ x) old new (drop p (w ++ x))
 Grows-more from to w x old new p le g = rw (drop-append-le p w x le) (Grows-append from to w (drop p w) x old new g)
 

@@ -22,7 +22,7 @@ use Rattle.cuts.specs.Collected.{IsMergedRun, IsJoinedExactly, IsUnitRun}
 use Rattle.cuts.proofs.PieceRuns.{Excludes, IsRunTo, IsRunTo-front, IsRunTo-push, IsRun-all}
 use Rattle.cuts.proofs.RunLaws.{run_unique, run_of_joined, joined_of_run}
 
--- The answers are those of the run as far as a place, behind which the unread elements stand.
+-- The answers are those of the run as far as a place, after which the unread elements stand.
 pub record IsMergedSoFar {E : Type 0} (code : ℕ → List ℕ) (kind : List ℕ → Option E) (xs : List ℕ) (answers : List (Result ℕ E)) (unread : List ℕ) : Type 0 where
   pub items : List (Placed E)
   pub place : ℕ

@@ -1,4 +1,4 @@
--- The run over bytes of which a part was replaced: old pieces before it, new ones, and old ones behind it. They meet at
+-- The run over bytes of which a part was replaced: old pieces before it, new ones, and old ones after it. They meet at
 -- fixed places.
 use Rattle.std.proofs.Common.{◌≡◌, ℕ, suc, ◌+◌, ◌-◌, ◌<◌, ◌≤◌, List, [], ◌∷◌, ◌++◌, length, get_or, take, drop, map, arith, refl, ap, ap₂, sym, ◌∙◌, ⊎_elim, append_assoc, length-take, length-drop, Ok, Err, Result, Some, true, false, true≢false, ltb, ltb-true, ltb-false}
 use Rattle.std.proofs.lemmas.Bool.{cases_lt}

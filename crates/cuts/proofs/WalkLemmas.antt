@@ -107,7 +107,7 @@ module _ {E : Type 0} where
         walks = rw map-append (Walks-append e xs 0 (length xs) (map side word) answers w.front w.back (side Back ∷ []) (Some x ∷ []) w.front (w.back - x.2) f.walks (given, (refl, place)));
       })
 
-  -- behind the last letter it is the walk of the word
+  -- after the last letter it is the walk of the word
   pub IsWalk-all : (e : Encoding E) (xs : List ℕ) (word : List End) (answers : List (Option (Placed E))) (w : Window) (n : ℕ) → length word ≤ n → IsWalkSoFar e xs (take n word) answers w
       → IsWalk e xs (map side word) answers
   IsWalk-all e xs word answers w n all f =

@@ -16,7 +16,7 @@ abbrev pub moved_item : ℕ → ℕ → Item → Item
 moved_item a b x = (b + (x.0 - a), x.1, x.2)
 
 -- Where the bytes from the place s to e were replaced, and what stands there ends at t: of the items that begin at s - 4 or
--- before the others are the same, and of those that begin at e + 3 or behind they are the same at their new places.
+-- before the others are the same, and of those that begin at e + 3 or after they are the same at their new places.
 abbrev pub StayAround : List Item → List Item → ℕ → ℕ → ℕ → Type 0
 StayAround items others s e t =
     (x : Item)

@@ -87,7 +87,7 @@ impl Line {
         }
     }
 
-    // Adds the first bytes of the source. The others are copied too, behind the line's end, since a copy
+    // Adds the first bytes of the source. The others are copied too, after the line's end, since a copy
     // of a length that the compiler knows is quicker.
     #[inline(always)]
     fn push_front(&mut self, source: &[u8], count: usize)

@@ -146,7 +146,7 @@ fn find_spot(bytes: &[u8], start: usize, end: usize, after: usize, pieces: &[Ite
     }
 }
 
-// Puts `fresh` in place of the items from `keep` to `resume`, and counts the places of those behind from
+// Puts `fresh` in place of the items from `keep` to `resume`, and counts the places of those after from
 // `to` where they were counted from `from`. It fails only where room is missing.
 fn put_pieces<A: Allocator>(
     pieces: &mut Vec<Item, A>,
@@ -187,7 +187,7 @@ fn put<T: Copy + Drop, A: Allocator>(
     Ok(())
 }
 
-// Moves the items behind `from` so that they begin at `to`. A gap is filled with some of `filler`.
+// Moves the items after `from` so that they begin at `to`. A gap is filled with some of `filler`.
 fn move_rest<T: Copy + Drop, A: Allocator>(
     items: &mut Vec<T, A>,
     from: usize,

@@ -120,7 +120,7 @@ fn pass_last<A: Allocator, W: Write>(
     }
 }
 
-/// One run of `recode` on the arguments behind the program's name, and its status.
+/// One run of `recode` on the arguments after the program's name, and its status.
 ///
 /// The arguments are the names of two forms, `utf8`, `utf16le` or `utf16be`, which may be the same: that of
 /// the input and that of the output. The status is then 0, whatever was replaced. All other arguments are

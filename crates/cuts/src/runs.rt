@@ -94,7 +94,7 @@ pub const PROGRAM: &str = "pieces";
 // How many bytes are read at a time.
 const PART: usize = 16384;
 
-/// The arguments behind the program's name, out of all its words.
+/// The arguments after the program's name, out of all its words.
 ///
 /// Where a word is not UTF-8, which is an error of the kind `InvalidData`, the empty text stands for them
 /// all. Any other error is that memory was refused.
@@ -119,7 +119,7 @@ pub fn arguments_of(alloc: Global, words: io::Result<Vec<String>>) -> Result<Vec
     }
 }
 
-/// One run of `pieces` on the arguments behind the program's name, and its status.
+/// One run of `pieces` on the arguments after the program's name, and its status.
 ///
 /// With no argument it writes the listing of all that the reader gives; with `--merge` the lines of what a
 /// merger answers over it; with `--ends` and a word, of letters `F` and `B`, those of what the word's walk
@@ -156,7 +156,7 @@ pub fn run_pieces<A: Allocator + Copy, R: Source, W: Write, E: Sink>(
     }
 }
 
-/// The status of `pieces` behind `run_pieces`, which gave this one.
+/// The status of `pieces` after `run_pieces`, which gave this one.
 ///
 /// Where the input was listed the output is flushed, once, and where that fails the status is 3 and
 /// `faults` takes the line for standard error. Any other status stays, and nothing is done.

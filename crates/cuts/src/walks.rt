@@ -37,7 +37,7 @@ pub fn walk_utf8<A: Allocator>(
 }
 
 /// The same of units. What an unmatched leading surrogate from the front is called depends on whether a
-/// unit is left behind it then; from the back it is always `Incomplete`.
+/// unit is left after it then; from the back it is always `Incomplete`.
 ///
 /// There is an error only where a growth was refused, and none for an empty word.
 pub fn walk_utf16<A: Allocator>(

@@ -118,7 +118,7 @@ alone_fails can_next remaining steps first k old s e can few alone held j = reco
 pub begins_alone : (b : ℕ) → 0xC2 ≤ b → is_continuation b ≡ false
 begins_alone b h = grind (arith, common_steps)
 
--- Behind what was read before.
+-- After what was read before.
 
 -- a code, whose last byte is b
 pub code_after : {S : Type 0} (can_next : S → Type 0) (remaining : S → Count) (steps : S → Option ℕ → S → Type 0) (first : ℕ) (before : List ℕ) (b c : ℕ) (followers : List ℕ) (u t : S) (new : List ℕ) (f : Bool)
@@ -134,7 +134,7 @@ code_after can_next remaining steps first before b c followers u t new f reads s
       clear = none;
     })
 
--- no code, as the byte b shows, which is held behind the others
+-- no code, as the byte b shows, which is held after the others
 pub fault_after : {S : Type 0} (can_next : S → Type 0) (remaining : S → Count) (steps : S → Option ℕ → S → Type 0) (first : ℕ) (before : List ℕ) (b : ℕ) (k : Utf8ErrorKind) (u t : S) (new : List ℕ) (f : Bool)
     → Reads can_next remaining steps u false (b ∷ []) t false → ((later : List ℕ) → merger_kind (first ∷ (before ++ b ∷ []) ++ later) ≡ Some k) → IsHeldBytes (before ++ b ∷ []) → new ≡ before ++ b ∷ [] → f ≡ false
     → CompletesBehind can_next remaining steps first before u (Err k) new t f
@@ -171,7 +171,7 @@ end_after can_next remaining steps first before k u t new f reads kind held same
       held = rw same held;
     }
 
--- of a first byte that is behind the end itself
+-- of a first byte that is after the end itself
 pub end_at_once : {S : Type 0} (can_next : S → Type 0) (remaining : S → Count) (steps : S → Option ℕ → S → Type 0) (first : ℕ) (old : List ℕ) (s : S) (e : Bool)
     → e ≡ true → 1 < asked first → old ≡ []
     → Completes can_next remaining steps first old s e (Err TooFewBytes) old s e

@@ -3,7 +3,7 @@ use Rattle.std.specs.Prelude.{◌≡◌, ℕ, ◌+◌, ◌<◌, List, ◌++◌, 
 use Rattle.std.specs.List.{flat_map}
 use Rattle.encode_unicode.specs.Sources.{IsListed}
 
--- behind the old elements stand the codes of all items that the source s gives
+-- after the old elements stand the codes of all items that the source s gives
 abbrev pub AddsCodes : {S A B : Type 0} → (A → List B) → (S → Option A → S → Type 0) → S → List B → List B → Type 0
 AddsCodes {S} {A} code steps s old new = (rest : S → List A) → IsListed steps rest → new ≡ old ++ flat_map code (rest s)
 

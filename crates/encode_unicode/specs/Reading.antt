@@ -61,7 +61,7 @@ pub record Answers {S E : Type 0} (code : ℕ → List ℕ) (kind : List ℕ →
 abbrev pub JudgesBytes : List ℕ → Result ℕ Utf8ErrorKind → Type 0
 JudgesBytes bytes r = MatchResult r (λ s. IsScalar s × (bytes ≡ utf8 s)) (λ k. fault_kind bytes ≡ Some k)
 
--- the bytes that complete a code behind its first byte, with zeros behind them, and the answer that the character is; or the
+-- the bytes that complete a code after its first byte, with zeros after them, and the answer that the character is; or the
 -- answer that is an error. The source was at s when the first byte had left the merger, which held `old` then
 pub record Completes {S : Type 0} (can_next : S → Type 0) (remaining : S → Count) (steps : S → Option ℕ → S → Type 0)
     (first : ℕ) (old : List ℕ) (s : S) (e : Bool) (r : Result (List ℕ) Utf8ErrorKind) (new : List ℕ) (t : S) (f : Bool) : Type 0 where
@@ -70,7 +70,7 @@ pub record Completes {S : Type 0} (can_next : S → Type 0) (remaining : S → C
       (λ k. Answers utf8 merger_kind can_next remaining steps first old s e (Err k) new t f)
   pub held : IsHeldBytes new
 
--- the same, of a first byte behind which nothing was held, where `before` have been read since
+-- the same, of a first byte after which nothing was held, where `before` have been read since
 abbrev pub CompletesBehind : {S : Type 0} → (S → Type 0) → (S → Count) → (S → Option ℕ → S → Type 0) → ℕ → List ℕ → S → Result (List ℕ) Utf8ErrorKind → List ℕ → S → Bool → Type 0
 CompletesBehind {S} can_next remaining steps first before u r new t f =
     (s : S) → Reads can_next remaining steps s false before u false → Completes can_next remaining steps first [] s false r new t f

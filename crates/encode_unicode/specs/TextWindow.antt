@@ -55,7 +55,7 @@ abbrev pub BackScalar : Window → Option ℕ → Window → Type 0
 BackScalar w None v = GivesNone w v
 BackScalar w (Some s) v = GivesLast w v.back s v
 
--- the array is the code that ends the text, and zeros behind it, and the code has n bytes
+-- the array is the code that ends the text, and zeros after it, and the code has n bytes
 pub record IsLastCode (text code : List ℕ) (n : ℕ) : Type 0 where
   pub char : ℕ
   pub ends : EndsWith utf8 text char n

@@ -20,7 +20,7 @@ mod back_scan;
 ///
 /// An item is the offset of the piece from the front of the slice that the decoder was made from, the
 /// character or what is wrong with the byte, and the piece's length in bytes. An error always has
-/// length 1: the byte behind it is judged anew, so that no error hides an ASCII character.
+/// length 1: the byte after it is judged anew, so that no error hides an ASCII character.
 ///
 /// One call looks at the bytes that are left and at nothing else. Which error a byte gives is decided
 /// by `CharExt::from_utf8_slice_start` on what is left; from the back by `Utf8Char::from_slice_end`.

@@ -1,4 +1,4 @@
-//! The bytes of a code behind its first.
+//! The bytes of a code after its first.
 ghost use Rattle.std.specs.Prelude.{◌≡◌, [], ◌∷◌};
 
 use std::marker::Model;

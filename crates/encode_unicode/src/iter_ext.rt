@@ -46,7 +46,7 @@ impl<I: Iterator<Item = u16>> U16IterExt for I {
 /// Methods of every iterator over characters kept in UTF-8.
 ///
 /// The calls that collect and extend ask that the source ends. They take room for one character at a time,
-/// and for its whole code, so that no part of a code stands behind the others where a growth is refused.
+/// and for its whole code, so that no part of a code stands after the others where a growth is refused.
 /// What the source's hint says is not used.
 pub trait Utf8CharIterExt: Iterator<Item = Utf8Char> + Sized {
     /// The bytes of the characters, one code after another.
@@ -67,7 +67,7 @@ pub trait Utf8CharIterExt: Iterator<Item = Utf8Char> + Sized {
         ensures ok { IfOk result (λ text. AddsCodes utf8 Self.next_gives self [] (string_bytes text)) }
         ensures nothing { (rest : Self → List ℕ) → IsListed Self.next_gives rest → rest self ≡ [] → IsOk result };
 
-    /// Adds the bytes of all characters behind those that are there. Where a growth is refused, the
+    /// Adds the bytes of all characters after those that are there. Where a growth is refused, the
     /// characters before it have been added, and the source is gone.
     fn extend_bytes<A: Allocator>(self, bytes: &mut Vec<u8, A>) -> Result<(), AllocError>
         requires can { Self.can_next self }
@@ -120,7 +120,7 @@ impl<I: Iterator<Item = Utf8Char>> Utf8CharIterExt for I {
 /// Methods of every iterator over characters kept in UTF-16.
 ///
 /// The calls that collect and extend ask that the source ends. They take room for one character at a time,
-/// and for its whole code, so that no part of a code stands behind the others where a growth is refused.
+/// and for its whole code, so that no part of a code stands after the others where a growth is refused.
 /// What the source's hint says is not used.
 pub trait Utf16CharIterExt: Iterator<Item = Utf16Char> + Sized {
     /// The units of the characters, one code after another.
@@ -141,7 +141,7 @@ pub trait Utf16CharIterExt: Iterator<Item = Utf16Char> + Sized {
         ensures ok { IfOk result (λ string. AddsCodes utf8 Self.next_gives self [] (string_bytes string)) }
         ensures nothing { (rest : Self → List ℕ) → IsListed Self.next_gives rest → rest self ≡ [] → IsOk result };
 
-    /// Adds the units of all characters behind those that are there. Where a growth is refused, the
+    /// Adds the units of all characters after those that are there. Where a growth is refused, the
     /// characters before it have been added, and the source is gone.
     fn extend_units<A: Allocator>(self, units: &mut Vec<u16, A>) -> Result<(), AllocError>
         requires can { Self.can_next self }

@@ -22,8 +22,8 @@ use utf_chars::utf16_char::Utf16Char;
 ///
 /// An item is the offset of the piece from the front of the slice that the decoder was made from, the
 /// character or what is wrong with the unit, and the piece's length in units. An error always has
-/// length 1: the unit behind it is judged anew. Which error a surrogate gives is decided by the units that
-/// are left, those that were taken from the back excepted: it ends no pair, or what stands behind it ends
+/// length 1: the unit after it is judged anew. Which error a surrogate gives is decided by the units that
+/// are left, those that were taken from the back excepted: it ends no pair, or what stands after it ends
 /// none, or nothing stands there (RFC 2781, section 2.2).
 #[derive(Drop)]
 pub struct Utf16CharDecoder<'a> {
@@ -111,7 +111,7 @@ impl<'a> DoubleEndedIterator for Utf16CharDecoder<'a> {
     ghost next_back_gives = { NextBackGivesUnits };
 
     /// The character whose code ends the units that are left, else what is wrong with the last of them: a
-    /// trailing surrogate ends no pair, and a leading one has nothing behind it.
+    /// trailing surrogate ends no pair, and a leading one has nothing after it.
     #[inline(always)]
     fn next_back(&mut self) -> Option<(usize, Result<Utf16Char, Utf16PairError>, usize)> {
         if self.front == self.back {

@@ -20,7 +20,7 @@ use utf_chars::utf16_char::Utf16Char;
 
 /// Cuts the units of an iterator into characters and single faulty units.
 ///
-/// An error is for one unit, and the one behind it is judged anew. What was read behind a leading surrogate
+/// An error is for one unit, and the one after it is judged anew. What was read after a leading surrogate
 /// and does not complete it is held until it has been answered for: one unit at most. Nothing is held before
 /// the first call, after a character and after `None`. The source is not asked again once it has answered
 /// `None`.
@@ -174,7 +174,7 @@ fn first_unit<I: Iterator<Item = u16>>(held: &mut HeldUnit, source: &mut I) -> O
 }
 
 // The second unit of the code of a unit that has left the merger, and 0 where the code has no other. What is
-// read behind it is held where it is no part of the code.
+// read after it is held where it is no part of the code.
 #[inline(always)]
 fn second_unit<I: Iterator<Item = u16>>(
     first: u64,
@@ -216,7 +216,7 @@ fn trails(unit: u16) -> bool
 }
 
 // Whether the unit is a character by itself, which is to be no surrogate. One comparison tells of the units
-// below the surrogates and of those above, so that a processor foresees it. It counts from behind the
+// below the surrogates and of those above, so that a processor foresees it. It counts from after the
 // surrogates: counted from the first of them, a compiler would take a mask and one instruction more.
 #[inline(always)]
 fn stands_alone(unit: u64) -> bool

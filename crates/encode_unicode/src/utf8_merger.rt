@@ -23,8 +23,8 @@ use utf_chars::utf8_char::Utf8Char;
 
 /// Cuts the bytes of an iterator into characters and single faulty bytes.
 ///
-/// An error is for one byte, and those behind it are judged anew, so that no error hides an ASCII
-/// character. A byte is read only where the ones before it ask for it, and what was read behind a faulty
+/// An error is for one byte, and those after it are judged anew, so that no error hides an ASCII
+/// character. A byte is read only where the ones before it ask for it, and what was read after a faulty
 /// byte is held until it has been answered for: at most three bytes. Nothing is held before the first
 /// call, after a character and after `None`. The source is not asked again once it has answered `None`.
 ///
@@ -171,7 +171,7 @@ pub(crate) fn first_byte<I: Iterator<Item = u8>>(held: &mut HeldBytes, source: &
     }
 }
 
-// The bytes that complete the code of a byte that has left the merger. What is read behind it is held where
+// The bytes that complete the code of a byte that has left the merger. What is read after it is held where
 // no code is found; where something is held already, the byte is a continuation byte, and nothing is read.
 #[inline(always)]
 fn followers<I: Iterator<Item = u8>>(

@@ -2,7 +2,7 @@
 use std::alloc::{AllocError, Allocator};
 use std::cell::Cell;
 
-/// An allocator that passes on as many requests for a block as are left, and refuses those behind them.
+/// An allocator that passes on as many requests for a block as are left, and refuses those after them.
 ///
 /// Lent to what allocates, as `&budget`, it refuses each growth of a call in turn.
 pub struct Budget<A: Allocator> {

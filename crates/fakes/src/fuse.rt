@@ -15,7 +15,7 @@ pub enum Fault {
     Nothing,
 }
 
-/// Which calls fail: of those behind the first `passes`, the first `faults`.
+/// Which calls fail: of those after the first `passes`, the first `faults`.
 #[derive(Clone, Copy, Drop)]
 pub struct Plan {
     pub passes: u32,

@@ -4,7 +4,7 @@ use Rattle.std.specs.Prelude.{◌↔◌, Contains, List}
 use Rattle.encode_unicode.specs.Window.{Item}
 use Rattle.cuts.specs.Tables.{StayAround, moved_item}
 
--- what stays behind a change, seen from the items that stand there now
+-- what stays after a change, seen from the items that stand there now
 pub stays_behind : (items others : List Item) (s e t : ℕ) → StayAround items others s e t → (x : Item) → t + 3 ≤ x.0
     → Contains others x ↔ Contains items (moved_item t e x)
 stays_behind items others s e t around x le =

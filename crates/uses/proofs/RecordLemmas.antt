@@ -12,7 +12,7 @@ use Rattle.encode_unicode.specs.declared.error.Utf16PairError.{Utf16PairError}
 use Rattle.uses.specs.Records.{IsRecord}
 use Rattle.uses.specs.declared.records.Ending.TheVariants.{Zero}
 
--- the units are the codes of the characters so far, which are the text, and those behind them
+-- the units are the codes of the characters so far, which are the text, and those after them
 pub record IsRecordSoFar (units text behind : List ℕ) : Type 0 where
   pub scalars : List ℕ
   pub all : All (λ s. IsScalar s × (s ≢ 0)) scalars

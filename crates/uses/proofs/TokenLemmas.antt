@@ -16,7 +16,7 @@ use Rattle.encode_unicode.specs.declared.error.Utf8ErrorKind.{Utf8ErrorKind}
 use Rattle.encode_unicode.proofs.ForCallers.{utf8_is_code, front_char, no_code_where_fault}
 use Rattle.uses.specs.Tokens.{AreTokensOf, joined}
 
--- each token with a delimiter behind it
+-- each token with a delimiter after it
 abbrev closed : ℕ → List (List ℕ) → List ℕ
 closed d ts = flat_map (λ t. t ++ d ∷ []) ts
 

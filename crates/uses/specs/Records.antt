@@ -13,7 +13,7 @@ Ends Zero units behind = units ≡ 0 ∷ behind
 Ends (Damaged kind) units behind = (unit_fault_kind units ≡ Some kind) × (units ≡ slice_index units 0 ∷ behind)
 Ends Missing units behind = (units ≡ []) × (behind ≡ [])
 
--- the units are the codes of the record's characters, which are its text, its end, and those behind it; none of its
+-- the units are the codes of the record's characters, which are its text, its end, and those after it; none of its
 -- characters is U+0000
 pub record IsRecord (units text : List ℕ) (ending : Ending) (behind : List ℕ) : Type 0 where
   pub scalars : List ℕ

@@ -13,7 +13,7 @@ pub fn front(src: &[u8]) -> usize
     0
 }
 
-/// The place behind all pieces.
+/// The place after all pieces.
 pub fn back(src: &[u8]) -> usize
     ensures between { IsBetween src.now result }
     ensures len { result ≡ length src.now }

@@ -15,12 +15,12 @@ use std::alloc::{AllocError, Allocator};
 pub struct Changed {
     /// The first place that may have changed.
     pub from: usize,
-    /// The place behind the last.
+    /// The place after the last.
     pub until: usize,
 }
 
 /// Replaces a part of the bytes, and says which pieces may have changed. Those before are the ones that stood
-/// there; those behind are old ones too, at other places.
+/// there; those after are old ones too, at other places.
 pub fn edit<A: Allocator + Copy>(
     table: &mut PieceTable<A>,
     start: usize,

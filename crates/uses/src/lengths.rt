@@ -50,7 +50,7 @@ pub fn ascii_byte(c: Utf8Char) -> Option<u8> {
     }
 }
 
-/// How many characters stand one behind the other at the front of some bytes.
+/// How many characters stand one after the other at the front of some bytes.
 pub fn characters_in_front(bytes: &[u8]) -> usize
     ensures { result ≤ length bytes.now }
 {

@@ -13,7 +13,7 @@ use encode_unicode::iterator::RemainingBytes;
 use encode_unicode::{U8IterExt, U16IterExt, Utf8Char, Utf16Char};
 use std::alloc::{AllocError, Allocator};
 
-/// The character whose code a source of bytes begins with, and the source behind that code.
+/// The character whose code a source of bytes begins with, and the source after that code.
 pub fn split_char<I: Iterator<Item = u8>>(source: I) -> Option<(Utf8Char, I)>
     requires { I.can_next source }
     ensures { (rest : I → List ℕ) → IsListed I.next_gives rest → IfSome result (λ x. rest source ≡ utf8 x.0 ++ rest x.1) }
@@ -37,7 +37,7 @@ pub fn split_utf16_char<I: Iterator<Item = u16>>(source: I) -> Option<(Utf16Char
     }
 }
 
-/// The first piece of a source of bytes, damaged or not, and all bytes behind it: of a faulty byte each one
+/// The first piece of a source of bytes, damaged or not, and all bytes after it: of a faulty byte each one
 /// that was read to judge it as well.
 pub fn split_piece<I: Iterator<Item = u8>>(
     source: I,

@@ -48,7 +48,7 @@ pub fn next_record<I: Iterator<Item = u16>>(
     Ok((text, Ending::Missing))
 }
 
-/// The first record of a source, and all units behind it: those behind a damaged unit as well.
+/// The first record of a source, and all units after it: those after a damaged unit as well.
 pub fn first_record<I: Iterator<Item = u16>>(
     alloc: Global,
     source: I,

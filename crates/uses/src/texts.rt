@@ -5,7 +5,7 @@ ghost use Rattle.encode_unicode.specs.Code.{utf8};
 use encode_unicode::{Utf8Char, Utf16Char};
 use std::alloc::{AllocError, Allocator};
 
-/// The text behind its first character.
+/// The text after its first character.
 pub fn behind_first(text: &str) -> &str {
     match Utf8Char::from_str_start(text) {
         Ok((_, len)) => &text[len..],

@@ -81,14 +81,14 @@ cut_up_to code xs i k j ps before none a = record {
   in_order = a.in_order;
 }
 
--- the end of the list in place of one behind it
+-- the end of the list in place of one after it
 pub cut_to_end : (code : ℕ → List ℕ) → IsCode code → (xs : List ℕ) (i j : ℕ) (ps : List Piece) → length xs ≤ j → IsCutBetween code xs i j ps → IsCutBetween code xs i (length xs) ps
 cut_to_end code c xs i j ps le a =
     cut_up_to code xs i j (length xs) ps
     (λ n d h. let x = get_or ps n d in let some = piece_some code c xs x.start x.len x.char (a.pieces n d h).0 in omega arith)
     (λ x h lo hi. omega arith) a
 
--- The pieces before a change, and those behind it.
+-- The pieces before a change, and those after it.
 
 pub cut_stays : (code : ℕ → List ℕ) (xs ys : List ℕ) (i j : ℕ) (ps : List Piece) → ((p : ℕ) → p < j → (n : ℕ) (char : Option ℕ) → IsPieceAt code xs p n char ↔ IsPieceAt code ys p n char)
     → IsCutBetween code xs i j ps → IsCutBetween code ys i j ps

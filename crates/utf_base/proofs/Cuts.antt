@@ -173,7 +173,7 @@ cut_append code xs i j k ps qs lo hi a b = record {
       (cases_lt n (length ps));
 }
 
--- one piece more behind a cut
+-- one piece more after a cut
 pub cut_push : (code : ℕ → List ℕ) → IsCode code → (xs : List ℕ) (i : ℕ) (ps : List Piece) (x : Piece) → i ≤ x.start → IsPiece code xs x
     → IsCutBetween code xs i x.start ps → IsCutBetween code xs i (end_of x) (ps ++ x ∷ [])
 cut_push code c xs i ps x le h a = cut_append code xs i x.start (end_of x) ps (x ∷ []) le (omega arith) a (cut_one code c xs x h)

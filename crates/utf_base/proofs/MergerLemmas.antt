@@ -22,7 +22,7 @@ pub broken_kind : (w : List ℕ) → is_broken w ≡ true → merger_kind w ≡ 
 unfolding merger_kind
 broken_kind w e = rw e refl
 
--- A first byte that has a byte behind it that breaks its code asks for more than itself.
+-- A first byte that has a byte after it that breaks its code asks for more than itself.
 
 broken_asks : (w : List ℕ) → is_broken w ≡ true → 2 ≤ asked_by w
 broken_asks w e = grind (arith, common_steps)
@@ -106,7 +106,7 @@ or_true : (a : Bool) → (a || true) ≡ true
 or_true true = refl
 or_true false = refl
 
--- Elements behind those that the first byte asks for do not matter.
+-- Elements after those that the first byte asks for do not matter.
 
 at_front : (w later : List ℕ) (k : ℕ) → k < length w → get_or (w ++ later) k 0 ≡ get_or w k 0
 at_front w later k lt = get_or_append_left w later 0 k lt

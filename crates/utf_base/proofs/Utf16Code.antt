@@ -26,7 +26,7 @@ pub length_utf16 : (s : ℕ) → length (utf16 s) ≤ 2
 unfolding utf16
 length_utf16 s = grind (arith, common_steps)
 
--- a unit behind the first is a trailing surrogate
+-- a unit after the first is a trailing surrogate
 utf16-follower : (s k : ℕ) → IsScalar s → 0 < k → k < length (utf16 s) → (0xDC00 ≤ get_or (utf16 s) k 0) × (get_or (utf16 s) k 0 < 0xE000)
 unfolding utf16
 utf16-follower s k h p q = grind (arith, common_steps)

@@ -28,7 +28,7 @@ pub length_utf8 : (s : ℕ) → length (utf8 s) ≤ 4
 unfolding utf8
 length_utf8 s = grind (arith, common_steps)
 
--- a byte behind the first is a continuation byte
+-- a byte after the first is a continuation byte
 pub utf8-follower : (s k : ℕ) → IsScalar s → 0 < k → k < length (utf8 s) → (0x80 ≤ get_or (utf8 s) k 0) × (get_or (utf8 s) k 0 < 0xC0)
 unfolding utf8
 utf8-follower s k h p q = grind (arith, common_steps)

@@ -16,7 +16,7 @@ utf16 s =
     if nat_lt s 0x1_0000 then s ∷ []
     else (0xD800 + (s - 0x1_0000) / 1024) ∷ (0xDC00 + (s - 0x1_0000) % 1024) ∷ []
 
--- What the laws of cuts need of a code: it is not empty, no element behind the first is the first of a code,
+-- What the laws of cuts need of a code: it is not empty, no element after the first is the first of a code,
 -- the first element decides the length, and the whole decides the scalar.
 pub record IsCode (code : ℕ → List ℕ) : Type 0 where
   pub some : (s : ℕ) → IsScalar s → 0 < length (code s)

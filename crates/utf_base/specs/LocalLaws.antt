@@ -14,7 +14,7 @@ FrontStays code kind m =
     (front old new rest : List ℕ) (p : ℕ) → p + m ≤ length front
     → SameAt code kind (front ++ old ++ rest) p (front ++ new ++ rest) p
 
--- and what begins behind the first m - 1 of the rest, but for its place
+-- and what begins after the first m - 1 of the rest, but for its place
 abbrev pub RestStays : {E : Type 0} → (ℕ → List ℕ) → (List ℕ → Option E) → ℕ → Type 0
 RestStays code kind m =
     (front old new rest : List ℕ) (p : ℕ) → m ≤ p + 1

@@ -17,7 +17,7 @@ pub record Covered (code : ℕ → List ℕ) (xs : List ℕ) (p : ℕ) : Type 0 
   pub begins : from ≤ p
   pub ends : p < from + length (code char)
 
--- the place p lies inside a code that stands in xs: behind its first element, and before its end
+-- the place p lies inside a code that stands in xs: after its first element, and before its end
 pub record Inside (code : ℕ → List ℕ) (xs : List ℕ) (p : ℕ) : Type 0 where
   pub from : ℕ
   pub char : ℕ
@@ -31,7 +31,7 @@ pub record Piece : Type 0 where
   pub len : ℕ
   pub char : Option ℕ
 
--- the place behind a piece
+-- the place after a piece
 abbrev pub end_of : Piece → ℕ
 end_of x = x.start + x.len
 

@@ -16,13 +16,13 @@ ShowsSome code = (xs : List ℕ) → (ss : List ℕ) × Shows code xs ss
 abbrev pub ShowsOne : (ℕ → List ℕ) → Type 0
 ShowsOne code = (xs ss ts : List ℕ) → Shows code xs ss → Shows code xs ts → ss ≡ ts
 
--- a code that begins a list is shown first, and then what the list behind it shows
+-- a code that begins a list is shown first, and then what the list after it shows
 abbrev pub CodeShowsFirst : (ℕ → List ℕ) → Type 0
 CodeShowsFirst code =
     (w : List ℕ) (s : ℕ) (later ss : List ℕ) → Stands code w 0 s
     → Shows code (drop (length (code s)) w ++ later) ss → Shows code (w ++ later) (s ∷ ss)
 
--- where none begins it a fault of one element is, and then what the list behind that shows
+-- where none begins it a fault of one element is, and then what the list after that shows
 abbrev pub FaultShowsFirst : (ℕ → List ℕ) → Type 0
 FaultShowsFirst code =
     (w later ss : List ℕ) → 0 < length w → ((s : ℕ) → ¬ (Stands code (w ++ later) 0 s))

@@ -1,7 +1,7 @@
 //! The laws of UTF-8 and UTF-16 that everything above rests on.
 //!
 //! Each function does nothing: its contract is the law, for every list. A proof above cites a law by
-//! calling the function, or takes the lemma behind it from `proofs/`.
+//! calling the function, or takes the lemma that proves it from `proofs/`.
 ghost use Rattle.utf_base.specs.Code.{utf8, utf16};
 ghost use Rattle.utf_base.specs.CutLaws.{CodesNeverOverlap, PiecesNeverOverlap, OnePieceBegins, OnePieceEnds};
 ghost use Rattle.utf_base.specs.CutLaws.{CutsFollow, CutExists, CutIsUnique, NoFaultInJoinedCodes};
@@ -133,14 +133,14 @@ pub fn two_units_decide()
 {}
 
 /// A change in a list leaves every piece that begins far enough before it, and every one that begins far
-/// enough behind it but for its place: of bytes those that begin at least four before it, or behind three
+/// enough after it but for its place: of bytes those that begin at least four before it, or after three
 /// that it left; of units two, or one. What is wrong there stays the same too.
 pub fn damage_is_local()
     ensures utf8 { DamageIsLocal utf8 fault_kind 4 }
     ensures utf16 { DamageIsLocal utf16 unit_fault_kind 2 }
 {}
 
-/// A change of bytes may reach a piece that begins three before it, and one that begins behind two that it
+/// A change of bytes may reach a piece that begins three before it, and one that begins after two that it
 /// left.
 pub fn damage_reaches_its_bounds()
     ensures front { ¬ FrontStays utf8 fault_kind 3 }

@@ -4,12 +4,12 @@ use Rattle.std.proofs.lemmas.Grind.{common_steps}
 use Rattle.std.proofs.lemmas.List.{drop-take, drop-drop}
 use Rattle.std.specs.Prelude.{slice_range}
 
--- the elements behind its first n
+-- the elements after its first n
 pub range_behind : {A : Type 0} (xs : List A) (i j n : ℕ) → n ≤ j - i → slice_range xs (i + n) j ≡ drop n (slice_range xs i j)
 range_behind xs i j n le =
     let m : j - i ≡ n + (j - (i + n)) = omega arith in
     rw (m, drop-take, drop-drop) refl
 
--- as many elements are behind the first n of a list as behind those that the list has of them
+-- as many elements are after the first n of a list as after those that the list has of them
 pub drop_fitting : {A : Type 0} (xs : List A) (n : ℕ) → drop (min n (length xs)) xs ≡ drop n xs
 drop_fitting xs n = grind (arith, common_steps)

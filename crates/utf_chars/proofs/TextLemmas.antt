@@ -78,7 +78,7 @@ text_of_code text s h e = (
   sym (answer_of_parse text (Ok s) (h, e)),
 )
 
--- a text can be cut behind a character, where it can be cut before it
+-- a text can be cut after a character, where it can be cut before it
 pub boundary_behind : (xs : List ℕ) (i s k : ℕ) → IsUtf8 xs → IsCharBoundary xs i → Stands utf8 xs i s → k ≡ i + length (utf8 s) → IsCharBoundary xs k
 boundary_behind xs i s k is_text front h e =
     let within = h.within in

@@ -21,7 +21,7 @@ ascii_uppercase s = if nat_le 0x61 s && nat_le s 0x7A then s - 32 else s
 abbrev pub BeginsText : List ℕ → Result (ℕ × ℕ) EmptyStrError → Type 0
 BeginsText text r = MatchResult r (λ x. BeginsWith utf8 text x.0 x.1) (λ _. text ≡ [])
 
--- why a text is not one character: it has none, or one and something behind it
+-- why a text is not one character: it has none, or one and something after it
 abbrev pub IsTextFault : List ℕ → FromStrError → Type 0
 IsTextFault text Empty = text ≡ []
 IsTextFault text MultipleCodepoints = (s : ℕ) × Stands utf8 text 0 s × (length (utf8 s) < length text)

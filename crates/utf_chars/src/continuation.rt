@@ -1,8 +1,8 @@
-//! Bytes behind the first of a code in UTF-8.
+//! Bytes after the first of a code in UTF-8.
 ghost use Rattle.std.specs.Prelude.{◌≡◌};
 ghost use Rattle.utf_base.specs.Kinds.{is_continuation};
 
-/// Whether the byte has the form of one behind the first of a code.
+/// Whether the byte has the form of one after the first of a code.
 #[inline(always)]
 pub fn continues(byte: u8) -> bool
     ensures { result ≡ is_continuation byte }

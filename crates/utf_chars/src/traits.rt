@@ -67,7 +67,7 @@ pub trait CharExt: Sized {
 
     /// The character whose code in UTF-8 begins the bytes, and how many bytes the code has: 1 to 4.
     ///
-    /// Bytes behind the code do not matter. Where no code begins them, the error is the first that
+    /// Bytes after the code do not matter. Where no code begins them, the error is the first that
     /// applies: no byte at all or fewer than the first asks for, whatever they are, is `TooFewBytes`; a
     /// first byte that begins no code is `UnexpectedContinuationByte` or `NonUtf8Byte`; one that is asked
     /// for and is no continuation byte is `InterruptedSequence`; and then the value itself is judged, as
@@ -78,7 +78,7 @@ pub trait CharExt: Sized {
         ensures len { IfOk result (λ x. IsFrontLen 4 src.now x.1) }
         ensures exact { IfOk result (λ x. decoded (take x.1 src.now) ≡ Ok (scalar x.0, x.1)) };
 
-    /// The character whose code in UTF-8 begins the four bytes. Those behind the code are ignored.
+    /// The character whose code in UTF-8 begins the four bytes. Those after the code are ignored.
     ///
     /// The error is that of `from_utf8_slice_start`, and never `TooFewBytes`.
     fn from_utf8_array(utf8: [u8; 4]) -> Result<Self, Utf8Error>

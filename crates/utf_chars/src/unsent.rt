@@ -171,7 +171,7 @@ impl From<Utf8Char> for Unsent<256> {
 }
 
 // The first bytes, as many as `len` says, as one number, whose lowest digit is the first of them. Those
-// behind the first are put together by themselves: so taking the first leaves their number as it is.
+// after the first are put together by themselves: so taking the first leaves their number as it is.
 #[inline(always)]
 #[tactic(auto, unfolding(crate::specs::Digits::low_digits))]
 fn number_of_front(code: [u8; 4], len: usize) -> usize

@@ -108,7 +108,7 @@ impl Utf16Char {
     /// The character whose code ends the units, and how many units the code has: 1 or 2.
     ///
     /// Where no code ends them, the error is that of the last unit by itself: a trailing surrogate is
-    /// `FirstIsTrailingSurrogate`, and a leading one, behind which nothing stands, is `MissingSecond`. No
+    /// `FirstIsTrailingSurrogate`, and a leading one, after which nothing stands, is `MissingSecond`. No
     /// unit at all is `EmptySlice`.
     ///
     /// No more than the last two units matter.
@@ -250,7 +250,7 @@ impl Utf16Char {
         unsafe { char::from_u32_unchecked(number) }
     }
 
-    /// Writes the code to the front of the slice, and answers how many units it has. The places behind
+    /// Writes the code to the front of the slice, and answers how many units it has. The places after
     /// it stay as they are.
     #[inline(always)]
     pub fn to_slice(self, dst: &mut [u16]) -> usize

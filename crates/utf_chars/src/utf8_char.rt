@@ -154,7 +154,7 @@ impl Utf8Char {
         }
     }
 
-    /// The character whose code begins the four bytes. Those behind the code are not kept.
+    /// The character whose code begins the four bytes. Those after the code are not kept.
     ///
     /// The error is that of `CharExt::from_utf8_array`.
     #[inline(always)]
@@ -314,7 +314,7 @@ impl Utf8Char {
         &self.bytes[..self.len()]
     }
 
-    /// Writes the code to the front of the slice, and answers how many bytes it has. The places behind
+    /// Writes the code to the front of the slice, and answers how many bytes it has. The places after
     /// it stay as they are.
     #[inline(always)]
     pub fn to_slice(self, dst: &mut [u8]) -> usize

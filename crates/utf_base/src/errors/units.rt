@@ -165,7 +165,7 @@ impl Error for Utf16SliceError {}
 pub enum Utf16PairError {
     /// A trailing surrogate stands where a character should begin.
     UnexpectedTrailingSurrogate,
-    /// Behind a leading surrogate comes a unit that does not complete it. That unit may itself begin a
+    /// After a leading surrogate comes a unit that does not complete it. That unit may itself begin a
     /// character.
     UnmatchedLeadingSurrogate,
     /// The last unit is a leading surrogate.

@@ -224,7 +224,7 @@ fn is_surrogate(unit: u16) -> bool
     unit & 0xf800 == 0xd800
 }
 
-// Whether a surrogate, counted from the first one, and the unit behind it are a leading and a trailing one:
+// Whether a surrogate, counted from the first one, and the unit after it are a leading and a trailing one:
 // so counted both are then below 0x400, and one comparison tells of both.
 #[inline(always)]
 fn is_pair(high: u32, second: u16) -> bool
@@ -250,7 +250,7 @@ fn ends_pair(unit: u16) -> bool
     unit & 0xfc00 == 0xdc00
 }
 
-// Why a surrogate is part of no code: that it is a trailing one, or otherwise what is wrong behind it.
+// Why a surrogate is part of no code: that it is a trailing one, or otherwise what is wrong after it.
 #[inline(always)]
 fn unpaired(first: u16, otherwise: Utf16SliceError) -> Utf16SliceError
     ensures { result ≡ (if is_trailing_surrogate first then FirstIsTrailingSurrogate else otherwise) }

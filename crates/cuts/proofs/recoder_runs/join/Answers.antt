@@ -4,7 +4,7 @@ use Rattle.std.proofs.lemmas.List.{take_at, take_min}
 use Rattle.std.proofs.lemmas.Slice.{take-put_mid}
 use Rattle.cuts.proofs.recoder_runs.join.Goals as goal
 
--- one list written behind another
+-- one list written after another
 joined : (held piece ys zs room : List ℕ) (m n k : ℕ) → ys ≡ held → zs ≡ take m piece → m ≡ min 3 (length piece) → n ≡ length held + m
     → take n (put_mid (length held) k (ys ++ room) zs) ≡ held ++ take 3 piece
 joined held piece ys zs room m n k e f h i =
