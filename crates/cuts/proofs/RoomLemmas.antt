@@ -191,9 +191,9 @@ pub IsFull-then : (s v : Recoding) (from to : Form) (part : List ℕ) (read more
 IsFull-then s v from to part read more end room e f le k full =
     let xs : List ℕ = drop read part in
     let place : more + (end - more) ≡ end = omega arith in
-    let behind : drop (read + end) part ≡ drop (end - more) (drop more xs) =
+    let following : drop (read + end) part ≡ drop (end - more) (drop more xs) =
     sym (drop-drop end read part) ∙ ap (λ n. drop n xs) (sym place) ∙ sym (drop-drop (end - more) more xs) in
-    let left : v.held ++ drop (read + end) part ≡ drop more xs = ap₂ (λ ys zs. ys ++ zs) (ap (λ x. x.held) k) behind ∙ take-append-drop (end - more) (drop more xs) in
+    let left : v.held ++ drop (read + end) part ≡ drop more xs = ap₂ (λ ys zs. ys ++ zs) (ap (λ x. x.held) k) following ∙ take-append-drop (end - more) (drop more xs) in
     let scalar = full.scalar in
     let len = full.len in
     record {

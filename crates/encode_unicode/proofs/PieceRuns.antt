@@ -90,9 +90,9 @@ module _ {E : Type 0} (code : ℕ → List ℕ) (most : ℕ) (kind : List ℕ �
       let same : pieces_by answer n (place + x.2) ys ≡ pieces_by answer (length ys) (place + x.2) ys
       = pieces_enough answer some n (length ys) (place + x.2) ys (omega arith) (omega arith) in
       let first : (place, (as_piece (answer (b ∷ bs))).0, (as_piece (answer (b ∷ bs))).1) ≡ x = ap (λ y. (place, y.0, y.1)) (sym known) ∙ ap (λ p. (p, x.1, x.2)) (sym e) in
-      let behind : pieces_by answer n (place + (as_piece (answer (b ∷ bs))).1) (drop (as_piece (answer (b ∷ bs))).1 (b ∷ bs)) ≡ pieces_by answer n (place + x.2) ys
+      let following : pieces_by answer n (place + (as_piece (answer (b ∷ bs))).1) (drop (as_piece (answer (b ∷ bs))).1 (b ∷ bs)) ≡ pieces_by answer n (place + x.2) ys
       = ap (λ k. pieces_by answer n (place + k) (drop k (b ∷ bs))) (sym len) ∙ ap (pieces_by answer n (place + x.2)) (sym rest) in
-      ap (λ y. y ∷ pieces_by answer n (place + (as_piece (answer (b ∷ bs))).1) (drop (as_piece (answer (b ∷ bs))).1 (b ∷ bs))) first ∙ ap (λ l. x ∷ l) (behind ∙ same)
+      ap (λ y. y ∷ pieces_by answer n (place + (as_piece (answer (b ∷ bs))).1) (drop (as_piece (answer (b ∷ bs))).1 (b ∷ bs))) first ∙ ap (λ l. x ∷ l) (following ∙ same)
 
   piece_taken : (w v : Window) (x : Placed E) → GivesFrontOf code most kind answer w x v
       → pieces_by answer (length (elements w)) w.front (elements w) ≡ x ∷ pieces_by answer (length (elements v)) v.front (elements v)
@@ -205,12 +205,12 @@ char_kept : (text : List ℕ) (w v : Window) (x : ℕ × ℕ) → KeepsText text
 char_kept text w v x k g =
     let whole : v.whole ≡ text = ap (λ (u : Window). u.whole) g.left ∙ k.whole in
     let front : v.front ≡ x.0 + length (utf8 x.1) = ap (λ (u : Window). u.front) g.left ∙ ap (λ p. p + length (utf8 x.1)) (sym g.at_front) in
-    let behind : IsCharBoundary text v.front = rw whole at g.between.front in
+    let new_front : IsCharBoundary text v.front = rw whole at g.between.front in
     let some = some_utf8 x.1 in
     let here : IsCharBoundary text x.0 = rw (← g.at_front) at k.front in
-    let after : IsCharBoundary text (x.0 + length (utf8 x.1)) = rw front at behind in
+    let after : IsCharBoundary text (x.0 + length (utf8 x.1)) = rw front at new_front in
     let end = after.0 in
-    ((omega arith, here, omega arith, after), record { whole = whole; front = behind })
+    ((omega arith, here, omega arith, after), record { whole = whole; front = new_front })
 
 pub text_places : (text : List ℕ) (s : Window) → IsUtf8 text → s ≡ whole_window text → EachRunFrom NextPlaced s (λ p. AllItems p (LiesInText text))
 text_places text s h e p seen from =
