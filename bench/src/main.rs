@@ -1,6 +1,7 @@
 //! `bench times SIZE ROUNDS WORK..`: a line for each kind of work, input and side: the best time of the rounds. No
 //! name stands for all kinds of work.
 //! `bench table FILE..`: the table of such lines, one file for each place at which the program was linked.
+//! `bench lengths WORK INPUT ROUNDS`: the best times of both sides on inputs of 16 bytes to 64 MiB.
 //! `bench one WORK INPUT SIDE SIZE CALLS`: just these calls, for counting instructions.
 //! `bench input INPUT SIZE`: the bytes of an input.
 
@@ -12,7 +13,7 @@ use std::io::Write;
 use std::process::ExitCode;
 use std::time::Instant;
 
-const USAGE: &str = "bench times SIZE ROUNDS WORK.. | table FILE.. | one WORK INPUT ours|rust|std|none SIZE CALLS | input INPUT SIZE | list";
+const USAGE: &str = "bench times SIZE ROUNDS WORK.. | table FILE.. | lengths WORK INPUT ROUNDS | one WORK INPUT ours|rust|std|none SIZE CALLS | input INPUT SIZE | list";
 
 fn main() -> ExitCode {
     let args: Vec<String> = std::env::args().skip(1).collect();
@@ -22,6 +23,7 @@ fn main() -> ExitCode {
             .zip(number(rounds))
             .map(|(size, rounds)| times(names, size, rounds)),
         ["table", files @ ..] => table(files),
+        ["lengths", work, input, rounds] => number(rounds).and_then(|rounds| lengths(work, input, rounds)),
         ["one", work, input, side, size, calls] => number(size)
             .zip(number(calls))
             .and_then(|(size, calls)| one(work, input, side, size, calls)),
@@ -80,6 +82,33 @@ fn table(files: &[&str]) -> Option<ExitCode> {
     }
     table.print();
     Some(ExitCode::SUCCESS)
+}
+
+// A line for each length of the input. A short one is worked over many times in a round, so that the clock can tell.
+fn lengths(work: &str, name: &str, rounds: usize) -> Option<ExitCode> {
+    let work = work::all().find(|known| known.name == work)?;
+    println!("{:<9} {:>9} {:>9}  {} {name}", "bytes", "ours", "rust", work.name);
+    for size in (4..=26).step_by(2).map(|power| 1 << power) {
+        let input = inputs::make(name, size)?;
+        let bytes = (work.bytes)(&input);
+        let calls = (0x10_0000 / bytes).max(1);
+        let [ours, rust] = [work.ours, work.rust].map(|side| best_of_calls(side, &input, calls, rounds));
+        println!("{bytes:<9} {:>9.3} {:>9.3}", ours.per_byte(calls * bytes), rust.per_byte(calls * bytes));
+    }
+    println!("ns per byte, the best of {rounds} rounds");
+    Some(ExitCode::SUCCESS)
+}
+
+fn best_of_calls(side: Worker, input: &Input, calls: usize, rounds: usize) -> Best {
+    let mut best = Best::default();
+    for _ in 0..rounds {
+        let start = Instant::now();
+        for _ in 0..calls {
+            black_box(side(black_box(input)));
+        }
+        best.add(start.elapsed());
+    }
+    best
 }
 
 // Whether the checksums agree that have to: ours and the Rust crate's always, std's on text.

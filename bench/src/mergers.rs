@@ -1,7 +1,6 @@
 //! The works of the mergers, by the Rust crate and by std.
 
 use crate::decoders;
-use crate::inputs::Input;
 use crate::work::{number_of, Checksum, Work, ERROR};
 use encode_unicode::IterExt;
 
