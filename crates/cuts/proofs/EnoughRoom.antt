@@ -1,11 +1,11 @@
 -- Where all that comes of some bytes fits into the room, no call ends full.
-use Rattle.std.proofs.Common.{◌≡◌, ℕ, ◌+◌, ◌-◌, ◌<◌, ◌≤◌, List, [], ◌∷◌, ◌++◌, length, take, drop, flat_map, refl, ap, sym, subst, ◌∙◌, append_assoc, arith, length-append, length-take, take-append-drop}
+use Rattle.std.proofs.Common.{◌≡◌, ℕ, ◌+◌, ◌-◌, ◌<◌, ◌≤◌, List, [], ◌∷◌, ◌++◌, length, take, drop, flat_map, refl, sym, subst, append_assoc, arith, length-append, length-take, take-append-drop}
 use Rattle.std.proofs.lemmas.List.{append-nil}
 use Rattle.cuts.specs.declared.form.Form.{Form}
 use Rattle.cuts.specs.declared.form.Form.TheVariants.{Utf8}
 use Rattle.cuts.specs.Recoded.{Recoding, Reads, written, IsRecoded}
-use Rattle.cuts.specs.Rooms.{FeedsInto, FinishesInto, IsFull, IsLastFull}
-use Rattle.cuts.specs.Bounds.{HasRoom, LossyIsBounded, FeedsInRoom, RoomIsLeft, FinishesInRoom}
+use Rattle.cuts.specs.Rooms.{FeedsInto, IsFull, IsLastFull}
+use Rattle.cuts.specs.Bounds.{LossyIsBounded, FeedsInRoom, RoomIsLeft, FinishesInRoom}
 use Rattle.cuts.proofs.BoundLemmas.{recoded_bound}
 use Rattle.cuts.proofs.Growing.{recoded_once}
 

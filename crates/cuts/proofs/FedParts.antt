@@ -1,9 +1,8 @@
 -- Parts that are fed one after another are one part.
-use Rattle.std.proofs.Common.{◌≡◌, ℕ, List, [], ◌++◌, length, refl, ap, sym, subst, ◌∙◌, append_assoc, arith}
+use Rattle.std.proofs.Common.{◌≡◌, ℕ, List, [], ◌++◌, refl, ap, sym, subst, ◌∙◌, append_assoc, arith}
 use Rattle.std.proofs.lemmas.List.{append-nil}
-use Rattle.cuts.specs.declared.form.Form.{Form}
-use Rattle.cuts.specs.Recoded.{Recoding, IsRecoded, Grows, Feeds, Finishes}
-use Rattle.cuts.specs.Fed.{IsFed, NothingIsFed, PartIsFed, FedIsFront, FedIsRecoded}
+use Rattle.cuts.specs.Recoded.{Recoding, IsRecoded, Grows, Feeds}
+use Rattle.cuts.specs.Fed.{NothingIsFed, PartIsFed, FedIsFront, FedIsRecoded}
 use Rattle.cuts.proofs.Growing.{recoded_once, Continues-none, Grows-append, Grows-trans}
 
 pub parts_join : (r s t : Recoding) (part next old mid new : List ℕ) → Feeds r part old mid s → Feeds s next mid new t → Feeds r (part ++ next) old new t
@@ -44,10 +43,11 @@ fed_is_front from to bytes later out all r fed whole =
     (rest.0, once.2 all whole ∙ sym (once.2 (grows.grown ++ rest.0) first) ∙ ap (λ xs. xs ++ rest.0) (sym grows.appended))
 
 pub fed_is_recoded : FedIsRecoded
-fed_is_recoded from to bytes out new r fed last =
+fed_is_recoded from to bytes all out new r fed last e =
     let grows = fed.once.grows in
     let held : IsRecoded from to r.held last.grown =
     subst (λ x. IsRecoded x to r.held last.grown) fed.once.from (subst (λ x. IsRecoded r.from x r.held last.grown) fed.once.to last.recoded) in
     let whole : IsRecoded from to (bytes ++ []) (grows.grown ++ last.grown) = grows.continues [] last.grown (rw (append-nil r.held) held) in
     let same : new ≡ grows.grown ++ last.grown = last.appended ∙ ap (λ xs. xs ++ last.grown) grows.appended in
-    rw (append-nil bytes) at (subst (λ xs. IsRecoded from to (bytes ++ []) xs) (sym same) whole)
+    let joined : bytes ++ [] ≡ all = append-nil bytes ∙ sym e in
+    subst (λ xs. IsRecoded from to xs new) joined (subst (λ xs. IsRecoded from to (bytes ++ []) xs) (sym same) whole)

@@ -25,4 +25,6 @@ FedIsFront =
 
 -- and after the end it is all
 abbrev pub FedIsRecoded : Type 0
-FedIsRecoded = (from to : Form) (bytes out new : List ℕ) (r : Recoding) → IsFed from to bytes out r → Finishes r out new → IsRecoded from to bytes new
+FedIsRecoded =
+    (from to : Form) (bytes all out new : List ℕ) (r : Recoding)
+    → IsFed from to bytes out r → Finishes r out new → all ≡ bytes → IsRecoded from to all new
