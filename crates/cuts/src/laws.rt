@@ -3,6 +3,12 @@
 //! Each function does nothing: its contract is the law.
 ghost use Rattle.cuts.specs.Runs.{PiecesAreTheRun, TextHasNoFault};
 ghost use Rattle.cuts.specs.Recoded.{RecodedOnce, PartsAreRecoded, PartsDoNotMatter};
+ghost use Rattle.cuts.specs.Bounds.{RecodedIsBounded, LossyIsBounded, FeedsInRoom, RoomIsLeft, FinishesInRoom};
+ghost use Rattle.cuts.specs.EqualRuns.{OneRun, OneMergedRun};
+ghost use Rattle.cuts.specs.Fed.{NothingIsFed, PartIsFed, FedIsFront, FedIsRecoded};
+ghost use Rattle.utf_base.specs.Code.{utf8, utf16};
+ghost use Rattle.utf_base.specs.Kinds.{fault_kind, merger_kind};
+ghost use Rattle.utf_base.specs.Units.{unit_fault_kind};
 
 /// Bytes are recoded in exactly one way.
 pub fn recoded_once()
@@ -14,6 +20,37 @@ pub fn recoded_once()
 pub fn parts_do_not_matter()
     ensures recoded { PartsAreRecoded }
     ensures same { PartsDoNotMatter }
+{}
+
+/// Parts that are fed one after another are one part. What came of them begins what the whole is recoded as,
+/// whatever follows, and after the end it is the whole.
+pub fn parts_are_one_part()
+    ensures nothing { NothingIsFed }
+    ensures part { PartIsFed }
+    ensures front { FedIsFront }
+    ensures whole { FedIsRecoded }
+{}
+
+/// Bytes are recoded as no more bytes than `room_for` answers: a lossy text is at most three times as long as
+/// its bytes.
+pub fn recoded_is_bounded()
+    ensures recoded { RecodedIsBounded }
+    ensures lossy { LossyIsBounded }
+{}
+
+/// Where all that comes of some bytes fits into the room, `feed_into` and then `finish_into` are not full.
+pub fn room_is_enough()
+    ensures feeds { FeedsInRoom }
+    ensures left { RoomIsLeft }
+    ensures finishes { FinishesInRoom }
+{}
+
+/// Equal bytes or units have equal runs, of decoders and of mergers.
+pub fn runs_are_unique()
+    ensures bytes { OneRun utf8 fault_kind }
+    ensures units { OneRun utf16 unit_fault_kind }
+    ensures merged_bytes { OneMergedRun utf8 merger_kind }
+    ensures merged_units { OneMergedRun utf16 unit_fault_kind }
 {}
 
 /// What a decoder gives of some bytes, one piece after another, is the forward run over them, of which there is one.

@@ -17,3 +17,4 @@ pub mod ByteMerging
 pub mod UnitMerging
 pub mod MergerHints
 pub mod Wholes
+pub mod PieceCounts

@@ -56,7 +56,7 @@ pieces_enough answer some (suc n) (suc m) place (x ∷ xs) a b =
     ap (λ rest. (place, (as_piece (answer (x ∷ xs))).0, (as_piece (answer (x ∷ xs))).1) ∷ rest) (pieces_enough answer some n m (place + (as_piece (answer (x ∷ xs))).1) (drop (as_piece (answer (x ∷ xs))).1 (x ∷ xs)) (omega arith) (omega arith))
 
 -- each piece has an element
-some_bytes : (xs : List ℕ) → 1 ≤ (as_piece (decoded xs)).1
+pub some_bytes : (xs : List ℕ) → 1 ≤ (as_piece (decoded xs)).1
 some_bytes xs = by_kind xs (fault_kind xs) refl
   where
     by_kind : (xs : List ℕ) (k : Option Utf8ErrorKind) → fault_kind xs ≡ k → 1 ≤ (as_piece (decoded xs)).1
@@ -66,7 +66,7 @@ some_bytes xs = by_kind xs (fault_kind xs) refl
         rw (decoded_code xs (value xs) code.0) (omega arith)
     by_kind xs (Some k) e = rw (← answer_of_bytes xs (Err k) e) (omega arith)
 
-some_units : (xs : List ℕ) → 1 ≤ (as_piece (decoded_pairs xs)).1
+pub some_units : (xs : List ℕ) → 1 ≤ (as_piece (decoded_pairs xs)).1
 unfolding decoded_pairs
 some_units xs = by_kind xs (unit_fault_kind xs)
   where

@@ -1,4 +1,5 @@
 pub mod Pieces
+pub mod GivenBounds
 pub mod Words
 pub mod Window
 pub mod Scan
@@ -21,6 +22,7 @@ pub use Rattle.utf_base.specs.Back
 pub use Rattle.utf_base.specs.Decoded
 pub use Rattle.utf_base.specs.Texts
 pub use Rattle.utf_base.specs.CutLaws
+pub use Rattle.utf_base.specs.Bounds
 pub use Rattle.utf_base.specs.KindLaws
 pub use Rattle.utf_base.specs.LocalLaws
 pub use Rattle.utf_base.specs.Walk

@@ -9,6 +9,7 @@ mod followers;
 mod held_bytes;
 mod held_unit;
 mod iter_ext;
+pub mod laws;
 mod merging;
 mod remaining;
 mod splitting;
@@ -56,19 +57,4 @@ pub mod iterator {
     pub use crate::utf16_splitter::Utf16CharSplitter;
     pub use utf_chars::utf8_iterators::Utf8Iterator;
     pub use utf_chars::utf16_iterators::Utf16Iterator;
-}
-
-pub mod laws {
-    //! The laws of codes, pieces and errors, each the contract of a function that does nothing. A caller
-    //! calls the one that its proof needs.
-    pub use utf_base::laws::{
-        ascii_stands_alone, code_or_last_byte, code_or_one_fault, codes_never_overlap, cut_exists,
-        cut_is_unique, cuts_follow, damage_is_local, damage_reaches_its_bounds, faults_stay,
-        first_is_shown, first_piece_stays, four_bytes_decide, kinds_differ,
-        merger_code_or_one_fault, no_fault_in_joined_codes, one_code_ends, one_piece_begins,
-        one_piece_ends, pieces_never_overlap, shows_one, two_units_decide, units_code_or_last_unit,
-        units_code_or_one_fault, units_code_or_one_kind, walk_exists, walk_gives_each_once,
-        walk_is_unique, walk_stays_outside,
-    };
-    pub use utf_chars::laws::forms_keep_the_scalar;
 }

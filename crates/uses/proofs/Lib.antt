@@ -4,4 +4,3 @@ pub mod RecordLemmas
 pub mod TableLemmas
 pub mod TokenLemmas
 pub mod EditorLemmas
-pub mod PartLemmas

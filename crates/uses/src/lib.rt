@@ -7,10 +7,12 @@ ghost use Rattle.uses.specs.Initials.{IsInitial};
 use encode_unicode::Utf8Char;
 
 pub mod alike;
+pub mod bounds;
 pub mod chains;
 pub mod cursor;
 pub mod damage;
 pub mod editor;
+pub mod equals;
 pub mod lengths;
 pub mod merged;
 pub mod names;

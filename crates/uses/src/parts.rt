@@ -1,8 +1,8 @@
 //! Text that comes in parts, as from a socket.
-ghost use Rattle.std.specs.Prelude.{◌<◌, IfOk};
+ghost use Rattle.std.specs.Prelude.{◌<◌, IfOk, flat_map};
 ghost use Rattle.cuts.specs.Recoded.{IsRecoded};
 
-use cuts::{Form, Recoder};
+use cuts::{Form, Recoder, laws};
 use std::alloc::{AllocError, Allocator};
 
 /// The bytes in another form of text, recoded in parts of so many bytes, which end where they end: inside of a
@@ -17,6 +17,7 @@ pub fn recode_in_parts<A: Allocator>(
     requires { 0 < size }
     ensures { IfOk result (λ out. IsRecoded from to bytes.now out.items) }
 {
+    laws::parts_are_one_part();
     let mut out = Vec::new(alloc);
     let mut recoder = Recoder::new(from, to);
     let mut place = 0;
@@ -29,4 +30,25 @@ pub fn recode_in_parts<A: Allocator>(
         Ok(()) => Ok(out),
         Err(unfinished) => Err(unfinished.cause),
     }
+}
+
+/// The same of parts that are there already, as a server keeps them while a request comes.
+pub fn recode_parts<A: Allocator>(
+    alloc: A,
+    from: Form,
+    to: Form,
+    parts: &[Vec<u8>],
+) -> Result<Vec<u8, A>, AllocError>
+    ensures { IfOk result (λ out. IsRecoded from to (flat_map (λ part. part.items) parts.now) out.items) }
+{
+    laws::parts_are_one_part();
+    let mut out = Vec::new(alloc);
+    let mut recoder = Recoder::new(from, to);
+    for part in parts {
+        recoder.feed(part, &mut out)?;
+    }
+    if let Err(unfinished) = recoder.finish(&mut out) {
+        return Err(unfinished.cause);
+    }
+    Ok(out)
 }

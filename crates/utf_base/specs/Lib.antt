@@ -17,3 +17,4 @@ pub mod Refused
 pub mod Table
 pub mod Shown
 pub mod ShownLaws
+pub mod Bounds

@@ -2,6 +2,7 @@
 //!
 //! Each function does nothing: its contract is the law, for every list. A proof above cites a law by
 //! calling the function, or takes the lemma that proves it from `proofs/`.
+ghost use Rattle.utf_base.specs.Bounds.{NoMorePieces, NoLongerPieces};
 ghost use Rattle.utf_base.specs.Code.{utf8, utf16};
 ghost use Rattle.utf_base.specs.CutLaws.{CodesNeverOverlap, PiecesNeverOverlap, OnePieceBegins, OnePieceEnds};
 ghost use Rattle.utf_base.specs.CutLaws.{CutsFollow, CutExists, CutIsUnique, NoFaultInJoinedCodes};
@@ -67,6 +68,14 @@ pub fn cut_exists()
 pub fn cut_is_unique()
     ensures utf8 { CutIsUnique utf8 }
     ensures utf16 { CutIsUnique utf16 }
+{}
+
+/// A list has at most as many pieces as elements. Bytes have at most four for each piece, and units at most two.
+pub fn pieces_are_bounded()
+    ensures utf8 { NoMorePieces utf8 }
+    ensures utf16 { NoMorePieces utf16 }
+    ensures utf8_longest { NoLongerPieces utf8 4 }
+    ensures utf16_longest { NoLongerPieces utf16 2 }
 {}
 
 /// A cut has no fault exactly where its list is the codes of some scalars, joined, and its pieces are then

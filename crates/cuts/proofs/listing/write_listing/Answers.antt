@@ -1,4 +1,5 @@
 use Rattle.std.proofs.Common.{rules, refl, ◌∙◌}
+use Rattle.cuts.proofs.EqualRunLemmas.{listing_of_pieces}
 use Rattle.cuts.proofs.ListingLemmas.{IsListedSoFar-none, IsListedSoFar-push, WritesListing-all, WritesListingFront-failed, WritesListingFront-all}
 use Rattle.cuts.proofs.TextRuns.{listing_of_text}
 use Rattle.cuts.proofs.listing.write_listing.Goals as goal
@@ -27,3 +28,6 @@ returns-clause-front g c =
 
 pub returns-clause-text : goal.returns-clause-text
 returns-clause-text g c = listing_of_text _ _ _ _ (WritesListing-all _ _ _ _ _ _ c.loop-item.invariant.listed c.in-None.ensures.steps)
+
+pub returns-clause-count : goal.returns-clause-count
+returns-clause-count g c = listing_of_pieces _ _ _ _ (WritesListing-all _ _ _ _ _ _ c.loop-item.invariant.listed c.in-None.ensures.steps)

@@ -1,12 +1,16 @@
-use Rattle.std.proofs.Common.{arith, refl}
-use Rattle.uses.proofs.PartLemmas.{fed_all, fed_part}
+use Rattle.std.proofs.Common.{◌≡◌, ℕ, ◌+◌, ◌-◌, List, ◌++◌, take, arith, sym}
+use Rattle.std.proofs.lemmas.List.{take_all}
+use Rattle.std.specs.Prelude.{slice_range}
+use Rattle.cuts.proofs.Parts.{take_plus}
 use Rattle.uses.proofs.parts.recode_in_parts.Goals as goal
 
+longer : (p n : ℕ) (xs : List ℕ) → take (p + n) xs ≡ take p xs ++ slice_range xs p (p + n)
+longer p n xs = let count : p + n - p ≡ n = omega arith in rw count (take_plus p n xs)
+
 pub loop-place-preserved : goal.loop-place-preserved
-loop-place-preserved g c =
-    let len = c.min-len.ensures in
-    let more = c.loop-place-test.true in
-    fed_part _ _ _ _ _ _ _ _ _ _ c.loop-place.invariant refl (omega arith) c.in_ok-feed.ensures.ok
+loop-place-preserved g c = c.parts_are_one_part.ensures.part _ _ _ _ _ _ _ _ _ c.loop-place.invariant c.in_ok-feed.ensures.ok (longer _ _ _)
 
 pub returns-in-Ok : goal.returns-in-Ok
-returns-in-Ok g c = fed_all _ _ _ _ _ _ _ c.loop-place.invariant c.loop-place-test.false c.in-Ok.ensures.ok
+returns-in-Ok g c =
+    c.parts_are_one_part.ensures.whole _ _ _ _ _ _ _ c.loop-place.invariant c.in-Ok.ensures.ok
+    (sym (take_all _ _ c.loop-place-test.false))

@@ -1,0 +1,24 @@
+//! The laws of codes, pieces and errors, each the contract of a function that does nothing. A caller
+//! calls the one that its proof needs.
+ghost use Rattle.encode_unicode.specs.GivenBounds.{NoMoreGiven, NoLongerGiven};
+ghost use Rattle.encode_unicode.specs.Pieces.{pieces, unit_pieces};
+
+pub use utf_base::laws::{
+    ascii_stands_alone, code_or_last_byte, code_or_one_fault, codes_never_overlap, cut_exists,
+    cut_is_unique, cuts_follow, damage_is_local, damage_reaches_its_bounds, faults_stay,
+    first_is_shown, first_piece_stays, four_bytes_decide, kinds_differ, merger_code_or_one_fault,
+    no_fault_in_joined_codes, one_code_ends, one_piece_begins, one_piece_ends, pieces_are_bounded,
+    pieces_never_overlap, shows_one, two_units_decide, units_code_or_last_unit,
+    units_code_or_one_fault, units_code_or_one_kind, walk_exists, walk_gives_each_once,
+    walk_is_unique, walk_stays_outside,
+};
+pub use utf_chars::laws::forms_keep_the_scalar;
+
+/// A decoder gives at most as many pieces as there are elements. There are at most four bytes for each piece
+/// of bytes, and at most two units for each piece of units.
+pub fn runs_are_bounded()
+    ensures utf8 { NoMoreGiven pieces }
+    ensures utf16 { NoMoreGiven unit_pieces }
+    ensures utf8_longest { NoLongerGiven pieces 4 }
+    ensures utf16_longest { NoLongerGiven unit_pieces 2 }
+{}
