@@ -5,3 +5,7 @@ pub mod TableLemmas
 pub mod TokenLemmas
 pub mod EditorLemmas
 pub mod PartLemmas
+pub mod BoundaryLemmas
+pub mod StringLemmas
+pub mod ShownLemmas
+pub mod NeedleLemmas

@@ -7,6 +7,8 @@ ghost use Rattle.uses.specs.Initials.{IsInitial};
 use encode_unicode::Utf8Char;
 
 pub mod alike;
+pub mod blocks;
+pub mod boundaries;
 pub mod chains;
 pub mod cursor;
 pub mod damage;
@@ -14,16 +16,20 @@ pub mod editor;
 pub mod lengths;
 pub mod merged;
 pub mod names;
+pub mod needles;
 pub mod opened;
 pub mod parts;
 pub mod recoders;
 pub mod records;
 pub mod runs;
+pub mod shown;
 pub mod sources;
+pub mod strings;
 pub mod tables;
 pub mod texts;
 pub mod tokens;
 pub mod unchecked;
+pub mod wire;
 
 /// The first character of a text, in upper case where it is an ASCII letter.
 pub fn initial(text: &str) -> Option<Utf8Char>
