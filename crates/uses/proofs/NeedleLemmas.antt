@@ -1,10 +1,8 @@
 -- An ASCII text that stands in some bytes.
-use Rattle.std.proofs.Common.{◌≡◌, ℕ, ◌+◌, ◌-◌, ◌<◌, ◌≤◌, List, length, get_or, arith, ap, sym, ◌∙◌, Some}
+use Rattle.std.proofs.Common.{◌≡◌, ℕ, ◌+◌, ◌<◌, ◌≤◌, List, length, get_or, arith, ap, sym, ◌∙◌}
 use Rattle.std.proofs.lemmas.Grind.{common_steps}
 use Rattle.std.specs.Prelude.{All, slice_range}
-use Rattle.encode_unicode.specs.Code.{utf8}
 use Rattle.encode_unicode.specs.CutLaws.{AsciiStandsAlone}
-use Rattle.encode_unicode.specs.Piece.{IsPiece}
 use Rattle.uses.specs.Needles.{AreOwnPieces, StandsAt}
 
 at_range : (xs : List ℕ) (p n k : ℕ) → p + n ≤ length xs → k < n → get_or (slice_range xs p (p + n)) k 0 ≡ get_or xs (p + k) 0

@@ -1,5 +1,5 @@
 -- What the pieces of some bytes show, and the text before their first fault.
-use Rattle.std.proofs.Common.{◌≡◌, ℕ, ◌+◌, ◌-◌, ◌<◌, ◌≤◌, List, [], ◌∷◌, length, map, take, drop, Bool, false, cond, Some, None, Ok, Err, Result, ⊎_elim, arith, refl, ap, ap₂, sym, ◌∙◌, is_err, length-take}
+use Rattle.std.proofs.Common.{◌≡◌, ℕ, ◌+◌, ◌-◌, ◌<◌, ◌≤◌, List, [], ◌∷◌, length, map, take, drop, false, cond, None, Ok, Err, Result, ⊎_elim, arith, refl, ap, ◌∙◌, is_err}
 use Rattle.std.proofs.lemmas.Bool.{cases_lt}
 use Rattle.std.proofs.lemmas.Grind.{common_steps}
 use Rattle.std.proofs.lemmas.List.{drop-take, take-take}
@@ -16,7 +16,7 @@ use Rattle.encode_unicode.specs.Window.{Item}
 use Rattle.encode_unicode.specs.declared.error.Utf8ErrorKind.{Utf8ErrorKind}
 use Rattle.cuts.specs.Items.{piece_of}
 use Rattle.cuts.specs.Recoded.{IsRecoded}
-use Rattle.cuts.specs.Runs.{IsForwardRun, PiecesAreTheRun, TextHasNoFault, fault_count}
+use Rattle.cuts.specs.Runs.{PiecesAreTheRun, TextHasNoFault, fault_count}
 use Rattle.cuts.specs.WellFormed.{IsFirstFault}
 use Rattle.cuts.specs.declared.form.Form.TheVariants.{Utf8}
 use Rattle.uses.specs.Shown.{shown_item}

@@ -1,5 +1,5 @@
 -- Strings of JSON, piece by piece in place of byte by byte.
-use Rattle.std.proofs.Common.{◌≡◌, ℕ, zero, suc, ◌+◌, ◌-◌, ◌<◌, ◌≤◌, List, ◌∷◌, length, get_or, drop, Bool, true, false, Some, Option, nat_eq, ⊎_elim, arith, refl, ap, sym, ◌∙◌}
+use Rattle.std.proofs.Common.{◌≡◌, ℕ, zero, suc, ◌+◌, ◌-◌, ◌<◌, ◌≤◌, List, ◌∷◌, length, get_or, drop, true, false, Some, nat_eq, ⊎_elim, arith, refl, ap, sym, ◌∙◌}
 use Rattle.std.proofs.lemmas.Bool.{cases_lt}
 use Rattle.std.proofs.lemmas.Grind.{common_steps}
 use Rattle.std.proofs.lemmas.List.{drop_more}
@@ -8,7 +8,7 @@ use Rattle.std.specs.Result.{result_ok}
 use Rattle.encode_unicode.specs.Code.{utf8}
 use Rattle.encode_unicode.specs.CutLaws.{AsciiStandsAlone, PiecesNeverOverlap}
 use Rattle.encode_unicode.specs.Kinds.{fault_kind}
-use Rattle.encode_unicode.specs.Piece.{IsPieceAt, Piece, IsPiece}
+use Rattle.encode_unicode.specs.Piece.{Piece}
 use Rattle.encode_unicode.specs.Window.{Window, Item, GivesFront, IsFrontPiece}
 use Rattle.encode_unicode.proofs.ForCallers.{utf8_is_code, no_code_where_fault}
 use Rattle.cuts.proofs.ForwardRuns.{IsRunSoFar}

@@ -14,6 +14,7 @@ pub mod cursor;
 pub mod damage;
 pub mod editor;
 pub mod lengths;
+pub mod listed;
 pub mod merged;
 pub mod names;
 pub mod needles;
