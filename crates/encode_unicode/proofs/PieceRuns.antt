@@ -1,17 +1,18 @@
 -- A run of a decoder, or of an iterator over a text, gives the list of its pieces, or of its characters.
-use Rattle.std.proofs.Common.{◌≡◌, ℕ, zero, suc, ◌+◌, ◌-◌, ◌≤◌, List, [], ◌∷◌, ◌++◌, length, take, drop, Option, Some, None, Err, Result, refl, ap, sym, subst, ◌∙◌, arith, length-drop}
-use Rattle.std.specs.Iterator.{Yields}
-use Rattle.std.specs.Iterator.Runs.{Run, EveryRun, EachRunFrom, AllItems}
+use Rattle.std.proofs.Common.{◌≡◌, ℕ, zero, suc, ◌+◌, ◌-◌, ◌≤◌, List, [], ◌∷◌, ◌++◌, length, take, drop, Option, Some, None, Ok, Err, Result, map, refl, ap, sym, subst, ◌∙◌, arith, length-append, length-drop, append-nil}
+use Rattle.std.specs.Iterator.{Yields, YieldsLast}
+use Rattle.std.specs.Iterator.Runs.{Run, EveryRun, EachRunFrom, WholeRun, AllItems}
 use Rattle.std.proofs.iter.runs.Lists.{Everywhere}
 use Rattle.std.proofs.iter.runs.Made.{took, each}
-use Rattle.std.proofs.iter.runs.Sources.{as_is, from_front}
-use Rattle.std.specs.Prelude.{slice_index, option_map}
+use Rattle.std.proofs.iter.runs.Sources.{as_is, as_is_back, from_back, from_front}
+use Rattle.std.specs.List.{flat_map}
+use Rattle.std.specs.Prelude.{IfOk, encode_utf8_all, slice_index, slice_range, option_map}
 use Rattle.std.specs.Str.{chars, IsCharBoundary, IsUtf8}
 use Rattle.std.proofs.lemmas.Grind.{common_steps}
-use Rattle.std.proofs.lemmas.Str.{IsCharBoundary-start, IsUtf8-append, chars-nil, chars_past_char}
-use Rattle.std.proofs.lemmas.Iterator.{YieldsList}
+use Rattle.std.proofs.lemmas.Str.{IsCharBoundary-start, IsUtf8-append, chars-append, chars-nil, chars_past_char, encodes-chars}
+use Rattle.std.proofs.lemmas.Iterator.{YieldsList, items_from_drains}
 use Rattle.std.proofs.lemmas.Iterator.Consumers.{YieldsList-from_shown}
-use Rattle.std.proofs.lemmas.List.{take_all}
+use Rattle.std.proofs.lemmas.List.{map-id, take_all}
 use Rattle.utf_base.specs.Code.{utf8, utf16}
 use Rattle.utf_base.specs.declared.errors.Utf8ErrorKind.{Utf8ErrorKind}
 use Rattle.utf_base.specs.declared.errors.units.Utf16PairError.{Utf16PairError}
@@ -24,9 +25,9 @@ use Rattle.utf_base.proofs.Utf8Code.{utf8_is_code}
 use Rattle.utf_base.proofs.StdText.{utf8_is_std, utf8_is_text}
 use Rattle.utf_chars.proofs.Ranges.{range_behind}
 use Rattle.encode_unicode.proofs.Joined.{some_utf8}
-use Rattle.encode_unicode.specs.Pieces.{Gives, LiesWithin, LiesInText, pieces, unit_pieces, pieces_by, pieces_left, unit_pieces_left, placed_chars, chars_left, placed_chars_left}
+use Rattle.encode_unicode.specs.Pieces.{Gives, GivesReversed, LiesWithin, LiesInText, pieces, unit_pieces, pieces_by, pieces_left, unit_pieces_left, placed_chars, chars_left, placed_chars_left}
 use Rattle.encode_unicode.specs.Sources.{IsListed}
-use Rattle.encode_unicode.specs.TextWindow.{NextScalar, NextPlaced, GivesFirst}
+use Rattle.encode_unicode.specs.TextWindow.{NextScalar, NextPlaced, BackScalar, BackPlaced, GivesFirst, GivesLast}
 use Rattle.encode_unicode.specs.Window.{Window, Placed, elements, whole_window, without_front, as_piece, GivesNone, GivesFrontOf, NextGives, NextGivesUnits}
 
 -- A list that tells what each state still gives is what each run gives.
@@ -34,6 +35,13 @@ pub listed_run : {S A : Type 0} (steps : S → Option A → S → Type 0) (rest 
 listed_run {S} {A} steps rest listed p seen =
     let mapped = from_front steps (λ (x : A). x) rest (λ s t h. ap length (listed s None t h).0) (λ s x t h. listed s (Some x) t h) p seen in
     (as_is p (rest p.from) mapped, mapped)
+
+-- The same from the back.
+listed_run_back : {S A : Type 0} (back : S → Option A → S → Type 0) (rest : S → List A) → ((s : S) (r : Option A) (t : S) → back s r t → YieldsLast rest s r t)
+    → EveryRun back (λ p. GivesReversed p (rest p.from))
+listed_run_back {S} {A} back rest listed p seen =
+    let mapped = from_back back (λ (x : A). x) rest (λ s t h. ap length (listed s None t h).0) (λ s x t h. listed s (Some x) t h) p seen in
+    (as_is_back p (rest p.from) mapped, mapped)
 
 -- Pieces.
 
@@ -146,6 +154,52 @@ placed_listed w (Some x) v h =
     ap (placed_chars w.front) (first_char w v x.0 x.1 h) ∙ ap (λ p. (p, x.1) ∷ placed_chars (w.front + length (utf8 x.1)) (chars_left v)) (sym h.at_front)
     ∙ ap (λ p. x ∷ placed_chars p (chars_left v)) (sym front)
 
+-- The same from the back.
+
+no_chars_back : (w v : Window) → GivesNone w v → (chars_left w ≡ []) × (chars_left v ≡ [])
+no_chars_back w v h = let none = no_chars w v h in (none, ap chars_left h.left ∙ none)
+
+last_char : (w v : Window) (place s : ℕ) → GivesLast w place s v → chars_left w ≡ chars_left v ++ s ∷ []
+last_char w v place s h =
+    let one : chars (utf8 s) ≡ s ∷ [] = ap chars (sym (append-nil (utf8 s))) ∙ chars_past_char (utf8 s ++ []) [] s (rw (append-nil (utf8 s)) (utf8_is_text s h.scalar)) (ap (λ code. code ++ []) (sym (utf8_is_std s))) ∙ ap (λ xs. s ∷ xs) chars-nil in
+    ap chars h.code ∙ chars-append (elements v) (utf8 s) h.between.text ∙ ap (λ xs. chars_left v ++ xs) one
+
+pub scalars_last : (w : Window) (r : Option ℕ) (v : Window) → BackScalar w r v → YieldsLast chars_left w r v
+scalars_last w None v h = no_chars_back w v h
+scalars_last w (Some s) v h = last_char w v v.back s h
+
+encodes_are_codes : (cs : List ℕ) → encode_utf8_all cs ≡ flat_map utf8 cs
+encodes_are_codes [] = refl
+encodes_are_codes (c ∷ cs) = rw (encodes_are_codes cs, utf8_is_std c) refl
+
+-- the codes of the characters of a text are the text
+pub codes_of_text : (text : List ℕ) → IsUtf8 text → flat_map utf8 (chars text) ≡ text
+codes_of_text text h = sym (encodes_are_codes (chars text)) ∙ encodes-chars text h
+
+length_range : (xs : List ℕ) (i j : ℕ) → j ≤ length xs → length (slice_range xs i j) ≡ j - i
+length_range xs i j h = grind (arith, common_steps)
+
+placed-append : (place : ℕ) (xs ys : List ℕ) → placed_chars place (xs ++ ys) ≡ placed_chars place xs ++ placed_chars (place + length (flat_map utf8 xs)) ys
+placed-append place [] ys = ap (λ p. placed_chars p ys) (omega arith)
+placed-append place (x ∷ xs) ys =
+    let sum : place + length (utf8 x) + length (flat_map utf8 xs) ≡ place + length (flat_map utf8 (x ∷ xs)) = omega (arith, length-append (utf8 x) (flat_map utf8 xs)) in
+    ap (λ l. (place, x) ∷ l) (placed-append (place + length (utf8 x)) xs ys ∙ ap (λ p. placed_chars (place + length (utf8 x)) xs ++ placed_chars p ys) sum)
+
+pub placed_last : (w : Window) (r : Option (ℕ × ℕ)) (v : Window) → BackPlaced w r v → YieldsLast placed_chars_left w r v
+placed_last w None v h = let none = no_chars_back w v h in (ap (placed_chars w.front) none.0, ap (placed_chars v.front) none.1)
+placed_last w (Some x) v h =
+    let front : v.front ≡ w.front = ap (λ (u : Window). u.front) h.left in
+    let back : v.back ≡ w.back - length (utf8 x.1) = ap (λ (u : Window). u.back) h.left in
+    let fits = h.between.back.0 in
+    let both : length (elements w) ≡ length (elements v) + length (utf8 x.1) = ap length h.code ∙ length-append (elements v) (utf8 x.1) in
+    let most : length (elements w) ≤ w.back - w.front = grind (arith, common_steps) in
+    let some = some_utf8 x.1 in
+    let count : length (elements v) ≡ v.back - v.front = length_range v.whole v.front v.back fits in
+    let at : x.0 ≡ v.back = h.at_back in
+    let place : w.front + length (flat_map utf8 (chars_left v)) ≡ x.0 = rw (codes_of_text (elements v) h.between.text) (omega arith) in
+    ap (placed_chars w.front) (last_char w v x.0 x.1 h) ∙ placed-append w.front (chars_left v) (x.1 ∷ []) ∙ ap (λ p. placed_chars w.front (chars_left v) ++ (p, x.1) ∷ []) place
+    ∙ ap (λ p. placed_chars p (chars_left v) ++ x ∷ []) (sym front)
+
 -- What their runs give.
 
 pub decoder_runs : EveryRun NextGives (λ p. Gives p (pieces_left p.from))
@@ -157,8 +211,31 @@ unit_decoder_runs = listed_run NextGivesUnits unit_pieces_left unit_decoder_list
 pub scalars_runs : EveryRun NextScalar (λ p. Gives p (chars_left p.from))
 scalars_runs = listed_run NextScalar chars_left scalars_listed
 
+pub scalars_runs_back : EveryRun BackScalar (λ p. GivesReversed p (chars_left p.from))
+scalars_runs_back = listed_run_back BackScalar chars_left scalars_last
+
+pub placed_runs_back : EveryRun BackPlaced (λ p. GivesReversed p (placed_chars_left p.from))
+placed_runs_back = listed_run_back BackPlaced placed_chars_left placed_last
+
 pub placed_runs : EveryRun NextPlaced (λ p. Gives p (placed_chars_left p.from))
 placed_runs = listed_run NextPlaced placed_chars_left placed_listed
+
+-- What runs over the whole text give.
+
+whole_text : (text : List ℕ) → elements (whole_window text) ≡ text
+whole_text text = take_all _ text (omega arith)
+
+pub scalars_all : (text : List ℕ) (s : Window) → s ≡ whole_window text → EachRunFrom NextScalar s (λ p. Gives p (chars text))
+scalars_all text s e p seen from = subst (Gives p) (ap chars_left (from ∙ e) ∙ ap chars (whole_text text)) (scalars_runs p seen)
+
+pub scalars_all_back : (text : List ℕ) (s : Window) → s ≡ whole_window text → EachRunFrom BackScalar s (λ p. GivesReversed p (chars text))
+scalars_all_back text s e p seen from = subst (GivesReversed p) (ap chars_left (from ∙ e) ∙ ap chars (whole_text text)) (scalars_runs_back p seen)
+
+pub placed_all : (text : List ℕ) (s : Window) → s ≡ whole_window text → EachRunFrom NextPlaced s (λ p. Gives p (placed_chars 0 (chars text)))
+placed_all text s e p seen from = subst (Gives p) (ap placed_chars_left (from ∙ e) ∙ ap (λ xs. placed_chars 0 (chars xs)) (whole_text text)) (placed_runs p seen)
+
+pub placed_all_back : (text : List ℕ) (s : Window) → s ≡ whole_window text → EachRunFrom BackPlaced s (λ p. GivesReversed p (placed_chars 0 (chars text)))
+placed_all_back text s e p seen from = subst (GivesReversed p) (ap placed_chars_left (from ∙ e) ∙ ap (λ xs. placed_chars 0 (chars xs)) (whole_text text)) (placed_runs_back p seen)
 
 -- Where their items lie.
 
@@ -231,9 +308,6 @@ pieces_yielded xs e = rw e (listed_yields NextGives pieces_left decoder_listed (
 pub unit_pieces_yielded : {s : Window} (xs : List ℕ) → s ≡ whole_window xs → YieldsList NextGivesUnits (λ x. x) s (unit_pieces xs)
 unit_pieces_yielded xs e = rw e (listed_yields NextGivesUnits unit_pieces_left unit_decoder_listed (whole_window xs))
 
-whole_text : (text : List ℕ) → elements (whole_window text) ≡ text
-whole_text text = take_all _ text (omega arith)
-
 pub chars_yielded : {s : Window} (text : List ℕ) → s ≡ whole_window text → YieldsList NextScalar (λ x. x) s (chars text)
 chars_yielded text e =
     let all = listed_yields NextScalar chars_left scalars_listed (whole_window text) in
@@ -243,3 +317,16 @@ pub placed_yielded : {s : Window} (text : List ℕ) → s ≡ whole_window text 
 placed_yielded text e =
     let all = listed_yields NextPlaced placed_chars_left placed_listed (whole_window text) in
     rw e (subst (λ xs. YieldsList NextPlaced (λ x. x) (whole_window text) (placed_chars 0 (chars xs))) (whole_text text) all)
+
+-- what holds of the items of some whole run holds of the list that each run gives
+run_of_yielded : {S A : Type 0} {steps : S → Option A → S → Type 0} {s : S} (xs : List A) (P : List A → Type 0) → WholeRun steps s (λ p. P p.items) → YieldsList steps (λ x. x) s xs → P xs
+run_of_yielded {S} {A} {steps} {s} xs P all yields =
+    let end = took all.0 in
+    let same : map (λ x. x) all.0.items ≡ xs = items_from_drains all.0.items (end.0, subst (λ from. Yields steps from all.0.items end.0) all.1 end.1, λ _. end.2 all.2) yields in
+    subst P (sym (map-id all.0.items) ∙ same) all.3
+
+-- what `collect_bytes` and its kin make of a chain whose list is known
+pub collected_from_yields : {S A C E B : Type 0} {steps : S → Option A → S → Type 0} {s : S} (code : A → List B) (held : C → List B) (xs : List A) (r : Result C E)
+    → IfOk r (λ made. WholeRun steps s (λ p. held made ≡ flat_map code p.items)) → YieldsList steps (λ x. x) s xs → IfOk r (λ made. held made ≡ flat_map code xs)
+collected_from_yields code held xs (Ok made) all yields = run_of_yielded xs (λ items. held made ≡ flat_map code items) all yields
+collected_from_yields code held xs (Err e) all yields = tt

@@ -1,6 +1,6 @@
 -- What whole runs of decoders and of iterators over a text give, as lists.
 use Rattle.std.specs.Prelude.{ℕ, zero, suc, ◌+◌, ◌<◌, ◌≤◌, List, [], ◌∷◌, length, drop, Result, Option}
-use Rattle.std.specs.Iterator.Runs.{Run, ItemsAre, ItemsMapTo}
+use Rattle.std.specs.Iterator.Runs.{Run, ItemsAre, ItemsMapTo, ItemsAreReversed, ItemsMapToReversed}
 use Rattle.std.specs.Str.{chars, IsCharBoundary}
 use Rattle.utf_base.specs.Code.{utf8}
 use Rattle.utf_base.specs.Decoded.{decoded, decoded_pairs}
@@ -43,6 +43,10 @@ placed_chars_left w = placed_chars w.front (chars (elements w))
 -- a run gives the elements of the list, in order: said of the elements and of what is made of them
 abbrev pub Gives : {S A : Type 0} {steps : S → Option A → S → Type 0} → Run steps → List A → Type 0
 Gives p xs = ItemsAre p xs × ItemsMapTo p (λ x. x) xs
+
+-- the same, last first
+abbrev pub GivesReversed : {S A : Type 0} {steps : S → Option A → S → Type 0} → Run steps → List A → Type 0
+GivesReversed p xs = ItemsAreReversed p xs × ItemsMapToReversed p (λ x. x) xs
 
 -- a piece lies within so many elements
 abbrev pub LiesWithin : {E : Type 0} → ℕ → Placed E → Type 0

@@ -1,6 +1,8 @@
 //! Methods of iterators over bytes, units and characters.
-ghost use Rattle.std.specs.Prelude.{◌≡◌, [], List, ℕ, IfOk, IsOk, OnOk, OnErr, string_bytes, string_capacity, vec_capacity};
+ghost use Rattle.std.specs.Prelude.{◌≡◌, ◌++◌, [], List, ℕ, IfOk, IsOk, OnOk, OnErr, string_bytes, string_capacity, vec_capacity};
 ghost use Rattle.std.specs.Iterator.{IsFinite};
+ghost use Rattle.std.specs.Iterator.Runs.{WholeRun};
+ghost use Rattle.std.specs.List.{flat_map};
 ghost use Rattle.utf_base.specs.Code.{utf8, utf16};
 ghost use Rattle.encode_unicode.specs.Collections.{AddsCodes, AddsFirstCodes};
 ghost use Rattle.encode_unicode.specs.Mergers.{unasked};
@@ -58,6 +60,7 @@ pub trait Utf8CharIterExt: Iterator<Item = Utf8Char> + Sized {
         requires can { Self.can_next self }
         requires ends { IsFinite (Self.remaining self) }
         ensures ok { IfOk result (λ bytes. AddsCodes utf8 Self.next_gives self [] bytes.items) }
+        ensures runs { IfOk result (λ bytes. WholeRun Self.next_gives self (λ p. bytes.items ≡ flat_map utf8 p.items)) }
         ensures nothing { (rest : Self → List ℕ) → IsListed Self.next_gives rest → rest self ≡ [] → IsOk result };
 
     /// The text of all characters. The error is that a growth was refused.
@@ -65,6 +68,7 @@ pub trait Utf8CharIterExt: Iterator<Item = Utf8Char> + Sized {
         requires can { Self.can_next self }
         requires ends { IsFinite (Self.remaining self) }
         ensures ok { IfOk result (λ text. AddsCodes utf8 Self.next_gives self [] (string_bytes text)) }
+        ensures runs { IfOk result (λ text. WholeRun Self.next_gives self (λ p. string_bytes text ≡ flat_map utf8 p.items)) }
         ensures nothing { (rest : Self → List ℕ) → IsListed Self.next_gives rest → rest self ≡ [] → IsOk result };
 
     /// Adds the bytes of all characters after those that are there. Where a growth is refused, the
@@ -74,6 +78,7 @@ pub trait Utf8CharIterExt: Iterator<Item = Utf8Char> + Sized {
         requires ends { IsFinite (Self.remaining self) }
         ensures ok { OnOk result (AddsCodes utf8 Self.next_gives self bytes.old.items bytes.new.items) }
         ensures err { OnErr result (AddsFirstCodes utf8 Self.next_gives self (vec_capacity bytes.old) bytes.old.items bytes.new.items) }
+        ensures runs { OnOk result (WholeRun Self.next_gives self (λ p. bytes.new.items ≡ bytes.old.items ++ flat_map utf8 p.items)) }
         ensures nothing { (rest : Self → List ℕ) → IsListed Self.next_gives rest → rest self ≡ [] → IsOk result };
 
     /// Adds all characters to the text. Where a growth is refused, those before it have been added, and
@@ -83,6 +88,7 @@ pub trait Utf8CharIterExt: Iterator<Item = Utf8Char> + Sized {
         requires ends { IsFinite (Self.remaining self) }
         ensures ok { OnOk result (AddsCodes utf8 Self.next_gives self (string_bytes text.old) (string_bytes text.new)) }
         ensures err { OnErr result (AddsFirstCodes utf8 Self.next_gives self (string_capacity text.old) (string_bytes text.old) (string_bytes text.new)) }
+        ensures runs { OnOk result (WholeRun Self.next_gives self (λ p. string_bytes text.new ≡ string_bytes text.old ++ flat_map utf8 p.items)) }
         ensures nothing { (rest : Self → List ℕ) → IsListed Self.next_gives rest → rest self ≡ [] → IsOk result };
 }
 
@@ -132,6 +138,7 @@ pub trait Utf16CharIterExt: Iterator<Item = Utf16Char> + Sized {
         requires can { Self.can_next self }
         requires ends { IsFinite (Self.remaining self) }
         ensures ok { IfOk result (λ units. AddsCodes utf16 Self.next_gives self [] units.items) }
+        ensures runs { IfOk result (λ units. WholeRun Self.next_gives self (λ p. units.items ≡ flat_map utf16 p.items)) }
         ensures nothing { (rest : Self → List ℕ) → IsListed Self.next_gives rest → rest self ≡ [] → IsOk result };
 
     /// The string of all characters. The error is that a growth was refused.
@@ -139,6 +146,7 @@ pub trait Utf16CharIterExt: Iterator<Item = Utf16Char> + Sized {
         requires can { Self.can_next self }
         requires ends { IsFinite (Self.remaining self) }
         ensures ok { IfOk result (λ string. AddsCodes utf8 Self.next_gives self [] (string_bytes string)) }
+        ensures runs { IfOk result (λ string. WholeRun Self.next_gives self (λ p. string_bytes string ≡ flat_map utf8 p.items)) }
         ensures nothing { (rest : Self → List ℕ) → IsListed Self.next_gives rest → rest self ≡ [] → IsOk result };
 
     /// Adds the units of all characters after those that are there. Where a growth is refused, the
@@ -148,6 +156,7 @@ pub trait Utf16CharIterExt: Iterator<Item = Utf16Char> + Sized {
         requires ends { IsFinite (Self.remaining self) }
         ensures ok { OnOk result (AddsCodes utf16 Self.next_gives self units.old.items units.new.items) }
         ensures err { OnErr result (AddsFirstCodes utf16 Self.next_gives self (vec_capacity units.old) units.old.items units.new.items) }
+        ensures runs { OnOk result (WholeRun Self.next_gives self (λ p. units.new.items ≡ units.old.items ++ flat_map utf16 p.items)) }
         ensures nothing { (rest : Self → List ℕ) → IsListed Self.next_gives rest → rest self ≡ [] → IsOk result };
 
     /// Adds all characters to the string. Where a growth is refused, those before it have been added, and
@@ -157,6 +166,7 @@ pub trait Utf16CharIterExt: Iterator<Item = Utf16Char> + Sized {
         requires ends { IsFinite (Self.remaining self) }
         ensures ok { OnOk result (AddsCodes utf8 Self.next_gives self (string_bytes string.old) (string_bytes string.new)) }
         ensures err { OnErr result (AddsFirstCodes utf8 Self.next_gives self (string_capacity string.old) (string_bytes string.old) (string_bytes string.new)) }
+        ensures runs { OnOk result (WholeRun Self.next_gives self (λ p. string_bytes string.new ≡ string_bytes string.old ++ flat_map utf8 p.items)) }
         ensures nothing { (rest : Self → List ℕ) → IsListed Self.next_gives rest → rest self ≡ [] → IsOk result };
 }
 

@@ -1,8 +1,9 @@
 //! Methods of texts.
 ghost use Rattle.std.specs.Prelude.{◌≡◌, List, ℕ};
+ghost use Rattle.std.specs.Str.{chars};
 ghost use Rattle.std.specs.Iterator.Runs.{AllItems, EachRunFrom, EveryRun};
-ghost use Rattle.encode_unicode.specs.Pieces.{Gives, LiesInText, chars_left, placed_chars_left};
-ghost use Rattle.encode_unicode.specs.TextWindow.{NextPlaced, NextScalar};
+ghost use Rattle.encode_unicode.specs.Pieces.{Gives, GivesReversed, LiesInText, chars_left, placed_chars, placed_chars_left};
+ghost use Rattle.encode_unicode.specs.TextWindow.{BackPlaced, BackScalar, NextPlaced, NextScalar};
 ghost use Rattle.encode_unicode.specs.Window.{whole_window};
 
 use crate::utf8_iterators::{Utf8CharIndices, Utf8Chars};
@@ -17,23 +18,35 @@ pub trait StrExt<'a>: Sized {
     /// The characters, kept as their codes in UTF-8.
     fn utf8chars(self) -> Utf8Chars<'a>
         ensures window { result ≡ whole_window (text self) }
-        ensures runs { EveryRun NextScalar (λ p. Gives p (chars_left p.from)) };
+        ensures runs { EveryRun NextScalar (λ p. Gives p (chars_left p.from)) }
+        ensures runs_back { EveryRun BackScalar (λ p. GivesReversed p (chars_left p.from)) }
+        ensures all { EachRunFrom NextScalar result (λ p. Gives p (chars (text self))) }
+        ensures all_back { EachRunFrom BackScalar result (λ p. GivesReversed p (chars (text self))) };
 
     /// The characters, kept as their codes in UTF-16.
     fn utf16chars(self) -> Utf16Chars<'a>
         ensures window { result ≡ whole_window (text self) }
-        ensures runs { EveryRun NextScalar (λ p. Gives p (chars_left p.from)) };
+        ensures runs { EveryRun NextScalar (λ p. Gives p (chars_left p.from)) }
+        ensures runs_back { EveryRun BackScalar (λ p. GivesReversed p (chars_left p.from)) }
+        ensures all { EachRunFrom NextScalar result (λ p. Gives p (chars (text self))) }
+        ensures all_back { EachRunFrom BackScalar result (λ p. GivesReversed p (chars (text self))) };
 
     /// The characters, kept as their codes in UTF-8, each with its offset in bytes.
     fn utf8char_indices(self) -> Utf8CharIndices<'a>
         ensures window { result ≡ whole_window (text self) }
         ensures runs { EveryRun NextPlaced (λ p. Gives p (placed_chars_left p.from)) }
+        ensures runs_back { EveryRun BackPlaced (λ p. GivesReversed p (placed_chars_left p.from)) }
+        ensures all { EachRunFrom NextPlaced result (λ p. Gives p (placed_chars 0 (chars (text self)))) }
+        ensures all_back { EachRunFrom BackPlaced result (λ p. GivesReversed p (placed_chars 0 (chars (text self)))) }
         ensures places { EachRunFrom NextPlaced result (λ p. AllItems p (LiesInText (text self))) };
 
     /// The characters, kept as their codes in UTF-16, each with its offset in bytes.
     fn utf16char_indices(self) -> Utf16CharIndices<'a>
         ensures window { result ≡ whole_window (text self) }
         ensures runs { EveryRun NextPlaced (λ p. Gives p (placed_chars_left p.from)) }
+        ensures runs_back { EveryRun BackPlaced (λ p. GivesReversed p (placed_chars_left p.from)) }
+        ensures all { EachRunFrom NextPlaced result (λ p. Gives p (placed_chars 0 (chars (text self)))) }
+        ensures all_back { EachRunFrom BackPlaced result (λ p. GivesReversed p (placed_chars 0 (chars (text self)))) }
         ensures places { EachRunFrom NextPlaced result (λ p. AllItems p (LiesInText (text self))) };
 }
 
@@ -41,25 +54,25 @@ impl<'a> StrExt<'a> for &'a str {
     ghost text = { λ text. text.now };
 
     #[inline]
-    #[tactic(auto, using(crate::proofs::PieceRuns::scalars_runs))]
+    #[tactic(auto, using(crate::proofs::PieceRuns::scalars_runs, crate::proofs::PieceRuns::scalars_runs_back))]
     fn utf8chars(self) -> Utf8Chars<'a> {
         Utf8Chars::from(self)
     }
 
     #[inline]
-    #[tactic(auto, using(crate::proofs::PieceRuns::scalars_runs))]
+    #[tactic(auto, using(crate::proofs::PieceRuns::scalars_runs, crate::proofs::PieceRuns::scalars_runs_back))]
     fn utf16chars(self) -> Utf16Chars<'a> {
         Utf16Chars::from(self)
     }
 
     #[inline]
-    #[tactic(auto, using(crate::proofs::PieceRuns::placed_runs, crate::proofs::PieceRuns::text_places))]
+    #[tactic(auto, using(crate::proofs::PieceRuns::placed_runs, crate::proofs::PieceRuns::placed_runs_back, crate::proofs::PieceRuns::text_places))]
     fn utf8char_indices(self) -> Utf8CharIndices<'a> {
         Utf8CharIndices::from(self)
     }
 
     #[inline]
-    #[tactic(auto, using(crate::proofs::PieceRuns::placed_runs, crate::proofs::PieceRuns::text_places))]
+    #[tactic(auto, using(crate::proofs::PieceRuns::placed_runs, crate::proofs::PieceRuns::placed_runs_back, crate::proofs::PieceRuns::text_places))]
     fn utf16char_indices(self) -> Utf16CharIndices<'a> {
         Utf16CharIndices::from(self)
     }

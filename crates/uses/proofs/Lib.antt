@@ -4,3 +4,9 @@ pub mod RecordLemmas
 pub mod TableLemmas
 pub mod TokenLemmas
 pub mod EditorLemmas
+pub mod PartLemmas
+pub mod BoundaryLemmas
+pub mod StringLemmas
+pub mod ShownLemmas
+pub mod NeedleLemmas
+pub mod SourceLemmas

@@ -8,24 +8,31 @@ use encode_unicode::Utf8Char;
 
 pub mod alike;
 pub mod bounds;
+pub mod blocks;
+pub mod boundaries;
 pub mod chains;
 pub mod cursor;
 pub mod damage;
 pub mod editor;
 pub mod equals;
 pub mod lengths;
+pub mod listed;
 pub mod merged;
 pub mod names;
+pub mod needles;
 pub mod opened;
 pub mod parts;
 pub mod recoders;
 pub mod records;
 pub mod runs;
+pub mod shown;
 pub mod sources;
+pub mod strings;
 pub mod tables;
 pub mod texts;
 pub mod tokens;
 pub mod unchecked;
+pub mod wire;
 
 /// The first character of a text, in upper case where it is an ASCII letter.
 pub fn initial(text: &str) -> Option<Utf8Char>

@@ -1,8 +1,10 @@
 //! Texts: where a text can be cut, and what a character adds to one.
-ghost use Rattle.std.specs.Prelude.{◌≡◌, ◌++◌, OnOk, string_bytes};
-ghost use Rattle.encode_unicode.specs.Code.{utf8};
+ghost use Rattle.std.specs.Prelude.{◌≡◌, ◌++◌, IfOk, OnOk, flat_map, map, reverse, string_bytes, take};
+ghost use Rattle.std.specs.Str.{chars};
+ghost use Rattle.encode_unicode.specs.Chars.{ascii_uppercase};
+ghost use Rattle.encode_unicode.specs.Code.{utf8, utf16};
 
-use encode_unicode::{Utf8Char, Utf16Char};
+use encode_unicode::{StrExt, Utf8Char, Utf8CharIterExt, Utf16Char, Utf16CharIterExt};
 use std::alloc::{AllocError, Allocator};
 
 /// The text after its first character.
@@ -34,4 +36,45 @@ pub fn push_char<A: Allocator>(text: &mut String<A>, c: char) -> Result<(), Allo
     ensures { OnOk result (string_bytes text.new ≡ string_bytes text.old ++ utf8 c) }
 {
     text.push(c)
+}
+
+/// The text with its ASCII letters in upper case.
+pub fn raised<A: Allocator>(alloc: A, text: &str) -> Result<String<A>, AllocError>
+    ensures { IfOk result (λ made. string_bytes made ≡ flat_map utf8 (map ascii_uppercase (chars text.now))) }
+{
+    let letters = text.utf8chars().map(|c| c.to_ascii_uppercase());
+    letters.collect_string(alloc)
+}
+
+/// The characters of the text, last first.
+pub fn reversed<A: Allocator>(alloc: A, text: &str) -> Result<String<A>, AllocError>
+    ensures { IfOk result (λ made. string_bytes made ≡ flat_map utf8 (reverse (chars text.now))) }
+{
+    text.utf8chars().rev().collect_string(alloc)
+}
+
+/// The first characters of the text, so many or all.
+pub fn shortened<A: Allocator>(alloc: A, text: &str, count: usize) -> Result<String<A>, AllocError>
+    ensures { IfOk result (λ made. string_bytes made ≡ flat_map utf8 (take count (chars text.now))) }
+{
+    text.utf8chars().take(count).collect_string(alloc)
+}
+
+/// Two texts, one after the other, as units.
+pub fn joined_units<A: Allocator>(
+    alloc: A,
+    first: &str,
+    second: &str,
+) -> Result<Vec<u16, A>, AllocError>
+    ensures { IfOk result (λ units. units.items ≡ flat_map utf16 (chars first.now ++ chars second.now)) }
+{
+    let both = first.utf16chars().chain(second.utf16chars());
+    both.collect_units(alloc)
+}
+
+/// Adds the characters of another text, last first.
+pub fn add_reversed<A: Allocator>(text: &mut String<A>, more: &str) -> Result<(), AllocError>
+    ensures { OnOk result (string_bytes text.new ≡ string_bytes text.old ++ flat_map utf8 (reverse (chars more.now))) }
+{
+    more.utf8chars().rev().extend_string(text)
 }

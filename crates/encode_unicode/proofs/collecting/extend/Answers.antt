@@ -1,4 +1,5 @@
 use Rattle.std.proofs.Common.{sym, ap, ◌∙◌, ◌++◌, arith}
+use Rattle.std.proofs.iter.runs.Made.{run_of_exit}
 use Rattle.std.proofs.lemmas.List.{flat_map_more}
 use Rattle.std.proofs.lemmas.Result.{err_from_is_err_and}
 use Rattle.std.specs.List.{flat_map}
@@ -24,3 +25,8 @@ returns-in_err-add-clause-nothing g c rest listed none = absurd (not_none _ _ _ 
 
 pub returns-clause-ok : goal.returns-clause-ok
 returns-clause-ok g c rest listed = c.loop-c.invariant.added ∙ ap (λ ys. g.T.HoldsCodes.held c.args.out.now ++ flat_map g.T.HoldsCodes.code ys) (sym (none_left _ _ _ (c.loop-c.invariant.left rest listed) (listed _ _ _ c.in-None.ensures.steps).0))
+
+pub returns-clause-runs : goal.returns-clause-runs
+returns-clause-runs g c =
+    let all = run_of_exit g.I.Iterator.next_gives _ _ _ c.loop-c.yielded_by _ c.in-None.ensures.steps in
+    (all.0, all.1 ∙ c.into_iter-c-iterator.ensures.into_iter_gives, all.2, c.loop-c.invariant.added ∙ ap (λ xs. g.T.HoldsCodes.held c.args.out.now ++ flat_map g.T.HoldsCodes.code xs) (sym all.3.0))
