@@ -20,6 +20,7 @@ pub use Rattle.utf_base.specs.Walk
 pub use Rattle.utf_base.specs.WalkLaws
 pub use Rattle.encode_unicode.specs.Window
 pub mod Recoded
+pub mod Shards
 pub mod Rooms
 pub mod WellFormed
 pub mod ShownFronts

@@ -2,6 +2,7 @@
 //!
 //! Each function does nothing: its contract is the law.
 ghost use Rattle.cuts.specs.Runs.{PiecesAreTheRun, TextHasNoFault};
+ghost use Rattle.cuts.specs.Shards.{ShardsJoin};
 ghost use Rattle.cuts.specs.Recoded.{RecodedOnce, PartsAreRecoded, PartsDoNotMatter};
 
 /// Bytes are recoded in exactly one way.
@@ -14,6 +15,12 @@ pub fn recoded_once()
 pub fn parts_do_not_matter()
     ensures recoded { PartsAreRecoded }
     ensures same { PartsDoNotMatter }
+{}
+
+/// Shards that end where no code lies over, each recoded by itself, are joined what the whole is recoded as. A fault in the
+/// last three bytes of a shard may have another kind there than in the whole, which recoding does not see.
+pub fn shards_join()
+    ensures { ShardsJoin }
 {}
 
 /// What a decoder gives of some bytes, one piece after another, is the forward run over them, of which there is one.
