@@ -17,8 +17,8 @@ pub fn parts_do_not_matter()
     ensures same { PartsDoNotMatter }
 {}
 
-/// Shards that end where no code lies over, each recoded by itself, are joined what the whole is recoded as. A fault in the
-/// last three bytes of a shard may have another kind there than in the whole, which recoding does not see.
+/// Shards over whose ends no code lies may be recoded apart: what comes of them, joined, is what the whole is recoded as. The
+/// kind of a fault in the last three bytes of a shard may be another than in the whole; recoding makes U+FFFD of each kind.
 pub fn shards_join()
     ensures { ShardsJoin }
 {}

@@ -9,11 +9,10 @@ use crate::form::Form;
 use crate::shown_fronts::unit;
 use encode_unicode::CharExt;
 
-/// The last place, up to `at`, where a shard of the bytes may end: no code lies over it, nor in UTF-16 a unit. It is at most
-/// three bytes before `at`, and the end of the bytes where `at` is no less. Six bytes around `at` are looked at.
+/// The last place, up to `at`, where a shard of the bytes may end: no code lies over it, and in UTF-16 no unit. It is at most
+/// three bytes before `at`, and the end of the bytes where `at` is there or after it. Six bytes around `at` are looked at.
 ///
-/// Shards that end at such places are recoded by themselves, also on different machines, and joined: the law
-/// `shards_join`.
+/// Shards that end at such places are recoded apart, also on several machines, and joined: the law `shards_join`.
 pub fn shard_end(from: Form, bytes: &[u8], at: usize) -> usize
     ensures end { IsLastShardEnd from bytes.now at result }
     ensures near { min at (length bytes.now) ≤ result + 3 }
