@@ -118,6 +118,11 @@ uint8_t nody_recoder_finish(nody_recoder_t *recoder, uint8_t *out, size_t room, 
  * count them, or a form is above 2. */
 size_t nody_room_for(uint8_t from, uint8_t to, size_t len);
 
+/* The last place, up to `at`, where bytes of that form may be cut, so that each side can be recoded by itself and the two
+ * joined: no character lies over it, and of UTF-16 no unit. It is at most three bytes before `at`, and `len` where `at` is no
+ * less. Six bytes around `at` are looked at. SIZE_MAX where the form is above 2. */
+size_t nody_shard_end(uint8_t from, const uint8_t *bytes, size_t len, size_t at);
+
 /* Writes the address of the name of a kind, which lives for ever, to `*name`, which has to be the address of a name before;
  * of a number that is no kind it stays. */
 void nody_put_kind_name(uint8_t kind, const nody_name **name);

@@ -70,6 +70,19 @@ static int is_recoded(uint8_t from, uint8_t to, const uint8_t *in, size_t len, c
     return recode(from, to, in, len, out, part, first, room) == want_len && memcmp(out, want, want_len) == 0;
 }
 
+/* Cuts the bytes in two, near each place, and recodes each side by itself. */
+static int shards_join(uint8_t from, uint8_t to, const uint8_t *in, size_t len, const uint8_t *want, size_t want_len) {
+    for (size_t at = 0; at <= len + 1; at++) {
+        size_t end = nody_shard_end(from, in, len, at), limit = at < len ? at : len, made;
+        uint8_t out[6 * MOST];
+        if (end > limit || limit > end + 3) return 0;
+        made = recode(from, to, in, end, out, len + 1, MOST, 3 * MOST);
+        made += recode(from, to, in + end, len - end, out + made, len + 1, MOST, 3 * MOST);
+        if (made != want_len || memcmp(out, want, made) != 0) return 0;
+    }
+    return 1;
+}
+
 static void vectors(void) {
     static char in_text[2 * MOST + 2], want_text[6 * MOST + 2];
     static uint8_t in[MOST], want[3 * MOST];
@@ -79,6 +92,7 @@ static void vectors(void) {
         expect(need <= nody_room_for((uint8_t)from, (uint8_t)to, len), "bound of the output");
         for (size_t first = 0; first <= need; first++)
             expect(is_recoded((uint8_t)from, (uint8_t)to, in, len, want, need, len + 1, first, 3 * MOST), "room of every size");
+        expect(shards_join((uint8_t)from, (uint8_t)to, in, len, want, need), "two shards");
         for (size_t room = 4; room < 13; room++) expect(is_recoded((uint8_t)from, (uint8_t)to, in, len, want, need, 1, MOST, room), "byte by byte");
     }
 }
@@ -128,6 +142,8 @@ static void cursors(void) {
     expect(more[2].kind == NODY_UNEXPECTED_TRAILING_SURROGATE && more[3].kind == NODY_INCOMPLETE, "surrogates");
     expect(nody_utf8_valid_up_to(bytes, sizeof bytes) == 4 && nody_utf8_valid_up_to(bytes, 4) == 4 && nody_utf8_valid_up_to(bytes, 3) == 1, "the first faulty byte");
     expect(nody_utf16_valid_up_to(units, 5) == 3 && nody_utf16_valid_up_to(units, 3) == 3 && nody_utf16_valid_up_to(units, 2) == 1, "the first faulty unit");
+    expect(nody_shard_end(NODY_UTF8, bytes, sizeof bytes, 3) == 1 && nody_shard_end(NODY_UTF8, bytes, sizeof bytes, 5) == 5, "a shard of UTF-8");
+    expect(nody_shard_end(NODY_UTF8, bytes, sizeof bytes, 9) == 6 && nody_shard_end(NODY_UTF8, bytes, sizeof bytes, 99) == 11, "a shard before four bytes");
     cursor = nody_cursor(5);
     expect(nody_utf16_next_back(units, 5, &cursor).kind == NODY_INCOMPLETE || cursor.back == 4, "a unit at the end");
 }
@@ -147,6 +163,7 @@ static void nothing(void) {
     expect(nody_recoder_finish(&recoder, NULL, 0, &written) == NODY_DONE && written == 0, "nothing to finish");
     expect(nody_recoder_feed(&none, NULL, 0, NULL, 0, &read, &written) == NODY_REFUSED && nody_recoder_finish(&none, NULL, 0, &written) == NODY_REFUSED, "no recoder");
     expect(nody_room_for(0, 3, 1) == SIZE_MAX && nody_room_for(0, 0, SIZE_MAX) == SIZE_MAX && nody_room_for(1, 0, 3) == 6, "bounds");
+    expect(nody_shard_end(NODY_UTF16BE, NULL, 0, 7) == 0 && nody_shard_end(3, NULL, 0, 0) == SIZE_MAX, "no shard");
     expect(strcmp(nody_kind_name(NODY_TOO_HIGH_CODEPOINT), "TooHighCodepoint") == 0 && strcmp(nody_kind_name(200), "?") == 0, "names");
 }
 

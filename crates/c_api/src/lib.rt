@@ -8,4 +8,5 @@ mod characters;
 mod cursors;
 mod kinds;
 mod recoding;
+mod shards;
 mod well_formed;

@@ -28,7 +28,8 @@ const FULL: u8 = 1;
 
 const REFUSED: u8 = 2;
 
-fn form_of(number: u8) -> Form
+// The form of a number.
+pub(crate) fn form_of(number: u8) -> Form
     requires { number < 3 }
     ensures { result ≡ form_of number }
 {

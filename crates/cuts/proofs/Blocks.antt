@@ -23,12 +23,12 @@ plain_is_character Utf16Be u h = h
 
 -- What the bytes of a block show.
 
-units_append : (high : Bool) (v later : List ℕ) (k : ℕ) → length v ≡ 2 * k → units_of high (v ++ later) ≡ units_of high v ++ units_of high later
+pub units_append : (high : Bool) (v later : List ℕ) (k : ℕ) → length v ≡ 2 * k → units_of high (v ++ later) ≡ units_of high v ++ units_of high later
 units_append high [] later k h = refl
 units_append high (a ∷ []) later k h = absurd (omega arith)
 units_append high (a ∷ b ∷ v) later k h = ap (λ us. unit_of high a b ∷ us) (units_append high v later (k - 1) (omega arith))
 
-odd_append : (v later : List ℕ) (k : ℕ) → length v ≡ 2 * k → odd_end (v ++ later) ≡ odd_end later
+pub odd_append : (v later : List ℕ) (k : ℕ) → length v ≡ 2 * k → odd_end (v ++ later) ≡ odd_end later
 odd_append [] later k h = refl
 odd_append (a ∷ []) later k h = absurd (omega arith)
 odd_append (a ∷ b ∷ v) later k h = odd_append v later (k - 1) (omega arith)

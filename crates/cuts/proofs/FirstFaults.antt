@@ -72,7 +72,7 @@ good_units = good_step utf16 utf16_is_code
 pub first_fault : (xs : List ℕ) (i : ℕ) (k : Utf8ErrorKind) → IsGoodTo utf8 xs i → i < length xs → fault_kind (drop i xs) ≡ Some k → IsFirstFault utf8 xs i
 first_fault = good_fault utf8 fault_kind no_code_where_fault
 
-no_units_where_fault : (w : List ℕ) (k : Utf16SliceError) (s : ℕ) → slice_fault w ≡ Some k → Stands utf16 w 0 s → ⊥
+pub no_units_where_fault : (w : List ℕ) (k : Utf16SliceError) (s : ℕ) → slice_fault w ≡ Some k → Stands utf16 w 0 s → ⊥
 no_units_where_fault w k s e h = let none = no_fault_where_units w s h in cc
 
 pub first_unit_fault : (xs : List ℕ) (i : ℕ) (k : Utf16SliceError) → IsGoodTo utf16 xs i → i < length xs → slice_fault (drop i xs) ≡ Some k → IsFirstFault utf16 xs i

@@ -23,6 +23,7 @@ pub mod Recoded
 pub mod Fed
 pub mod Bounds
 pub mod EqualRuns
+pub mod Shards
 pub mod Rooms
 pub mod WellFormed
 pub mod ShownFronts

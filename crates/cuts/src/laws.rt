@@ -2,6 +2,7 @@
 //!
 //! Each function does nothing: its contract is the law.
 ghost use Rattle.cuts.specs.Runs.{PiecesAreTheRun, TextHasNoFault};
+ghost use Rattle.cuts.specs.Shards.{ShardsJoin};
 ghost use Rattle.cuts.specs.Recoded.{RecodedOnce, PartsAreRecoded, PartsDoNotMatter};
 ghost use Rattle.cuts.specs.Bounds.{RecodedIsBounded, LossyIsBounded, FeedsInRoom, RoomIsLeft, FinishesInRoom};
 ghost use Rattle.cuts.specs.EqualRuns.{OneRun, OneMergedRun};
@@ -51,6 +52,10 @@ pub fn runs_are_unique()
     ensures units { OneRun utf16 unit_fault_kind }
     ensures merged_bytes { OneMergedRun utf8 merger_kind }
     ensures merged_units { OneMergedRun utf16 unit_fault_kind }
+/// Shards over whose ends no code lies may be recoded apart: what comes of them, joined, is what the whole is recoded as. The
+/// kind of a fault in the last three bytes of a shard may be another than in the whole; recoding makes U+FFFD of each kind.
+pub fn shards_join()
+    ensures { ShardsJoin }
 {}
 
 /// What a decoder gives of some bytes, one piece after another, is the forward run over them, of which there is one.

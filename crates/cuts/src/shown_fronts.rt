@@ -202,7 +202,7 @@ fn is_plain(to: Form, unit: u16) -> bool
 
 // The unit of two bytes.
 #[inline(always)]
-fn unit(high_first: bool, first: u8, second: u8) -> u16
+pub(crate) fn unit(high_first: bool, first: u8, second: u8) -> u16
     ensures { result ≡ unit_of high_first first second }
 {
     if high_first {

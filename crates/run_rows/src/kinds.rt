@@ -1,8 +1,8 @@
 //! What is held against the rows.
 
-use crate::recodings::{parts_agree, refused_parts_agree};
+use crate::recodings::{parts_agree, refused_parts_agree, rooms_agree, shards_agree};
 use crate::trials::{growths_agree, interrupted_agree, reads_agree, writes_agree};
-use crate::{entries, lines, lists, replacements, runs};
+use crate::{entries, lines, lists, places, replacements, runs};
 use std::alloc::{AllocError, Global};
 
 /// What is held against the rows of one file.
@@ -19,11 +19,14 @@ pub(crate) enum Kind {
     Lists,
     Parts,
     RefusedParts,
+    Rooms,
+    Shards,
+    Places,
     Replacements,
 }
 
 impl Kind {
-    pub(crate) fn all() -> [Kind; 12] {
+    pub(crate) fn all() -> [Kind; 15] {
         [
             Kind::Runs,
             Kind::Reads,
@@ -36,6 +39,9 @@ impl Kind {
             Kind::Lists,
             Kind::Parts,
             Kind::RefusedParts,
+            Kind::Rooms,
+            Kind::Shards,
+            Kind::Places,
             Kind::Replacements,
         ]
     }
@@ -54,6 +60,9 @@ impl Kind {
             Kind::Lists => "lists collected, each growth refused",
             Kind::Parts => "recoded in parts",
             Kind::RefusedParts => "recoded in parts, each growth refused",
+            Kind::Rooms => "recoded into rooms of each size",
+            Kind::Shards => "recoded in two shards",
+            Kind::Places => "places and sizes",
             Kind::Replacements => "replacements, each growth refused",
         }
     }
@@ -66,7 +75,8 @@ impl Kind {
             Kind::LongGrowths => "long_runs.txt",
             Kind::Entries => "entries.txt",
             Kind::Lists => "lists.txt",
-            Kind::Parts | Kind::RefusedParts => "recodings.txt",
+            Kind::Parts | Kind::RefusedParts | Kind::Rooms | Kind::Shards => "recodings.txt",
+            Kind::Places => "places.txt",
             Kind::Replacements => "replacements.txt",
         }
     }
@@ -84,6 +94,9 @@ impl Kind {
             Kind::Lists => lists::agrees(alloc, row),
             Kind::Parts => parts_agree(alloc, row),
             Kind::RefusedParts => refused_parts_agree(alloc, row),
+            Kind::Rooms => rooms_agree(alloc, row),
+            Kind::Shards => shards_agree(alloc, row),
+            Kind::Places => places::agrees(alloc, row),
             Kind::Replacements => replacements::agrees(alloc, row),
         }
     }

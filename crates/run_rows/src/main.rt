@@ -9,6 +9,7 @@ mod entries;
 mod kinds;
 mod lines;
 mod lists;
+mod places;
 mod recodings;
 mod replacements;
 mod runs;

@@ -6,10 +6,12 @@
 use crate::columns::{bytes_of, column, number};
 use cuts::form::Form;
 use cuts::recoder::Recoder;
+use cuts::shard_end;
 use fakes::budget::Budget;
 use std::alloc::{AllocError, Allocator, Global};
 
-fn form_of(name: &str) -> Form {
+/// The form of that name.
+pub(crate) fn form_of(name: &str) -> Form {
     match name {
         "utf16le" => Form::Utf16Le,
         "utf16be" => Form::Utf16Be,
@@ -17,11 +19,23 @@ fn form_of(name: &str) -> Form {
     }
 }
 
-// The recoder that the row asks for.
-fn recoder_of(row: &str) -> Recoder {
+// The two forms of the row.
+fn forms_of(row: &str) -> (Form, Form) {
     let forms = column(row, 0);
     let (from, to) = forms.split_once(' ').unwrap_or((forms, forms));
-    Recoder::new(form_of(from), form_of(to))
+    (form_of(from), form_of(to))
+}
+
+// The recoder that the row asks for.
+fn recoder_of(row: &str) -> Recoder {
+    let (from, to) = forms_of(row);
+    Recoder::new(from, to)
+}
+
+// The same, where it holds what the other holds.
+fn taken_over(row: &str, recoder: &Recoder) -> Recoder {
+    let (from, to) = forms_of(row);
+    Recoder::holding(from, to, recoder.held())
 }
 
 fn finish<A: Allocator>(recoder: Recoder, out: &mut Vec<u8, A>) -> Result<(), AllocError> {
@@ -75,6 +89,65 @@ pub(crate) fn parts_agree(alloc: Global, row: &str) -> Result<bool, AllocError> 
         let mut parts = before(alloc)?;
         recode_parts(row, &input, place, &mut parts)?;
         if !is_output(alloc, row, &out)? || !is_output(alloc, row, &parts)? {
+            return Ok(false);
+        }
+    }
+    Ok(true)
+}
+
+// Appends what comes of the input in a first room of so many bytes and then in an ample one, where another recoder
+// takes over after each call.
+fn recode_rooms(row: &str, input: &[u8], size: usize, out: &mut Vec<u8>) -> Result<(), AllocError> {
+    let mut room = [0; 64];
+    let mut recoder = recoder_of(row);
+    let first = recoder.feed_into(input, &mut room[..size.min(64)]);
+    out.extend_from_slice(&room[..first.written])?;
+    let mut recoder = taken_over(row, &recoder);
+    let then = recoder.feed_into(&input[first.read..], &mut room);
+    out.extend_from_slice(&room[..then.written])?;
+    finish_rooms(row, recoder, size, out)
+}
+
+// The same of the end.
+fn finish_rooms(
+    row: &str,
+    recoder: Recoder,
+    size: usize,
+    out: &mut Vec<u8>,
+) -> Result<(), AllocError> {
+    let mut room = [0; 64];
+    let mut recoder = taken_over(row, &recoder);
+    let end = recoder.finish_into(&mut room[..size.min(64)]);
+    out.extend_from_slice(&room[..end.written])?;
+    let mut recoder = taken_over(row, &recoder);
+    let last = recoder.finish_into(&mut room);
+    out.extend_from_slice(&room[..last.written])
+}
+
+/// Whether the row holds for a first room of each size, from none to as many bytes as the output has.
+pub(crate) fn rooms_agree(alloc: Global, row: &str) -> Result<bool, AllocError> {
+    let input = bytes_of(alloc, column(row, 1))?;
+    for size in 0..=column(row, 2).len() / 2 {
+        let mut out = before(alloc)?;
+        recode_rooms(row, &input, size, &mut out)?;
+        if !is_output(alloc, row, &out)? {
+            return Ok(false);
+        }
+    }
+    Ok(true)
+}
+
+/// Whether the row holds where its input is cut into two shards, at the place that is asked for each place in it, and
+/// each is recoded by itself.
+pub(crate) fn shards_agree(alloc: Global, row: &str) -> Result<bool, AllocError> {
+    let input = bytes_of(alloc, column(row, 1))?;
+    let (from, _) = forms_of(row);
+    for at in 0..=input.len() {
+        let mut out = before(alloc)?;
+        let (front, rest) = input.split_at(shard_end(from, &input, at));
+        recode_parts(row, front, front.len(), &mut out)?;
+        recode_parts(row, rest, rest.len(), &mut out)?;
+        if !is_output(alloc, row, &out)? {
             return Ok(false);
         }
     }

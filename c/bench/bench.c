@@ -1,0 +1,185 @@
+/* Times the calls for C beside iconv(3), ICU and utf8proc, in one process: each side in turn, and of each the best round.
+ *
+ * bench times ROUNDS           a line for each work and input: nanoseconds for each byte of input, of each side
+ * bench once WORK INPUT SIDE   does it once, so that instructions can be counted; the side `none` does nothing
+ * bench list                   the lines WORK INPUT SIDE
+ */
+#define _POSIX_C_SOURCE 200809L
+#include "noddychest.h"
+
+#include <iconv.h>
+#include <stdio.h>
+#include <stdlib.h>
+#include <string.h>
+#include <time.h>
+#include <unicode/ustring.h>
+#include <unicode/utf8.h>
+#include <utf8proc.h>
+
+enum { SIZE = 1 << 20, ROOM = 3 * SIZE + 16, AT_ONCE = 256 };
+
+static uint8_t text[SIZE], units[2 * SIZE], out[ROOM];
+static size_t text_len, units_len;
+
+/* Each side answers a number that has to be the same for all: how many bytes came of it, or the sum of the scalars. */
+typedef size_t (*side_call)(void);
+
+static size_t of_recoder(uint8_t from, uint8_t to, const uint8_t *in, size_t len) {
+    nody_recoder_t recoder = nody_recoder(from, to);
+    size_t read, written, last;
+    nody_recoder_feed(&recoder, in, len, out, ROOM, &read, &written);
+    nody_recoder_finish(&recoder, out + written, ROOM - written, &last);
+    return written + last;
+}
+
+static size_t of_iconv(const char *to, const char *from, uint8_t *in, size_t len) {
+    iconv_t state = iconv_open(to, from);
+    char *place = (char *)in, *end = (char *)out;
+    size_t room = ROOM;
+    iconv(state, &place, &len, &end, &room);
+    iconv_close(state);
+    return ROOM - room;
+}
+
+static size_t widen_nody(void) { return of_recoder(NODY_UTF8, NODY_UTF16LE, text, text_len); }
+static size_t widen_iconv(void) { return of_iconv("UTF-16LE", "UTF-8", text, text_len); }
+static size_t widen_icu(void) {
+    int32_t len = 0;
+    UErrorCode status = U_ZERO_ERROR;
+    u_strFromUTF8WithSub((UChar *)(void *)out, ROOM / 2, &len, (const char *)text, (int32_t)text_len, 0xFFFD, NULL, &status);
+    return 2 * (size_t)len;
+}
+
+static size_t narrow_nody(void) { return of_recoder(NODY_UTF16LE, NODY_UTF8, units, units_len); }
+static size_t narrow_iconv(void) { return of_iconv("UTF-8", "UTF-16LE", units, units_len); }
+static size_t narrow_icu(void) {
+    int32_t len = 0;
+    UErrorCode status = U_ZERO_ERROR;
+    u_strToUTF8WithSub((char *)out, ROOM, &len, (const UChar *)(const void *)units, (int32_t)(units_len / 2), 0xFFFD, NULL, &status);
+    return (size_t)len;
+}
+
+static size_t decode_nody(void) {
+    nody_cursor_t cursor = nody_cursor(text_len);
+    nody_piece piece;
+    size_t sum = 0;
+    while ((piece = nody_utf8_next(text, text_len, &cursor)).kind != NODY_NONE) sum += piece.scalar;
+    return sum;
+}
+static size_t decode_pieces(void) {
+    nody_cursor_t cursor = nody_cursor(text_len);
+    nody_piece pieces[AT_ONCE];
+    size_t sum = 0, count;
+    while ((count = nody_utf8_pieces(text, text_len, &cursor, pieces, AT_ONCE)) > 0)
+        for (size_t i = 0; i < count; i++) sum += pieces[i].scalar;
+    return sum;
+}
+static size_t decode_icu(void) {
+    size_t sum = 0;
+    for (int32_t place = 0; place < (int32_t)text_len;) {
+        UChar32 scalar;
+        U8_NEXT(text, place, (int32_t)text_len, scalar);
+        sum += (size_t)scalar;
+    }
+    return sum;
+}
+static size_t decode_utf8proc(void) {
+    size_t sum = 0;
+    for (size_t place = 0; place < text_len;) {
+        utf8proc_int32_t scalar;
+        place += (size_t)utf8proc_iterate(text + place, (utf8proc_ssize_t)(text_len - place), &scalar);
+        sum += (size_t)scalar;
+    }
+    return sum;
+}
+static size_t none(void) { return 0; }
+
+static const struct {
+    const char *work, *name;
+    side_call call;
+} sides[] = {
+    {"utf8-to-utf16le", "nody", widen_nody},     {"utf8-to-utf16le", "iconv", widen_iconv},   {"utf8-to-utf16le", "icu", widen_icu},
+    {"utf16le-to-utf8", "nody", narrow_nody},    {"utf16le-to-utf8", "iconv", narrow_iconv},  {"utf16le-to-utf8", "icu", narrow_icu},
+    {"decode", "nody_utf8_next", decode_nody},   {"decode", "nody_utf8_pieces", decode_pieces},
+    {"decode", "icu", decode_icu},               {"decode", "utf8proc", decode_utf8proc},
+};
+enum { SIDES = sizeof sides / sizeof *sides };
+
+static const struct {
+    const char *name;
+    uint32_t first, last;
+} inputs[] = {{"ascii", 'a', 'z'}, {"cyrillic", 0x430, 0x44f}, {"chinese", 0x4e00, 0x9fff}, {"emoji", 0x1f600, 0x1f64f}};
+enum { INPUTS = sizeof inputs / sizeof *inputs };
+
+/* Words of such characters, with a space after every few. */
+static void fill(int input) {
+    uint32_t chance = 1;
+    text_len = 0;
+    while (text_len + 4 <= SIZE) {
+        chance = chance * 1664525 + 1013904223;
+        uint32_t scalar = inputs[input].first + (chance >> 16) % (inputs[input].last - inputs[input].first + 1);
+        text_len += nody_utf8_encode(chance >> 29 ? scalar : ' ', text + text_len, SIZE - text_len);
+    }
+    units_len = widen_nody();
+    memcpy(units, out, units_len);
+}
+
+static double seconds(void) {
+    struct timespec now;
+    clock_gettime(CLOCK_MONOTONIC, &now);
+    return (double)now.tv_sec + 1e-9 * (double)now.tv_nsec;
+}
+
+/* The times of one work on one input. Answers whether all sides agree. */
+static int times(int first, int last, int rounds) {
+    double best[SIDES];
+    size_t want = sides[first].call(), agree = 1;
+    for (int i = first; i < last; i++) best[i] = 1e9;
+    for (int round = 0; round < rounds; round++)
+        for (int i = first; i < last; i++) {
+            double begun = seconds();
+            agree &= sides[i].call() == want;
+            double taken = seconds() - begun;
+            if (taken < best[i]) best[i] = taken;
+        }
+    for (int i = first; i < last; i++) printf("  %s %.3f", sides[i].name, 1e9 * best[i] / (double)(strncmp(sides[i].work, "utf16", 5) ? text_len : units_len));
+    puts(agree ? "" : "  DIFFER");
+    return agree != 0;
+}
+
+static int all_times(int rounds) {
+    int agree = 1;
+    for (int input = 0; input < INPUTS; input++) {
+        fill(input);
+        for (int first = 0, last; first < SIDES; first = last) {
+            for (last = first; last < SIDES && strcmp(sides[last].work, sides[first].work) == 0;) last++;
+            printf("%-16s %-9s", sides[first].work, inputs[input].name);
+            agree &= times(first, last, rounds);
+        }
+    }
+    return agree;
+}
+
+static int once(const char *work, const char *input, const char *side) {
+    side_call call = strcmp(side, "none") == 0 ? none : NULL;
+    for (int i = 0; i < SIDES; i++)
+        if (strcmp(sides[i].work, work) == 0 && strcmp(sides[i].name, side) == 0) call = sides[i].call;
+    for (int i = 0; i < INPUTS; i++)
+        if (call != NULL && strcmp(inputs[i].name, input) == 0) {
+            fill(i);
+            printf("%lu\n", (unsigned long)(strncmp(work, "utf16", 5) ? text_len : units_len) + 0 * call());
+            return 1;
+        }
+    return 0;
+}
+
+int main(int argc, char **argv) {
+    if (argc == 3 && strcmp(argv[1], "times") == 0 && atoi(argv[2]) > 0) return !all_times(atoi(argv[2]));
+    if (argc == 5 && strcmp(argv[1], "once") == 0) return once(argv[2], argv[3], argv[4]) ? 0 : 2;
+    if (argc == 2 && strcmp(argv[1], "list") == 0) {
+        for (int i = 0; i < SIDES; i++)
+            for (int k = 0; k < INPUTS; k++) printf("%s %s %s\n", sides[i].work, inputs[k].name, sides[i].name);
+        return 0;
+    }
+    return 2;
+}
