@@ -7,9 +7,9 @@ ghost use Rattle.uses.specs.Initials.{IsInitial};
 use encode_unicode::Utf8Char;
 
 pub mod alike;
-pub mod bounds;
 pub mod blocks;
 pub mod boundaries;
+pub mod bounds;
 pub mod chains;
 pub mod cursor;
 pub mod damage;
