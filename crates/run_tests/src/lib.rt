@@ -9,6 +9,8 @@ mod callers;
 #[cfg(test)]
 mod long_inputs;
 #[cfg(test)]
+mod places;
+#[cfg(test)]
 mod programs;
 #[cfg(test)]
 mod streams;

@@ -1,0 +1,75 @@
+//! The callers in `uses` that look for places in damaged bytes, and that make texts of texts.
+use std::process::Abort;
+use std::test::Fail;
+use uses::blocks::count_block;
+use uses::boundaries::{ceil, floor, following, previous, truncated};
+use uses::listed::{pieces_of_both, turned_by_units};
+use uses::needles::find_ascii;
+use uses::shown::{lossy, valid_front};
+use uses::strings::closing_quote;
+use uses::texts::{joined_units, raised, reversed, shortened};
+use uses::wire::first_text;
+
+fn damaged() -> &'static [u8] {
+    b"a\xe2\x82\xac\xe2\x82\"b\xf0\x9f\x82\xa0"
+}
+
+#[test]
+fn a_viewer_asks_for_any_byte(rt: HostRuntime) {
+    // The pieces begin at 0, 1, 4, 5, 6, 7 and 8.
+    let src = damaged();
+    assert!(rt; src.len() == 12);
+    let last = [0, 1, 1, 1, 4, 5, 6, 7, 8, 8, 8, 8, 12];
+    let first = [0, 1, 4, 4, 4, 5, 6, 7, 8, 12, 12, 12, 12];
+    for (place, (before, after)) in last.iter().zip(first.iter()).enumerate() {
+        assert!(rt; place <= src.len());
+        assert!(rt; floor(src, place) == *before && ceil(src, place) == *after);
+    }
+    assert!(rt; previous(src, 3) == 1 && following(src, 2) == 4);
+    assert!(rt; truncated(src, 3) == b"a".as_slice() && truncated(src, 99) == src);
+}
+
+#[test]
+fn quotes_and_needles_are_found_in_damage(rt: HostRuntime) {
+    assert!(rt; closing_quote(damaged()) == Some(6));
+    assert!(rt; closing_quote(b"\\\"\\\\\xe2\"\"") == Some(5));
+    assert!(rt; closing_quote(b"\\\xc3\"") == Some(2));
+    assert!(rt; closing_quote(b"\\\"").is_none());
+    assert!(rt; find_ascii(damaged(), b"\"b") == Some(6));
+    assert!(rt; find_ascii(damaged(), b"bb").is_none());
+}
+
+#[test]
+fn damaged_bytes_are_shown(rt: HostRuntime) -> Result<(), Fail> {
+    let shown = lossy(rt.alloc(), damaged())?;
+    assert!(rt; shown.as_str() == "a\u{20ac}\u{fffd}\u{fffd}\"b\u{1f0a0}");
+    assert!(rt; valid_front(damaged()) == "a\u{20ac}");
+    let both = pieces_of_both(rt.alloc(), b"\xe2\x82", b"\xacA")?;
+    assert!(rt; both.len() == 2);
+    Ok(())
+}
+
+#[test]
+fn texts_are_made_of_texts(rt: HostRuntime) -> Result<(), Fail> {
+    let alloc = rt.alloc();
+    assert!(rt; raised(alloc, "a\u{e9}z")?.as_str() == "A\u{e9}Z");
+    assert!(rt; reversed(alloc, "a\u{e9}\u{1f0a0}")?.as_str() == "\u{1f0a0}\u{e9}a");
+    assert!(rt; shortened(alloc, "\u{e9}\u{1f0a0}b", 2)?.as_str() == "\u{e9}\u{1f0a0}");
+    let units = joined_units(alloc, "a", "\u{1f0a0}")?;
+    assert!(rt; units.as_slice() == [0x61, 0xd83c, 0xdca0].as_slice());
+    assert!(rt; turned_by_units(alloc, "a\u{1f0a0}")?.len() == 2);
+    Ok(())
+}
+
+#[test]
+fn records_and_blocks_are_read(rt: HostRuntime) -> Result<(), Fail> {
+    let found = first_text(rt.alloc(), b"\x02\0\xe9\0\0\xd8\x07")?;
+    let (text, rest) = found.expect(&rt, "a record");
+    assert!(rt;
+        text.as_slice() == b"\xc3\xa9\xef\xbf\xbd".as_slice() && rest == b"\x07".as_slice()
+    );
+    assert!(rt; first_text(rt.alloc(), b"\x02\0\xe9\0\0")?.is_none());
+    let greek = b"\xce\x93\xff\xce\xb5a\xcf\x83".iter().copied();
+    assert!(rt; count_block(rt.alloc(), greek, '\u{370}', '\u{3ff}')? == 3);
+    Ok(())
+}
