@@ -11,6 +11,8 @@ import threading
 KEYS = {"ArrowRight": "\ue014", "ArrowLeft": "\ue012", "ArrowUp": "\ue013", "ArrowDown": "\ue015", "Home": "\ue011",
         "End": "\ue010", "Tab": "\ue004", "Enter": "\ue007", "Escape": "\ue00c"}
 
+CONTROL = "\ue009"
+
 
 class Chromium:
     name = "chromium"
@@ -46,6 +48,12 @@ class Chromium:
         from selenium.webdriver.common.action_chains import ActionChains
 
         ActionChains(self.driver, duration=0).send_keys(*[KEYS.get(it, it) for it in names]).perform()
+
+    def chord(self, letter):
+        """That letter with the control key held."""
+        from selenium.webdriver.common.action_chains import ActionChains
+
+        ActionChains(self.driver, duration=0).key_down(CONTROL).send_keys(letter).key_up(CONTROL).perform()
 
     def put_files(self, selector, files):
         self.driver.find_element("css selector", selector).send_keys("\n".join(files))
@@ -124,7 +132,14 @@ class Firefox:
 
     def keys(self, *names):
         typed = [KEYS.get(it, it) for it in names]
-        pressed = [{"type": kind, "value": letter} for word in typed for letter in word for kind in ("keyDown", "keyUp")]
+        self.press([(kind, letter) for word in typed for letter in word for kind in ("keyDown", "keyUp")])
+
+    def chord(self, letter):
+        """That letter with the control key held."""
+        self.press([("keyDown", CONTROL), ("keyDown", letter), ("keyUp", letter), ("keyUp", CONTROL)])
+
+    def press(self, done):
+        pressed = [{"type": kind, "value": letter} for kind, letter in done]
         self.call("input.performActions", context=self.tab, actions=[{"type": "key", "id": "keys", "actions": pressed}])
 
     def put_files(self, selector, files):

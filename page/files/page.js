@@ -2,13 +2,16 @@
 import { FORMS, MOST, NONE, OK, has64BitMemories, load } from "./codec.js";
 import { Cut } from "./cut.js";
 import { View, element } from "./view.js";
-import { counted, glyph, hexByte, hexOf, sentence, shortKind } from "./words.js";
+import { counted, hexByte, hexOf, sentence, shortKind } from "./words.js";
 
 // Bytes that the boxes show, the link keeps and the recoded forms show.
 const IN_BOXES = 16384;
 const IN_LINK = 2048;
 const RECODED = 256;
 const ANSWERS = 200;
+
+const TOO_OLD = "This browser has no 64-bit memories for WebAssembly: Chrome and Edge from 133 on and Firefox from 134 on have them.";
+const WHAT_TO_DO = "Load the page again, and where that does not help, run page/build and serve page/out.";
 
 const utf8 = (text) => Array.from(new TextEncoder().encode(text));
 const EXAMPLES = [
@@ -151,16 +154,18 @@ function keepInLink() {
 }
 
 // Shows what the address says, or an example.
-function followLink() {
+async function followLink() {
     const said = new URLSearchParams(location.hash.slice(1));
-    const { bytes } = bytesOf(said.get("hex") ?? "");
+    const { bytes, told } = bytesOf(said.get("hex") ?? "");
     const word = (said.get("word") ?? "").toUpperCase().replace(/[^FB]/g, "");
-    return said.has("hex") && bytes ? take(bytes, { word }) : take(Uint8Array.from(EXAMPLES[0][1]));
+    await (said.has("hex") && bytes ? take(bytes, { word }) : take(Uint8Array.from(EXAMPLES[0][1])));
+    if (told) $("hex-trouble").textContent = `The link has no good bytes: an example is shown. ${told.split(".")[0]}.`;
 }
 
 // Damage.
 
 function change(place, byte) {
+    if (!$("reading").hidden) return;
     const changed = cut.change(place, byte);
     const near = cut.between(Math.max(place - 3, 0), place + 4).filter((it) => place - 3 <= it.place).length;
     view.changed = new Set(changed.map((it) => it.place));
@@ -171,7 +176,7 @@ function change(place, byte) {
     }
     view.choose(place);
     const count = changed.length === 1 ? "1 piece is new" : `${changed.length} pieces are new`;
-    $("damaged").textContent = `${count}. It is never more than the ${near} that begin within three bytes before and after.`;
+    $("damaged").textContent = `${count}. There are never more than the ${near} that begin within three bytes before and after.`;
     afterChange();
 }
 
@@ -236,11 +241,7 @@ function stepOnce(letter) {
     const piece = step(letter);
     showLeft();
     if (piece.kind === NONE) view.draw();
-    else {
-        view.at = piece.place;
-        view.show(piece.place);
-        view.draw();
-    }
+    else view.choose(piece.place);
     $("answers").scrollTop = $("answers").scrollHeight;
 }
 
@@ -262,7 +263,7 @@ function walk() {
 function recode() {
     const part = codec.bytes.subarray(0, RECODED);
     const is_long = codec.len > RECODED;
-    const text = cut.between(0, part.length).map((it) => (it.kind === OK ? glyph(it.scalar) : "\ufffd")).join("");
+    const text = cut.between(0, part.length).map((it) => (it.kind === OK ? String.fromCodePoint(it.scalar) : "\ufffd")).join("");
     FORMS.forEach((_, form) => {
         const made = joined(codec.recode(0, form, part));
         $(`hex-${form}`).textContent = made.length ? hexOf(made) : "no bytes";
@@ -280,6 +281,8 @@ function save(form) {
     setTimeout(() => URL.revokeObjectURL(address), 60000);
 }
 
+const shown = (id, form, what) => element("pre", "", { id: `${id}-${form}`, "aria-label": `${FORMS[form]}, ${what}`, role: "group" });
+
 function makeForms() {
     FORMS.forEach((name, form) => {
         const column = element("div");
@@ -287,8 +290,7 @@ function makeForms() {
         const button = element("button", "", { type: "button", "aria-label": `Save as ${name}` }, "Save");
         button.addEventListener("click", () => save(form));
         title.append(button);
-        const [hex, text] = [element("pre", "", { id: `hex-${form}`, "aria-label": `${name}, bytes`, role: "group" }), element("pre", "", { id: `text-${form}`, "aria-label": `${name}, text`, role: "group" })];
-        column.append(title, hex, text, element("p", "note", { id: `more-${form}` }));
+        column.append(title, shown("hex", form, "bytes"), shown("text", form, "text"), element("p", "note", { id: `more-${form}` }));
         $("recoded").append(column);
     });
 }
@@ -344,11 +346,11 @@ function pointAt(place) {
 }
 
 async function start() {
-    if (!has64BitMemories()) return trouble("This browser has no 64-bit memories for WebAssembly: Chrome and Edge from 133 on and Firefox from 134 on have them.");
+    if (!has64BitMemories()) return trouble(TOO_OLD);
     try {
         codec = await load("noddychest.wasm");
     } catch (error) {
-        return trouble(`The module did not load (${error.message}). Load the page again, and where that does not help, run page/build and serve page/out.`);
+        return trouble(`The module did not load (${error.message}). ${WHAT_TO_DO}`);
     }
     cut = new Cut(codec);
     view = new View(codec, cut, pointAt);

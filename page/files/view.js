@@ -68,7 +68,7 @@ export class View {
 
     line(at) {
         const line = element("div", "bytes", { role: "presentation" });
-        line.append(element("span", "offset", { "aria-hidden": "true" }, at.toString(16).padStart(6, "0")));
+        line.append(element("span", "offset", { "aria-hidden": "true" }, String(at)));
         return line;
     }
 
@@ -88,8 +88,9 @@ export class View {
     block(piece, at, next, is_first, is_chosen) {
         const { codec } = this;
         const is_fault = piece.kind !== OK;
-        const marks = { fault: is_fault, long: piece.len > 1, came: piece.place < at, "goes-on": next < piece.place + piece.len,
-            chosen: is_chosen, changed: this.changed.has(piece.place), taken: this.isTaken(piece) };
+        const [came, goes_on] = [piece.place < at, next < piece.place + piece.len];
+        const [changed, taken] = [this.changed.has(piece.place), this.isTaken(piece)];
+        const marks = { fault: is_fault, long: piece.len > 1, came, "goes-on": goes_on, chosen: is_chosen, changed, taken };
         const block = element("span", ["piece", ...Object.keys(marks).filter((it) => marks[it])].join(" "));
         block.style.gridColumn = `${(at % this.perRow) + 2} / span ${next - at}`;
         block.dataset.place = at;
@@ -101,10 +102,11 @@ export class View {
         block.append(hexes);
         if (is_first) {
             const name = is_fault ? shortKind(codec.names[piece.kind]) : codePoint(piece.scalar);
-            block.append(element("span", "glyph", {}, is_fault ? "✕" : glyph(piece.scalar)), element("span", "small", {}, name));
+            block.append(element("span", is_fault || piece.scalar > 0x20 ? "glyph" : "glyph named", {}, is_fault ? "✕" : glyph(piece.scalar)), element("span", "small", {}, name));
             block.id = `p${piece.place}`;
-            const told = { role: "option", "aria-selected": String(is_chosen), "aria-label": sentence(piece, codec.names, codec.bytes) };
-            for (const name in told) block.setAttribute(name, told[name]);
+            block.setAttribute("role", "option");
+            block.setAttribute("aria-selected", String(is_chosen));
+            block.setAttribute("aria-label", sentence(piece, codec.names, codec.bytes));
             block.title = is_fault ? codec.names[piece.kind] : blockName(piece.scalar);
         } else {
             block.setAttribute("aria-hidden", "true");

@@ -36,10 +36,12 @@ export function blockName(scalar) {
     return low < BLOCKS.length && BLOCKS[low][0] <= scalar ? BLOCKS[low][2] : "no block";
 }
 
-// What is drawn for a character: a picture for what has none.
+const CONTROLS = "NUL SOH STX ETX EOT ENQ ACK BEL BS HT LF VT FF CR SO SI DLE DC1 DC2 DC3 DC4 NAK SYN ETB CAN EM SUB ESC FS GS RS US SP".split(" ");
+
+// What is drawn for a character: its name in ASCII where it leaves no ink, and a circle under a mark.
 export function glyph(scalar) {
-    if (scalar <= 0x20) return String.fromCodePoint(0x2400 + scalar);
-    if (scalar === 0x7f) return "␡";
+    if (scalar <= 0x20) return CONTROLS[scalar];
+    if (scalar === 0x7f) return "DEL";
     const text = String.fromCodePoint(scalar);
     if (/\p{M}/u.test(text)) return `◌${text}`;
     return /[\p{C}\p{Z}]/u.test(text) ? "·" : text;
