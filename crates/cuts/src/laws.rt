@@ -52,8 +52,11 @@ pub fn runs_are_unique()
     ensures units { OneRun utf16 unit_fault_kind }
     ensures merged_bytes { OneMergedRun utf8 merger_kind }
     ensures merged_units { OneMergedRun utf16 unit_fault_kind }
-/// Shards over whose ends no code lies may be recoded apart: what comes of them, joined, is what the whole is recoded as. The
-/// kind of a fault in the last three bytes of a shard may be another than in the whole; recoding makes U+FFFD of each kind.
+{}
+
+/// Shards over whose ends no code lies may be recoded apart: what comes of them, joined, is what the whole is recoded as.
+/// The kind of a fault in the last three bytes of a shard may differ from its kind in the whole; recoding makes U+FFFD of
+/// each.
 pub fn shards_join()
     ensures { ShardsJoin }
 {}
