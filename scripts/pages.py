@@ -11,7 +11,7 @@ GENERATED = ("docs/CONTRACTS.md", "docs/WRONG-BODIES.md")
 def pages():
     """Every document, as a path from the top."""
     docs = [f"docs/{it}" for it in os.listdir(f"{TOP}/docs") if it.endswith(".md")]
-    return sorted([it for it in os.listdir(TOP) if it.endswith(".md")]) + sorted(docs) + ["page/README.md"]
+    return sorted([it for it in os.listdir(TOP) if it.endswith(".md")]) + sorted(docs) + ["c/README.md", "page/README.md"]
 
 
 def read(page):
