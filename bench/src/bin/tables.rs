@@ -1,4 +1,4 @@
-//! `tables SIZE ROUNDS`: what a replacement of one byte by one costs in a table of pieces, beside moving both
+//! `tables SIZE ROUNDS [INPUT]`: what a replacement of one byte by one costs in a table of pieces, beside moving both
 //! lists by `Vec::splice`, which is handed the new pieces, and beside decoding all anew with the Rust crate.
 //!
 //! Each number is the best time of the rounds, in microseconds, for one of many replacements at random
@@ -32,13 +32,16 @@ struct Step {
 }
 
 fn main() -> ExitCode {
-    let args: Vec<usize> = std::env::args().skip(1).map_while(|word| word.parse().ok()).collect();
-    let [size, rounds] = args[..] else {
-        eprintln!("usage: tables SIZE ROUNDS");
+    let args: Vec<String> = std::env::args().skip(1).collect();
+    let numbers: Vec<usize> = args.iter().map_while(|word| word.parse().ok()).collect();
+    let ([size, rounds], 2..=3) = (&numbers[..], args.len()) else {
+        eprintln!("usage: tables SIZE ROUNDS [INPUT]");
         return ExitCode::from(2);
     };
+    let is_asked = |name: &str| args.get(2).is_none_or(|asked| asked == name);
     println!("{:<11} {:>12} {:>9} {:>11} {:>12} {:>9}", "input", "replacements", "table", "both lists", "table/lists", "all anew");
-    let agree: Vec<bool> = inputs::NAMES.iter().map(|name| row(name, size, rounds)).collect();
+    let asked = inputs::NAMES.into_iter().filter(|name| is_asked(name));
+    let agree: Vec<bool> = asked.map(|name| row(name, *size, *rounds)).collect();
     match agree.iter().all(|agrees| *agrees) {
         true => ExitCode::SUCCESS,
         false => ExitCode::FAILURE,
