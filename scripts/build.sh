@@ -23,12 +23,13 @@ crates_up_to() {
     ' "$top_folder/crates.txt"
 }
 
-# run_rt CRATE COMMAND [FILE]: rt on one crate. It has failed where its status is not 0, or, where it makes FILE, that
-# is not there: a program that is built is also run, and may end with any status. What it prints is then shown.
+# run_rt CRATE COMMAND [FILE]: rt on one crate, on all processors. It has failed where its status is not 0, or, where it
+# makes FILE, that is not there: a program that is built is also run, and may end with any status. What it prints is then
+# shown.
 run_rt() {
     local folder="$top_folder/crates/$1" log status=0
     log=$(mktemp)
-    (cd "$folder" && rt "$2" </dev/null >"$log" 2>&1) || status=$?
+    (cd "$folder" && rt "$2" --jobs "$(nproc)" </dev/null >"$log" 2>&1) || status=$?
     if [ $# -eq 3 ]; then
         [ -e "$folder/out/$3" ] && status=0 || status=1
     fi
