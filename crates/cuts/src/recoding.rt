@@ -31,7 +31,7 @@ pub enum RecodeFault {
 pub const PROGRAM: &str = "recode";
 
 // How many bytes are read at a time.
-const PART: usize = 16384;
+const PART: usize = 65536;
 
 /// Recodes all that the reader gives, from one form into another, and holds no more of it than a part of
 /// fixed size and what comes of that.

@@ -92,7 +92,7 @@ impl fmt::Display for Stop {
 pub const PROGRAM: &str = "pieces";
 
 // How many bytes are read at a time.
-const PART: usize = 16384;
+const PART: usize = 65536;
 
 /// The arguments after the program's name, out of all its words.
 ///
