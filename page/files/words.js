@@ -30,8 +30,8 @@ export const otherwise = (kindName, isByByte) =>
 // What a reader of one byte at a time finds.
 export function readByByte(otherwise, names) {
     if (!otherwise.length) return "Read byte by byte, the cut is the same, and so is each kind.";
-    const each = otherwise.map(([piece, merged]) => `${names[merged.kind]} and not ${names[piece.kind]} at offset ${piece.place}`);
-    return `Read byte by byte, the cut is the same, but ${each.join(", and ")}: the byte that breaks the character is seen before the end.`;
+    const each = otherwise.map(([piece, merged]) => ` The fault at offset ${piece.place} is ${names[merged.kind]} and not ${names[piece.kind]}.`);
+    return `Read byte by byte, the cut is the same.${each.join("")}`;
 }
 
 // Two letters that stand for a kind where there is no room for its name.
