@@ -101,6 +101,12 @@ nody_piece nody_utf16_next_back(const uint16_t *units, size_t len, nody_cursor_t
 size_t nody_utf8_pieces(const uint8_t *bytes, size_t len, nody_cursor_t *cursor, nody_piece *out, size_t room);
 size_t nody_utf16_pieces(const uint16_t *units, size_t len, nody_cursor_t *cursor, nody_piece *out, size_t room);
 
+/* The piece that begins at a place, as a reader that gets one byte at a time names it: of the merged run, the piece that
+ * begins there. The cut is that of `nody_utf8_next`, and so is each kind but one: where fewer bytes are left than the first
+ * asks for and one of those breaks the code, it is NODY_INTERRUPTED_SEQUENCE and not NODY_TOO_FEW_BYTES. NODY_NONE from `len`
+ * on. */
+nody_piece nody_utf8_merged(const uint8_t *bytes, size_t len, size_t place);
+
 /* A recoder that holds nothing. The forms may be the same. Each fault becomes one U+FFFD. */
 nody_recoder_t nody_recoder(uint8_t from, uint8_t to);
 

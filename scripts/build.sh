@@ -50,7 +50,7 @@ build_crate() {
     rm -f "$file"
     mapfile -t crates < <(crates_up_to "$top")
     left=${#crates[@]}
-    echo "$name: building $what takes a few minutes the first time: $left crates are proved" >&2
+    echo "$name: building $what takes about ten minutes the first time: $left crates are proved" >&2
     for crate in "${crates[@]}"; do
         if [ "$crate" = "$top" ]; then
             run_rt "$crate" "$command" "$made" || break

@@ -27,6 +27,8 @@ class Recoder(ctypes.Structure):
 LIBRARY = ctypes.CDLL(os.environ["NODDYCHEST"])
 LIBRARY.nody_utf8_next.restype = Piece
 LIBRARY.nody_utf8_next.argtypes = [ctypes.c_char_p, c_size_t, POINTER(Cursor)]
+LIBRARY.nody_utf8_merged.restype = Piece
+LIBRARY.nody_utf8_merged.argtypes = [ctypes.c_char_p, c_size_t, c_size_t]
 LIBRARY.nody_recoder_feed.argtypes = [POINTER(Recoder), ctypes.c_char_p, c_size_t, ctypes.c_char_p, c_size_t, POINTER(c_size_t), POINTER(c_size_t)]
 LIBRARY.nody_recoder_finish.argtypes = [POINTER(Recoder), ctypes.c_char_p, c_size_t, POINTER(c_size_t)]
 UNKNOWN, NONE = Name(b"?"), 11
@@ -43,6 +45,14 @@ def pieces(data):
     cursor = Cursor(0, len(data))
     while (piece := LIBRARY.nody_utf8_next(data, len(data), byref(cursor))).kind != NONE:
         yield piece.place, piece.len, name_of(piece.kind) if piece.kind else chr(piece.scalar)
+
+
+def merged(data):
+    """The same, with the errors that a reader of one byte at a time names."""
+    place = 0
+    while (piece := LIBRARY.nody_utf8_merged(data, len(data), place)).kind != NONE:
+        yield place, piece.len, name_of(piece.kind) if piece.kind else chr(piece.scalar)
+        place += piece.len
 
 
 if __name__ == "__main__":

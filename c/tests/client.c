@@ -148,6 +148,24 @@ static void cursors(void) {
     expect(nody_utf16_next_back(units, 5, &cursor).kind == NODY_INCOMPLETE || cursor.back == 4, "a unit at the end");
 }
 
+/* The same cut, read byte by byte. The kind differs where bytes are missing and one that is there breaks the code. */
+static void merged(void) {
+    static const uint8_t bytes[] = {0x41, 0xe2, 0x82, 0xac, 0xf0, 0x9f, 0x21};
+    nody_cursor_t cursor = nody_cursor(sizeof bytes);
+    nody_piece piece;
+    while ((piece = nody_utf8_next(bytes, sizeof bytes, &cursor)).kind != NODY_NONE) {
+        nody_piece same = nody_utf8_merged(bytes, sizeof bytes, piece.place);
+        uint8_t kind = same.kind;
+        same.kind = piece.kind;
+        expect(alike(same, piece), "a piece read byte by byte");
+        expect(kind == (piece.place == 4 ? NODY_INTERRUPTED_SEQUENCE : piece.kind), "its kind");
+        expect(piece.place != 4 || piece.kind == NODY_TOO_FEW_BYTES, "the kind of a decoder");
+    }
+    expect(nody_utf8_merged(bytes, 6, 4).kind == NODY_TOO_FEW_BYTES, "bytes that are missing alone");
+    expect(nody_utf8_merged(bytes, sizeof bytes, sizeof bytes).kind == NODY_NONE, "no byte is there");
+    expect(nody_utf8_merged(bytes, sizeof bytes, SIZE_MAX).kind == NODY_NONE && nody_utf8_merged(NULL, 0, 0).kind == NODY_NONE, "a place after the bytes");
+}
+
 static void nothing(void) {
     nody_cursor_t cursor = nody_cursor(0);
     nody_recoder_t recoder = nody_recoder(NODY_UTF8, NODY_UTF16LE), none = nody_recoder(3, 0);
@@ -185,6 +203,7 @@ static void threads(void) {
 int main(int argc, char **argv) {
     nothing();
     cursors();
+    merged();
     vectors();
     random_cases(argc > 1 ? strtoul(argv[1], NULL, 10) : 1000);
     if (argc == 2) {

@@ -113,6 +113,12 @@ export class Codec {
         return this.pieceAt(this.answer);
     }
 
+    // The piece that begins at a place, as a reader of one byte at a time names it.
+    merged(place) {
+        this.calls.nody_utf8_merged(BigInt(this.answer), BigInt(this.start), BigInt(this.len), BigInt(place));
+        return this.pieceAt(this.answer);
+    }
+
     // These bytes in another form, at least so many of them where there are more.
     recode(from, to, source, most = Infinity) {
         const [chunks, recoder, numbers] = [[], BigInt(this.recoder), BigInt(this.numbers)];

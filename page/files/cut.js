@@ -49,6 +49,13 @@ export class Cut {
         return this.between(place, place + 1)[0];
     }
 
+    // The faults that a reader of one byte at a time names otherwise, with its answers. All begin in the last three bytes.
+    get otherwise() {
+        const { codec } = this;
+        const last = codec.len ? this.between(Math.max(codec.len - NEAR, 0), codec.len) : [];
+        return last.map((it) => [it, codec.merged(it.place)]).filter(([it, merged]) => it.kind !== merged.kind);
+    }
+
     // Changes one byte, and answers the new pieces that were none before.
     change(place, byte) {
         const { codec } = this;

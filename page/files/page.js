@@ -2,7 +2,7 @@
 import { FORMS, MOST, NONE, OK, has64BitMemories, load } from "./codec.js";
 import { Cut } from "./cut.js";
 import { View, element } from "./view.js";
-import { counted, hexByte, hexOf, sentence, shortKind } from "./words.js";
+import { counted, hexByte, hexOf, readByByte, sentence, shortKind } from "./words.js";
 
 // Bytes that the boxes show, the link keeps and the recoded forms show.
 const IN_BOXES = 16384;
@@ -23,8 +23,9 @@ const EXAMPLES = [
     ["Encoded surrogate", [0x41, 0xed, 0xa0, 0x80, 0x42]],
     ["Truncated emoji", [0x48, 0x69, 0x20, 0xf0, 0x9f, 0x98]],
     ["UTF-16 taken for UTF-8", [0xff, 0xfe, 0x48, 0, 0xe9, 0, 0xac, 0x20]],
-    ["41 e0 80", [0x41, 0xe0, 0x80]],
-    ["Two kinds", [0xe0, 0x80, 0x80], "BBF"],
+    ["Half a character", [0x41, 0xe0, 0x80]],
+    ["Two kinds", [0xe0, 0x80, 0x80], { word: "BBF" }],
+    ["Broken emoji, byte by byte", [0x48, 0x69, 0x20, 0xf0, 0x9f, 0x21], { isByByte: true }],
 ];
 
 const $ = (id) => document.getElementById(id);
@@ -39,7 +40,7 @@ function trouble(text) {
 }
 
 // Takes new bytes; a box that a person types in stays as it is.
-async function take(bytes, { from, word = "" } = {}) {
+async function take(bytes, { from, word = "", isByByte = $("by-byte").checked } = {}) {
     const mine = ++turn;
     codec.fill(bytes);
     $("reading").hidden = bytes.length <= IN_BOXES;
@@ -60,6 +61,7 @@ async function take(bytes, { from, word = "" } = {}) {
     if (from !== "file") $("file-note").textContent = "";
     $("hex-trouble").textContent = "";
     $("word").value = word;
+    $("by-byte").checked = view.isByByte = isByByte;
     $("damaged").textContent = "Change one byte, and the pieces that changed are marked.";
     begin();
     view.layOut();
@@ -72,8 +74,16 @@ async function take(bytes, { from, word = "" } = {}) {
 function afterChange() {
     const faults = cut.faults ? `${counted(cut.faults, "fault")} among them` : "no fault among them";
     $("totals").textContent = `${counted(codec.len, "byte")}, ${counted(cut.count, "piece")}, ${faults}.`;
+    $("read").textContent = view.isByByte ? readByByte(cut.otherwise, codec.names) : "";
     recode();
     keepInLink();
+}
+
+function readOtherwise() {
+    view.isByByte = $("by-byte").checked;
+    afterChange();
+    view.draw();
+    view.tell(view.at);
 }
 
 function showText() {
@@ -150,6 +160,7 @@ async function open(file) {
 function keepInLink() {
     const parts = codec.len <= IN_LINK ? [`hex=${hexOf(codec.bytes).replaceAll(" ", "")}`] : [];
     if (parts.length && $("word").value) parts.push(`word=${encodeURIComponent($("word").value)}`);
+    if (parts.length && view.isByByte) parts.push("read=bytes");
     history.replaceState(null, "", parts.length ? `#${parts.join("&")}` : location.pathname + location.search);
 }
 
@@ -158,7 +169,8 @@ async function followLink() {
     const said = new URLSearchParams(location.hash.slice(1));
     const { bytes, told } = bytesOf(said.get("hex") ?? "");
     const word = (said.get("word") ?? "").toUpperCase().replace(/[^FB]/g, "");
-    await (said.has("hex") && bytes ? take(bytes, { word }) : take(Uint8Array.from(EXAMPLES[0][1])));
+    const isByByte = said.get("read") === "bytes";
+    await (said.has("hex") && bytes ? take(bytes, { word, isByByte }) : take(Uint8Array.from(EXAMPLES[0][1])));
     if (told) $("hex-trouble").textContent = `The link has no good bytes: an example is shown. ${told.split(".")[0]}.`;
 }
 
@@ -296,9 +308,9 @@ function makeForms() {
 }
 
 function makeExamples() {
-    for (const [name, bytes, word] of EXAMPLES) {
+    for (const [name, bytes, shown] of EXAMPLES) {
         const button = element("button", "", { type: "button" }, name);
-        button.addEventListener("click", () => take(Uint8Array.from(bytes), { word }));
+        button.addEventListener("click", () => take(Uint8Array.from(bytes), shown));
         $("examples").append(button);
     }
 }
@@ -317,6 +329,7 @@ function listen() {
     $("file").addEventListener("change", () => open($("file").files[0]).then(() => ($("file").value = "")));
     $("damage").addEventListener("submit", changeByForm);
     $("pieces").addEventListener("keydown", typeOver);
+    $("by-byte").addEventListener("change", readOtherwise);
     $("front").addEventListener("click", () => stepOnce("F"));
     $("back").addEventListener("click", () => stepOnce("B"));
     $("again").addEventListener("click", () => {

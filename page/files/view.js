@@ -1,6 +1,6 @@
 // The grid of bytes and pieces. What is in view alone is drawn.
 import { OK } from "./codec.js";
-import { blockName, codePoint, glyph, hexByte, sentence, shortKind } from "./words.js";
+import { blockName, codePoint, glyph, hexByte, otherwise, sentence, shortKind } from "./words.js";
 
 const ROW = 66;
 // Browsers draw nothing below some tens of millions of pixels; higher grids scroll by more than a row at a time.
@@ -8,7 +8,7 @@ const HIGHEST = 8000000;
 
 export class View {
     constructor(codec, cut, told) {
-        Object.assign(this, { codec, cut, told, at: 0, left: null, changed: new Set(), top: 0 });
+        Object.assign(this, { codec, cut, told, at: 0, left: null, changed: new Set(), top: 0, isByByte: false });
         [this.scroll, this.height, this.list] = ["scroll", "height", "pieces"].map((id) => document.getElementById(id));
         this.scroll.addEventListener("scroll", () => this.later());
         new ResizeObserver(() => this.layOut()).observe(this.scroll);
@@ -85,12 +85,13 @@ export class View {
         }
     }
 
-    block(piece, at, next, is_first, is_chosen) {
+    block(cutPiece, at, next, is_first, is_chosen) {
         const { codec } = this;
+        const [piece, other] = this.read(cutPiece);
         const is_fault = piece.kind !== OK;
         const [came, goes_on] = [piece.place < at, next < piece.place + piece.len];
         const [changed, taken] = [this.changed.has(piece.place), this.isTaken(piece)];
-        const marks = { fault: is_fault, long: piece.len > 1, came, "goes-on": goes_on, chosen: is_chosen, changed, taken };
+        const marks = { fault: is_fault, long: piece.len > 1, otherwise: piece.kind !== other.kind, came, "goes-on": goes_on, chosen: is_chosen, changed, taken };
         const block = element("span", ["piece", ...Object.keys(marks).filter((it) => marks[it])].join(" "));
         block.style.gridColumn = `${(at % this.perRow) + 2} / span ${next - at}`;
         block.dataset.place = at;
@@ -106,12 +107,25 @@ export class View {
             block.id = `p${piece.place}`;
             block.setAttribute("role", "option");
             block.setAttribute("aria-selected", String(is_chosen));
-            block.setAttribute("aria-label", sentence(piece, codec.names, codec.bytes));
+            block.setAttribute("aria-label", this.said(cutPiece));
             block.title = is_fault ? codec.names[piece.kind] : blockName(piece.scalar);
         } else {
             block.setAttribute("aria-hidden", "true");
         }
         return block;
+    }
+
+    // A piece of the cut as it is read now, and as it is read the other way.
+    read(piece) {
+        const merged = this.codec.merged(piece.place);
+        return this.isByByte ? [merged, piece] : [piece, merged];
+    }
+
+    // What is said of a piece.
+    said(cutPiece) {
+        const { names, bytes } = this.codec;
+        const [piece, other] = this.read(cutPiece);
+        return sentence(piece, names, bytes) + (piece.kind === other.kind ? "" : otherwise(names[other.kind], this.isByByte));
     }
 
     isTaken(piece) {
@@ -139,7 +153,7 @@ export class View {
 
     tell(place) {
         const piece = this.cut.at(place);
-        const text = piece ? sentence(piece, this.codec.names, this.codec.bytes) : "There are no bytes.";
+        const text = piece ? this.said(piece) : "There are no bytes.";
         const why = document.getElementById("why");
         if (why.textContent !== text) why.textContent = text;
     }

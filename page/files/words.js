@@ -23,6 +23,17 @@ export function why(kindName, byte) {
     return `0x${hexByte(byte).toUpperCase()} ${reason} (RFC 3629, section ${section}).`;
 }
 
+// What the other way of reading names a fault.
+export const otherwise = (kindName, isByByte) =>
+    isByByte ? ` A decoder that sees all bytes names it ${kindName}.` : ` A reader of one byte at a time names it ${kindName}.`;
+
+// What a reader of one byte at a time finds.
+export function readByByte(otherwise, names) {
+    if (!otherwise.length) return "Read byte by byte, the cut is the same, and so is each kind.";
+    const each = otherwise.map(([piece, merged]) => ` The fault at offset ${piece.place} is ${names[merged.kind]} and not ${names[piece.kind]}.`);
+    return `Read byte by byte, the cut is the same.${each.join("")}`;
+}
+
 // Two letters that stand for a kind where there is no room for its name.
 export const shortKind = (kindName) => kindName.match(/[A-Z]/g).slice(0, 2).join("");
 

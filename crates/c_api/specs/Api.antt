@@ -1,12 +1,15 @@
 -- What C sees: numbers of kinds and forms, pieces, cursors and recoders.
-use Rattle.std.specs.Prelude.{◌≡◌, ℕ, zero, suc, ◌+◌, ◌-◌, ◌<◌, ◌≤◌, List, [], ◌∷◌, length, take, get_or, slice_range, Result, Ok, Err}
+use Rattle.std.specs.Prelude.{◌≡◌, ℕ, zero, suc, ◌+◌, ◌-◌, ◌<◌, ◌≤◌, List, [], ◌∷◌, length, take, get_or, slice_range, All, Result, Ok, Err}
 use Rattle.utf_base.specs.declared.errors.Utf8ErrorKind.{Utf8ErrorKind}
 use Rattle.utf_base.specs.declared.errors.Utf8ErrorKind.TheVariants.{TooFewBytes, NonUtf8Byte, UnexpectedContinuationByte, InterruptedSequence, OverlongEncoding, Utf16ReservedCodepoint, TooHighCodepoint}
 use Rattle.utf_base.specs.declared.errors.units.Utf16PairError.{Utf16PairError}
 use Rattle.utf_base.specs.declared.errors.units.Utf16PairError.TheVariants.{UnexpectedTrailingSurrogate, UnmatchedLeadingSurrogate, Incomplete}
+use Rattle.utf_base.specs.Code.{utf8}
 use Rattle.utf_base.specs.Back.{decoded_end, decoded_pairs_end}
-use Rattle.utf_base.specs.Decoded.{decoded, decoded_pairs}
-use Rattle.encode_unicode.specs.Window.{as_piece}
+use Rattle.utf_base.specs.Decoded.{decoded, decoded_pairs, unless_fault}
+use Rattle.utf_base.specs.Kinds.{asked_by, merger_kind, value}
+use Rattle.encode_unicode.specs.Window.{Item, as_piece}
+use Rattle.cuts.specs.Items.{IsRun}
 use Rattle.cuts.specs.declared.form.Form.{Form}
 use Rattle.cuts.specs.declared.form.Form.TheVariants.{Utf8, Utf16Le, Utf16Be}
 use Rattle.cuts.specs.Recoded.{Recoding}
@@ -41,6 +44,15 @@ piece_before number end x = piece_at number (end - x.1) x
 -- that nothing is left
 abbrev pub no_piece : NodyPiece
 no_piece = record { place = 0; scalar = 0; kind = 11; len = 0 }
+
+-- what a reader of one byte at a time answers first: the scalar whose code begins the bytes, with the code's length, else
+-- the kind that a merger names
+abbrev pub merged : List ℕ → Result ℕ Utf8ErrorKind × ℕ
+merged w = as_piece (unless_fault (merger_kind w) (value w, asked_by w))
+
+-- each piece of the merged run over the bytes that begins at the place is this one
+abbrev pub IsMergedPiece : List ℕ → ℕ → NodyPiece → Type 0
+IsMergedPiece xs place x = (items : List Item) → IsRun utf8 merger_kind xs items → All (λ item. item.0 ≡ place → x ≡ piece_at kind_number place (item.1, item.2)) items
 
 -- the cursor leaves something of so many elements
 abbrev pub LeavesSome : NodyCursor → ℕ → Type 0

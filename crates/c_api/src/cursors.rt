@@ -4,10 +4,10 @@ ghost use Rattle.utf_base.specs.Back.{decoded_end, decoded_pairs_end};
 ghost use Rattle.utf_base.specs.Decoded.{decoded, decoded_pairs};
 ghost use Rattle.encode_unicode.specs.Window.{as_piece};
 ghost use Rattle.c_api.specs.Api as Api;
-ghost use Rattle.c_api.specs.Api.{kind_number, pair_number, piece_at, piece_before, no_piece, Gives, GivesEach, LeavesSome, after, before};
+ghost use Rattle.c_api.specs.Api.{kind_number, pair_number, piece_at, piece_before, no_piece, merged, IsMergedPiece, Gives, GivesEach, LeavesSome, after, before};
 
 use crate::kinds::{number_of, pair_number_of};
-use encode_unicode::iterator::{Utf8CharDecoder, Utf16CharDecoder};
+use encode_unicode::iterator::{Utf8CharDecoder, Utf8CharMerger, Utf16CharDecoder};
 
 /// A piece of some bytes or units: a character, or what is wrong with one of them.
 #[repr(C)]
@@ -207,6 +207,42 @@ pub extern "C" fn nody_utf16_next_back(units: &[u16], cursor: &mut NodyCursor) -
     let piece = last_of_units(&units[cursor.front..cursor.back], cursor.back);
     cursor.back -= piece.len as usize;
     piece
+}
+
+// The first answer of a merger over the bytes, which stand at a place.
+fn first_merged(bytes: &[u8], place: usize) -> NodyPiece
+    requires { 0 < length bytes.now }
+    ensures { result ≡ piece_at kind_number place (merged bytes.now) }
+{
+    match Utf8CharMerger::from(bytes.iter().copied()).next() {
+        None => none(),
+        Some(Ok(c)) => NodyPiece {
+            place,
+            scalar: c.to_char() as u32,
+            kind: 0,
+            len: c.len() as u8,
+        },
+        Some(Err(error)) => NodyPiece {
+            place,
+            scalar: 0,
+            kind: number_of(error.kind()),
+            len: 1,
+        },
+    }
+}
+
+/// The piece of bytes that begins at a place, as a reader of one byte at a time names it.
+#[unsafe(no_mangle)]
+pub extern "C" fn nody_utf8_merged(bytes: &[u8], place: usize) -> NodyPiece
+    ensures some { place < length bytes.now → result ≡ piece_at kind_number place (merged (drop place bytes.now)) }
+    ensures run { IsMergedPiece bytes.now place result }
+    ensures none { length bytes.now ≤ place → result ≡ no_piece }
+{
+    if place < bytes.len() {
+        first_merged(&bytes[place..], place)
+    } else {
+        none()
+    }
 }
 
 /// The character that begins some bytes, or what is wrong with the first of them.
