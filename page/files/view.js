@@ -107,7 +107,7 @@ export class View {
             block.id = `p${piece.place}`;
             block.setAttribute("role", "option");
             block.setAttribute("aria-selected", String(is_chosen));
-            block.setAttribute("aria-label", this.said(cutPiece));
+            block.setAttribute("aria-label", this.said([piece, other]));
             block.title = is_fault ? codec.names[piece.kind] : blockName(piece.scalar);
         } else {
             block.setAttribute("aria-hidden", "true");
@@ -115,16 +115,16 @@ export class View {
         return block;
     }
 
-    // A piece of the cut as it is read now, and as it is read the other way.
+    // A piece of the cut as it is read now, and as it is read the other way; a character is the same in both.
     read(piece) {
+        if (piece.kind === OK) return [piece, piece];
         const merged = this.codec.merged(piece.place);
         return this.isByByte ? [merged, piece] : [piece, merged];
     }
 
-    // What is said of a piece.
-    said(cutPiece) {
+    // What is said of a piece that was read.
+    said([piece, other]) {
         const { names, bytes } = this.codec;
-        const [piece, other] = this.read(cutPiece);
         return sentence(piece, names, bytes) + (piece.kind === other.kind ? "" : otherwise(names[other.kind], this.isByByte));
     }
 
@@ -153,7 +153,7 @@ export class View {
 
     tell(place) {
         const piece = this.cut.at(place);
-        const text = piece ? this.said(piece) : "There are no bytes.";
+        const text = piece ? this.said(this.read(piece)) : "There are no bytes.";
         const why = document.getElementById("why");
         if (why.textContent !== text) why.textContent = text;
     }
