@@ -1,12 +1,10 @@
 -- The sixteen lanes of a vector, and what they say of the bytes that were loaded.
-use Rattle.std.proofs.Common.{◌≡◌, ℕ, ◌+◌, ◌-◌, ◌*◌, ◌/◌, ◌%◌, ◌^◌, ◌<◌, ◌≤◌, Bool, true, false, not, cond, eqb, leb, ltb, List, map, length, get_or, replicate, bit_and, bit_or, bit_xor, refl, sym, ap, ◌∙◌, inl, inr, arith, lit<, w8, Fits, eqb-true, leb-false, ltb-true, ltb-false, take, length-take, IsUtf8}
+use Rattle.std.proofs.Common.{◌≡◌, ℕ, ◌+◌, ◌-◌, ◌*◌, ◌/◌, ◌%◌, ◌^◌, ◌<◌, ◌≤◌, Bool, true, false, not, cond, eqb, leb, ltb, List, map, length, get_or, replicate, bit_and, bit_or, bit_xor, refl, sym, ap, ◌∙◌, inl, inr, arith, lit<, w8, Fits, eqb-true, leb-false, ltb-true, ltb-false}
 use Rattle.std.proofs.lemmas.Bool.{cases_lt}
-use Rattle.std.proofs.lemmas.List.{get_or-take, get_or_past}
 use Rattle.std.proofs.lemmas.List.Sums.{prefix_len_passes, prefix_len-le-length}
 use Rattle.std.proofs.lemmas.Nat.{and_le_r, le_or_l, le_or_r}
 use Rattle.std.proofs.lemmas.Nat.Bits.{and_pow, bit_at_or}
 use Rattle.std.proofs.lemmas.Simd.{Each1-get_or, Each1-from_get_or, length-zip2, get_or-zip2, get_or-replicate, get_or-chunk, length-chunk, chunk-fits, length-sel_l, get_or-sel_l, tops_compared, bitmask_splat, zip2_splat, zip2_splat_left, leading_from_mask_l, trailing_mask_l, swz_l, SwzOk, SwzOk-from_below, length-swz_l, get_or-swz_l_below}
-use Rattle.std.proofs.lemmas.Str.{IsUtf8-from_ascii}
 use Rattle.std.specs.List.{prefix_len}
 use lib.Count.{count_trailing_zeros}
 use lib.Lanes.{zip2, sel_l, mask_l, top, Each1, chunk}
@@ -356,10 +354,3 @@ ascii_follows xs i closed low start k least most =
       third = λ high. absurd (omega arith);
       fourth = λ high. absurd (omega arith);
     }
-
--- ASCII is text
-pub ascii_front : (xs : List ℕ) (n : ℕ) → ((k : ℕ) → k < n → get_or xs k 0 < 0x80) → IsUtf8 (take n xs)
-ascii_front xs n low = IsUtf8-from_ascii (take n xs) (λ k. elim (cases_lt k n) [
-  | inl lt ↦ rw (get_or-take n xs k 0 lt) (low k lt)
-  | inr ge ↦ rw (get_or_past (take n xs) k 0 (omega (arith, length-take n xs))) (lit< tt)
-])

@@ -102,22 +102,12 @@ pub(crate) fn text_len(bytes: &[u8]) -> usize
     ensures within { result ≤ length bytes.now }
     ensures text { IsUtf8 (take result bytes.now) }
 {
-    let start = text_start(bytes);
+    let start = few_chars(bytes);
     if start < 3 || bytes.len() < start + 16 || continues(bytes[start]) {
         return start;
     }
     let end = followed(bytes, start);
     last_code(bytes, start, end)
-}
-
-// Some text at the front: blocks of ASCII, or characters as far as three bytes.
-#[inline(always)]
-fn text_start(bytes: &[u8]) -> usize
-    ensures within { result ≤ length bytes.now }
-    ensures text { IsUtf8 (take result bytes.now) }
-{
-    let ascii = ascii_len(bytes);
-    if ascii > 0 { ascii } else { few_chars(bytes) }
 }
 
 // How many bytes the first characters have, as far as three bytes and no fault.
@@ -132,22 +122,6 @@ fn few_chars(bytes: &[u8]) -> usize
             None => return place,
             Some((_, len)) => place += len,
         }
-    }
-    place
-}
-
-// How many bytes the blocks of ASCII at the front have.
-#[inline(always)]
-fn ascii_len(bytes: &[u8]) -> usize
-    ensures within { result ≤ length bytes.now }
-    ensures ascii { (k : ℕ) → k < result → slice_index bytes.now k < 0x80 }
-{
-    let mut place = 0;
-    while 64 <= bytes.len() - place {
-        if !is_ascii_block(bytes, place) {
-            return place;
-        }
-        place += 64;
     }
     place
 }
