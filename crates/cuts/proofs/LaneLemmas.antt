@@ -334,15 +334,14 @@ pub follow_lanes : (xs : List ℕ) (i n : ℕ) → ((k : ℕ) → k < n → AllF
 follow_lanes xs i n each k least most = each (k + 3 - i) (omega arith) k (omega arith) (omega arith)
 
 -- ASCII may follow where no code has to go on
-pub ascii_follows : (xs : List ℕ) (i : ℕ) → ((k : ℕ) → k + 3 ≡ i → (get_or xs k 0 < 0xF0) × (get_or xs (k + 1) 0 < 0xE0) × (get_or xs (k + 2) 0 < 0xC0))
-    → ((k : ℕ) → k < 64 → get_or xs (i + k) 0 < 0x80) → 3 ≤ i → AllFollow xs i (i + 64)
-ascii_follows xs i closed low start k least most =
-    let at : (j : ℕ) → i ≤ j → j < i + 64 → get_or xs j 0 < 0x80 = λ j ge lt. (let e : i + (j - i) ≡ j = omega arith in rw e at (low (j - i) (omega arith))) in
+pub ascii_follows : (xs : List ℕ) (i n : ℕ) → ((k : ℕ) → k + 3 ≡ i → (get_or xs k 0 < 0xF0) × (get_or xs (k + 1) 0 < 0xE0) × (get_or xs (k + 2) 0 < 0xC0))
+    → ((k : ℕ) → i ≤ k → k < n → get_or xs k 0 < 0x80) → 3 ≤ i → AllFollow xs i n
+ascii_follows xs i n closed at start k least most =
     let before = closed (i - 3) (omega arith) in
     let first : get_or xs (i - 3) 0 < 0xF0 = before.0 in
-    let ends : (j : ℕ) → i ≤ j + 1 → j < i + 64 → get_or xs j 0 < 0xC0
+    let ends : (j : ℕ) → i ≤ j + 1 → j < n → get_or xs j 0 < 0xC0
     = λ j ge lt. elim (cases_lt j i) [ inr more ↦ (let g = at j more lt in omega arith) | inl less ↦ (let e : i - 3 + 2 ≡ j = omega arith in rw e at before.2) ] in
-    let second : (j : ℕ) → i ≤ j + 2 → j < i + 64 → get_or xs j 0 < 0xE0
+    let second : (j : ℕ) → i ≤ j + 2 → j < n → get_or xs j 0 < 0xE0
     = λ j ge lt. elim (cases_lt (j + 1) i) [ inr more ↦ (let g = ends j more lt in omega arith) | inl less ↦ (let e : i - 3 + 1 ≡ j = omega arith in rw e at before.1) ] in
     let third : get_or xs k 0 < 0xF0
     = elim (cases_lt (k + 2) i) [ inr more ↦ (let g = second k more (omega arith) in omega arith) | inl less ↦ (let e : i - 3 ≡ k = omega arith in rw e at first) ] in

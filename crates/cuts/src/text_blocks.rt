@@ -163,10 +163,11 @@ fn followed_wide(bytes: &[u8], start: usize) -> usize
 {
     let mut place = start;
     while 64 <= bytes.len() - place {
-        if !block_follows(bytes, place) {
+        let end = block_end(bytes, place);
+        if end == place {
             return place;
         }
-        place += 64;
+        place = end;
     }
     place
 }
@@ -192,19 +193,40 @@ fn followed_lane_by_lane(bytes: &[u8], start: usize) -> usize
     place
 }
 
-// Whether each of the 64 bytes from the place on may follow the three before it.
+// Where the next block of 64 ends, or the last of many that are ASCII; the place itself where some byte may not follow.
 #[inline(always)]
-fn block_follows(bytes: &[u8], place: usize) -> bool
+fn block_end(bytes: &[u8], place: usize) -> usize
     requires start { 3 ≤ place }
     requires within { place + 64 ≤ length bytes.now }
-    ensures { IsTrue result → AllFollow bytes.now place (place + 64) }
+    ensures least { place ≤ result }
+    ensures within { result ≤ length bytes.now }
+    ensures follow { AllFollow bytes.now place result }
 {
     if is_ascii_block(bytes, place) && is_closed(bytes, place) {
-        return true;
+        return ascii_end(bytes, place);
     }
     let first = faults_at(bytes, place) | faults_at(bytes, place + 16);
     let second = faults_at(bytes, place + 32) | faults_at(bytes, place + 48);
-    (first | second).simd_ne(u8x16::splat(0)).to_bitmask() == 0
+    let wrong = (first | second).simd_ne(u8x16::splat(0)).to_bitmask();
+    if wrong == 0 { place + 64 } else { place }
+}
+
+// Where the blocks of ASCII end that begin at the place.
+#[inline(always)]
+fn ascii_end(bytes: &[u8], start: usize) -> usize
+    requires { start ≤ length bytes.now }
+    ensures least { start ≤ result }
+    ensures within { result ≤ length bytes.now }
+    ensures ascii { (k : ℕ) → start ≤ k → k < result → slice_index bytes.now k < 0x80 }
+{
+    let mut place = start;
+    while 64 <= bytes.len() - place {
+        if !is_ascii_block(bytes, place) {
+            return place;
+        }
+        place += 64;
+    }
+    place
 }
 
 // Whether the three bytes before the place ask for no more.
