@@ -15,7 +15,7 @@ pub record MayBegin (c d : ℕ) : Type 0 where
   pub four : c ≡ 0xF0 → 0x90 ≤ d
   pub high : c ≡ 0xF4 → d < 0x90
 
--- after the byte c, which no code of three or four bytes has as a later one but its last, d may come
+-- where no code of three or four bytes has to go on, the byte d may come after c
 pub record MayFollow (c d : ℕ) : Type 0 where
   pub first : c < 0xC0 → 0x80 ≤ d → 0xC0 ≤ d
   pub second : 0xC0 ≤ c → MayBegin c d
