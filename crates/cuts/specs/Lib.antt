@@ -27,6 +27,7 @@ pub mod Shards
 pub mod Rooms
 pub mod WellFormed
 pub mod ShownFronts
+pub mod TextBlocks
 pub mod Relayed
 pub use Rattle.utf_base.specs.Shown
 pub use Rattle.utf_base.specs.ShownLaws

@@ -22,6 +22,7 @@ pub mod runs;
 pub mod shards;
 mod shown_fronts;
 pub mod streams;
+mod text_blocks;
 mod text_front;
 pub mod walks;
 pub mod well_formed;

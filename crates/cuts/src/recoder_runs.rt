@@ -5,6 +5,7 @@ ghost use Rattle.cuts.specs.Recoded.{Grows, Finishes, Lacks};
 use crate::code_puts::{put_block, put_code, put_eight};
 use crate::form::Form::{self, Utf8, Utf16Be, Utf16Le};
 use crate::shown_fronts::{front, last_front, text_front, unit_block};
+use crate::text_blocks::text_len;
 use std::alloc::Allocator;
 
 // How far runs go piece by piece before they look for a stretch again.
@@ -166,18 +167,6 @@ fn copy_text<A: Allocator>(bytes: &[u8], out: &mut Vec<u8, A>) -> usize
     let len = text_len(bytes);
     let _ = out.extend_from_slice(&bytes[..len]);
     len
-}
-
-// How many bytes at the front are text.
-#[inline(always)]
-fn text_len(bytes: &[u8]) -> usize
-    ensures within { result ≤ length bytes.now }
-    ensures text { IsUtf8 (take result bytes.now) }
-{
-    match str::from_utf8(bytes) {
-        Ok(_) => bytes.len(),
-        Err(error) => error.valid_up_to(),
-    }
 }
 
 // `recode_decided` to the end, in blocks where the bytes allow it, then piece by piece, and with care only

@@ -102,7 +102,7 @@ fn followed(front: u32, byte: u8) -> u32
 
 // Whether the byte has the form of one after the first of a code.
 #[inline(always)]
-fn continues(byte: u8) -> bool
+pub(crate) fn continues(byte: u8) -> bool
     ensures { result ≡ is_continuation byte }
 {
     matches!(byte, 0x80..=0xbf)

@@ -2,13 +2,14 @@
 ghost use Rattle.utf_base.specs.Code.{utf8, utf16};
 ghost use Rattle.cuts.specs.WellFormed.{IsFirstFault};
 
+use crate::text_blocks::text_len;
 use encode_unicode::CharExt;
 
 /// The offset of the first fault in the bytes, or how many bytes there are where there is none: these are then UTF-8.
 pub fn valid_up_to(bytes: &[u8]) -> usize
     ensures { IsFirstFault utf8 bytes.now result }
 {
-    let mut place = 0;
+    let mut place = text_len(bytes);
     while place < bytes.len() {
         match char::from_utf8_slice_start(&bytes[place..]) {
             Ok((_, len)) => place += len,

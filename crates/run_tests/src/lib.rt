@@ -1,4 +1,4 @@
-//! Tests of what no row of text says: single calls of failing streams, long inputs, every word of eight letters,
+//! Tests of what no row of text says: single calls of failing streams, long inputs, first faults, every word of eight letters,
 //! tables that change again and again, what a program says, and the callers in `uses`.
 #![tactic(auto)]
 
@@ -6,6 +6,8 @@
 mod bounds;
 #[cfg(test)]
 mod callers;
+#[cfg(test)]
+mod first_faults;
 #[cfg(test)]
 mod long_inputs;
 #[cfg(test)]
