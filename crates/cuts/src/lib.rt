@@ -17,6 +17,8 @@ mod recoder_rooms;
 mod recoder_runs;
 pub mod recoding;
 mod requests;
+mod room_puts;
+mod room_runs;
 pub mod rooms;
 pub mod runs;
 pub mod shards;
