@@ -7,6 +7,8 @@ ghost use Rattle.c_api.specs.Api as Api;
 ghost use Rattle.c_api.specs.Api.{kind_number, pair_number, piece_at, piece_before, no_piece, Gives, GivesEach, LeavesSome, after, before};
 
 use crate::kinds::{number_of, pair_number_of};
+use cuts::front_of_text;
+use encode_unicode::CharExt;
 use encode_unicode::iterator::{Utf8CharDecoder, Utf16CharDecoder};
 
 /// A piece of some bytes or units: a character, or what is wrong with one of them.
@@ -44,27 +46,46 @@ fn none() -> NodyPiece
     }
 }
 
-// The piece that begins the bytes, which stand at a place.
+// The piece that begins the bytes, which stand at a place: that of text first, since most bytes are some.
 #[inline(always)]
+#[tactic(auto, using(utf_base::proofs::DecodedLemmas::decoded_code, utf_base::proofs::DecodedLemmas::front_len_utf8))]
 fn first(bytes: &[u8], place: usize) -> NodyPiece
     requires { 0 < length bytes.now }
     ensures piece { result ≡ piece_at kind_number place (as_piece (decoded bytes.now)) }
     ensures least { 1 ≤ result.len }
     ensures most { result.len ≤ length bytes.now }
 {
-    match Utf8CharDecoder::from(bytes).next() {
-        None => none(),
-        Some((_, Ok(c), len)) => NodyPiece {
+    match front_of_text(bytes) {
+        Some((c, len)) => NodyPiece {
             place,
-            scalar: c.to_char() as u32,
+            scalar: c as u32,
             kind: 0,
             len: len as u8,
         },
-        Some((_, Err(error), len)) => NodyPiece {
+        None => first_with_care(bytes, place),
+    }
+}
+
+// The same of bytes that may be anything.
+#[inline(never)]
+fn first_with_care(bytes: &[u8], place: usize) -> NodyPiece
+    requires { 0 < length bytes.now }
+    ensures piece { result ≡ piece_at kind_number place (as_piece (decoded bytes.now)) }
+    ensures least { 1 ≤ result.len }
+    ensures most { result.len ≤ length bytes.now }
+{
+    match char::from_utf8_slice_start(bytes) {
+        Ok((c, len)) => NodyPiece {
+            place,
+            scalar: c as u32,
+            kind: 0,
+            len: len as u8,
+        },
+        Err(error) => NodyPiece {
             place,
             scalar: 0,
             kind: number_of(error.kind()),
-            len: len as u8,
+            len: 1,
         },
     }
 }
@@ -158,6 +179,7 @@ pub extern "C" fn nody_cursor(len: usize) -> NodyCursor
 }
 
 /// The piece of bytes that begins what the cursor leaves, which then leaves it.
+#[inline(always)]
 #[unsafe(no_mangle)]
 pub extern "C" fn nody_utf8_next(bytes: &[u8], cursor: &mut NodyCursor) -> NodyPiece
     ensures { Gives Api.first_of after bytes.now cursor.old result cursor.new }

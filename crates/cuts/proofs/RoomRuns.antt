@@ -1,5 +1,5 @@
 -- Runs into room of a fixed size, step by step.
-use Rattle.std.proofs.Common.{◌≡◌, ℕ, ◌+◌, ◌-◌, ◌*◌, ◌<◌, ◌≤◌, List, [], ◌++◌, length, take, drop, flat_map, arith, refl, ap, ap₂, sym, ⊎_elim, subst, ◌∙◌, append_assoc, length-drop, length-take}
+use Rattle.std.proofs.Common.{◌≡◌, ℕ, ◌+◌, ◌-◌, ◌*◌, ◌<◌, ◌≤◌, List, [], ◌∷◌, ◌++◌, length, get_or, take, drop, flat_map, arith, refl, ap, sym, ⊎_elim, subst, ◌∙◌, append_assoc, length-drop, length-take}
 use Rattle.std.proofs.lemmas.List.{drop-drop, take-take, take_all, append-nil, drop-take}
 use Rattle.std.proofs.lemmas.List.Concat.{flat_map-append}
 use Rattle.std.proofs.lemmas.Bool.{cases_lt}
@@ -159,3 +159,30 @@ pub RunsInto-two : (from to : Form) (bytes old mid more new : List ℕ) (place r
     → RunsInto from to bytes old new place (read + n + m) last
 RunsInto-two from to bytes old mid more new place read wrote n end m last f len g kept h =
     RunsInto-then from to bytes old more new place (read + n) end m last (RunsInto-then from to bytes old mid more place read wrote n end f len g) (kept ∙ len) h
+
+-- Bytes written after others.
+
+Fills-then : (old mid new xs ys : List ℕ) (from to end : ℕ) → Fills old mid from to xs → length mid ≡ length old → Fills mid new to end ys → Fills old new from end (xs ++ ys)
+Fills-then old mid new xs ys from to end f len g =
+    let ordered = f.ordered in
+    let later = g.ordered in
+    let fits = g.fits in
+    record {
+      ordered = omega arith;
+      fits = omega arith;
+      front = g.front ∙ ap (λ zs. zs ++ ys) f.front ∙ append_assoc (take from old) xs ys;
+      rest = g.rest ∙ drop_later mid old to end later f.rest;
+    }
+
+four : (w : List ℕ) → length w ≡ 4 → get_or w 0 0 ∷ get_or w 1 0 ∷ get_or w 2 0 ∷ get_or w 3 0 ∷ [] ≡ w
+four [] h = absurd (omega arith)
+four (a ∷ []) h = absurd (omega arith)
+four (a ∷ b ∷ []) h = absurd (omega arith)
+four (a ∷ b ∷ c ∷ []) h = absurd (omega arith)
+four (a ∷ b ∷ c ∷ d ∷ []) h = refl
+four (a ∷ b ∷ c ∷ d ∷ e ∷ w) h = absurd (omega arith)
+
+-- two and then two
+pub Fills-four : (old mid new w : List ℕ) (from to end : ℕ) → length w ≡ 4 → Fills old mid from to (get_or w 0 0 ∷ get_or w 1 0 ∷ []) → length mid ≡ length old
+    → Fills mid new to end (get_or w 2 0 ∷ get_or w 3 0 ∷ []) → Fills old new from end w
+Fills-four old mid new w from to end h f len g = subst (λ xs. Fills old new from end xs) (four w h) (Fills-then old mid new _ _ from to end f len g)

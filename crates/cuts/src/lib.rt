@@ -24,7 +24,7 @@ pub mod runs;
 pub mod shards;
 mod shown_fronts;
 pub mod streams;
-mod text_front;
+pub mod text_front;
 pub mod walks;
 pub mod well_formed;
 
@@ -39,5 +39,6 @@ pub use recoding::{RecodeFault, recode, run_recode};
 pub use rooms::room_for;
 pub use runs::run_pieces;
 pub use shards::shard_end;
+pub use text_front::front_of_text;
 pub use walks::{walk_utf8, walk_utf16};
 pub use well_formed::{units_valid_up_to, valid_up_to};

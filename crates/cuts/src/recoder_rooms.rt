@@ -36,7 +36,7 @@ pub(crate) fn put_at(to: Form, c: char, room: &mut [u8], place: usize) -> Option
 
 // The code of the character, and how many bytes it has.
 #[inline(always)]
-pub(crate) fn code_of(to: Form, c: char) -> ([u8; 4], usize)
+fn code_of(to: Form, c: char) -> ([u8; 4], usize)
     ensures code { take result.1 result.0 ≡ written to c }
     ensures len { result.1 ≡ length (written to c) }
     ensures some { 0 < result.1 }
@@ -70,7 +70,7 @@ fn units_of_char(high_first: bool, c: char) -> ([u8; 4], usize)
 }
 
 #[inline(always)]
-fn two_bytes(high_first: bool, unit: u16) -> [u8; 2]
+pub(crate) fn two_bytes(high_first: bool, unit: u16) -> [u8; 2]
     ensures { result ≡ bytes_of high_first unit }
 {
     let [high, low] = [(unit / 256) as u8, (unit % 256) as u8];

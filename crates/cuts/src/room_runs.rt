@@ -147,9 +147,10 @@ fn text_into(from: Form, to: Form, bytes: &[u8], room: &mut [u8], place: usize) 
     requires { place + 3 * length bytes.now ≤ length room.old }
     ensures { RunsInto from to bytes.now room.old room.new place result.0 result.1 }
 {
+    let stop = bytes.len().saturating_sub(3);
     let mut read = 0;
     let mut written = place;
-    while 4 <= bytes.len() - read {
+    while read < stop {
         match text_front(from, &bytes[read..read + 4]) {
             None => return (read, written),
             Some((c, len)) => {
