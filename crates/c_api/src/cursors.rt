@@ -179,9 +179,41 @@ pub extern "C" fn nody_cursor(len: usize) -> NodyCursor
 }
 
 /// The piece of bytes that begins what the cursor leaves, which then leaves it.
-#[inline(always)]
 #[unsafe(no_mangle)]
+#[tactic(auto, using(utf_base::proofs::DecodedLemmas::decoded_code, utf_base::proofs::DecodedLemmas::front_len_utf8))]
 pub extern "C" fn nody_utf8_next(bytes: &[u8], cursor: &mut NodyCursor) -> NodyPiece
+    ensures { Gives Api.first_of after bytes.now cursor.old result cursor.new }
+{
+    let place = cursor.front;
+    if cursor.back <= place || bytes.len() < cursor.back {
+        return none();
+    }
+    let Some((c, len)) = front_of_text(&bytes[place..cursor.back]) else {
+        return next_with_care(bytes, cursor);
+    };
+    cursor.front = place + len;
+    NodyPiece {
+        place,
+        scalar: c as u32,
+        kind: 0,
+        len: len as u8,
+    }
+}
+
+// The same where the cursor leaves some of the bytes, which may be anything.
+#[inline(never)]
+fn next_with_care(bytes: &[u8], cursor: &mut NodyCursor) -> NodyPiece
+    requires { LeavesSome cursor.old (length bytes.now) }
+    ensures { Gives Api.first_of after bytes.now cursor.old result cursor.new }
+{
+    let piece = first_with_care(&bytes[cursor.front..cursor.back], cursor.front);
+    cursor.front += piece.len as usize;
+    piece
+}
+
+// The same, kept in the loop that calls it.
+#[inline(always)]
+fn next(bytes: &[u8], cursor: &mut NodyCursor) -> NodyPiece
     ensures { Gives Api.first_of after bytes.now cursor.old result cursor.new }
 {
     if cursor.back <= cursor.front || bytes.len() < cursor.back {
@@ -296,15 +328,18 @@ pub extern "C" fn nody_utf8_pieces(
     ensures rest { drop result room.new ≡ drop result room.old }
     ensures over { result < length room.old → ¬ LeavesSome cursor.new (length bytes.now) }
 {
+    let mut left = *cursor;
     let mut count = 0;
     while count < room.len() {
-        let piece = nody_utf8_next(bytes, cursor);
+        let piece = next(bytes, &mut left);
         if piece.len == 0 {
+            *cursor = left;
             return count;
         }
         room[count] = piece;
         count += 1;
     }
+    *cursor = left;
     count
 }
 
