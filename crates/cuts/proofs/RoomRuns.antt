@@ -4,10 +4,10 @@ use Rattle.std.proofs.lemmas.List.{drop-drop, take-take, take_all, append-nil, d
 use Rattle.std.proofs.lemmas.List.Concat.{flat_map-append}
 use Rattle.std.proofs.lemmas.Bool.{cases_lt}
 use Rattle.cuts.specs.declared.form.Form.{Form}
-use Rattle.cuts.specs.Recoded.{Reads, written, IsRecoded, Grows}
+use Rattle.cuts.specs.Recoded.{Reads, written, Grows}
 use Rattle.cuts.specs.ShownFronts.{Decides, ShowsEach}
 use Rattle.cuts.specs.Rooms.{Fills, RunsInto}
-use Rattle.cuts.proofs.Growing.{Grows-append, Grows-trans, length_written}
+use Rattle.cuts.proofs.Growing.{Grows-trans, length_written}
 use Rattle.cuts.proofs.RoomLemmas.{drop_later, cut_part, take_more, Grows-ahead, Grows-more-read}
 
 -- nothing is recoded yet
@@ -128,15 +128,15 @@ Grows-part from to bytes old new count read le g =
     let cut : drop read (take count bytes) ≡ take (count - read) (drop read bytes) = sym (cut_part read count bytes le) in
     ⊎_elim
     (λ (lt : count < read + 3).
-        let whole : take (read + 3) (take count bytes) ≡ take count bytes = take_all (read + 3) (take count bytes) (omega (arith, length-take count bytes)) in
-        let left : take 3 (drop read (take count bytes)) ≡ take (count - read) (drop read bytes)
-        = ap (take 3) cut ∙ take_all 3 (take (count - read) (drop read bytes)) (omega (arith, length-take (count - read) (drop read bytes))) in
-        Grows-clipped from to bytes old new count read le (omega arith)
-        (subst (λ ys. Grows from to (take count bytes) old new ys) left (subst (λ ys. Grows from to ys old new (take 3 (drop read (take count bytes)))) whole g)))
+    let whole : take (read + 3) (take count bytes) ≡ take count bytes = take_all (read + 3) (take count bytes) (omega (arith, length-take count bytes)) in
+    let left : take 3 (drop read (take count bytes)) ≡ take (count - read) (drop read bytes)
+    = ap (take 3) cut ∙ take_all 3 (take (count - read) (drop read bytes)) (omega (arith, length-take (count - read) (drop read bytes))) in
+    Grows-clipped from to bytes old new count read le (omega arith)
+    (subst (λ ys. Grows from to (take count bytes) old new ys) left (subst (λ ys. Grows from to ys old new (take 3 (drop read (take count bytes)))) whole g)))
     (λ (ge : read + 3 ≤ count).
-        let whole : take (read + 3) (take count bytes) ≡ take (read + 3) bytes = take-take (read + 3) count bytes ge in
-        let left : take 3 (drop read (take count bytes)) ≡ take 3 (drop read bytes) = ap (take 3) cut ∙ take-take 3 (count - read) (drop read bytes) (omega arith) in
-        subst (λ ys. Grows from to (take (read + 3) bytes) old new ys) left (subst (λ ys. Grows from to ys old new (take 3 (drop read (take count bytes)))) whole g))
+    let whole : take (read + 3) (take count bytes) ≡ take (read + 3) bytes = take-take (read + 3) count bytes ge in
+    let left : take 3 (drop read (take count bytes)) ≡ take 3 (drop read bytes) = ap (take 3) cut ∙ take-take 3 (count - read) (drop read bytes) (omega arith) in
+    subst (λ ys. Grows from to (take (read + 3) bytes) old new ys) left (subst (λ ys. Grows from to ys old new (take 3 (drop read (take count bytes)))) whole g))
     (cases_lt count (read + 3))
 
 pub RunsInto-part : (from to : Form) (bytes old new : List ℕ) (count place read wrote : ℕ) → RunsInto from to (take count bytes) old new place read wrote

@@ -160,10 +160,7 @@ pub(crate) fn block_codes(to: Form, units: [u16; 8]) -> ([u8; 16], usize)
     let [ha, hb, hc, hd] = [high(a), high(b), high(c), high(d)];
     let [he, hf, hg, hh] = [high(e), high(f), high(g), high(h)];
     match to {
-        Form::Utf8 => (
-            [la, lb, lc, ld, le, lf, lg, lh, 0, 0, 0, 0, 0, 0, 0, 0],
-            8,
-        ),
+        Form::Utf8 => ([la, lb, lc, ld, le, lf, lg, lh, 0, 0, 0, 0, 0, 0, 0, 0], 8),
         Form::Utf16Le => (
             [
                 la, ha, lb, hb, lc, hc, ld, hd, le, he, lf, hf, lg, hg, lh, hh,

@@ -114,13 +114,7 @@ pub(crate) fn recode_into(
 
 // `recode_into` code by code, of at least so many bytes as a stride has where there are as many, and hardly more.
 #[inline(never)]
-fn recode_few(
-    from: Form,
-    to: Form,
-    bytes: &[u8],
-    room: &mut [u8],
-    place: usize,
-) -> Progress
+fn recode_few(from: Form, to: Form, bytes: &[u8], room: &mut [u8], place: usize) -> Progress
     requires { place ≤ length room.old }
     ensures runs { RunsInto from to bytes.now room.old room.new place result.read result.written }
     ensures full { IsTrue result.is_full → IsFull (record { from = from; to = to; held = [] }) (drop result.read bytes.now) (length room.old - result.written) }

@@ -63,13 +63,7 @@ fn recode_pair<const PAIR: usize>(
 
 // Recodes what goes in blocks at the front of the bytes.
 #[inline(always)]
-fn blocks_into(
-    from: Form,
-    to: Form,
-    bytes: &[u8],
-    room: &mut [u8],
-    place: usize,
-) -> (usize, usize)
+fn blocks_into(from: Form, to: Form, bytes: &[u8], room: &mut [u8], place: usize) -> (usize, usize)
     requires { place ≤ length room.old }
     ensures { RunsInto from to bytes.now room.old room.new place result.0 result.1 }
 {
@@ -100,13 +94,7 @@ fn ascii_into(to: Form, bytes: &[u8], room: &mut [u8], place: usize) -> (usize, 
 
 // Recodes the blocks of units at the front of the bytes, each unit a character by itself.
 #[inline(always)]
-fn units_into(
-    from: Form,
-    to: Form,
-    bytes: &[u8],
-    room: &mut [u8],
-    place: usize,
-) -> (usize, usize)
+fn units_into(from: Form, to: Form, bytes: &[u8], room: &mut [u8], place: usize) -> (usize, usize)
     requires { place ≤ length room.old }
     ensures { RunsInto from to bytes.now room.old room.new place result.0 result.1 }
 {
@@ -127,13 +115,7 @@ fn units_into(
 // Recodes text at the front of the bytes, as far as a stretch goes for which the room is surely enough, and no fault
 // and none of the last bytes.
 #[inline(always)]
-fn stretch_into(
-    from: Form,
-    to: Form,
-    bytes: &[u8],
-    room: &mut [u8],
-    place: usize,
-) -> (usize, usize)
+fn stretch_into(from: Form, to: Form, bytes: &[u8], room: &mut [u8], place: usize) -> (usize, usize)
     requires { place ≤ length room.old }
     ensures { RunsInto from to bytes.now room.old room.new place result.0 result.1 }
 {

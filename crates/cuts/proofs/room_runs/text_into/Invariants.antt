@@ -1,4 +1,4 @@
-use Rattle.std.proofs.Common.{◌≡◌, ◌+◌, ◌-◌, ◌*◌, ◌≤◌, length}
+use Rattle.std.proofs.Common.{◌≡◌, ◌-◌, length}
 use Rattle.cuts.specs.Rooms.{RunsInto}
 use Rattle.cuts.proofs.room_runs.text_into.Given as goal
 
