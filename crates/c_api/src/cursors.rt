@@ -7,6 +7,8 @@ ghost use Rattle.c_api.specs.Api as Api;
 ghost use Rattle.c_api.specs.Api.{kind_number, pair_number, piece_at, piece_before, no_piece, merged, IsMergedPiece, Gives, GivesEach, LeavesSome, after, before};
 
 use crate::kinds::{number_of, pair_number_of};
+use cuts::front_of_text;
+use encode_unicode::CharExt;
 use encode_unicode::iterator::{Utf8CharDecoder, Utf8CharMerger, Utf16CharDecoder};
 
 /// A piece of some bytes or units: a character, or what is wrong with one of them.
@@ -44,27 +46,46 @@ fn none() -> NodyPiece
     }
 }
 
-// The piece that begins the bytes, which stand at a place.
+// The piece that begins the bytes, which stand at a place: that of text first, since most bytes are some.
 #[inline(always)]
+#[tactic(auto, using(utf_base::proofs::DecodedLemmas::decoded_code, utf_base::proofs::DecodedLemmas::front_len_utf8))]
 fn first(bytes: &[u8], place: usize) -> NodyPiece
     requires { 0 < length bytes.now }
     ensures piece { result ≡ piece_at kind_number place (as_piece (decoded bytes.now)) }
     ensures least { 1 ≤ result.len }
     ensures most { result.len ≤ length bytes.now }
 {
-    match Utf8CharDecoder::from(bytes).next() {
-        None => none(),
-        Some((_, Ok(c), len)) => NodyPiece {
+    match front_of_text(bytes) {
+        Some((c, len)) => NodyPiece {
             place,
-            scalar: c.to_char() as u32,
+            scalar: c as u32,
             kind: 0,
             len: len as u8,
         },
-        Some((_, Err(error), len)) => NodyPiece {
+        None => first_with_care(bytes, place),
+    }
+}
+
+// The same of bytes that may be anything.
+#[inline(never)]
+fn first_with_care(bytes: &[u8], place: usize) -> NodyPiece
+    requires { 0 < length bytes.now }
+    ensures piece { result ≡ piece_at kind_number place (as_piece (decoded bytes.now)) }
+    ensures least { 1 ≤ result.len }
+    ensures most { result.len ≤ length bytes.now }
+{
+    match char::from_utf8_slice_start(bytes) {
+        Ok((c, len)) => NodyPiece {
+            place,
+            scalar: c as u32,
+            kind: 0,
+            len: len as u8,
+        },
+        Err(error) => NodyPiece {
             place,
             scalar: 0,
             kind: number_of(error.kind()),
-            len: len as u8,
+            len: 1,
         },
     }
 }
@@ -159,7 +180,40 @@ pub extern "C" fn nody_cursor(len: usize) -> NodyCursor
 
 /// The piece of bytes that begins what the cursor leaves, which then leaves it.
 #[unsafe(no_mangle)]
+#[tactic(auto, using(utf_base::proofs::DecodedLemmas::decoded_code, utf_base::proofs::DecodedLemmas::front_len_utf8))]
 pub extern "C" fn nody_utf8_next(bytes: &[u8], cursor: &mut NodyCursor) -> NodyPiece
+    ensures { Gives Api.first_of after bytes.now cursor.old result cursor.new }
+{
+    let place = cursor.front;
+    if cursor.back <= place || bytes.len() < cursor.back {
+        return none();
+    }
+    let Some((c, len)) = front_of_text(&bytes[place..cursor.back]) else {
+        return next_with_care(bytes, cursor);
+    };
+    cursor.front = place + len;
+    NodyPiece {
+        place,
+        scalar: c as u32,
+        kind: 0,
+        len: len as u8,
+    }
+}
+
+// The same where the cursor leaves some of the bytes, which may be anything.
+#[inline(never)]
+fn next_with_care(bytes: &[u8], cursor: &mut NodyCursor) -> NodyPiece
+    requires { LeavesSome cursor.old (length bytes.now) }
+    ensures { Gives Api.first_of after bytes.now cursor.old result cursor.new }
+{
+    let piece = first_with_care(&bytes[cursor.front..cursor.back], cursor.front);
+    cursor.front += piece.len as usize;
+    piece
+}
+
+// The same, kept in the loop that calls it.
+#[inline(always)]
+fn next(bytes: &[u8], cursor: &mut NodyCursor) -> NodyPiece
     ensures { Gives Api.first_of after bytes.now cursor.old result cursor.new }
 {
     if cursor.back <= cursor.front || bytes.len() < cursor.back {
@@ -310,15 +364,18 @@ pub extern "C" fn nody_utf8_pieces(
     ensures rest { drop result room.new ≡ drop result room.old }
     ensures over { result < length room.old → ¬ LeavesSome cursor.new (length bytes.now) }
 {
+    let mut left = *cursor;
     let mut count = 0;
     while count < room.len() {
-        let piece = nody_utf8_next(bytes, cursor);
+        let piece = next(bytes, &mut left);
         if piece.len == 0 {
+            *cursor = left;
             return count;
         }
         room[count] = piece;
         count += 1;
     }
+    *cursor = left;
     count
 }
 

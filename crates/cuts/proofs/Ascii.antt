@@ -9,6 +9,7 @@ use Rattle.utf_base.proofs.Utf16Code.{utf16-1}
 use Rattle.cuts.specs.declared.form.Form.{Form}
 use Rattle.cuts.specs.declared.form.Form.TheVariants.{Utf8, Utf16Le, Utf16Be}
 use Rattle.cuts.specs.Recoded.{written, bytes_of, Grows}
+use Rattle.cuts.specs.ShownFronts.{ShowsEach}
 use Rattle.cuts.proofs.Growing.{Grows-each}
 
 ascii_shows_first : (v later ss : List ℕ) → IsAscii v → Shows utf8 later ss → Shows utf8 (v ++ later) (v ++ ss)
@@ -17,10 +18,13 @@ ascii_shows_first (b ∷ v) later ss h r =
     let low : b < 128 = h 0 in
     whole_code_shows_first utf8 utf8_is_code (b ∷ []) (v ++ later) b (v ++ ss) (ascii_is_scalar b low) (sym (utf8-1 b low)) (ascii_shows_first v later ss (λ i. h (suc i)) r)
 
+pub ShowsEach-ascii : (v : List ℕ) → IsAscii v → ShowsEach (Shows utf8) v v
+ShowsEach-ascii v h later ss r = ascii_shows_first v later ss h r
+
 pub Grows-ascii : (to : Form) (bytes old mid new : List ℕ) (p n : ℕ) → Grows Utf8 to bytes old mid (drop p bytes) → IsAscii (take n (drop p bytes))
     → new ≡ mid ++ flat_map (written to) (take n (drop p bytes)) → Grows Utf8 to bytes old new (drop (p + n) bytes)
 Grows-ascii to bytes old mid new p n g ascii e =
-    Grows-each Utf8 to bytes old mid new (take n (drop p bytes)) p n g (λ later ss r. ascii_shows_first (take n (drop p bytes)) later ss ascii r) e
+    Grows-each Utf8 to bytes old mid new (take n (drop p bytes)) p n g (ShowsEach-ascii (take n (drop p bytes)) ascii) e
 
 -- The bytes that come of ASCII.
 
@@ -52,8 +56,24 @@ widened_is Utf16Be [] h = refl
 widened_is Utf16Be (b ∷ w) h = ap₂ (λ xs ys. xs ++ ys) (sym (high_first b (h 0))) (widened_is Utf16Be w (λ i. h (suc i)))
 
 -- eight of them
-pub eight_same : (w : List ℕ) → IsAscii w → w ≡ flat_map utf8 w
-eight_same w h = widened_is Utf8 w h
+pub eight_bytes : (w : List ℕ) → length w ≡ 8 → IsAscii w
+    → get_or w 0 0 ∷ get_or w 1 0 ∷ get_or w 2 0 ∷ get_or w 3 0 ∷ get_or w 4 0 ∷ get_or w 5 0 ∷ get_or w 6 0 ∷ get_or w 7 0 ∷ []
+    ≡ flat_map utf8 w
+eight_bytes w h ascii = eight w h ∙ widened_is Utf8 w ascii
+  where
+    eight : (w : List ℕ) → length w ≡ 8
+        → get_or w 0 0 ∷ get_or w 1 0 ∷ get_or w 2 0 ∷ get_or w 3 0 ∷ get_or w 4 0 ∷ get_or w 5 0 ∷ get_or w 6 0 ∷ get_or w 7 0 ∷ []
+        ≡ w
+    eight [] h = absurd (omega arith)
+    eight (a ∷ []) h = absurd (omega arith)
+    eight (a ∷ b ∷ []) h = absurd (omega arith)
+    eight (a ∷ b ∷ c ∷ []) h = absurd (omega arith)
+    eight (a ∷ b ∷ c ∷ d ∷ []) h = absurd (omega arith)
+    eight (a ∷ b ∷ c ∷ d ∷ e ∷ []) h = absurd (omega arith)
+    eight (a ∷ b ∷ c ∷ d ∷ e ∷ f ∷ []) h = absurd (omega arith)
+    eight (a ∷ b ∷ c ∷ d ∷ e ∷ f ∷ g ∷ []) h = absurd (omega arith)
+    eight (a ∷ b ∷ c ∷ d ∷ e ∷ f ∷ g ∷ i ∷ []) h = refl
+    eight (a ∷ b ∷ c ∷ d ∷ e ∷ f ∷ g ∷ i ∷ j ∷ w) h = absurd (omega arith)
 
 pub eight_low : (w : List ℕ) → length w ≡ 8 → IsAscii w
     → get_or w 0 0 ∷ 0 ∷ get_or w 1 0 ∷ 0 ∷ get_or w 2 0 ∷ 0 ∷ get_or w 3 0 ∷ 0 ∷ get_or w 4 0 ∷ 0 ∷ get_or w 5 0 ∷ 0 ∷ get_or w 6 0 ∷ 0 ∷ get_or w 7 0 ∷ 0 ∷ []

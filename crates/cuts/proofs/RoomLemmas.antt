@@ -21,7 +21,7 @@ cut_part n m xs le =
     let whole : n + (m - n) ≡ m = omega arith in
     rw whole at (sym (drop-take n (m - n) xs))
 
-take_more : (n m : ℕ) (xs : List ℕ) → take n xs ++ take m (drop n xs) ≡ take (n + m) xs
+pub take_more : (n m : ℕ) (xs : List ℕ) → take n xs ++ take m (drop n xs) ≡ take (n + m) xs
 take_more n m xs = sym (ap₂ (λ ys zs. ys ++ zs) (take-take n (n + m) xs (omega arith)) (drop-take n m xs)) ∙ take-append-drop n (take (n + m) xs)
 
 take_clip : (n m : ℕ) (xs : List ℕ) → n ≤ m → (n < m → length xs ≤ n) → take n xs ≡ take m xs

@@ -1,6 +1,6 @@
 //! Codes written to the end of an output that has room for them.
 ghost use Rattle.std.specs.Prelude.{◌≡◌, ◌+◌, ◌/◌, ◌%◌, ◌≤◌, ◌++◌, length, vec_len, vec_capacity, IsAscii};
-ghost use Rattle.std.specs.Prelude.{flat_map};
+ghost use Rattle.std.specs.Prelude.{flat_map, take};
 ghost use Rattle.utf_base.specs.Code.{utf8, utf16};
 ghost use Rattle.std.specs.List.{All};
 ghost use Rattle.cuts.specs.Recoded.{written, bytes_of};
@@ -103,7 +103,6 @@ fn put_unit<A: Allocator>(high_first: bool, unit: u16, out: &mut Vec<u8, A>)
 
 // Appends the codes of eight bytes of ASCII.
 #[inline(always)]
-#[tactic(auto, using(crate::proofs::Ascii::eight_same, crate::proofs::Ascii::eight_low, crate::proofs::Ascii::eight_high))]
 pub(crate) fn put_eight<A: Allocator>(to: Form, block: &[u8], out: &mut Vec<u8, A>)
     requires eight { length block.now ≡ 8 }
     requires ascii { IsAscii block.now }
@@ -112,26 +111,30 @@ pub(crate) fn put_eight<A: Allocator>(to: Form, block: &[u8], out: &mut Vec<u8, 
     ensures len { vec_len out.new ≤ vec_len out.old + 16 }
     ensures capacity { vec_capacity out.old ≤ vec_capacity out.new }
 {
+    let (codes, len) = eight_codes(to, block);
+    let _ = out.extend_from_slice(&codes[..len]);
+}
+
+// The codes of eight bytes of ASCII, and how many bytes they have.
+#[inline(always)]
+#[tactic(auto, using(crate::proofs::Ascii::eight_bytes, crate::proofs::Ascii::eight_low, crate::proofs::Ascii::eight_high))]
+pub(crate) fn eight_codes(to: Form, block: &[u8]) -> ([u8; 16], usize)
+    requires eight { length block.now ≡ 8 }
+    requires ascii { IsAscii block.now }
+    ensures codes { take result.1 result.0 ≡ flat_map (written to) block.now }
+    ensures len { result.1 ≤ 16 }
+{
     let [a, b, c, d] = [block[0], block[1], block[2], block[3]];
     let [e, f, g, h] = [block[4], block[5], block[6], block[7]];
     match to {
-        Form::Utf8 => {
-            let _ = out.extend_from_slice(block);
-        }
-        Form::Utf16Le => {
-            let wide = [a, 0, b, 0, c, 0, d, 0, e, 0, f, 0, g, 0, h, 0];
-            let _ = out.extend_from_slice(&wide);
-        }
-        Form::Utf16Be => {
-            let wide = [0, a, 0, b, 0, c, 0, d, 0, e, 0, f, 0, g, 0, h];
-            let _ = out.extend_from_slice(&wide);
-        }
+        Form::Utf8 => ([a, b, c, d, e, f, g, h, 0, 0, 0, 0, 0, 0, 0, 0], 8),
+        Form::Utf16Le => ([a, 0, b, 0, c, 0, d, 0, e, 0, f, 0, g, 0, h, 0], 16),
+        Form::Utf16Be => ([0, a, 0, b, 0, c, 0, d, 0, e, 0, f, 0, g, 0, h], 16),
     }
 }
 
 // Appends the codes of eight units, each a character by itself.
 #[inline(always)]
-#[tactic(auto, using(crate::proofs::Blocks::block_bytes, crate::proofs::Blocks::block_low, crate::proofs::Blocks::block_high))]
 pub(crate) fn put_block<A: Allocator>(to: Form, units: [u16; 8], out: &mut Vec<u8, A>)
     requires plain { All (IsPlain to) units }
     requires room { vec_len out.old + 16 ≤ vec_capacity out.old }
@@ -139,26 +142,36 @@ pub(crate) fn put_block<A: Allocator>(to: Form, units: [u16; 8], out: &mut Vec<u
     ensures len { vec_len out.new ≤ vec_len out.old + 16 }
     ensures capacity { vec_capacity out.old ≤ vec_capacity out.new }
 {
+    let (codes, len) = block_codes(to, units);
+    let _ = out.extend_from_slice(&codes[..len]);
+}
+
+// The codes of eight units, each a character by itself, and how many bytes they have.
+#[inline(always)]
+#[tactic(auto, using(crate::proofs::Blocks::block_bytes, crate::proofs::Blocks::block_low, crate::proofs::Blocks::block_high))]
+pub(crate) fn block_codes(to: Form, units: [u16; 8]) -> ([u8; 16], usize)
+    requires { All (IsPlain to) units }
+    ensures codes { take result.1 result.0 ≡ flat_map (written to) units }
+    ensures len { result.1 ≤ 16 }
+{
     let [a, b, c, d, e, f, g, h] = units;
     let [la, lb, lc, ld] = [low(a), low(b), low(c), low(d)];
     let [le, lf, lg, lh] = [low(e), low(f), low(g), low(h)];
     let [ha, hb, hc, hd] = [high(a), high(b), high(c), high(d)];
     let [he, hf, hg, hh] = [high(e), high(f), high(g), high(h)];
     match to {
-        Form::Utf8 => {
-            let _ = out.extend_from_slice(&[la, lb, lc, ld, le, lf, lg, lh]);
-        }
-        Form::Utf16Le => {
-            let wide = [
+        Form::Utf8 => ([la, lb, lc, ld, le, lf, lg, lh, 0, 0, 0, 0, 0, 0, 0, 0], 8),
+        Form::Utf16Le => (
+            [
                 la, ha, lb, hb, lc, hc, ld, hd, le, he, lf, hf, lg, hg, lh, hh,
-            ];
-            let _ = out.extend_from_slice(&wide);
-        }
-        Form::Utf16Be => {
-            let wide = [
+            ],
+            16,
+        ),
+        Form::Utf16Be => (
+            [
                 ha, la, hb, lb, hc, lc, hd, ld, he, le, hf, lf, hg, lg, hh, lh,
-            ];
-            let _ = out.extend_from_slice(&wide);
-        }
+            ],
+            16,
+        ),
     }
 }

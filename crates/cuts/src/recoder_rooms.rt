@@ -3,13 +3,18 @@ ghost use Rattle.std.specs.Prelude.{◌≡◌, [], ◌+◌, ◌-◌, ◌*◌, �
 ghost use Rattle.utf_base.specs.Code.{utf8, utf16};
 ghost use Rattle.cuts.specs.Recoded.{Reads, written, bytes_of, Grows, Lacks};
 ghost use Rattle.cuts.specs.ShownFronts.{Decides, Ends};
-ghost use Rattle.cuts.specs.Rooms.{Fills, IsFull, IsLastFull, Leaves};
+ghost use Rattle.cuts.specs.Rooms.{Fills, IsFull, IsLastFull, Leaves, RunsInto};
 
 use crate::form::Form;
 use crate::recoder::Progress;
 use crate::recoder_runs::join;
+use crate::room_puts::put_all;
+use crate::room_runs::recode_ahead;
 use crate::shown_fronts::{front, last_front};
 use encode_unicode::CharExt;
+
+// How many bytes go code by code, with care, before runs look for text again.
+const STRIDE: usize = 16;
 
 // Writes the code of the character into the room from the place on, where it fits, and answers the place after it.
 #[inline(always)]
@@ -20,13 +25,13 @@ pub(crate) fn put_at(to: Form, c: char, room: &mut [u8], place: usize) -> Option
     ensures short { IfNone result (length room.old < place + 4) }
     ensures none { IfNone result (room.new ≡ room.old) }
     ensures more { IfSome result (λ end. place < end) }
+    ensures end { IfSome result (λ end. end ≡ place + length (written to c)) }
 {
     let (code, len) = code_of(to, c);
     if room.len() - place < len {
         return None;
     }
-    room[place..place + len].copy_from_slice(&code[..len]);
-    Some(place + len)
+    Some(put_all(&code[..len], room, place))
 }
 
 // The code of the character, and how many bytes it has.
@@ -65,7 +70,7 @@ fn units_of_char(high_first: bool, c: char) -> ([u8; 4], usize)
 }
 
 #[inline(always)]
-fn two_bytes(high_first: bool, unit: u16) -> [u8; 2]
+pub(crate) fn two_bytes(high_first: bool, unit: u16) -> [u8; 2]
     ensures { result ≡ bytes_of high_first unit }
 {
     let [high, low] = [(unit / 256) as u8, (unit % 256) as u8];
@@ -95,7 +100,34 @@ pub(crate) fn recode_into(
 {
     let mut read = 0;
     let mut written = place;
-    while let Some((c, len)) = front(from, four(&bytes[read..])) {
+    loop {
+        let (ahead, end) = recode_ahead(from, to, &bytes[read..], room, written);
+        read += ahead;
+        let few = recode_few(from, to, &bytes[read..], room, end);
+        read += few.read;
+        written = few.written;
+        if few.is_full || few.read < STRIDE {
+            return Progress { read, ..few };
+        }
+    }
+}
+
+// `recode_into` code by code, of at least so many bytes as a stride has where there are as many, and hardly more.
+#[inline(never)]
+fn recode_few(from: Form, to: Form, bytes: &[u8], room: &mut [u8], place: usize) -> Progress
+    requires { place ≤ length room.old }
+    ensures runs { RunsInto from to bytes.now room.old room.new place result.read result.written }
+    ensures full { IsTrue result.is_full → IsFull (record { from = from; to = to; held = [] }) (drop result.read bytes.now) (length room.old - result.written) }
+    ensures short { IsTrue result.is_full → length room.old < result.written + 4 }
+    ensures waits { IsFalse result.is_full → result.read < 16 → length bytes.now ≤ result.read + 3 }
+    ensures lacks { IsFalse result.is_full → result.read < 16 → Lacks from (drop result.read bytes.now) }
+{
+    let mut read = 0;
+    let mut written = place;
+    while read < STRIDE {
+        let Some((c, len)) = front(from, four(&bytes[read..])) else {
+            break;
+        };
         match put_at(to, c, room, written) {
             None => return Progress {
                 read,

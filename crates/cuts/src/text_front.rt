@@ -11,7 +11,7 @@ ghost use Rattle.utf_base.specs.Kinds.{is_continuation};
 /// number anyway. So this is the quicker way to recode text; what is wrong with other bytes is for
 /// `CharExt::from_utf8_slice_start` to say.
 #[inline(always)]
-pub(crate) fn front_of_text(src: &[u8]) -> Option<(char, usize)>
+pub fn front_of_text(src: &[u8]) -> Option<(char, usize)>
     ensures some { IfSome result (λ x. BeginsWith utf8 src.now (as_scalar x.0) x.1) }
     ensures none { 4 ≤ length src.now → IfNone result (NoneBegins utf8 src.now) }
     ensures few { length src.now < 4 → result ≡ None }

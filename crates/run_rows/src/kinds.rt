@@ -20,13 +20,15 @@ pub(crate) enum Kind {
     Parts,
     RefusedParts,
     Rooms,
+    LongParts,
+    LongRooms,
     Shards,
     Places,
     Replacements,
 }
 
 impl Kind {
-    pub(crate) fn all() -> [Kind; 15] {
+    pub(crate) fn all() -> [Kind; 17] {
         [
             Kind::Runs,
             Kind::Reads,
@@ -40,6 +42,8 @@ impl Kind {
             Kind::Parts,
             Kind::RefusedParts,
             Kind::Rooms,
+            Kind::LongParts,
+            Kind::LongRooms,
             Kind::Shards,
             Kind::Places,
             Kind::Replacements,
@@ -61,6 +65,8 @@ impl Kind {
             Kind::Parts => "recoded in parts",
             Kind::RefusedParts => "recoded in parts, each growth refused",
             Kind::Rooms => "recoded into rooms of each size",
+            Kind::LongParts => "longer inputs recoded in parts",
+            Kind::LongRooms => "longer inputs recoded into rooms of each size",
             Kind::Shards => "recoded in two shards",
             Kind::Places => "places and sizes",
             Kind::Replacements => "replacements, each growth refused",
@@ -76,6 +82,7 @@ impl Kind {
             Kind::Entries => "entries.txt",
             Kind::Lists => "lists.txt",
             Kind::Parts | Kind::RefusedParts | Kind::Rooms | Kind::Shards => "recodings.txt",
+            Kind::LongParts | Kind::LongRooms => "long_recodings.txt",
             Kind::Places => "places.txt",
             Kind::Replacements => "replacements.txt",
         }
@@ -92,9 +99,9 @@ impl Kind {
             Kind::Lines => lines::agrees(alloc, row),
             Kind::Entries => entries::agrees(alloc, row),
             Kind::Lists => lists::agrees(alloc, row),
-            Kind::Parts => parts_agree(alloc, row),
+            Kind::Parts | Kind::LongParts => parts_agree(alloc, row),
             Kind::RefusedParts => refused_parts_agree(alloc, row),
-            Kind::Rooms => rooms_agree(alloc, row),
+            Kind::Rooms | Kind::LongRooms => rooms_agree(alloc, row),
             Kind::Shards => shards_agree(alloc, row),
             Kind::Places => places::agrees(alloc, row),
             Kind::Replacements => replacements::agrees(alloc, row),

@@ -95,12 +95,15 @@ pub(crate) fn parts_agree(alloc: Global, row: &str) -> Result<bool, AllocError> 
     Ok(true)
 }
 
+// How many bytes of room are enough for each row.
+const AMPLE: usize = 512;
+
 // Appends what comes of the input in a first room of so many bytes and then in an ample one, where another recoder
 // takes over after each call.
 fn recode_rooms(row: &str, input: &[u8], size: usize, out: &mut Vec<u8>) -> Result<(), AllocError> {
-    let mut room = [0; 64];
+    let mut room = [0; AMPLE];
     let mut recoder = recoder_of(row);
-    let first = recoder.feed_into(input, &mut room[..size.min(64)]);
+    let first = recoder.feed_into(input, &mut room[..size.min(AMPLE)]);
     out.extend_from_slice(&room[..first.written])?;
     let mut recoder = taken_over(row, &recoder);
     let then = recoder.feed_into(&input[first.read..], &mut room);
@@ -115,9 +118,9 @@ fn finish_rooms(
     size: usize,
     out: &mut Vec<u8>,
 ) -> Result<(), AllocError> {
-    let mut room = [0; 64];
+    let mut room = [0; AMPLE];
     let mut recoder = taken_over(row, &recoder);
-    let end = recoder.finish_into(&mut room[..size.min(64)]);
+    let end = recoder.finish_into(&mut room[..size.min(AMPLE)]);
     out.extend_from_slice(&room[..end.written])?;
     let mut recoder = taken_over(row, &recoder);
     let last = recoder.finish_into(&mut room);

@@ -9,12 +9,12 @@ loop-count-preserved c =
     let room = c.loop-count.room in
     let before = c.loop-count.invariant in
     let len = before.len in
-    let x = c.nody_utf8_next-piece.result in
+    let x = c.next-piece.result in
     let some = c.if-piece-eq0.false in
     let test = c.loop-count-test.true in
     record {
       within = omega arith;
       len = omega (arith, length-set room count x);
-      each = next_each first_of c.args.bytes.now c.args.cursor.now c.loop-count.cursor c.nody_utf8_next-piece.new.cursor x room count before.each c.nody_utf8_next-piece.ensures (omega arith) test;
+      each = next_each first_of c.args.bytes.now c.args.cursor.now c.loop-count.left c.next-piece.new.cursor x room count before.each c.next-piece.ensures (omega arith) test;
       rest = rest_stays room c.args.room.now x count before.rest;
     }

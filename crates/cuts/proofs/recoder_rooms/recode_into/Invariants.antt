@@ -1,16 +1,12 @@
-use Rattle.std.proofs.Common.{◌≡◌, ◌+◌, ◌-◌, ◌≤◌, length, take, drop}
-use Rattle.cuts.specs.Recoded.{Grows}
+use Rattle.std.proofs.Common.{◌≡◌, ◌-◌, length}
+use Rattle.cuts.specs.Rooms.{RunsInto}
 use Rattle.cuts.proofs.recoder_rooms.recode_into.Given as goal
 
-abbrev pub invariant-loop-c : goal.invariant-loop-c
-invariant-loop-c l = record {
-  within : l.read ≤ length l.bytes;
-  ordered : l.place ≤ l.written;
-  fits : l.written ≤ length l.fn.room;
+abbrev pub invariant-loop-from : goal.invariant-loop-from
+invariant-loop-from l = record {
+  runs : RunsInto l.from l.to l.bytes l.fn.room l.room l.place l.read l.written;
   len : length l.room ≡ length l.fn.room;
-  grows : Grows l.from l.to (take (l.read + 3) l.bytes) (take l.place l.fn.room) (take l.written l.room) (take 3 (drop l.read l.bytes));
-  rest : drop l.written l.room ≡ drop l.written l.fn.room;
 }
 
-abbrev pub decreases-loop-c : goal.decreases-loop-c
-decreases-loop-c l = length l.bytes - l.read
+abbrev pub decreases-loop-from : goal.decreases-loop-from
+decreases-loop-from l = length l.bytes - l.read
