@@ -1,13 +1,16 @@
 //! How far bytes and units are well-formed.
+ghost use Rattle.std.specs.Prelude.{◌≡◌};
 ghost use Rattle.utf_base.specs.Code.{utf8, utf16};
-ghost use Rattle.cuts.specs.WellFormed.{IsFirstFault};
+ghost use Rattle.encode_unicode.specs.Pieces.{pieces};
+ghost use Rattle.cuts.specs.WellFormed.{IsFirstFault, valid_len};
 
 use crate::text_blocks::text_len;
 use encode_unicode::CharExt;
 
 /// The offset of the first fault in the bytes, or how many bytes there are where there is none: these are then UTF-8.
 pub fn valid_up_to(bytes: &[u8]) -> usize
-    ensures { IsFirstFault utf8 bytes.now result }
+    ensures first { IsFirstFault utf8 bytes.now result }
+    ensures value { result ≡ valid_len (pieces bytes.now) }
 {
     let mut place = text_len(bytes);
     while place < bytes.len() {

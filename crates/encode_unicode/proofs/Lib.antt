@@ -18,3 +18,4 @@ pub mod UnitMerging
 pub mod MergerHints
 pub mod Wholes
 pub mod PieceCounts
+pub mod ChainEnds

@@ -9,3 +9,4 @@ pub mod StringLemmas
 pub mod ShownLemmas
 pub mod NeedleLemmas
 pub mod SourceLemmas
+mod RoomLemmas

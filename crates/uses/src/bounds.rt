@@ -1,9 +1,10 @@
 //! How much room is enough, by the laws of how many pieces there are and of how long a recoded text is.
-ghost use Rattle.std.specs.Prelude.{◌≡◌, ◌*◌, ◌≤◌, IfOk, length};
+ghost use Rattle.std.specs.Prelude.{◌≡◌, ◌*◌, ◌≤◌, IfOk, length, take};
+ghost use Rattle.cuts.specs.Bounds.{HasRoom};
 ghost use Rattle.cuts.specs.Recoded.{IsRecoded};
 ghost use Rattle.encode_unicode.specs.Pieces.{pieces};
 
-use cuts::{Form, Recoder, laws};
+use cuts::{Form, Recoder, laws, room_for};
 use encode_unicode::U8SliceExt;
 use encode_unicode::laws::runs_are_bounded;
 use std::alloc::{AllocError, Allocator};
@@ -32,4 +33,32 @@ pub fn lossy_text<A: Allocator>(alloc: A, bytes: &[u8]) -> Result<Vec<u8, A>, Al
         Ok(()) => Ok(out),
         Err(unfinished) => Err(unfinished.cause),
     }
+}
+
+/// The bytes in another form, in a vector that has room for all of it before the first byte is read.
+pub fn recoded<A: Allocator>(
+    alloc: A,
+    from: Form,
+    to: Form,
+    bytes: &[u8],
+) -> Result<Vec<u8, A>, AllocError>
+    ensures { IfOk result (λ out. IsRecoded from to bytes.now out.items) }
+{
+    let len = room_for(from, to, bytes.len()).ok_or(AllocError)?;
+    let mut room = vec![in alloc; 0; len]?;
+    let written = recode_whole(from, to, bytes, &mut room);
+    room.truncate(written);
+    Ok(room)
+}
+
+/// Recodes the bytes into room for all of it, and answers how much is written.
+pub fn recode_whole(from: Form, to: Form, bytes: &[u8], room: &mut [u8]) -> usize
+    requires { HasRoom from to bytes.now (length room.old) }
+    ensures { IsRecoded from to bytes.now (take result room.new) }
+{
+    laws::room_is_enough();
+    let mut recoder = Recoder::new(from, to);
+    let fed = recoder.feed_into(bytes, room);
+    let ended = recoder.finish_into(&mut room[fed.written..]);
+    fed.written + ended.written
 }

@@ -1,11 +1,15 @@
 //! Chains over a decoder: what a chain answers is said of `pieces`, the list of what the decoder gives.
-ghost use Rattle.std.specs.Prelude.{◌≡◌, ◌↔◌, IsTrue, count_by, is_err, is_ok, position};
-ghost use Rattle.std.specs.List.{find, list_all, list_any};
-ghost use Rattle.std.specs.Str.{IsUtf8};
+ghost use Rattle.std.specs.Prelude.{◌≡◌, ◌+◌, ◌↔◌, IsTrue, None, cond, count_by, is_err, is_ok, max, nat_eq, position, take};
+ghost use Rattle.std.specs.List.{filter_map, find, fold, last_or, list_all, list_any};
+ghost use Rattle.std.specs.Result.{result_ok};
+ghost use Rattle.std.specs.Str.{IsUtf8, chars};
+ghost use Rattle.cuts.specs.WellFormed.{IsFirstFault};
+ghost use Rattle.encode_unicode.specs.Code.{utf8};
 ghost use Rattle.encode_unicode.specs.Pieces.{pieces};
 
 use cuts::laws;
 use encode_unicode::error::Utf8Error;
+use encode_unicode::laws::runs_are_bounded;
 use encode_unicode::{StrExt, U8SliceExt, Utf8Char};
 
 /// How many pieces of the bytes are faults.
@@ -82,4 +86,71 @@ pub fn is_text(bytes: &[u8]) -> bool
     laws::pieces_are_the_run();
     laws::text_has_no_fault();
     fault_count(bytes) == 0
+}
+
+/// How many line feeds the text has.
+pub fn line_feeds(text: &str) -> usize
+    ensures { result ≡ count_by (λ c. nat_eq c 10) (chars text.now) }
+{
+    text.utf8chars().filter(|c| c.eq_char('\n')).count()
+}
+
+/// How many line feeds bytes have that may be damaged.
+pub fn line_feeds_of_bytes(bytes: &[u8]) -> usize
+    ensures { result ≡ count_by (λ c. nat_eq c 10) (filter_map (λ x. result_ok x.1) (pieces bytes.now)) }
+{
+    let characters = bytes.utf8char_indices().filter_map(|x| x.1.ok());
+    characters.filter(|c| c.eq_char('\n')).count()
+}
+
+/// The highest scalar of the text, and 0 where it has none.
+pub fn highest(text: &str) -> u32
+    ensures { result ≡ fold max 0 (chars text.now) }
+{
+    text.utf8chars()
+        .fold(0, |most, c| most.max(c.to_char() as u32))
+}
+
+/// How many pieces are faults, by `fold`.
+pub fn faults_by_fold(bytes: &[u8]) -> usize
+    ensures { result ≡ fold (λ count x. cond (is_err x.1) (count + 1) count) 0 (pieces bytes.now) }
+{
+    runs_are_bounded();
+    bytes
+        .utf8char_indices()
+        .fold(0, |count, x| if x.1.is_err() { count + 1 } else { count })
+}
+
+/// The last character of the text, from its front.
+pub fn last_character(text: &str) -> Option<Utf8Char>
+    ensures { result ≡ last_or None (chars text.now) }
+{
+    text.utf8chars().last()
+}
+
+/// The same from its back.
+pub fn last_from_back(text: &str) -> Option<Utf8Char>
+    ensures { result ≡ last_or None (chars text.now) }
+{
+    text.utf8chars().next_back()
+}
+
+/// The last piece of the bytes.
+pub fn last_piece(bytes: &[u8]) -> Option<(usize, Result<Utf8Char, Utf8Error>, usize)>
+    ensures { result ≡ last_or None (pieces bytes.now) }
+{
+    bytes.utf8char_indices().last()
+}
+
+/// How many bytes stand before the first fault, which are text.
+pub fn first_fault_place(bytes: &[u8]) -> usize
+    ensures first { IsFirstFault utf8 bytes.now result }
+    ensures text { IsUtf8 (take result bytes.now) }
+{
+    laws::pieces_are_the_run();
+    laws::text_has_no_fault();
+    match first_fault(bytes) {
+        Some((place, _, _)) => place,
+        None => bytes.len(),
+    }
 }
