@@ -25,7 +25,6 @@ pub mod shards;
 mod shown_fronts;
 pub mod streams;
 mod text_blocks;
-mod text_front;
 pub mod text_front;
 pub mod walks;
 pub mod well_formed;
