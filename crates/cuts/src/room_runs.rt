@@ -26,16 +26,13 @@ pub(crate) fn recode_ahead(
         (Utf8, Utf16Le) => recode_pair::<1>(Utf8, Utf16Le, bytes, room, place),
         (Utf8, Utf16Be) => recode_pair::<2>(Utf8, Utf16Be, bytes, room, place),
         (Utf16Le, Utf8) => recode_pair::<3>(Utf16Le, Utf8, bytes, room, place),
-        (Utf16Le, Utf16Le) => recode_pair::<4>(Utf16Le, Utf16Le, bytes, room, place),
-        (Utf16Le, Utf16Be) => recode_pair::<5>(Utf16Le, Utf16Be, bytes, room, place),
-        (Utf16Be, Utf8) => recode_pair::<6>(Utf16Be, Utf8, bytes, room, place),
-        (Utf16Be, Utf16Le) => recode_pair::<7>(Utf16Be, Utf16Le, bytes, room, place),
-        (Utf16Be, Utf16Be) => recode_pair::<8>(Utf16Be, Utf16Be, bytes, room, place),
+        (Utf16Be, Utf8) => recode_pair::<4>(Utf16Be, Utf8, bytes, room, place),
+        _ => recode_pair::<5>(from, to, bytes, room, place),
     }
 }
 
-// The same. Each pair of forms is called under a number of its own, and so has a copy of the code, in which a compiler
-// knows the forms.
+// The same. Each pair of forms in which one is UTF-8 is called under a number of its own, and so has a copy of the code, in
+// which a compiler knows the forms. The others share one, so that the module for browsers stays small.
 #[inline(never)]
 fn recode_pair<const PAIR: usize>(
     from: Form,
