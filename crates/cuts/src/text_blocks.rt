@@ -258,7 +258,7 @@ fn followed_lanes(bytes: &[u8], place: usize) -> usize
 }
 
 // What is wrong with each of the sixteen bytes from the place on, after the three before it: 0 where nothing is.
-#[inline(always)]
+#[inline]
 fn faults_at(bytes: &[u8], place: usize) -> u8x16
     requires start { 3 ≤ place }
     requires within { place + 16 ≤ length bytes.now }
