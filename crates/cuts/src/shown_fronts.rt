@@ -115,9 +115,6 @@ fn char_of_utf16(high_first: bool, bytes: &[u8]) -> Option<(char, usize)>
         return None;
     }
     let first = unit(high_first, bytes[0], bytes[1]);
-    if first < 0xd800 {
-        return Some((unsafe { char::from_u32_unchecked(first as u32) }, 2));
-    }
     if !first.is_utf16_leading_surrogate() {
         return match char::from_utf16_tuple((first, None)) {
             Ok(c) => Some((c, 2)),
