@@ -32,17 +32,64 @@ run_cargo() {
     fi
 }
 
-# Builds the Rust programs in a temporary folder beside a copy of the Rust crate, and sets `programs`.
+# Copies the sources of the peers, and of what they use, beside the copy of this folder. The attribute that is taken
+# out of `simdutf8` names a lint that rustc has no more.
+copy_peers() {
+    local crate folders
+    for crate in bstr encoding_rs simdutf8 memchr cfg-if; do
+        folders=(/usr/share/cargo/registry/"$crate"-[0-9]*)
+        [ -d "${folders[0]}" ] || die "$crate is missing (apt-get install librust-${crate//_/-}-dev)"
+        cp -r "${folders[0]}" "$work_folder/$crate"
+    done
+    find "$work_folder/simdutf8/src" -name '*.rs' -exec sed -i '/#\[allow(const_err)\]/d' {} +
+}
+
+# Builds the Rust programs in a temporary folder beside a copy of the Rust crate, and sets `programs`. Where BENCH_FOLDER
+# names a folder, they are built there once, and stay for the next script: as long as no source changes.
 build_programs() {
     local rust_crate=$1
     [ -f "$rust_crate/Cargo.toml" ] || die "no Rust crate in '$rust_crate': there is no Cargo.toml"
     command -v cargo >/dev/null || die "cargo is not on the path"
-    work_folder=$(mktemp -d)
-    trap 'rm -rf "$work_folder"' EXIT
     build_crate bench_c lib libbench_c.a "the static library" || exit 2
-    mkdir "$work_folder/bench" "$work_folder/encode_unicode"
-    cp -r "$bench_folder"/{Cargo.toml,build.rs,src} "$work_folder/bench/"
-    tar -C "$rust_crate" --exclude=./target --exclude=./.git -cf - . | tar -C "$work_folder/encode_unicode" -xf -
+    work_folder=${BENCH_FOLDER:-$(mktemp -d)}
+    [ -n "${BENCH_FOLDER-}" ] || trap 'rm -rf "$work_folder"' EXIT
+    rm -f "$work_folder"/{raw,counts,times_?}
+    [ -d "$work_folder/encode_unicode" ] || copy_sources "$rust_crate"
     run_cargo build --release --offline
     programs="$work_folder/target/release"
+}
+
+copy_sources() {
+    mkdir -p "$work_folder/bench"
+    cp -r "$bench_folder"/{Cargo.toml,build.rs,passages.txt,src} "$work_folder/bench/"
+    copy_peers
+    mkdir "$work_folder/encode_unicode"
+    tar -C "$1" --exclude=./target --exclude=./.git -cf - . | tar -C "$work_folder/encode_unicode" -xf -
+}
+
+# time_at_places PROGRAM WORDS..: links the program at four places, 16 bytes apart, runs it with these words at each,
+# and keeps what it printed in times_0 to times_3. Where a loop lies decides a good part of its time: on some processors
+# a branch over a line of 32 bytes is slow. Sets `differs` where the program's status is not 0.
+time_at_places() {
+    local program=$1 place
+    shift
+    for place in 0 1 2 3; do
+        run_cargo rustc --release --offline --bin "$program" -- -C "link-arg=-Wl,-Ttext=$((0x1000000 + 16 * place))"
+        "$programs/$program" "$@" >"$work_folder/times_$place" || differs=1
+    done
+}
+
+# count_run COMMAND WORDS..: runs it under callgrind, and sets `count` to its instructions and `told` to what it printed.
+count_run() {
+    local log="$work_folder/callgrind.log"
+    command -v valgrind >/dev/null || die "valgrind is not on the path (apt-get install valgrind)"
+    told=$(valgrind --tool=callgrind --callgrind-out-file=/dev/null "$@" 2>"$log" </dev/null) \
+        || { cat "$log" >&2 && die "valgrind failed"; }
+    count=$(sed -n 's/^==[0-9]*== Collected : //p' "$log")
+    [ -n "$count" ] || die "callgrind told no count"
+}
+
+# say_count ROW COUNT AMONG: the raw line of a row and a side.
+say_count() {
+    awk -v row="$1" -v count="$2" -v among="$3" 'BEGIN { printf "%s %.5f\n", row, count / among }'
 }

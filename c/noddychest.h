@@ -45,18 +45,23 @@ enum {
     NODY_REFUSED = 2  /* the struct is no recoder: a form above 2, or more than three bytes held. Nothing changed */
 };
 
+/* The length stands apart from the others: whoever adds it to a place then need not wait for the scalar. */
 typedef struct {
-    size_t place;    /* offset from the front, in bytes or units */
+    size_t len;      /* in bytes or units: 1 to 4, or 1 to 2; 1 for a fault; 0 for NODY_NONE */
     uint32_t scalar; /* the scalar value, or 0 for a fault */
     uint8_t kind;    /* NODY_OK, or what is wrong, or NODY_NONE */
-    uint8_t len;     /* in bytes or units: 1 to 4, or 1 to 2; 1 for a fault; 0 for NODY_NONE */
 } nody_piece;
 
-/* What is left of some bytes or units: from `front` up to and without `back`. */
+/* What is left of some bytes, or units: a cursor, which nody_bytes and nody_units make. Their addresses are never NULL. */
 typedef struct {
-    size_t front;
-    size_t back;
-} nody_cursor_t;
+    const uint8_t *bytes;
+    size_t len;
+} nody_bytes_t;
+
+typedef struct {
+    const uint16_t *units;
+    size_t len;
+} nody_units_t;
 
 /* A recoder. It holds at most three bytes, of which it cannot say yet what they are or for which there was no room. */
 typedef struct {
@@ -86,20 +91,33 @@ size_t nody_utf16_valid_up_to(const uint16_t *units, size_t len);
 size_t nody_utf8_encode(uint32_t scalar, uint8_t *out, size_t room);
 size_t nody_utf16_encode(uint32_t scalar, uint16_t *out, size_t room);
 
-/* A cursor that leaves all of so many bytes or units. */
-nody_cursor_t nody_cursor(size_t len);
+/* A cursor that leaves all of the bytes, or units. They must stay valid and the same for as long as it is used. */
+static inline nody_bytes_t nody_bytes(const uint8_t *bytes, size_t len) {
+    static const uint8_t nothing = 0;
+    nody_bytes_t left;
+    left.bytes = len ? bytes : &nothing;
+    left.len = len;
+    return left;
+}
+static inline nody_units_t nody_units(const uint16_t *units, size_t len) {
+    static const uint16_t nothing = 0;
+    nody_units_t left;
+    left.units = len ? units : &nothing;
+    left.len = len;
+    return left;
+}
 
-/* The piece that begins, or ends, what the cursor leaves; it then leaves the cursor. What is wrong is judged by what is left.
- * The bytes are the same at each call. NODY_NONE where nothing is left, or where the cursor ends after the bytes. Asked from
- * both ends in any order, a cursor gives each piece once. */
-nody_piece nody_utf8_next(const uint8_t *bytes, size_t len, nody_cursor_t *cursor);
-nody_piece nody_utf8_next_back(const uint8_t *bytes, size_t len, nody_cursor_t *cursor);
-nody_piece nody_utf16_next(const uint16_t *units, size_t len, nody_cursor_t *cursor);
-nody_piece nody_utf16_next_back(const uint16_t *units, size_t len, nody_cursor_t *cursor);
+/* The piece that begins, or ends, what is left, and which then leaves it. What is wrong is judged by what is left. NODY_NONE
+ * where nothing is left. Asked from both ends in any order, a cursor gives each piece once. `left->bytes` is where the next
+ * piece begins, and `left->bytes + left->len` where the last one ends. */
+nody_piece nody_utf8_next(nody_bytes_t *left);
+nody_piece nody_utf8_next_back(nody_bytes_t *left);
+nody_piece nody_utf16_next(nody_units_t *left);
+nody_piece nody_utf16_next_back(nody_units_t *left);
 
 /* As many calls of `next` as give a piece and as there is room for. Answers how many; the other places stay. */
-size_t nody_utf8_pieces(const uint8_t *bytes, size_t len, nody_cursor_t *cursor, nody_piece *out, size_t room);
-size_t nody_utf16_pieces(const uint16_t *units, size_t len, nody_cursor_t *cursor, nody_piece *out, size_t room);
+size_t nody_utf8_pieces(nody_bytes_t *left, nody_piece *out, size_t room);
+size_t nody_utf16_pieces(nody_units_t *left, nody_piece *out, size_t room);
 
 /* The piece that begins at a place, as a reader that gets one byte at a time names it: of the merged run, the piece that
  * begins there. The cut is that of `nody_utf8_next`, and so is each kind but one: where fewer bytes are left than the first

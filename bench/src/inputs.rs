@@ -1,4 +1,4 @@
-//! The inputs, made from a fixed seed: every run sees the same.
+//! The inputs of the kinds of work, made from a fixed seed: every run sees the same. Running text is in `passages`.
 
 /// The names of the inputs, in the order of the tables.
 pub const NAMES: [&str; 7] = [
@@ -32,6 +32,11 @@ impl Input {
     /// The text, or an empty one where something is faulty.
     pub fn text(&self) -> &str {
         self.text.as_deref().unwrap_or_default()
+    }
+
+    /// An input with faults, and no numbers.
+    pub(crate) fn faulty(bytes: Vec<u8>, units: Vec<u16>) -> Input {
+        Input { bytes, units, numbers: Vec::new(), text: None }
     }
 }
 
@@ -83,7 +88,7 @@ fn character(random: &mut Random, class: u64) -> char {
     }
 }
 
-fn of_text(text: String) -> Input {
+pub(crate) fn of_text(text: String) -> Input {
     Input {
         bytes: text.as_bytes().to_vec(),
         units: text.encode_utf16().collect(),
@@ -128,10 +133,10 @@ fn noise(random: &mut Random, size: usize) -> Input {
 }
 
 // SplitMix64.
-struct Random(u64);
+pub(crate) struct Random(pub(crate) u64);
 
 impl Random {
-    fn next(&mut self) -> u64 {
+    pub(crate) fn next(&mut self) -> u64 {
         self.0 = self.0.wrapping_add(0x9e37_79b9_7f4a_7c15);
         let mut z = self.0;
         z = (z ^ (z >> 30)).wrapping_mul(0xbf58_476d_1ce4_e5b9);
@@ -140,7 +145,7 @@ impl Random {
     }
 
     // A number below `bound`.
-    fn below(&mut self, bound: u64) -> u64 {
+    pub(crate) fn below(&mut self, bound: u64) -> u64 {
         ((self.next() >> 32) * bound) >> 32
     }
 }

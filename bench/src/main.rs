@@ -1,19 +1,18 @@
 //! `bench times SIZE ROUNDS WORK..`: a line for each kind of work, input and side: the best time of the rounds. No
 //! name stands for all kinds of work.
-//! `bench table FILE..`: the table of such lines, one file for each place at which the program was linked.
 //! `bench lengths WORK INPUT ROUNDS`: the best times of both sides on inputs of 16 bytes to 64 MiB.
 //! `bench one WORK INPUT SIDE SIZE CALLS`: just these calls, for counting instructions.
 //! `bench input INPUT SIZE`: the bytes of an input.
 
 use bench::inputs::{self, Input};
-use bench::report::{Best, Table};
+use bench::report::Best;
 use bench::work::{self, Work, Worker};
 use std::hint::black_box;
 use std::io::Write;
 use std::process::ExitCode;
 use std::time::Instant;
 
-const USAGE: &str = "bench times SIZE ROUNDS WORK.. | table FILE.. | lengths WORK INPUT ROUNDS | one WORK INPUT ours|rust|std|none SIZE CALLS | input INPUT SIZE | list";
+const USAGE: &str = "bench times SIZE ROUNDS WORK.. | lengths WORK INPUT ROUNDS | one WORK INPUT ours|rust|std|none SIZE CALLS | input INPUT SIZE | list";
 
 fn main() -> ExitCode {
     let args: Vec<String> = std::env::args().skip(1).collect();
@@ -22,7 +21,6 @@ fn main() -> ExitCode {
         ["times", size, rounds, names @ ..] => number(size)
             .zip(number(rounds))
             .map(|(size, rounds)| times(names, size, rounds)),
-        ["table", files @ ..] => table(files),
         ["lengths", work, input, rounds] => number(rounds).and_then(|rounds| lengths(work, input, rounds)),
         ["one", work, input, side, size, calls] => number(size)
             .zip(number(calls))
@@ -68,20 +66,9 @@ fn time_row(work: &Work, name: &str, input: &Input, rounds: usize) -> bool {
         }
     }
     for ((side, _), times) in sides.iter().zip(&times) {
-        println!("{} {name} {side} {:.4}", work.name, times.per_byte((work.bytes)(input)));
+        println!("{} {name} {side} {:.4}", work.name, times.per((work.bytes)(input)));
     }
     agree(work, name, input, &sums)
-}
-
-// The table of the files' lines. `None` where one cannot be read or has another line.
-fn table(files: &[&str]) -> Option<ExitCode> {
-    let mut table = Table::default();
-    for file in files {
-        let lines = std::fs::read_to_string(file).ok()?;
-        lines.lines().try_for_each(|line| table.add(line))?;
-    }
-    table.print();
-    Some(ExitCode::SUCCESS)
 }
 
 // A line for each length of the input. A short one is worked over many times in a round, so that the clock can tell.
@@ -93,7 +80,7 @@ fn lengths(work: &str, name: &str, rounds: usize) -> Option<ExitCode> {
         let bytes = (work.bytes)(&input);
         let calls = (0x10_0000 / bytes).max(1);
         let [ours, rust] = [work.ours, work.rust].map(|side| best_of_calls(side, &input, calls, rounds));
-        println!("{bytes:<9} {:>9.3} {:>9.3}", ours.per_byte(calls * bytes), rust.per_byte(calls * bytes));
+        println!("{bytes:<9} {:>9.3} {:>9.3}", ours.per(calls * bytes), rust.per(calls * bytes));
     }
     println!("ns per byte, the best of {rounds} rounds");
     Some(ExitCode::SUCCESS)
@@ -111,7 +98,7 @@ fn best_of_calls(side: Worker, input: &Input, calls: usize, rounds: usize) -> Be
     best
 }
 
-// Whether the checksums agree that have to: ours and the Rust crate's always, std's on text.
+// Whether the checksums agree that have to: ours and the Rust crate's always, all on text.
 fn agree(work: &Work, name: &str, input: &Input, sums: &[u64]) -> bool {
     let compared = if input.is_text() { sums } else { &sums[..2] };
     let agree = compared.iter().all(|sum| *sum == sums[0]);

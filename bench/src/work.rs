@@ -1,10 +1,10 @@
 //! The kinds of work, each done by this repository's crates (through `crates/bench_c`), by the Rust crate
-//! and, where it does the same work, by std.
+//! and, where they do the same work, by std and by `bstr`.
 //!
 //! Every worker answers a checksum of all that it saw, added up in the same way, so that answers can be compared.
 
 use crate::inputs::Input;
-use crate::{collections, decoders, ends, mergers, texts};
+use crate::{by_bstr, collections, decoders, ends, mergers, texts};
 use encode_unicode::error::{Utf16SliceError, Utf8ErrorKind};
 use encode_unicode::iterator::Utf8CharDecoder;
 use encode_unicode::{CharExt, Utf16Char, Utf8Char};
@@ -27,7 +27,8 @@ pub struct Work {
 impl Work {
     /// Who does the work, each by the name of its side.
     pub fn sides(&self) -> impl Iterator<Item = (&'static str, Worker)> {
-        let known = [("ours", Some(self.ours)), ("rust", Some(self.rust)), ("std", self.std)];
+        let bstr = by_bstr::worker(self.name);
+        let known = [("ours", Some(self.ours)), ("rust", Some(self.rust)), ("std", self.std), ("bstr", bstr)];
         known.into_iter().filter_map(|(side, worker)| Some((side, worker?)))
     }
 

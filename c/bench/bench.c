@@ -1,4 +1,9 @@
-/* Times the calls for C beside iconv(3), ICU and utf8proc, in one process: each side in turn, and of each the best round.
+/* Times the calls for C beside iconv(3), ICU and utf8proc, and beside the same calls in Rattle, in one process: each side in
+ * turn, and of each the best round.
+ *
+ * Decoding adds up the scalars. nody_utf8_first is called as utf8proc_iterate is: with an address and what is left, and the
+ * caller keeps the place. nody_utf8_next keeps the place, and takes pieces from both ends. Both tell what is wrong and not
+ * only that something is, as do nody_utf8_pieces and the Rattle loop. U8_NEXT of ICU is a macro: nothing is called.
  *
  * bench times ROUNDS           a line for each work and input: nanoseconds for each byte of input, of each side
  * bench once WORK INPUT SIDE   does it once, so that instructions can be counted; the side `none` does nothing
@@ -16,7 +21,13 @@
 #include <unicode/utf8.h>
 #include <utf8proc.h>
 
-enum { SIZE = 1 << 20, ROOM = 3 * SIZE + 16, AT_ONCE = 256 };
+enum { SIZE = 1 << 20, ROOM = 3 * SIZE + 16, AT_ONCE = 256, PART = 4096 };
+
+/* The same calls in Rattle, of crates/bench_c. */
+size_t bench_c_widen(const uint8_t *in, size_t len, uint8_t *out, size_t room);
+size_t bench_c_narrow(const uint8_t *in, size_t len, uint8_t *out, size_t room);
+size_t bench_c_valid_up_to(const uint8_t *bytes, size_t len);
+uint64_t bench_c_scalars(const uint8_t *bytes, size_t len);
 
 static uint8_t text[SIZE], units[2 * SIZE], out[ROOM];
 static size_t text_len, units_len;
@@ -30,6 +41,18 @@ static size_t of_recoder(uint8_t from, uint8_t to, const uint8_t *in, size_t len
     nody_recoder_feed(&recoder, in, len, out, ROOM, &read, &written);
     nody_recoder_finish(&recoder, out + written, ROOM - written, &last);
     return written + last;
+}
+
+/* In parts; what came of each is written over by the next. */
+static size_t in_parts(uint8_t from, uint8_t to, const uint8_t *in, size_t len) {
+    nody_recoder_t recoder = nody_recoder(from, to);
+    size_t made = 0, read, written;
+    for (size_t place = 0; place < len; place += PART) {
+        nody_recoder_feed(&recoder, in + place, len - place < PART ? len - place : PART, out, ROOM, &read, &written);
+        made += written;
+    }
+    nody_recoder_finish(&recoder, out, ROOM, &written);
+    return made + written;
 }
 
 static size_t of_iconv(const char *to, const char *from, uint8_t *in, size_t len) {
@@ -59,18 +82,27 @@ static size_t narrow_icu(void) {
     return (size_t)len;
 }
 
-static size_t decode_nody(void) {
-    nody_cursor_t cursor = nody_cursor(text_len);
+static size_t decode_next(void) {
+    nody_bytes_t left = nody_bytes(text, text_len);
     nody_piece piece;
     size_t sum = 0;
-    while ((piece = nody_utf8_next(text, text_len, &cursor)).kind != NODY_NONE) sum += piece.scalar;
+    while ((piece = nody_utf8_next(&left)).len > 0) sum += piece.scalar;
+    return sum;
+}
+static size_t decode_first(void) {
+    size_t sum = 0;
+    for (size_t place = 0; place < text_len;) {
+        nody_piece piece = nody_utf8_first(text + place, text_len - place);
+        place += piece.len;
+        sum += piece.scalar;
+    }
     return sum;
 }
 static size_t decode_pieces(void) {
-    nody_cursor_t cursor = nody_cursor(text_len);
+    nody_bytes_t left = nody_bytes(text, text_len);
     nody_piece pieces[AT_ONCE];
     size_t sum = 0, count;
-    while ((count = nody_utf8_pieces(text, text_len, &cursor, pieces, AT_ONCE)) > 0)
+    while ((count = nody_utf8_pieces(&left, pieces, AT_ONCE)) > 0)
         for (size_t i = 0; i < count; i++) sum += pieces[i].scalar;
     return sum;
 }
@@ -92,6 +124,15 @@ static size_t decode_utf8proc(void) {
     }
     return sum;
 }
+static size_t decode_rattle(void) { return bench_c_scalars(text, text_len); }
+
+static size_t widen_parts(void) { return in_parts(NODY_UTF8, NODY_UTF16LE, text, text_len); }
+static size_t widen_rattle(void) { return bench_c_widen(text, text_len, out, ROOM); }
+static size_t narrow_parts(void) { return in_parts(NODY_UTF16LE, NODY_UTF8, units, units_len); }
+static size_t narrow_rattle(void) { return bench_c_narrow(units, units_len, out, ROOM); }
+static size_t valid_nody(void) { return nody_utf8_valid_up_to(text, text_len); }
+static size_t valid_rattle(void) { return bench_c_valid_up_to(text, text_len); }
+
 static size_t none(void) { return 0; }
 
 static const struct {
@@ -100,8 +141,13 @@ static const struct {
 } sides[] = {
     {"utf8-to-utf16le", "nody", widen_nody},     {"utf8-to-utf16le", "iconv", widen_iconv},   {"utf8-to-utf16le", "icu", widen_icu},
     {"utf16le-to-utf8", "nody", narrow_nody},    {"utf16le-to-utf8", "iconv", narrow_iconv},  {"utf16le-to-utf8", "icu", narrow_icu},
-    {"decode", "nody_utf8_next", decode_nody},   {"decode", "nody_utf8_pieces", decode_pieces},
-    {"decode", "icu", decode_icu},               {"decode", "utf8proc", decode_utf8proc},
+    {"decode", "nody_utf8_first", decode_first}, {"decode", "nody_utf8_next", decode_next},
+    {"decode", "nody_utf8_pieces", decode_pieces},
+    {"decode", "rattle", decode_rattle},         {"decode", "icu", decode_icu},
+    {"decode", "utf8proc", decode_utf8proc},
+    {"utf8-in-parts", "nody", widen_parts},      {"utf8-in-parts", "rattle", widen_rattle},
+    {"utf16le-in-parts", "nody", narrow_parts},  {"utf16le-in-parts", "rattle", narrow_rattle},
+    {"valid-up-to", "nody", valid_nody},         {"valid-up-to", "rattle", valid_rattle},
 };
 enum { SIDES = sizeof sides / sizeof *sides };
 

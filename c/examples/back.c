@@ -14,10 +14,10 @@ int main(int argc, char **argv) {
     uint8_t *bytes = malloc(len + 1);
     if (!bytes || fseek(file, size - (long)len, SEEK_SET) != 0 || fread(bytes, 1, len, file) != len) return 3;
     fclose(file);
-    nody_cursor_t cursor = nody_cursor(len);
-    while (n-- > 0 && nody_utf8_next_back(bytes, len, &cursor).kind != NODY_NONE) {
+    nody_bytes_t before = nody_bytes(bytes, len);
+    while (n-- > 0 && nody_utf8_next_back(&before).kind != NODY_NONE) {
     }
-    fwrite(bytes + cursor.back, 1, len - cursor.back, stdout);
+    fwrite(bytes + before.len, 1, len - before.len, stdout);
     free(bytes);
     return 0;
 }

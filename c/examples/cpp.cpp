@@ -11,19 +11,18 @@ class Pieces {
 public:
     explicit Pieces(const std::string &text) : text(text) {}
     struct Iterator {
-        const std::string *text;
-        nody_cursor_t cursor;
+        nody_bytes_t left;
         nody_piece piece;
         Iterator &operator++() {
-            piece = nody_utf8_next(reinterpret_cast<const uint8_t *>(text->data()), text->size(), &cursor);
+            piece = nody_utf8_next(&left);
             return *this;
         }
         const nody_piece &operator*() const { return piece; }
         bool operator!=(const Iterator &other) const { return piece.kind != other.piece.kind; }
     };
-    Iterator begin() const { return ++Iterator{&text, nody_cursor(text.size()), {}}; }
+    Iterator begin() const { return ++Iterator{nody_bytes(reinterpret_cast<const uint8_t *>(text.data()), text.size()), {}}; }
     // Only the end is compared with, and there the kind is NODY_NONE.
-    Iterator end() const { return {&text, nody_cursor(0), {0, 0, NODY_NONE, 0}}; }
+    Iterator end() const { return {nody_bytes(nullptr, 0), {0, 0, NODY_NONE}}; }
 
 private:
     const std::string &text;
@@ -31,9 +30,11 @@ private:
 
 int main() {
     const std::string text{std::istreambuf_iterator<char>(std::cin), std::istreambuf_iterator<char>()};
+    std::size_t place = 0;
     int faults = 0;
     for (const nody_piece &piece : Pieces(text)) {
-        std::printf("%zu %u ", piece.place, unsigned(piece.len));
+        std::printf("%zu %zu ", place, piece.len);
+        place += piece.len;
         if (piece.kind == NODY_OK) {
             std::printf("%06lx\n", static_cast<unsigned long>(piece.scalar));
         } else {

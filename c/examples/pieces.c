@@ -24,16 +24,17 @@ static uint8_t *read_all(size_t *len) {
 }
 
 int main(void) {
-    size_t len, count;
+    size_t len, count, place = 0;
     int faults = 0;
     nody_piece pieces[ROOM];
     uint8_t *bytes = read_all(&len);
     if (!bytes || ferror(stdin)) return 3;
-    nody_cursor_t cursor = nody_cursor(len);
-    while ((count = nody_utf8_pieces(bytes, len, &cursor, pieces, ROOM)) > 0) {
+    nody_bytes_t left = nody_bytes(bytes, len);
+    while ((count = nody_utf8_pieces(&left, pieces, ROOM)) > 0) {
         for (size_t i = 0; i < count; i++) {
             nody_piece piece = pieces[i];
-            printf("%lu %u ", (unsigned long)piece.place, piece.len);
+            printf("%lu %lu ", (unsigned long)place, (unsigned long)piece.len);
+            place += piece.len;
             if (piece.kind == NODY_OK) {
                 printf("%06lx\n", (unsigned long)piece.scalar);
             } else {

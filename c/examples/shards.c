@@ -1,9 +1,5 @@
 /* Lists shards of a file that can be recoded apart: shards FORM COUNT FILE. A line for each, with its number from 0, its offset
- * and its length. With `recode`, on four processors:
- *
- *   shards utf8 7 FILE | xargs -P 4 -L 1 sh -c \
- *       'dd if=FILE iflag=skip_bytes,count_bytes skip=$1 count=$2 status=none | ./recode utf8 utf16le >part.$0'
- *   cat part.[0-6] >RECODED
+ * and its length, for `xargs` and `dd`: c/README.md has the lines.
  */
 #define _POSIX_C_SOURCE 200809L
 #include "noddychest.h"

@@ -108,14 +108,14 @@ static void random_cases(unsigned long count) {
     }
 }
 
-static int alike(nody_piece a, nody_piece b) { return a.place == b.place && a.scalar == b.scalar && a.kind == b.kind && a.len == b.len; }
+static int alike(nody_piece a, nody_piece b) { return a.scalar == b.scalar && a.kind == b.kind && a.len == b.len; }
 
 static void scalars(void) {
     for (uint32_t s = 0; s < 0x110010; s++) {
         uint8_t code[4];
         uint16_t units[2];
         size_t len = nody_utf8_encode(s, code, 4), count = nody_utf16_encode(s, units, 2);
-        nody_piece byte_piece = {0, s, NODY_OK, (uint8_t)len}, unit_piece = {0, s, NODY_OK, (uint8_t)count};
+        nody_piece byte_piece = {len, s, NODY_OK}, unit_piece = {count, s, NODY_OK};
         if (s > 0x10ffff || (s >= 0xd800 && s < 0xe000)) {
             expect(len == 0 && count == 0, "a number that is no scalar");
         } else {
@@ -129,37 +129,45 @@ static void cursors(void) {
     static const uint8_t bytes[] = {0x41, 0xe2, 0x82, 0xac, 0xe0, 0x80, 0xf0, 0x9f, 0x82, 0xa0, 0x80};
     static const uint16_t units[] = {0x41, 0xd83c, 0xdca0, 0xdc00, 0xd800};
     nody_piece pieces[2], more[8];
-    nody_cursor_t cursor = nody_cursor(sizeof bytes), copy;
-    expect(nody_utf8_pieces(bytes, sizeof bytes, &cursor, pieces, 2) == 2 && pieces[1].scalar == 0x20ac && cursor.front == 4, "two pieces");
-    copy = cursor;
-    expect(nody_utf8_pieces(bytes, sizeof bytes, &cursor, more, 8) == 4 && cursor.front == sizeof bytes, "the others");
-    expect(alike(nody_utf8_next(bytes, sizeof bytes, &copy), more[0]) && more[0].kind == NODY_INTERRUPTED_SEQUENCE, "a cursor that was copied");
-    expect(nody_utf8_next_back(bytes, sizeof bytes, &copy).kind == NODY_UNEXPECTED_CONTINUATION_BYTE && copy.back == 10, "a byte at the end");
-    expect(nody_utf8_next_back(bytes, sizeof bytes, &copy).scalar == 0x1f0a0 && copy.back == 6, "a character at the end");
-    expect(nody_utf8_next(bytes, 5, &copy).kind == NODY_NONE && copy.back == 6, "a cursor that ends after the bytes");
-    cursor = nody_cursor(5);
-    expect(nody_utf16_pieces(units, 5, &cursor, more, 8) == 4 && more[1].scalar == 0x1f0a0 && more[1].len == 2, "units");
+    nody_bytes_t left = nody_bytes(bytes, sizeof bytes), copy;
+    nody_units_t left_units = nody_units(units, 5);
+    expect(nody_utf8_pieces(&left, pieces, 2) == 2 && pieces[1].scalar == 0x20ac && left.bytes == bytes + 4 && left.len == 7, "two pieces");
+    copy = left;
+    expect(nody_utf8_pieces(&left, more, 8) == 4 && left.bytes == bytes + sizeof bytes && left.len == 0, "the others");
+    expect(alike(nody_utf8_next(&copy), more[0]) && more[0].kind == NODY_INTERRUPTED_SEQUENCE && copy.bytes == bytes + 5, "a cursor that was copied");
+    expect(nody_utf8_next_back(&copy).kind == NODY_UNEXPECTED_CONTINUATION_BYTE && copy.len == 5, "a byte at the end");
+    expect(nody_utf8_next_back(&copy).scalar == 0x1f0a0 && copy.len == 1 && copy.bytes == bytes + 5, "a character at the end");
+    expect(nody_utf8_next_back(&copy).len == 1 && copy.len == 0, "the last that is left");
+    expect(nody_utf8_next(&copy).kind == NODY_NONE && nody_utf8_next_back(&copy).kind == NODY_NONE && copy.len == 0, "nothing is left");
+    left = nody_bytes(bytes + 4, 2);
+    expect(nody_utf8_next(&left).kind == NODY_TOO_FEW_BYTES && left.len == 1, "what is left judges");
+    expect(nody_utf16_pieces(&left_units, more, 8) == 4 && more[1].scalar == 0x1f0a0 && more[1].len == 2 && left_units.len == 0, "units");
     expect(more[2].kind == NODY_UNEXPECTED_TRAILING_SURROGATE && more[3].kind == NODY_INCOMPLETE, "surrogates");
+    left_units = nody_units(units, 3);
+    expect(nody_utf16_next_back(&left_units).scalar == 0x1f0a0 && left_units.len == 1 && nody_utf16_next(&left_units).scalar == 0x41, "units from both ends");
+    expect(nody_utf16_next(&left_units).kind == NODY_NONE && nody_utf16_next_back(&left_units).kind == NODY_NONE, "no unit is left");
     expect(nody_utf8_valid_up_to(bytes, sizeof bytes) == 4 && nody_utf8_valid_up_to(bytes, 4) == 4 && nody_utf8_valid_up_to(bytes, 3) == 1, "the first faulty byte");
     expect(nody_utf16_valid_up_to(units, 5) == 3 && nody_utf16_valid_up_to(units, 3) == 3 && nody_utf16_valid_up_to(units, 2) == 1, "the first faulty unit");
     expect(nody_shard_end(NODY_UTF8, bytes, sizeof bytes, 3) == 1 && nody_shard_end(NODY_UTF8, bytes, sizeof bytes, 5) == 5, "a shard of UTF-8");
     expect(nody_shard_end(NODY_UTF8, bytes, sizeof bytes, 9) == 6 && nody_shard_end(NODY_UTF8, bytes, sizeof bytes, 99) == 11, "a shard before four bytes");
-    cursor = nody_cursor(5);
-    expect(nody_utf16_next_back(units, 5, &cursor).kind == NODY_INCOMPLETE || cursor.back == 4, "a unit at the end");
+    left_units = nody_units(units, 5);
+    expect(nody_utf16_next_back(&left_units).kind != NODY_OK && left_units.len == 4, "a unit at the end");
 }
 
 /* The same cut, read byte by byte. The kind differs where bytes are missing and one that is there breaks the code. */
 static void merged(void) {
     static const uint8_t bytes[] = {0x41, 0xe2, 0x82, 0xac, 0xf0, 0x9f, 0x21};
-    nody_cursor_t cursor = nody_cursor(sizeof bytes);
+    nody_bytes_t left = nody_bytes(bytes, sizeof bytes);
     nody_piece piece;
-    while ((piece = nody_utf8_next(bytes, sizeof bytes, &cursor)).kind != NODY_NONE) {
-        nody_piece same = nody_utf8_merged(bytes, sizeof bytes, piece.place);
+    size_t place = 0;
+    while ((piece = nody_utf8_next(&left)).kind != NODY_NONE) {
+        nody_piece same = nody_utf8_merged(bytes, sizeof bytes, place);
         uint8_t kind = same.kind;
         same.kind = piece.kind;
         expect(alike(same, piece), "a piece read byte by byte");
-        expect(kind == (piece.place == 4 ? NODY_INTERRUPTED_SEQUENCE : piece.kind), "its kind");
-        expect(piece.place != 4 || piece.kind == NODY_TOO_FEW_BYTES, "the kind of a decoder");
+        expect(kind == (place == 4 ? NODY_INTERRUPTED_SEQUENCE : piece.kind), "its kind");
+        expect(place != 4 || piece.kind == NODY_TOO_FEW_BYTES, "the kind of a decoder");
+        place += piece.len;
     }
     expect(nody_utf8_merged(bytes, 6, 4).kind == NODY_TOO_FEW_BYTES, "bytes that are missing alone");
     expect(nody_utf8_merged(bytes, sizeof bytes, sizeof bytes).kind == NODY_NONE, "no byte is there");
@@ -167,14 +175,15 @@ static void merged(void) {
 }
 
 static void nothing(void) {
-    nody_cursor_t cursor = nody_cursor(0);
+    nody_bytes_t left = nody_bytes(NULL, 0);
+    nody_units_t left_units = nody_units(NULL, 0);
     nody_recoder_t recoder = nody_recoder(NODY_UTF8, NODY_UTF16LE), none = nody_recoder(3, 0);
     size_t read = 7, written = 7;
     expect(nody_utf8_first(NULL, 0).kind == NODY_NONE && nody_utf8_last(NULL, 0).kind == NODY_NONE, "no bytes");
     expect(nody_utf16_first(NULL, 0).kind == NODY_NONE && nody_utf16_last(NULL, 0).kind == NODY_NONE, "no units");
-    expect(nody_utf8_next(NULL, 0, &cursor).kind == NODY_NONE && nody_utf8_next_back(NULL, 0, &cursor).kind == NODY_NONE, "a cursor over no bytes");
-    expect(nody_utf16_next(NULL, 0, &cursor).kind == NODY_NONE && nody_utf16_next_back(NULL, 0, &cursor).kind == NODY_NONE, "a cursor over no units");
-    expect(nody_utf8_pieces(NULL, 0, &cursor, NULL, 0) == 0 && nody_utf16_pieces(NULL, 0, &cursor, NULL, 0) == 0, "room for no piece");
+    expect(nody_utf8_next(&left).kind == NODY_NONE && nody_utf8_next_back(&left).kind == NODY_NONE, "a cursor over no bytes");
+    expect(nody_utf16_next(&left_units).kind == NODY_NONE && nody_utf16_next_back(&left_units).kind == NODY_NONE, "a cursor over no units");
+    expect(nody_utf8_pieces(&left, NULL, 0) == 0 && nody_utf16_pieces(&left_units, NULL, 0) == 0, "room for no piece");
     expect(nody_utf8_valid_up_to(NULL, 0) == 0 && nody_utf16_valid_up_to(NULL, 0) == 0, "nothing is well-formed");
     expect(nody_utf8_encode('a', NULL, 0) == 1 && nody_utf16_encode('a', NULL, 0) == 1, "no room for a code");
     expect(nody_recoder_feed(&recoder, NULL, 0, NULL, 0, &read, &written) == NODY_DONE && read == 0 && written == 0, "an empty part");

@@ -30,14 +30,14 @@ def some_bytes(rng, form):
     """Edge bytes, or a text that may be damaged."""
     if rng.random() < 0.4:
         return bytes(rng.choice(EDGES) for _ in range(rng.randrange(24)))
-    octets = bytearray(some_text(rng).encode(CODECS[form]))
+    data = bytearray(some_text(rng).encode(CODECS[form]))
     for _ in range(rng.randrange(3)):
-        place = rng.randrange(len(octets) + 1)
+        place = rng.randrange(len(data) + 1)
         if rng.random() < 0.5:
-            del octets[place:place + 1]
+            del data[place:place + 1]
         else:
-            octets.insert(place, rng.choice(EDGES))
-    return bytes(octets)
+            data.insert(place, rng.choice(EDGES))
+    return bytes(data)
 
 
 def lines(folder, seed, count):
@@ -47,8 +47,8 @@ def lines(folder, seed, count):
     made = []
     for _ in range(count):
         source, target = rng.choice(FORMS), rng.choice(FORMS)
-        octets = some_bytes(rng, source)
-        made.append(f'{source} {target}|{octets.hex()}|{bytes(recoded(source, target, list(octets))).hex()}\n')
+        data = some_bytes(rng, source)
+        made.append(f'{source} {target}|{data.hex()}|{bytes(recoded(source, target, list(data))).hex()}\n')
     return made
 
 

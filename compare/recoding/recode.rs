@@ -3,27 +3,25 @@
 //! `recode cases FILE`: each line of the file is `FROM TO|INPUT|OUTPUT`, both in hexadecimal digits. Each input is fed
 //! whole, byte by byte, and in every way of cutting it into two parts.
 //! `recode texts SEED BYTES`: random texts of that many bytes in all, fed in random parts, for all pairs of forms,
-//! beside iconv(3).
+//! beside iconv(3), and each also damaged, beside std.
+//! `recode blocks SAMPLE`: blocks with one thing in them that is other, beside std; lines of some go into the file.
+//!
+//! Where the script found `encoding_rs`, that is asked as well.
 //!
 //! Status 0: nothing differs. 1: something does.
 
+mod blocks;
+mod judge;
+mod ours;
+mod peer;
+mod tally;
+
+use ours::{pairs, recode, FORMS};
 use std::ffi::{c_char, c_int, c_void, CString};
 use std::process::ExitCode;
-
-const FORMS: [&str; 3] = ["utf8", "utf16le", "utf16be"];
-const MOST_PRINTED: usize = 5;
+use tally::Tally;
 
 extern "C" {
-    fn compare_c_recode(
-        from: u32,
-        to: u32,
-        src: *const u8,
-        len: usize,
-        lengths: *const u32,
-        count: usize,
-        answers: *mut u8,
-        room: usize,
-    ) -> usize;
     fn iconv_open(to: *const c_char, from: *const c_char) -> *mut c_void;
     fn iconv(handle: *mut c_void, src: *mut *const u8, left: *mut usize, out: *mut *mut u8, room: *mut usize) -> usize;
     fn iconv_close(handle: *mut c_void) -> c_int;
@@ -34,6 +32,7 @@ fn main() -> ExitCode {
     let words: Vec<&str> = args.iter().map(String::as_str).collect();
     let differing = match words.as_slice() {
         ["cases", file] => cases(file),
+        ["blocks", sample] => blocks(sample),
         ["texts", seed, bytes] => seed.parse().ok().zip(bytes.parse().ok()).map(|(seed, bytes)| texts(seed, bytes)),
         _ => None,
     };
@@ -41,60 +40,27 @@ fn main() -> ExitCode {
         Some(0) => ExitCode::SUCCESS,
         Some(_) => ExitCode::FAILURE,
         None => {
-            eprintln!("usage: recode cases FILE | texts SEED BYTES");
+            eprintln!("usage: recode cases FILE | texts SEED BYTES | blocks SAMPLE");
             ExitCode::from(2)
         }
     }
 }
 
-/// What was asked, and how much of it differs.
-#[derive(Default)]
-struct Tally {
-    asked: usize,
-    differing: usize,
-}
-
-impl Tally {
-    // One more answer, and what to say where it differs.
-    fn count(&mut self, agrees: bool, said: impl FnOnce() -> String) {
-        self.asked += 1;
-        if !agrees {
-            self.differing += 1;
-            if self.differing <= MOST_PRINTED {
-                println!("{}", said());
-            }
-        }
-    }
-}
-
-// What the recoder makes, fed in parts of these lengths and then the rest. `None` where it had no memory.
-fn recode(from: usize, to: usize, src: &[u8], lengths: &[u32]) -> Option<Vec<u8>> {
-    let mut out = vec![0; 3 * src.len() + 16];
-    let made = unsafe {
-        compare_c_recode(
-            from as u32,
-            to as u32,
-            src.as_ptr(),
-            src.len(),
-            lengths.as_ptr(),
-            lengths.len(),
-            out.as_mut_ptr(),
-            out.len(),
-        )
-    };
-    (made <= out.len()).then(|| {
-        out.truncate(made);
-        out
-    })
+fn blocks(sample: &str) -> Option<usize> {
+    let (differing, lines) = blocks::all();
+    std::fs::write(sample, lines).ok()?;
+    Some(differing)
 }
 
 fn cases(file: &str) -> Option<usize> {
     let text = std::fs::read_to_string(file).ok()?;
     let mut tally = Tally::default();
+    let mut peers = Tally::default();
     let mut inputs = 0;
     for line in text.lines().filter(|line| !line.starts_with('#')) {
         let (from, to, src, expected) = case(line)?;
         inputs += 1;
+        hold_peer(&mut peers, from, to, &src, &expected);
         let whole = [vec![], vec![1; src.len()]];
         let in_two = (0..=src.len() as u32).map(|len| vec![len]);
         for lengths in whole.into_iter().chain(in_two) {
@@ -103,7 +69,22 @@ fn cases(file: &str) -> Option<usize> {
         }
     }
     println!("cases: {inputs} inputs in {} cuts, {} differ", tally.asked, tally.differing);
-    Some(tally.differing)
+    print_peers("cases", &peers);
+    Some(tally.differing + peers.differing)
+}
+
+// Whether `encoding_rs` says of the input what is expected.
+fn hold_peer(tally: &mut Tally, from: usize, to: usize, src: &[u8], expected: &[u8]) {
+    if let Some(text) = peer::shown(from, src) {
+        let agrees = judge::written(to, &text) == expected;
+        tally.count(agrees, || format!("{} to {}: {src:02x?}: encoding_rs: {text:?}", FORMS[from], FORMS[to]));
+    }
+}
+
+fn print_peers(what: &str, tally: &Tally) {
+    if tally.asked > 0 {
+        println!("encoding_rs: {} {what}, {} differ", tally.asked, tally.differing);
+    }
 }
 
 // The forms, the input and the output of a line.
@@ -121,24 +102,41 @@ fn bytes_of(digits: &str) -> Option<Vec<u8>> {
     pairs.map(|pair| u8::from_str_radix(std::str::from_utf8(pair).ok()?, 16).ok()).collect()
 }
 
-// Texts of some size each, until there are so many bytes, for the pairs of forms in turn.
+// Texts of some size each, until there are so many bytes, for the pairs of forms in turn, and then the same damaged.
 fn texts(seed: u64, bytes: usize) -> usize {
     let mut random = Random(seed);
     let mut tally = Tally::default();
+    let mut damaged = Tally::default();
+    let mut peers = Tally::default();
     let mut done = 0;
     while done < bytes {
         let size = 1 << (4 + random.below(17));
         let text = text(&mut random, size as usize);
-        for (from, to) in (0..9).map(|pair| (pair / 3, pair % 3)) {
-            let src = by_iconv(0, from, text.as_bytes());
-            let lengths = parts(&mut random, src.len());
-            let agrees = recode(from, to, &src, &lengths) == Some(by_iconv(from, to, &src));
+        for (from, to) in pairs() {
+            let mut src = by_iconv(0, from, text.as_bytes());
+            let agrees = recode(from, to, &src, &parts(&mut random, src.len())) == Some(by_iconv(from, to, &src));
             tally.count(agrees, || format!("{} to {}: a text of {} bytes", FORMS[from], FORMS[to], src.len()));
+            damage(&mut random, &mut src);
+            let expected = judge::recode(from, to, &src);
+            let agrees = recode(from, to, &src, &parts(&mut random, src.len())).as_ref() == Some(&expected);
+            damaged.count(agrees, || format!("{} to {}: a damaged text of {} bytes", FORMS[from], FORMS[to], src.len()));
+            hold_peer(&mut peers, from, to, &src, &expected);
             done += src.len();
         }
     }
     println!("texts: {done} bytes in {} texts, {} differ", tally.asked, tally.differing);
-    tally.differing
+    println!("texts, damaged: {}, {} differ", damaged.asked, damaged.differing);
+    print_peers("damaged texts", &peers);
+    tally.differing + damaged.differing + peers.differing
+}
+
+// Other bytes in some places: in one of eight, or hardly any.
+fn damage(random: &mut Random, src: &mut [u8]) {
+    let rare = 1 << (3 + random.below(12));
+    for _ in 0..1 + src.len() as u64 / rare {
+        let place = random.below(src.len() as u64) as usize;
+        src[place] = random.next() as u8;
+    }
 }
 
 // Lengths of parts that come to no more than about so many bytes.

@@ -2,12 +2,17 @@
 #![no_main]
 
 use compare::one_input::Input;
-use std::{panic, process, slice};
+use std::sync::OnceLock;
+use std::{env, panic, process, slice};
+
+/// Whether recoding alone is asked.
+static RECODING: OnceLock<bool> = OnceLock::new();
 
 /// Called once. The Rust crate panics where the comparison knows of it, and nothing is to be shown of that.
 #[no_mangle]
 extern "C" fn LLVMFuzzerInitialize(_count: *mut i32, _arguments: *mut *mut *mut u8) -> i32 {
     panic::set_hook(Box::new(|_| {}));
+    RECODING.get_or_init(|| env::var_os("COMPARE_RECODING").is_some());
     0
 }
 
@@ -19,7 +24,12 @@ extern "C" fn LLVMFuzzerTestOneInput(data: *const u8, len: usize) -> i32 {
         0 => &[],
         _ => unsafe { slice::from_raw_parts(data, len) },
     };
-    if let Some(difference) = Input::of(list).difference() {
+    let input = Input::of(list);
+    let difference = match RECODING.get() {
+        Some(true) => input.recoding_difference(),
+        _ => input.difference(),
+    };
+    if let Some(difference) = difference {
         eprintln!("differs: {difference}");
         process::abort();
     }

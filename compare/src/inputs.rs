@@ -128,6 +128,22 @@ pub fn damaged_text(random: &mut Random) -> Vec<u8> {
     bytes
 }
 
+/// A text of up to 400 characters, in runs whose codes have one length, with up to three of its bytes changed, dropped or
+/// doubled.
+pub fn long_text(random: &mut Random) -> Vec<u8> {
+    let mut text = String::from("text");
+    for _ in 0..random.below(9) {
+        let end = random.one_of(&[0x80, 0x800, 0x1_0000, 0x11_0000]);
+        let one = |random: &mut Random| char::from_u32(random.below(end) as u32).unwrap_or('\u{d7ff}');
+        text.extend((0..random.below(50)).map(|_| one(random)));
+    }
+    let mut bytes = text.into_bytes();
+    for _ in 0..random.below(4) {
+        damage(random, &mut bytes);
+    }
+    bytes
+}
+
 // A text of four characters has more bytes than are dropped.
 fn damage(random: &mut Random, bytes: &mut Vec<u8>) {
     let place = random.below(bytes.len());

@@ -4,12 +4,17 @@ pub mod collections;
 pub mod ends;
 mod errors;
 pub mod inputs;
+#[path = "../recoding/judge.rs"]
+mod judge;
 pub mod kinds;
 pub mod mergers;
 mod numbers;
 pub mod one_input;
 mod ours;
 pub mod program;
+#[path = "../recoding/ours.rs"]
+mod recoder;
+pub mod recoding;
 pub mod tables;
 pub mod tally;
 pub mod text_kinds;

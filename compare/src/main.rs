@@ -4,7 +4,7 @@
 
 use compare::ends::{self, Slips};
 use compare::tally::Kind;
-use compare::{collections, kinds, mergers, program, tables, text_kinds, unit_decoder};
+use compare::{collections, kinds, mergers, program, recoding, tables, text_kinds, unit_decoder};
 use std::path::Path;
 use std::process::ExitCode;
 
@@ -45,6 +45,7 @@ fn compare_all(program: &Path, seed: u64, count: usize) -> Option<(Vec<Kind>, Sl
     print_and_keep(&mut all, text_kinds::splitters(seed, count));
     print_and_keep(&mut all, collections::texts(seed, count));
     print_and_keep(&mut all, tables::replacements(seed, count));
+    print_and_keep(&mut all, recoding::lists(seed, count));
     match program::runs(program, seed) {
         Ok(runs) => print_and_keep(&mut all, runs),
         Err(error) => {

@@ -1,11 +1,11 @@
 //! One input, asked of all that decodes: its bytes by every iterator, from both ends, and as units; where they are
-//! a text, that text too.
+//! a text, that text too. Its bytes are recoded as well.
 
 use crate::ends::{self, Slips};
 use crate::inputs::{self, Random, FROM_BACK};
 use crate::tables::{self, Replacement};
 use crate::tally::Kind;
-use crate::{collections, kinds, mergers, text_kinds, unit_decoder};
+use crate::{collections, kinds, mergers, recoding, text_kinds, unit_decoder};
 
 /// How many letters a word has at most.
 const MOST_LETTERS: usize = 32;
@@ -19,11 +19,13 @@ pub struct Input {
     /// The numbers of the steps of a splitter, and by their last bit the letters of a word.
     steps: Vec<u8>,
     replacements: Vec<Replacement>,
+    /// The lengths of the parts, and the sizes of the rooms, in which the bytes are recoded.
+    cuts: Vec<u8>,
 }
 
 impl Input {
     /// Any list is an input. Its first byte says how many steps there are, and how many replacements; these follow,
-    /// and then the bytes.
+    /// and then the bytes. The steps are the cuts too.
     pub fn of(list: &[u8]) -> Input {
         let (first, rest) = list.split_first().unwrap_or((&0, &[]));
         let letters = usize::from(first & 0x3f).min(MOST_LETTERS);
@@ -33,6 +35,7 @@ impl Input {
         Input {
             bytes: bytes.to_vec(),
             steps: steps.iter().map(|step| step % (inputs::NEXT + 1)).collect(),
+            cuts: steps.to_vec(),
             replacements: replacements.chunks_exact(4).map(|four| [four[0], four[1], four[2], four[3]]).collect(),
         }
     }
@@ -49,6 +52,7 @@ impl Input {
         Input {
             bytes,
             steps: inputs::steps(random, step_count),
+            cuts: (0..step_count).map(|_| random.byte()).collect(),
             replacements: (0..replacement_count).map(|_| tables::replacement(random)).collect(),
         }
     }
@@ -68,10 +72,22 @@ impl Input {
         let mut table = Kind::new("the table of pieces");
         tables::compare(&mut table, bytes, replacements);
         all.push(table);
+        all.push(self.recoded());
         if let Ok(text) = std::str::from_utf8(bytes) {
             all.extend(self.of_text(text));
         }
         all.iter().find_map(Kind::first)
+    }
+
+    /// The first difference of what the bytes are recoded as, where there is one.
+    pub fn recoding_difference(&self) -> Option<String> {
+        self.recoded().first()
+    }
+
+    fn recoded(&self) -> Kind {
+        let mut recoded = Kind::new("recoding");
+        recoding::compare(&mut recoded, &self.bytes, &self.cuts);
+        recoded
     }
 
     // What a text is asked besides.

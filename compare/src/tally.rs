@@ -2,6 +2,7 @@
 
 use crate::numbers::Answers;
 use crate::theirs::RANGE_START;
+use std::fmt::Debug;
 
 /// How many differences of a kind are shown.
 const SHOWN: usize = 5;
@@ -76,6 +77,14 @@ impl Kind {
         match first_difference(ours, theirs) {
             Some(difference) => self.note(|| format!("{}: {difference}", input())),
             None => self.meant += 1,
+        }
+    }
+
+    /// Compares two answers as they are.
+    pub fn compare_equal<T: PartialEq + Debug>(&mut self, input: impl FnOnce() -> String, ours: &T, theirs: &T) {
+        self.cases += 1;
+        if ours != theirs {
+            self.note(|| format!("{}: ours {ours:02x?}, theirs {theirs:02x?}", input()));
         }
     }
 

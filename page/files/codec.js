@@ -1,6 +1,6 @@
 // The calls of the proved module, as plain numbers. All that the page shows of bytes is asked here.
 //
-// The module's memory has a fixed size. After its own stack and constants stand, from __heap_base on: a cursor, a piece,
+// The module's memory has a fixed size. After its own stack and constants stand, from __heap_base on: what is left, a piece,
 // two lengths and a recoder; room for pieces; a part that is recoded and room for what it becomes; and the page's bytes.
 
 export const MOST = 10 * 1024 * 1024;
@@ -56,15 +56,16 @@ export class Codec {
         return Number(this.view.getBigUint64(address, true));
     }
 
+    // The bytes from one place up to and without another are left.
     setCursor(front, back) {
-        this.view.setBigUint64(this.cursor, BigInt(front), true);
-        this.view.setBigUint64(this.cursor + 8, BigInt(back), true);
+        this.view.setBigUint64(this.cursor, BigInt(this.start + front), true);
+        this.view.setBigUint64(this.cursor + 8, BigInt(back - front), true);
     }
 
-    pieceAt(address) {
+    // The piece that stands at an address, and begins at a place in the bytes.
+    pieceAt(address, place) {
         const { view } = this;
-        const [place, scalar] = [this.number(address), view.getUint32(address + 8, true)];
-        return { place, scalar, kind: view.getUint8(address + 12), len: view.getUint8(address + 13) };
+        return { place, len: this.number(address), scalar: view.getUint32(address + 8, true), kind: view.getUint8(address + 12) };
     }
 
     kindName(kind) {
@@ -77,9 +78,8 @@ export class Codec {
     // Puts into the room the pieces that begin at `front`, and answers how many and where they end.
     run(front) {
         this.setCursor(front, this.len);
-        const [bytes, len] = [BigInt(this.start), BigInt(this.len)];
-        const count = this.calls.nody_utf8_pieces(bytes, len, BigInt(this.cursor), BigInt(this.room), BigInt(ROOM));
-        return { count: Number(count), end: this.number(this.cursor) };
+        const count = this.calls.nody_utf8_pieces(BigInt(this.cursor), BigInt(this.room), BigInt(ROOM));
+        return { count: Number(count), end: this.number(this.cursor) - this.start };
     }
 
     // How many of the pieces in the room are faults.
@@ -94,8 +94,9 @@ export class Codec {
         const found = [];
         while (front < Math.min(before, this.len)) {
             const { count, end } = this.run(front);
-            for (let i = 0; i < count; i++) {
-                const piece = this.pieceAt(this.room + i * PIECE);
+            for (let i = 0, place = front; i < count; i++) {
+                const piece = this.pieceAt(this.room + i * PIECE, place);
+                place += piece.len;
                 if (before <= piece.place) return found;
                 if (after < piece.place + piece.len) found.push(piece);
             }
@@ -107,16 +108,18 @@ export class Codec {
     // One piece from the front ("F") or the back ("B") of what is left, which then leaves it.
     step(letter, left) {
         this.setCursor(left.front, left.back);
-        const call = letter === "F" ? this.calls.nody_utf8_next : this.calls.nody_utf8_next_back;
-        call(BigInt(this.answer), BigInt(this.start), BigInt(this.len), BigInt(this.cursor));
-        [left.front, left.back] = [this.number(this.cursor), this.number(this.cursor + 8)];
-        return this.pieceAt(this.answer);
+        const isFirst = letter === "F";
+        const [call, begin] = [isFirst ? this.calls.nody_utf8_next : this.calls.nody_utf8_next_back, left.front];
+        call(BigInt(this.answer), BigInt(this.cursor));
+        left.front = this.number(this.cursor) - this.start;
+        left.back = left.front + this.number(this.cursor + 8);
+        return this.pieceAt(this.answer, isFirst ? begin : left.back);
     }
 
     // The piece that begins at a place, as a reader of one byte at a time names it.
     merged(place) {
         this.calls.nody_utf8_merged(BigInt(this.answer), BigInt(this.start), BigInt(this.len), BigInt(place));
-        return this.pieceAt(this.answer);
+        return this.pieceAt(this.answer, place);
     }
 
     // These bytes in another form, at least so many of them where there are more.

@@ -6,6 +6,7 @@
 //! tests.
 #![tactic(auto)]
 
+mod calls;
 mod checksum;
 mod collections;
 mod decoders;
@@ -122,11 +123,10 @@ pub extern "C" fn bench_c_to_utf8(src: &[u32]) -> u64 {
 pub extern "C" fn bench_c_to_utf16(src: &[u32]) -> u64 {
     let mut sum = Checksum::new();
     for number in src {
-        let Ok(c) = char::from_u32_detailed(*number) else {
-            continue
-        };
-        let [first, second] = c.to_utf16_array();
-        sum.add((second as u64) << 16 | first as u64);
+        if let Ok(c) = char::from_u32_detailed(*number) {
+            let [first, second] = c.to_utf16_array();
+            sum.add((second as u64) << 16 | first as u64);
+        }
     }
     sum.value()
 }

@@ -1,7 +1,7 @@
 //! Replacements in a table of pieces.
 use crate::checksum::Checksum;
 use crate::{number_of, word_of};
-use cuts::piece_table::PieceTable;
+use cuts::PieceTable;
 use encode_unicode::Steps;
 use std::alloc::Global;
 

@@ -2,33 +2,27 @@
 use Rattle.std.proofs.Common.{◌≡◌, ℕ, ◌<◌, ◌≤◌, ⊎_elim, List, [], ◌∷◌, ◌++◌, length, arith, sym, ap, subst, ◌+◌, take, drop, set, ◌∙◌}
 use Rattle.std.proofs.lemmas.List.{take_more_set, drop-set-lt, drop-drop}
 use Rattle.std.proofs.lemmas.Bool.{cases_lt}
-use Rattle.c_api.specs.Api.{Gives, GivesEach, LeavesSome, after}
+use Rattle.c_api.specs.Api.{Gives, GivesEach, after}
 use Rattle.c_api.specs.declared.cursors.NodyPiece.{NodyPiece}
-use Rattle.c_api.specs.declared.cursors.NodyCursor.{NodyCursor}
 
-pub each_append : (piece : NodyCursor → List ℕ → NodyPiece) (xs : List ℕ) (c d : NodyCursor) (ps : List NodyPiece) (x : NodyPiece) → GivesEach piece xs c ps d
-    → LeavesSome d (length xs) → x ≡ piece d xs → GivesEach piece xs c (ps ++ x ∷ []) (after d x)
-each_append piece xs c d [] x e some is =
-    (subst (λ b. LeavesSome b (length xs)) e some, subst (λ b. x ≡ piece b xs) e is, ap (λ b. after b x) e)
-each_append piece xs c d (y ∷ ps) x (first, known, rest) some is = (first, known, each_append piece xs (after c y) d ps x rest some is)
+pub each_append : (piece : List ℕ → NodyPiece) (xs ys : List ℕ) (ps : List NodyPiece) (x : NodyPiece) → GivesEach piece xs ps ys
+    → 0 < length ys → x ≡ piece ys → GivesEach piece xs (ps ++ x ∷ []) (after ys x)
+each_append piece xs ys [] x e some is =
+    (subst (λ b. 0 < length b) e some, subst (λ b. x ≡ piece b) e is, ap (λ b. after b x) e)
+each_append piece xs ys (y ∷ ps) x (first, known, rest) some is = (first, known, each_append piece (after xs y) ys ps x rest some is)
 
 -- a piece that has a length was left
-pub some_left : (piece : NodyCursor → List ℕ → NodyPiece) (xs : List ℕ) (c d : NodyCursor) (x : NodyPiece) → Gives piece after xs c x d → 0 < x.len → LeavesSome c (length xs)
-some_left piece xs c d x g some =
-    let front : c.front < c.back =
-    ⊎_elim (λ (lt : c.front < c.back). lt) (λ (le : c.back ≤ c.front). let n = (g.none le).0 in omega (arith, ap (λ p. p.len) n)) (cases_lt c.front c.back) in
-    let back : c.back ≤ length xs =
-    ⊎_elim (λ (lt : length xs < c.back). let n = (g.outside lt).0 in omega (arith, ap (λ p. p.len) n)) (λ (le : c.back ≤ length xs). le) (cases_lt (length xs) c.back) in
-    (front, back)
+pub some_left : (piece : List ℕ → NodyPiece) (xs ys : List ℕ) (x : NodyPiece) → Gives piece after xs x ys → 0 < x.len → 0 < length xs
+some_left piece xs ys x g some =
+    ⊎_elim (λ (lt : 0 < length xs). lt) (λ (le : length xs ≤ 0). let n = (g.none (omega arith)).0 in omega (arith, ap (λ p. p.len) n)) (cases_lt 0 (length xs))
 
 -- one piece more, in the next place of the room
-pub next_each : (piece : NodyCursor → List ℕ → NodyPiece) (xs : List ℕ) (c d e : NodyCursor) (x : NodyPiece) (room : List NodyPiece) (n : ℕ)
-    → GivesEach piece xs c (take n room) d → Gives piece after xs d x e → 0 < x.len → n < length room → GivesEach piece xs c (take (n + 1) (set room n x)) e
-next_each piece xs c d e x room n each g len lt =
-    let some = some_left piece xs d e x g len in
-    let more : GivesEach piece xs c (take n room ++ x ∷ []) (after d x) = each_append piece xs c d (take n room) x each some (g.some some.0 some.1) in
-    subst (λ b. GivesEach piece xs c (take (n + 1) (set room n x)) b) (sym (g.leaves some.0 some.1))
-    (subst (λ ps. GivesEach piece xs c ps (after d x)) (sym (take_more_set room n x lt)) more)
+pub next_each : (piece : List ℕ → NodyPiece) (xs ys zs : List ℕ) (x : NodyPiece) (room : List NodyPiece) (n : ℕ)
+    → GivesEach piece xs (take n room) ys → 0 < length ys → x ≡ piece ys → zs ≡ after ys x → n < length room → GivesEach piece xs (take (n + 1) (set room n x)) zs
+next_each piece xs ys zs x room n each some is leaves lt =
+    let more : GivesEach piece xs (take n room ++ x ∷ []) (after ys x) = each_append piece xs ys (take n room) x each some is in
+    subst (λ b. GivesEach piece xs (take (n + 1) (set room n x)) b) (sym leaves)
+    (subst (λ ps. GivesEach piece xs ps (after ys x)) (sym (take_more_set room n x lt)) more)
 
 -- and the places after it stay
 pub rest_stays : (room first : List NodyPiece) (x : NodyPiece) (n : ℕ) → drop n room ≡ drop n first → drop (n + 1) (set room n x) ≡ drop (n + 1) first

@@ -12,7 +12,7 @@ use Rattle.encode_unicode.specs.Mergers.{TakesFront}
 use Rattle.encode_unicode.specs.Window.{Item}
 use Rattle.cuts.specs.Items.{HasKind, piece_of}
 use Rattle.cuts.proofs.ShardEnds.{stands_in_rest}
-use Rattle.c_api.specs.Api.{kind_number, merged, piece_at, IsMergedPiece}
+use Rattle.c_api.specs.Api.{kind_number, first_merged, merged, shown_as, IsMergedPiece}
 use Rattle.c_api.specs.declared.cursors.NodyPiece.{NodyPiece}
 
 -- where a code begins the bytes it is that scalar
@@ -43,8 +43,8 @@ merged_item : (xs : List ℕ) (item : Item) → IsPiece utf8 xs (piece_of item) 
 merged_item xs (place, Ok s, n) piece kind = merged_code (drop place xs) s (stands_in_rest utf8 xs place s piece.0) ∙ ap (λ m. (Ok s, m)) (sym piece.1)
 merged_item xs (place, Err k, n) piece kind = merged_kind (drop place xs) k kind ∙ ap (λ m. (Err k, m)) (sym piece.1)
 
-pub piece_of_run : (xs : List ℕ) (place : ℕ) (x : NodyPiece) → (place < length xs → x ≡ piece_at kind_number place (merged (drop place xs))) → IsMergedPiece xs place x
+pub piece_of_run : (xs : List ℕ) (place : ℕ) (x : NodyPiece) → (place < length xs → x ≡ first_merged (drop place xs)) → IsMergedPiece xs place x
 piece_of_run xs place x is items run k d lt begins =
     let each = rw (get_or-map piece_of items k d (piece_of d) lt) at (run.cut.pieces k (piece_of d) (omega (arith, length-map items piece_of))) in
     let item = merged_item xs (get_or items k d) each.0 (run.kinds k d lt) in
-    is (rw begins at each.2) ∙ ap (piece_at kind_number place) (rw begins at item)
+    is (rw begins at each.2) ∙ ap (shown_as kind_number) (rw begins at item)

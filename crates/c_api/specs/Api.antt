@@ -1,5 +1,5 @@
--- What C sees: numbers of kinds and forms, pieces, cursors and recoders.
-use Rattle.std.specs.Prelude.{◌≡◌, ℕ, zero, suc, ◌+◌, ◌-◌, ◌<◌, ◌≤◌, List, [], ◌∷◌, length, take, get_or, slice_range, All, Result, Ok, Err}
+-- What C sees: numbers of kinds and forms, pieces, what is left, and recoders.
+use Rattle.std.specs.Prelude.{◌≡◌, ℕ, zero, suc, ◌+◌, ◌-◌, ◌<◌, ◌≤◌, List, [], ◌∷◌, length, take, drop, get_or, All, Result, Ok, Err}
 use Rattle.utf_base.specs.declared.errors.Utf8ErrorKind.{Utf8ErrorKind}
 use Rattle.utf_base.specs.declared.errors.Utf8ErrorKind.TheVariants.{TooFewBytes, NonUtf8Byte, UnexpectedContinuationByte, InterruptedSequence, OverlongEncoding, Utf16ReservedCodepoint, TooHighCodepoint}
 use Rattle.utf_base.specs.declared.errors.units.Utf16PairError.{Utf16PairError}
@@ -10,11 +10,10 @@ use Rattle.utf_base.specs.Decoded.{decoded, decoded_pairs, unless_fault}
 use Rattle.utf_base.specs.Kinds.{asked_by, merger_kind, value}
 use Rattle.encode_unicode.specs.Window.{Item, as_piece}
 use Rattle.cuts.specs.Items.{IsRun}
-use Rattle.cuts.specs.declared.form.Form.{Form}
-use Rattle.cuts.specs.declared.form.Form.TheVariants.{Utf8, Utf16Le, Utf16Be}
+use Rattle.cuts.specs.declared.recoding.form.Form.{Form}
+use Rattle.cuts.specs.declared.recoding.form.Form.TheVariants.{Utf8, Utf16Le, Utf16Be}
 use Rattle.cuts.specs.Recoded.{Recoding}
 use Rattle.c_api.specs.declared.cursors.NodyPiece.{NodyPiece}
-use Rattle.c_api.specs.declared.cursors.NodyCursor.{NodyCursor}
 use Rattle.c_api.specs.declared.recoding.NodyRecoder.{NodyRecoder}
 
 -- the number of an error
@@ -32,65 +31,58 @@ pair_number UnexpectedTrailingSurrogate = 8
 pair_number UnmatchedLeadingSurrogate = 9
 pair_number Incomplete = 10
 
--- a piece at a place: a scalar has the kind 0, and a fault its number and no scalar
-abbrev pub piece_at : {E : Type 0} → (E → ℕ) → ℕ → Result ℕ E × ℕ → NodyPiece
-piece_at number place (Ok s, n) = record { place = place; scalar = s; kind = 0; len = n }
-piece_at number place (Err e, n) = record { place = place; scalar = 0; kind = number e; len = n }
-
--- the same of a piece that ends at a place
-abbrev pub piece_before : {E : Type 0} → (E → ℕ) → ℕ → Result ℕ E × ℕ → NodyPiece
-piece_before number end x = piece_at number (end - x.1) x
+-- what C sees of a piece: a scalar has the kind 0, and a fault its number and no scalar
+abbrev pub shown_as : {E : Type 0} → (E → ℕ) → Result ℕ E × ℕ → NodyPiece
+shown_as number (Ok s, n) = record { len = n; scalar = s; kind = 0 }
+shown_as number (Err e, n) = record { len = n; scalar = 0; kind = number e }
 
 -- that nothing is left
 abbrev pub no_piece : NodyPiece
-no_piece = record { place = 0; scalar = 0; kind = 11; len = 0 }
+no_piece = record { len = 0; scalar = 0; kind = 11 }
+
+-- the pieces that begin and end bytes and units
+abbrev pub first_of : List ℕ → NodyPiece
+first_of xs = shown_as kind_number (as_piece (decoded xs))
+
+abbrev pub last_of : List ℕ → NodyPiece
+last_of xs = shown_as kind_number (as_piece (decoded_end xs))
+
+abbrev pub first_of_units : List ℕ → NodyPiece
+first_of_units xs = shown_as pair_number (as_piece (decoded_pairs xs))
+
+abbrev pub last_of_units : List ℕ → NodyPiece
+last_of_units xs = shown_as pair_number (as_piece (decoded_pairs_end xs))
 
 -- what a reader of one byte at a time answers first: the scalar whose code begins the bytes, with the code's length, else
 -- the kind that a merger names
 abbrev pub merged : List ℕ → Result ℕ Utf8ErrorKind × ℕ
 merged w = as_piece (unless_fault (merger_kind w) (value w, asked_by w))
 
+abbrev pub first_merged : List ℕ → NodyPiece
+first_merged w = shown_as kind_number (merged w)
+
 -- each piece of the merged run over the bytes that begins at the place is this one
 abbrev pub IsMergedPiece : List ℕ → ℕ → NodyPiece → Type 0
-IsMergedPiece xs place x = (items : List Item) → IsRun utf8 merger_kind xs items → All (λ item. item.0 ≡ place → x ≡ piece_at kind_number place (item.1, item.2)) items
+IsMergedPiece xs place x = (items : List Item) → IsRun utf8 merger_kind xs items → All (λ item. item.0 ≡ place → x ≡ shown_as kind_number (item.1, item.2)) items
 
--- the cursor leaves something of so many elements
-abbrev pub LeavesSome : NodyCursor → ℕ → Type 0
-LeavesSome c n = (c.front < c.back) × (c.back ≤ n)
+-- what is left after a piece at the front, and before one at the end
+abbrev pub after : List ℕ → NodyPiece → List ℕ
+after xs x = drop x.len xs
 
--- the pieces that begin and end what the cursor leaves of the elements
-abbrev pub first_of : NodyCursor → List ℕ → NodyPiece
-first_of c xs = piece_at kind_number c.front (as_piece (decoded (slice_range xs c.front c.back)))
+abbrev pub before : List ℕ → NodyPiece → List ℕ
+before xs x = take (length xs - x.len) xs
 
-abbrev pub last_of : NodyCursor → List ℕ → NodyPiece
-last_of c xs = piece_before kind_number c.back (as_piece (decoded_end (slice_range xs c.front c.back)))
+-- One call on what is left: the piece at its end, which leaves it. Where nothing is left nothing changes.
+pub record Gives (piece : List ℕ → NodyPiece) (left : List ℕ → NodyPiece → List ℕ) (xs : List ℕ) (x : NodyPiece) (ys : List ℕ) : Type 0 where
+  pub some : 0 < length xs → x ≡ piece xs
+  pub leaves : 0 < length xs → ys ≡ left xs x
+  pub least : 0 < length xs → (1 ≤ x.len) × (x.len ≤ length xs)
+  pub none : length xs ≡ 0 → (x ≡ no_piece) × (ys ≡ xs)
 
-abbrev pub first_of_units : NodyCursor → List ℕ → NodyPiece
-first_of_units c xs = piece_at pair_number c.front (as_piece (decoded_pairs (slice_range xs c.front c.back)))
-
-abbrev pub last_of_units : NodyCursor → List ℕ → NodyPiece
-last_of_units c xs = piece_before pair_number c.back (as_piece (decoded_pairs_end (slice_range xs c.front c.back)))
-
--- the cursor after a piece at its front, and before one at its back
-abbrev pub after : NodyCursor → NodyPiece → NodyCursor
-after c x = record { front = c.front + x.len; back = c.back }
-
-abbrev pub before : NodyCursor → NodyPiece → NodyCursor
-before c x = record { front = c.front; back = c.back - x.len }
-
--- One call on a cursor: the piece at its end, which leaves; where nothing is left, or the cursor does not fit the elements,
--- nothing changes.
-pub record Gives (piece : NodyCursor → List ℕ → NodyPiece) (left : NodyCursor → NodyPiece → NodyCursor) (xs : List ℕ) (c : NodyCursor) (x : NodyPiece) (d : NodyCursor) : Type 0 where
-  pub some : c.front < c.back → c.back ≤ length xs → x ≡ piece c xs
-  pub leaves : c.front < c.back → c.back ≤ length xs → d ≡ left c x
-  pub least : c.front < c.back → c.back ≤ length xs → (1 ≤ x.len) × (x.len ≤ c.back - c.front)
-  pub none : c.back ≤ c.front → (x ≡ no_piece) × (d ≡ c)
-  pub outside : length xs < c.back → (x ≡ no_piece) × (d ≡ c)
-
--- These pieces begin what is left, one after another, from one cursor to another.
-abbrev pub GivesEach : (NodyCursor → List ℕ → NodyPiece) → List ℕ → NodyCursor → List NodyPiece → NodyCursor → Type 0
-GivesEach piece xs c [] d = d ≡ c
-GivesEach piece xs c (x ∷ ps) d = LeavesSome c (length xs) × (x ≡ piece c xs) × GivesEach piece xs (after c x) ps d
+-- These pieces begin what is left, one after another, and then that is left.
+abbrev pub GivesEach : (List ℕ → NodyPiece) → List ℕ → List NodyPiece → List ℕ → Type 0
+GivesEach piece xs [] ys = ys ≡ xs
+GivesEach piece xs (x ∷ ps) ys = (0 < length xs) × (x ≡ piece xs) × GivesEach piece (after xs x) ps ys
 
 -- the form of a number below three
 abbrev pub form_of : ℕ → Form

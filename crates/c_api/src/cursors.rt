@@ -1,10 +1,6 @@
-//! Single pieces, cursors over bytes and units, and runs of them into an array.
-ghost use Rattle.std.specs.Prelude.{◌≡◌, ◌<◌, ◌≤◌, ◌-◌, length, take, drop};
-ghost use Rattle.utf_base.specs.Back.{decoded_end, decoded_pairs_end};
-ghost use Rattle.utf_base.specs.Decoded.{decoded, decoded_pairs};
-ghost use Rattle.encode_unicode.specs.Window.{as_piece};
-ghost use Rattle.c_api.specs.Api as Api;
-ghost use Rattle.c_api.specs.Api.{kind_number, pair_number, piece_at, piece_before, no_piece, merged, IsMergedPiece, Gives, GivesEach, LeavesSome, after, before};
+//! Single pieces, what is left of bytes and units, and runs of pieces into an array.
+ghost use Rattle.std.specs.Prelude.{◌≡◌, ◌<◌, ◌≤◌, length, take, drop};
+ghost use Rattle.c_api.specs.Api.{first_of, last_of, first_of_units, last_of_units, first_merged, no_piece, IsMergedPiece, Gives, GivesEach, after, before};
 
 use crate::kinds::{number_of, pair_number_of};
 use cuts::front_of_text;
@@ -12,275 +8,234 @@ use encode_unicode::CharExt;
 use encode_unicode::iterator::{Utf8CharDecoder, Utf8CharMerger, Utf16CharDecoder};
 
 /// A piece of some bytes or units: a character, or what is wrong with one of them.
+///
+/// Its length stands apart from the others, so that whoever adds it to a place need not wait for them.
 #[repr(C)]
 #[derive(Clone, Copy, Drop)]
 pub struct NodyPiece {
-    /// Its offset from the front, in bytes or units.
-    pub place: usize,
+    /// Its length in bytes or units: 1 for a fault, 0 where there is none.
+    pub len: usize,
     /// The scalar, or 0 for a fault.
     pub scalar: u32,
     /// 0 for a character, else the number of the error, or of `NODY_NONE`.
     pub kind: u8,
-    /// Its length in bytes or units: 1 for a fault, 0 where there is none.
-    pub len: u8,
 }
 
-/// What is left of some bytes or units: from one offset up to and without another.
+/// What is left of some bytes.
 #[repr(C)]
 #[derive(Clone, Copy, Drop)]
-pub struct NodyCursor {
-    /// The offset of the first that is left.
-    pub front: usize,
-    /// The offset after the last that is left.
-    pub back: usize,
+pub struct NodyBytes<'a> {
+    /// The bytes that are left.
+    pub bytes: &'a [u8],
 }
 
+/// What is left of some units.
+#[repr(C)]
+#[derive(Clone, Copy, Drop)]
+pub struct NodyUnits<'a> {
+    /// The units that are left.
+    pub units: &'a [u16],
+}
+
+#[inline(always)]
 fn none() -> NodyPiece
     ensures { result ≡ no_piece }
 {
     NodyPiece {
-        place: 0,
+        len: 0,
         scalar: 0,
         kind: 11,
-        len: 0,
     }
 }
 
-// The piece that begins the bytes, which stand at a place: that of text first, since most bytes are some.
+// A character that has so many bytes or units.
+#[inline(always)]
+fn character(c: char, len: usize) -> NodyPiece
+    ensures { result ≡ record { len = len; scalar = c; kind = 0 } }
+{
+    NodyPiece {
+        len,
+        scalar: c as u32,
+        kind: 0,
+    }
+}
+
+// The same piece, as one that no other function has written: so it crosses in registers.
+#[inline(always)]
+fn anew(piece: NodyPiece) -> NodyPiece
+    ensures { result ≡ piece }
+{
+    NodyPiece {
+        len: piece.len,
+        scalar: piece.scalar,
+        kind: piece.kind,
+    }
+}
+
+// The piece that begins the bytes: that of text first, since most bytes are some.
 #[inline(always)]
 #[tactic(auto, using(utf_base::proofs::DecodedLemmas::decoded_code, utf_base::proofs::DecodedLemmas::front_len_utf8))]
-fn first(bytes: &[u8], place: usize) -> NodyPiece
-    requires { 0 < length bytes.now }
-    ensures piece { result ≡ piece_at kind_number place (as_piece (decoded bytes.now)) }
-    ensures least { 1 ≤ result.len }
+fn first(bytes: &[u8]) -> NodyPiece
+    ensures some { 0 < length bytes.now → result ≡ first_of bytes.now }
+    ensures none { length bytes.now ≡ 0 → result ≡ no_piece }
+    ensures least { 0 < length bytes.now → 1 ≤ result.len }
     ensures most { result.len ≤ length bytes.now }
 {
     match front_of_text(bytes) {
-        Some((c, len)) => NodyPiece {
-            place,
-            scalar: c as u32,
-            kind: 0,
-            len: len as u8,
-        },
-        None => first_with_care(bytes, place),
+        Some((c, len)) => character(c, len),
+        None => anew(first_with_care(bytes)),
     }
 }
 
 // The same of bytes that may be anything.
 #[inline(never)]
-fn first_with_care(bytes: &[u8], place: usize) -> NodyPiece
-    requires { 0 < length bytes.now }
-    ensures piece { result ≡ piece_at kind_number place (as_piece (decoded bytes.now)) }
-    ensures least { 1 ≤ result.len }
+fn first_with_care(bytes: &[u8]) -> NodyPiece
+    ensures some { 0 < length bytes.now → result ≡ first_of bytes.now }
+    ensures none { length bytes.now ≡ 0 → result ≡ no_piece }
+    ensures least { 0 < length bytes.now → 1 ≤ result.len }
     ensures most { result.len ≤ length bytes.now }
 {
+    if bytes.is_empty() {
+        return none();
+    }
     match char::from_utf8_slice_start(bytes) {
-        Ok((c, len)) => NodyPiece {
-            place,
-            scalar: c as u32,
-            kind: 0,
-            len: len as u8,
-        },
+        Ok((c, len)) => character(c, len),
         Err(error) => NodyPiece {
-            place,
+            len: 1,
             scalar: 0,
             kind: number_of(error.kind()),
-            len: 1,
         },
     }
 }
 
-// The piece that ends the bytes, which end at a place.
+// The piece that ends the bytes.
 #[inline(always)]
-fn last(bytes: &[u8], end: usize) -> NodyPiece
-    requires some { 0 < length bytes.now }
-    requires end { length bytes.now ≤ end }
-    ensures piece { result ≡ piece_before kind_number end (as_piece (decoded_end bytes.now)) }
-    ensures least { 1 ≤ result.len }
+fn last(bytes: &[u8]) -> NodyPiece
+    ensures some { 0 < length bytes.now → result ≡ last_of bytes.now }
+    ensures none { length bytes.now ≡ 0 → result ≡ no_piece }
+    ensures least { 0 < length bytes.now → 1 ≤ result.len }
     ensures most { result.len ≤ length bytes.now }
 {
     match Utf8CharDecoder::from(bytes).next_back() {
         None => none(),
-        Some((_, Ok(c), len)) => NodyPiece {
-            place: end - len,
-            scalar: c.to_char() as u32,
-            kind: 0,
-            len: len as u8,
-        },
+        Some((_, Ok(c), len)) => character(c.to_char(), len),
         Some((_, Err(error), len)) => NodyPiece {
-            place: end - len,
+            len,
             scalar: 0,
             kind: number_of(error.kind()),
-            len: len as u8,
         },
     }
 }
 
-// The piece that begins the units, which stand at a place.
+// The piece that begins the units.
 #[inline(always)]
-fn first_of_units(units: &[u16], place: usize) -> NodyPiece
-    requires { 0 < length units.now }
-    ensures piece { result ≡ piece_at pair_number place (as_piece (decoded_pairs units.now)) }
-    ensures least { 1 ≤ result.len }
+fn first_unit(units: &[u16]) -> NodyPiece
+    ensures some { 0 < length units.now → result ≡ first_of_units units.now }
+    ensures none { length units.now ≡ 0 → result ≡ no_piece }
+    ensures least { 0 < length units.now → 1 ≤ result.len }
     ensures most { result.len ≤ length units.now }
 {
     match Utf16CharDecoder::from(units).next() {
         None => none(),
-        Some((_, Ok(c), len)) => NodyPiece {
-            place,
-            scalar: c.to_char() as u32,
-            kind: 0,
-            len: len as u8,
-        },
+        Some((_, Ok(c), len)) => character(c.to_char(), len),
         Some((_, Err(error), len)) => NodyPiece {
-            place,
+            len,
             scalar: 0,
             kind: pair_number_of(error),
-            len: len as u8,
         },
     }
 }
 
-// The piece that ends the units, which end at a place.
+// The piece that ends the units.
 #[inline(always)]
-fn last_of_units(units: &[u16], end: usize) -> NodyPiece
-    requires some { 0 < length units.now }
-    requires end { length units.now ≤ end }
-    ensures piece { result ≡ piece_before pair_number end (as_piece (decoded_pairs_end units.now)) }
-    ensures least { 1 ≤ result.len }
+fn last_unit(units: &[u16]) -> NodyPiece
+    ensures some { 0 < length units.now → result ≡ last_of_units units.now }
+    ensures none { length units.now ≡ 0 → result ≡ no_piece }
+    ensures least { 0 < length units.now → 1 ≤ result.len }
     ensures most { result.len ≤ length units.now }
 {
     match Utf16CharDecoder::from(units).next_back() {
         None => none(),
-        Some((_, Ok(c), len)) => NodyPiece {
-            place: end - len,
-            scalar: c.to_char() as u32,
-            kind: 0,
-            len: len as u8,
-        },
+        Some((_, Ok(c), len)) => character(c.to_char(), len),
         Some((_, Err(error), len)) => NodyPiece {
-            place: end - len,
+            len,
             scalar: 0,
             kind: pair_number_of(error),
-            len: len as u8,
         },
     }
 }
 
-/// A cursor over so many bytes or units, all of them left.
-#[unsafe(no_mangle)]
-pub extern "C" fn nody_cursor(len: usize) -> NodyCursor
-    ensures { result ≡ record { front = 0; back = len } }
-{
-    NodyCursor {
-        front: 0,
-        back: len,
-    }
-}
-
-/// The piece of bytes that begins what the cursor leaves, which then leaves it.
+/// The piece that begins the bytes that are left, which then leaves them.
 #[unsafe(no_mangle)]
 #[tactic(auto, using(utf_base::proofs::DecodedLemmas::decoded_code, utf_base::proofs::DecodedLemmas::front_len_utf8))]
-pub extern "C" fn nody_utf8_next(bytes: &[u8], cursor: &mut NodyCursor) -> NodyPiece
-    ensures { Gives Api.first_of after bytes.now cursor.old result cursor.new }
+pub extern "C" fn nody_utf8_next(left: &mut NodyBytes<'_>) -> NodyPiece
+    ensures { Gives first_of after left.old.bytes.now result left.new.bytes.now }
 {
-    let place = cursor.front;
-    if cursor.back <= place || bytes.len() < cursor.back {
-        return none();
-    }
-    let Some((c, len)) = front_of_text(&bytes[place..cursor.back]) else {
-        return next_with_care(bytes, cursor);
-    };
-    cursor.front = place + len;
-    NodyPiece {
-        place,
-        scalar: c as u32,
-        kind: 0,
-        len: len as u8,
+    match front_of_text(left.bytes) {
+        Some((c, len)) => {
+            left.bytes = &left.bytes[len..];
+            character(c, len)
+        }
+        None => anew(next_with_care(left)),
     }
 }
 
-// The same where the cursor leaves some of the bytes, which may be anything.
+// The same of bytes that may be anything.
 #[inline(never)]
-fn next_with_care(bytes: &[u8], cursor: &mut NodyCursor) -> NodyPiece
-    requires { LeavesSome cursor.old (length bytes.now) }
-    ensures { Gives Api.first_of after bytes.now cursor.old result cursor.new }
+fn next_with_care(left: &mut NodyBytes<'_>) -> NodyPiece
+    ensures { Gives first_of after left.old.bytes.now result left.new.bytes.now }
 {
-    let piece = first_with_care(&bytes[cursor.front..cursor.back], cursor.front);
-    cursor.front += piece.len as usize;
+    let piece = first_with_care(left.bytes);
+    left.bytes = &left.bytes[piece.len..];
     piece
 }
 
-// The same, kept in the loop that calls it.
-#[inline(always)]
-fn next(bytes: &[u8], cursor: &mut NodyCursor) -> NodyPiece
-    ensures { Gives Api.first_of after bytes.now cursor.old result cursor.new }
-{
-    if cursor.back <= cursor.front || bytes.len() < cursor.back {
-        return none();
-    }
-    let piece = first(&bytes[cursor.front..cursor.back], cursor.front);
-    cursor.front += piece.len as usize;
-    piece
-}
-
-/// The piece of bytes that ends what the cursor leaves, which then leaves it.
+/// The piece that ends the bytes that are left, which then leaves them.
 #[unsafe(no_mangle)]
-pub extern "C" fn nody_utf8_next_back(bytes: &[u8], cursor: &mut NodyCursor) -> NodyPiece
-    ensures { Gives Api.last_of before bytes.now cursor.old result cursor.new }
+pub extern "C" fn nody_utf8_next_back(left: &mut NodyBytes<'_>) -> NodyPiece
+    ensures { Gives last_of before left.old.bytes.now result left.new.bytes.now }
 {
-    if cursor.back <= cursor.front || bytes.len() < cursor.back {
-        return none();
-    }
-    let piece = last(&bytes[cursor.front..cursor.back], cursor.back);
-    cursor.back -= piece.len as usize;
+    let piece = last(left.bytes);
+    left.bytes = &left.bytes[..left.bytes.len() - piece.len];
     piece
 }
 
-/// The piece of units that begins what the cursor leaves, which then leaves it.
+/// The piece that begins the units that are left, which then leaves them.
 #[unsafe(no_mangle)]
-pub extern "C" fn nody_utf16_next(units: &[u16], cursor: &mut NodyCursor) -> NodyPiece
-    ensures { Gives Api.first_of_units after units.now cursor.old result cursor.new }
+pub extern "C" fn nody_utf16_next(left: &mut NodyUnits<'_>) -> NodyPiece
+    ensures { Gives first_of_units after left.old.units.now result left.new.units.now }
 {
-    if cursor.back <= cursor.front || units.len() < cursor.back {
-        return none();
-    }
-    let piece = first_of_units(&units[cursor.front..cursor.back], cursor.front);
-    cursor.front += piece.len as usize;
+    let piece = first_unit(left.units);
+    left.units = &left.units[piece.len..];
     piece
 }
 
-/// The piece of units that ends what the cursor leaves, which then leaves it.
+/// The piece that ends the units that are left, which then leaves them.
 #[unsafe(no_mangle)]
-pub extern "C" fn nody_utf16_next_back(units: &[u16], cursor: &mut NodyCursor) -> NodyPiece
-    ensures { Gives Api.last_of_units before units.now cursor.old result cursor.new }
+pub extern "C" fn nody_utf16_next_back(left: &mut NodyUnits<'_>) -> NodyPiece
+    ensures { Gives last_of_units before left.old.units.now result left.new.units.now }
 {
-    if cursor.back <= cursor.front || units.len() < cursor.back {
-        return none();
-    }
-    let piece = last_of_units(&units[cursor.front..cursor.back], cursor.back);
-    cursor.back -= piece.len as usize;
+    let piece = last_unit(left.units);
+    left.units = &left.units[..left.units.len() - piece.len];
     piece
 }
 
-// The first answer of a merger over the bytes, which stand at a place.
-fn first_merged(bytes: &[u8], place: usize) -> NodyPiece
+// The first answer of a merger over the bytes.
+fn merged(bytes: &[u8]) -> NodyPiece
     requires { 0 < length bytes.now }
-    ensures { result ≡ piece_at kind_number place (merged bytes.now) }
+    ensures { result ≡ first_merged bytes.now }
 {
     match Utf8CharMerger::from(bytes.iter().copied()).next() {
         None => none(),
         Some(Ok(c)) => NodyPiece {
-            place,
+            len: c.len(),
             scalar: c.to_char() as u32,
             kind: 0,
-            len: c.len() as u8,
         },
         Some(Err(error)) => NodyPiece {
-            place,
+            len: 1,
             scalar: 0,
             kind: number_of(error.kind()),
-            len: 1,
         },
     }
 }
@@ -288,12 +243,12 @@ fn first_merged(bytes: &[u8], place: usize) -> NodyPiece
 /// The piece of bytes that begins at a place, as a reader of one byte at a time names it.
 #[unsafe(no_mangle)]
 pub extern "C" fn nody_utf8_merged(bytes: &[u8], place: usize) -> NodyPiece
-    ensures some { place < length bytes.now → result ≡ piece_at kind_number place (merged (drop place bytes.now)) }
+    ensures some { place < length bytes.now → result ≡ first_merged (drop place bytes.now) }
     ensures run { IsMergedPiece bytes.now place result }
     ensures none { length bytes.now ≤ place → result ≡ no_piece }
 {
     if place < bytes.len() {
-        first_merged(&bytes[place..], place)
+        merged(&bytes[place..])
     } else {
         none()
     }
@@ -302,99 +257,75 @@ pub extern "C" fn nody_utf8_merged(bytes: &[u8], place: usize) -> NodyPiece
 /// The character that begins some bytes, or what is wrong with the first of them.
 #[unsafe(no_mangle)]
 pub extern "C" fn nody_utf8_first(bytes: &[u8]) -> NodyPiece
-    ensures some { 0 < length bytes.now → result ≡ piece_at kind_number 0 (as_piece (decoded bytes.now)) }
+    ensures some { 0 < length bytes.now → result ≡ first_of bytes.now }
     ensures none { length bytes.now ≡ 0 → result ≡ no_piece }
 {
-    if bytes.is_empty() {
-        none()
-    } else {
-        first(bytes, 0)
-    }
+    first(bytes)
 }
 
 /// The character that ends some bytes, or what is wrong with the last of them.
 #[unsafe(no_mangle)]
 pub extern "C" fn nody_utf8_last(bytes: &[u8]) -> NodyPiece
-    ensures some { 0 < length bytes.now → result ≡ piece_before kind_number (length bytes.now) (as_piece (decoded_end bytes.now)) }
+    ensures some { 0 < length bytes.now → result ≡ last_of bytes.now }
     ensures none { length bytes.now ≡ 0 → result ≡ no_piece }
 {
-    if bytes.is_empty() {
-        none()
-    } else {
-        last(bytes, bytes.len())
-    }
+    last(bytes)
 }
 
 /// The character that begins some units, or what is wrong with the first of them.
 #[unsafe(no_mangle)]
 pub extern "C" fn nody_utf16_first(units: &[u16]) -> NodyPiece
-    ensures some { 0 < length units.now → result ≡ piece_at pair_number 0 (as_piece (decoded_pairs units.now)) }
+    ensures some { 0 < length units.now → result ≡ first_of_units units.now }
     ensures none { length units.now ≡ 0 → result ≡ no_piece }
 {
-    if units.is_empty() {
-        none()
-    } else {
-        first_of_units(units, 0)
-    }
+    first_unit(units)
 }
 
 /// The character that ends some units, or what is wrong with the last of them.
 #[unsafe(no_mangle)]
 pub extern "C" fn nody_utf16_last(units: &[u16]) -> NodyPiece
-    ensures some { 0 < length units.now → result ≡ piece_before pair_number (length units.now) (as_piece (decoded_pairs_end units.now)) }
+    ensures some { 0 < length units.now → result ≡ last_of_units units.now }
     ensures none { length units.now ≡ 0 → result ≡ no_piece }
 {
-    if units.is_empty() {
-        none()
-    } else {
-        last_of_units(units, units.len())
-    }
+    last_unit(units)
 }
 
-/// Puts into the array the pieces of bytes that begin what the cursor leaves, as many as there are or as there is room
-/// for, and answers how many.
+/// Puts into the array the pieces that begin the bytes that are left, one after another, as many as there are or as there
+/// is room for, and answers how many. These then leave the bytes.
 #[unsafe(no_mangle)]
-pub extern "C" fn nody_utf8_pieces(
-    bytes: &[u8],
-    cursor: &mut NodyCursor,
-    room: &mut [NodyPiece],
-) -> usize
+pub extern "C" fn nody_utf8_pieces(left: &mut NodyBytes<'_>, room: &mut [NodyPiece]) -> usize
     ensures within { result ≤ length room.old }
-    ensures each { GivesEach Api.first_of bytes.now cursor.old (take result room.new) cursor.new }
+    ensures each { GivesEach first_of left.old.bytes.now (take result room.new) left.new.bytes.now }
     ensures rest { drop result room.new ≡ drop result room.old }
-    ensures over { result < length room.old → ¬ LeavesSome cursor.new (length bytes.now) }
+    ensures over { result < length room.old → length left.new.bytes.now ≡ 0 }
 {
-    let mut left = *cursor;
+    let mut bytes = left.bytes;
     let mut count = 0;
     while count < room.len() {
-        let piece = next(bytes, &mut left);
+        let piece = first(bytes);
         if piece.len == 0 {
-            *cursor = left;
+            left.bytes = bytes;
             return count;
         }
+        bytes = &bytes[piece.len..];
         room[count] = piece;
         count += 1;
     }
-    *cursor = left;
+    left.bytes = bytes;
     count
 }
 
-/// Puts into the array the pieces of units that begin what the cursor leaves, as many as there are or as there is room
-/// for, and answers how many.
+/// The same of units.
 #[unsafe(no_mangle)]
-pub extern "C" fn nody_utf16_pieces(
-    units: &[u16],
-    cursor: &mut NodyCursor,
-    room: &mut [NodyPiece],
-) -> usize
+pub extern "C" fn nody_utf16_pieces(left: &mut NodyUnits<'_>, room: &mut [NodyPiece]) -> usize
     ensures within { result ≤ length room.old }
-    ensures each { GivesEach Api.first_of_units units.now cursor.old (take result room.new) cursor.new }
+    ensures each { GivesEach first_of_units left.old.units.now (take result room.new) left.new.units.now }
     ensures rest { drop result room.new ≡ drop result room.old }
-    ensures over { result < length room.old → ¬ LeavesSome cursor.new (length units.now) }
+    ensures over { result < length room.old → length left.new.units.now ≡ 0 }
 {
     let mut count = 0;
     while count < room.len() {
-        let piece = nody_utf16_next(units, cursor);
+        let piece = nody_utf16_next(left);
         if piece.len == 0 {
             return count;
         }

@@ -4,8 +4,7 @@ ghost use Rattle.cuts.specs.Recoded.{Lacks};
 ghost use Rattle.cuts.specs.Rooms.{FeedsInto, FinishesInto, IsFull, IsLastFull, most_bytes};
 ghost use Rattle.c_api.specs.Api.{form_of, IsRecoder, recoder_of};
 
-use cuts::form::Form;
-use cuts::{Recoder, room_for};
+use cuts::{Form, Recoder, room_for};
 
 /// A recoder, which the caller keeps.
 #[repr(C)]

@@ -103,7 +103,7 @@ fn is_interrupted(first: u8, place: usize, len: usize) -> bool
 }
 
 #[test]
-fn each_byte_behind_the_first_has_to_continue(rt: HostRuntime) {
+fn each_byte_after_the_first_has_to_continue(rt: HostRuntime) {
     for (lowest, highest, len) in [(0xc2, 0xdf, 2), (0xe0, 0xef, 3), (0xf0, 0xf4, 4)] {
         assert!(rt; len <= 4);
         for first in lowest..=highest {

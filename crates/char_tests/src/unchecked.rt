@@ -1,4 +1,4 @@
-//! The forms that ask their caller, called on codes that are known.
+//! The calls that ask their caller, called on codes that are known.
 ghost use Rattle.encode_unicode.specs.Decoded.{DecodesWhole};
 
 use crate::edges::Edge;
@@ -51,7 +51,7 @@ fn of_own_tuple(c: char) -> [Utf16Char; 2] {
     [padded, Utf16Char::from_tuple_unchecked((first, None))]
 }
 
-// Whether each form that asks its caller gives the character of the row.
+// Whether each call that asks its caller gives the character of the row.
 pub(crate) fn answer_unchecked(edge: &Edge) -> bool {
     let (c, _, bytes, units) = *edge;
     let (in_bytes, in_units) = (c.to_utf8(), c.to_utf16());

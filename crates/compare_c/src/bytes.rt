@@ -20,7 +20,7 @@ pub extern "C" fn compare_c_byte(byte: u8, answers: &mut [u64]) -> usize {
     sheet.finish()
 }
 
-/// Four bytes as an array, of `char` and of `Utf8Char`, and then each of their beginnings.
+/// Four bytes as an array, of `char` and of `Utf8Char`, and then each of their fronts.
 #[unsafe(no_mangle)]
 pub extern "C" fn compare_c_four_bytes(
     first: u8,

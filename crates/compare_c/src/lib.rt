@@ -20,6 +20,7 @@ mod mergers;
 mod numbers;
 mod pairs;
 mod recoding;
+mod rooms;
 mod runs;
 mod sheet;
 mod shown;

@@ -1,6 +1,5 @@
 //! Recoding, in parts.
-use cuts::form::Form;
-use cuts::recoder::Recoder;
+use cuts::{Form, Recoder};
 use std::alloc::{AllocError, Global};
 
 /// What the recoder makes of some bytes: fed in parts of these lengths, each as far as there are bytes, and then
@@ -46,7 +45,7 @@ fn recode(
     }
 }
 
-fn form_of(number: u32) -> Form {
+pub(crate) fn form_of(number: u32) -> Form {
     match number {
         0 => Form::Utf8,
         1 => Form::Utf16Le,

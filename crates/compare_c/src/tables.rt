@@ -4,7 +4,7 @@
 //! replaced there, where there are so many, and the two bytes that take their place, the first alone where
 //! the second is 0.
 use crate::sheet::Sheet;
-use cuts::piece_table::PieceTable;
+use cuts::PieceTable;
 use encode_unicode::Steps;
 use std::alloc::{AllocError, Global};
 

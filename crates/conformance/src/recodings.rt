@@ -1,8 +1,7 @@
 //! The rows of recoded bytes, and the ways of feeding them that are held against the rows.
 
 use crate::rows::parse_bytes;
-use cuts::form::Form;
-use cuts::recoder::Recoder;
+use cuts::{Form, Recoder};
 use std::alloc::{AllocError, Global};
 use std::io;
 use std::io::ErrorKind;

@@ -1,6 +1,6 @@
 //! The rows of a file of vectors.
 
-use cuts::items::End;
+use cuts::End;
 use std::alloc::Global;
 use std::io;
 use std::io::ErrorKind;

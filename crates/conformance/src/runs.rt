@@ -1,9 +1,7 @@
 //! The kinds of run that are held against the vectors.
 
 use crate::rows::Row;
-use cuts::counted::Counted;
-use cuts::listing::write_listing;
-use cuts::walks::walk_utf8;
+use cuts::{Counted, walk_utf8, write_listing};
 use encode_unicode::error::Utf8Error;
 use encode_unicode::{CharExt, U8IterExt, U8SliceExt, Utf8Char};
 use std::alloc::{AllocError, Global};

@@ -1,8 +1,7 @@
 //! The rows of units, and the kinds of run that are held against them.
 
 use crate::rows::{digit, parse_word};
-use cuts::items::End;
-use cuts::walks::walk_utf16;
+use cuts::{End, walk_utf16};
 use encode_unicode::error::Utf16PairError;
 use encode_unicode::{U16IterExt, U16SliceExt};
 use std::alloc::{AllocError, Global};

@@ -4,7 +4,7 @@ use Rattle.std.specs.Prelude.{◌≡◌, ℕ, ◌+◌, ◌-◌, ◌^◌, ◌<◌
 use Rattle.utf_base.specs.Code.{utf8}
 use Rattle.utf_base.specs.Piece.{Inside, Piece, IsPiece, IsCutBetween}
 use Rattle.encode_unicode.specs.Window.{Item}
-use Rattle.cuts.specs.Runs.{IsForwardRun}
+use Rattle.cuts.specs.Programs.Listings.{IsForwardRun}
 
 -- what callers see of a table
 pub record Table : Type 0 where
@@ -46,7 +46,7 @@ pub record WereReplaced (ys : List ℕ) (s e t : ℕ) (items : List Item) : Type
 pub record IsSplitAt (items : List Item) (m k : ℕ) : Type 0 where
   pub within : k ≤ length items
   pub before : AllWithin (λ x. x.0 < m) items 0 k
-  pub behind : AllWithin (λ x. m ≤ x.0) items k (length items)
+  pub following : AllWithin (λ x. m ≤ x.0) items k (length items)
 
 -- the place at which the first k of the items end, 0 where these are none
 abbrev pub EndsAt : List Item → ℕ → ℕ → Type 0

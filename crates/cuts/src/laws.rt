@@ -1,12 +1,12 @@
 //! The laws of recoding, and of whole runs over bytes.
 //!
 //! Each function does nothing: its contract is the law.
-ghost use Rattle.cuts.specs.Runs.{PiecesAreTheRun, TextHasNoFault};
-ghost use Rattle.cuts.specs.Shards.{ShardsJoin};
-ghost use Rattle.cuts.specs.Recoded.{RecodedOnce, PartsAreRecoded, PartsDoNotMatter};
-ghost use Rattle.cuts.specs.Bounds.{RecodedIsBounded, LossyIsBounded, FeedsInRoom, RoomIsLeft, FinishesInRoom};
-ghost use Rattle.cuts.specs.EqualRuns.{OneRun, OneMergedRun};
-ghost use Rattle.cuts.specs.Fed.{NothingIsFed, PartIsFed, FedIsFront, FedIsRecoded};
+ghost use Rattle.cuts.specs.Programs.Listings.{PiecesAreTheRun, TextHasNoFault};
+ghost use Rattle.cuts.specs.Recoding.Shards.{ShardsJoin};
+ghost use Rattle.cuts.specs.Recoding.Recoded.{RecodedOnce, PartsAreRecoded, PartsDoNotMatter};
+ghost use Rattle.cuts.specs.Recoding.Bounds.{RecodedIsBounded, LossyIsBounded, FeedsInRoom, RoomIsLeft, FinishesInRoom};
+ghost use Rattle.cuts.specs.Runs.EqualRuns.{OneRun, OneMergedRun};
+ghost use Rattle.cuts.specs.Recoding.Fed.{NothingIsFed, PartIsFed, FedIsFront, FedIsRecoded};
 ghost use Rattle.utf_base.specs.Code.{utf8, utf16};
 ghost use Rattle.utf_base.specs.Kinds.{fault_kind, merger_kind};
 ghost use Rattle.utf_base.specs.Units.{unit_fault_kind};

@@ -1,45 +1,35 @@
-//! Whole runs over bytes, and what the programs do.
+//! Whole runs over bytes and units, recoding, and what the programs do, over the calls of `encode_unicode`.
+//!
+//! - Runs: `walk_utf8` and `walk_utf16` ask from both ends, `forward_utf16` from the front; `merge_utf8` and
+//!   `merge_utf16` collect what a merger answers; `valid_up_to` and `units_valid_up_to` find the first fault.
+//! - Tables: `PieceTable` keeps the pieces of bytes that are edited.
+//! - Recoding: `Recoder` takes text in parts, `recode` from a reader to a writer; `room_for` says how much comes of some
+//!   bytes at most, and `shard_end` where a large input may be cut; `front_of_text` gives one character.
+//! - Programs: `write_listing`, `write_merged` and `write_walk` write lines, and `run_pieces` and `run_recode` are one
+//!   run each. Their `main`s are in `programs::mains`.
+//! - `Counted` counts the failures of a reader or writer, and `laws` has what holds of all runs.
 #![tactic(auto)]
 
-mod code_puts;
-pub mod collected;
 pub mod counted;
-mod entries;
-pub mod form;
-pub mod items;
 pub mod laws;
-mod line;
-pub mod listing;
 pub mod piece_table;
 pub mod programs;
-pub mod recoder;
-mod recoder_rooms;
-mod recoder_runs;
 pub mod recoding;
-mod requests;
-mod room_puts;
-mod room_runs;
-pub mod rooms;
 pub mod runs;
-pub mod shards;
-mod shown_fronts;
 pub mod streams;
-mod text_blocks;
-pub mod text_front;
-pub mod walks;
-pub mod well_formed;
 
-pub use collected::{forward_utf16, merge_utf8, merge_utf16};
 pub use counted::Counted;
-pub use form::Form;
-pub use items::{End, Item, UnitItem};
-pub use listing::{write_listing, write_merged, write_walk};
 pub use piece_table::PieceTable;
-pub use recoder::{Progress, Recoder, Unfinished};
-pub use recoding::{RecodeFault, recode, run_recode};
-pub use rooms::room_for;
-pub use runs::run_pieces;
-pub use shards::shard_end;
-pub use text_front::front_of_text;
-pub use walks::{walk_utf8, walk_utf16};
-pub use well_formed::{units_valid_up_to, valid_up_to};
+pub use programs::listing::{write_listing, write_merged, write_walk};
+pub use programs::pieces_program::run_pieces;
+pub use programs::recode_program::run_recode;
+pub use recoding::form::Form;
+pub use recoding::recoder::{Progress, Recoder, Unfinished};
+pub use recoding::relayed::{RecodeFault, recode};
+pub use recoding::rooms::room_for;
+pub use recoding::shards::shard_end;
+pub use recoding::text_front::front_of_text;
+pub use runs::collected::{forward_utf16, merge_utf8, merge_utf16};
+pub use runs::items::{End, Item, UnitItem};
+pub use runs::walks::{walk_utf8, walk_utf16};
+pub use runs::well_formed::{units_valid_up_to, valid_up_to};

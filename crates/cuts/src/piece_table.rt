@@ -5,10 +5,10 @@ ghost use Rattle.std.specs.Prelude.{◌≡◌, ◌+◌, ◌-◌, ◌^◌, ◌<�
 ghost use Rattle.utf_base.specs.Code.{utf8};
 ghost use Rattle.utf_base.specs.Piece.{Inside};
 ghost use Rattle.encode_unicode.specs.Window.{Item as AnItem, IsFrontPiece};
-ghost use Rattle.cuts.specs.Runs.{IsForwardRun, IsForwardRunBetween};
+ghost use Rattle.cuts.specs.Programs.Listings.{IsForwardRun, IsForwardRunBetween};
 ghost use Rattle.cuts.specs.Tables.{StayAround, StepForEach, WereReplaced, IsSpot, IsRenewed, IsSplitAt, EndsAt, IsRestMoved, moved_item};
 
-use crate::items::Item;
+use crate::runs::items::Item;
 use encode_unicode::{Steps, Utf8Char};
 use std::alloc::{AllocError, Allocator};
 use std::marker::Model;
@@ -23,7 +23,7 @@ pub struct PieceTable<A: Allocator + Copy> {
 }
 
 impl<A: Allocator + Copy> Model for PieceTable<A> {
-    ghost use Rattle.cuts.specs.Runs.{IsForwardRun};
+    ghost use Rattle.cuts.specs.Programs.Listings.{IsForwardRun};
     ghost use Rattle.cuts.specs.Tables.{Table};
 
     ghost Value = { Table };

@@ -1,5 +1,5 @@
 -- What a merger of bytes answers for the byte that has left it.
-use Rattle.std.proofs.Common.{◌≡◌, ℕ, suc, ◌<◌, ◌≤◌, List, [], ◌∷◌, ◌++◌, length, get_or, Some, None, Ok, Err, Bool, true, false, refl, ap, sym, ◌∙◌, arith, ⊎_elim, append-nil, length-append, lit<}
+use Rattle.std.proofs.Common.{◌≡◌, ℕ, suc, ◌<◌, ◌≤◌, List, [], ◌∷◌, ◌++◌, length, get_or, Some, None, Ok, Err, Bool, true, false, refl, ap, sym, ◌∙◌, arith, ⊎_elim, append-nil, length-append, lit<, ◌⊎◌}
 use Rattle.std.proofs.lemmas.Bool.{cases_lt}
 use Rattle.std.proofs.lemmas.Grind.{common_steps}
 use Rattle.std.specs.Iterator.{Count, YieldsFirst}
@@ -7,16 +7,16 @@ use Rattle.std.specs.Prelude.{Option, Result}
 use Rattle.utf_base.specs.declared.errors.Utf8ErrorKind.{Utf8ErrorKind}
 use Rattle.utf_base.specs.Code.{utf8}
 use Rattle.utf_base.specs.Kinds.{asked, fault_kind, is_continuation, merger_kind, value}
-use Rattle.utf_base.specs.Decoded.{decoded_bytes, unless_fault}
+use Rattle.utf_base.specs.Decoded.{decoded_bytes}
 use Rattle.utf_base.specs.declared.errors.Utf8ErrorKind.TheVariants.{TooFewBytes}
 use Rattle.utf_base.specs.Scalar.{IsScalar}
 use Rattle.utf_chars.specs.Padded.{padded}
-use Rattle.utf_chars.proofs.PaddedLemmas.{IsPadded-padded, value-padded}
+use Rattle.utf_chars.proofs.PaddedLemmas.{IsPadded_padded, value_padded}
 use Rattle.utf_base.proofs.MergerLemmas.{kind_of_front, few-1}
 use Rattle.utf_base.proofs.Utf8Code.{utf8-first}
 use Rattle.encode_unicode.specs.Mergers.{IsHeldBytes}
-use Rattle.encode_unicode.specs.Reading.{Answers, Completes, CompletesBehind, JudgesBytes, Reads}
-use Rattle.encode_unicode.proofs.MergerSteps.{reads_none, reads_more}
+use Rattle.encode_unicode.specs.Reading.{Answers, Completes, CompletesAfter, JudgesBytes, Reads}
+use Rattle.encode_unicode.proofs.MergerSteps.{reads_none, reads_more, value_of_answer}
 
 pub asks_two : (b : ℕ) → 0xC2 ≤ b → b < 0xF5 → 2 ≤ asked b
 unfolding asked
@@ -64,13 +64,8 @@ held_rest old new (Some x) h held =
 no_continuation : (b s : ℕ) → IsScalar s → b ∷ [] ≡ utf8 s → is_continuation b ≡ false
 no_continuation b s scalar e =
     let first : b ≡ get_or (utf8 s) 0 0 = ap (λ xs. get_or xs 0 0) e in
-    ⊎_elim (λ lt. below b (omega arith)) (λ ge. above b (omega arith)) (utf8-first s scalar)
-  where
-    below : (b : ℕ) → b < 0x80 → is_continuation b ≡ false
-    below b h = grind (arith, common_steps)
-
-    above : (b : ℕ) → 0xC2 ≤ b → is_continuation b ≡ false
-    above b h = grind (arith, common_steps)
+    let range : (b < 0x80) ⊎ (0xC2 ≤ b) = rw first (utf8-first s scalar) in
+    grind (arith, common_steps)
 
 pub byte_alone : {S : Type 0} (can_next : S → Type 0) (remaining : S → Count) (steps : S → Option ℕ → S → Type 0) (first : ℕ) (old : List ℕ) (s : S) (e : Bool) (r : Result ℕ Utf8ErrorKind)
     → (e ≡ false → can_next s) → asked first ≤ 1 → (is_continuation first ≡ false → old ≡ []) → JudgesBytes (first ∷ []) r
@@ -94,11 +89,11 @@ byte_alone can_next remaining steps first old s e (Err k) can few alone j = reco
 
 -- An answer, as it completes the first byte.
 
-completes_ok : {S : Type 0} (can_next : S → Type 0) (remaining : S → Count) (steps : S → Option ℕ → S → Type 0) (first : ℕ) (old followers : List ℕ) (c : ℕ) (s t : S) (e f : Bool) (new : List ℕ)
-    → IsScalar c → first ∷ followers ≡ padded 4 (utf8 c) → Answers utf8 merger_kind can_next remaining steps first old s e (Ok c) new t f
-    → Completes can_next remaining steps first old s e (Ok followers) new t f
-completes_ok can_next remaining steps first old followers c s t e f new scalar bytes a = record {
-  answers = (IsPadded-padded (first ∷ followers) c scalar bytes, rw (value-padded (first ∷ followers) c scalar bytes) a);
+completes_ok : {S : Type 0} (can_next : S → Type 0) (remaining : S → Count) (steps : S → Option ℕ → S → Type 0) (first : ℕ) (old continuation_bytes : List ℕ) (c : ℕ) (s t : S) (e f : Bool) (new : List ℕ)
+    → IsScalar c → first ∷ continuation_bytes ≡ padded 4 (utf8 c) → Answers utf8 merger_kind can_next remaining steps first old s e (Ok c) new t f
+    → Completes can_next remaining steps first old s e (Ok continuation_bytes) new t f
+completes_ok can_next remaining steps first old continuation_bytes c s t e f new scalar bytes a = record {
+  answers = (IsPadded_padded (first ∷ continuation_bytes) c scalar bytes, rw (value_padded (first ∷ continuation_bytes) c scalar bytes) a);
   held = rw a.clear held_none;
 }
 
@@ -121,11 +116,11 @@ begins_alone b h = grind (arith, common_steps)
 -- After what was read before.
 
 -- a code, whose last byte is b
-pub code_after : {S : Type 0} (can_next : S → Type 0) (remaining : S → Count) (steps : S → Option ℕ → S → Type 0) (first : ℕ) (before : List ℕ) (b c : ℕ) (followers : List ℕ) (u t : S) (new : List ℕ) (f : Bool)
-    → Reads can_next remaining steps u false (b ∷ []) t false → IsScalar c → first ∷ before ++ b ∷ [] ≡ utf8 c → first ∷ followers ≡ padded 4 (utf8 c) → new ≡ [] → f ≡ false
-    → CompletesBehind can_next remaining steps first before u (Ok followers) new t f
-code_after can_next remaining steps first before b c followers u t new f reads scalar code bytes none going s so_far =
-    completes_ok can_next remaining steps first [] followers c s t false f new scalar bytes
+pub code_after : {S : Type 0} (can_next : S → Type 0) (remaining : S → Count) (steps : S → Option ℕ → S → Type 0) (first : ℕ) (before : List ℕ) (b c : ℕ) (continuation_bytes : List ℕ) (u t : S) (new : List ℕ) (f : Bool)
+    → Reads can_next remaining steps u false (b ∷ []) t false → IsScalar c → first ∷ before ++ b ∷ [] ≡ utf8 c → first ∷ continuation_bytes ≡ padded 4 (utf8 c) → new ≡ [] → f ≡ false
+    → CompletesAfter can_next remaining steps first before u (Ok continuation_bytes) new t f
+code_after can_next remaining steps first before b c continuation_bytes u t new f reads scalar code bytes none going s so_far =
+    completes_ok can_next remaining steps first [] continuation_bytes c s t false f new scalar bytes
     (record {
       more = before ++ b ∷ [];
       reads = rw going (reads_more can_next remaining steps s u t false false false before (b ∷ []) so_far reads);
@@ -137,7 +132,7 @@ code_after can_next remaining steps first before b c followers u t new f reads s
 -- no code, as the byte b shows, which is held after the others
 pub fault_after : {S : Type 0} (can_next : S → Type 0) (remaining : S → Count) (steps : S → Option ℕ → S → Type 0) (first : ℕ) (before : List ℕ) (b : ℕ) (k : Utf8ErrorKind) (u t : S) (new : List ℕ) (f : Bool)
     → Reads can_next remaining steps u false (b ∷ []) t false → ((later : List ℕ) → merger_kind (first ∷ (before ++ b ∷ []) ++ later) ≡ Some k) → IsHeldBytes (before ++ b ∷ []) → new ≡ before ++ b ∷ [] → f ≡ false
-    → CompletesBehind can_next remaining steps first before u (Err k) new t f
+    → CompletesAfter can_next remaining steps first before u (Err k) new t f
 fault_after can_next remaining steps first before b k u t new f reads kind held same going s so_far =
     let len : length new ≡ length (before ++ b ∷ []) = ap length same in
     record {
@@ -154,7 +149,7 @@ fault_after can_next remaining steps first before b k u t new f reads kind held 
 -- no code, since the source has ended
 pub end_after : {S : Type 0} (can_next : S → Type 0) (remaining : S → Count) (steps : S → Option ℕ → S → Type 0) (first : ℕ) (before : List ℕ) (k : Utf8ErrorKind) (u t : S) (new : List ℕ) (f : Bool)
     → Reads can_next remaining steps u false [] t true → merger_kind (first ∷ before) ≡ Some k → IsHeldBytes before → new ≡ before → f ≡ true
-    → CompletesBehind can_next remaining steps first before u (Err k) new t f
+    → CompletesAfter can_next remaining steps first before u (Err k) new t f
 end_after can_next remaining steps first before k u t new f reads kind held same mark s so_far =
     let len : length new ≡ length before = ap length same in
     record {
@@ -204,14 +199,10 @@ four_padded a b d g c e = rw (← e) refl
 
 -- The character of four bytes that are its own.
 
-pub value_of_answer : {A E : Type 0} (fault : Option E) (x c : A) → unless_fault fault x ≡ Ok c → x ≡ c
-value_of_answer None x c h = cc
-value_of_answer (Some e) x c h = cc
-
-pub known_bytes : {S : Type 0} (can_next : S → Type 0) (remaining : S → Count) (steps : S → Option ℕ → S → Type 0) (first : ℕ) (followers old : List ℕ) (c : ℕ) (s t : S) (e f : Bool) (new : List ℕ)
-    → Completes can_next remaining steps first old s e (Ok followers) new t f → decoded_bytes (first ∷ followers) ≡ Ok c
+pub known_bytes : {S : Type 0} (can_next : S → Type 0) (remaining : S → Count) (steps : S → Option ℕ → S → Type 0) (first : ℕ) (continuation_bytes old : List ℕ) (c : ℕ) (s t : S) (e f : Bool) (new : List ℕ)
+    → Completes can_next remaining steps first old s e (Ok continuation_bytes) new t f → decoded_bytes (first ∷ continuation_bytes) ≡ Ok c
     → Answers utf8 merger_kind can_next remaining steps first old s e (Ok c) new t f
 unfolding decoded_bytes
-known_bytes can_next remaining steps first followers old c s t e f new h known =
-    let is : value (first ∷ followers) ≡ c = value_of_answer (fault_kind (first ∷ followers)) _ c known in
+known_bytes can_next remaining steps first continuation_bytes old c s t e f new h known =
+    let is : value (first ∷ continuation_bytes) ≡ c = value_of_answer (fault_kind (first ∷ continuation_bytes)) _ c known in
     rw (← is) h.answers.1

@@ -9,7 +9,7 @@ use Rattle.std.proofs.lemmas.List.{map-id, take_all}
 use Rattle.std.proofs.lemmas.List.Sums.{sum_by-cons}
 use Rattle.encode_unicode.specs.Pieces.{chars_left}
 use Rattle.encode_unicode.specs.TextWindow.{BackScalar}
-use Rattle.encode_unicode.specs.Window.{Window, elements, whole_window}
+use Rattle.encode_unicode.specs.Window.{Window, whole_window}
 use Rattle.encode_unicode.proofs.PieceRuns.{scalars_last}
 
 -- the last item of a chain whose list is known

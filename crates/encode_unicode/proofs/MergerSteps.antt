@@ -1,7 +1,8 @@
 -- What one call of a merger reads and answers. All of it is generic in the code.
-use Rattle.std.proofs.Common.{◌≡◌, ℕ, suc, subst, List, [], ◌∷◌, ◌++◌, Some, None, Bool, true, false, length, refl, ap, sym, ◌∙◌, arith, length-append, append_assoc, append-nil}
+use Rattle.std.proofs.Common.{◌≡◌, ℕ, suc, subst, List, [], ◌∷◌, ◌++◌, Some, None, Ok, Bool, true, false, length, refl, ap, sym, ◌∙◌, arith, length-append, append_assoc, append-nil}
 use Rattle.std.specs.Iterator.{Count, MakesProgress}
 use Rattle.std.specs.Prelude.{Option, Result, MatchOption}
+use Rattle.utf_base.specs.Decoded.{unless_fault}
 use Rattle.encode_unicode.specs.Mergers.{Merging, MergerNext, TakesFront, still, unread_count}
 use Rattle.encode_unicode.specs.Reading.{Answers, Reads, TakesFirst}
 
@@ -106,3 +107,8 @@ first_nearer Held can_next remaining steps old s e (Some x) new t f h = record {
   keeps = h.reads.can;
   rests = λ finite. tt;
 }
+
+-- the value of what is no fault
+pub value_of_answer : {A E : Type 0} (fault : Option E) (x c : A) → unless_fault fault x ≡ Ok c → x ≡ c
+value_of_answer None x c h = cc
+value_of_answer (Some e) x c h = cc

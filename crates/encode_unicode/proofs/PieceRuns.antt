@@ -5,30 +5,31 @@ use Rattle.std.specs.Iterator.Runs.{Run, EveryRun, EachRunFrom, WholeRun, AllIte
 use Rattle.std.proofs.iter.runs.Lists.{Everywhere}
 use Rattle.std.proofs.iter.runs.Made.{took, each}
 use Rattle.std.proofs.iter.runs.Sources.{as_is, as_is_back, from_back, from_front}
-use Rattle.std.specs.List.{flat_map}
+use Rattle.std.specs.List.{flat_map, fold}
 use Rattle.std.specs.Prelude.{IfOk, encode_utf8_all, slice_index, slice_range, option_map}
 use Rattle.std.specs.Str.{chars, IsCharBoundary, IsUtf8}
 use Rattle.std.proofs.lemmas.Grind.{common_steps}
-use Rattle.std.proofs.lemmas.Str.{IsCharBoundary-start, IsUtf8-append, chars-append, chars-nil, chars_past_char, encodes-chars}
+use Rattle.std.proofs.lemmas.Str.{IsCharBoundary-end, IsCharBoundary-start, IsUtf8-append, chars-append, chars-nil, chars_past_char, encodes-chars}
 use Rattle.std.proofs.lemmas.Iterator.{YieldsList, items_from_drains}
 use Rattle.std.proofs.lemmas.Iterator.Consumers.{YieldsList-from_shown}
 use Rattle.std.proofs.lemmas.List.{map-id, take_all}
+use Rattle.utf_base.specs.Back.{decoded_end, decoded_pairs_end}
 use Rattle.utf_base.specs.Code.{utf8, utf16}
 use Rattle.utf_base.specs.declared.errors.Utf8ErrorKind.{Utf8ErrorKind}
 use Rattle.utf_base.specs.declared.errors.units.Utf16PairError.{Utf16PairError}
 use Rattle.utf_base.specs.Decoded.{decoded, decoded_pairs, unless_fault, units_asked}
-use Rattle.utf_base.specs.Units.{unit_fault_kind, unit_value}
-use Rattle.utf_base.specs.Kinds.{fault_kind, value}
+use Rattle.utf_base.specs.Units.{unit_back_kind, unit_fault_kind, unit_value}
+use Rattle.utf_base.specs.Kinds.{back_kind, fault_kind, value}
 use Rattle.utf_base.proofs.DecodedLemmas.{answer_of_bytes, decoded_code}
 use Rattle.utf_base.proofs.FrontLemmas.{code_where_no_fault}
-use Rattle.utf_base.proofs.Utf8Code.{utf8_is_code}
+use Rattle.utf_base.proofs.Utf8Code.{utf8_is_code, length_utf8}
 use Rattle.utf_base.proofs.StdText.{utf8_is_std, utf8_is_text}
-use Rattle.utf_chars.proofs.Ranges.{range_behind}
+use Rattle.utf_chars.proofs.Ranges.{range_after}
 use Rattle.encode_unicode.proofs.Joined.{some_utf8}
-use Rattle.encode_unicode.specs.Pieces.{Gives, GivesReversed, LiesWithin, LiesInText, pieces, unit_pieces, pieces_by, pieces_left, unit_pieces_left, placed_chars, chars_left, placed_chars_left}
+use Rattle.encode_unicode.specs.Pieces.{Gives, GivesReversed, LengthsFit, LiesWithin, LiesInText, pieces, unit_pieces, pieces_by, pieces_left, unit_pieces_left, placed_chars, chars_left, placed_chars_left}
 use Rattle.encode_unicode.specs.Sources.{IsListed}
 use Rattle.encode_unicode.specs.TextWindow.{NextScalar, NextPlaced, BackScalar, BackPlaced, GivesFirst, GivesLast}
-use Rattle.encode_unicode.specs.Window.{Window, Placed, elements, whole_window, without_front, as_piece, GivesNone, GivesFrontOf, NextGives, NextGivesUnits}
+use Rattle.encode_unicode.specs.Window.{Window, Placed, elements, whole_window, without_front, as_piece, GivesNone, GivesFrontOf, GivesBackOf, NextGives, NextGivesUnits, NextBackGives, NextBackGivesUnits}
 
 -- A list that tells what each state still gives is what each run gives.
 pub listed_run : {S A : Type 0} (steps : S → Option A → S → Type 0) (rest : S → List A) → IsListed steps rest → EveryRun steps (λ p. Gives p (rest p.from))
@@ -63,27 +64,35 @@ pieces_enough answer some (suc n) (suc m) place (x ∷ xs) a b =
     let less = length-drop (as_piece (answer (x ∷ xs))).1 (x ∷ xs) in
     ap (λ rest. (place, (as_piece (answer (x ∷ xs))).0, (as_piece (answer (x ∷ xs))).1) ∷ rest) (pieces_enough answer some n m (place + (as_piece (answer (x ∷ xs))).1) (drop (as_piece (answer (x ∷ xs))).1 (x ∷ xs)) (omega arith) (omega arith))
 
--- each piece has an element
-pub some_bytes : (xs : List ℕ) → 1 ≤ (as_piece (decoded xs)).1
-some_bytes xs = by_kind xs (fault_kind xs) refl
+-- each piece has an element, and no more than a code
+
+pub len_of_bytes : (xs : List ℕ) → (1 ≤ (as_piece (decoded xs)).1) × ((as_piece (decoded xs)).1 ≤ 4)
+len_of_bytes xs = by_kind (fault_kind xs) refl
   where
-    by_kind : (xs : List ℕ) (k : Option Utf8ErrorKind) → fault_kind xs ≡ k → 1 ≤ (as_piece (decoded xs)).1
-    by_kind xs None e =
+    by_kind : (k : Option Utf8ErrorKind) → fault_kind xs ≡ k → (1 ≤ (as_piece (decoded xs)).1) × ((as_piece (decoded xs)).1 ≤ 4)
+    by_kind None e =
         let code = code_where_no_fault xs e in
         let some = utf8_is_code.some (value xs) code.0.scalar in
-        rw (decoded_code xs (value xs) code.0) (omega arith)
-    by_kind xs (Some k) e = rw (← answer_of_bytes xs (Err k) e) (omega arith)
+        let few = length_utf8 (value xs) in
+        rw (decoded_code xs (value xs) code.0) (omega arith, omega arith)
+    by_kind (Some k) e = rw (← answer_of_bytes xs (Err k) e) (omega arith, omega arith)
+
+pub len_of_units : (xs : List ℕ) → (1 ≤ (as_piece (decoded_pairs xs)).1) × ((as_piece (decoded_pairs xs)).1 ≤ 2)
+unfolding decoded_pairs
+len_of_units xs = by_kind (unit_fault_kind xs)
+  where
+    asks : (u : ℕ) → (1 ≤ units_asked u) × (units_asked u ≤ 2)
+    asks u = (grind (arith, common_steps), grind (arith, common_steps))
+
+    by_kind : (k : Option Utf16PairError) → (1 ≤ (as_piece (unless_fault k (unit_value xs, units_asked (slice_index xs 0)))).1) × ((as_piece (unless_fault k (unit_value xs, units_asked (slice_index xs 0)))).1 ≤ 2)
+    by_kind None = asks (slice_index xs 0)
+    by_kind (Some k) = (omega arith, omega arith)
+
+pub some_bytes : (xs : List ℕ) → 1 ≤ (as_piece (decoded xs)).1
+some_bytes xs = (len_of_bytes xs).0
 
 pub some_units : (xs : List ℕ) → 1 ≤ (as_piece (decoded_pairs xs)).1
-unfolding decoded_pairs
-some_units xs = by_kind xs (unit_fault_kind xs)
-  where
-    asks : (u : ℕ) → 1 ≤ units_asked u
-    asks u = grind (arith, common_steps)
-
-    by_kind : (xs : List ℕ) (k : Option Utf16PairError) → 1 ≤ (as_piece (unless_fault k (unit_value xs, units_asked (slice_index xs 0)))).1
-    by_kind xs None = asks (slice_index xs 0)
-    by_kind xs (Some k) = omega arith
+some_units xs = (len_of_units xs).0
 
 module _ {E : Type 0} (code : ℕ → List ℕ) (most : ℕ) (kind : List ℕ → Option E) (answer : List ℕ → Result (ℕ × ℕ) E) (some : (xs : List ℕ) → 1 ≤ (as_piece (answer xs)).1) where
   first_piece : (n place : ℕ) (xs ys : List ℕ) (x : Placed E) → 1 ≤ length xs → length xs ≤ n → x.0 ≡ place → (x.1, x.2) ≡ as_piece (answer xs) → ys ≡ drop x.2 xs
@@ -108,7 +117,7 @@ module _ {E : Type 0} (code : ℕ → List ℕ) (most : ℕ) (kind : List ℕ �
       let one = g.len.0 in
       let fits = g.len.2 in
       let most : length (elements w) ≤ w.back - w.front = grind (arith, common_steps) in
-      let rest : elements (without_front w x.2) ≡ drop x.2 (elements w) = range_behind w.whole w.front w.back x.2 (omega arith) in
+      let rest : elements (without_front w x.2) ≡ drop x.2 (elements w) = range_after w.whole w.front w.back x.2 (omega arith) in
       rw g.left (first_piece (length (elements w)) w.front (elements w) (elements (without_front w x.2)) x (omega arith) (omega arith) g.place g.known rest)
 
   no_piece : (w v : Window) → GivesNone w v → pieces_by answer (length (elements w)) w.front (elements w) ≡ []
@@ -273,6 +282,24 @@ unit_decoder_places xs s e p seen from =
     all_items NextGivesUnits (λ w. w.back ≡ length xs) (LiesWithin (length xs)) (λ w x v k g. place_kept utf16 2 unit_fault_kind decoded_pairs (length xs) w v x k g) p
     (ap (λ (u : Window). u.back) (from ∙ e))
 
+piece_kept_back : {E : Type 0} (code : ℕ → List ℕ) (most : ℕ) (kind : ℕ → E) (answer : List ℕ → Result (ℕ × ℕ) E) (n : ℕ) (w v : Window) (x : Placed E)
+    → w.back ≤ n → GivesBackOf code most kind answer w x v → LiesWithin n x × (v.back ≤ n)
+piece_kept_back code most kind answer n w v x end g =
+    let place = g.place in
+    let one = g.len.0 in
+    let back : v.back ≡ w.back - x.2 = ap (λ (u : Window). u.back) g.left in
+    ((omega arith, omega arith, omega arith), omega arith)
+
+pub decoder_places_back : (xs : List ℕ) (s : Window) → s ≡ whole_window xs → EachRunFrom NextBackGives s (λ p. AllItems p (LiesWithin (length xs)))
+decoder_places_back xs s e p seen from =
+    let end : p.from.back ≡ length xs = ap (λ (u : Window). u.back) (from ∙ e) in
+    all_items NextBackGives (λ w. w.back ≤ length xs) (LiesWithin (length xs)) (λ w x v k g. piece_kept_back utf8 4 back_kind decoded_end (length xs) w v x k g) p (omega arith)
+
+pub unit_decoder_places_back : (xs : List ℕ) (s : Window) → s ≡ whole_window xs → EachRunFrom NextBackGivesUnits s (λ p. AllItems p (LiesWithin (length xs)))
+unit_decoder_places_back xs s e p seen from =
+    let end : p.from.back ≡ length xs = ap (λ (u : Window). u.back) (from ∙ e) in
+    all_items NextBackGivesUnits (λ w. w.back ≤ length xs) (LiesWithin (length xs)) (λ w x v k g. piece_kept_back utf16 2 unit_back_kind decoded_pairs_end (length xs) w v x k g) p (omega arith)
+
 -- what a window of a text keeps
 record KeepsText (text : List ℕ) (w : Window) : Type 0 where
   whole : w.whole ≡ text
@@ -292,6 +319,69 @@ char_kept text w v x k g =
 pub text_places : (text : List ℕ) (s : Window) → IsUtf8 text → s ≡ whole_window text → EachRunFrom NextPlaced s (λ p. AllItems p (LiesInText text))
 text_places text s h e p seen from =
     all_items NextPlaced (KeepsText text) (LiesInText text) (λ w x v k g. char_kept text w v x k g) p (rw (from, e) (record { whole = refl; front = IsCharBoundary-start text h }))
+
+-- the same from the back
+record KeepsTextBack (text : List ℕ) (w : Window) : Type 0 where
+  whole : w.whole ≡ text
+  back : IsCharBoundary text w.back
+
+char_kept_back : (text : List ℕ) (w v : Window) (x : ℕ × ℕ) → KeepsTextBack text w → GivesLast w x.0 x.1 v → LiesInText text x × KeepsTextBack text v
+char_kept_back text w v x k g =
+    let whole : v.whole ≡ text = ap (λ (u : Window). u.whole) g.left ∙ k.whole in
+    let back : v.back ≡ w.back - length (utf8 x.1) = ap (λ (u : Window). u.back) g.left in
+    let new_back : IsCharBoundary text v.back = rw whole at g.between.back in
+    let some = some_utf8 x.1 in
+    let both : length (elements w) ≡ length (elements v) + length (utf8 x.1) = ap length g.code ∙ length-append (elements v) (utf8 x.1) in
+    let most : length (elements w) ≤ w.back - w.front = grind (arith, common_steps) in
+    let at : x.0 ≡ v.back = g.at_back in
+    let end : x.0 + length (utf8 x.1) ≡ w.back = omega arith in
+    let here : IsCharBoundary text x.0 = rw (← at) at new_back in
+    let after : IsCharBoundary text (x.0 + length (utf8 x.1)) = rw end k.back in
+    let within = after.0 in
+    ((omega arith, here, omega arith, after), record { whole = whole; back = new_back })
+
+pub text_places_back : (text : List ℕ) (s : Window) → IsUtf8 text → s ≡ whole_window text → EachRunFrom BackPlaced s (λ p. AllItems p (LiesInText text))
+text_places_back text s h e p seen from =
+    all_items BackPlaced (KeepsTextBack text) (LiesInText text) (λ w x v k g. char_kept_back text w v x k g) p (rw (from, e) (record { whole = refl; back = IsCharBoundary-end text }))
+
+-- How long their codes are together.
+
+lengths_added : (code : ℕ → List ℕ) (n : ℕ) (xs : List ℕ) → fold (λ a c. a + length (code c)) n xs ≡ n + length (flat_map code xs)
+lengths_added code n [] = sym (omega arith)
+lengths_added code n (x ∷ xs) =
+    let rest = lengths_added code (n + length (code x)) xs in
+    let both = length-append (code x) (flat_map code xs) in
+    rest ∙ (omega arith)
+
+no_longer : (s : ℕ) → length (utf16 s) ≤ length (utf8 s)
+unfolding utf8 utf16
+no_longer s = grind (arith, common_steps)
+
+all_no_longer : (xs : List ℕ) → length (flat_map utf16 xs) ≤ length (flat_map utf8 xs)
+all_no_longer [] = omega arith
+all_no_longer (x ∷ xs) =
+    let first = no_longer x in
+    let rest = all_no_longer xs in
+    let of_units = length-append (utf16 x) (flat_map utf16 xs) in
+    let of_bytes = length-append (utf8 x) (flat_map utf8 xs) in
+    omega arith
+
+lengths_fit : (code : ℕ → List ℕ) (text : List ℕ) (p : Run NextScalar) → length (flat_map code (chars text)) ≤ length text → Gives p (chars text) → LengthsFit code (length text) p
+lengths_fit code text p le gives =
+    let most : fold (λ a c. a + length (code c)) 0 p.items ≤ fold (λ a c. a + length (code c)) 0 (chars text) = gives.0.5 (λ a c. a + length (code c)) 0 (λ a c. omega arith) in
+    let all = lengths_added code 0 (chars text) in
+    omega arith
+
+pub bytes_fit : (text : List ℕ) (s : Window) → IsUtf8 text → s ≡ whole_window text → EachRunFrom NextScalar s (LengthsFit utf8 (length text))
+bytes_fit text s h e p seen from =
+    let whole = ap length (codes_of_text text h) in
+    lengths_fit utf8 text p (omega arith) (scalars_all text s e p seen from)
+
+pub units_fit : (text : List ℕ) (s : Window) → IsUtf8 text → s ≡ whole_window text → EachRunFrom NextScalar s (LengthsFit utf16 (length text))
+units_fit text s h e p seen from =
+    let whole = ap length (codes_of_text text h) in
+    let fewer = all_no_longer (chars text) in
+    lengths_fit utf16 text p (omega arith) (scalars_all text s e p seen from)
 
 -- As std's lemmas on chains take it: the list that runs give.
 

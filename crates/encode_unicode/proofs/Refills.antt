@@ -19,7 +19,7 @@ pub record Refilled (old new xs left : List ℕ) (k : ℕ) : Type 0 where
 pub refilled : (old new xs left : List ℕ) (k : ℕ) → k ≡ fitting old xs → new ≡ filled old xs → left ≡ drop (length old) xs → Refilled old new xs left k
 refilled old new xs left k count written rest =
     let taken : length (take (length old) xs) ≡ k = length-take (length old) xs ∙ sym count in
-    let behind = length-drop (length xs) old in
+    let following = length-drop (length xs) old in
     let both = length-append (take (length old) xs) (drop (length xs) old) in
     let size : length new ≡ length old = ap length written ∙ both ∙ omega arith in
     let front : take k new ≡ take (length old) xs = ap (take k) written ∙ take_at (take (length old) xs) (drop (length xs) old) k taken in
@@ -37,8 +37,8 @@ put_whole : (buf ys : List ℕ) (n : ℕ) → n ≤ length buf → length ys ≡
 put_whole buf ys n le len =
     let put = put_mid n (length buf - n) buf ys in
     let front = take-put_mid n (length buf - n) buf ys (length buf) (omega arith) le in
-    let behind = drop-put_mid n (length buf - n) buf ys (length buf) (omega arith) le len ∙ drop_of_length-le buf (omega arith) in
-    sym (take-append-drop (length buf) put) ∙ ap (λ z. z ++ drop (length buf) put) front ∙ ap (λ z. (take n buf ++ ys) ++ z) behind ∙ append-nil (take n buf ++ ys)
+    let following = drop-put_mid n (length buf - n) buf ys (length buf) (omega arith) le len ∙ drop_of_length-le buf (omega arith) in
+    sym (take-append-drop (length buf) put) ∙ ap (λ z. z ++ drop (length buf) put) front ∙ ap (λ z. (take n buf ++ ys) ++ z) following ∙ append-nil (take n buf ++ ys)
 
 -- the same where the buffer has n elements at its front already
 pub record RefilledFrom (buf new xs left : List ℕ) (n k : ℕ) : Type 0 where
@@ -58,12 +58,12 @@ refilled_from buf ys xs left n k le part =
     let within = part.within in
     let whole = put_whole buf ys n le size in
     let front : take (n + k) (take n buf ++ ys) ≡ take n buf ++ take k ys = take_more (take n buf) ys n k taken in
-    let behind : drop (n + k) (take n buf ++ ys) ≡ drop k ys = drop_more (take n buf) ys n k taken in
+    let following : drop (n + k) (take n buf ++ ys) ≡ drop k ys = drop_more (take n buf) ys n k taken in
     rw whole (record {
       len = both ∙ omega arith;
       within = omega arith;
       none = λ lt. part.none (omega arith);
-      after = behind ∙ part.after ∙ ap (drop k) tail ∙ drop-drop k n buf;
+      after = following ∙ part.after ∙ ap (drop k) tail ∙ drop-drop k n buf;
       front = ap (λ z. z ++ left) front ∙ append_assoc (take n buf) (take k ys) left ∙ ap (λ z. take n buf ++ z) part.front;
     })
   where

@@ -4,7 +4,7 @@ use Rattle.std.proofs.lemmas.Grind.{common_steps}
 use Rattle.std.specs.Prelude.{slice_range}
 use Rattle.utf_base.specs.declared.errors.Utf8ErrorKind.{Utf8ErrorKind}
 use Rattle.utf_base.specs.declared.errors.Utf8ErrorKind.TheVariants.{UnexpectedContinuationByte}
-use Rattle.utf_base.specs.Back.{DecodesEnd, EndsInFollowers, end_fault, last_bytes}
+use Rattle.utf_base.specs.Back.{DecodesEnd, EndsInContinuationBytes, end_fault, last_bytes}
 use Rattle.utf_base.specs.Code.{utf8}
 use Rattle.utf_base.specs.Ends.{last_of, EndsWith, NoCodeEnds}
 use Rattle.utf_base.specs.Front.{as_scalar, DecodesFront}
@@ -20,7 +20,7 @@ use Rattle.encode_unicode.specs.Window.{GivesBack}
 last_alone : (w : List ℕ) → 0 < length w → last_bytes 1 w ≡ last_of w ∷ []
 last_alone w some = grind (arith, common_steps)
 
-pub single_decides : (w : List ℕ) (r : Result (ℕ × ℕ) Utf8ErrorKind) → EndsInFollowers w 0 → 0 < length w → DecodesFront as_scalar (last_bytes 1 w) r
+pub single_decides : (w : List ℕ) (r : Result (ℕ × ℕ) Utf8ErrorKind) → EndsInContinuationBytes w 0 → 0 < length w → DecodesFront as_scalar (last_bytes 1 w) r
     → DecodesEnd as_scalar w r
 single_decides w (Ok (s, n)) scan some h =
     let len = front_len_utf8 (last_bytes 1 w) s n h in
@@ -35,15 +35,15 @@ single_decides w (Err k) scan some h =
 
 -- Where the last byte continues, all that can be wrong is that no code ends with it.
 
-unexpected : (w : List ℕ) (t : ℕ) → EndsInFollowers w t → 0 < t → end_fault w ≡ UnexpectedContinuationByte
+unexpected : (w : List ℕ) (t : ℕ) → EndsInContinuationBytes w t → 0 < t → end_fault w ≡ UnexpectedContinuationByte
 unexpected w t scan some =
     let within = scan.within in
-    let last = scan.followers 0 some in
+    let last = scan.continuation_bytes 0 some in
     let low : 0x80 ≤ last_of w = grind (arith, common_steps) in
     let high : last_of w < 0xC0 = grind (arith, common_steps) in
     end_fault-some w (omega arith) ∙ back_kind-continuation (last_of w) low high
 
-pub whole_decides : (w : List ℕ) (t : ℕ) (r : Result (ℕ × ℕ) Utf8ErrorKind) → EndsInFollowers w t → 0 < t → t < length w
+pub whole_decides : (w : List ℕ) (t : ℕ) (r : Result (ℕ × ℕ) Utf8ErrorKind) → EndsInContinuationBytes w t → 0 < t → t < length w
     → IsWholeOrUnexpected (last_bytes (t + 1) w) r → DecodesEnd as_scalar w r
 whole_decides w t (Ok (s, n)) scan some fits h =
     let len : length (last_bytes (t + 1) w) ≡ t + 1 = grind (arith, common_steps) in
@@ -51,7 +51,7 @@ whole_decides w t (Ok (s, n)) scan some fits h =
     rw n_is (end_found w s (t + 1) (omega arith) h.0)
 whole_decides w t (Err k) scan some fits h = (end_missed w t scan h.0, h.1 ∙ sym (unexpected w t scan some))
 
-pub all_decides : (w : List ℕ) (t : ℕ) (k : Utf8ErrorKind) → EndsInFollowers w t → 0 < t → length w ≤ t → k ≡ UnexpectedContinuationByte
+pub all_decides : (w : List ℕ) (t : ℕ) (k : Utf8ErrorKind) → EndsInContinuationBytes w t → 0 < t → length w ≤ t → k ≡ UnexpectedContinuationByte
     → NoCodeEnds utf8 w × (k ≡ end_fault w)
 all_decides w t k scan some all e = (end_missed-all w t scan all, e ∙ sym (unexpected w t scan some))
 
@@ -86,13 +86,13 @@ part_of b count n e le =
 pub scanned : (b : List ℕ) (count t : ℕ) → IsEndOfFour b count → t ≤ 3 → t ≤ count
     → ((k : ℕ) → k < t → is_continuation (get_or b (3 - k) 0) ≡ true)
     → (t < 3 → t < count → is_continuation (get_or b (3 - t) 0) ≡ false)
-    → EndsInFollowers (drop (4 - count) b) t
-scanned b count t e bound within followers stops =
+    → EndsInContinuationBytes (drop (4 - count) b) t
+scanned b count t e bound within continuation_bytes stops =
     let len = length_of b count e in
     record {
       bound = bound;
       within = omega arith;
-      followers = λ k lt. rw (at b count k e (omega arith)) (followers k lt);
+      continuation_bytes = λ k lt. rw (at b count k e (omega arith)) (continuation_bytes k lt);
       stops = λ short fits. rw (at b count t e (omega arith)) (stops short (omega arith));
     }
 
@@ -108,26 +108,26 @@ below_3 : (P : ℕ → Type 0) → P 0 → P 1 → P 2 → (k : ℕ) → k < 3 �
 below_3 P p0 p1 p2 zero lt = p0
 below_3 P p0 p1 p2 (suc k) lt = below_2 (λ k. P (suc k)) p1 p2 k (omega arith)
 
-pub scanned-0 : (b : List ℕ) (count : ℕ) → IsEndOfFour b count → is_continuation (get_or b 3 0) ≡ false → EndsInFollowers (drop (4 - count) b) 0
+pub scanned-0 : (b : List ℕ) (count : ℕ) → IsEndOfFour b count → is_continuation (get_or b 3 0) ≡ false → EndsInContinuationBytes (drop (4 - count) b) 0
 scanned-0 b count e last = scanned b count 0 e (omega arith) (omega arith) (λ k lt. absurd (omega arith)) (λ short fits. last)
 
 pub scanned-1 : (b : List ℕ) (count : ℕ) → IsEndOfFour b count → is_continuation (get_or b 3 0) ≡ true
-    → (1 < count → is_continuation (get_or b 2 0) ≡ false) → EndsInFollowers (drop (4 - count) b) 1
+    → (1 < count → is_continuation (get_or b 2 0) ≡ false) → EndsInContinuationBytes (drop (4 - count) b) 1
 scanned-1 b count e last stops = scanned b count 1 e (omega arith) e.some (below_1 (λ k. is_continuation (get_or b (3 - k) 0) ≡ true) last) (λ short fits. stops fits)
 
 pub scanned-2 : (b : List ℕ) (count : ℕ) → IsEndOfFour b count → 2 ≤ count → is_continuation (get_or b 3 0) ≡ true → is_continuation (get_or b 2 0) ≡ true
-    → (2 < count → is_continuation (get_or b 1 0) ≡ false) → EndsInFollowers (drop (4 - count) b) 2
+    → (2 < count → is_continuation (get_or b 1 0) ≡ false) → EndsInContinuationBytes (drop (4 - count) b) 2
 scanned-2 b count e two last third stops =
     scanned b count 2 e (omega arith) two (below_2 (λ k. is_continuation (get_or b (3 - k) 0) ≡ true) last third) (λ short fits. stops fits)
 
 pub scanned-3 : (b : List ℕ) (count : ℕ) → IsEndOfFour b count → 3 ≤ count → is_continuation (get_or b 3 0) ≡ true → is_continuation (get_or b 2 0) ≡ true
-    → is_continuation (get_or b 1 0) ≡ true → EndsInFollowers (drop (4 - count) b) 3
+    → is_continuation (get_or b 1 0) ≡ true → EndsInContinuationBytes (drop (4 - count) b) 3
 scanned-3 b count e three last third second =
     scanned b count 3 e (omega arith) three (below_3 (λ k. is_continuation (get_or b (3 - k) 0) ≡ true) last third second) (λ short fits. absurd (omega arith))
 
 -- The steps that were taken then.
 
-looked : (w : List ℕ) (t old new : ℕ) → 0 < length w → EndsInFollowers w t → new ≡ old + min (t + 1) (length w) → IsScanned w old new
+looked : (w : List ℕ) (t old new : ℕ) → 0 < length w → EndsInContinuationBytes w t → new ≡ old + min (t + 1) (length w) → IsScanned w old new
 looked w t old new some scan e =
     let bound = scan.bound in
     let least : 1 ≤ min (t + 1) (length w) = grind (arith, common_steps) in
@@ -136,7 +136,7 @@ looked w t old new some scan e =
     record { least = omega arith; most = omega arith; within = omega arith; exact = (t, scan, omega arith) }
 
 -- a byte before the last that continue
-pub four_looked : (b : List ℕ) (count t old new : ℕ) → IsEndOfFour b count → EndsInFollowers (drop (4 - count) b) t → t < count → new ≡ old + (t + 1)
+pub four_looked : (b : List ℕ) (count t old new : ℕ) → IsEndOfFour b count → EndsInContinuationBytes (drop (4 - count) b) t → t < count → new ≡ old + (t + 1)
     → IsScanned (drop (4 - count) b) old new
 four_looked b count t old new e scan fits taken =
     let some = e.some in
@@ -145,7 +145,7 @@ four_looked b count t old new e scan fits taken =
     looked (drop (4 - count) b) t old new (omega arith) scan (omega arith)
 
 -- no other byte
-pub four_looked-all : (b : List ℕ) (count old new : ℕ) → IsEndOfFour b count → EndsInFollowers (drop (4 - count) b) count → new ≡ old + count
+pub four_looked-all : (b : List ℕ) (count old new : ℕ) → IsEndOfFour b count → EndsInContinuationBytes (drop (4 - count) b) count → new ≡ old + count
     → IsScanned (drop (4 - count) b) old new
 four_looked-all b count old new e scan taken =
     let some = e.some in
@@ -162,13 +162,13 @@ four_single b count r e last h =
     let len = length_of b count e in
     single_decides (drop (4 - count) b) r (scanned-0 b count e last) (omega arith) (rw (part_of b count 1 e e.some) h)
 
-pub four_whole : (b : List ℕ) (count t : ℕ) (r : Result (ℕ × ℕ) Utf8ErrorKind) → IsEndOfFour b count → 0 < t → t < count → EndsInFollowers (drop (4 - count) b) t
+pub four_whole : (b : List ℕ) (count t : ℕ) (r : Result (ℕ × ℕ) Utf8ErrorKind) → IsEndOfFour b count → 0 < t → t < count → EndsInContinuationBytes (drop (4 - count) b) t
     → IsWholeOrUnexpected (take (t + 1) (drop (4 - (t + 1)) b)) r → DecodesEnd as_scalar (drop (4 - count) b) r
 four_whole b count t r e some fits scan h =
     let len = length_of b count e in
     whole_decides (drop (4 - count) b) t r scan some (omega arith) (rw (part_of b count (t + 1) e (omega arith)) h)
 
-pub four_all : (b : List ℕ) (count : ℕ) (k : Utf8ErrorKind) → IsEndOfFour b count → EndsInFollowers (drop (4 - count) b) count → k ≡ UnexpectedContinuationByte
+pub four_all : (b : List ℕ) (count : ℕ) (k : Utf8ErrorKind) → IsEndOfFour b count → EndsInContinuationBytes (drop (4 - count) b) count → k ≡ UnexpectedContinuationByte
     → NoCodeEnds utf8 (drop (4 - count) b) × (k ≡ end_fault (drop (4 - count) b))
 four_all b count k e scan h =
     let some = e.some in
@@ -205,10 +205,10 @@ last_four_scanned w old new le s =
     let bound = scan.bound in
     let at : (k : ℕ) → k < 4 → get_or (last_bytes 4 w) (length (last_bytes 4 w) - 1 - k) 0 ≡ get_or w (length w - 1 - k) 0 = λ k lt. grind (arith, common_steps) in
     let same : min (t + 1) (length (last_bytes 4 w)) ≡ min (t + 1) (length w) = grind (arith, common_steps) in
-    let all : EndsInFollowers w t = record {
+    let all : EndsInContinuationBytes w t = record {
       bound = bound;
       within = omega arith;
-      followers = λ k lt. rw (at k (omega arith)) at (scan.followers k lt);
+      continuation_bytes = λ k lt. rw (at k (omega arith)) at (scan.continuation_bytes k lt);
       stops = λ short fits. rw (at t (omega arith)) at (scan.stops short (omega arith));
     } in
     record { least = least; most = most; within = omega arith; exact = (t, all, s.exact.2 ∙ same) }

@@ -5,7 +5,7 @@ use Rattle.std.proofs.lemmas.Grind.{common_steps}
 use Rattle.utf_base.specs.declared.errors.Utf8ErrorKind.TheVariants.{TooFewBytes}
 use Rattle.utf_base.specs.declared.errors.Utf8ErrorKind.{Utf8ErrorKind}
 use Rattle.utf_base.specs.declared.table.State.{State}
-use Rattle.utf_base.specs.declared.table.State.TheVariants.{Start, OneMore, TwoMore, ThreeMore, AfterE0, AfterEd, AfterF0, AfterF4, TwoMoreOverlong, OneMoreOverlong, OneMoreReserved, TwoMoreTooHigh, OneMoreTooHigh, Done, Unexpected, Never, Interrupted, Overlong, Reserved, TooHigh}
+use Rattle.utf_base.specs.declared.table.State.TheVariants.{Start, Done, Unexpected, Never, Interrupted, Overlong, Reserved, TooHigh}
 use Rattle.utf_base.specs.Code.{utf8}
 use Rattle.utf_base.specs.Kinds.{asked, asked_by, is_continuation, merger_kind, value}
 use Rattle.utf_base.specs.Scalar.{IsScalar}
@@ -18,18 +18,6 @@ use Rattle.utf_base.proofs.TableSteps.{Reached, Runs, asks_runs, fault_at_end, f
 -- A running state after some bytes asks for more of them.
 pub runs_after : (w : List ℕ) (k : ℕ) (state : State) → 0 < k → is_running state ≡ true → Reached w k state → Runs w k state × (0 < missing state) × (fault_of state ≡ Some TooFewBytes)
 runs_after w k Start some e r = let none : k ≡ 0 = r in absurd (omega arith)
-runs_after w k OneMore some e r = (r, lit< tt, refl)
-runs_after w k TwoMore some e r = (r, lit< tt, refl)
-runs_after w k ThreeMore some e r = (r, lit< tt, refl)
-runs_after w k AfterE0 some e r = (r, lit< tt, refl)
-runs_after w k AfterEd some e r = (r, lit< tt, refl)
-runs_after w k AfterF0 some e r = (r, lit< tt, refl)
-runs_after w k AfterF4 some e r = (r, lit< tt, refl)
-runs_after w k TwoMoreOverlong some e r = (r, lit< tt, refl)
-runs_after w k OneMoreOverlong some e r = (r, lit< tt, refl)
-runs_after w k OneMoreReserved some e r = (r, lit< tt, refl)
-runs_after w k TwoMoreTooHigh some e r = (r, lit< tt, refl)
-runs_after w k OneMoreTooHigh some e r = (r, lit< tt, refl)
 runs_after w k Done some e r = cc
 runs_after w k Unexpected some e r = cc
 runs_after w k Never some e r = cc
@@ -37,6 +25,7 @@ runs_after w k Interrupted some e r = cc
 runs_after w k Overlong some e r = cc
 runs_after w k Reserved some e r = cc
 runs_after w k TooHigh some e r = cc
+runs_after w k _ some e r = (r, lit< tt, refl)
 
 -- A byte that leads to the end of a code is the last of it.
 pub code_after_walk : (w : List ℕ) (k : ℕ) → length w ≡ suc k → 0 < k → is_running (state_after w k) ≡ true → state_after w (suc k) ≡ Done → IsScalar (value w) × (w ≡ utf8 (value w))
@@ -73,11 +62,9 @@ first_asks b state at low high =
 -- A first byte that leads to an end asks for no other.
 pub asks_no_other : (b : ℕ) (end : State) → end ≡ state_after (b ∷ []) 1 → is_running end ≡ false → (fault_of end ≡ Some TooFewBytes → ⊥) → asked b ≤ 1
 asks_no_other b end at stops other =
-    ⊎_elim
-    (λ (many : 1 < asked b).
     let kind = kind_at_end (b ∷ []) 1 (lit< tt) (sym (ap is_running at) ∙ stops) in
-    absurd (other (ap fault_of at ∙ sym kind ∙ few-1 b many)))
-    (λ (few : asked b ≤ 1). few) (cases_lt 1 (asked b))
+    let none : 1 < asked b → ⊥ = λ many. other (ap fault_of at ∙ sym kind ∙ few-1 b many) in
+    grind arith
 
 -- One that leads to an end which is no code's is at fault by itself.
 pub fault_of_one : (b : ℕ) (end state : State) (k : Utf8ErrorKind) → end ≡ state_after (b ∷ []) 1 → end ≡ state → is_running state ≡ false → fault_of state ≡ Some k → (Some k ≡ Some TooFewBytes → ⊥) → (asked b ≤ 1) × JudgesBytes (b ∷ []) (Err k)

@@ -14,7 +14,7 @@ use Rattle.utf_base.specs.Decoded.{decoded_bytes}
 use Rattle.utf_base.specs.Kinds.{value}
 use Rattle.utf_base.specs.declared.errors.Utf8ErrorKind.{Utf8ErrorKind}
 use Rattle.utf_chars.proofs.OwnCodes.{own_array}
-use Rattle.utf_chars.proofs.PaddedLemmas.{IsPadded-padded}
+use Rattle.utf_chars.proofs.PaddedLemmas.{IsPadded_padded}
 use Rattle.utf_chars.specs.Padded.{padded, IsPadded}
 use Rattle.encode_unicode.specs.TextWindow.{IsLastCode}
 
@@ -230,7 +230,7 @@ last_four xs is_text some high low lower =
 -- The array keeps a character, and what is read from it is that.
 
 pub last_padded : (text code : List ℕ) (n : ℕ) → IsLastCode text code n → IsPadded utf8 4 value code
-last_padded text code n last = IsPadded-padded code last.char last.ends.0.scalar last.padded
+last_padded text code n last = IsPadded_padded code last.char last.ends.0.scalar last.padded
 
 pub last_is_read : (text code : List ℕ) (t n : ℕ) (last : IsLastCode text code n) → decoded_bytes code ≡ Ok t → last.char ≡ t
 last_is_read text code t n last known =

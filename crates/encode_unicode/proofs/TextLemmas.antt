@@ -13,8 +13,8 @@ use Rattle.utf_base.specs.Front.{BeginsWith}
 use Rattle.utf_base.specs.Piece.{Stands}
 use Rattle.utf_base.proofs.Standing.{Stands-at, stands_in_whole}
 use Rattle.utf_base.proofs.Utf8Code.{utf8_is_code, utf8-first, length_utf8}
-use Rattle.utf_chars.proofs.Ranges.{range_behind}
-use Rattle.utf_chars.proofs.TextLemmas.{boundary_behind}
+use Rattle.utf_chars.proofs.Ranges.{range_after}
+use Rattle.utf_chars.proofs.TextLemmas.{boundary_after}
 use Rattle.utf_base.specs.Decoded.{decoded_bytes}
 use Rattle.encode_unicode.proofs.TextEnds.{last_is_read}
 use Rattle.encode_unicode.specs.TextWindow.{IsKeptWindow, IsLastCode, IsTextWindow, GivesFirst, GivesLast, BoundsScalars}
@@ -46,14 +46,14 @@ first_taken xs i j s n kept begins =
     let len = begins.1 in
     let fits = whole.1 in
     let some = some_utf8 s in
-    let behind = range_behind xs i j n (omega arith) in
+    let following = range_after xs i j n (omega arith) in
     let span : n ≡ 0 + length (utf8 s) - 0 = omega arith in
     let code : take n (slice_range xs i j) ≡ utf8 s = ap (λ k. take k (slice_range xs i j)) span ∙ begins.0.equal in
-    let front = boundary_behind xs i s (i + n) kept.is_text kept.between.front whole.0 (omega arith) in
+    let front = boundary_after xs i s (i + n) kept.is_text kept.between.front whole.0 (omega arith) in
     let between = text_window xs (i + n) j kept.is_text (omega arith) front kept.between.back in (
       record {
         scalar = begins.0.scalar;
-        code = sym (take-append-drop n (slice_range xs i j)) ∙ ap (λ ys. ys ++ drop n (slice_range xs i j)) code ∙ ap (λ ys. utf8 s ++ ys) (sym behind);
+        code = sym (take-append-drop n (slice_range xs i j)) ∙ ap (λ ys. ys ++ drop n (slice_range xs i j)) code ∙ ap (λ ys. utf8 s ++ ys) (sym following);
         at_front = refl;
         left = ap (λ (k : ℕ). record { whole = xs; front = i + k; back = j }) len;
         between = between;

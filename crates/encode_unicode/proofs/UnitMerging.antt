@@ -1,19 +1,17 @@
 -- What a merger of units answers for the unit that has left it.
-use Rattle.std.proofs.Common.{◌≡◌, ℕ, ◌<◌, ◌≤◌, List, [], ◌∷◌, ◌++◌, length, Some, None, Ok, Err, Bool, true, false, eqb, refl, ap, sym, arith}
+use Rattle.std.proofs.Common.{◌≡◌, ℕ, ◌<◌, ◌≤◌, List, [], ◌∷◌, ◌++◌, length, Some, Ok, Err, Bool, true, false, eqb, refl, ap, sym, arith}
 use Rattle.std.proofs.lemmas.Grind.{common_steps}
 use Rattle.std.specs.Iterator.{Count}
 use Rattle.std.specs.Prelude.{Option}
 use Rattle.utf_base.specs.declared.errors.units.Utf16PairError.TheVariants.{Incomplete, UnexpectedTrailingSurrogate, UnmatchedLeadingSurrogate}
 use Rattle.utf_base.specs.Code.{utf16}
-use Rattle.utf_base.specs.Decoded.{decoded_two, unless_fault}
+use Rattle.utf_base.specs.Decoded.{decoded_two}
 use Rattle.utf_base.specs.Scalar.{IsScalar}
 use Rattle.utf_base.specs.Units.{is_leading_surrogate, is_trailing_surrogate, is_surrogate, is_padded_units, array_fault, pair_value, unit_fault_kind, unit_value}
-use Rattle.utf_base.proofs.Utf16Code.{code_of_pair, scalar_pair, unit_value-pair, unit_value-unit, utf16-1}
+use Rattle.utf_base.proofs.UnitLemmas.{no_both}
+use Rattle.utf_base.proofs.Utf16Code.{unit_is_code, code_of_pair, scalar_pair, unit_value-pair, unit_value-unit}
 use Rattle.encode_unicode.specs.Reading.{Answers, CompletesUnits, Reads}
-use Rattle.encode_unicode.proofs.MergerSteps.{reads_none}
-
-no_trail : (u : ℕ) → is_leading_surrogate u ≡ true → is_trailing_surrogate u ≡ false
-no_trail u h = grind (arith, common_steps)
+use Rattle.encode_unicode.proofs.MergerSteps.{reads_none, value_of_answer}
 
 -- The kinds, case by case.
 
@@ -25,22 +23,19 @@ kind_of_trailing u later trail =
 
 kind_of_last : (u : ℕ) → is_leading_surrogate u ≡ true → unit_fault_kind (u ∷ []) ≡ Some Incomplete
 unfolding unit_fault_kind
-kind_of_last u lead = rw (no_trail u lead, lead) refl
+kind_of_last u lead = rw (no_both u lead, lead) refl
 
 kind_of_unmatched : (u v : ℕ) (later : List ℕ) → is_leading_surrogate u ≡ true → is_trailing_surrogate v ≡ false → unit_fault_kind (u ∷ v ∷ later) ≡ Some UnmatchedLeadingSurrogate
 unfolding unit_fault_kind
 kind_of_unmatched u v later lead trail =
     let some : eqb (length (u ∷ v ∷ later)) 0 ≡ false = grind (arith, common_steps) in
     let two : eqb (length (u ∷ v ∷ later)) 1 ≡ false = grind (arith, common_steps) in
-    rw (some, no_trail u lead, lead, two, trail) refl
+    rw (some, no_both u lead, lead, two, trail) refl
 
 -- A unit that stands alone.
 
 pub char_of_unit : (u : ℕ) → u < 0x1_0000 → is_surrogate u ≡ false → IsScalar u × (utf16 u ≡ u ∷ [])
-char_of_unit u fits plain = (record { below = omega arith; no_surrogate = λ ge. above u plain ge }, utf16-1 u fits)
-  where
-    above : (u : ℕ) → is_surrogate u ≡ false → 0xD800 ≤ u → 0xE000 ≤ u
-    above u plain ge = grind (arith, common_steps)
+char_of_unit u fits plain = let code = unit_is_code u fits plain in (code.0, sym code.1)
 
 -- the value of the units is known
 units_answer : {S : Type 0} (can_next : S → Type 0) (remaining : S → Count) (steps : S → Option ℕ → S → Type 0) (first second c : ℕ) (s t : S) (new : List ℕ) (f : Bool)
@@ -125,10 +120,6 @@ unit_unmatched can_next remaining steps first second s t new f lead trail reads 
 }
 
 -- The character of two units that are its own.
-
-value_of_answer : {A E : Type 0} (fault : Option E) (x c : A) → unless_fault fault x ≡ Ok c → x ≡ c
-value_of_answer None x c h = cc
-value_of_answer (Some e) x c h = cc
 
 pub known_units : {S : Type 0} (can_next : S → Type 0) (remaining : S → Count) (steps : S → Option ℕ → S → Type 0) (first second c : ℕ) (s t : S) (new : List ℕ) (f : Bool)
     → CompletesUnits can_next remaining steps first s (Ok second) new t f → decoded_two (first ∷ second ∷ []) ≡ Ok c

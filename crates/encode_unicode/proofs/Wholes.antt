@@ -2,7 +2,7 @@
 use Rattle.std.proofs.Common.{◌≡◌, ℕ, ◌<◌, ◌≤◌, List, length, arith, refl, ap, sym, ◌∙◌, None, Ok, false, append-nil}
 use Rattle.std.proofs.lemmas.Grind.{common_steps}
 use Rattle.utf_base.specs.declared.table.State.{State}
-use Rattle.utf_base.specs.declared.table.State.TheVariants.{Start, OneMore, TwoMore, ThreeMore, AfterE0, AfterEd, AfterF0, AfterF4, TwoMoreOverlong, OneMoreOverlong, OneMoreReserved, TwoMoreTooHigh, OneMoreTooHigh, Done, Unexpected, Never, Interrupted, Overlong, Reserved, TooHigh}
+use Rattle.utf_base.specs.declared.table.State.TheVariants.{Done}
 use Rattle.utf_base.specs.Back.{IsWholeCode}
 use Rattle.utf_base.specs.Code.{utf8}
 use Rattle.utf_base.specs.Decoded.{decoded_bytes}
@@ -11,35 +11,17 @@ use Rattle.utf_base.specs.Kinds.{asked, asked_by, fault_kind, value}
 use Rattle.utf_base.specs.Scalar.{IsScalar}
 use Rattle.utf_base.specs.Table.{fault_of, is_running, state_after}
 use Rattle.utf_chars.specs.Padded.{padded}
-use Rattle.utf_chars.proofs.PaddedLemmas.{value-padded}
+use Rattle.utf_chars.proofs.PaddedLemmas.{value_padded}
 use Rattle.utf_base.proofs.FrontLemmas.{code_where_no_fault, decodes_from_stands, no_fault_where_code}
 use Rattle.utf_base.proofs.MergerLemmas.{merger_none_where_code}
 use Rattle.utf_base.proofs.Standing.{stands_alone}
 use Rattle.utf_base.proofs.TableSteps.{kind_at_end}
-use Rattle.encode_unicode.proofs.ByteMerging.{value_of_answer}
+use Rattle.encode_unicode.proofs.MergerSteps.{value_of_answer}
 
 -- only the end of a code has no fault
 done_alone : (state : State) → fault_of state ≡ None → state ≡ Done
-done_alone Start e = cc
-done_alone OneMore e = cc
-done_alone TwoMore e = cc
-done_alone ThreeMore e = cc
-done_alone AfterE0 e = cc
-done_alone AfterEd e = cc
-done_alone AfterF0 e = cc
-done_alone AfterF4 e = cc
-done_alone TwoMoreOverlong e = cc
-done_alone OneMoreOverlong e = cc
-done_alone OneMoreReserved e = cc
-done_alone TwoMoreTooHigh e = cc
-done_alone OneMoreTooHigh e = cc
 done_alone Done e = refl
-done_alone Unexpected e = cc
-done_alone Never e = cc
-done_alone Interrupted e = cc
-done_alone Overlong e = cc
-done_alone Reserved e = cc
-done_alone TooHigh e = cc
+done_alone _ e = cc
 
 -- bytes of which some led to another end are no code
 pub none_by_end : (w : List ℕ) (n : ℕ) (end : State) → n ≤ length w → state_after w n ≡ end → is_running end ≡ false → (end ≡ Done → ⊥) → IsWholeCode w None
@@ -75,5 +57,5 @@ all_padded bytes s len e = let four : length (utf8 s) ≡ 4 = sym (ap length e) 
 pub whole_in_four : (w bytes : List ℕ) (s : ℕ) → IsScalar (value w) → w ≡ utf8 (value w) → bytes ≡ padded 4 (utf8 (value w)) → decoded_bytes bytes ≡ Ok s → BeginsWith utf8 w s (length w)
 unfolding decoded_bytes
 whole_in_four w bytes s scalar code padding known =
-    let is : value w ≡ s = sym (value-padded bytes (value w) scalar padding) ∙ value_of_answer (fault_kind bytes) _ s known in
+    let is : value w ≡ s = sym (value_padded bytes (value w) scalar padding) ∙ value_of_answer (fault_kind bytes) _ s known in
     rw (← is) (stands_alone utf8 w (value w, scalar, code), ap length code)

@@ -1,5 +1,6 @@
 -- What whole runs of decoders and of iterators over a text give, as lists.
 use Rattle.std.specs.Prelude.{ℕ, zero, suc, ◌+◌, ◌<◌, ◌≤◌, List, [], ◌∷◌, length, drop, Result, Option}
+use Rattle.std.specs.List.{fold}
 use Rattle.std.specs.Iterator.Runs.{Run, ItemsAre, ItemsMapTo, ItemsAreReversed, ItemsMapToReversed}
 use Rattle.std.specs.Str.{chars, IsCharBoundary}
 use Rattle.utf_base.specs.Code.{utf8}
@@ -47,6 +48,10 @@ Gives p xs = ItemsAre p xs × ItemsMapTo p (λ x. x) xs
 -- the same, last first
 abbrev pub GivesReversed : {S A : Type 0} {steps : S → Option A → S → Type 0} → Run steps → List A → Type 0
 GivesReversed p xs = ItemsAreReversed p xs × ItemsMapToReversed p (λ x. x) xs
+
+-- the codes of the characters that a run gives have no more elements together than this
+abbrev pub LengthsFit : {S : Type 0} {steps : S → Option ℕ → S → Type 0} → (ℕ → List ℕ) → ℕ → Run steps → Type 0
+LengthsFit code most p = fold (λ sum s. sum + length (code s)) 0 p.items ≤ most
 
 -- a piece lies within so many elements
 abbrev pub LiesWithin : {E : Type 0} → ℕ → Placed E → Type 0

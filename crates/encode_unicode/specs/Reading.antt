@@ -66,13 +66,13 @@ JudgesBytes bytes r = MatchResult r (λ s. IsScalar s × (bytes ≡ utf8 s)) (λ
 pub record Completes {S : Type 0} (can_next : S → Type 0) (remaining : S → Count) (steps : S → Option ℕ → S → Type 0)
     (first : ℕ) (old : List ℕ) (s : S) (e : Bool) (r : Result (List ℕ) Utf8ErrorKind) (new : List ℕ) (t : S) (f : Bool) : Type 0 where
   pub answers : MatchResult r
-      (λ followers. IsPadded utf8 4 value (first ∷ followers) × Answers utf8 merger_kind can_next remaining steps first old s e (Ok (value (first ∷ followers))) new t f)
+      (λ continuation_bytes. IsPadded utf8 4 value (first ∷ continuation_bytes) × Answers utf8 merger_kind can_next remaining steps first old s e (Ok (value (first ∷ continuation_bytes))) new t f)
       (λ k. Answers utf8 merger_kind can_next remaining steps first old s e (Err k) new t f)
   pub held : IsHeldBytes new
 
 -- the same, of a first byte after which nothing was held, where `before` have been read since
-abbrev pub CompletesBehind : {S : Type 0} → (S → Type 0) → (S → Count) → (S → Option ℕ → S → Type 0) → ℕ → List ℕ → S → Result (List ℕ) Utf8ErrorKind → List ℕ → S → Bool → Type 0
-CompletesBehind {S} can_next remaining steps first before u r new t f =
+abbrev pub CompletesAfter : {S : Type 0} → (S → Type 0) → (S → Count) → (S → Option ℕ → S → Type 0) → ℕ → List ℕ → S → Result (List ℕ) Utf8ErrorKind → List ℕ → S → Bool → Type 0
+CompletesAfter {S} can_next remaining steps first before u r new t f =
     (s : S) → Reads can_next remaining steps s false before u false → Completes can_next remaining steps first [] s false r new t f
 
 -- the second unit of the code of a first one, 0 where that has one unit, and the answer that the character is; or the answer

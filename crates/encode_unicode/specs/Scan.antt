@@ -2,12 +2,12 @@
 use Rattle.std.specs.Prelude.{◌≡◌, ℕ, ◌+◌, ◌-◌, ◌<◌, ◌≤◌, min, List, length, Some, None, Result, Ok, Err}
 use Rattle.utf_base.specs.declared.errors.Utf8ErrorKind.{Utf8ErrorKind}
 use Rattle.utf_base.specs.declared.errors.Utf8ErrorKind.TheVariants.{UnexpectedContinuationByte}
-use Rattle.utf_base.specs.Back.{IsWholeCode, EndsInFollowers}
+use Rattle.utf_base.specs.Back.{IsWholeCode, EndsInContinuationBytes}
 use Rattle.encode_unicode.specs.Window.{Window, elements}
 
 -- the bytes end in t continuation bytes, counted up to three, and n is these and the byte before them, where there is one
 abbrev pub LooksAt : List ℕ → ℕ → Type 0
-LooksAt w n = (t : ℕ) × EndsInFollowers w t × (n ≡ min (t + 1) (length w))
+LooksAt w n = (t : ℕ) × EndsInContinuationBytes w t × (n ≡ min (t + 1) (length w))
 
 -- a scan of the bytes from their end took one step for each that it looked at: at least one, at most four, and no more than
 -- there are

@@ -99,6 +99,7 @@ impl<'a> Iterator for Utf8CharDecoder<'a> {
     ghost remaining = { λ w. at_most (w.back - w.front) };
 
     #[inline(always)]
+    #[tactic(auto, using(utf_base::proofs::Utf8Code::utf8_is_code))]
     fn next(&mut self) -> Option<(usize, Result<Utf8Char, Utf8Error>, usize)> {
         if self.front == self.back {
             return None;

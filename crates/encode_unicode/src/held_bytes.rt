@@ -29,6 +29,7 @@ impl Model for HeldBytes {
 impl HeldBytes {
     /// None.
     #[inline(always)]
+    #[tactic(auto, using(crate::proofs::HeldWords::holds_none))]
     pub(crate) fn none() -> HeldBytes
         ensures held { result.held ≡ [] }
         ensures going { result.ended ≡ false }
@@ -89,6 +90,7 @@ impl HeldBytes {
 
     /// Whether nothing is held, and the source has not ended.
     #[inline(always)]
+    #[tactic(auto, using(crate::proofs::HeldWords::holds_none, crate::proofs::HeldWords::holds_some))]
     pub(crate) fn is_idle(&self) -> bool
         ensures none { result ≡ true → self.now.held ≡ [] }
         ensures going { result ≡ true → self.now.ended ≡ false }
@@ -108,6 +110,7 @@ impl HeldBytes {
 
     /// How many there are.
     #[inline(always)]
+    #[tactic(auto, using(crate::proofs::HeldWords::length_bytes))]
     pub(crate) fn len(&self) -> usize
         ensures len { result ≡ length self.now.held }
         ensures few { result ≤ 3 }
@@ -128,6 +131,7 @@ impl HeldBytes {
 
     /// Takes the first.
     #[inline(always)]
+    #[tactic(auto, using(crate::proofs::HeldWords::first_of_word, crate::proofs::HeldWords::holds_none, crate::proofs::HeldWords::only_of_word))]
     pub(crate) fn take(&mut self) -> Option<u8>
         ensures first { YieldsFirst (λ kept. kept.held) self.old result self.new }
         ensures same { self.new.ended ≡ self.old.ended }

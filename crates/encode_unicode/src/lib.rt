@@ -4,8 +4,8 @@
 #![tactic(auto)]
 
 mod collecting;
+mod continuation_bytes;
 mod decoding_iterators;
-mod followers;
 mod held_bytes;
 mod held_unit;
 mod iter_ext;

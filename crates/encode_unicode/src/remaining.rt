@@ -44,6 +44,7 @@ impl<I: Iterator<Item = u8>> Iterator for RemainingBytes<I> {
     ghost remaining = { unread_count I.remaining };
 
     #[inline(always)]
+    #[tactic(auto, using(crate::proofs::MergerSteps::first_nearer))]
     fn next(&mut self) -> Option<u8> {
         first_byte(&mut self.held, &mut self.source)
     }

@@ -1,8 +1,9 @@
 //! Methods of texts.
-ghost use Rattle.std.specs.Prelude.{◌≡◌, List, ℕ};
+ghost use Rattle.std.specs.Prelude.{◌≡◌, length, List, ℕ};
 ghost use Rattle.std.specs.Str.{chars};
 ghost use Rattle.std.specs.Iterator.Runs.{AllItems, EachRunFrom, EveryRun};
-ghost use Rattle.encode_unicode.specs.Pieces.{Gives, GivesReversed, LiesInText, chars_left, placed_chars, placed_chars_left};
+ghost use Rattle.utf_base.specs.Code.{utf8, utf16};
+ghost use Rattle.encode_unicode.specs.Pieces.{Gives, GivesReversed, LengthsFit, LiesInText, chars_left, placed_chars, placed_chars_left};
 ghost use Rattle.encode_unicode.specs.TextWindow.{BackPlaced, BackScalar, NextPlaced, NextScalar};
 ghost use Rattle.encode_unicode.specs.Window.{whole_window};
 
@@ -21,7 +22,9 @@ pub trait StrExt<'a>: Sized {
         ensures runs { EveryRun NextScalar (λ p. Gives p (chars_left p.from)) }
         ensures runs_back { EveryRun BackScalar (λ p. GivesReversed p (chars_left p.from)) }
         ensures all { EachRunFrom NextScalar result (λ p. Gives p (chars (text self))) }
-        ensures all_back { EachRunFrom BackScalar result (λ p. GivesReversed p (chars (text self))) };
+        ensures all_back { EachRunFrom BackScalar result (λ p. GivesReversed p (chars (text self))) }
+        ensures lengths { EachRunFrom NextScalar result (LengthsFit utf8 (length (text self))) }
+        ensures units { EachRunFrom NextScalar result (LengthsFit utf16 (length (text self))) };
 
     /// The characters, kept as their codes in UTF-16.
     fn utf16chars(self) -> Utf16Chars<'a>
@@ -29,7 +32,8 @@ pub trait StrExt<'a>: Sized {
         ensures runs { EveryRun NextScalar (λ p. Gives p (chars_left p.from)) }
         ensures runs_back { EveryRun BackScalar (λ p. GivesReversed p (chars_left p.from)) }
         ensures all { EachRunFrom NextScalar result (λ p. Gives p (chars (text self))) }
-        ensures all_back { EachRunFrom BackScalar result (λ p. GivesReversed p (chars (text self))) };
+        ensures all_back { EachRunFrom BackScalar result (λ p. GivesReversed p (chars (text self))) }
+        ensures lengths { EachRunFrom NextScalar result (LengthsFit utf16 (length (text self))) };
 
     /// The characters, kept as their codes in UTF-8, each with its offset in bytes.
     fn utf8char_indices(self) -> Utf8CharIndices<'a>
@@ -38,7 +42,8 @@ pub trait StrExt<'a>: Sized {
         ensures runs_back { EveryRun BackPlaced (λ p. GivesReversed p (placed_chars_left p.from)) }
         ensures all { EachRunFrom NextPlaced result (λ p. Gives p (placed_chars 0 (chars (text self)))) }
         ensures all_back { EachRunFrom BackPlaced result (λ p. GivesReversed p (placed_chars 0 (chars (text self)))) }
-        ensures places { EachRunFrom NextPlaced result (λ p. AllItems p (LiesInText (text self))) };
+        ensures places { EachRunFrom NextPlaced result (λ p. AllItems p (LiesInText (text self))) }
+        ensures places_back { EachRunFrom BackPlaced result (λ p. AllItems p (LiesInText (text self))) };
 
     /// The characters, kept as their codes in UTF-16, each with its offset in bytes.
     fn utf16char_indices(self) -> Utf16CharIndices<'a>
@@ -47,32 +52,33 @@ pub trait StrExt<'a>: Sized {
         ensures runs_back { EveryRun BackPlaced (λ p. GivesReversed p (placed_chars_left p.from)) }
         ensures all { EachRunFrom NextPlaced result (λ p. Gives p (placed_chars 0 (chars (text self)))) }
         ensures all_back { EachRunFrom BackPlaced result (λ p. GivesReversed p (placed_chars 0 (chars (text self)))) }
-        ensures places { EachRunFrom NextPlaced result (λ p. AllItems p (LiesInText (text self))) };
+        ensures places { EachRunFrom NextPlaced result (λ p. AllItems p (LiesInText (text self))) }
+        ensures places_back { EachRunFrom BackPlaced result (λ p. AllItems p (LiesInText (text self))) };
 }
 
 impl<'a> StrExt<'a> for &'a str {
     ghost text = { λ text. text.now };
 
     #[inline]
-    #[tactic(auto, using(crate::proofs::PieceRuns::scalars_runs, crate::proofs::PieceRuns::scalars_runs_back))]
+    #[tactic(auto, using(crate::proofs::PieceRuns::scalars_runs, crate::proofs::PieceRuns::scalars_runs_back, crate::proofs::PieceRuns::bytes_fit, crate::proofs::PieceRuns::units_fit))]
     fn utf8chars(self) -> Utf8Chars<'a> {
         Utf8Chars::from(self)
     }
 
     #[inline]
-    #[tactic(auto, using(crate::proofs::PieceRuns::scalars_runs, crate::proofs::PieceRuns::scalars_runs_back))]
+    #[tactic(auto, using(crate::proofs::PieceRuns::scalars_runs, crate::proofs::PieceRuns::scalars_runs_back, crate::proofs::PieceRuns::units_fit))]
     fn utf16chars(self) -> Utf16Chars<'a> {
         Utf16Chars::from(self)
     }
 
     #[inline]
-    #[tactic(auto, using(crate::proofs::PieceRuns::placed_runs, crate::proofs::PieceRuns::placed_runs_back, crate::proofs::PieceRuns::text_places))]
+    #[tactic(auto, using(crate::proofs::PieceRuns::placed_runs, crate::proofs::PieceRuns::placed_runs_back, crate::proofs::PieceRuns::text_places, crate::proofs::PieceRuns::text_places_back))]
     fn utf8char_indices(self) -> Utf8CharIndices<'a> {
         Utf8CharIndices::from(self)
     }
 
     #[inline]
-    #[tactic(auto, using(crate::proofs::PieceRuns::placed_runs, crate::proofs::PieceRuns::placed_runs_back, crate::proofs::PieceRuns::text_places))]
+    #[tactic(auto, using(crate::proofs::PieceRuns::placed_runs, crate::proofs::PieceRuns::placed_runs_back, crate::proofs::PieceRuns::text_places, crate::proofs::PieceRuns::text_places_back))]
     fn utf16char_indices(self) -> Utf16CharIndices<'a> {
         Utf16CharIndices::from(self)
     }

@@ -33,6 +33,7 @@ impl<'a> Model for TextWindow<'a> {
 impl<'a> TextWindow<'a> {
     /// The whole text.
     #[inline(always)]
+    #[tactic(auto, using(crate::proofs::TextLemmas::kept_whole))]
     pub(crate) fn new(text: &'a str) -> TextWindow<'a>
         ensures { result ≡ whole_window text.now }
     {
@@ -74,6 +75,7 @@ impl<'a> TextWindow<'a> {
 
     /// How many characters are left at least and at most.
     #[inline(always)]
+    #[tactic(auto, using(crate::proofs::TextLemmas::bounds_quarter))]
     pub(crate) fn bounds(&self) -> (usize, Option<usize>)
         ensures exact { result ≡ (div_ceil (self.now.back - self.now.front) 4, Some (self.now.back - self.now.front)) }
         ensures bounds { BoundsScalars (elements self.now) result }

@@ -150,6 +150,7 @@ impl<'a> fmt::Debug for Utf16CharDecoder<'a> {
 
 // The piece that begins some units, and its length.
 #[inline(always)]
+#[tactic(auto, using(crate::proofs::UnitPieces::known_char, crate::proofs::UnitPieces::known_fault))]
 fn first_piece(units: &[u16]) -> (Result<Utf16Char, Utf16PairError>, usize)
     requires { 0 < length units.now }
     ensures piece { IsFrontOf utf16 unit_fault_kind units.now result.0 result.1 }
@@ -164,6 +165,7 @@ fn first_piece(units: &[u16]) -> (Result<Utf16Char, Utf16PairError>, usize)
 
 // The piece that ends some units, and its length.
 #[inline(always)]
+#[tactic(auto, using(crate::proofs::UnitPieces::known_end_char, crate::proofs::UnitPieces::known_end_fault))]
 fn last_piece(units: &[u16]) -> (Result<Utf16Char, Utf16PairError>, usize)
     requires { 0 < length units.now }
     ensures piece { IsBackOf utf16 unit_back_kind units.now result.0 result.1 }
@@ -178,6 +180,7 @@ fn last_piece(units: &[u16]) -> (Result<Utf16Char, Utf16PairError>, usize)
 
 // The fault of a slice as that of one piece of it: of the first, and of the last.
 #[inline(always)]
+#[tactic(auto, using(utf_base::proofs::UnitEnds::back_kind_of_fault, utf_base::proofs::UnitLemmas::kind_from_fault, utf_base::proofs::UnitLemmas::pair_error))]
 fn pair_error(error: Utf16SliceError) -> Utf16PairError
     ensures first { (w : List ℕ) → slice_fault w ≡ Some error → unit_fault_kind w ≡ Some result }
     ensures last { (w : List ℕ) → 0 < length w → error ≡ unit_end_fault w → result ≡ unit_back_kind (last_of w) }

@@ -176,6 +176,7 @@ fn first_unit<I: Iterator<Item = u16>>(held: &mut HeldUnit, source: &mut I) -> O
 // The second unit of the code of a unit that has left the merger, and 0 where the code has no other. What is
 // read after it is held where it is no part of the code.
 #[inline(always)]
+#[tactic(auto, using(crate::proofs::UnitMerging::leads_below, crate::proofs::UnitMerging::trails_from, crate::proofs::UnitMerging::unit_last, crate::proofs::UnitMerging::unit_pair, crate::proofs::UnitMerging::unit_stands, crate::proofs::UnitMerging::unit_trails, crate::proofs::UnitMerging::unit_unmatched))]
 fn second_unit<I: Iterator<Item = u16>>(
     first: u64,
     held: &mut HeldUnit,

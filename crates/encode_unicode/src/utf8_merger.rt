@@ -6,10 +6,10 @@ ghost use Rattle.utf_base.specs.Code.{utf8};
 ghost use Rattle.utf_base.specs.Kinds.{fault_kind, is_continuation, merger_kind};
 ghost use Rattle.utf_base.specs.Table.{fault_of, is_later_fault, missing, state_after};
 ghost use Rattle.encode_unicode.specs.Mergers.{unasked, unread, unread_count, IsHeldBytes, IsSpent, MergerNext, MergesHint};
-ghost use Rattle.encode_unicode.specs.Reading.{Completes, CompletesBehind, TakesFirst};
+ghost use Rattle.encode_unicode.specs.Reading.{Completes, CompletesAfter, TakesFirst};
 ghost use Rattle.encode_unicode.specs.Sources.{GivesTheSame};
 
-use crate::followers::Followers;
+use crate::continuation_bytes::ContinuationBytes;
 use crate::held_bytes::HeldBytes;
 use crate::merging::{hint_of_source, merged_hint, read};
 use crate::remaining::RemainingBytes;
@@ -83,11 +83,11 @@ impl<I: Iterator<Item = u8>> Iterator for Utf8CharMerger<I> {
             None => return None,
             Some(first) => first,
         };
-        let rest = match followers(first, &mut self.held, &mut self.source) {
+        let rest = match continuation_bytes(first, &mut self.held, &mut self.source) {
             Err(error) => return Some(Err(error)),
             Ok(rest) => rest,
         };
-        Some(Ok(Utf8Char::from_array_unchecked(rest.behind(first))))
+        Some(Ok(Utf8Char::from_array_unchecked(rest.following(first))))
     }
 
     /// A quarter of the source's lower bound, rounded down, and its upper bound with the held bytes added.
@@ -174,11 +174,11 @@ pub(crate) fn first_byte<I: Iterator<Item = u8>>(held: &mut HeldBytes, source: &
 // The bytes that complete the code of a byte that has left the merger. What is read after it is held where
 // no code is found; where something is held already, the byte is a continuation byte, and nothing is read.
 #[inline(always)]
-fn followers<I: Iterator<Item = u8>>(
+fn continuation_bytes<I: Iterator<Item = u8>>(
     first: u8,
     held: &mut HeldBytes,
     source: &mut I,
-) -> Result<Followers, Utf8Error>
+) -> Result<ContinuationBytes, Utf8Error>
     requires can { held.old.ended ≡ false → I.can_next source.old }
     requires alone { is_continuation first ≡ false → held.old.held ≡ [] }
     requires held { IsHeldBytes held.old.held }
@@ -192,7 +192,7 @@ fn followers<I: Iterator<Item = u8>>(
         return Err(error_below_two(first));
     }
     if first < 0xe0 {
-        return followers_of_two(first, held, source);
+        return continuation_of_two(first, held, source);
     }
     let state = step(State::Start, class_of(first));
     if state == State::Never {
@@ -207,11 +207,11 @@ fn followers<I: Iterator<Item = u8>>(
 
 // The same of a byte that begins a code of two.
 #[inline(always)]
-fn followers_of_two<I: Iterator<Item = u8>>(
+fn continuation_of_two<I: Iterator<Item = u8>>(
     first: u8,
     held: &mut HeldBytes,
     source: &mut I,
-) -> Result<Followers, Utf8Error>
+) -> Result<ContinuationBytes, Utf8Error>
     requires low { 0xC2 ≤ first }
     requires high { first < 0xE0 }
     requires can { held.old.ended ≡ false → I.can_next source.old }
@@ -240,12 +240,12 @@ fn error_below_two(first: u8) -> Utf8Error
 // The bytes that follow an ASCII byte in its code, which are none. A compiler takes from it that the byte is one, and
 // asks no more where the character is used.
 #[inline(always)]
-fn none_follow(first: u8) -> Followers
+fn none_follow(first: u8) -> ContinuationBytes
     requires { first < 0x80 }
     ensures { result ≡ 0 ∷ 0 ∷ 0 ∷ [] }
 {
     match first {
-        0x00..=0x7f => Followers::new(0, 0, 0),
+        0x00..=0x7f => ContinuationBytes::new(0, 0, 0),
         _ => unreachable!(),
     }
 }
@@ -256,13 +256,13 @@ fn second_of_two<I: Iterator<Item = u8>>(
     first: u8,
     held: &mut HeldBytes,
     source: &mut I,
-) -> Result<Followers, Utf8Error>
+) -> Result<ContinuationBytes, Utf8Error>
     requires low { 0xC2 ≤ first }
     requires high { first < 0xE0 }
     requires can { I.can_next source.old }
     requires none { held.old.held ≡ [] }
     requires going { held.old.ended ≡ false }
-    ensures { CompletesBehind I.can_next I.remaining I.next_gives first [] source.old result held.new.held source.new held.new.ended }
+    ensures { CompletesAfter I.can_next I.remaining I.next_gives first [] source.old result held.new.held source.new held.new.ended }
 {
     match read(source) {
         None => {
@@ -271,7 +271,7 @@ fn second_of_two<I: Iterator<Item = u8>>(
         }
         Some(byte) => {
             if step(State::OneMore, class_of(byte)) == State::Done {
-                return Ok(Followers::new(byte, 0, 0));
+                return Ok(ContinuationBytes::new(byte, 0, 0));
             }
             *held = HeldBytes::one(byte);
             Err(Utf8Error::new(Utf8ErrorKind::InterruptedSequence))
@@ -288,14 +288,14 @@ fn second<I: Iterator<Item = u8>>(
     state: State,
     held: &mut HeldBytes,
     source: &mut I,
-) -> Result<Followers, Utf8Error>
+) -> Result<ContinuationBytes, Utf8Error>
     requires low { 0xE0 ≤ first }
     requires high { first < 0xF5 }
     requires walked { state ≡ state_after (first ∷ []) 1 }
     requires can { I.can_next source.old }
     requires none { held.old.held ≡ [] }
     requires going { held.old.ended ≡ false }
-    ensures { CompletesBehind I.can_next I.remaining I.next_gives first [] source.old result held.new.held source.new held.new.ended }
+    ensures { CompletesAfter I.can_next I.remaining I.next_gives first [] source.old result held.new.held source.new held.new.ended }
 {
     match read(source) {
         None => {
@@ -324,7 +324,7 @@ fn third_of_three<I: Iterator<Item = u8>>(
     state: State,
     held: &mut HeldBytes,
     source: &mut I,
-) -> Result<Followers, Utf8Error>
+) -> Result<ContinuationBytes, Utf8Error>
     requires low { 0xE0 ≤ first }
     requires high { first < 0xF0 }
     requires walked { state ≡ state_after (first ∷ second ∷ []) 2 }
@@ -333,7 +333,7 @@ fn third_of_three<I: Iterator<Item = u8>>(
     requires can { I.can_next source.old }
     requires none { held.old.held ≡ [] }
     requires going { held.old.ended ≡ false }
-    ensures { CompletesBehind I.can_next I.remaining I.next_gives first (second ∷ []) source.old result held.new.held source.new held.new.ended }
+    ensures { CompletesAfter I.can_next I.remaining I.next_gives first (second ∷ []) source.old result held.new.held source.new held.new.ended }
 {
     match read(source) {
         None => {
@@ -341,7 +341,7 @@ fn third_of_three<I: Iterator<Item = u8>>(
             Err(Utf8Error::new(Utf8ErrorKind::TooFewBytes))
         }
         Some(byte) => match step(state, class_of(byte)) {
-            State::Done => Ok(Followers::new(second, byte, 0)),
+            State::Done => Ok(ContinuationBytes::new(second, byte, 0)),
             end => {
                 *held = HeldBytes::two(second, byte);
                 Err(error_of(end))
@@ -358,7 +358,7 @@ fn third_of_four<I: Iterator<Item = u8>>(
     state: State,
     held: &mut HeldBytes,
     source: &mut I,
-) -> Result<Followers, Utf8Error>
+) -> Result<ContinuationBytes, Utf8Error>
     requires low { 0xF0 ≤ first }
     requires high { first < 0xF5 }
     requires walked { state ≡ state_after (first ∷ second ∷ []) 2 }
@@ -367,7 +367,7 @@ fn third_of_four<I: Iterator<Item = u8>>(
     requires can { I.can_next source.old }
     requires none { held.old.held ≡ [] }
     requires going { held.old.ended ≡ false }
-    ensures { CompletesBehind I.can_next I.remaining I.next_gives first (second ∷ []) source.old result held.new.held source.new held.new.ended }
+    ensures { CompletesAfter I.can_next I.remaining I.next_gives first (second ∷ []) source.old result held.new.held source.new held.new.ended }
 {
     match read(source) {
         None => {
@@ -394,7 +394,7 @@ fn fourth<I: Iterator<Item = u8>>(
     state: State,
     held: &mut HeldBytes,
     source: &mut I,
-) -> Result<Followers, Utf8Error>
+) -> Result<ContinuationBytes, Utf8Error>
     requires low { 0xF0 ≤ first }
     requires high { first < 0xF5 }
     requires walked { state ≡ state_after (first ∷ second ∷ third ∷ []) 3 }
@@ -404,7 +404,7 @@ fn fourth<I: Iterator<Item = u8>>(
     requires can { I.can_next source.old }
     requires none { held.old.held ≡ [] }
     requires going { held.old.ended ≡ false }
-    ensures { CompletesBehind I.can_next I.remaining I.next_gives first (second ∷ third ∷ []) source.old result held.new.held source.new held.new.ended }
+    ensures { CompletesAfter I.can_next I.remaining I.next_gives first (second ∷ third ∷ []) source.old result held.new.held source.new held.new.ended }
 {
     match read(source) {
         None => {
@@ -412,7 +412,7 @@ fn fourth<I: Iterator<Item = u8>>(
             Err(Utf8Error::new(Utf8ErrorKind::TooFewBytes))
         }
         Some(byte) => match step(state, class_of(byte)) {
-            State::Done => Ok(Followers::new(second, third, byte)),
+            State::Done => Ok(ContinuationBytes::new(second, third, byte)),
             end => {
                 *held = HeldBytes::three(second, third, byte);
                 Err(error_of(end))

@@ -7,7 +7,7 @@ use std::io::{ErrorKind, Read, Write};
 
 /// How a call fails.
 #[derive(Clone, Copy, Drop)]
-pub enum Fault {
+pub enum Failure {
     /// By an error of this kind.
     Error(ErrorKind),
 
@@ -15,12 +15,12 @@ pub enum Fault {
     Nothing,
 }
 
-/// Which calls fail: of those after the first `passes`, the first `faults`.
+/// Which calls fail: of those after the first `passes`, the first `failures`.
 #[derive(Clone, Copy, Drop)]
 pub struct Plan {
     pub passes: u32,
-    pub faults: u32,
-    pub fault: Fault,
+    pub failures: u32,
+    pub failure: Failure,
 }
 
 impl Plan {
@@ -30,11 +30,11 @@ impl Plan {
     }
 
     /// So many calls pass, and all others fail.
-    pub fn fail(passes: u32, fault: Fault) -> Plan {
+    pub fn fail(passes: u32, failure: Failure) -> Plan {
         Plan {
             passes,
-            faults: u32::MAX,
-            fault,
+            failures: u32::MAX,
+            failure,
         }
     }
 
@@ -42,19 +42,19 @@ impl Plan {
     pub fn fail_once(passes: u32, kind: ErrorKind) -> Plan {
         Plan {
             passes,
-            faults: 1,
-            fault: Fault::Error(kind),
+            failures: 1,
+            failure: Failure::Error(kind),
         }
     }
 
     // How the next call fails, if it does.
-    fn step(&mut self) -> Option<Fault> {
+    fn step(&mut self) -> Option<Failure> {
         if self.passes > 0 {
             self.passes -= 1;
             None
-        } else if self.faults > 0 {
-            self.faults -= 1;
-            Some(self.fault)
+        } else if self.failures > 0 {
+            self.failures -= 1;
+            Some(self.failure)
         } else {
             None
         }
@@ -79,7 +79,7 @@ pub struct Fuse<'a> {
 
     /// How often it was flushed.
     pub flushes: u32,
-    pub flush_fault: Option<ErrorKind>,
+    pub flush_failure: Option<ErrorKind>,
     ghost some: { 0 < most },
 }
 
@@ -93,7 +93,7 @@ impl<'a> Fuse<'a> {
             most: 2,
             given: Vec::new(alloc),
             flushes: 0,
-            flush_fault: None,
+            flush_failure: None,
         }
     }
 
@@ -106,14 +106,14 @@ impl<'a> Fuse<'a> {
             most: usize::MAX,
             given: Vec::new(alloc),
             flushes: 0,
-            flush_fault: None,
+            flush_failure: None,
         }
     }
 
     /// A writer that takes what the first calls give it, and then fails.
-    pub fn failing(alloc: Global, passes: u32, fault: Fault) -> Fuse<'a> {
+    pub fn failing(alloc: Global, passes: u32, failure: Failure) -> Fuse<'a> {
         let mut writer = Fuse::ample(alloc);
-        writer.plan = Plan::fail(passes, fault);
+        writer.plan = Plan::fail(passes, failure);
         writer
     }
 }
@@ -124,8 +124,8 @@ impl Read for Fuse<'_> {
     fn read(&mut self, buf: &mut [u8]) -> io::Result<usize> {
         self.given.push(buf.len())?;
         match self.plan.step() {
-            Some(Fault::Error(kind)) => return Err(io::Error::from(kind)),
-            Some(Fault::Nothing) => return Err(io::Error::from(ErrorKind::WouldBlock)),
+            Some(Failure::Error(kind)) => return Err(io::Error::from(kind)),
+            Some(Failure::Nothing) => return Err(io::Error::from(ErrorKind::WouldBlock)),
             None => {}
         }
         let count = buf.len().min(self.most).min(self.unread.len());
@@ -141,8 +141,8 @@ impl Write for Fuse<'_> {
     fn write(&mut self, buf: &[u8]) -> io::Result<usize> {
         self.given.push(buf.len())?;
         match self.plan.step() {
-            Some(Fault::Error(kind)) => return Err(io::Error::from(kind)),
-            Some(Fault::Nothing) => return Ok(0),
+            Some(Failure::Error(kind)) => return Err(io::Error::from(kind)),
+            Some(Failure::Nothing) => return Ok(0),
             None => {}
         }
         let count = buf.len().min(self.most);
@@ -152,7 +152,7 @@ impl Write for Fuse<'_> {
 
     fn flush(&mut self) -> io::Result<()> {
         self.flushes = self.flushes.saturating_add(1);
-        match self.flush_fault {
+        match self.flush_failure {
             Some(kind) => Err(io::Error::from(kind)),
             None => Ok(()),
         }

@@ -144,7 +144,7 @@ fn the_default_has_nothing(rt: HostRuntime) {
 }
 
 // What is left of the bytes after the first piece.
-fn behind_the_first(bytes: &[u8]) -> &[u8] {
+fn after_the_first(bytes: &[u8]) -> &[u8] {
     let mut decoder = bytes.utf8char_indices();
     let _ = decoder.next();
     decoder.as_slice()
@@ -153,14 +153,14 @@ fn behind_the_first(bytes: &[u8]) -> &[u8] {
 #[test]
 fn what_is_left_is_lent(rt: HostRuntime) {
     let bytes = b"a\xc3\xa9\x80z".as_slice();
-    let lent = behind_the_first(behind_the_first(behind_the_first(bytes)));
+    let lent = after_the_first(after_the_first(after_the_first(bytes)));
     assert!(rt; lent == b"z".as_slice());
-    assert!(rt; behind_the_first(lent).is_empty());
+    assert!(rt; after_the_first(lent).is_empty());
 }
 
 // The scalar of the pair in the midst of stray surrogates is compared as a number.
 #[test]
-fn a_pair_behind_surrogates_is_its_scalar(rt: HostRuntime) {
+fn a_pair_after_surrogates_is_its_scalar(rt: HostRuntime) {
     let units = [0xdcba, 0xdeff, 0xd8be, 0xdeee, 0x03bb, 0xdab1, 0xdab1];
     let mut decoder = units.as_slice().utf16char_indices();
     let _ = (decoder.next(), decoder.next());

@@ -54,7 +54,7 @@ fn of_what_is_collected(rt: HostRuntime) {
 }
 
 // What stands after the first element.
-fn behind_the_first<T>(held: &[T]) -> &[T] {
+fn after_the_first<T>(held: &[T]) -> &[T] {
     match held.split_first() {
         Some((_, added)) => added,
         None => &[],
@@ -74,7 +74,7 @@ fn extends_bytes(alloc: Global, growths: u32, refused: bool) -> Result<bool, All
     let budget = Budget::new(alloc, growths);
     let mut bytes = vec![in &budget; b'?']?;
     let answer = TEXT.utf8chars().extend_bytes(&mut bytes);
-    let kept = bytes.first() == Some(&b'?') && is_added(behind_the_first(&bytes), refused);
+    let kept = bytes.first() == Some(&b'?') && is_added(after_the_first(&bytes), refused);
     Ok(kept && answer.is_err() == refused)
 }
 
@@ -84,7 +84,7 @@ fn extends_units(alloc: Global, growths: u32, refused: bool) -> Result<bool, All
     let budget = Budget::new(alloc, growths);
     let mut units = vec![in &budget; 0x3fu16]?;
     let answer = TEXT.utf16chars().extend_units(&mut units);
-    let added = behind_the_first(&units);
+    let added = after_the_first(&units);
     let kept = units.first() == Some(&0x3f)
         && whole.starts_with(added)
         && added.last().copied() != Some(0xd83d)
@@ -97,7 +97,7 @@ fn extends_text(alloc: Global, growths: u32, refused: bool) -> Result<bool, Allo
     let budget = Budget::new(alloc, growths);
     let mut text = String::from_str(&budget, "?")?;
     let answer = TEXT.utf8chars().extend_string(&mut text);
-    Ok(is_added(behind_the_first(text.as_bytes()), refused) && answer.is_err() == refused)
+    Ok(is_added(after_the_first(text.as_bytes()), refused) && answer.is_err() == refused)
 }
 
 // The same of a text to which `Utf16Char` are added.
@@ -105,7 +105,7 @@ fn extends_text_by_units(alloc: Global, growths: u32, refused: bool) -> Result<b
     let budget = Budget::new(alloc, growths);
     let mut text = String::from_str(&budget, "?")?;
     let answer = TEXT.utf16chars().extend_string(&mut text);
-    Ok(is_added(behind_the_first(text.as_bytes()), refused) && answer.is_err() == refused)
+    Ok(is_added(after_the_first(text.as_bytes()), refused) && answer.is_err() == refused)
 }
 
 #[test]
@@ -146,7 +146,7 @@ fn keeps_the_first_in_text(alloc: Global, from_units: bool) -> Result<bool, Allo
 }
 
 #[test]
-fn behind_the_first_character(rt: HostRuntime) -> Result<(), Fail> {
+fn after_the_first_character(rt: HostRuntime) -> Result<(), Fail> {
     assert!(rt; keeps_the_first_in_bytes(rt.alloc())?);
     assert!(rt; keeps_the_first_in_text(rt.alloc(), false)?);
     assert!(rt; keeps_the_first_in_text(rt.alloc(), true)?);

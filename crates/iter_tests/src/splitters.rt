@@ -48,7 +48,7 @@ fn hints(count: usize, hint: (usize, Option<usize>)) -> bool {
 }
 
 // Whether the hint is the same after the first byte of more characters than can be counted.
-fn hints_behind_a_byte() -> bool {
+fn hints_after_a_byte() -> bool {
     let bomb = Utf8Char::from('\u{1f4a3}');
     let mut bytes = iter::repeat(bomb).take(usize::MAX).to_bytes();
     bytes.next() == Some(0xf0) && bytes.size_hint() == (usize::MAX, None)
@@ -62,7 +62,7 @@ fn hints_do_not_wrap(rt: HostRuntime) {
         .to_units();
     let same = hints(usize::MAX, (usize::MAX, None))
         && hints(quarter, (quarter, Some(usize::MAX - 3)))
-        && hints_behind_a_byte()
+        && hints_after_a_byte()
         && units.size_hint() == (usize::MAX, None);
     assert!(rt; same);
 }

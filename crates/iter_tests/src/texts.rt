@@ -51,7 +51,7 @@ fn what_std_has_for_iterators_works(rt: HostRuntime) {
 }
 
 // What is left of the text after its first character.
-fn behind_the_first(text: &str) -> &str {
+fn after_the_first(text: &str) -> &str {
     let mut chars = text.utf8chars();
     let _ = chars.next();
     chars.as_str()
@@ -66,7 +66,7 @@ fn before_the_last(text: &str) -> &str {
 
 #[test]
 fn the_lent_text_outlives_the_iterator(rt: HostRuntime) {
-    assert!(rt; behind_the_first("\u{e9}tat") == "tat");
+    assert!(rt; after_the_first("\u{e9}tat") == "tat");
     assert!(rt; before_the_last("\u{e9}tat") == "\u{e9}ta");
 }
 

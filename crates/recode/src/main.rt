@@ -2,8 +2,8 @@
 //! bytes, with one U+FFFD for each fault.
 #![tactic(auto)]
 
-use cuts::counted::Counted;
-use cuts::programs::recode;
+use cuts::Counted;
+use cuts::programs::mains::recode;
 use std::process::ExitCode;
 use std::{env, io};
 
@@ -11,8 +11,8 @@ use std::{env, io};
 fn main(rt: HostRuntime) -> ExitCode {
     let mut input = Counted::new(rt.stdin());
     let mut out = Counted::new(io::writer(&rt));
-    let mut faults = Counted::new(rt.stderr());
-    ExitCode::from(recode(rt.alloc(), words(&rt), &mut input, &mut out, &mut faults))
+    let mut stderr = Counted::new(rt.stderr());
+    ExitCode::from(recode(rt.alloc(), words(&rt), &mut input, &mut out, &mut stderr))
 }
 
 // The words that the program was started with.

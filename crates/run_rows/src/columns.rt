@@ -1,6 +1,6 @@
 //! The columns of a row.
 
-use cuts::items::End;
+use cuts::End;
 use std::alloc::{AllocError, Allocator, Global};
 
 /// A column, the first of which is number 0. A row has `|` between them, and one that is not there is empty.

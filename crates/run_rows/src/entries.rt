@@ -2,9 +2,7 @@
 //! six hexadecimal digits or the name of an error.
 
 use crate::columns::{column, lines_of, number};
-use cuts::counted::Counted;
-use cuts::items::Item;
-use cuts::listing::{write_merged, write_walk};
+use cuts::{Counted, Item, write_merged, write_walk};
 use encode_unicode::Utf8Char;
 use encode_unicode::error::{Utf8Error, Utf8ErrorKind};
 use std::alloc::{AllocError, Global};

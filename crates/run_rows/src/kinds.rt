@@ -25,10 +25,14 @@ pub(crate) enum Kind {
     Shards,
     Places,
     Replacements,
+    Blocks,
+    BlockRooms,
+    BlockShards,
+    BlockPlaces,
 }
 
 impl Kind {
-    pub(crate) fn all() -> [Kind; 17] {
+    pub(crate) fn all() -> [Kind; 21] {
         [
             Kind::Runs,
             Kind::Reads,
@@ -47,6 +51,10 @@ impl Kind {
             Kind::Shards,
             Kind::Places,
             Kind::Replacements,
+            Kind::Blocks,
+            Kind::BlockRooms,
+            Kind::BlockShards,
+            Kind::BlockPlaces,
         ]
     }
 
@@ -70,6 +78,10 @@ impl Kind {
             Kind::Shards => "recoded in two shards",
             Kind::Places => "places and sizes",
             Kind::Replacements => "replacements, each growth refused",
+            Kind::Blocks => "blocks recoded in parts",
+            Kind::BlockRooms => "blocks recoded into rooms of each size",
+            Kind::BlockShards => "blocks recoded in two shards",
+            Kind::BlockPlaces => "how far blocks are well-formed",
         }
     }
 
@@ -85,6 +97,8 @@ impl Kind {
             Kind::LongParts | Kind::LongRooms => "long_recodings.txt",
             Kind::Places => "places.txt",
             Kind::Replacements => "replacements.txt",
+            Kind::Blocks | Kind::BlockRooms | Kind::BlockShards => "blocks.txt",
+            Kind::BlockPlaces => "block_places.txt",
         }
     }
 
@@ -99,11 +113,11 @@ impl Kind {
             Kind::Lines => lines::agrees(alloc, row),
             Kind::Entries => entries::agrees(alloc, row),
             Kind::Lists => lists::agrees(alloc, row),
-            Kind::Parts | Kind::LongParts => parts_agree(alloc, row),
+            Kind::Parts | Kind::LongParts | Kind::Blocks => parts_agree(alloc, row),
             Kind::RefusedParts => refused_parts_agree(alloc, row),
-            Kind::Rooms | Kind::LongRooms => rooms_agree(alloc, row),
-            Kind::Shards => shards_agree(alloc, row),
-            Kind::Places => places::agrees(alloc, row),
+            Kind::Rooms | Kind::LongRooms | Kind::BlockRooms => rooms_agree(alloc, row),
+            Kind::Shards | Kind::BlockShards => shards_agree(alloc, row),
+            Kind::Places | Kind::BlockPlaces => places::agrees(alloc, row),
             Kind::Replacements => replacements::agrees(alloc, row),
         }
     }

@@ -4,11 +4,8 @@
 use crate::columns::word_of;
 use crate::runs::{Row, parse};
 use crate::trials::writes_of;
-use cuts::collected::merge_utf8;
-use cuts::counted::Counted;
-use cuts::listing::{write_listing, write_merged, write_walk};
-use cuts::walks::walk_utf8;
-use fakes::fuse::{Fault, Fuse};
+use cuts::{Counted, merge_utf8, walk_utf8, write_listing, write_merged, write_walk};
+use fakes::fuse::{Failure, Fuse};
 use std::alloc::{AllocError, Global};
 use std::io;
 use std::io::ErrorKind;
@@ -37,13 +34,13 @@ fn errors_of(lines: &[u8]) -> usize {
 }
 
 // How often the writes are refused before all are taken, or none where they then end in another way.
-fn refusals(alloc: Global, row: &Row<'_>, fault: Fault, most: usize) -> Option<usize> {
-    let kind = match fault {
-        Fault::Error(kind) => kind,
-        Fault::Nothing => ErrorKind::WriteZero,
+fn refusals(alloc: Global, row: &Row<'_>, failure: Failure, most: usize) -> Option<usize> {
+    let kind = match failure {
+        Failure::Error(kind) => kind,
+        Failure::Nothing => ErrorKind::WriteZero,
     };
     for passes in 0..10_000 {
-        let mut writer = Fuse::failing(alloc, passes, fault);
+        let mut writer = Fuse::failing(alloc, passes, failure);
         writer.most = most.max(1);
         let mut out = Counted::new(writer);
         let answer = write(alloc, row, &mut out).map_err(|error| error.kind());
@@ -65,13 +62,13 @@ pub(crate) fn agrees(alloc: Global, row: &str) -> Result<bool, AllocError> {
     if row.recodes || row.status == 2 {
         return Ok(true);
     }
-    for fault in [
-        Fault::Error(ErrorKind::BrokenPipe),
-        Fault::Error(ErrorKind::Interrupted),
-        Fault::Nothing,
+    for failure in [
+        Failure::Error(ErrorKind::BrokenPipe),
+        Failure::Error(ErrorKind::Interrupted),
+        Failure::Nothing,
     ] {
         for most in [usize::MAX, 3, 1] {
-            if refusals(alloc, &row, fault, most) != Some(writes_of(&row.output, most)) {
+            if refusals(alloc, &row, failure, most) != Some(writes_of(&row.output, most)) {
                 return Ok(false);
             }
         }

@@ -4,11 +4,10 @@
 //! many growths are refused before the list is whole: its room begins at four entries and doubles.
 
 use crate::columns::{bytes_of, column, number, units_of, word_of};
-use cuts::collected::{forward_utf16, merge_utf8, merge_utf16};
-use cuts::counted::Counted;
-use cuts::items::UnitItem;
-use cuts::listing::{write_merged, write_walk};
-use cuts::walks::{walk_utf8, walk_utf16};
+use cuts::{
+    Counted, UnitItem, forward_utf16, merge_utf8, merge_utf16, walk_utf8, walk_utf16, write_merged,
+    write_walk,
+};
 use encode_unicode::Utf16Char;
 use encode_unicode::error::Utf16PairError;
 use fakes::budget::Budget;

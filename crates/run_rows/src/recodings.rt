@@ -4,9 +4,7 @@
 //! one for an end that leaves some held. Bytes are held while fewer are there than the first of them asks for.
 
 use crate::columns::{bytes_of, column, number};
-use cuts::form::Form;
-use cuts::recoder::Recoder;
-use cuts::shard_end;
+use cuts::{Form, Recoder, shard_end};
 use fakes::budget::Budget;
 use std::alloc::{AllocError, Allocator, Global};
 

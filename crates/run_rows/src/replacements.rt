@@ -5,7 +5,7 @@
 
 use crate::columns::{bytes_of, column, number};
 use crate::entries::entries_of;
-use cuts::piece_table::PieceTable;
+use cuts::PieceTable;
 use encode_unicode::Steps;
 use fakes::budget::Budget;
 use std::alloc::{AllocError, Allocator, Global};

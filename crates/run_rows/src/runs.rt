@@ -5,9 +5,8 @@
 //! has no line feed, and the last column may say how many growths the run asks for.
 
 use crate::columns::{bytes_of, column, lines_of, number, words_of};
-use cuts::counted::Counted;
-use cuts::recoding::run_recode;
-use cuts::runs::{arguments_of, run_pieces};
+use cuts::programs::mains::arguments_of;
+use cuts::{Counted, run_pieces, run_recode};
 use fakes::budget::Budget;
 use fakes::fuse::{Fuse, Plan};
 use std::alloc::{AllocError, Allocator, Global};
@@ -71,7 +70,7 @@ pub(crate) struct Ended<'a> {
     /// How often it read.
     pub(crate) reads: usize,
     pub(crate) out: Fuse<'a>,
-    pub(crate) faults: Fuse<'a>,
+    pub(crate) stderr: Fuse<'a>,
 }
 
 /// The row's run on its input.
@@ -104,13 +103,13 @@ fn list<'a, A: Allocator + Copy>(
     mut input: Fuse<'a>,
     mut out: Counted<Fuse<'a>>,
 ) -> Ended<'a> {
-    let mut faults = Fuse::ample(alloc);
-    let status = run_pieces(budget, args, &mut input, &mut out, &mut faults);
+    let mut stderr = Fuse::ample(alloc);
+    let status = run_pieces(budget, args, &mut input, &mut out, &mut stderr);
     Ended {
         status,
         reads: input.given.len(),
         out: out.into_inner(),
-        faults,
+        stderr,
     }
 }
 
@@ -121,9 +120,9 @@ fn recode<'a, A: Allocator + Copy>(
     input: Fuse<'a>,
     mut out: Counted<Fuse<'a>>,
 ) -> Ended<'a> {
-    let mut faults = Fuse::ample(alloc);
+    let mut stderr = Fuse::ample(alloc);
     let mut input = Counted::new(input);
-    let status = run_recode(budget, args, &mut input, &mut out, &mut faults);
+    let status = run_recode(budget, args, &mut input, &mut out, &mut stderr);
     let input = input.into_inner();
     let reads = input.given.len();
     drop(input);
@@ -132,7 +131,7 @@ fn recode<'a, A: Allocator + Copy>(
         status,
         reads,
         out,
-        faults,
+        stderr,
     }
 }
 
@@ -153,8 +152,8 @@ impl Ended<'_> {
                 .output
                 .as_slice()
                 .starts_with(self.out.written.as_slice())
-            && self.faults.written.as_slice().starts_with(name.as_bytes())
-            && self.says_behind(name.len(), text)
+            && self.stderr.written.as_slice().starts_with(name.as_bytes())
+            && self.says_after(name.len(), text)
     }
 
     // Whether nothing was read or written.
@@ -164,11 +163,11 @@ impl Ended<'_> {
 
     // Whether the text, and a line feed, was said, or nothing where there is none.
     fn says(&self, text: &str) -> bool {
-        text.is_empty() && self.faults.written.is_empty() || self.says_behind(0, text)
+        text.is_empty() && self.stderr.written.is_empty() || self.says_after(0, text)
     }
 
-    fn says_behind(&self, place: usize, text: &str) -> bool {
-        match self.faults.written.get(place..) {
+    fn says_after(&self, place: usize, text: &str) -> bool {
+        match self.stderr.written.get(place..) {
             Some([said @ .., b'\n']) => said == text.as_bytes(),
             _ => false,
         }

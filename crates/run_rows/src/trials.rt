@@ -1,7 +1,7 @@
 //! Each read, write and growth of a run is refused in turn, until none is.
 
 use crate::runs::{Row, Trial, parse, run};
-use fakes::fuse::{Fault, Plan};
+use fakes::fuse::{Failure, Plan};
 use std::alloc::{AllocError, Global};
 use std::io::ErrorKind;
 
@@ -10,7 +10,7 @@ use std::io::ErrorKind;
 enum Refused {
     Read(ErrorKind),
     Reads,
-    Write(Fault),
+    Write(Failure),
     Growth,
 }
 
@@ -20,8 +20,8 @@ impl Refused {
         let mut trial = Trial::pass(most);
         match self {
             Refused::Read(kind) => trial.reads = Plan::fail_once(passes, kind),
-            Refused::Reads => trial.reads = Plan::fail(passes, Fault::Nothing),
-            Refused::Write(fault) => trial.writes = Plan::fail(passes, fault),
+            Refused::Reads => trial.reads = Plan::fail(passes, Failure::Nothing),
+            Refused::Write(failure) => trial.writes = Plan::fail(passes, failure),
             Refused::Growth => trial.growths = passes,
         }
         trial
@@ -98,13 +98,13 @@ pub(crate) fn interrupted_agree(alloc: Global, row: &str) -> Result<bool, AllocE
 /// Whether each write can be refused, of whole lines, of parts of them, and of bytes.
 pub(crate) fn writes_agree(alloc: Global, row: &str) -> Result<bool, AllocError> {
     let row = parse(alloc, row)?;
-    for fault in [
-        Fault::Error(ErrorKind::BrokenPipe),
-        Fault::Error(ErrorKind::Interrupted),
-        Fault::Nothing,
+    for failure in [
+        Failure::Error(ErrorKind::BrokenPipe),
+        Failure::Error(ErrorKind::Interrupted),
+        Failure::Nothing,
     ] {
         for most in [usize::MAX, 3, 1] {
-            let count = refusals(alloc, &row, Refused::Write(fault), most)?;
+            let count = refusals(alloc, &row, Refused::Write(failure), most)?;
             if count.is_none() || !row.recodes && count != Some(writes_of(&row.output, most)) {
                 return Ok(false);
             }

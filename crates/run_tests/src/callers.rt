@@ -1,9 +1,11 @@
-//! The callers in `uses`, over a damaged log, units with lone surrogates, and a text of several scripts.
-use cuts::form::Form;
+//! The callers in `uses`, over a damaged log, units with surrogates that stand alone, and a text of several scripts.
+use cuts::Form;
 use encode_unicode::error::{Utf8ErrorKind, Utf16PairError};
 use encode_unicode::{U16IterExt, Utf8Char};
 use std::process::Abort;
 use std::test::Fail;
+use uses::cases::are_alike;
+use uses::chains::{last_line, trimmed, units_needed};
 use uses::cursor;
 use uses::merged::split_piece;
 use uses::parts::recode_in_parts;
@@ -131,4 +133,31 @@ fn the_text_comes_back(rt: HostRuntime) -> Result<(), Fail> {
         assert!(rt; recode(rt.alloc(), text)?.as_str() == text);
     }
     Ok(())
+}
+
+#[test]
+fn names_are_compared_without_case(rt: HostRuntime) {
+    // As Python's `bytes.lower` makes them equal or not.
+    let table: [(&[u8], &[u8], bool); 7] = [
+        (b"Content-Length", b"cONTENT-lENGTH", true),
+        (b"Host\xff\xe2\x82", b"hOST\xff\xe2\x82", true),
+        (b"caf\xc3\xa9", b"CAF\xc3\x89", false),
+        (b"\xc1", b"\xe1", false),
+        (b"[", b"{", false),
+        (b"a", b"ab", false),
+        (b"", b"", true),
+    ];
+    for (first, second, want) in table {
+        assert!(rt; are_alike(first, second) == want);
+        assert!(rt; are_alike(second, first) == want);
+    }
+}
+
+#[test]
+fn chains_run_from_the_back(rt: HostRuntime) {
+    assert!(rt; last_line(log()).is_empty());
+    assert!(rt; last_line(&log()[..log().len() - 1]) == b"\xf0\x9f\x82\xa0\xf0\x9f".as_slice());
+    assert!(rt; trimmed("  é 🂠  ") == "  é 🂠");
+    assert!(rt; trimmed("   ").is_empty());
+    assert!(rt; units_needed("é🂠a") == 4);
 }

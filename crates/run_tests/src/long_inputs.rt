@@ -1,8 +1,5 @@
 //! A million bytes. From the back, a scan of the whole run for each of its bytes would not end in time.
-use cuts::counted::Counted;
-use cuts::items::Item;
-use cuts::listing::write_listing;
-use cuts::runs::run_pieces;
+use cuts::{Counted, Item, run_pieces, write_listing};
 use encode_unicode::error::{Utf8Error, Utf8ErrorKind};
 use encode_unicode::iterator::Utf8CharDecoder;
 use encode_unicode::{Steps, Utf8Char};
@@ -87,9 +84,9 @@ fn letters_and_faults(alloc: Global) -> Result<Vec<u8>, AllocError> {
 fn listed(rt: &(impl Abort + AllocGlobal), bytes: &[u8], lines: usize) -> Vec<u8> {
     let mut input = Fuse::over(rt.alloc(), bytes);
     let mut out = Counted::new(Fuse::ample(rt.alloc()));
-    let mut faults = Fuse::ample(rt.alloc());
-    let status = run_pieces(rt.alloc(), &[], &mut input, &mut out, &mut faults);
-    assert!(rt; status == 1 && faults.written.is_empty());
+    let mut stderr = Fuse::ample(rt.alloc());
+    let status = run_pieces(rt.alloc(), &[], &mut input, &mut out, &mut stderr);
+    assert!(rt; status == 1 && stderr.written.is_empty());
     let writer = out.into_inner();
     assert!(rt; writer.given.len() == lines);
     writer.written

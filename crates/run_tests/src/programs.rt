@@ -1,13 +1,14 @@
 //! What programs say, and what comes of their words.
-use cuts::collected::{forward_utf16, merge_utf8, merge_utf16};
-use cuts::counted::Counted;
-use cuts::form::Form;
-use cuts::recoding::{RecodeFault, recode};
-use cuts::runs::{Stop, arguments_of, finish_run, run_pieces};
-use cuts::walks::walk_utf8;
+use cuts::programs::mains::arguments_of;
+use cuts::programs::pieces_program::finish_run;
+use cuts::programs::stops::Stop;
+use cuts::{
+    Counted, Form, RecodeFault, forward_utf16, merge_utf8, merge_utf16, recode, run_pieces,
+    walk_utf8,
+};
 use encode_unicode::{StrExt, Utf8CharIterExt, Utf16CharIterExt};
 use fakes::budget::Budget;
-use fakes::fuse::{Fault, Fuse, Plan};
+use fakes::fuse::{Failure, Fuse, Plan};
 use std::alloc::{AllocError, Global};
 use std::io;
 use std::io::ErrorKind;
@@ -49,7 +50,7 @@ fn words_may_be_no_text(rt: HostRuntime) -> Result<(), Fail> {
 #[test]
 fn a_flush_may_fail(rt: HostRuntime) {
     let other = Some(ErrorKind::Other);
-    for (before, fault, status, text, flushes) in [
+    for (before, failure, status, text, flushes) in [
         (0, None, 0, "", 1),
         (1, None, 1, "", 1),
         (0, other, 3, "pieces: cannot write\n", 1),
@@ -64,23 +65,23 @@ fn a_flush_may_fail(rt: HostRuntime) {
         (3, other, 3, "", 0),
     ] {
         let mut writer = Fuse::ample(rt.alloc());
-        writer.flush_fault = fault;
+        writer.flush_failure = failure;
         let mut out = Counted::new(writer);
-        let mut faults = Fuse::ample(rt.alloc());
-        assert!(rt; finish_run(before, &mut out, &mut faults) == status);
-        assert!(rt; faults.written.as_slice() == text.as_bytes());
+        let mut stderr = Fuse::ample(rt.alloc());
+        assert!(rt; finish_run(before, &mut out, &mut stderr) == status);
+        assert!(rt; stderr.written.as_slice() == text.as_bytes());
         assert!(rt; out.into_inner().flushes == flushes);
     }
 }
 
 #[test]
 fn standard_error_may_fail(rt: HostRuntime) {
-    for fault in [Fault::Error(ErrorKind::BrokenPipe), Fault::Nothing] {
-        let mut faults = Fuse::failing(rt.alloc(), 0, fault);
+    for failure in [Failure::Error(ErrorKind::BrokenPipe), Failure::Nothing] {
+        let mut stderr = Fuse::failing(rt.alloc(), 0, failure);
         let mut input = Fuse::over(rt.alloc(), b"A");
         input.plan = Plan::fail_once(0, ErrorKind::Other);
         let mut out = Counted::new(Fuse::ample(rt.alloc()));
-        let status = run_pieces(rt.alloc(), &[], &mut input, &mut out, &mut faults);
+        let status = run_pieces(rt.alloc(), &[], &mut input, &mut out, &mut stderr);
         assert!(rt; status == 3);
     }
 }
@@ -94,28 +95,28 @@ fn stops_have_their_lines(rt: HostRuntime) -> Result<(), Fail> {
         (Stop::NoMemory, 3, "other: no memory\n"),
     ] {
         let text = format!(in rt.alloc(); "other: {stop}\n")?;
-        let mut faults = Fuse::ample(rt.alloc());
-        assert!(rt; stop.report("other", &mut faults) == status);
-        assert!(rt; text.as_str() == line && faults.written.as_slice() == line.as_bytes());
+        let mut stderr = Fuse::ample(rt.alloc());
+        assert!(rt; stop.report("other", &mut stderr) == status);
+        assert!(rt; text.as_str() == line && stderr.written.as_slice() == line.as_bytes());
     }
     Ok(())
 }
 
 #[test]
 fn faults_of_recoding_have_texts(rt: HostRuntime) -> Result<(), Fail> {
-    for (fault, text) in [
+    for (failure, text) in [
         (RecodeFault::Read, "cannot read"),
         (RecodeFault::Write, "cannot write"),
         (RecodeFault::Memory, "no memory"),
     ] {
-        assert!(rt; format!(in rt.alloc(); "{fault}")?.as_str() == text);
+        assert!(rt; format!(in rt.alloc(); "{failure}")?.as_str() == text);
     }
     Ok(())
 }
 
 #[test]
 fn recoding_tells_what_failed(rt: HostRuntime) {
-    for (reads, writes, growths, fault) in [
+    for (reads, writes, growths, failure) in [
         (1, u32::MAX, u32::MAX, RecodeFault::Read),
         (u32::MAX, 0, u32::MAX, RecodeFault::Write),
         (u32::MAX, u32::MAX, 0, RecodeFault::Memory),
@@ -124,9 +125,9 @@ fn recoding_tells_what_failed(rt: HostRuntime) {
         let mut reader = Fuse::over(rt.alloc(), b"A\xe0\x80");
         reader.plan = Plan::fail_once(reads, ErrorKind::BrokenPipe);
         let mut input = Counted::new(reader);
-        let mut out = Counted::new(Fuse::failing(rt.alloc(), writes, Fault::Nothing));
+        let mut out = Counted::new(Fuse::failing(rt.alloc(), writes, Failure::Nothing));
         let answer = recode(&budget, &mut input, &mut out, Form::Utf8, Form::Utf8);
-        assert!(rt; answer == Err(fault));
+        assert!(rt; answer == Err(failure));
     }
 }
 

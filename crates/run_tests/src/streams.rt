@@ -1,6 +1,5 @@
 //! Streams that pass some calls and then fail.
-use cuts::counted::Counted;
-use cuts::listing::write_merged;
+use cuts::{Counted, write_merged};
 use encode_unicode::{CharExt, StrExt, Utf8Char, Utf8CharIterExt};
 use fakes::fuse::{Fuse, Plan};
 use std::io::{ErrorKind, Read};
@@ -31,7 +30,7 @@ fn put_is_one_call(rt: HostRuntime) {
 fn flush_is_one_call(rt: HostRuntime) {
     for fault in [None, Some(ErrorKind::Interrupted)] {
         let mut writer = Fuse::ample(rt.alloc());
-        writer.flush_fault = fault;
+        writer.flush_failure = fault;
         let mut out = Counted::new(writer);
         assert!(rt; out.flush().err().map(|error| error.kind()) == fault);
         let writer = out.into_inner();
@@ -59,7 +58,7 @@ fn take_is_one_read(rt: HostRuntime) {
 }
 
 #[test]
-fn a_reader_gives_parts_and_one_fault(rt: HostRuntime) {
+fn a_reader_gives_parts_and_one_failure(rt: HostRuntime) {
     let kind = ErrorKind::Interrupted;
     let mut input = fuse(&rt, kind);
     let mut part = [0; 4];

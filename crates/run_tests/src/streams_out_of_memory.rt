@@ -1,14 +1,11 @@
 //! Streams that answer an error of the kind `OutOfMemory`: they failed, and no growth was refused.
-use cuts::counted::Counted;
-use cuts::form::Form;
-use cuts::recoding::{RecodeFault, recode, run_recode};
-use cuts::runs::run_pieces;
-use fakes::fuse::{Fault, Fuse, Plan};
+use cuts::{Counted, Form, RecodeFault, recode, run_pieces, run_recode};
+use fakes::fuse::{Failure, Fuse, Plan};
 use std::alloc::{AllocError, Global};
 use std::io::ErrorKind;
 use std::test::Fail;
 
-const OUT_OF_MEMORY: Fault = Fault::Error(ErrorKind::OutOfMemory);
+const OUT_OF_MEMORY: Failure = Failure::Error(ErrorKind::OutOfMemory);
 
 // A reader of three bytes that passes so many reads and then is out of memory.
 fn failing_reader<'a>(alloc: Global, passes: u32) -> Fuse<'a> {
@@ -29,11 +26,11 @@ fn a_reader_of_pieces(rt: HostRuntime) {
     for passes in 0..3 {
         let mut input = failing_reader(rt.alloc(), passes);
         let mut out = Counted::new(Fuse::ample(rt.alloc()));
-        let mut faults = Fuse::ample(rt.alloc());
-        let status = run_pieces(rt.alloc(), &[], &mut input, &mut out, &mut faults);
+        let mut stderr = Fuse::ample(rt.alloc());
+        let status = run_pieces(rt.alloc(), &[], &mut input, &mut out, &mut stderr);
         assert_eq!(rt; status, 3);
         assert_eq!(rt;
-            faults.written.as_slice(),
+            stderr.written.as_slice(),
             b"pieces: cannot read\n".as_slice()
         );
         assert!(rt; out.into_inner().given.is_empty());
@@ -44,11 +41,11 @@ fn a_reader_of_pieces(rt: HostRuntime) {
 fn a_counted_reader_of_pieces(rt: HostRuntime) {
     let mut input = Counted::new(failing_reader(rt.alloc(), 1));
     let mut out = Counted::new(Fuse::ample(rt.alloc()));
-    let mut faults = Counted::new(Fuse::ample(rt.alloc()));
-    let status = run_pieces(rt.alloc(), &[], &mut input, &mut out, &mut faults);
+    let mut stderr = Counted::new(Fuse::ample(rt.alloc()));
+    let status = run_pieces(rt.alloc(), &[], &mut input, &mut out, &mut stderr);
     assert_eq!(rt; status, 3);
     assert_eq!(rt;
-        faults.into_inner().written.as_slice(),
+        stderr.into_inner().written.as_slice(),
         b"pieces: cannot read\n".as_slice()
     );
     assert_eq!(rt; input.into_inner().given.len(), 2, "it is not asked again");
@@ -58,11 +55,11 @@ fn a_counted_reader_of_pieces(rt: HostRuntime) {
 fn a_writer_of_pieces(rt: HostRuntime) {
     let mut input = Fuse::over(rt.alloc(), b"abc");
     let mut out = Counted::new(Fuse::failing(rt.alloc(), 1, OUT_OF_MEMORY));
-    let mut faults = Fuse::ample(rt.alloc());
-    let status = run_pieces(rt.alloc(), &[], &mut input, &mut out, &mut faults);
+    let mut stderr = Fuse::ample(rt.alloc());
+    let status = run_pieces(rt.alloc(), &[], &mut input, &mut out, &mut stderr);
     assert_eq!(rt; status, 3);
     assert_eq!(rt;
-        faults.written.as_slice(),
+        stderr.written.as_slice(),
         b"pieces: cannot write\n".as_slice()
     );
 }
@@ -90,11 +87,11 @@ fn a_run_of_recode(rt: HostRuntime) -> Result<(), Fail> {
     let args = two_forms(rt.alloc())?;
     let mut input = Counted::new(failing_reader(rt.alloc(), 1));
     let mut out = Counted::new(Fuse::ample(rt.alloc()));
-    let mut faults = Fuse::ample(rt.alloc());
-    let status = run_recode(rt.alloc(), &args, &mut input, &mut out, &mut faults);
+    let mut stderr = Fuse::ample(rt.alloc());
+    let status = run_recode(rt.alloc(), &args, &mut input, &mut out, &mut stderr);
     assert_eq!(rt; status, 3);
     assert_eq!(rt;
-        faults.written.as_slice(),
+        stderr.written.as_slice(),
         b"recode: cannot read\n".as_slice()
     );
     Ok(())

@@ -1,7 +1,7 @@
 //! Tables that change again and again, and a long one.
 ghost use Rattle.std.specs.Prelude.{◌<◌, ◌≤◌, ◌+◌, length};
 
-use cuts::piece_table::PieceTable;
+use cuts::PieceTable;
 use encode_unicode::{Steps, Utf8Char};
 use std::alloc::{AllocError, Allocator};
 use std::test::Fail;

@@ -1,6 +1,5 @@
 //! Every word of eight letters over short bytes, and then calls from the front until there is no answer.
-use cuts::items::{End, Item};
-use cuts::walks::walk_utf8;
+use cuts::{End, Item, walk_utf8};
 use std::alloc::{AllocError, Global};
 use std::process::Abort;
 use std::test::Fail;

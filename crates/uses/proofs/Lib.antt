@@ -10,3 +10,4 @@ pub mod ShownLemmas
 pub mod NeedleLemmas
 pub mod SourceLemmas
 mod RoomLemmas
+pub mod CaseLemmas

@@ -24,10 +24,10 @@ abbrev pub units_left : Splitting Window → List ℕ
 units_left = unsent utf16 (λ w. chars (elements w))
 
 -- the text is what came back and the characters whose units are unread
-pub record IsRecodedSoFar (text again behind : List ℕ) : Type 0 where
+pub record IsRecodedSoFar (text again following : List ℕ) : Type 0 where
   pub left : List ℕ
   pub scalars : All IsScalar left
-  pub units : behind ≡ flat_map utf16 left
+  pub units : following ≡ flat_map utf16 left
   pub joined : text ≡ again ++ flat_map utf8 left
 
 encodes_are_codes : (cs : List ℕ) → encode_utf8_all cs ≡ flat_map utf8 cs

@@ -13,11 +13,11 @@ use Rattle.uses.specs.Records.{IsRecord}
 use Rattle.uses.specs.declared.records.Ending.TheVariants.{Zero}
 
 -- the units are the codes of the characters so far, which are the text, and those after them
-pub record IsRecordSoFar (units text behind : List ℕ) : Type 0 where
+pub record IsRecordSoFar (units text following : List ℕ) : Type 0 where
   pub scalars : List ℕ
   pub all : All (λ s. IsScalar s × (s ≢ 0)) scalars
   pub is_text : text ≡ flat_map utf8 scalars
-  pub split : units ≡ flat_map utf16 scalars ++ behind
+  pub split : units ≡ flat_map utf16 scalars ++ following
 
 pub record_char : (units text old new : List ℕ) (r : Result ℕ Utf16PairError) (s : ℕ) → IsRecordSoFar units text old → r ≡ Ok s → s ≢ 0 → TakesFront utf16 unit_fault_kind old (Some r) new
     → IsRecordSoFar units (text ++ utf8 s) new

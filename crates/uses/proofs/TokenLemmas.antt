@@ -50,8 +50,8 @@ clean_range xs d i j le clean k other lt =
     let there : k < j - i = grind (arith, common_steps) in
     rw (at_range xs i j k other there le) (clean (i + k) (omega arith) (omega arith))
 
-behind_range : (xs : List ℕ) (i j : ℕ) → i ≤ j → drop i xs ≡ slice_range xs i j ++ drop j xs
-behind_range xs i j le =
+after_range : (xs : List ℕ) (i j : ℕ) → i ≤ j → drop i xs ≡ slice_range xs i j ++ drop j xs
+after_range xs i j le =
     let sum : i + (j - i) ≡ j = omega arith in
     sym (take-append-drop (j - i) (drop i xs)) ∙ ap (λ ys. slice_range xs i j ++ ys) (drop-drop (j - i) i xs ∙ ap (λ n. drop n xs) sum)
 
@@ -148,7 +148,7 @@ tokens_push xs d start ts w v x s t ascii before step is delimiter token =
     let at : get_or xs w.front 0 ≡ d =
     ap (λ i. get_or xs i 0) (omega arith) ∙ sym (at_range xs w.front (w.front + length (utf8 d)) 0 0 (omega arith) within) ∙ ap (λ l. get_or l 0 0) (first.equal ∙ code) in
     let rest : drop start xs ≡ t ++ d ∷ drop (w.front + 1) xs =
-    behind_range xs start w.front before.ordered ∙ (λ i. sym token i ++ (drop_more xs w.front 0 (omega arith) ∙ ap (λ b. b ∷ drop (w.front + 1) xs) at) i) in
+    after_range xs start w.front before.ordered ∙ (λ i. sym token i ++ (drop_more xs w.front 0 (omega arith) ∙ ap (λ b. b ∷ drop (w.front + 1) xs) at) i) in
     let front = next.front in
     record {
       whole = next.whole;
@@ -166,7 +166,7 @@ pub tokens_all : (xs : List ℕ) (d start : ℕ) (ts : List (List ℕ)) (w : Win
 tokens_all xs d start ts w t before end token =
     let back = before.back in
     let all : w.front ≡ length xs = end ∙ before.back in
-    let rest : drop start xs ≡ t = behind_range xs start (length xs) (omega (arith, before.ordered)) ∙ (λ i. sym token i ++ none i) ∙ append-nil t in
+    let rest : drop start xs ≡ t = after_range xs start (length xs) (omega (arith, before.ordered)) ∙ (λ i. sym token i ++ none i) ∙ append-nil t in
     record {
       some = length_some ts t;
       whole = joined_last d ts t ∙ ap (λ ys. closed d ts ++ ys) (sym rest) ∙ sym before.split;

@@ -11,3 +11,4 @@ pub mod Shown
 pub mod Needles
 pub mod Wire
 pub mod Blocks
+pub mod Cases

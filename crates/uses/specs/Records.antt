@@ -7,18 +7,18 @@ use Rattle.encode_unicode.specs.Units.{unit_fault_kind}
 use Rattle.uses.specs.declared.records.Ending.{Ending}
 use Rattle.uses.specs.declared.records.Ending.TheVariants.{Zero, Damaged, Missing}
 
--- what stands at the end of a record, in front of the units `behind`: a zero unit, a unit that is damaged, or nothing
+-- what stands at the end of a record, in front of the units `following`: a zero unit, a unit that is damaged, or nothing
 abbrev pub Ends : Ending → List ℕ → List ℕ → Type 0
-Ends Zero units behind = units ≡ 0 ∷ behind
-Ends (Damaged kind) units behind = (unit_fault_kind units ≡ Some kind) × (units ≡ slice_index units 0 ∷ behind)
-Ends Missing units behind = (units ≡ []) × (behind ≡ [])
+Ends Zero units following = units ≡ 0 ∷ following
+Ends (Damaged kind) units following = (unit_fault_kind units ≡ Some kind) × (units ≡ slice_index units 0 ∷ following)
+Ends Missing units following = (units ≡ []) × (following ≡ [])
 
 -- the units are the codes of the record's characters, which are its text, its end, and those after it; none of its
 -- characters is U+0000
-pub record IsRecord (units text : List ℕ) (ending : Ending) (behind : List ℕ) : Type 0 where
+pub record IsRecord (units text : List ℕ) (ending : Ending) (following : List ℕ) : Type 0 where
   pub scalars : List ℕ
   pub all : All (λ s. IsScalar s × (s ≢ 0)) scalars
   pub is_text : text ≡ flat_map utf8 scalars
   pub end : List ℕ
   pub split : units ≡ flat_map utf16 scalars ++ end
-  pub ends : Ends ending end behind
+  pub ends : Ends ending end following

@@ -102,7 +102,7 @@ pub fn char_by_number(c: char) -> char
     char::from_u32_detailed(c as u32).unwrap()
 }
 
-/// The checked and the unchecked form of one slice.
+/// The checked and the unchecked call of one slice.
 pub fn forms_agree(bytes: &[u8]) -> bool
     ensures { IsTrue result }
 {
@@ -112,7 +112,7 @@ pub fn forms_agree(bytes: &[u8]) -> bool
     }
 }
 
-/// The checked and the unchecked form of one array of units.
+/// The checked and the unchecked call of one array of units.
 pub fn array_forms_agree(units: [u16; 2]) -> bool
     ensures { IsTrue result }
 {
@@ -122,7 +122,7 @@ pub fn array_forms_agree(units: [u16; 2]) -> bool
     }
 }
 
-/// The checked and the unchecked form of one tuple.
+/// The checked and the unchecked call of one tuple.
 pub fn tuple_forms_agree(units: (u16, Option<u16>)) -> bool
     ensures { IsTrue result }
 {

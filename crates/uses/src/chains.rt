@@ -71,12 +71,29 @@ pub fn after_space(text: &str) -> &str {
     }
 }
 
-/// The text before its first space, which is all of it where there is none.
-pub fn before_space(text: &str) -> &str {
-    match text.utf8char_indices().find(|x| x.1.eq_char(' ')) {
-        Some((place, _)) => &text[..place],
-        None => text,
+/// The text without the spaces that end it.
+pub fn trimmed(text: &str) -> &str {
+    match text.utf8char_indices().rev().find(|x| !x.1.eq_char(' ')) {
+        Some((place, c)) => &text[..place + c.len()],
+        None => "",
     }
+}
+
+/// The bytes after the last line feed, which are all where there is none.
+pub fn last_line(bytes: &[u8]) -> &[u8] {
+    let feed = bytes
+        .utf8char_indices()
+        .rev()
+        .find(|x| x.1.is_ok_and(|c| c.eq_char('\n')));
+    match feed {
+        Some((place, _, len)) => &bytes[place + len..],
+        None => bytes,
+    }
+}
+
+/// How many units the text has in UTF-16.
+pub fn units_needed(text: &str) -> usize {
+    text.utf16chars().map(|c| c.len()).sum()
 }
 
 /// Whether the bytes are UTF-8.

@@ -5,8 +5,7 @@ ghost use Rattle.cuts.specs.Tables.{moved_item};
 ghost use Rattle.encode_unicode.specs.Window.{Item as AnItem};
 ghost use Rattle.uses.specs.Editor.{begins_between};
 
-use cuts::PieceTable;
-use cuts::items::Item;
+use cuts::{Item, PieceTable};
 use encode_unicode::Steps;
 use std::alloc::{AllocError, Allocator};
 
@@ -31,7 +30,7 @@ pub fn edit<A: Allocator + Copy>(
     requires within { end ≤ length table.old.bytes }
     ensures bytes { OnOk result (table.new.bytes ≡ splice table.old.bytes start end new.now) }
     ensures before { IfOk result (λ changed. (x : AnItem) → x.0 < changed.from → Contains table.new.pieces x ↔ Contains table.old.pieces x) }
-    ensures behind { IfOk result (λ changed. (x : AnItem) → changed.until ≤ x.0 → Contains table.new.pieces x ↔ Contains table.old.pieces (moved_item (start + length new.now) end x)) }
+    ensures following { IfOk result (λ changed. (x : AnItem) → changed.until ≤ x.0 → Contains table.new.pieces x ↔ Contains table.old.pieces (moved_item (start + length new.now) end x)) }
     ensures err { OnErr result (table.new ≡ table.old) }
 {
     let after = start.checked_add(new.len()).ok_or(AllocError)?;

@@ -10,6 +10,7 @@ pub mod alike;
 pub mod blocks;
 pub mod boundaries;
 pub mod bounds;
+pub mod cases;
 pub mod chains;
 pub mod cursor;
 pub mod damage;

@@ -8,7 +8,7 @@ use encode_unicode::{StrExt, Utf8Char, Utf8CharIterExt, Utf16Char, Utf16CharIter
 use std::alloc::{AllocError, Allocator};
 
 /// The text after its first character.
-pub fn behind_first(text: &str) -> &str {
+pub fn after_first(text: &str) -> &str {
     match Utf8Char::from_str_start(text) {
         Ok((_, len)) => &text[len..],
         Err(_) => text,

@@ -1,4 +1,4 @@
-//! Conditions of the unchecked forms, said by tests: after the checked form, of a value's own code, and
+//! Conditions of the unchecked calls, said by tests: after the checked call, of a value's own code, and
 //! after a look at the units.
 ghost use Rattle.std.specs.Prelude.{◌≡◌};
 
@@ -47,7 +47,7 @@ pub fn array_of_pair(first: u16, second: u16) -> Option<Utf16Char> {
     }
 }
 
-/// After the checked form took the tuple.
+/// After the checked call took the tuple.
 pub fn tuple_twice(units: (u16, Option<u16>)) -> Option<Utf16Char> {
     Utf16Char::from_tuple(units).ok()?;
     Some(Utf16Char::from_tuple_unchecked(units))
@@ -109,7 +109,7 @@ pub fn array_twice(array: [u8; 4]) -> Option<Utf8Char> {
     }
 }
 
-/// After the checked form took the bytes.
+/// After the checked call took the bytes.
 pub fn slice_twice(bytes: &[u8]) -> Option<(Utf8Char, usize)> {
     Utf8Char::from_slice_start(bytes).ok()?;
     Some(Utf8Char::from_slice_start_unchecked(bytes))
@@ -131,7 +131,7 @@ pub fn own_view(c: Utf16Char) -> Utf16Char
     same
 }
 
-/// After the checked form took the units.
+/// After the checked call took the units.
 pub fn units_twice(units: &[u16]) -> Option<(Utf16Char, usize)> {
     Utf16Char::from_slice_start(units).ok()?;
     Some(Utf16Char::from_slice_start_unchecked(units))
@@ -160,7 +160,7 @@ pub fn own_exact_of_char(c: char) -> char
     char::from_utf8_exact_slice_unchecked(&array[..len])
 }
 
-/// After the checked form took the byte.
+/// After the checked call took the byte.
 pub fn ascii_twice(byte: u8) -> Option<Utf8Char> {
     Utf8Char::from_ascii(byte).ok()?;
     Some(Utf8Char::from_ascii_unchecked(byte))
@@ -174,7 +174,7 @@ pub fn own_ascii(c: Utf8Char) -> Option<Utf8Char> {
     Some(Utf8Char::from_ascii_unchecked(c.as_bytes()[0]))
 }
 
-/// After the checked form took the unit.
+/// After the checked call took the unit.
 pub fn bmp_twice(unit: u16) -> Option<Utf16Char> {
     Utf16Char::from_bmp(unit).ok()?;
     Some(Utf16Char::from_bmp_unchecked(unit))

@@ -1,18 +1,18 @@
 -- The code that ends some bytes: where a scan from their end finds it, and that the last four of them decide.
-use Rattle.std.proofs.Common.{◌≡◌, ℕ, ◌+◌, ◌-◌, ◌<◌, ◌≤◌, ⊎_elim, List, length, get_or, arith, refl, ap, sym, ◌∙◌, true, false, Bool, Option, Some, None, Result, Ok, Err, eqb}
+use Rattle.std.proofs.Common.{◌≡◌, ℕ, zero, suc, ◌+◌, ◌-◌, ◌<◌, ◌≤◌, ⊎_elim, List, length, get_or, arith, refl, ap, sym, ◌∙◌, true, false, Option, Some, None, Result, Ok, Err, eqb, lit<}
 use Rattle.std.proofs.lemmas.Grind.{common_steps}
-use Rattle.std.proofs.lemmas.Bool.{cases_lt}
+use Rattle.std.proofs.lemmas.Bool.{cases_Bool, cases_lt}
 use Rattle.utf_base.specs.declared.errors.Utf8ErrorKind.{Utf8ErrorKind}
 use Rattle.utf_base.specs.declared.errors.Utf8ErrorKind.TheVariants.{TooFewBytes}
-use Rattle.utf_base.specs.Back.{DecodesEnd, IsWholeCode, EndsInFollowers, last_bytes, is_one_code, end_len, decoded_end, end_fault}
+use Rattle.utf_base.specs.Back.{DecodesEnd, IsWholeCode, EndsInContinuationBytes, last_bytes, is_one_code, end_len, decoded_end, end_fault}
 use Rattle.utf_base.specs.Code.{utf8}
 use Rattle.utf_base.specs.Ends.{last_of, EndsWith, NoCodeEnds}
 use Rattle.utf_base.specs.Front.{as_scalar, BeginsWith, IsFrontLen}
 use Rattle.utf_base.specs.Kinds.{asked_by, back_kind, fault_kind, is_continuation, value}
-use Rattle.utf_base.proofs.Ending.{no_code_ends-empty, ends_in_part, ends_in_whole, one_code_ends}
+use Rattle.utf_base.proofs.Ending.{end_len as end_len_of, no_code_ends-empty, ends_in_part, ends_in_whole, one_code_ends}
 use Rattle.utf_base.proofs.FrontLemmas.{code_where_no_fault, no_code_where_fault, no_fault_where_code, decodes_from_stands}
 use Rattle.utf_base.proofs.Standing.{Stands-at, same_char, stands_in_part, stands_in_whole}
-use Rattle.utf_base.proofs.Utf8Code.{utf8_is_code, utf8-first, utf8-follower, length_utf8}
+use Rattle.utf_base.proofs.Utf8Code.{utf8_is_code, utf8-first, utf8-continuation_byte, length_utf8}
 
 -- The scan.
 
@@ -23,7 +23,7 @@ continues_not : (b : ℕ) → is_continuation b ≡ false → 0x80 ≤ b → b <
 continues_not b h p q = grind (arith, common_steps)
 
 -- a code that ends the bytes has one byte more than the scan has seen continue
-end_len_of_scan : (w : List ℕ) (t s n : ℕ) → EndsInFollowers w t → EndsWith utf8 w s n → n ≡ t + 1
+end_len_of_scan : (w : List ℕ) (t s n : ℕ) → EndsInContinuationBytes w t → EndsWith utf8 w s n → n ≡ t + 1
 end_len_of_scan w t s n scan h =
     let len : n ≡ length (utf8 s) = h.1 in
     let within = h.0.within in
@@ -34,14 +34,14 @@ end_len_of_scan w t s n scan h =
     (λ (short : n < t + 1).
     let place : length w - n ≡ length w - 1 - (n - 1) = omega arith in
     let first = Stands-at utf8 w (length w - n) s 0 (length w - n) (omega arith) h.0 some in
-    let seen = continues (get_or w (length w - 1 - (n - 1)) 0) (scan.followers (n - 1) (omega arith)) in
+    let seen = continues (get_or w (length w - 1 - (n - 1)) 0) (scan.continuation_bytes (n - 1) (omega arith)) in
     let same : get_or w (length w - n) 0 ≡ get_or w (length w - 1 - (n - 1)) 0 = ap (λ i. get_or w i 0) place in
     absurd (⊎_elim (λ (a : get_or (utf8 s) 0 0 < 0x80). omega (arith, seen)) (λ (a : 0xC2 ≤ get_or (utf8 s) 0 0). omega (arith, seen)) (utf8-first s h.0.scalar)))
     (λ (long : t + 1 ≤ n).
     ⊎_elim
     (λ (longer : t + 1 < n).
     let at = Stands-at utf8 w (length w - n) s (n - 1 - t) (length w - 1 - t) (omega arith) h.0 (omega arith) in
-    let follows = utf8-follower s (n - 1 - t) h.0.scalar (omega arith) (omega arith) in
+    let follows = utf8-continuation_byte s (n - 1 - t) h.0.scalar (omega arith) (omega arith) in
     absurd (continues_not (get_or w (length w - 1 - t) 0) (scan.stops (omega arith) (omega arith)) (omega (arith, follows)) (omega (arith, follows))))
     (λ (same : n ≤ t + 1). omega arith)
     (cases_lt (t + 1) n))
@@ -58,7 +58,7 @@ end_found w s n le h =
     ((stands_in_whole utf8 w (length w - n) (length w) 0 (length w - n) s (omega arith) (omega arith) (omega arith) h.0).0, sym len ∙ h.1)
 
 -- where those that the scan points at are none, no code does
-pub end_missed : (w : List ℕ) (t : ℕ) → EndsInFollowers w t → IsWholeCode (last_bytes (t + 1) w) None → NoCodeEnds utf8 w
+pub end_missed : (w : List ℕ) (t : ℕ) → EndsInContinuationBytes w t → IsWholeCode (last_bytes (t + 1) w) None → NoCodeEnds utf8 w
 end_missed w t scan none s n h =
     let len : n ≡ t + 1 = end_len_of_scan w t s n scan h in
     let within = h.0.within in
@@ -68,7 +68,7 @@ end_missed w t scan none s n h =
     none s (stands_in_part utf8 w (length w - (t + 1)) (length w) 0 (length w - n) s place (omega arith) h.0 (omega arith), part ∙ sym len ∙ h.1)
 
 -- and where the scan has met the front of the bytes, no code does either
-pub end_missed-all : (w : List ℕ) (t : ℕ) → EndsInFollowers w t → length w ≤ t → NoCodeEnds utf8 w
+pub end_missed-all : (w : List ℕ) (t : ℕ) → EndsInContinuationBytes w t → length w ≤ t → NoCodeEnds utf8 w
 end_missed-all w t scan all s n h =
     let len : n ≡ t + 1 = end_len_of_scan w t s n scan h in
     let within = h.0.within in
@@ -121,11 +121,11 @@ last_four_decide w (Err k) h = (
 -- The answer as a function.
 
 one_code_cases : (x : List ℕ) → is_one_code x ≡ true → (fault_kind x ≡ None) × (asked_by x ≡ length x)
-one_code_cases x h = by_kind x (fault_kind x) refl h
+one_code_cases x h = by_kind (fault_kind x) refl
   where
-    by_kind : (x : List ℕ) (k : Option Utf8ErrorKind) → fault_kind x ≡ k → is_one_code x ≡ true → (fault_kind x ≡ None) × (asked_by x ≡ length x)
-    by_kind x None e h = (e, grind (arith, common_steps))
-    by_kind x (Some k) e h = absurd (grind (arith, common_steps))
+    by_kind : (k : Option Utf8ErrorKind) → fault_kind x ≡ k → (fault_kind x ≡ None) × (asked_by x ≡ length x)
+    by_kind None e = (e, grind (arith, common_steps))
+    by_kind (Some k) e = absurd (grind (arith, common_steps))
 
 -- the last bytes, where they are one code, end the bytes
 one_code_ends_with : (w : List ℕ) (n : ℕ) → is_one_code (last_bytes n w) ≡ true → EndsWith utf8 w (value (last_bytes n w)) (length (last_bytes n w))
@@ -151,48 +151,32 @@ ends_with_one_code w s n h =
 
 -- fewer bytes are none, nor is any number where no code ends them
 not_shorter : (w : List ℕ) (s n m : ℕ) → EndsWith utf8 w s n → m < n → is_one_code (last_bytes m w) ≡ false
-not_shorter w s n m h lt = by_test (is_one_code (last_bytes m w)) refl
-  where
-    by_test : (b : Bool) → is_one_code (last_bytes m w) ≡ b → is_one_code (last_bytes m w) ≡ false
-    by_test false e = e
-    by_test true e =
-        let within = h.0.within in
-        let n_is = h.1 in
-        let len : length (last_bytes m w) ≡ m = grind (arith, common_steps) in
-        let same : n ≡ length (last_bytes m w) = (one_code_ends utf8 utf8_is_code w s (value (last_bytes m w)) n (length (last_bytes m w)) h (one_code_ends_with w m e)).1 in
-        absurd (omega arith)
+not_shorter w s n m h lt =
+    ⊎_elim
+    (λ e.
+    let within = h.0.within in
+    let n_is = h.1 in
+    let len : length (last_bytes m w) ≡ m = grind (arith, common_steps) in
+    let same : n ≡ length (last_bytes m w) = (one_code_ends utf8 utf8_is_code w s (value (last_bytes m w)) n (length (last_bytes m w)) h (one_code_ends_with w m e)).1 in
+    absurd (omega arith))
+    (λ e. e)
+    (cases_Bool (is_one_code (last_bytes m w)))
 
 not_any : (w : List ℕ) (m : ℕ) → NoCodeEnds utf8 w → is_one_code (last_bytes m w) ≡ false
-not_any w m none = by_test (is_one_code (last_bytes m w)) refl
-  where
-    by_test : (b : Bool) → is_one_code (last_bytes m w) ≡ b → is_one_code (last_bytes m w) ≡ false
-    by_test false e = e
-    by_test true e = absurd (none _ _ (one_code_ends_with w m e))
+not_any w m none = ⊎_elim (λ e. absurd (none _ _ (one_code_ends_with w m e))) (λ e. e) (cases_Bool (is_one_code (last_bytes m w)))
 
 end_len_is : (w : List ℕ) (s n : ℕ) → EndsWith utf8 w s n → end_len w ≡ n
 unfolding end_len
 end_len_is w s n h =
-    let n_is = h.1 in
     let some = utf8_is_code.some s h.0.scalar in
-    let most = length_utf8 s in
-    let code = (ends_with_one_code w s n h).0 in
-    ⊎_elim
-    (λ (one : n < 2). let e : n ≡ 1 = omega arith in rw (rw e at code) (sym e))
-    (λ (ge2 : 2 ≤ n).
-    let p1 = not_shorter w s n 1 h (omega arith) in
-    ⊎_elim
-    (λ (two : n < 3). let e : n ≡ 2 = omega arith in rw (p1, rw e at code) (sym e))
-    (λ (ge3 : 3 ≤ n).
-    let p2 = not_shorter w s n 2 h (omega arith) in
-    ⊎_elim
-    (λ (three : n < 4). let e : n ≡ 3 = omega arith in rw (p1, p2, rw e at code) (sym e))
-    (λ (ge4 : 4 ≤ n).
-    let p3 = not_shorter w s n 3 h (omega arith) in
-    let e : n ≡ 4 = omega arith in
-    rw (p1, p2, p3, rw e at code) (sym e))
-    (cases_lt n 4))
-    (cases_lt n 3))
-    (cases_lt n 2)
+    by_len n (omega (arith, h.1)) (omega (arith, h.1, length_utf8 s)) (ends_with_one_code w s n h).0 (λ m lt. not_shorter w s n m h lt)
+  where
+    by_len : (n : ℕ) → 0 < n → n ≤ 4 → is_one_code (last_bytes n w) ≡ true → ((m : ℕ) → m < n → is_one_code (last_bytes m w) ≡ false) → end_len w ≡ n
+    by_len (suc zero) some most code shorter = rw code refl
+    by_len (suc (suc zero)) some most code shorter = rw (shorter 1 (lit< tt), code) refl
+    by_len (suc (suc (suc zero))) some most code shorter = rw (shorter 1 (lit< tt), shorter 2 (lit< tt), code) refl
+    by_len (suc (suc (suc (suc zero)))) some most code shorter = rw (shorter 1 (lit< tt), shorter 2 (lit< tt), shorter 3 (lit< tt), code) refl
+    by_len _ some most code shorter = absurd (omega arith)
 
 end_len_none : (w : List ℕ) → NoCodeEnds utf8 w → end_len w ≡ 0
 unfolding end_len
@@ -212,9 +196,4 @@ pub decoded_end_code : (w : List ℕ) (s n : ℕ) → EndsWith utf8 w s n → de
 decoded_end_code w s n h = sym (answer_of_end w (Ok (s, n)) h)
 
 pub end_len_utf8 : (w : List ℕ) (s n : ℕ) → EndsWith utf8 w s n → IsFrontLen 4 w n
-end_len_utf8 w s n h =
-    let some = utf8_is_code.some s h.0.scalar in
-    let most = length_utf8 s in
-    let within = h.0.within in
-    let len = h.1 in
-    (omega arith, omega arith, omega arith)
+end_len_utf8 = end_len_of utf8 4 utf8_is_code length_utf8

@@ -21,7 +21,7 @@ piece_ends_outside code c xs p n None h i =
 
 pub cut_before : (code : ℕ → List ℕ) (xs : List ℕ) (i m j k : ℕ) (ps : List Piece) → m ≤ j → k ≤ length ps → AllWithin (λ x. x.start < m) ps 0 k
     → AllWithin (λ x. m ≤ x.start) ps k (length ps) → IsCutBetween code xs i j ps → IsCutBetween code xs i m (take k ps)
-cut_before code xs i m j k ps le within before behind a =
+cut_before code xs i m j k ps le within before following a =
     let len = length-take k ps in
     record {
       pieces = λ n d lt.
@@ -33,7 +33,7 @@ cut_before code xs i m j k ps le within before behind a =
           let start = ap (λ z. z.start) w.2 in
           ⊎_elim
           (λ (first : w.0 < k). (w.0, omega arith, get_or-take k ps w.0 x first ∙ w.2))
-          (λ (later : k ≤ w.0). let b = behind w.0 x later w.1 in absurd (omega arith))
+          (λ (later : k ≤ w.0). let b = following w.0 x later w.1 in absurd (omega arith))
           (cases_lt w.0 k);
       in_order = λ n o d lt h.
           let last : o < k = omega arith in
@@ -43,12 +43,12 @@ cut_before code xs i m j k ps le within before behind a =
 
 pub cut_from_place : (code : ℕ → List ℕ) (xs : List ℕ) (i m j k : ℕ) (ps : List Piece) → i ≤ m → k ≤ length ps → AllWithin (λ x. x.start < m) ps 0 k
     → AllWithin (λ x. m ≤ x.start) ps k (length ps) → IsCutBetween code xs i j ps → IsCutBetween code xs m j (drop k ps)
-cut_from_place code xs i m j k ps le within before behind a =
+cut_from_place code xs i m j k ps le within before following a =
     let len = length-drop k ps in
     record {
       pieces = λ n d lt.
           let w = a.pieces (k + n) d (omega arith) in
-          rw (get_or-drop k ps n d) (w.0, behind (k + n) d (omega arith) (omega arith), w.2);
+          rw (get_or-drop k ps n d) (w.0, following (k + n) d (omega arith) (omega arith), w.2);
       all = λ x h lo hi.
           let w = a.all x h (omega arith) hi in
           let start = ap (λ z. z.start) w.2 in

@@ -1,5 +1,5 @@
 -- From one answer on a window to the pieces of the whole list, and the cut that the pieces make.
-use Rattle.std.proofs.Common.{mul-suc, ◌*◌, ◌≡◌, ℕ, zero, suc, ◌+◌, ◌-◌, ◌<◌, ◌≤◌, ◌⊎◌, inl, inr, List, [], ◌∷◌, ◌++◌, length, get_or, arith, refl, ap, ap₂, sym, ◌∙◌, ⊎_elim, Some, None, Option, lit<, length-append}
+use Rattle.std.proofs.Common.{mul-suc, ◌*◌, ◌≡◌, ℕ, zero, suc, ◌+◌, ◌-◌, ◌<◌, ◌≤◌, ◌⊎◌, inl, inr, List, [], ◌∷◌, ◌++◌, length, get_or, arith, refl, ap, ap₂, sym, ◌∙◌, subst, ⊎_elim, Some, None, Option, lit<, length-append}
 use Rattle.std.proofs.lemmas.Bool.{cases_lt}
 use Rattle.std.proofs.lemmas.List.{get_or_append_left, get_or-append_right}
 use Rattle.std.proofs.lemmas.List.Elements.{All-append, All-cons, All-nil, Contains-append_left, Contains-append_right}
@@ -114,18 +114,10 @@ pub one_piece_ends : (code : ℕ → List ℕ) → IsCode code → OnePieceEnds 
 one_piece_ends code c xs x y h g e =
     let of_x = piece_some code c xs x.start x.len x.char h in
     let of_y = piece_some code c xs y.start y.len y.char g in
-    ⊎_elim
-    (λ (lt : x.start < y.start).
-    let first : end_of x ≤ y.start = (pieces_never_overlap code c xs x y h g).1 lt in
-    absurd (omega arith))
-    (λ (le : y.start ≤ x.start).
-    ⊎_elim
-    (λ (gt : y.start < x.start).
-    let last : end_of y ≤ x.start = (pieces_never_overlap code c xs y x g h).1 gt in
-    absurd (omega arith))
-    (λ (ge : x.start ≤ y.start). one_piece_begins code c xs x y h g (omega arith))
-    (cases_lt y.start x.start))
-    (cases_lt x.start y.start)
+    let first = (pieces_never_overlap code c xs x y h g).1 in
+    let last = (pieces_never_overlap code c xs y x g h).1 in
+    let same : x.start ≡ y.start = grind arith in
+    one_piece_begins code c xs x y h g same
 
 pub cut_none : (code : ℕ → List ℕ) (xs : List ℕ) (i : ℕ) → IsCutBetween code xs i i []
 cut_none code xs i = record { pieces = λ k d h. absurd (omega arith); all = λ x h lo hi. absurd (omega arith); in_order = λ i j d h g. absurd (omega arith) }
@@ -166,9 +158,9 @@ cut_append code xs i j k ps qs lo hi a b = record {
       let from : j ≤ (get_or qs (n - length ps) d).start = (b.pieces (n - length ps) d in_qs).1 in
       rw (get_or-append_right ps qs (length ps) n d refl past, get_or_append_left ps qs d m first) (omega arith))
       (λ (both : length ps ≤ m).
-      let behind : m - length ps < n - length ps = omega arith in
+      let following : m - length ps < n - length ps = omega arith in
       rw (get_or-append_right ps qs (length ps) n d refl past, get_or-append_right ps qs (length ps) m d refl both)
-      (b.in_order (m - length ps) (n - length ps) d behind in_qs))
+      (b.in_order (m - length ps) (n - length ps) d following in_qs))
       (cases_lt m (length ps)))
       (cases_lt n (length ps));
 }
@@ -265,7 +257,7 @@ cut_from code c find (suc fuel) xs i b le f =
     let start = n.start in
     let some = piece_some code c xs n.first.start n.first.len n.first.char n.is_piece in
     let rest = cut_from code c find fuel xs (end_of n.first) n.outside (omega arith) (omega arith) in
-    let one : IsCutBetween code xs i (end_of n.first) (n.first ∷ []) = subst_start code xs (end_of n.first) (n.first ∷ []) n.first.start i n.start (cut_one code c xs n.first n.is_piece) in
+    let one : IsCutBetween code xs i (end_of n.first) (n.first ∷ []) = subst (λ p. IsCutBetween code xs p (end_of n.first) (n.first ∷ [])) n.start (cut_one code c xs n.first n.is_piece) in
     record {
       pieces = n.first ∷ rest.pieces;
       cut = cut_append code xs i (end_of n.first) (length xs) (n.first ∷ []) rest.pieces (omega arith) (omega arith) one rest.cut;
@@ -273,9 +265,6 @@ cut_from code c find (suc fuel) xs i b le f =
     })
     (λ (ge : length xs ≤ i). cut_from_end code xs i (omega arith))
     (cases_lt i (length xs))
-  where
-    subst_start : (code : ℕ → List ℕ) (xs : List ℕ) (j : ℕ) (ps : List Piece) (p q : ℕ) → p ≡ q → IsCutBetween code xs p j ps → IsCutBetween code xs q j ps
-    subst_start code xs j ps p q e h = rw (← e) h
 
 whole_cut : (code : ℕ → List ℕ) → IsCode code → Finds code → (xs : List ℕ) → CutFrom code xs 0
 whole_cut code c find xs = cut_from code c find (length xs) xs 0 (outside_front code xs) (omega arith) (omega arith)

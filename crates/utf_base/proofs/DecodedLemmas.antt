@@ -1,5 +1,5 @@
 -- What a decoding answers is the function of its elements that `Decoded` defines, so the code of a scalar decodes to it.
-use Rattle.std.proofs.Common.{◌≡◌, ℕ, ◌≤◌, ⊎_elim, List, [], ◌∷◌, length, get_or, Option, Some, None, Result, Ok, Err, arith, refl, ap, sym, ◌∙◌, true, false}
+use Rattle.std.proofs.Common.{◌≡◌, ℕ, ◌≤◌, ⊎_elim, List, [], ◌∷◌, length, get_or, Option, Some, None, Result, Ok, Err, arith, refl, ap, sym, ◌∙◌, true}
 use Rattle.std.proofs.lemmas.Grind.{common_steps}
 use Rattle.std.specs.Prelude.{unwrap_or, if◌then◌else◌, IfOk, MatchResult}
 use Rattle.utf_base.specs.declared.errors.Utf8ErrorKind.{Utf8ErrorKind}
@@ -15,10 +15,11 @@ use Rattle.utf_base.specs.Front.{as_scalar, BeginsWith, IsOneCode, IsFrontLen, D
 use Rattle.utf_base.specs.Kinds.{fault_kind, asked_by, value}
 use Rattle.utf_base.specs.Piece.{Stands}
 use Rattle.utf_base.specs.Refused.{number_fault}
-use Rattle.utf_base.specs.Units.{is_padded_units, is_surrogate, is_leading_surrogate, is_trailing_surrogate, pair_value, unit_value, tuple_value, units_of, array_fault, tuple_fault, unit_fault_kind}
+use Rattle.utf_base.specs.Units.{is_padded_units, is_surrogate, pair_value, unit_value, tuple_value, units_of, array_fault, tuple_fault, unit_fault_kind}
+use Rattle.utf_base.proofs.Ending.{front_len}
 use Rattle.utf_base.proofs.FrontLemmas.{decodes_from_stands, code_where_no_fault, no_fault_where_code}
 use Rattle.utf_base.proofs.Standing.{same_char, stands_alone}
-use Rattle.utf_base.proofs.UnitLemmas.{no_fault_where_units, no_kind_where_units}
+use Rattle.utf_base.proofs.UnitLemmas.{no_both, no_fault_where_units, no_kind_where_units, no_lead, no_trail}
 use Rattle.utf_base.proofs.Utf8Code.{utf8_is_code, length_utf8}
 use Rattle.utf_base.proofs.Utf16Code.{length_utf16, StandsAsUnit, StandsAsPair, stands_cases, begins_with_pair, utf16_is_code, utf16-1, unit_value-unit, unit_value-pair}
 
@@ -51,15 +52,6 @@ record UnitsTell (w : List ℕ) (s : ℕ) : Type 0 where
   char : unit_value w ≡ s
   len : units_asked (get_or w 0 0) ≡ length (utf16 s)
   two : array_fault (get_or w 0 0) (get_or w 1 0) ≡ None
-
-no_lead : (u : ℕ) → is_surrogate u ≡ false → is_leading_surrogate u ≡ false
-no_lead u h = grind (arith, common_steps)
-
-no_trail : (u : ℕ) → is_surrogate u ≡ false → is_trailing_surrogate u ≡ false
-no_trail u h = grind (arith, common_steps)
-
-no_both : (u : ℕ) → is_leading_surrogate u ≡ true → is_trailing_surrogate u ≡ false
-no_both u h = grind (arith, common_steps)
 
 unit_tells : (w : List ℕ) (s : ℕ) → Stands utf16 w 0 s → StandsAsUnit w s → UnitsTell w s
 unfolding array_fault
@@ -151,20 +143,10 @@ padded_tuple u (Some v) s h e =
 -- The lengths of codes.
 
 pub front_len_utf8 : (w : List ℕ) (s n : ℕ) → BeginsWith utf8 w s n → IsFrontLen 4 w n
-front_len_utf8 w s n h =
-    let some = utf8_is_code.some s h.0.scalar in
-    let most = length_utf8 s in
-    let within = h.0.within in
-    let len = h.1 in
-    (omega arith, omega arith, omega arith)
+front_len_utf8 = front_len utf8 4 utf8_is_code length_utf8
 
 pub front_len_utf16 : (w : List ℕ) (s n : ℕ) → BeginsWith utf16 w s n → IsFrontLen 2 w n
-front_len_utf16 w s n h =
-    let some = utf16_is_code.some s h.0.scalar in
-    let most = length_utf16 s in
-    let within = h.0.within in
-    let len = h.1 in
-    (omega arith, omega arith, omega arith)
+front_len_utf16 = front_len utf16 2 utf16_is_code length_utf16
 
 -- Numbers.
 
@@ -204,7 +186,7 @@ pub units_of_tuple : (u : ℕ) (second : Option ℕ) (r : Result ℕ Utf16TupleE
 units_of_tuple u second (Ok s) h = padded_tuple u second s h.0 h.1
 units_of_tuple u second (Err k) h = tt
 
--- where the checked form succeeds, the unchecked one gives the same
+-- where the checked call succeeds, the unchecked one gives the same
 
 pub unchecked_two : (w : List ℕ) (s : ℕ)
     → s ≡ (if is_surrogate (get_or w 0 0) then pair_value (get_or w 0 0) (get_or w 1 0) else get_or w 0 0)

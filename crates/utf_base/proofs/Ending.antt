@@ -1,12 +1,11 @@
 -- The code that ends a list: at most one, and where it stands in a list of which that one is a part.
-use Rattle.std.proofs.Common.{◌≡◌, ℕ, ◌+◌, ◌-◌, ◌<◌, ◌≤◌, ⊎_elim, List, length, arith, refl, ap, sym, ◌∙◌}
+use Rattle.std.proofs.Common.{◌≡◌, ℕ, ◌+◌, ◌-◌, ◌≤◌, List, length, arith, refl, ap, sym, ◌∙◌}
 use Rattle.std.proofs.lemmas.Grind.{common_steps}
-use Rattle.std.proofs.lemmas.Bool.{cases_lt}
 use Rattle.std.specs.Prelude.{slice_range}
 use Rattle.utf_base.specs.Code.{IsCode}
 use Rattle.utf_base.specs.CutLaws.{OneCodeEnds}
 use Rattle.utf_base.specs.Ends.{EndsWith, NoCodeEnds}
-use Rattle.utf_base.specs.Front.{BeginsWith}
+use Rattle.utf_base.specs.Front.{BeginsWith, IsFrontLen}
 use Rattle.utf_base.specs.Piece.{Stands}
 use Rattle.utf_base.proofs.Standing.{codes_never_overlap, stands_in_part, stands_in_whole}
 
@@ -43,19 +42,9 @@ one_code_ends code c xs s t n m h g =
     let some_t = c.some t g.0.scalar in
     let end_s = ends_at code xs s n h in
     let end_t = ends_at code xs t m g in
-    let same_place : length xs - n ≡ length xs - m =
-    ⊎_elim
-    (λ (lt : length xs - n < length xs - m).
-    let first : length xs - n + length (code s) ≤ length xs - m = (codes_never_overlap code c xs (length xs - n) (length xs - m) s t h.0 g.0).1 lt in
-    absurd (omega arith))
-    (λ (le : length xs - m ≤ length xs - n).
-    ⊎_elim
-    (λ (gt : length xs - m < length xs - n).
-    let last : length xs - m + length (code t) ≤ length xs - n = (codes_never_overlap code c xs (length xs - m) (length xs - n) t s g.0 h.0).1 gt in
-    absurd (omega arith))
-    (λ (ge : length xs - n ≤ length xs - m). omega arith)
-    (cases_lt (length xs - m) (length xs - n)))
-    (cases_lt (length xs - n) (length xs - m)) in
+    let first = (codes_never_overlap code c xs (length xs - n) (length xs - m) s t h.0 g.0).1 in
+    let last = (codes_never_overlap code c xs (length xs - m) (length xs - n) t s g.0 h.0).1 in
+    let same_place : length xs - n ≡ length xs - m = grind arith in
     let same : s ≡ t = (codes_never_overlap code c xs (length xs - n) (length xs - m) s t h.0 g.0).0 same_place in
     (same, h.1 ∙ ap (λ x. length (code x)) same ∙ sym g.1)
 
@@ -76,3 +65,21 @@ ends_in_whole code xs i j s n lo le h =
     let n_is = h.1 in
     let w = stands_in_whole code xs i j (length (slice_range xs i j) - n) (j - n) s (omega arith) lo le h.0 in
     (w.0, h.1, omega arith)
+
+-- The lengths of codes, where none is longer than m.
+
+pub front_len : (code : ℕ → List ℕ) (m : ℕ) → IsCode code → ((s : ℕ) → length (code s) ≤ m) → (w : List ℕ) (s n : ℕ) → BeginsWith code w s n → IsFrontLen m w n
+front_len code m c short w s n h =
+    let some = c.some s h.0.scalar in
+    let most = short s in
+    let within = h.0.within in
+    let len = h.1 in
+    (omega arith, omega arith, omega arith)
+
+pub end_len : (code : ℕ → List ℕ) (m : ℕ) → IsCode code → ((s : ℕ) → length (code s) ≤ m) → (w : List ℕ) (s n : ℕ) → EndsWith code w s n → IsFrontLen m w n
+end_len code m c short w s n h =
+    let some = c.some s h.0.scalar in
+    let most = short s in
+    let within = h.0.within in
+    let len = h.1 in
+    (omega arith, omega arith, omega arith)

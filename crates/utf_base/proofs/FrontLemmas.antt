@@ -1,5 +1,5 @@
 -- The code at the front of some bytes: it stands there exactly where no case of a fault applies.
-use Rattle.std.proofs.Common.{◌≡◌, ℕ, ◌+◌, ◌-◌, ◌*◌, ◌/◌, ◌%◌, ◌<◌, ◌≤◌, ◌⊎◌, inl, inr, List, [], ◌∷◌, length, get_or, take, arith, refl, ap, ap₂, sym, ◌∙◌, ⊎_elim, Some, None, Option, true, false, eqb, ltb, leb, ◌&&◌, lit<}
+use Rattle.std.proofs.Common.{◌≡◌, ℕ, zero, suc, ◌+◌, ◌-◌, ◌*◌, ◌/◌, ◌%◌, ◌<◌, ◌≤◌, ◌⊎◌, inl, inr, List, [], ◌∷◌, length, get_or, take, arith, refl, ap, sym, ◌∙◌, ⊎_elim, Some, None, Option, true, false, eqb, ltb, leb, ◌&&◌, lit<}
 use Rattle.std.proofs.lemmas.Grind.{common_steps}
 use Rattle.std.proofs.lemmas.Bool.{cases_lt}
 use Rattle.std.proofs.lemmas.List.{length-take-le}
@@ -11,7 +11,7 @@ use Rattle.utf_base.specs.Piece.{Stands}
 use Rattle.utf_base.specs.KindLaws.{CodeOrOneFault}
 use Rattle.utf_base.proofs.Cuts.{Finds}
 use Rattle.utf_base.proofs.Standing.{Stands-at}
-use Rattle.utf_base.proofs.Utf8Code.{utf8-1, utf8-2, utf8-3, utf8-4}
+use Rattle.utf_base.proofs.Utf8Code.{utf8_is_code, utf8-1, utf8-2, utf8-3, utf8-4, utf8-continuation_byte}
 
 -- From the bytes to the code of their value.
 
@@ -19,7 +19,7 @@ code_of_2 : (v b c : ℕ) → v ≡ (b - 0xC0) * 64 + (c - 0x80) → 0xC2 ≤ b 
 code_of_2 v b c e b1 b2 c1 c2 =
     let x : 0xC0 + v / 64 ≡ b = omega arith in
     let y : 0x80 + v % 64 ≡ c = omega arith in
-    utf8-2 v (omega arith) (omega arith) ∙ ap₂ (λ p q. p ∷ q ∷ []) x y
+    utf8-2 v (omega arith) (omega arith) ∙ cc
 
 code_of_3 : (v b c d : ℕ) → v ≡ (b - 0xE0) * 4096 + (c - 0x80) * 64 + (d - 0x80) → 0x800 ≤ v → 0xE0 ≤ b → b < 0xF0
     → 0x80 ≤ c → c < 0xC0 → 0x80 ≤ d → d < 0xC0 → utf8 v ≡ b ∷ c ∷ d ∷ []
@@ -27,9 +27,7 @@ code_of_3 v b c d e low b1 b2 c1 c2 d1 d2 =
     let x : 0xE0 + v / 4096 ≡ b = omega arith in
     let y : 0x80 + v / 64 % 64 ≡ c = omega arith in
     let z : 0x80 + v % 64 ≡ d = omega arith in
-    utf8-3 v (omega arith) (omega arith)
-    ∙ ap (λ p. p ∷ (0x80 + v / 64 % 64) ∷ (0x80 + v % 64) ∷ []) x
-    ∙ ap₂ (λ p q. b ∷ p ∷ q ∷ []) y z
+    utf8-3 v (omega arith) (omega arith) ∙ cc
 
 code_of_4 : (v b c d f : ℕ) → v ≡ (b - 0xF0) * 262144 + (c - 0x80) * 4096 + (d - 0x80) * 64 + (f - 0x80) → 0x1_0000 ≤ v → v < 0x11_0000 → 0xF0 ≤ b → b < 0xF5
     → 0x80 ≤ c → c < 0xC0 → 0x80 ≤ d → d < 0xC0 → 0x80 ≤ f → f < 0xC0 → utf8 v ≡ b ∷ c ∷ d ∷ f ∷ []
@@ -38,9 +36,7 @@ code_of_4 v b c d f e low high b1 b2 c1 c2 d1 d2 f1 f2 =
     let y : 0x80 + v / 4096 % 64 ≡ c = omega arith in
     let z : 0x80 + v / 64 % 64 ≡ d = omega arith in
     let t : 0x80 + v % 64 ≡ f = omega arith in
-    utf8-4 v (omega arith)
-    ∙ ap₂ (λ p q. p ∷ q ∷ (0x80 + v / 64 % 64) ∷ (0x80 + v % 64) ∷ []) x y
-    ∙ ap₂ (λ p q. b ∷ c ∷ p ∷ q ∷ []) z t
+    utf8-4 v (omega arith) ∙ cc
 
 -- The front of a list, element by element.
 
@@ -133,17 +129,12 @@ pub record Decodes (w : List ℕ) : Type 0 where
   pub least : least_value (asked_by w) ≤ value w
   pub scalar : IsScalar (value w)
 
--- what holds of 1, 2 and 3 holds of each follower's place
-at_followers : (P : ℕ → Type 0) (n k : ℕ) → n ≤ 4 → 0 < k → k < n → (1 < n → P 1) → (2 < n → P 2) → (3 < n → P 3) → P k
-at_followers P n k le some lt one two three =
-    ⊎_elim
-    (λ (h : k < 2). let e : k ≡ 1 = omega arith in rw e (one (omega arith)))
-    (λ (g : 2 ≤ k).
-    ⊎_elim
-    (λ (h : k < 3). let e : k ≡ 2 = omega arith in rw e (two (omega arith)))
-    (λ (h : 3 ≤ k). let e : k ≡ 3 = omega arith in rw e (three (omega arith)))
-    (cases_lt k 3))
-    (cases_lt k 2)
+-- each byte that is asked for continues, where there is no fault
+follows : (w : List ℕ) (k : ℕ) → fault_kind w ≡ None → 0 < k → k < asked_by w → (0x80 ≤ get_or w k 0) × (get_or w k 0 < 0xC0)
+unfolding fault_kind
+follows w zero h some lt = absurd (omega arith)
+follows w (suc (suc (suc (suc k)))) h some lt = absurd (omega (arith, asked_le (get_or w 0 0)))
+follows w _ h some lt = (grind (arith, common_steps), grind (arith, common_steps))
 
 pub decodes_from_none : (w : List ℕ) → fault_kind w ≡ None → Decodes w
 unfolding fault_kind
@@ -151,11 +142,7 @@ decodes_from_none w h = record {
   some = grind (arith, common_steps);
   asks = grind (arith, common_steps);
   within = grind (arith, common_steps);
-  follow = λ k p q.
-      at_followers (λ k. (0x80 ≤ get_or w k 0) × (get_or w k 0 < 0xC0)) (asked_by w) k (asked_le (get_or w 0 0)) p q
-      (λ lt. (grind (arith, common_steps), grind (arith, common_steps)))
-      (λ lt. (grind (arith, common_steps), grind (arith, common_steps)))
-      (λ lt. (grind (arith, common_steps), grind (arith, common_steps)));
+  follow = λ k p q. follows w k h p q;
   least = grind (arith, common_steps);
   scalar = record { below = grind (arith, common_steps); no_surrogate = λ g. grind (arith, common_steps) };
 }
@@ -220,112 +207,66 @@ stands_from_decodes w h =
 
 -- From a standing code to the facts on numbers.
 
-at_front : (w code : List ℕ) (s k : ℕ) → Stands utf8 w 0 s → utf8 s ≡ code → k < length code → get_or w k 0 ≡ get_or code k 0
-at_front w code s k h e q =
-    let len : length (utf8 s) ≡ length code = ap length e in
-    Stands-at utf8 w 0 s k k (omega arith) h (omega arith) ∙ ap (λ x. get_or x k 0) e
+at_front : (w : List ℕ) (s k : ℕ) → Stands utf8 w 0 s → k < length (utf8 s) → get_or w k 0 ≡ get_or (utf8 s) k 0
+at_front w s k h lt = Stands-at utf8 w 0 s k k (omega arith) h lt
 
-decodes-1 : (w : List ℕ) (s : ℕ) → Stands utf8 w 0 s → s < 0x80 → Decodes w × (value w ≡ s)
-decodes-1 w s h lt =
-    let code = utf8-1 s lt in
-    let within = h.within in
-    let len : length (utf8 s) ≡ 1 = ap length code in
-    let e0 : get_or w 0 0 ≡ s = at_front w (s ∷ []) s 0 h code (lit< tt) in
-    let asks = asked-1 (get_or w 0 0) (omega arith) in
-    let v : value w ≡ s = value-1 w asks ∙ e0 in
-    let least_is = least_value-below_3 (asked_by w) (omega arith) in (
-      record {
-        some = omega arith;
-        asks = omega arith;
-        within = omega arith;
-        follow = λ k p q. absurd (omega arith);
-        least = omega arith;
-        scalar = rw v h.scalar;
-      },
-      v,
-    )
+asked_of_code : (s : ℕ) → IsScalar s → asked (get_or (utf8 s) 0 0) ≡ length (utf8 s)
+unfolding asked utf8
+asked_of_code s h = grind (arith, common_steps)
 
-decodes-2 : (w : List ℕ) (s : ℕ) → Stands utf8 w 0 s → 0x80 ≤ s → s < 0x800 → Decodes w × (value w ≡ s)
-decodes-2 w s h ge lt =
-    let code = utf8-2 s ge lt in
-    let within = h.within in
-    let len : length (utf8 s) ≡ 2 = ap length code in
-    let e0 : get_or w 0 0 ≡ 0xC0 + s / 64 = at_front w _ s 0 h code (lit< tt) in
-    let e1 : get_or w 1 0 ≡ 0x80 + s % 64 = at_front w _ s 1 h code (lit< tt) in
-    let asks = asked-2 (get_or w 0 0) (omega arith) (omega arith) in
-    let sum = value-2 w asks in
-    let v : value w ≡ s = omega arith in
-    let least_is = least_value-below_3 (asked_by w) (omega arith) in (
-      record {
-        some = omega arith;
-        asks = omega arith;
-        within = omega arith;
-        follow = λ k p q.
-            at_followers (λ k. (0x80 ≤ get_or w k 0) × (get_or w k 0 < 0xC0)) (asked_by w) k (omega arith) p q
-            (λ a. (omega arith, omega arith)) (λ a. absurd (omega arith)) (λ a. absurd (omega arith));
-        least = omega arith;
-        scalar = rw v h.scalar;
-      },
-      v,
-    )
+least_of_code : (s : ℕ) → least_value (length (utf8 s)) ≤ s
+unfolding least_value utf8
+least_of_code s = grind (arith, common_steps)
 
-decodes-3 : (w : List ℕ) (s : ℕ) → Stands utf8 w 0 s → 0x800 ≤ s → s < 0x1_0000 → Decodes w × (value w ≡ s)
-decodes-3 w s h ge lt =
-    let code = utf8-3 s ge lt in
-    let within = h.within in
-    let len : length (utf8 s) ≡ 3 = ap length code in
-    let e0 : get_or w 0 0 ≡ 0xE0 + s / 4096 = at_front w _ s 0 h code (lit< tt) in
-    let e1 : get_or w 1 0 ≡ 0x80 + s / 64 % 64 = at_front w _ s 1 h code (lit< tt) in
-    let e2 : get_or w 2 0 ≡ 0x80 + s % 64 = at_front w _ s 2 h code (lit< tt) in
-    let asks = asked-3 (get_or w 0 0) (omega arith) (omega arith) in
-    let sum = value-3 w asks in
-    let v : value w ≡ s = omega arith in
-    let least_is = ap least_value asks ∙ least_value-3 in (
-      record {
-        some = omega arith;
-        asks = omega arith;
-        within = omega arith;
-        follow = λ k p q.
-            at_followers (λ k. (0x80 ≤ get_or w k 0) × (get_or w k 0 < 0xC0)) (asked_by w) k (omega arith) p q
-            (λ a. (omega arith, omega arith)) (λ a. (omega arith, omega arith)) (λ a. absurd (omega arith));
-        least = omega arith;
-        scalar = rw v h.scalar;
-      },
-      v,
-    )
-
-decodes-4 : (w : List ℕ) (s : ℕ) → Stands utf8 w 0 s → 0x1_0000 ≤ s → Decodes w × (value w ≡ s)
-decodes-4 w s h ge =
-    let code = utf8-4 s ge in
-    let within = h.within in
-    let below = h.scalar.below in
-    let len : length (utf8 s) ≡ 4 = ap length code in
-    let e0 : get_or w 0 0 ≡ 0xF0 + s / 262144 = at_front w _ s 0 h code (lit< tt) in
-    let e1 : get_or w 1 0 ≡ 0x80 + s / 4096 % 64 = at_front w _ s 1 h code (lit< tt) in
-    let e2 : get_or w 2 0 ≡ 0x80 + s / 64 % 64 = at_front w _ s 2 h code (lit< tt) in
-    let e3 : get_or w 3 0 ≡ 0x80 + s % 64 = at_front w _ s 3 h code (lit< tt) in
-    let asks = asked-4 (get_or w 0 0) (omega arith) (omega arith) in
-    let sum = value-4 w asks in
-    let v : value w ≡ s = omega arith in
-    let least_is = ap least_value asks ∙ least_value-4 in (
-      record {
-        some = omega arith;
-        asks = omega arith;
-        within = omega arith;
-        follow = λ k p q.
-            at_followers (λ k. (0x80 ≤ get_or w k 0) × (get_or w k 0 < 0xC0)) (asked_by w) k (omega arith) p q
-            (λ a. (omega arith, omega arith)) (λ a. (omega arith, omega arith)) (λ a. (omega arith, omega arith));
-        least = omega arith;
-        scalar = rw v h.scalar;
-      },
-      v,
-    )
+value_of_code : (w : List ℕ) (s : ℕ) → Stands utf8 w 0 s → asked_by w ≡ length (utf8 s) → value w ≡ s
+value_of_code w s h asks =
+    ⊎_elim (λ (a : s < 0x80). let c = utf8-1 s a in value-1 w (asks ∙ ap length c) ∙ at w (s ∷ []) s 0 h c (lit< tt))
+    (λ (a : 0x80 ≤ s).
+    ⊎_elim
+    (λ (b : s < 0x800).
+    let c = utf8-2 s a b in
+    let e0 : get_or w 0 0 ≡ 0xC0 + s / 64 = at w _ s 0 h c (lit< tt) in
+    let e1 : get_or w 1 0 ≡ 0x80 + s % 64 = at w _ s 1 h c (lit< tt) in
+    let sum = value-2 w (asks ∙ ap length c) in
+    omega arith)
+    (λ (b : 0x800 ≤ s).
+    ⊎_elim
+    (λ (d : s < 0x1_0000).
+    let c = utf8-3 s b d in
+    let e0 : get_or w 0 0 ≡ 0xE0 + s / 4096 = at w _ s 0 h c (lit< tt) in
+    let e1 : get_or w 1 0 ≡ 0x80 + s / 64 % 64 = at w _ s 1 h c (lit< tt) in
+    let e2 : get_or w 2 0 ≡ 0x80 + s % 64 = at w _ s 2 h c (lit< tt) in
+    let sum = value-3 w (asks ∙ ap length c) in
+    omega arith)
+    (λ (d : 0x1_0000 ≤ s).
+    let c = utf8-4 s d in
+    let e0 : get_or w 0 0 ≡ 0xF0 + s / 262144 = at w _ s 0 h c (lit< tt) in
+    let e1 : get_or w 1 0 ≡ 0x80 + s / 4096 % 64 = at w _ s 1 h c (lit< tt) in
+    let e2 : get_or w 2 0 ≡ 0x80 + s / 64 % 64 = at w _ s 2 h c (lit< tt) in
+    let e3 : get_or w 3 0 ≡ 0x80 + s % 64 = at w _ s 3 h c (lit< tt) in
+    let sum = value-4 w (asks ∙ ap length c) in
+    omega arith)
+    (cases_lt s 0x1_0000)) (cases_lt s 0x800)) (cases_lt s 0x80)
+  where
+    at : (w code : List ℕ) (s k : ℕ) → Stands utf8 w 0 s → utf8 s ≡ code → k < length code → get_or w k 0 ≡ get_or code k 0
+    at w code s k h e lt = at_front w s k h (rw e lt) ∙ ap (λ x. get_or x k 0) e
 
 pub decodes_from_stands : (w : List ℕ) (s : ℕ) → Stands utf8 w 0 s → Decodes w × (value w ≡ s)
 decodes_from_stands w s h =
-    ⊎_elim (λ a. decodes-1 w s h a)
-    (λ a. ⊎_elim (λ b. decodes-2 w s h a b) (λ b. ⊎_elim (λ c. decodes-3 w s h b c) (λ c. decodes-4 w s h c) (cases_lt s 0x1_0000)) (cases_lt s 0x800))
-    (cases_lt s 0x80)
+    let some = utf8_is_code.some s h.scalar in
+    let asks : asked_by w ≡ length (utf8 s) = ap asked (at_front w s 0 h some) ∙ asked_of_code s h.scalar in
+    let sum = value_of_code w s h asks in
+    let within = h.within in (
+      record {
+        some = omega arith;
+        asks = omega arith;
+        within = omega arith;
+        follow = λ k p q. rw (at_front w s k h (omega arith)) (utf8-continuation_byte s k h.scalar p (omega arith));
+        least = rw (asks, sum) (least_of_code s);
+        scalar = rw sum h.scalar;
+      },
+      sum,
+    )
 
 -- Both ways, for those above.
 

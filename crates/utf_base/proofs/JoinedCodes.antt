@@ -1,5 +1,5 @@
 -- A list whose cut has no fault is the codes of some scalars, joined.
-use Rattle.std.proofs.Common.{◌≡◌, ℕ, suc, ◌+◌, ◌-◌, ◌≤◌, List, [], ◌∷◌, ◌++◌, length, drop, take, refl, ap, sym, ◌∙◌, arith, Option, Some, None, true, length-append}
+use Rattle.std.proofs.Common.{◌≡◌, ℕ, suc, ◌+◌, ◌-◌, ◌≤◌, List, [], ◌∷◌, ◌++◌, length, drop, take, refl, ap, sym, subst, ◌∙◌, arith, Option, Some, None, true, length-append}
 use Rattle.std.proofs.lemmas.Grind.{common_steps}
 use Rattle.std.proofs.lemmas.List.{take-append-drop, take_at, drop_at, drop-drop}
 use Rattle.std.proofs.lemmas.List.Elements.{All-cons, All-nil}
@@ -11,41 +11,39 @@ use Rattle.utf_base.specs.Piece.{IsCut, IsCutBetween, IsPiece, IsPieceAt, Piece,
 use Rattle.utf_base.specs.Scalar.{IsScalar}
 use Rattle.utf_base.proofs.Cuts.{Finds, char_at, cut_append, cut_is_unique, cut_none, cut_one, cuts_follow}
 
-length_behind : (xs ys : List ℕ) (i : ℕ) → drop i xs ≡ ys → length xs - i ≡ length ys
-length_behind xs ys i e = rw (← e) (grind (arith, common_steps))
+length_after : (xs ys : List ℕ) (i : ℕ) → drop i xs ≡ ys → length xs - i ≡ length ys
+length_after xs ys i e = rw (← e) (grind (arith, common_steps))
 
 -- a code that begins what is after the place i
 record BeginsAt (code : ℕ → List ℕ) (xs : List ℕ) (i s : ℕ) (rest : List ℕ) : Type 0 where
   pub stands : Stands code xs i s
-  pub behind : drop (i + length (code s)) xs ≡ rest
+  pub following : drop (i + length (code s)) xs ≡ rest
 
 begins_at : (code : ℕ → List ℕ) (xs : List ℕ) (i s : ℕ) (rest : List ℕ) → IsScalar s → i ≤ length xs → drop i xs ≡ code s ++ rest → BeginsAt code xs i s rest
 begins_at code xs i s rest h le e =
     let span : i + length (code s) - i ≡ length (code s) = omega arith in
-    let len : length xs - i ≡ length (code s ++ rest) = length_behind xs (code s ++ rest) i e in
+    let len : length xs - i ≡ length (code s ++ rest) = length_after xs (code s ++ rest) i e in
     record {
       stands = record {
         scalar = h;
         within = omega (arith, length-append (code s) rest);
         equal = rw (span, e) (take_at (code s) rest (length (code s)) refl);
       };
-      behind = sym (drop-drop (length (code s)) i xs) ∙ ap (drop (length (code s))) e ∙ drop_at (code s) rest (length (code s)) refl;
+      following = sym (drop-drop (length (code s)) i xs) ∙ ap (drop (length (code s))) e ∙ drop_at (code s) rest (length (code s)) refl;
     }
 
 joined_from : (code : ℕ → List ℕ) → IsCode code → (xs scalars : List ℕ) (i : ℕ) → All IsScalar scalars → i ≤ length xs → drop i xs ≡ flat_map code scalars
     → IsCutBetween code xs i (length xs) (char_pieces code i scalars)
 joined_from code c xs [] i all le e =
-    let none : length xs - i ≡ 0 = length_behind xs [] i e in
-    at_end code xs i (omega arith)
-  where
-    at_end : (code : ℕ → List ℕ) (xs : List ℕ) (i : ℕ) → i ≡ length xs → IsCutBetween code xs i (length xs) []
-    at_end code xs i e = rw e (cut_none code xs (length xs))
+    let none : length xs - i ≡ 0 = length_after xs [] i e in
+    let end : i ≡ length xs = omega arith in
+    rw end (cut_none code xs (length xs))
 joined_from code c xs (s ∷ scalars) i all le e =
     let first = begins_at code xs i s (flat_map code scalars) (all 0 s (omega arith)) le e in
     let within = first.stands.within in
     cut_append code xs i (i + length (code s)) (length xs) (char_at code i s ∷ []) (char_pieces code (i + length (code s)) scalars) (omega arith) (omega arith)
     (cut_one code c xs (char_at code i s) (first.stands, refl))
-    (joined_from code c xs scalars (i + length (code s)) (λ k d h. all (suc k) d (omega arith)) within first.behind)
+    (joined_from code c xs scalars (i + length (code s)) (λ k d h. all (suc k) d (omega arith)) within first.following)
 
 joined : (code : ℕ → List ℕ) → IsCode code → (xs scalars : List ℕ) (ps : List Piece) → IsJoined code xs scalars → IsCut code xs ps → ps ≡ char_pieces code 0 scalars
 joined code c xs scalars ps h cut = cut_is_unique code c xs ps _ cut (joined_from code c xs scalars 0 h.0 (omega arith) h.1)
@@ -79,10 +77,7 @@ scalars_from code xs i [] all none f = record { scalars = []; all = All-nil IsSc
     nothing xs i e = grind (arith, common_steps)
 scalars_from code xs i (x ∷ ps) all none f =
     let rest = scalars_from code xs (end_of x) ps (λ k d h. all (suc k) d (omega arith)) (λ k d h. none (suc k) d (omega arith)) f.1 in
-    subst_place code xs x.start i f.0 (scalars_more code xs x.start x.len x.char (all 0 x (omega arith)) (none 0 x (omega arith)) rest)
-  where
-    subst_place : (code : ℕ → List ℕ) (xs : List ℕ) (p q : ℕ) → p ≡ q → ScalarsFrom code xs p → ScalarsFrom code xs q
-    subst_place code xs p q e h = rw (← e) h
+    subst (ScalarsFrom code xs) f.0 (scalars_more code xs x.start x.len x.char (all 0 x (omega arith)) (none 0 x (omega arith)) rest)
 
 only : (code : ℕ → List ℕ) → IsCode code → Finds code → (xs : List ℕ) (ps : List Piece) → IsCut code xs ps → HaveNoFault ps → (scalars : List ℕ) × IsJoined code xs scalars
 only code c find xs ps cut none =

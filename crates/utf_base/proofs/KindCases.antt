@@ -1,11 +1,11 @@
 -- The forward kind, case by case, in the terms in which code tests for it.
-use Rattle.std.proofs.Common.{◌≡◌, ℕ, ◌+◌, ◌-◌, ◌*◌, ◌<◌, ◌≤◌, List, length, get_or, arith, refl, sym, ◌∙◌, ap, Some, None, Bool, true, false, not, eqb, ltb, leb, ◌&&◌, if◌then◌else◌}
+use Rattle.std.proofs.Common.{◌≡◌, ℕ, ◌+◌, ◌-◌, ◌*◌, ◌<◌, ◌≤◌, List, length, get_or, arith, refl, sym, ◌∙◌, ap, Some, None, true, false, not, eqb, ltb, leb, ◌&&◌, if◌then◌else◌}
 use Rattle.std.proofs.lemmas.Grind.{common_steps}
 use Rattle.utf_base.specs.declared.errors.Utf8ErrorKind.TheVariants.{TooFewBytes, NonUtf8Byte, UnexpectedContinuationByte, InterruptedSequence, OverlongEncoding, Utf16ReservedCodepoint, TooHighCodepoint}
 use Rattle.utf_base.specs.Scalar.{IsScalar}
 use Rattle.utf_base.specs.Code.{utf8}
 use Rattle.utf_base.specs.Front.{BeginsWith}
-use Rattle.utf_base.specs.Kinds.{fault_kind, value_fault, asked_by, value, payload, least_value, is_continuation, followers_continue}
+use Rattle.utf_base.specs.Kinds.{fault_kind, value_fault, asked_by, value, payload, least_value, is_continuation, all_continue}
 use Rattle.utf_base.proofs.FrontLemmas.{asked-2, asked-3, asked-4, value-2, value-3, value-4, code_where_no_fault}
 use Rattle.utf_base.proofs.KindLemmas.{ascii_stands_alone}
 
@@ -53,9 +53,9 @@ kind-few w n a few =
     let short : ltb (length w) n ≡ true = grind (arith, common_steps) in
     rw (not_empty, a.first, a.asks, occurs, short) refl
 
-kind-followers : (w : List ℕ) (n : ℕ) → Asks w n → n ≤ length w → fault_kind w ≡ (if not (followers_continue w) then Some InterruptedSequence else value_fault w)
+kind-continued : (w : List ℕ) (n : ℕ) → Asks w n → n ≤ length w → fault_kind w ≡ (if not (all_continue w) then Some InterruptedSequence else value_fault w)
 unfolding fault_kind
-kind-followers w n a enough =
+kind-continued w n a enough =
     let some = a.some in
     let positive = a.positive in
     let not_empty : eqb (length w) 0 ≡ false = grind (arith, common_steps) in
@@ -63,28 +63,11 @@ kind-followers w n a enough =
     let short : ltb (length w) n ≡ false = grind (arith, common_steps) in
     rw (not_empty, a.first, a.asks, occurs, short) refl
 
--- Enough bytes are there, but one that is asked for is no continuation byte.
-
-and_false : (a b : Bool) → (a && b) ≡ false → ((a && b) && true) ≡ false
-and_false a b e = rw e refl
-
-pub interrupted-2 : (w : List ℕ) → Asks w 2 → 2 ≤ length w → is_continuation (get_or w 1 0) ≡ false → fault_kind w ≡ Some InterruptedSequence
-interrupted-2 w a enough e = kind-followers w 2 a enough ∙ rw (a.asks, e) refl
-
-pub interrupted-3 : (w : List ℕ) → Asks w 3 → 3 ≤ length w → (is_continuation (get_or w 1 0) && is_continuation (get_or w 2 0)) ≡ false
-    → fault_kind w ≡ Some InterruptedSequence
-interrupted-3 w a enough e = kind-followers w 3 a enough ∙ rw (a.asks, and_false (is_continuation (get_or w 1 0)) (is_continuation (get_or w 2 0)) e) refl
-
-pub interrupted-4 : (w : List ℕ) → Asks w 4 → 4 ≤ length w
-    → (is_continuation (get_or w 1 0) && is_continuation (get_or w 2 0) && is_continuation (get_or w 3 0)) ≡ false
-    → fault_kind w ≡ Some InterruptedSequence
-interrupted-4 w a enough e = kind-followers w 4 a enough ∙ rw (a.asks, e) refl
-
 -- All bytes that the first asks for are there and continue, and v is their value.
 pub record Sums (w : List ℕ) (n v : ℕ) : Type 0 where
   pub asks : Asks w n
   pub enough : n ≤ length w
-  pub follow : followers_continue w ≡ true
+  pub follow : all_continue w ≡ true
   pub sum : value w ≡ v
 
 pub Sums-2 : (w : List ℕ) (v : ℕ) → Asks w 2 → 2 ≤ length w → is_continuation (get_or w 1 0) ≡ true
@@ -108,7 +91,7 @@ kind-value : (w : List ℕ) (n v : ℕ) → Sums w n v → fault_kind w
     else None)
 kind-value w n v s =
     let a = s.asks in
-    kind-followers w n a s.enough ∙ rw (s.follow, s.sum, a.asks) refl
+    kind-continued w n a s.enough ∙ rw (s.follow, s.sum, a.asks) refl
 
 pub kind-overlong : (w : List ℕ) (n v : ℕ) → Sums w n v → v < least_value n → fault_kind w ≡ Some OverlongEncoding
 kind-overlong w n v s h =

@@ -133,10 +133,10 @@ front_stays code c kind m some short decides front old new rest p h =
 
 rest_stays : {E : Type 0} (code : ℕ → List ℕ) → IsCode code → (kind : List ℕ → Option E) (m : ℕ) → ((s : ℕ) → length (code s) ≤ m) → RestStays code kind m
 rest_stays code c kind m short front old new rest p h =
-    let behind : (xs : List ℕ) (i : ℕ) → LieBetween code xs i (length xs) (i + p) = λ xs i from s stands begins ends.
+    let following : (xs : List ℕ) (i : ℕ) → LieBetween code xs i (length xs) (i + p) = λ xs i from s stands begins ends.
     let le = short s in let within = stands.within in (omega arith, omega arith) in
     record {
-      pieces = same_pieces code c _ _ _ _ _ _ p _ _ (same_rest front old new rest) refl refl (behind _ _) (behind _ _) (λ lt. lt) (λ lt. lt);
+      pieces = same_pieces code c _ _ _ _ _ _ p _ _ (same_rest front old new rest) refl refl (following _ _) (following _ _) (λ lt. lt) (λ lt. lt);
       kinds = ap kind (left_of_rest front old rest p ∙ sym (left_of_rest front new rest p));
     }
 

@@ -1,13 +1,14 @@
 -- The merger's kind beside the forward kind.
-use Rattle.std.proofs.Common.{◌≡◌, ℕ, ◌+◌, ap, leb, ◌||◌, ◌<◌, ◌≤◌, List, length, get_or, take, arith, refl, sym, ◌∙◌, Some, None, Bool, true, false, eqb, ltb, lit<, length-take, length-append, [], ◌∷◌, ◌++◌, ◌⊎◌, inl, inr, ⊎_elim}
+use Rattle.std.proofs.Common.{◌≡◌, ℕ, ◌+◌, ap, leb, ◌<◌, ◌≤◌, List, length, get_or, take, arith, refl, sym, ◌∙◌, Some, None, true, false, eqb, ltb, lit<, length-take, length-append, [], ◌∷◌, ◌++◌, ⊎_elim}
 use Rattle.std.proofs.lemmas.Grind.{common_steps}
 use Rattle.std.proofs.lemmas.List.{get_or-take, get_or_append_left}
-use Rattle.std.proofs.lemmas.Bool.{cases_lt}
+use Rattle.std.proofs.lemmas.Bool.{cases_Bool, cases_lt}
+use Rattle.std.proofs.Math.Bool.{or-true}
 use Rattle.std.specs.Prelude.{slice_range}
 use Rattle.utf_base.proofs.Utf8Code.{utf8_is_code}
 use Rattle.utf_base.specs.declared.errors.Utf8ErrorKind.TheVariants.{TooFewBytes, InterruptedSequence}
 use Rattle.utf_base.specs.Code.{utf8}
-use Rattle.utf_base.specs.Kinds.{fault_kind, merger_kind, asked, asked_by, value, is_continuation, continues_at, followers_continue, is_broken}
+use Rattle.utf_base.specs.Kinds.{fault_kind, merger_kind, asked, asked_by, value, is_continuation, continues_at, all_continue, is_broken}
 use Rattle.utf_base.specs.KindLaws.{KindsDiffer, MergerCodeOrOneFault, FourBytesDecideMerger}
 use Rattle.utf_base.specs.Piece.{Stands}
 use Rattle.utf_base.proofs.FrontLemmas.{asked_cases, asked_le, asked-no_continuation, value-1, value-2, value-3, value-4, decodes_from_stands, code_where_no_fault, no_fault_where_code}
@@ -35,9 +36,9 @@ broken_few w few e =
     let asks = broken_asks w e in
     kind-few w (asked_by w) (record { some = broken_some w e; first = asked-no_continuation (get_or w 0 0) (omega arith); asks = refl; positive = omega arith }) few
 
--- where all bytes are there that the first asks for, one that breaks the code is a follower that does not continue it
-broken_follower : (w : List ℕ) → asked_by w ≤ length w → is_broken w ≡ true → followers_continue w ≡ false
-broken_follower w enough e = grind (arith, common_steps)
+-- where all bytes are there that the first asks for, one that breaks the code is a later byte that does not continue it
+broken_continuation_byte : (w : List ℕ) → asked_by w ≤ length w → is_broken w ≡ true → all_continue w ≡ false
+broken_continuation_byte w enough e = grind (arith, common_steps)
 
 broken_enough : (w : List ℕ) → asked_by w ≤ length w → is_broken w ≡ true → fault_kind w ≡ Some InterruptedSequence
 unfolding fault_kind
@@ -47,14 +48,10 @@ broken_enough w enough e =
     let not_empty : eqb (length w) 0 ≡ false = grind (arith, common_steps) in
     let occurs : eqb (asked_by w) 0 ≡ false = grind (arith, common_steps) in
     let short : ltb (length w) (asked_by w) ≡ false = grind (arith, common_steps) in
-    rw (not_empty, asked-no_continuation (get_or w 0 0) (omega arith), occurs, short, broken_follower w enough e) refl
+    rw (not_empty, asked-no_continuation (get_or w 0 0) (omega arith), occurs, short, broken_continuation_byte w enough e) refl
 
 pub enough_kind : (w : List ℕ) → asked_by w ≤ length w → merger_kind w ≡ fault_kind w
-enough_kind w enough = by_break (is_broken w) refl
-  where
-    by_break : (b : Bool) → is_broken w ≡ b → merger_kind w ≡ fault_kind w
-    by_break true e = broken_kind w e ∙ sym (broken_enough w enough e)
-    by_break false e = unbroken_kind w e
+enough_kind w enough = ⊎_elim (λ e. broken_kind w e ∙ sym (broken_enough w enough e)) (unbroken_kind w) (cases_Bool (is_broken w))
 
 few_bytes : (w : List ℕ) → length w < asked_by w → length w ≤ 3
 few_bytes w few = let most = asked_le (get_or w 0 0) in omega arith
@@ -64,23 +61,20 @@ kinds_differ = record { enough = enough_kind; unbroken = unbroken_kind; decoder 
 
 -- no code begins the bytes where one breaks it
 code_unbroken : (w : List ℕ) → fault_kind w ≡ None → is_broken w ≡ false
-code_unbroken w none = by_break (is_broken w) refl
-  where
-    by_break : (b : Bool) → is_broken w ≡ b → is_broken w ≡ false
-    by_break false e = e
-    by_break true e =
-        let s = code_where_no_fault w none in
-        let within = s.0.within in
-        let len = s.1 in
-        let k = broken_enough w (omega arith) e in
-        cc
+code_unbroken w none =
+    ⊎_elim
+    (λ (e : is_broken w ≡ true).
+    let s = code_where_no_fault w none in
+    let within = s.0.within in
+    let len = s.1 in
+    let k = broken_enough w (omega arith) e in
+    cc)
+    (λ e. e)
+    (cases_Bool (is_broken w))
 
 pub merger_none : (w : List ℕ) → merger_kind w ≡ None → fault_kind w ≡ None
-merger_none w none = by_break (is_broken w) refl
-  where
-    by_break : (b : Bool) → is_broken w ≡ b → fault_kind w ≡ None
-    by_break false e = sym (unbroken_kind w e) ∙ none
-    by_break true e = let k = broken_kind w e in cc
+merger_none w none =
+    ⊎_elim (λ (e : is_broken w ≡ true). let k = broken_kind w e in cc) (λ (e : is_broken w ≡ false). sym (unbroken_kind w e) ∙ none) (cases_Bool (is_broken w))
 
 pub merger_none_where_code : (w : List ℕ) (s : ℕ) → Stands utf8 w 0 s → merger_kind w ≡ None
 merger_none_where_code w s h = let none = no_fault_where_code w s h in unbroken_kind w (code_unbroken w none) ∙ none
@@ -101,10 +95,6 @@ broken-front w =
 pub four_bytes_decide_merger : FourBytesDecideMerger
 unfolding merger_kind
 four_bytes_decide_merger w = rw (broken-front w, four_bytes_decide w) refl
-
-or_true : (a : Bool) → (a || true) ≡ true
-or_true true = refl
-or_true false = refl
 
 -- Elements after those that the first byte asks for do not matter.
 
@@ -135,7 +125,8 @@ value_front w later asks enough =
     value-4 (w ++ later) (a ∙ n) ∙ rw (e0, at_front w later 1 (omega arith), at_front w later 2 (omega arith), at_front w later 3 (omega arith)) refl ∙ sym (value-4 w n))))
     (asked_cases (get_or w 0 0) asks)
 
-fault_front : (w later : List ℕ) → 0 < length w → asked_by w ≤ length w → fault_kind (w ++ later) ≡ fault_kind w
+-- the forward kind, where all bytes that the first asks for are there
+pub fault_front : (w later : List ℕ) → 0 < length w → asked_by w ≤ length w → fault_kind (w ++ later) ≡ fault_kind w
 unfolding fault_kind
 fault_front w later some enough =
     let both = length-append w later in
@@ -143,18 +134,15 @@ fault_front w later some enough =
     let empty_all : eqb (length (w ++ later)) 0 ≡ false = grind (arith, common_steps) in
     let empty : eqb (length w) 0 ≡ false = grind (arith, common_steps) in
     ⊎_elim
-    (λ (none : asked_by w ≤ 0). let zero : eqb (asked_by w) 0 ≡ true = grind (arith, common_steps) in rw (empty_all, empty, e0, zero) refl)
     (λ (asks : 0 < asked_by w).
     let short_all : ltb (length (w ++ later)) (asked_by w) ≡ false = grind (arith, common_steps) in
     let short : ltb (length w) (asked_by w) ≡ false = grind (arith, common_steps) in
-    rw (by_followers w later some enough, value_front w later asks enough, empty_all, empty, asked_front w later some, e0, short_all, short) refl)
-    (none_or_some (asked_by w))
+    rw (by_continuation_bytes w later some enough, value_front w later asks enough, empty_all, empty, asked_front w later some, e0, short_all, short) refl)
+    (λ (none : asked_by w ≤ 0). let zero : eqb (asked_by w) 0 ≡ true = grind (arith, common_steps) in rw (empty_all, empty, e0, zero) refl)
+    (cases_lt 0 (asked_by w))
   where
-    none_or_some : (n : ℕ) → (n ≤ 0) ⊎ (0 < n)
-    none_or_some n = ⊎_elim (λ lt. inr lt) (λ le. inl le) (cases_lt 0 n)
-
-    by_followers : (w later : List ℕ) → 0 < length w → asked_by w ≤ length w → followers_continue (w ++ later) ≡ followers_continue w
-    by_followers w later some enough = rw (continues_front w later 1 some enough, continues_front w later 2 some enough, continues_front w later 3 some enough) refl
+    by_continuation_bytes : (w later : List ℕ) → 0 < length w → asked_by w ≤ length w → all_continue (w ++ later) ≡ all_continue w
+    by_continuation_bytes w later some enough = rw (continues_front w later 1 some enough, continues_front w later 2 some enough, continues_front w later 3 some enough) refl
 
 -- the merger's kind, where all bytes that the first asks for are there, is the forward kind of these
 pub kind_of_front : (w later : List ℕ) → 0 < length w → asked_by w ≤ length w → merger_kind (w ++ later) ≡ fault_kind w
@@ -171,33 +159,10 @@ pub few-1 : (a : ℕ) → 1 < asked a → merger_kind (a ∷ []) ≡ Some TooFew
 few-1 a asks = kind_of_few (a ∷ []) (lit< tt) asks refl
 
 pub few-2 : (a b : ℕ) → 2 < asked a → is_continuation b ≡ true → merger_kind (a ∷ b ∷ []) ≡ Some TooFewBytes
-few-2 a b asks first = kind_of_few (a ∷ b ∷ []) (lit< tt) asks (rw (first, or_true (leb (asked a) 1)) refl)
+few-2 a b asks first = kind_of_few (a ∷ b ∷ []) (lit< tt) asks (rw (first, or-true (leb (asked a) 1)) refl)
 
 pub few-3 : (a b c : ℕ) → 3 < asked a → is_continuation b ≡ true → is_continuation c ≡ true → merger_kind (a ∷ b ∷ c ∷ []) ≡ Some TooFewBytes
-few-3 a b c asks first second = kind_of_few (a ∷ b ∷ c ∷ []) (lit< tt) asks (rw (first, second, or_true (leb (asked a) 1), or_true (leb (asked a) 2)) refl)
-
--- the first that is no continuation byte
-pub broken-1 : (a b : ℕ) (later : List ℕ) → 1 < asked a → is_continuation b ≡ false → merger_kind (a ∷ b ∷ later) ≡ Some InterruptedSequence
-broken-1 a b later asks e =
-    let there : ltb 1 (length (a ∷ b ∷ later)) ≡ true = grind (arith, common_steps) in
-    let wanted : leb (asked a) 1 ≡ false = grind (arith, common_steps) in
-    broken_kind (a ∷ b ∷ later) (rw (there, wanted, e) refl)
-
-pub broken-2 : (a b c : ℕ) (later : List ℕ) → 2 < asked a → is_continuation b ≡ true → is_continuation c ≡ false → merger_kind (a ∷ b ∷ c ∷ later) ≡ Some InterruptedSequence
-broken-2 a b c later asks first e =
-    let one : ltb 1 (length (a ∷ b ∷ c ∷ later)) ≡ true = grind (arith, common_steps) in
-    let two : ltb 2 (length (a ∷ b ∷ c ∷ later)) ≡ true = grind (arith, common_steps) in
-    let wanted : leb (asked a) 2 ≡ false = grind (arith, common_steps) in
-    broken_kind (a ∷ b ∷ c ∷ later) (rw (one, two, first, or_true (leb (asked a) 1), wanted, e) refl)
-
-pub broken-3 : (a b c d : ℕ) (later : List ℕ) → 3 < asked a → is_continuation b ≡ true → is_continuation c ≡ true → is_continuation d ≡ false
-    → merger_kind (a ∷ b ∷ c ∷ d ∷ later) ≡ Some InterruptedSequence
-broken-3 a b c d later asks first second e =
-    let one : ltb 1 (length (a ∷ b ∷ c ∷ d ∷ later)) ≡ true = grind (arith, common_steps) in
-    let two : ltb 2 (length (a ∷ b ∷ c ∷ d ∷ later)) ≡ true = grind (arith, common_steps) in
-    let three : ltb 3 (length (a ∷ b ∷ c ∷ d ∷ later)) ≡ true = grind (arith, common_steps) in
-    let wanted : leb (asked a) 3 ≡ false = grind (arith, common_steps) in
-    broken_kind (a ∷ b ∷ c ∷ d ∷ later) (rw (one, two, three, first, second, or_true (leb (asked a) 1), or_true (leb (asked a) 2), wanted, e) refl)
+few-3 a b c asks first second = kind_of_few (a ∷ b ∷ c ∷ []) (lit< tt) asks (rw (first, second, or-true (leb (asked a) 1), or-true (leb (asked a) 2)) refl)
 
 -- the code that stands at the front of no more bytes than the first asks for is all of them
 pub whole_code : (w : List ℕ) (s : ℕ) → Stands utf8 w 0 s → asked_by w ≤ length w → (1 < length w → asked_by w ≡ length w) → w ≡ utf8 s

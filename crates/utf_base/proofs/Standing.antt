@@ -51,21 +51,10 @@ outside_after code c xs p s h i =
     let begins = i.begins in
     let ends = i.ends in
     let some = c.some s h.scalar in
-    ⊎_elim
-    (λ (lt : p < i.from).
-    let first : p + length (code s) ≤ i.from = (codes_never_overlap code c xs p i.from s i.char h i.stands).1 lt in
-    absurd (omega arith))
-    (λ (le : i.from ≤ p).
-    ⊎_elim
-    (λ (gt : i.from < p).
-    let last : i.from + length (code i.char) ≤ p = (codes_never_overlap code c xs i.from p i.char s i.stands h).1 gt in
-    absurd (omega arith))
-    (λ (ge : p ≤ i.from).
-    let same : s ≡ i.char = (codes_never_overlap code c xs p i.from s i.char h i.stands).0 (omega arith) in
-    let len : length (code s) ≡ length (code i.char) = ap (λ n. length (code n)) same in
-    absurd (omega arith))
-    (cases_lt i.from p))
-    (cases_lt p i.from)
+    let first = (codes_never_overlap code c xs p i.from s i.char h i.stands).1 in
+    let last = (codes_never_overlap code c xs i.from p i.char s i.stands h).1 in
+    let same : p ≡ i.from → length (code s) ≡ length (code i.char) = λ e. ap (λ n. length (code n)) ((codes_never_overlap code c xs p i.from s i.char h i.stands).0 e) in
+    grind arith
 
 -- no code lies over the end of a list
 pub outside_end : (code : ℕ → List ℕ) (xs : List ℕ) → Inside code xs (length xs) → ⊥

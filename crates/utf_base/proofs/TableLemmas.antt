@@ -1,11 +1,13 @@
 -- Each entry of the table of classes and states is its rule.
-use Rattle.std.proofs.Common.{◌≡◌, ℕ, zero, suc, ◌+◌, ◌<◌, ◌≤◌, List, [], ◌∷◌, get_or, true, refl, arith, ◌∙◌, ap, ◌⊎◌, inl, inr, ⊎_elim}
+use Rattle.std.proofs.Common.{◌≡◌, ℕ, zero, suc, ◌+◌, ◌<◌, ◌≤◌, List, [], ◌∷◌, get_or, true, false, refl, arith, ◌∙◌, ap, ◌⊎◌, inl, inr, ⊎_elim}
 use Rattle.std.proofs.lemmas.Bool.{cases_lt}
 use Rattle.std.proofs.lemmas.Grind.{common_steps}
 use Rattle.utf_base.specs.declared.table.State.{State}
-use Rattle.utf_base.specs.declared.table.State.TheVariants.{Start, OneMore, TwoMore, ThreeMore, AfterE0, AfterEd, AfterF0, AfterF4, TwoMoreOverlong, OneMoreOverlong, OneMoreReserved, TwoMoreTooHigh, OneMoreTooHigh, Done, Unexpected, Never, Interrupted, Overlong, Reserved, TooHigh}
+use Rattle.utf_base.specs.declared.table.State.TheVariants.{Start, OneMore, TwoMore, ThreeMore, AfterE0, AfterEd, AfterF0, AfterF4, Done, Unexpected, Never, Interrupted, Overlong, Reserved, TooHigh}
 use Rattle.utf_base.specs.declared.table.TheConstants.{CLASSES, STEPS}
+use Rattle.utf_base.specs.Kinds.{asked, is_continuation}
 use Rattle.utf_base.specs.Table.{begun, class, is_running, next_state, row}
+use Rattle.utf_base.proofs.FrontLemmas.{asked-0}
 
 -- the values of a rule at n numbers from k on, and then some others
 abbrev values : {A : Type 0} → (ℕ → A) → ℕ → ℕ → List A → List A
@@ -31,19 +33,6 @@ unused = Interrupted ∷ Interrupted ∷ Interrupted ∷ Interrupted ∷ []
 
 row_at : (state : State) → is_running state ≡ true → (d : List State) → get_or STEPS (row state) d ≡ values (next_state state) 0 12 unused
 unfolding next_state
-row_at Start r d = refl
-row_at OneMore r d = refl
-row_at TwoMore r d = refl
-row_at ThreeMore r d = refl
-row_at AfterE0 r d = refl
-row_at AfterEd r d = refl
-row_at AfterF0 r d = refl
-row_at AfterF4 r d = refl
-row_at TwoMoreOverlong r d = refl
-row_at OneMoreOverlong r d = refl
-row_at OneMoreReserved r d = refl
-row_at TwoMoreTooHigh r d = refl
-row_at OneMoreTooHigh r d = refl
 row_at Done r d = cc
 row_at Unexpected r d = cc
 row_at Never r d = cc
@@ -51,6 +40,7 @@ row_at Interrupted r d = cc
 row_at Overlong r d = cc
 row_at Reserved r d = cc
 row_at TooHigh r d = cc
+row_at _ r d = refl
 
 pub step_at : (state : State) → is_running state ≡ true → (c : ℕ) → c < 12 → (d : List State) (e : State) → get_or (get_or STEPS (row state) d) c e ≡ next_state state c
 step_at state running c lt d e = ap (λ xs. get_or xs c e) (row_at state running d) ∙ values-at (next_state state) 0 12 c c unused e (omega arith) lt
@@ -91,3 +81,12 @@ begins b =
     (λ (l11 : 0xF4 ≤ b). ⊎_elim (λ (h : b < 0xF5). begins_as b 11 AfterF4 (grind (arith, common_steps)) refl (omega arith))
     (λ (l12 : 0xF5 ≤ b). begins_as b 4 Never (grind (arith, common_steps)) refl (inr (omega arith)))
     (cases_lt b 0xF5)) (cases_lt b 0xF4)) (cases_lt b 0xF1)) (cases_lt b 0xF0)) (cases_lt b 0xEE)) (cases_lt b 0xED)) (cases_lt b 0xE1)) (cases_lt b 0xE0)) (cases_lt b 0xC2)) (cases_lt b 0xC0)) (cases_lt b 0xA0)) (cases_lt b 0x90)) (cases_lt b 0x80)
+
+-- the range of a byte, by the state that was found after it
+pub found : (b c : ℕ) (r state : State) → c ≡ class b → r ≡ next_state Start c → r ≡ state → Begins b state
+found b c r state e f g = let h = begins b in let same : next_state Start (class b) ≡ state = cc in rw same at h
+
+-- a byte that no code has
+pub no_code_byte : (b : ℕ) → (0xC0 ≤ b) × (b < 0xC2) ⊎ (0xF5 ≤ b) → (is_continuation b ≡ false) × (asked b ≡ 0)
+no_code_byte b (inl h) = (grind (arith, common_steps), asked-0 b (inl (omega arith, h.1)))
+no_code_byte b (inr h) = (grind (arith, common_steps), asked-0 b (inr h))

@@ -1,12 +1,12 @@
 -- A walk over the table tells the kind of the bytes: step by step, what is known of them by the state that is reached.
-use Rattle.std.proofs.Common.{◌≡◌, ℕ, zero, suc, ◌+◌, ◌<◌, ◌≤◌, ◌⊎◌, inl, inr, ⊎_elim, List, length, get_or, arith, refl, subst, sym, ◌∙◌, ◌==◌, if◌then◌else◌, ap, Some, None, Bool, true, false, lit<}
+use Rattle.std.proofs.Common.{◌≡◌, ℕ, zero, suc, ◌+◌, ◌-◌, ◌*◌, ◌<◌, ◌≤◌, ◌⊎◌, inl, inr, ⊎_elim, List, length, get_or, arith, refl, subst, sym, ◌∙◌, ◌==◌, if◌then◌else◌, ap, Some, None, Bool, true, false, lit<}
 use Rattle.std.proofs.lemmas.Grind.{common_steps}
 use Rattle.std.proofs.lemmas.Bool.{cases_lt}
 use Rattle.utf_base.specs.declared.errors.Utf8ErrorKind.TheVariants.{TooFewBytes, InterruptedSequence, OverlongEncoding, Utf16ReservedCodepoint, TooHighCodepoint}
 use Rattle.utf_base.specs.declared.table.State.{State}
 use Rattle.utf_base.specs.declared.table.State.TheVariants.{Start, OneMore, TwoMore, ThreeMore, AfterE0, AfterEd, AfterF0, AfterF4, TwoMoreOverlong, OneMoreOverlong, OneMoreReserved, TwoMoreTooHigh, OneMoreTooHigh, Done, Unexpected, Never, Interrupted, Overlong, Reserved, TooHigh}
 use Rattle.utf_base.specs.Scalar.{IsScalar}
-use Rattle.utf_base.specs.Kinds.{fault_kind, merger_kind, asked_by, value, least_value, is_continuation, continues_at, followers_continue, breaks_at, is_broken}
+use Rattle.utf_base.specs.Kinds.{fault_kind, merger_kind, asked_by, value, least_value, is_continuation, continues_at, all_continue, breaks_at, is_broken}
 use Rattle.utf_base.specs.Table.{class, continued, fault_of, is_later_fault, is_running, missing, next_state, state_after}
 use Rattle.utf_base.proofs.FrontLemmas.{asked-0, asked-1, asked-2, asked-3, asked-4, asked_le, asked-no_continuation, value-1, value-2, value-3, value-4, least_value-below_3, least_value-3, least_value-4}
 use Rattle.utf_base.proofs.KindCases.{Sums, kind-empty, kind-continuation, kind-never, kind-overlong, kind-surrogate, kind-too_high, kind-none}
@@ -58,50 +58,29 @@ pub record Runs (w : List ℕ) (k : ℕ) (state : State) : Type 0 where
 -- k bytes led to the state; an end tells the kind
 abbrev pub Reached : List ℕ → ℕ → State → Type 0
 Reached w k Start = k ≡ 0
-Reached w k OneMore = Runs w k OneMore
-Reached w k TwoMore = Runs w k TwoMore
-Reached w k ThreeMore = Runs w k ThreeMore
-Reached w k AfterE0 = Runs w k AfterE0
-Reached w k AfterEd = Runs w k AfterEd
-Reached w k AfterF0 = Runs w k AfterF0
-Reached w k AfterF4 = Runs w k AfterF4
-Reached w k TwoMoreOverlong = Runs w k TwoMoreOverlong
-Reached w k OneMoreOverlong = Runs w k OneMoreOverlong
-Reached w k OneMoreReserved = Runs w k OneMoreReserved
-Reached w k TwoMoreTooHigh = Runs w k TwoMoreTooHigh
-Reached w k OneMoreTooHigh = Runs w k OneMoreTooHigh
-Reached w k end = merger_kind w ≡ fault_of end
+Reached w k Done = merger_kind w ≡ None
+Reached w k Unexpected = merger_kind w ≡ fault_of Unexpected
+Reached w k Never = merger_kind w ≡ fault_of Never
+Reached w k Interrupted = merger_kind w ≡ fault_of Interrupted
+Reached w k Overlong = merger_kind w ≡ fault_of Overlong
+Reached w k Reserved = merger_kind w ≡ fault_of Reserved
+Reached w k TooHigh = merger_kind w ≡ fault_of TooHigh
+Reached w k running = Runs w k running
 
 -- A byte that does not continue breaks the code, whatever else follows.
 
 breaks : (w : List ℕ) (k : ℕ) → 0 < k → k < asked_by w → k < length w → is_continuation (get_or w k 0) ≡ false → is_broken w ≡ true
-breaks w k some asks there e =
-    let most = asked_le (get_or w 0 0) in
-    ⊎_elim (λ (h : k < 2). let one : k ≡ 1 = omega arith in at_1 w (omega arith) (omega arith) (rw (← one) e))
-    (λ (g : 2 ≤ k).
-    ⊎_elim (λ (h : k < 3). let two : k ≡ 2 = omega arith in at_2 w (omega arith) (omega arith) (rw (← two) e))
-    (λ (h : 3 ≤ k). let three : k ≡ 3 = omega arith in at_3 w (omega arith) (omega arith) (rw (← three) e))
-    (cases_lt k 3))
-    (cases_lt k 2)
-  where
-    at_1 : (w : List ℕ) → 1 < asked_by w → 1 < length w → is_continuation (get_or w 1 0) ≡ false → is_broken w ≡ true
-    at_1 w asks there e = grind (arith, common_steps)
-
-    at_2 : (w : List ℕ) → 2 < asked_by w → 2 < length w → is_continuation (get_or w 2 0) ≡ false → is_broken w ≡ true
-    at_2 w asks there e = grind (arith, common_steps)
-
-    at_3 : (w : List ℕ) → 3 < asked_by w → 3 < length w → is_continuation (get_or w 3 0) ≡ false → is_broken w ≡ true
-    at_3 w asks there e = grind (arith, common_steps)
+breaks w zero some asks there e = absurd (omega arith)
+breaks w (suc zero) some asks there e = grind (arith, common_steps)
+breaks w (suc (suc zero)) some asks there e = grind (arith, common_steps)
+breaks w (suc (suc (suc zero))) some asks there e = grind (arith, common_steps)
+breaks w (suc (suc (suc (suc k)))) some asks there e = absurd (omega (arith, asked_le (get_or w 0 0)))
 
 interrupted : (w : List ℕ) (k : ℕ) (state : State) → Runs w k state → 0 < missing state → k < length w → (get_or w k 0 < 0x80) ⊎ (0xC0 ≤ get_or w k 0)
     → merger_kind w ≡ Some InterruptedSequence
 interrupted w k state r more there out =
     let asks = r.asks in
-    broken_kind w (breaks w k r.some (omega arith) there (no_continuation (get_or w k 0) out))
-  where
-    no_continuation : (b : ℕ) → (b < 0x80) ⊎ (0xC0 ≤ b) → is_continuation b ≡ false
-    no_continuation b (inl h) = grind (arith, common_steps)
-    no_continuation b (inr h) = grind (arith, common_steps)
+    broken_kind w (breaks w k r.some (omega arith) there (⊎_elim (λ (h : get_or w k 0 < 0x80). grind (arith, common_steps)) (λ (h : 0xC0 ≤ get_or w k 0). grind (arith, common_steps)) out))
 
 -- One more byte that continues.
 
@@ -119,7 +98,7 @@ follows : (w : List ℕ) (k : ℕ) → ContinueTo w (asked_by w) → 0 < k → c
 follows w k all some =
     ⊎_elim (λ (h : k < asked_by w). let c = all k some h in grind (arith, common_steps)) (λ (h : asked_by w ≤ k). grind (arith, common_steps)) (cases_lt k (asked_by w))
 
-all_follow : (w : List ℕ) → ContinueTo w (asked_by w) → followers_continue w ≡ true
+all_follow : (w : List ℕ) → ContinueTo w (asked_by w) → all_continue w ≡ true
 all_follow w all = rw (follows w 1 all (lit< tt), follows w 2 all (lit< tt), follows w 3 all (lit< tt)) refl
 
 sums : (w : List ℕ) → 0 < asked_by w → asked_by w ≤ length w → ContinueTo w (asked_by w) → Sums w (asked_by w) (value w)
@@ -155,7 +134,7 @@ reserved w e h = enough_kind w e.enough ∙ kind-surrogate w _ _ e.sums h.0 h.1 
 too_high : (w : List ℕ) → Ends w → IsTooHigh w → merger_kind w ≡ Some TooHighCodepoint
 too_high w e h = enough_kind w e.enough ∙ kind-too_high w _ _ e.sums h.0 h.1
 
--- Where a byte lies, and the state after it as a follower.
+-- Where a byte lies, and the state after it, where it is not the first.
 
 outside : (one two three : State) (b : ℕ) → (b < 0x80) ⊎ (0xC0 ≤ b) → continued one two three (class b) ≡ Interrupted
 unfolding class
@@ -174,9 +153,9 @@ class-3 : (b : ℕ) → 0xA0 ≤ b → b < 0xC0 → class b ≡ 3
 unfolding class
 class-3 b l h = grind (arith, common_steps)
 
-by_follower : (P : State → Type 0) (one two three : State) (b : ℕ) → ((b < 0x80) ⊎ (0xC0 ≤ b) → P Interrupted) → (0x80 ≤ b → b < 0x90 → P one)
+by_continuation_byte : (P : State → Type 0) (one two three : State) (b : ℕ) → ((b < 0x80) ⊎ (0xC0 ≤ b) → P Interrupted) → (0x80 ≤ b → b < 0x90 → P one)
     → (0x90 ≤ b → b < 0xA0 → P two) → (0xA0 ≤ b → b < 0xC0 → P three) → P (continued one two three (class b))
-by_follower P one two three b out low middle high =
+by_continuation_byte P one two three b out low middle high =
     ⊎_elim (λ (h : b < 0x80). rw (outside one two three b (inl h)) (out (inl h)))
     (λ (l0 : 0x80 ≤ b).
     ⊎_elim (λ (h : b < 0x90). rw (class-1 b l0 h) (low l0 h))
@@ -189,7 +168,7 @@ by_follower P one two three b out low middle high =
 
 -- the same where all that continue lead to one state
 by_any : (P : State → Type 0) (next : State) (b : ℕ) → ((b < 0x80) ⊎ (0xC0 ≤ b) → P Interrupted) → ((0x80 ≤ b) × (b < 0xC0) → P next) → P (continued next next next (class b))
-by_any P next b out on = by_follower P next next next b out (λ l h. on (omega arith, omega arith)) (λ l h. on (omega arith, omega arith)) (λ l h. on (omega arith, omega arith))
+by_any P next b out on = by_continuation_byte P next next next b out (λ l h. on (omega arith, omega arith)) (λ l h. on (omega arith, omega arith)) (λ l h. on (omega arith, omega arith))
 
 -- The first byte.
 
@@ -201,23 +180,45 @@ two_are_good w low high all =
     let least = least_value-below_3 (asked_by w) (omega arith) in
     (omega arith, record { below = omega arith; no_surrogate = λ h. absurd (omega arith) })
 
+-- what three bytes that continue tell, and four: their value, by the second byte, which is at k, and the least one of so many
+record OfThree (w : List ℕ) (k : ℕ) : Type 0 where
+  sum : value w ≡ (get_or w 0 0 - 0xE0) * 4096 + (get_or w k 0 - 0x80) * 64 + (get_or w 2 0 - 0x80)
+  second : Continues w k
+  third : Continues w 2
+  least : least_value (asked_by w) ≡ 0x800
+
+of_three : (w : List ℕ) (k : ℕ) → k ≡ 1 → 0xE0 ≤ get_or w 0 0 → get_or w 0 0 < 0xF0 → ContinueTo w (asked_by w) → OfThree w k
+of_three w k e low high all =
+    let n : asked_by w ≡ 3 = asked-3 (get_or w 0 0) low high in
+    rw e (record { sum = value-3 w n; second = all 1 (lit< tt) (omega arith); third = all 2 (lit< tt) (omega arith); least = ap least_value n ∙ least_value-3 })
+
+record OfFour (w : List ℕ) (k : ℕ) : Type 0 where
+  sum : value w ≡ (get_or w 0 0 - 0xF0) * 262144 + (get_or w k 0 - 0x80) * 4096 + (get_or w 2 0 - 0x80) * 64 + (get_or w 3 0 - 0x80)
+  second : Continues w k
+  third : Continues w 2
+  fourth : Continues w 3
+  least : least_value (asked_by w) ≡ 0x1_0000
+
+of_four : (w : List ℕ) (k : ℕ) → k ≡ 1 → 0xF0 ≤ get_or w 0 0 → get_or w 0 0 < 0xF5 → ContinueTo w (asked_by w) → OfFour w k
+of_four w k e low high all =
+    let n : asked_by w ≡ 4 = asked-4 (get_or w 0 0) low high in
+    rw e
+    (record {
+      sum = value-4 w n;
+      second = all 1 (lit< tt) (omega arith);
+      third = all 2 (lit< tt) (omega arith);
+      fourth = all 3 (lit< tt) (omega arith);
+      least = ap least_value n ∙ least_value-4;
+    })
+
 three_are_good : (w : List ℕ) → 0xE0 < get_or w 0 0 → get_or w 0 0 < 0xF0 → (get_or w 0 0 ≡ 0xED → ⊥) → ContinueTo w (asked_by w) → IsGood w
 three_are_good w low high other all =
-    let n : asked_by w ≡ 3 = asked-3 (get_or w 0 0) (omega arith) high in
-    let sum = value-3 w n in
-    let c = all 1 (lit< tt) (omega arith) in
-    let d = all 2 (lit< tt) (omega arith) in
-    let least = ap least_value n ∙ least_value-3 in
+    let t = of_three w 1 refl (omega arith) high all in
     (omega arith, record { below = omega arith; no_surrogate = λ h. ⊎_elim (λ (g : get_or w 0 0 < 0xEE). absurd (other (omega arith))) (λ (g : 0xEE ≤ get_or w 0 0). omega arith) (cases_lt (get_or w 0 0) 0xEE) })
 
 four_are_good : (w : List ℕ) → 0xF0 < get_or w 0 0 → get_or w 0 0 < 0xF4 → ContinueTo w (asked_by w) → IsGood w
 four_are_good w low high all =
-    let n : asked_by w ≡ 4 = asked-4 (get_or w 0 0) (omega arith) (omega arith) in
-    let sum = value-4 w n in
-    let c = all 1 (lit< tt) (omega arith) in
-    let d = all 2 (lit< tt) (omega arith) in
-    let f = all 3 (lit< tt) (omega arith) in
-    let least = ap least_value n ∙ least_value-4 in
+    let t = of_four w 1 refl (omega arith) (omega arith) all in
     (omega arith, record { below = omega arith; no_surrogate = λ h. omega arith })
 
 -- a first byte that begins a code runs on
@@ -225,7 +226,6 @@ runs-1 : (w : List ℕ) (state : State) → asked_by w ≡ 1 + missing state →
 runs-1 w state asks leads = record { some = lit< tt; asks = asks; before = λ j some lt. absurd (omega arith); leads = leads }
 
 first : (w : List ℕ) (state : State) → 0 < length w → Begins (get_or w 0 0) state → Reached w 1 state
-first w Start some h = absurd h
 first w OneMore some h = runs-1 w OneMore (asked-2 _ h.0 h.1) (two_are_good w h.0 h.1)
 first w TwoMore some h = runs-1 w TwoMore (asked-3 _ (omega arith) h.1) (three_are_good w h.0 h.1 h.2)
 first w ThreeMore some h = runs-1 w ThreeMore (asked-4 _ (omega arith) (omega arith)) (four_are_good w h.0 h.1)
@@ -233,11 +233,6 @@ first w AfterE0 some h = runs-1 w AfterE0 (asked-3 _ (omega arith) (omega arith)
 first w AfterEd some h = runs-1 w AfterEd (asked-3 _ (omega arith) (omega arith)) h
 first w AfterF0 some h = runs-1 w AfterF0 (asked-4 _ (omega arith) (omega arith)) h
 first w AfterF4 some h = runs-1 w AfterF4 (asked-4 _ (omega arith) (omega arith)) h
-first w TwoMoreOverlong some h = absurd h
-first w OneMoreOverlong some h = absurd h
-first w OneMoreReserved some h = absurd h
-first w TwoMoreTooHigh some h = absurd h
-first w OneMoreTooHigh some h = absurd h
 first w Done some h =
     let n : asked_by w ≡ 1 = asked-1 _ h in
     let sum = value-1 w n in
@@ -253,97 +248,7 @@ first w Never some (inl h) =
 first w Never some (inr h) =
     let n : asked_by w ≡ 0 = asked-0 _ (inr h) in
     enough_kind w (omega arith) ∙ kind-never w some n (grind (arith, common_steps))
-first w Interrupted some h = absurd h
-first w Overlong some h = absurd h
-first w Reserved some h = absurd h
-first w TooHigh some h = absurd h
-
--- The second byte, where it decides.
-
-e0_is_overlong : (w : List ℕ) (k : ℕ) → Runs w k AfterE0 → get_or w k 0 < 0xA0 → ContinueTo w (asked_by w) → IsOverlong w
-e0_is_overlong w k r high all =
-    let n : asked_by w ≡ 3 = asked-3 _ (omega (arith, r.leads)) (omega (arith, r.leads)) in
-    let e : k ≡ 1 = omega (arith, r.asks) in
-    let second : get_or w 1 0 < 0xA0 = rw (← e) high in
-    let sum = value-3 w n in
-    let d = all 2 (lit< tt) (omega arith) in
-    let least = ap least_value n ∙ least_value-3 in
-    omega (arith, r.leads)
-
-e0_is_good : (w : List ℕ) (k : ℕ) → Runs w k AfterE0 → 0xA0 ≤ get_or w k 0 → ContinueTo w (asked_by w) → IsGood w
-e0_is_good w k r low all =
-    let n : asked_by w ≡ 3 = asked-3 _ (omega (arith, r.leads)) (omega (arith, r.leads)) in
-    let e : k ≡ 1 = omega (arith, r.asks) in
-    let second : 0xA0 ≤ get_or w 1 0 = rw (← e) low in
-    let sum = value-3 w n in
-    let c = all 1 (lit< tt) (omega arith) in
-    let d = all 2 (lit< tt) (omega arith) in
-    let least = ap least_value n ∙ least_value-3 in
-    (omega (arith, r.leads), record { below = omega (arith, r.leads); no_surrogate = λ h. absurd (omega (arith, r.leads)) })
-
-ed_is_good : (w : List ℕ) (k : ℕ) → Runs w k AfterEd → get_or w k 0 < 0xA0 → ContinueTo w (asked_by w) → IsGood w
-ed_is_good w k r high all =
-    let n : asked_by w ≡ 3 = asked-3 _ (omega (arith, r.leads)) (omega (arith, r.leads)) in
-    let e : k ≡ 1 = omega (arith, r.asks) in
-    let second : get_or w 1 0 < 0xA0 = rw (← e) high in
-    let sum = value-3 w n in
-    let d = all 2 (lit< tt) (omega arith) in
-    let least = ap least_value n ∙ least_value-3 in
-    (omega (arith, r.leads), record { below = omega (arith, r.leads); no_surrogate = λ h. absurd (omega (arith, r.leads)) })
-
-ed_is_reserved : (w : List ℕ) (k : ℕ) → Runs w k AfterEd → 0xA0 ≤ get_or w k 0 → ContinueTo w (asked_by w) → IsReserved w
-ed_is_reserved w k r low all =
-    let n : asked_by w ≡ 3 = asked-3 _ (omega (arith, r.leads)) (omega (arith, r.leads)) in
-    let e : k ≡ 1 = omega (arith, r.asks) in
-    let second : 0xA0 ≤ get_or w 1 0 = rw (← e) low in
-    let sum = value-3 w n in
-    let c = all 1 (lit< tt) (omega arith) in
-    let d = all 2 (lit< tt) (omega arith) in
-    let least = ap least_value n ∙ least_value-3 in
-    (omega (arith, r.leads), omega (arith, r.leads), omega (arith, r.leads))
-
-f0_is_overlong : (w : List ℕ) (k : ℕ) → Runs w k AfterF0 → get_or w k 0 < 0x90 → ContinueTo w (asked_by w) → IsOverlong w
-f0_is_overlong w k r high all =
-    let n : asked_by w ≡ 4 = asked-4 _ (omega (arith, r.leads)) (omega (arith, r.leads)) in
-    let e : k ≡ 1 = omega (arith, r.asks) in
-    let second : get_or w 1 0 < 0x90 = rw (← e) high in
-    let sum = value-4 w n in
-    let d = all 2 (lit< tt) (omega arith) in
-    let f = all 3 (lit< tt) (omega arith) in
-    let least = ap least_value n ∙ least_value-4 in
-    omega (arith, r.leads)
-
-f0_is_good : (w : List ℕ) (k : ℕ) → Runs w k AfterF0 → 0x90 ≤ get_or w k 0 → ContinueTo w (asked_by w) → IsGood w
-f0_is_good w k r low all =
-    let n : asked_by w ≡ 4 = asked-4 _ (omega (arith, r.leads)) (omega (arith, r.leads)) in
-    let e : k ≡ 1 = omega (arith, r.asks) in
-    let second : 0x90 ≤ get_or w 1 0 = rw (← e) low in
-    let sum = value-4 w n in
-    let c = all 1 (lit< tt) (omega arith) in
-    let d = all 2 (lit< tt) (omega arith) in
-    let f = all 3 (lit< tt) (omega arith) in
-    let least = ap least_value n ∙ least_value-4 in
-    (omega (arith, r.leads), record { below = omega (arith, r.leads); no_surrogate = λ h. omega (arith, r.leads) })
-
-f4_is_good : (w : List ℕ) (k : ℕ) → Runs w k AfterF4 → get_or w k 0 < 0x90 → ContinueTo w (asked_by w) → IsGood w
-f4_is_good w k r high all =
-    let n : asked_by w ≡ 4 = asked-4 _ (omega (arith, r.leads)) (omega (arith, r.leads)) in
-    let e : k ≡ 1 = omega (arith, r.asks) in
-    let second : get_or w 1 0 < 0x90 = rw (← e) high in
-    let sum = value-4 w n in
-    let d = all 2 (lit< tt) (omega arith) in
-    let f = all 3 (lit< tt) (omega arith) in
-    let least = ap least_value n ∙ least_value-4 in
-    (omega (arith, r.leads), record { below = omega (arith, r.leads); no_surrogate = λ h. omega (arith, r.leads) })
-
-f4_is_too_high : (w : List ℕ) (k : ℕ) → Runs w k AfterF4 → 0x90 ≤ get_or w k 0 → ContinueTo w (asked_by w) → IsTooHigh w
-f4_is_too_high w k r low all =
-    let n : asked_by w ≡ 4 = asked-4 _ (omega (arith, r.leads)) (omega (arith, r.leads)) in
-    let e : k ≡ 1 = omega (arith, r.asks) in
-    let second : 0x90 ≤ get_or w 1 0 = rw (← e) low in
-    let sum = value-4 w n in
-    let least = ap least_value n ∙ least_value-4 in
-    (omega (arith, r.leads), omega (arith, r.leads))
+first w _ some h = absurd h
 
 -- One more byte, in any state.
 
@@ -357,25 +262,45 @@ next w k TwoMore there r = by_any (Reached w (suc k)) OneMore _ (interrupted w k
 next w k ThreeMore there r =
     by_any (Reached w (suc k)) TwoMore _ (interrupted w k ThreeMore r (lit< tt) there) (λ c. runs_on w k ThreeMore TwoMore r c refl r.leads)
 next w k AfterE0 there r =
-    by_follower (Reached w (suc k)) OneMoreOverlong OneMoreOverlong OneMore _ (interrupted w k AfterE0 r (lit< tt) there)
-    (λ l h. runs_on w k AfterE0 OneMoreOverlong r (omega arith, omega arith) refl (λ all. e0_is_overlong w k r (omega arith) all))
-    (λ l h. runs_on w k AfterE0 OneMoreOverlong r (omega arith, omega arith) refl (λ all. e0_is_overlong w k r h all))
-    (λ l h. runs_on w k AfterE0 OneMore r (omega arith, omega arith) refl (λ all. e0_is_good w k r l all))
+    let lead = r.leads in
+    let asks : asked_by w ≡ 3 = asked-3 _ (omega arith) (omega arith) in
+    let known = of_three w k (omega (arith, r.asks)) (omega arith) (omega arith) in
+    let low : get_or w k 0 < 0xA0 → ContinueTo w (asked_by w) → IsOverlong w = λ h all. let t = known all in omega arith in
+    let high : 0xA0 ≤ get_or w k 0 → ContinueTo w (asked_by w) → IsGood w = λ l all. let t = known all in (omega arith, record { below = omega arith; no_surrogate = λ g. absurd (omega arith) }) in
+    by_continuation_byte (Reached w (suc k)) OneMoreOverlong OneMoreOverlong OneMore _ (interrupted w k AfterE0 r (lit< tt) there)
+    (λ l h. runs_on w k AfterE0 OneMoreOverlong r (omega arith, omega arith) refl (low (omega arith)))
+    (λ l h. runs_on w k AfterE0 OneMoreOverlong r (omega arith, omega arith) refl (low h))
+    (λ l h. runs_on w k AfterE0 OneMore r (omega arith, omega arith) refl (high l))
 next w k AfterEd there r =
-    by_follower (Reached w (suc k)) OneMore OneMore OneMoreReserved _ (interrupted w k AfterEd r (lit< tt) there)
-    (λ l h. runs_on w k AfterEd OneMore r (omega arith, omega arith) refl (λ all. ed_is_good w k r (omega arith) all))
-    (λ l h. runs_on w k AfterEd OneMore r (omega arith, omega arith) refl (λ all. ed_is_good w k r h all))
-    (λ l h. runs_on w k AfterEd OneMoreReserved r (omega arith, omega arith) refl (λ all. ed_is_reserved w k r l all))
+    let lead = r.leads in
+    let asks : asked_by w ≡ 3 = asked-3 _ (omega arith) (omega arith) in
+    let known = of_three w k (omega (arith, r.asks)) (omega arith) (omega arith) in
+    let low : get_or w k 0 < 0xA0 → ContinueTo w (asked_by w) → IsGood w = λ h all. let t = known all in (omega arith, record { below = omega arith; no_surrogate = λ g. absurd (omega arith) }) in
+    let high : 0xA0 ≤ get_or w k 0 → ContinueTo w (asked_by w) → IsReserved w = λ l all. let t = known all in (omega arith, omega arith, omega arith) in
+    by_continuation_byte (Reached w (suc k)) OneMore OneMore OneMoreReserved _ (interrupted w k AfterEd r (lit< tt) there)
+    (λ l h. runs_on w k AfterEd OneMore r (omega arith, omega arith) refl (low (omega arith)))
+    (λ l h. runs_on w k AfterEd OneMore r (omega arith, omega arith) refl (low h))
+    (λ l h. runs_on w k AfterEd OneMoreReserved r (omega arith, omega arith) refl (high l))
 next w k AfterF0 there r =
-    by_follower (Reached w (suc k)) TwoMoreOverlong TwoMore TwoMore _ (interrupted w k AfterF0 r (lit< tt) there)
-    (λ l h. runs_on w k AfterF0 TwoMoreOverlong r (omega arith, omega arith) refl (λ all. f0_is_overlong w k r h all))
-    (λ l h. runs_on w k AfterF0 TwoMore r (omega arith, omega arith) refl (λ all. f0_is_good w k r l all))
-    (λ l h. runs_on w k AfterF0 TwoMore r (omega arith, omega arith) refl (λ all. f0_is_good w k r (omega arith) all))
+    let lead = r.leads in
+    let asks : asked_by w ≡ 4 = asked-4 _ (omega arith) (omega arith) in
+    let known = of_four w k (omega (arith, r.asks)) (omega arith) (omega arith) in
+    let low : get_or w k 0 < 0x90 → ContinueTo w (asked_by w) → IsOverlong w = λ h all. let t = known all in omega arith in
+    let high : 0x90 ≤ get_or w k 0 → ContinueTo w (asked_by w) → IsGood w = λ l all. let t = known all in (omega arith, record { below = omega arith; no_surrogate = λ g. omega arith }) in
+    by_continuation_byte (Reached w (suc k)) TwoMoreOverlong TwoMore TwoMore _ (interrupted w k AfterF0 r (lit< tt) there)
+    (λ l h. runs_on w k AfterF0 TwoMoreOverlong r (omega arith, omega arith) refl (low h))
+    (λ l h. runs_on w k AfterF0 TwoMore r (omega arith, omega arith) refl (high l))
+    (λ l h. runs_on w k AfterF0 TwoMore r (omega arith, omega arith) refl (high (omega arith)))
 next w k AfterF4 there r =
-    by_follower (Reached w (suc k)) TwoMore TwoMoreTooHigh TwoMoreTooHigh _ (interrupted w k AfterF4 r (lit< tt) there)
-    (λ l h. runs_on w k AfterF4 TwoMore r (omega arith, omega arith) refl (λ all. f4_is_good w k r h all))
-    (λ l h. runs_on w k AfterF4 TwoMoreTooHigh r (omega arith, omega arith) refl (λ all. f4_is_too_high w k r l all))
-    (λ l h. runs_on w k AfterF4 TwoMoreTooHigh r (omega arith, omega arith) refl (λ all. f4_is_too_high w k r (omega arith) all))
+    let lead = r.leads in
+    let asks : asked_by w ≡ 4 = asked-4 _ (omega arith) (omega arith) in
+    let known = of_four w k (omega (arith, r.asks)) (omega arith) (omega arith) in
+    let low : get_or w k 0 < 0x90 → ContinueTo w (asked_by w) → IsGood w = λ h all. let t = known all in (omega arith, record { below = omega arith; no_surrogate = λ g. omega arith }) in
+    let high : 0x90 ≤ get_or w k 0 → ContinueTo w (asked_by w) → IsTooHigh w = λ l all. let t = known all in (omega arith, omega arith) in
+    by_continuation_byte (Reached w (suc k)) TwoMore TwoMoreTooHigh TwoMoreTooHigh _ (interrupted w k AfterF4 r (lit< tt) there)
+    (λ l h. runs_on w k AfterF4 TwoMore r (omega arith, omega arith) refl (low h))
+    (λ l h. runs_on w k AfterF4 TwoMoreTooHigh r (omega arith, omega arith) refl (high l))
+    (λ l h. runs_on w k AfterF4 TwoMoreTooHigh r (omega arith, omega arith) refl (high (omega arith)))
 next w k TwoMoreOverlong there r =
     by_any (Reached w (suc k)) OneMoreOverlong _ (interrupted w k TwoMoreOverlong r (lit< tt) there)
     (λ c. runs_on w k TwoMoreOverlong OneMoreOverlong r c refl r.leads)
@@ -391,13 +316,7 @@ next w k TwoMoreTooHigh there r =
 next w k OneMoreTooHigh there r =
     by_any (Reached w (suc k)) TooHigh _ (interrupted w k OneMoreTooHigh r (lit< tt) there)
     (λ c. let e = ends w k OneMoreTooHigh r c refl there in too_high w e (r.leads e.all))
-next w k Done there r = r
-next w k Unexpected there r = r
-next w k Never there r = r
-next w k Interrupted there r = r
-next w k Overlong there r = r
-next w k Reserved there r = r
-next w k TooHigh there r = r
+next w k _ there r = r
 
 pub reached : (w : List ℕ) (k : ℕ) → k ≤ length w → Reached w k (state_after w k)
 reached w zero le = refl
@@ -407,25 +326,7 @@ reached w (suc k) le = next w k (state_after w k) (omega arith) (reached w k (om
 
 end_tells : (w : List ℕ) (k : ℕ) (state : State) → is_running state ≡ false → Reached w k state → merger_kind w ≡ fault_of state
 end_tells w k Start e r = cc
-end_tells w k OneMore e r = cc
-end_tells w k TwoMore e r = cc
-end_tells w k ThreeMore e r = cc
-end_tells w k AfterE0 e r = cc
-end_tells w k AfterEd e r = cc
-end_tells w k AfterF0 e r = cc
-end_tells w k AfterF4 e r = cc
-end_tells w k TwoMoreOverlong e r = cc
-end_tells w k OneMoreOverlong e r = cc
-end_tells w k OneMoreReserved e r = cc
-end_tells w k TwoMoreTooHigh e r = cc
-end_tells w k OneMoreTooHigh e r = cc
-end_tells w k Done e r = r
-end_tells w k Unexpected e r = r
-end_tells w k Never e r = r
-end_tells w k Interrupted e r = r
-end_tells w k Overlong e r = r
-end_tells w k Reserved e r = r
-end_tells w k TooHigh e r = r
+end_tells w k _ e r = cc
 
 pub kind_at_end : (w : List ℕ) (k : ℕ) → k ≤ length w → is_running (state_after w k) ≡ false → merger_kind w ≡ fault_of (state_after w k)
 kind_at_end w k le e = end_tells w k (state_after w k) e (reached w k le)
@@ -447,18 +348,6 @@ nothing w e = unbroken_kind w (unbroken w (λ j some lt. absurd (omega arith))) 
 
 all_tell : (w : List ℕ) (state : State) → Reached w (length w) state → merger_kind w ≡ fault_of state
 all_tell w Start r = nothing w r
-all_tell w OneMore r = too_few w _ (lit< tt) r
-all_tell w TwoMore r = too_few w _ (lit< tt) r
-all_tell w ThreeMore r = too_few w _ (lit< tt) r
-all_tell w AfterE0 r = too_few w _ (lit< tt) r
-all_tell w AfterEd r = too_few w _ (lit< tt) r
-all_tell w AfterF0 r = too_few w _ (lit< tt) r
-all_tell w AfterF4 r = too_few w _ (lit< tt) r
-all_tell w TwoMoreOverlong r = too_few w _ (lit< tt) r
-all_tell w OneMoreOverlong r = too_few w _ (lit< tt) r
-all_tell w OneMoreReserved r = too_few w _ (lit< tt) r
-all_tell w TwoMoreTooHigh r = too_few w _ (lit< tt) r
-all_tell w OneMoreTooHigh r = too_few w _ (lit< tt) r
 all_tell w Done r = r
 all_tell w Unexpected r = r
 all_tell w Never r = r
@@ -466,6 +355,7 @@ all_tell w Interrupted r = r
 all_tell w Overlong r = r
 all_tell w Reserved r = r
 all_tell w TooHigh r = r
+all_tell w _ r = too_few w _ (lit< tt) r
 
 pub kind_of_all : (w : List ℕ) → merger_kind w ≡ fault_of (state_after w (length w))
 kind_of_all w = all_tell w _ (reached w (length w) (omega arith))
@@ -478,25 +368,7 @@ fault_at_end w k state le enough e end = sym (enough_kind w enough) ∙ kind_at_
 
 pub asks_runs : (state : State) → 0 < missing state → is_running state ≡ true
 asks_runs Start more = absurd (omega arith)
-asks_runs OneMore more = refl
-asks_runs TwoMore more = refl
-asks_runs ThreeMore more = refl
-asks_runs AfterE0 more = refl
-asks_runs AfterEd more = refl
-asks_runs AfterF0 more = refl
-asks_runs AfterF4 more = refl
-asks_runs TwoMoreOverlong more = refl
-asks_runs OneMoreOverlong more = refl
-asks_runs OneMoreReserved more = refl
-asks_runs TwoMoreTooHigh more = refl
-asks_runs OneMoreTooHigh more = refl
-asks_runs Done more = absurd (omega arith)
-asks_runs Unexpected more = absurd (omega arith)
-asks_runs Never more = absurd (omega arith)
-asks_runs Interrupted more = absurd (omega arith)
-asks_runs Overlong more = absurd (omega arith)
-asks_runs Reserved more = absurd (omega arith)
-asks_runs TooHigh more = absurd (omega arith)
+asks_runs _ more = grind arith
 
 by_continued : (P : State → Type 0) (one two three : State) (c : ℕ) → P one → P two → P three → P Interrupted → P (continued one two three c)
 by_continued P one two three c p q r out = choose P (c == 1) p (choose P (c == 2) q (choose P (c == 3) r out))
@@ -511,18 +383,6 @@ IsLess state next = (next ≡ Interrupted → ⊥) → missing state ≡ 1 + mis
 pub one_less : (state : State) (c : ℕ) → 0 < missing state → (next_state state c ≡ Interrupted → ⊥) → missing state ≡ 1 + missing (next_state state c)
 unfolding next_state
 one_less Start c more = absurd (omega arith)
-one_less OneMore c more = by_continued (IsLess OneMore) Done Done Done c (λ n. refl) (λ n. refl) (λ n. refl) (λ n. absurd (n refl))
-one_less TwoMore c more = by_continued (IsLess TwoMore) OneMore OneMore OneMore c (λ n. refl) (λ n. refl) (λ n. refl) (λ n. absurd (n refl))
-one_less ThreeMore c more = by_continued (IsLess ThreeMore) TwoMore TwoMore TwoMore c (λ n. refl) (λ n. refl) (λ n. refl) (λ n. absurd (n refl))
-one_less AfterE0 c more = by_continued (IsLess AfterE0) OneMoreOverlong OneMoreOverlong OneMore c (λ n. refl) (λ n. refl) (λ n. refl) (λ n. absurd (n refl))
-one_less AfterEd c more = by_continued (IsLess AfterEd) OneMore OneMore OneMoreReserved c (λ n. refl) (λ n. refl) (λ n. refl) (λ n. absurd (n refl))
-one_less AfterF0 c more = by_continued (IsLess AfterF0) TwoMoreOverlong TwoMore TwoMore c (λ n. refl) (λ n. refl) (λ n. refl) (λ n. absurd (n refl))
-one_less AfterF4 c more = by_continued (IsLess AfterF4) TwoMore TwoMoreTooHigh TwoMoreTooHigh c (λ n. refl) (λ n. refl) (λ n. refl) (λ n. absurd (n refl))
-one_less TwoMoreOverlong c more = by_continued (IsLess TwoMoreOverlong) OneMoreOverlong OneMoreOverlong OneMoreOverlong c (λ n. refl) (λ n. refl) (λ n. refl) (λ n. absurd (n refl))
-one_less OneMoreOverlong c more = by_continued (IsLess OneMoreOverlong) Overlong Overlong Overlong c (λ n. refl) (λ n. refl) (λ n. refl) (λ n. absurd (n refl))
-one_less OneMoreReserved c more = by_continued (IsLess OneMoreReserved) Reserved Reserved Reserved c (λ n. refl) (λ n. refl) (λ n. refl) (λ n. absurd (n refl))
-one_less TwoMoreTooHigh c more = by_continued (IsLess TwoMoreTooHigh) OneMoreTooHigh OneMoreTooHigh OneMoreTooHigh c (λ n. refl) (λ n. refl) (λ n. refl) (λ n. absurd (n refl))
-one_less OneMoreTooHigh c more = by_continued (IsLess OneMoreTooHigh) TooHigh TooHigh TooHigh c (λ n. refl) (λ n. refl) (λ n. refl) (λ n. absurd (n refl))
 one_less Done c more = absurd (omega arith)
 one_less Unexpected c more = absurd (omega arith)
 one_less Never c more = absurd (omega arith)
@@ -530,55 +390,26 @@ one_less Interrupted c more = absurd (omega arith)
 one_less Overlong c more = absurd (omega arith)
 one_less Reserved c more = absurd (omega arith)
 one_less TooHigh c more = absurd (omega arith)
+one_less state c more = by_continued (IsLess state) _ _ _ c (λ n. refl) (λ n. refl) (λ n. refl) (λ n. absurd (n refl))
 
 -- the last byte that a state asks for leads to a fault, where it does not complete a code
 pub faults_later : (state : State) (c : ℕ) → missing state ≡ 1 → (next_state state c ≡ Done → ⊥) → is_later_fault (next_state state c) ≡ true
 unfolding next_state
-faults_later Start c e other = absurd (omega arith)
 faults_later OneMore c e other =
     by_continued (λ next. (next ≡ Done → ⊥) → is_later_fault next ≡ true) Done Done Done c (λ n. absurd (n refl)) (λ n. absurd (n refl)) (λ n. absurd (n refl)) (λ n. refl) other
-faults_later TwoMore c e other = absurd (omega arith)
-faults_later ThreeMore c e other = absurd (omega arith)
-faults_later AfterE0 c e other = absurd (omega arith)
-faults_later AfterEd c e other = absurd (omega arith)
-faults_later AfterF0 c e other = absurd (omega arith)
-faults_later AfterF4 c e other = absurd (omega arith)
-faults_later TwoMoreOverlong c e other = absurd (omega arith)
 faults_later OneMoreOverlong c e other = by_continued (λ next. is_later_fault next ≡ true) Overlong Overlong Overlong c refl refl refl refl
 faults_later OneMoreReserved c e other = by_continued (λ next. is_later_fault next ≡ true) Reserved Reserved Reserved c refl refl refl refl
-faults_later TwoMoreTooHigh c e other = absurd (omega arith)
 faults_later OneMoreTooHigh c e other = by_continued (λ next. is_later_fault next ≡ true) TooHigh TooHigh TooHigh c refl refl refl refl
-faults_later Done c e other = absurd (omega arith)
-faults_later Unexpected c e other = absurd (omega arith)
-faults_later Never c e other = absurd (omega arith)
-faults_later Interrupted c e other = absurd (omega arith)
-faults_later Overlong c e other = absurd (omega arith)
-faults_later Reserved c e other = absurd (omega arith)
-faults_later TooHigh c e other = absurd (omega arith)
+faults_later _ c e other = absurd (omega arith)
 
 -- the last byte that a state asks for leads to an end
 pub last_ends : (state : State) (c : ℕ) → missing state ≡ 1 → is_running (next_state state c) ≡ false
 unfolding next_state
-last_ends Start c e = absurd (omega arith)
 last_ends OneMore c e = by_continued (λ next. is_running next ≡ false) Done Done Done c refl refl refl refl
-last_ends TwoMore c e = absurd (omega arith)
-last_ends ThreeMore c e = absurd (omega arith)
-last_ends AfterE0 c e = absurd (omega arith)
-last_ends AfterEd c e = absurd (omega arith)
-last_ends AfterF0 c e = absurd (omega arith)
-last_ends AfterF4 c e = absurd (omega arith)
-last_ends TwoMoreOverlong c e = absurd (omega arith)
 last_ends OneMoreOverlong c e = by_continued (λ next. is_running next ≡ false) Overlong Overlong Overlong c refl refl refl refl
 last_ends OneMoreReserved c e = by_continued (λ next. is_running next ≡ false) Reserved Reserved Reserved c refl refl refl refl
-last_ends TwoMoreTooHigh c e = absurd (omega arith)
 last_ends OneMoreTooHigh c e = by_continued (λ next. is_running next ≡ false) TooHigh TooHigh TooHigh c refl refl refl refl
-last_ends Done c e = absurd (omega arith)
-last_ends Unexpected c e = absurd (omega arith)
-last_ends Never c e = absurd (omega arith)
-last_ends Interrupted c e = absurd (omega arith)
-last_ends Overlong c e = absurd (omega arith)
-last_ends Reserved c e = absurd (omega arith)
-last_ends TooHigh c e = absurd (omega arith)
+last_ends _ c e = absurd (omega arith)
 
 -- where one byte is missing and any continuation byte completes a code, no other fault is left
 pub one_more_breaks : (c : ℕ) → (next_state OneMore c ≡ Done → ⊥) → next_state OneMore c ≡ Interrupted
@@ -596,76 +427,30 @@ pub first-3 : (b : ℕ) → 0xE0 ≤ b → b < 0xF0 → missing (next_state Star
 first-3 b low high = by_begins (next_state Start (class b)) low high (begins b)
   where
     by_begins : {b : ℕ} (state : State) → 0xE0 ≤ b → b < 0xF0 → Begins b state → missing state ≡ 2
-    by_begins Start low high h = absurd h
-    by_begins OneMore low high h = absurd (omega arith)
     by_begins TwoMore low high h = refl
-    by_begins ThreeMore low high h = absurd (omega arith)
     by_begins AfterE0 low high h = refl
     by_begins AfterEd low high h = refl
-    by_begins AfterF0 low high h = absurd (omega arith)
-    by_begins AfterF4 low high h = absurd (omega arith)
-    by_begins TwoMoreOverlong low high h = absurd h
-    by_begins OneMoreOverlong low high h = absurd h
-    by_begins OneMoreReserved low high h = absurd h
-    by_begins TwoMoreTooHigh low high h = absurd h
-    by_begins OneMoreTooHigh low high h = absurd h
-    by_begins Done low high h = absurd (omega arith)
-    by_begins Unexpected low high h = absurd (omega arith)
     by_begins Never low high (inl h) = absurd (omega arith)
     by_begins Never low high (inr h) = absurd (omega arith)
-    by_begins Interrupted low high h = absurd h
-    by_begins Overlong low high h = absurd h
-    by_begins Reserved low high h = absurd h
-    by_begins TooHigh low high h = absurd h
+    by_begins _ low high h = absurd (omega arith)
 
 pub first-4 : (b : ℕ) → 0xF0 ≤ b → b < 0xF5 → missing (next_state Start (class b)) ≡ 3
 first-4 b low high = by_begins (next_state Start (class b)) low high (begins b)
   where
     by_begins : {b : ℕ} (state : State) → 0xF0 ≤ b → b < 0xF5 → Begins b state → missing state ≡ 3
-    by_begins Start low high h = absurd h
-    by_begins OneMore low high h = absurd (omega arith)
-    by_begins TwoMore low high h = absurd (omega arith)
     by_begins ThreeMore low high h = refl
-    by_begins AfterE0 low high h = absurd (omega arith)
-    by_begins AfterEd low high h = absurd (omega arith)
     by_begins AfterF0 low high h = refl
     by_begins AfterF4 low high h = refl
-    by_begins TwoMoreOverlong low high h = absurd h
-    by_begins OneMoreOverlong low high h = absurd h
-    by_begins OneMoreReserved low high h = absurd h
-    by_begins TwoMoreTooHigh low high h = absurd h
-    by_begins OneMoreTooHigh low high h = absurd h
-    by_begins Done low high h = absurd (omega arith)
-    by_begins Unexpected low high h = absurd (omega arith)
     by_begins Never low high (inl h) = absurd (omega arith)
     by_begins Never low high (inr h) = absurd (omega arith)
-    by_begins Interrupted low high h = absurd h
-    by_begins Overlong low high h = absurd h
-    by_begins Reserved low high h = absurd h
-    by_begins TooHigh low high h = absurd h
+    by_begins _ low high h = absurd (omega arith)
 
 -- the other way round: a first byte that leads to none of the three ends asks for others
 pub asks_for_others : (b : ℕ) (state : State) → state ≡ next_state Start (class b) → (state ≡ Done → ⊥) → (state ≡ Unexpected → ⊥) → (state ≡ Never → ⊥) → (0xC2 ≤ b) × (b < 0xF5)
 asks_for_others b state e d u n = by_begins state (subst (λ (s : State). Begins b s) (sym e) (begins b)) d u n
   where
     by_begins : {b : ℕ} (state : State) → Begins b state → (state ≡ Done → ⊥) → (state ≡ Unexpected → ⊥) → (state ≡ Never → ⊥) → (0xC2 ≤ b) × (b < 0xF5)
-    by_begins Start h d u n = absurd h
-    by_begins OneMore h d u n = (omega arith, omega arith)
-    by_begins TwoMore h d u n = (omega arith, omega arith)
-    by_begins ThreeMore h d u n = (omega arith, omega arith)
-    by_begins AfterE0 h d u n = (omega arith, omega arith)
-    by_begins AfterEd h d u n = (omega arith, omega arith)
-    by_begins AfterF0 h d u n = (omega arith, omega arith)
-    by_begins AfterF4 h d u n = (omega arith, omega arith)
-    by_begins TwoMoreOverlong h d u n = absurd h
-    by_begins OneMoreOverlong h d u n = absurd h
-    by_begins OneMoreReserved h d u n = absurd h
-    by_begins TwoMoreTooHigh h d u n = absurd h
-    by_begins OneMoreTooHigh h d u n = absurd h
     by_begins Done h d u n = absurd (d refl)
     by_begins Unexpected h d u n = absurd (u refl)
     by_begins Never h d u n = absurd (n refl)
-    by_begins Interrupted h d u n = absurd h
-    by_begins Overlong h d u n = absurd h
-    by_begins Reserved h d u n = absurd h
-    by_begins TooHigh h d u n = absurd h
+    by_begins _ h d u n = (omega arith, omega arith)

@@ -1,7 +1,7 @@
 -- The code that ends some units, a unit that is no surrogate or a pair, and what the last unit tells where none does.
 use Rattle.std.proofs.Common.{◌≡◌, ℕ, ◌+◌, ◌-◌, ◌<◌, ◌≤◌, ◌⊎◌, inl, inr, ⊎_elim, List, [], ◌∷◌, length, get_or, arith, refl, ap, sym, ◌∙◌, true, false, Bool, Some, None, Result, Ok, Err, Option, eqb}
 use Rattle.std.proofs.lemmas.Grind.{common_steps}
-use Rattle.std.proofs.lemmas.Bool.{cases_lt}
+use Rattle.std.proofs.lemmas.Bool.{cases_Bool, cases_lt}
 use Rattle.std.specs.Option.{ok_or}
 use Rattle.std.specs.Prelude.{slice_range, if◌then◌else◌}
 use Rattle.utf_base.specs.declared.errors.units.Utf16SliceError.{Utf16SliceError}
@@ -14,7 +14,7 @@ use Rattle.utf_base.specs.Ends.{last_of, EndsWith, NoCodeEnds}
 use Rattle.utf_base.specs.Front.{as_scalar, IsFrontLen}
 use Rattle.utf_base.specs.KindLaws.{UnitsCodeOrLastUnit}
 use Rattle.utf_base.specs.Units.{is_leading_surrogate, is_trailing_surrogate, is_surrogate, pair_value, unit_back_kind, unit_fault_kind}
-use Rattle.utf_base.proofs.Ending.{no_code_ends-empty, ends_by_last, last_of_end}
+use Rattle.utf_base.proofs.Ending.{end_len, no_code_ends-empty, ends_by_last, last_of_end}
 use Rattle.utf_base.proofs.Standing.{same_char}
 use Rattle.utf_base.proofs.UnitLemmas.{pair_error}
 use Rattle.utf_base.proofs.Utf16Code.{StandsAsUnit, StandsAsPair, stands_cases, begins_with_unit, begins_with_pair, utf16_is_code, utf16-1, length_utf16}
@@ -116,14 +116,10 @@ no_units_end_empty w e = no_code_ends-empty utf16 utf16_is_code w e
 -- What tests tell of units that no code ends.
 
 surrogate_where_none : (w : List ℕ) → 0 < length w → last_of w < 0x1_0000 → NoCodeEnds utf16 w → is_surrogate (last_of w) ≡ true
-surrogate_where_none w some fits none = by_test (is_surrogate (last_of w)) refl
-  where
-    by_test : (b : Bool) → is_surrogate (last_of w) ≡ b → is_surrogate (last_of w) ≡ true
-    by_test true e = e
-    by_test false e = absurd (none _ _ (ends_with_unit w some fits e))
+surrogate_where_none w some fits none = ⊎_elim (λ e. e) (λ e. absurd (none _ _ (ends_with_unit w some fits e))) (cases_Bool (is_surrogate (last_of w)))
 
 no_pair_where_none : (w : List ℕ) → NoCodeEnds utf16 w → ends_in_pair w ≡ false
-no_pair_where_none w none = by_test (ends_in_pair w) refl
+no_pair_where_none w none = ⊎_elim (λ e. absurd (none _ _ (ends_with_pair w (enough e) (leads e) (trails e)))) (λ e. e) (cases_Bool (ends_in_pair w))
   where
     enough : ends_in_pair w ≡ true → 2 ≤ length w
     enough e = grind (arith, common_steps)
@@ -133,10 +129,6 @@ no_pair_where_none w none = by_test (ends_in_pair w) refl
 
     trails : ends_in_pair w ≡ true → is_trailing_surrogate (last_of w) ≡ true
     trails e = grind (arith, common_steps)
-
-    by_test : (b : Bool) → ends_in_pair w ≡ b → ends_in_pair w ≡ false
-    by_test false e = e
-    by_test true e = absurd (none _ _ (ends_with_pair w (enough e) (leads e) (trails e)))
 
 -- The answer as a function.
 
@@ -219,9 +211,4 @@ units_code_or_last_unit = record {
 -- The lengths of codes.
 
 pub end_len_utf16 : (w : List ℕ) (s n : ℕ) → EndsWith utf16 w s n → IsFrontLen 2 w n
-end_len_utf16 w s n h =
-    let some = utf16_is_code.some s h.0.scalar in
-    let most = length_utf16 s in
-    let within = h.0.within in
-    let len = h.1 in
-    (omega arith, omega arith, omega arith)
+end_len_utf16 = end_len utf16 2 utf16_is_code length_utf16

@@ -20,13 +20,22 @@ use Rattle.utf_base.proofs.Utf16Code.{StandsAsUnit, StandsAsPair, stands_cases, 
 pub no_surrogate : (u : ℕ) → is_trailing_surrogate u ≡ false → is_leading_surrogate u ≡ false → is_surrogate u ≡ false
 no_surrogate u t l = grind (arith, common_steps)
 
+pub no_lead : (u : ℕ) → is_surrogate u ≡ false → is_leading_surrogate u ≡ false
+no_lead u h = grind (arith, common_steps)
+
+pub no_trail : (u : ℕ) → is_surrogate u ≡ false → is_trailing_surrogate u ≡ false
+no_trail u h = grind (arith, common_steps)
+
+pub no_both : (u : ℕ) → is_leading_surrogate u ≡ true → is_trailing_surrogate u ≡ false
+no_both u h = grind (arith, common_steps)
+
 two_or_more : (n : ℕ) → 0 < n → eqb n 1 ≡ false → 2 ≤ n
 two_or_more n some a = grind (arith, common_steps)
 
 zero_or_more : (n : ℕ) → (n ≡ 0) ⊎ (0 < n)
 zero_or_more n = ⊎_elim (λ (some : 0 < n). inr some) (λ (none : n ≤ 0). inl (omega arith)) (cases_lt 0 n)
 
-fault_of_empty : (w : List ℕ) → length w ≡ 0 → slice_fault w ≡ Some slice.EmptySlice
+pub fault_of_empty : (w : List ℕ) → length w ≡ 0 → slice_fault w ≡ Some slice.EmptySlice
 unfolding slice_fault
 fault_of_empty w e = rw e refl
 
@@ -46,29 +55,23 @@ no_fault_of_unit : (w : List ℕ) → 0 < length w → is_surrogate (get_or w 0 
 unfolding slice_fault
 no_fault_of_unit w some plain =
     let not_empty : eqb (length w) 0 ≡ false = grind (arith, common_steps) in
-    let no_trail : is_trailing_surrogate (get_or w 0 0) ≡ false = grind (arith, common_steps) in
-    let no_lead : is_leading_surrogate (get_or w 0 0) ≡ false = grind (arith, common_steps) in
-    rw (not_empty, no_trail, no_lead) refl
+    rw (not_empty, no_trail (get_or w 0 0) plain, no_lead (get_or w 0 0) plain) refl
 
 no_fault_of_pair : (w : List ℕ) → 2 ≤ length w → is_leading_surrogate (get_or w 0 0) ≡ true → is_trailing_surrogate (get_or w 1 0) ≡ true → slice_fault w ≡ None
 unfolding slice_fault
 no_fault_of_pair w two leading trailing =
     let not_empty : eqb (length w) 0 ≡ false = grind (arith, common_steps) in
-    let no_trail : is_trailing_surrogate (get_or w 0 0) ≡ false = grind (arith, common_steps) in
     let not_alone : eqb (length w) 1 ≡ false = grind (arith, common_steps) in
-    rw (not_empty, no_trail, leading, not_alone, trailing) refl
+    rw (not_empty, no_both (get_or w 0 0) leading, leading, not_alone, trailing) refl
 
 pub no_fault_where_units : (w : List ℕ) (s : ℕ) → Stands utf16 w 0 s → slice_fault w ≡ None
 no_fault_where_units w s h =
     let within = h.within in
-    let some = stands_some w s h in
+    let some = utf16_is_code.some s h.scalar in
     ⊎_elim
-    (λ (u : StandsAsUnit w s). no_fault_of_unit w some u.plain)
+    (λ (u : StandsAsUnit w s). no_fault_of_unit w (omega arith) u.plain)
     (λ (p : StandsAsPair w). no_fault_of_pair w p.two p.leading p.trailing)
     (stands_cases w s h)
-  where
-    stands_some : (w : List ℕ) (s : ℕ) → Stands utf16 w 0 s → 0 < length w
-    stands_some w s h = let some = utf16_is_code.some s h.scalar in let within = h.within in omega arith
 
 -- a pair of surrogates begins the units
 abbrev IsPair : List ℕ → Type 0
@@ -118,9 +121,6 @@ code_of_units w units none =
     other)
     (front_of_units w some))
     (zero_or_more (length w))
-  where
-    no_lead : (u : ℕ) → is_surrogate u ≡ false → is_leading_surrogate u ≡ false
-    no_lead u h = grind (arith, common_steps)
 
 pub units_code_or_one_fault : UnitsCodeOrOneFault
 units_code_or_one_fault = record { code = code_of_units; fault = no_fault_where_units }

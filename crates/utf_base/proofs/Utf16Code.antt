@@ -27,9 +27,9 @@ unfolding utf16
 length_utf16 s = grind (arith, common_steps)
 
 -- a unit after the first is a trailing surrogate
-utf16-follower : (s k : ℕ) → IsScalar s → 0 < k → k < length (utf16 s) → (0xDC00 ≤ get_or (utf16 s) k 0) × (get_or (utf16 s) k 0 < 0xE000)
+utf16-trailing_surrogate : (s k : ℕ) → IsScalar s → 0 < k → k < length (utf16 s) → (0xDC00 ≤ get_or (utf16 s) k 0) × (get_or (utf16 s) k 0 < 0xE000)
 unfolding utf16
-utf16-follower s k h p q = grind (arith, common_steps)
+utf16-trailing_surrogate s k h p q = grind (arith, common_steps)
 
 -- the first is none
 utf16-first : (s : ℕ) → IsScalar s → (get_or (utf16 s) 0 0 < 0xDC00) ⊎ (0xE000 ≤ get_or (utf16 s) 0 0)
@@ -37,7 +37,7 @@ unfolding utf16
 utf16-first s h = grind (arith, common_steps)
 
 utf16-apart : (s t k : ℕ) → IsScalar s → IsScalar t → 0 < k → k < length (utf16 s) → get_or (utf16 s) k 0 ≡ get_or (utf16 t) 0 0 → ⊥
-utf16-apart s t k h g p q e = grind (arith, common_steps, utf16-follower s k h p q, utf16-first t g)
+utf16-apart s t k h g p q e = grind (arith, common_steps, utf16-trailing_surrogate s k h p q, utf16-first t g)
 
 utf16-sized : (s t : ℕ) → IsScalar s → IsScalar t → get_or (utf16 s) 0 0 ≡ get_or (utf16 t) 0 0 → length (utf16 s) ≡ length (utf16 t)
 unfolding utf16

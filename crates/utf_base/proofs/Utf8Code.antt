@@ -29,9 +29,9 @@ unfolding utf8
 length_utf8 s = grind (arith, common_steps)
 
 -- a byte after the first is a continuation byte
-pub utf8-follower : (s k : ℕ) → IsScalar s → 0 < k → k < length (utf8 s) → (0x80 ≤ get_or (utf8 s) k 0) × (get_or (utf8 s) k 0 < 0xC0)
+pub utf8-continuation_byte : (s k : ℕ) → IsScalar s → 0 < k → k < length (utf8 s) → (0x80 ≤ get_or (utf8 s) k 0) × (get_or (utf8 s) k 0 < 0xC0)
 unfolding utf8
-utf8-follower s k h p q = grind (arith, common_steps)
+utf8-continuation_byte s k h p q = grind (arith, common_steps)
 
 -- the first byte is none
 pub utf8-first : (s : ℕ) → IsScalar s → (get_or (utf8 s) 0 0 < 0x80) ⊎ (0xC2 ≤ get_or (utf8 s) 0 0)
@@ -47,7 +47,7 @@ unfolding utf8
 utf8-injective s t h g e = grind (arith, common_steps)
 
 utf8-apart : (s t k : ℕ) → IsScalar s → IsScalar t → 0 < k → k < length (utf8 s) → get_or (utf8 s) k 0 ≡ get_or (utf8 t) 0 0 → ⊥
-utf8-apart s t k h g p q e = grind (arith, common_steps, utf8-follower s k h p q, utf8-first t g)
+utf8-apart s t k h g p q e = grind (arith, common_steps, utf8-continuation_byte s k h p q, utf8-first t g)
 
 pub utf8_is_code : IsCode utf8
 utf8_is_code = record { some = utf8-some; apart = utf8-apart; sized = utf8-sized; injective = utf8-injective }

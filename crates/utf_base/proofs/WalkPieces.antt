@@ -63,13 +63,12 @@ module _ {E : Type 0} where
     backs_cut = cut_none e.code xs j;
     shuffled = IsPermutation-refl [];
   })
-  gathers e c xs i j [] (a ∷ answers) k l w = absurd w
-  gathers e c xs i j (s ∷ word) [] k l w = absurd w
   gathers e c xs i j (s ∷ word) (None ∷ answers) k l w = gathers e c xs i j word answers k l w.1
   gathers e c xs i j (from_front ∷ word) (Some x ∷ answers) k l w =
       gathers_front e.code c xs i j k l (piece_of x) (answered answers) w.0.piece w.0.begins (gathers e c xs (x.0 + x.2) j word answers k l w.1)
   gathers e c xs i j (from_back ∷ word) (Some x ∷ answers) k l w =
       gathers_back e.code c xs i j k l (piece_of x) (answered answers) w.0.piece w.0.ends (gathers e c xs i x.0 word answers k l w.1)
+  gathers e c xs i j _ _ k l w = absurd w
 
   -- the pieces that a walk answers are within its first window
   all_within : (e : Encoding E) → IsCode e.code → (xs : List ℕ) (i j : ℕ) (word : List Side) (answers : List (Option (Placed E))) (k l : ℕ)
@@ -88,8 +87,6 @@ module _ {E : Type 0} where
   each_once : (e : Encoding E) → IsCode e.code → (xs : List ℕ) (i j : ℕ) (word : List Side) (answers : List (Option (Placed E))) (k l : ℕ)
       → IsOpen e.code xs i j → Walks e xs i j word answers k l → AllPairs (λ x y. x ≢ y) (answered answers)
   each_once e c xs i j [] [] k l o w = λ m n d lt h. absurd (omega arith)
-  each_once e c xs i j [] (a ∷ answers) k l o w = absurd w
-  each_once e c xs i j (s ∷ word) [] k l o w = absurd w
   each_once e c xs i j (s ∷ word) (None ∷ answers) k l o w = each_once e c xs i j word answers k l o w.1
   each_once e c xs i j (from_front ∷ word) (Some x ∷ answers) k l o w =
       let rest = open_front e c xs i j x o w.0 in
@@ -104,17 +101,17 @@ module _ {E : Type 0} where
       AllPairs-cons (λ x y. x ≢ y) (piece_of x) (answered answers)
       (λ n d lt same. let place = ap (λ p. p.start) same in omega (arith, (others n d lt).2))
       (each_once e c xs i x.0 word answers k l rest w.1)
+  each_once e c xs i j _ _ k l o w = absurd w
 
   -- where there was no piece the window is empty, and stays so
 
   empty_stays : (e : Encoding E) (xs : List ℕ) (i j : ℕ) (word : List Side) (answers : List (Option (Placed E))) (k l : ℕ)
       → i ≡ j → Walks e xs i j word answers k l → k ≡ l
   empty_stays e xs i j [] [] k l none w = w.0 ∙ none ∙ sym w.1
-  empty_stays e xs i j [] (a ∷ answers) k l none w = absurd w
-  empty_stays e xs i j (s ∷ word) [] k l none w = absurd w
   empty_stays e xs i j (s ∷ word) (None ∷ answers) k l none w = empty_stays e xs i j word answers k l none w.1
   empty_stays e xs i j (from_front ∷ word) (Some x ∷ answers) k l none w = let some = w.0.some in absurd (omega arith)
   empty_stays e xs i j (from_back ∷ word) (Some x ∷ answers) k l none w = let some = w.0.some in absurd (omega arith)
+  empty_stays e xs i j _ _ k l none w = absurd w
 
   none_left : (e : Encoding E) (xs : List ℕ) (i j : ℕ) (word : List Side) (answers : List (Option (Placed E))) (k l : ℕ)
       → Walks e xs i j word answers k l → Contains answers None → k ≡ l

@@ -1,5 +1,5 @@
 -- The windows of walks: their ends stay outside of codes, and they decide each answer.
-use Rattle.std.proofs.Common.{◌≡◌, ℕ, zero, suc, ◌+◌, ◌<◌, ◌≤◌, ⊎_elim, List, [], ◌∷◌, ◌++◌, length, take, arith, refl, ap, ap₂, sym, subst, ◌∙◌, Option, Some, None, Result, Ok, Err}
+use Rattle.std.proofs.Common.{◌≡◌, ℕ, zero, suc, ◌+◌, ◌<◌, ◌≤◌, ⊎_elim, List, [], ◌∷◌, ◌++◌, length, take, arith, refl, ap, ap₂, sym, ◌∙◌, Option, Some, None, Result, Ok, Err}
 use Rattle.std.proofs.lemmas.Bool.{cases_lt}
 use Rattle.std.specs.Prelude.{slice_range, IfErr}
 use Rattle.std.specs.Result.{result_ok}
@@ -8,19 +8,14 @@ use Rattle.utf_base.specs.Piece.{Inside, IsPieceAt}
 use Rattle.utf_base.specs.Walk.{Encoding, Side, from_front, from_back, Placed, piece_of, AnswersFront, AnswersBack, Walks}
 use Rattle.utf_base.specs.WalkLaws.{WalkIsUnique, WalkStaysOutside}
 use Rattle.utf_base.proofs.Cuts.{one_piece_begins, one_piece_ends}
-use Rattle.utf_base.proofs.Standing.{not_inside, outside_after, outside_end, outside_front}
+use Rattle.utf_base.proofs.CutChanges.{piece_ends_outside}
+use Rattle.utf_base.proofs.Standing.{not_inside, outside_end, outside_front}
 
 -- A piece begins and ends outside of every code, and lies over no other such place.
 
 piece_front : (code : ℕ → List ℕ) → IsCode code → (xs : List ℕ) (p n : ℕ) (a : Option ℕ) → IsPieceAt code xs p n a → Inside code xs p → ⊥
 piece_front code c xs p n (Some s) h v = not_inside code c xs p s h.0 v
 piece_front code c xs p n None h v = h.2 (record { from = v.from; char = v.char; stands = v.stands; begins = omega (arith, v.begins); ends = v.ends })
-
-piece_end : (code : ℕ → List ℕ) → IsCode code → (xs : List ℕ) (p n : ℕ) (a : Option ℕ) → IsPieceAt code xs p n a → Inside code xs (p + n) → ⊥
-piece_end code c xs p n (Some s) h v = outside_after code c xs p s h.0 (subst (λ m. Inside code xs (p + m)) h.1 v)
-piece_end code c xs p n None h v =
-    let one = h.1 in
-    h.2 (record { from = v.from; char = v.char; stands = v.stands; begins = omega (arith, v.begins); ends = omega (arith, v.ends) })
 
 pub piece_over : (code : ℕ → List ℕ) (xs : List ℕ) (p n : ℕ) (a : Option ℕ) (j : ℕ) → IsPieceAt code xs p n a → (Inside code xs j → ⊥) → p < j → p + n ≤ j
 piece_over code xs p n a j h out lt = ⊎_elim (λ (over : j < p + n). absurd (by_char code xs p n a j h out lt over)) (λ (fits : p + n ≤ j). fits) (cases_lt j (p + n))
@@ -50,7 +45,7 @@ module _ {E : Type 0} where
       record {
         ordered = piece_over e.code xs x.0 x.2 (result_ok x.1) j a.piece o.back (omega arith);
         within = o.within;
-        front = piece_end e.code c xs x.0 x.2 (result_ok x.1) a.piece;
+        front = piece_ends_outside e.code c xs x.0 x.2 (result_ok x.1) a.piece;
         back = o.back;
       }
 
@@ -73,11 +68,10 @@ module _ {E : Type 0} where
   pub stays_open : (e : Encoding E) → IsCode e.code → (xs : List ℕ) (i j : ℕ) (word : List Side) (answers : List (Option (Placed E))) (k l : ℕ)
       → IsOpen e.code xs i j → Walks e xs i j word answers k l → IsOpen e.code xs k l
   stays_open e c xs i j [] [] k l o w = rw (w.0, w.1) o
-  stays_open e c xs i j [] (a ∷ answers) k l o w = absurd w
-  stays_open e c xs i j (s ∷ word) [] k l o w = absurd w
   stays_open e c xs i j (s ∷ word) (None ∷ answers) k l o w = stays_open e c xs i j word answers k l o w.1
   stays_open e c xs i j (from_front ∷ word) (Some x ∷ answers) k l o w = stays_open e c xs (x.0 + x.2) j word answers k l (open_front e c xs i j x o w.0) w.1
   stays_open e c xs i j (from_back ∷ word) (Some x ∷ answers) k l o w = stays_open e c xs i x.0 word answers k l (open_back e c xs i j x o w.0) w.1
+  stays_open e c xs i j _ _ k l o w = absurd w
 
   -- the walk of the first letters
   record Reaches (e : Encoding E) (xs : List ℕ) (i j : ℕ) (word : List Side) (answers : List (Option (Placed E))) : Type 0 where
@@ -89,8 +83,6 @@ module _ {E : Type 0} where
       → Walks e xs i j word answers k l → Reaches e xs i j (take n word) (take n answers)
   first_letters e xs zero i j word answers k l w = record { front = i; back = j; walks = (refl, refl) }
   first_letters e xs (suc n) i j [] [] k l w = record { front = i; back = j; walks = (refl, refl) }
-  first_letters e xs (suc n) i j [] (a ∷ answers) k l w = absurd w
-  first_letters e xs (suc n) i j (s ∷ word) [] k l w = absurd w
   first_letters e xs (suc n) i j (s ∷ word) (None ∷ answers) k l w =
       let r = first_letters e xs n i j word answers k l w.1 in
       record { front = r.front; back = r.back; walks = (w.0, r.walks) }
@@ -100,6 +92,7 @@ module _ {E : Type 0} where
   first_letters e xs (suc n) i j (from_back ∷ word) (Some x ∷ answers) k l w =
       let r = first_letters e xs n i x.0 word answers k l w.1 in
       record { front = r.front; back = r.back; walks = (w.0, r.walks) }
+  first_letters e xs (suc n) i j _ _ k l w = absurd w
 
   pub walk_stays_outside : (e : Encoding E) → IsCode e.code → WalkStaysOutside e
   walk_stays_outside e c xs word answers w n =
@@ -111,11 +104,10 @@ module _ {E : Type 0} where
   pub Walks-append : (e : Encoding E) (xs : List ℕ) (i j : ℕ) (word : List Side) (answers : List (Option (Placed E))) (k l : ℕ) (more : List Side) (others : List (Option (Placed E))) (m n : ℕ)
       → Walks e xs i j word answers k l → Walks e xs k l more others m n → Walks e xs i j (word ++ more) (answers ++ others) m n
   Walks-append e xs i j [] [] k l more others m n w v = rw (← w.0, ← w.1) v
-  Walks-append e xs i j [] (a ∷ answers) k l more others m n w v = absurd w
-  Walks-append e xs i j (s ∷ word) [] k l more others m n w v = absurd w
   Walks-append e xs i j (s ∷ word) (None ∷ answers) k l more others m n w v = (w.0, Walks-append e xs i j word answers k l more others m n w.1 v)
   Walks-append e xs i j (from_front ∷ word) (Some x ∷ answers) k l more others m n w v = (w.0, Walks-append e xs (x.0 + x.2) j word answers k l more others m n w.1 v)
   Walks-append e xs i j (from_back ∷ word) (Some x ∷ answers) k l more others m n w v = (w.0, Walks-append e xs i x.0 word answers k l more others m n w.1 v)
+  Walks-append e xs i j _ _ k l more others m n w v = absurd w
 
   -- The window decides each answer.
 

@@ -50,10 +50,10 @@ IsWholeCode w None = (s : ℕ) → ¬ BeginsWith utf8 w s (length w)
 
 -- what a scan from the end has seen: t continuation bytes, at most three, and before fewer of them one that is none, or
 -- no byte at all
-pub record EndsInFollowers (w : List ℕ) (t : ℕ) : Type 0 where
+pub record EndsInContinuationBytes (w : List ℕ) (t : ℕ) : Type 0 where
   pub bound : t ≤ 3
   pub within : t ≤ length w
-  pub followers : (k : ℕ) → k < t → is_continuation (slice_index w (length w - 1 - k)) ≡ true
+  pub continuation_bytes : (k : ℕ) → k < t → is_continuation (slice_index w (length w - 1 - k)) ≡ true
   pub stops : t < 3 → t < length w → is_continuation (slice_index w (length w - 1 - t)) ≡ false
 
 -- Units.

@@ -3,7 +3,7 @@ use Rattle.std.specs.Prelude.{ℕ, ◌+◌, ◌-◌, ◌*◌, Bool, not, ◌&&�
 use Rattle.utf_base.specs.declared.errors.Utf8ErrorKind.{Utf8ErrorKind}
 use Rattle.utf_base.specs.declared.errors.Utf8ErrorKind.TheVariants.{TooFewBytes, NonUtf8Byte, UnexpectedContinuationByte, InterruptedSequence, OverlongEncoding, Utf16ReservedCodepoint, TooHighCodepoint}
 
--- the byte has the form of one after the first
+-- a continuation byte, 0x80 to 0xbf
 abbrev pub is_continuation : ℕ → Bool
 is_continuation b = nat_le 0x80 b && nat_lt b 0xC0
 
@@ -42,8 +42,8 @@ abbrev pub continues_at : List ℕ → ℕ → Bool
 continues_at w k = nat_le (asked_by w) k || is_continuation (slice_index w k)
 
 -- each byte that the first one asks for is a continuation byte
-abbrev pub followers_continue : List ℕ → Bool
-followers_continue w = continues_at w 1 && continues_at w 2 && continues_at w 3
+abbrev pub all_continue : List ℕ → Bool
+all_continue w = continues_at w 1 && continues_at w 2 && continues_at w 3
 
 -- what is wrong with the value alone
 abbrev pub value_fault : List ℕ → Option Utf8ErrorKind
@@ -60,7 +60,7 @@ fault_kind w =
     else if is_continuation (slice_index w 0) then Some UnexpectedContinuationByte
     else if asked_by w == 0 then Some NonUtf8Byte
     else if nat_lt (length w) (asked_by w) then Some TooFewBytes
-    else if not (followers_continue w) then Some InterruptedSequence
+    else if not (all_continue w) then Some InterruptedSequence
     else value_fault w
 
 -- the byte at k is there and is asked for by the first one, and is no continuation byte

@@ -1,5 +1,5 @@
 //! Why no character was decoded.
-ghost use Rattle.std.specs.Prelude.{◌≡◌, ◌↔◌, IsTrue};
+ghost use Rattle.std.specs.Prelude.{◌≡◌, ◌↔◌, IsTrue, Some};
 ghost use Rattle.utf_base.specs.Texts.{utf8_error_text};
 
 use std::error::Error;
@@ -105,9 +105,6 @@ impl Utf8Error {
 }
 
 impl fmt::Display for Utf8Error {
-    ghost use Rattle.std.specs.Prelude.{Some};
-    ghost use Rattle.utf_base.specs.Texts.{utf8_error_text};
-
     ghost output = { λ e. Some (utf8_error_text e) };
 
     ghost styled_output = { λ e _. Some (utf8_error_text e) };

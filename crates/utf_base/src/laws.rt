@@ -22,6 +22,7 @@ ghost use Rattle.utf_base.specs.WalkLaws.{WalkExists, WalkExistsOver, WalkIsUniq
 ghost use Rattle.utf_base.specs.WalkLaws.{WalkStaysOutside, WalkGivesEachOnce};
 
 /// Two codes that stand in one list are the same place or share no element.
+#[tactic(auto, using(crate::proofs::Standing::codes_never_overlap, crate::proofs::Utf8Code::utf8_is_code, crate::proofs::Utf16Code::utf16_is_code))]
 pub fn codes_never_overlap()
     ensures utf8 { CodesNeverOverlap utf8 }
     ensures utf16 { CodesNeverOverlap utf16 }
@@ -46,6 +47,7 @@ pub fn one_piece_ends()
 {}
 
 /// At most one code ends a list.
+#[tactic(auto, using(crate::proofs::Ending::one_code_ends, crate::proofs::Utf8Code::utf8_is_code, crate::proofs::Utf16Code::utf16_is_code))]
 pub fn one_code_ends()
     ensures utf8 { OneCodeEnds utf8 }
     ensures utf16 { OneCodeEnds utf16 }
@@ -86,44 +88,52 @@ pub fn no_fault_in_joined_codes()
 {}
 
 /// A byte below 0x80 is a piece of its own: no error hides an ASCII character.
+#[tactic(auto, using(crate::proofs::KindLemmas::ascii_stands_alone))]
 pub fn ascii_stands_alone()
     ensures { AsciiStandsAlone }
 {}
 
 /// Bytes have the code of a scalar at their front, or exactly one kind of fault, and never both.
+#[tactic(auto, using(crate::proofs::FrontLemmas::code_or_one_fault))]
 pub fn code_or_one_fault()
     ensures { CodeOrOneFault }
 {}
 
 /// The same of the kind that a merger gives.
+#[tactic(auto, using(crate::proofs::MergerLemmas::merger_code_or_one_fault))]
 pub fn merger_code_or_one_fault()
     ensures { MergerCodeOrOneFault }
 {}
 
 /// Bytes that no code ends have a last byte from 0x80 on, whose backward kind is what is wrong with it
 /// by itself.
+#[tactic(auto, using(crate::proofs::EndLemmas::code_or_last_byte))]
 pub fn code_or_last_byte()
     ensures { CodeOrLastByte }
 {}
 
 /// Units have the code of a scalar at their front, or exactly one fault of a slice, and never both.
+#[tactic(auto, using(crate::proofs::UnitLemmas::units_code_or_one_fault))]
 pub fn units_code_or_one_fault()
     ensures { UnitsCodeOrOneFault }
 {}
 
 /// Units have the code of a scalar at their front, or exactly one forward kind, and never both.
+#[tactic(auto, using(crate::proofs::UnitLemmas::units_code_or_one_kind))]
 pub fn units_code_or_one_kind()
     ensures { UnitsCodeOrOneKind }
 {}
 
 /// The last of some units is a character by itself where it is no surrogate, and where no code ends the
 /// units it is a surrogate, whose backward kind is what is wrong with it by itself.
+#[tactic(auto, using(crate::proofs::UnitEnds::units_code_or_last_unit))]
 pub fn units_code_or_last_unit()
     ensures { UnitsCodeOrLastUnit }
 {}
 
 /// The forward kind depends on the first four bytes alone, on fewer where there are fewer, and so does the
 /// kind that a merger gives.
+#[tactic(auto, using(crate::proofs::KindLemmas::four_bytes_decide, crate::proofs::MergerLemmas::four_bytes_decide_merger))]
 pub fn four_bytes_decide()
     ensures decoder { FourBytesDecide }
     ensures merger { FourBytesDecideMerger }
@@ -132,11 +142,13 @@ pub fn four_bytes_decide()
 /// A merger gives the forward kind, but where fewer bytes are left than the first asks for and one that is
 /// there is no continuation byte: then the forward kind is `TooFewBytes`, the merger's is
 /// `InterruptedSequence`, and at most three bytes are left.
+#[tactic(auto, using(crate::proofs::MergerLemmas::kinds_differ))]
 pub fn kinds_differ()
     ensures { KindsDiffer }
 {}
 
 /// The forward kind of units depends on the first two alone, on one where there is one.
+#[tactic(auto, using(crate::proofs::UnitLemmas::two_units_decide))]
 pub fn two_units_decide()
     ensures { TwoUnitsDecide }
 {}
@@ -144,6 +156,7 @@ pub fn two_units_decide()
 /// A change in a list leaves every piece that begins far enough before it, and every one that begins far
 /// enough after it but for its place: of bytes those that begin at least four before it, or after three
 /// that it left; of units two, or one. What is wrong there stays the same too.
+#[tactic(auto, using(crate::proofs::LocalDamage::utf8_damage_is_local, crate::proofs::LocalDamage::utf16_damage_is_local))]
 pub fn damage_is_local()
     ensures utf8 { DamageIsLocal utf8 fault_kind 4 }
     ensures utf16 { DamageIsLocal utf16 unit_fault_kind 2 }
@@ -151,12 +164,14 @@ pub fn damage_is_local()
 
 /// A change of bytes may reach a piece that begins three before it, and one that begins after two that it
 /// left.
+#[tactic(auto, using(crate::proofs::LocalDamage::front_is_reached, crate::proofs::LocalDamage::rest_is_reached))]
 pub fn damage_reaches_its_bounds()
     ensures front { ¬ FrontStays utf8 fault_kind 3 }
     ensures rest { ¬ RestStays utf8 fault_kind 3 }
 {}
 
 /// Every word has a walk over every list of bytes, and of units.
+#[tactic(auto, using(crate::proofs::ByteWalks::byte_walk_exists, crate::proofs::UnitWalks::unit_walk_exists))]
 pub fn walk_exists()
     ensures utf8 { WalkExists utf8_bytes }
     ensures utf16 { WalkExistsOver IsUnits utf16_units }
@@ -191,6 +206,7 @@ pub fn shows_one()
 
 /// A code that begins a list is shown first, whatever follows, and where none begins it U+FFFD is, for the
 /// fault of one element.
+#[tactic(auto, using(crate::proofs::Rests::code_shows_first, crate::proofs::Rests::fault_shows_first, crate::proofs::Utf8Code::utf8_is_code, crate::proofs::Utf16Code::utf16_is_code))]
 pub fn first_is_shown()
     ensures utf8_code { CodeShowsFirst utf8 }
     ensures utf16_code { CodeShowsFirst utf16 }
@@ -206,6 +222,7 @@ pub fn first_piece_stays()
 {}
 
 /// What is wrong with the front of bytes or units stays so, whatever follows, but where some are missing.
+#[tactic(auto, using(crate::proofs::LaterLemmas::kind_stays, crate::proofs::LaterLemmas::units_fault_stays))]
 pub fn faults_stay()
     ensures utf8 { KindStays }
     ensures utf16 { UnitsFaultStays }

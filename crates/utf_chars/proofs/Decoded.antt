@@ -7,6 +7,6 @@ use Rattle.utf_base.specs.Front.{as_scalar, DecodesFront}
 use Rattle.utf_base.specs.Piece.{Stands}
 use Rattle.utf_base.proofs.FrontLemmas.{no_code_where_fault}
 
-pub IsOk-DecodesFront : (w : List ℕ) (s : ℕ) (r : Result (ℕ × ℕ) Utf8ErrorKind) → Stands utf8 w 0 s → DecodesFront as_scalar w r → IsOk r
-IsOk-DecodesFront w s (Ok x) h d = refl
-IsOk-DecodesFront w s (Err k) h d = absurd (no_code_where_fault w k s d h)
+pub IsOk_DecodesFront : (w : List ℕ) (s : ℕ) (r : Result (ℕ × ℕ) Utf8ErrorKind) → Stands utf8 w 0 s → DecodesFront as_scalar w r → IsOk r
+IsOk_DecodesFront w s (Ok x) h d = refl
+IsOk_DecodesFront w s (Err k) h d = absurd (no_code_where_fault w k s d h)

@@ -18,7 +18,7 @@ use Rattle.utf_base.proofs.BackLemmas.{decoded_end_code}
 use Rattle.utf_base.proofs.UnitEnds.{decoded_units_end_code}
 use Rattle.utf_base.proofs.Standing.{stands_first}
 use Rattle.utf_chars.specs.Padded.{padded, IsPadded}
-use Rattle.utf_chars.proofs.PaddedLemmas.{IsPadded-padded}
+use Rattle.utf_chars.proofs.PaddedLemmas.{IsPadded_padded}
 use Rattle.utf_chars.proofs.PaddedUnits.{padded_cases}
 
 alone : (code : ℕ → List ℕ) (xs : List ℕ) (s : ℕ) → IsScalar s → xs ≡ code s → Stands code xs 0 s
@@ -73,7 +73,7 @@ own_array xs s n h e l =
     record {
       front = front;
       bounds = front_len_utf8 xs s n (stands, l);
-      own = IsPadded-padded xs s h e;
+      own = IsPadded_padded xs s h e;
       decodes = decoded_code xs s stands ∙ ap (λ k. Ok (s, k)) (sym l);
       decodes_bytes = decoded_bytes_code xs s stands;
       decodes_front = view.decodes ∙ ap (λ k. Ok (s, k)) (ap length front ∙ sym l);

@@ -1,6 +1,7 @@
 -- What the four bytes of a character hold.
-use Rattle.std.proofs.Common.{◌+◌, ◌-◌, ◌*◌, ◌&&◌, Bool, true, lit<, ◌≡◌, ℕ, ◌-◌, ◌<◌, ◌≤◌, List, [], ◌∷◌, ◌++◌, length, get_or, take, sym, ap, ◌∙◌, refl, arith}
+use Rattle.std.proofs.Common.{◌+◌, ◌-◌, ◌*◌, ◌&&◌, true, lit<, ◌≡◌, ℕ, ◌-◌, ◌<◌, ◌≤◌, List, [], ◌∷◌, ◌++◌, length, get_or, take, sym, ap, ◌∙◌, refl, arith}
 use Rattle.std.proofs.lemmas.Grind.{common_steps}
+use Rattle.std.proofs.lemmas.Bool.{and_from}
 use Rattle.std.proofs.lemmas.List.{take_at}
 use Rattle.std.specs.Prelude.{replicate}
 use Rattle.utf_base.specs.Scalar.{IsScalar}
@@ -22,18 +23,18 @@ pub stands_in_bytes : (bytes : List ℕ) → IsPadded utf8 4 value bytes → Sta
 stands_in_bytes bytes h = stands_padded bytes (value bytes) h.scalar h.equal
 
 -- the value of a code that zeros follow is its scalar
-pub value-padded : (bytes : List ℕ) (s : ℕ) → IsScalar s → bytes ≡ padded 4 (utf8 s) → value bytes ≡ s
-value-padded bytes s h e = (decodes_from_stands bytes s (stands_padded bytes s h e)).1
+pub value_padded : (bytes : List ℕ) (s : ℕ) → IsScalar s → bytes ≡ padded 4 (utf8 s) → value bytes ≡ s
+value_padded bytes s h e = (decodes_from_stands bytes s (stands_padded bytes s h e)).1
 
-pub IsPadded-padded : (bytes : List ℕ) (s : ℕ) → IsScalar s → bytes ≡ padded 4 (utf8 s) → IsPadded utf8 4 value bytes
-IsPadded-padded bytes s h e =
-    let v = value-padded bytes s h e in
+pub IsPadded_padded : (bytes : List ℕ) (s : ℕ) → IsScalar s → bytes ≡ padded 4 (utf8 s) → IsPadded utf8 4 value bytes
+IsPadded_padded bytes s h e =
+    let v = value_padded bytes s h e in
     record { scalar = rw v h; equal = rw v e }
 
 -- the first bytes, as many as the code has, are the code
-pub take-padded : (bytes : List ℕ) (s n : ℕ) → IsPadded utf8 4 value bytes → value bytes ≡ s → n ≡ length (utf8 s) → take n bytes ≡ utf8 s
+pub take_padded : (bytes : List ℕ) (s n : ℕ) → IsPadded utf8 4 value bytes → value bytes ≡ s → n ≡ length (utf8 s) → take n bytes ≡ utf8 s
 unfolding padded
-take-padded bytes s n h e l = rw (h.equal, e, l) (take_at (utf8 s) (replicate (4 - length (utf8 s)) 0) _ refl)
+take_padded bytes s n h e l = rw (h.equal, e, l) (take_at (utf8 s) (replicate (4 - length (utf8 s)) 0) _ refl)
 
 -- what a first byte that begins a code asks for, by where it lies
 pub asked_by_range : (b : ℕ) → 0 < asked b
@@ -48,15 +49,15 @@ asked_by_first bytes s h e =
     ((decodes_from_stands bytes (value bytes) st).0.asks, (code_where_no_fault bytes (no_fault_where_code bytes (value bytes) st)).1 ∙ ap (λ x. length (utf8 x)) e)
 
 -- an ASCII code, then zeros
-pub padded-ascii : (s : ℕ) → s < 0x80 → s ∷ 0 ∷ 0 ∷ 0 ∷ [] ≡ padded 4 (utf8 s)
+pub padded_ascii : (s : ℕ) → s < 0x80 → s ∷ 0 ∷ 0 ∷ 0 ∷ [] ≡ padded 4 (utf8 s)
 unfolding padded
-padded-ascii s h = rw (utf8-1 s h) refl
+padded_ascii s h = rw (utf8-1 s h) refl
 
 -- the first byte tells whether the scalar is below 128
 pub first_is_ascii : (bytes : List ℕ) (s : ℕ) → IsPadded utf8 4 value bytes → value bytes ≡ s → (get_or bytes 0 0 < 128 → s < 128) × (s < 128 → get_or bytes 0 0 < 128)
 first_is_ascii bytes s h e = (
   λ low. let v = value-1 bytes (asked-1 (get_or bytes 0 0) low) in omega arith,
-  λ low. let code = h.equal ∙ ap (λ x. padded 4 (utf8 x)) e ∙ sym (padded-ascii s low) in let first : get_or bytes 0 0 ≡ s = ap (λ xs. get_or xs 0 0) code in omega arith,
+  λ low. let code = h.equal ∙ ap (λ x. padded 4 (utf8 x)) e ∙ sym (padded_ascii s low) in let first : get_or bytes 0 0 ≡ s = ap (λ xs. get_or xs 0 0) code in omega arith,
 )
 
 -- The payloads that make up the scalar, by the first byte.
@@ -78,9 +79,6 @@ asked_in_range b h = grind (arith, common_steps)
 continues : (b : ℕ) → (0x80 ≤ b) × (b < 0xC0) → is_continuation b ≡ true
 continues b h = grind (arith, common_steps)
 
-both : (a b : Bool) → a ≡ true → b ≡ true → (a && b) ≡ true
-both a b h g = rw (h, g) refl
-
 pub by_first : (bytes : List ℕ) (s : ℕ) → IsPadded utf8 4 value bytes → value bytes ≡ s → ByFirst bytes s
 by_first bytes s h e =
     let d = (decodes_from_stands bytes (value bytes) (stands_in_bytes bytes h)).0 in
@@ -95,10 +93,10 @@ by_first bytes s h e =
       two = λ a b. let asks = range.1 a b in (follows 2 1 asks (lit< tt) (lit< tt), sym (value-2 bytes asks) ∙ e);
       three = λ a b.
           let asks = range.2 a b in
-          (both _ _ (follows 3 1 asks (lit< tt) (lit< tt)) (follows 3 2 asks (lit< tt) (lit< tt)), sym (value-3 bytes asks) ∙ e);
+          (and_from _ _ (follows 3 1 asks (lit< tt) (lit< tt)) (follows 3 2 asks (lit< tt) (lit< tt)), sym (value-3 bytes asks) ∙ e);
       four = λ a.
           let asks = range.3 a in
-          (both _ _ (both _ _ (follows 4 1 asks (lit< tt) (lit< tt)) (follows 4 2 asks (lit< tt) (lit< tt))) (follows 4 3 asks (lit< tt) (lit< tt)), sym (value-4 bytes asks) ∙ e);
+          (and_from _ _ (and_from _ _ (follows 4 1 asks (lit< tt) (lit< tt)) (follows 4 2 asks (lit< tt) (lit< tt))) (follows 4 3 asks (lit< tt) (lit< tt)), sym (value-4 bytes asks) ∙ e);
     }
 
 -- the bytes that a code takes at the front of a list, then zeros

@@ -1,19 +1,20 @@
 -- What the two units of a character hold.
-use Rattle.std.proofs.Common.{◌≡◌, ℕ, ◌+◌, ◌-◌, ◌/◌, ◌%◌, ◌<◌, ◌≤◌, ◌⊎◌, inl, inr, ⊎_elim, Option, Some, None, Ok, List, [], ◌∷◌, length, get_or, take, sym, ap, ◌∙◌, refl, arith, Bool, true, false}
+use Rattle.std.proofs.Common.{◌≡◌, ℕ, ◌+◌, ◌-◌, ◌/◌, ◌%◌, ◌<◌, ◌≤◌, ◌⊎◌, inl, inr, ⊎_elim, Option, Some, None, Ok, List, [], ◌∷◌, length, get_or, take, sym, ap, ◌∙◌, refl, arith, true, false}
 use Rattle.std.proofs.lemmas.Grind.{common_steps}
-use Rattle.std.proofs.lemmas.Bool.{cases_lt}
+use Rattle.std.proofs.lemmas.Bool.{cases_Bool, cases_lt}
 use Rattle.std.proofs.lemmas.List.{take_at}
 use Rattle.std.specs.Prelude.{replicate, unwrap_or, IfOk}
 use Rattle.utf_base.specs.Scalar.{IsScalar}
 use Rattle.utf_base.specs.Code.{utf16}
 use Rattle.utf_base.specs.Decoded.{decoded_two, decoded_tuple}
 use Rattle.utf_base.specs.Units.{array_fault, is_padded_units, is_leading_surrogate, is_trailing_surrogate, is_surrogate, pair_value, unit_value}
+use Rattle.utf_base.proofs.UnitLemmas.{no_lead}
 use Rattle.utf_base.proofs.Utf16Code.{utf16-1, utf16-2, unit_value-unit, unit_value-pair, code_of_pair, scalar_pair, scalar_unit}
 use Rattle.utf_chars.specs.Padded.{padded, IsPadded}
 
-pub padded-unit : (s : ℕ) → s < 0x1_0000 → padded 2 (utf16 s) ≡ s ∷ 0 ∷ []
+pub padded_unit : (s : ℕ) → s < 0x1_0000 → padded 2 (utf16 s) ≡ s ∷ 0 ∷ []
 unfolding padded
-padded-unit s h = rw (utf16-1 s h) refl
+padded_unit s h = rw (utf16-1 s h) refl
 
 pub padded-pair : (s : ℕ) → 0x1_0000 ≤ s → padded 2 (utf16 s) ≡ (0xD800 + (s - 0x1_0000) / 1024) ∷ (0xDC00 + (s - 0x1_0000) % 1024) ∷ []
 unfolding padded
@@ -37,7 +38,7 @@ units_cases units s h e =
     let no_surrogate = h.no_surrogate in
     ⊎_elim
     (λ (lt : s < 0x1_0000).
-    let are : units ≡ s ∷ 0 ∷ [] = e ∙ padded-unit s lt in
+    let are : units ≡ s ∷ 0 ∷ [] = e ∙ padded_unit s lt in
     inl (record { small = lt; first = ap (λ xs. get_or xs 0 0) are; second = ap (λ xs. get_or xs 1 0) are; plain = grind (arith, common_steps) }))
     (λ (ge : 0x1_0000 ≤ s).
     let are = e ∙ padded-pair s ge in
@@ -59,20 +60,17 @@ value_of_pair units s p =
     let below = p.below in
     omega arith
 
-no_leading : (s : ℕ) → is_surrogate s ≡ false → is_leading_surrogate s ≡ false
-no_leading s h = grind (arith, common_steps)
-
 -- the value of the units of a scalar is the scalar
-pub unit_value-padded : (units : List ℕ) (s : ℕ) → IsScalar s → units ≡ padded 2 (utf16 s) → unit_value units ≡ s
-unit_value-padded units s h e =
+pub unit_value_padded : (units : List ℕ) (s : ℕ) → IsScalar s → units ≡ padded 2 (utf16 s) → unit_value units ≡ s
+unit_value_padded units s h e =
     ⊎_elim
-    (λ (u : AsUnit units s). unit_value-unit units (rw u.first (no_leading s u.plain)) ∙ u.first)
+    (λ (u : AsUnit units s). unit_value-unit units (rw u.first (no_lead s u.plain)) ∙ u.first)
     (λ (p : AsPair units s). unit_value-pair units (leading_of_pair units s p) ∙ value_of_pair units s p)
     (units_cases units s h e)
 
-pub IsPadded-units : (units : List ℕ) (s : ℕ) → IsScalar s → units ≡ padded 2 (utf16 s) → IsPadded utf16 2 unit_value units
-IsPadded-units units s h e =
-    let v = unit_value-padded units s h e in
+pub IsPadded_units : (units : List ℕ) (s : ℕ) → IsScalar s → units ≡ padded 2 (utf16 s) → IsPadded utf16 2 unit_value units
+IsPadded_units units s h e =
+    let v = unit_value_padded units s h e in
     record { scalar = rw v h; equal = rw v e }
 
 -- the same cases, of the units that a character keeps
@@ -97,15 +95,15 @@ first_is_ascii units s h e =
     (char_cases units s h e)
 
 -- the first units, as many as the code has, are the code
-pub take-units : (units : List ℕ) (s n : ℕ) → IsPadded utf16 2 unit_value units → unit_value units ≡ s → n ≡ length (utf16 s) → take n units ≡ utf16 s
+pub take_units : (units : List ℕ) (s n : ℕ) → IsPadded utf16 2 unit_value units → unit_value units ≡ s → n ≡ length (utf16 s) → take n units ≡ utf16 s
 unfolding padded
-take-units units s n h e l = rw (h.equal, e, l) (take_at (utf16 s) (replicate (2 - length (utf16 s)) 0) _ refl)
+take_units units s n h e l = rw (h.equal, e, l) (take_at (utf16 s) (replicate (2 - length (utf16 s)) 0) _ refl)
 
-pub length-unit : (s : ℕ) → s < 0x1_0000 → 1 ≡ length (utf16 s)
-length-unit s h = sym (ap length (utf16-1 s h))
+pub length_unit : (s : ℕ) → s < 0x1_0000 → 1 ≡ length (utf16 s)
+length_unit s h = sym (ap length (utf16-1 s h))
 
-pub length-pair : (s : ℕ) → 0x1_0000 ≤ s → 2 ≡ length (utf16 s)
-length-pair s h = sym (ap length (utf16-2 s h))
+pub length_pair : (s : ℕ) → 0x1_0000 ≤ s → 2 ≡ length (utf16 s)
+length_pair s h = sym (ap length (utf16-2 s h))
 
 -- the scalar, by whether there is a second unit
 pub scalar_by_second : (units : List ℕ) (s : ℕ) → IsPadded utf16 2 unit_value units → unit_value units ≡ s
@@ -125,7 +123,7 @@ code_by_second units s h e =
     (λ (p : AsPair units s). let second = p.second in (λ z. absurd (omega arith), λ some. rw (p.first, p.second) (sym (utf16-2 s p.large))))
     (char_cases units s h e)
 
--- an array of a code is two units as the unchecked forms ask for
+-- an array of a code is two units as the unchecked calls ask for
 pub padded_cases : (units : List ℕ) (s : ℕ) → IsScalar s → units ≡ padded 2 (utf16 s) → is_padded_units (get_or units 0 0) (get_or units 1 0) ≡ true
 padded_cases units s h e =
     ⊎_elim
@@ -143,22 +141,18 @@ padded_cases units s h e =
         rw second (grind (arith, common_steps))
 
 -- and such units are the code of their value, and 0 where it has one
-pub IsPadded-units_of : (u v : ℕ) → u < 0x1_0000 → v < 0x1_0000 → is_padded_units u v ≡ true → IsPadded utf16 2 unit_value (u ∷ v ∷ [])
+pub IsPadded_units_of : (u v : ℕ) → u < 0x1_0000 → v < 0x1_0000 → is_padded_units u v ≡ true → IsPadded utf16 2 unit_value (u ∷ v ∷ [])
 unfolding padded
-IsPadded-units_of u v fits fits_too h =
+IsPadded_units_of u v fits fits_too h =
     ⊎_elim
     (λ (pair : is_leading_surrogate u ≡ true).
     let trailing : is_trailing_surrogate v ≡ true = rw pair at h in
-    IsPadded-units (u ∷ v ∷ []) (pair_value u v) (scalar_pair u v) (pair_code u v pair trailing))
+    IsPadded_units (u ∷ v ∷ []) (pair_value u v) (scalar_pair u v) (pair_code u v pair trailing))
     (λ (alone : is_leading_surrogate u ≡ false).
     let plain = plain_of u v alone h in
-    IsPadded-units (u ∷ v ∷ []) u (scalar_unit u fits plain.0) (rw plain.1 (sym (padded-unit u fits))))
-    (true_or_false (is_leading_surrogate u))
+    IsPadded_units (u ∷ v ∷ []) u (scalar_unit u fits plain.0) (rw plain.1 (sym (padded_unit u fits))))
+    (cases_Bool (is_leading_surrogate u))
   where
-    true_or_false : (b : Bool) → (b ≡ true) ⊎ (b ≡ false)
-    true_or_false true = inl refl
-    true_or_false false = inr refl
-
     plain_of : (u v : ℕ) → is_leading_surrogate u ≡ false → is_padded_units u v ≡ true → (is_surrogate u ≡ false) × (v ≡ 0)
     plain_of u v alone h = let rest = rw alone at h in (grind (arith, common_steps), grind (arith, common_steps))
 

@@ -5,8 +5,8 @@ use Rattle.std.proofs.lemmas.List.{drop-take, drop-drop}
 use Rattle.std.specs.Prelude.{slice_range}
 
 -- the elements after its first n
-pub range_behind : {A : Type 0} (xs : List A) (i j n : ℕ) → n ≤ j - i → slice_range xs (i + n) j ≡ drop n (slice_range xs i j)
-range_behind xs i j n le =
+pub range_after : {A : Type 0} (xs : List A) (i j n : ℕ) → n ≤ j - i → slice_range xs (i + n) j ≡ drop n (slice_range xs i j)
+range_after xs i j n le =
     let m : j - i ≡ n + (j - (i + n)) = omega arith in
     rw (m, drop-take, drop-drop) refl
 

@@ -79,8 +79,8 @@ text_of_code text s h e = (
 )
 
 -- a text can be cut after a character, where it can be cut before it
-pub boundary_behind : (xs : List ℕ) (i s k : ℕ) → IsUtf8 xs → IsCharBoundary xs i → Stands utf8 xs i s → k ≡ i + length (utf8 s) → IsCharBoundary xs k
-boundary_behind xs i s k is_text front h e =
+pub boundary_after : (xs : List ℕ) (i s k : ℕ) → IsUtf8 xs → IsCharBoundary xs i → Stands utf8 xs i s → k ≡ i + length (utf8 s) → IsCharBoundary xs k
+boundary_after xs i s k is_text front h e =
     let within = h.within in
     let n : length (utf8 s) ≡ i + length (utf8 s) - i = omega arith in
     let code : take (length (utf8 s)) (drop i xs) ≡ utf8 s = ap (λ k. take k (drop i xs)) n ∙ h.equal in

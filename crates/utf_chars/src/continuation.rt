@@ -2,7 +2,7 @@
 ghost use Rattle.std.specs.Prelude.{◌≡◌};
 ghost use Rattle.utf_base.specs.Kinds.{is_continuation};
 
-/// Whether the byte has the form of one after the first of a code.
+/// Whether the byte is a continuation byte.
 #[inline(always)]
 pub fn continues(byte: u8) -> bool
     ensures { result ≡ is_continuation byte }

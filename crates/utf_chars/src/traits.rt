@@ -20,7 +20,7 @@ use utf_base::errors::{
 
 /// Methods of a character as a Unicode scalar value.
 ///
-/// The forms ending in `_unchecked` ask their caller for what the others test.
+/// The calls ending in `_unchecked` ask their caller for what the others test.
 pub trait CharExt: Sized {
     // The scalar that the character is.
     ghost scalar: { Self → ℕ };
@@ -162,6 +162,7 @@ impl CharExt for char {
     }
 
     #[inline(always)]
+    #[tactic(auto, using(utf_base::proofs::StdText::scalar_from_std, crate::proofs::OwnCodes::own_array))]
     fn to_utf8_array(self) -> ([u8; 4], usize) {
         utf8::encode(self)
     }
@@ -172,51 +173,61 @@ impl CharExt for char {
     }
 
     #[inline(always)]
+    #[tactic(auto, using(utf_base::proofs::DecodedLemmas::padded_tuple, utf_base::proofs::DecodedLemmas::decoded_tuple_code, utf_base::proofs::StdText::scalar_from_std))]
     fn to_utf16_tuple(self) -> (u16, Option<u16>) {
         utf16::encode_tuple(self)
     }
 
     #[inline(always)]
+    #[tactic(auto, using(utf_base::proofs::DecodedLemmas::answer_of_bytes, utf_base::proofs::DecodedLemmas::gives_first, utf_base::proofs::DecodedLemmas::len_of_bytes, crate::proofs::OwnCodes::front_alone_of))]
     fn from_utf8_slice_start(src: &[u8]) -> Result<(char, usize), Utf8Error> {
         utf8::decode_start(src)
     }
 
     #[inline(always)]
+    #[tactic(auto, using(utf_base::proofs::DecodedLemmas::answer_of_array, utf_base::proofs::DecodedLemmas::gives_char))]
     fn from_utf8_array(utf8: [u8; 4]) -> Result<char, Utf8Error> {
         utf8::decode_array(utf8)
     }
 
     #[inline(always)]
+    #[tactic(auto, using(utf_base::proofs::DecodedLemmas::one_code_of_whole, utf_base::proofs::DecodedLemmas::decoded_one_code, utf_base::proofs::StdText::scalar_from_std))]
     fn from_utf8_exact_slice_unchecked(src: &[u8]) -> char {
         utf8::decode_exact_unchecked(src)
     }
 
     #[inline(always)]
+    #[tactic(auto, using(utf_base::proofs::DecodedLemmas::answer_of_units, utf_base::proofs::DecodedLemmas::gives_first, utf_base::proofs::DecodedLemmas::len_of_units, crate::proofs::OwnCodes::unit_front_alone_of))]
     fn from_utf16_slice_start(src: &[u16]) -> Result<(char, usize), Utf16SliceError> {
         utf16::decode_start(src)
     }
 
     #[inline(always)]
+    #[tactic(auto, using(utf_base::proofs::DecodedLemmas::answer_of_two, utf_base::proofs::DecodedLemmas::gives_char))]
     fn from_utf16_array(utf16: [u16; 2]) -> Result<char, Utf16ArrayError> {
         utf16::decode_array(utf16)
     }
 
     #[inline(always)]
+    #[tactic(auto, using(utf_base::proofs::DecodedLemmas::answer_of_tuple, utf_base::proofs::DecodedLemmas::gives_char, utf_base::proofs::DecodedLemmas::units_of_tuple))]
     fn from_utf16_tuple(utf16: (u16, Option<u16>)) -> Result<char, Utf16TupleError> {
         utf16::decode_tuple(utf16)
     }
 
     #[inline(always)]
+    #[tactic(auto, using(utf_base::proofs::DecodedLemmas::unchecked_two))]
     fn from_utf16_array_unchecked(utf16: [u16; 2]) -> char {
         utf16::decode_array_unchecked(utf16)
     }
 
     #[inline(always)]
+    #[tactic(auto, using(utf_base::proofs::DecodedLemmas::unchecked_tuple))]
     fn from_utf16_tuple_unchecked(utf16: (u16, Option<u16>)) -> char {
         utf16::decode_tuple_unchecked(utf16)
     }
 
     #[inline(always)]
+    #[tactic(auto, using(utf_base::proofs::DecodedLemmas::answer_of_number, utf_base::proofs::DecodedLemmas::gives_char))]
     fn from_u32_detailed(c: u32) -> Result<char, CodepointError> {
         number::decode(c)
     }

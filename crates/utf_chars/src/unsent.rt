@@ -54,6 +54,7 @@ impl<const BASE: usize> Unsent<BASE> {
 
     /// How many elements there are.
     #[inline(always)]
+    #[tactic(auto, using(crate::proofs::DigitLemmas::length_low_digits))]
     pub fn len(&self) -> usize
         ensures { result ≡ length self.now }
     {
@@ -62,6 +63,7 @@ impl<const BASE: usize> Unsent<BASE> {
 
     // Takes the first element.
     #[inline(always)]
+    #[tactic(auto, using(crate::proofs::DigitLemmas::no_digits, crate::proofs::DigitLemmas::some_digits))]
     fn next(&mut self) -> Option<usize>
         ensures first { YieldsFirst (λ rest. rest) self.old result self.new }
         ensures below { IfSome result (λ element. element < BASE) }
@@ -180,13 +182,13 @@ fn number_of_front(code: [u8; 4], len: usize) -> usize
     ensures { low_digits 256 len result ≡ take len code }
 {
     let [first, second, third, fourth] = code;
-    let behind = match len {
+    let following = match len {
         1 => 0,
         2 => second as usize,
         3 => (third as usize) * 256 + second as usize,
         _ => ((fourth as usize) * 256 + third as usize) * 256 + second as usize,
     };
-    behind * 256 + first as usize
+    following * 256 + first as usize
 }
 
 impl From<Utf16Char> for Unsent<0x1_0000> {

@@ -61,6 +61,7 @@ impl Model for Utf16Char {
 impl Utf16Char {
     /// The character.
     #[inline(always)]
+    #[tactic(auto, using(utf_base::proofs::StdText::scalar_from_std, crate::proofs::PaddedUnits::unit_value_padded, crate::proofs::PaddedUnits::IsPadded_units))]
     pub fn new(c: char) -> Utf16Char
         ensures { result ≡ c }
     {
@@ -84,6 +85,7 @@ impl Utf16Char {
     ///
     /// The error is that of `CharExt::from_utf16_slice_start`.
     #[inline(always)]
+    #[tactic(auto, using(utf_base::proofs::DecodedLemmas::answer_of_units, utf_base::proofs::DecodedLemmas::front_len_utf16, crate::proofs::OwnCodes::unit_front_alone))]
     pub fn from_slice_start(src: &[u16]) -> Result<(Utf16Char, usize), Utf16SliceError>
         ensures decodes { DecodesUnits as_scalar src.now result }
         ensures known { result ≡ decoded_units src.now }
@@ -113,6 +115,7 @@ impl Utf16Char {
     ///
     /// No more than the last two units matter.
     #[inline(always)]
+    #[tactic(auto, using(utf_base::proofs::UnitEnds::answer_of_units_end, utf_base::proofs::UnitEnds::end_len_utf16, crate::proofs::OwnCodes::unit_end_alone))]
     pub fn from_slice_end(src: &[u16]) -> Result<(Utf16Char, usize), Utf16SliceError>
         ensures decodes { DecodesUnitsEnd as_scalar src.now result }
         ensures known { result ≡ decoded_units_end src.now }
@@ -129,6 +132,7 @@ impl Utf16Char {
     ///
     /// The error is that of `CharExt::from_utf16_array`.
     #[inline(always)]
+    #[tactic(auto, using(utf_base::proofs::DecodedLemmas::answer_of_two))]
     pub fn from_array(utf16: [u16; 2]) -> Result<Utf16Char, Utf16ArrayError>
         ensures decodes { DecodesTwoUnits as_scalar utf16 result }
         ensures known { result ≡ decoded_two utf16 }
@@ -138,6 +142,7 @@ impl Utf16Char {
 
     /// The character whose code, and then zero where it has one unit, the two units are.
     #[inline(always)]
+    #[tactic(auto, using(crate::proofs::OwnCodes::own_units, crate::proofs::PaddedUnits::IsPadded_units_of, crate::proofs::PaddedUnits::two_elements))]
     pub fn from_array_unchecked(array: [u16; 2]) -> Utf16Char
         requires { is_padded_units (slice_index array 0) (slice_index array 1) ≡ true }
         ensures code { padded 2 (utf16 result) ≡ array }
@@ -164,6 +169,7 @@ impl Utf16Char {
 
     /// The character whose code the one or two units are. A second unit of 0 counts as none.
     #[inline(always)]
+    #[tactic(auto, using(crate::proofs::PaddedUnits::unchecked_units))]
     pub fn from_tuple_unchecked(units: (u16, Option<u16>)) -> Utf16Char
         requires { is_padded_units units.0 (unwrap_or units.1 0) ≡ true }
         ensures code { padded 2 (utf16 result) ≡ units.0 ∷ unwrap_or units.1 0 ∷ [] }
@@ -208,6 +214,7 @@ impl Utf16Char {
 
     /// How many units the code has: 1 or 2.
     #[inline(always)]
+    #[tactic(auto, using(crate::proofs::PaddedUnits::length_unit, crate::proofs::PaddedUnits::length_pair))]
     pub fn len(self) -> usize
         ensures len { result ≡ length (utf16 self) }
         ensures least { 1 ≤ result }
@@ -227,6 +234,7 @@ impl Utf16Char {
 
     // The scalar as a number, from the bits of the units.
     #[inline(always)]
+    #[tactic(auto, using(crate::proofs::PaddedUnits::scalar_by_second))]
     pub(crate) fn scalar(self) -> u32
         ensures value { result ≡ self }
         ensures scalar { IsScalar result }
@@ -241,6 +249,7 @@ impl Utf16Char {
 
     /// The character as a `char`.
     #[inline(always)]
+    #[tactic(auto, using(utf_base::proofs::StdText::scalar_for_std, utf_base::proofs::StdText::utf8_is_std))]
     pub fn to_char(self) -> char
         ensures char { result ≡ self }
         ensures text { encode_utf8 result ≡ utf8 self }
@@ -253,6 +262,7 @@ impl Utf16Char {
     /// Writes the code to the front of the slice, and answers how many units it has. The places after
     /// it stay as they are.
     #[inline(always)]
+    #[tactic(auto, using(crate::proofs::OwnCodes::own_unit_front))]
     pub fn to_slice(self, dst: &mut [u16]) -> usize
         requires { HasRoom 2 (utf16 self) dst.old }
         ensures len { result ≡ length (utf16 self) }
@@ -280,6 +290,7 @@ impl Utf16Char {
 
     /// The code, whose second unit is there only where the code has two.
     #[inline(always)]
+    #[tactic(auto, using(utf_base::proofs::DecodedLemmas::padded_tuple, utf_base::proofs::DecodedLemmas::decoded_tuple_code, crate::proofs::PaddedUnits::code_by_second))]
     pub fn to_tuple(self) -> (u16, Option<u16>)
         ensures code { units_of result.0 result.1 ≡ utf16 self }
         ensures own { is_padded_units result.0 (unwrap_or result.1 0) ≡ true }
@@ -295,6 +306,7 @@ impl Utf16Char {
 
     /// The code, lent from inside the character.
     #[inline(always)]
+    #[tactic(auto, using(crate::proofs::OwnCodes::own_unit_view, crate::proofs::PaddedUnits::take_units))]
     pub fn as_units(&self) -> &[u16]
         ensures code { result.now ≡ utf16 self.now }
         ensures bounds { IsFrontLen 2 result.now (length result.now) }
@@ -481,6 +493,7 @@ impl From<Utf8Char> for Utf16Char {
     // From bytes to units, by the number that both encode. The length says which code it is, and follows
     // from the first byte as the number does: so the same tests tell both.
     #[inline(always)]
+    #[tactic(auto, using(crate::proofs::PaddedLemmas::four_bytes, crate::proofs::PaddedUnits::unit_value_padded, crate::proofs::PaddedUnits::IsPadded_units))]
     fn from(c: Utf8Char) -> Utf16Char {
         let units = utf16::code_by_kind(c.scalar(), c.len() == 4);
         Utf16Char { units }

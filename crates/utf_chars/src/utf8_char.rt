@@ -57,6 +57,7 @@ impl Model for Utf8Char {
 impl Utf8Char {
     /// The character.
     #[inline(always)]
+    #[tactic(auto, using(utf_base::proofs::StdText::scalar_from_std, crate::proofs::PaddedLemmas::value_padded, crate::proofs::PaddedLemmas::IsPadded_padded))]
     pub fn new(c: char) -> Utf8Char
         ensures { result ≡ c }
     {
@@ -97,6 +98,7 @@ impl Utf8Char {
     // The character whose code the first bytes are, as many as `len` says. They are copied and not made
     // from the scalar, which is quicker.
     #[inline(always)]
+    #[tactic(auto, using(utf_base::proofs::DecodedLemmas::front_len_utf8, crate::proofs::PaddedLemmas::IsPadded_padded, crate::proofs::PaddedLemmas::value_padded, crate::proofs::PaddedLemmas::front_padded))]
     fn from_front(src: &[u8], len: usize) -> Utf8Char
         requires { IsFrontCode src.now len }
         ensures { BeginsWith utf8 src.now result len }
@@ -134,7 +136,7 @@ impl Utf8Char {
         if src.is_empty() {
             return Err(Utf8Error::new(Utf8ErrorKind::TooFewBytes));
         }
-        let len = utf8_end::followers_at_end(src) + 1;
+        let len = utf8_end::continuation_bytes_at_end(src) + 1;
         if len <= src.len() {
             if let Some(c) = Utf8Char::from_whole(&src[src.len() - len..]) {
                 return Ok((c, len));
@@ -158,6 +160,7 @@ impl Utf8Char {
     ///
     /// The error is that of `CharExt::from_utf8_array`.
     #[inline(always)]
+    #[tactic(auto, using(utf_base::proofs::DecodedLemmas::answer_of_array))]
     pub fn from_array(utf8: [u8; 4]) -> Result<Utf8Char, Utf8Error>
         ensures decodes { DecodesBytes as_scalar utf8 result }
         ensures known { result ≡ decoded_bytes utf8 }
@@ -167,6 +170,7 @@ impl Utf8Char {
 
     /// The character whose code, and then zeros, the four bytes are.
     #[inline(always)]
+    #[tactic(auto, using(crate::proofs::OwnCodes::own_array))]
     pub fn from_array_unchecked(array: [u8; 4]) -> Utf8Char
         requires { IsPadded utf8 4 value array }
         ensures code { padded 4 (utf8 result) ≡ array }
@@ -215,6 +219,7 @@ fn front_array(src: &[u8], len: usize) -> [u8; 4]
 
 // How many bytes a code has that the byte begins.
 #[inline(always)]
+#[tactic(auto, using(crate::proofs::PaddedLemmas::asked_by_range))]
 fn code_len(first: u8) -> usize
     ensures asked { 0 < asked first → result ≡ asked first }
     ensures least { 1 ≤ result }
@@ -232,6 +237,7 @@ fn code_len(first: u8) -> usize
 impl Utf8Char {
     /// How many bytes the code has: 1 to 4.
     #[inline(always)]
+    #[tactic(auto, using(crate::proofs::PaddedLemmas::asked_by_first))]
     pub fn len(self) -> usize
         ensures len { result ≡ length (utf8 self) }
         ensures least { 1 ≤ result }
@@ -251,6 +257,7 @@ impl Utf8Char {
 
     // The scalar as a number, from the payloads of the bytes.
     #[inline(always)]
+    #[tactic(auto, using(crate::proofs::PaddedLemmas::by_first))]
     pub(crate) fn scalar(self) -> u32
         ensures value { result ≡ self }
         ensures scalar { IsScalar result }
@@ -266,6 +273,7 @@ impl Utf8Char {
 
     /// The character as a `char`.
     #[inline(always)]
+    #[tactic(auto, using(utf_base::proofs::StdText::scalar_for_std, utf_base::proofs::StdText::utf8_is_std))]
     pub fn to_char(self) -> char
         ensures char { result ≡ self }
         ensures text { encode_utf8 result ≡ utf8 self }
@@ -277,6 +285,7 @@ impl Utf8Char {
 
     /// The code, then zeros, and how many bytes the code has.
     #[inline(always)]
+    #[tactic(auto, using(crate::proofs::OwnCodes::own_array))]
     pub fn to_array(self) -> ([u8; 4], usize)
         ensures code { result.0 ≡ padded 4 (utf8 self) }
         ensures len { result.1 ≡ length (utf8 self) }
@@ -292,6 +301,7 @@ impl Utf8Char {
 
     /// The code as text of one character, lent from inside the character.
     #[inline(always)]
+    #[tactic(auto, using(utf_base::proofs::StdText::utf8_is_text, crate::proofs::TextLemmas::text_of_code))]
     pub fn as_str(&self) -> &str
         ensures text { result.now ≡ utf8 self.now }
         ensures bounds { IsFrontLen 4 result.now (length result.now) }
@@ -306,6 +316,7 @@ impl Utf8Char {
 
     /// The code, lent from inside the character.
     #[inline(always)]
+    #[tactic(auto, using(crate::proofs::OwnCodes::own_view, crate::proofs::PaddedLemmas::take_padded))]
     pub fn as_bytes(&self) -> &[u8]
         ensures code { result.now ≡ utf8 self.now }
         ensures bounds { IsFrontLen 4 result.now (length result.now) }
@@ -317,6 +328,7 @@ impl Utf8Char {
     /// Writes the code to the front of the slice, and answers how many bytes it has. The places after
     /// it stay as they are.
     #[inline(always)]
+    #[tactic(auto, using(crate::proofs::OwnCodes::own_front))]
     pub fn to_slice(self, dst: &mut [u8]) -> usize
         requires { HasRoom 4 (utf8 self) dst.old }
         ensures len { result ≡ length (utf8 self) }
@@ -349,6 +361,7 @@ impl Utf8Char {
 
     // The same where the compiler knows how many bytes there are: so no call copies them.
     #[inline(always)]
+    #[tactic(auto, using(crate::proofs::PaddedLemmas::take_padded))]
     fn store_by<const LEN: usize>(self, dst: &mut [u8])
         requires len { LEN ≡ length (utf8 self) }
         requires most { LEN ≤ 4 }
@@ -527,6 +540,7 @@ impl From<Utf16Char> for Utf8Char {
 
     // From units to bytes, by the number that both encode.
     #[inline(always)]
+    #[tactic(auto, using(crate::proofs::PaddedLemmas::value_padded, crate::proofs::PaddedLemmas::IsPadded_padded))]
     fn from(c: Utf16Char) -> Utf8Char {
         let bytes = utf8::padded_code(c.scalar());
         Utf8Char { bytes }

@@ -9,17 +9,16 @@ mod sys {
     #[repr(C)]
     #[derive(Clone, Copy)]
     pub struct Piece {
-        pub place: usize,
+        pub len: usize,
         pub scalar: u32,
         pub kind: u8,
-        pub len: u8,
     }
 
     #[repr(C)]
     #[derive(Clone, Copy, Debug)]
-    pub struct Cursor {
-        pub front: usize,
-        pub back: usize,
+    pub struct Bytes {
+        pub bytes: *const u8,
+        pub len: usize,
     }
 
     #[repr(C)]
@@ -36,9 +35,8 @@ mod sys {
     }
 
     extern "C" {
-        pub fn nody_cursor(len: usize) -> Cursor;
-        pub fn nody_utf8_next(bytes: *const u8, len: usize, cursor: *mut Cursor) -> Piece;
-        pub fn nody_utf8_next_back(bytes: *const u8, len: usize, cursor: *mut Cursor) -> Piece;
+        pub fn nody_utf8_next(left: *mut Bytes) -> Piece;
+        pub fn nody_utf8_next_back(left: *mut Bytes) -> Piece;
         pub fn nody_put_kind_name(kind: u8, name: *mut *const Name);
         pub fn nody_recoder(from: u8, to: u8) -> Recoder;
         pub fn nody_recoder_feed(
@@ -96,25 +94,34 @@ pub struct Piece {
 #[derive(Clone, Debug)]
 pub struct Pieces<'a> {
     bytes: &'a [u8],
-    cursor: sys::Cursor,
+    left: sys::Bytes,
 }
 
 /// All pieces of the bytes.
 pub fn pieces(bytes: &[u8]) -> Pieces<'_> {
-    // SAFETY: a call on numbers.
-    let cursor = unsafe { sys::nody_cursor(bytes.len()) };
-    Pieces { bytes, cursor }
+    let left = sys::Bytes {
+        bytes: bytes.as_ptr(),
+        len: bytes.len(),
+    };
+    Pieces { bytes, left }
 }
 
-fn piece_of(piece: sys::Piece) -> Option<Piece> {
+impl Pieces<'_> {
+    // The offset of what is left.
+    fn place(&self) -> usize {
+        self.left.bytes as usize - self.bytes.as_ptr() as usize
+    }
+}
+
+fn piece_of(place: usize, piece: sys::Piece) -> Option<Piece> {
     let answer = match piece.kind {
         NONE => return None,
         OK => char::from_u32(piece.scalar).ok_or(Fault(piece.kind)),
         kind => Err(Fault(kind)),
     };
     Some(Piece {
-        place: piece.place,
-        len: piece.len.into(),
+        place,
+        len: piece.len,
         answer,
     })
 }
@@ -123,19 +130,17 @@ impl Iterator for Pieces<'_> {
     type Item = Piece;
 
     fn next(&mut self) -> Option<Piece> {
-        // SAFETY: the bytes are valid for their length, and the cursor is no part of them.
-        piece_of(unsafe {
-            sys::nody_utf8_next(self.bytes.as_ptr(), self.bytes.len(), &mut self.cursor)
-        })
+        let place = self.place();
+        // SAFETY: what is left are bytes of the slice.
+        piece_of(place, unsafe { sys::nody_utf8_next(&mut self.left) })
     }
 }
 
 impl DoubleEndedIterator for Pieces<'_> {
     fn next_back(&mut self) -> Option<Piece> {
         // SAFETY: as above.
-        piece_of(unsafe {
-            sys::nody_utf8_next_back(self.bytes.as_ptr(), self.bytes.len(), &mut self.cursor)
-        })
+        let piece = unsafe { sys::nody_utf8_next_back(&mut self.left) };
+        piece_of(self.place() + self.left.len, piece)
     }
 }
 

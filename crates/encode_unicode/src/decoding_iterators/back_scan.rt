@@ -14,6 +14,7 @@ use utf_chars::utf8_char::Utf8Char;
 /// The character whose code ends the bytes, and how many bytes the code has, else what is wrong with the
 /// last byte.
 #[inline(always)]
+#[tactic(auto, using(utf_base::proofs::BackLemmas::last_four_decide, crate::proofs::ScanLemmas::last_four, crate::proofs::ScanLemmas::last_four_scanned))]
 pub(crate) fn decode_end(bytes: &[u8], steps: &mut Steps) -> Result<(Utf8Char, usize), Utf8Error>
     requires { 0 < length bytes.now }
     ensures decodes { DecodesEnd as_scalar bytes.now result }

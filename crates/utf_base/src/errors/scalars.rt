@@ -1,5 +1,5 @@
 //! Why a number, a byte, a unit or a text is not one character.
-ghost use Rattle.std.specs.Prelude.{◌≡◌, false};
+ghost use Rattle.std.specs.Prelude.{◌≡◌, false, Some};
 ghost use Rattle.std.specs.Range.{range_inclusive_start, range_inclusive_end};
 ghost use Rattle.std.specs.Range.{range_inclusive_exhausted};
 ghost use Rattle.utf_base.specs.Refused.{first_refused, last_refused};
@@ -47,9 +47,6 @@ impl CodepointError {
 }
 
 impl fmt::Display for CodepointError {
-    ghost use Rattle.std.specs.Prelude.{Some};
-    ghost use Rattle.utf_base.specs.Texts.{codepoint_error_text};
-
     ghost output = { λ e. Some (codepoint_error_text e) };
 
     ghost styled_output = { λ e _. Some (codepoint_error_text e) };
@@ -83,9 +80,6 @@ impl FromStrError {
 }
 
 impl fmt::Display for FromStrError {
-    ghost use Rattle.std.specs.Prelude.{Some};
-    ghost use Rattle.utf_base.specs.Texts.{from_str_error_text};
-
     ghost output = { λ e. Some (from_str_error_text e) };
 
     ghost styled_output = { λ e _. Some (from_str_error_text e) };
@@ -111,9 +105,6 @@ impl EmptyStrError {
 }
 
 impl fmt::Display for EmptyStrError {
-    ghost use Rattle.std.specs.Prelude.{Some};
-    ghost use Rattle.utf_base.specs.Texts.{empty_str_error_text};
-
     ghost output = { λ _. Some empty_str_error_text };
 
     ghost styled_output = { λ _ _. Some empty_str_error_text };
@@ -139,9 +130,6 @@ impl NonAsciiError {
 }
 
 impl fmt::Display for NonAsciiError {
-    ghost use Rattle.std.specs.Prelude.{Some};
-    ghost use Rattle.utf_base.specs.Texts.{non_ascii_error_text};
-
     ghost output = { λ _. Some non_ascii_error_text };
 
     ghost styled_output = { λ _ _. Some non_ascii_error_text };
@@ -168,9 +156,6 @@ impl NonBmpError {
 }
 
 impl fmt::Display for NonBmpError {
-    ghost use Rattle.std.specs.Prelude.{Some};
-    ghost use Rattle.utf_base.specs.Texts.{non_bmp_error_text};
-
     ghost output = { λ _. Some non_bmp_error_text };
 
     ghost styled_output = { λ _ _. Some non_bmp_error_text };

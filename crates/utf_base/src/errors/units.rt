@@ -1,5 +1,5 @@
 //! Why 16-bit units are no UTF-16 (RFC 2781, section 2.2).
-ghost use Rattle.std.specs.Prelude.{◌≡◌};
+ghost use Rattle.std.specs.Prelude.{◌≡◌, Some};
 ghost use Rattle.utf_base.specs.Texts.{first_unit_error_text, array_error_text};
 ghost use Rattle.utf_base.specs.Texts.{tuple_error_text, slice_error_text, pair_error_text};
 
@@ -20,9 +20,6 @@ impl Utf16FirstUnitError {
 }
 
 impl fmt::Display for Utf16FirstUnitError {
-    ghost use Rattle.std.specs.Prelude.{Some};
-    ghost use Rattle.utf_base.specs.Texts.{first_unit_error_text};
-
     ghost output = { λ _. Some first_unit_error_text };
 
     ghost styled_output = { λ _ _. Some first_unit_error_text };
@@ -58,9 +55,6 @@ impl Utf16ArrayError {
 }
 
 impl fmt::Display for Utf16ArrayError {
-    ghost use Rattle.std.specs.Prelude.{Some};
-    ghost use Rattle.utf_base.specs.Texts.{array_error_text};
-
     ghost output = { λ e. Some (array_error_text e) };
 
     ghost styled_output = { λ e _. Some (array_error_text e) };
@@ -103,9 +97,6 @@ impl Utf16TupleError {
 }
 
 impl fmt::Display for Utf16TupleError {
-    ghost use Rattle.std.specs.Prelude.{Some};
-    ghost use Rattle.utf_base.specs.Texts.{tuple_error_text};
-
     ghost output = { λ e. Some (tuple_error_text e) };
 
     ghost styled_output = { λ e _. Some (tuple_error_text e) };
@@ -146,9 +137,6 @@ impl Utf16SliceError {
 }
 
 impl fmt::Display for Utf16SliceError {
-    ghost use Rattle.std.specs.Prelude.{Some};
-    ghost use Rattle.utf_base.specs.Texts.{slice_error_text};
-
     ghost output = { λ e. Some (slice_error_text e) };
 
     ghost styled_output = { λ e _. Some (slice_error_text e) };
@@ -189,9 +177,6 @@ impl Utf16PairError {
 }
 
 impl fmt::Display for Utf16PairError {
-    ghost use Rattle.std.specs.Prelude.{Some};
-    ghost use Rattle.utf_base.specs.Texts.{pair_error_text};
-
     ghost output = { λ e. Some (pair_error_text e) };
 
     ghost styled_output = { λ e _. Some (pair_error_text e) };

@@ -24,6 +24,7 @@ pub(crate) fn decode(c: u32) -> Result<char, CodepointError>
 // Whether the number is a scalar. The exclusive or puts the surrogates below all others, so that one
 // comparison tells.
 #[inline(always)]
+#[tactic(auto, using(crate::proofs::ScalarTest::scalar_test))]
 fn is_scalar(c: u32) -> bool
     ensures { IsTrue result ↔ IsScalar c }
 {

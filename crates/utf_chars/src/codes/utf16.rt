@@ -141,6 +141,7 @@ pub(crate) fn decode_array(units: [u16; 2]) -> Result<char, Utf16ArrayError>
 /// The character whose code the one or two units are. A second unit that the first does not ask for is
 /// an error.
 #[inline(always)]
+#[tactic(auto, using(utf_base::proofs::Utf16Code::unit_is_code, utf_base::proofs::Utf16Code::pair_is_code, utf_base::proofs::UnitLemmas::no_surrogate))]
 pub(crate) fn decode_tuple(units: (u16, Option<u16>)) -> Result<char, Utf16TupleError>
     ensures { DecodesTuple as_scalar units result }
 {

@@ -64,6 +64,7 @@ pub(crate) fn decode_array(bytes: [u8; 4]) -> Result<char, Utf8Error>
 
 /// The character whose code the bytes are.
 #[inline(always)]
+#[tactic(auto, using(utf_base::proofs::Standing::same_char, utf_base::proofs::Standing::stands_alone, utf_base::proofs::Utf8Code::utf8_is_code, crate::proofs::Decoded::IsOk_DecodesFront))]
 pub(crate) fn decode_exact_unchecked(src: &[u8]) -> char
     requires { IsOneCode utf8 src.now }
     ensures { utf8 result ≡ src.now }
@@ -86,7 +87,7 @@ pub(crate) fn value_of_two(first: u8, second: u8) -> u32
 #[inline(always)]
 pub(crate) fn value_of_three(first: u8, second: u8, third: u8) -> u32
     requires first { (0xE0 ≤ first) × (first < 0xF0) }
-    requires followers { (is_continuation second && is_continuation third) ≡ true }
+    requires continuation_bytes { (is_continuation second && is_continuation third) ≡ true }
     ensures sum { result ≡ (first - 0xE0) * 4096 + (second - 0x80) * 64 + (third - 0x80) }
     ensures bound { result < 0x1_0000 }
 {
@@ -97,7 +98,7 @@ pub(crate) fn value_of_three(first: u8, second: u8, third: u8) -> u32
 #[inline(always)]
 pub(crate) fn value_of_four(first: u8, second: u8, third: u8, fourth: u8) -> u32
     requires first { (0xF0 ≤ first) × (first < 0xF8) }
-    requires followers { (is_continuation second && is_continuation third && is_continuation fourth) ≡ true }
+    requires continuation_bytes { (is_continuation second && is_continuation third && is_continuation fourth) ≡ true }
     ensures { result ≡ (first - 0xF0) * 262144 + (second - 0x80) * 4096 + (third - 0x80) * 64 + (fourth - 0x80) }
 {
     let high = (((first & 0x07) as u32) << 6 | (second & 0x3f) as u32) << 6 | (third & 0x3f) as u32;
@@ -106,6 +107,7 @@ pub(crate) fn value_of_four(first: u8, second: u8, third: u8, fourth: u8) -> u32
 
 // The code of a number below 0x110000, then zeros, and how many bytes the code has.
 #[inline(always)]
+#[tactic(auto, unfolding(utf_base::specs::Code::utf8, crate::specs::Padded::padded), using(std::proofs::lemmas::Nat::le_bytes_4))]
 fn encode_number(s: u32) -> ([u8; 4], usize)
     requires { s < 0x11_0000 }
     ensures code { result.0 ≡ padded 4 (utf8 s) }

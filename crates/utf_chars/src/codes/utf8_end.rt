@@ -1,6 +1,6 @@
 //! The code that ends some bytes, in UTF-8.
 ghost use Rattle.std.specs.Prelude.{◌≡◌};
-ghost use Rattle.utf_base.specs.Back.{EndsInFollowers};
+ghost use Rattle.utf_base.specs.Back.{EndsInContinuationBytes};
 ghost use Rattle.utf_base.specs.Kinds.{back_kind};
 
 use crate::continuation::continues;
@@ -8,8 +8,8 @@ use utf_base::errors::{Utf8Error, Utf8ErrorKind};
 
 /// How many continuation bytes the bytes end with, up to three.
 #[inline(always)]
-pub(crate) fn followers_at_end(src: &[u8]) -> usize
-    ensures { EndsInFollowers src.now result }
+pub(crate) fn continuation_bytes_at_end(src: &[u8]) -> usize
+    ensures { EndsInContinuationBytes src.now result }
 {
     let mut count = 0;
     while count < 3 && count < src.len() && continues(src[src.len() - 1 - count]) {

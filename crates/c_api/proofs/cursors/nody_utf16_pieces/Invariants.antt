@@ -6,7 +6,7 @@ abbrev pub invariant-loop-count : goal.invariant-loop-count
 invariant-loop-count l = record {
   within : l.count ≤ length l.fn.room;
   len : length l.room ≡ length l.fn.room;
-  each : GivesEach first_of_units l.units l.fn.cursor (take l.count l.room) l.cursor;
+  each : GivesEach first_of_units l.fn.left.units.now (take l.count l.room) l.left.units.now;
   rest : drop l.count l.room ≡ drop l.count l.fn.room;
 }
 

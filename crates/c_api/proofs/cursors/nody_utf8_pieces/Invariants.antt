@@ -6,7 +6,7 @@ abbrev pub invariant-loop-count : goal.invariant-loop-count
 invariant-loop-count l = record {
   within : l.count ≤ length l.fn.room;
   len : length l.room ≡ length l.fn.room;
-  each : GivesEach first_of l.bytes l.fn.cursor (take l.count l.room) l.left;
+  each : GivesEach first_of l.fn.left.bytes.now (take l.count l.room) l.bytes;
   rest : drop l.count l.room ≡ drop l.count l.fn.room;
 }
 

@@ -1,4 +1,4 @@
-use Rattle.cuts.proofs.FedParts.{nothing_is_fed, part_is_fed, fed_is_front, fed_is_recoded}
+use Rattle.cuts.proofs.OfRecoding.FedParts.{nothing_is_fed, part_is_fed, fed_is_front, fed_is_recoded}
 use Rattle.cuts.proofs.laws.parts_are_one_part.Goals as goal
 
 pub returns : goal.returns

@@ -1,4 +1,4 @@
-use Rattle.cuts.proofs.PartLaws.{parts_are_recoded, parts_do_not_matter}
+use Rattle.cuts.proofs.OfRecoding.PartLaws.{parts_are_recoded, parts_do_not_matter}
 use Rattle.cuts.proofs.laws.parts_do_not_matter.Goals as goal
 
 pub returns : goal.returns

@@ -1,5 +1,5 @@
-use Rattle.cuts.proofs.BoundLemmas.{recoded_bound}
-use Rattle.cuts.proofs.EnoughRoom.{lossy_is_bounded}
+use Rattle.cuts.proofs.OfRecoding.BoundLemmas.{recoded_bound}
+use Rattle.cuts.proofs.OfRecoding.EnoughRoom.{lossy_is_bounded}
 use Rattle.cuts.proofs.laws.recoded_is_bounded.Goals as goal
 
 pub returns : goal.returns

@@ -1,4 +1,4 @@
-use Rattle.cuts.proofs.Growing.{recoded_once}
+use Rattle.cuts.proofs.OfRecoding.Growing.{recoded_once}
 use Rattle.cuts.proofs.laws.recoded_once.Goals as goal
 
 pub returns : goal.returns

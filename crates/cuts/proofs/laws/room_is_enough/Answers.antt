@@ -1,4 +1,4 @@
-use Rattle.cuts.proofs.EnoughRoom.{feeds_in_room, room_is_left, finishes_in_room}
+use Rattle.cuts.proofs.OfRecoding.EnoughRoom.{feeds_in_room, room_is_left, finishes_in_room}
 use Rattle.cuts.proofs.laws.room_is_enough.Goals as goal
 
 pub returns : goal.returns

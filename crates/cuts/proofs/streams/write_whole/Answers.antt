@@ -1,5 +1,5 @@
 use Rattle.std.proofs.Common.{rules}
-use Rattle.cuts.proofs.Parts.{sent_more}
+use Rattle.cuts.proofs.OfRecoding.Parts.{sent_more}
 use Rattle.cuts.proofs.streams.write_whole.Goals as goal
 
 pub loop-sent-preserved : goal.loop-sent-preserved

@@ -1,5 +1,5 @@
 use Rattle.std.proofs.Common.{◌≡◌, List, ℕ, [], refl}
-use Rattle.cuts.specs.declared.form.Form.TheVariants.{Utf8}
+use Rattle.cuts.specs.declared.recoding.form.Form.TheVariants.{Utf8}
 use Rattle.cuts.specs.Recoded.{Recoding, Feeds, Finishes, IsRecoded}
 use Rattle.cuts.proofs.FedParts.{nothing_is_fed, part_is_fed, fed_is_recoded}
 use Rattle.uses.proofs.bounds.lossy_text.Goals as goal

@@ -1,5 +1,5 @@
 use Rattle.std.proofs.Common.{◌≡◌, ◌+◌, length, arith, rules}
-use Rattle.uses.proofs.EditorLemmas.{stays_behind}
+use Rattle.uses.proofs.EditorLemmas.{stays_after}
 use Rattle.uses.proofs.editor.edit.Goals as goal
 
 pub returns-clause-before : goal.returns-clause-before
@@ -7,7 +7,7 @@ returns-clause-before g c x lt =
     let both = (c.in_ok-replace.ensures.around x).0 (omega (arith, c.saturating_sub-from.ensures)) in
     (both.1, both.0)
 
-pub returns-clause-behind : goal.returns-clause-behind
-returns-clause-behind g c x le =
+pub returns-clause-following : goal.returns-clause-following
+returns-clause-following g c x le =
     let until : c.in_ok-until.until ≡ c.args.start + length c.args.new.now + 3 = search rules in
-    stays_behind _ _ _ _ _ c.in_ok-replace.ensures.around x (omega arith)
+    stays_after _ _ _ _ _ c.in_ok-replace.ensures.around x (omega arith)

@@ -1,4 +1,4 @@
-use Rattle.cuts.proofs.TableRuns.{OnOk-always}
+use Rattle.cuts.proofs.OfTables.TableRuns.{OnOk-always}
 use Rattle.cuts.proofs.piece_table.PieceTable.replace.Goals as goal
 
 pub returns-clause-around : goal.returns-clause-around

@@ -1,9 +1,5 @@
-use Rattle.utf_base.proofs.BackLemmas.{last_four_decide}
 use Rattle.encode_unicode.proofs.ScanLemmas.{last_four, last_four_scanned}
 use Rattle.encode_unicode.proofs.decoding_iterators.back_scan.decode_end.Goals as goal
-
-pub returns-clause-decodes : goal.returns-clause-decodes
-returns-clause-decodes c = last_four_decide _ _ (rw (last_four _ c.if-n-lt4.false) c.scan.ensures.decodes)
 
 pub returns-clause-steps : goal.returns-clause-steps
 returns-clause-steps c = last_four_scanned _ _ _ c.if-n-lt4.false (rw (last_four _ c.if-n-lt4.false) c.scan.ensures.steps)

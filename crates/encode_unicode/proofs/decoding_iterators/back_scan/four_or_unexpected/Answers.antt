@@ -4,7 +4,7 @@ use Rattle.utf_base.specs.contracts.table.State.{the_type}
 use Rattle.utf_base.specs.declared.table.State.TheVariants.{Done, Interrupted}
 use Rattle.utf_base.specs.Table.{is_running}
 use Rattle.utf_base.proofs.TableSteps.{last_ends}
-use Rattle.utf_chars.proofs.PaddedLemmas.{IsPadded-padded}
+use Rattle.utf_chars.proofs.PaddedLemmas.{IsPadded_padded}
 use Rattle.utf_chars.proofs.Walked.{Walk-4, running, walk_on}
 use Rattle.encode_unicode.proofs.TableWalks.{code_after_walk, stepped}
 use Rattle.encode_unicode.proofs.Wholes.{range_of_four, all_padded, none_by_end, none_by_first, whole_in_four}
@@ -77,7 +77,7 @@ from_array_unchecked-c-requires c =
     let done = differs_false the_type (search rules) c.step.result Done (sym c.ne.ensures ∙ c.if-ne.false) in
     let at = sym (stepped c.args.bytes 3 _ _ _ c.step.ensures c.class_of-4.ensures.class (sym third.at)) ∙ done in
     let code = code_after_walk c.args.bytes 3 len (lit< tt) (ap is_running third.at ∙ running c.args.bytes 3 0 _ third) at in
-    IsPadded-padded _ _ code.0 (all_padded c.args.bytes _ len code.1)
+    IsPadded_padded _ _ code.0 (all_padded c.args.bytes _ len code.1)
 
 pub returns : goal.returns
 returns c =

@@ -4,7 +4,7 @@ use Rattle.utf_base.specs.contracts.table.State.{the_type}
 use Rattle.utf_base.specs.declared.table.State.TheVariants.{Done, Interrupted}
 use Rattle.utf_base.specs.Table.{is_running}
 use Rattle.utf_base.proofs.TableSteps.{last_ends}
-use Rattle.utf_chars.proofs.PaddedLemmas.{IsPadded-padded}
+use Rattle.utf_chars.proofs.PaddedLemmas.{IsPadded_padded}
 use Rattle.utf_chars.proofs.Walked.{Walk-3, running, walk_on}
 use Rattle.encode_unicode.proofs.ByteMerging.{three_padded}
 use Rattle.encode_unicode.proofs.TableWalks.{code_after_walk, stepped}
@@ -61,7 +61,7 @@ from_array_unchecked-c-requires c =
     let done = differs_false the_type (search rules) c.step.result Done (sym c.ne.ensures ∙ c.if-ne.false) in
     let at = sym (stepped w 2 _ _ _ c.step.ensures c.class_of-3.ensures.class (sym second.at)) ∙ done in
     let code = code_after_walk w 2 refl (lit< tt) (ap is_running second.at ∙ running w 2 0 _ second) at in
-    IsPadded-padded _ _ code.0 (three_padded c.args.first c.args.second c.args.third _ code.1)
+    IsPadded_padded _ _ code.0 (three_padded c.args.first c.args.second c.args.third _ code.1)
 
 pub returns : goal.returns
 returns c =

@@ -4,7 +4,7 @@ use Rattle.utf_base.specs.contracts.table.State.{the_type}
 use Rattle.utf_base.specs.declared.table.State.TheVariants.{Done, OneMore}
 use Rattle.utf_base.specs.Table.{is_running, state_after}
 use Rattle.utf_base.proofs.TableSteps.{first-2, last_ends}
-use Rattle.utf_chars.proofs.PaddedLemmas.{IsPadded-padded}
+use Rattle.utf_chars.proofs.PaddedLemmas.{IsPadded_padded}
 use Rattle.encode_unicode.proofs.ByteMerging.{two_padded}
 use Rattle.encode_unicode.proofs.TableWalks.{code_after_walk, stepped}
 use Rattle.encode_unicode.proofs.Wholes.{range_of_two, none_by_end, none_by_first, whole_in_four}
@@ -37,7 +37,7 @@ from_array_unchecked-c-requires c =
     let done = differs_false the_type (search rules) c.step.result Done (sym c.ne.ensures ∙ c.if-ne.false) in
     let at = sym (stepped w 1 _ OneMore _ c.step.ensures c.class_of.ensures.class (sym first)) ∙ done in
     let code = code_after_walk w 1 refl (lit< tt) (ap is_running first) at in
-    IsPadded-padded _ _ code.0 (two_padded c.args.first c.args.second _ code.1)
+    IsPadded_padded _ _ code.0 (two_padded c.args.first c.args.second _ code.1)
 
 pub returns : goal.returns
 returns c =

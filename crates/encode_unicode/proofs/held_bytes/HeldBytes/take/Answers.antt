@@ -1,14 +1,6 @@
 use Rattle.std.proofs.Common.{◌-◌, ◌/◌, ◌≤◌, arith}
-use Rattle.encode_unicode.proofs.HeldWords.{first_of_word, holds_none, only_of_word}
+use Rattle.encode_unicode.proofs.HeldWords.{first_of_word}
 use Rattle.encode_unicode.proofs.held_bytes.HeldBytes.take.Goals as goal
-
-pub returns-then-self-lt33554432-clause-first : goal.returns-then-self-lt33554432-clause-first
-returns-then-self-lt33554432-clause-first c = rw (← c.self.view_is) (only_of_word c.self.inside.word c.if-self-ge16777216.true c.if-self-lt33554432.true)
-
-pub returns-then-self-lt16777216-clause-first : goal.returns-then-self-lt16777216-clause-first
-returns-then-self-lt16777216-clause-first c =
-    let none = holds_none c.self.inside.word c.if-self-lt16777216.true in
-    rw (← c.self.view_is) (none, none)
 
 pub returns-clause-first : goal.returns-clause-first
 returns-clause-first c =

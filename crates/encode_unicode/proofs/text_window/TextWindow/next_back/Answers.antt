@@ -15,10 +15,7 @@ text_is c = c.as_bytes.ensures.value ∙ c.as_str-text.ensures.text ∙ sym (ap 
 pub invariant_of-self : goal.invariant_of-self
 invariant_of-self c = (last_char_taken _ _ _ _ _ _ _ c.self.invariant (text_is c) c.last_code-len.ensures c.from_array_unchecked.ensures.known).1
 
-pub returns-clause-gives : goal.returns-clause-gives
-returns-clause-gives c =
-    rw (← c.self.view_is) ((last_char_taken _ _ _ _ _ _ _ c.self.invariant (text_is c) c.last_code-len.ensures c.from_array_unchecked.ensures.known).0)
-
-pub returns-clause-shorter : goal.returns-clause-shorter
-returns-clause-shorter c =
-    rw (← c.self.view_is) ((last_char_taken _ _ _ _ _ _ _ c.self.invariant (text_is c) c.last_code-len.ensures c.from_array_unchecked.ensures.known).2)
+pub returns : goal.returns
+returns c =
+    let taken = last_char_taken _ _ _ _ _ _ _ c.self.invariant (text_is c) c.last_code-len.ensures c.from_array_unchecked.ensures.known in
+    rw (← c.self.view_is) (record { gives = taken.0; shorter = taken.2 })

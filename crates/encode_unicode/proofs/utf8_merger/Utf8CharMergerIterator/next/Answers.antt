@@ -5,24 +5,21 @@ use Rattle.encode_unicode.proofs.ByteMerging.{known_bytes}
 use Rattle.encode_unicode.proofs.MergerSteps.{merger_nearer, merger_next}
 use Rattle.encode_unicode.proofs.utf8_merger.Utf8CharMergerIterator.next.Goals as goal
 
-pub returns-in-Err-clause-steps : goal.returns-in-Err-clause-steps
-returns-in-Err-clause-steps g c =
+pub returns-in-Err : goal.returns-in-Err
+returns-in-Err g c =
     let begun = c.in-Some.ensures.first in
-    rw (← c.self.view_is) (merger_next utf8 merger_kind IsHeldBytes _ _ _ _ _ _ _ _ _ _ _ _ _ _ _ begun.reads begun.begins c.in-Err.ensures.answers c.in-Err.ensures.held)
+    rw (← c.self.view_is)
+    (record {
+      steps = merger_next utf8 merger_kind IsHeldBytes _ _ _ _ _ _ _ _ _ _ _ _ _ _ _ begun.reads begun.begins c.in-Err.ensures.answers c.in-Err.ensures.held;
+      goes = merger_nearer utf8 merger_kind _ _ _ _ _ _ _ _ _ _ _ _ _ _ _ begun.reads begun.begins c.in-Err.ensures.answers;
+    })
 
-pub returns-in-Err-clause-goes : goal.returns-in-Err-clause-goes
-returns-in-Err-clause-goes g c =
+pub returns : goal.returns
+returns g c =
     let begun = c.in-Some.ensures.first in
-    rw (← c.self.view_is) (merger_nearer utf8 merger_kind _ _ _ _ _ _ _ _ _ _ _ _ _ _ _ begun.reads begun.begins c.in-Err.ensures.answers)
-
-pub returns-clause-steps : goal.returns-clause-steps
-returns-clause-steps g c =
-    let begun = c.in-Some.ensures.first in
-    let answers = known_bytes _ _ _ _ _ _ _ _ _ _ _ _ c.in-Ok.ensures (rw c.behind.ensures at c.from_array_unchecked.ensures.known) in
-    rw (← c.self.view_is) (merger_next utf8 merger_kind IsHeldBytes _ _ _ _ _ _ _ _ _ _ _ _ _ _ _ begun.reads begun.begins answers c.in-Ok.ensures.held)
-
-pub returns-clause-goes : goal.returns-clause-goes
-returns-clause-goes g c =
-    let begun = c.in-Some.ensures.first in
-    let answers = known_bytes _ _ _ _ _ _ _ _ _ _ _ _ c.in-Ok.ensures (rw c.behind.ensures at c.from_array_unchecked.ensures.known) in
-    rw (← c.self.view_is) (merger_nearer utf8 merger_kind _ _ _ _ _ _ _ _ _ _ _ _ _ _ _ begun.reads begun.begins answers)
+    let answers = known_bytes _ _ _ _ _ _ _ _ _ _ _ _ c.in-Ok.ensures (rw c.following.ensures at c.from_array_unchecked.ensures.known) in
+    rw (← c.self.view_is)
+    (record {
+      steps = merger_next utf8 merger_kind IsHeldBytes _ _ _ _ _ _ _ _ _ _ _ _ _ _ _ begun.reads begun.begins answers c.in-Ok.ensures.held;
+      goes = merger_nearer utf8 merger_kind _ _ _ _ _ _ _ _ _ _ _ _ _ _ _ begun.reads begun.begins answers;
+    })

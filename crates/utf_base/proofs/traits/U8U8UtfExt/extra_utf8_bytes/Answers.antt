@@ -1,22 +1,18 @@
-use Rattle.std.proofs.Common.{◌≡◌, ℕ, ◌+◌, ◌-◌, ◌*◌, ◌^◌, ◌<◌, ◌≤◌, ◌⊎◌, inl, inr, refl, arith, true, false}
+use Rattle.std.proofs.Common.{◌≡◌, ℕ, ◌+◌, ◌-◌, ◌*◌, ◌^◌, ◌<◌, ◌≤◌, ◌⊎◌, inl, inr, refl, arith, true}
 use Rattle.std.proofs.lemmas.Grind.{common_steps}
 use Rattle.std.specs.Int.{w8, leading_ones}
 use Rattle.std.specs.Int.Count.{leading_unique}
 use Rattle.utf_base.specs.declared.table.State.{State}
-use Rattle.utf_base.specs.declared.table.State.TheVariants.{Start, OneMore, TwoMore, ThreeMore, AfterE0, AfterEd, AfterF0, AfterF4, TwoMoreOverlong, OneMoreOverlong, OneMoreReserved, TwoMoreTooHigh, OneMoreTooHigh, Done, Unexpected, Never, Interrupted, Overlong, Reserved, TooHigh}
-use Rattle.utf_base.specs.Kinds.{asked, is_continuation}
+use Rattle.utf_base.specs.declared.table.State.TheVariants.{Start, OneMore, TwoMore, ThreeMore, AfterE0, AfterEd, AfterF0, AfterF4, Done, Unexpected, Never}
+use Rattle.utf_base.specs.Kinds.{is_continuation}
 use Rattle.utf_base.specs.Table.{class, next_state}
 use Rattle.utf_base.proofs.FrontLemmas.{asked-0, asked-1, asked-2, asked-3, asked-4}
-use Rattle.utf_base.proofs.TableLemmas.{Begins, begins}
+use Rattle.utf_base.proofs.TableLemmas.{Begins, found, no_code_byte}
 use Rattle.utf_base.proofs.traits.U8U8UtfExt.extra_utf8_bytes.Goals as goal
 
 -- a byte whose complement has m digits has 8 - m leading ones
 ones : (b r m : ℕ) → r + m ≡ 8 → 255 - b < 2 ^ m → 2 ^ m ≤ 2 * (255 - b) + 1 → r ≡ leading_ones w8 b
 ones b r m e below least = leading_unique 8 (255 - b) r m e below least
-
--- the range of the byte, by the state that was found
-found : (b c : ℕ) (r state : State) → c ≡ class b → r ≡ next_state Start c → r ≡ state → Begins b state
-found b c r state e f g = let h = begins b in let same : next_state Start (class b) ≡ state = cc in rw same at h
 
 -- the states that three bytes and four have in common with their range
 found-3 : (b c : ℕ) (r : State) → c ≡ class b → r ≡ next_state Start c → (r ≡ TwoMore) ⊎ ((r ≡ AfterE0) ⊎ (r ≡ AfterEd)) → (0xE0 ≤ b) × (b < 0xF0)
@@ -29,37 +25,25 @@ found-4 b c r e f (inl g) = let h = found b c r ThreeMore e f g in (omega arith,
 found-4 b c r e f (inr (inl g)) = let h = found b c r AfterF0 e f g in (omega arith, omega arith)
 found-4 b c r e f (inr (inr g)) = let h = found b c r AfterF4 e f g in (omega arith, omega arith)
 
-pub returns-in-Done-clause-asks : goal.returns-in-Done-clause-asks
-returns-in-Done-clause-asks c = let h = found _ _ _ Done c.class_of.ensures.class c.step.ensures c.in-Done.is in asked-1 _ h
-
-pub returns-in-Done-clause-unchecked : goal.returns-in-Done-clause-unchecked
-returns-in-Done-clause-unchecked c =
+pub returns-in-Done : goal.returns-in-Done
+returns-in-Done c =
     let h = found _ _ _ Done c.class_of.ensures.class c.step.ensures c.in-Done.is in
-    rw (← ones c.args.self 0 8 refl (omega arith) (omega arith)) refl
+    record { asks = asked-1 _ h; most = omega arith; unchecked = rw (← ones c.args.self 0 8 refl (omega arith) (omega arith)) refl }
 
-pub returns-in-OneMore-clause-asks : goal.returns-in-OneMore-clause-asks
-returns-in-OneMore-clause-asks c = let h = found _ _ _ OneMore c.class_of.ensures.class c.step.ensures c.in-OneMore.is in asked-2 _ h.0 h.1
-
-pub returns-in-OneMore-clause-unchecked : goal.returns-in-OneMore-clause-unchecked
-returns-in-OneMore-clause-unchecked c =
+pub returns-in-OneMore : goal.returns-in-OneMore
+returns-in-OneMore c =
     let h = found _ _ _ OneMore c.class_of.ensures.class c.step.ensures c.in-OneMore.is in
-    rw (← ones c.args.self 2 6 refl (omega arith) (omega arith)) refl
+    record { asks = asked-2 _ h.0 h.1; most = omega arith; unchecked = rw (← ones c.args.self 2 6 refl (omega arith) (omega arith)) refl }
 
-pub returns-in-TwoMore-clause-asks : goal.returns-in-TwoMore-clause-asks
-returns-in-TwoMore-clause-asks c = let h = found-3 _ _ _ c.class_of.ensures.class c.step.ensures c.in-TwoMore.is in asked-3 _ h.0 h.1
-
-pub returns-in-TwoMore-clause-unchecked : goal.returns-in-TwoMore-clause-unchecked
-returns-in-TwoMore-clause-unchecked c =
+pub returns-in-TwoMore : goal.returns-in-TwoMore
+returns-in-TwoMore c =
     let h = found-3 _ _ _ c.class_of.ensures.class c.step.ensures c.in-TwoMore.is in
-    rw (← ones c.args.self 3 5 refl (omega arith) (omega arith)) refl
+    record { asks = asked-3 _ h.0 h.1; most = omega arith; unchecked = rw (← ones c.args.self 3 5 refl (omega arith) (omega arith)) refl }
 
-pub returns-in-ThreeMore-clause-asks : goal.returns-in-ThreeMore-clause-asks
-returns-in-ThreeMore-clause-asks c = let h = found-4 _ _ _ c.class_of.ensures.class c.step.ensures c.in-ThreeMore.is in asked-4 _ h.0 h.1
-
-pub returns-in-ThreeMore-clause-unchecked : goal.returns-in-ThreeMore-clause-unchecked
-returns-in-ThreeMore-clause-unchecked c =
+pub returns-in-ThreeMore : goal.returns-in-ThreeMore
+returns-in-ThreeMore c =
     let h = found-4 _ _ _ c.class_of.ensures.class c.step.ensures c.in-ThreeMore.is in
-    rw (← ones c.args.self 4 4 refl (omega arith) (omega arith)) refl
+    record { asks = asked-4 _ h.0 h.1; most = omega arith; unchecked = rw (← ones c.args.self 4 4 refl (omega arith) (omega arith)) refl }
 
 pub returns-in-Unexpected-clause-asks : goal.returns-in-Unexpected-clause-asks
 returns-in-Unexpected-clause-asks c =
@@ -79,24 +63,11 @@ never b AfterF4 h _ _ _ _ _ _ n _ _ = absurd (n refl)
 never b Done h _ _ _ _ _ _ _ n _ = absurd (n refl)
 never b Unexpected h _ _ _ _ _ _ _ _ n = absurd (n refl)
 never b Never h _ _ _ _ _ _ _ _ _ = h
-never b Start h _ _ _ _ _ _ _ _ _ = absurd h
-never b TwoMoreOverlong h _ _ _ _ _ _ _ _ _ = absurd h
-never b OneMoreOverlong h _ _ _ _ _ _ _ _ _ = absurd h
-never b OneMoreReserved h _ _ _ _ _ _ _ _ _ = absurd h
-never b TwoMoreTooHigh h _ _ _ _ _ _ _ _ _ = absurd h
-never b OneMoreTooHigh h _ _ _ _ _ _ _ _ _ = absurd h
-never b Interrupted h _ _ _ _ _ _ _ _ _ = absurd h
-never b Overlong h _ _ _ _ _ _ _ _ _ = absurd h
-never b Reserved h _ _ _ _ _ _ _ _ _ = absurd h
-never b TooHigh h _ _ _ _ _ _ _ _ _ = absurd h
-
-outside : (b : ℕ) → (0xC0 ≤ b) × (b < 0xC2) ⊎ (0xF5 ≤ b) → (is_continuation b ≡ false) × (asked b ≡ 0)
-outside b (inl h) = (grind (arith, common_steps), asked-0 b (inl (omega arith, h.1)))
-outside b (inr h) = (grind (arith, common_steps), asked-0 b (inr h))
+never b _ h _ _ _ _ _ _ _ _ _ = absurd h
 
 pub returns-in_default : goal.returns-in_default
 returns-in_default c =
     let n = c.in_default in
     let range = never c.args.self c.step.result (found _ _ _ c.step.result c.class_of.ensures.class c.step.ensures refl) n.not-OneMore n.not-TwoMore n.not-ThreeMore n.not-AfterE0 n.not-AfterEd n.not-AfterF0 n.not-AfterF4 n.not-Done n.not-Unexpected in
-    let byte = outside c.args.self range in
+    let byte = no_code_byte c.args.self range in
     record { asks = (byte.1, rw (c.new-in_default.ensures, byte.0) refl); most = tt; unchecked = tt }

@@ -1,23 +1,11 @@
-use Rattle.std.proofs.Common.{◌≡◌, ℕ, ◌<◌, ◌≤◌, ◌⊎◌, inl, inr, length, get_or, arith, ap, sym, subst, ◌∙◌, false}
+use Rattle.std.proofs.Common.{◌<◌, length, get_or, arith, ap, ◌∙◌}
 use Rattle.std.proofs.lemmas.Grind.{common_steps}
-use Rattle.utf_base.specs.declared.table.State.{State}
 use Rattle.utf_base.specs.declared.table.State.TheVariants.{Start, Done, Unexpected, Never}
-use Rattle.utf_base.specs.Kinds.{asked, is_continuation}
-use Rattle.utf_base.specs.Table.{class, next_state}
-use Rattle.utf_base.proofs.FrontLemmas.{asked-0}
+use Rattle.utf_base.specs.Table.{next_state}
 use Rattle.utf_base.proofs.KindCases.{kind-empty, kind-continuation, kind-never, begins_with-1}
-use Rattle.utf_base.proofs.TableLemmas.{Begins, begins}
+use Rattle.utf_base.proofs.TableLemmas.{found, no_code_byte}
 use Rattle.utf_base.proofs.TableSteps.{asks_for_others}
 use Rattle.utf_chars.proofs.codes.utf8.decode_start.Goals as goal
-
--- the range of the byte, by the state that was found
-found : (b c : ℕ) (r state : State) → c ≡ class b → r ≡ next_state Start c → r ≡ state → Begins b state
-found b c r state e f g = subst (λ (s : State). Begins b s) (sym (ap (next_state Start) e) ∙ sym f ∙ g) (begins b)
-
--- a byte that no code has
-outside : (b : ℕ) → (0xC0 ≤ b) × (b < 0xC2) ⊎ (0xF5 ≤ b) → (asked b ≡ 0) × (is_continuation b ≡ false)
-outside b (inl h) = (asked-0 b (inl (omega arith, h.1)), grind (arith, common_steps))
-outside b (inr h) = (asked-0 b (inr h), grind (arith, common_steps))
 
 pub returns-then-is_empty : goal.returns-then-is_empty
 returns-then-is_empty c = rw c.new.ensures (kind-empty _ (grind (arith, common_steps)))
@@ -47,5 +35,5 @@ returns-in-Unexpected c =
 pub returns-in-Never : goal.returns-in-Never
 returns-in-Never c =
     let some : 0 < length c.args.src.now = grind (arith, common_steps) in
-    let first = outside _ (found _ _ _ Never c.class_of.ensures.class c.step.ensures c.in-Never.is) in
-    rw c.new-in-Never.ensures (kind-never _ some first.0 first.1)
+    let first = no_code_byte _ (found _ _ _ Never c.class_of.ensures.class c.step.ensures c.in-Never.is) in
+    rw c.new-in-Never.ensures (kind-never _ some first.1 first.0)

@@ -3,9 +3,6 @@ use Rattle.utf_base.proofs.StdText.{scalar_from_std}
 use Rattle.utf_chars.proofs.OwnCodes.{own_array}
 use Rattle.utf_chars.proofs.traits.CharCharExt.to_utf8_array.Goals as goal
 
-pub returns-clause-front : goal.returns-clause-front
-returns-clause-front c = (own_array _ c.args.self _ (scalar_from_std _ (search rules)) c.encode.ensures.code c.encode.ensures.len).front
-
 pub returns-clause-bounds : goal.returns-clause-bounds
 returns-clause-bounds c = (own_array _ c.args.self _ (scalar_from_std _ (search rules)) c.encode.ensures.code c.encode.ensures.len).bounds
 
@@ -17,6 +14,3 @@ returns-clause-decodes c = (own_array _ c.args.self _ (scalar_from_std _ (search
 
 pub returns-clause-decodes_bytes : goal.returns-clause-decodes_bytes
 returns-clause-decodes_bytes c = (own_array _ c.args.self _ (scalar_from_std _ (search rules)) c.encode.ensures.code c.encode.ensures.len).decodes_bytes
-
-pub returns-clause-decodes_front : goal.returns-clause-decodes_front
-returns-clause-decodes_front c = (own_array _ c.args.self _ (scalar_from_std _ (search rules)) c.encode.ensures.code c.encode.ensures.len).decodes_front

@@ -4,12 +4,10 @@ use Rattle.utf_base.proofs.Utf16Code.{utf16-1}
 use Rattle.utf_chars.proofs.PaddedUnits.{first_is_ascii}
 use Rattle.utf_chars.proofs.utf16_char.Utf16Char.is_ascii.Goals as goal
 
-pub returns-clause-ascii : goal.returns-clause-ascii
-returns-clause-ascii c =
+pub returns : goal.returns
+returns c =
     let first = first_is_ascii _ _ c.self.invariant c.self.view_is in
-    (λ h. first.0 (grind (arith, common_steps)), λ h. let low = first.1 h in grind (arith, common_steps))
-
-pub returns-clause-one_unit : goal.returns-clause-one_unit
-returns-clause-one_unit c =
-    let first = first_is_ascii _ _ c.self.invariant c.self.view_is in
-    λ h. let low : c.args.self < 128 = first.0 (grind (arith, common_steps)) in utf16-1 c.args.self (omega arith)
+    record {
+      ascii = (λ h. first.0 (grind (arith, common_steps)), λ h. let low = first.1 h in grind (arith, common_steps));
+      one_unit = λ h. let low : c.args.self < 128 = first.0 (grind (arith, common_steps)) in utf16-1 c.args.self (omega arith);
+    }

@@ -4,12 +4,10 @@ use Rattle.utf_base.proofs.Utf16Code.{utf16-1}
 use Rattle.utf_chars.proofs.PaddedUnits.{second_is_zero}
 use Rattle.utf_chars.proofs.utf16_char.Utf16Char.is_bmp.Goals as goal
 
-pub returns-clause-bmp : goal.returns-clause-bmp
-returns-clause-bmp c =
+pub returns : goal.returns
+returns c =
     let second = second_is_zero _ _ c.self.invariant c.self.view_is in
-    (λ h. second.0 (grind (arith, common_steps)), λ h. let zero = second.1 h in grind (arith, common_steps))
-
-pub returns-clause-one_unit : goal.returns-clause-one_unit
-returns-clause-one_unit c =
-    let second = second_is_zero _ _ c.self.invariant c.self.view_is in
-    λ h. utf16-1 c.args.self (second.0 (grind (arith, common_steps)))
+    record {
+      bmp = (λ h. second.0 (grind (arith, common_steps)), λ h. let zero = second.1 h in grind (arith, common_steps));
+      one_unit = λ h. utf16-1 c.args.self (second.0 (grind (arith, common_steps)));
+    }

@@ -19,21 +19,18 @@ returns-then-is_empty-clause-decodes c = empty c
 pub returns-then-is_empty-clause-known : goal.returns-then-is_empty-clause-known
 returns-then-is_empty-clause-known c = answer_of_end _ (Err _) (empty c)
 
-pub returns-in-Some-clause-decodes : goal.returns-in-Some-clause-decodes
-returns-in-Some-clause-decodes c = end_found _ _ _ c.if-len-src.true c.in-Some.ensures
-
-pub returns-in-Some-clause-known : goal.returns-in-Some-clause-known
-returns-in-Some-clause-known c = answer_of_end _ (Ok (_, _)) (end_found _ _ _ c.if-len-src.true c.in-Some.ensures)
-
-pub returns-in-Some-clause-len : goal.returns-in-Some-clause-len
-returns-in-Some-clause-len c = end_len_utf8 _ _ _ (end_found _ _ _ c.if-len-src.true c.in-Some.ensures)
+pub returns-in-Some : goal.returns-in-Some
+returns-in-Some c =
+    let end = end_found _ _ _ c.if-len-src.true c.in-Some.ensures in
+    let alone = end_alone _ _ _ end in
+    record { decodes = end; known = answer_of_end _ (Ok (_, _)) end; len = end_len_utf8 _ _ _ end; exact = alone.exact; exact_end = alone.exact_end }
 
 missed : (c : goal.After-fault_of_last) → NoCodeEnds utf8 c.args.src.now × (c.fault_of_last.result ≡ end_fault c.args.src.now)
 missed c =
     let some : 0 < length c.args.src.now = grind (arith, common_steps) in (
       elim c.if-len-src.branch [
-        | then-len-src+in_default w ↦ end_missed _ _ c.followers_at_end-len.ensures w.in_default.ensures
-        | else-len-src w ↦ let more = w.if-len-src.false in end_missed-all _ _ c.followers_at_end-len.ensures (omega arith)
+        | then-len-src+in_default w ↦ end_missed _ _ c.continuation_bytes_at_end-len.ensures w.in_default.ensures
+        | else-len-src w ↦ let more = w.if-len-src.false in end_missed-all _ _ c.continuation_bytes_at_end-len.ensures (omega arith)
       ],
       c.fault_of_last.ensures ∙ sym (end_fault-some _ some),
     )
@@ -43,9 +40,3 @@ returns-clause-decodes c = missed c
 
 pub returns-clause-known : goal.returns-clause-known
 returns-clause-known c = answer_of_end _ (Err _) (missed c)
-
-pub returns-in-Some-clause-exact : goal.returns-in-Some-clause-exact
-returns-in-Some-clause-exact c = (end_alone _ _ _ (end_found _ _ _ c.if-len-src.true c.in-Some.ensures)).exact
-
-pub returns-in-Some-clause-exact_end : goal.returns-in-Some-clause-exact_end
-returns-in-Some-clause-exact_end c = (end_alone _ _ _ (end_found _ _ _ c.if-len-src.true c.in-Some.ensures)).exact_end

@@ -2,7 +2,7 @@ use Rattle.std.proofs.Common.{◌≡◌, ◌<◌, [], length, Ok, Err, arith}
 use Rattle.std.proofs.lemmas.Grind.{common_steps}
 use Rattle.std.proofs.lemmas.Str.{IsCharBoundary-start}
 use Rattle.utf_base.proofs.DecodedLemmas.{front_len_utf8}
-use Rattle.utf_chars.proofs.TextLemmas.{answer_of_text, boundary_behind, front_code}
+use Rattle.utf_chars.proofs.TextLemmas.{answer_of_text, boundary_after, front_code}
 use Rattle.utf_chars.proofs.utf8_char.Utf8Char.from_str_start.Goals as goal
 
 pub from_front-requires : goal.from_front-requires
@@ -28,4 +28,4 @@ pub returns-clause-boundary : goal.returns-clause-boundary
 returns-clause-boundary c =
     let begins = rw c.as_bytes-bytes.ensures.value at c.from_front.ensures in
     let len = begins.1 in
-    boundary_behind _ 0 _ _ c.utf8.src (IsCharBoundary-start _ c.utf8.src) begins.0 (omega arith)
+    boundary_after _ 0 _ _ c.utf8.src (IsCharBoundary-start _ c.utf8.src) begins.0 (omega arith)

@@ -4,12 +4,10 @@ use Rattle.utf_base.proofs.Utf8Code.{utf8-1}
 use Rattle.utf_chars.proofs.PaddedLemmas.{first_is_ascii}
 use Rattle.utf_chars.proofs.utf8_char.Utf8Char.is_ascii.Goals as goal
 
-pub returns-clause-ascii : goal.returns-clause-ascii
-returns-clause-ascii c =
+pub returns : goal.returns
+returns c =
     let first = first_is_ascii _ _ c.self.invariant c.self.view_is in
-    (λ h. first.0 (grind (arith, common_steps)), λ h. let low = first.1 h in grind (arith, common_steps))
-
-pub returns-clause-one_byte : goal.returns-clause-one_byte
-returns-clause-one_byte c =
-    let first = first_is_ascii _ _ c.self.invariant c.self.view_is in
-    λ h. utf8-1 c.args.self (first.0 (grind (arith, common_steps)))
+    record {
+      ascii = (λ h. first.0 (grind (arith, common_steps)), λ h. let low = first.1 h in grind (arith, common_steps));
+      one_byte = λ h. utf8-1 c.args.self (first.0 (grind (arith, common_steps)));
+    }

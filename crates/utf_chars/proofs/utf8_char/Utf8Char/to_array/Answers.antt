@@ -1,15 +1,6 @@
 use Rattle.utf_chars.proofs.OwnCodes.{own_array}
 use Rattle.utf_chars.proofs.utf8_char.Utf8Char.to_array.Goals as goal
 
-pub returns-clause-front : goal.returns-clause-front
-returns-clause-front c = (own_array _ c.args.self _ (rw c.self.view_is at c.self.invariant.scalar) (rw c.self.view_is at c.self.invariant.equal) c.len.ensures.len).front
-
-pub returns-clause-bounds : goal.returns-clause-bounds
-returns-clause-bounds c = (own_array _ c.args.self _ (rw c.self.view_is at c.self.invariant.scalar) (rw c.self.view_is at c.self.invariant.equal) c.len.ensures.len).bounds
-
-pub returns-clause-own : goal.returns-clause-own
-returns-clause-own c = (own_array _ c.args.self _ (rw c.self.view_is at c.self.invariant.scalar) (rw c.self.view_is at c.self.invariant.equal) c.len.ensures.len).own
-
 pub returns-clause-decodes : goal.returns-clause-decodes
 returns-clause-decodes c = (own_array _ c.args.self _ (rw c.self.view_is at c.self.invariant.scalar) (rw c.self.view_is at c.self.invariant.equal) c.len.ensures.len).decodes
 

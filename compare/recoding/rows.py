@@ -1,0 +1,97 @@
+#!/usr/bin/env python3
+"""Makes the rows of blocks for the gate, by the plain reference: text with one thing over an edge that is other.
+
+usage: python3 compare/recoding/rows.py
+
+It writes `blocks.txt` and `block_places.txt` to crates/run_rows/data. Blocks have up to 133 bytes, and the thing that is
+other, a fault or a code of another length, lies over the end of the first 16, 32, 48, 64, 80, 96, 112 or 128 bytes, or
+begins or ends there.
+"""
+import random
+import sys
+from pathlib import Path
+
+TOP = Path(__file__).resolve().parent.parent.parent
+sys.dont_write_bytecode = True
+sys.path.insert(0, str(TOP / 'compare'))
+from reference import cut, recoded, utf8, utf16  # noqa: E402
+
+FORMS = {'utf8': 'utf-8', 'utf16le': 'utf-16-le', 'utf16be': 'utf-16-be'}
+MOST = 130
+FILLS = ['a\0Z\x7f', '\x80é\u07ff', '\u0800€\ud7ff\ue000\uffff', '\U00010000🂠\U0010ffff', 'aé€🂠b\u07ff\uffff\U0010ffffcd€']
+CODES = ['a', '\x80', '\u07ff', '\u0800', '\ud7ff', '\ue000', '\ufffd', '\U00010000', '\U0010ffff']
+BYTES = ['c0', 'ff', '80', 'bf80', 'c2', 'df', 'e0', 'e0a0', 'e282', 'ed9f', 'f0', 'f090', 'f09f82', 'f48f', 'f48fbf', 'e08080',
+         'e09fbf', 'f0808080', 'f08fbfbf', 'eda080', 'edbfbf', 'f4908080', 'f4bfbfbf', 'f5']
+UNITS = ['d800', 'dbff', 'dc00', 'dfff', 'd83cd83c', 'dca0d83c', 'd83cdca0dca0']
+
+
+def filled(rng, codec, fill, size):
+    """Codes of the characters in turn, from any of them on, up to so many bytes, and ASCII for the rest."""
+    data, at = b'', rng.randrange(len(fill))
+    while len(data) + len(fill[at % len(fill)].encode(codec)) <= size:
+        data += fill[at % len(fill)].encode(codec)
+        at += 1
+    rest = size - len(data)
+    return data, ('x' * rest).encode(codec)[:rest]
+
+
+def other(rng, codec):
+    if rng.random() < 0.3:
+        return rng.choice(CODES).encode(codec)
+    data = bytes.fromhex(rng.choice(BYTES if codec == 'utf-8' else UNITS))
+    if codec == 'utf-16-le':
+        return b''.join(data[k:k + 2][::-1] for k in range(0, len(data), 2))
+    return data
+
+
+def block(rng, codec, fill):
+    """Text, the thing that is other at an edge, and text; of units perhaps half a one at the end."""
+    unit = 1 if codec == 'utf-8' else 2
+    thing = other(rng, codec)
+    place = rng.choice(range(16, 129, 16)) - unit * rng.randrange(len(thing) // unit + 1)
+    size = rng.choice([place + len(thing), MOST, rng.randrange(place + len(thing), MOST + len(thing))])
+    front, ascii_front = filled(rng, codec, fill, place)
+    back, ascii_back = filled(rng, codec, fill, (size - place - len(thing)) // unit * unit)
+    half = bytes(rng.choice([[], [0xd8]])) if unit == 2 else b''
+    return ascii_front + front + thing + back + ascii_back + half
+
+
+def first_fault(code, xs):
+    return next((p for p, _, s in cut(code, xs) if s is None), len(xs))
+
+
+def recoded_rows(rng):
+    yield '# FROM TO|INPUT|OUTPUT'
+    for source, codec in FORMS.items():
+        for target in FORMS:
+            for fill in FILLS:
+                for _ in range(5):
+                    data = block(rng, codec, fill)
+                    yield f'{source} {target}|{data.hex()}|{bytes(recoded(source, target, list(data))).hex()}'
+
+
+def place_rows(rng):
+    yield '# CALL|ELEMENTS|ASKED|ANSWER'
+    for fill in FILLS:
+        for _ in range(30):
+            data = block(rng, 'utf-8', fill)
+            yield f'valid_up_to|{data.hex()}||{first_fault(utf8, list(data))}'
+            data = block(rng, 'utf-16-be', fill)
+            data = data[:len(data) // 2 * 2]
+            units = [int.from_bytes(data[k:k + 2], 'big') for k in range(0, len(data), 2)]
+            yield f'units_valid_up_to|{data.hex()}||{first_fault(utf16, units)}'
+
+
+def main(words):
+    if words:
+        print(__doc__)
+        return 0 if words in (['--help'], ['-h']) else 2
+    rng = random.Random(130)
+    for name, rows in ('blocks', recoded_rows), ('block_places', place_rows):
+        path = TOP / f'crates/run_rows/data/{name}.txt'
+        path.write_text(''.join(f'{row}\n' for row in rows(rng)), encoding='ascii')
+    return 0
+
+
+if __name__ == '__main__':
+    sys.exit(main(sys.argv[1:]))

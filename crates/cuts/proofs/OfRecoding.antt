@@ -1,0 +1,27 @@
+-- Lemmas on recoding.
+pub mod Ascii
+pub mod Blocks
+pub mod BoundLemmas
+pub mod EnoughRoom
+pub mod FedParts
+pub mod FrontBytes
+pub mod Fronts
+pub mod Growing
+pub mod JoinedShards
+pub mod JudgedText
+pub mod LaneLemmas
+pub mod NoneBegins
+pub mod PairTables
+pub mod PartLaws
+pub mod Parts
+pub mod Readings
+pub mod Relays
+pub mod RoomLemmas
+pub mod RoomRuns
+pub mod ShardEnds
+pub mod BlockUnits
+pub mod ChosenLanes
+pub mod Joined
+pub mod KeptPairs
+pub mod TextUnits
+pub mod UnitLanes

@@ -1,0 +1,36 @@
+-- Where no code begins some bytes.
+use Rattle.std.proofs.Common.{◌≡◌, ℕ, ◌<◌, ◌≤◌, List, get_or, arith, false}
+use Rattle.std.proofs.lemmas.Grind.{common_steps}
+use Rattle.utf_base.specs.Code.{utf8}
+use Rattle.utf_base.specs.Front.{NoneBegins}
+use Rattle.utf_base.specs.Kinds.{asked, asked_by, is_continuation, least_value}
+use Rattle.utf_base.specs.Scalar.{IsScalar}
+use Rattle.utf_base.proofs.FrontLemmas.{decodes_from_stands}
+use Rattle.utf_base.proofs.KindCases.{Sums}
+
+-- the first byte asks for one that does not continue
+pub none_by_continuation_byte : (w : List ℕ) (k : ℕ) → 0 < k → k < asked_by w → is_continuation (get_or w k 0) ≡ false → NoneBegins utf8 w
+none_by_continuation_byte w k some lt e s h =
+    let continues = (decodes_from_stands w s h).0.follow k some lt in
+    grind (arith, common_steps)
+
+-- a first byte of more than one
+begins_many : (b : ℕ) → 0x80 ≤ b → 0 < asked b → (0xC2 ≤ b) × (b < 0xF5) × (1 < asked b)
+unfolding asked
+begins_many b high asks = (grind (arith, common_steps), grind (arith, common_steps), grind (arith, common_steps))
+
+pub none_by_second : (w : List ℕ) → 0x80 ≤ get_or w 0 0 → is_continuation (get_or w 1 0) ≡ false → NoneBegins utf8 w
+none_by_second w high e s h =
+    let many = begins_many (get_or w 0 0) high (decodes_from_stands w s h).0.asks in
+    none_by_continuation_byte w 1 (omega arith) many.2 e s h
+
+pub none_by_first : (w : List ℕ) → 0x80 ≤ get_or w 0 0 → (0xC2 ≤ get_or w 0 0 → get_or w 0 0 < 0xF5 → ⊥) → NoneBegins utf8 w
+none_by_first w high other s h =
+    let many = begins_many (get_or w 0 0) high (decodes_from_stands w s h).0.asks in
+    other many.0 many.1
+
+-- what the bytes add up to is no scalar, or one that needs fewer
+pub none_by_value : (w : List ℕ) (n v : ℕ) → Sums w n v → (least_value n ≤ v → IsScalar v → ⊥) → NoneBegins utf8 w
+none_by_value w n v sums other s h =
+    let d = (decodes_from_stands w s h).0 in
+    other (rw (sums.asks.asks, sums.sum) at d.least) (rw sums.sum at d.scalar)

@@ -1,0 +1,12 @@
+-- Lemmas on whole runs.
+pub mod EqualRunLemmas
+pub mod FirstFaults
+pub mod ForwardRuns
+pub mod GoodText
+pub mod MergedRuns
+pub mod PieceRuns
+pub mod RunExists
+pub mod RunLaws
+pub mod TextRuns
+pub mod ValidLengths
+pub mod WalkLemmas

@@ -1,0 +1,151 @@
+-- A run of a merger, one answer after another: from the contract of one call and the laws of cuts alone.
+use Rattle.std.proofs.Common.{◌≡◌, ℕ, suc, ◌+◌, ◌-◌, ◌<◌, List, [], ◌∷◌, ◌++◌, length, drop, refl, ap, sym, ◌∙◌, arith, Option, Some, None, Ok, Err, Result, length-append}
+use Rattle.std.proofs.lemmas.Grind.{common_steps}
+use Rattle.std.proofs.lemmas.List.{map-append, take_rest, drop_at, drop-drop}
+use Rattle.std.specs.Prelude.{slice_range}
+use Rattle.utf_base.specs.declared.errors.Utf8ErrorKind.{Utf8ErrorKind}
+use Rattle.utf_base.specs.declared.errors.units.Utf16PairError.{Utf16PairError}
+use Rattle.utf_base.specs.Code.{IsCode, utf8, utf16}
+use Rattle.utf_base.specs.Kinds.{merger_kind}
+use Rattle.utf_base.specs.Units.{unit_fault_kind}
+use Rattle.utf_base.proofs.Cuts.{Finds}
+use Rattle.utf_base.proofs.FrontLemmas.{utf8_finds}
+use Rattle.utf_base.proofs.MergerLemmas.{merger_none_where_code}
+use Rattle.utf_base.proofs.Standing.{stands_first}
+use Rattle.utf_base.proofs.UnitLemmas.{no_units_where_kind, utf16_finds}
+use Rattle.utf_base.proofs.Utf8Code.{utf8_is_code}
+use Rattle.utf_base.proofs.Utf16Code.{utf16_is_code}
+use Rattle.encode_unicode.specs.Mergers.{TakesFront}
+use Rattle.encode_unicode.specs.Window.{Placed, UnitItem, IsFrontOf}
+use Rattle.cuts.specs.Runs.Items.{answers_of}
+use Rattle.cuts.specs.Runs.Collected.{IsMergedRun, IsJoinedExactly, IsUnitRun}
+use Rattle.cuts.proofs.OfRuns.PieceRuns.{Excludes, IsRunTo, IsRunTo-front, IsRunTo-push, IsRun-all}
+use Rattle.cuts.proofs.OfRuns.RunLaws.{run_unique, run_of_joined, joined_of_run}
+
+-- The answers are those of the run as far as a place, after which the unread elements stand.
+pub record IsMergedSoFar {E : Type 0} (code : ℕ → List ℕ) (kind : List ℕ → Option E) (xs : List ℕ) (answers : List (Result ℕ E)) (unread : List ℕ) : Type 0 where
+  pub items : List (Placed E)
+  pub place : ℕ
+  pub run : IsRunTo code kind xs 0 items place
+  pub following : unread ≡ drop place xs
+  pub same : answers ≡ answers_of items
+
+pub IsMergedSoFar-none : {E : Type 0} (code : ℕ → List ℕ) (kind : List ℕ → Option E) (xs : List ℕ) (answers : List (Result ℕ E)) (unread : List ℕ) → answers ≡ [] → unread ≡ xs
+    → IsMergedSoFar code kind xs answers unread
+IsMergedSoFar-none code kind xs answers unread none all = record { items = []; place = 0; run = IsRunTo-front code kind xs; following = all; same = none }
+
+-- what leaves the unread elements with one answer
+record Taken {E : Type 0} (code : ℕ → List ℕ) (kind : List ℕ → Option E) (old : List ℕ) (r : Result ℕ E) (new : List ℕ) : Type 0 where
+  pub len : ℕ
+  pub front : IsFrontOf code kind old r len
+  pub some : 0 < length old
+  pub left : new ≡ drop len old
+
+taken : {E : Type 0} (code : ℕ → List ℕ) (kind : List ℕ → Option E) → IsCode code → (old new : List ℕ) (r : Result ℕ E) → TakesFront code kind old (Some r) new → Taken code kind old r new
+taken code kind c old new (Ok s) h =
+    let some = c.some s h.0 in
+    let len : length old ≡ length (code s) + length new = ap length h.1 ∙ length-append (code s) new in
+    record {
+      len = length (code s);
+      front = (stands_first code old new s h.0 h.1, refl);
+      some = omega arith;
+      left = sym (ap (drop (length (code s))) h.1 ∙ drop_at (code s) new (length (code s)) refl);
+    }
+taken code kind c old new (Err k) h =
+    let len : length old ≡ suc (length new) = ap length h.1 in
+    record { len = 1; front = (h.0, refl); some = omega arith; left = sym (ap (drop 1) h.1) }
+
+place_before : (xs : List ℕ) (i : ℕ) → 0 < length (drop i xs) → i < length xs
+place_before xs i some = grind (arith, common_steps)
+
+-- one answer more
+pub IsMergedSoFar-push : {E : Type 0} (code : ℕ → List ℕ) (kind : List ℕ → Option E) → IsCode code → Excludes code kind → (xs : List ℕ) (answers : List (Result ℕ E)) (old new : List ℕ) (r : Result ℕ E)
+    → IsMergedSoFar code kind xs answers old → TakesFront code kind old (Some r) new → IsMergedSoFar code kind xs (answers ++ r ∷ []) new
+IsMergedSoFar-push {E} code kind c apart xs answers old new r f h =
+    let t = taken code kind c old new r h in
+    let lt = place_before xs f.place (rw f.following at t.some) in
+    let rest : old ≡ slice_range xs f.place (length xs) = f.following ∙ sym (take_rest xs f.place) in
+    record {
+      items = f.items ++ (f.place, r, t.len) ∷ [];
+      place = f.place + t.len;
+      run = IsRunTo-push code kind c apart xs 0 f.items f.place (f.place, r, t.len) f.run refl lt (rw (← rest) t.front);
+      following = t.left ∙ ap (drop t.len) f.following ∙ drop-drop t.len f.place xs;
+      same = ap (λ rs. rs ++ r ∷ []) f.same ∙ sym (map-append (λ (x : Placed E). x.1) f.items ((f.place, r, t.len) ∷ []));
+    }
+
+-- once nothing is unread the run is whole
+IsMergedRun-all : {E : Type 0} (code : ℕ → List ℕ) (kind : List ℕ → Option E) (xs : List ℕ) (answers : List (Result ℕ E)) (old : List ℕ)
+    → IsMergedSoFar code kind xs answers old → old ≡ [] → IsMergedRun code kind xs answers
+IsMergedRun-all code kind xs answers old f none =
+    let end : length xs - f.place ≡ 0 = length_after xs f.place (sym f.following ∙ none) in
+    let within = f.run.within in
+    record { items = f.items; run = IsRun-all code kind xs f.items f.place f.run (omega arith); same = f.same }
+  where
+    length_after : (xs : List ℕ) (i : ℕ) → drop i xs ≡ [] → length xs - i ≡ 0
+    length_after xs i e = ends (drop i xs) (length xs - i) (grind (arith, common_steps)) e
+      where
+        ends : (ys : List ℕ) (n : ℕ) → length ys ≡ n → ys ≡ [] → n ≡ 0
+        ends ys n len e = sym len ∙ ap length e
+
+-- an answer stands for some element
+pub merged_some : {E : Type 0} (code : ℕ → List ℕ) (kind : List ℕ → Option E) → IsCode code → (xs : List ℕ) (answers : List (Result ℕ E)) (old new : List ℕ) (r : Result ℕ E)
+    → IsMergedSoFar code kind xs answers old → TakesFront code kind old (Some r) new → xs ≡ [] → ⊥
+merged_some code kind c xs answers old new r f h none =
+    let t = taken code kind c old new r h in
+    let lt = place_before xs f.place (rw f.following at t.some) in
+    let empty : length xs ≡ 0 = ap length none in
+    omega arith
+
+-- its answers are characters all exactly where the elements are joined codes
+IsJoinedExactly-all : {E : Type 0} (code : ℕ → List ℕ) (kind : List ℕ → Option E) → IsCode code → Finds code → (xs : List ℕ) (answers : List (Result ℕ E)) → IsMergedRun code kind xs answers
+    → IsJoinedExactly code xs answers
+IsJoinedExactly-all code kind c find xs answers m = record {
+  joined = λ scalars h. m.same ∙ run_of_joined code kind c find xs scalars m.items h m.run;
+  only = λ scalars e. joined_of_run code kind c find xs scalars m.items m.run (sym m.same ∙ e);
+}
+
+-- Of bytes.
+
+no_bytes_where_kind : Excludes utf8 merger_kind
+no_bytes_where_kind w k s e h = let none = merger_none_where_code w s h in cc
+
+pub bytes_push : (xs : List ℕ) (answers : List (Result ℕ Utf8ErrorKind)) (old new : List ℕ) (r : Result ℕ Utf8ErrorKind)
+    → IsMergedSoFar utf8 merger_kind xs answers old → TakesFront utf8 merger_kind old (Some r) new → IsMergedSoFar utf8 merger_kind xs (answers ++ r ∷ []) new
+bytes_push = IsMergedSoFar-push utf8 merger_kind utf8_is_code no_bytes_where_kind
+
+pub bytes_some : (xs : List ℕ) (answers : List (Result ℕ Utf8ErrorKind)) (old new : List ℕ) (r : Result ℕ Utf8ErrorKind)
+    → IsMergedSoFar utf8 merger_kind xs answers old → TakesFront utf8 merger_kind old (Some r) new → xs ≡ [] → ⊥
+bytes_some = merged_some utf8 merger_kind utf8_is_code
+
+pub bytes_all : (xs : List ℕ) (answers : List (Result ℕ Utf8ErrorKind)) (old new : List ℕ)
+    → IsMergedSoFar utf8 merger_kind xs answers old → TakesFront utf8 merger_kind old None new → IsMergedRun utf8 merger_kind xs answers
+bytes_all xs answers old new f h = IsMergedRun-all utf8 merger_kind xs answers old f h.0
+
+pub bytes_joined : (xs : List ℕ) (answers : List (Result ℕ Utf8ErrorKind)) (old new : List ℕ)
+    → IsMergedSoFar utf8 merger_kind xs answers old → TakesFront utf8 merger_kind old None new → IsJoinedExactly utf8 xs answers
+bytes_joined xs answers old new f h = IsJoinedExactly-all utf8 merger_kind utf8_is_code utf8_finds xs answers (bytes_all xs answers old new f h)
+
+-- And of units.
+
+pub units_push : (xs : List ℕ) (answers : List (Result ℕ Utf16PairError)) (old new : List ℕ) (r : Result ℕ Utf16PairError)
+    → IsMergedSoFar utf16 unit_fault_kind xs answers old → TakesFront utf16 unit_fault_kind old (Some r) new → IsMergedSoFar utf16 unit_fault_kind xs (answers ++ r ∷ []) new
+units_push = IsMergedSoFar-push utf16 unit_fault_kind utf16_is_code no_units_where_kind
+
+pub units_some : (xs : List ℕ) (answers : List (Result ℕ Utf16PairError)) (old new : List ℕ) (r : Result ℕ Utf16PairError)
+    → IsMergedSoFar utf16 unit_fault_kind xs answers old → TakesFront utf16 unit_fault_kind old (Some r) new → xs ≡ [] → ⊥
+units_some = merged_some utf16 unit_fault_kind utf16_is_code
+
+pub units_all : (xs : List ℕ) (answers : List (Result ℕ Utf16PairError)) (old new : List ℕ)
+    → IsMergedSoFar utf16 unit_fault_kind xs answers old → TakesFront utf16 unit_fault_kind old None new → IsMergedRun utf16 unit_fault_kind xs answers
+units_all xs answers old new f h = IsMergedRun-all utf16 unit_fault_kind xs answers old f h.0
+
+pub units_joined : (xs : List ℕ) (answers : List (Result ℕ Utf16PairError)) (old new : List ℕ)
+    → IsMergedSoFar utf16 unit_fault_kind xs answers old → TakesFront utf16 unit_fault_kind old None new → IsJoinedExactly utf16 xs answers
+units_joined xs answers old new f h = IsJoinedExactly-all utf16 unit_fault_kind utf16_is_code utf16_finds xs answers (units_all xs answers old new f h)
+
+-- the run of a decoder of units answers the same
+pub units_alike : (xs : List ℕ) (answers : List (Result ℕ Utf16PairError)) (old new : List ℕ) (items : List UnitItem)
+    → IsMergedSoFar utf16 unit_fault_kind xs answers old → TakesFront utf16 unit_fault_kind old None new → IsUnitRun xs items → answers ≡ answers_of items
+units_alike xs answers old new items f h run =
+    let m = units_all xs answers old new f h in
+    m.same ∙ ap answers_of (run_unique utf16 unit_fault_kind utf16_is_code xs m.items items m.run run)

@@ -1,0 +1,3 @@
+-- Lemmas on a table of pieces.
+pub mod Decoding
+pub mod TableRuns

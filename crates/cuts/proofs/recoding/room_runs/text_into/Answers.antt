@@ -1,0 +1,33 @@
+use Rattle.std.proofs.Common.{◌≡◌, ◌+◌, ◌-◌, take, drop, arith, length-drop, length-take}
+use Rattle.std.proofs.lemmas.List.{take_rest}
+use Rattle.cuts.specs.Recoding.Recoded.{Reads}
+use Rattle.cuts.specs.Recoding.ShownFronts.{Decides}
+use Rattle.cuts.proofs.OfRecoding.Growing.{length_written}
+use Rattle.cuts.proofs.OfRecoding.RoomRuns.{RunsInto-step}
+use Rattle.cuts.proofs.recoding.room_runs.text_into.Goals as goal
+
+pub put_code_at-written-requires : goal.put_code_at-written-requires
+put_code_at-written-requires c =
+    let bytes = c.args.bytes.now in
+    let read = c.loop-read.read in
+    let span : read + 4 - read ≡ 4 = omega arith in
+    let d : Decides (Reads c.args.from) (take 4 (drop read bytes)) c.in-Some.c c.in-Some.len = rw span at c.in-Some.ensures in
+    let within = d.within in
+    let few = length_written c.args.to c.in-Some.c c.in-Some.len d.some d.wide in
+    let short = c.loop-read.invariant.runs.short in
+    let len = c.loop-read.invariant.len in
+    let room = c.requires in
+    omega (arith, length-drop read bytes, length-take 4 (drop read bytes))
+
+pub loop-read-preserved : goal.loop-read-preserved
+loop-read-preserved c =
+    let read = c.loop-read.read in
+    let span : read + 4 - read ≡ 4 = omega arith in
+    let d : Decides (Reads c.args.from) (take 4 (drop read c.args.bytes.now)) c.in-Some.c c.in-Some.len = rw span at c.in-Some.ensures in
+    let put = c.put_code_at-written.ensures in
+    let before = c.loop-read.invariant in
+    let len = before.len in
+    record {
+      runs = RunsInto-step _ _ _ _ _ _ _ _ _ _ _ _ before.runs len d put.fills put.end;
+      len = omega (arith, c.put_code_at-written.auto.room);
+    }

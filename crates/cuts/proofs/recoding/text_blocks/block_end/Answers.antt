@@ -1,0 +1,21 @@
+use Rattle.std.proofs.Common.{◌≡◌, ◌+◌, arith}
+use Rattle.cuts.proofs.OfRecoding.LaneLemmas.{differ_mask, all_zero, follow_on, follow_lanes, ascii_follows}
+use Rattle.cuts.proofs.recoding.text_blocks.block_end.Goals as goal
+
+pub returns-then-is_closed-clause-follow : goal.returns-then-is_closed-clause-follow
+returns-then-is_closed-clause-follow c =
+    ascii_follows c.args.bytes.now c.args.place c.ascii_end.result (c.is_closed.ensures c.if-is_closed.true) c.ascii_end.ensures.ascii c.requires.start
+
+pub returns-then-wrong-eq0-clause-follow : goal.returns-then-wrong-eq0-clause-follow
+returns-then-wrong-eq0-clause-follow c =
+    let xs = c.args.bytes.now in
+    let p = c.args.place in
+    let zero = all_zero c.faults_at.result c.faults_at-2.result c.faults_at-3.result c.faults_at-4.result c.faults_at.ensures.len c.faults_at-2.ensures.len c.faults_at-3.ensures.len c.faults_at-4.ensures.len c.if-wrong-eq0.true in
+    let first = follow_lanes xs p 16 (λ k lt. c.faults_at.ensures.lanes k lt (zero k lt).0) in
+    let second = follow_lanes xs (p + 16) 16 (λ k lt. c.faults_at-2.ensures.lanes k lt (zero k lt).1) in
+    let third = follow_lanes xs (p + 32) 16 (λ k lt. c.faults_at-3.ensures.lanes k lt (zero k lt).2) in
+    let fourth = follow_lanes xs (p + 48) 16 (λ k lt. c.faults_at-4.ensures.lanes k lt (zero k lt).3) in
+    let at : p + 16 + 16 ≡ p + 32 = omega arith in
+    let end : p + 32 + 16 ≡ p + 48 = omega arith in
+    let last : p + 48 + 16 ≡ p + 64 = omega arith in
+    follow_on xs p (p + 48) (p + 64) (follow_on xs p (p + 32) (p + 48) (follow_on xs p (p + 16) (p + 32) first (rw at at second)) (rw end at third)) (rw last at fourth)

@@ -1,0 +1,62 @@
+use Rattle.std.proofs.Common.{◌≡◌, ◌+◌, ◌-◌, ◌*◌, ◌%◌, ◌≤◌, ◌∙◌, ◌&&◌, get_or, lit<, true, arith, refl, sym}
+use Rattle.std.specs.Int.Bits.{bit_and}
+use Rattle.std.proofs.lemmas.Nat.{and_mask}
+use Rattle.utf_base.specs.Kinds.{is_continuation}
+use Rattle.utf_base.specs.Scalar.{IsScalar}
+use Rattle.utf_base.proofs.FrontLemmas.{asked-4, least_value-4}
+use Rattle.utf_base.proofs.KindCases.{Asks-4, Sums-4, begins_with}
+use Rattle.cuts.proofs.OfRecoding.NoneBegins.{none_by_continuation_byte, none_by_value}
+use Rattle.cuts.proofs.recoding.text_front.four.Goals.{then-value-lt65536-via-then-value-lt65536, then-value-lt65536-via-else-value-lt65536+then-value-gt1114111}
+use Rattle.cuts.proofs.recoding.text_front.four.Goals.{then-not-continues-via-then-not-continues, then-not-continues-via-else-not-continues+then-not-continues-2}
+use Rattle.cuts.proofs.recoding.text_front.four.Goals as goal
+
+pub returns-then-not-continues-clause-none : goal.returns-then-not-continues-clause-none
+returns-then-not-continues-clause-none c =
+    let asks = asked-4 _ c.requires.low c.requires.high in
+    elim c.then-not-continues.branch [
+      | then-not-continues-via-then-not-continues w ↦ none_by_continuation_byte c.args.src.now 2 (lit< tt) (omega arith) (sym c.continues.ensures ∙ w.if-not-continues.true)
+      | then-not-continues-via-else-not-continues+then-not-continues-2 w ↦
+          none_by_continuation_byte c.args.src.now 3 (lit< tt) (omega arith) (sym w.continues-else-not-continues.ensures ∙ w.if-not-continues-2.true)
+    ]
+
+pub returns-then-value-lt65536-clause-none : goal.returns-then-value-lt65536-clause-none
+returns-then-value-lt65536-clause-none c =
+    let low = c.requires.low in
+    let high = c.requires.high in
+    let first : bit_and (get_or c.args.src.now 0 0) 0x07 ≡ get_or c.args.src.now 0 0 % 8 = and_mask (get_or c.args.src.now 0 0) 3 in
+    let front = c.followed-front.ensures in
+    let middle = c.followed.ensures in
+    let value = c.followed-value.ensures in
+    let sum : c.followed-value.result ≡ (get_or c.args.src.now 0 0 - 0xF0) * 262144 + (get_or c.args.src.now 1 0 - 0x80) * 4096 + (get_or c.args.src.now 2 0 - 0x80) * 64 + (get_or c.args.src.now 3 0 - 0x80) = omega arith in
+    let enough = c.requires.enough in
+    let third = sym c.continues.ensures ∙ c.if-not-continues.false in
+    let fourth = sym c.continues-else-not-continues.ensures ∙ c.if-not-continues-2.false in
+    let all : (is_continuation (get_or c.args.src.now 1 0) && is_continuation (get_or c.args.src.now 2 0) && is_continuation (get_or c.args.src.now 3 0)) ≡ true
+    = rw (c.requires.second, third, fourth) refl in
+    let asks = Asks-4 _ (omega arith) c.requires.low c.requires.high in
+    let sums = Sums-4 _ _ asks (omega arith) all sum in
+    let least = least_value-4 in
+    none_by_value c.args.src.now 4 c.followed-value.result sums (λ long scalar. let below = scalar.below in elim c.then-value-lt65536.branch [
+      | then-value-lt65536-via-then-value-lt65536 w ↦ let low = w.if-value-lt65536.true in absurd (omega arith)
+      | then-value-lt65536-via-else-value-lt65536+then-value-gt1114111 w ↦ let high = w.if-value-gt1114111.true in absurd (omega arith)
+    ])
+
+pub returns-clause-some : goal.returns-clause-some
+returns-clause-some c =
+    let least : 0x1_0000 ≤ c.followed-value.result = omega arith in
+    let scalar : IsScalar c.followed-value.result = record { below = omega arith; no_surrogate = λ h. omega arith } in
+    let low = c.requires.low in
+    let high = c.requires.high in
+    let first : bit_and (get_or c.args.src.now 0 0) 0x07 ≡ get_or c.args.src.now 0 0 % 8 = and_mask (get_or c.args.src.now 0 0) 3 in
+    let front = c.followed-front.ensures in
+    let middle = c.followed.ensures in
+    let value = c.followed-value.ensures in
+    let sum : c.followed-value.result ≡ (get_or c.args.src.now 0 0 - 0xF0) * 262144 + (get_or c.args.src.now 1 0 - 0x80) * 4096 + (get_or c.args.src.now 2 0 - 0x80) * 64 + (get_or c.args.src.now 3 0 - 0x80) = omega arith in
+    let enough = c.requires.enough in
+    let third = sym c.continues.ensures ∙ c.if-not-continues.false in
+    let fourth = sym c.continues-else-not-continues.ensures ∙ c.if-not-continues-2.false in
+    let all : (is_continuation (get_or c.args.src.now 1 0) && is_continuation (get_or c.args.src.now 2 0) && is_continuation (get_or c.args.src.now 3 0)) ≡ true
+    = rw (c.requires.second, third, fourth) refl in
+    let asks = Asks-4 _ (omega arith) c.requires.low c.requires.high in
+    let sums = Sums-4 _ _ asks (omega arith) all sum in
+    rw c.from_u32_unchecked.ensures (begins_with _ 4 _ sums (rw least_value-4 least) scalar)

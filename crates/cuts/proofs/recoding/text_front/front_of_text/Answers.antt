@@ -1,0 +1,18 @@
+use Rattle.std.proofs.Common.{◌<◌, length, arith, sym, ◌∙◌}
+use Rattle.utf_base.proofs.KindCases.{begins_with-1}
+use Rattle.cuts.proofs.OfRecoding.NoneBegins.{none_by_first, none_by_second}
+use Rattle.cuts.proofs.recoding.text_front.front_of_text.Goals as goal
+
+pub returns-then-src-lt128-clause-some : goal.returns-then-src-lt128-clause-some
+returns-then-src-lt128-clause-some c =
+    let some : 0 < length c.args.src.now = omega arith in
+    rw c.from.ensures (begins_with-1 _ some (omega arith))
+
+pub returns-then-not-continues-clause-none : goal.returns-then-not-continues-clause-none
+returns-then-not-continues-clause-none c enough = none_by_second c.args.src.now (omega arith) (sym c.continues.ensures ∙ c.if-not-continues.true)
+
+pub returns-in_default-clause-none : goal.returns-in_default-clause-none
+returns-in_default-clause-none c enough = none_by_first c.args.src.now (omega arith) (λ low high. omega arith)
+
+pub returns-in_default-2-clause-none : goal.returns-in_default-2-clause-none
+returns-in_default-2-clause-none c enough = none_by_first c.args.src.now (omega arith) (λ low high. omega arith)

@@ -1,5 +1,0 @@
-use Rattle.cuts.proofs.RoomRuns.{RunsInto-part}
-use Rattle.cuts.proofs.room_runs.stretch_into.Goals as goal
-
-pub returns : goal.returns
-returns c = RunsInto-part _ _ _ _ _ _ _ _ _ c.text_into.ensures

@@ -1,0 +1,24 @@
+use Rattle.std.proofs.Common.{arith}
+use Rattle.std.proofs.lemmas.List.{take_rest}
+use Rattle.utf_base.specs.Code.{utf16}
+use Rattle.cuts.proofs.OfRuns.FirstFaults.{good_all, good_units, first_unit_fault}
+use Rattle.cuts.proofs.OfRuns.ValidLengths.{first_unit_fault_known}
+use Rattle.cuts.proofs.runs.well_formed.units_valid_up_to.Goals as goal
+
+pub loop-place-preserved : goal.loop-place-preserved
+loop-place-preserved c =
+    let units = c.args.units.now in
+    let place = c.loop-place.place in
+    good_units units place _ c.in-Ok.len c.loop-place.invariant (rw (take_rest units place) at c.in-Ok.ensures.decodes)
+
+pub returns-in-Err-clause-first : goal.returns-in-Err-clause-first
+returns-in-Err-clause-first c =
+    let units = c.args.units.now in
+    let place = c.loop-place.place in
+    first_unit_fault units place _ c.loop-place.invariant c.loop-place-test.true (rw (take_rest units place) at c.in-Err.ensures.decodes)
+
+pub returns-in-Err-clause-value : goal.returns-in-Err-clause-value
+returns-in-Err-clause-value c = first_unit_fault_known _ c.type_inv.units _ (returns-in-Err-clause-first c)
+
+pub returns-clause-value : goal.returns-clause-value
+returns-clause-value c = first_unit_fault_known _ c.type_inv.units _ (good_all utf16 _ _ c.loop-place.invariant (omega (arith, c.loop-place-test.false)))

@@ -1,0 +1,10 @@
+-- Recoding from one form of text into another.
+pub mod Recoded
+pub mod Relayed
+pub mod Rooms
+pub mod Bounds
+pub mod Fed
+pub mod Shards
+pub mod ShownFronts
+pub mod TextBlocks
+pub mod GivenUnits

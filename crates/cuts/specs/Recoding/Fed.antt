@@ -1,0 +1,30 @@
+-- Parts that are fed one after another: they are one part.
+use Rattle.std.specs.Prelude.{◌≡◌, ℕ, List, [], ◌++◌}
+use Rattle.cuts.specs.declared.recoding.form.Form.{Form}
+use Rattle.cuts.specs.Recoding.Recoded.{Recoding, IsRecoded, Feeds, Finishes}
+
+-- A new recoder was fed these bytes, in any parts, and `out` came of them: as where they are one part.
+pub record IsFed (from to : Form) (bytes out : List ℕ) (r : Recoding) : Type 0 where
+  pub once : Feeds (record { from = from; to = to; held = [] }) bytes [] out r
+
+-- a new recoder was fed nothing
+abbrev pub NothingIsFed : Type 0
+NothingIsFed = (from to : Form) → IsFed from to [] [] (record { from = from; to = to; held = [] })
+
+-- and what was fed grows by each part
+abbrev pub PartIsFed : Type 0
+PartIsFed =
+    (from to : Form) (bytes part more out new : List ℕ) (r s : Recoding)
+    → IsFed from to bytes out r → Feeds r part out new s → more ≡ bytes ++ part → IsFed from to more new s
+
+-- what came so far begins what all is recoded as, whatever follows
+abbrev pub FedIsFront : Type 0
+FedIsFront =
+    (from to : Form) (bytes later out all : List ℕ) (r : Recoding)
+    → IsFed from to bytes out r → IsRecoded from to (bytes ++ later) all → (rest : List ℕ) × (all ≡ out ++ rest)
+
+-- and after the end it is all
+abbrev pub FedIsRecoded : Type 0
+FedIsRecoded =
+    (from to : Form) (bytes all out new : List ℕ) (r : Recoding)
+    → IsFed from to bytes out r → Finishes r out new → all ≡ bytes → IsRecoded from to all new

@@ -1,0 +1,245 @@
+//! One run of `pieces`, over any reader and writers.
+ghost use Rattle.std.specs.Prelude.{◌≡◌, ◌≢◌, ◌+◌, ◌<◌, ◌≤◌, ◌++◌, [], ◌∷◌, ℕ, List, false, length, drop, codes, map, string_bytes, Contains, IsTrue, IfOk, IfErr, IfSome, IsOkAnd, OnOk, OnErr};
+ghost use Rattle.std.specs.Io.KnownBytes.{Appends, Keeps};
+ghost use Rattle.std.specs.IoError.{error_kind};
+ghost use Rattle.cuts.specs.Failures.{AppendsFront};
+ghost use Rattle.utf_base.specs.Code.{utf8};
+ghost use Rattle.utf_base.specs.Kinds.{merger_kind};
+ghost use Rattle.cuts.specs.Programs.Arguments.{Asked, Asks, AreWrong, HaveArguments, asked_by};
+ghost use Rattle.cuts.specs.Runs.Collected.{IsMergedRun};
+ghost use Rattle.cuts.specs.Programs.Layouts.{forward_layout, merged_layout, walk_layout, WritesRun, WritesRunFront};
+ghost use Rattle.cuts.specs.Programs.Endings.{status_of, stop_text, stop_line, IsDrained, WritesAsked, WritesAskedFront, DoesAsked, TellsAsked, BeginsAsked, FailsOrStays, ReadsUntil, Says, EndsEarly};
+
+use crate::counted::Counted;
+use crate::programs::listing::{write_listing, write_merged, write_walk};
+use crate::programs::requests::{Request, request_of};
+use crate::programs::stops::Stop;
+use crate::runs::collected::merge_utf8;
+use crate::runs::items::End;
+use crate::runs::walks::walk_utf8;
+use crate::streams::{Sink, Source};
+use encode_unicode::Utf8Char;
+use encode_unicode::error::Utf8Error;
+use std::alloc::{AllocError, Allocator, Global};
+use std::io::{ErrorKind, Write};
+use std::{fmt, io};
+
+/// The name that `pieces` gives itself on standard error.
+pub const PROGRAM: &str = "pieces";
+
+// How many bytes are read at a time.
+const PART: usize = 65536;
+
+/// One run of `pieces` on the arguments after the program's name, and its status.
+///
+/// With no argument it writes the listing of all that the reader gives; with `--merge` the lines of what a
+/// merger answers over it; with `--ends` and a word, of letters `F` and `B`, those of what the word's walk
+/// answers. The status 0 says that no line is an error line, 1 that one is. All other arguments are wrong,
+/// and then nothing is read or written, and the status is 2. Where reading or writing fails, or memory is
+/// refused, it is 3, and before all is read, merged or walked, nothing is written. `stderr` takes the line
+/// for standard error, and nothing where the status is 0 or 1.
+pub fn run_pieces<A: Allocator + Copy, R: Source, W: Write, E: Sink>(
+    alloc: A,
+    args: &[String<A>],
+    input: &mut R,
+    out: &mut Counted<W>,
+    stderr: &mut E,
+) -> u8
+    ensures lines { (asked : Asked) → Asks (map string_bytes args.now) asked → result < 2 → TellsAsked asked (R.remaining input.old) (W.contents out.old.inner) (W.contents out.new.inner) result }
+    ensures front { (asked : Asked) → Asks (map string_bytes args.now) asked → BeginsAsked asked (R.remaining input.old) (W.contents out.old.inner) (W.contents out.new.inner) }
+    ensures drained { result < 2 → IsDrained (R.remaining input.old) (R.remaining input.new) }
+    ensures unbroken { result < 2 → IsTrue R.is_counted → (R.reads input.new).broken ≡ (R.reads input.old).broken }
+    ensures in_time { IsTrue R.is_counted → (R.reads input.old).ended ≡ false → (R.reads input.new).late ≡ (R.reads input.old).late }
+    ensures quiet { result < 2 → out.new.failures ≡ out.old.failures }
+    ensures silent { result < 2 → stderr.new ≡ stderr.old }
+    ensures early { 2 ≤ result → EndsEarly (codes "pieces") (ReadsUntil R.is_counted (R.remaining input.old) (R.failures input.old) (R.failures input.new) (R.reads input.old) (R.reads input.new)) (λ reason. FailsOrStays reason out.old out.new) (Says E.is_counted (E.failures stderr.old) (E.failures stderr.new) (E.contents stderr.old) (E.contents stderr.new)) result }
+    ensures extras { out.new.extras ≡ out.old.extras }
+    ensures wrong { AreWrong (map string_bytes args.now) → result ≡ 2 }
+    ensures untouched { AreWrong (map string_bytes args.now) → (input.new ≡ input.old) × (out.new ≡ out.old) }
+    ensures right { (asked : Asked) → Asks (map string_bytes args.now) asked → result ≢ 2 }
+    ensures known { result < 4 }
+    ensures unwritten { result ≡ 3 → out.new.failures ≡ out.old.failures → out.new ≡ out.old }
+{
+    match do_asked(alloc, args, input, out) {
+        Ok(0) => 0,
+        Ok(_) => 1,
+        Err(stop) => stop.report(PROGRAM, stderr),
+    }
+}
+
+/// The status of `pieces` after `run_pieces`, which gave this one.
+///
+/// Where the input was listed the output is flushed, once, and where that fails the status is 3 and
+/// `stderr` takes the line for standard error. Any other status stays, and nothing is done.
+pub fn finish_run<W: Write, E: Sink>(status: u8, out: &mut Counted<W>, stderr: &mut E) -> u8
+    ensures flushed { status < 2 → out.new.extras.flushes ≡ out.old.extras.flushes + 1 }
+    ensures keeps { Keeps (W.contents out.old.inner) (W.contents out.new.inner) }
+    ensures whole { out.new.extras.failed_flushes ≡ out.old.extras.failed_flushes → (result ≡ status) × (stderr.new ≡ stderr.old) }
+    ensures early { 2 ≤ status → out.new ≡ out.old }
+    ensures quiet { out.new.failures ≡ out.old.failures }
+    ensures never_fewer { out.old.extras.failed_flushes ≤ out.new.extras.failed_flushes }
+    ensures failed { out.old.extras.failed_flushes < out.new.extras.failed_flushes → result ≡ 3 }
+    ensures kept { result < 3 → (result ≡ status) × (stderr.new ≡ stderr.old) × (out.new.extras.failed_flushes ≡ out.old.extras.failed_flushes) }
+    ensures line { out.old.extras.failed_flushes < out.new.extras.failed_flushes → Says E.is_counted (E.failures stderr.old) (E.failures stderr.new) (E.contents stderr.old) (E.contents stderr.new) (stop_line (codes "pieces") Stop.CannotWrite) }
+{
+    if status >= 2 {
+        return status;
+    }
+    match out.flush() {
+        Ok(()) => status,
+        Err(_) => Stop::CannotWrite.report(PROGRAM, stderr),
+    }
+}
+
+// Does what the arguments ask for with all that the reader gives, and answers how many of the lines are
+// errors.
+fn do_asked<A: Allocator + Copy, R: Source, W: Write>(
+    alloc: A,
+    args: &[String<A>],
+    input: &mut R,
+    out: &mut Counted<W>,
+) -> Result<usize, Stop>
+    ensures lines { IfOk result (λ faults. (asked : Asked) → Asks (map string_bytes args.now) asked → DoesAsked asked (R.remaining input.old) (W.contents out.old.inner) (W.contents out.new.inner) faults) }
+    ensures front { (asked : Asked) → Asks (map string_bytes args.now) asked → BeginsAsked asked (R.remaining input.old) (W.contents out.old.inner) (W.contents out.new.inner) }
+    ensures drained { OnOk result (IsDrained (R.remaining input.old) (R.remaining input.new)) }
+    ensures unbroken { OnOk result (IsTrue R.is_counted → (R.reads input.new).broken ≡ (R.reads input.old).broken) }
+    ensures until { IfErr result (ReadsUntil R.is_counted (R.remaining input.old) (R.failures input.old) (R.failures input.new) (R.reads input.old) (R.reads input.new)) }
+    ensures in_time { IsTrue R.is_counted → (R.reads input.old).ended ≡ false → (R.reads input.new).late ≡ (R.reads input.old).late }
+    ensures quiet { OnOk result (out.new.failures ≡ out.old.failures) }
+    ensures early { IfErr result (λ stop. FailsOrStays stop out.old out.new) }
+    ensures extras { out.new.extras ≡ out.old.extras }
+    ensures wrong { AreWrong (map string_bytes args.now) → (result ≡ Err Stop.WrongArguments) × (input.new ≡ input.old) × (out.new ≡ out.old) }
+    ensures right { result ≡ Err Stop.WrongArguments → AreWrong (map string_bytes args.now) }
+    ensures unwritten { OnErr result (out.new.failures ≡ out.old.failures → out.new ≡ out.old) }
+{
+    let request = request_of(alloc, args)?;
+    let bytes = read_whole(alloc, input)?;
+    write_asked(alloc, &request, bytes.as_slice(), out)
+}
+
+// Writes the lines of what is asked for of the bytes, and answers how many of them are errors.
+fn write_asked<A: Allocator + Copy, W: Write>(
+    alloc: A,
+    request: &Request<A>,
+    bytes: &[u8],
+    out: &mut Counted<W>,
+) -> Result<usize, Stop>
+    ensures lines { IfOk result (WritesAsked (asked_by request.now) bytes.now (W.contents out.old.inner) (W.contents out.new.inner)) }
+    ensures front { WritesAskedFront (asked_by request.now) bytes.now (W.contents out.old.inner) (W.contents out.new.inner) }
+    ensures quiet { OnOk result (out.new.failures ≡ out.old.failures) }
+    ensures early { IfErr result (λ stop. FailsOrStays stop out.old out.new) }
+    ensures extras { out.new.extras ≡ out.old.extras }
+    ensures right { IfErr result (λ stop. Contains (Stop.CannotWrite ∷ Stop.NoMemory ∷ []) stop) }
+{
+    match request {
+        Request::Listing => list_bytes(bytes, out),
+        Request::Merged => merge_bytes(alloc, bytes, out),
+        Request::Walk(word) => walk_bytes(alloc, bytes, word.as_slice(), out),
+    }
+}
+
+// Writes the listing of the bytes.
+fn list_bytes<W: Write>(bytes: &[u8], out: &mut Counted<W>) -> Result<usize, Stop>
+    ensures lines { IfOk result (WritesRun forward_layout bytes.now (W.contents out.old.inner) (W.contents out.new.inner)) }
+    ensures front { WritesRunFront forward_layout bytes.now (W.contents out.old.inner) (W.contents out.new.inner) }
+    ensures quiet { OnOk result (out.new.failures ≡ out.old.failures) }
+    ensures early { IfErr result (λ stop. FailsOrStays stop out.old out.new) }
+    ensures extras { out.new.extras ≡ out.old.extras }
+    ensures right { IfErr result (λ stop. Contains (Stop.CannotWrite ∷ Stop.NoMemory ∷ []) stop) }
+{
+    match write_listing(bytes, out) {
+        Ok(faults) => Ok(faults),
+        Err(_) => Err(Stop::CannotWrite),
+    }
+}
+
+// Writes the lines of what a merger answers over the bytes, once it has them all.
+fn merge_bytes<A: Allocator, W: Write>(
+    alloc: A,
+    bytes: &[u8],
+    out: &mut Counted<W>,
+) -> Result<usize, Stop>
+    ensures lines { IfOk result (WritesRun merged_layout bytes.now (W.contents out.old.inner) (W.contents out.new.inner)) }
+    ensures front { WritesRunFront merged_layout bytes.now (W.contents out.old.inner) (W.contents out.new.inner) }
+    ensures quiet { OnOk result (out.new.failures ≡ out.old.failures) }
+    ensures early { IfErr result (λ stop. FailsOrStays stop out.old out.new) }
+    ensures extras { out.new.extras ≡ out.old.extras }
+    ensures right { IfErr result (λ stop. Contains (Stop.CannotWrite ∷ Stop.NoMemory ∷ []) stop) }
+{
+    let Ok(answers) = merged(alloc, bytes) else {
+        return Err(Stop::NoMemory);
+    };
+    match write_merged(answers.as_slice(), out) {
+        Ok(faults) => Ok(faults),
+        Err(_) => Err(Stop::CannotWrite),
+    }
+}
+
+// All that a merger answers over the bytes.
+fn merged<A: Allocator>(
+    alloc: A,
+    bytes: &[u8],
+) -> Result<Vec<Result<Utf8Char, Utf8Error>, A>, AllocError>
+    ensures { IfOk result (λ answers. IsMergedRun utf8 merger_kind bytes.now answers.items) }
+{
+    let answers = merge_utf8(alloc, bytes.iter().copied())?;
+    Ok(answers)
+}
+
+// Writes the lines of what the walk of the word over the bytes answers, once it has them all.
+fn walk_bytes<A: Allocator, W: Write>(
+    alloc: A,
+    bytes: &[u8],
+    word: &[End],
+    out: &mut Counted<W>,
+) -> Result<usize, Stop>
+    ensures lines { IfOk result (WritesRun (walk_layout word.now) bytes.now (W.contents out.old.inner) (W.contents out.new.inner)) }
+    ensures front { WritesRunFront (walk_layout word.now) bytes.now (W.contents out.old.inner) (W.contents out.new.inner) }
+    ensures quiet { OnOk result (out.new.failures ≡ out.old.failures) }
+    ensures early { IfErr result (λ stop. FailsOrStays stop out.old out.new) }
+    ensures extras { out.new.extras ≡ out.old.extras }
+    ensures right { IfErr result (λ stop. Contains (Stop.CannotWrite ∷ Stop.NoMemory ∷ []) stop) }
+{
+    let Ok(answers) = walk_utf8(alloc, bytes, word) else {
+        return Err(Stop::NoMemory);
+    };
+    match write_walk(answers.as_slice(), out) {
+        Ok(faults) => Ok(faults),
+        Err(_) => Err(Stop::CannotWrite),
+    }
+}
+
+// All bytes that the reader still gives, read until it answers the end, and no more then. A read that is
+// interrupted is made again.
+fn read_whole<A: Allocator, R: Source>(alloc: A, input: &mut R) -> Result<Vec<u8, A>, Stop>
+    ensures bytes { IfOk result (λ bytes. IfSome (R.remaining input.old) (λ xs. bytes.items ≡ xs)) }
+    ensures drained { OnOk result (IsDrained (R.remaining input.old) (R.remaining input.new)) }
+    ensures unbroken { OnOk result (IsTrue R.is_counted → (R.reads input.new).broken ≡ (R.reads input.old).broken) }
+    ensures until { IfErr result (ReadsUntil R.is_counted (R.remaining input.old) (R.failures input.old) (R.failures input.new) (R.reads input.old) (R.reads input.new)) }
+    ensures in_time { IsTrue R.is_counted → (R.reads input.old).ended ≡ false → (R.reads input.new).late ≡ (R.reads input.old).late }
+    ensures right { IfErr result (λ stop. Contains (Stop.CannotRead ∷ Stop.NoMemory ∷ []) stop) }
+{
+    let mut bytes = Vec::new(alloc);
+    let mut part = [0; PART];
+    for _ in 0..u64::MAX {
+        match input.read_once(&mut part) {
+            Ok(0) => return Ok(bytes),
+            Ok(count) => add(&part[..count], &mut bytes)?,
+            Err(error) if error.kind() == ErrorKind::Interrupted => {}
+            Err(_) => return Err(Stop::CannotRead),
+        }
+    }
+    Err(Stop::CannotRead)
+}
+
+// Adds what was read to the bytes.
+fn add<A: Allocator>(part: &[u8], bytes: &mut Vec<u8, A>) -> Result<(), Stop>
+    ensures items { OnOk result (bytes.new.items ≡ bytes.old.items ++ part.now) }
+    ensures err { IfErr result (λ stop. stop ≡ Stop.NoMemory) }
+    ensures right { IfErr result (λ stop. Contains (Stop.CannotRead ∷ Stop.NoMemory ∷ []) stop) }
+{
+    if bytes.extend_from_slice(part).is_err() {
+        return Err(Stop::NoMemory);
+    }
+    Ok(())
+}

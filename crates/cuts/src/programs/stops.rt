@@ -1,0 +1,73 @@
+//! Why a program ends early, and what it then says.
+ghost use Rattle.std.specs.Prelude.{◌≡◌, ◌<◌, IsTrue, OnOk, OnErr};
+ghost use Rattle.std.specs.Io.KnownBytes.{Appends};
+ghost use Rattle.cuts.specs.Failures.{AppendsFront};
+ghost use Rattle.cuts.specs.Programs.Endings.{status_of, stop_text, stop_line, Says};
+
+use crate::streams::{Sink, write_whole};
+use std::{fmt, io};
+
+/// Why a program ends before its work is done.
+#[derive(Clone, Copy, Debug, PartialEq, Eq, Drop)]
+pub enum Stop {
+    /// The arguments are none that the program knows.
+    WrongArguments,
+    /// The input answered an error.
+    CannotRead,
+    /// The output answered an error, or took nothing.
+    CannotWrite,
+    /// A growth was refused.
+    NoMemory,
+}
+
+impl Stop {
+    /// The status of the program, after the line that says why on standard error. Whether the line
+    /// could be written is ignored.
+    pub fn report<E: Sink>(self, program: &str, stderr: &mut E) -> u8
+        ensures status { result ≡ status_of self }
+        ensures line { Says E.is_counted (E.failures stderr.old) (E.failures stderr.new) (E.contents stderr.old) (E.contents stderr.new) (stop_line program.now self) }
+    {
+        let _ = self.write_line(program, stderr);
+        match self {
+            Stop::WrongArguments => 2,
+            Stop::CannotRead | Stop::CannotWrite | Stop::NoMemory => 3,
+        }
+    }
+
+    // Writes the line that says why, with the program's name before it, up to the writer's first failure.
+    fn write_line<E: Sink>(self, program: &str, stderr: &mut E) -> io::Result<()>
+        ensures whole { OnOk result (Appends (E.contents stderr.old) (E.contents stderr.new) (stop_line program.now self)) }
+        ensures front { AppendsFront (E.contents stderr.old) (E.contents stderr.new) (stop_line program.now self) }
+        ensures err { IsTrue E.is_counted → OnErr result (E.failures stderr.old < E.failures stderr.new) }
+    {
+        write_whole(program.as_bytes(), stderr)?;
+        write_whole(b": ", stderr)?;
+        write_whole(self.text().as_bytes(), stderr)?;
+        write_whole(b"\n", stderr)
+    }
+
+    // What is said of it.
+    pub(crate) fn text(self) -> &'static str
+        ensures { result.now ≡ stop_text self }
+    {
+        match self {
+            Stop::WrongArguments => "wrong arguments",
+            Stop::CannotRead => "cannot read",
+            Stop::CannotWrite => "cannot write",
+            Stop::NoMemory => "no memory",
+        }
+    }
+}
+
+impl fmt::Display for Stop {
+    ghost use Rattle.std.specs.Prelude.{Some};
+    ghost use Rattle.cuts.specs.Programs.Endings.{stop_text};
+
+    ghost output = { λ s. Some (stop_text s) };
+
+    ghost styled_output = { λ s _. Some (stop_text s) };
+
+    fn fmt<W: fmt::Write>(&self, f: &mut fmt::Formatter<W>) -> fmt::Result {
+        f.write_str(self.text())
+    }
+}

@@ -1,0 +1,177 @@
+//! Codes written to the end of an output that has room for them.
+ghost use Rattle.std.specs.Prelude.{◌≡◌, ◌+◌, ◌/◌, ◌%◌, ◌≤◌, ◌++◌, length, vec_len, vec_capacity, IsAscii};
+ghost use Rattle.std.specs.Prelude.{flat_map, take};
+ghost use Rattle.utf_base.specs.Code.{utf8, utf16};
+ghost use Rattle.std.specs.List.{All};
+ghost use Rattle.cuts.specs.Recoding.Recoded.{written, bytes_of};
+ghost use Rattle.cuts.specs.Recoding.ShownFronts.{IsPlain};
+
+use crate::recoding::form::Form;
+use encode_unicode::CharExt;
+use std::alloc::Allocator;
+
+// Appends the code of the character.
+#[inline(always)]
+pub(crate) fn put_code<A: Allocator>(to: Form, c: char, out: &mut Vec<u8, A>)
+    requires { vec_len out.old + length (written to c) ≤ vec_capacity out.old }
+    ensures items { out.new.items ≡ out.old.items ++ written to c }
+    ensures len { vec_len out.new ≡ vec_len out.old + length (written to c) }
+    ensures capacity { vec_capacity out.old ≤ vec_capacity out.new }
+{
+    match to {
+        Form::Utf8 => put_bytes(c, out),
+        Form::Utf16Le => put_units(false, c, out),
+        Form::Utf16Be => put_units(true, c, out),
+    }
+}
+
+// Each length has writes of its own, so that between them nothing is tested.
+#[inline(always)]
+fn put_bytes<A: Allocator>(c: char, out: &mut Vec<u8, A>)
+    requires { vec_len out.old + length (utf8 c) ≤ vec_capacity out.old }
+    ensures items { out.new.items ≡ out.old.items ++ utf8 c }
+    ensures len { vec_len out.new ≡ vec_len out.old + length (utf8 c) }
+    ensures capacity { vec_capacity out.new ≡ vec_capacity out.old }
+{
+    let (code, len) = c.to_utf8_array();
+    if len == 1 {
+        out.push_reserved(code[0]);
+        return;
+    }
+    if len == 2 {
+        out.push_reserved(code[0]);
+        out.push_reserved(code[1]);
+        return;
+    }
+    if len == 3 {
+        out.push_reserved(code[0]);
+        out.push_reserved(code[1]);
+        out.push_reserved(code[2]);
+        return;
+    }
+    out.push_reserved(code[0]);
+    out.push_reserved(code[1]);
+    out.push_reserved(code[2]);
+    out.push_reserved(code[3]);
+}
+
+#[inline(always)]
+fn put_units<A: Allocator>(high_first: bool, c: char, out: &mut Vec<u8, A>)
+    requires { vec_len out.old + length (flat_map (bytes_of high_first) (utf16 c)) ≤ vec_capacity out.old }
+    ensures items { out.new.items ≡ out.old.items ++ flat_map (bytes_of high_first) (utf16 c) }
+    ensures len { vec_len out.new ≡ vec_len out.old + length (flat_map (bytes_of high_first) (utf16 c)) }
+    ensures capacity { vec_capacity out.old ≤ vec_capacity out.new }
+{
+    match c.to_utf16_tuple() {
+        (unit, None) => put_unit(high_first, unit, out),
+        (first, Some(second)) => {
+            put_unit(high_first, first, out);
+            put_unit(high_first, second, out);
+        }
+    }
+}
+
+#[inline(always)]
+fn high(unit: u16) -> u8
+    ensures { result ≡ unit / 256 }
+{
+    (unit / 256) as u8
+}
+
+#[inline(always)]
+fn low(unit: u16) -> u8
+    ensures { result ≡ unit % 256 }
+{
+    (unit % 256) as u8
+}
+
+#[inline(always)]
+fn put_unit<A: Allocator>(high_first: bool, unit: u16, out: &mut Vec<u8, A>)
+    requires { vec_len out.old + 2 ≤ vec_capacity out.old }
+    ensures items { out.new.items ≡ out.old.items ++ bytes_of high_first unit }
+    ensures len { vec_len out.new ≡ vec_len out.old + 2 }
+    ensures capacity { vec_capacity out.new ≡ vec_capacity out.old }
+{
+    if high_first {
+        out.push_reserved(high(unit));
+        out.push_reserved(low(unit));
+    } else {
+        out.push_reserved(low(unit));
+        out.push_reserved(high(unit));
+    }
+}
+
+// Appends the codes of eight bytes of ASCII.
+#[inline(always)]
+pub(crate) fn put_eight<A: Allocator>(to: Form, block: &[u8], out: &mut Vec<u8, A>)
+    requires eight { length block.now ≡ 8 }
+    requires ascii { IsAscii block.now }
+    requires room { vec_len out.old + 16 ≤ vec_capacity out.old }
+    ensures items { out.new.items ≡ out.old.items ++ flat_map (written to) block.now }
+    ensures len { vec_len out.new ≤ vec_len out.old + 16 }
+    ensures capacity { vec_capacity out.old ≤ vec_capacity out.new }
+{
+    let (codes, len) = eight_codes(to, block);
+    let _ = out.extend_from_slice(&codes[..len]);
+}
+
+// The codes of eight bytes of ASCII, and how many bytes they have.
+#[inline(always)]
+#[tactic(auto, using(crate::proofs::OfRecoding::Ascii::eight_bytes, crate::proofs::OfRecoding::Ascii::eight_low, crate::proofs::OfRecoding::Ascii::eight_high))]
+pub(crate) fn eight_codes(to: Form, block: &[u8]) -> ([u8; 16], usize)
+    requires eight { length block.now ≡ 8 }
+    requires ascii { IsAscii block.now }
+    ensures codes { take result.1 result.0 ≡ flat_map (written to) block.now }
+    ensures len { result.1 ≤ 16 }
+{
+    let [a, b, c, d] = [block[0], block[1], block[2], block[3]];
+    let [e, f, g, h] = [block[4], block[5], block[6], block[7]];
+    match to {
+        Form::Utf8 => ([a, b, c, d, e, f, g, h, 0, 0, 0, 0, 0, 0, 0, 0], 8),
+        Form::Utf16Le => ([a, 0, b, 0, c, 0, d, 0, e, 0, f, 0, g, 0, h, 0], 16),
+        Form::Utf16Be => ([0, a, 0, b, 0, c, 0, d, 0, e, 0, f, 0, g, 0, h], 16),
+    }
+}
+
+// Appends the codes of eight units, each a character by itself.
+#[inline(always)]
+pub(crate) fn put_block<A: Allocator>(to: Form, units: [u16; 8], out: &mut Vec<u8, A>)
+    requires plain { All (IsPlain to) units }
+    requires room { vec_len out.old + 16 ≤ vec_capacity out.old }
+    ensures items { out.new.items ≡ out.old.items ++ flat_map (written to) units }
+    ensures len { vec_len out.new ≤ vec_len out.old + 16 }
+    ensures capacity { vec_capacity out.old ≤ vec_capacity out.new }
+{
+    let (codes, len) = block_codes(to, units);
+    let _ = out.extend_from_slice(&codes[..len]);
+}
+
+// The codes of eight units, each a character by itself, and how many bytes they have.
+#[inline(always)]
+#[tactic(auto, using(crate::proofs::OfRecoding::Blocks::block_bytes, crate::proofs::OfRecoding::Blocks::block_low, crate::proofs::OfRecoding::Blocks::block_high))]
+pub(crate) fn block_codes(to: Form, units: [u16; 8]) -> ([u8; 16], usize)
+    requires { All (IsPlain to) units }
+    ensures codes { take result.1 result.0 ≡ flat_map (written to) units }
+    ensures len { result.1 ≤ 16 }
+{
+    let [a, b, c, d, e, f, g, h] = units;
+    let [la, lb, lc, ld] = [low(a), low(b), low(c), low(d)];
+    let [le, lf, lg, lh] = [low(e), low(f), low(g), low(h)];
+    let [ha, hb, hc, hd] = [high(a), high(b), high(c), high(d)];
+    let [he, hf, hg, hh] = [high(e), high(f), high(g), high(h)];
+    match to {
+        Form::Utf8 => ([la, lb, lc, ld, le, lf, lg, lh, 0, 0, 0, 0, 0, 0, 0, 0], 8),
+        Form::Utf16Le => (
+            [
+                la, ha, lb, hb, lc, hc, ld, hd, le, he, lf, hf, lg, hg, lh, hh,
+            ],
+            16,
+        ),
+        Form::Utf16Be => (
+            [
+                ha, la, hb, lb, hc, lc, hd, ld, he, le, hf, lf, hg, lg, hh, lh,
+            ],
+            16,
+        ),
+    }
+}

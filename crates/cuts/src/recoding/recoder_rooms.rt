@@ -1,0 +1,213 @@
+//! Runs over bytes, into room of a fixed size.
+ghost use Rattle.std.specs.Prelude.{◌≡◌, [], ◌+◌, ◌-◌, ◌*◌, ◌/◌, ◌%◌, ◌<◌, ◌≤◌, length, take, drop, ◌++◌, flat_map, IfSome, IfNone, IsTrue, IsFalse, IsSome};
+ghost use Rattle.utf_base.specs.Code.{utf8, utf16};
+ghost use Rattle.cuts.specs.Recoding.Recoded.{Reads, written, bytes_of, Grows, Lacks};
+ghost use Rattle.cuts.specs.Recoding.ShownFronts.{Decides, Ends};
+ghost use Rattle.cuts.specs.Recoding.Rooms.{Fills, IsFull, IsLastFull, Leaves, RunsInto};
+
+use crate::recoding::form::Form;
+use crate::recoding::recoder::Progress;
+use crate::recoding::recoder_runs::join;
+use crate::recoding::room_puts::put_all;
+use crate::recoding::room_runs::recode_ahead;
+use crate::recoding::shown_fronts::{front, last_front};
+use encode_unicode::CharExt;
+
+// How many bytes go code by code, with care, before runs look for text again.
+const STRIDE: usize = 16;
+
+// Writes the code of the character into the room from the place on, where it fits, and answers the place after it.
+#[inline(always)]
+pub(crate) fn put_at(to: Form, c: char, room: &mut [u8], place: usize) -> Option<usize>
+    requires { place ≤ length room.old }
+    ensures some { IfSome result (λ end. Fills room.old room.new place end (written to c)) }
+    ensures long { IfNone result (length room.old - place < length (written to c)) }
+    ensures short { IfNone result (length room.old < place + 4) }
+    ensures none { IfNone result (room.new ≡ room.old) }
+    ensures more { IfSome result (λ end. place < end) }
+    ensures end { IfSome result (λ end. end ≡ place + length (written to c)) }
+{
+    let (code, len) = code_of(to, c);
+    if room.len() - place < len {
+        return None;
+    }
+    Some(put_all(&code[..len], room, place))
+}
+
+// The code of the character, and how many bytes it has.
+#[inline(always)]
+fn code_of(to: Form, c: char) -> ([u8; 4], usize)
+    ensures code { take result.1 result.0 ≡ written to c }
+    ensures len { result.1 ≡ length (written to c) }
+    ensures some { 0 < result.1 }
+    ensures few { result.1 ≤ 4 }
+{
+    match to {
+        Form::Utf8 => c.to_utf8_array(),
+        Form::Utf16Le => units_of_char(false, c),
+        Form::Utf16Be => units_of_char(true, c),
+    }
+}
+
+#[inline(always)]
+fn units_of_char(high_first: bool, c: char) -> ([u8; 4], usize)
+    ensures code { take result.1 result.0 ≡ flat_map (bytes_of high_first) (utf16 c) }
+    ensures len { result.1 ≡ length (flat_map (bytes_of high_first) (utf16 c)) }
+    ensures some { 0 < result.1 }
+    ensures few { result.1 ≤ 4 }
+{
+    match c.to_utf16_tuple() {
+        (unit, None) => {
+            let [a, b] = two_bytes(high_first, unit);
+            ([a, b, 0, 0], 2)
+        }
+        (first, Some(second)) => {
+            let [a, b] = two_bytes(high_first, first);
+            let [c, d] = two_bytes(high_first, second);
+            ([a, b, c, d], 4)
+        }
+    }
+}
+
+#[inline(always)]
+pub(crate) fn two_bytes(high_first: bool, unit: u16) -> [u8; 2]
+    ensures { result ≡ bytes_of high_first unit }
+{
+    let [high, low] = [(unit / 256) as u8, (unit % 256) as u8];
+    if high_first { [high, low] } else { [low, high] }
+}
+
+// Recodes the bytes as far as no later byte can change what they show and there is room from the place on. `read` counts
+// the bytes that were recoded, and `written` all that now stands in the room. What was recoded is so by the three bytes
+// that follow it, and not by others.
+pub(crate) fn recode_into(
+    from: Form,
+    to: Form,
+    bytes: &[u8],
+    room: &mut [u8],
+    place: usize,
+) -> Progress
+    requires { place ≤ length room.old }
+    ensures within { result.read ≤ length bytes.now }
+    ensures ordered { place ≤ result.written }
+    ensures fits { result.written ≤ length room.old }
+    ensures grows { Grows from to (take (result.read + 3) bytes.now) (take place room.old) (take result.written room.new) (take 3 (drop result.read bytes.now)) }
+    ensures rest { drop result.written room.new ≡ drop result.written room.old }
+    ensures full { IsTrue result.is_full → IsFull (record { from = from; to = to; held = [] }) (drop result.read bytes.now) (length room.old - result.written) }
+    ensures short { IsTrue result.is_full → length room.old < result.written + 4 }
+    ensures waits { IsFalse result.is_full → length bytes.now ≤ result.read + 3 }
+    ensures lacks { IsFalse result.is_full → Lacks from (drop result.read bytes.now) }
+{
+    let mut read = 0;
+    let mut written = place;
+    loop {
+        let (ahead, end) = recode_ahead(from, to, &bytes[read..], room, written);
+        read += ahead;
+        let few = recode_few(from, to, &bytes[read..], room, end);
+        read += few.read;
+        written = few.written;
+        if few.is_full || few.read < STRIDE {
+            return Progress { read, ..few };
+        }
+    }
+}
+
+// `recode_into` code by code, of at least so many bytes as a stride has where there are as many, and hardly more.
+#[inline(never)]
+fn recode_few(from: Form, to: Form, bytes: &[u8], room: &mut [u8], place: usize) -> Progress
+    requires { place ≤ length room.old }
+    ensures runs { RunsInto from to bytes.now room.old room.new place result.read result.written }
+    ensures full { IsTrue result.is_full → IsFull (record { from = from; to = to; held = [] }) (drop result.read bytes.now) (length room.old - result.written) }
+    ensures short { IsTrue result.is_full → length room.old < result.written + 4 }
+    ensures waits { IsFalse result.is_full → result.read < 16 → length bytes.now ≤ result.read + 3 }
+    ensures lacks { IsFalse result.is_full → result.read < 16 → Lacks from (drop result.read bytes.now) }
+{
+    let mut read = 0;
+    let mut written = place;
+    while read < STRIDE {
+        let Some((c, len)) = front(from, four(&bytes[read..])) else {
+            break;
+        };
+        match put_at(to, c, room, written) {
+            None => return Progress {
+                read,
+                written,
+                is_full: true,
+            },
+            Some(end) => {
+                read += len;
+                written = end;
+            }
+        }
+    }
+    Progress {
+        read,
+        written,
+        is_full: false,
+    }
+}
+
+// The first four bytes, or all where they are fewer.
+#[inline(always)]
+fn four(bytes: &[u8]) -> &[u8]
+    ensures { result.now ≡ take 4 bytes.now }
+{
+    &bytes[..bytes.len().min(4)]
+}
+
+// The same of bytes that nothing follows.
+pub(crate) fn recode_last_into(from: Form, to: Form, bytes: &[u8], room: &mut [u8]) -> Progress
+    ensures within { result.read ≤ length bytes.now }
+    ensures fits { result.written ≤ length room.old }
+    ensures leaves { Leaves from to bytes.now (take result.written room.new) (drop result.read bytes.now) }
+    ensures rest { drop result.written room.new ≡ drop result.written room.old }
+    ensures full { IsTrue result.is_full → IsLastFull (record { from = from; to = to; held = [] }) (drop result.read bytes.now) (length room.old - result.written) }
+    ensures short { IsTrue result.is_full → length room.old < result.written + 4 }
+    ensures all { IsFalse result.is_full → result.read ≡ length bytes.now }
+{
+    let mut read = 0;
+    let mut written = 0;
+    while read < bytes.len() {
+        let (c, len) = last_front(from, &bytes[read..]);
+        match put_at(to, c, room, written) {
+            None => return Progress {
+                read,
+                written,
+                is_full: true,
+            },
+            Some(end) => {
+                read += len;
+                written = end;
+            }
+        }
+    }
+    Progress {
+        read,
+        written,
+        is_full: false,
+    }
+}
+
+// The scalar that begins the held bytes with those that follow them, how many bytes it has, and how many of those
+// that follow were looked at: no more than tell it. `None` where all of them together are too few.
+pub(crate) fn first_of(from: Form, held: &[u8], rest: &[u8]) -> Option<(char, usize, usize)>
+    requires some { 0 < length held.now }
+    requires few { length held.now ≤ 3 }
+    ensures within { IfSome result (λ x. x.2 ≤ length rest.now) }
+    ensures decides { IfSome result (λ x. Decides (Reads from) (held.now ++ take x.2 rest.now) x.0 x.1) }
+    ensures near { IfSome result (λ x. length held.now + x.2 ≤ 4) }
+    ensures none { IfNone result (length held.now + length rest.now ≤ 3) }
+    ensures lacks { IfNone result (Lacks from (held.now ++ rest.now)) }
+{
+    let mut taken = 0;
+    loop {
+        let (joined, len) = join(held, &rest[..taken]);
+        if let Some((c, count)) = front(from, &joined[..len]) {
+            return Some((c, count, taken));
+        }
+        if taken == rest.len() {
+            return None;
+        }
+        taken += 1;
+    }
+}

@@ -1,0 +1,342 @@
+//! Runs over bytes, into an output that has room for what comes of them.
+ghost use Rattle.std.specs.Prelude.{◌≡◌, ◌+◌, ◌-◌, ◌*◌, ◌<◌, ◌≤◌, length, take, drop, ◌++◌, min, vec_len, vec_capacity, IsUtf8};
+ghost use Rattle.cuts.specs.Recoding.Recoded.{Grows, Finishes, Lacks};
+ghost use Rattle.cuts.specs.Recoding.GivenUnits.{IsUnits};
+
+use crate::recoding::code_puts::{put_block, put_code};
+use crate::recoding::form::Form::{self, Utf8, Utf16Be, Utf16Le};
+use crate::recoding::shown_fronts::{front, last_front, text_front, unit_block};
+use crate::recoding::text_blocks::text_len;
+use crate::recoding::unit_puts::put_units;
+use std::alloc::Allocator;
+
+// How far runs go piece by piece before they look for a stretch again.
+const STRIDE: usize = 16;
+
+// How many bytes of text go piece by piece before runs look for a block again.
+const STRETCH: usize = 128;
+
+// How many bytes are judged before what is text among them is widened.
+const PART: usize = 8192;
+
+// Recodes the bytes as far as no later byte can change what they show, and not past the place `stop`
+// but by the rest of a code that begins before it. Answers how many bytes were recoded.
+#[inline(always)]
+pub(crate) fn recode_decided<A: Allocator>(
+    from: Form,
+    to: Form,
+    bytes: &[u8],
+    stop: usize,
+    out: &mut Vec<u8, A>,
+) -> usize
+    requires stop { stop ≤ length bytes.now }
+    requires room { vec_len out.old + 3 * length bytes.now ≤ vec_capacity out.old }
+    ensures within { result ≤ length bytes.now }
+    ensures waits { result < stop → length bytes.now ≤ result + 3 }
+    ensures lacks { result < stop → Lacks from (drop result bytes.now) }
+    ensures grows { Grows from to bytes.now out.old.items out.new.items (drop result bytes.now) }
+    ensures short { vec_len out.new ≤ vec_len out.old + 3 * result }
+    ensures capacity { vec_capacity out.old ≤ vec_capacity out.new }
+{
+    let mut place = 0;
+    while place < stop {
+        match front(from, &bytes[place..]) {
+            None => return place,
+            Some((c, len)) => {
+                put_code(to, c, out);
+                place += len;
+            }
+        }
+    }
+    place
+}
+
+// Recodes the bytes, which nothing follows.
+#[inline(always)]
+pub(crate) fn recode_last<A: Allocator>(from: Form, to: Form, bytes: &[u8], out: &mut Vec<u8, A>)
+    requires { vec_len out.old + 3 * length bytes.now ≤ vec_capacity out.old }
+    ensures { Finishes (record { from = from; to = to; held = bytes.now }) out.old.items out.new.items }
+{
+    let mut place = 0;
+    while place < bytes.len() {
+        let (c, len) = last_front(from, &bytes[place..]);
+        put_code(to, c, out);
+        place += len;
+    }
+}
+
+// Recodes the held bytes with those that follow them, as far as a code that begins among the held ones
+// reaches. Answers how many bytes of both were recoded.
+#[inline]
+pub(crate) fn recode_joined<A: Allocator>(
+    from: Form,
+    to: Form,
+    held: &[u8],
+    part: &[u8],
+    out: &mut Vec<u8, A>,
+) -> usize
+    requires few { length held.now ≤ 3 }
+    requires room { vec_len out.old + 3 * (length held.now + length part.now) ≤ vec_capacity out.old }
+    ensures within { result ≤ length held.now + length part.now }
+    ensures waits { result < length held.now → length held.now + length part.now ≤ result + 3 }
+    ensures lacks { result < length held.now → Lacks from (drop result (held.now ++ part.now)) }
+    ensures grows { Grows from to (held.now ++ part.now) out.old.items out.new.items (drop result (held.now ++ part.now)) }
+    ensures short { vec_len out.new ≤ vec_len out.old + 3 * result }
+    ensures capacity { vec_capacity out.old ≤ vec_capacity out.new }
+{
+    if held.is_empty() {
+        return 0;
+    }
+    let (joined, len) = join(held, part);
+    recode_decided(from, to, &joined[..len], held.len(), out)
+}
+
+// The held bytes and at most three that follow them.
+#[inline]
+pub(crate) fn join(held: &[u8], part: &[u8]) -> ([u8; 6], usize)
+    requires { length held.now ≤ 3 }
+    ensures len { result.1 ≡ length held.now + min 3 (length part.now) }
+    ensures bytes { take result.1 result.0 ≡ held.now ++ take 3 part.now }
+{
+    let count = held.len();
+    let taken = 3usize.min(part.len());
+    let mut joined = [0; 6];
+    joined[..count].copy_from_slice(held);
+    joined[count..count + taken].copy_from_slice(&part[..taken]);
+    (joined, count + taken)
+}
+
+// `recode_decided` to the end of the bytes, by the way that is quickest for the forms.
+pub(crate) fn recode_whole<A: Allocator>(
+    from: Form,
+    to: Form,
+    bytes: &[u8],
+    out: &mut Vec<u8, A>,
+) -> usize
+    requires { vec_len out.old + 3 * length bytes.now ≤ vec_capacity out.old }
+    ensures within { result ≤ length bytes.now }
+    ensures waits { result < length bytes.now → length bytes.now ≤ result + 3 }
+    ensures lacks { result < length bytes.now → Lacks from (drop result bytes.now) }
+    ensures grows { Grows from to bytes.now out.old.items out.new.items (drop result bytes.now) }
+    ensures short { vec_len out.new ≤ vec_len out.old + 3 * result }
+    ensures capacity { vec_capacity out.old ≤ vec_capacity out.new }
+{
+    match (from, to) {
+        (Utf8, Utf8) => copy_decided(bytes, out),
+        (Utf8, Utf16Le) => recode_quickly::<A, 0>(Utf8, Utf16Le, bytes, out),
+        (Utf8, Utf16Be) => recode_quickly::<A, 1>(Utf8, Utf16Be, bytes, out),
+        (Utf16Le, Utf8) => recode_quickly::<A, 2>(Utf16Le, Utf8, bytes, out),
+        (Utf16Le, Utf16Le) => recode_quickly::<A, 3>(Utf16Le, Utf16Le, bytes, out),
+        (Utf16Le, Utf16Be) => recode_quickly::<A, 4>(Utf16Le, Utf16Be, bytes, out),
+        (Utf16Be, Utf8) => recode_quickly::<A, 5>(Utf16Be, Utf8, bytes, out),
+        (Utf16Be, Utf16Le) => recode_quickly::<A, 6>(Utf16Be, Utf16Le, bytes, out),
+        (Utf16Be, Utf16Be) => recode_quickly::<A, 7>(Utf16Be, Utf16Be, bytes, out),
+    }
+}
+
+// `recode_decided` from UTF-8 to UTF-8, to the end: whole stretches of text are copied.
+#[inline]
+pub(crate) fn copy_decided<A: Allocator>(bytes: &[u8], out: &mut Vec<u8, A>) -> usize
+    requires { vec_len out.old + 3 * length bytes.now ≤ vec_capacity out.old }
+    ensures within { result ≤ length bytes.now }
+    ensures waits { result < length bytes.now → length bytes.now ≤ result + 3 }
+    ensures lacks { result < length bytes.now → Lacks Form.Utf8 (drop result bytes.now) }
+    ensures grows { Grows Form.Utf8 Form.Utf8 bytes.now out.old.items out.new.items (drop result bytes.now) }
+    ensures short { vec_len out.new ≤ vec_len out.old + 3 * result }
+    ensures capacity { vec_capacity out.old ≤ vec_capacity out.new }
+{
+    let mut place = 0;
+    while place < bytes.len() {
+        place += copy_text(&bytes[place..], out);
+        let rest = &bytes[place..];
+        let stop = STRIDE.min(rest.len());
+        let done = recode_decided(Utf8, Utf8, rest, stop, out);
+        place += done;
+        if done < stop {
+            return place;
+        }
+    }
+    place
+}
+
+// Appends the text at the front of the bytes, and answers how many bytes it has.
+#[inline(always)]
+fn copy_text<A: Allocator>(bytes: &[u8], out: &mut Vec<u8, A>) -> usize
+    requires { vec_len out.old + length bytes.now ≤ vec_capacity out.old }
+    ensures within { result ≤ length bytes.now }
+    ensures text { IsUtf8 (take result bytes.now) }
+    ensures items { out.new.items ≡ out.old.items ++ take result bytes.now }
+    ensures len { vec_len out.new ≡ vec_len out.old + result }
+    ensures capacity { vec_capacity out.old ≤ vec_capacity out.new }
+{
+    let len = text_len(bytes);
+    let _ = out.extend_from_slice(&bytes[..len]);
+    len
+}
+
+// `recode_decided` to the end, in blocks where the bytes allow it, then piece by piece, and with care only
+// where a piece is faulty or near the end.
+//
+// Each pair of forms is called under a number of its own. So each has a copy of the code, in which a compiler
+// knows the forms.
+#[inline(never)]
+fn recode_quickly<A: Allocator, const PAIR: usize>(
+    from: Form,
+    to: Form,
+    bytes: &[u8],
+    out: &mut Vec<u8, A>,
+) -> usize
+    requires { vec_len out.old + 3 * length bytes.now ≤ vec_capacity out.old }
+    ensures within { result ≤ length bytes.now }
+    ensures waits { result < length bytes.now → length bytes.now ≤ result + 3 }
+    ensures lacks { result < length bytes.now → Lacks from (drop result bytes.now) }
+    ensures grows { Grows from to bytes.now out.old.items out.new.items (drop result bytes.now) }
+    ensures short { vec_len out.new ≤ vec_len out.old + 3 * result }
+    ensures capacity { vec_capacity out.old ≤ vec_capacity out.new }
+{
+    let mut place = 0;
+    while place < bytes.len() {
+        place += recode_blocks(from, to, &bytes[place..], out);
+        let count = recode_stretch(from, to, &bytes[place..], out);
+        place += count;
+        if count == 0 {
+            let rest = &bytes[place..];
+            let stop = STRIDE.min(rest.len());
+            let done = recode_apart(from, to, rest, stop, out);
+            place += done;
+            if done < stop {
+                return place;
+            }
+        }
+    }
+    place
+}
+
+// `recode_decided`, kept out of the loops that seldom call it.
+#[inline(never)]
+fn recode_apart<A: Allocator>(
+    from: Form,
+    to: Form,
+    bytes: &[u8],
+    stop: usize,
+    out: &mut Vec<u8, A>,
+) -> usize
+    requires stop { stop ≤ length bytes.now }
+    requires room { vec_len out.old + 3 * length bytes.now ≤ vec_capacity out.old }
+    ensures within { result ≤ length bytes.now }
+    ensures waits { result < stop → length bytes.now ≤ result + 3 }
+    ensures lacks { result < stop → Lacks from (drop result bytes.now) }
+    ensures grows { Grows from to bytes.now out.old.items out.new.items (drop result bytes.now) }
+    ensures short { vec_len out.new ≤ vec_len out.old + 3 * result }
+    ensures capacity { vec_capacity out.old ≤ vec_capacity out.new }
+{
+    recode_decided(from, to, bytes, stop, out)
+}
+
+// Recodes text at the front of the bytes, and answers how many bytes of it: as far as a stretch goes, and
+// no fault and none of the last bytes.
+#[inline(always)]
+fn recode_stretch<A: Allocator>(from: Form, to: Form, bytes: &[u8], out: &mut Vec<u8, A>) -> usize
+    requires { vec_len out.old + 3 * length bytes.now ≤ vec_capacity out.old }
+    ensures within { result ≤ length bytes.now }
+    ensures grows { Grows from to bytes.now out.old.items out.new.items (drop result bytes.now) }
+    ensures short { vec_len out.new ≤ vec_len out.old + 3 * result }
+    ensures capacity { vec_capacity out.old ≤ vec_capacity out.new }
+{
+    recode_text(from, to, &bytes[..STRETCH.min(bytes.len())], out)
+}
+
+// Recodes text at the front of the bytes, and answers how many bytes of it: no fault, and not the last.
+#[inline(always)]
+fn recode_text<A: Allocator>(from: Form, to: Form, bytes: &[u8], out: &mut Vec<u8, A>) -> usize
+    requires { vec_len out.old + 3 * length bytes.now ≤ vec_capacity out.old }
+    ensures within { result ≤ length bytes.now }
+    ensures grows { Grows from to bytes.now out.old.items out.new.items (drop result bytes.now) }
+    ensures short { vec_len out.new ≤ vec_len out.old + 3 * result }
+    ensures capacity { vec_capacity out.old ≤ vec_capacity out.new }
+{
+    let mut place = 0;
+    while 4 <= bytes.len() - place {
+        match text_front(from, &bytes[place..]) {
+            None => return place,
+            Some((c, len)) => {
+                put_code(to, c, out);
+                place += len;
+            }
+        }
+    }
+    place
+}
+
+// Recodes what goes in blocks at the front of the bytes, and answers how many bytes it has.
+#[inline(always)]
+fn recode_blocks<A: Allocator>(from: Form, to: Form, bytes: &[u8], out: &mut Vec<u8, A>) -> usize
+    requires { vec_len out.old + 3 * length bytes.now ≤ vec_capacity out.old }
+    ensures within { result ≤ length bytes.now }
+    ensures grows { Grows from to bytes.now out.old.items out.new.items (drop result bytes.now) }
+    ensures short { vec_len out.new ≤ vec_len out.old + 3 * result }
+    ensures capacity { vec_capacity out.old ≤ vec_capacity out.new }
+{
+    match from {
+        Utf8 => recode_judged(to, bytes, out),
+        Utf16Le | Utf16Be => recode_units(from, to, bytes, out),
+    }
+}
+
+// Recodes the blocks of units at the front of the bytes, each unit a character by itself, and answers how
+// many bytes they have.
+#[inline(always)]
+fn recode_units<A: Allocator>(from: Form, to: Form, bytes: &[u8], out: &mut Vec<u8, A>) -> usize
+    requires { vec_len out.old + 3 * length bytes.now ≤ vec_capacity out.old }
+    ensures within { result ≤ length bytes.now }
+    ensures grows { Grows from to bytes.now out.old.items out.new.items (drop result bytes.now) }
+    ensures short { vec_len out.new ≤ vec_len out.old + 3 * result }
+    ensures capacity { vec_capacity out.old ≤ vec_capacity out.new }
+{
+    let mut place = 0;
+    while 16 <= bytes.len() - place {
+        match unit_block(from, to, &bytes[place..place + 16]) {
+            None => return place,
+            Some(units) => {
+                put_block(to, units, out);
+                place += 16;
+            }
+        }
+    }
+    place
+}
+
+// Recodes the text at the front of the bytes, and answers how many bytes it has: nearly all that are text, up to a part,
+// where there are more than a few.
+#[inline(always)]
+fn recode_judged<A: Allocator>(to: Form, bytes: &[u8], out: &mut Vec<u8, A>) -> usize
+    requires { vec_len out.old + 3 * length bytes.now ≤ vec_capacity out.old }
+    ensures within { result ≤ length bytes.now }
+    ensures grows { Grows Form.Utf8 to bytes.now out.old.items out.new.items (drop result bytes.now) }
+    ensures short { vec_len out.new ≤ vec_len out.old + 3 * result }
+    ensures capacity { vec_capacity out.old ≤ vec_capacity out.new }
+{
+    match to {
+        Utf8 => copy_text(bytes, out),
+        Utf16Le => widen_text(Utf16Le, false, bytes, out),
+        Utf16Be => widen_text(Utf16Be, true, bytes, out),
+    }
+}
+
+// Appends the text at the front of the bytes as units, of which the high byte may be the first.
+#[inline(always)]
+fn widen_text<A: Allocator>(to: Form, high_first: bool, bytes: &[u8], out: &mut Vec<u8, A>) -> usize
+    requires form { IsUnits high_first to }
+    requires room { vec_len out.old + 3 * length bytes.now ≤ vec_capacity out.old }
+    ensures within { result ≤ length bytes.now }
+    ensures grows { Grows Form.Utf8 to bytes.now out.old.items out.new.items (drop result bytes.now) }
+    ensures short { vec_len out.new ≤ vec_len out.old + 3 * result }
+    ensures capacity { vec_capacity out.old ≤ vec_capacity out.new }
+{
+    let len = text_len(&bytes[..PART.min(bytes.len())]);
+    if len < 32 {
+        return 0;
+    }
+    put_units(high_first, &bytes[..len], out);
+    len
+}

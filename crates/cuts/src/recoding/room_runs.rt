@@ -1,0 +1,142 @@
+//! Runs over bytes, into room of a fixed size, where it is large enough for what comes of them.
+ghost use Rattle.std.specs.Prelude.{◌+◌, ◌*◌, ◌≤◌, length};
+ghost use Rattle.cuts.specs.Recoding.Rooms.{RunsInto};
+
+use crate::recoding::form::Form::{self, Utf8, Utf16Be, Utf16Le};
+use crate::recoding::room_puts::{put_block_at, put_code_at, put_eight_at};
+use crate::recoding::shown_fronts::{text_front, unit_block};
+
+// How many bytes of text go piece by piece before runs look for a block again.
+const STRETCH: usize = 128;
+
+// Recodes bytes at the front, in blocks where they allow it and else character by character, as far as they are text and
+// the room is surely enough. Answers how many bytes were recoded, and the place after what was written.
+pub(crate) fn recode_ahead(
+    from: Form,
+    to: Form,
+    bytes: &[u8],
+    room: &mut [u8],
+    place: usize,
+) -> (usize, usize)
+    requires { place ≤ length room.old }
+    ensures { RunsInto from to bytes.now room.old room.new place result.0 result.1 }
+{
+    match (from, to) {
+        (Utf8, Utf8) => recode_pair::<0>(Utf8, Utf8, bytes, room, place),
+        (Utf8, Utf16Le) => recode_pair::<1>(Utf8, Utf16Le, bytes, room, place),
+        (Utf8, Utf16Be) => recode_pair::<2>(Utf8, Utf16Be, bytes, room, place),
+        (Utf16Le, Utf8) => recode_pair::<3>(Utf16Le, Utf8, bytes, room, place),
+        (Utf16Be, Utf8) => recode_pair::<4>(Utf16Be, Utf8, bytes, room, place),
+        _ => recode_pair::<5>(from, to, bytes, room, place),
+    }
+}
+
+// The same. Each pair of forms in which one is UTF-8 is called under a number of its own, and so has a copy of the code, in
+// which a compiler knows the forms. The others share one, so that the module for browsers stays small.
+#[inline(never)]
+fn recode_pair<const PAIR: usize>(
+    from: Form,
+    to: Form,
+    bytes: &[u8],
+    room: &mut [u8],
+    place: usize,
+) -> (usize, usize)
+    requires { place ≤ length room.old }
+    ensures { RunsInto from to bytes.now room.old room.new place result.0 result.1 }
+{
+    let mut read = 0;
+    let mut written = place;
+    loop {
+        let (blocks, end) = blocks_into(from, to, &bytes[read..], room, written);
+        read += blocks;
+        let (text, end) = stretch_into(from, to, &bytes[read..], room, end);
+        read += text;
+        written = end;
+        if text == 0 {
+            return (read, written);
+        }
+    }
+}
+
+// Recodes what goes in blocks at the front of the bytes.
+#[inline(always)]
+fn blocks_into(from: Form, to: Form, bytes: &[u8], room: &mut [u8], place: usize) -> (usize, usize)
+    requires { place ≤ length room.old }
+    ensures { RunsInto from to bytes.now room.old room.new place result.0 result.1 }
+{
+    match from {
+        Utf8 => ascii_into(to, bytes, room, place),
+        Utf16Le | Utf16Be => units_into(from, to, bytes, room, place),
+    }
+}
+
+// Recodes the blocks of ASCII at the front of the bytes.
+#[inline(always)]
+fn ascii_into(to: Form, bytes: &[u8], room: &mut [u8], place: usize) -> (usize, usize)
+    requires { place ≤ length room.old }
+    ensures { RunsInto Form.Utf8 to bytes.now room.old room.new place result.0 result.1 }
+{
+    let mut read = 0;
+    let mut written = place;
+    while 8 <= bytes.len() - read && 16 <= room.len() - written {
+        let block = &bytes[read..read + 8];
+        if !block.is_ascii() {
+            return (read, written);
+        }
+        written = put_eight_at(to, block, room, written);
+        read += 8;
+    }
+    (read, written)
+}
+
+// Recodes the blocks of units at the front of the bytes, each unit a character by itself.
+#[inline(always)]
+fn units_into(from: Form, to: Form, bytes: &[u8], room: &mut [u8], place: usize) -> (usize, usize)
+    requires { place ≤ length room.old }
+    ensures { RunsInto from to bytes.now room.old room.new place result.0 result.1 }
+{
+    let mut read = 0;
+    let mut written = place;
+    while 16 <= bytes.len() - read && 16 <= room.len() - written {
+        match unit_block(from, to, &bytes[read..read + 16]) {
+            None => return (read, written),
+            Some(units) => {
+                written = put_block_at(to, units, room, written);
+                read += 16;
+            }
+        }
+    }
+    (read, written)
+}
+
+// Recodes text at the front of the bytes, as far as a stretch goes for which the room is surely enough, and no fault
+// and none of the last bytes.
+#[inline(always)]
+fn stretch_into(from: Form, to: Form, bytes: &[u8], room: &mut [u8], place: usize) -> (usize, usize)
+    requires { place ≤ length room.old }
+    ensures { RunsInto from to bytes.now room.old room.new place result.0 result.1 }
+{
+    let fitting = bytes.len().min((room.len() - place) / 3);
+    text_into(from, to, &bytes[..STRETCH.min(fitting)], room, place)
+}
+
+// Recodes text at the front of the bytes: no fault, and not the last.
+#[inline(always)]
+fn text_into(from: Form, to: Form, bytes: &[u8], room: &mut [u8], place: usize) -> (usize, usize)
+    requires { place + 3 * length bytes.now ≤ length room.old }
+    ensures { RunsInto from to bytes.now room.old room.new place result.0 result.1 }
+{
+    let stop = bytes.len().saturating_sub(3);
+    let mut read = 0;
+    let mut written = place;
+    while read < stop {
+        match text_front(from, &bytes[read..read + 4]) {
+            None => return (read, written),
+            Some((c, len)) => {
+                written = put_code_at(to, c, room, written);
+                read += len;
+            }
+        }
+    }
+    (read, written)
+}

@@ -1,0 +1,213 @@
+//! What the front of some bytes shows.
+ghost use Rattle.std.specs.Prelude.{◌≡◌, ◌<◌, length, IfSome, IfNone, IsTrue, Some};
+ghost use Rattle.std.specs.List.{All};
+ghost use Rattle.utf_base.specs.Code.{utf8};
+ghost use Rattle.utf_base.specs.Shown.{Shows};
+ghost use Rattle.utf_base.specs.Units.{unit_fault_kind};
+ghost use Rattle.utf_base.specs.declared.errors.units.Utf16PairError.TheVariants.{Incomplete};
+ghost use Rattle.cuts.specs.Recoding.Recoded.{Reads, Lacks, ShowsUnits, unit_of, units_of};
+ghost use Rattle.cuts.specs.Recoding.ShownFronts.{Decides, Ends, Waits, fault_len, ShowsEach, IsPlain};
+
+use crate::recoding::form::Form;
+use crate::recoding::text_front::front_of_text;
+use encode_unicode::error::Utf8ErrorKind;
+use encode_unicode::{CharExt, U16UtfExt};
+
+// The scalar that begins the bytes, or U+FFFD for a fault, and how many bytes it has; `None` where that
+// depends on what follows them.
+#[inline(always)]
+pub(crate) fn front(from: Form, bytes: &[u8]) -> Option<(char, usize)>
+    ensures some { IfSome result (λ x. Decides (Reads from) bytes.now x.0 x.1) }
+    ensures none { IfNone result (Waits (Reads from) (fault_len from) bytes.now) }
+    ensures lacks { IfNone result (Lacks from bytes.now) }
+{
+    match from {
+        Form::Utf8 => front_of_utf8(bytes),
+        Form::Utf16Le => front_of_utf16(false, bytes),
+        Form::Utf16Be => front_of_utf16(true, bytes),
+    }
+}
+
+// The same where nothing follows the bytes.
+#[inline(always)]
+pub(crate) fn last_front(from: Form, bytes: &[u8]) -> (char, usize)
+    requires { 0 < length bytes.now }
+    ensures { Ends (Reads from) bytes.now result.0 result.1 }
+{
+    match front(from, bytes) {
+        Some(first) => first,
+        None => (
+            char::REPLACEMENT_CHARACTER,
+            fault_bytes(from).min(bytes.len()),
+        ),
+    }
+}
+
+// How many bytes a fault has.
+#[inline(always)]
+fn fault_bytes(from: Form) -> usize
+    ensures { result ≡ fault_len from }
+{
+    match from {
+        Form::Utf8 => 1,
+        Form::Utf16Le | Form::Utf16Be => 2,
+    }
+}
+
+#[inline(always)]
+fn front_of_utf8(bytes: &[u8]) -> Option<(char, usize)>
+    ensures some { IfSome result (λ x. Decides (Shows utf8) bytes.now x.0 x.1) }
+    ensures none { IfNone result (Waits (Shows utf8) 1 bytes.now) }
+    ensures lacks { IfNone result (Lacks Form.Utf8 bytes.now) }
+{
+    match char::from_utf8_slice_start(bytes) {
+        Ok((c, len)) => Some((c, len)),
+        Err(error) => match error.kind() {
+            Utf8ErrorKind::TooFewBytes => None,
+            _ => Some((char::REPLACEMENT_CHARACTER, 1)),
+        },
+    }
+}
+
+#[inline(always)]
+fn front_of_utf16(high_first: bool, bytes: &[u8]) -> Option<(char, usize)>
+    ensures some { IfSome result (λ x. Decides (ShowsUnits high_first) bytes.now x.0 x.1) }
+    ensures none { IfNone result (Waits (ShowsUnits high_first) 2 bytes.now) }
+    ensures lacks { IfNone result (unit_fault_kind (units_of high_first bytes.now) ≡ Some Incomplete) }
+{
+    if bytes.len() < 2 {
+        return None;
+    }
+    let first = unit(high_first, bytes[0], bytes[1]);
+    if !first.is_utf16_leading_surrogate() {
+        return match char::from_utf16_tuple((first, None)) {
+            Ok(c) => Some((c, 2)),
+            Err(_) => Some((char::REPLACEMENT_CHARACTER, 2)),
+        };
+    }
+    if bytes.len() < 4 {
+        return None;
+    }
+    let second = unit(high_first, bytes[2], bytes[3]);
+    match char::from_utf16_tuple((first, Some(second))) {
+        Ok(c) => Some((c, 4)),
+        Err(_) => Some((char::REPLACEMENT_CHARACTER, 2)),
+    }
+}
+
+// The character that begins the bytes, and how many bytes it has; `None` at a fault, and near the end.
+#[inline(always)]
+pub(crate) fn text_front(from: Form, bytes: &[u8]) -> Option<(char, usize)>
+    ensures { IfSome result (λ x. Decides (Reads from) bytes.now x.0 x.1) }
+{
+    match from {
+        Form::Utf8 => front_of_text(bytes),
+        Form::Utf16Le => char_of_utf16(false, bytes),
+        Form::Utf16Be => char_of_utf16(true, bytes),
+    }
+}
+
+#[inline(always)]
+fn char_of_utf16(high_first: bool, bytes: &[u8]) -> Option<(char, usize)>
+    ensures { IfSome result (λ x. Decides (ShowsUnits high_first) bytes.now x.0 x.1) }
+{
+    if bytes.len() < 4 {
+        return None;
+    }
+    let first = unit(high_first, bytes[0], bytes[1]);
+    if !first.is_utf16_leading_surrogate() {
+        return match char::from_utf16_tuple((first, None)) {
+            Ok(c) => Some((c, 2)),
+            Err(_) => None,
+        };
+    }
+    let second = unit(high_first, bytes[2], bytes[3]);
+    match char::from_utf16_tuple((first, Some(second))) {
+        Ok(c) => Some((c, 4)),
+        Err(_) => None,
+    }
+}
+
+// The eight units that the bytes are, where each is a character that goes into the form as part of a block.
+#[inline(always)]
+pub(crate) fn unit_block(from: Form, to: Form, bytes: &[u8]) -> Option<[u16; 8]>
+    requires { length bytes.now ≡ 16 }
+    ensures shows { IfSome result (λ units. ShowsEach (Reads from) bytes.now units) }
+    ensures plain { IfSome result (λ units. All (IsPlain to) units) }
+{
+    match from {
+        Form::Utf8 => None,
+        Form::Utf16Le => plain_units(false, to, bytes),
+        Form::Utf16Be => plain_units(true, to, bytes),
+    }
+}
+
+#[inline(always)]
+#[tactic(auto, using(crate::proofs::OfRecoding::Blocks::block_shows))]
+fn plain_units(high_first: bool, to: Form, bytes: &[u8]) -> Option<[u16; 8]>
+    requires { length bytes.now ≡ 16 }
+    ensures shows { IfSome result (λ units. ShowsEach (ShowsUnits high_first) bytes.now units) }
+    ensures plain { IfSome result (λ units. All (IsPlain to) units) }
+{
+    let units = eight_units(high_first, bytes);
+    if are_plain(to, units) {
+        Some(units)
+    } else {
+        None
+    }
+}
+
+#[inline(always)]
+#[tactic(auto, using(crate::proofs::OfRecoding::Blocks::eight_units))]
+fn eight_units(high_first: bool, bytes: &[u8]) -> [u16; 8]
+    requires { length bytes.now ≡ 16 }
+    ensures { result ≡ units_of high_first bytes.now }
+{
+    [
+        unit(high_first, bytes[0], bytes[1]),
+        unit(high_first, bytes[2], bytes[3]),
+        unit(high_first, bytes[4], bytes[5]),
+        unit(high_first, bytes[6], bytes[7]),
+        unit(high_first, bytes[8], bytes[9]),
+        unit(high_first, bytes[10], bytes[11]),
+        unit(high_first, bytes[12], bytes[13]),
+        unit(high_first, bytes[14], bytes[15]),
+    ]
+}
+
+#[inline(always)]
+#[tactic(auto, using(crate::proofs::OfRecoding::Blocks::all_eight))]
+fn are_plain(to: Form, units: [u16; 8]) -> bool
+    ensures { IsTrue result → All (IsPlain to) units }
+{
+    is_plain(to, units[0])
+        && is_plain(to, units[1])
+        && is_plain(to, units[2])
+        && is_plain(to, units[3])
+        && is_plain(to, units[4])
+        && is_plain(to, units[5])
+        && is_plain(to, units[6])
+        && is_plain(to, units[7])
+}
+
+#[inline(always)]
+fn is_plain(to: Form, unit: u16) -> bool
+    ensures { IsTrue result → IsPlain to unit }
+{
+    match to {
+        Form::Utf8 => unit < 0x80,
+        Form::Utf16Le | Form::Utf16Be => unit < 0xd800 || 0xe000 <= unit,
+    }
+}
+
+// The unit of two bytes.
+#[inline(always)]
+pub(crate) fn unit(high_first: bool, first: u8, second: u8) -> u16
+    ensures { result ≡ unit_of high_first first second }
+{
+    if high_first {
+        first as u16 * 256 + second as u16
+    } else {
+        second as u16 * 256 + first as u16
+    }
+}

@@ -1,0 +1,38 @@
+//! How far bytes and units are well-formed.
+ghost use Rattle.std.specs.Prelude.{◌≡◌};
+ghost use Rattle.utf_base.specs.Code.{utf8, utf16};
+ghost use Rattle.encode_unicode.specs.Pieces.{pieces, unit_pieces};
+ghost use Rattle.cuts.specs.Runs.WellFormed.{IsFirstFault, valid_len};
+
+use crate::recoding::text_blocks::text_len;
+use encode_unicode::CharExt;
+
+/// The offset of the first fault in the bytes, or how many bytes there are where there is none: these are then UTF-8.
+pub fn valid_up_to(bytes: &[u8]) -> usize
+    ensures first { IsFirstFault utf8 bytes.now result }
+    ensures value { result ≡ valid_len (pieces bytes.now) }
+{
+    let mut place = text_len(bytes);
+    while place < bytes.len() {
+        match char::from_utf8_slice_start(&bytes[place..]) {
+            Ok((_, len)) => place += len,
+            Err(_) => return place,
+        }
+    }
+    place
+}
+
+/// The offset of the first fault in the units, or how many units there are where there is none: these are then UTF-16.
+pub fn units_valid_up_to(units: &[u16]) -> usize
+    ensures first { IsFirstFault utf16 units.now result }
+    ensures value { result ≡ valid_len (unit_pieces units.now) }
+{
+    let mut place = 0;
+    while place < units.len() {
+        match char::from_utf16_slice_start(&units[place..]) {
+            Ok((_, len)) => place += len,
+            Err(_) => return place,
+        }
+    }
+    place
+}

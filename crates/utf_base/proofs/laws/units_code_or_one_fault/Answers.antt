@@ -1,5 +1,0 @@
-use Rattle.utf_base.proofs.UnitLemmas.{units_code_or_one_fault}
-use Rattle.utf_base.proofs.laws.units_code_or_one_fault.Goals as goal
-
-pub returns : goal.returns
-returns c = units_code_or_one_fault

@@ -1,5 +1,0 @@
-use Rattle.utf_base.proofs.DecodedLemmas.{answer_of_array, gives_char}
-use Rattle.utf_chars.proofs.traits.CharCharExt.from_utf8_array.Goals as goal
-
-pub returns-clause-known : goal.returns-clause-known
-returns-clause-known c = gives_char _ _ (answer_of_array _ _ c.decode_array.ensures)
