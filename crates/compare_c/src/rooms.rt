@@ -2,7 +2,7 @@
 ghost use Rattle.std.specs.Prelude.{◌≤◌, length};
 
 use crate::recoding::form_of;
-use cuts::recoder::Recoder;
+use cuts::Recoder;
 
 /// What the recoder makes of some bytes by `feed_into` and `finish_into`. Two numbers are a call: how many bytes its part
 /// has, as far as there are so many, and how many its room. After these calls one feeds the rest with all the room that

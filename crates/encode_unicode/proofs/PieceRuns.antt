@@ -372,11 +372,6 @@ lengths_fit code text p le gives =
     let all = lengths_added code 0 (chars text) in
     omega arith
 
-pub bytes_fit : (text : List ℕ) (s : Window) → IsUtf8 text → s ≡ whole_window text → EachRunFrom NextScalar s (LengthsFit utf8 (length text))
-bytes_fit text s h e p seen from =
-    let whole = ap length (codes_of_text text h) in
-    lengths_fit utf8 text p (omega arith) (scalars_all text s e p seen from)
-
 pub units_fit : (text : List ℕ) (s : Window) → IsUtf8 text → s ≡ whole_window text → EachRunFrom NextScalar s (LengthsFit utf16 (length text))
 units_fit text s h e p seen from =
     let whole = ap length (codes_of_text text h) in

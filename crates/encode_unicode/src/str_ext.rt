@@ -2,7 +2,7 @@
 ghost use Rattle.std.specs.Prelude.{◌≡◌, length, List, ℕ};
 ghost use Rattle.std.specs.Str.{chars};
 ghost use Rattle.std.specs.Iterator.Runs.{AllItems, EachRunFrom, EveryRun};
-ghost use Rattle.utf_base.specs.Code.{utf8, utf16};
+ghost use Rattle.utf_base.specs.Code.{utf16};
 ghost use Rattle.encode_unicode.specs.Pieces.{Gives, GivesReversed, LengthsFit, LiesInText, chars_left, placed_chars, placed_chars_left};
 ghost use Rattle.encode_unicode.specs.TextWindow.{BackPlaced, BackScalar, NextPlaced, NextScalar};
 ghost use Rattle.encode_unicode.specs.Window.{whole_window};
@@ -22,9 +22,7 @@ pub trait StrExt<'a>: Sized {
         ensures runs { EveryRun NextScalar (λ p. Gives p (chars_left p.from)) }
         ensures runs_back { EveryRun BackScalar (λ p. GivesReversed p (chars_left p.from)) }
         ensures all { EachRunFrom NextScalar result (λ p. Gives p (chars (text self))) }
-        ensures all_back { EachRunFrom BackScalar result (λ p. GivesReversed p (chars (text self))) }
-        ensures lengths { EachRunFrom NextScalar result (LengthsFit utf8 (length (text self))) }
-        ensures units { EachRunFrom NextScalar result (LengthsFit utf16 (length (text self))) };
+        ensures all_back { EachRunFrom BackScalar result (λ p. GivesReversed p (chars (text self))) };
 
     /// The characters, kept as their codes in UTF-16.
     fn utf16chars(self) -> Utf16Chars<'a>
@@ -60,7 +58,7 @@ impl<'a> StrExt<'a> for &'a str {
     ghost text = { λ text. text.now };
 
     #[inline]
-    #[tactic(auto, using(crate::proofs::PieceRuns::scalars_runs, crate::proofs::PieceRuns::scalars_runs_back, crate::proofs::PieceRuns::bytes_fit, crate::proofs::PieceRuns::units_fit))]
+    #[tactic(auto, using(crate::proofs::PieceRuns::scalars_runs, crate::proofs::PieceRuns::scalars_runs_back))]
     fn utf8chars(self) -> Utf8Chars<'a> {
         Utf8Chars::from(self)
     }

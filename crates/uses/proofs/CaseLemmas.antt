@@ -1,8 +1,8 @@
 -- Bytes that are equal but for ASCII case have the same pieces, but for case.
-use Rattle.std.proofs.Common.{◌≡◌, ℕ, ◌+◌, ◌<◌, ◌≤◌, List, length, map, get_or, Option, Some, None, refl, ⊎_elim, arith, ap, sym, ◌∙◌, length-map}
+use Rattle.std.proofs.Common.{◌≡◌, ℕ, ◌+◌, ◌<◌, ◌≤◌, List, length, map, get_or, Option, Some, None, refl, ⊎_elim, arith, ap, sym, ◌∙◌}
 use Rattle.std.proofs.lemmas.Bool.{cases_lt}
 use Rattle.std.proofs.lemmas.Grind.{common_steps}
-use Rattle.std.proofs.lemmas.List.{ext_get_or, get_or-map}
+use Rattle.std.proofs.lemmas.List.{ext_get_or, get_or-map, length-map}
 use Rattle.std.proofs.lemmas.Str.Ascii.{lowercase_ascii, lowercase_is}
 use Rattle.std.specs.Char.{to_ascii_lowercase}
 use Rattle.std.specs.Prelude.{option_map, slice_range}
@@ -33,7 +33,7 @@ same_beyond a b ge e =
     (cases_lt b 128)
 
 same_length : (xs ys : List ℕ) → AreAlike xs ys → length xs ≡ length ys
-same_length xs ys e = sym (length-map to_ascii_lowercase xs) ∙ ap length e ∙ length-map to_ascii_lowercase ys
+same_length xs ys e = sym (length-map xs to_ascii_lowercase) ∙ ap length e ∙ length-map ys to_ascii_lowercase
 
 at_place : (xs ys : List ℕ) → AreAlike xs ys → (k : ℕ) → k < length xs → to_ascii_lowercase (get_or xs k 0) ≡ to_ascii_lowercase (get_or ys k 0)
 at_place xs ys e k lt =
