@@ -18,6 +18,7 @@ pub mod Readings
 pub mod Relays
 pub mod RoomLemmas
 pub mod RoomRuns
+pub mod OutputRuns
 pub mod ShardEnds
 pub mod BlockUnits
 pub mod ChosenLanes

@@ -2,6 +2,7 @@
 pub mod Recoded
 pub mod Relayed
 pub mod Rooms
+pub mod OutputRuns
 pub mod Bounds
 pub mod Fed
 pub mod Shards

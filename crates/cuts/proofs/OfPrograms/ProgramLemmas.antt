@@ -1,6 +1,6 @@
 -- A run of a program, and then a flush of its output.
-use Rattle.std.proofs.Common.{◌≡◌, ℕ, ◌<◌, ◌≤◌, ◌⊎◌, inl, inr, ⊎_elim, List, Option, refl, ap, sym, ◌∙◌, subst, arith, flat_map, Result, Ok, Err}
-use Rattle.std.specs.Prelude.{codes, IfOk, take}
+use Rattle.std.proofs.Common.{◌≡◌, ℕ, ◌<◌, ◌≤◌, inl, inr, ⊎_elim, List, Option, ap, sym, ◌∙◌, subst, arith, flat_map}
+use Rattle.std.specs.Prelude.{take}
 use Rattle.std.proofs.lemmas.Bool.{cases_lt}
 use Rattle.std.specs.Io.KnownBytes.{Keeps}
 use Rattle.std.proofs.KnownBytes.{Appends-kept}
@@ -9,7 +9,7 @@ use Rattle.cuts.specs.declared.programs.stops.Stop.TheVariants.{WrongArguments, 
 use Rattle.cuts.specs.Programs.Arguments.{Asked, listed, merged, walked}
 use Rattle.cuts.specs.Failures.{Counting}
 use Rattle.cuts.specs.Programs.Layouts.{Layout, WritesRun, WritesRunFront, forward_layout, merged_layout, walk_layout}
-use Rattle.cuts.specs.Programs.Endings.{WritesAsked, WritesAskedFront, DoesAsked, TellsAsked, BeginsAsked, FailsOrStays, FlushFailsOrStays, EndsEarly, stop_line}
+use Rattle.cuts.specs.Programs.Endings.{WritesAsked, WritesAskedFront, TellsAsked, BeginsAsked, FailsOrStays, FlushFailsOrStays, EndsEarly, stop_line}
 
 WritesRun-kept : {X : Type 0} (layout : Layout X) (xs : List ℕ) (old mid new : Option (List ℕ)) (n : ℕ) → WritesRun layout xs old mid n → Keeps mid new → WritesRun layout xs old new n
 WritesRun-kept layout xs old mid new n h keeps = record {

@@ -1,5 +1,5 @@
 -- ASCII, which shows itself byte by byte.
-use Rattle.std.proofs.Common.{◌≡◌, ℕ, suc, ◌+◌, ◌/◌, ◌%◌, ◌<◌, true, false, List, [], ◌∷◌, ◌++◌, length, get_or, take, drop, flat_map, arith, refl, ap₂, sym, ◌∙◌}
+use Rattle.std.proofs.Common.{◌≡◌, ℕ, suc, ◌/◌, ◌%◌, ◌<◌, true, false, List, [], ◌∷◌, ◌++◌, length, get_or, flat_map, arith, refl, ap₂, sym, ◌∙◌}
 use Rattle.std.specs.Str.{IsAscii}
 use Rattle.utf_base.specs.Code.{utf8, utf16}
 use Rattle.utf_base.specs.Shown.{Shows}
@@ -8,9 +8,8 @@ use Rattle.utf_base.proofs.Utf8Code.{utf8_is_code, utf8-1, ascii_is_scalar}
 use Rattle.utf_base.proofs.Utf16Code.{utf16-1}
 use Rattle.cuts.specs.declared.recoding.form.Form.{Form}
 use Rattle.cuts.specs.declared.recoding.form.Form.TheVariants.{Utf8, Utf16Le, Utf16Be}
-use Rattle.cuts.specs.Recoding.Recoded.{written, bytes_of, Grows}
+use Rattle.cuts.specs.Recoding.Recoded.{written, bytes_of}
 use Rattle.cuts.specs.Recoding.ShownFronts.{ShowsEach}
-use Rattle.cuts.proofs.OfRecoding.Growing.{Grows-each}
 
 ascii_shows_first : (v later ss : List ℕ) → IsAscii v → Shows utf8 later ss → Shows utf8 (v ++ later) (v ++ ss)
 ascii_shows_first [] later ss h r = r
@@ -20,11 +19,6 @@ ascii_shows_first (b ∷ v) later ss h r =
 
 pub ShowsEach-ascii : (v : List ℕ) → IsAscii v → ShowsEach (Shows utf8) v v
 ShowsEach-ascii v h later ss r = ascii_shows_first v later ss h r
-
-pub Grows-ascii : (to : Form) (bytes old mid new : List ℕ) (p n : ℕ) → Grows Utf8 to bytes old mid (drop p bytes) → IsAscii (take n (drop p bytes))
-    → new ≡ mid ++ flat_map (written to) (take n (drop p bytes)) → Grows Utf8 to bytes old new (drop (p + n) bytes)
-Grows-ascii to bytes old mid new p n g ascii e =
-    Grows-each Utf8 to bytes old mid new (take n (drop p bytes)) p n g (ShowsEach-ascii (take n (drop p bytes)) ascii) e
 
 -- The bytes that come of ASCII.
 

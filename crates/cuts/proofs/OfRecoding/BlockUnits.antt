@@ -1,15 +1,14 @@
 -- What a block gives: the units of its lanes, in order.
-use Rattle.std.proofs.Common.{◌≡◌, ℕ, zero, suc, ◌+◌, ◌-◌, ◌*◌, ◌/◌, ◌%◌, ◌^◌, ◌<◌, ◌≤◌, Bool, true, false, not, cond, eqb, leb, ltb, ◌&&◌, List, [], ◌∷◌, ◌++◌, map, length, get_or, replicate, bit_and, refl, sym, ap, ap₂, ◌∙◌, arith, lit<, w8, Fits, ltb-true, ltb-false, leb-true, leb-false}
+use Rattle.std.proofs.Common.{◌≡◌, ℕ, zero, suc, ◌+◌, ◌-◌, ◌*◌, ◌/◌, ◌%◌, ◌^◌, ◌<◌, ◌≤◌, Bool, true, false, not, cond, leb, ltb, ◌&&◌, List, [], ◌∷◌, ◌++◌, map, length, get_or, replicate, bit_and, refl, sym, ap, ap₂, ◌∙◌, arith, lit<, w8, Fits, ltb-true, ltb-false, leb-false}
 use Rattle.std.proofs.lemmas.Grind.{common_steps}
-use Rattle.std.proofs.lemmas.Bool.{cases_lt}
 use Rattle.std.proofs.lemmas.List.{get_or_append_left, get_or-append_right}
 use Rattle.std.proofs.lemmas.List.Sums.{prefix_len_passes}
 use Rattle.std.proofs.lemmas.Nat.{and_mask}
-use Rattle.std.proofs.lemmas.Simd.{get_or-replicate, get_or-chunk, length-chunk, chunk-fits, bitmask_splat, zip2_splat, zip2_splat_left, leading_from_mask_l}
+use Rattle.std.proofs.lemmas.Simd.{get_or-chunk, length-chunk, chunk-fits, bitmask_splat, zip2_splat, zip2_splat_left, leading_from_mask_l}
 use Rattle.std.specs.Int.{bit_at}
 use Rattle.std.specs.List.{prefix_len}
-use lib.Lanes.{zip2, mask_l, top, chunk, Each1}
-use Rattle.cuts.specs.Recoding.GivenUnits.{joined, gives, low_half, high_half, leading_low, leading_high, trailing_high, unit_low, unit_high, halves, given_at, pair_at}
+use lib.Lanes.{zip2, mask_l, top, chunk}
+use Rattle.cuts.specs.Recoding.GivenUnits.{joined, gives, low_half, high_half, unit_low, unit_high, halves, given_at, pair_at}
 use Rattle.cuts.proofs.OfRecoding.Joined.{joined_same, joined_none, joined_add, joined_moved}
 use Rattle.cuts.proofs.OfRecoding.LaneLemmas.{IsBlock}
 use Rattle.cuts.proofs.OfRecoding.ChosenLanes.{where_below, where_below_len, where_below_at}

@@ -1,5 +1,5 @@
 -- Lanes that are chosen by a comparison.
-use Rattle.std.proofs.Common.{◌≡◌, ℕ, ◌<◌, Bool, true, false, cond, ltb, List, map, length, get_or, replicate, refl, sym, ◌∙◌, arith, w8}
+use Rattle.std.proofs.Common.{◌≡◌, ℕ, ◌<◌, false, cond, ltb, List, map, length, get_or, replicate, refl, sym, ◌∙◌, arith, w8}
 use Rattle.std.proofs.lemmas.Simd.{length-zip2, get_or-zip2, length-sel_l, get_or-sel_l, tops_compared}
 use lib.Lanes.{zip2, sel_l, top}
 use Rattle.cuts.proofs.OfRecoding.LaneLemmas.{wide}

@@ -72,13 +72,9 @@ Continues-trans from to a g b k c h i later rest r = rw (append_assoc g k rest) 
 pub Continues-append : (from to : Form) (a g b x : List ℕ) → Continues from to a g b → Continues from to (a ++ x) g (b ++ x)
 Continues-append from to a g b x h later rest r = rw (append_assoc a x later) (h (x ++ later) rest (rw (append_assoc b x later) at r))
 
-pub Grows-step : (from to : Form) (bytes old mid new : List ℕ) (p s n : ℕ) → Grows from to bytes old mid (drop p bytes) → Decides (Reads from) (drop p bytes) s n
-    → new ≡ mid ++ written to s → Grows from to bytes old new (drop (p + n) bytes)
-Grows-step from to bytes old mid new p s n g d e = record {
-  grown = g.grown ++ written to s;
-  appended = e ∙ ap (λ x. x ++ written to s) g.appended ∙ append_assoc old g.grown (written to s);
-  continues = rw (drop-drop n p bytes) at (Continues-step from to bytes g.grown (drop p bytes) s n g.continues d);
-}
+-- one code
+pub Grows-code : (from to : Form) (w old new : List ℕ) (s n : ℕ) → Decides (Reads from) w s n → new ≡ old ++ written to s → Grows from to w old new (drop n w)
+Grows-code from to w old new s n d e = record { grown = written to s; appended = e; continues = Continues-step from to w [] w s n (Continues-none from to w) d }
 
 pub Grows-none : (from to : Form) (bytes old : List ℕ) → Grows from to bytes old old bytes
 Grows-none from to bytes old = record { grown = []; appended = sym (append-nil old); continues = Continues-none from to bytes }
@@ -122,38 +118,29 @@ Feeds-whole r s from to held part rest old mid new p q e f i g le j h few k =
     let whole : Grows from to (held ++ part) old new (drop q rest) = Grows-trans from to (held ++ part) rest (drop q rest) old mid new first h in
     rw k (record { grows = rw (e, f, i) at whole; from = refl; to = refl; few = few })
 
--- Bytes that show several scalars.
-Continues-each : (from to : Form) (bytes grown mid ts : List ℕ) (n : ℕ) → Continues from to bytes grown mid → ShowsEach (Reads from) (take n mid) ts
-    → Continues from to bytes (grown ++ flat_map (written to) ts) (drop n mid)
-Continues-each from to bytes grown mid ts n h shows later rest (ss, r, e) =
-    let whole : take n mid ++ (drop n mid ++ later) ≡ mid ++ later = sym (append_assoc (take n mid) (drop n mid) later) ∙ ap (λ xs. xs ++ later) (take-append-drop n mid) in
-    let first : Reads from (mid ++ later) (ts ++ ss) = rw whole at (shows (drop n mid ++ later) ss r) in
-    let codes : flat_map (written to) ts ++ rest ≡ flat_map (written to) (ts ++ ss)
-    = ap (λ xs. flat_map (written to) ts ++ xs) e ∙ sym (flat_map-append (written to) ts ss) in
-    rw (append_assoc grown (flat_map (written to) ts) rest) (h later (flat_map (written to) ts ++ rest) (ts ++ ss, first, codes))
+all_of : (w : List ℕ) (n : ℕ) (later : List ℕ) → take n w ++ (drop n w ++ later) ≡ w ++ later
+all_of w n later = sym (append_assoc (take n w) (drop n w) later) ∙ ap (λ xs. xs ++ later) (take-append-drop n w)
 
-pub Grows-each : (from to : Form) (bytes old mid new ts : List ℕ) (p n : ℕ) → Grows from to bytes old mid (drop p bytes) → ShowsEach (Reads from) (take n (drop p bytes)) ts
-    → new ≡ mid ++ flat_map (written to) ts → Grows from to bytes old new (drop (p + n) bytes)
-Grows-each from to bytes old mid new ts p n g shows e = record {
-  grown = g.grown ++ flat_map (written to) ts;
-  appended = e ∙ ap (λ x. x ++ flat_map (written to) ts) g.appended ∙ append_assoc old g.grown (flat_map (written to) ts);
-  continues = rw (drop-drop n p bytes) at (Continues-each from to bytes g.grown (drop p bytes) ts n g.continues shows);
+-- Bytes that show several scalars.
+pub Grows-each : (from to : Form) (w old new ts : List ℕ) (n : ℕ) → ShowsEach (Reads from) (take n w) ts → new ≡ old ++ flat_map (written to) ts → Grows from to w old new (drop n w)
+Grows-each from to w old new ts n shows e = record {
+  grown = flat_map (written to) ts;
+  appended = e;
+  continues = λ later rest (ss, r, f). (
+    ts ++ ss,
+    rw (all_of w n later) at (shows (drop n w ++ later) ss r),
+    ap (λ xs. flat_map (written to) ts ++ xs) f ∙ sym (flat_map-append (written to) ts ss),
+  );
 }
 
 -- Text in UTF-8 stays as it is.
-Continues-text : (bytes grown mid : List ℕ) (n : ℕ) → Continues Utf8 Utf8 bytes grown mid → IsUtf8 (take n mid) → Continues Utf8 Utf8 bytes (grown ++ take n mid) (drop n mid)
-Continues-text bytes grown mid n h text later rest (ss, r, e) =
-    let first = text_shows_first (take n mid) (drop n mid ++ later) ss text r in
-    let whole : take n mid ++ (drop n mid ++ later) ≡ mid ++ later = sym (append_assoc (take n mid) (drop n mid) later) ∙ ap (λ xs. xs ++ later) (take-append-drop n mid) in
-    let codes : take n mid ++ rest ≡ flat_map utf8 (first.0 ++ ss) = ap₂ (λ xs ys. xs ++ ys) (sym first.2) e ∙ sym (flat_map-append utf8 first.0 ss) in
-    rw (append_assoc grown (take n mid) rest) (h later (take n mid ++ rest) (first.0 ++ ss, rw whole at first.1, codes))
-
-pub Grows-text : (bytes old mid new : List ℕ) (p n : ℕ) → Grows Utf8 Utf8 bytes old mid (drop p bytes) → IsUtf8 (take n (drop p bytes))
-    → new ≡ mid ++ take n (drop p bytes) → Grows Utf8 Utf8 bytes old new (drop (p + n) bytes)
-Grows-text bytes old mid new p n g text e = record {
-  grown = g.grown ++ take n (drop p bytes);
-  appended = e ∙ ap (λ x. x ++ take n (drop p bytes)) g.appended ∙ append_assoc old g.grown (take n (drop p bytes));
-  continues = rw (drop-drop n p bytes) at (Continues-text bytes g.grown (drop p bytes) n g.continues text);
+pub Grows-text : (w old new : List ℕ) (n : ℕ) → IsUtf8 (take n w) → new ≡ old ++ take n w → Grows Utf8 Utf8 w old new (drop n w)
+Grows-text w old new n text e = record {
+  grown = take n w;
+  appended = e;
+  continues = λ later rest (ss, r, f).
+      let first = text_shows_first (take n w) (drop n w ++ later) ss text r in
+      (first.0 ++ ss, rw (all_of w n later) at first.1, ap₂ (λ xs ys. xs ++ ys) (sym first.2) f ∙ sym (flat_map-append utf8 first.0 ss));
 }
 
 -- Where nothing follows: what is recoded of the bytes is `grown`, and then what the held ones are recoded as.

@@ -1,9 +1,9 @@
 -- Bytes read until a reader answers the end.
-use Rattle.std.proofs.Common.{◌≡◌, ℕ, ◌+◌, ◌-◌, ◌^◌, ◌<◌, ◌≤◌, ◌⊎◌, inl, inr, ⊎_elim, zero, suc, Bool, false, true, List, [], ◌∷◌, ◌++◌, length, Option, Some, None, Result, Ok, Err, refl, ap, sym, ◌∙◌, arith, length-append}
+use Rattle.std.proofs.Common.{◌≡◌, ℕ, ◌+◌, ◌<◌, ◌≤◌, ◌⊎◌, inl, inr, ⊎_elim, zero, suc, Bool, false, List, [], ◌∷◌, ◌++◌, length, Option, Some, None, Ok, Err, refl, ap, sym, ◌∙◌, arith, length-append}
 use Rattle.std.proofs.lemmas.List.{append-nil}
 use Rattle.std.proofs.Math.Dec.{eqb-suc-zero}
-use Rattle.std.proofs.KnownBytes.{Consumes-nil, Consumes-trans, Consumes-kept}
-use Rattle.std.specs.Prelude.{IfSome, IsTrue, ◌||◌, ◌==◌, if◌then◌else◌}
+use Rattle.std.proofs.KnownBytes.{Consumes-trans, Consumes-kept}
+use Rattle.std.specs.Prelude.{IfSome, IsTrue, ◌||◌, if◌then◌else◌}
 use Rattle.std.specs.Io.KnownBytes.{Consumes, Keeps, IsAtEnd}
 use Rattle.std.specs.IoError.{error_kind}
 use Rattle.std.specs.declared.io.Error.{Error}
@@ -19,16 +19,6 @@ pub record IsReadSoFar (counted : Bool) (left_old left_now : Option (List ℕ)) 
   pub unbroken : IsTrue counted → now.broken ≡ old.broken
   pub unended : IsTrue counted → old.ended ≡ false → now.ended ≡ false
   pub in_time : IsTrue counted → old.ended ≡ false → now.late ≡ old.late
-
-pub IsReadSoFar-none : (counted : Bool) (left : Option (List ℕ)) (f : ℕ) (old : Reads) → IsReadSoFar counted left left f f old old 0 []
-IsReadSoFar-none counted left f old = record {
-  read = Consumes-nil left;
-  paced = λ is. inr (omega arith);
-  rising = λ is. omega arith;
-  unbroken = λ is. refl;
-  unended = λ is open_yet. open_yet;
-  in_time = λ is open_yet. refl;
-}
 
 -- a read that gave something did not answer the end
 pub is_end-some : (count : ℕ) (places : List ℕ) → 0 < count → is_end {E = Error} (Ok count) places ≡ false

@@ -9,7 +9,7 @@ use Rattle.std.specs.Io.KnownBytes.{Appends, Consumes, Keeps, IsAtEnd}
 use Rattle.cuts.specs.declared.recoding.form.Form.{Form}
 use Rattle.cuts.specs.Recoding.Recoded.{Recoding, Continues, IsRecoded}
 use Rattle.cuts.specs.Failures.{AppendsFront}
-use Rattle.cuts.specs.Recoding.Relayed.{WritesRecoded, BeginsRecoded, HoldsBack, Passes, PassesFront, PassesLast, PassesLastFront}
+use Rattle.cuts.specs.Recoding.Relayed.{WritesRecoded, BeginsRecoded, Passes, PassesFront, PassesLast, PassesLastFront}
 use Rattle.cuts.proofs.OfRecoding.Fronts.{AppendsFront-all, AppendsFront-first, AppendsFront-then}
 use Rattle.cuts.proofs.OfRecoding.Growing.{Continues-none, Continues-append, Continues-trans, recoded_once}
 
@@ -115,19 +115,6 @@ IsRelayed-long from to in_old in_now out_old out_now f g n most r now le = by_by
     by_bytes (Some zs) (Some us) xs f g n most h paced le = λ few.
         let e = ap length h in
         ⊎_elim (λ (failed : f < g). failed) (λ (each : n ≤ length xs). absurd (omega (arith, length-append xs us))) paced
-
--- a read failed, and what was held stays held
-pub HoldsBack-now : (from to : Form) (in_old in_mid in_new out_old out_now : Option (List ℕ)) (f g n : ℕ) (r : Recoding)
-    → IsRelayed from to in_old in_mid out_old out_now f g n r → Keeps in_mid in_new → HoldsBack from to in_old in_new out_old out_now
-HoldsBack-now from to in_old in_mid in_new out_old out_now f g n r now keeps = record {
-  bytes = now.bytes;
-  grown = now.grown;
-  held = r.held;
-  few = now.few;
-  read = Consumes-kept in_old in_mid in_new now.bytes now.read keeps;
-  continues = now.continues;
-  written = now.written;
-}
 
 -- what some bytes are recoded as whatever follows is a front of what they are recoded as
 front_of : (from to : Form) (bytes grown held : List ℕ) → Continues from to bytes grown held

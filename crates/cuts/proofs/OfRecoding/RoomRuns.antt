@@ -1,6 +1,6 @@
 -- Runs into room of a fixed size, step by step.
 use Rattle.std.proofs.Common.{◌≡◌, ℕ, ◌+◌, ◌-◌, ◌*◌, ◌<◌, ◌≤◌, List, [], ◌∷◌, ◌++◌, length, get_or, take, drop, flat_map, arith, refl, ap, sym, ⊎_elim, subst, ◌∙◌, append_assoc, length-drop, length-take}
-use Rattle.std.proofs.lemmas.List.{drop-drop, take-take, take_all, append-nil, drop-take}
+use Rattle.std.proofs.lemmas.List.{drop-drop, take-take, take_all}
 use Rattle.std.proofs.lemmas.List.Concat.{flat_map-append}
 use Rattle.std.proofs.lemmas.Bool.{cases_lt}
 use Rattle.cuts.specs.declared.recoding.form.Form.{Form}
@@ -9,17 +9,6 @@ use Rattle.cuts.specs.Recoding.ShownFronts.{Decides, ShowsEach}
 use Rattle.cuts.specs.Recoding.Rooms.{Fills, RunsInto}
 use Rattle.cuts.proofs.OfRecoding.Growing.{Grows-trans, length_written}
 use Rattle.cuts.proofs.OfRecoding.RoomLemmas.{drop_later, cut_part, take_more, Grows-ahead, Grows-more-read}
-
--- nothing is recoded yet
-pub RunsInto-none : (from to : Form) (bytes room : List ℕ) (place : ℕ) → place ≤ length room → RunsInto from to bytes room room place 0 place
-RunsInto-none from to bytes room place le = record {
-  within = omega arith;
-  ordered = omega arith;
-  short = omega arith;
-  fits = le;
-  grows = record { grown = []; appended = sym (append-nil (take place room)); continues = λ later rest h. h };
-  rest = refl;
-}
 
 -- one run after another, each by the three bytes that follow it
 pub Grows-after : (from to : Form) (bytes old mid new : List ℕ) (p n : ℕ) → Grows from to (take (p + 3) bytes) old mid (take 3 (drop p bytes))

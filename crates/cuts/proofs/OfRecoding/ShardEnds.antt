@@ -53,9 +53,6 @@ last_before code c xs n at lt over =
 abbrev pub NoneOver : List ℕ → ℕ → ℕ → ℕ → Type 0
 NoneOver xs least place at = (p s : ℕ) → least ≤ p → p < place → Stands utf8 xs p s → p + length (utf8 s) ≤ at
 
-pub utf8_over : (xs : List ℕ) (p at s n : ℕ) → p ≤ length xs → BeginsWith utf8 (drop p xs) s n → at < p + n → LiesOver utf8 xs p at
-utf8_over xs p at s n le (h, e) lt = record { char = s; stands = stands_in_list utf8 xs p s le h; ends = omega arith }
-
 pub utf8_not_over : (xs : List ℕ) (p at s n : ℕ) → BeginsWith utf8 (drop p xs) s n → p + n ≤ at → (t : ℕ) → Stands utf8 xs p t → p + length (utf8 t) ≤ at
 utf8_not_over xs p at s n (h, e) le t g =
     let same : t ≡ s = same_char utf8 utf8_is_code (drop p xs) 0 t s (stands_in_rest utf8 xs p t g) h in
@@ -116,9 +113,6 @@ module _ (high : Bool) (w : List ℕ) (four : 4 ≤ length w) where
   no_pair_at_fault k e t g =
       let two = two_units high w four in
       absurd (no_units_where_fault _ k t e (in_two _ _ two.0 t (rw two.1 at g)))
-
-pub no_pair_in_few : (high : Bool) (w : List ℕ) → length w < 4 → (t : ℕ) → Stands utf16 (units_of high w) 0 t → length (utf16 t) ≤ 1
-no_pair_in_few high w few t g = let within = g.within in omega (arith, few_units high w few)
 
 -- The place at whole units, where a pair lies over it and where none does.
 module _ (high : Bool) (bytes : List ℕ) (at n : ℕ) (lt : at < length bytes) (whole : n ≡ at - at % 2) where

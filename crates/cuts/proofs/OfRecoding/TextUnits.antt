@@ -1,6 +1,6 @@
 -- The codes in UTF-16 of some text are what its places give, in order.
-use Rattle.std.proofs.Common.{◌≡◌, ℕ, zero, suc, ◌+◌, ◌-◌, ◌*◌, ◌/◌, ◌%◌, ◌<◌, ◌≤◌, Bool, true, false, cond, ltb, ◌⊎◌, List, [], ◌∷◌, ◌++◌, length, get_or, take, drop, flat_map, arith, refl, sym, ap, ap₂, ◌∙◌, subst, inl, inr, append_assoc, length-append, ltb-true, ltb-false, IsUtf8}
-use Rattle.std.proofs.Math.Seq.{take-append-add, drop-append_seam}
+use Rattle.std.proofs.Common.{◌≡◌, ℕ, suc, ◌+◌, ◌-◌, ◌*◌, ◌/◌, ◌%◌, ◌<◌, ◌≤◌, Bool, true, false, cond, ltb, ◌⊎◌, List, [], ◌∷◌, ◌++◌, length, get_or, take, drop, flat_map, arith, refl, sym, ap, ap₂, ◌∙◌, inl, inr, append_assoc, length-append, ltb-true, ltb-false, IsUtf8}
+use Rattle.std.proofs.Math.Seq.{drop-append_seam}
 use Rattle.std.proofs.lemmas.Bool.{cases_lt}
 use Rattle.std.proofs.lemmas.Grind.{common_steps}
 use Rattle.std.proofs.lemmas.List.{append-nil, drop-drop, get_or-drop, get_or-take}
@@ -63,9 +63,6 @@ given_more high xs old mid new p m q n t e f at sum =
 
 pub two_halves : (old mid new first second all : List ℕ) → mid ≡ old ++ first → new ≡ mid ++ second → first ++ second ≡ all → new ≡ old ++ all
 two_halves old mid new first second all e f g = f ∙ ap (λ ys. ys ++ second) e ∙ append_assoc old first second ∙ ap (λ ys. old ++ ys) g
-
-pub cut_short : (old mid new bytes : List ℕ) (n end : ℕ) → mid ≡ old ++ bytes → new ≡ take end mid → end ≡ length old + n → new ≡ old ++ take n bytes
-cut_short old mid new bytes n end e f at = f ∙ ap₂ take at e ∙ take-append-add old bytes n
 
 -- One code.
 
@@ -317,14 +314,14 @@ as_units high Utf16Le s form = rw form refl
 as_units high Utf16Be s form = rw form refl
 
 -- So an output grows by what some text gives.
-pub Grows-given : (high : Bool) (to : Form) (bytes old mid new : List ℕ) (p n : ℕ) → IsUnits high to → Grows Utf8 to bytes old mid (drop p bytes)
-    → IsUtf8 (take n (drop p bytes)) → new ≡ mid ++ given high (take n (drop p bytes)) 0 (length (take n (drop p bytes))) → Grows Utf8 to bytes old new (drop (p + n) bytes)
-Grows-given high to bytes old mid new p n form g text e =
-    let t = joined_from_text (take n (drop p bytes)) text in
+pub Grows-given : (high : Bool) (to : Form) (w old new : List ℕ) (n : ℕ) → IsUnits high to → IsUtf8 (take n w)
+    → new ≡ old ++ given high (take n w) 0 (length (take n w)) → Grows Utf8 to w old new (drop n w)
+Grows-given high to w old new n form text e =
+    let t = joined_from_text (take n w) text in
     let cs = t.0 in
-    let codes : flat_map (written to) cs ≡ given high (take n (drop p bytes)) 0 (length (take n (drop p bytes)))
+    let codes : flat_map (written to) cs ≡ given high (take n w) 0 (length (take n w))
     = same_codes cs ∙ sym (text_given high cs t.1.0) ∙ ap (λ ys. given high ys 0 (length ys)) (sym t.1.1) in
-    Grows-each Utf8 to bytes old mid new cs p n g (rw (sym t.1.1) at (shows_each cs t.1.0)) (e ∙ ap (λ ys. mid ++ ys) (sym codes))
+    Grows-each Utf8 to w old new cs n (rw (sym t.1.1) at (shows_each cs t.1.0)) (e ∙ ap (λ ys. old ++ ys) (sym codes))
   where
     same_codes : (cs : List ℕ) → flat_map (written to) cs ≡ flat_map (λ s. flat_map (bytes_of high) (utf16 s)) cs
     same_codes [] = refl

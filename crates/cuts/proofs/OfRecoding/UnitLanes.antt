@@ -1,13 +1,13 @@
 -- The lanes of a block of text, and the units that they give.
-use Rattle.std.proofs.Common.{◌≡◌, ℕ, ◌+◌, ◌-◌, ◌*◌, ◌/◌, ◌%◌, ◌^◌, ◌<◌, ◌≤◌, Bool, true, false, not, cond, eqb, leb, ltb, ◌&&◌, List, map, length, get_or, replicate, min, bit_and, refl, sym, ap, ap₂, ◌∙◌, inl, inr, arith, lit<, w8, Fits, ltb-true, ltb-false, leb-true, leb-false}
+use Rattle.std.proofs.Common.{◌≡◌, ℕ, ◌+◌, ◌-◌, ◌*◌, ◌/◌, ◌%◌, ◌^◌, ◌<◌, Bool, true, false, cond, leb, ltb, ◌&&◌, List, map, length, get_or, replicate, min, bit_and, refl, ap, ◌∙◌, arith, lit<, w8, leb-true, leb-false}
 use Rattle.std.proofs.lemmas.Nat.Bits.{bit_at_and, ones_shl, bit_at_mask_inside, bit_at_mask_below}
 use Rattle.std.proofs.lemmas.Nat.{and_le_l, and_mask}
 use Rattle.std.proofs.lemmas.Simd.{get_or-replicate, bitmask_splat, bit_mask_l, mask_l-lt}
 use Rattle.std.proofs.lemmas.Grind.{common_steps}
 use Rattle.std.proofs.lemmas.List.{get_or-map, length-map}
 use Rattle.std.specs.Int.{bit_at}
-use lib.Lanes.{zip2, sel_l, mask_l, top, Each1, chunk}
-use Rattle.cuts.specs.Recoding.GivenUnits.{gives, low_half, high_half, unit_low, unit_high, leading_low, leading_high, trailing_high, continued}
+use lib.Lanes.{zip2, mask_l, top}
+use Rattle.cuts.specs.Recoding.GivenUnits.{gives, low_half, high_half, leading_low, leading_high, trailing_high, continued}
 use Rattle.cuts.proofs.OfRecoding.LaneLemmas.{IsBlock, wide, lane, lane_with, excess, excess_len, excess_at}
 use Rattle.cuts.proofs.OfRecoding.ChosenLanes.{wide_with, where_below, where_below_len, where_below_at}
 

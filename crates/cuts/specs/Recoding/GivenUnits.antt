@@ -1,5 +1,5 @@
 -- Text in UTF-8 as units of UTF-16: which unit the byte at a place gives, by it and the three before it.
-use Rattle.std.specs.Prelude.{◌≡◌, ℕ, suc, zero, ◌+◌, ◌-◌, ◌*◌, ◌/◌, ◌%◌, ◌<◌, Bool, true, false, ◌&&◌, if◌then◌else◌, List, [], ◌∷◌, ◌++◌, length, nat_lt, nat_eq, slice_index}
+use Rattle.std.specs.Prelude.{◌≡◌, ℕ, suc, zero, ◌+◌, ◌-◌, ◌*◌, ◌/◌, ◌%◌, Bool, true, false, ◌&&◌, if◌then◌else◌, List, [], ◌∷◌, ◌++◌, nat_lt, nat_eq, slice_index}
 use Rattle.std.specs.Int.{bit_at}
 use Rattle.cuts.specs.declared.recoding.form.Form.{Form}
 use Rattle.cuts.specs.declared.recoding.form.Form.TheVariants.{Utf8, Utf16Le, Utf16Be}

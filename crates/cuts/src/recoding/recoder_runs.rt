@@ -1,6 +1,7 @@
 //! Runs over bytes, into an output that has room for what comes of them.
-ghost use Rattle.std.specs.Prelude.{◌≡◌, ◌+◌, ◌-◌, ◌*◌, ◌<◌, ◌≤◌, length, take, drop, ◌++◌, min, vec_len, vec_capacity, IsUtf8};
-ghost use Rattle.cuts.specs.Recoding.Recoded.{Grows, Finishes, Lacks};
+ghost use Rattle.std.specs.Prelude.{◌≡◌, ◌+◌, ◌*◌, ◌≤◌, length, take, ◌++◌, min, vec_len, vec_capacity, IsUtf8};
+ghost use Rattle.cuts.specs.Recoding.Recoded.{Finishes};
+ghost use Rattle.cuts.specs.Recoding.OutputRuns.{RunsOnto, RunsUntil};
 ghost use Rattle.cuts.specs.Recoding.GivenUnits.{IsUnits};
 
 use crate::recoding::code_puts::{put_block, put_code};
@@ -31,12 +32,7 @@ pub(crate) fn recode_decided<A: Allocator>(
 ) -> usize
     requires stop { stop ≤ length bytes.now }
     requires room { vec_len out.old + 3 * length bytes.now ≤ vec_capacity out.old }
-    ensures within { result ≤ length bytes.now }
-    ensures waits { result < stop → length bytes.now ≤ result + 3 }
-    ensures lacks { result < stop → Lacks from (drop result bytes.now) }
-    ensures grows { Grows from to bytes.now out.old.items out.new.items (drop result bytes.now) }
-    ensures short { vec_len out.new ≤ vec_len out.old + 3 * result }
-    ensures capacity { vec_capacity out.old ≤ vec_capacity out.new }
+    ensures { RunsUntil from to bytes.now out.old out.new stop result }
 {
     let mut place = 0;
     while place < stop {
@@ -78,11 +74,7 @@ pub(crate) fn recode_joined<A: Allocator>(
     requires few { length held.now ≤ 3 }
     requires room { vec_len out.old + 3 * (length held.now + length part.now) ≤ vec_capacity out.old }
     ensures within { result ≤ length held.now + length part.now }
-    ensures waits { result < length held.now → length held.now + length part.now ≤ result + 3 }
-    ensures lacks { result < length held.now → Lacks from (drop result (held.now ++ part.now)) }
-    ensures grows { Grows from to (held.now ++ part.now) out.old.items out.new.items (drop result (held.now ++ part.now)) }
-    ensures short { vec_len out.new ≤ vec_len out.old + 3 * result }
-    ensures capacity { vec_capacity out.old ≤ vec_capacity out.new }
+    ensures runs { RunsUntil from to (held.now ++ part.now) out.old out.new (length held.now) result }
 {
     if held.is_empty() {
         return 0;
@@ -114,12 +106,7 @@ pub(crate) fn recode_whole<A: Allocator>(
     out: &mut Vec<u8, A>,
 ) -> usize
     requires { vec_len out.old + 3 * length bytes.now ≤ vec_capacity out.old }
-    ensures within { result ≤ length bytes.now }
-    ensures waits { result < length bytes.now → length bytes.now ≤ result + 3 }
-    ensures lacks { result < length bytes.now → Lacks from (drop result bytes.now) }
-    ensures grows { Grows from to bytes.now out.old.items out.new.items (drop result bytes.now) }
-    ensures short { vec_len out.new ≤ vec_len out.old + 3 * result }
-    ensures capacity { vec_capacity out.old ≤ vec_capacity out.new }
+    ensures { RunsUntil from to bytes.now out.old out.new (length bytes.now) result }
 {
     match (from, to) {
         (Utf8, Utf8) => copy_decided(bytes, out),
@@ -138,12 +125,7 @@ pub(crate) fn recode_whole<A: Allocator>(
 #[inline]
 pub(crate) fn copy_decided<A: Allocator>(bytes: &[u8], out: &mut Vec<u8, A>) -> usize
     requires { vec_len out.old + 3 * length bytes.now ≤ vec_capacity out.old }
-    ensures within { result ≤ length bytes.now }
-    ensures waits { result < length bytes.now → length bytes.now ≤ result + 3 }
-    ensures lacks { result < length bytes.now → Lacks Form.Utf8 (drop result bytes.now) }
-    ensures grows { Grows Form.Utf8 Form.Utf8 bytes.now out.old.items out.new.items (drop result bytes.now) }
-    ensures short { vec_len out.new ≤ vec_len out.old + 3 * result }
-    ensures capacity { vec_capacity out.old ≤ vec_capacity out.new }
+    ensures { RunsUntil Form.Utf8 Form.Utf8 bytes.now out.old out.new (length bytes.now) result }
 {
     let mut place = 0;
     while place < bytes.len() {
@@ -187,12 +169,7 @@ fn recode_quickly<A: Allocator, const PAIR: usize>(
     out: &mut Vec<u8, A>,
 ) -> usize
     requires { vec_len out.old + 3 * length bytes.now ≤ vec_capacity out.old }
-    ensures within { result ≤ length bytes.now }
-    ensures waits { result < length bytes.now → length bytes.now ≤ result + 3 }
-    ensures lacks { result < length bytes.now → Lacks from (drop result bytes.now) }
-    ensures grows { Grows from to bytes.now out.old.items out.new.items (drop result bytes.now) }
-    ensures short { vec_len out.new ≤ vec_len out.old + 3 * result }
-    ensures capacity { vec_capacity out.old ≤ vec_capacity out.new }
+    ensures { RunsUntil from to bytes.now out.old out.new (length bytes.now) result }
 {
     let mut place = 0;
     while place < bytes.len() {
@@ -223,12 +200,7 @@ fn recode_apart<A: Allocator>(
 ) -> usize
     requires stop { stop ≤ length bytes.now }
     requires room { vec_len out.old + 3 * length bytes.now ≤ vec_capacity out.old }
-    ensures within { result ≤ length bytes.now }
-    ensures waits { result < stop → length bytes.now ≤ result + 3 }
-    ensures lacks { result < stop → Lacks from (drop result bytes.now) }
-    ensures grows { Grows from to bytes.now out.old.items out.new.items (drop result bytes.now) }
-    ensures short { vec_len out.new ≤ vec_len out.old + 3 * result }
-    ensures capacity { vec_capacity out.old ≤ vec_capacity out.new }
+    ensures { RunsUntil from to bytes.now out.old out.new stop result }
 {
     recode_decided(from, to, bytes, stop, out)
 }
@@ -238,10 +210,7 @@ fn recode_apart<A: Allocator>(
 #[inline(always)]
 fn recode_stretch<A: Allocator>(from: Form, to: Form, bytes: &[u8], out: &mut Vec<u8, A>) -> usize
     requires { vec_len out.old + 3 * length bytes.now ≤ vec_capacity out.old }
-    ensures within { result ≤ length bytes.now }
-    ensures grows { Grows from to bytes.now out.old.items out.new.items (drop result bytes.now) }
-    ensures short { vec_len out.new ≤ vec_len out.old + 3 * result }
-    ensures capacity { vec_capacity out.old ≤ vec_capacity out.new }
+    ensures { RunsOnto from to bytes.now out.old out.new result }
 {
     recode_text(from, to, &bytes[..STRETCH.min(bytes.len())], out)
 }
@@ -250,10 +219,7 @@ fn recode_stretch<A: Allocator>(from: Form, to: Form, bytes: &[u8], out: &mut Ve
 #[inline(always)]
 fn recode_text<A: Allocator>(from: Form, to: Form, bytes: &[u8], out: &mut Vec<u8, A>) -> usize
     requires { vec_len out.old + 3 * length bytes.now ≤ vec_capacity out.old }
-    ensures within { result ≤ length bytes.now }
-    ensures grows { Grows from to bytes.now out.old.items out.new.items (drop result bytes.now) }
-    ensures short { vec_len out.new ≤ vec_len out.old + 3 * result }
-    ensures capacity { vec_capacity out.old ≤ vec_capacity out.new }
+    ensures { RunsOnto from to bytes.now out.old out.new result }
 {
     let mut place = 0;
     while 4 <= bytes.len() - place {
@@ -272,10 +238,7 @@ fn recode_text<A: Allocator>(from: Form, to: Form, bytes: &[u8], out: &mut Vec<u
 #[inline(always)]
 fn recode_blocks<A: Allocator>(from: Form, to: Form, bytes: &[u8], out: &mut Vec<u8, A>) -> usize
     requires { vec_len out.old + 3 * length bytes.now ≤ vec_capacity out.old }
-    ensures within { result ≤ length bytes.now }
-    ensures grows { Grows from to bytes.now out.old.items out.new.items (drop result bytes.now) }
-    ensures short { vec_len out.new ≤ vec_len out.old + 3 * result }
-    ensures capacity { vec_capacity out.old ≤ vec_capacity out.new }
+    ensures { RunsOnto from to bytes.now out.old out.new result }
 {
     match from {
         Utf8 => recode_judged(to, bytes, out),
@@ -288,10 +251,7 @@ fn recode_blocks<A: Allocator>(from: Form, to: Form, bytes: &[u8], out: &mut Vec
 #[inline(always)]
 fn recode_units<A: Allocator>(from: Form, to: Form, bytes: &[u8], out: &mut Vec<u8, A>) -> usize
     requires { vec_len out.old + 3 * length bytes.now ≤ vec_capacity out.old }
-    ensures within { result ≤ length bytes.now }
-    ensures grows { Grows from to bytes.now out.old.items out.new.items (drop result bytes.now) }
-    ensures short { vec_len out.new ≤ vec_len out.old + 3 * result }
-    ensures capacity { vec_capacity out.old ≤ vec_capacity out.new }
+    ensures { RunsOnto from to bytes.now out.old out.new result }
 {
     let mut place = 0;
     while 16 <= bytes.len() - place {
@@ -311,10 +271,7 @@ fn recode_units<A: Allocator>(from: Form, to: Form, bytes: &[u8], out: &mut Vec<
 #[inline(always)]
 fn recode_judged<A: Allocator>(to: Form, bytes: &[u8], out: &mut Vec<u8, A>) -> usize
     requires { vec_len out.old + 3 * length bytes.now ≤ vec_capacity out.old }
-    ensures within { result ≤ length bytes.now }
-    ensures grows { Grows Form.Utf8 to bytes.now out.old.items out.new.items (drop result bytes.now) }
-    ensures short { vec_len out.new ≤ vec_len out.old + 3 * result }
-    ensures capacity { vec_capacity out.old ≤ vec_capacity out.new }
+    ensures { RunsOnto Form.Utf8 to bytes.now out.old out.new result }
 {
     match to {
         Utf8 => copy_text(bytes, out),
@@ -328,10 +285,7 @@ fn recode_judged<A: Allocator>(to: Form, bytes: &[u8], out: &mut Vec<u8, A>) -> 
 fn widen_text<A: Allocator>(to: Form, high_first: bool, bytes: &[u8], out: &mut Vec<u8, A>) -> usize
     requires form { IsUnits high_first to }
     requires room { vec_len out.old + 3 * length bytes.now ≤ vec_capacity out.old }
-    ensures within { result ≤ length bytes.now }
-    ensures grows { Grows Form.Utf8 to bytes.now out.old.items out.new.items (drop result bytes.now) }
-    ensures short { vec_len out.new ≤ vec_len out.old + 3 * result }
-    ensures capacity { vec_capacity out.old ≤ vec_capacity out.new }
+    ensures { RunsOnto Form.Utf8 to bytes.now out.old out.new result }
 {
     let len = text_len(&bytes[..PART.min(bytes.len())]);
     if len < 32 {

@@ -1,5 +1,4 @@
-use Rattle.std.proofs.Common.{rules, arith, refl, ap, sym, ◌∙◌, subst}
-use Rattle.cuts.specs.Programs.Arguments.{Asks, AreWrong}
+use Rattle.std.proofs.Common.{arith, ap, sym, ◌∙◌}
 use Rattle.cuts.specs.Programs.Endings.{Says}
 use Rattle.cuts.proofs.OfPrograms.ProgramLemmas.{TellsAsked-kept, BeginsAsked-kept, ends_early}
 use Rattle.cuts.proofs.OfPrograms.RunLemmas.{BeginsAsked-none}

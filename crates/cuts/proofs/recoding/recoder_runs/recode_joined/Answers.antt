@@ -1,23 +1,20 @@
-use Rattle.std.proofs.Common.{◌≡◌, ◌≤◌, ◌++◌, length, take, drop, arith, ap, ◌∙◌, append_assoc, take-append-drop}
-use Rattle.cuts.specs.Recoding.Recoded.{Grows}
+use Rattle.std.proofs.Common.{◌≡◌, ◌++◌, take, drop, arith, ap, ◌∙◌, append_assoc, length-append, length-take, take-append-drop}
+use Rattle.std.proofs.lemmas.Grind.{common_steps}
 use Rattle.cuts.proofs.OfRecoding.FrontBytes.{lacks_joined}
-use Rattle.cuts.proofs.OfRecoding.Growing.{Grows-more}
+use Rattle.cuts.proofs.OfRecoding.OutputRuns.{RunsOnto-more, RunsOnto-none, RunsUntil-all}
 use Rattle.cuts.proofs.recoding.recoder_runs.recode_joined.Goals as goal
 
-pub returns-clause-grows : goal.returns-clause-grows
-returns-clause-grows g c =
+pub returns-clause-runs : goal.returns-clause-runs
+returns-clause-runs g c =
     let held = c.args.held.now in
     let part = c.args.part.now in
-    let p = c.recode_decided.result in
-    let within = c.recode_decided.ensures.within in
-    let bytes : take c.join-len.result.1 c.join-len.result.0 ≡ held ++ take 3 part = c.join-len.ensures.bytes in
-    let le : p ≤ length (held ++ take 3 part) = omega (arith, ap length bytes) in
-    let grows : Grows c.args.from c.args.to (held ++ take 3 part) c.args.out.now.items c.recode_decided.new.out.items (drop p (held ++ take 3 part))
-    = rw bytes at c.recode_decided.ensures.grows in
+    let run = rw c.join-len.ensures.bytes at c.recode_decided.ensures in
     let whole : (held ++ take 3 part) ++ drop 3 part ≡ held ++ part = append_assoc held (take 3 part) (drop 3 part) ∙ ap (λ xs. held ++ xs) (take-append-drop 3 part) in
-    rw whole at (Grows-more c.args.from c.args.to (held ++ take 3 part) (drop 3 part) c.args.out.now.items c.recode_decided.new.out.items p le grows)
+    record {
+      runs = rw whole at (RunsOnto-more _ _ (held ++ take 3 part) (drop 3 part) _ _ _ run.runs);
+      waits = λ lt. let few = run.waits lt in omega (arith, length-append held part, length-append held (take 3 part), length-take 3 part);
+      lacks = λ lt. lacks_joined _ held part _ (run.waits lt) lt (run.lacks lt);
+    }
 
-pub returns-clause-lacks : goal.returns-clause-lacks
-returns-clause-lacks g c lt =
-    let bytes : take c.join-len.result.1 c.join-len.result.0 ≡ c.args.held.now ++ take 3 c.args.part.now = c.join-len.ensures.bytes in
-    lacks_joined c.args.from c.args.held.now c.args.part.now c.recode_decided.result (rw bytes at (c.recode_decided.ensures.waits lt)) lt (rw bytes at (c.recode_decided.ensures.lacks lt))
+pub returns-then-is_empty-clause-runs : goal.returns-then-is_empty-clause-runs
+returns-then-is_empty-clause-runs g c = RunsUntil-all _ _ _ _ _ _ _ (RunsOnto-none _ _ _ _) (grind (arith, common_steps))

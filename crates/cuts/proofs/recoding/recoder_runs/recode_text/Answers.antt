@@ -1,34 +1,14 @@
-use Rattle.std.proofs.Common.{drop, arith, length-drop}
 use Rattle.std.proofs.lemmas.List.{take_rest}
-use Rattle.cuts.specs.Recoding.Recoded.{Reads}
-use Rattle.cuts.specs.Recoding.ShownFronts.{Decides}
-use Rattle.cuts.proofs.OfRecoding.Growing.{Grows-step, length_written}
+use Rattle.cuts.proofs.OfRecoding.OutputRuns.{RunsOnto-code, RunsOnto-next, room_for_code}
 use Rattle.cuts.proofs.recoding.recoder_runs.recode_text.Goals as goal
 
 pub put_code-requires : goal.put_code-requires
 put_code-requires g c =
-    let d : Decides (Reads c.args.from) (drop c.loop-place.place c.args.bytes.now) c.in-Some.c c.in-Some.len = rw (take_rest c.args.bytes.now c.loop-place.place) at c.in-Some.ensures in
-    let within = d.within in
-    let le = length_written c.args.to c.in-Some.c c.in-Some.len d.some d.wide in
-    let short = c.loop-place.invariant.short in
-    let capacity = c.loop-place.invariant.capacity in
-    let room = c.requires in
-    omega (arith, length-drop c.loop-place.place c.args.bytes.now)
+    let d = rw (take_rest c.args.bytes.now c.loop-place.place) at c.in-Some.ensures in
+    room_for_code _ _ _ _ _ _ _ _ c.loop-place.invariant d c.requires
 
 pub loop-place-preserved : goal.loop-place-preserved
 loop-place-preserved g c =
-    let d : Decides (Reads c.args.from) (drop c.loop-place.place c.args.bytes.now) c.in-Some.c c.in-Some.len = rw (take_rest c.args.bytes.now c.loop-place.place) at c.in-Some.ensures in
-    let within = d.within in
-    let some = d.some in
-    let le = length_written c.args.to c.in-Some.c c.in-Some.len d.some d.wide in
-    let short = c.loop-place.invariant.short in
-    let capacity = c.loop-place.invariant.capacity in
-    let before = c.loop-place.invariant.within in
-    let len = c.put_code.ensures.len in
-    let kept = c.put_code.ensures.capacity in
-    record {
-      within = omega (arith, length-drop c.loop-place.place c.args.bytes.now);
-      grows = Grows-step _ _ _ _ _ _ _ _ _ c.loop-place.invariant.grows d c.put_code.ensures.items;
-      short = omega arith;
-      capacity = omega arith;
-    }
+    let d = rw (take_rest c.args.bytes.now c.loop-place.place) at c.in-Some.ensures in
+    let put = c.put_code.ensures in
+    RunsOnto-next _ _ _ _ _ _ _ _ c.loop-place.invariant (RunsOnto-code _ _ _ _ _ _ _ d put.items put.len put.capacity)

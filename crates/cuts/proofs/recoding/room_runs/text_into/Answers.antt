@@ -1,5 +1,4 @@
 use Rattle.std.proofs.Common.{◌≡◌, ◌+◌, ◌-◌, take, drop, arith, length-drop, length-take}
-use Rattle.std.proofs.lemmas.List.{take_rest}
 use Rattle.cuts.specs.Recoding.Recoded.{Reads}
 use Rattle.cuts.specs.Recoding.ShownFronts.{Decides}
 use Rattle.cuts.proofs.OfRecoding.Growing.{length_written}

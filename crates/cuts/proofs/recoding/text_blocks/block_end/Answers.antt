@@ -1,5 +1,5 @@
 use Rattle.std.proofs.Common.{◌≡◌, ◌+◌, arith}
-use Rattle.cuts.proofs.OfRecoding.LaneLemmas.{differ_mask, all_zero, follow_on, follow_lanes, ascii_follows}
+use Rattle.cuts.proofs.OfRecoding.LaneLemmas.{all_zero, follow_on, follow_lanes, ascii_follows}
 use Rattle.cuts.proofs.recoding.text_blocks.block_end.Goals as goal
 
 pub returns-then-is_closed-clause-follow : goal.returns-then-is_closed-clause-follow

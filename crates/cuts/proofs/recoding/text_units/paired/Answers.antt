@@ -1,4 +1,3 @@
-use Rattle.std.proofs.Common.{ℕ, ◌<◌}
 use Rattle.cuts.proofs.OfRecoding.BlockUnits.{first_pairs_at, last_pairs_at}
 use Rattle.cuts.proofs.recoding.text_units.paired.Goals as goal
 

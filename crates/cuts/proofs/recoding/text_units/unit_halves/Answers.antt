@@ -1,4 +1,3 @@
-use Rattle.std.proofs.Common.{eqb-true}
 use Rattle.cuts.proofs.OfRecoding.BlockUnits.{loaded_low, loaded_high, loaded_long_low, loaded_long_high}
 use Rattle.cuts.proofs.recoding.text_units.unit_halves.Goals as goal
 

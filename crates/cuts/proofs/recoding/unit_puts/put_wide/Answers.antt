@@ -1,5 +1,4 @@
-use Rattle.std.proofs.Common.{◌≡◌, ◌+◌, ◌-◌, [], ◌++◌, arith, sym}
-use Rattle.std.proofs.lemmas.List.{append-nil}
+use Rattle.std.proofs.Common.{◌-◌, arith}
 use Rattle.cuts.proofs.OfRecoding.TextUnits.{given_more, given_nothing}
 use Rattle.cuts.proofs.recoding.unit_puts.put_wide.Goals as goal
 

@@ -11,13 +11,12 @@ returns-clause-ok g c =
     let q = c.recode_whole-place.result in
     let rest : List ℕ = drop (p - length held) c.args.part.now in
     let whole : take (length c.args.part.now - (p - length held)) rest ≡ rest = take_rest c.args.part.now (p - length held) in
-    let decided = c.recode_whole-place.ensures in
-    let waits = rw whole at decided.waits in
+    let run = rw whole at c.recode_whole-place.ensures in
     let hold = rw (whole, take_rest rest q) at c.hold-2.ensures in
-    let grows = rw c.in_ok-reserve.ensures.items at c.recode_joined-place.ensures.grows in
+    let grows = rw c.in_ok-reserve.ensures.items at c.recode_joined-place.ensures.runs.runs.grows in
     Feeds-whole c.args.self.now c.hold-2.new.self c.self.inside.from c.self.inside.to held c.args.part.now rest c.args.out.now.items _ _ p q
     (ap (λ r. r.from) c.self.view_is) (ap (λ r. r.to) c.self.view_is) c.held_bytes-held.ensures.bytes
-    grows c.if-place-held.false refl (rw whole at decided.grows) (few_left rest q waits) hold
+    grows c.if-place-held.false refl run.runs.grows (few_left rest q run.waits) hold
 
 pub returns-clause-waits : goal.returns-clause-waits
 returns-clause-waits g c some =
@@ -26,6 +25,6 @@ returns-clause-waits g c some =
     let q = c.recode_whole-place.result in
     let rest : List ℕ = drop (p - length held) c.args.part.now in
     let whole : take (length c.args.part.now - (p - length held)) rest ≡ rest = take_rest c.args.part.now (p - length held) in
-    let decided = rw whole at c.recode_whole-place.ensures.lacks in
+    let run = rw whole at c.recode_whole-place.ensures in
     let hold = rw (whole, take_rest rest q) at c.hold-2.ensures in
-    rw (hold, ← ap (λ r. r.from) c.self.view_is) (lacks_left c.self.inside.from rest q decided)
+    rw (hold, ← ap (λ r. r.from) c.self.view_is) (lacks_left c.self.inside.from rest q run.lacks)
