@@ -43,8 +43,6 @@ merges_hint {S} code is_code finds m short positive divides remaining v of_sourc
     bounds_of : (rest : S → List ℕ) → BoundsLength (rest v.source) of_source → BoundsCut code (unread rest v) (merge_hint m (length v.held) (hint_until v.ended of_source))
     bounds_of rest b ps cut =
         let count = count_of_cut code is_code finds m short positive (unread rest v) ps cut in
-        let most = count.0 in
-        let least = count.1 in
         let len : length (unread rest v) ≡ length v.held + length (still rest v.source v.ended) = length-append v.held (still rest v.source v.ended) in
         let low = lower_until rest v.source v.ended of_source b.0 in
         let high = upper_bound 1 (length v.held) (length (rest v.source)) (length (still rest v.source v.ended)) of_source.1 b.1 (still_fewer rest v.source v.ended) in

@@ -25,8 +25,6 @@ reads_more can_next remaining steps s t u e f g xs ys one two = record {
   fewer = λ finite.
       let a = one.fewer finite in
       let b = two.fewer a.0 in
-      let a_size = a.1 in
-      let b_size = b.1 in
       let len = length-append xs ys in
       (b.0, omega arith);
 }
@@ -65,9 +63,6 @@ merger_nearer code kind can_next remaining steps held xs s u t e d f first old r
   on = λ finite.
       let one = reads.fewer finite in
       let two = a.reads.fewer one.0 in
-      let one_size = one.1 in
-      let two_size = two.1 in
-      let few = a.few in
       let len : length (held ++ xs) ≡ suc (length old) = ap length begins in
       let both = length-append held xs in
       (a.reads.can, two.0, omega arith);
@@ -100,7 +95,6 @@ first_nearer Held can_next remaining steps old s e None new t f h = record {
 first_nearer Held can_next remaining steps old s e (Some x) new t f h = record {
   on = λ finite.
       let read = h.reads.fewer finite in
-      let read_size = read.1 in
       let len : length (old ++ h.more) ≡ suc (length new) = ap length h.begins in
       let both = length-append old h.more in
       (h.reads.can, read.0, omega arith);

@@ -20,8 +20,6 @@ pieces_count answer most some few (suc n) place (x ∷ xs) le =
     let all = few (x ∷ xs) in
     let left = length-drop len (x ∷ xs) in
     let rest = pieces_count answer most some few n (place + len) (drop len (x ∷ xs)) (omega arith) in
-    let lower = rest.0 in
-    let upper = rest.1 in
     let times = mul-suc most (length (pieces_by answer n (place + len) (drop len (x ∷ xs)))) in
     (omega arith, omega arith)
 

@@ -114,15 +114,12 @@ module _ {E : Type 0} (code : ℕ → List ℕ) (most : ℕ) (kind : List ℕ �
   piece_taken : (w v : Window) (x : Placed E) → GivesFrontOf code most kind answer w x v
       → pieces_by answer (length (elements w)) w.front (elements w) ≡ x ∷ pieces_by answer (length (elements v)) v.front (elements v)
   piece_taken w v x g =
-      let one = g.len.0 in
-      let fits = g.len.2 in
       let most : length (elements w) ≤ w.back - w.front = grind (arith, common_steps) in
       let rest : elements (without_front w x.2) ≡ drop x.2 (elements w) = range_after w.whole w.front w.back x.2 (omega arith) in
       rw g.left (first_piece (length (elements w)) w.front (elements w) (elements (without_front w x.2)) x (omega arith) (omega arith) g.place g.known rest)
 
   no_piece : (w v : Window) → GivesNone w v → pieces_by answer (length (elements w)) w.front (elements w) ≡ []
   no_piece w v g =
-      let none = g.none in
       let zero : length (elements w) ≤ 0 = grind (arith, common_steps) in
       pieces_none answer (length (elements w)) w.front (elements w) zero
 
@@ -139,7 +136,6 @@ unit_decoder_listed w (Some x) v h = piece_taken utf16 2 unit_fault_kind decoded
 
 no_chars : (w v : Window) → GivesNone w v → chars_left w ≡ []
 no_chars w v h =
-    let none = h.none in
     let zero : w.back - w.front ≡ 0 = omega arith in
     ap (λ n. chars (take n (drop w.front w.whole))) zero ∙ chars-nil
 
@@ -204,7 +200,6 @@ placed_last w (Some x) v h =
     let most : length (elements w) ≤ w.back - w.front = grind (arith, common_steps) in
     let some = some_utf8 x.1 in
     let count : length (elements v) ≡ v.back - v.front = length_range v.whole v.front v.back fits in
-    let at : x.0 ≡ v.back = h.at_back in
     let place : w.front + length (flat_map utf8 (chars_left v)) ≡ x.0 = rw (codes_of_text (elements v) h.between.text) (omega arith) in
     ap (placed_chars w.front) (last_char w v x.0 x.1 h) ∙ placed-append w.front (chars_left v) (x.1 ∷ []) ∙ ap (λ p. placed_chars w.front (chars_left v) ++ (p, x.1) ∷ []) place
     ∙ ap (λ p. placed_chars p (chars_left v) ++ x ∷ []) (sym front)
@@ -265,10 +260,6 @@ module _ {S A : Type 0} (steps : S → Option A → S → Type 0) (Keeps : S →
 place_kept : {E : Type 0} (code : ℕ → List ℕ) (most : ℕ) (kind : List ℕ → Option E) (answer : List ℕ → Result (ℕ × ℕ) E) (n : ℕ) (w v : Window) (x : Placed E)
     → w.back ≡ n → GivesFrontOf code most kind answer w x v → LiesWithin n x × (v.back ≡ n)
 place_kept code most kind answer n w v x end g =
-    let place = g.place in
-    let one = g.len.0 in
-    let fits = g.len.2 in
-    let some = g.some in
     let most : length (elements w) ≤ w.back - w.front = grind (arith, common_steps) in
     ((omega arith, omega arith, omega arith), ap (λ (u : Window). u.back) g.left ∙ end)
 
@@ -285,8 +276,6 @@ unit_decoder_places xs s e p seen from =
 piece_kept_back : {E : Type 0} (code : ℕ → List ℕ) (most : ℕ) (kind : ℕ → E) (answer : List ℕ → Result (ℕ × ℕ) E) (n : ℕ) (w v : Window) (x : Placed E)
     → w.back ≤ n → GivesBackOf code most kind answer w x v → LiesWithin n x × (v.back ≤ n)
 piece_kept_back code most kind answer n w v x end g =
-    let place = g.place in
-    let one = g.len.0 in
     let back : v.back ≡ w.back - x.2 = ap (λ (u : Window). u.back) g.left in
     ((omega arith, omega arith, omega arith), omega arith)
 
@@ -313,7 +302,6 @@ char_kept text w v x k g =
     let some = some_utf8 x.1 in
     let here : IsCharBoundary text x.0 = rw (← g.at_front) at k.front in
     let after : IsCharBoundary text (x.0 + length (utf8 x.1)) = rw front at new_front in
-    let end = after.0 in
     ((omega arith, here, omega arith, after), record { whole = whole; front = new_front })
 
 pub text_places : (text : List ℕ) (s : Window) → IsUtf8 text → s ≡ whole_window text → EachRunFrom NextPlaced s (λ p. AllItems p (LiesInText text))
@@ -337,7 +325,6 @@ char_kept_back text w v x k g =
     let end : x.0 + length (utf8 x.1) ≡ w.back = omega arith in
     let here : IsCharBoundary text x.0 = rw (← at) at new_back in
     let after : IsCharBoundary text (x.0 + length (utf8 x.1)) = rw end k.back in
-    let within = after.0 in
     ((omega arith, here, omega arith, after), record { whole = whole; back = new_back })
 
 pub text_places_back : (text : List ℕ) (s : Window) → IsUtf8 text → s ≡ whole_window text → EachRunFrom BackPlaced s (λ p. AllItems p (LiesInText text))

@@ -37,7 +37,6 @@ single_decides w (Err k) scan some h =
 
 unexpected : (w : List ℕ) (t : ℕ) → EndsInContinuationBytes w t → 0 < t → end_fault w ≡ UnexpectedContinuationByte
 unexpected w t scan some =
-    let within = scan.within in
     let last = scan.continuation_bytes 0 some in
     let low : 0x80 ≤ last_of w = grind (arith, common_steps) in
     let high : last_of w < 0xC0 = grind (arith, common_steps) in
@@ -65,21 +64,15 @@ pub record IsEndOfFour (b : List ℕ) (count : ℕ) : Type 0 where
 -- the byte at k from their end
 at : (b : List ℕ) (count k : ℕ) → IsEndOfFour b count → k < count → get_or (drop (4 - count) b) (length (drop (4 - count) b) - 1 - k) 0 ≡ get_or b (3 - k) 0
 at b count k e lt =
-    let four = e.four in
-    let most = e.most in
     grind (arith, common_steps)
 
 length_of : (b : List ℕ) (count : ℕ) → IsEndOfFour b count → length (drop (4 - count) b) ≡ count
 length_of b count e =
-    let four = e.four in
-    let most = e.most in
     grind (arith, common_steps)
 
 -- the last n of them
 part_of : (b : List ℕ) (count n : ℕ) → IsEndOfFour b count → n ≤ count → last_bytes n (drop (4 - count) b) ≡ take n (drop (4 - n) b)
 part_of b count n e le =
-    let four = e.four in
-    let most = e.most in
     grind (arith, common_steps)
 
 -- so many continuation bytes, and before them, where there is one, a byte that is none
@@ -129,7 +122,6 @@ scanned-3 b count e three last third second =
 
 looked : (w : List ℕ) (t old new : ℕ) → 0 < length w → EndsInContinuationBytes w t → new ≡ old + min (t + 1) (length w) → IsScanned w old new
 looked w t old new some scan e =
-    let bound = scan.bound in
     let least : 1 ≤ min (t + 1) (length w) = grind (arith, common_steps) in
     let most : min (t + 1) (length w) ≤ 4 = grind (arith, common_steps) in
     let within : min (t + 1) (length w) ≤ length w = grind (arith, common_steps) in
@@ -139,7 +131,6 @@ looked w t old new some scan e =
 pub four_looked : (b : List ℕ) (count t old new : ℕ) → IsEndOfFour b count → EndsInContinuationBytes (drop (4 - count) b) t → t < count → new ≡ old + (t + 1)
     → IsScanned (drop (4 - count) b) old new
 four_looked b count t old new e scan fits taken =
-    let some = e.some in
     let len = length_of b count e in
     let all : min (t + 1) (length (drop (4 - count) b)) ≡ t + 1 = grind (arith, common_steps) in
     looked (drop (4 - count) b) t old new (omega arith) scan (omega arith)
@@ -148,7 +139,6 @@ four_looked b count t old new e scan fits taken =
 pub four_looked-all : (b : List ℕ) (count old new : ℕ) → IsEndOfFour b count → EndsInContinuationBytes (drop (4 - count) b) count → new ≡ old + count
     → IsScanned (drop (4 - count) b) old new
 four_looked-all b count old new e scan taken =
-    let some = e.some in
     let len = length_of b count e in
     let all : min (count + 1) (length (drop (4 - count) b)) ≡ count = grind (arith, common_steps) in
     looked (drop (4 - count) b) count old new (omega arith) scan (omega arith)

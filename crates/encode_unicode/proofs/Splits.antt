@@ -50,7 +50,5 @@ pub split_bounds : {S : Type 0} (code : ℕ → List ℕ) (m : ℕ) → ((s : �
     → BoundsLength (rest s.source) hint → BoundsLength (unsent code rest s) (split_hint m (length s.begun) hint)
 split_bounds code m some short rest s hint b =
     let joined = joined_bounds code m some short (rest s.source) in
-    let low = b.0 in
-    let least = joined.0 in
     let len : length (unsent code rest s) ≡ length s.begun + length (flat_map code (rest s.source)) = length-append s.begun (flat_map code (rest s.source)) in
     (omega arith, rw len (upper_bound m (length s.begun) (length (rest s.source)) (length (flat_map code (rest s.source))) hint.1 b.1 joined.1))

@@ -33,7 +33,6 @@ code_after_walk w k len some e done =
     let r = runs_after w k (state_after w k) some e (reached w k (omega arith)) in
     let less = one_less (state_after w k) (class (get_or w k 0)) r.1 (λ i. no (sym done ∙ i)) in
     let none = ap missing done in
-    let asks = r.0.asks in
     let all : asked_by w ≡ length w = omega arith in
     let kind : merger_kind w ≡ None = kind_at_end w (suc k) (omega arith) (ap is_running done) ∙ ap fault_of done in
     let stands = (code_where_no_fault w (merger_none w kind)).0 in

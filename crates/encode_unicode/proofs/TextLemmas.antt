@@ -33,7 +33,6 @@ kept_whole text h = record {
 -- the place before a character is a boundary
 boundary_before : (xs : List ℕ) (p s : ℕ) → Stands utf8 xs p s → IsCharBoundary xs p
 boundary_before xs p s h =
-    let within = h.within in
     let first = Stands-at utf8 xs p s 0 p (omega arith) h (utf8_is_code.some s h.scalar) in
     (omega arith, λ lt high. ⊎_elim (λ (low : get_or (utf8 s) 0 0 < 0x80). absurd (omega arith)) (λ (high : 0xC2 ≤ get_or (utf8 s) 0 0). omega arith) (utf8-first s h.scalar))
 
@@ -44,7 +43,6 @@ first_taken xs i j s n kept begins =
     let back = kept.between.back.0 in
     let whole = stands_in_whole utf8 xs i j 0 i s (omega arith) ordered back begins.0 in
     let len = begins.1 in
-    let fits = whole.1 in
     let some = some_utf8 s in
     let following = range_after xs i j n (omega arith) in
     let span : n ≡ 0 + length (utf8 s) - 0 = omega arith in
@@ -68,8 +66,6 @@ last_taken xs i j s n m kept ends e =
     let ordered = kept.ordered in
     let back = kept.between.back.0 in
     let stands = ends.0 in
-    let within = stands.within in
-    let n_is = ends.1 in
     let len : length (slice_range xs i j) ≡ j - i = grind (arith, common_steps) in
     let some = some_utf8 s in
     let whole = stands_in_whole utf8 xs i j (length (slice_range xs i j) - n) m s (omega arith) ordered back stands in
@@ -102,10 +98,7 @@ last_char_taken xs text code i j t n kept e last known =
 
 pub bounds_quarter : (xs : List ℕ) (i j n : ℕ) → IsKeptWindow xs i j → n ≡ div_ceil (j - i) 4 → BoundsScalars (slice_range xs i j) (n, Some (j - i))
 bounds_quarter xs i j n kept e scalars is =
-    let ordered = kept.ordered in
-    let back = kept.between.back.0 in
     let len : length (slice_range xs i j) ≡ j - i = grind (arith, common_steps) in
     let b = joined_bounds utf8 4 some_utf8 length_utf8 scalars in
     let all : length (flat_map utf8 scalars) ≡ j - i = ap length is ∙ len in
-    let quarter : n ≡ (j - i) / 4 + min 1 ((j - i) % 4) = e in
     (omega arith, omega arith)

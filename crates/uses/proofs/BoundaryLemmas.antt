@@ -60,7 +60,6 @@ none_over xs p le none = record {
   within = le;
   outside = λ inside.
       let begins = inside.begins in
-      let ends = inside.ends in
       let most = length_utf8 inside.char in
       let before = none inside.from inside.char (omega arith) begins inside.stands in
       omega arith;
@@ -85,7 +84,6 @@ last_before apart xs i j p over =
         within = omega arith;
         outside = λ inside.
             let fits = (apart xs inside.from i inside.char over.char inside.stands over.stands).1 inside.begins in
-            let more = inside.ends in
             omega arith;
       };
       before = omega arith;
@@ -96,7 +94,6 @@ pub first_after : (xs : List ℕ) (i j p : ℕ) → LiesOver xs i j p → IsFirs
 first_after xs i j p over =
     let end = over.end in
     let within = over.stands.within in
-    let begins = over.begins in
     let ends = over.over in record {
       between = record { within = omega arith; outside = rw end (front_char utf8 utf8_is_code xs i (length xs) over.char (omega arith) (omega arith) (stands_at_front xs i over.char over.stands)).2 };
       after = omega arith;

@@ -57,7 +57,6 @@ module _ (alone : AsciiStandsAlone) (apart : CodesNeverOverlap utf8) where
   -- no byte of a code that begins beyond ASCII is ASCII
   all_beyond : (xs : List ℕ) (p s k : ℕ) → Stands utf8 xs p s → 128 ≤ get_or xs p 0 → k < length (utf8 s) → 128 ≤ get_or xs (p + k) 0
   all_beyond xs p s k h ge lt =
-      let within = h.within in
       ⊎_elim
       (λ (low : get_or xs (p + k) 0 < 128).
       let ascii = alone xs (p + k) (omega arith) low in
@@ -113,7 +112,6 @@ module _ (alone : AsciiStandsAlone) (apart : CodesNeverOverlap utf8) where
   covered xs ys e p c =
       let there = standing xs ys e c.from c.char c.stands in
       let ends = c.ends in
-      let len = there.len in
       record { from = c.from; char = there.char; stands = there.stands; begins = c.begins; ends = omega arith }
 
   pub pieces_alike : (xs ys : List ℕ) → AreAlike xs ys → ArePiecesAlike xs ys
@@ -125,5 +123,4 @@ module _ (alone : AsciiStandsAlone) (apart : CodesNeverOverlap utf8) where
           (Some there.char, (there.stands, h.1 ∙ sym there.len), ap Some there.alike)
       by_char p n None h =
           let len = same_length xs ys e in
-          let within = h.0 in
           (None, (omega arith, h.1, λ c. h.2 (covered ys xs (sym e) p c)), refl)

@@ -35,6 +35,5 @@ in_room feeds left ends from to r s t bytes old mid old2 new2 post read wrote mo
     let fed : Feeds (record { from = from; to = to; held = [] }) bytes [] (take wrote mid) s
     = subst (λ (x : Recoding). Feeds x bytes [] (take wrote mid) s) e (subst (λ xs. Feeds r xs [] (take wrote mid) s) taken (f.feeds [])) in
     let fits = f.fits in
-    let fits2 = g.fits in
     subst (IsRecoded from to bytes) (sym (joined_fronts mid new2 post wrote more (omega arith) (omega arith)))
     (fed_is_recoded from to bytes bytes (take wrote mid) (take wrote mid ++ take more new2) s (record { once = fed }) finished refl)

@@ -45,7 +45,6 @@ front_has_none xs n first x piece fault =
     let covered : Covered utf8 xs x.start → ⊥ = λ c.
     ⊎_elim
     (λ (out : n < c.from + length (utf8 c.char)).
-    let fits = c.stands.within in
     let begins = c.begins in
     (first.fault (omega arith)).2 (record { from = c.from; char = c.char; stands = c.stands; begins = omega arith; ends = out }))
     (λ (le : c.from + length (utf8 c.char) ≤ n).

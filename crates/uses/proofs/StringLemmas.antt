@@ -66,8 +66,6 @@ first_byte xs w v n p = let some = p.some in let within = p.within in drop_more 
 -- an escaped character
 pub pass_escaped : (xs : List ℕ) (w v : Window) (n : ℕ) → Passes xs w v n → string_end true w.front (drop w.front xs) ≡ string_end false v.front (drop v.front xs)
 pass_escaped xs w v n p =
-    let some = p.some in
-    let within = p.within in
     ap (string_end true w.front) (first_byte xs w v n p)
     ∙ ⊎_elim
     (λ (long : 1 < n).
@@ -80,7 +78,6 @@ pass_escaped xs w v n p =
 pub pass_plain : (xs : List ℕ) (w v : Window) (n : ℕ) → Passes xs w v n → get_or xs w.front 0 ≢ 0x22
     → string_end false w.front (drop w.front xs) ≡ string_end (nat_eq (get_or xs w.front 0) 0x5C) v.front (drop v.front xs)
 pass_plain xs w v n p plain =
-    let some = p.some in
     let within = p.within in
     ⊎_elim
     (λ (long : 1 < n).

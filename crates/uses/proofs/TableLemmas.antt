@@ -49,7 +49,6 @@ read_more text seen w v s before step =
     let some = utf8_is_code.some s step.scalar in
     let further : v.front ≡ w.front + length (utf8 s) = ap (λ (x : Window). x.front) step.left in
     let same : v.whole ≡ w.whole = ap (λ (x : Window). x.whole) step.left in
-    let within = step.between.front.0 in
     let few = before.few in (
       rw (← before.whole, ← same) (omega arith),
       record {

@@ -71,9 +71,7 @@ next_of : (xs : List ℕ) (d start : ℕ) (ts : List (List ℕ)) (w v : Window) 
 next_of xs d start ts w v x before step =
     let front : v.front ≡ w.front + x.2 = ap (λ (u : Window). u.front) step.left in
     let same : elements w ≡ slice_range xs w.front (length xs) = rw (before.whole, before.back) refl in
-    let fits = step.len.2 in
     let room : length (elements w) ≡ length xs - w.front = ap length same ∙ range_length xs w.front in
-    let some = step.some in
     let back = before.back in
     record {
       whole = ap (λ (u : Window). u.whole) step.left ∙ before.whole;
@@ -108,7 +106,6 @@ tokens_other alone apart xs d start ts w v x s ascii before step is other =
     let next = next_of xs d start ts w v x before step in
     let begins : Stands utf8 (elements w) 0 s × (x.2 ≡ length (utf8 s)) = rw is at step.piece in
     let first = standing xs w v x.2 s next before.within begins.0 in
-    let end = next.within in
     let front = next.front in
     go_on xs d start ts w v x.2 before next (λ q lo hi e.
     let found : Stands utf8 xs q d = rw e at ((alone xs q (omega arith) (rw e ascii)).0) in
@@ -122,8 +119,6 @@ tokens_fault alone xs d start ts w v x k ascii before step is =
     let next = next_of xs d start ts w v x before step in
     let fault : (fault_kind (elements w) ≡ Some k) × (x.2 ≡ 1) = rw is at step.piece in
     let one = fault.1 in
-    let fits = step.len.2 in
-    let end = next.within in
     let front = next.front in
     go_on xs d start ts w v x.2 before next (λ q lo hi e.
     let same : q ≡ w.front = omega arith in
@@ -144,7 +139,6 @@ tokens_push xs d start ts w v x s t ascii before step is delimiter token =
     let one : length (utf8 d) ≡ 1 = ap length code in
     let first = standing xs w v x.2 d next before.within begins.0 in
     let within = first.within in
-    let len = begins.1 in
     let at : get_or xs w.front 0 ≡ d =
     ap (λ i. get_or xs i 0) (omega arith) ∙ sym (at_range xs w.front (w.front + length (utf8 d)) 0 0 (omega arith) within) ∙ ap (λ l. get_or l 0 0) (first.equal ∙ code) in
     let rest : drop start xs ≡ t ++ d ∷ drop (w.front + 1) xs =

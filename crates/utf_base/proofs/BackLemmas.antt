@@ -25,11 +25,8 @@ continues_not b h p q = grind (arith, common_steps)
 -- a code that ends the bytes has one byte more than the scan has seen continue
 end_len_of_scan : (w : List ℕ) (t s n : ℕ) → EndsInContinuationBytes w t → EndsWith utf8 w s n → n ≡ t + 1
 end_len_of_scan w t s n scan h =
-    let len : n ≡ length (utf8 s) = h.1 in
-    let within = h.0.within in
     let some = utf8_is_code.some s h.0.scalar in
     let most = length_utf8 s in
-    let bound = scan.bound in
     ⊎_elim
     (λ (short : n < t + 1).
     let place : length w - n ≡ length w - 1 - (n - 1) = omega arith in
@@ -61,8 +58,6 @@ end_found w s n le h =
 pub end_missed : (w : List ℕ) (t : ℕ) → EndsInContinuationBytes w t → IsWholeCode (last_bytes (t + 1) w) None → NoCodeEnds utf8 w
 end_missed w t scan none s n h =
     let len : n ≡ t + 1 = end_len_of_scan w t s n scan h in
-    let within = h.0.within in
-    let n_is = h.1 in
     let part = length-last_bytes w (t + 1) (omega arith) in
     let place : length w - (t + 1) + 0 ≡ length w - n = omega arith in
     none s (stands_in_part utf8 w (length w - (t + 1)) (length w) 0 (length w - n) s place (omega arith) h.0 (omega arith), part ∙ sym len ∙ h.1)
@@ -71,8 +66,6 @@ end_missed w t scan none s n h =
 pub end_missed-all : (w : List ℕ) (t : ℕ) → EndsInContinuationBytes w t → length w ≤ t → NoCodeEnds utf8 w
 end_missed-all w t scan all s n h =
     let len : n ≡ t + 1 = end_len_of_scan w t s n scan h in
-    let within = h.0.within in
-    let n_is = h.1 in
     omega arith
 
 pub end_missed-empty : (w : List ℕ) → length w ≡ 0 → NoCodeEnds utf8 w
@@ -103,8 +96,6 @@ last_four_decide w (Ok (s, n)) h =
 last_four_decide w (Err k) h = (
   λ s n g.
       let most = length_utf8 s in
-      let len = g.1 in
-      let within = g.0.within in
       h.0 s (length (utf8 s)) (ends_in_part utf8 w (length w - 4) (length w) (length w - n) s (omega arith) (omega arith) g.0 (omega arith)),
   h.1 ∙ same_fault w,
 )
@@ -140,7 +131,6 @@ one_code_ends_with w n h =
 -- and what ends the bytes is one code
 ends_with_one_code : (w : List ℕ) (s n : ℕ) → EndsWith utf8 w s n → (is_one_code (last_bytes n w) ≡ true) × (value (last_bytes n w) ≡ s)
 ends_with_one_code w s n h =
-    let within = h.0.within in
     let n_is = h.1 in
     let part = stands_in_part utf8 w (length w - n) (length w) 0 (length w - n) s (omega arith) (omega arith) h.0 (omega arith) in
     let none = no_fault_where_code (last_bytes n w) s part in
@@ -154,8 +144,6 @@ not_shorter : (w : List ℕ) (s n m : ℕ) → EndsWith utf8 w s n → m < n →
 not_shorter w s n m h lt =
     ⊎_elim
     (λ e.
-    let within = h.0.within in
-    let n_is = h.1 in
     let len : length (last_bytes m w) ≡ m = grind (arith, common_steps) in
     let same : n ≡ length (last_bytes m w) = (one_code_ends utf8 utf8_is_code w s (value (last_bytes m w)) n (length (last_bytes m w)) h (one_code_ends_with w m e)).1 in
     absurd (omega arith))
@@ -185,7 +173,6 @@ end_len_none w none = rw (not_any w 1 none, not_any w 2 none, not_any w 3 none, 
 pub answer_of_end : (w : List ℕ) (r : Result (ℕ × ℕ) Utf8ErrorKind) → DecodesEnd as_scalar w r → r ≡ decoded_end w
 unfolding decoded_end
 answer_of_end w (Ok (s, n)) h =
-    let n_is = h.1 in
     let some = utf8_is_code.some s h.0.scalar in
     let len = end_len_is w s n h in
     let not_zero : eqb n 0 ≡ false = grind (arith, common_steps) in

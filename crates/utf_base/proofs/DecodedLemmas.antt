@@ -158,8 +158,6 @@ answer_of_number n (Ok c) h =
   where
     no_fault : (n : ℕ) → IsScalar n → number_fault n ≡ None
     no_fault n h =
-        let below = h.below in
-        let gap = h.no_surrogate in
         grind (arith, common_steps)
 answer_of_number n (Err k) h = rw h refl
 

@@ -28,8 +28,6 @@ ends_by_last code xs s n h =
 
 pub last_of_end : (code : ℕ → List ℕ) (xs : List ℕ) (s n : ℕ) → EndsWith code xs s n → BeginsWith code (slice_range xs (length xs - n) (length xs)) s n
 last_of_end code xs s n h =
-    let within = h.0.within in
-    let n_is = h.1 in
     (stands_in_part code xs (length xs - n) (length xs) 0 (length xs - n) s (omega arith) (omega arith) h.0 (omega arith), h.1)
 
 -- no code ends a list without an element
@@ -61,8 +59,6 @@ pub ends_in_whole : (code : ℕ → List ℕ) (xs : List ℕ) (i j s n : ℕ) �
 ends_in_whole code xs i j s n lo le h =
     let len : length (slice_range xs i j) ≡ j - i = grind (arith, common_steps) in
     let end = ends_at code (slice_range xs i j) s n h in
-    let within = h.0.within in
-    let n_is = h.1 in
     let w = stands_in_whole code xs i j (length (slice_range xs i j) - n) (j - n) s (omega arith) lo le h.0 in
     (w.0, h.1, omega arith)
 
@@ -72,14 +68,10 @@ pub front_len : (code : ℕ → List ℕ) (m : ℕ) → IsCode code → ((s : �
 front_len code m c short w s n h =
     let some = c.some s h.0.scalar in
     let most = short s in
-    let within = h.0.within in
-    let len = h.1 in
     (omega arith, omega arith, omega arith)
 
 pub end_len : (code : ℕ → List ℕ) (m : ℕ) → IsCode code → ((s : ℕ) → length (code s) ≤ m) → (w : List ℕ) (s n : ℕ) → EndsWith code w s n → IsFrontLen m w n
 end_len code m c short w s n h =
     let some = c.some s h.0.scalar in
     let most = short s in
-    let within = h.0.within in
-    let len = h.1 in
     (omega arith, omega arith, omega arith)

@@ -153,10 +153,7 @@ continues w k h = grind (arith, common_steps)
 none_from_decodes : (w : List ℕ) → Decodes w → fault_kind w ≡ None
 unfolding fault_kind
 none_from_decodes w h =
-    let some = h.some in
     let asks = h.asks in
-    let below = h.scalar.below in
-    let no_surrogate = h.scalar.no_surrogate in
     let not_empty : eqb (length w) 0 ≡ false = grind (arith, common_steps) in
     let first = asked-no_continuation (get_or w 0 0) h.asks in
     let occurs : eqb (asked_by w) 0 ≡ false = grind (arith, common_steps) in
@@ -173,9 +170,6 @@ none_from_decodes w h =
 
 code_from_decodes : (w : List ℕ) → Decodes w → utf8 (value w) ≡ take (asked_by w) w
 code_from_decodes w h =
-    let within = h.within in
-    let least = h.least in
-    let below = h.scalar.below in
     ⊎_elim (λ a. rw (a.1, value-1 w a.1, utf8-1 (get_or w 0 0) a.0, front_1 w (omega arith)) refl)
     (⊎_elim
     (λ a.

@@ -46,8 +46,6 @@ Asks-4 w some low high = record { some = some; first = grind (arith, common_step
 pub kind-few : (w : List ℕ) (n : ℕ) → Asks w n → length w < n → fault_kind w ≡ Some TooFewBytes
 unfolding fault_kind
 kind-few w n a few =
-    let some = a.some in
-    let positive = a.positive in
     let not_empty : eqb (length w) 0 ≡ false = grind (arith, common_steps) in
     let occurs : eqb n 0 ≡ false = grind (arith, common_steps) in
     let short : ltb (length w) n ≡ true = grind (arith, common_steps) in
@@ -56,8 +54,6 @@ kind-few w n a few =
 kind-continued : (w : List ℕ) (n : ℕ) → Asks w n → n ≤ length w → fault_kind w ≡ (if not (all_continue w) then Some InterruptedSequence else value_fault w)
 unfolding fault_kind
 kind-continued w n a enough =
-    let some = a.some in
-    let positive = a.positive in
     let not_empty : eqb (length w) 0 ≡ false = grind (arith, common_steps) in
     let occurs : eqb n 0 ≡ false = grind (arith, common_steps) in
     let short : ltb (length w) n ≡ false = grind (arith, common_steps) in
@@ -115,8 +111,6 @@ kind-too_high w n v s h high =
 
 pub kind-none : (w : List ℕ) (n v : ℕ) → Sums w n v → least_value n ≤ v → IsScalar v → fault_kind w ≡ None
 kind-none w n v s h scalar =
-    let below = scalar.below in
-    let no_surrogate = scalar.no_surrogate in
     let long : ltb v (least_value n) ≡ false = grind (arith, common_steps) in
     let gap : (leb 0xD800 v && ltb v 0xE000) ≡ false = grind (arith, common_steps) in
     let low : ltb 0x10_FFFF v ≡ false = grind (arith, common_steps) in

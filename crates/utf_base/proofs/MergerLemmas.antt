@@ -65,8 +65,6 @@ code_unbroken w none =
     ⊎_elim
     (λ (e : is_broken w ≡ true).
     let s = code_where_no_fault w none in
-    let within = s.0.within in
-    let len = s.1 in
     let k = broken_enough w (omega arith) e in
     cc)
     (λ e. e)
@@ -169,7 +167,6 @@ pub whole_code : (w : List ℕ) (s : ℕ) → Stands utf8 w 0 s → asked_by w �
 whole_code w s h enough exact =
     let len : asked_by w ≡ length (utf8 s) = (code_where_no_fault w (no_fault_where_code w s h)).1 ∙ ap (λ x. length (utf8 x)) (decodes_from_stands w s h).1 in
     let some = utf8_is_code.some s h.scalar in
-    let within = h.within in
     let all : length (utf8 s) ≡ length w = ⊎_elim (λ (lt : 1 < length w). sym len ∙ exact lt) (λ (le : length w ≤ 1). omega arith) (cases_lt 1 (length w)) in
     let whole : slice_range w 0 (0 + length (utf8 s)) ≡ w = rw all (range_all w) in
     sym whole ∙ h.equal

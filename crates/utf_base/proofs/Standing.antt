@@ -48,8 +48,6 @@ codes_never_overlap code c xs p q s t h g = (
 -- the end of a standing code lies inside none
 pub outside_after : (code : ℕ → List ℕ) → IsCode code → (xs : List ℕ) (p s : ℕ) → Stands code xs p s → Inside code xs (p + length (code s)) → ⊥
 outside_after code c xs p s h i =
-    let begins = i.begins in
-    let ends = i.ends in
     let some = c.some s h.scalar in
     let first = (codes_never_overlap code c xs p i.from s i.char h i.stands).1 in
     let last = (codes_never_overlap code c xs i.from p i.char s i.stands h).1 in

@@ -79,7 +79,6 @@ breaks w (suc (suc (suc (suc k)))) some asks there e = absurd (omega (arith, ask
 interrupted : (w : List ℕ) (k : ℕ) (state : State) → Runs w k state → 0 < missing state → k < length w → (get_or w k 0 < 0x80) ⊎ (0xC0 ≤ get_or w k 0)
     → merger_kind w ≡ Some InterruptedSequence
 interrupted w k state r more there out =
-    let asks = r.asks in
     broken_kind w (breaks w k r.some (omega arith) there (⊎_elim (λ (h : get_or w k 0 < 0x80). grind (arith, common_steps)) (λ (h : 0xC0 ≤ get_or w k 0). grind (arith, common_steps)) out))
 
 -- One more byte that continues.
@@ -117,7 +116,6 @@ record Ends (w : List ℕ) : Type 0 where
 
 ends : (w : List ℕ) (k : ℕ) (state : State) → Runs w k state → Continues w k → missing state ≡ 1 → k < length w → Ends w
 ends w k state r here last there =
-    let asks = r.asks in
     let e : suc k ≡ asked_by w = omega arith in
     let all : ContinueTo w (asked_by w) = rw (← e) (continued_to w k r.before here) in
     record { all = all; enough = omega arith; sums = sums w (omega arith) (omega arith) all }

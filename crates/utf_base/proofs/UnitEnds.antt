@@ -72,8 +72,6 @@ record EndsAsPair (w : List ℕ) (s n : ℕ) : Type 0 where
 
 ends_as_unit : (w : List ℕ) (s n : ℕ) → EndsWith utf16 w s n → StandsAsUnit (slice_range w (length w - n) (length w)) s → EndsAsUnit w s n
 ends_as_unit w s n h u =
-    let within = h.0.within in
-    let n_is = h.1 in
     let one : n ≡ 1 = h.1 ∙ ap length (utf16-1 s u.small) in
     let last = last_alone w (omega arith) in
     let unit = rw one at u.unit in
@@ -82,8 +80,6 @@ ends_as_unit w s n h u =
 
 ends_as_pair : (w : List ℕ) (s n : ℕ) → EndsWith utf16 w s n → StandsAsPair (slice_range w (length w - n) (length w)) → EndsAsPair w s n
 ends_as_pair w s n h p =
-    let within = h.0.within in
-    let n_is = h.1 in
     let front = last_of_end utf16 w s n h in
     let pair = begins_with_pair (slice_range w (length w - n) (length w)) p.two p.leading p.trailing in
     let same = same_char utf16 utf16_is_code (slice_range w (length w - n) (length w)) 0 _ s pair.0 front.0 in
@@ -136,7 +132,6 @@ pub unit_end_code : (w : List ℕ) (s n : ℕ) → EndsWith utf16 w s n → unit
 unfolding unit_end
 unit_end_code w s n h =
     let some = utf16_is_code.some s h.0.scalar in
-    let within = h.0.within in
     let not_empty : eqb (length w) 0 ≡ false = grind (arith, common_steps) in
     ⊎_elim
     (λ (u : EndsAsUnit w s n). rw (not_empty, u.plain, u.unit, u.one) refl)

@@ -42,7 +42,6 @@ fault_of_empty w e = rw e refl
 -- no unit is so large
 no_large_unit : (w : List ℕ) (s : ℕ) → 0x1_0000 ≤ get_or w 0 0 → Stands utf16 w 0 s → ⊥
 no_large_unit w s large h =
-    let below = h.scalar.below in
     ⊎_elim
     (λ (u : StandsAsUnit w s). let small = u.small in let unit = u.unit in omega arith)
     (λ (p : StandsAsPair w). leading_is_small (get_or w 0 0) p.leading large)
@@ -66,7 +65,6 @@ no_fault_of_pair w two leading trailing =
 
 pub no_fault_where_units : (w : List ℕ) (s : ℕ) → Stands utf16 w 0 s → slice_fault w ≡ None
 no_fault_where_units w s h =
-    let within = h.within in
     let some = utf16_is_code.some s h.scalar in
     ⊎_elim
     (λ (u : StandsAsUnit w s). no_fault_of_unit w (omega arith) u.plain)

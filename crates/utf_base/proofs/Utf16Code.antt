@@ -117,12 +117,9 @@ stands_cases w s h =
     ⊎_elim
     (λ (lt : s < 0x1_0000).
     let e0 : get_or w 0 0 ≡ s = at_front w (s ∷ []) s 0 h (utf16-1 s lt) (lit< tt) in
-    let no_surrogate = h.scalar.no_surrogate in
     inl (record { unit = e0; plain = rw e0 (grind (arith, common_steps)); small = lt }))
     (λ (ge : 0x1_0000 ≤ s).
     let code = utf16-2 s ge in
-    let below = h.scalar.below in
-    let within = h.within in
     let len : length (utf16 s) ≡ 2 = ap length code in
     let e0 : get_or w 0 0 ≡ 0xD800 + (s - 0x1_0000) / 1024 = at_front w _ s 0 h code (lit< tt) in
     let e1 : get_or w 1 0 ≡ 0xDC00 + (s - 0x1_0000) % 1024 = at_front w _ s 1 h code (lit< tt) in

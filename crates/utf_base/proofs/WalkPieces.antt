@@ -76,8 +76,6 @@ module _ {E : Type 0} where
   all_within e c xs i j word answers k l o w =
       let g = gathers e c xs i j word answers k l w in
       let ordered = (stays_open e c xs i j word answers k l o w).ordered in
-      let up = g.up in
-      let down = g.down in
       let Within : Piece → Type 0 = λ p. IsPiece e.code xs p × (i ≤ p.start) × (p.start < j) in
       All-permutation Within (g.fronts ++ g.backs) (answered answers) (IsPermutation-sym _ _ g.shuffled)
       (All-append Within g.fronts g.backs

@@ -16,7 +16,6 @@ piece_at_end : (code : ℕ → List ℕ) (xs : List ℕ) (ps : List Piece) (i m 
     → (x : Piece) × IsPiece code xs x × (x.start < j) × (j ≤ end_of x)
 piece_at_end code xs [] i m j h f lt le = absurd (omega arith)
 piece_at_end code xs (x ∷ ps) i m j h f lt le =
-    let begins = f.0 in
     ⊎_elim
     (λ (more : end_of x < j). piece_at_end code xs ps (end_of x) m j (λ n d g. h (suc n) d (omega arith)) f.1 more le)
     (λ (here : j ≤ end_of x). (x, h 0 x (omega arith), omega arith, here))

@@ -40,8 +40,6 @@ module _ {E : Type 0} where
   pub open_front : (e : Encoding E) → IsCode e.code → (xs : List ℕ) (i j : ℕ) (x : Placed E) → IsOpen e.code xs i j → AnswersFront e xs i j x
       → IsOpen e.code xs (x.0 + x.2) j
   open_front e c xs i j x o a =
-      let some = a.some in
-      let begins = a.begins in
       record {
         ordered = piece_over e.code xs x.0 x.2 (result_ok x.1) j a.piece o.back (omega arith);
         within = o.within;
@@ -52,8 +50,6 @@ module _ {E : Type 0} where
   pub open_back : (e : Encoding E) → IsCode e.code → (xs : List ℕ) (i j : ℕ) (x : Placed E) → IsOpen e.code xs i j → AnswersBack e xs i j x
       → IsOpen e.code xs i x.0
   open_back e c xs i j x o a =
-      let some = a.some in
-      let ends = a.ends in
       let within = o.within in
       record {
         ordered = ⊎_elim

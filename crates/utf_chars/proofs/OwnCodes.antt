@@ -113,7 +113,6 @@ own_unit_front xs rest s n h e l =
 
 front_code : (code : ℕ → List ℕ) (xs : List ℕ) (s n : ℕ) → BeginsWith code xs s n → take n xs ≡ code s
 front_code code xs s n h =
-    let len = h.1 in
     let span : n ≡ 0 + length (code s) - 0 = omega arith in
     ap (λ k. take k xs) span ∙ h.0.equal
 

@@ -35,7 +35,6 @@ pub record AsPair (units : List ℕ) (s : ℕ) : Type 0 where
 
 pub units_cases : (units : List ℕ) (s : ℕ) → IsScalar s → units ≡ padded 2 (utf16 s) → (AsUnit units s) ⊎ (AsPair units s)
 units_cases units s h e =
-    let no_surrogate = h.no_surrogate in
     ⊎_elim
     (λ (lt : s < 0x1_0000).
     let are : units ≡ s ∷ 0 ∷ [] = e ∙ padded_unit s lt in
@@ -48,16 +47,11 @@ units_cases units s h e =
 leading_of_pair : (units : List ℕ) (s : ℕ) → AsPair units s → is_leading_surrogate (get_or units 0 0) ≡ true
 leading_of_pair units s p =
     let first = p.first in
-    let below = p.below in
     let bound : (s - 0x1_0000) / 1024 < 1024 = omega arith in
     rw first (grind (arith, common_steps))
 
 value_of_pair : (units : List ℕ) (s : ℕ) → AsPair units s → pair_value (get_or units 0 0) (get_or units 1 0) ≡ s
 value_of_pair units s p =
-    let first = p.first in
-    let second = p.second in
-    let large = p.large in
-    let below = p.below in
     omega arith
 
 -- the value of the units of a scalar is the scalar

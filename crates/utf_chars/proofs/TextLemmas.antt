@@ -29,7 +29,6 @@ text_tells text s h =
     let none = no_fault_where_code text s h in
     let char : value text ≡ s = (decodes_from_stands text s h).1 in
     let some = utf8_is_code.some s h.scalar in
-    let within = h.within in
     let longer : 0 < length text = omega arith in
     record { some = grind (arith, common_steps); char = char; len = (code_where_no_fault text none).1 ∙ ap (λ x. length (utf8 x)) char }
 
@@ -55,8 +54,6 @@ answer_of_parse text (Ok s) h =
 answer_of_parse text (Err Empty) h = rw h refl
 answer_of_parse text (Err MultipleCodepoints) h =
     let tells = text_tells text h.0 h.1 in
-    let more = h.2 in
-    let len = tells.len in
     let longer : eqb (length text) (asked_by text) ≡ false = grind (arith, common_steps) in
     rw (tells.some, longer) refl
 
@@ -81,7 +78,6 @@ text_of_code text s h e = (
 -- a text can be cut after a character, where it can be cut before it
 pub boundary_after : (xs : List ℕ) (i s k : ℕ) → IsUtf8 xs → IsCharBoundary xs i → Stands utf8 xs i s → k ≡ i + length (utf8 s) → IsCharBoundary xs k
 boundary_after xs i s k is_text front h e =
-    let within = h.within in
     let n : length (utf8 s) ≡ i + length (utf8 s) - i = omega arith in
     let code : take (length (utf8 s)) (drop i xs) ≡ utf8 s = ap (λ k. take k (drop i xs)) n ∙ h.equal in
     let split : drop i xs ≡ utf8 s ++ drop (length (utf8 s)) (drop i xs)

@@ -75,6 +75,4 @@ continues_in_code w k none some lt = let c = (decodes_from_none w none).follow k
 pub std_scalar : (w : List ℕ) (v : ℕ) → fault_kind w ≡ None → value w ≡ v → IsStdScalar v
 std_scalar w v none sum =
     let h = (decodes_from_none w none).scalar in
-    let below = h.below in
-    let no_surrogate = h.no_surrogate in
     grind (arith, common_steps)

@@ -44,7 +44,6 @@ are_letters (Back ∷ es) = All-cons IsLetter 66 (map letter es) (inr refl) (are
 pub asks_walk : (args : List (List ℕ)) (option text : List ℕ) (word : List End)
     → args ≡ option ∷ text ∷ [] → option ≡ codes "--ends" → AreLetters text → map letter word ≡ text → Asks args (walked word)
 asks_walk args option text word are is letters spells =
-    let some = letters.0 in
     let long : length word ≡ length text = sym (length-map word letter) ∙ ap length spells in
     (are ∙ rw (is, spells) refl, omega arith)
 
@@ -64,7 +63,6 @@ two_wrong args option text are none (walked word) asks =
     let is : option ≡ codes "--ends" = cc in
     let spells : map letter word ≡ text = cc in
     let long : length word ≡ length text = sym (length-map word letter) ∙ ap length spells in
-    let some = asks.1 in
     none (is, (omega arith, subst (λ ys. All IsLetter ys) spells (are_letters word)))
 
 -- A word is known by its letters, and what is asked for by the arguments.

@@ -66,7 +66,6 @@ module _ (code : ℕ → List ℕ) (c : IsCode code) (find : Finds code) (wide :
       (λ (at : (s : ℕ) × Stands code w 0 s).
       let n : ℕ = length (code at.0) in
       let some : 0 < n = c.some at.0 at.1.scalar in
-      let within = at.1.within in
       let rest = shows_some code c find (drop n w) in
       let first : Shows code w (at.0 ∷ rest.0) =
       subst (λ ys. Shows code ys (at.0 ∷ rest.0)) (append-nil w) (code_shows_first code c w at.0 [] rest.0 at.1 (subst (λ ys. Shows code ys rest.0) (sym (append-nil (drop n w))) rest.1)) in

@@ -54,7 +54,6 @@ room_after old new out wrote fits same le = omega (arith, length-append (take wr
 pub feeds_in_room : FeedsInRoom
 feeds_in_room r s part old new read wrote f same room full =
     let long = full_is_longer s (s.held ++ drop read part) (length old - wrote) full in
-    let longer = long.longer in
     let whole : IsRecoded r.from r.to (r.held ++ part) (take wrote new ++ long.out) =
     subst (λ xs. IsRecoded r.from r.to (r.held ++ xs) (take wrote new ++ long.out)) (take-append-drop read part)
     (after_written r s part old new long.out (drop read part) read wrote f long.recoded) in
@@ -71,7 +70,6 @@ room_is_left r s part old new read wrote f same room out h =
 pub finishes_in_room : FinishesInRoom
 finishes_in_room r s old new wrote f same room full =
     let long = last_is_longer s s.held (length old - wrote) full in
-    let longer = long.longer in
     let held : IsRecoded r.from r.to s.held long.out =
     subst (λ x. IsRecoded x r.to s.held long.out) f.from (subst (λ x. IsRecoded s.from x s.held long.out) f.to long.recoded) in
     let le = room_after old new long.out wrote f.fits same (room (take wrote new ++ long.out) (f.leaves long.out held)) in

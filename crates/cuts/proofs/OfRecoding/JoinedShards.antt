@@ -61,7 +61,6 @@ module _ (code : ℕ → List ℕ) (c : IsCode code) (find : Finds code) where
       let whole : w ++ [] ≡ w = append-nil w in
       ⊎_elim
       (λ (h : (s : ℕ) × Stands code (x ∷ w) 0 s).
-      let within = h.1.within in
       let some = c.some h.0 h.1.scalar in
       let rest = shows_some code c find (drop (length (code h.0)) (x ∷ w)) in
       let first : Shows code (x ∷ w) (h.0 ∷ rest.0)

@@ -193,8 +193,6 @@ module _ (xs : List ℕ) (i e : ℕ) (end : e < length xs) (last : Begins xs e) 
         | inl lt ↦
             let step = one_code k (omega arith) (omega arith) (subst (Begins xs) at first) in
             let len = step.len in
-            let some = step.some in
-            let within = step.within in
             let same : k + 3 + len ≡ p + len = omega arith in
             to_last fuel (p + len) (k + len) (omega arith) (omega arith) (omega arith) (omega arith)
             (text_step xs p step.front.0 len text (subst (λ n. BeginsWith utf8 (drop n xs) step.front.0 len) (sym at) step.front.1)) (subst (Begins xs) same step.next)

@@ -131,8 +131,6 @@ pub Grows-ahead : (from to : Form) (bytes old mid new : List ℕ) (p s n : ℕ) 
     → Decides (Reads from) (take 4 (drop p bytes)) s n → new ≡ mid ++ written to s → Grows from to (take (p + n + 3) bytes) old new (take 3 (drop (p + n) bytes))
 Grows-ahead from to bytes old mid new p s n g d e =
     let xs : List ℕ = drop p bytes in
-    let some = d.some in
-    let within = d.within in
     let le : n ≤ 4 = omega (arith, length-take 4 xs) in
     let first : Grows from to (take (p + 3 + 1) bytes) old mid (take 3 xs ++ take 1 (drop (p + 3) bytes)) = Grows-more-read from to [] bytes (take 3 xs) old mid (p + 3) 1 g in
     let looked : take 3 xs ++ take 1 (drop (p + 3) bytes) ≡ take 4 xs = ap (λ ys. take 3 xs ++ take 1 ys) (sym (drop-drop 3 p bytes)) ∙ take_more 3 1 xs in
@@ -163,7 +161,6 @@ pub FeedsInto-then : (r s v : Recoding) (part old mid new : List ℕ) (read more
     → v ≡ record { from = s.from; to = s.to; held = take (end - more) (drop more (drop read part)) } → FeedsInto r part old new (read + end) all v
 FeedsInto-then r s v part old mid new read more wrote all end f none g over near within short ordered fits rest k =
     let xs : List ℕ = drop read part in
-    let before = f.within in
     let fed = f.feeds [] in
     let one : Grows r.from r.to (r.held ++ take (read + end) part) [] (take wrote mid) (s.held ++ take end xs) =
     Grows-more-read r.from r.to r.held part s.held [] (take wrote mid) read end fed.grows in

@@ -31,10 +31,7 @@ RunsInto-then from to bytes old mid new place read wrote more end f len g =
     let within = f.within in
     let ordered = f.ordered in
     let short = f.short in
-    let then_within = g.within in
     let then_ordered = g.ordered in
-    let then_short = g.short in
-    let then_fits = g.fits in
     record {
       within = omega (arith, length-drop read bytes);
       ordered = omega arith;
@@ -51,7 +48,6 @@ RunsInto-step from to bytes old mid new place read wrote s n end f len d fills e
     let within = f.within in
     let ordered = f.ordered in
     let short = f.short in
-    let taken = d.within in
     let some = d.some in
     let few = length_written to s n d.some d.wide in
     let later = fills.ordered in

@@ -66,7 +66,6 @@ utf8_last_here xs least at near none =
     last_here utf8 xs at
     (λ v.
     let begins = v.begins in
-    let ends = v.ends in
     let long = length_utf8 v.char in
     let fits = none v.from v.char (omega arith) begins v.stands in
     omega arith)
@@ -143,8 +142,6 @@ module _ (high : Bool) (bytes : List ℕ) (at n : ℕ) (lt : at < length bytes) 
       let e : n ≡ 2 * (n / 2) = omega arith in
       let place : 2 * (n / 2) ≡ n = omega arith in
       let out : Inside utf16 (units_of high bytes) (n / 2) → ⊥ = λ v.
-      let begins = v.begins in
-      let ends = v.ends in
       let most = length_utf16 v.char in
       let from : v.from ≡ n / 2 - 1 = omega arith in
       let units = (even_units high bytes (n - 2) (n / 2 - 1) (omega arith) (omega arith)).1 in

@@ -189,7 +189,6 @@ module _ (high : Bool) (xs rest : List ℕ) (k s : ℕ) (scalar : IsScalar s) (b
       let is : utf8 s ++ rest ≡ w = ap (λ ys. ys ++ rest) e in
       let a = before.third in
       let b = before.second in
-      let c = before.first in
       let unit = gives_unit high (get_or xs k 0) (get_or xs (k + 1) 0) (get_or xs (k + 2) 0) s s (omega arith) (omega arith) (low_1 _ _ s (omega arith) h) (high_1 _ _ _ s a b h) in
       let last : get_or xs (k + 3) 0 ≡ s = byte w 0 (k + 3) is (omega arith) in
       let p : get_or xs (k + 1 + 1) 0 ≡ get_or xs (k + 2) 0 = old (k + 1 + 1) (k + 2) (omega arith) in
@@ -206,9 +205,6 @@ module _ (high : Bool) (xs rest : List ℕ) (k s : ℕ) (scalar : IsScalar s) (b
       let w1 = 0x80 + s % 64 in
       let w = w0 ∷ w1 ∷ rest in
       let is : utf8 s ++ rest ≡ w = ap (λ ys. ys ++ rest) e in
-      let a = before.third in
-      let b = before.second in
-      let c = before.first in
       let b1 = get_or xs (k + 1) 0 in
       let c1 = get_or xs (k + 2) 0 in
       let none = gives_at_0 w is ∙ gives_none high (get_or xs k 0) b1 c1 w0 (inl (omega arith)) in
@@ -229,7 +225,6 @@ module _ (high : Bool) (xs rest : List ℕ) (k s : ℕ) (scalar : IsScalar s) (b
       let w2 = 0x80 + s % 64 in
       let w = w0 ∷ w1 ∷ w2 ∷ rest in
       let is : utf8 s ++ rest ≡ w = ap (λ ys. ys ++ rest) e in
-      let c = before.first in
       let b1 = get_or xs (k + 1) 0 in
       let c1 = get_or xs (k + 2) 0 in
       let none = gives_at_0 w is ∙ gives_none high (get_or xs k 0) b1 c1 w0 (inl (omega arith)) in

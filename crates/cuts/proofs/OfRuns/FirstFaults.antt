@@ -37,7 +37,6 @@ good_step code c xs i s n g (h, e) =
     let within = g.within in
     let stands : Stands code (slice_range xs i (length xs)) 0 s = rw (take_rest xs i) h in
     let f = front_char code c xs i (length xs) s within (omega arith) stands in
-    let ends = f.1 in
     record {
       within = omega arith;
       none = λ x p bad.

@@ -104,8 +104,6 @@ front_item w some fits = by_kind w some fits (fault_kind (elements w)) refl
 
 run_out_end : (xs : List ℕ) (items : List Item) (w : Window) → IsRunSoFar xs items w → w.back ≤ w.front → IsForwardRun xs (items ++ pieces_left w)
 run_out_end xs items w f none =
-    let ordered = f.run.within in
-    let end = f.end in
     let nothing : GivesNone w w = record { none = omega arith; left = refl } in
     rw ((decoder_listed w None w nothing).0, append-nil) (IsForwardRun-all xs items w w f nothing)
 

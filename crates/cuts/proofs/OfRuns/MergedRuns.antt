@@ -78,7 +78,6 @@ IsMergedRun-all : {E : Type 0} (code : ℕ → List ℕ) (kind : List ℕ → Op
     → IsMergedSoFar code kind xs answers old → old ≡ [] → IsMergedRun code kind xs answers
 IsMergedRun-all code kind xs answers old f none =
     let end : length xs - f.place ≡ 0 = length_after xs f.place (sym f.following ∙ none) in
-    let within = f.run.within in
     record { items = f.items; run = IsRun-all code kind xs f.items f.place f.run (omega arith); same = f.same }
   where
     length_after : (xs : List ℕ) (i : ℕ) → drop i xs ≡ [] → length xs - i ≡ 0

@@ -60,7 +60,6 @@ pub IsRunTo-push : {E : Type 0} (code : ℕ → List ℕ) (kind : List ℕ → O
 IsRunTo-push code kind c apart xs i items j x f place lt front =
     let p = at_front code kind c apart xs j x.2 x.1 lt f.outside front in
     let passed = f.passed in
-    let some = p.some in
     let one = length_push items x in
     let cut : IsCutBetween code xs i (x.0 + x.2) (map piece_of items ++ piece_of x ∷ [])
     = cut_push code c xs i (map piece_of items) (piece_of x) (omega arith) (rw place p.piece) (rw place f.run.cut) in

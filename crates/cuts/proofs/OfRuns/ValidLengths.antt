@@ -27,7 +27,6 @@ one_first code xs n m a b = ⊎_elim (λ (lt : n < m). absurd (less n m a b lt))
   where
     less : (n m : ℕ) → IsFirstFault code xs n → IsFirstFault code xs m → n < m → ⊥
     less n m a b lt =
-        let within = b.within in
         let least = b.none _ (a.fault (omega arith)) refl in
         omega arith
 
@@ -43,7 +42,6 @@ record Tells {E : Type 0} (code : ℕ → List ℕ) (xs : List ℕ) (place : ℕ
 
 tells_none : {E : Type 0} (code : ℕ → List ℕ) (xs : List ℕ) (place : ℕ) → IsGoodTo code xs place → length xs ≤ place → Tells {E = E} code xs place []
 tells_none code xs place g le =
-    let within = g.within in
     let same : place ≡ place + 0 = omega arith in
     record { first = subst (IsFirstFault code xs) same (good_all code xs place g le); found = omega arith }
 

@@ -59,7 +59,6 @@ module _ {E : Type 0} where
       ((subst (λ q. Stands e.code xs q s) place f.0.0, f.1), tt)
   at_back e c xs i j p n (Err k) o lt ends h =
       let f = back_fault e.code xs i j o.front o.back lt o.within h.0 in
-      let one = h.2 in
       let place : j - 1 ≡ p = omega arith in
       (subst (λ q. IsPieceAt e.code xs q n None) place (f.0.0, h.2, f.0.2), ap e.backward (sym (last_of_part xs i j lt o.within)) ∙ sym h.1)
 
@@ -100,7 +99,6 @@ module _ {E : Type 0} where
       → IsWalkSoFar e xs word answers w → GivesBackOf e.code most e.backward answer w x v → IsWalkSoFar e xs (word ++ Back ∷ []) (answers ++ Some x ∷ []) v
   back_more e c most answer xs word answers w v x f g =
       let given = answers_back e c most answer xs w v x f.whole (window_open e c xs word answers w f) g in
-      let ends = g.place in
       let place : w.back - x.2 ≡ x.0 = omega arith in
       rw g.left (record {
         whole = f.whole;

@@ -29,7 +29,6 @@ item_has_some xs place until next items x f lt piece = (at_front utf8 fault_kind
 pub IsDecodedTo-push : (xs : List ℕ) (place until next after : ℕ) (items : List Item) (x : Item) → IsDecodedTo xs place until next items → next < until → next < length xs
     → x.0 ≡ next → IsFrontPiece (slice_range xs next (length xs)) x.1 x.2 → after ≡ next + x.2 → IsDecodedTo xs place until after (items ++ x ∷ [])
 IsDecodedTo-push xs place until next after items x f lt within at piece step =
-    let passed = f.run.passed in
     let few = f.few in
     let one = length_push items x in
     record {

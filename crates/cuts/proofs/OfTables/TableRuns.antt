@@ -211,7 +211,6 @@ module _ (ys : List ℕ) (s from k : ℕ) (items : List Item) (run : IsForwardRu
       ⊎_elim
       (λ (short : from < s - 3).
       let b = piece_begins utf8 utf8_is_code utf8_finds ys from resumes_outside (omega arith) in
-      let start = b.start in
       let before = begins_before b.first (run.cut.all b.first b.is_piece (omega arith) (omega arith)) in
       absurd (omega arith))
       (λ (le : s - 3 ≤ from). le)
@@ -332,7 +331,6 @@ IsSplitAt-from_point items m k le point = record {
 -- fewer items begin before an earlier place
 splits_in_order : (items : List Item) (m n k r : ℕ) → m ≤ n → IsSplitAt items m k → IsSplitAt items n r → k ≤ r
 splits_in_order items m n k r le a b =
-    let within = a.within in
     ⊎_elim
     (λ (lt : r < k).
     let before = a.before r some_item (omega arith) lt in
@@ -370,8 +368,6 @@ module _ (ys : List ℕ) (s e t : ℕ) (items : List Item) (h : WereReplaced ys 
 
   kept_run : (k : ℕ) → IsSplitAt items (s - 3) k → IsForwardRunBetween ys 0 (s - 3) (take k items)
   kept_run k split =
-      let ordered = h.ordered in
-      let within = h.within in
       run_stays h.old ys (s - 3) (take k items) around.before (run_before h.old (s - 3) k items (omega arith) h.run split)
 
   moved_run : (r : ℕ) → IsSplitAt items (e + 3) r → IsForwardRunBetween ys (t + 3) (length ys + 3) (map (moved_item e t) (drop r items))

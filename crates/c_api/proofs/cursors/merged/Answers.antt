@@ -9,7 +9,6 @@ pub returns-in-None : goal.returns-in-None
 returns-in-None c =
     let all : unread copied_rest c.from.result ≡ c.args.bytes.now = ap (unread copied_rest) c.from.ensures ∙ ap iter_rest c.copied.ensures.source ∙ c.iter.ensures.rest in
     let none = (c.in-None.ensures.steps.takes copied_rest copied_listed).0 in
-    let some = c.requires in
     absurd (omega (arith, ap length (sym all ∙ none)))
 
 pub returns-in-Some-Ok : goal.returns-in-Some-Ok

@@ -14,7 +14,6 @@ loop-count-preserved c =
     let gives = c.nody_utf16_next-piece.ensures in
     let x = c.nody_utf16_next-piece.result in
     let has = c.if-piece-eq0.false in
-    let test = c.loop-count-test.true in
     let some = some_left first_of_units units _ x gives (omega (arith, has)) in
     record {
       within = omega arith;

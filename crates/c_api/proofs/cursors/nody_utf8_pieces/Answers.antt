@@ -12,7 +12,6 @@ loop-count-preserved c =
     let len = before.len in
     let bytes = c.loop-count.bytes.now in
     let x = c.first-piece.result in
-    let test = c.loop-count-test.true in
     let most = c.first-piece.ensures.most in
     let has = c.if-piece-eq0.false in
     let some : 0 < length bytes = omega (arith, has, most) in

@@ -16,7 +16,6 @@ loop-c-preserved g c = record {
 pub returns-in_err-add-clause-err : goal.returns-in_err-add-clause-err
 returns-in_err-add-clause-err g c =
     let from = err_from_is_err_and c.from_residual.result c.from_residual.ensures.1 in
-    let before = c.loop-c.invariant.room in
     let full = rw c.loop-c.invariant.added at c.in_err-add.ensures.full in
     rw from.1 (λ rest listed. first_added g.T.HoldsCodes.code _ _ _ _ _ _ _ _ (c.loop-c.invariant.left rest listed) (listed _ _ _ c.in-Some.ensures.steps) (c.in_err-add.ensures.err ∙ c.loop-c.invariant.added) (omega arith))
 

@@ -8,8 +8,6 @@ loop-preserved g c =
     elim c.match-read_once.branch [
       | in-Ok+in_ok-add-in-Ok w ↦
           let taken = w.in-Ok.ensures in
-          let len = taken.at_most.1 in
-          let some = w.in-Ok.count-test in
           rw (w.bytes-is, w.in_ok-add-in-Ok.ensures.items)
           (IsReadSoFar-part _ _ _ _ _ _ _ _ _ _ _ _ _ _ _ c.loop.invariant taken.consumes.0 (omega arith) (omega arith) taken.failures taken.reads)
       | in-Err w ↦

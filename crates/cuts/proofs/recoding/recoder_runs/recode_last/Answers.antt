@@ -8,9 +8,7 @@ use Rattle.cuts.proofs.recoding.recoder_runs.recode_last.Goals as goal
 pub put_code-requires : goal.put_code-requires
 put_code-requires g c =
     let d : Ends (Reads c.args.from) (drop c.loop-place.place c.args.bytes.now) c.last_front-c.result.0 c.last_front-c.result.1 = rw (take_rest c.args.bytes.now c.loop-place.place) at c.last_front-c.ensures in
-    let within = d.within in
     let le = length_written c.args.to c.last_front-c.result.0 c.last_front-c.result.1 d.some d.wide in
-    let room = c.loop-place.invariant.room in
     omega (arith, length-drop c.loop-place.place c.args.bytes.now)
 
 pub loop-place-preserved : goal.loop-place-preserved
@@ -20,9 +18,6 @@ loop-place-preserved g c =
     let some = d.some in
     let le = length_written c.args.to c.last_front-c.result.0 c.last_front-c.result.1 d.some d.wide in
     let room = c.loop-place.invariant.room in
-    let before = c.loop-place.invariant.within in
-    let len = c.put_code.ensures.len in
-    let capacity = c.put_code.ensures.capacity in
     record {
       within = omega (arith, length-drop c.loop-place.place c.args.bytes.now);
       grows = Remains-step _ _ _ _ _ _ _ _ _ c.loop-place.invariant.grows d c.put_code.ensures.items;

@@ -6,7 +6,6 @@ pub loop-place-preserved : goal.loop-place-preserved
 loop-place-preserved g c =
     let p = c.loop-place.place in
     let before = c.loop-place.invariant in
-    let test = c.loop-place-test.true in
     let put = c.put_block.ensures in
     let span : p + 16 - p ≡ 16 = omega arith in
     record {

@@ -28,8 +28,6 @@ loop-preserved g c =
           let extras = c.loop.invariant.extras in
           let never_fewer = c.loop.invariant.never_fewer in
           let same = taken.failures in
-          let len = taken.at_most.1 in
-          let some = w.in-Ok.count-test in
           rw (w.out-is, w.recoder-is, w.recoded-is) (record {
             empty = passed.empty;
             relayed = IsRelayed-part _ _ _ _ _ _ _ _ _ _ _ _ _ _ _ c.loop.invariant.relayed taken.consumes.0 (omega arith) same passed.passes;

@@ -9,9 +9,7 @@ loop-read-preserved c =
     let span : read + 8 - read ≡ 8 = omega arith in
     let put = c.put_eight_at-written.ensures in
     let before = c.loop-read.invariant in
-    let within = before.runs.within in
     let len = before.len in
-    let end = put.end in
     record {
       runs = RunsInto-each _ _ _ _ _ _ _ _ _ _ 8 _ before.runs len (rw span at (ShowsEach-ascii _ c.if-not-is_ascii.ensures.cases)) (rw span at put.fills) (omega arith) (omega arith);
       len = omega (arith, c.put_eight_at-written.auto.room);

@@ -11,11 +11,8 @@ put_code_at-written-requires c =
     let read = c.loop-read.read in
     let span : read + 4 - read ≡ 4 = omega arith in
     let d : Decides (Reads c.args.from) (take 4 (drop read bytes)) c.in-Some.c c.in-Some.len = rw span at c.in-Some.ensures in
-    let within = d.within in
     let few = length_written c.args.to c.in-Some.c c.in-Some.len d.some d.wide in
-    let short = c.loop-read.invariant.runs.short in
     let len = c.loop-read.invariant.len in
-    let room = c.requires in
     omega (arith, length-drop read bytes, length-take 4 (drop read bytes))
 
 pub loop-read-preserved : goal.loop-read-preserved

@@ -8,9 +8,7 @@ loop-read-preserved c =
     let span : read + 16 - read ≡ 16 = omega arith in
     let put = c.put_block_at-written.ensures in
     let before = c.loop-read.invariant in
-    let within = before.runs.within in
     let len = before.len in
-    let end = put.end in
     record {
       runs = RunsInto-each _ _ _ _ _ _ c.in-Some.units _ _ _ 16 _ before.runs len (rw span at c.in-Some.ensures.shows) put.fills (omega arith) (omega arith);
       len = omega (arith, c.put_block_at-written.auto.room);

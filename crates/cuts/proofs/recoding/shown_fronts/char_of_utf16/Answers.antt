@@ -5,7 +5,6 @@ use Rattle.cuts.proofs.recoding.shown_fronts.char_of_utf16.Goals as goal
 pub returns-in-Ok : goal.returns-in-Ok
 returns-in-Ok c =
     let h = c.in-Ok.ensures.decodes in
-    let four = c.if-bytes-lt4.false in
     Decides-unit _ _ _ (omega arith) h.0 (rw c.unit-first.ensures at h.1)
 
 pub returns-in-Ok-from_utf16_tuple : goal.returns-in-Ok-from_utf16_tuple

@@ -15,5 +15,4 @@ loop-place-preserved c =
     let bytes = c.args.bytes.now in
     let place = c.loop-place.place in
     let code = rw (take_rest bytes place) at c.in-Some.ensures.some in
-    let within = code.0.within in
     (omega (arith, code.1, length-drop place bytes, c.loop-place.invariant.0), text_step bytes place _ c.in-Some.len c.loop-place.invariant.1 code)

@@ -5,11 +5,6 @@ use Rattle.cuts.proofs.recoding.text_blocks.followed_lane_by_lane.Goals as goal
 pub loop-place-preserved : goal.loop-place-preserved
 loop-place-preserved c =
     let place = c.loop-place.place in
-    let block = c.min-block.ensures in
-    let within = c.loop-place.invariant.0 in
-    let least = c.loop-place.invariant.1 in
-    let enough = c.requires.enough in
-    let few = c.if-count-lt16.false in
     let before : c.min-block.result ≤ place = omega arith in
     let room : c.min-block.result + 16 ≤ length c.args.bytes.now = omega arith in (
       room,

@@ -14,5 +14,4 @@ returns-else-wrong-eq0-clause-most c = (first_differs c.faults_at.result _ c.fau
 pub returns-else-wrong-eq0-clause-follow : goal.returns-else-wrong-eq0-clause-follow
 returns-else-wrong-eq0-clause-follow c =
     let first = first_differs c.faults_at.result _ c.faults_at.ensures.len c.if-wrong-eq0.false refl in
-    let most = first.0 in
     follow_lanes c.args.bytes.now c.args.place _ (λ k lt. c.faults_at.ensures.lanes k (omega arith) (first.1 k lt))

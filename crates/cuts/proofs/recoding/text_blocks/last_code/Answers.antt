@@ -6,9 +6,6 @@ pub returns-then-not-continues-clause-text : goal.returns-then-not-continues-cla
 returns-then-not-continues-clause-text c =
     let xs = c.args.bytes.now in
     let place = c.loop-place.place in
-    let within = c.requires.within.1 in
     let least = c.requires.start in
-    let some = c.loop-place-test.true in
-    let most = c.loop-place.invariant in
     judged_text xs c.args.start (place - 1) least (omega arith) (omega arith) c.requires.text (begins_from xs c.args.start c.requires.begins)
     (begins_from xs (place - 1) (sym c.continues.ensures ∙ c.if-not-continues.true)) (λ k ge lt. c.requires.follow k ge (omega arith))

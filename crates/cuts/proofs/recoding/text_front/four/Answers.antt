@@ -48,11 +48,7 @@ returns-clause-some c =
     let low = c.requires.low in
     let high = c.requires.high in
     let first : bit_and (get_or c.args.src.now 0 0) 0x07 ≡ get_or c.args.src.now 0 0 % 8 = and_mask (get_or c.args.src.now 0 0) 3 in
-    let front = c.followed-front.ensures in
-    let middle = c.followed.ensures in
-    let value = c.followed-value.ensures in
     let sum : c.followed-value.result ≡ (get_or c.args.src.now 0 0 - 0xF0) * 262144 + (get_or c.args.src.now 1 0 - 0x80) * 4096 + (get_or c.args.src.now 2 0 - 0x80) * 64 + (get_or c.args.src.now 3 0 - 0x80) = omega arith in
-    let enough = c.requires.enough in
     let third = sym c.continues.ensures ∙ c.if-not-continues.false in
     let fourth = sym c.continues-else-not-continues.ensures ∙ c.if-not-continues-2.false in
     let all : (is_continuation (get_or c.args.src.now 1 0) && is_continuation (get_or c.args.src.now 2 0) && is_continuation (get_or c.args.src.now 3 0)) ≡ true

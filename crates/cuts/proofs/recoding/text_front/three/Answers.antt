@@ -39,16 +39,12 @@ returns-clause-some c =
     let low = c.requires.low in
     let high = c.requires.high in
     let first : bit_and (get_or c.args.src.now 0 0) 0x0F ≡ get_or c.args.src.now 0 0 % 16 = and_mask (get_or c.args.src.now 0 0) 4 in
-    let front = c.followed-front.ensures in
-    let value = c.followed-value.ensures in
     let sum : c.followed-value.result ≡ (get_or c.args.src.now 0 0 - 0xE0) * 4096 + (get_or c.args.src.now 1 0 - 0x80) * 64 + (get_or c.args.src.now 2 0 - 0x80) = omega arith in
-    let enough = c.requires.enough in
     let third = sym c.continues.ensures ∙ c.if-not-continues.false in
     let both : (is_continuation (get_or c.args.src.now 1 0) && is_continuation (get_or c.args.src.now 2 0)) ≡ true = rw (c.requires.second, third) refl in
     let asks = Asks-3 _ (omega arith) c.requires.low c.requires.high in
     let sums = Sums-3 _ _ asks (omega arith) both sum in
     let bound : c.followed-value.result < 0x1_0000 = grind (arith, common_steps) in
     let least : 0x800 ≤ c.followed-value.result = omega arith in
-    let masked = c.if-value.false in
     let scalar : IsScalar c.followed-value.result = record { below = omega arith; no_surrogate = λ g. omega arith } in
     rw c.from_u32_unchecked.ensures (begins_with _ 3 _ sums (rw least_value-3 least) scalar)

@@ -12,7 +12,6 @@ returns-clause-some c =
     let low = c.requires.low in
     let high = c.requires.high in
     let first : bit_and (get_or c.args.src.now 0 0) 0x1F ≡ get_or c.args.src.now 0 0 % 32 = and_mask (get_or c.args.src.now 0 0) 5 in
-    let value = c.followed-value.ensures in
     let sum : c.followed-value.result ≡ (get_or c.args.src.now 0 0 - 0xC0) * 64 + (get_or c.args.src.now 1 0 - 0x80) = omega arith in
     let enough : 2 ≤ length c.args.src.now = omega arith in
     let asks = Asks-2 _ (omega arith) low high in

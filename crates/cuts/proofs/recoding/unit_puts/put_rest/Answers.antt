@@ -18,9 +18,6 @@ loop-place-preserved g c =
     let within = before.within in
     let len = before.len in
     let capacity = before.capacity in
-    let put_len = c.put_block.ensures.len in
-    let put_capacity = c.put_block.ensures.capacity in
-    let test = c.loop-place-test.true in
     record {
       least = omega arith;
       within = omega arith;
@@ -32,6 +29,4 @@ loop-place-preserved g c =
 pub returns-then-place-text-clause-items : goal.returns-then-place-text-clause-items
 returns-then-place-text-clause-items g c =
     let before = c.loop-place.invariant in
-    let least = before.least in
-    let within = before.within in
     given_more c.args.high_first c.args.text.now _ _ _ c.args.start (c.loop-place.place - c.args.start) _ _ _ before.items c.put_block-then-place-text.ensures.items (omega arith) (omega arith)

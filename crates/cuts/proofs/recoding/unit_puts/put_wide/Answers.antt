@@ -18,9 +18,6 @@ loop-place-preserved g c =
     let within = before.within in
     let len = before.len in
     let capacity = before.capacity in
-    let put_len = c.put_four.ensures.len in
-    let put_capacity = c.put_four.ensures.capacity in
-    let test = c.loop-place-test.true in
     record {
       least = omega arith;
       within = omega arith;

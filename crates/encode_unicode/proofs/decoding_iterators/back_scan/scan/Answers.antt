@@ -22,7 +22,6 @@ pub returns-then-not-continues-2 : goal.returns-then-not-continues-2
 returns-then-not-continues-2 c =
     let e : IsEndOfFour c.args.bytes c.args.count = record { four = search rules; some = c.requires.some; most = c.requires.most } in
     let some = c.requires.some in
-    let not_one = c.if-count-eq1.false in
     let last = sym c.continues.ensures ∙ c.if-not-continues.false in
     let stops = sym c.continues-2.ensures ∙ c.if-not-continues-2.true in
     let scan = scanned-1 _ _ e last (λ more. stops) in
@@ -41,8 +40,6 @@ pub returns-then-not-continues-3 : goal.returns-then-not-continues-3
 returns-then-not-continues-3 c =
     let e : IsEndOfFour c.args.bytes c.args.count = record { four = search rules; some = c.requires.some; most = c.requires.most } in
     let some = c.requires.some in
-    let not_one = c.if-count-eq1.false in
-    let not_two = c.if-count-eq2.false in
     let last = sym c.continues.ensures ∙ c.if-not-continues.false in
     let third = sym c.continues-2.ensures ∙ c.if-not-continues-2.false in
     let stops = sym c.continues-3.ensures ∙ c.if-not-continues-3.true in
@@ -64,9 +61,6 @@ returns c =
     let e : IsEndOfFour c.args.bytes c.args.count = record { four = search rules; some = c.requires.some; most = c.requires.most } in
     let some = c.requires.some in
     let most = c.requires.most in
-    let not_one = c.if-count-eq1.false in
-    let not_two = c.if-count-eq2.false in
-    let not_three = c.if-count-eq3.false in
     let last = sym c.continues.ensures ∙ c.if-not-continues.false in
     let third = sym c.continues-2.ensures ∙ c.if-not-continues-2.false in
     let second = sym c.continues-3.ensures ∙ c.if-not-continues-3.false in

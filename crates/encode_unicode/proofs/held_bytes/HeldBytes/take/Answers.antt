@@ -4,6 +4,4 @@ use Rattle.encode_unicode.proofs.held_bytes.HeldBytes.take.Goals as goal
 
 pub returns-clause-first : goal.returns-clause-first
 returns-clause-first c =
-    let some : 0x100_0000 ≤ c.self.inside.word = c.if-self-lt16777216.false in
-    let few : c.self.inside.word / 0x100_0000 ≤ 3 = c.self.invariant in
     rw (← c.self.view_is) (first_of_word c.self.inside.word _ (c.self.inside.word / 0x100_0000 - 1) (omega arith) (omega arith) c.without_first-self-inside.ensures)

@@ -8,18 +8,14 @@ use Rattle.utf_chars.proofs.unsent.Unsent+256.send.Goals as goal
 pub returns-then-buf-ge4-clause-count : goal.returns-then-buf-ge4-clause-count
 returns-then-buf-ge4-clause-count c =
     let most = length_utf8 c.args.c in
-    let len = c.to_slice-count.ensures.len in
-    let room = c.if-buf-ge4.true in
     omega arith
 
 pub returns-then-buf-ge4-clause-written : goal.returns-then-buf-ge4-clause-written
 returns-then-buf-ge4-clause-written c =
     let most = length_utf8 c.args.c in
-    let room = c.if-buf-ge4.true in
     c.to_slice-count.ensures.written ∙ ap (λ xs. xs ++ drop (length (utf8 c.args.c)) c.args.buf.now) (sym (take_all _ (utf8 c.args.c) (omega arith)))
 
 pub returns-then-buf-ge4-clause-left : goal.returns-then-buf-ge4-clause-left
 returns-then-buf-ge4-clause-left c =
     let most = length_utf8 c.args.c in
-    let room = c.if-buf-ge4.true in
     c.default.ensures ∙ sym (drop_of_length-le (utf8 c.args.c) (omega arith))

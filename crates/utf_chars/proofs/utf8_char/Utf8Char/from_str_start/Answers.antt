@@ -27,5 +27,4 @@ returns-clause-len c = front_len_utf8 _ _ _ (rw c.as_bytes-bytes.ensures.value a
 pub returns-clause-boundary : goal.returns-clause-boundary
 returns-clause-boundary c =
     let begins = rw c.as_bytes-bytes.ensures.value at c.from_front.ensures in
-    let len = begins.1 in
     boundary_after _ 0 _ _ c.utf8.src (IsCharBoundary-start _ c.utf8.src) begins.0 (omega arith)

@@ -85,7 +85,6 @@ loop-self-preserved c =
     subst (λ x. Decides (Reads x) (held ++ take taken (drop read part)) c.in-Some.c c.in-Some.len) from (rw looked at c.in-Some.ensures.decides) in
     let fills = c.in-Some-put_at.ensures.some in
     let later = fills.ordered in
-    let end_fits = fills.fits in
     let e = c.take_more-in-loop-self.ensures in
     let now = ap (λ x. x.held) e ∙ ap (λ xs. drop c.in-Some.len (held ++ take taken xs)) (take_rest part read) in
     let front : take c.in-Some-put_at.end c.put_at.new.room ≡ out ++ written r.to c.in-Some.c =

@@ -16,7 +16,6 @@ returns-clause-feeds c =
     let rest = take_rest part first.read in
     let least : end ≡ min (length (drop first.read part)) (then.read + 3) = rw rest at c.min-end.ensures in
     let within : then.read ≤ length (drop first.read part) = rw rest at run.within in
-    let empty = c.if-self-gt0.false in
     let zero : c.self.inside.count ≡ 0 = omega arith in
     let none : s.held ≡ [] = sym (ap (λ x. x.held) c.self.view_is) ∙ ap (λ n. take n c.self.inside.held) zero in
     let fits = feeds.fits in

@@ -9,7 +9,6 @@ returns-clause-finishes c =
     let done = c.recode_last_into-done.result in
     let bytes : List ℕ = take c.join-len.result.1 c.join-len.result.0 in
     let run = c.recode_last_into-done.ensures in
-    let within = run.within in
     let le : done.read ≤ c.join-len.result.1 = omega (arith, length-take c.join-len.result.1 c.join-len.result.0) in
     let held : bytes ≡ r.held = c.join-len.ensures.bytes ∙ append-nil c.held_bytes.result.now ∙ c.held_bytes.ensures.bytes in
     FinishesInto-of r c.hold.new.self c.self.inside.from c.self.inside.to bytes c.args.room.now c.recode_last_into-done.new.room done.read done.written
@@ -22,7 +21,6 @@ returns-clause-full c is =
     let done = c.recode_last_into-done.result in
     let bytes : List ℕ = take c.join-len.result.1 c.join-len.result.0 in
     let run = c.recode_last_into-done.ensures in
-    let within = run.within in
     let le : done.read ≤ c.join-len.result.1 = omega (arith, length-take c.join-len.result.1 c.join-len.result.0) in
     IsLastFull-of r c.hold.new.self c.self.inside.from c.self.inside.to (drop done.read bytes) _
     (ap (λ x. x.from) c.self.view_is) (ap (λ x. x.to) c.self.view_is)
@@ -34,7 +32,6 @@ returns-clause-done c whole =
     let done = c.recode_last_into-done.result in
     let bytes : List ℕ = take c.join-len.result.1 c.join-len.result.0 in
     let run = c.recode_last_into-done.ensures in
-    let within = run.within in
     let all = run.all whole in
     let le : done.read ≤ c.join-len.result.1 = omega (arith, length-take c.join-len.result.1 c.join-len.result.0) in
     let none : c.hold.new.self.held ≡ [] = ap (λ x. x.held) c.hold.ensures ∙ cut_part done.read c.join-len.result.1 c.join-len.result.0 le ∙ drop_all done.read bytes (omega arith) in

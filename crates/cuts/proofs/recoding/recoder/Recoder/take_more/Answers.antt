@@ -7,8 +7,6 @@ pub returns : goal.returns
 returns c =
     let gone = c.args.gone in
     let r = c.args.self.now in
-    let long = c.join-len.ensures.len in
-    let gone_within = c.requires.gone in
     let more : length c.args.bytes.now ≤ 3 = c.requires.more in
     let bytes = c.held_bytes.ensures.bytes in
     let le : gone ≤ c.join-len.result.1 = omega (arith, ap length bytes) in
