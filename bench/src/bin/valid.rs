@@ -20,7 +20,7 @@ const USAGE: &str = "valid times SIZE ROUNDS | one utf8|utf16 INPUT SIDE SIZE CA
 
 #[link(name = "bench_c", kind = "static")]
 extern "C" {
-    fn bench_c_valid_up_to(src: *const u8, len: usize) -> u64;
+    fn bench_c_valid_up_to(src: *const u8, len: usize) -> usize;
     fn bench_c_units_valid_up_to(src: *const u16, len: usize) -> u64;
 }
 
@@ -116,7 +116,7 @@ fn one(form: &str, name: &str, side: &str, size: usize, calls: usize) -> Option<
 fn valid_up_to(form: &str, side: &str, input: &Input) -> usize {
     let (bytes, units) = (input.bytes.as_slice(), input.units.as_slice());
     match (form, side) {
-        ("utf8", "ours") => unsafe { bench_c_valid_up_to(bytes.as_ptr(), bytes.len()) as usize },
+        ("utf8", "ours") => unsafe { bench_c_valid_up_to(bytes.as_ptr(), bytes.len()) },
         ("utf8", "std") => std::str::from_utf8(bytes).map_or_else(|error| error.valid_up_to(), str::len),
         ("utf8", "simdutf8") => simdutf8::basic::from_utf8(bytes).map_or(0, str::len),
         ("utf8", "encoding_rs") => Encoding::utf8_valid_up_to(bytes),

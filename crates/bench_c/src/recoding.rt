@@ -1,5 +1,5 @@
 //! Recoding, in parts and of short texts, and how far elements are well-formed.
-use cuts::{Form, Recoder, units_valid_up_to, valid_up_to};
+use cuts::{Form, Recoder, units_valid_up_to};
 use std::alloc::{AllocError, Global};
 
 /// How many bytes come out of these, fed in parts of so many bytes, one at least; or 0 where there was no memory.
@@ -86,12 +86,6 @@ fn recode_one_into(from: Form, to: Form, text: &[u8], room: &mut [u8]) -> u64 {
     let fed = recoder.feed_into(text, room);
     let last = recoder.finish_into(&mut room[fed.written..]);
     (fed.written as u64).wrapping_add(last.written as u64)
-}
-
-/// How many bytes are UTF-8 from the front.
-#[unsafe(no_mangle)]
-pub extern "C" fn bench_c_valid_up_to(src: &[u8]) -> u64 {
-    valid_up_to(src) as u64
 }
 
 /// How many units are UTF-16 from the front.
