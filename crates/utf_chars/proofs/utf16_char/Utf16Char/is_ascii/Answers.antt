@@ -9,5 +9,6 @@ returns c =
     let first = first_is_ascii _ _ c.self.invariant c.self.view_is in
     record {
       ascii = (λ h. first.0 (grind (arith, common_steps)), λ h. let low = first.1 h in grind (arith, common_steps));
+      value = grind (arith, common_steps, first.0, first.1);
       one_unit = λ h. let low : c.args.self < 128 = first.0 (grind (arith, common_steps)) in utf16-1 c.args.self (omega arith);
     }

@@ -9,5 +9,6 @@ returns c =
     let second = second_is_zero _ _ c.self.invariant c.self.view_is in
     record {
       bmp = (λ h. second.0 (grind (arith, common_steps)), λ h. let zero = second.1 h in grind (arith, common_steps));
+      value = grind (arith, common_steps, second.0, second.1);
       one_unit = λ h. utf16-1 c.args.self (second.0 (grind (arith, common_steps)));
     }
