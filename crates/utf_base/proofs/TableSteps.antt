@@ -6,7 +6,7 @@ use Rattle.utf_base.specs.declared.errors.Utf8ErrorKind.TheVariants.{TooFewBytes
 use Rattle.utf_base.specs.declared.table.State.{State}
 use Rattle.utf_base.specs.declared.table.State.TheVariants.{Start, OneMore, TwoMore, ThreeMore, AfterE0, AfterEd, AfterF0, AfterF4, TwoMoreOverlong, OneMoreOverlong, OneMoreReserved, TwoMoreTooHigh, OneMoreTooHigh, Done, Unexpected, Never, Interrupted, Overlong, Reserved, TooHigh}
 use Rattle.utf_base.specs.Scalar.{IsScalar}
-use Rattle.utf_base.specs.Kinds.{fault_kind, merger_kind, asked_by, value, least_value, is_continuation, continues_at, all_continue, breaks_at, is_broken}
+use Rattle.utf_base.specs.Kinds.{fault_kind, merger_kind, asked, asked_by, value, least_value, is_continuation, continues_at, all_continue, breaks_at, is_broken}
 use Rattle.utf_base.specs.Table.{class, continued, fault_of, is_later_fault, is_running, missing, next_state, state_after}
 use Rattle.utf_base.proofs.FrontLemmas.{asked-0, asked-1, asked-2, asked-3, asked-4, asked_le, asked-no_continuation, value-1, value-2, value-3, value-4, least_value-below_3, least_value-3, least_value-4}
 use Rattle.utf_base.proofs.KindCases.{Sums, kind-empty, kind-continuation, kind-never, kind-overlong, kind-surrogate, kind-too_high, kind-none}
@@ -421,27 +421,22 @@ pub first-2 : (b : ℕ) → 0xC2 ≤ b → b < 0xE0 → next_state Start (class 
 unfolding class next_state
 first-2 b low high = grind (arith, common_steps)
 
+begun_asks : {b : ℕ} (state : State) → 0xE0 ≤ b → b < 0xF5 → Begins b state → 1 + missing state ≡ asked b
+begun_asks TwoMore low high h = sym (asked-3 _ low h.1)
+begun_asks AfterE0 low high h = sym (asked-3 _ low (omega arith))
+begun_asks AfterEd low high h = sym (asked-3 _ low (omega arith))
+begun_asks Never low high (inl h) = absurd (omega arith)
+begun_asks Never low high (inr h) = absurd (omega arith)
+begun_asks ThreeMore low high h = sym (asked-4 _ (omega arith) high)
+begun_asks AfterF0 low high h = sym (asked-4 _ (omega arith) high)
+begun_asks AfterF4 low high h = sym (asked-4 _ (omega arith) high)
+begun_asks _ low high h = absurd (omega arith)
+
 pub first-3 : (b : ℕ) → 0xE0 ≤ b → b < 0xF0 → missing (next_state Start (class b)) ≡ 2
-first-3 b low high = by_begins (next_state Start (class b)) low high (begins b)
-  where
-    by_begins : {b : ℕ} (state : State) → 0xE0 ≤ b → b < 0xF0 → Begins b state → missing state ≡ 2
-    by_begins TwoMore low high h = refl
-    by_begins AfterE0 low high h = refl
-    by_begins AfterEd low high h = refl
-    by_begins Never low high (inl h) = absurd (omega arith)
-    by_begins Never low high (inr h) = absurd (omega arith)
-    by_begins _ low high h = absurd (omega arith)
+first-3 b low high = let asks = begun_asks (next_state Start (class b)) low (omega arith) (begins b) in omega (arith, asked-3 b low high)
 
 pub first-4 : (b : ℕ) → 0xF0 ≤ b → b < 0xF5 → missing (next_state Start (class b)) ≡ 3
-first-4 b low high = by_begins (next_state Start (class b)) low high (begins b)
-  where
-    by_begins : {b : ℕ} (state : State) → 0xF0 ≤ b → b < 0xF5 → Begins b state → missing state ≡ 3
-    by_begins ThreeMore low high h = refl
-    by_begins AfterF0 low high h = refl
-    by_begins AfterF4 low high h = refl
-    by_begins Never low high (inl h) = absurd (omega arith)
-    by_begins Never low high (inr h) = absurd (omega arith)
-    by_begins _ low high h = absurd (omega arith)
+first-4 b low high = let asks = begun_asks (next_state Start (class b)) (omega arith) high (begins b) in omega (arith, asked-4 b low high)
 
 -- the other way round: a first byte that leads to none of the three ends asks for others
 pub asks_for_others : (b : ℕ) (state : State) → state ≡ next_state Start (class b) → (state ≡ Done → ⊥) → (state ≡ Unexpected → ⊥) → (state ≡ Never → ⊥) → (0xC2 ≤ b) × (b < 0xF5)
