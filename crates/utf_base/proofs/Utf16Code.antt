@@ -32,17 +32,9 @@ utf16-first : (s : ℕ) → IsScalar s → (get_or (utf16 s) 0 0 < 0xDC00) ⊎ (
 unfolding utf16
 utf16-first s h = grind (arith, common_steps)
 
-utf16-apart : (s t k : ℕ) → IsScalar s → IsScalar t → 0 < k → k < length (utf16 s) → get_or (utf16 s) k 0 ≡ get_or (utf16 t) 0 0 → ⊥
-utf16-apart s t k h g p q e = grind (arith, common_steps, utf16-trailing_surrogate s k h p q, utf16-first t g)
-
 pub utf16_is_code : IsCode utf16
 unfolding utf16
-utf16_is_code = record {
-  some = λ s h. grind (arith, common_steps);
-  apart = utf16-apart;
-  sized = λ s t h g e. grind (arith, common_steps);
-  injective = λ s t h g e. grind (arith, common_steps);
-}
+utf16_is_code = record { some = λ s h. grind (arith, common_steps); apart = λ s t k h g p q e. grind (arith, common_steps, utf16-trailing_surrogate s k h p q, utf16-first t g); sized = λ s t h g e. grind (arith, common_steps); injective = λ s t h g e. grind (arith, common_steps) }
 
 -- A unit that is no surrogate stands for itself.
 

@@ -34,17 +34,9 @@ pub utf8-first : (s : ℕ) → IsScalar s → (get_or (utf8 s) 0 0 < 0x80) ⊎ (
 unfolding utf8
 utf8-first s h = grind (arith, common_steps)
 
-utf8-apart : (s t k : ℕ) → IsScalar s → IsScalar t → 0 < k → k < length (utf8 s) → get_or (utf8 s) k 0 ≡ get_or (utf8 t) 0 0 → ⊥
-utf8-apart s t k h g p q e = grind (arith, common_steps, utf8-continuation_byte s k h p q, utf8-first t g)
-
 pub utf8_is_code : IsCode utf8
 unfolding utf8
-utf8_is_code = record {
-  some = λ s h. grind (arith, common_steps);
-  apart = utf8-apart;
-  sized = λ s t h g e. grind (arith, common_steps);
-  injective = λ s t h g e. grind (arith, common_steps);
-}
+utf8_is_code = record { some = λ s h. grind (arith, common_steps); apart = λ s t k h g p q e. grind (arith, common_steps, utf8-continuation_byte s k h p q, utf8-first t g); sized = λ s t h g e. grind (arith, common_steps); injective = λ s t h g e. grind (arith, common_steps) }
 
 pub ascii_is_scalar : (s : ℕ) → s < 0x80 → IsScalar s
 ascii_is_scalar s h = record { below = omega arith; no_surrogate = λ g. absurd (omega arith) }
