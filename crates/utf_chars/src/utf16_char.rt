@@ -506,11 +506,7 @@ impl FromStr for Utf16Char {
     ghost from_str_gives = { Parses };
 
     fn from_str(s: &str) -> Result<Utf16Char, FromStrError> {
-        match Utf16Char::from_str_start(s) {
-            Err(EmptyStrError) => Err(FromStrError::Empty),
-            Ok((c, len)) if len == s.len() => Ok(c),
-            Ok(_) => Err(FromStrError::MultipleCodepoints),
-        }
+        Ok(Utf16Char::from(Utf8Char::from_str(s)?))
     }
 }
 
