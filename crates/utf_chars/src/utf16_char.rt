@@ -205,6 +205,7 @@ impl Utf16Char {
 impl Utf16Char {
     /// Whether the code is one unit: the scalar is below 0x10000.
     #[inline(always)]
+    #[tactic(auto, using(crate::proofs::PaddedUnits::second_is_zero, crate::proofs::PaddedUnits::of_one_unit))]
     pub fn is_bmp(self) -> bool
         ensures bmp { IsTrue result ↔ (self < 0x1_0000) }
         ensures one_unit { IsTrue result → utf16 self ≡ self ∷ [] }
@@ -225,6 +226,7 @@ impl Utf16Char {
 
     /// Whether the scalar is below 128.
     #[inline(always)]
+    #[tactic(auto, using(crate::proofs::PaddedUnits::first_is_ascii, crate::proofs::PaddedUnits::of_one_unit))]
     pub fn is_ascii(self) -> bool
         ensures ascii { IsTrue result ↔ (self < 128) }
         ensures one_unit { IsTrue result → utf16 self ≡ self ∷ [] }
