@@ -44,6 +44,9 @@ running w k n state h = asks_runs state (omega (arith, h.asks))
 stepped : (w : List ℕ) (k c : ℕ) (state next : State) → state_after w k ≡ state → Next w k state c next → state_after w (suc k) ≡ next
 stepped w k c state next e x = rw (e, ← x.class) (sym x.step)
 
+pub walk_at : (w : List ℕ) (k n c : ℕ) (state next : State) → Walk w k state n → Next w k state c next → state_after w (suc k) ≡ next
+walk_at w k n c state next h x = stepped w k c state next h.at x
+
 pub walk_on : (w : List ℕ) (k n c : ℕ) (state next : State) → Walk w k state (suc n) → Next w k state c next → (next ≡ Interrupted → ⊥) → Walk w (suc k) next n
 walk_on w k n c state next h x on =
     let less = one_less state c (omega (arith, h.asks)) (λ e. on (x.step ∙ e)) in
