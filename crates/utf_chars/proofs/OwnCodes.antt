@@ -35,8 +35,7 @@ pub record OwnFront {E : Type 0} (decoder : List ℕ → Result (ℕ × ℕ) E) 
 
 pub own_front : (xs rest : List ℕ) (s n : ℕ) → IsScalar s → xs ≡ utf8 s ++ rest → n ≡ length (utf8 s) → OwnFront decoded 4 xs s n
 own_front xs rest s n h e l =
-    let stands = stands_first utf8 xs rest s h e in
-    record { bounds = front_len_utf8 xs s n (stands, l); decodes = decoded_code xs s stands ∙ ap (λ k. Ok (s, k)) (sym l) }
+    record { bounds = front_len_utf8 xs s n (stands_first utf8 xs rest s h e, l); decodes = decoded_code xs s (stands_first utf8 xs rest s h e) ∙ ap (λ k. Ok (s, k)) (sym l) }
 
 -- a view of a code
 pub own_view : (xs : List ℕ) (s : ℕ) → IsScalar s → xs ≡ utf8 s → OwnFront decoded 4 xs s (length xs)
@@ -44,8 +43,7 @@ own_view xs s h e = own_front xs [] s (length xs) h (e ∙ sym (append-nil (utf8
 
 pub own_unit_front : (xs rest : List ℕ) (s n : ℕ) → IsScalar s → xs ≡ utf16 s ++ rest → n ≡ length (utf16 s) → OwnFront decoded_units 2 xs s n
 own_unit_front xs rest s n h e l =
-    let stands = stands_first utf16 xs rest s h e in
-    record { bounds = front_len_utf16 xs s n (stands, l); decodes = decoded_units_code xs s stands ∙ ap (λ k. Ok (s, k)) (sym l) }
+    record { bounds = front_len_utf16 xs s n (stands_first utf16 xs rest s h e, l); decodes = decoded_units_code xs s (stands_first utf16 xs rest s h e) ∙ ap (λ k. Ok (s, k)) (sym l) }
 
 pub own_unit_view : (xs : List ℕ) (s : ℕ) → IsScalar s → xs ≡ utf16 s → OwnFront decoded_units 2 xs s (length xs)
 own_unit_view xs s h e = own_unit_front xs [] s (length xs) h (e ∙ sym (append-nil (utf16 s))) (ap length e)

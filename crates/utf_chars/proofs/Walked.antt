@@ -41,27 +41,24 @@ pub running : (w : List ℕ) (k n : ℕ) (state : State) → Walk w k state (suc
 running w k n state h = asks_runs state (omega (arith, h.asks))
 
 -- the state after one more byte
-stepped : (w : List ℕ) (k c : ℕ) (state next : State) → state_after w k ≡ state → Next w k state c next → state_after w (suc k) ≡ next
-stepped w k c state next e x = rw (e, ← x.class) (sym x.step)
-
 pub walk_at : (w : List ℕ) (k n c : ℕ) (state next : State) → Walk w k state n → Next w k state c next → state_after w (suc k) ≡ next
-walk_at w k n c state next h x = stepped w k c state next h.at x
+walk_at w k n c state next h x = rw (h.at, ← x.class) (sym x.step)
 
 pub walk_on : (w : List ℕ) (k n c : ℕ) (state next : State) → Walk w k state (suc n) → Next w k state c next → (next ≡ Interrupted → ⊥) → Walk w (suc k) next n
 walk_on w k n c state next h x on =
     let less = one_less state c (omega (arith, h.asks)) (λ e. on (x.step ∙ e)) in
     let same : missing next ≡ missing (next_state state c) = ap missing x.step in
-    record { at = stepped w k c state next h.at x; asks = omega (arith, h.asks) }
+    record { at = walk_at w k (suc n) c state next h x; asks = omega (arith, h.asks) }
 
 -- A byte that is asked for and does not continue, and the last one that is asked for.
 
-pub walk_breaks : (w : List ℕ) (k c : ℕ) (state next : State) → state_after w k ≡ state → Next w k state c next → k < length w → asked_by w ≤ length w → next ≡ Interrupted
+pub walk_breaks : (w : List ℕ) (k n c : ℕ) (state next : State) → Walk w k state n → Next w k state c next → k < length w → asked_by w ≤ length w → next ≡ Interrupted
     → fault_kind w ≡ Some InterruptedSequence
-walk_breaks w k c state next h x there enough e = fault_at_end w (suc k) Interrupted (omega arith) enough (stepped w k c state next h x ∙ e) refl
+walk_breaks w k n c state next h x there enough e = fault_at_end w (suc k) Interrupted (omega arith) enough (walk_at w k n c state next h x ∙ e) refl
 
 pub walk_ends : (w : List ℕ) (k c : ℕ) (state next : State) → Walk w k state 1 → Next w k state c next → k < length w → asked_by w ≤ length w → fault_kind w ≡ fault_of next
 walk_ends w k c state next h x there enough =
-    fault_at_end w (suc k) next (omega arith) enough (stepped w k c state next h.at x) (ap is_running x.step ∙ last_ends state c h.asks)
+    fault_at_end w (suc k) next (omega arith) enough (walk_at w k 1 c state next h x) (ap is_running x.step ∙ last_ends state c h.asks)
 
 -- where it does not complete a code, that end is a fault
 pub walk_fails : (w : List ℕ) (k c : ℕ) (state next : State) → Walk w k state 1 → next ≡ next_state state c → (next ≡ Done → ⊥) → is_later_fault next ≡ true

@@ -47,7 +47,7 @@ pub returns-then-eq : goal.returns-then-eq
 returns-then-eq c =
     let asks = asked-4 _ c.requires.low c.requires.high in
     let broken = same_true the_type (search rules) _ _ (sym c.eq.ensures ∙ c.if-eq.true) in
-    rw c.new-then-eq.ensures (walk_breaks _ 1 _ _ _ (first (goal.at.returns-then-eq c).After-step-first).at (record { class = c.class_of-2.ensures.class; step = c.step-second.ensures }) (omega arith) (omega arith) broken)
+    rw c.new-then-eq.ensures (walk_breaks _ 1 3 _ _ _ (first (goal.at.returns-then-eq c).After-step-first) (record { class = c.class_of-2.ensures.class; step = c.step-second.ensures }) (omega arith) (omega arith) broken)
 
 pub step-third-requires-clause-running : goal.step-third-requires-clause-running
 step-third-requires-clause-running c = running _ 2 1 _ (second (goal.at.step-third-requires-clause-running c).Else-eq)
@@ -56,7 +56,7 @@ pub returns-then-eq-2 : goal.returns-then-eq-2
 returns-then-eq-2 c =
     let asks = asked-4 _ c.requires.low c.requires.high in
     let broken = same_true the_type (search rules) _ _ (sym c.eq-2.ensures ∙ c.if-eq-2.true) in
-    rw c.new-then-eq-2.ensures (walk_breaks _ 2 _ _ _ (second (goal.at.returns-then-eq-2 c).Else-eq).at (record { class = c.class_of-3.ensures.class; step = c.step-third.ensures }) (omega arith) (omega arith) broken)
+    rw c.new-then-eq-2.ensures (walk_breaks _ 2 2 _ _ _ (second (goal.at.returns-then-eq-2 c).Else-eq) (record { class = c.class_of-3.ensures.class; step = c.step-third.ensures }) (omega arith) (omega arith) broken)
 
 pub step-fourth-requires-clause-running : goal.step-fourth-requires-clause-running
 step-fourth-requires-clause-running c = running _ 3 0 _ (third (goal.at.step-fourth-requires-clause-running c).Else-eq-2)

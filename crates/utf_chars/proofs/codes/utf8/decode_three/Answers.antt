@@ -40,7 +40,7 @@ pub returns-then-eq : goal.returns-then-eq
 returns-then-eq c =
     let asks = asked-3 _ c.requires.low c.requires.high in
     let broken = same_true the_type (search rules) _ _ (sym c.eq.ensures ∙ c.if-eq.true) in
-    rw c.new-then-eq.ensures (walk_breaks _ 1 _ _ _ (first (goal.at.returns-then-eq c).After-step-first).at (record { class = c.class_of-2.ensures.class; step = c.step-second.ensures }) (omega arith) (omega arith) broken)
+    rw c.new-then-eq.ensures (walk_breaks _ 1 2 _ _ _ (first (goal.at.returns-then-eq c).After-step-first) (record { class = c.class_of-2.ensures.class; step = c.step-second.ensures }) (omega arith) (omega arith) broken)
 
 pub step-third-requires-clause-running : goal.step-third-requires-clause-running
 step-third-requires-clause-running c = running _ 2 0 _ (second (goal.at.step-third-requires-clause-running c).Else-eq)

@@ -21,7 +21,7 @@ returns-then-ne c =
     let first = Walk-2 c.args.src.now c.requires.low c.requires.high in
     let other = differs_true the_type c.step-second.result Done (sym c.ne.ensures ∙ c.if-ne.true) in
     let broken = c.step-second.ensures ∙ one_more_breaks _ (λ e. other (c.step-second.ensures ∙ e)) in
-    rw c.new-then-ne.ensures (walk_breaks _ 1 _ _ _ first.at (record { class = c.class_of.ensures.class; step = c.step-second.ensures }) (omega arith) (omega arith) broken)
+    rw c.new-then-ne.ensures (walk_breaks _ 1 1 _ _ _ first (record { class = c.class_of.ensures.class; step = c.step-second.ensures }) (omega arith) (omega arith) broken)
 
 pub value_of_two-value-requires-clause-second : goal.value_of_two-value-requires-clause-second
 value_of_two-value-requires-clause-second c =
