@@ -1,5 +1,5 @@
 use Rattle.std.proofs.Common.{arith}
-use Rattle.uses.proofs.TableLemmas.{one_fits, one_counted, all_counted}
+use Rattle.uses.proofs.TableLemmas.{one_fits, one_counted}
 use Rattle.uses.proofs.tables.count_characters.Goals as goal
 
 pub count_one-requires : goal.count_one-requires
@@ -7,6 +7,3 @@ count_one-requires c = one_fits _ _ _ _ _ _ _ c.loop-c.invariant c.in-Some.ensur
 
 pub loop-c-preserved : goal.loop-c-preserved
 loop-c-preserved c = one_counted _ _ _ _ _ _ _ c.loop-c.invariant c.in-Some.ensures.steps c.in_ok-count_one.ensures
-
-pub returns : goal.returns
-returns c = all_counted _ _ _ _ _ c.loop-c.invariant c.in-None.ensures.steps
