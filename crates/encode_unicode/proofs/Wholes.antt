@@ -1,5 +1,5 @@
 -- All of some bytes are one code, or they are none, as a walk over the table says.
-use Rattle.std.proofs.Common.{◌≡◌, ℕ, suc, ◌<◌, ◌≤◌, List, length, arith, refl, ap, sym, ◌∙◌, None, Ok, false, append-nil}
+use Rattle.std.proofs.Common.{◌≡◌, ℕ, suc, ◌⊎◌, inl, inr, get_or, ◌<◌, ◌≤◌, List, length, arith, refl, ap, sym, ◌∙◌, None, Ok, false, append-nil}
 use Rattle.std.proofs.lemmas.Grind.{common_steps}
 use Rattle.utf_base.specs.declared.table.State.{State}
 use Rattle.utf_base.specs.declared.table.State.TheVariants.{Done, Interrupted}
@@ -47,10 +47,14 @@ pub code_by_walk : (w : List ℕ) (k c : ℕ) (state next : State) → length w 
 code_by_walk w k c state next len some h x done = code_after_walk w k len some (ap is_running h.at ∙ running w k 0 state h) (walk_at w k 1 c state next h x ∙ done)
 
 -- nor are bytes of which the first asks for another number of them
-pub none_by_first : (w : List ℕ) (n : ℕ) → length w ≡ n → (asked_by w ≡ n → ⊥) → IsWholeCode w None
+none_by_first : (w : List ℕ) (n : ℕ) → length w ≡ n → (asked_by w ≡ n → ⊥) → IsWholeCode w None
 none_by_first w n len other s h =
     let code = code_where_no_fault w (no_fault_where_code w s h.0) in
     other (code.1 ∙ ap (λ c. length (utf8 c)) (decodes_from_stands w s h.0).1 ∙ sym h.1 ∙ len)
+
+pub none_outside : (w : List ℕ) (n low high : ℕ) → length w ≡ n → ((b : ℕ) → asked b ≡ n → (low ≤ b) × (b < high)) → (get_or w 0 0 < low) ⊎ ((low ≤ get_or w 0 0) × (high ≤ get_or w 0 0)) → IsWholeCode w None
+none_outside w n low high len range (inl below) = none_by_first w n len (λ e. omega (arith, (range (get_or w 0 0) e).0))
+none_outside w n low high len range (inr above) = none_by_first w n len (λ e. omega (arith, (range (get_or w 0 0) e).1, above.1))
 
 -- the range of a first byte, by how many bytes it asks for
 pub range_of_two : (b : ℕ) → asked b ≡ 2 → (0xC2 ≤ b) × (b < 0xE0)

@@ -1,10 +1,10 @@
-use Rattle.std.proofs.Common.{◌≡◌, length, get_or, lit<, sym, ◌∙◌, arith, rules}
+use Rattle.std.proofs.Common.{◌≡◌, ◌<◌, ◌≤◌, ◌⊎◌, inl, inr, length, get_or, lit<, sym, ◌∙◌, arith, rules}
 use denote.Enum.Bare.{same_true, same_false, differs_true, differs_false}
 use Rattle.utf_base.specs.contracts.table.State.{the_type}
 use Rattle.utf_base.specs.declared.table.State.TheVariants.{Done, Interrupted}
 use Rattle.utf_chars.proofs.PaddedLemmas.{IsPadded_padded}
 use Rattle.utf_chars.proofs.Walked.{Walk, Walk-4, running, walk_on}
-use Rattle.encode_unicode.proofs.Wholes.{IsCode, range_of_four, all_padded, code_by_walk, none_by_break, none_by_first, none_by_last, whole_in_four}
+use Rattle.encode_unicode.proofs.Wholes.{IsCode, range_of_four, all_padded, code_by_walk, none_by_break, none_outside, none_by_last, whole_in_four}
 use Rattle.encode_unicode.proofs.decoding_iterators.back_scan.four_or_unexpected.Goals.{then-bytes-lt240-via-then-bytes-lt240, then-bytes-lt240-via-else-bytes-lt240+then-bytes-ge245, After-step-three_more, Else-eq, Else-eq-2, Else-ne}
 use Rattle.encode_unicode.proofs.decoding_iterators.back_scan.four_or_unexpected.Goals as goal
 
@@ -29,18 +29,12 @@ code c =
 
 pub returns-then-bytes-lt240 : goal.returns-then-bytes-lt240
 returns-then-bytes-lt240 c =
-    let len : length c.args.bytes ≡ 4 = search rules in (
-      none_by_first c.args.bytes 4 len (λ e.
-          let range = range_of_four (get_or c.args.bytes 0 0) e in
-          elim c.then-bytes-lt240.branch [
-            | then-bytes-lt240-via-then-bytes-lt240 w ↦ omega (arith, range.0)
-            | then-bytes-lt240-via-else-bytes-lt240+then-bytes-ge245 w ↦ omega (arith, range.1)
-          ]),
-      c.unexpected.ensures,
-    )
-
-pub step-two_more-requires-clause-running : goal.step-two_more-requires-clause-running
-step-two_more-requires-clause-running c = running _ 1 2 _ (first (goal.at.step-two_more-requires-clause-running c).After-step-three_more)
+    let out : (get_or c.args.bytes 0 0 < 0xF0) ⊎ ((0xF0 ≤ get_or c.args.bytes 0 0) × (0xF5 ≤ get_or c.args.bytes 0 0)) =
+    elim c.then-bytes-lt240.branch [
+      | then-bytes-lt240-via-then-bytes-lt240 w ↦ inl w.if-bytes-lt240.true
+      | then-bytes-lt240-via-else-bytes-lt240+then-bytes-ge245 w ↦ inr (w.if-bytes-lt240.false, w.if-bytes-ge245.true)
+    ] in
+    (none_outside _ 4 0xF0 0xF5 (search rules) range_of_four out, c.unexpected.ensures)
 
 pub returns-then-eq : goal.returns-then-eq
 returns-then-eq c =

@@ -5,8 +5,8 @@ use Rattle.utf_base.specs.declared.table.State.TheVariants.{Done, Interrupted}
 use Rattle.utf_chars.proofs.PaddedLemmas.{IsPadded_padded}
 use Rattle.utf_chars.proofs.Walked.{Walk, Walk-3, running, walk_on}
 use Rattle.encode_unicode.proofs.ByteMerging.{three_padded}
-use Rattle.encode_unicode.proofs.Wholes.{IsCode, range_of_three, code_by_walk, none_by_break, none_by_first, none_by_last, whole_in_four}
-use Rattle.encode_unicode.proofs.decoding_iterators.back_scan.three_or_unexpected.Goals.{then-first-lt224-via-then-first-lt224, then-first-lt224-via-else-first-lt224+then-first-ge240, After-step-two_more, Else-eq, Else-ne}
+use Rattle.encode_unicode.proofs.Wholes.{IsCode, range_of_three, code_by_walk, none_by_break, none_outside, none_by_last, whole_in_four}
+use Rattle.encode_unicode.proofs.decoding_iterators.back_scan.three_or_unexpected.Goals.{After-step-two_more, Else-eq, Else-ne}
 use Rattle.encode_unicode.proofs.decoding_iterators.back_scan.three_or_unexpected.Goals as goal
 
 -- The walk after each step, and that the bytes are a code where the last one ends it.
@@ -23,18 +23,7 @@ code c =
     code_by_walk _ 2 _ _ _ refl (lit< tt) second (record { class = c.class_of-3.ensures.class; step = c.step.ensures }) (differs_false the_type (search rules) c.step.result Done (sym c.ne.ensures ∙ c.if-ne.false))
 
 pub returns-then-first-lt224 : goal.returns-then-first-lt224
-returns-then-first-lt224 c = (
-  none_by_first (c.args.first ∷ c.args.second ∷ c.args.third ∷ []) 3 refl (λ e.
-      let range = range_of_three c.args.first e in
-      elim c.then-first-lt224.branch [
-        | then-first-lt224-via-then-first-lt224 w ↦ omega (arith, range.0)
-        | then-first-lt224-via-else-first-lt224+then-first-ge240 w ↦ omega (arith, range.1)
-      ]),
-  c.unexpected.ensures,
-)
-
-pub step-one_more-requires-clause-running : goal.step-one_more-requires-clause-running
-step-one_more-requires-clause-running c = running _ 1 1 _ (first (goal.at.step-one_more-requires-clause-running c).After-step-two_more)
+returns-then-first-lt224 c = (none_outside _ 3 0xE0 0xF0 refl range_of_three c.then-first-lt224.either, c.unexpected.ensures)
 
 pub returns-then-eq : goal.returns-then-eq
 returns-then-eq c =

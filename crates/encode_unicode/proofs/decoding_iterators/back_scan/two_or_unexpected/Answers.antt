@@ -5,8 +5,8 @@ use Rattle.utf_base.specs.declared.table.State.TheVariants.{Done}
 use Rattle.utf_chars.proofs.PaddedLemmas.{IsPadded_padded}
 use Rattle.utf_chars.proofs.Walked.{Walk-2}
 use Rattle.encode_unicode.proofs.ByteMerging.{two_padded}
-use Rattle.encode_unicode.proofs.Wholes.{IsCode, range_of_two, code_by_walk, none_by_first, none_by_last, whole_in_four}
-use Rattle.encode_unicode.proofs.decoding_iterators.back_scan.two_or_unexpected.Goals.{then-first-lt194-via-then-first-lt194, then-first-lt194-via-else-first-lt194+then-first-ge224, Else-ne}
+use Rattle.encode_unicode.proofs.Wholes.{IsCode, range_of_two, code_by_walk, none_outside, none_by_last, whole_in_four}
+use Rattle.encode_unicode.proofs.decoding_iterators.back_scan.two_or_unexpected.Goals.{Else-ne}
 use Rattle.encode_unicode.proofs.decoding_iterators.back_scan.two_or_unexpected.Goals as goal
 
 code : (c : Else-ne) → IsCode (c.args.first ∷ c.args.second ∷ [])
@@ -15,15 +15,7 @@ code c =
     code_by_walk _ 1 _ _ _ refl (lit< tt) (Walk-2 _ c.if-first-lt194.false c.if-first-ge224.false) (record { class = c.class_of.ensures.class; step = c.step.ensures }) done
 
 pub returns-then-first-lt194 : goal.returns-then-first-lt194
-returns-then-first-lt194 c = (
-  none_by_first (c.args.first ∷ c.args.second ∷ []) 2 refl (λ e.
-      let range = range_of_two c.args.first e in
-      elim c.then-first-lt194.branch [
-        | then-first-lt194-via-then-first-lt194 w ↦ omega (arith, range.0)
-        | then-first-lt194-via-else-first-lt194+then-first-ge224 w ↦ omega (arith, range.1)
-      ]),
-  c.unexpected.ensures,
-)
+returns-then-first-lt194 c = (none_outside _ 2 0xC2 0xE0 refl range_of_two c.then-first-lt194.either, c.unexpected.ensures)
 
 pub returns-then-ne : goal.returns-then-ne
 returns-then-ne c =
