@@ -1,5 +1,5 @@
 -- Pieces that are given one after another.
-use Rattle.std.proofs.Common.{◌≡◌, ℕ, ◌<◌, ◌≤◌, ⊎_elim, List, [], ◌∷◌, ◌++◌, length, arith, sym, ap, subst, ◌+◌, take, drop, set, ◌∙◌}
+use Rattle.std.proofs.Common.{◌≡◌, ℕ, ◌<◌, ◌≤◌, ⊎_elim, List, [], ◌∷◌, ◌++◌, length, length-set, arith, sym, ap, subst, ◌+◌, take, drop, set, ◌∙◌}
 use Rattle.std.proofs.lemmas.List.{take_more_set, drop-set-lt, drop-drop}
 use Rattle.std.proofs.lemmas.Bool.{cases_lt}
 use Rattle.c_api.specs.Api.{Gives, GivesEach, after}
@@ -16,14 +16,26 @@ pub some_left : (piece : List ℕ → NodyPiece) (xs ys : List ℕ) (x : NodyPie
 some_left piece xs ys x g some =
     ⊎_elim (λ (lt : 0 < length xs). lt) (λ (le : length xs ≤ 0). let n = (g.none (omega arith)).0 in omega (arith, ap (λ p. p.len) n)) (cases_lt 0 (length xs))
 
--- one piece more, in the next place of the room
-pub next_each : (piece : List ℕ → NodyPiece) (xs ys zs : List ℕ) (x : NodyPiece) (room : List NodyPiece) (n : ℕ)
-    → GivesEach piece xs (take n room) ys → 0 < length ys → x ≡ piece ys → zs ≡ after ys x → n < length room → GivesEach piece xs (take (n + 1) (set room n x)) zs
-next_each piece xs ys zs x room n each some is leaves lt =
-    let more : GivesEach piece xs (take n room ++ x ∷ []) (after ys x) = each_append piece xs ys (take n room) x each some is in
-    subst (λ b. GivesEach piece xs (take (n + 1) (set room n x)) b) (sym leaves)
-    (subst (λ ps. GivesEach piece xs ps (after ys x)) (sym (take_more_set room n x lt)) more)
+-- what was put into a room so far, which had other pieces first
+abbrev pub Filled : (List ℕ → NodyPiece) → List ℕ → List ℕ → List NodyPiece → List NodyPiece → ℕ → Type 0
+Filled piece xs ys first room n = record {
+  within : n ≤ length first;
+  len : length room ≡ length first;
+  each : GivesEach piece xs (take n room) ys;
+  rest : drop n room ≡ drop n first;
+}
 
--- and the places after it stay
-pub rest_stays : (room first : List NodyPiece) (x : NodyPiece) (n : ℕ) → drop n room ≡ drop n first → drop (n + 1) (set room n x) ≡ drop (n + 1) first
-rest_stays room first x n e = drop-set-lt (n + 1) room n x (omega arith) ∙ sym (drop-drop 1 n room) ∙ ap (drop 1) e ∙ drop-drop 1 n first
+-- one piece more, in the next place of the room
+pub fills_on : (piece : List ℕ → NodyPiece) (xs ys zs : List ℕ) (x : NodyPiece) (first room : List NodyPiece) (n : ℕ)
+    → Filled piece xs ys first room n → n < length room → 0 < length ys → x ≡ piece ys → zs ≡ after ys x → Filled piece xs zs first (set room n x) (n + 1)
+fills_on piece xs ys zs x first room n before lt some is leaves =
+    let len = before.len in
+    let more : GivesEach piece xs (take n room ++ x ∷ []) (after ys x) = each_append piece xs ys (take n room) x before.each some is in
+    record {
+      within = omega arith;
+      len = omega (arith, length-set room n x);
+      each =
+          subst (λ b. GivesEach piece xs (take (n + 1) (set room n x)) b) (sym leaves)
+          (subst (λ ps. GivesEach piece xs ps (after ys x)) (sym (take_more_set room n x lt)) more);
+      rest = drop-set-lt (n + 1) room n x (omega arith) ∙ sym (drop-drop 1 n room) ∙ ap (drop 1) before.rest ∙ drop-drop 1 n first;
+    }

@@ -65,6 +65,13 @@ first_merged w = shown_as kind_number (merged w)
 abbrev pub IsMergedPiece : List ℕ → ℕ → NodyPiece → Type 0
 IsMergedPiece xs place x = (items : List Item) → IsRun utf8 merger_kind xs items → All (λ item. item.0 ≡ place → x ≡ shown_as kind_number (item.1, item.2)) items
 
+-- the piece at an end of some bytes or units, as long as it says
+pub record IsPieceOf (piece : List ℕ → NodyPiece) (xs : List ℕ) (x : NodyPiece) : Type 0 where
+  pub some : 0 < length xs → x ≡ piece xs
+  pub none : length xs ≡ 0 → x ≡ no_piece
+  pub least : 0 < length xs → 1 ≤ x.len
+  pub most : x.len ≤ length xs
+
 -- what is left after a piece at the front, and before one at the end
 abbrev pub after : List ℕ → NodyPiece → List ℕ
 after xs x = drop x.len xs

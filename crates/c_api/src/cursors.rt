@@ -1,6 +1,6 @@
 //! Single pieces, what is left of bytes and units, and runs of pieces into an array.
 ghost use Rattle.std.specs.Prelude.{◌≡◌, ◌<◌, ◌≤◌, length, take, drop};
-ghost use Rattle.c_api.specs.Api.{first_of, last_of, first_of_units, last_of_units, first_merged, no_piece, IsMergedPiece, Gives, GivesEach, after, before};
+ghost use Rattle.c_api.specs.Api.{first_of, last_of, first_of_units, last_of_units, first_merged, no_piece, IsMergedPiece, IsPieceOf, Gives, GivesEach, after, before};
 
 use crate::kinds::{number_of, pair_number_of};
 use cuts::front_of_text;
@@ -41,10 +41,18 @@ pub struct NodyUnits<'a> {
 fn none() -> NodyPiece
     ensures { result ≡ no_piece }
 {
+    fault(0, 11)
+}
+
+// What is wrong with so many bytes or units.
+#[inline(always)]
+fn fault(len: usize, kind: u8) -> NodyPiece
+    ensures { result ≡ record { len = len; scalar = 0; kind = kind } }
+{
     NodyPiece {
-        len: 0,
+        len,
         scalar: 0,
-        kind: 11,
+        kind,
     }
 }
 
@@ -76,10 +84,7 @@ fn anew(piece: NodyPiece) -> NodyPiece
 #[inline(always)]
 #[tactic(auto, using(utf_base::proofs::DecodedLemmas::decoded_code, utf_base::proofs::DecodedLemmas::front_len_utf8))]
 fn first(bytes: &[u8]) -> NodyPiece
-    ensures some { 0 < length bytes.now → result ≡ first_of bytes.now }
-    ensures none { length bytes.now ≡ 0 → result ≡ no_piece }
-    ensures least { 0 < length bytes.now → 1 ≤ result.len }
-    ensures most { result.len ≤ length bytes.now }
+    ensures { IsPieceOf first_of bytes.now result }
 {
     match front_of_text(bytes) {
         Some((c, len)) => character(c, len),
@@ -90,78 +95,50 @@ fn first(bytes: &[u8]) -> NodyPiece
 // The same of bytes that may be anything.
 #[inline(never)]
 fn first_with_care(bytes: &[u8]) -> NodyPiece
-    ensures some { 0 < length bytes.now → result ≡ first_of bytes.now }
-    ensures none { length bytes.now ≡ 0 → result ≡ no_piece }
-    ensures least { 0 < length bytes.now → 1 ≤ result.len }
-    ensures most { result.len ≤ length bytes.now }
+    ensures { IsPieceOf first_of bytes.now result }
 {
     if bytes.is_empty() {
         return none();
     }
     match char::from_utf8_slice_start(bytes) {
         Ok((c, len)) => character(c, len),
-        Err(error) => NodyPiece {
-            len: 1,
-            scalar: 0,
-            kind: number_of(error.kind()),
-        },
+        Err(error) => fault(1, number_of(error.kind())),
     }
 }
 
 // The piece that ends the bytes.
 #[inline(always)]
 fn last(bytes: &[u8]) -> NodyPiece
-    ensures some { 0 < length bytes.now → result ≡ last_of bytes.now }
-    ensures none { length bytes.now ≡ 0 → result ≡ no_piece }
-    ensures least { 0 < length bytes.now → 1 ≤ result.len }
-    ensures most { result.len ≤ length bytes.now }
+    ensures { IsPieceOf last_of bytes.now result }
 {
     match Utf8CharDecoder::from(bytes).next_back() {
         None => none(),
         Some((_, Ok(c), len)) => character(c.to_char(), len),
-        Some((_, Err(error), len)) => NodyPiece {
-            len,
-            scalar: 0,
-            kind: number_of(error.kind()),
-        },
+        Some((_, Err(error), len)) => fault(len, number_of(error.kind())),
     }
 }
 
 // The piece that begins the units.
 #[inline(always)]
 fn first_unit(units: &[u16]) -> NodyPiece
-    ensures some { 0 < length units.now → result ≡ first_of_units units.now }
-    ensures none { length units.now ≡ 0 → result ≡ no_piece }
-    ensures least { 0 < length units.now → 1 ≤ result.len }
-    ensures most { result.len ≤ length units.now }
+    ensures { IsPieceOf first_of_units units.now result }
 {
     match Utf16CharDecoder::from(units).next() {
         None => none(),
         Some((_, Ok(c), len)) => character(c.to_char(), len),
-        Some((_, Err(error), len)) => NodyPiece {
-            len,
-            scalar: 0,
-            kind: pair_number_of(error),
-        },
+        Some((_, Err(error), len)) => fault(len, pair_number_of(error)),
     }
 }
 
 // The piece that ends the units.
 #[inline(always)]
 fn last_unit(units: &[u16]) -> NodyPiece
-    ensures some { 0 < length units.now → result ≡ last_of_units units.now }
-    ensures none { length units.now ≡ 0 → result ≡ no_piece }
-    ensures least { 0 < length units.now → 1 ≤ result.len }
-    ensures most { result.len ≤ length units.now }
+    ensures { IsPieceOf last_of_units units.now result }
 {
     match Utf16CharDecoder::from(units).next_back() {
         None => none(),
         Some((_, Ok(c), len)) => character(c.to_char(), len),
-        Some((_, Err(error), len)) => NodyPiece {
-            len,
-            scalar: 0,
-            kind: pair_number_of(error),
-        },
+        Some((_, Err(error), len)) => fault(len, pair_number_of(error)),
     }
 }
 
@@ -232,11 +209,7 @@ fn merged(bytes: &[u8]) -> NodyPiece
             scalar: c.to_char() as u32,
             kind: 0,
         },
-        Some(Err(error)) => NodyPiece {
-            len: 1,
-            scalar: 0,
-            kind: number_of(error.kind()),
-        },
+        Some(Err(error)) => fault(1, number_of(error.kind())),
     }
 }
 

@@ -6,7 +6,7 @@ use Rattle.std.specs.Iterator.{Count, MakesProgress, YieldsFirst, count_map}
 use Rattle.std.specs.List.{flat_map}
 use Rattle.std.specs.Prelude.{Option, IfSome, Bool, true, false, nat_lt, ◌^◌, if◌then◌else◌}
 use Rattle.utf_chars.specs.Taking.{BoundsLength}
-use Rattle.encode_unicode.specs.Sources.{Splitting, unsent, split_upper, split_hint}
+use Rattle.encode_unicode.specs.Sources.{Splitting, IsHintOf, SplitsHint, unsent, split_upper, split_hint}
 use Rattle.encode_unicode.proofs.Joined.{joined_bounds}
 
 -- the first element of the code of the next item
@@ -52,3 +52,10 @@ split_bounds code m some short rest s hint b =
     let joined = joined_bounds code m some short (rest s.source) in
     let len : length (unsent code rest s) ≡ length s.begun + length (flat_map code (rest s.source)) = length-append s.begun (flat_map code (rest s.source)) in
     (omega arith, rw len (upper_bound m (length s.begun) (length (rest s.source)) (length (flat_map code (rest s.source))) hint.1 b.1 joined.1))
+
+-- so the hint that a splitter makes of its source's
+pub splits_hint : {S : Type 0} (code : ℕ → List ℕ) (m : ℕ) → ((s : ℕ) → 0 < length (code s)) → ((s : ℕ) → length (code s) ≤ m) → (remaining : S → Count) (s : Splitting S) (of_source hint : ℕ × Option ℕ) (n : ℕ)
+    → IsHintOf (remaining s.source) of_source → hint ≡ split_hint m n of_source → n ≡ length s.begun → SplitsHint code m remaining s hint
+splits_hint code m some short remaining s of_source hint n is_hint made len =
+    let all : hint ≡ split_hint m (length s.begun) of_source = made ∙ ap (λ h. split_hint m h of_source) len in
+    record { of_source = of_source; is_hint = is_hint; made = all; bounds = λ rest b. rw all (split_bounds code m some short rest s of_source b) }

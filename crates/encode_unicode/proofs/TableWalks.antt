@@ -41,12 +41,14 @@ code_after_walk w k len some e done =
     no : Done ≡ Interrupted → ⊥
     no e = cc
 
+-- A state that asks for more is a running one.
+pub runs_at : (w : List ℕ) (k : ℕ) (state : State) → state ≡ state_after w k → 0 < missing state → is_running (state_after w k) ≡ true
+runs_at w k state at asks = sym (ap is_running at) ∙ asks_runs state asks
+
 -- Bytes that led to a state which asks for more of them all continue, but for the first.
 pub before : (w : List ℕ) (k j : ℕ) (state : State) → state ≡ state_after w k → k ≤ length w → 0 < missing state → 0 < j → j < k → is_continuation (get_or w j 0) ≡ true
 before w k j state at le asks some lt =
-    let same = ap missing at in
-    let runs = asks_runs (state_after w k) (omega arith) in
-    let range = (runs_after w k (state_after w k) (omega arith) runs (reached w k le)).0.before j some lt in
+    let range = (runs_after w k (state_after w k) (omega arith) (runs_at w k state at asks) (reached w k le)).0.before j some lt in
     grind (arith, common_steps)
 
 -- What the state after a first byte asks for.

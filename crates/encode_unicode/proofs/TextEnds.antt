@@ -143,53 +143,58 @@ last_one xs is_text some low =
     let len = tail-1 h.char h.scalar (omega arith) in
     is_last xs _ h 1 len (ap (λ x. x ∷ 0 ∷ 0 ∷ 0 ∷ []) (a ∙ ap (λ n. get_or (utf8 h.char) (n - 1) 0) len) ∙ pad-1 (utf8 h.char) len)
 
--- where the last is above, there is one before it
-pub two_there : (xs : List ℕ) → IsUtf8 xs → 0 < length xs → 0x80 ≤ get_or xs (length xs - 1) 0 → 2 ≤ length xs
-two_there xs is_text some high =
+-- where the last is above, it and the one before it are those of a code
+record EndsInTwo (xs : List ℕ) : Type 0 where
+  code : EndsInCode xs
+  long : 2 ≤ length (utf8 code.char)
+  last : get_or xs (length xs - 1) 0 ≡ get_or (utf8 code.char) (length (utf8 code.char) - 1) 0
+  before : get_or xs (length xs - 2) 0 ≡ get_or (utf8 code.char) (length (utf8 code.char) - 2) 0
+
+ends_in_two : (xs : List ℕ) → IsUtf8 xs → 0 < length xs → 0x80 ≤ get_or xs (length xs - 1) 0 → EndsInTwo xs
+ends_in_two xs is_text some high =
     let h = text_ends xs is_text some in
-    let a = at_end xs h 1 (omega arith) (tail-some h.char h.scalar) in
-    let two = tail-2 h.char h.scalar (omega arith) in
-    let long = as_long xs h in
-    omega arith
+    let last = at_end xs h 1 (omega arith) (tail-some h.char h.scalar) in
+    let long = tail-2 h.char h.scalar (omega arith) in
+    record { code = h; long = long; last = last; before = at_end xs h 2 (omega arith) long }
+
+pub two_there : (xs : List ℕ) → IsUtf8 xs → 0 < length xs → 0x80 ≤ get_or xs (length xs - 1) 0 → 2 ≤ length xs
+two_there xs is_text some high = let t = ends_in_two xs is_text some high in let all = as_long xs t.code in omega arith
 
 pub last_two : (xs : List ℕ) → IsUtf8 xs → 0 < length xs → 0x80 ≤ get_or xs (length xs - 1) 0 → 0xC0 ≤ get_or xs (length xs - 2) 0
     → (get_or xs (length xs - 2) 0 < 0xE0) × IsLastCode xs (get_or xs (length xs - 2) 0 ∷ get_or xs (length xs - 1) 0 ∷ 0 ∷ 0 ∷ []) 2
 last_two xs is_text some high first =
-    let h = text_ends xs is_text some in
-    let a = at_end xs h 1 (omega arith) (tail-some h.char h.scalar) in
-    let two = tail-2 h.char h.scalar (omega arith) in
-    let b = at_end xs h 2 (omega arith) two in
-    let both = tail-two h.char h.scalar two (omega arith) in
+    let t = ends_in_two xs is_text some high in
+    let both = tail-two t.code.char t.code.scalar t.long (omega arith) in
     let len = both.0 in
-    let last : get_or xs (length xs - 1) 0 ≡ get_or (utf8 h.char) 1 0 = a ∙ ap (λ n. get_or (utf8 h.char) (n - 1) 0) len in
-    let before : get_or xs (length xs - 2) 0 ≡ get_or (utf8 h.char) 0 0 = b ∙ ap (λ n. get_or (utf8 h.char) (n - 2) 0) len in
-    (omega arith, is_last xs _ h 2 len (rw (last, before) (pad-2 (utf8 h.char) len)))
+    let last : get_or xs (length xs - 1) 0 ≡ get_or (utf8 t.code.char) 1 0 = t.last ∙ ap (λ n. get_or (utf8 t.code.char) (n - 1) 0) len in
+    let before : get_or xs (length xs - 2) 0 ≡ get_or (utf8 t.code.char) 0 0 = t.before ∙ ap (λ n. get_or (utf8 t.code.char) (n - 2) 0) len in
+    (omega arith, is_last xs _ t.code 2 len (rw (last, before) (pad-2 (utf8 t.code.char) len)))
 
--- where that one is a continuation byte, there is one before it
+-- where that one is a continuation byte, so is the one before it
+record EndsInThree (xs : List ℕ) : Type 0 where
+  two : EndsInTwo xs
+  long : 3 ≤ length (utf8 two.code.char)
+  third : get_or xs (length xs - 3) 0 ≡ get_or (utf8 two.code.char) (length (utf8 two.code.char) - 3) 0
+
+ends_in_three : (xs : List ℕ) → IsUtf8 xs → 0 < length xs → 0x80 ≤ get_or xs (length xs - 1) 0 → get_or xs (length xs - 2) 0 < 0xC0 → EndsInThree xs
+ends_in_three xs is_text some high low =
+    let t = ends_in_two xs is_text some high in
+    let long = tail-3 t.code.char t.code.scalar t.long (omega arith) in
+    record { two = t; long = long; third = at_end xs t.code 3 (omega arith) long }
+
 pub three_there : (xs : List ℕ) → IsUtf8 xs → 0 < length xs → 0x80 ≤ get_or xs (length xs - 1) 0 → get_or xs (length xs - 2) 0 < 0xC0 → 3 ≤ length xs
-three_there xs is_text some high low =
-    let h = text_ends xs is_text some in
-    let a = at_end xs h 1 (omega arith) (tail-some h.char h.scalar) in
-    let two = tail-2 h.char h.scalar (omega arith) in
-    let b = at_end xs h 2 (omega arith) two in
-    let three = tail-3 h.char h.scalar two (omega arith) in
-    let long = as_long xs h in
-    omega arith
+three_there xs is_text some high low = let t = ends_in_three xs is_text some high low in let all = as_long xs t.two.code in omega arith
 
 pub last_three : (xs : List ℕ) → IsUtf8 xs → 0 < length xs → 0x80 ≤ get_or xs (length xs - 1) 0 → get_or xs (length xs - 2) 0 < 0xC0 → 0xE0 ≤ get_or xs (length xs - 3) 0
     → (get_or xs (length xs - 3) 0 < 0xF0) × IsLastCode xs (get_or xs (length xs - 3) 0 ∷ get_or xs (length xs - 2) 0 ∷ get_or xs (length xs - 1) 0 ∷ 0 ∷ []) 3
 last_three xs is_text some high low first =
-    let h = text_ends xs is_text some in
-    let a = at_end xs h 1 (omega arith) (tail-some h.char h.scalar) in
-    let two = tail-2 h.char h.scalar (omega arith) in
-    let b = at_end xs h 2 (omega arith) two in
-    let three = tail-3 h.char h.scalar two (omega arith) in
-    let c = at_end xs h 3 (omega arith) three in
-    let both = tail-three h.char h.scalar three (omega arith) in
+    let t = ends_in_three xs is_text some high low in
+    let h = t.two.code in
+    let both = tail-three h.char h.scalar t.long (omega arith) in
     let len = both.0 in
-    let last : get_or xs (length xs - 1) 0 ≡ get_or (utf8 h.char) 2 0 = a ∙ ap (λ n. get_or (utf8 h.char) (n - 1) 0) len in
-    let middle : get_or xs (length xs - 2) 0 ≡ get_or (utf8 h.char) 1 0 = b ∙ ap (λ n. get_or (utf8 h.char) (n - 2) 0) len in
-    let before : get_or xs (length xs - 3) 0 ≡ get_or (utf8 h.char) 0 0 = c ∙ ap (λ n. get_or (utf8 h.char) (n - 3) 0) len in
+    let last : get_or xs (length xs - 1) 0 ≡ get_or (utf8 h.char) 2 0 = t.two.last ∙ ap (λ n. get_or (utf8 h.char) (n - 1) 0) len in
+    let middle : get_or xs (length xs - 2) 0 ≡ get_or (utf8 h.char) 1 0 = t.two.before ∙ ap (λ n. get_or (utf8 h.char) (n - 2) 0) len in
+    let before : get_or xs (length xs - 3) 0 ≡ get_or (utf8 h.char) 0 0 = t.third ∙ ap (λ n. get_or (utf8 h.char) (n - 3) 0) len in
     (omega arith, is_last xs _ h 3 len (rw (last, middle, before) (pad-3 (utf8 h.char) len)))
 
 -- and where that one is a continuation byte too, the code has four
@@ -202,19 +207,15 @@ pub record EndsInFour (xs : List ℕ) : Type 0 where
 pub last_four : (xs : List ℕ) → IsUtf8 xs → 0 < length xs → 0x80 ≤ get_or xs (length xs - 1) 0 → get_or xs (length xs - 2) 0 < 0xC0 → get_or xs (length xs - 3) 0 < 0xE0
     → EndsInFour xs
 last_four xs is_text some high low lower =
-    let h = text_ends xs is_text some in
-    let a = at_end xs h 1 (omega arith) (tail-some h.char h.scalar) in
-    let two = tail-2 h.char h.scalar (omega arith) in
-    let b = at_end xs h 2 (omega arith) two in
-    let three = tail-3 h.char h.scalar two (omega arith) in
-    let c = at_end xs h 3 (omega arith) three in
-    let facts = tail-four h.char h.scalar three (omega arith) in
+    let t = ends_in_three xs is_text some high low in
+    let h = t.two.code in
+    let facts = tail-four h.char h.scalar t.long (omega arith) in
     let len = facts.0 in
     let d = at_end xs h 4 (omega arith) (omega arith) in
     let long = as_long xs h in
-    let last : get_or xs (length xs - 1) 0 ≡ get_or (utf8 h.char) 3 0 = a ∙ ap (λ n. get_or (utf8 h.char) (n - 1) 0) len in
-    let third : get_or xs (length xs - 2) 0 ≡ get_or (utf8 h.char) 2 0 = b ∙ ap (λ n. get_or (utf8 h.char) (n - 2) 0) len in
-    let second : get_or xs (length xs - 3) 0 ≡ get_or (utf8 h.char) 1 0 = c ∙ ap (λ n. get_or (utf8 h.char) (n - 3) 0) len in
+    let last : get_or xs (length xs - 1) 0 ≡ get_or (utf8 h.char) 3 0 = t.two.last ∙ ap (λ n. get_or (utf8 h.char) (n - 1) 0) len in
+    let third : get_or xs (length xs - 2) 0 ≡ get_or (utf8 h.char) 2 0 = t.two.before ∙ ap (λ n. get_or (utf8 h.char) (n - 2) 0) len in
+    let second : get_or xs (length xs - 3) 0 ≡ get_or (utf8 h.char) 1 0 = t.third ∙ ap (λ n. get_or (utf8 h.char) (n - 3) 0) len in
     let before : get_or xs (length xs - 4) 0 ≡ get_or (utf8 h.char) 0 0 = d ∙ ap (λ n. get_or (utf8 h.char) (n - 4) 0) len in
     record {
       there = omega arith;

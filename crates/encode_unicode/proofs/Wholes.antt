@@ -1,8 +1,8 @@
 -- All of some bytes are one code, or they are none, as a walk over the table says.
-use Rattle.std.proofs.Common.{◌≡◌, ℕ, ◌<◌, ◌≤◌, List, length, arith, refl, ap, sym, ◌∙◌, None, Ok, false, append-nil}
+use Rattle.std.proofs.Common.{◌≡◌, ℕ, suc, ◌⊎◌, inl, inr, get_or, ◌<◌, ◌≤◌, List, length, arith, refl, ap, sym, ◌∙◌, None, Ok, false, append-nil}
 use Rattle.std.proofs.lemmas.Grind.{common_steps}
 use Rattle.utf_base.specs.declared.table.State.{State}
-use Rattle.utf_base.specs.declared.table.State.TheVariants.{Done}
+use Rattle.utf_base.specs.declared.table.State.TheVariants.{Done, Interrupted}
 use Rattle.utf_base.specs.Back.{IsWholeCode}
 use Rattle.utf_base.specs.Code.{utf8}
 use Rattle.utf_base.specs.Decoded.{decoded_bytes}
@@ -15,8 +15,14 @@ use Rattle.utf_chars.proofs.PaddedLemmas.{value_padded}
 use Rattle.utf_base.proofs.FrontLemmas.{code_where_no_fault, decodes_from_stands, no_fault_where_code}
 use Rattle.utf_base.proofs.MergerLemmas.{merger_none_where_code}
 use Rattle.utf_base.proofs.Standing.{stands_alone}
-use Rattle.utf_base.proofs.TableSteps.{kind_at_end}
+use Rattle.utf_base.proofs.TableSteps.{kind_at_end, last_ends}
+use Rattle.utf_chars.proofs.Walked.{Next, Walk, running, walk_at}
 use Rattle.encode_unicode.proofs.MergerSteps.{value_of_answer}
+use Rattle.encode_unicode.proofs.TableWalks.{code_after_walk}
+
+-- the bytes are the code of their value
+abbrev pub IsCode : List ℕ → Type 0
+IsCode w = IsScalar (value w) × (w ≡ utf8 (value w))
 
 -- only the end of a code has no fault
 done_alone : (state : State) → fault_of state ≡ None → state ≡ Done
@@ -29,11 +35,26 @@ none_by_end w n end le at stops other s h =
     let kind = kind_at_end w n le (ap is_running at ∙ stops) in
     other (done_alone end (sym (ap fault_of at) ∙ sym kind ∙ merger_none_where_code w s h.0))
 
+-- where the next byte breaks them, or the last one leads to that end
+pub none_by_break : (w : List ℕ) (k n c : ℕ) (state next : State) → k < length w → Walk w k state n → Next w k state c next → next ≡ Interrupted → IsWholeCode w None
+none_by_break w k n c state next lt h x broken = none_by_end w (suc k) Interrupted (omega arith) (walk_at w k n c state next h x ∙ broken) refl (λ e. cc)
+
+pub none_by_last : (w : List ℕ) (k c : ℕ) (state next : State) → length w ≡ suc k → Walk w k state 1 → Next w k state c next → (next ≡ Done → ⊥) → IsWholeCode w None
+none_by_last w k c state next len h x other = none_by_end w (suc k) next (omega arith) (walk_at w k 1 c state next h x) (ap is_running x.step ∙ last_ends state c h.asks) other
+
+-- where the last one does, they are one
+pub code_by_walk : (w : List ℕ) (k c : ℕ) (state next : State) → length w ≡ suc k → 0 < k → Walk w k state 1 → Next w k state c next → next ≡ Done → IsCode w
+code_by_walk w k c state next len some h x done = code_after_walk w k len some (ap is_running h.at ∙ running w k 0 state h) (walk_at w k 1 c state next h x ∙ done)
+
 -- nor are bytes of which the first asks for another number of them
-pub none_by_first : (w : List ℕ) (n : ℕ) → length w ≡ n → (asked_by w ≡ n → ⊥) → IsWholeCode w None
+none_by_first : (w : List ℕ) (n : ℕ) → length w ≡ n → (asked_by w ≡ n → ⊥) → IsWholeCode w None
 none_by_first w n len other s h =
     let code = code_where_no_fault w (no_fault_where_code w s h.0) in
     other (code.1 ∙ ap (λ c. length (utf8 c)) (decodes_from_stands w s h.0).1 ∙ sym h.1 ∙ len)
+
+pub none_outside : (w : List ℕ) (n low high : ℕ) → length w ≡ n → ((b : ℕ) → asked b ≡ n → (low ≤ b) × (b < high)) → (get_or w 0 0 < low) ⊎ ((low ≤ get_or w 0 0) × (high ≤ get_or w 0 0)) → IsWholeCode w None
+none_outside w n low high len range (inl below) = none_by_first w n len (λ e. omega (arith, (range (get_or w 0 0) e).0))
+none_outside w n low high len range (inr above) = none_by_first w n len (λ e. omega (arith, (range (get_or w 0 0) e).1, above.1))
 
 -- the range of a first byte, by how many bytes it asks for
 pub range_of_two : (b : ℕ) → asked b ≡ 2 → (0xC2 ≤ b) × (b < 0xE0)

@@ -12,6 +12,7 @@ use std::alloc::{AllocError, Global};
 use std::collections::{BTreeMap, HashMap};
 
 /// How often each character stands in the text.
+#[tactic(auto, using(crate::proofs::TableLemmas::all_counted))]
 pub fn count_characters(alloc: Global, text: &str) -> Result<BTreeMap<Utf8Char, usize>, AllocError>
     ensures { IfOk result (λ table. CountsEach (chars text.now) (tree.get nat_cmp table)) }
 {
@@ -32,6 +33,7 @@ pub fn count_one(table: &mut BTreeMap<Utf8Char, usize>, c: Utf8Char) -> Result<(
 }
 
 /// The same in a table with no order.
+#[tactic(auto, using(crate::proofs::TableLemmas::all_counted))]
 pub fn hash_characters(alloc: Global, text: &str) -> Result<HashMap<Utf8Char, usize>, AllocError>
     ensures { IfOk result (λ table. CountsEach (chars text.now) (hash.get nat_eq table)) }
 {

@@ -17,23 +17,26 @@ piece_ends_outside code c xs p n None h i =
     let ends = i.ends in
     h.2 (record { from = i.from; char = i.char; stands = i.stands; begins = omega (arith, h.1); ends = omega (arith, h.1) })
 
--- The pieces before a place, and those from it on.
+-- The k pieces before a place, and those from it on.
+pub record IsParted (m k : ℕ) (ps : List Piece) : Type 0 where
+  pub within : k ≤ length ps
+  pub before : AllWithin (λ x. x.start < m) ps 0 k
+  pub following : AllWithin (λ x. m ≤ x.start) ps k (length ps)
 
-pub cut_before : (code : ℕ → List ℕ) (xs : List ℕ) (i m j k : ℕ) (ps : List Piece) → m ≤ j → k ≤ length ps → AllWithin (λ x. x.start < m) ps 0 k
-    → AllWithin (λ x. m ≤ x.start) ps k (length ps) → IsCutBetween code xs i j ps → IsCutBetween code xs i m (take k ps)
-cut_before code xs i m j k ps le within before following a =
+pub cut_before : (code : ℕ → List ℕ) (xs : List ℕ) (i m j k : ℕ) (ps : List Piece) → m ≤ j → IsParted m k ps → IsCutBetween code xs i j ps → IsCutBetween code xs i m (take k ps)
+cut_before code xs i m j k ps le p a =
     let len = length-take k ps in
     record {
       pieces = λ n d lt.
           let first : n < k = omega arith in
           let w = a.pieces n d (omega arith) in
-          rw (get_or-take k ps n d first) (w.0, w.1, before n d (omega arith) first);
+          rw (get_or-take k ps n d first) (w.0, w.1, p.before n d (omega arith) first);
       all = λ x h lo hi.
           let w = a.all x h lo (omega arith) in
           let start = ap (λ z. z.start) w.2 in
           ⊎_elim
           (λ (first : w.0 < k). (w.0, omega arith, get_or-take k ps w.0 x first ∙ w.2))
-          (λ (later : k ≤ w.0). let b = following w.0 x later w.1 in absurd (omega arith))
+          (λ (later : k ≤ w.0). let b = p.following w.0 x later w.1 in absurd (omega arith))
           (cases_lt w.0 k);
       in_order = λ n o d lt h.
           let last : o < k = omega arith in
@@ -41,19 +44,18 @@ cut_before code xs i m j k ps le within before following a =
           rw (get_or-take k ps n d first, get_or-take k ps o d last) (a.in_order n o d lt (omega arith));
     }
 
-pub cut_from_place : (code : ℕ → List ℕ) (xs : List ℕ) (i m j k : ℕ) (ps : List Piece) → i ≤ m → k ≤ length ps → AllWithin (λ x. x.start < m) ps 0 k
-    → AllWithin (λ x. m ≤ x.start) ps k (length ps) → IsCutBetween code xs i j ps → IsCutBetween code xs m j (drop k ps)
-cut_from_place code xs i m j k ps le within before following a =
+pub cut_from_place : (code : ℕ → List ℕ) (xs : List ℕ) (i m j k : ℕ) (ps : List Piece) → i ≤ m → IsParted m k ps → IsCutBetween code xs i j ps → IsCutBetween code xs m j (drop k ps)
+cut_from_place code xs i m j k ps le p a =
     let len = length-drop k ps in
     record {
       pieces = λ n d lt.
           let w = a.pieces (k + n) d (omega arith) in
-          rw (get_or-drop k ps n d) (w.0, following (k + n) d (omega arith) (omega arith), w.2);
+          rw (get_or-drop k ps n d) (w.0, p.following (k + n) d (omega arith) (omega arith), w.2);
       all = λ x h lo hi.
           let w = a.all x h (omega arith) hi in
           let start = ap (λ z. z.start) w.2 in
           ⊎_elim
-          (λ (first : w.0 < k). let b = before w.0 x (omega arith) first in absurd (omega arith))
+          (λ (first : w.0 < k). let b = p.before w.0 x (omega arith) first in absurd (omega arith))
           (λ (later : k ≤ w.0).
           let e : k + (w.0 - k) ≡ w.0 = omega arith in
           (w.0 - k, omega arith, get_or-drop k ps (w.0 - k) x ∙ (ap (λ n. get_or ps n x) e ∙ w.2)))

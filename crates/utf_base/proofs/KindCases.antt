@@ -43,21 +43,20 @@ Asks-3 w some low high = record { some = some; first = grind (arith, common_step
 pub Asks-4 : (w : List ℕ) → 0 < length w → 0xF0 ≤ get_or w 0 0 → get_or w 0 0 < 0xF5 → Asks w 4
 Asks-4 w some low high = record { some = some; first = grind (arith, common_steps); asks = asked-4 (get_or w 0 0) low high; positive = omega arith }
 
-pub kind-few : (w : List ℕ) (n : ℕ) → Asks w n → length w < n → fault_kind w ≡ Some TooFewBytes
+-- so it is no fault by itself
+kind-begun : (w : List ℕ) (n : ℕ) → Asks w n
+    → fault_kind w ≡ (if ltb (length w) n then Some TooFewBytes else if not (all_continue w) then Some InterruptedSequence else value_fault w)
 unfolding fault_kind
-kind-few w n a few =
+kind-begun w n a =
     let not_empty : eqb (length w) 0 ≡ false = grind (arith, common_steps) in
     let occurs : eqb n 0 ≡ false = grind (arith, common_steps) in
-    let short : ltb (length w) n ≡ true = grind (arith, common_steps) in
-    rw (not_empty, a.first, a.asks, occurs, short) refl
+    rw (not_empty, a.first, a.asks, occurs) refl
+
+pub kind-few : (w : List ℕ) (n : ℕ) → Asks w n → length w < n → fault_kind w ≡ Some TooFewBytes
+kind-few w n a few = let short : ltb (length w) n ≡ true = grind (arith, common_steps) in kind-begun w n a ∙ rw short refl
 
 kind-continued : (w : List ℕ) (n : ℕ) → Asks w n → n ≤ length w → fault_kind w ≡ (if not (all_continue w) then Some InterruptedSequence else value_fault w)
-unfolding fault_kind
-kind-continued w n a enough =
-    let not_empty : eqb (length w) 0 ≡ false = grind (arith, common_steps) in
-    let occurs : eqb n 0 ≡ false = grind (arith, common_steps) in
-    let short : ltb (length w) n ≡ false = grind (arith, common_steps) in
-    rw (not_empty, a.first, a.asks, occurs, short) refl
+kind-continued w n a enough = let short : ltb (length w) n ≡ false = grind (arith, common_steps) in kind-begun w n a ∙ rw short refl
 
 -- All bytes that the first asks for are there and continue, and v is their value.
 pub record Sums (w : List ℕ) (n v : ℕ) : Type 0 where

@@ -25,14 +25,12 @@ record SamePart (xs : List ℕ) (i j : ℕ) (ys : List ℕ) (k l : ℕ) : Type 0
   pub second_within : l ≤ length ys
   pub equal : slice_range xs i j ≡ slice_range ys k l
 
+same_part : (xs : List ℕ) (i j : ℕ) (ys : List ℕ) (k l : ℕ) (zs : List ℕ) → i ≤ j → j ≤ length xs → k ≤ l → l ≤ length ys
+    → slice_range xs i j ≡ zs → slice_range ys k l ≡ zs → SamePart xs i j ys k l
+same_part xs i j ys k l zs o w p q e f = record { first_in_order = o; first_within = w; second_in_order = p; second_within = q; equal = e ∙ sym f }
+
 SamePart-sym : (xs : List ℕ) (i j : ℕ) (ys : List ℕ) (k l : ℕ) → SamePart xs i j ys k l → SamePart ys k l xs i j
-SamePart-sym xs i j ys k l same = record {
-  first_in_order = same.second_in_order;
-  first_within = same.second_within;
-  second_in_order = same.first_in_order;
-  second_within = same.first_within;
-  equal = sym same.equal;
-}
+SamePart-sym xs i j ys k l same = same_part _ _ _ _ _ _ _ same.second_in_order same.second_within same.first_in_order same.first_within (sym same.equal) refl
 
 length-range : (xs : List ℕ) (i j : ℕ) → j ≤ length xs → length (slice_range xs i j) ≡ j - i
 length-range xs i j h = grind (arith, common_steps)
@@ -82,13 +80,7 @@ same_front front old new rest =
     let part : (mid : List ℕ) → slice_range (front ++ mid ++ rest) 0 (length front) ≡ front = λ mid.
     rw append_assoc (between_from_start (front ++ (mid ++ rest)) (length front) ∙ take_at front (mid ++ rest) (length front) refl) in
     let long : (mid : List ℕ) → length front ≤ length (front ++ mid ++ rest) = λ mid. omega (arith, length-append (front ++ mid) rest, length-append front mid) in
-    record {
-      first_in_order = omega arith;
-      first_within = long old;
-      second_in_order = omega arith;
-      second_within = long new;
-      equal = part old ∙ sym (part new);
-    }
+    same_part _ _ _ _ _ _ front (omega arith) (long old) (omega arith) (long new) (part old) (part new)
 
 same_rest : (front old new rest : List ℕ)
     → SamePart (front ++ old ++ rest) (length front + length old) (length (front ++ old ++ rest)) (front ++ new ++ rest) (length front + length new) (length (front ++ new ++ rest))
@@ -96,13 +88,7 @@ same_rest front old new rest =
     let part : (mid : List ℕ) → slice_range (front ++ mid ++ rest) (length front + length mid) (length (front ++ mid ++ rest)) ≡ rest = λ mid.
     take_rest (front ++ mid ++ rest) (length front + length mid) ∙ drop_at (front ++ mid) rest (length front + length mid) (length-append front mid) in
     let long : (mid : List ℕ) → length front + length mid ≤ length (front ++ mid ++ rest) = λ mid. omega (arith, length-append (front ++ mid) rest, length-append front mid) in
-    record {
-      first_in_order = long old;
-      first_within = omega arith;
-      second_in_order = long new;
-      second_within = omega arith;
-      equal = part old ∙ sym (part new);
-    }
+    same_part _ _ _ _ _ _ rest (long old) (omega arith) (long new) (omega arith) (part old) (part new)
 
 -- what is left from a place of the front on begins with elements of it
 front_of_left : (m : ℕ) (front mid rest : List ℕ) (p : ℕ) → p + m ≤ length front → take m (drop p (front ++ mid ++ rest)) ≡ take m (drop p front)

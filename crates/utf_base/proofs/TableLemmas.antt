@@ -1,9 +1,9 @@
 -- Each entry of the table of classes and states is its rule.
-use Rattle.std.proofs.Common.{◌≡◌, ℕ, zero, suc, ◌+◌, ◌<◌, ◌≤◌, List, [], ◌∷◌, get_or, true, false, refl, arith, ◌∙◌, ap, ◌⊎◌, inl, inr, ⊎_elim}
+use Rattle.std.proofs.Common.{◌≡◌, ℕ, zero, suc, ◌+◌, ◌<◌, ◌≤◌, List, [], ◌∷◌, get_or, true, false, refl, arith, ◌∙◌, ap, ◌⊎◌, inl, inr, ⊎_elim, rules}
 use Rattle.std.proofs.lemmas.Bool.{cases_lt}
 use Rattle.std.proofs.lemmas.Grind.{common_steps}
 use Rattle.utf_base.specs.declared.table.State.{State}
-use Rattle.utf_base.specs.declared.table.State.TheVariants.{Start, OneMore, TwoMore, ThreeMore, AfterE0, AfterEd, AfterF0, AfterF4, Done, Unexpected, Never, Interrupted, Overlong, Reserved, TooHigh}
+use Rattle.utf_base.specs.declared.table.State.TheVariants.{Start, OneMore, TwoMore, ThreeMore, AfterE0, AfterEd, AfterF0, AfterF4, Done, Unexpected, Never, Interrupted}
 use Rattle.utf_base.specs.declared.table.TheConstants.{CLASSES, STEPS}
 use Rattle.utf_base.specs.Kinds.{asked, is_continuation}
 use Rattle.utf_base.specs.Table.{begun, class, is_running, next_state, row}
@@ -33,14 +33,7 @@ unused = Interrupted ∷ Interrupted ∷ Interrupted ∷ Interrupted ∷ []
 
 row_at : (state : State) → is_running state ≡ true → (d : List State) → get_or STEPS (row state) d ≡ values (next_state state) 0 12 unused
 unfolding next_state
-row_at Done r d = cc
-row_at Unexpected r d = cc
-row_at Never r d = cc
-row_at Interrupted r d = cc
-row_at Overlong r d = cc
-row_at Reserved r d = cc
-row_at TooHigh r d = cc
-row_at _ r d = refl
+row_at _ r d = search rules
 
 pub step_at : (state : State) → is_running state ≡ true → (c : ℕ) → c < 12 → (d : List State) (e : State) → get_or (get_or STEPS (row state) d) c e ≡ next_state state c
 step_at state running c lt d e = ap (λ xs. get_or xs c e) (row_at state running d) ∙ values-at (next_state state) 0 12 c c unused e (omega arith) lt

@@ -6,7 +6,7 @@ use Rattle.utf_base.specs.declared.errors.Utf8ErrorKind.TheVariants.{TooFewBytes
 use Rattle.utf_base.specs.declared.table.State.{State}
 use Rattle.utf_base.specs.declared.table.State.TheVariants.{Start, OneMore, TwoMore, ThreeMore, AfterE0, AfterEd, AfterF0, AfterF4, TwoMoreOverlong, OneMoreOverlong, OneMoreReserved, TwoMoreTooHigh, OneMoreTooHigh, Done, Unexpected, Never, Interrupted, Overlong, Reserved, TooHigh}
 use Rattle.utf_base.specs.Scalar.{IsScalar}
-use Rattle.utf_base.specs.Kinds.{fault_kind, merger_kind, asked_by, value, least_value, is_continuation, continues_at, all_continue, breaks_at, is_broken}
+use Rattle.utf_base.specs.Kinds.{fault_kind, merger_kind, asked, asked_by, value, least_value, is_continuation, continues_at, all_continue, breaks_at, is_broken}
 use Rattle.utf_base.specs.Table.{class, continued, fault_of, is_later_fault, is_running, missing, next_state, state_after}
 use Rattle.utf_base.proofs.FrontLemmas.{asked-0, asked-1, asked-2, asked-3, asked-4, asked_le, asked-no_continuation, value-1, value-2, value-3, value-4, least_value-below_3, least_value-3, least_value-4}
 use Rattle.utf_base.proofs.KindCases.{Sums, kind-empty, kind-continuation, kind-never, kind-overlong, kind-surrogate, kind-too_high, kind-none}
@@ -164,9 +164,16 @@ by_continuation_byte P one two three b out low middle high =
     (λ (l3 : 0xC0 ≤ b). rw (outside one two three b (inr l3)) (out (inr l3)))
     (cases_lt b 0xC0)) (cases_lt b 0xA0)) (cases_lt b 0x90)) (cases_lt b 0x80)
 
--- the same where all that continue lead to one state
-by_any : (P : State → Type 0) (next : State) (b : ℕ) → ((b < 0x80) ⊎ (0xC0 ≤ b) → P Interrupted) → ((0x80 ≤ b) × (b < 0xC0) → P next) → P (continued next next next (class b))
-by_any P next b out on = by_continuation_byte P next next next b out (λ l h. on (omega arith, omega arith)) (λ l h. on (omega arith, omega arith)) (λ l h. on (omega arith, omega arith))
+-- the same where a byte below 0xa0 leads to one state and the others to another, and where 0x90 parts them
+at_a0 : (P : State → Type 0) (low high : State) (b : ℕ) → ((b < 0x80) ⊎ (0xC0 ≤ b) → P Interrupted) → ((0x80 ≤ b) × (b < 0xC0) → b < 0xA0 → P low)
+    → ((0x80 ≤ b) × (b < 0xC0) → 0xA0 ≤ b → P high) → P (continued low low high (class b))
+at_a0 P low high b out below above =
+    by_continuation_byte P low low high b out (λ l h. below (omega arith, omega arith) (omega arith)) (λ l h. below (omega arith, omega arith) h) (λ l h. above (omega arith, omega arith) l)
+
+at_90 : (P : State → Type 0) (low high : State) (b : ℕ) → ((b < 0x80) ⊎ (0xC0 ≤ b) → P Interrupted) → ((0x80 ≤ b) × (b < 0xC0) → b < 0x90 → P low)
+    → ((0x80 ≤ b) × (b < 0xC0) → 0x90 ≤ b → P high) → P (continued low high high (class b))
+at_90 P low high b out below above =
+    by_continuation_byte P low high high b out (λ l h. below (omega arith, omega arith) h) (λ l h. above (omega arith, omega arith) l) (λ l h. above (omega arith, omega arith) (omega arith))
 
 -- The first byte.
 
@@ -248,72 +255,48 @@ first w Never some (inr h) =
     enough_kind w (omega arith) ∙ kind-never w some n (grind (arith, common_steps))
 first w _ some h = absurd h
 
--- One more byte, in any state.
+-- One more byte, in any state. From these, all bytes that continue lead to one state.
+
+by_one_way : (w : List ℕ) (k : ℕ) (state next : State) → Runs w k state → 0 < missing state → k < length w → (Continues w k → Reached w (suc k) next)
+    → Reached w (suc k) (continued next next next (class (get_or w k 0)))
+by_one_way w k state next r more there on =
+    at_a0 (Reached w (suc k)) next next _ (interrupted w k state r more there) (λ c h. on c) (λ c h. on c)
 
 next : (w : List ℕ) (k : ℕ) (state : State) → k < length w → Reached w k state → Reached w (suc k) (next_state state (class (get_or w k 0)))
 unfolding next_state
 next w k Start there r = let e : k ≡ 0 = r in rw e (first w (next_state Start (class (get_or w 0 0))) (omega arith) (begins (get_or w 0 0)))
-next w k OneMore there r =
-    by_any (Reached w (suc k)) Done _ (interrupted w k OneMore r (lit< tt) there)
-    (λ c. let e = ends w k OneMore r c refl there in done w e (r.leads e.all))
-next w k TwoMore there r = by_any (Reached w (suc k)) OneMore _ (interrupted w k TwoMore r (lit< tt) there) (λ c. runs_on w k TwoMore OneMore r c refl r.leads)
-next w k ThreeMore there r =
-    by_any (Reached w (suc k)) TwoMore _ (interrupted w k ThreeMore r (lit< tt) there) (λ c. runs_on w k ThreeMore TwoMore r c refl r.leads)
+next w k OneMore there r = by_one_way w k OneMore Done r (lit< tt) there (λ c. let e = ends w k OneMore r c refl there in done w e (r.leads e.all))
+next w k TwoMore there r = by_one_way w k TwoMore OneMore r (lit< tt) there (λ c. runs_on w k TwoMore OneMore r c refl r.leads)
+next w k ThreeMore there r = by_one_way w k ThreeMore TwoMore r (lit< tt) there (λ c. runs_on w k ThreeMore TwoMore r c refl r.leads)
 next w k AfterE0 there r =
     let lead = r.leads in
-    let asks : asked_by w ≡ 3 = asked-3 _ (omega arith) (omega arith) in
-    let known = of_three w k (omega (arith, r.asks)) (omega arith) (omega arith) in
-    let low : get_or w k 0 < 0xA0 → ContinueTo w (asked_by w) → IsOverlong w = λ h all. let t = known all in omega arith in
-    let high : 0xA0 ≤ get_or w k 0 → ContinueTo w (asked_by w) → IsGood w = λ l all. let t = known all in (omega arith, record { below = omega arith; no_surrogate = λ g. absurd (omega arith) }) in
-    by_continuation_byte (Reached w (suc k)) OneMoreOverlong OneMoreOverlong OneMore _ (interrupted w k AfterE0 r (lit< tt) there)
-    (λ l h. runs_on w k AfterE0 OneMoreOverlong r (omega arith, omega arith) refl (low (omega arith)))
-    (λ l h. runs_on w k AfterE0 OneMoreOverlong r (omega arith, omega arith) refl (low h))
-    (λ l h. runs_on w k AfterE0 OneMore r (omega arith, omega arith) refl (high l))
+    let known = of_three w k (omega (arith, r.asks, asked-3 (get_or w 0 0) (omega arith) (omega arith))) (omega arith) (omega arith) in
+    at_a0 (Reached w (suc k)) OneMoreOverlong OneMore _ (interrupted w k AfterE0 r (lit< tt) there)
+    (λ c h. runs_on w k AfterE0 OneMoreOverlong r c refl (λ all. let t = known all in omega arith))
+    (λ c l. runs_on w k AfterE0 OneMore r c refl (λ all. let t = known all in (omega arith, record { below = omega arith; no_surrogate = λ g. absurd (omega arith) })))
 next w k AfterEd there r =
     let lead = r.leads in
-    let asks : asked_by w ≡ 3 = asked-3 _ (omega arith) (omega arith) in
-    let known = of_three w k (omega (arith, r.asks)) (omega arith) (omega arith) in
-    let low : get_or w k 0 < 0xA0 → ContinueTo w (asked_by w) → IsGood w = λ h all. let t = known all in (omega arith, record { below = omega arith; no_surrogate = λ g. absurd (omega arith) }) in
-    let high : 0xA0 ≤ get_or w k 0 → ContinueTo w (asked_by w) → IsReserved w = λ l all. let t = known all in (omega arith, omega arith, omega arith) in
-    by_continuation_byte (Reached w (suc k)) OneMore OneMore OneMoreReserved _ (interrupted w k AfterEd r (lit< tt) there)
-    (λ l h. runs_on w k AfterEd OneMore r (omega arith, omega arith) refl (low (omega arith)))
-    (λ l h. runs_on w k AfterEd OneMore r (omega arith, omega arith) refl (low h))
-    (λ l h. runs_on w k AfterEd OneMoreReserved r (omega arith, omega arith) refl (high l))
+    let known = of_three w k (omega (arith, r.asks, asked-3 (get_or w 0 0) (omega arith) (omega arith))) (omega arith) (omega arith) in
+    at_a0 (Reached w (suc k)) OneMore OneMoreReserved _ (interrupted w k AfterEd r (lit< tt) there)
+    (λ c h. runs_on w k AfterEd OneMore r c refl (λ all. let t = known all in (omega arith, record { below = omega arith; no_surrogate = λ g. absurd (omega arith) })))
+    (λ c l. runs_on w k AfterEd OneMoreReserved r c refl (λ all. let t = known all in (omega arith, omega arith, omega arith)))
 next w k AfterF0 there r =
     let lead = r.leads in
-    let asks : asked_by w ≡ 4 = asked-4 _ (omega arith) (omega arith) in
-    let known = of_four w k (omega (arith, r.asks)) (omega arith) (omega arith) in
-    let low : get_or w k 0 < 0x90 → ContinueTo w (asked_by w) → IsOverlong w = λ h all. let t = known all in omega arith in
-    let high : 0x90 ≤ get_or w k 0 → ContinueTo w (asked_by w) → IsGood w = λ l all. let t = known all in (omega arith, record { below = omega arith; no_surrogate = λ g. omega arith }) in
-    by_continuation_byte (Reached w (suc k)) TwoMoreOverlong TwoMore TwoMore _ (interrupted w k AfterF0 r (lit< tt) there)
-    (λ l h. runs_on w k AfterF0 TwoMoreOverlong r (omega arith, omega arith) refl (low h))
-    (λ l h. runs_on w k AfterF0 TwoMore r (omega arith, omega arith) refl (high l))
-    (λ l h. runs_on w k AfterF0 TwoMore r (omega arith, omega arith) refl (high (omega arith)))
+    let known = of_four w k (omega (arith, r.asks, asked-4 (get_or w 0 0) (omega arith) (omega arith))) (omega arith) (omega arith) in
+    at_90 (Reached w (suc k)) TwoMoreOverlong TwoMore _ (interrupted w k AfterF0 r (lit< tt) there)
+    (λ c h. runs_on w k AfterF0 TwoMoreOverlong r c refl (λ all. let t = known all in omega arith))
+    (λ c l. runs_on w k AfterF0 TwoMore r c refl (λ all. let t = known all in (omega arith, record { below = omega arith; no_surrogate = λ g. omega arith })))
 next w k AfterF4 there r =
     let lead = r.leads in
-    let asks : asked_by w ≡ 4 = asked-4 _ (omega arith) (omega arith) in
-    let known = of_four w k (omega (arith, r.asks)) (omega arith) (omega arith) in
-    let low : get_or w k 0 < 0x90 → ContinueTo w (asked_by w) → IsGood w = λ h all. let t = known all in (omega arith, record { below = omega arith; no_surrogate = λ g. omega arith }) in
-    let high : 0x90 ≤ get_or w k 0 → ContinueTo w (asked_by w) → IsTooHigh w = λ l all. let t = known all in (omega arith, omega arith) in
-    by_continuation_byte (Reached w (suc k)) TwoMore TwoMoreTooHigh TwoMoreTooHigh _ (interrupted w k AfterF4 r (lit< tt) there)
-    (λ l h. runs_on w k AfterF4 TwoMore r (omega arith, omega arith) refl (low h))
-    (λ l h. runs_on w k AfterF4 TwoMoreTooHigh r (omega arith, omega arith) refl (high l))
-    (λ l h. runs_on w k AfterF4 TwoMoreTooHigh r (omega arith, omega arith) refl (high (omega arith)))
-next w k TwoMoreOverlong there r =
-    by_any (Reached w (suc k)) OneMoreOverlong _ (interrupted w k TwoMoreOverlong r (lit< tt) there)
-    (λ c. runs_on w k TwoMoreOverlong OneMoreOverlong r c refl r.leads)
-next w k OneMoreOverlong there r =
-    by_any (Reached w (suc k)) Overlong _ (interrupted w k OneMoreOverlong r (lit< tt) there)
-    (λ c. let e = ends w k OneMoreOverlong r c refl there in overlong w e (r.leads e.all))
-next w k OneMoreReserved there r =
-    by_any (Reached w (suc k)) Reserved _ (interrupted w k OneMoreReserved r (lit< tt) there)
-    (λ c. let e = ends w k OneMoreReserved r c refl there in reserved w e (r.leads e.all))
-next w k TwoMoreTooHigh there r =
-    by_any (Reached w (suc k)) OneMoreTooHigh _ (interrupted w k TwoMoreTooHigh r (lit< tt) there)
-    (λ c. runs_on w k TwoMoreTooHigh OneMoreTooHigh r c refl r.leads)
-next w k OneMoreTooHigh there r =
-    by_any (Reached w (suc k)) TooHigh _ (interrupted w k OneMoreTooHigh r (lit< tt) there)
-    (λ c. let e = ends w k OneMoreTooHigh r c refl there in too_high w e (r.leads e.all))
+    let known = of_four w k (omega (arith, r.asks, asked-4 (get_or w 0 0) (omega arith) (omega arith))) (omega arith) (omega arith) in
+    at_90 (Reached w (suc k)) TwoMore TwoMoreTooHigh _ (interrupted w k AfterF4 r (lit< tt) there)
+    (λ c h. runs_on w k AfterF4 TwoMore r c refl (λ all. let t = known all in (omega arith, record { below = omega arith; no_surrogate = λ g. omega arith })))
+    (λ c l. runs_on w k AfterF4 TwoMoreTooHigh r c refl (λ all. let t = known all in (omega arith, omega arith)))
+next w k TwoMoreOverlong there r = by_one_way w k TwoMoreOverlong OneMoreOverlong r (lit< tt) there (λ c. runs_on w k TwoMoreOverlong OneMoreOverlong r c refl r.leads)
+next w k OneMoreOverlong there r = by_one_way w k OneMoreOverlong Overlong r (lit< tt) there (λ c. let e = ends w k OneMoreOverlong r c refl there in overlong w e (r.leads e.all))
+next w k OneMoreReserved there r = by_one_way w k OneMoreReserved Reserved r (lit< tt) there (λ c. let e = ends w k OneMoreReserved r c refl there in reserved w e (r.leads e.all))
+next w k TwoMoreTooHigh there r = by_one_way w k TwoMoreTooHigh OneMoreTooHigh r (lit< tt) there (λ c. runs_on w k TwoMoreTooHigh OneMoreTooHigh r c refl r.leads)
+next w k OneMoreTooHigh there r = by_one_way w k OneMoreTooHigh TooHigh r (lit< tt) there (λ c. let e = ends w k OneMoreTooHigh r c refl there in too_high w e (r.leads e.all))
 next w k _ there r = r
 
 pub reached : (w : List ℕ) (k : ℕ) → k ≤ length w → Reached w k (state_after w k)
@@ -421,27 +404,22 @@ pub first-2 : (b : ℕ) → 0xC2 ≤ b → b < 0xE0 → next_state Start (class 
 unfolding class next_state
 first-2 b low high = grind (arith, common_steps)
 
+begun_asks : {b : ℕ} (state : State) → 0xE0 ≤ b → b < 0xF5 → Begins b state → 1 + missing state ≡ asked b
+begun_asks TwoMore low high h = sym (asked-3 _ low h.1)
+begun_asks AfterE0 low high h = sym (asked-3 _ low (omega arith))
+begun_asks AfterEd low high h = sym (asked-3 _ low (omega arith))
+begun_asks Never low high (inl h) = absurd (omega arith)
+begun_asks Never low high (inr h) = absurd (omega arith)
+begun_asks ThreeMore low high h = sym (asked-4 _ (omega arith) high)
+begun_asks AfterF0 low high h = sym (asked-4 _ (omega arith) high)
+begun_asks AfterF4 low high h = sym (asked-4 _ (omega arith) high)
+begun_asks _ low high h = absurd (omega arith)
+
 pub first-3 : (b : ℕ) → 0xE0 ≤ b → b < 0xF0 → missing (next_state Start (class b)) ≡ 2
-first-3 b low high = by_begins (next_state Start (class b)) low high (begins b)
-  where
-    by_begins : {b : ℕ} (state : State) → 0xE0 ≤ b → b < 0xF0 → Begins b state → missing state ≡ 2
-    by_begins TwoMore low high h = refl
-    by_begins AfterE0 low high h = refl
-    by_begins AfterEd low high h = refl
-    by_begins Never low high (inl h) = absurd (omega arith)
-    by_begins Never low high (inr h) = absurd (omega arith)
-    by_begins _ low high h = absurd (omega arith)
+first-3 b low high = let asks = begun_asks (next_state Start (class b)) low (omega arith) (begins b) in omega (arith, asked-3 b low high)
 
 pub first-4 : (b : ℕ) → 0xF0 ≤ b → b < 0xF5 → missing (next_state Start (class b)) ≡ 3
-first-4 b low high = by_begins (next_state Start (class b)) low high (begins b)
-  where
-    by_begins : {b : ℕ} (state : State) → 0xF0 ≤ b → b < 0xF5 → Begins b state → missing state ≡ 3
-    by_begins ThreeMore low high h = refl
-    by_begins AfterF0 low high h = refl
-    by_begins AfterF4 low high h = refl
-    by_begins Never low high (inl h) = absurd (omega arith)
-    by_begins Never low high (inr h) = absurd (omega arith)
-    by_begins _ low high h = absurd (omega arith)
+first-4 b low high = let asks = begun_asks (next_state Start (class b)) (omega arith) high (begins b) in omega (arith, asked-4 b low high)
 
 -- the other way round: a first byte that leads to none of the three ends asks for others
 pub asks_for_others : (b : ℕ) (state : State) → state ≡ next_state Start (class b) → (state ≡ Done → ⊥) → (state ≡ Unexpected → ⊥) → (state ≡ Never → ⊥) → (0xC2 ≤ b) × (b < 0xF5)

@@ -18,10 +18,6 @@ pub utf16-2 : (s : ℕ) → 0x1_0000 ≤ s → utf16 s ≡ (0xD800 + (s - 0x1_00
 unfolding utf16
 utf16-2 s h = grind (arith, common_steps)
 
-utf16-some : (s : ℕ) → IsScalar s → 0 < length (utf16 s)
-unfolding utf16
-utf16-some s h = grind (arith, common_steps)
-
 pub length_utf16 : (s : ℕ) → length (utf16 s) ≤ 2
 unfolding utf16
 length_utf16 s = grind (arith, common_steps)
@@ -36,19 +32,9 @@ utf16-first : (s : ℕ) → IsScalar s → (get_or (utf16 s) 0 0 < 0xDC00) ⊎ (
 unfolding utf16
 utf16-first s h = grind (arith, common_steps)
 
-utf16-apart : (s t k : ℕ) → IsScalar s → IsScalar t → 0 < k → k < length (utf16 s) → get_or (utf16 s) k 0 ≡ get_or (utf16 t) 0 0 → ⊥
-utf16-apart s t k h g p q e = grind (arith, common_steps, utf16-trailing_surrogate s k h p q, utf16-first t g)
-
-utf16-sized : (s t : ℕ) → IsScalar s → IsScalar t → get_or (utf16 s) 0 0 ≡ get_or (utf16 t) 0 0 → length (utf16 s) ≡ length (utf16 t)
-unfolding utf16
-utf16-sized s t h g e = grind (arith, common_steps)
-
-utf16-injective : (s t : ℕ) → IsScalar s → IsScalar t → utf16 s ≡ utf16 t → s ≡ t
-unfolding utf16
-utf16-injective s t h g e = grind (arith, common_steps)
-
 pub utf16_is_code : IsCode utf16
-utf16_is_code = record { some = utf16-some; apart = utf16-apart; sized = utf16-sized; injective = utf16-injective }
+unfolding utf16
+utf16_is_code = record { some = λ s h. grind (arith, common_steps); apart = λ s t k h g p q e. grind (arith, common_steps, utf16-trailing_surrogate s k h p q, utf16-first t g); sized = λ s t h g e. grind (arith, common_steps); injective = λ s t h g e. grind (arith, common_steps) }
 
 -- A unit that is no surrogate stands for itself.
 

@@ -20,10 +20,6 @@ pub utf8-4 : (s : ℕ) → 0x1_0000 ≤ s → utf8 s ≡ (0xF0 + s / 262144) ∷
 unfolding utf8
 utf8-4 s g = grind (arith, common_steps)
 
-utf8-some : (s : ℕ) → IsScalar s → 0 < length (utf8 s)
-unfolding utf8
-utf8-some s h = grind (arith, common_steps)
-
 pub length_utf8 : (s : ℕ) → length (utf8 s) ≤ 4
 unfolding utf8
 length_utf8 s = grind (arith, common_steps)
@@ -38,19 +34,9 @@ pub utf8-first : (s : ℕ) → IsScalar s → (get_or (utf8 s) 0 0 < 0x80) ⊎ (
 unfolding utf8
 utf8-first s h = grind (arith, common_steps)
 
-utf8-sized : (s t : ℕ) → IsScalar s → IsScalar t → get_or (utf8 s) 0 0 ≡ get_or (utf8 t) 0 0 → length (utf8 s) ≡ length (utf8 t)
-unfolding utf8
-utf8-sized s t h g e = grind (arith, common_steps)
-
-utf8-injective : (s t : ℕ) → IsScalar s → IsScalar t → utf8 s ≡ utf8 t → s ≡ t
-unfolding utf8
-utf8-injective s t h g e = grind (arith, common_steps)
-
-utf8-apart : (s t k : ℕ) → IsScalar s → IsScalar t → 0 < k → k < length (utf8 s) → get_or (utf8 s) k 0 ≡ get_or (utf8 t) 0 0 → ⊥
-utf8-apart s t k h g p q e = grind (arith, common_steps, utf8-continuation_byte s k h p q, utf8-first t g)
-
 pub utf8_is_code : IsCode utf8
-utf8_is_code = record { some = utf8-some; apart = utf8-apart; sized = utf8-sized; injective = utf8-injective }
+unfolding utf8
+utf8_is_code = record { some = λ s h. grind (arith, common_steps); apart = λ s t k h g p q e. grind (arith, common_steps, utf8-continuation_byte s k h p q, utf8-first t g); sized = λ s t h g e. grind (arith, common_steps); injective = λ s t h g e. grind (arith, common_steps) }
 
 pub ascii_is_scalar : (s : ℕ) → s < 0x80 → IsScalar s
 ascii_is_scalar s h = record { below = omega arith; no_surrogate = λ g. absurd (omega arith) }

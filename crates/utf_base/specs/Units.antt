@@ -53,14 +53,18 @@ is_padded_units u v = if is_leading_surrogate u then is_trailing_surrogate v els
 
 -- What is wrong with units that no code begins, or `None` where one does: the first case that applies.
 
-unfoldable pub slice_fault : List ℕ → Option Utf16SliceError
-slice_fault w =
-    if length w == 0 then Some slice.EmptySlice
-    else if is_trailing_surrogate (slice_index w 0) then Some slice.FirstIsTrailingSurrogate
+-- by the errors of no units, of one that comes first and may not, of one that stands alone and may not, and of a second
+abbrev pub units_fault : {E : Type 0} → E → E → E → E → List ℕ → Option E
+units_fault empty trailing alone unmatched w =
+    if length w == 0 then Some empty
+    else if is_trailing_surrogate (slice_index w 0) then Some trailing
     else if not (is_leading_surrogate (slice_index w 0)) then None
-    else if length w == 1 then Some slice.MissingSecond
-    else if not (is_trailing_surrogate (slice_index w 1)) then Some slice.SecondIsNotTrailingSurrogate
+    else if length w == 1 then Some alone
+    else if not (is_trailing_surrogate (slice_index w 1)) then Some unmatched
     else None
+
+unfoldable pub slice_fault : List ℕ → Option Utf16SliceError
+slice_fault = units_fault slice.EmptySlice slice.FirstIsTrailingSurrogate slice.MissingSecond slice.SecondIsNotTrailingSurrogate
 
 -- the same of two units, where the second may be idle
 unfoldable pub array_fault : ℕ → ℕ → Option Utf16ArrayError
@@ -83,13 +87,7 @@ tuple_fault u second = if is_trailing_surrogate u then Some tuple.FirstIsTrailin
 
 -- the forward kind of units, which a decoder of many answers
 unfoldable pub unit_fault_kind : List ℕ → Option Utf16PairError
-unit_fault_kind w =
-    if length w == 0 then Some pair.Incomplete
-    else if is_trailing_surrogate (slice_index w 0) then Some pair.UnexpectedTrailingSurrogate
-    else if not (is_leading_surrogate (slice_index w 0)) then None
-    else if length w == 1 then Some pair.Incomplete
-    else if not (is_trailing_surrogate (slice_index w 1)) then Some pair.UnmatchedLeadingSurrogate
-    else None
+unit_fault_kind = units_fault pair.Incomplete pair.UnexpectedTrailingSurrogate pair.Incomplete pair.UnmatchedLeadingSurrogate
 
 -- the backward kind of a surrogate that no code ends with: what is wrong with it by itself
 unfoldable pub unit_back_kind : ℕ → Utf16PairError

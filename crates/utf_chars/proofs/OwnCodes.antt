@@ -28,32 +28,25 @@ in_array : (code : ℕ → List ℕ) (places : ℕ) (xs : List ℕ) (s : ℕ) �
 unfolding padded
 in_array code places xs s h e = stands_first code xs (replicate (places - length (code s)) 0) s h e
 
--- what a view of a code tells
-pub record OwnView (xs : List ℕ) (s : ℕ) : Type 0 where
-  pub bounds : IsFrontLen 4 xs (length xs)
-  pub decodes : decoded xs ≡ Ok (s, length xs)
+-- what a list tells at whose front a code of n elements stands, where no code has more than m
+pub record OwnFront {E : Type 0} (decoder : List ℕ → Result (ℕ × ℕ) E) (m : ℕ) (xs : List ℕ) (s n : ℕ) : Type 0 where
+  pub bounds : IsFrontLen m xs n
+  pub decodes : decoder xs ≡ Ok (s, n)
 
-pub own_view : (xs : List ℕ) (s : ℕ) → IsScalar s → xs ≡ utf8 s → OwnView xs s
-own_view xs s h e =
-    let stands = alone utf8 xs s h e in
-    let len : length (utf8 s) ≡ length xs = ap length (sym e) in
-    record {
-      bounds = front_len_utf8 xs s (length xs) (stands, sym len);
-      decodes = decoded_code xs s stands ∙ ap (λ n. Ok (s, n)) len;
-    }
+pub own_front : (xs rest : List ℕ) (s n : ℕ) → IsScalar s → xs ≡ utf8 s ++ rest → n ≡ length (utf8 s) → OwnFront decoded 4 xs s n
+own_front xs rest s n h e l =
+    record { bounds = front_len_utf8 xs s n (stands_first utf8 xs rest s h e, l); decodes = decoded_code xs s (stands_first utf8 xs rest s h e) ∙ ap (λ k. Ok (s, k)) (sym l) }
 
-pub record OwnUnitView (xs : List ℕ) (s : ℕ) : Type 0 where
-  pub bounds : IsFrontLen 2 xs (length xs)
-  pub decodes : decoded_units xs ≡ Ok (s, length xs)
+-- a view of a code
+pub own_view : (xs : List ℕ) (s : ℕ) → IsScalar s → xs ≡ utf8 s → OwnFront decoded 4 xs s (length xs)
+own_view xs s h e = own_front xs [] s (length xs) h (e ∙ sym (append-nil (utf8 s))) (ap length e)
 
-pub own_unit_view : (xs : List ℕ) (s : ℕ) → IsScalar s → xs ≡ utf16 s → OwnUnitView xs s
-own_unit_view xs s h e =
-    let stands = alone utf16 xs s h e in
-    let len : length (utf16 s) ≡ length xs = ap length (sym e) in
-    record {
-      bounds = front_len_utf16 xs s (length xs) (stands, sym len);
-      decodes = decoded_units_code xs s stands ∙ ap (λ n. Ok (s, n)) len;
-    }
+pub own_unit_front : (xs rest : List ℕ) (s n : ℕ) → IsScalar s → xs ≡ utf16 s ++ rest → n ≡ length (utf16 s) → OwnFront decoded_units 2 xs s n
+own_unit_front xs rest s n h e l =
+    record { bounds = front_len_utf16 xs s n (stands_first utf16 xs rest s h e, l); decodes = decoded_units_code xs s (stands_first utf16 xs rest s h e) ∙ ap (λ k. Ok (s, k)) (sym l) }
+
+pub own_unit_view : (xs : List ℕ) (s : ℕ) → IsScalar s → xs ≡ utf16 s → OwnFront decoded_units 2 xs s (length xs)
+own_unit_view xs s h e = own_unit_front xs [] s (length xs) h (e ∙ sym (append-nil (utf16 s))) (ap length e)
 
 -- what an array tells that begins with a code of so many bytes
 pub record OwnArray (xs : List ℕ) (s n : ℕ) : Type 0 where
@@ -90,25 +83,6 @@ own_units xs s h e =
     let stands = in_array utf16 2 xs s h e in
     record { own = padded_cases xs s h e; decodes = decoded_two_code xs s stands; decodes_units = decoded_units_code xs s stands }
 
--- what a slice tells at whose front a code was written
-pub record OwnFront (xs : List ℕ) (s n : ℕ) : Type 0 where
-  pub bounds : IsFrontLen 4 xs n
-  pub decodes : decoded xs ≡ Ok (s, n)
-
-pub own_front : (xs rest : List ℕ) (s n : ℕ) → IsScalar s → xs ≡ utf8 s ++ rest → n ≡ length (utf8 s) → OwnFront xs s n
-own_front xs rest s n h e l =
-    let stands = stands_first utf8 xs rest s h e in
-    record { bounds = front_len_utf8 xs s n (stands, l); decodes = decoded_code xs s stands ∙ ap (λ k. Ok (s, k)) (sym l) }
-
-pub record OwnUnitFront (xs : List ℕ) (s n : ℕ) : Type 0 where
-  pub bounds : IsFrontLen 2 xs n
-  pub decodes : decoded_units xs ≡ Ok (s, n)
-
-pub own_unit_front : (xs rest : List ℕ) (s n : ℕ) → IsScalar s → xs ≡ utf16 s ++ rest → n ≡ length (utf16 s) → OwnUnitFront xs s n
-own_unit_front xs rest s n h e l =
-    let stands = stands_first utf16 xs rest s h e in
-    record { bounds = front_len_utf16 xs s n (stands, l); decodes = decoded_units_code xs s stands ∙ ap (λ k. Ok (s, k)) (sym l) }
-
 -- The code at the front of a list, or at its end, decodes to the same by itself.
 
 front_code : (code : ℕ → List ℕ) (xs : List ℕ) (s n : ℕ) → BeginsWith code xs s n → take n xs ≡ code s
@@ -117,14 +91,10 @@ front_code code xs s n h =
     ap (λ k. take k xs) span ∙ h.0.equal
 
 pub front_alone : (xs : List ℕ) (s n : ℕ) → BeginsWith utf8 xs s n → decoded (take n xs) ≡ Ok (s, n)
-front_alone xs s n h =
-    let front = front_code utf8 xs s n h in
-    (own_view (take n xs) s h.0.scalar front).decodes ∙ ap (λ k. Ok (s, k)) (ap length front ∙ sym h.1)
+front_alone xs s n h = let front = front_code utf8 xs s n h in rw (ap length front ∙ sym h.1) at (own_view (take n xs) s h.0.scalar front).decodes
 
 pub unit_front_alone : (xs : List ℕ) (s n : ℕ) → BeginsWith utf16 xs s n → decoded_units (take n xs) ≡ Ok (s, n)
-unit_front_alone xs s n h =
-    let front = front_code utf16 xs s n h in
-    (own_unit_view (take n xs) s h.0.scalar front).decodes ∙ ap (λ k. Ok (s, k)) (ap length front ∙ sym h.1)
+unit_front_alone xs s n h = let front = front_code utf16 xs s n h in rw (ap length front ∙ sym h.1) at (own_unit_view (take n xs) s h.0.scalar front).decodes
 
 end_code : (code : ℕ → List ℕ) (xs : List ℕ) (s n : ℕ) → EndsWith code xs s n → drop (length xs - n) xs ≡ code s
 end_code code xs s n h =
@@ -142,29 +112,24 @@ code_ends code xs s n h e len =
     (rw zero (alone code xs s h e), len)
 
 -- what the last n elements tell
-pub record OwnEnd (xs : List ℕ) (s n : ℕ) : Type 0 where
-  pub exact : decoded xs ≡ Ok (s, n)
-  pub exact_end : decoded_end xs ≡ Ok (s, n)
+pub record OwnEnd {E : Type 0} (decoder end_decoder : List ℕ → Result (ℕ × ℕ) E) (xs : List ℕ) (s n : ℕ) : Type 0 where
+  pub exact : decoder xs ≡ Ok (s, n)
+  pub exact_end : end_decoder xs ≡ Ok (s, n)
 
-pub end_alone : (xs : List ℕ) (s n : ℕ) → EndsWith utf8 xs s n → OwnEnd (drop (length xs - n) xs) s n
-end_alone xs s n h =
-    let end = end_code utf8 xs s n h in
+own_end : {E : Type 0} (code : ℕ → List ℕ) (decoder end_decoder : List ℕ → Result (ℕ × ℕ) E) → ((ys : List ℕ) (t : ℕ) → IsScalar t → ys ≡ code t → decoder ys ≡ Ok (t, length ys))
+    → ((ys : List ℕ) (t k : ℕ) → EndsWith code ys t k → end_decoder ys ≡ Ok (t, k)) → (xs : List ℕ) (s n : ℕ) → EndsWith code xs s n → OwnEnd decoder end_decoder (drop (length xs - n) xs) s n
+own_end code decoder end_decoder alone_decodes end_decodes xs s n h =
+    let end = end_code code xs s n h in
     record {
-      exact = (own_view _ s h.0.scalar end).decodes ∙ ap (λ k. Ok (s, k)) (ap length end ∙ sym h.1);
-      exact_end = decoded_end_code _ s n (code_ends utf8 _ s n h.0.scalar end h.1);
+      exact = alone_decodes _ s h.0.scalar end ∙ ap (λ k. Ok (s, k)) (ap length end ∙ sym h.1);
+      exact_end = end_decodes _ s n (code_ends code _ s n h.0.scalar end h.1);
     }
 
-pub record OwnUnitEnd (xs : List ℕ) (s n : ℕ) : Type 0 where
-  pub exact : decoded_units xs ≡ Ok (s, n)
-  pub exact_end : decoded_units_end xs ≡ Ok (s, n)
+pub end_alone : (xs : List ℕ) (s n : ℕ) → EndsWith utf8 xs s n → OwnEnd decoded decoded_end (drop (length xs - n) xs) s n
+end_alone = own_end utf8 decoded decoded_end (λ ys t h e. (own_view ys t h e).decodes) decoded_end_code
 
-pub unit_end_alone : (xs : List ℕ) (s n : ℕ) → EndsWith utf16 xs s n → OwnUnitEnd (drop (length xs - n) xs) s n
-unit_end_alone xs s n h =
-    let end = end_code utf16 xs s n h in
-    record {
-      exact = (own_unit_view _ s h.0.scalar end).decodes ∙ ap (λ k. Ok (s, k)) (ap length end ∙ sym h.1);
-      exact_end = decoded_units_end_code _ s n (code_ends utf16 _ s n h.0.scalar end h.1);
-    }
+pub unit_end_alone : (xs : List ℕ) (s n : ℕ) → EndsWith utf16 xs s n → OwnEnd decoded_units decoded_units_end (drop (length xs - n) xs) s n
+unit_end_alone = own_end utf16 decoded_units decoded_units_end (λ ys t h e. (own_unit_view ys t h e).decodes) decoded_units_end_code
 
 -- as the methods of `char` say it
 pub front_alone_of : (xs : List ℕ) (r : Result (ℕ × ℕ) Utf8ErrorKind) → DecodesFront as_scalar xs r → IfOk r (λ x. decoded (take x.1 xs) ≡ Ok (x.0, x.1))

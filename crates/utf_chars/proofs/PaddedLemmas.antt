@@ -53,6 +53,8 @@ pub padded_ascii : (s : ℕ) → s < 0x80 → s ∷ 0 ∷ 0 ∷ 0 ∷ [] ≡ pad
 unfolding padded
 padded_ascii s h = rw (utf8-1 s h) refl
 
+pub ruleset of_one_byte = (utf8-1)
+
 -- the first byte tells whether the scalar is below 128
 pub first_is_ascii : (bytes : List ℕ) (s : ℕ) → IsPadded utf8 4 value bytes → value bytes ≡ s → (get_or bytes 0 0 < 128 → s < 128) × (s < 128 → get_or bytes 0 0 < 128)
 first_is_ascii bytes s h e = (

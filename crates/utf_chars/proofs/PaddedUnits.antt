@@ -72,6 +72,8 @@ pub char_cases : (units : List ℕ) (s : ℕ) → IsPadded utf16 2 unit_value un
 char_cases units s h e = units_cases units s (rw e at h.scalar) (rw e at h.equal)
 
 -- the second unit tells whether there is a pair
+pub ruleset of_one_unit = (utf16-1)
+
 pub second_is_zero : (units : List ℕ) (s : ℕ) → IsPadded utf16 2 unit_value units → unit_value units ≡ s
     → (get_or units 1 0 ≡ 0 → s < 0x1_0000) × (s < 0x1_0000 → get_or units 1 0 ≡ 0)
 second_is_zero units s h e =

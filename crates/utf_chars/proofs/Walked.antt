@@ -1,8 +1,9 @@
 -- A walk of some bytes over the table of classes and states, step by step.
-use Rattle.std.proofs.Common.{◌≡◌, ℕ, suc, ◌<◌, ◌≤◌, List, length, get_or, arith, refl, ap, sym, ◌∙◌, Some, None, true}
+use Rattle.std.proofs.Common.{◌≡◌, ℕ, suc, ◌<◌, ◌≤◌, List, length, get_or, arith, refl, ap, sym, ◌∙◌, Some, None, true, ⊎_elim}
+use Rattle.std.proofs.lemmas.Bool.{cases_lt}
 use Rattle.std.proofs.lemmas.Grind.{common_steps}
 use Rattle.std.specs.Char.{IsScalar as IsStdScalar}
-use Rattle.utf_base.specs.declared.errors.Utf8ErrorKind.TheVariants.{InterruptedSequence}
+use Rattle.utf_base.specs.declared.errors.Utf8ErrorKind.TheVariants.{InterruptedSequence, TooFewBytes}
 use Rattle.utf_base.specs.declared.table.State.{State}
 use Rattle.utf_base.specs.declared.table.State.TheVariants.{Start, OneMore, Done, Interrupted}
 use Rattle.utf_base.specs.Code.{utf8}
@@ -10,6 +11,7 @@ use Rattle.utf_base.specs.Front.{BeginsWith}
 use Rattle.utf_base.specs.Kinds.{fault_kind, asked_by, value, is_continuation}
 use Rattle.utf_base.specs.Table.{class, fault_of, is_later_fault, is_running, missing, next_state, state_after}
 use Rattle.utf_base.proofs.FrontLemmas.{decodes_from_none, code_where_no_fault}
+use Rattle.utf_base.proofs.KindCases.{Asks-2, Asks-3, Asks-4, kind-few}
 use Rattle.utf_base.proofs.TableSteps.{asks_runs, fault_at_end, faults_later, first-2, first-3, first-4, last_ends, one_less}
 
 -- after k bytes the walk has come to the state, which asks for n more
@@ -40,25 +42,40 @@ Walk-4 w c first low high x =
 pub running : (w : List ℕ) (k n : ℕ) (state : State) → Walk w k state (suc n) → is_running state ≡ true
 running w k n state h = asks_runs state (omega (arith, h.asks))
 
+-- so it asks for a second byte, where it is one of three or four
+pub second_runs : (b : ℕ) → 0xE0 ≤ b → b < 0xF5 → is_running (next_state Start (class b)) ≡ true
+second_runs b low high =
+    ⊎_elim (λ (h : b < 0xF0). let two = first-3 b low h in asks_runs _ (omega arith)) (λ (h : 0xF0 ≤ b). let three = first-4 b h high in asks_runs _ (omega arith)) (cases_lt b 0xF0)
+
+-- where those are not there, they are too few
+pub few_of_two : (w : List ℕ) → 0 < length w → 0xC2 ≤ get_or w 0 0 → get_or w 0 0 < 0xE0 → length w < 2 → fault_kind w ≡ Some TooFewBytes
+few_of_two w some low high = kind-few w 2 (Asks-2 w some low high)
+
+pub few_of_three : (w : List ℕ) → 0 < length w → 0xE0 ≤ get_or w 0 0 → get_or w 0 0 < 0xF0 → length w < 3 → fault_kind w ≡ Some TooFewBytes
+few_of_three w some low high = kind-few w 3 (Asks-3 w some low high)
+
+pub few_of_four : (w : List ℕ) → 0 < length w → 0xF0 ≤ get_or w 0 0 → get_or w 0 0 < 0xF5 → length w < 4 → fault_kind w ≡ Some TooFewBytes
+few_of_four w some low high = kind-few w 4 (Asks-4 w some low high)
+
 -- the state after one more byte
-stepped : (w : List ℕ) (k c : ℕ) (state next : State) → state_after w k ≡ state → Next w k state c next → state_after w (suc k) ≡ next
-stepped w k c state next e x = rw (e, ← x.class) (sym x.step)
+pub walk_at : (w : List ℕ) (k n c : ℕ) (state next : State) → Walk w k state n → Next w k state c next → state_after w (suc k) ≡ next
+walk_at w k n c state next h x = rw (h.at, ← x.class) (sym x.step)
 
 pub walk_on : (w : List ℕ) (k n c : ℕ) (state next : State) → Walk w k state (suc n) → Next w k state c next → (next ≡ Interrupted → ⊥) → Walk w (suc k) next n
 walk_on w k n c state next h x on =
     let less = one_less state c (omega (arith, h.asks)) (λ e. on (x.step ∙ e)) in
     let same : missing next ≡ missing (next_state state c) = ap missing x.step in
-    record { at = stepped w k c state next h.at x; asks = omega (arith, h.asks) }
+    record { at = walk_at w k (suc n) c state next h x; asks = omega (arith, h.asks) }
 
 -- A byte that is asked for and does not continue, and the last one that is asked for.
 
-pub walk_breaks : (w : List ℕ) (k c : ℕ) (state next : State) → state_after w k ≡ state → Next w k state c next → k < length w → asked_by w ≤ length w → next ≡ Interrupted
+pub walk_breaks : (w : List ℕ) (k n c : ℕ) (state next : State) → Walk w k state n → Next w k state c next → k < length w → asked_by w ≤ length w → next ≡ Interrupted
     → fault_kind w ≡ Some InterruptedSequence
-walk_breaks w k c state next h x there enough e = fault_at_end w (suc k) Interrupted (omega arith) enough (stepped w k c state next h x ∙ e) refl
+walk_breaks w k n c state next h x there enough e = fault_at_end w (suc k) Interrupted (omega arith) enough (walk_at w k n c state next h x ∙ e) refl
 
 pub walk_ends : (w : List ℕ) (k c : ℕ) (state next : State) → Walk w k state 1 → Next w k state c next → k < length w → asked_by w ≤ length w → fault_kind w ≡ fault_of next
 walk_ends w k c state next h x there enough =
-    fault_at_end w (suc k) next (omega arith) enough (stepped w k c state next h.at x) (ap is_running x.step ∙ last_ends state c h.asks)
+    fault_at_end w (suc k) next (omega arith) enough (walk_at w k 1 c state next h x) (ap is_running x.step ∙ last_ends state c h.asks)
 
 -- where it does not complete a code, that end is a fault
 pub walk_fails : (w : List ℕ) (k c : ℕ) (state next : State) → Walk w k state 1 → next ≡ next_state state c → (next ≡ Done → ⊥) → is_later_fault next ≡ true

@@ -205,6 +205,7 @@ impl Utf16Char {
 impl Utf16Char {
     /// Whether the code is one unit: the scalar is below 0x10000.
     #[inline(always)]
+    #[tactic(auto, using(crate::proofs::PaddedUnits::second_is_zero, crate::proofs::PaddedUnits::of_one_unit))]
     pub fn is_bmp(self) -> bool
         ensures bmp { IsTrue result ↔ (self < 0x1_0000) }
         ensures value { result ≡ nat_lt self 0x1_0000 }
@@ -226,6 +227,7 @@ impl Utf16Char {
 
     /// Whether the scalar is below 128.
     #[inline(always)]
+    #[tactic(auto, using(crate::proofs::PaddedUnits::first_is_ascii, crate::proofs::PaddedUnits::of_one_unit))]
     pub fn is_ascii(self) -> bool
         ensures ascii { IsTrue result ↔ (self < 128) }
         ensures value { result ≡ nat_lt self 128 }
@@ -513,11 +515,7 @@ impl FromStr for Utf16Char {
     ghost from_str_gives = { Parses };
 
     fn from_str(s: &str) -> Result<Utf16Char, FromStrError> {
-        match Utf16Char::from_str_start(s) {
-            Err(EmptyStrError) => Err(FromStrError::Empty),
-            Ok((c, len)) if len == s.len() => Ok(c),
-            Ok(_) => Err(FromStrError::MultipleCodepoints),
-        }
+        Ok(Utf16Char::from(Utf8Char::from_str(s)?))
     }
 }
 

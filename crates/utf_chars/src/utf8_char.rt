@@ -249,6 +249,7 @@ impl Utf8Char {
 
     /// Whether the scalar is below 128.
     #[inline(always)]
+    #[tactic(auto, using(crate::proofs::PaddedLemmas::first_is_ascii, crate::proofs::PaddedLemmas::of_one_byte))]
     pub fn is_ascii(self) -> bool
         ensures ascii { IsTrue result ↔ (self < 128) }
         ensures value { result ≡ nat_lt self 128 }

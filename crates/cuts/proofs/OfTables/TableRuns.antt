@@ -14,7 +14,7 @@ use Rattle.utf_base.specs.Code.{utf8}
 use Rattle.utf_base.specs.Kinds.{fault_kind}
 use Rattle.utf_base.specs.LocalLaws.{SameAt}
 use Rattle.utf_base.specs.Piece.{Inside, Piece, IsPiece}
-use Rattle.utf_base.proofs.CutChanges.{piece_ends_outside, cut_before, cut_from_place, cut_from_before, cut_to_end, cut_stays, cut_moves, moved}
+use Rattle.utf_base.proofs.CutChanges.{IsParted, piece_ends_outside, cut_before, cut_from_place, cut_from_before, cut_to_end, cut_stays, cut_moves, moved}
 use Rattle.utf_base.proofs.Cuts.{cut_append, cut_unique, piece_begins, piece_some, pieces_never_overlap}
 use Rattle.utf_base.proofs.FrontLemmas.{utf8_finds}
 use Rattle.utf_base.proofs.LocalDamage.{utf8_damage_is_local}
@@ -64,31 +64,27 @@ pieces_moved a b (x ∷ items) = ap (λ ps. moved a b (piece_of x) ∷ ps) (piec
 
 -- Parts of a run, and what becomes of them in other bytes.
 
-run_before : (xs : List ℕ) (m k : ℕ) (items : List Item) → m ≤ length xs → IsForwardRun xs items → IsSplitAt items m k → IsForwardRunBetween xs 0 m (take k items)
-run_before xs m k items le run split =
+parted : (m k : ℕ) (items : List Item) → IsSplitAt items m k → IsParted m k (map piece_of items)
+parted m k items split =
     let len = length-map items piece_of in
     let within = split.within in
     record {
-      cut =
-          rw (← take-map piece_of k items)
-          (cut_before utf8 xs 0 m (length xs) k (map piece_of items) le (omega arith)
-          (pieces_within (λ x. x.start < m) items 0 k within split.before)
-          (rw len (pieces_within (λ x. m ≤ x.start) items k (length items) (omega arith) split.following)) run.cut);
-      kinds = All-take (HasKind fault_kind xs) k items run.kinds;
+      within = omega arith;
+      before = pieces_within (λ x. x.start < m) items 0 k within split.before;
+      following = rw len (pieces_within (λ x. m ≤ x.start) items k (length items) (omega arith) split.following);
     }
 
+run_before : (xs : List ℕ) (m k : ℕ) (items : List Item) → m ≤ length xs → IsForwardRun xs items → IsSplitAt items m k → IsForwardRunBetween xs 0 m (take k items)
+run_before xs m k items le run split = record {
+  cut = rw (← take-map piece_of k items) (cut_before utf8 xs 0 m (length xs) k (map piece_of items) le (parted m k items split) run.cut);
+  kinds = All-take (HasKind fault_kind xs) k items run.kinds;
+}
+
 run_from_place : (xs : List ℕ) (m k : ℕ) (items : List Item) → IsForwardRun xs items → IsSplitAt items m k → IsForwardRunBetween xs m (length xs) (drop k items)
-run_from_place xs m k items run split =
-    let len = length-map items piece_of in
-    let within = split.within in
-    record {
-      cut =
-          rw (← drop-map piece_of k items)
-          (cut_from_place utf8 xs 0 m (length xs) k (map piece_of items) (omega arith) (omega arith)
-          (pieces_within (λ x. x.start < m) items 0 k within split.before)
-          (rw len (pieces_within (λ x. m ≤ x.start) items k (length items) (omega arith) split.following)) run.cut);
-      kinds = All-drop (HasKind fault_kind xs) k items run.kinds;
-    }
+run_from_place xs m k items run split = record {
+  cut = rw (← drop-map piece_of k items) (cut_from_place utf8 xs 0 m (length xs) k (map piece_of items) (omega arith) (parted m k items split) run.cut);
+  kinds = All-drop (HasKind fault_kind xs) k items run.kinds;
+}
 
 -- a fault keeps its kind where what is left has the same
 kind_stays : (xs ys : List ℕ) (p q : ℕ) (r : Result ℕ Utf8ErrorKind) → fault_kind (drop p xs) ≡ fault_kind (drop q ys)

@@ -110,6 +110,7 @@ fn two_or_unexpected(first: u8, second: u8) -> Result<(Utf8Char, usize), Utf8Err
 
 // The same of three bytes.
 #[inline(always)]
+#[tactic(auto, using(utf_chars::proofs::Walked::second_runs))]
 fn three_or_unexpected(first: u8, second: u8, third: u8) -> Result<(Utf8Char, usize), Utf8Error>
     ensures { IsWholeOrUnexpected (first ∷ second ∷ third ∷ []) result }
 {
@@ -130,6 +131,7 @@ fn three_or_unexpected(first: u8, second: u8, third: u8) -> Result<(Utf8Char, us
 
 // The same of four.
 #[inline(always)]
+#[tactic(auto, using(utf_chars::proofs::Walked::second_runs))]
 fn four_or_unexpected(bytes: [u8; 4]) -> Result<(Utf8Char, usize), Utf8Error>
     ensures { IsWholeOrUnexpected bytes result }
 {

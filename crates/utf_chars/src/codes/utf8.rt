@@ -179,6 +179,7 @@ fn decode_asked(src: &[u8]) -> Result<(char, usize), Utf8Error>
 
 // The character that begins the bytes, where the first asks for two: its class is known, and so is the state after it.
 #[inline(always)]
+#[tactic(auto, using(crate::proofs::Walked::few_of_two))]
 fn decode_two(src: &[u8]) -> Result<(char, usize), Utf8Error>
     requires some { 0 < length src.now }
     requires low { 0xC2 ≤ slice_index src.now 0 }
@@ -199,6 +200,7 @@ fn decode_two(src: &[u8]) -> Result<(char, usize), Utf8Error>
 // The character that begins the bytes, where the first asks for three. The state after the last says whether they
 // are a code, so no value is judged.
 #[inline(always)]
+#[tactic(auto, using(crate::proofs::Walked::few_of_three, crate::proofs::Walked::second_runs))]
 fn decode_three(src: &[u8]) -> Result<(char, usize), Utf8Error>
     requires some { 0 < length src.now }
     requires low { 0xE0 ≤ slice_index src.now 0 }
@@ -223,6 +225,7 @@ fn decode_three(src: &[u8]) -> Result<(char, usize), Utf8Error>
 
 // The character that begins the bytes, where the first asks for four: the same, with one step more.
 #[inline(always)]
+#[tactic(auto, using(crate::proofs::Walked::few_of_four, crate::proofs::Walked::second_runs))]
 fn decode_four(src: &[u8]) -> Result<(char, usize), Utf8Error>
     requires some { 0 < length src.now }
     requires low { 0xF0 ≤ slice_index src.now 0 }

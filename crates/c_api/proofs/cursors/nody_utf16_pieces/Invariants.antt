@@ -1,14 +1,10 @@
-use Rattle.std.proofs.Common.{◌≡◌, ◌-◌, ◌≤◌, length, take, drop}
-use Rattle.c_api.specs.Api.{GivesEach, first_of_units}
+use Rattle.std.proofs.Common.{◌-◌, length}
+use Rattle.c_api.specs.Api.{first_of_units}
+use Rattle.c_api.proofs.Each.{Filled}
 use Rattle.c_api.proofs.cursors.nody_utf16_pieces.Given as goal
 
 abbrev pub invariant-loop-count : goal.invariant-loop-count
-invariant-loop-count l = record {
-  within : l.count ≤ length l.fn.room;
-  len : length l.room ≡ length l.fn.room;
-  each : GivesEach first_of_units l.fn.left.units.now (take l.count l.room) l.left.units.now;
-  rest : drop l.count l.room ≡ drop l.count l.fn.room;
-}
+invariant-loop-count l = Filled first_of_units l.fn.left.units.now l.left.units.now l.fn.room l.room l.count
 
 abbrev pub decreases-loop-count : goal.decreases-loop-count
 decreases-loop-count l = length l.fn.room - l.count

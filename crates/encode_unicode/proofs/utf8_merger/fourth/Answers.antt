@@ -5,7 +5,7 @@ use Rattle.utf_base.specs.declared.table.State.TheVariants.{Done}
 use Rattle.utf_base.proofs.MergerLemmas.{few-3}
 use Rattle.utf_base.proofs.TableSteps.{asks_runs, faults_later, last_ends}
 use Rattle.encode_unicode.proofs.ByteMerging.{asks_four, code_after, end_after, fault_after, held_two, held_three, four_padded}
-use Rattle.encode_unicode.proofs.TableWalks.{code_after_walk, kind_of_end, stepped}
+use Rattle.encode_unicode.proofs.TableWalks.{code_after_walk, kind_of_end, runs_at, stepped}
 use Rattle.encode_unicode.proofs.utf8_merger.fourth.Goals as goal
 
 pub returns-in-None : goal.returns-in-None
@@ -18,8 +18,7 @@ step-requires-clause-running g c = asks_runs _ (omega (arith, c.requires.asks))
 
 pub returns-in-Done : goal.returns-in-Done
 returns-in-Done g c =
-    let same = ap is_running c.requires.walked in
-    let runs = sym same ∙ asks_runs c.args.state (omega (arith, c.requires.asks)) in
+    let runs = runs_at (c.args.first ∷ c.args.second ∷ c.args.third ∷ []) 3 _ c.requires.walked (omega (arith, c.requires.asks)) in
     let at : state_after (c.args.first ∷ c.args.second ∷ c.args.third ∷ c.in-Some.byte ∷ []) 4 ≡ Done = sym (stepped (c.args.first ∷ c.args.second ∷ c.args.third ∷ c.in-Some.byte ∷ []) 3 _ _ _ c.step.ensures c.class_of.ensures.class c.requires.walked) ∙ c.in-Done.is in
     let code = code_after_walk (c.args.first ∷ c.args.second ∷ c.args.third ∷ c.in-Some.byte ∷ []) 3 refl (lit< tt) runs at in
     rw c.new-in-Done.ensures (code_after _ _ _ c.args.first (c.args.second ∷ c.args.third ∷ []) c.in-Some.byte (value (c.args.first ∷ c.args.second ∷ c.args.third ∷ c.in-Some.byte ∷ [])) _ _ _ _ _ c.in-Some.ensures code.0 code.1 (four_padded c.args.first c.args.second c.args.third c.in-Some.byte _ code.1) c.requires.none c.requires.going)

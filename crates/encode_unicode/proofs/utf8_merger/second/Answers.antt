@@ -1,8 +1,9 @@
-use Rattle.std.proofs.Common.{◌≡◌, ℕ, ◌≤◌, List, [], ◌∷◌, lit<, ap, sym, ◌∙◌, arith, refl, rules}
+use Rattle.std.proofs.Common.{◌≡◌, ℕ, ◌+◌, ◌<◌, ◌≤◌, [], ◌∷◌, lit<, ap, sym, ◌∙◌, arith, refl, rules, true}
 use denote.Enum.Bare.{same_true, same_false}
 use Rattle.utf_base.specs.contracts.table.State.{the_type}
-use Rattle.utf_base.specs.Kinds.{asked}
-use Rattle.utf_base.specs.Table.{missing}
+use Rattle.utf_base.specs.Kinds.{asked, is_continuation}
+use Rattle.utf_base.specs.Table.{class, missing, next_state, state_after}
+use Rattle.utf_base.specs.declared.table.State.{State}
 use Rattle.utf_base.specs.declared.table.State.TheVariants.{Interrupted}
 use Rattle.utf_base.proofs.MergerLemmas.{few-1}
 use Rattle.utf_base.proofs.TableSteps.{asks_runs, first-3, first-4}
@@ -25,47 +26,33 @@ returns-then-eq g c =
     let at = sym (stepped (c.args.first ∷ c.in-Some.byte ∷ []) 1 _ _ _ c.step-next.ensures c.class_of.ensures.class c.requires.walked) ∙ broken in
     rw c.new-then-eq.ensures (fault_after _ _ _ c.args.first ([]) c.in-Some.byte _ _ _ _ _ c.in-Some.ensures (λ later. kind_of_end (c.args.first ∷ c.in-Some.byte ∷ later) 2 _ _ (omega arith) at refl refl) (held_one c.in-Some.byte) c.one.ensures.held c.one.ensures.going)
 
+-- a second byte that continues, where so many more are asked for
+record Second (first byte : ℕ) (next : State) (n : ℕ) : Type 0 where
+  walked : next ≡ state_after (first ∷ byte ∷ []) 2
+  asks : missing next ≡ n
+  continuation : is_continuation byte ≡ true
+
+second_of : (first byte n c : ℕ) (state next : State) → state ≡ state_after (first ∷ []) 1 → missing state ≡ 1 + n → 0 < n → next ≡ next_state state c → c ≡ class byte → (next ≡ Interrupted → ⊥)
+    → Second first byte next n
+second_of first byte n c state next at more some step class on =
+    let walked = stepped (first ∷ byte ∷ []) 1 c state next step class at in
+    let fewer = less state next c (omega arith) step on in
+    record { walked = walked; asks = omega arith; continuation = before (first ∷ byte ∷ []) 2 1 next walked (lit< tt) (omega arith) (lit< tt) (lit< tt) }
+
 pub third_of_three-requires : goal.third_of_three-requires
 third_of_three-requires g c =
-    let bytes : List ℕ = c.args.first ∷ c.in-Some.byte ∷ [] in
-    let walked = stepped bytes 1 _ _ _ c.step-next.ensures c.class_of.ensures.class c.requires.walked in
-    let on = same_false the_type _ Interrupted (sym c.eq.ensures ∙ c.if-eq.false) in
-    let more : missing c.args.state ≡ 2 = ap missing c.requires.walked ∙ first-3 c.args.first c.requires.low c.if-first-lt240.true in
-    let fewer = less c.args.state c.step-next.result c.class_of.result (omega arith) c.step-next.ensures on in
-    let asks : missing c.step-next.result ≡ 1 = omega arith in
-    record {
-      low = c.requires.low;
-      high = c.if-first-lt240.true;
-      walked = walked;
-      asks = asks;
-      continuation = before bytes 2 1 c.step-next.result walked (omega arith) (omega arith) (lit< tt) (lit< tt);
-      can = c.in-Some.ensures.can refl;
-      none = c.requires.none;
-      going = c.requires.going;
-    }
+    let more = ap missing c.requires.walked ∙ first-3 c.args.first c.requires.low c.if-first-lt240.true in
+    let s = second_of c.args.first c.in-Some.byte 1 _ _ _ c.requires.walked more (lit< tt) c.step-next.ensures c.class_of.ensures.class (same_false the_type _ Interrupted (sym c.eq.ensures ∙ c.if-eq.false)) in
+    record { low = c.requires.low; high = c.if-first-lt240.true; walked = s.walked; asks = s.asks; continuation = s.continuation; can = c.in-Some.ensures.can refl; none = c.requires.none; going = c.requires.going }
 
 pub returns-then-first-lt240 : goal.returns-then-first-lt240
 returns-then-first-lt240 g c s so_far = c.third_of_three.ensures s (reads_more _ _ _ _ _ _ _ _ _ _ _ so_far c.in-Some.ensures)
 
 pub third_of_four-requires : goal.third_of_four-requires
 third_of_four-requires g c =
-    let bytes : List ℕ = c.args.first ∷ c.in-Some.byte ∷ [] in
-    let walked = stepped bytes 1 _ _ _ c.step-next.ensures c.class_of.ensures.class c.requires.walked in
-    let low : 0xF0 ≤ c.args.first = c.if-first-lt240.false in
-    let on = same_false the_type _ Interrupted (sym c.eq.ensures ∙ c.if-eq.false) in
-    let more : missing c.args.state ≡ 3 = ap missing c.requires.walked ∙ first-4 c.args.first low c.requires.high in
-    let fewer = less c.args.state c.step-next.result c.class_of.result (omega arith) c.step-next.ensures on in
-    let asks : missing c.step-next.result ≡ 2 = omega arith in
-    record {
-      low = low;
-      high = c.requires.high;
-      walked = walked;
-      asks = asks;
-      continuation = before bytes 2 1 c.step-next.result walked (omega arith) (omega arith) (lit< tt) (lit< tt);
-      can = c.in-Some.ensures.can refl;
-      none = c.requires.none;
-      going = c.requires.going;
-    }
+    let more = ap missing c.requires.walked ∙ first-4 c.args.first c.if-first-lt240.false c.requires.high in
+    let s = second_of c.args.first c.in-Some.byte 2 _ _ _ c.requires.walked more (lit< tt) c.step-next.ensures c.class_of.ensures.class (same_false the_type _ Interrupted (sym c.eq.ensures ∙ c.if-eq.false)) in
+    record { low = c.if-first-lt240.false; high = c.requires.high; walked = s.walked; asks = s.asks; continuation = s.continuation; can = c.in-Some.ensures.can refl; none = c.requires.none; going = c.requires.going }
 
 pub returns-else-first-lt240 : goal.returns-else-first-lt240
 returns-else-first-lt240 g c s so_far = c.third_of_four.ensures s (reads_more _ _ _ _ _ _ _ _ _ _ _ so_far c.in-Some.ensures)

@@ -1,12 +1,9 @@
-use Rattle.std.proofs.Common.{◌≡◌, ◌++◌, ◌∙◌, List, [], true, false, ap, sym}
+use Rattle.std.proofs.Common.{◌++◌, ◌∙◌, ap, sym}
 use Rattle.encode_unicode.specs.Code.{utf8}
 use Rattle.uses.proofs.merged.split_char.Goals as goal
-
-never : {A : Type 0} {xs : List A} → false ≡ true → xs ≡ []
-never e = cc
 
 pub returns-in-Some-Ok : goal.returns-in-Some-Ok
 returns-in-Some-Ok g c rest listed =
     let call = rw (c.to_utf8chars-merger.ensures, c.in-Some-Ok.field-0-is) at c.in-Some-Ok.ensures.steps in
-    let left = c.into_inner.ensures.whole rest (call.spent rest listed never) call.none_held in
+    let left = c.into_inner.ensures.whole rest (call.spent rest listed (λ e. cc)) call.none_held in
     (call.takes rest listed).1 ∙ ap (λ xs. utf8 c.in-Some-Ok.c ++ xs) (sym left)

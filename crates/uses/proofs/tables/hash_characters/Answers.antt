@@ -1,18 +1,9 @@
 use Rattle.std.proofs.Common.{arith}
-use Rattle.uses.proofs.TableLemmas.{count_few, counts_push, read_more, read_all}
+use Rattle.uses.proofs.TableLemmas.{one_fits, one_counted}
 use Rattle.uses.proofs.tables.hash_characters.Goals as goal
 
 pub hash_one-requires : goal.hash_one-requires
-hash_one-requires c =
-    let few = count_few c.loop-c.yielded _ c.in-Some.c c.loop-c.invariant.counted in
-    let more = (read_more _ _ _ _ _ c.loop-c.invariant.read c.in-Some.ensures.steps).0 in
-    omega arith
+hash_one-requires c = one_fits _ _ _ _ _ _ _ c.loop-c.invariant c.in-Some.ensures.steps (omega arith)
 
 pub loop-c-preserved : goal.loop-c-preserved
-loop-c-preserved c = record {
-  counted = counts_push c.loop-c.yielded _ _ _ c.loop-c.invariant.counted c.in_ok-hash_one.ensures;
-  read = (read_more _ _ _ _ _ c.loop-c.invariant.read c.in-Some.ensures.steps).1;
-}
-
-pub returns : goal.returns
-returns c = rw (← read_all _ _ _ _ c.loop-c.invariant.read c.in-None.ensures.steps) c.loop-c.invariant.counted
+loop-c-preserved c = one_counted _ _ _ _ _ _ _ c.loop-c.invariant c.in-Some.ensures.steps c.in_ok-hash_one.ensures

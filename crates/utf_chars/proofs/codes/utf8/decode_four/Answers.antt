@@ -5,7 +5,6 @@ use Rattle.utf_base.specs.declared.table.State.TheVariants.{Done}
 use Rattle.utf_base.specs.Kinds.{fault_kind}
 use Rattle.utf_base.specs.Table.{fault_of}
 use Rattle.utf_base.proofs.FrontLemmas.{asked-4, value-4}
-use Rattle.utf_base.proofs.KindCases.{Asks-4, kind-few}
 use Rattle.utf_chars.proofs.Walked.{Walk, Walk-4, continues_in_code, running, std_scalar, walk_breaks, walk_ends, walk_fails, walk_finds, walk_on}
 use Rattle.utf_chars.proofs.codes.utf8.decode_four.Goals.{After-step-first, Else-eq, Else-eq-2, Else-ne}
 use Rattle.utf_chars.proofs.codes.utf8.decode_four.Goals as goal
@@ -16,38 +15,22 @@ first : (c : After-step-first) → Walk c.args.src.now 1 c.step-first.result 3
 first c = Walk-4 c.args.src.now _ _ c.requires.low c.requires.high (record { class = c.class_of.ensures.class; step = c.step-first.ensures })
 
 second : (c : Else-eq) → Walk c.args.src.now 2 c.step-second.result 2
-second c =
-    let first = Walk-4 c.args.src.now _ _ c.requires.low c.requires.high (record { class = c.class_of.ensures.class; step = c.step-first.ensures }) in
-    walk_on _ 1 2 _ _ _ first (record { class = c.class_of-2.ensures.class; step = c.step-second.ensures }) (same_false the_type _ _ (sym c.eq.ensures ∙ c.if-eq.false))
+second c = walk_on _ 1 2 _ _ _ (Walk-4 c.args.src.now _ _ c.requires.low c.requires.high (record { class = c.class_of.ensures.class; step = c.step-first.ensures })) (record { class = c.class_of-2.ensures.class; step = c.step-second.ensures }) (same_false the_type _ _ (sym c.eq.ensures ∙ c.if-eq.false))
 
 third : (c : Else-eq-2) → Walk c.args.src.now 3 c.step-third.result 1
 third c =
-    let first = Walk-4 c.args.src.now _ _ c.requires.low c.requires.high (record { class = c.class_of.ensures.class; step = c.step-first.ensures }) in
-    let second = walk_on _ 1 2 _ _ _ first (record { class = c.class_of-2.ensures.class; step = c.step-second.ensures }) (same_false the_type _ _ (sym c.eq.ensures ∙ c.if-eq.false)) in
+    let second = walk_on _ 1 2 _ _ _ (Walk-4 c.args.src.now _ _ c.requires.low c.requires.high (record { class = c.class_of.ensures.class; step = c.step-first.ensures })) (record { class = c.class_of-2.ensures.class; step = c.step-second.ensures }) (same_false the_type _ _ (sym c.eq.ensures ∙ c.if-eq.false)) in
     walk_on _ 2 1 _ _ _ second (record { class = c.class_of-3.ensures.class; step = c.step-third.ensures }) (same_false the_type _ _ (sym c.eq-2.ensures ∙ c.if-eq-2.false))
 
 none : (c : Else-ne) → fault_kind c.args.src.now ≡ None
 none c =
     let asks = asked-4 _ c.requires.low c.requires.high in
-    let first = Walk-4 c.args.src.now _ _ c.requires.low c.requires.high (record { class = c.class_of.ensures.class; step = c.step-first.ensures }) in
-    let second = walk_on _ 1 2 _ _ _ first (record { class = c.class_of-2.ensures.class; step = c.step-second.ensures }) (same_false the_type _ _ (sym c.eq.ensures ∙ c.if-eq.false)) in
+    let second = walk_on _ 1 2 _ _ _ (Walk-4 c.args.src.now _ _ c.requires.low c.requires.high (record { class = c.class_of.ensures.class; step = c.step-first.ensures })) (record { class = c.class_of-2.ensures.class; step = c.step-second.ensures }) (same_false the_type _ _ (sym c.eq.ensures ∙ c.if-eq.false)) in
     let third = walk_on _ 2 1 _ _ _ second (record { class = c.class_of-3.ensures.class; step = c.step-third.ensures }) (same_false the_type _ _ (sym c.eq-2.ensures ∙ c.if-eq-2.false)) in
-    let done = differs_false the_type (search rules) c.step-fourth.result Done (sym c.ne.ensures ∙ c.if-ne.false) in
-    walk_ends _ 3 _ _ _ third (record { class = c.class_of-4.ensures.class; step = c.step-fourth.ensures }) (omega arith) (omega arith) ∙ ap fault_of done
-
-pub returns-then-src-lt4 : goal.returns-then-src-lt4
-returns-then-src-lt4 c =
-    let asks = Asks-4 _ c.requires.some c.requires.low c.requires.high in
-    rw c.new.ensures (kind-few _ 4 asks c.if-src-lt4.true)
-
-pub step-second-requires-clause-running : goal.step-second-requires-clause-running
-step-second-requires-clause-running c = running _ 1 2 _ (first (goal.at.step-second-requires-clause-running c).After-step-first)
+    walk_ends _ 3 _ _ _ third (record { class = c.class_of-4.ensures.class; step = c.step-fourth.ensures }) (omega arith) (omega arith) ∙ ap fault_of (differs_false the_type (search rules) c.step-fourth.result Done (sym c.ne.ensures ∙ c.if-ne.false))
 
 pub returns-then-eq : goal.returns-then-eq
-returns-then-eq c =
-    let asks = asked-4 _ c.requires.low c.requires.high in
-    let broken = same_true the_type (search rules) _ _ (sym c.eq.ensures ∙ c.if-eq.true) in
-    rw c.new-then-eq.ensures (walk_breaks _ 1 _ _ _ (first (goal.at.returns-then-eq c).After-step-first).at (record { class = c.class_of-2.ensures.class; step = c.step-second.ensures }) (omega arith) (omega arith) broken)
+returns-then-eq c = rw c.new-then-eq.ensures (walk_breaks _ 1 3 _ _ _ (first (goal.at.returns-then-eq c).After-step-first) (record { class = c.class_of-2.ensures.class; step = c.step-second.ensures }) (omega arith) (omega (arith, asked-4 _ c.requires.low c.requires.high)) (same_true the_type (search rules) _ _ (sym c.eq.ensures ∙ c.if-eq.true)))
 
 pub step-third-requires-clause-running : goal.step-third-requires-clause-running
 step-third-requires-clause-running c = running _ 2 1 _ (second (goal.at.step-third-requires-clause-running c).Else-eq)
@@ -55,8 +38,7 @@ step-third-requires-clause-running c = running _ 2 1 _ (second (goal.at.step-thi
 pub returns-then-eq-2 : goal.returns-then-eq-2
 returns-then-eq-2 c =
     let asks = asked-4 _ c.requires.low c.requires.high in
-    let broken = same_true the_type (search rules) _ _ (sym c.eq-2.ensures ∙ c.if-eq-2.true) in
-    rw c.new-then-eq-2.ensures (walk_breaks _ 2 _ _ _ (second (goal.at.returns-then-eq-2 c).Else-eq).at (record { class = c.class_of-3.ensures.class; step = c.step-third.ensures }) (omega arith) (omega arith) broken)
+    rw c.new-then-eq-2.ensures (walk_breaks _ 2 2 _ _ _ (second (goal.at.returns-then-eq-2 c).Else-eq) (record { class = c.class_of-3.ensures.class; step = c.step-third.ensures }) (omega arith) (omega arith) (same_true the_type (search rules) _ _ (sym c.eq-2.ensures ∙ c.if-eq-2.true)))
 
 pub step-fourth-requires-clause-running : goal.step-fourth-requires-clause-running
 step-fourth-requires-clause-running c = running _ 3 0 _ (third (goal.at.step-fourth-requires-clause-running c).Else-eq-2)

@@ -5,7 +5,6 @@ use Rattle.utf_base.specs.declared.table.State.TheVariants.{Done}
 use Rattle.utf_base.specs.Kinds.{fault_kind}
 use Rattle.utf_base.specs.Table.{fault_of}
 use Rattle.utf_base.proofs.FrontLemmas.{asked-3, value-3}
-use Rattle.utf_base.proofs.KindCases.{Asks-3, kind-few}
 use Rattle.utf_chars.proofs.Walked.{Walk, Walk-3, continues_in_code, running, std_scalar, walk_breaks, walk_ends, walk_fails, walk_finds, walk_on}
 use Rattle.utf_chars.proofs.codes.utf8.decode_three.Goals.{After-step-first, Else-eq, Else-ne}
 use Rattle.utf_chars.proofs.codes.utf8.decode_three.Goals as goal
@@ -16,31 +15,16 @@ first : (c : After-step-first) → Walk c.args.src.now 1 c.step-first.result 2
 first c = Walk-3 c.args.src.now _ _ c.requires.low c.requires.high (record { class = c.class_of.ensures.class; step = c.step-first.ensures })
 
 second : (c : Else-eq) → Walk c.args.src.now 2 c.step-second.result 1
-second c =
-    let first = Walk-3 c.args.src.now _ _ c.requires.low c.requires.high (record { class = c.class_of.ensures.class; step = c.step-first.ensures }) in
-    walk_on _ 1 1 _ _ _ first (record { class = c.class_of-2.ensures.class; step = c.step-second.ensures }) (same_false the_type _ _ (sym c.eq.ensures ∙ c.if-eq.false))
+second c = walk_on _ 1 1 _ _ _ (Walk-3 c.args.src.now _ _ c.requires.low c.requires.high (record { class = c.class_of.ensures.class; step = c.step-first.ensures })) (record { class = c.class_of-2.ensures.class; step = c.step-second.ensures }) (same_false the_type _ _ (sym c.eq.ensures ∙ c.if-eq.false))
 
 none : (c : Else-ne) → fault_kind c.args.src.now ≡ None
 none c =
     let asks = asked-3 _ c.requires.low c.requires.high in
-    let first = Walk-3 c.args.src.now _ _ c.requires.low c.requires.high (record { class = c.class_of.ensures.class; step = c.step-first.ensures }) in
-    let second = walk_on _ 1 1 _ _ _ first (record { class = c.class_of-2.ensures.class; step = c.step-second.ensures }) (same_false the_type _ _ (sym c.eq.ensures ∙ c.if-eq.false)) in
-    let done = differs_false the_type (search rules) c.step-third.result Done (sym c.ne.ensures ∙ c.if-ne.false) in
-    walk_ends _ 2 _ _ _ second (record { class = c.class_of-3.ensures.class; step = c.step-third.ensures }) (omega arith) (omega arith) ∙ ap fault_of done
-
-pub returns-then-src-lt3 : goal.returns-then-src-lt3
-returns-then-src-lt3 c =
-    let asks = Asks-3 _ c.requires.some c.requires.low c.requires.high in
-    rw c.new.ensures (kind-few _ 3 asks c.if-src-lt3.true)
-
-pub step-second-requires-clause-running : goal.step-second-requires-clause-running
-step-second-requires-clause-running c = running _ 1 1 _ (first (goal.at.step-second-requires-clause-running c).After-step-first)
+    let second = walk_on _ 1 1 _ _ _ (Walk-3 c.args.src.now _ _ c.requires.low c.requires.high (record { class = c.class_of.ensures.class; step = c.step-first.ensures })) (record { class = c.class_of-2.ensures.class; step = c.step-second.ensures }) (same_false the_type _ _ (sym c.eq.ensures ∙ c.if-eq.false)) in
+    walk_ends _ 2 _ _ _ second (record { class = c.class_of-3.ensures.class; step = c.step-third.ensures }) (omega arith) (omega arith) ∙ ap fault_of (differs_false the_type (search rules) c.step-third.result Done (sym c.ne.ensures ∙ c.if-ne.false))
 
 pub returns-then-eq : goal.returns-then-eq
-returns-then-eq c =
-    let asks = asked-3 _ c.requires.low c.requires.high in
-    let broken = same_true the_type (search rules) _ _ (sym c.eq.ensures ∙ c.if-eq.true) in
-    rw c.new-then-eq.ensures (walk_breaks _ 1 _ _ _ (first (goal.at.returns-then-eq c).After-step-first).at (record { class = c.class_of-2.ensures.class; step = c.step-second.ensures }) (omega arith) (omega arith) broken)
+returns-then-eq c = rw c.new-then-eq.ensures (walk_breaks _ 1 2 _ _ _ (first (goal.at.returns-then-eq c).After-step-first) (record { class = c.class_of-2.ensures.class; step = c.step-second.ensures }) (omega arith) (omega (arith, asked-3 _ c.requires.low c.requires.high)) (same_true the_type (search rules) _ _ (sym c.eq.ensures ∙ c.if-eq.true)))
 
 pub step-third-requires-clause-running : goal.step-third-requires-clause-running
 step-third-requires-clause-running c = running _ 2 0 _ (second (goal.at.step-third-requires-clause-running c).Else-eq)

@@ -5,15 +5,9 @@ use Rattle.utf_base.specs.declared.table.State.TheVariants.{Done}
 use Rattle.utf_base.specs.Kinds.{fault_kind}
 use Rattle.utf_base.specs.Table.{fault_of}
 use Rattle.utf_base.proofs.FrontLemmas.{asked-2, value-2}
-use Rattle.utf_base.proofs.KindCases.{Asks-2, kind-few}
 use Rattle.utf_base.proofs.TableSteps.{one_more_breaks}
 use Rattle.utf_chars.proofs.Walked.{Walk-2, continues_in_code, std_scalar, walk_breaks, walk_ends, walk_finds}
 use Rattle.utf_chars.proofs.codes.utf8.decode_two.Goals as goal
-
-pub returns-then-src-lt2 : goal.returns-then-src-lt2
-returns-then-src-lt2 c =
-    let asks = Asks-2 _ c.requires.some c.requires.low c.requires.high in
-    rw c.new.ensures (kind-few _ 2 asks c.if-src-lt2.true)
 
 pub returns-then-ne : goal.returns-then-ne
 returns-then-ne c =
@@ -21,7 +15,7 @@ returns-then-ne c =
     let first = Walk-2 c.args.src.now c.requires.low c.requires.high in
     let other = differs_true the_type c.step-second.result Done (sym c.ne.ensures ∙ c.if-ne.true) in
     let broken = c.step-second.ensures ∙ one_more_breaks _ (λ e. other (c.step-second.ensures ∙ e)) in
-    rw c.new-then-ne.ensures (walk_breaks _ 1 _ _ _ first.at (record { class = c.class_of.ensures.class; step = c.step-second.ensures }) (omega arith) (omega arith) broken)
+    rw c.new-then-ne.ensures (walk_breaks _ 1 1 _ _ _ first (record { class = c.class_of.ensures.class; step = c.step-second.ensures }) (omega arith) (omega arith) broken)
 
 pub value_of_two-value-requires-clause-second : goal.value_of_two-value-requires-clause-second
 value_of_two-value-requires-clause-second c =
