@@ -1,0 +1,62 @@
+-- The table of the bytes that a mask keeps of four slots, computed at each mask; and what keeping them makes of a vector.
+use Rattle.std.proofs.Common.{◌≡◌, ℕ, ◌+◌, ◌*◌, ◌<◌, ◌≤◌, Bool, true, false, cond, ◌&&◌, eqb, ltb, leb, List, [], ◌∷◌, ◌++◌, map, length, get_or, take, count_ones, refl, sym, ap, ap₂, ◌∙◌, w8, ltb-true, leb-true}
+use Rattle.std.proofs.lemmas.Bool.{and_parts}
+use Rattle.std.proofs.lemmas.Simd.{swz_l}
+use Rattle.std.proofs.lemmas.List.{take-map, map-append}
+use Rattle.std.specs.Int.{bit_at}
+use lib.Count.{ones, ones_in}
+use Rattle.cuts.proofs.OfRecoding.PairTables.{each_below, at_each}
+use Rattle.cuts.proofs.OfRecoding.Joined.{joined_map, joined_same}
+use Rattle.cuts.proofs.OfRecoding.KeptPairs.{same, same_is, at_places}
+use Rattle.cuts.specs.Recoding.GivenUnits.{joined}
+use Rattle.cuts.specs.Recoding.UnitCodes.{marked, slot_places, slot_bytes}
+use Rattle.cuts.specs.declared.recoding.kept_slots.TheConstants.{KEPT_SLOTS}
+
+-- the places that the mask keeps, by the first four numbers
+abbrev kept_of : ℕ → List ℕ
+kept_of m = slot_places m 0 ++ (slot_places m 1 ++ (slot_places m 2 ++ (slot_places m 3 ++ [])))
+
+abbrev is_right : ℕ → List ℕ → Bool
+is_right m row = leb (count_ones m) 8 && (each_below (λ k. ltb (get_or row k 0) 16) 16 && same (take (4 + count_ones m) row) (kept_of m))
+
+all_right : each_below (λ m. is_right m (get_or KEPT_SLOTS m [])) 256 ≡ true
+unfolding ones ones_in
+all_right = refl
+
+right_at : (m : ℕ) → m < 256 → is_right m (get_or KEPT_SLOTS m []) ≡ true
+right_at m lt = at_each (λ n. is_right n (get_or KEPT_SLOTS n [])) 256 all_right m lt
+
+pub slots_few : (m : ℕ) → m < 256 → count_ones m ≤ 8
+slots_few m lt = leb-true (count_ones m) 8 (and_parts (leb (count_ones m) 8) _ (right_at m lt)).0
+
+pub slots_within : (m : ℕ) → m < 256 → (k : ℕ) → k < 16 → get_or (get_or KEPT_SLOTS m []) k 0 < 16
+slots_within m lt k in_row =
+    let row = get_or KEPT_SLOTS m [] in
+    let p = and_parts (each_below (λ i. ltb (get_or row i 0) 16) 16) _ (and_parts (leb (count_ones m) 8) _ (right_at m lt)).1 in
+    ltb-true _ 16 (at_each (λ i. ltb (get_or row i 0) 16) 16 p.0 k in_row)
+
+pub slots_are : (m : ℕ) → m < 256 → take (4 + count_ones m) (get_or KEPT_SLOTS m []) ≡ joined (slot_places m) 0 4
+unfolding joined
+slots_are m lt =
+    let row = get_or KEPT_SLOTS m [] in
+    let p = and_parts (each_below (λ i. ltb (get_or row i 0) 16) 16) _ (and_parts (leb (count_ones m) 8) _ (right_at m lt)).1 in
+    same_is (take (4 + count_ones m) row) (kept_of m) p.1
+
+-- The vector at those places.
+
+slot_of_places : (m : ℕ) (v : List ℕ) (i : ℕ) → map (λ j. get_or v j 0) (slot_places m i) ≡ slot_bytes m v i
+slot_of_places m v i = either (eqb (bit_at m (2 * i)) 1) (eqb (bit_at m (2 * i + 1)) 1)
+  where
+    either : (s t : Bool) → map (λ j. get_or v j 0) (cond s ((4 * i) ∷ []) [] ++ (cond t ((4 * i + 2) ∷ []) [] ++ ((4 * i + 1) ∷ [])))
+        ≡ cond s (get_or v (4 * i) 0 ∷ []) [] ++ (cond t (get_or v (4 * i + 2) 0 ∷ []) [] ++ (get_or v (4 * i + 1) 0 ∷ []))
+    either true true = refl
+    either true false = refl
+    either false true = refl
+    either false false = refl
+
+pub slots_kept : (m : ℕ) (v js : List ℕ) → length js ≡ 16 → ((k : ℕ) → k < 16 → get_or js k 0 < 16) → take (4 + count_ones m) js ≡ joined (slot_places m) 0 4
+    → take (4 + count_ones m) (swz_l w8 16 v 0 js) ≡ joined (slot_bytes m v) 0 4
+slots_kept m v js long below places =
+    let h = λ (j : ℕ). get_or v j 0 in
+    ap (take (4 + count_ones m)) (at_places v js long below) ∙ take-map h (4 + count_ones m) js ∙ ap (map h) places
+    ∙ joined_map h (slot_places m) 0 4 ∙ joined_same (λ i. map h (slot_places m i)) (slot_bytes m v) 0 4 (λ i ge lt. slot_of_places m v i)
