@@ -1,14 +1,14 @@
 -- Sixteen units judged by two masks, and the bytes of their lanes.
-use Rattle.std.proofs.Common.{◌≡◌, ℕ, zero, suc, ◌+◌, ◌-◌, ◌*◌, ◌/◌, ◌%◌, ◌<◌, ◌≤◌, Bool, true, false, cond, eqb, List, [], ◌∷◌, ◌++◌, length, get_or, take, arith, refl, sym, ap, ap₂, ◌∙◌, inl, inr, append_assoc, length-append}
+use Rattle.std.proofs.Common.{◌≡◌, ℕ, zero, suc, ◌+◌, ◌-◌, ◌*◌, ◌/◌, ◌%◌, ◌<◌, ◌≤◌, Bool, true, false, cond, eqb, List, [], ◌∷◌, ◌++◌, length, get_or, take, arith, refl, sym, ap, ◌∙◌, inl, inr, append_assoc, length-append}
 use Rattle.std.proofs.lemmas.Bool.{cases_lt}
 use Rattle.std.proofs.lemmas.Grind.{common_steps}
 use Rattle.std.proofs.lemmas.List.{take_at}
 use Rattle.std.specs.Int.{bit_at}
 use Rattle.utf_base.specs.Units.{is_leading_surrogate, is_trailing_surrogate, is_surrogate}
 use Rattle.cuts.specs.Recoding.GivenUnits.{joined}
-use Rattle.cuts.specs.Recoding.UnitCodes.{lane_unit, unit_code, code_at, AreText, slot, slot_at, first_byte, middle_byte, last_byte, lead_byte, second_byte, third_byte, first_in_text, middle_in_text, last_in_text}
+use Rattle.cuts.specs.Recoding.UnitCodes.{lane_unit, unit_code, code_at, AreText, slot, slot_at, first_byte, middle_byte, last_byte, lead_byte, second_byte, first_in_text, middle_in_text, last_in_text}
 use Rattle.cuts.proofs.OfRecoding.Joined.{joined_add, joined_same, joined_moved, joined_1}
-use Rattle.cuts.proofs.OfRecoding.NarrowedUnits.{not_both, not_true, ascii_code, leading_code}
+use Rattle.cuts.proofs.OfRecoding.NarrowedUnits.{not_both, ascii_code, leading_code}
 use Rattle.cuts.proofs.OfRecoding.UnitSlots.{below_16, leading_is, surrogate_is}
 
 -- Masks.

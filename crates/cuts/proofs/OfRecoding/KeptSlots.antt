@@ -1,15 +1,15 @@
 -- The table of the bytes that a mask keeps of four slots, computed at each mask; and what keeping them makes of a vector.
-use Rattle.std.proofs.Common.{◌≡◌, ℕ, ◌+◌, ◌*◌, ◌<◌, ◌≤◌, Bool, true, false, cond, ◌&&◌, eqb, ltb, leb, List, [], ◌∷◌, ◌++◌, map, length, get_or, take, count_ones, refl, sym, ap, ap₂, ◌∙◌, w8, ltb-true, leb-true}
+use Rattle.std.proofs.Common.{◌≡◌, ℕ, ◌+◌, ◌*◌, ◌<◌, ◌≤◌, Bool, true, false, cond, ◌&&◌, eqb, ltb, leb, List, [], ◌∷◌, ◌++◌, map, length, get_or, take, count_ones, refl, ap, ◌∙◌, w8, ltb-true, leb-true}
 use Rattle.std.proofs.lemmas.Bool.{and_parts}
 use Rattle.std.proofs.lemmas.Simd.{swz_l}
-use Rattle.std.proofs.lemmas.List.{take-map, map-append}
+use Rattle.std.proofs.lemmas.List.{take-map}
 use Rattle.std.specs.Int.{bit_at}
 use lib.Count.{ones, ones_in}
 use Rattle.cuts.proofs.OfRecoding.PairTables.{each_below, at_each}
 use Rattle.cuts.proofs.OfRecoding.Joined.{joined_map, joined_same}
 use Rattle.cuts.proofs.OfRecoding.KeptPairs.{same, same_is, at_places}
 use Rattle.cuts.specs.Recoding.GivenUnits.{joined}
-use Rattle.cuts.specs.Recoding.UnitCodes.{marked, slot_places, slot_bytes}
+use Rattle.cuts.specs.Recoding.UnitCodes.{slot_places, slot_bytes}
 use Rattle.cuts.specs.declared.recoding.kept_slots.TheConstants.{KEPT_SLOTS}
 
 -- the places that the mask keeps, by the first four numbers

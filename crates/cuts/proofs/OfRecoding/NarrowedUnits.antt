@@ -1,9 +1,8 @@
 -- Units of text, and what their bytes show.
-use Rattle.std.proofs.Common.{◌≡◌, ℕ, zero, suc, ◌+◌, ◌-◌, ◌*◌, ◌/◌, ◌%◌, ◌<◌, ◌≤◌, Bool, true, false, cond, ltb, ◌⊎◌, List, [], ◌∷◌, ◌++◌, length, get_or, take, drop, flat_map, arith, refl, sym, ap, ap₂, ◌∙◌, inl, inr, append_assoc, length-take, subst, w8, Fits}
+use Rattle.std.proofs.Common.{◌≡◌, ℕ, zero, suc, ◌+◌, ◌-◌, ◌*◌, ◌/◌, ◌%◌, ◌<◌, ◌≤◌, Bool, true, false, ◌⊎◌, List, [], ◌∷◌, ◌++◌, length, get_or, take, drop, flat_map, arith, refl, sym, ap, ap₂, ◌∙◌, inl, inr, append_assoc, length-take, subst, w8, Fits}
 use Rattle.std.proofs.lemmas.Bool.{cases_lt}
 use Rattle.std.proofs.lemmas.Grind.{common_steps}
 use Rattle.utf_base.specs.Code.{utf8, utf16}
-use Rattle.utf_base.specs.Scalar.{IsScalar}
 use Rattle.utf_base.specs.Shown.{Shows}
 use Rattle.utf_base.specs.Units.{is_leading_surrogate, is_trailing_surrogate, is_surrogate, pair_value}
 use Rattle.utf_base.proofs.Rests.{whole_code_shows_first}
@@ -14,7 +13,7 @@ use Rattle.cuts.specs.declared.recoding.form.Form.TheVariants.{Utf8, Utf16Le, Ut
 use Rattle.cuts.specs.Recoding.Recoded.{Reads, ShowsUnits, unit_of, units_of, odd_end, Grows}
 use Rattle.cuts.specs.Recoding.ShownFronts.{ShowsEach}
 use Rattle.cuts.specs.Recoding.GivenUnits.{IsUnits, joined}
-use Rattle.cuts.specs.Recoding.UnitCodes.{unit_code, code_at, AreText, kept, slot, first_byte, middle_byte, last_byte, lead_byte, second_byte, third_byte, first_in_text, middle_in_text, last_in_text}
+use Rattle.cuts.specs.Recoding.UnitCodes.{unit_code, code_at, AreText, slot, first_byte, middle_byte, last_byte, lead_byte, second_byte, third_byte}
 use Rattle.cuts.proofs.OfRecoding.Blocks.{units_append, odd_append}
 use Rattle.cuts.proofs.OfRecoding.Growing.{Grows-each}
 

@@ -1,13 +1,13 @@
 -- Slots of bytes in two and in three vectors, and which of their bytes are kept.
-use Rattle.std.proofs.Common.{◌≡◌, ℕ, ◌+◌, ◌*◌, ◌/◌, ◌%◌, ◌^◌, ◌<◌, ◌≤◌, Bool, true, false, cond, eqb, leb, ltb, List, [], ◌∷◌, ◌++◌, map, length, get_or, replicate, bit_and, refl, sym, ap, ap₂, ◌∙◌, arith, lit<, w8}
+use Rattle.std.proofs.Common.{◌≡◌, ℕ, ◌+◌, ◌*◌, ◌/◌, ◌^◌, ◌<◌, Bool, true, false, cond, eqb, leb, ltb, List, [], ◌∷◌, ◌++◌, map, length, get_or, replicate, bit_and, refl, sym, ap, ap₂, ◌∙◌, arith, lit<, w8}
 use Rattle.std.proofs.lemmas.Grind.{common_steps}
 use Rattle.std.proofs.lemmas.List.{get_or-map, length-map}
 use Rattle.std.proofs.lemmas.Simd.{bitmask_splat, bit_mask_l, mask_l-lt, zip2_splat, zip2_splat_left}
 use Rattle.std.specs.Int.{bit_at}
-use lib.Lanes.{zip2, mask_l, top}
+use lib.Lanes.{zip2, mask_l}
 use Rattle.cuts.specs.Recoding.GivenUnits.{joined}
 use Rattle.cuts.specs.Recoding.UnitCodes.{kept, slot, slot_at, pair_slot_at, marked, slot_bytes}
-use Rattle.cuts.proofs.OfRecoding.BlockUnits.{low_bit, high_bit, first_pairs_at, last_pairs_at}
+use Rattle.cuts.proofs.OfRecoding.BlockUnits.{low_bit, high_bit}
 use Rattle.cuts.proofs.OfRecoding.Joined.{joined_add, joined_moved, joined_same}
 use Rattle.cuts.proofs.OfRecoding.LaneLemmas.{high_mask}
 

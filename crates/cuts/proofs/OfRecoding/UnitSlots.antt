@@ -1,5 +1,5 @@
 -- The lanes of sixteen units, and the bytes of UTF-8 that they give.
-use Rattle.std.proofs.Common.{◌≡◌, ℕ, ◌+◌, ◌*◌, ◌/◌, ◌%◌, ◌^◌, ◌<◌, ◌≤◌, Bool, true, false, not, cond, eqb, leb, ltb, List, map, length, get_or, replicate, bit_and, bit_or, refl, sym, ap, ap₂, ◌∙◌, arith, lit<, w8, ◌-◌, [], ◌∷◌, ◌++◌, inl, inr, subst}
+use Rattle.std.proofs.Common.{◌≡◌, ℕ, ◌+◌, ◌*◌, ◌/◌, ◌%◌, ◌^◌, ◌<◌, ◌≤◌, Bool, true, false, not, cond, eqb, ltb, List, map, length, get_or, replicate, bit_and, bit_or, refl, sym, ap, ap₂, ◌∙◌, arith, lit<, w8, ◌-◌, [], ◌∷◌, ◌++◌, inl, inr, subst}
 use Rattle.std.proofs.lemmas.Bool.{cases_lt}
 use Rattle.std.proofs.lemmas.Grind.{common_steps}
 use Rattle.std.proofs.lemmas.List.{get_or-map, length-map, get_or-take, get_or_append_left, get_or-append_right}
@@ -10,7 +10,7 @@ use Rattle.std.specs.Int.{bit_at}
 use lib.Lanes.{zip2, sel_l, mask_l, top, chunk}
 use Rattle.utf_base.specs.Units.{is_leading_surrogate, is_surrogate}
 use Rattle.cuts.specs.Recoding.Recoded.{unit_of}
-use Rattle.cuts.specs.Recoding.UnitCodes.{lane_unit, first_byte, middle_byte, last_byte, lead_byte, second_byte, third_byte, first_in_text, middle_in_text, last_in_text}
+use Rattle.cuts.specs.Recoding.UnitCodes.{lane_unit, first_byte, middle_byte, last_byte, lead_byte, second_byte, third_byte}
 use Rattle.cuts.proofs.OfRecoding.BlockUnits.{below_8}
 use Rattle.cuts.proofs.OfRecoding.ChosenLanes.{wide_with}
 use Rattle.cuts.proofs.OfRecoding.LaneLemmas.{IsBlock, wide, lane, lane_with, lane_fits, differ_mask, none_differs}

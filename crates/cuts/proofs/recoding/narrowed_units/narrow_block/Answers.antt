@@ -1,4 +1,4 @@
-use Rattle.std.proofs.Common.{◌<◌, arith, ◌*◌}
+use Rattle.std.proofs.Common.{arith}
 use Rattle.cuts.proofs.OfRecoding.NarrowedUnits.{Grows-units}
 use Rattle.cuts.proofs.recoding.narrowed_units.narrow_block.Goals as goal
 
