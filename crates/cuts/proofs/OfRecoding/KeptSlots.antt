@@ -1,10 +1,11 @@
 -- The table of the bytes that a mask keeps of four slots, computed at each mask; and what keeping them makes of a vector.
-use Rattle.std.proofs.Common.{◌≡◌, ℕ, ◌+◌, ◌*◌, ◌<◌, ◌≤◌, Bool, true, false, cond, ◌&&◌, eqb, ltb, leb, List, [], ◌∷◌, ◌++◌, map, length, get_or, take, count_ones, refl, ap, ◌∙◌, w8, ltb-true, leb-true}
+use Rattle.std.proofs.Common.{sym, drop, arith, append_assoc, length-append, length-take, take-append-drop, ◌≡◌, ℕ, ◌+◌, ◌*◌, ◌<◌, ◌≤◌, Bool, true, false, cond, ◌&&◌, eqb, ltb, leb, List, [], ◌∷◌, ◌++◌, map, length, get_or, take, count_ones, refl, ap, ◌∙◌, w8, ltb-true, leb-true}
 use Rattle.std.proofs.lemmas.Bool.{and_parts}
-use Rattle.std.proofs.lemmas.Simd.{swz_l}
-use Rattle.std.proofs.lemmas.List.{take-map}
+use Rattle.std.proofs.lemmas.Simd.{swz_l, take_more_put_chunk}
+use Rattle.std.proofs.lemmas.List.{take-map, take-take, take_at}
 use Rattle.std.specs.Int.{bit_at}
 use lib.Count.{ones, ones_in}
+use lib.Lanes.{put_chunk}
 use Rattle.cuts.proofs.OfRecoding.PairTables.{each_below, at_each}
 use Rattle.cuts.proofs.OfRecoding.Joined.{joined_map, joined_same}
 use Rattle.cuts.proofs.OfRecoding.KeptPairs.{same, same_is, at_places}
@@ -60,3 +61,20 @@ slots_kept m v js long below places =
     let h = λ (j : ℕ). get_or v j 0 in
     ap (take (4 + count_ones m)) (at_places v js long below) ∙ take-map h (4 + count_ones m) js ∙ ap (map h) places
     ∙ joined_map h (slot_places m) 0 4 ∙ joined_same (λ i. map h (slot_places m i)) (slot_bytes m v) 0 4 (λ i ge lt. slot_of_places m v i)
+
+-- Bytes stored from a place on, of which the first n count.
+pub part_stored : (xs ys : List ℕ) (i n : ℕ) → n ≤ length ys → i + length ys ≤ length xs → take (i + n) (put_chunk i xs ys) ≡ take i xs ++ take n ys
+part_stored xs ys i n few room =
+    let front : length (take i xs ++ take n ys) ≡ i + n = omega (arith, length-append (take i xs) (take n ys), length-take i xs, length-take n ys) in
+    let parts : take i xs ++ ys ≡ (take i xs ++ take n ys) ++ drop n ys
+    = ap (λ zs. take i xs ++ zs) (sym (take-append-drop n ys)) ∙ sym (append_assoc (take i xs) (take n ys) (drop n ys)) in
+    sym (take-take (i + n) (i + length ys) (put_chunk i xs ys) (omega arith))
+    ∙ ap (take (i + n)) (take_more_put_chunk i xs ys (i + length ys) refl room ∙ parts)
+    ∙ take_at (take i xs ++ take n ys) (drop n ys) (i + n) front
+
+-- A list that grew, was written to and was cut: of the room at its end what was added stays.
+pub written_back : (old nuls grown room more new added : List ℕ) (start len end : ℕ) → grown ≡ old ++ nuls → start ≡ length old → length room ≡ len
+    → take end room ≡ take start grown ++ added → new ≡ take end (take len (room ++ more)) → new ≡ old ++ added
+written_back old nuls grown room more new added start len end e f long written cut =
+    let front : take start grown ≡ old = ap (take start) e ∙ take_at old nuls start (sym f) in
+    cut ∙ ap (take end) (take_at room more len long) ∙ written ∙ ap (λ xs. xs ++ added) front

@@ -126,7 +126,7 @@ fn put_block<A: Allocator>(
 
 // Appends the units of half a block: all sixteen bytes, and then those that are none of theirs go.
 #[inline(always)]
-pub(crate) fn put_half<A: Allocator>(units: UnitBytes, out: &mut Vec<u8, A>)
+fn put_half<A: Allocator>(units: UnitBytes, out: &mut Vec<u8, A>)
     requires few { units.len ≤ 16 }
     requires room { vec_len out.old + 16 ≤ vec_capacity out.old }
     ensures items { out.new.items ≡ out.old.items ++ take units.len units.bytes }

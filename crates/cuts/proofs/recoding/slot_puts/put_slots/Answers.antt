@@ -1,16 +1,10 @@
-use Rattle.cuts.proofs.OfRecoding.BlockUnits.{first_pairs, last_pairs, first_pairs_at, last_pairs_at}
-use Rattle.cuts.proofs.OfRecoding.SlotLanes.{sixteen_slots}
-use Rattle.cuts.proofs.OfRecoding.TextUnits.{two_halves}
+use Rattle.std.proofs.Common.{ap, sym, length, ◌∙◌}
+use Rattle.cuts.proofs.OfRecoding.KeptSlots.{written_back}
 use Rattle.cuts.proofs.recoding.slot_puts.put_slots.Goals as goal
 
 pub returns-clause-items : goal.returns-clause-items
 returns-clause-items g c =
-    let first = c.args.slots.first in
-    let middle = c.args.slots.middle in
-    let last = c.args.slots.last in
-    let p = c.requires.first in
-    let q = c.requires.middle in
-    let r = c.requires.last in
-    two_halves _ _ _ _ _ _ c.put_eight.ensures.items c.put_eight-2.ensures.items
-    (sixteen_slots first middle last (first_pairs first middle p q) (last_pairs first middle p q) (first_pairs last last r r) (last_pairs last last r r)
-    (first_pairs_at first middle p q) (last_pairs_at first middle p q) (first_pairs_at last last r r) (last_pairs_at last last r r))
+    let value = c.as_mut_slice.ensures.value in
+    let written = c.write_slots-end.ensures in
+    written_back _ _ _ _ _ _ _ c.len-start.result _ _ (value ∙ c.put_nuls.ensures.items) (c.len-start.ensures ∙ c.args.out.now.ok.0)
+    (written.len ∙ ap length value ∙ sym c.put_nuls.new.out.ok.0) written.bytes c.truncate.ensures.items
