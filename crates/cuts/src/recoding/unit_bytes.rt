@@ -30,10 +30,8 @@ pub(crate) fn are_ascii(low: u8x16, high: u8x16) -> bool
 pub(crate) fn are_characters(high: u8x16) -> bool
     ensures { IsTrue result → (k : ℕ) → k < 16 → nat_eq (slice_index high k / 8) 0x1B ≡ false }
 {
-    (high >> u8x16::splat(3))
-        .simd_eq(u8x16::splat(0x1b))
-        .to_bitmask()
-        == 0
+    let eighths = high >> u8x16::splat(3);
+    eighths.simd_eq(u8x16::splat(0x1b)).to_bitmask() == 0
 }
 
 // Which units have these six bits at the top, each as a bit.
