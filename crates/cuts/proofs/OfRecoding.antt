@@ -26,3 +26,8 @@ pub mod Joined
 pub mod KeptPairs
 pub mod TextUnits
 pub mod UnitLanes
+pub mod JudgedUnits
+pub mod KeptSlots
+pub mod NarrowedUnits
+pub mod SlotLanes
+pub mod UnitSlots

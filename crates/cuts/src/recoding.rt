@@ -4,6 +4,8 @@
 pub(crate) mod code_puts;
 pub mod form;
 pub(crate) mod kept_pairs;
+pub(crate) mod kept_slots;
+pub(crate) mod narrowed_units;
 pub mod recoder;
 pub(crate) mod recoder_rooms;
 pub(crate) mod recoder_runs;
@@ -13,7 +15,9 @@ pub(crate) mod room_runs;
 pub mod rooms;
 pub mod shards;
 pub(crate) mod shown_fronts;
+pub(crate) mod slot_puts;
 pub(crate) mod text_blocks;
 pub mod text_front;
 pub(crate) mod text_units;
+pub(crate) mod unit_bytes;
 pub(crate) mod unit_puts;

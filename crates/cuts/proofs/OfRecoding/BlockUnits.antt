@@ -14,7 +14,7 @@ use Rattle.cuts.proofs.OfRecoding.LaneLemmas.{IsBlock}
 use Rattle.cuts.proofs.OfRecoding.ChosenLanes.{where_below, where_below_len, where_below_at}
 
 -- one fact at each number below 8
-below_8 : (P : ℕ → Type 0) → P 0 → P 1 → P 2 → P 3 → P 4 → P 5 → P 6 → P 7 → (k : ℕ) → k < 8 → P k
+pub below_8 : (P : ℕ → Type 0) → P 0 → P 1 → P 2 → P 3 → P 4 → P 5 → P 6 → P 7 → (k : ℕ) → k < 8 → P k
 below_8 P a b c d e f g h zero lt = a
 below_8 P a b c d e f g h (suc zero) lt = b
 below_8 P a b c d e f g h (suc (suc zero)) lt = c
@@ -27,12 +27,12 @@ below_8 P a b c d e f g h (suc (suc (suc (suc (suc (suc (suc (suc k)))))))) lt =
 
 -- Bytes of two vectors, one beside the other.
 module _ (xs ys : List ℕ) (p : length xs ≡ 16) (q : length ys ≡ 16) where
-  abbrev first_pairs : List ℕ
+  abbrev pub first_pairs : List ℕ
   first_pairs =
       get_or (xs ++ ys) 0 0 ∷ get_or (xs ++ ys) 16 0 ∷ get_or (xs ++ ys) 1 0 ∷ get_or (xs ++ ys) 17 0 ∷ get_or (xs ++ ys) 2 0 ∷ get_or (xs ++ ys) 18 0 ∷ get_or (xs ++ ys) 3 0 ∷ get_or (xs ++ ys) 19 0
       ∷ get_or (xs ++ ys) 4 0 ∷ get_or (xs ++ ys) 20 0 ∷ get_or (xs ++ ys) 5 0 ∷ get_or (xs ++ ys) 21 0 ∷ get_or (xs ++ ys) 6 0 ∷ get_or (xs ++ ys) 22 0 ∷ get_or (xs ++ ys) 7 0 ∷ get_or (xs ++ ys) 23 0 ∷ []
 
-  abbrev last_pairs : List ℕ
+  abbrev pub last_pairs : List ℕ
   last_pairs =
       get_or (xs ++ ys) 8 0 ∷ get_or (xs ++ ys) 24 0 ∷ get_or (xs ++ ys) 9 0 ∷ get_or (xs ++ ys) 25 0 ∷ get_or (xs ++ ys) 10 0 ∷ get_or (xs ++ ys) 26 0 ∷ get_or (xs ++ ys) 11 0 ∷ get_or (xs ++ ys) 27 0
       ∷ get_or (xs ++ ys) 12 0 ∷ get_or (xs ++ ys) 28 0 ∷ get_or (xs ++ ys) 13 0 ∷ get_or (xs ++ ys) 29 0 ∷ get_or (xs ++ ys) 14 0 ∷ get_or (xs ++ ys) 30 0 ∷ get_or (xs ++ ys) 15 0 ∷ get_or (xs ++ ys) 31 0 ∷ []
@@ -56,10 +56,10 @@ module _ (xs ys : List ℕ) (p : length xs ≡ 16) (q : length ys ≡ 16) where
 
 -- Bits of both halves of a mask.
 
-low_bit : (m k : ℕ) → k < 8 → bit_at (bit_and m 255) k ≡ bit_at m k
+pub low_bit : (m k : ℕ) → k < 8 → bit_at (bit_and m 255) k ≡ bit_at m k
 low_bit m k lt = rw (and_mask m 8) (below_8 (λ i. bit_at (m % 256) i ≡ bit_at m i) (omega arith) (omega arith) (omega arith) (omega arith) (omega arith) (omega arith) (omega arith) (omega arith) k lt)
 
-high_bit : (m k : ℕ) → k < 8 → bit_at (m / 256) k ≡ bit_at m (8 + k)
+pub high_bit : (m k : ℕ) → k < 8 → bit_at (m / 256) k ≡ bit_at m (8 + k)
 high_bit m = below_8 (λ i. bit_at (m / 256) i ≡ bit_at m (8 + i)) (omega arith) (omega arith) (omega arith) (omega arith) (omega arith) (omega arith) (omega arith) (omega arith)
 
 kept_pair : (m i : ℕ) (v pair : List ℕ) (g : Bool) → bit_at m i ≡ cond g 1 0 → get_or v (2 * i) 0 ∷ get_or v (2 * i + 1) 0 ∷ [] ≡ pair → pair_at m v i ≡ cond g pair []

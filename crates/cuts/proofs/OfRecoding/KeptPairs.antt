@@ -10,13 +10,13 @@ use Rattle.cuts.proofs.OfRecoding.Joined.{joined_map, joined_same}
 use Rattle.cuts.specs.Recoding.GivenUnits.{joined, places_at, pair_at}
 use Rattle.cuts.specs.declared.recoding.kept_pairs.TheConstants.{KEPT}
 
-abbrev same : List ℕ → List ℕ → Bool
+abbrev pub same : List ℕ → List ℕ → Bool
 same [] [] = true
 same [] (y ∷ ys) = false
 same (x ∷ xs) [] = false
 same (x ∷ xs) (y ∷ ys) = eqb x y && same xs ys
 
-same_is : (xs ys : List ℕ) → same xs ys ≡ true → xs ≡ ys
+pub same_is : (xs ys : List ℕ) → same xs ys ≡ true → xs ≡ ys
 same_is [] [] h = refl
 same_is [] (y ∷ ys) h = absurd cc
 same_is (x ∷ xs) [] h = absurd cc
@@ -58,7 +58,7 @@ pub in_vector : (js : List ℕ) → length js ≡ 16 → ((k : ℕ) → k < 16 �
 in_vector js long below = SwzOk-from_below w8 16 1 16 0 js refl (omega (arith, long)) (Each1-from_get_or (λ j. j < 16) js 0 (λ k lt. below k (omega (arith, long))))
 
 -- the vector at some places is what it has there
-at_places : (v js : List ℕ) → length js ≡ 16 → ((k : ℕ) → k < 16 → get_or js k 0 < 16) → swz_l w8 16 v 0 js ≡ map (λ j. get_or v j 0) js
+pub at_places : (v js : List ℕ) → length js ≡ 16 → ((k : ℕ) → k < 16 → get_or js k 0 < 16) → swz_l w8 16 v 0 js ≡ map (λ j. get_or v j 0) js
 at_places v js long below =
     ext_get_or 0 (swz_l w8 16 v 0 js) (map (λ j. get_or v j 0) js) (length-swz_l w8 16 v 0 js ∙ sym (length-map js (λ j. get_or v j 0)))
     (λ i lt.

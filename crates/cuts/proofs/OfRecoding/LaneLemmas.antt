@@ -250,7 +250,7 @@ first_differs v r long some e =
 abbrev at_most : ℕ → ℕ → ℕ
 at_most a b = cond (leb a b) 255 0
 
-abbrev high_mask : List ℕ → ℕ
+abbrev pub high_mask : List ℕ → ℕ
 high_mask v = mask_l (map (top 7) (zip2 at_most (replicate 16 0x80) v)) % 2 ^ 64
 
 not_high : (x : ℕ) → not (leb 0x80 x) ≡ true → x < 0x80

@@ -6,6 +6,7 @@ ghost use Rattle.cuts.specs.Recoding.GivenUnits.{IsUnits};
 
 use crate::recoding::code_puts::{put_block, put_code};
 use crate::recoding::form::Form::{self, Utf8, Utf16Be, Utf16Le};
+use crate::recoding::narrowed_units::narrow_units;
 use crate::recoding::shown_fronts::{front, last_front, text_front, unit_block};
 use crate::recoding::text_blocks::text_len;
 use crate::recoding::unit_puts::put_units;
@@ -240,9 +241,11 @@ fn recode_blocks<A: Allocator>(from: Form, to: Form, bytes: &[u8], out: &mut Vec
     requires { vec_len out.old + 3 * length bytes.now ≤ vec_capacity out.old }
     ensures { RunsOnto from to bytes.now out.old out.new result }
 {
-    match from {
-        Utf8 => recode_judged(to, bytes, out),
-        Utf16Le | Utf16Be => recode_units(from, to, bytes, out),
+    match (from, to) {
+        (Utf8, _) => recode_judged(to, bytes, out),
+        (Utf16Le, Utf8) => narrow_units(Utf16Le, false, bytes, out),
+        (Utf16Be, Utf8) => narrow_units(Utf16Be, true, bytes, out),
+        _ => recode_units(from, to, bytes, out),
     }
 }
 

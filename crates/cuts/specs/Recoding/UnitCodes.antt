@@ -1,0 +1,79 @@
+-- Units of UTF-16 as bytes of UTF-8: which bytes a unit gives, by it and the one before it.
+use Rattle.std.specs.Prelude.{◌≡◌, ℕ, ◌<◌, ◌+◌, ◌-◌, ◌*◌, true, false, ◌/◌, ◌%◌, if◌then◌else◌, List, [], ◌∷◌, ◌++◌, nat_lt, nat_eq, slice_index}
+use Rattle.std.specs.Int.{bit_at}
+use Rattle.utf_base.specs.Units.{is_leading_surrogate, is_trailing_surrogate, is_surrogate}
+
+-- the unit in the lane k, of which two vectors have the halves
+abbrev pub lane_unit : List ℕ → List ℕ → ℕ → ℕ
+lane_unit low high k = slice_index high k * 256 + slice_index low k
+
+-- The bytes of a unit that is a character: the last, and those before it, 0 where there is none.
+abbrev pub first_byte : ℕ → ℕ
+first_byte u = if nat_lt u 0x800 then 0 else 0xE0 + u / 4096
+
+abbrev pub middle_byte : ℕ → ℕ
+middle_byte u = if nat_lt u 0x80 then 0 else if nat_lt u 0x800 then 0xC0 + u / 64 else 0x80 + u / 64 % 64
+
+abbrev pub last_byte : ℕ → ℕ
+last_byte u = if nat_lt u 0x80 then u else 0x80 + u % 64
+
+-- The first two bytes of four, which a leading surrogate gives, and the third, which a trailing one gives after the unit p.
+abbrev pub lead_byte : ℕ → ℕ
+lead_byte u = 0xF0 + (u % 1024 + 64) / 256
+
+abbrev pub second_byte : ℕ → ℕ
+second_byte u = 0x80 + (u % 1024 + 64) / 4 % 64
+
+abbrev pub third_byte : ℕ → ℕ → ℕ
+third_byte p u = 0x80 + p % 4 * 16 + u / 64 % 16
+
+-- The bytes of any unit in text, after the unit p.
+abbrev pub first_in_text : ℕ → ℕ
+first_in_text u = if is_surrogate u then 0 else first_byte u
+
+abbrev pub middle_in_text : ℕ → ℕ → ℕ
+middle_in_text p u = if is_leading_surrogate u then lead_byte u else if is_surrogate u then third_byte p u else middle_byte u
+
+abbrev pub last_in_text : ℕ → ℕ
+last_in_text u = if is_leading_surrogate u then second_byte u else last_byte u
+
+-- The bytes of a slot: the last, and those before it that are at least 0x80.
+abbrev pub kept : ℕ → List ℕ
+kept b = if nat_lt b 0x80 then [] else b ∷ []
+
+abbrev pub slot : ℕ → ℕ → ℕ → List ℕ
+slot first middle last = kept first ++ (kept middle ++ (last ∷ []))
+
+-- the bytes of the unit u in text, after the unit p
+abbrev pub unit_code : ℕ → ℕ → List ℕ
+unit_code p u = slot (first_in_text u) (middle_in_text p u) (last_in_text u)
+
+-- the bytes of the unit number k
+abbrev pub code_at : (ℕ → ℕ) → ℕ → List ℕ
+code_at unit k = unit_code (unit (k - 1)) (unit k)
+
+-- The first n units are text: each leading surrogate has a trailing one after it, and each trailing one a leading one before it.
+pub record AreText (unit : ℕ → ℕ) (n : ℕ) : Type 0 where
+  pub first : 0 < n → is_trailing_surrogate (unit 0) ≡ false
+  pub leading : (k : ℕ) → k < n → is_leading_surrogate (unit k) ≡ true → (k + 1 < n) × (is_trailing_surrogate (unit (k + 1)) ≡ true)
+  pub trailing : (k : ℕ) → k + 1 < n → is_trailing_surrogate (unit (k + 1)) ≡ true → is_leading_surrogate (unit k) ≡ true
+
+-- the slot in the lane k of three vectors
+abbrev pub slot_at : List ℕ → List ℕ → List ℕ → ℕ → List ℕ
+slot_at firsts middles lasts k = slot (slice_index firsts k) (slice_index middles k) (slice_index lasts k)
+
+-- the same where one vector has the first two bytes, and another the last and any
+abbrev pub pair_slot_at : List ℕ → List ℕ → ℕ → List ℕ
+pair_slot_at fronts lasts k = slot (slice_index fronts (2 * k)) (slice_index fronts (2 * k + 1)) (slice_index lasts (2 * k))
+
+-- the byte where the mask has its bit
+abbrev pub marked : ℕ → ℕ → ℕ → List ℕ
+marked mask i byte = if nat_eq (bit_at mask i) 1 then byte ∷ [] else []
+
+-- The slot number i of four bytes: the first, the last, the middle one and any. The mask says which of the first and middle are kept.
+abbrev pub slot_places : ℕ → ℕ → List ℕ
+slot_places mask i = marked mask (2 * i) (4 * i) ++ (marked mask (2 * i + 1) (4 * i + 2) ++ ((4 * i + 1) ∷ []))
+
+abbrev pub slot_bytes : ℕ → List ℕ → ℕ → List ℕ
+slot_bytes mask slots i =
+    marked mask (2 * i) (slice_index slots (4 * i)) ++ (marked mask (2 * i + 1) (slice_index slots (4 * i + 2)) ++ (slice_index slots (4 * i + 1) ∷ []))
