@@ -26,3 +26,7 @@ pub mod Joined
 pub mod KeptPairs
 pub mod TextUnits
 pub mod UnitLanes
+pub mod UnitPairs
+pub mod CodedUnits
+pub mod SwappedBytes
+pub mod CopiedUnits

@@ -9,3 +9,4 @@ pub mod Shards
 pub mod ShownFronts
 pub mod TextBlocks
 pub mod GivenUnits
+pub mod UnitBlocks

@@ -16,4 +16,6 @@ pub(crate) mod shown_fronts;
 pub(crate) mod text_blocks;
 pub mod text_front;
 pub(crate) mod text_units;
+pub(crate) mod unit_blocks;
+pub(crate) mod unit_copies;
 pub(crate) mod unit_puts;

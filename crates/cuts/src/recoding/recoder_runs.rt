@@ -8,6 +8,7 @@ use crate::recoding::code_puts::{put_block, put_code};
 use crate::recoding::form::Form::{self, Utf8, Utf16Be, Utf16Le};
 use crate::recoding::shown_fronts::{front, last_front, text_front, unit_block};
 use crate::recoding::text_blocks::text_len;
+use crate::recoding::unit_copies::copy_units;
 use crate::recoding::unit_puts::put_units;
 use std::alloc::Allocator;
 
@@ -240,9 +241,10 @@ fn recode_blocks<A: Allocator>(from: Form, to: Form, bytes: &[u8], out: &mut Vec
     requires { vec_len out.old + 3 * length bytes.now ≤ vec_capacity out.old }
     ensures { RunsOnto from to bytes.now out.old out.new result }
 {
-    match from {
-        Utf8 => recode_judged(to, bytes, out),
-        Utf16Le | Utf16Be => recode_units(from, to, bytes, out),
+    match (from, to) {
+        (Utf8, _) => recode_judged(to, bytes, out),
+        (_, Utf8) => recode_units(from, to, bytes, out),
+        _ => recode_as_units(from, to, bytes, out),
     }
 }
 
@@ -264,6 +266,21 @@ fn recode_units<A: Allocator>(from: Form, to: Form, bytes: &[u8], out: &mut Vec<
         }
     }
     place
+}
+
+// Recodes the well-formed units at the front of the bytes as units, and answers how many bytes they have.
+#[inline(always)]
+fn recode_as_units<A: Allocator>(from: Form, to: Form, bytes: &[u8], out: &mut Vec<u8, A>) -> usize
+    requires { vec_len out.old + 3 * length bytes.now ≤ vec_capacity out.old }
+    ensures { RunsOnto from to bytes.now out.old out.new result }
+{
+    match (from, to) {
+        (Utf16Le, Utf16Le) => copy_units(false, false, bytes, out),
+        (Utf16Le, Utf16Be) => copy_units(false, true, bytes, out),
+        (Utf16Be, Utf16Le) => copy_units(true, true, bytes, out),
+        (Utf16Be, Utf16Be) => copy_units(true, false, bytes, out),
+        _ => 0,
+    }
 }
 
 // Recodes the text at the front of the bytes, and answers how many bytes it has: nearly all that are text, up to a part,
