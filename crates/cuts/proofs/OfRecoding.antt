@@ -30,3 +30,4 @@ pub mod UnitPairs
 pub mod CodedUnits
 pub mod SwappedBytes
 pub mod CopiedUnits
+pub mod AsciiUnits

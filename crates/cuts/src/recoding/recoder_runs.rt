@@ -297,9 +297,29 @@ fn recode_judged<A: Allocator>(to: Form, bytes: &[u8], out: &mut Vec<u8, A>) -> 
     }
 }
 
-// Appends the text at the front of the bytes as units, of which the high byte may be the first.
+// Appends the text at the front of the bytes as units, of which the high byte may be the first, part by part as long as
+// a whole part is text.
 #[inline(always)]
 fn widen_text<A: Allocator>(to: Form, high_first: bool, bytes: &[u8], out: &mut Vec<u8, A>) -> usize
+    requires form { IsUnits high_first to }
+    requires room { vec_len out.old + 3 * length bytes.now ≤ vec_capacity out.old }
+    ensures { RunsOnto Form.Utf8 to bytes.now out.old out.new result }
+{
+    let mut place = 0;
+    while place < bytes.len() {
+        let len = widen_part(to, high_first, &bytes[place..], out);
+        place += len;
+        // The last code of a part is left to the next.
+        if len < PART - 4 {
+            return place;
+        }
+    }
+    place
+}
+
+// The same of the first part.
+#[inline(always)]
+fn widen_part<A: Allocator>(to: Form, high_first: bool, bytes: &[u8], out: &mut Vec<u8, A>) -> usize
     requires form { IsUnits high_first to }
     requires room { vec_len out.old + 3 * length bytes.now ≤ vec_capacity out.old }
     ensures { RunsOnto Form.Utf8 to bytes.now out.old out.new result }

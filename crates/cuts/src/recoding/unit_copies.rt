@@ -121,9 +121,9 @@ fn put_last<A: Allocator>(bytes: &[u8], count: usize, out: &mut Vec<u8, A>)
     append(&block[16 - count..], out);
 }
 
-// Appends the bytes.
+// Appends the bytes, for which there is room.
 #[inline(always)]
-fn append<A: Allocator>(bytes: &[u8], out: &mut Vec<u8, A>)
+pub(crate) fn append<A: Allocator>(bytes: &[u8], out: &mut Vec<u8, A>)
     requires { vec_len out.old + length bytes.now ≤ vec_capacity out.old }
     ensures items { out.new.items ≡ out.old.items ++ bytes.now }
     ensures len { vec_len out.new ≡ vec_len out.old + length bytes.now }
