@@ -292,22 +292,27 @@ fn recode_judged<A: Allocator>(to: Form, bytes: &[u8], out: &mut Vec<u8, A>) -> 
 {
     match to {
         Utf8 => copy_text(bytes, out),
-        Utf16Le => widen_text(Utf16Le, false, bytes, out),
-        Utf16Be => widen_text(Utf16Be, true, bytes, out),
+        Utf16Le => widen_text::<A, 0>(Utf16Le, false, bytes, out),
+        Utf16Be => widen_text::<A, 1>(Utf16Be, true, bytes, out),
     }
 }
 
 // Appends the text at the front of the bytes as units, of which the high byte may be the first, part by part as long as
 // a whole part is text.
 #[inline(always)]
-fn widen_text<A: Allocator>(to: Form, high_first: bool, bytes: &[u8], out: &mut Vec<u8, A>) -> usize
+fn widen_text<A: Allocator, const ORDER: usize>(
+    to: Form,
+    high_first: bool,
+    bytes: &[u8],
+    out: &mut Vec<u8, A>,
+) -> usize
     requires form { IsUnits high_first to }
     requires room { vec_len out.old + 3 * length bytes.now ≤ vec_capacity out.old }
     ensures { RunsOnto Form.Utf8 to bytes.now out.old out.new result }
 {
     let mut place = 0;
     while place < bytes.len() {
-        let len = widen_part(to, high_first, &bytes[place..], out);
+        let len = widen_part::<A, ORDER>(to, high_first, &bytes[place..], out);
         place += len;
         // The last code of a part is left to the next.
         if len < PART - 4 {
@@ -319,7 +324,12 @@ fn widen_text<A: Allocator>(to: Form, high_first: bool, bytes: &[u8], out: &mut 
 
 // The same of the first part.
 #[inline(always)]
-fn widen_part<A: Allocator>(to: Form, high_first: bool, bytes: &[u8], out: &mut Vec<u8, A>) -> usize
+fn widen_part<A: Allocator, const ORDER: usize>(
+    to: Form,
+    high_first: bool,
+    bytes: &[u8],
+    out: &mut Vec<u8, A>,
+) -> usize
     requires form { IsUnits high_first to }
     requires room { vec_len out.old + 3 * length bytes.now ≤ vec_capacity out.old }
     ensures { RunsOnto Form.Utf8 to bytes.now out.old out.new result }
@@ -328,6 +338,6 @@ fn widen_part<A: Allocator>(to: Form, high_first: bool, bytes: &[u8], out: &mut 
     if len < 32 {
         return 0;
     }
-    put_units(high_first, &bytes[..len], out);
+    put_units::<A, ORDER>(high_first, &bytes[..len], out);
     len
 }

@@ -25,6 +25,9 @@ pub(crate) fn copy_units<A: Allocator>(
     ensures capacity { vec_capacity out.old ≤ vec_capacity out.new }
 {
     let len = 2 * units_len(high_first, bytes);
+    if len == 0 {
+        return 0;
+    }
     if swaps {
         put_swapped(&bytes[..len], out);
     } else {

@@ -9,9 +9,14 @@ use crate::recoding::unit_copies::append;
 use std::alloc::Allocator;
 use std::simd::prelude::*;
 
-// Appends the units that the places of some text give.
-#[inline(always)]
-pub(crate) fn put_units<A: Allocator>(high_first: bool, text: &[u8], out: &mut Vec<u8, A>)
+// Appends the units that the places of some text give. Each order of bytes is called under a number of its own, so that
+// it has a copy of the code.
+#[inline(never)]
+pub(crate) fn put_units<A: Allocator, const ORDER: usize>(
+    high_first: bool,
+    text: &[u8],
+    out: &mut Vec<u8, A>,
+)
     requires long { 32 ≤ length text.now }
     requires room { vec_len out.old + 3 * length text.now ≤ vec_capacity out.old }
     ensures items { out.new.items ≡ out.old.items ++ given high_first text.now 0 (length text.now) }
@@ -78,13 +83,28 @@ fn put_64<A: Allocator>(high_first: bool, text: &[u8], place: usize, out: &mut V
     ensures len { vec_len out.new ≤ vec_len out.old + 128 }
     ensures capacity { vec_capacity out.old ≤ vec_capacity out.new }
 {
-    if is_ascii_block(text, place) && is_closed(text, place) {
-        let (first, second) = ascii_units(high_first, text, place);
-        append(&first, out);
-        append(&second, out);
+    if text[place] < 0x80 && is_ascii_block(text, place) && is_closed(text, place) {
+        put_ascii(high_first, text, place, out);
     } else {
         put_four(high_first, text, place, out);
     }
+}
+
+// The same where the places are ASCII, after bytes that ask for no more.
+#[inline(never)]
+fn put_ascii<A: Allocator>(high_first: bool, text: &[u8], place: usize, out: &mut Vec<u8, A>)
+    requires start { 3 ≤ place }
+    requires within { place + 64 ≤ length text.now }
+    requires closed { AreClosed text.now place }
+    requires ascii { (k : ℕ) → k < 64 → slice_index text.now (place + k) < 0x80 }
+    requires room { vec_len out.old + 128 ≤ vec_capacity out.old }
+    ensures items { out.new.items ≡ out.old.items ++ given high_first text.now place 64 }
+    ensures len { vec_len out.new ≤ vec_len out.old + 128 }
+    ensures capacity { vec_capacity out.old ≤ vec_capacity out.new }
+{
+    let (first, second) = ascii_units(high_first, text, place);
+    append(&first, out);
+    append(&second, out);
 }
 
 // The units of 64 bytes of ASCII: each byte and a NUL.
