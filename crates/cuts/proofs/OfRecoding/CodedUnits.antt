@@ -1,15 +1,15 @@
 -- Units that pair are the codes of scalars, show them, and are written as they stand or swapped.
-use Rattle.std.proofs.Common.{◌≡◌, ℕ, zero, suc, ◌+◌, ◌-◌, ◌*◌, ◌/◌, ◌%◌, ◌<◌, ◌≤◌, Bool, true, false, not, List, [], ◌∷◌, ◌++◌, length, get_or, take, drop, flat_map, refl, sym, ap, ap₂, subst, ◌∙◌, inl, inr, arith, w8, Fits, append_assoc, length-take}
+use Rattle.std.proofs.Common.{◌≡◌, ℕ, zero, suc, ◌+◌, ◌-◌, ◌*◌, ◌<◌, ◌≤◌, Bool, true, false, List, [], ◌∷◌, ◌++◌, length, get_or, take, refl, sym, ap, ap₂, subst, ◌∙◌, inl, inr, arith, w8, Fits, length-take}
 use Rattle.std.proofs.lemmas.Bool.{cases_lt}
 use Rattle.std.proofs.lemmas.Grind.{common_steps}
-use Rattle.std.proofs.lemmas.List.{append-nil, get_or-take, drop-drop}
+use Rattle.std.proofs.lemmas.List.{get_or-take}
 use Rattle.std.specs.Prelude.{All}
 use Rattle.utf_base.specs.Code.{utf16}
 use Rattle.utf_base.specs.Scalar.{IsScalar}
 use Rattle.utf_base.specs.Units.{is_leading_surrogate, is_trailing_surrogate, is_surrogate}
 use Rattle.utf_base.proofs.Utf16Code.{pair_is_code, unit_is_code}
-use Rattle.cuts.specs.Recoding.Recoded.{unit_of, units_of, bytes_of}
-use Rattle.cuts.specs.Recoding.UnitBlocks.{AllPaired, AreCodes, swapped}
+use Rattle.cuts.specs.Recoding.Recoded.{unit_of, units_of}
+use Rattle.cuts.specs.Recoding.UnitBlocks.{AllPaired, AreCodes}
 use Rattle.cuts.proofs.OfRecoding.UnitPairs.{unit_at}
 
 -- one more code
@@ -150,3 +150,26 @@ before_end high bytes e some le =
     let first : 2 * (e - 1) ≡ 2 * e - 2 = omega arith in
     let second : 2 * e - 2 + 1 ≡ 2 * e - 1 = omega arith in
     rw (first, second) at (unit_at high bytes (e - 1) (omega arith))
+
+-- The first eight units, judged after a NUL: the first ends no pair, and the others are as they stand.
+
+after_a_nul : (high : Bool) (v : List ℕ) → units_of high (0 ∷ 0 ∷ v) ≡ 0 ∷ units_of high v
+after_a_nul true v = refl
+after_a_nul false v = refl
+
+module _ (high : Bool) (bytes front : List ℕ) (count : ℕ) (few : count ≤ 8) (is : front ≡ 0 ∷ 0 ∷ take 16 bytes) (pairs : AllPaired (units_of high front) 1 (1 + count)) where
+  shifted : AllPaired (0 ∷ units_of high (take 16 bytes)) 1 (1 + count)
+  shifted = subst (λ us. AllPaired us 1 (1 + count)) (ap (units_of high) is ∙ after_a_nul high (take 16 bytes)) pairs
+
+  same : (k : ℕ) → k < 8 → get_or (units_of high (take 16 bytes)) k 0 ≡ get_or (units_of high bytes) k 0
+  same k lt = ap (λ us. get_or us k 0) (sym (units_front high bytes 8)) ∙ get_or-take 8 (units_of high bytes) k 0 lt
+
+  pub first_after_a_nul : 0 < count → is_trailing_surrogate (get_or (units_of high bytes) 0 0) ≡ false
+  first_after_a_nul some = ap is_trailing_surrogate (sym (same 0 (omega arith))) ∙ sym (shifted 0 (omega arith) (omega arith))
+
+  pub pairs_after_a_nul : AllPaired (units_of high bytes) 1 count
+  pairs_after_a_nul k least most =
+      let next : suc k + 1 ≡ suc (k + 1) = omega arith in
+      let pair : is_leading_surrogate (get_or (units_of high (take 16 bytes)) k 0) ≡ is_trailing_surrogate (get_or (units_of high (take 16 bytes)) (k + 1) 0)
+      = subst (λ j. is_leading_surrogate (get_or (units_of high (take 16 bytes)) k 0) ≡ is_trailing_surrogate (get_or (0 ∷ units_of high (take 16 bytes)) j 0)) next (shifted (suc k) (omega arith) (omega arith)) in
+      rw (same k (omega arith), same (k + 1) (omega arith)) at pair

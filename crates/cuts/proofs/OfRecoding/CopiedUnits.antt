@@ -1,6 +1,5 @@
 -- An output that grows by units as they stand, or with the bytes of each swapped.
-use Rattle.std.proofs.Common.{◌≡◌, ℕ, zero, suc, ◌+◌, ◌-◌, ◌*◌, ◌/◌, ◌%◌, ◌<◌, ◌≤◌, Bool, true, false, not, List, [], ◌∷◌, ◌++◌, length, get_or, take, drop, flat_map, refl, sym, ap, ap₂, subst, ◌∙◌, arith, append_assoc, length-take, w8, Fits}
-use Rattle.std.proofs.lemmas.List.{get_or-take}
+use Rattle.std.proofs.Common.{◌≡◌, ℕ, zero, suc, ◌+◌, ◌-◌, ◌*◌, ◌/◌, ◌%◌, ◌<◌, ◌≤◌, Bool, true, false, not, List, [], ◌∷◌, ◌++◌, length, get_or, take, flat_map, refl, sym, ap, ap₂, ◌∙◌, arith, append_assoc, length-take, w8, Fits}
 use Rattle.std.proofs.lemmas.List.Concat.{flat_map-append}
 use Rattle.std.specs.Prelude.{All, Vec, vec_len, vec_capacity}
 use Rattle.utf_base.specs.Code.{utf16}
@@ -10,7 +9,7 @@ use Rattle.utf_base.proofs.Rests.{whole_code_shows_first}
 use Rattle.utf_base.proofs.Utf16Code.{utf16_is_code}
 use Rattle.cuts.specs.declared.recoding.form.Form.{Form}
 use Rattle.cuts.specs.declared.recoding.form.Form.TheVariants.{Utf8, Utf16Le, Utf16Be}
-use Rattle.cuts.specs.Recoding.Recoded.{Reads, ShowsUnits, unit_of, units_of, bytes_of, odd_end, written, Grows}
+use Rattle.cuts.specs.Recoding.Recoded.{Reads, ShowsUnits, unit_of, units_of, bytes_of, odd_end, written}
 use Rattle.cuts.specs.Recoding.ShownFronts.{ShowsEach}
 use Rattle.cuts.specs.Recoding.GivenUnits.{IsUnits}
 use Rattle.cuts.specs.Recoding.OutputRuns.{RunsOnto}

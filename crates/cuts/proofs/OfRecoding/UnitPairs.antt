@@ -1,5 +1,5 @@
 -- Units that pair with the one before them: what lanes say of them, and that they are codes.
-use Rattle.std.proofs.Common.{◌≡◌, ℕ, zero, suc, ◌+◌, ◌-◌, ◌*◌, ◌/◌, ◌%◌, ◌<◌, ◌≤◌, Bool, true, false, cond, eqb, ◌∷◌, [], List, map, length, get_or, replicate, bit_and, bit_xor, refl, sym, ap, ap₂, ◌∙◌, inl, inr, arith, lit<, w8, Fits, eqb-true}
+use Rattle.std.proofs.Common.{◌≡◌, ℕ, zero, suc, ◌+◌, ◌-◌, ◌*◌, ◌/◌, ◌<◌, ◌≤◌, Bool, true, false, cond, eqb, ◌∷◌, [], List, map, length, get_or, replicate, bit_and, bit_xor, refl, sym, ap, ◌∙◌, inl, inr, arith, lit<, w8, Fits, eqb-true}
 use Rattle.std.proofs.lemmas.Bool.{cases_lt}
 use Rattle.std.proofs.lemmas.Grind.{common_steps}
 use Rattle.std.proofs.lemmas.Simd.{length-zip2, get_or-zip2, get_or-replicate, get_or-chunk, length-chunk, length-sel_l, get_or-sel_l, tops_compared}
@@ -7,9 +7,8 @@ use lib.Lanes.{zip2, sel_l, top, chunk}
 use Rattle.utf_base.specs.Units.{is_leading_surrogate, is_trailing_surrogate}
 use Rattle.cuts.specs.Recoding.Recoded.{unit_of, units_of}
 use Rattle.cuts.specs.Recoding.UnitBlocks.{AllPaired, high_place}
-use Rattle.cuts.proofs.OfRecoding.ChosenLanes.{wide_with}
-use Rattle.cuts.proofs.OfRecoding.LaneLemmas.{wide, lane, lane_with}
-use Rattle.cuts.proofs.OfRecoding.PairTables.{each_below, at_each}
+use Rattle.cuts.proofs.OfRecoding.LaneLemmas.{wide, lane}
+use Rattle.cuts.proofs.OfRecoding.PairTables.{at_each}
 
 -- Lanes that are one byte.
 

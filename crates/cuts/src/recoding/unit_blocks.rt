@@ -2,7 +2,7 @@
 //!
 //! A unit is judged by the one before it: it ends a pair just where that begins one. Six bits of its high byte tell
 //! either.
-ghost use Rattle.std.specs.Prelude.{◌≡◌, ℕ, ◌+◌, ◌-◌, ◌*◌, ◌<◌, ◌≤◌, IsTrue, length, take, slice_index, if◌then◌else◌, nat_eq};
+ghost use Rattle.std.specs.Prelude.{◌≡◌, ℕ, ◌+◌, ◌-◌, ◌*◌, ◌<◌, ◌≤◌, ◌∷◌, IsTrue, false, length, take, slice_index, if◌then◌else◌, nat_eq};
 ghost use Rattle.utf_base.specs.Units.{is_trailing_surrogate};
 ghost use Rattle.cuts.specs.Recoding.Recoded.{units_of};
 ghost use Rattle.cuts.specs.Recoding.UnitBlocks.{AllPaired, AreCodes, high_place};
@@ -20,17 +20,20 @@ const HIGH_IS_SECOND: [u8; 16] = [
     0, 0xfc, 0, 0xfc, 0, 0xfc, 0, 0xfc, 0, 0xfc, 0, 0xfc, 0, 0xfc, 0, 0xfc,
 ];
 
-// How many units at the front of the bytes are well-formed: all that are, but for a leading surrogate at the end,
-// where there are more than a few.
+// How many units at the front of the bytes are well-formed: all that are, but for a leading surrogate at the end, where
+// there are more than a few.
 #[inline]
 pub(crate) fn units_len(high_first: bool, bytes: &[u8]) -> usize
     ensures within { 2 * result ≤ length bytes.now }
     ensures codes { AreCodes (units_of high_first (take (2 * result) bytes.now)) }
 {
-    if bytes.len() < 18 || ends_a_pair(unit(high_first, bytes[0], bytes[1])) {
+    if bytes.len() < 16 {
         return 0;
     }
     let end = paired_end(high_first, bytes);
+    if end == 0 {
+        return 0;
+    }
     let last = unit(high_first, bytes[2 * end - 2], bytes[2 * end - 1]);
     if last.is_utf16_leading_surrogate() {
         end - 1
@@ -39,27 +42,31 @@ pub(crate) fn units_len(high_first: bool, bytes: &[u8]) -> usize
     }
 }
 
-// Whether the unit is a trailing surrogate.
-#[inline(always)]
-fn ends_a_pair(unit: u16) -> bool
-    ensures { result ≡ is_trailing_surrogate unit }
-{
-    matches!(unit, 0xdc00..=0xdfff)
-}
-
-// How far the units after the first each pair with the one before them: to the first that does not, or the end.
+// How far the units each pair with the one before them: to the first that does not, or the end. Before the first stands
+// a NUL, as it were.
 #[inline(always)]
 fn paired_end(high_first: bool, bytes: &[u8]) -> usize
-    requires { 18 ≤ length bytes.now }
-    ensures least { 1 ≤ result }
+    requires { 16 ≤ length bytes.now }
     ensures within { 2 * result ≤ length bytes.now }
+    ensures first { 0 < result → is_trailing_surrogate (slice_index (units_of high_first bytes.now) 0) ≡ false }
     ensures paired { AllPaired (units_of high_first bytes.now) 1 result }
 {
-    let count = paired_lanes(high_first, bytes, 1);
+    let count = paired_lanes(high_first, &after_a_nul(bytes), 1);
     if count < 8 {
-        return 1 + count;
+        return count;
     }
-    paired_lane_by_lane(high_first, bytes, paired_wide(high_first, bytes, 9))
+    paired_lane_by_lane(high_first, bytes, paired_wide(high_first, bytes, 8))
+}
+
+// The first eight units after a NUL.
+#[inline(always)]
+fn after_a_nul(bytes: &[u8]) -> [u8; 18]
+    requires { 16 ≤ length bytes.now }
+    ensures { result ≡ 0 ∷ 0 ∷ take 16 bytes.now }
+{
+    let mut front = [0; 18];
+    front[2..].copy_from_slice(&bytes[..16]);
+    front
 }
 
 // The same in blocks of 32, to the first in which some unit does not pair.
@@ -84,10 +91,8 @@ fn paired_wide(high_first: bool, bytes: &[u8], start: usize) -> usize
 // The same in blocks of eight, of which the last ends with the last unit.
 #[inline(always)]
 fn paired_lane_by_lane(high_first: bool, bytes: &[u8], start: usize) -> usize
-    requires enough { 18 ≤ length bytes.now }
-    requires start { 1 ≤ start }
+    requires start { 8 ≤ start }
     requires within { 2 * start ≤ length bytes.now }
-    ensures least { 1 ≤ result }
     ensures within { 2 * result ≤ length bytes.now }
     ensures paired { AllPaired (units_of high_first bytes.now) start result }
 {

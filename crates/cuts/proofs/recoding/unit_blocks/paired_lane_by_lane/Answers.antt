@@ -1,4 +1,4 @@
-use Rattle.std.proofs.Common.{◌≤◌, ◌+◌, ◌*◌, length, arith, inl, inr}
+use Rattle.std.proofs.Common.{◌+◌, arith, inl, inr}
 use Rattle.std.proofs.lemmas.Bool.{cases_lt}
 use Rattle.cuts.proofs.recoding.unit_blocks.paired_lane_by_lane.Goals as goal
 

@@ -1,4 +1,4 @@
-use Rattle.std.proofs.Common.{◌≡◌, ◌≤◌, arith, refl}
+use Rattle.std.proofs.Common.{◌≡◌, arith, refl}
 use Rattle.cuts.specs.Recoding.Recoded.{units_of}
 use Rattle.cuts.proofs.OfRecoding.LaneLemmas.{differ_mask, none_differs, first_differs}
 use Rattle.cuts.proofs.OfRecoding.UnitPairs.{pair_before}

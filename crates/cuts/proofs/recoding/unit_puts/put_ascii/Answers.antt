@@ -1,4 +1,4 @@
-use Rattle.std.proofs.Common.{◌++◌, ◌∙◌, ap, arith, refl}
+use Rattle.std.proofs.Common.{◌++◌, ◌∙◌, ap, refl}
 use Rattle.cuts.proofs.OfRecoding.TextUnits.{given_more}
 use Rattle.cuts.proofs.recoding.unit_puts.put_ascii.Goals as goal
 
