@@ -274,11 +274,14 @@ fn recode_as_units<A: Allocator>(from: Form, to: Form, bytes: &[u8], out: &mut V
     requires { vec_len out.old + 3 * length bytes.now ≤ vec_capacity out.old }
     ensures { RunsOnto from to bytes.now out.old out.new result }
 {
+    if bytes.len() < 16 {
+        return 0;
+    }
     match (from, to) {
-        (Utf16Le, Utf16Le) => copy_units(false, false, bytes, out),
-        (Utf16Le, Utf16Be) => copy_units(false, true, bytes, out),
-        (Utf16Be, Utf16Le) => copy_units(true, true, bytes, out),
-        (Utf16Be, Utf16Be) => copy_units(true, false, bytes, out),
+        (Utf16Le, Utf16Le) => copy_units::<A, 0>(false, false, bytes, out),
+        (Utf16Le, Utf16Be) => copy_units::<A, 1>(false, true, bytes, out),
+        (Utf16Be, Utf16Le) => copy_units::<A, 2>(true, true, bytes, out),
+        (Utf16Be, Utf16Be) => copy_units::<A, 3>(true, false, bytes, out),
         _ => 0,
     }
 }

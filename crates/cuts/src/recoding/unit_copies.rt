@@ -8,9 +8,9 @@ use std::alloc::Allocator;
 use std::simd::prelude::*;
 
 // Appends the well-formed units at the front of the bytes, the two bytes of each swapped or as they are, and answers
-// how many bytes they have.
-#[inline(always)]
-pub(crate) fn copy_units<A: Allocator>(
+// how many bytes they have. Each pair of orders is called under a number of its own, so that it has a copy of the code.
+#[inline(never)]
+pub(crate) fn copy_units<A: Allocator, const PAIR: usize>(
     high_first: bool,
     swaps: bool,
     bytes: &[u8],
