@@ -31,3 +31,8 @@ pub mod KeptSlots
 pub mod NarrowedUnits
 pub mod SlotLanes
 pub mod UnitSlots
+pub mod UnitPairs
+pub mod CodedUnits
+pub mod SwappedBytes
+pub mod CopiedUnits
+pub mod AsciiUnits

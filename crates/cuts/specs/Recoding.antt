@@ -10,3 +10,4 @@ pub mod ShownFronts
 pub mod TextBlocks
 pub mod GivenUnits
 pub mod UnitCodes
+pub mod UnitBlocks

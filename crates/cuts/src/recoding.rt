@@ -19,5 +19,7 @@ pub(crate) mod slot_puts;
 pub(crate) mod text_blocks;
 pub mod text_front;
 pub(crate) mod text_units;
+pub(crate) mod unit_blocks;
 pub(crate) mod unit_bytes;
+pub(crate) mod unit_copies;
 pub(crate) mod unit_puts;

@@ -4,11 +4,12 @@ ghost use Rattle.cuts.specs.Recoding.Recoded.{Finishes};
 ghost use Rattle.cuts.specs.Recoding.OutputRuns.{RunsOnto, RunsUntil};
 ghost use Rattle.cuts.specs.Recoding.GivenUnits.{IsUnits};
 
-use crate::recoding::code_puts::{put_block, put_code};
+use crate::recoding::code_puts::put_code;
 use crate::recoding::form::Form::{self, Utf8, Utf16Be, Utf16Le};
 use crate::recoding::narrowed_units::narrow_units;
-use crate::recoding::shown_fronts::{front, last_front, text_front, unit_block};
+use crate::recoding::shown_fronts::{front, last_front, text_front};
 use crate::recoding::text_blocks::text_len;
+use crate::recoding::unit_copies::copy_units;
 use crate::recoding::unit_puts::put_units;
 use std::alloc::Allocator;
 
@@ -245,28 +246,26 @@ fn recode_blocks<A: Allocator>(from: Form, to: Form, bytes: &[u8], out: &mut Vec
         (Utf8, _) => recode_judged(to, bytes, out),
         (Utf16Le, Utf8) => narrow_units(Utf16Le, false, bytes, out),
         (Utf16Be, Utf8) => narrow_units(Utf16Be, true, bytes, out),
-        _ => recode_units(from, to, bytes, out),
+        _ => recode_as_units(from, to, bytes, out),
     }
 }
 
-// Recodes the blocks of units at the front of the bytes, each unit a character by itself, and answers how
-// many bytes they have.
+// Recodes the well-formed units at the front of the bytes as units, and answers how many bytes they have.
 #[inline(always)]
-fn recode_units<A: Allocator>(from: Form, to: Form, bytes: &[u8], out: &mut Vec<u8, A>) -> usize
+fn recode_as_units<A: Allocator>(from: Form, to: Form, bytes: &[u8], out: &mut Vec<u8, A>) -> usize
     requires { vec_len out.old + 3 * length bytes.now ≤ vec_capacity out.old }
     ensures { RunsOnto from to bytes.now out.old out.new result }
 {
-    let mut place = 0;
-    while 16 <= bytes.len() - place {
-        match unit_block(from, to, &bytes[place..place + 16]) {
-            None => return place,
-            Some(units) => {
-                put_block(to, units, out);
-                place += 16;
-            }
-        }
+    if bytes.len() < 16 {
+        return 0;
     }
-    place
+    match (from, to) {
+        (Utf16Le, Utf16Le) => copy_units::<A, 0>(false, false, bytes, out),
+        (Utf16Le, Utf16Be) => copy_units::<A, 1>(false, true, bytes, out),
+        (Utf16Be, Utf16Le) => copy_units::<A, 2>(true, true, bytes, out),
+        (Utf16Be, Utf16Be) => copy_units::<A, 3>(true, false, bytes, out),
+        _ => 0,
+    }
 }
 
 // Recodes the text at the front of the bytes, and answers how many bytes it has: nearly all that are text, up to a part,
@@ -278,14 +277,44 @@ fn recode_judged<A: Allocator>(to: Form, bytes: &[u8], out: &mut Vec<u8, A>) -> 
 {
     match to {
         Utf8 => copy_text(bytes, out),
-        Utf16Le => widen_text(Utf16Le, false, bytes, out),
-        Utf16Be => widen_text(Utf16Be, true, bytes, out),
+        Utf16Le => widen_text::<A, 0>(Utf16Le, false, bytes, out),
+        Utf16Be => widen_text::<A, 1>(Utf16Be, true, bytes, out),
     }
 }
 
-// Appends the text at the front of the bytes as units, of which the high byte may be the first.
+// Appends the text at the front of the bytes as units, of which the high byte may be the first, part by part as long as
+// a whole part is text.
 #[inline(always)]
-fn widen_text<A: Allocator>(to: Form, high_first: bool, bytes: &[u8], out: &mut Vec<u8, A>) -> usize
+fn widen_text<A: Allocator, const ORDER: usize>(
+    to: Form,
+    high_first: bool,
+    bytes: &[u8],
+    out: &mut Vec<u8, A>,
+) -> usize
+    requires form { IsUnits high_first to }
+    requires room { vec_len out.old + 3 * length bytes.now ≤ vec_capacity out.old }
+    ensures { RunsOnto Form.Utf8 to bytes.now out.old out.new result }
+{
+    let mut place = 0;
+    while place < bytes.len() {
+        let len = widen_part::<A, ORDER>(to, high_first, &bytes[place..], out);
+        place += len;
+        // The last code of a part is left to the next.
+        if len < PART - 4 {
+            return place;
+        }
+    }
+    place
+}
+
+// The same of the first part.
+#[inline(always)]
+fn widen_part<A: Allocator, const ORDER: usize>(
+    to: Form,
+    high_first: bool,
+    bytes: &[u8],
+    out: &mut Vec<u8, A>,
+) -> usize
     requires form { IsUnits high_first to }
     requires room { vec_len out.old + 3 * length bytes.now ≤ vec_capacity out.old }
     ensures { RunsOnto Form.Utf8 to bytes.now out.old out.new result }
@@ -294,6 +323,6 @@ fn widen_text<A: Allocator>(to: Form, high_first: bool, bytes: &[u8], out: &mut 
     if len < 32 {
         return 0;
     }
-    put_units(high_first, &bytes[..len], out);
+    put_units::<A, ORDER>(high_first, &bytes[..len], out);
     len
 }

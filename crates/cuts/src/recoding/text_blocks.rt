@@ -128,7 +128,7 @@ fn few_chars(bytes: &[u8]) -> usize
 
 // Whether the 64 bytes from the place on are ASCII.
 #[inline(always)]
-fn is_ascii_block(bytes: &[u8], place: usize) -> bool
+pub(crate) fn is_ascii_block(bytes: &[u8], place: usize) -> bool
     requires { place + 64 ≤ length bytes.now }
     ensures { IsTrue result → (k : ℕ) → k < 64 → slice_index bytes.now (place + k) < 0x80 }
 {
@@ -231,7 +231,7 @@ fn ascii_end(bytes: &[u8], start: usize) -> usize
 
 // Whether the three bytes before the place ask for no more.
 #[inline(always)]
-fn is_closed(bytes: &[u8], place: usize) -> bool
+pub(crate) fn is_closed(bytes: &[u8], place: usize) -> bool
     requires start { 3 ≤ place }
     requires within { place ≤ length bytes.now }
     ensures { IsTrue result → AreClosed bytes.now place }

@@ -1,13 +1,22 @@
 //! Text in UTF-8 written as UTF-16 to the end of an output that has room for it.
-ghost use Rattle.std.specs.Prelude.{◌≡◌, ◌+◌, ◌-◌, ◌*◌, ◌<◌, ◌≤◌, ◌++◌, ◌∷◌, length, take, vec_len, vec_capacity};
-ghost use Rattle.cuts.specs.Recoding.GivenUnits.{given};
+ghost use Rattle.std.specs.Prelude.{◌≡◌, ℕ, ◌+◌, ◌-◌, ◌*◌, ◌<◌, ◌≤◌, ◌++◌, ◌∷◌, length, take, slice_index, vec_len, vec_capacity};
+ghost use Rattle.cuts.specs.Recoding.GivenUnits.{given, halves, joined};
+ghost use Rattle.cuts.specs.Recoding.TextBlocks.{AreClosed};
 
+use crate::recoding::text_blocks::{is_ascii_block, is_closed};
 use crate::recoding::text_units::{UnitBytes, block_units};
+use crate::recoding::unit_copies::append;
 use std::alloc::Allocator;
+use std::simd::prelude::*;
 
-// Appends the units that the places of some text give.
-#[inline(always)]
-pub(crate) fn put_units<A: Allocator>(high_first: bool, text: &[u8], out: &mut Vec<u8, A>)
+// Appends the units that the places of some text give. Each order of bytes is called under a number of its own, so that
+// it has a copy of the code.
+#[inline(never)]
+pub(crate) fn put_units<A: Allocator, const ORDER: usize>(
+    high_first: bool,
+    text: &[u8],
+    out: &mut Vec<u8, A>,
+)
     requires long { 32 ≤ length text.now }
     requires room { vec_len out.old + 3 * length text.now ≤ vec_capacity out.old }
     ensures items { out.new.items ≡ out.old.items ++ given high_first text.now 0 (length text.now) }
@@ -58,13 +67,75 @@ fn put_wide<A: Allocator>(high_first: bool, text: &[u8], out: &mut Vec<u8, A>) -
 {
     let mut place = 16;
     while 64 <= text.len() - place {
-        put_four(high_first, text, place, out);
+        put_64(high_first, text, place, out);
         place += 64;
     }
     place
 }
 
 // Appends the units of 64 places.
+#[inline(always)]
+fn put_64<A: Allocator>(high_first: bool, text: &[u8], place: usize, out: &mut Vec<u8, A>)
+    requires start { 3 ≤ place }
+    requires within { place + 64 ≤ length text.now }
+    requires room { vec_len out.old + 128 ≤ vec_capacity out.old }
+    ensures items { out.new.items ≡ out.old.items ++ given high_first text.now place 64 }
+    ensures len { vec_len out.new ≤ vec_len out.old + 128 }
+    ensures capacity { vec_capacity out.old ≤ vec_capacity out.new }
+{
+    if text[place] < 0x80 && is_ascii_block(text, place) && is_closed(text, place) {
+        put_ascii(high_first, text, place, out);
+    } else {
+        put_four(high_first, text, place, out);
+    }
+}
+
+// The same where the places are ASCII, after bytes that ask for no more.
+#[inline(never)]
+fn put_ascii<A: Allocator>(high_first: bool, text: &[u8], place: usize, out: &mut Vec<u8, A>)
+    requires start { 3 ≤ place }
+    requires within { place + 64 ≤ length text.now }
+    requires closed { AreClosed text.now place }
+    requires ascii { (k : ℕ) → k < 64 → slice_index text.now (place + k) < 0x80 }
+    requires room { vec_len out.old + 128 ≤ vec_capacity out.old }
+    ensures items { out.new.items ≡ out.old.items ++ given high_first text.now place 64 }
+    ensures len { vec_len out.new ≤ vec_len out.old + 128 }
+    ensures capacity { vec_capacity out.old ≤ vec_capacity out.new }
+{
+    let (first, second) = ascii_units(high_first, text, place);
+    append(&first, out);
+    append(&second, out);
+}
+
+// The units of 64 bytes of ASCII: each byte and a NUL.
+#[inline(always)]
+fn ascii_units(high_first: bool, text: &[u8], place: usize) -> ([u8; 64], [u8; 64])
+    requires start { 3 ≤ place }
+    requires within { place + 64 ≤ length text.now }
+    requires closed { AreClosed text.now place }
+    requires ascii { (k : ℕ) → k < 64 → slice_index text.now (place + k) < 0x80 }
+    ensures first { result.0 ≡ given high_first text.now place 32 }
+    ensures second { result.1 ≡ given high_first text.now (place + 32) 32 }
+{
+    let (first, second) = beside_nuls(high_first, u8x64::from_slice(&text[place..]));
+    (first.to_array(), second.to_array())
+}
+
+// Each byte with a NUL, which is the high byte of its unit: of the first 32 bytes, and of the others.
+#[inline(always)]
+fn beside_nuls(high_first: bool, bytes: u8x64) -> (u8x64, u8x64)
+    ensures first { result.0 ≡ joined (λ k. halves high_first (slice_index bytes k) 0) 0 32 }
+    ensures second { result.1 ≡ joined (λ k. halves high_first (slice_index bytes k) 0) 32 32 }
+{
+    let nuls = u8x64::splat(0);
+    if high_first {
+        nuls.interleave(bytes)
+    } else {
+        bytes.interleave(nuls)
+    }
+}
+
+// Appends the units of 64 places, sixteen at once.
 #[inline(always)]
 fn put_four<A: Allocator>(high_first: bool, text: &[u8], place: usize, out: &mut Vec<u8, A>)
     requires start { 3 ≤ place }

@@ -1,23 +1,11 @@
-use Rattle.std.proofs.Common.{◌≤◌, take, arith, IsUtf8, length-take}
-use Rattle.std.proofs.lemmas.List.{take-take}
-use Rattle.cuts.proofs.OfRecoding.OutputRuns.{RunsOnto-none}
-use Rattle.cuts.proofs.OfRecoding.TextUnits.{Grows-given}
+use Rattle.std.proofs.lemmas.List.{take_rest}
+use Rattle.cuts.proofs.OfRecoding.OutputRuns.{RunsOnto-next}
 use Rattle.cuts.proofs.recoding.recoder_runs.widen_text.Goals as goal
 
-pub returns-then-len-lt32 : goal.returns-then-len-lt32
-returns-then-len-lt32 g c = RunsOnto-none _ _ _ _
+pub loop-place-preserved : goal.loop-place-preserved
+loop-place-preserved g c =
+    RunsOnto-next _ _ c.args.bytes.now _ _ _ c.loop-place.place _ c.loop-place.invariant (rw (take_rest c.args.bytes.now c.loop-place.place) at c.widen_part-len.ensures)
 
-pub returns : goal.returns
-returns g c =
-    let bytes = c.args.bytes.now in
-    let len = c.text_len-len.result in
-    let judged = c.text_len-len.ensures in
-    let put = c.put_units.ensures in
-    let few : len ≤ c.min.result = omega (arith, length-take c.min.result bytes) in
-    let text : IsUtf8 (take len bytes) = rw (take-take len c.min.result bytes few) at judged.text in
-    record {
-      within = omega (arith, length-take c.min.result bytes);
-      grows = Grows-given c.args.high_first _ _ _ _ len c.requires.form text put.items;
-      short = omega (arith, length-take len bytes);
-      capacity = put.capacity;
-    }
+pub returns-then-len : goal.returns-then-len
+returns-then-len g c =
+    RunsOnto-next _ _ c.args.bytes.now _ _ _ c.loop-place.place _ c.loop-place.invariant (rw (take_rest c.args.bytes.now c.loop-place.place) at c.widen_part-len.ensures)

@@ -21,7 +21,7 @@ loop-place-preserved g c =
     record {
       least = omega arith;
       within = omega arith;
-      items = given_more c.args.high_first c.args.text.now _ _ _ 16 (c.loop-place.place - 16) c.loop-place.place 64 _ before.items c.put_four.ensures.items (omega arith) (omega arith);
+      items = given_more c.args.high_first c.args.text.now _ _ _ 16 (c.loop-place.place - 16) c.loop-place.place 64 _ before.items c.put_64.ensures.items (omega arith) (omega arith);
       len = omega arith;
       capacity = omega arith;
     }
