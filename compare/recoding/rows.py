@@ -5,7 +5,7 @@ usage: python3 compare/recoding/rows.py
 
 It writes `blocks.txt` and `block_places.txt` to crates/run_rows/data. Blocks have up to 133 bytes, and the thing that is
 other, a fault or a code of another length, lies over the end of the first 16, 32, 48, 64, 80, 96, 112 or 128 bytes, or
-begins or ends there.
+begins or ends there. Surrogates stand at each of the first 41 places of units.
 """
 import random
 import sys
@@ -22,6 +22,7 @@ FILLS = ['a\0Z\x7f', '\x80é\u07ff', '\u0800€\ud7ff\ue000\uffff', '\U00010000�
 CODES = ['a', '\x80', '\u07ff', '\u0800', '\ud7ff', '\ue000', '\ufffd', '\U00010000', '\U0010ffff']
 BYTES = ['c0', 'ff', '80', 'bf80', 'c2', 'df', 'e0', 'e0a0', 'e282', 'ed9f', 'f0', 'f090', 'f09f82', 'f48f', 'f48fbf', 'e08080',
          'e09fbf', 'f0808080', 'f08fbfbf', 'eda080', 'edbfbf', 'f4908080', 'f4bfbfbf', 'f5']
+SURROGATES = ['d83c', 'dca0', 'd83cdca0']
 UNITS = ['d800', 'dbff', 'dc00', 'dfff', 'd83cd83c', 'dca0d83c', 'd83cdca0dca0']
 
 
@@ -68,6 +69,21 @@ def recoded_rows(rng):
                 for _ in range(5):
                     data = block(rng, codec, fill)
                     yield f'{source} {target}|{data.hex()}|{bytes(recoded(source, target, list(data))).hex()}'
+    yield from surrogate_rows(random.Random(40))
+
+
+def surrogate_rows(rng):
+    """Forty units of text with a surrogate alone, or a pair, before, among or after them."""
+    for source in 'utf16le', 'utf16be':
+        codec = FORMS[source]
+        for place in range(41):
+            for number, units in enumerate(SURROGATES):
+                fill = FILLS[(place + number) % len(FILLS)]
+                thing = b''.join(int(units[k:k + 4], 16).to_bytes(2, 'big' if codec == 'utf-16-be' else 'little') for k in range(0, len(units), 4))
+                front, ascii_front = filled(rng, codec, fill, 2 * place)
+                back, ascii_back = filled(rng, codec, fill, 2 * (40 - place))
+                data = ascii_front + front + thing + back + ascii_back
+                yield f'{source} utf8|{data.hex()}|{bytes(recoded(source, "utf8", list(data))).hex()}'
 
 
 def place_rows(rng):
