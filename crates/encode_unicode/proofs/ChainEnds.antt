@@ -5,12 +5,11 @@ use Rattle.std.specs.List.{last_or, sum_by}
 use Rattle.std.specs.Str.{chars}
 use Rattle.std.proofs.lemmas.Iterator.{YieldsList, items_from_drains}
 use Rattle.std.proofs.lemmas.Iterator.Adapters.{serves_from_total}
-use Rattle.std.proofs.lemmas.List.{map-id, take_all}
+use Rattle.std.proofs.lemmas.List.{map-id}
 use Rattle.std.proofs.lemmas.List.Sums.{sum_by-cons}
-use Rattle.encode_unicode.specs.Pieces.{chars_left}
 use Rattle.encode_unicode.specs.TextWindow.{BackScalar}
 use Rattle.encode_unicode.specs.Window.{Window, whole_window}
-use Rattle.encode_unicode.proofs.PieceRuns.{scalars_last}
+use Rattle.encode_unicode.proofs.PieceRuns.{chars_of_text, scalars_listed_back}
 
 -- the last item of a chain whose list is known
 pub last_from_yields : {S A : Type 0} {steps : S → Option A → S → Type 0} {s : S} (xs : List A) (r : Option A) → ((ys : List A) × Drains steps s ys × (r ≡ last_or None ys))
@@ -19,20 +18,9 @@ last_from_yields xs r ran yields =
     let end = ran.1 in
     ran.2 ∙ ap (last_or None) (sym (map-id ran.0) ∙ items_from_drains ran.0 (end.1.0, end.1.1, λ _. (end.0, end.1.2)) yields)
 
-last_push : {A : Type 0} (o : Option A) (xs : List A) (x : A) → last_or o (xs ++ x ∷ []) ≡ Some x
-last_push o [] x = refl
-last_push o (y ∷ ys) x = last_push (Some y) ys x
-
 -- what `next_back` answers of a whole text is its last character
 pub last_of_text : (w v : Window) (text : List ℕ) (r : Option ℕ) → w ≡ whole_window text → BackScalar w r v → r ≡ last_or None (chars text)
-last_of_text w v text r e h = by_answer r h
-  where
-    all : chars_left w ≡ chars text
-    all = ap chars_left e ∙ ap chars (take_all _ text (omega arith))
-
-    by_answer : (r : Option ℕ) → BackScalar w r v → r ≡ last_or None (chars text)
-    by_answer None h = sym (ap (last_or None) (sym all ∙ (scalars_last w None v h).0))
-    by_answer (Some s) h = sym (ap (last_or None) (sym all ∙ scalars_last w (Some s) v h) ∙ last_push None (chars_left v) s)
+last_of_text w v text r e h = (scalars_listed_back w r v h).1 ∙ ap (last_or None) (chars_of_text text w e).0
 
 ones : {A : Type 0} (xs : List A) → sum_by (λ _. 1) xs ≡ length xs
 ones [] = refl

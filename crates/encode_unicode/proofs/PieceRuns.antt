@@ -5,7 +5,7 @@ use Rattle.std.specs.Iterator.Runs.{Run, EveryRun, EachRunFrom, WholeRun, AllIte
 use Rattle.std.proofs.iter.runs.Lists.{Everywhere}
 use Rattle.std.proofs.iter.runs.Made.{took, each}
 use Rattle.std.proofs.iter.runs.Sources.{as_is, as_is_back, from_back, from_front}
-use Rattle.std.specs.List.{flat_map, fold}
+use Rattle.std.specs.List.{flat_map, fold, last_or}
 use Rattle.std.specs.Prelude.{IfOk, encode_utf8_all, slice_index, slice_range, option_map}
 use Rattle.std.specs.Str.{chars, IsCharBoundary, IsUtf8}
 use Rattle.std.proofs.lemmas.Grind.{common_steps}
@@ -26,8 +26,9 @@ use Rattle.utf_base.proofs.Utf8Code.{utf8_is_code, length_utf8}
 use Rattle.utf_base.proofs.StdText.{utf8_is_std, utf8_is_text}
 use Rattle.utf_chars.proofs.Ranges.{range_after}
 use Rattle.encode_unicode.proofs.Joined.{some_utf8}
-use Rattle.encode_unicode.specs.Pieces.{Gives, GivesReversed, LengthsFit, LiesWithin, LiesInText, pieces, unit_pieces, pieces_by, pieces_left, unit_pieces_left, placed_chars, chars_left, placed_chars_left}
-use Rattle.encode_unicode.specs.Sources.{IsListed}
+use Rattle.encode_unicode.proofs.RunTests.{tells, tells_back}
+use Rattle.encode_unicode.specs.Pieces.{Gives, GivesReversed, LengthsFit, LiesWithin, LiesInText, PiecesFit, pieces, unit_pieces, pieces_by, pieces_left, unit_pieces_left, placed_chars, chars_left, placed_chars_left}
+use Rattle.encode_unicode.specs.Sources.{IsListed, IsListedBack}
 use Rattle.encode_unicode.specs.TextWindow.{NextScalar, NextPlaced, BackScalar, BackPlaced, GivesFirst, GivesLast}
 use Rattle.encode_unicode.specs.Window.{Window, Placed, elements, whole_window, without_front, as_piece, GivesNone, GivesFrontOf, GivesBackOf, NextGives, NextGivesUnits, NextBackGives, NextBackGivesUnits}
 
@@ -35,14 +36,16 @@ use Rattle.encode_unicode.specs.Window.{Window, Placed, elements, whole_window, 
 pub listed_run : {S A : Type 0} (steps : S → Option A → S → Type 0) (rest : S → List A) → IsListed steps rest → EveryRun steps (λ p. Gives p (rest p.from))
 listed_run {S} {A} steps rest listed p seen =
     let mapped = from_front steps (λ (x : A). x) rest (λ s t h. ap length (listed s None t h).0) (λ s x t h. listed s (Some x) t h) p seen in
-    (as_is p (rest p.from) mapped, mapped)
+    let items = as_is p (rest p.from) mapped in
+    (items, mapped, tells p (rest p.from) items)
 
 -- The same from the back.
 listed_run_back : {S A : Type 0} (back : S → Option A → S → Type 0) (rest : S → List A) → ((s : S) (r : Option A) (t : S) → back s r t → YieldsLast rest s r t)
     → EveryRun back (λ p. GivesReversed p (rest p.from))
 listed_run_back {S} {A} back rest listed p seen =
     let mapped = from_back back (λ (x : A). x) rest (λ s t h. ap length (listed s None t h).0) (λ s x t h. listed s (Some x) t h) p seen in
-    (as_is_back p (rest p.from) mapped, mapped)
+    let items = as_is_back p (rest p.from) mapped in
+    (items, mapped, tells_back p (rest p.from) items)
 
 -- Pieces.
 
@@ -204,6 +207,21 @@ placed_last w (Some x) v h =
     ap (placed_chars w.front) (last_char w v x.0 x.1 h) ∙ placed-append w.front (chars_left v) (x.1 ∷ []) ∙ ap (λ p. placed_chars w.front (chars_left v) ++ (p, x.1) ∷ []) place
     ∙ ap (λ p. placed_chars p (chars_left v) ++ x ∷ []) (sym front)
 
+last_push : {A : Type 0} (o : Option A) (xs : List A) (x : A) → last_or o (xs ++ x ∷ []) ≡ Some x
+last_push o [] x = refl
+last_push o (y ∷ ys) x = last_push (Some y) ys x
+
+-- a call that takes the last item answers it
+listed_back : {S A : Type 0} (rest : S → List A) (s : S) (r : Option A) (t : S) → YieldsLast rest s r t → YieldsLast rest s r t × (r ≡ last_or None (rest s))
+listed_back rest s None t h = (h, ap (last_or None) (sym h.0))
+listed_back rest s (Some x) t h = (h, sym (ap (last_or None) h ∙ last_push None (rest t) x))
+
+pub scalars_listed_back : IsListedBack BackScalar chars_left
+scalars_listed_back w r v h = listed_back chars_left w r v (scalars_last w r v h)
+
+pub placed_listed_back : IsListedBack BackPlaced placed_chars_left
+placed_listed_back w r v h = listed_back placed_chars_left w r v (placed_last w r v h)
+
 -- What their runs give.
 
 pub decoder_runs : EveryRun NextGives (λ p. Gives p (pieces_left p.from))
@@ -224,22 +242,13 @@ placed_runs_back = listed_run_back BackPlaced placed_chars_left placed_last
 pub placed_runs : EveryRun NextPlaced (λ p. Gives p (placed_chars_left p.from))
 placed_runs = listed_run NextPlaced placed_chars_left placed_listed
 
--- What runs over the whole text give.
+-- What a window of the whole text gives.
 
-whole_text : (text : List ℕ) → elements (whole_window text) ≡ text
+pub whole_text : (text : List ℕ) → elements (whole_window text) ≡ text
 whole_text text = take_all _ text (omega arith)
 
-pub scalars_all : (text : List ℕ) (s : Window) → s ≡ whole_window text → EachRunFrom NextScalar s (λ p. Gives p (chars text))
-scalars_all text s e p seen from = subst (Gives p) (ap chars_left (from ∙ e) ∙ ap chars (whole_text text)) (scalars_runs p seen)
-
-pub scalars_all_back : (text : List ℕ) (s : Window) → s ≡ whole_window text → EachRunFrom BackScalar s (λ p. GivesReversed p (chars text))
-scalars_all_back text s e p seen from = subst (GivesReversed p) (ap chars_left (from ∙ e) ∙ ap chars (whole_text text)) (scalars_runs_back p seen)
-
-pub placed_all : (text : List ℕ) (s : Window) → s ≡ whole_window text → EachRunFrom NextPlaced s (λ p. Gives p (placed_chars 0 (chars text)))
-placed_all text s e p seen from = subst (Gives p) (ap placed_chars_left (from ∙ e) ∙ ap (λ xs. placed_chars 0 (chars xs)) (whole_text text)) (placed_runs p seen)
-
-pub placed_all_back : (text : List ℕ) (s : Window) → s ≡ whole_window text → EachRunFrom BackPlaced s (λ p. GivesReversed p (placed_chars 0 (chars text)))
-placed_all_back text s e p seen from = subst (GivesReversed p) (ap placed_chars_left (from ∙ e) ∙ ap (λ xs. placed_chars 0 (chars xs)) (whole_text text)) (placed_runs_back p seen)
+pub chars_of_text : (text : List ℕ) (w : Window) → w ≡ whole_window text → (chars_left w ≡ chars text) × (placed_chars_left w ≡ placed_chars 0 (chars text))
+chars_of_text text w e = let left = ap chars_left e ∙ ap chars (whole_text text) in (left, ap placed_chars_left e ∙ ap (λ xs. placed_chars 0 (chars xs)) (whole_text text))
 
 -- Where their items lie.
 
@@ -353,17 +362,43 @@ all_no_longer (x ∷ xs) =
     let of_bytes = length-append (utf8 x) (flat_map utf8 xs) in
     omega arith
 
-lengths_fit : (code : ℕ → List ℕ) (text : List ℕ) (p : Run NextScalar) → length (flat_map code (chars text)) ≤ length text → Gives p (chars text) → LengthsFit code (length text) p
-lengths_fit code text p le gives =
+lengths_fit : (code : ℕ → List ℕ) (text : List ℕ) (s : Window) → s ≡ whole_window text → length (flat_map code (chars text)) ≤ length text → EachRunFrom NextScalar s (LengthsFit code (length text))
+lengths_fit code text s e le p seen from =
+    let gives : Gives p (chars text) = subst (Gives p) (ap chars_left from ∙ (chars_of_text text s e).0) (scalars_runs p seen) in
     let most : fold (λ a c. a + length (code c)) 0 p.items ≤ fold (λ a c. a + length (code c)) 0 (chars text) = gives.0.5 (λ a c. a + length (code c)) 0 (λ a c. omega arith) in
     let all = lengths_added code 0 (chars text) in
     omega arith
 
+pub codes_fit : (text : List ℕ) (s : Window) → IsUtf8 text → s ≡ whole_window text → EachRunFrom NextScalar s (LengthsFit utf8 (length text))
+codes_fit text s h e = lengths_fit utf8 text s e (omega (arith, ap length (codes_of_text text h)))
+
 pub units_fit : (text : List ℕ) (s : Window) → IsUtf8 text → s ≡ whole_window text → EachRunFrom NextScalar s (LengthsFit utf16 (length text))
-units_fit text s h e p seen from =
-    let whole = ap length (codes_of_text text h) in
-    let fewer = all_no_longer (chars text) in
-    lengths_fit utf16 text p (omega arith) (scalars_all text s e p seen from)
+units_fit text s h e = lengths_fit utf16 text s e (omega (arith, ap length (codes_of_text text h), all_no_longer (chars text)))
+
+-- How long pieces are together.
+
+piece_takes : {E : Type 0} (code : ℕ → List ℕ) (most : ℕ) (kind : List ℕ → Option E) (answer : List ℕ → Result (ℕ × ℕ) E) (w v : Window) (x : Placed E) → GivesFrontOf code most kind answer w x v
+    → (v.back ≡ w.back) × (v.front ≡ w.front + x.2) × (w.front + x.2 ≤ w.back)
+piece_takes code most kind answer w v x g =
+    let most : length (elements w) ≤ w.back - w.front = grind (arith, common_steps) in
+    (ap (λ (u : Window). u.back) g.left, ap (λ (u : Window). u.front) g.left, omega arith)
+
+module _ {E : Type 0} (steps : Window → Option (Placed E) → Window → Type 0) (takes : (w v : Window) (x : Placed E) → steps w (Some x) v → (v.back ≡ w.back) × (v.front ≡ w.front + x.2) × (w.front + x.2 ≤ w.back)) where
+  taken_fit : (n : ℕ) (xs : List (Placed E)) (w t : Window) → Yields steps w xs t → fold (λ sum x. sum + x.2) n xs ≤ n + (w.back - w.front)
+  taken_fit n [] w t y = omega arith
+  taken_fit n (x ∷ xs) w t y =
+      let one = takes w y.0 x y.1 in
+      let rest = taken_fit (n + x.2) xs y.0 t y.2 in
+      omega arith
+
+  run_fits : EveryRun steps (λ p. PiecesFit (p.from.back - p.from.front) p)
+  run_fits p seen = let most = taken_fit 0 p.items p.from (took p).0 (took p).1 in omega arith
+
+pub pieces_fit : EveryRun NextGives (λ p. PiecesFit (p.from.back - p.from.front) p)
+pieces_fit = run_fits NextGives (λ w v x g. piece_takes utf8 4 fault_kind decoded w v x g)
+
+pub unit_pieces_fit : EveryRun NextGivesUnits (λ p. PiecesFit (p.from.back - p.from.front) p)
+unit_pieces_fit = run_fits NextGivesUnits (λ w v x g. piece_takes utf16 2 unit_fault_kind decoded_pairs w v x g)
 
 -- As std's lemmas on chains take it: the list that runs give.
 

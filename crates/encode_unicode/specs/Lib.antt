@@ -1,4 +1,5 @@
 pub mod Pieces
+pub mod RunTests
 pub mod GivenBounds
 pub mod Words
 pub mod Window

@@ -1,10 +1,11 @@
 -- What whole runs of decoders and of iterators over a text give, as lists.
-use Rattle.std.specs.Prelude.{ℕ, zero, suc, ◌+◌, ◌<◌, ◌≤◌, List, [], ◌∷◌, length, drop, Result, Option}
-use Rattle.std.specs.List.{fold}
+use Rattle.std.specs.Prelude.{◌≡◌, ℕ, zero, suc, ◌+◌, ◌<◌, ◌≤◌, List, [], ◌∷◌, length, drop, reverse, Result, Option}
+use Rattle.std.specs.List.{flat_map, fold}
 use Rattle.std.specs.Iterator.Runs.{Run, ItemsAre, ItemsMapTo, ItemsAreReversed, ItemsMapToReversed}
-use Rattle.std.specs.Str.{chars, IsCharBoundary}
+use Rattle.std.specs.Str.{chars, IsCharBoundary, IsUtf8}
 use Rattle.utf_base.specs.Code.{utf8}
 use Rattle.utf_base.specs.Decoded.{decoded, decoded_pairs}
+use Rattle.encode_unicode.specs.RunTests.{Tells}
 use Rattle.encode_unicode.specs.Window.{Window, Placed, Item, UnitItem, elements, whole_window, as_piece}
 
 -- the pieces of a list whose first element stands at a place, one after another, by what is decoded at the front of what is
@@ -41,17 +42,25 @@ chars_left w = chars (elements w)
 abbrev pub placed_chars_left : Window → List (ℕ × ℕ)
 placed_chars_left w = placed_chars w.front (chars (elements w))
 
+-- the codes of a text's characters, joined, are the text
+abbrev pub CodesAreTheText : Type 0
+CodesAreTheText = (text : List ℕ) → IsUtf8 text → flat_map utf8 (chars text) ≡ text
+
 -- a run gives the elements of the list, in order: said of the elements and of what is made of them
 abbrev pub Gives : {S A : Type 0} {steps : S → Option A → S → Type 0} → Run steps → List A → Type 0
-Gives p xs = ItemsAre p xs × ItemsMapTo p (λ x. x) xs
+Gives p xs = ItemsAre p xs × ItemsMapTo p (λ x. x) xs × Tells p xs
 
 -- the same, last first
 abbrev pub GivesReversed : {S A : Type 0} {steps : S → Option A → S → Type 0} → Run steps → List A → Type 0
-GivesReversed p xs = ItemsAreReversed p xs × ItemsMapToReversed p (λ x. x) xs
+GivesReversed p xs = ItemsAreReversed p xs × ItemsMapToReversed p (λ x. x) xs × Tells p (reverse xs)
 
 -- the codes of the characters that a run gives have no more elements together than this
 abbrev pub LengthsFit : {S : Type 0} {steps : S → Option ℕ → S → Type 0} → (ℕ → List ℕ) → ℕ → Run steps → Type 0
 LengthsFit code most p = fold (λ sum s. sum + length (code s)) 0 p.items ≤ most
+
+-- the pieces that a run gives have no more elements together than this
+abbrev pub PiecesFit : {S E : Type 0} {steps : S → Option (Placed E) → S → Type 0} → ℕ → Run steps → Type 0
+PiecesFit most p = fold (λ sum x. sum + x.2) 0 p.items ≤ most
 
 -- a piece lies within so many elements
 abbrev pub LiesWithin : {E : Type 0} → ℕ → Placed E → Type 0

@@ -1,14 +1,18 @@
 -- What a source of items still gives, and what a splitter of characters makes of it.
 use Rattle.std.specs.Prelude.{◌≡◌, ℕ, ◌+◌, ◌*◌, ◌^◌, ◌-◌, List, ◌++◌, [], length, min, Option, IfSome, nat_lt, if◌then◌else◌, Some, None}
-use Rattle.std.specs.Iterator.{Count, YieldsFirst, UpTo}
+use Rattle.std.specs.Iterator.{Count, YieldsFirst, YieldsLast, UpTo}
 use Rattle.std.specs.Iterator.SizeHint.{IsWithinCount}
-use Rattle.std.specs.List.{flat_map}
+use Rattle.std.specs.List.{flat_map, last_or}
 use Rattle.utf_chars.specs.Taking.{BoundsLength}
 
 -- `rest` tells the items that each state still gives: a call takes the first of them, or answers `None` where there is
 -- none, and then there is none afterwards
 abbrev pub IsListed : {S A : Type 0} → (S → Option A → S → Type 0) → (S → List A) → Type 0
 IsListed {S} {A} steps rest = (s : S) (r : Option A) (t : S) → steps s r t → YieldsFirst rest s r t
+
+-- the same of calls from the back: each takes the last of the items
+abbrev pub IsListedBack : {S A : Type 0} → (S → Option A → S → Type 0) → (S → List A) → Type 0
+IsListedBack {S} {A} back rest = (s : S) (r : Option A) (t : S) → back s r t → YieldsLast rest s r t × (r ≡ last_or None (rest s))
 
 -- each clone of the source s still gives what s does
 abbrev pub GivesTheSame : {S A : Type 0} → (S → S → Type 0) → (S → List A) → S → Type 0

@@ -1,5 +1,5 @@
 //! Iterators that cut slices into characters and errors.
-ghost use Rattle.std.specs.Prelude.{◌≡◌, ◌-◌, ◌/◌, IfSome, Some, [], ⊤};
+ghost use Rattle.std.specs.Prelude.{◌≡◌, ◌-◌, ◌/◌, drop, length, IfSome, Some, [], ⊤};
 ghost use Rattle.std.specs.Iterator.{at_most, UpTo};
 ghost use Rattle.std.specs.Iterator.SizeHint.{IsWithinCount};
 ghost use Rattle.encode_unicode.specs.Hints.{BoundsPieces};
@@ -58,7 +58,8 @@ impl<'a> Utf8CharDecoder<'a> {
     /// The bytes that no call has answered for yet, lent from the slice for as long as it lives.
     #[inline(always)]
     pub fn as_slice(&self) -> &'a [u8]
-        ensures { result.now ≡ elements self.now }
+        ensures left { result.now ≡ elements self.now }
+        ensures end { self.now.back ≡ length self.now.whole → result.now ≡ drop self.now.front self.now.whole }
     {
         &self.slice[self.front..self.back]
     }

@@ -1,7 +1,10 @@
 //! The laws of codes, pieces and errors, each the contract of a function that does nothing. A caller
 //! calls the one that its proof needs.
+ghost use Rattle.std.specs.Iterator.Runs.{EveryRun};
+ghost use Rattle.std.specs.Prelude.{◌-◌};
 ghost use Rattle.encode_unicode.specs.GivenBounds.{NoMoreGiven, NoLongerGiven};
-ghost use Rattle.encode_unicode.specs.Pieces.{pieces, unit_pieces};
+ghost use Rattle.encode_unicode.specs.Pieces.{CodesAreTheText, PiecesFit, pieces, unit_pieces};
+ghost use Rattle.encode_unicode.specs.Window.{NextGives, NextGivesUnits};
 
 pub use utf_base::laws::{
     ascii_stands_alone, code_or_last_byte, code_or_one_fault, codes_never_overlap, cut_exists,
@@ -21,4 +24,15 @@ pub fn runs_are_bounded()
     ensures utf16 { NoMoreGiven unit_pieces }
     ensures utf8_longest { NoLongerGiven pieces 4 }
     ensures utf16_longest { NoLongerGiven unit_pieces 2 }
+{}
+
+/// The pieces of a run have no more elements together than the window that it goes over: so their lengths may be added up.
+pub fn lengths_are_bounded()
+    ensures utf8 { EveryRun NextGives (λ p. PiecesFit (p.from.back - p.from.front) p) }
+    ensures utf16 { EveryRun NextGivesUnits (λ p. PiecesFit (p.from.back - p.from.front) p) }
+{}
+
+/// The codes of the characters of a text, one after another, are the text.
+pub fn codes_are_the_text()
+    ensures { CodesAreTheText }
 {}

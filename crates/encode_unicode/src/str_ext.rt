@@ -2,8 +2,9 @@
 ghost use Rattle.std.specs.Prelude.{◌≡◌, length, List, ℕ};
 ghost use Rattle.std.specs.Str.{chars};
 ghost use Rattle.std.specs.Iterator.Runs.{AllItems, EachRunFrom, EveryRun};
-ghost use Rattle.utf_base.specs.Code.{utf16};
+ghost use Rattle.utf_base.specs.Code.{utf8, utf16};
 ghost use Rattle.encode_unicode.specs.Pieces.{Gives, GivesReversed, LengthsFit, LiesInText, chars_left, placed_chars, placed_chars_left};
+ghost use Rattle.encode_unicode.specs.Sources.{IsListed, IsListedBack};
 ghost use Rattle.encode_unicode.specs.TextWindow.{BackPlaced, BackScalar, NextPlaced, NextScalar};
 ghost use Rattle.encode_unicode.specs.Window.{whole_window};
 
@@ -19,37 +20,42 @@ pub trait StrExt<'a>: Sized {
     /// The characters, kept as their codes in UTF-8.
     fn utf8chars(self) -> Utf8Chars<'a>
         ensures window { result ≡ whole_window (text self) }
+        ensures left { chars_left result ≡ chars (text self) }
         ensures runs { EveryRun NextScalar (λ p. Gives p (chars_left p.from)) }
         ensures runs_back { EveryRun BackScalar (λ p. GivesReversed p (chars_left p.from)) }
-        ensures all { EachRunFrom NextScalar result (λ p. Gives p (chars (text self))) }
-        ensures all_back { EachRunFrom BackScalar result (λ p. GivesReversed p (chars (text self))) };
+        ensures listed { IsListed NextScalar chars_left }
+        ensures listed_back { IsListedBack BackScalar chars_left }
+        ensures lengths { EachRunFrom NextScalar result (LengthsFit utf8 (length (text self))) };
 
     /// The characters, kept as their codes in UTF-16.
     fn utf16chars(self) -> Utf16Chars<'a>
         ensures window { result ≡ whole_window (text self) }
+        ensures left { chars_left result ≡ chars (text self) }
         ensures runs { EveryRun NextScalar (λ p. Gives p (chars_left p.from)) }
         ensures runs_back { EveryRun BackScalar (λ p. GivesReversed p (chars_left p.from)) }
-        ensures all { EachRunFrom NextScalar result (λ p. Gives p (chars (text self))) }
-        ensures all_back { EachRunFrom BackScalar result (λ p. GivesReversed p (chars (text self))) }
+        ensures listed { IsListed NextScalar chars_left }
+        ensures listed_back { IsListedBack BackScalar chars_left }
         ensures lengths { EachRunFrom NextScalar result (LengthsFit utf16 (length (text self))) };
 
     /// The characters, kept as their codes in UTF-8, each with its offset in bytes.
     fn utf8char_indices(self) -> Utf8CharIndices<'a>
         ensures window { result ≡ whole_window (text self) }
+        ensures left { placed_chars_left result ≡ placed_chars 0 (chars (text self)) }
         ensures runs { EveryRun NextPlaced (λ p. Gives p (placed_chars_left p.from)) }
         ensures runs_back { EveryRun BackPlaced (λ p. GivesReversed p (placed_chars_left p.from)) }
-        ensures all { EachRunFrom NextPlaced result (λ p. Gives p (placed_chars 0 (chars (text self)))) }
-        ensures all_back { EachRunFrom BackPlaced result (λ p. GivesReversed p (placed_chars 0 (chars (text self)))) }
+        ensures listed { IsListed NextPlaced placed_chars_left }
+        ensures listed_back { IsListedBack BackPlaced placed_chars_left }
         ensures places { EachRunFrom NextPlaced result (λ p. AllItems p (LiesInText (text self))) }
         ensures places_back { EachRunFrom BackPlaced result (λ p. AllItems p (LiesInText (text self))) };
 
     /// The characters, kept as their codes in UTF-16, each with its offset in bytes.
     fn utf16char_indices(self) -> Utf16CharIndices<'a>
         ensures window { result ≡ whole_window (text self) }
+        ensures left { placed_chars_left result ≡ placed_chars 0 (chars (text self)) }
         ensures runs { EveryRun NextPlaced (λ p. Gives p (placed_chars_left p.from)) }
         ensures runs_back { EveryRun BackPlaced (λ p. GivesReversed p (placed_chars_left p.from)) }
-        ensures all { EachRunFrom NextPlaced result (λ p. Gives p (placed_chars 0 (chars (text self)))) }
-        ensures all_back { EachRunFrom BackPlaced result (λ p. GivesReversed p (placed_chars 0 (chars (text self)))) }
+        ensures listed { IsListed NextPlaced placed_chars_left }
+        ensures listed_back { IsListedBack BackPlaced placed_chars_left }
         ensures places { EachRunFrom NextPlaced result (λ p. AllItems p (LiesInText (text self))) }
         ensures places_back { EachRunFrom BackPlaced result (λ p. AllItems p (LiesInText (text self))) };
 }
@@ -58,25 +64,25 @@ impl<'a> StrExt<'a> for &'a str {
     ghost text = { λ text. text.now };
 
     #[inline]
-    #[tactic(auto, using(crate::proofs::PieceRuns::scalars_runs, crate::proofs::PieceRuns::scalars_runs_back))]
+    #[tactic(auto, using(crate::proofs::PieceRuns::chars_of_text, crate::proofs::PieceRuns::scalars_listed, crate::proofs::PieceRuns::scalars_listed_back, crate::proofs::PieceRuns::codes_fit))]
     fn utf8chars(self) -> Utf8Chars<'a> {
         Utf8Chars::from(self)
     }
 
     #[inline]
-    #[tactic(auto, using(crate::proofs::PieceRuns::scalars_runs, crate::proofs::PieceRuns::scalars_runs_back, crate::proofs::PieceRuns::units_fit))]
+    #[tactic(auto, using(crate::proofs::PieceRuns::chars_of_text, crate::proofs::PieceRuns::scalars_listed, crate::proofs::PieceRuns::scalars_listed_back, crate::proofs::PieceRuns::units_fit))]
     fn utf16chars(self) -> Utf16Chars<'a> {
         Utf16Chars::from(self)
     }
 
     #[inline]
-    #[tactic(auto, using(crate::proofs::PieceRuns::placed_runs, crate::proofs::PieceRuns::placed_runs_back, crate::proofs::PieceRuns::text_places, crate::proofs::PieceRuns::text_places_back))]
+    #[tactic(auto, using(crate::proofs::PieceRuns::chars_of_text, crate::proofs::PieceRuns::placed_listed, crate::proofs::PieceRuns::placed_listed_back, crate::proofs::PieceRuns::text_places, crate::proofs::PieceRuns::text_places_back))]
     fn utf8char_indices(self) -> Utf8CharIndices<'a> {
         Utf8CharIndices::from(self)
     }
 
     #[inline]
-    #[tactic(auto, using(crate::proofs::PieceRuns::placed_runs, crate::proofs::PieceRuns::placed_runs_back, crate::proofs::PieceRuns::text_places, crate::proofs::PieceRuns::text_places_back))]
+    #[tactic(auto, using(crate::proofs::PieceRuns::chars_of_text, crate::proofs::PieceRuns::placed_listed, crate::proofs::PieceRuns::placed_listed_back, crate::proofs::PieceRuns::text_places, crate::proofs::PieceRuns::text_places_back))]
     fn utf16char_indices(self) -> Utf16CharIndices<'a> {
         Utf16CharIndices::from(self)
     }

@@ -2,6 +2,7 @@
 ghost use Rattle.std.specs.Prelude.{◌≡◌, length, List, ℕ};
 ghost use Rattle.std.specs.Iterator.Runs.{AllItems, EachRunFrom, EveryRun};
 ghost use Rattle.encode_unicode.specs.Pieces.{Gives, LiesWithin, pieces_left, unit_pieces_left};
+ghost use Rattle.encode_unicode.specs.Sources.{IsListed};
 ghost use Rattle.encode_unicode.specs.Window.{whole_window, NextGives, NextGivesUnits, NextBackGives, NextBackGivesUnits};
 
 use crate::decoding_iterators::Utf8CharDecoder;
@@ -17,6 +18,7 @@ pub trait U8SliceExt<'a>: Sized {
     fn utf8char_indices(self) -> Utf8CharDecoder<'a>
         ensures window { result ≡ whole_window (bytes self) }
         ensures runs { EveryRun NextGives (λ p. Gives p (pieces_left p.from)) }
+        ensures listed { IsListed NextGives pieces_left }
         ensures places { EachRunFrom NextGives result (λ p. AllItems p (LiesWithin (length (bytes self)))) }
         ensures places_back { EachRunFrom NextBackGives result (λ p. AllItems p (LiesWithin (length (bytes self)))) };
 }
@@ -25,7 +27,7 @@ impl<'a> U8SliceExt<'a> for &'a [u8] {
     ghost bytes = { λ slice. slice.now };
 
     #[inline]
-    #[tactic(auto, using(crate::proofs::PieceRuns::decoder_runs, crate::proofs::PieceRuns::decoder_places, crate::proofs::PieceRuns::decoder_places_back))]
+    #[tactic(auto, using(crate::proofs::PieceRuns::decoder_listed, crate::proofs::PieceRuns::decoder_places, crate::proofs::PieceRuns::decoder_places_back))]
     fn utf8char_indices(self) -> Utf8CharDecoder<'a> {
         Utf8CharDecoder::from(self)
     }
@@ -41,6 +43,7 @@ pub trait U16SliceExt<'a>: Sized {
     fn utf16char_indices(self) -> Utf16CharDecoder<'a>
         ensures window { result ≡ whole_window (units self) }
         ensures runs { EveryRun NextGivesUnits (λ p. Gives p (unit_pieces_left p.from)) }
+        ensures listed { IsListed NextGivesUnits unit_pieces_left }
         ensures places { EachRunFrom NextGivesUnits result (λ p. AllItems p (LiesWithin (length (units self)))) }
         ensures places_back { EachRunFrom NextBackGivesUnits result (λ p. AllItems p (LiesWithin (length (units self)))) };
 }
@@ -49,7 +52,7 @@ impl<'a> U16SliceExt<'a> for &'a [u16] {
     ghost units = { λ slice. slice.now };
 
     #[inline]
-    #[tactic(auto, using(crate::proofs::PieceRuns::unit_decoder_runs, crate::proofs::PieceRuns::unit_decoder_places, crate::proofs::PieceRuns::unit_decoder_places_back))]
+    #[tactic(auto, using(crate::proofs::PieceRuns::unit_decoder_listed, crate::proofs::PieceRuns::unit_decoder_places, crate::proofs::PieceRuns::unit_decoder_places_back))]
     fn utf16char_indices(self) -> Utf16CharDecoder<'a> {
         Utf16CharDecoder::from(self)
     }

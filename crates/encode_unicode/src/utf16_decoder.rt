@@ -1,5 +1,5 @@
 //! The iterator that cuts a slice of units into characters and errors.
-ghost use Rattle.std.specs.Prelude.{◌≡◌, ◌-◌, ◌/◌, ◌<◌, [], IfSome, Some, ⊤, length, List, ℕ};
+ghost use Rattle.std.specs.Prelude.{◌≡◌, ◌-◌, ◌/◌, ◌<◌, drop, [], IfSome, Some, ⊤, length, List, ℕ};
 ghost use Rattle.std.specs.Iterator.{at_most, UpTo};
 ghost use Rattle.std.specs.Iterator.SizeHint.{IsWithinCount};
 ghost use Rattle.utf_base.specs.Back.{decoded_pairs_end, unit_end_fault};
@@ -70,7 +70,8 @@ impl<'a> Utf16CharDecoder<'a> {
     /// The units that no call has answered for yet, lent from the slice for as long as it lives.
     #[inline(always)]
     pub fn as_slice(&self) -> &'a [u16]
-        ensures { result.now ≡ elements self.now }
+        ensures left { result.now ≡ elements self.now }
+        ensures end { self.now.back ≡ length self.now.whole → result.now ≡ drop self.now.front self.now.whole }
     {
         &self.slice[self.front..self.back]
     }

@@ -1,15 +1,15 @@
 //! Chains over a decoder: what a chain answers is said of `pieces`, the list of what the decoder gives.
-ghost use Rattle.std.specs.Prelude.{◌≡◌, ◌+◌, ◌↔◌, IsTrue, None, cond, count_by, is_err, is_ok, max, nat_eq, position, take};
+ghost use Rattle.std.specs.Prelude.{◌≡◌, ◌+◌, ◌↔◌, IsTrue, None, cond, count_by, is_err, is_ok, max, nat_eq, not, position, reverse, slice_get, take};
 ghost use Rattle.std.specs.List.{filter_map, find, fold, last_or, list_all, list_any};
 ghost use Rattle.std.specs.Result.{result_ok};
 ghost use Rattle.std.specs.Str.{IsUtf8, chars};
 ghost use Rattle.cuts.specs.WellFormed.{IsFirstFault};
 ghost use Rattle.encode_unicode.specs.Code.{utf8};
-ghost use Rattle.encode_unicode.specs.Pieces.{pieces};
+ghost use Rattle.encode_unicode.specs.Pieces.{pieces, placed_chars};
 
 use cuts::laws;
 use encode_unicode::error::Utf8Error;
-use encode_unicode::laws::runs_are_bounded;
+use encode_unicode::laws::{lengths_are_bounded, runs_are_bounded};
 use encode_unicode::{StrExt, U8SliceExt, Utf8Char};
 
 /// How many pieces of the bytes are faults.
@@ -63,6 +63,34 @@ pub fn first_beyond_ascii(bytes: &[u8]) -> &[u8] {
     }
 }
 
+/// How many spaces the text begins with, and `None` where it has nothing else.
+pub fn leading_spaces(text: &str) -> Option<usize>
+    ensures { result ≡ position (λ c. not (nat_eq c 32)) (chars text.now) }
+{
+    text.utf8chars().position(|c| !c.eq_char(' '))
+}
+
+/// The first tab of the text, with its place.
+pub fn first_tab(text: &str) -> Option<(usize, Utf8Char)>
+    ensures { result ≡ find (λ x. nat_eq x.1 9) (placed_chars 0 (chars text.now)) }
+{
+    text.utf8char_indices().find(|x| x.1.eq_char('\t'))
+}
+
+/// The last character of the text that is no space.
+pub fn last_no_space(text: &str) -> Option<Utf8Char>
+    ensures { result ≡ find (λ c. not (nat_eq c 32)) (reverse (chars text.now)) }
+{
+    text.utf8chars().rev().find(|c| !c.eq_char(' '))
+}
+
+/// The first character of the text.
+pub fn first_character(text: &str) -> Option<Utf8Char>
+    ensures { result ≡ slice_get (chars text.now) 0 }
+{
+    text.utf8chars().next()
+}
+
 /// The text after its first space, which is all of it where there is none.
 pub fn after_space(text: &str) -> &str {
     match text.utf8char_indices().find(|x| x.1.eq_char(' ')) {
@@ -94,6 +122,17 @@ pub fn last_line(bytes: &[u8]) -> &[u8] {
 /// How many units the text has in UTF-16.
 pub fn units_needed(text: &str) -> usize {
     text.utf16chars().map(|c| c.len()).sum()
+}
+
+/// How many bytes the text has, character by character.
+pub fn bytes_needed(text: &str) -> usize {
+    text.utf8chars().map(|c| c.len()).sum()
+}
+
+/// How many bytes the pieces have together. The law says that the sum fits.
+pub fn bytes_covered(bytes: &[u8]) -> usize {
+    lengths_are_bounded();
+    bytes.utf8char_indices().map(|x| x.2).sum()
 }
 
 /// Whether the bytes are UTF-8.

@@ -4,6 +4,7 @@ ghost use Rattle.std.specs.Str.{chars};
 ghost use Rattle.encode_unicode.specs.Chars.{ascii_uppercase};
 ghost use Rattle.encode_unicode.specs.Code.{utf8, utf16};
 
+use encode_unicode::laws::codes_are_the_text;
 use encode_unicode::{StrExt, Utf8Char, Utf8CharIterExt, Utf16Char, Utf16CharIterExt};
 use std::alloc::{AllocError, Allocator};
 
@@ -36,6 +37,14 @@ pub fn push_char<A: Allocator>(text: &mut String<A>, c: char) -> Result<(), Allo
     ensures { OnOk result (string_bytes text.new ≡ string_bytes text.old ++ utf8 c) }
 {
     text.push(c)
+}
+
+/// The text itself, character by character. The law says that its codes, joined, are the text.
+pub fn copied<A: Allocator>(alloc: A, text: &str) -> Result<String<A>, AllocError>
+    ensures { IfOk result (λ made. string_bytes made ≡ text.now) }
+{
+    codes_are_the_text();
+    text.utf8chars().collect_string(alloc)
 }
 
 /// The text with its ASCII letters in upper case.

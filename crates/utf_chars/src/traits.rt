@@ -1,11 +1,11 @@
 //! Methods of `char`.
-ghost use Rattle.std.specs.Prelude.{◌≡◌, ℕ, true, false, length, take, slice_index, unwrap_or, if◌then◌else◌, IfNone, IfOk};
+ghost use Rattle.std.specs.Prelude.{◌≡◌, ℕ, true, false, length, take, slice_index, unwrap_or, if◌then◌else◌, IfNone, IfOk, IfErr, Some, ◌≤◌};
 ghost use Rattle.utf_base.specs.Code.{utf8, utf16};
 ghost use Rattle.utf_base.specs.Decoded.{decoded, decoded_bytes, decoded_units, decoded_two, decoded_tuple};
 ghost use Rattle.utf_base.specs.Decoded.{decoded_number, GivesChar, GivesFirst, DecodesWhole};
 ghost use Rattle.utf_base.specs.Front.{as_scalar, DecodesFront, DecodesBytes, DecodesNumber, IsFrontLen};
 ghost use Rattle.utf_base.specs.Front.{DecodesUnits, DecodesTwoUnits, DecodesTuple};
-ghost use Rattle.utf_base.specs.Kinds.{value};
+ghost use Rattle.utf_base.specs.Kinds.{value, fault_kind};
 ghost use Rattle.utf_base.specs.Units.{is_padded_units, is_surrogate, pair_value, tuple_value, units_of};
 ghost use Rattle.utf_chars.specs.Padded.{padded, IsPadded};
 
@@ -35,11 +35,13 @@ pub trait CharExt: Sized {
 
     /// The bytes of the code in UTF-8, one after another.
     fn iter_utf8_bytes(self) -> Utf8Iterator
-        ensures { result ≡ utf8 (scalar self) };
+        ensures code { result ≡ utf8 (scalar self) }
+        ensures few { length result ≤ 4 };
 
     /// The units of the code in UTF-16, one after another.
     fn iter_utf16_units(self) -> Utf16Iterator
-        ensures { result ≡ utf16 (scalar self) };
+        ensures code { result ≡ utf16 (scalar self) }
+        ensures few { length result ≤ 2 };
 
     /// The code in UTF-8, then zeros, and how many bytes the code has: 1 to 4 (RFC 3629, section 3).
     fn to_utf8_array(self) -> ([u8; 4], usize)
@@ -75,6 +77,7 @@ pub trait CharExt: Sized {
     fn from_utf8_slice_start(src: &[u8]) -> Result<(Self, usize), Utf8Error>
         ensures decodes { DecodesFront scalar src.now result }
         ensures known { GivesFirst scalar (decoded src.now) result }
+        ensures kind { IfErr result (λ k. fault_kind src.now ≡ Some k) }
         ensures len { IfOk result (λ x. IsFrontLen 4 src.now x.1) }
         ensures exact { IfOk result (λ x. decoded (take x.1 src.now) ≡ Ok (scalar x.0, x.1)) };
 
@@ -152,11 +155,13 @@ impl CharExt for char {
     }
 
     #[inline(always)]
+    #[tactic(auto, using(utf_base::proofs::Utf8Code::length_utf8))]
     fn iter_utf8_bytes(self) -> Utf8Iterator {
         Utf8Iterator::from(self)
     }
 
     #[inline(always)]
+    #[tactic(auto, using(utf_base::proofs::Utf16Code::length_utf16))]
     fn iter_utf16_units(self) -> Utf16Iterator {
         Utf16Iterator::from(self)
     }

@@ -1,5 +1,5 @@
 //! A character kept as its code in UTF-16.
-ghost use Rattle.std.specs.Prelude.{◌≡◌, ◌==◌, ◌<◌, ◌≤◌, ◌↔◌, ◌++◌, [], ◌∷◌, Some, IsTrue, IsOk, IfOk, Ok, length, take, drop, ◌-◌};
+ghost use Rattle.std.specs.Prelude.{◌≡◌, ◌==◌, ◌<◌, ◌≤◌, ◌↔◌, ◌++◌, [], ◌∷◌, Some, IsTrue, IsOk, IfOk, Ok, nat_eq, nat_lt, length, take, drop, ◌-◌};
 ghost use Rattle.std.specs.Prelude.{true, false, unwrap_or, slice_index};
 ghost use Rattle.std.specs.Char.{encode_utf8};
 ghost use Rattle.std.specs.Cmp.{partial_order_from_own_ties};
@@ -208,6 +208,7 @@ impl Utf16Char {
     #[tactic(auto, using(crate::proofs::PaddedUnits::second_is_zero, crate::proofs::PaddedUnits::of_one_unit))]
     pub fn is_bmp(self) -> bool
         ensures bmp { IsTrue result ↔ (self < 0x1_0000) }
+        ensures value { result ≡ nat_lt self 0x1_0000 }
         ensures one_unit { IsTrue result → utf16 self ≡ self ∷ [] }
     {
         self.units[1] == 0
@@ -229,6 +230,7 @@ impl Utf16Char {
     #[tactic(auto, using(crate::proofs::PaddedUnits::first_is_ascii, crate::proofs::PaddedUnits::of_one_unit))]
     pub fn is_ascii(self) -> bool
         ensures ascii { IsTrue result ↔ (self < 128) }
+        ensures value { result ≡ nat_lt self 128 }
         ensures one_unit { IsTrue result → utf16 self ≡ self ∷ [] }
     {
         self.units[0] < 128
@@ -355,7 +357,8 @@ impl Utf16Char {
     /// Whether the characters are equal but for the case of ASCII letters.
     #[inline(always)]
     pub fn eq_ignore_ascii_case(&self, other: &Utf16Char) -> bool
-        ensures { IsTrue result ↔ (ascii_lowercase self.now ≡ ascii_lowercase other.now) }
+        ensures equal { IsTrue result ↔ (ascii_lowercase self.now ≡ ascii_lowercase other.now) }
+        ensures value { result ≡ nat_eq (ascii_lowercase self.now) (ascii_lowercase other.now) }
     {
         self.to_ascii_lowercase() == other.to_ascii_lowercase()
     }
@@ -366,7 +369,8 @@ impl Utf16Char {
     /// Whether it is that `char`.
     #[inline(always)]
     pub fn eq_char(self, c: char) -> bool
-        ensures { IsTrue result ↔ (self ≡ c) }
+        ensures equal { IsTrue result ↔ (self ≡ c) }
+        ensures value { result ≡ nat_eq self c }
     {
         c == self.to_char()
     }
@@ -382,7 +386,8 @@ impl Utf16Char {
     /// Whether it is the same character.
     #[inline(always)]
     pub fn eq_utf8(self, c: Utf8Char) -> bool
-        ensures { IsTrue result ↔ (self ≡ c) }
+        ensures equal { IsTrue result ↔ (self ≡ c) }
+        ensures value { result ≡ nat_eq self c }
     {
         self.to_char() == c.to_char()
     }
@@ -398,7 +403,8 @@ impl Utf16Char {
     /// Whether the scalar is that byte, 0xff among them.
     #[inline(always)]
     pub fn eq_u8(self, byte: u8) -> bool
-        ensures { IsTrue result ↔ (self ≡ byte) }
+        ensures equal { IsTrue result ↔ (self ≡ byte) }
+        ensures value { result ≡ nat_eq self byte }
     {
         self.to_char() == char::from(byte)
     }
@@ -406,7 +412,8 @@ impl Utf16Char {
     /// Whether the scalar is that unit. No character is a surrogate.
     #[inline(always)]
     pub fn eq_u16(self, unit: u16) -> bool
-        ensures { IsTrue result ↔ (self ≡ unit) }
+        ensures equal { IsTrue result ↔ (self ≡ unit) }
+        ensures value { result ≡ nat_eq self unit }
     {
         self.to_char() as u32 == unit as u32
     }

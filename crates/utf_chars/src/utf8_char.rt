@@ -1,5 +1,5 @@
 //! A character kept as its code in UTF-8.
-ghost use Rattle.std.specs.Prelude.{◌≡◌, ◌==◌, ◌<◌, ◌≤◌, ◌↔◌, ◌++◌, [], ◌∷◌, Some, IsTrue, IsOk, IfOk, Ok, length, take, drop, replicate, ◌-◌};
+ghost use Rattle.std.specs.Prelude.{◌≡◌, ◌==◌, ◌<◌, ◌≤◌, ◌↔◌, ◌++◌, [], ◌∷◌, Some, IsTrue, IsOk, IfOk, IfErr, Ok, nat_eq, nat_lt, ◌&&◌, length, take, drop, replicate, ◌-◌};
 ghost use Rattle.std.specs.Char.{encode_utf8};
 ghost use Rattle.std.specs.Cmp.{partial_order_from_own_ties};
 ghost use Rattle.std.specs.Cmp.Rules.{comparing, hashing};
@@ -13,7 +13,7 @@ ghost use Rattle.utf_base.specs.Back.{DecodesEnd, decoded_end, IsWholeCode};
 ghost use Rattle.utf_base.specs.Code.{utf8};
 ghost use Rattle.utf_base.specs.Decoded.{decoded, decoded_bytes};
 ghost use Rattle.utf_base.specs.Front.{as_scalar, BeginsWith, DecodesFront, DecodesBytes, IsFrontLen};
-ghost use Rattle.utf_base.specs.Kinds.{value, asked};
+ghost use Rattle.utf_base.specs.Kinds.{value, asked, fault_kind};
 ghost use Rattle.utf_chars.specs.Chars.{ascii_lowercase, ascii_uppercase, BeginsText, IsFrontCode};
 ghost use Rattle.utf_chars.specs.Chars.{first_of_text, parsed, Parses};
 ghost use Rattle.utf_chars.specs.Padded.{padded, IsPadded, HasRoom};
@@ -88,6 +88,7 @@ impl Utf8Char {
     pub fn from_slice_start(src: &[u8]) -> Result<(Utf8Char, usize), Utf8Error>
         ensures decodes { DecodesFront as_scalar src.now result }
         ensures known { result ≡ decoded src.now }
+        ensures kind { IfErr result (λ k. fault_kind src.now ≡ Some k) }
         ensures len { IfOk result (λ x. IsFrontLen 4 src.now x.1) }
         ensures exact { IfOk result (λ x. decoded (take x.1 src.now) ≡ Ok x) }
     {
@@ -251,6 +252,7 @@ impl Utf8Char {
     #[tactic(auto, using(crate::proofs::PaddedLemmas::first_is_ascii, crate::proofs::PaddedLemmas::of_one_byte))]
     pub fn is_ascii(self) -> bool
         ensures ascii { IsTrue result ↔ (self < 128) }
+        ensures value { result ≡ nat_lt self 128 }
         ensures one_byte { IsTrue result → utf8 self ≡ self ∷ [] }
     {
         self.bytes[0] < 128
@@ -410,7 +412,8 @@ impl Utf8Char {
     /// Whether the characters are equal but for the case of ASCII letters.
     #[inline(always)]
     pub fn eq_ignore_ascii_case(&self, other: &Utf8Char) -> bool
-        ensures { IsTrue result ↔ (ascii_lowercase self.now ≡ ascii_lowercase other.now) }
+        ensures equal { IsTrue result ↔ (ascii_lowercase self.now ≡ ascii_lowercase other.now) }
+        ensures value { result ≡ nat_eq (ascii_lowercase self.now) (ascii_lowercase other.now) }
     {
         self.to_ascii_lowercase() == other.to_ascii_lowercase()
     }
@@ -421,7 +424,8 @@ impl Utf8Char {
     /// Whether it is that `char`.
     #[inline(always)]
     pub fn eq_char(self, c: char) -> bool
-        ensures { IsTrue result ↔ (self ≡ c) }
+        ensures equal { IsTrue result ↔ (self ≡ c) }
+        ensures value { result ≡ nat_eq self c }
     {
         self.to_char() == c
     }
@@ -437,7 +441,8 @@ impl Utf8Char {
     /// Whether it is the same character.
     #[inline(always)]
     pub fn eq_utf16(self, c: Utf16Char) -> bool
-        ensures { IsTrue result ↔ (self ≡ c) }
+        ensures equal { IsTrue result ↔ (self ≡ c) }
+        ensures value { result ≡ nat_eq self c }
     {
         c.to_char() == self.to_char()
     }
@@ -453,7 +458,8 @@ impl Utf8Char {
     /// Whether it is the ASCII character of that code. No byte from 128 on is one.
     #[inline(always)]
     pub fn eq_u8(self, byte: u8) -> bool
-        ensures { IsTrue result ↔ ((byte < 128) × (self ≡ byte)) }
+        ensures equal { IsTrue result ↔ ((byte < 128) × (self ≡ byte)) }
+        ensures value { result ≡ (nat_lt byte 128 && nat_eq self byte) }
     {
         byte < 128 && self.to_char() == char::from(byte)
     }

@@ -1,7 +1,8 @@
 //! The character at the front of bytes that are text for the most part.
-ghost use Rattle.std.specs.Prelude.{◌≡◌, ◌+◌, ◌-◌, ◌*◌, ◌≤◌, ◌<◌, length, slice_index, IfSome, IfNone, None, true};
+ghost use Rattle.std.specs.Prelude.{◌≡◌, ◌+◌, ◌-◌, ◌*◌, ◌≤◌, ◌<◌, length, slice_index, IfSome, IfNone, None, Ok, true};
 ghost use Rattle.utf_base.specs.Code.{utf8};
-ghost use Rattle.utf_base.specs.Front.{as_scalar, BeginsWith, NoneBegins};
+ghost use Rattle.utf_base.specs.Decoded.{decoded};
+ghost use Rattle.utf_base.specs.Front.{as_scalar, BeginsWith, IsFrontLen, NoneBegins};
 ghost use Rattle.utf_base.specs.Kinds.{is_continuation};
 
 /// The character whose code begins the bytes, and how many bytes the code has: 1 to 4 (RFC 3629, section 4).
@@ -11,8 +12,11 @@ ghost use Rattle.utf_base.specs.Kinds.{is_continuation};
 /// number anyway. So this is the quicker way to recode text; what is wrong with other bytes is for
 /// `CharExt::from_utf8_slice_start` to say.
 #[inline(always)]
+#[tactic(auto, using(utf_base::proofs::DecodedLemmas::decoded_code, utf_base::proofs::DecodedLemmas::front_len_utf8))]
 pub fn front_of_text(src: &[u8]) -> Option<(char, usize)>
     ensures some { IfSome result (λ x. BeginsWith utf8 src.now (as_scalar x.0) x.1) }
+    ensures known { IfSome result (λ x. decoded src.now ≡ Ok x) }
+    ensures len { IfSome result (λ x. IsFrontLen 4 src.now x.1) }
     ensures none { 4 ≤ length src.now → IfNone result (NoneBegins utf8 src.now) }
     ensures few { length src.now < 4 → result ≡ None }
 {

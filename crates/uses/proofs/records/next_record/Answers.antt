@@ -6,12 +6,12 @@ use Rattle.uses.proofs.records.next_record.Goals as goal
 
 pub returns-then-eq_u16-clause-record : goal.returns-then-eq_u16-clause-record
 returns-then-eq_u16-clause-record g c rest listed =
-    record_zero _ _ _ _ _ _ (c.loop-answer.invariant.taken rest listed) c.in-Ok.is (c.if-eq_u16.ensures.0 refl) (c.in-Some.ensures.steps.takes rest listed)
+    record_zero _ _ _ _ _ _ (c.loop-answer.invariant.taken rest listed) c.in-Ok.is (c.if-eq_u16.ensures.equal.0 refl) (c.in-Some.ensures.steps.takes rest listed)
 
 pub loop-answer-preserved : goal.loop-answer-preserved
 loop-answer-preserved g c =
     let goes = c.in-Some.ensures.goes.on c.loop-answer.invariant.ends in
-    let some : c.in-Ok.c ≢ 0 = search (rules, c.if-eq_u16.ensures) in
+    let some : c.in-Ok.c ≢ 0 = search (rules, c.if-eq_u16.ensures.equal) in
     record {
       can = goes.0;
       ends = goes.1;

@@ -6,12 +6,12 @@ use Rattle.uses.proofs.tokens.tokens.Goals as goal
 pub loop-place-preserved-then-eq_u8 : goal.loop-place-preserved-then-eq_u8
 loop-place-preserved-then-eq_u8 g c =
     let shown = shown_push _ _ _ c.in_ok-push.ensures.items in
-    let more = tokens_push _ _ _ _ _ _ _ c.in-Ok.c _ c.requires c.loop-place.invariant c.in-Some.ensures.steps c.in-Ok.is (c.if-eq_u8.ensures.0 refl).1 refl in
+    let more = tokens_push _ _ _ _ _ _ _ c.in-Ok.c _ c.requires c.loop-place.invariant c.in-Some.ensures.steps c.in-Ok.is (c.if-eq_u8.ensures.equal.0 refl).1 refl in
     rw (shown, c.in-Some.ensures.steps.place) more
 
 pub loop-place-preserved-else-eq_u8 : goal.loop-place-preserved-else-eq_u8
 loop-place-preserved-else-eq_u8 g c =
-    let other : c.in-Ok.c ≢ c.args.delimiter = λ same. absurd (cc (c.if-eq_u8.ensures.1 (c.requires, same))) in
+    let other : c.in-Ok.c ≢ c.args.delimiter = λ same. absurd (cc (c.if-eq_u8.ensures.equal.1 (c.requires, same))) in
     tokens_other c.ascii_stands_alone.ensures c.codes_never_overlap.ensures.utf8 _ _ _ _ _ _ _ c.in-Ok.c c.requires c.loop-place.invariant c.in-Some.ensures.steps c.in-Ok.is other
 
 pub loop-place-preserved : goal.loop-place-preserved

@@ -1,4 +1,5 @@
-use Rattle.std.proofs.Common.{◌<◌, length, arith, sym, ◌∙◌}
+use Rattle.std.proofs.Common.{◌<◌, length, Ok, ap, arith, sym, ◌∙◌}
+use Rattle.utf_base.proofs.DecodedLemmas.{decoded_code}
 use Rattle.utf_base.proofs.KindCases.{begins_with-1}
 use Rattle.cuts.proofs.OfRecoding.NoneBegins.{none_by_first, none_by_second}
 use Rattle.cuts.proofs.recoding.text_front.front_of_text.Goals as goal
@@ -16,3 +17,8 @@ returns-in_default-clause-none c enough = none_by_first c.args.src.now (omega ar
 
 pub returns-in_default-2-clause-none : goal.returns-in_default-2-clause-none
 returns-in_default-2-clause-none c enough = none_by_first c.args.src.now (omega arith) (λ low high. omega arith)
+
+pub returns-then-src-lt128-clause-known : goal.returns-then-src-lt128-clause-known
+returns-then-src-lt128-clause-known c =
+    let begins = returns-then-src-lt128-clause-some c in
+    decoded_code c.args.src.now _ begins.0 ∙ ap (λ n. Ok (c.from.result, n)) (sym begins.1)

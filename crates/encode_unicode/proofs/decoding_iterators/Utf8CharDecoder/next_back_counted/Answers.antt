@@ -6,12 +6,12 @@ use Rattle.encode_unicode.proofs.decoding_iterators.Utf8CharDecoder.next_back_co
 
 pub returns-in-Ok-clause-gives : goal.returns-in-Ok-clause-gives
 returns-in-Ok-clause-gives c =
-    let bytes : c.as_slice.result.now ≡ slice_range c.self.inside.slice.now c.self.inside.front c.self.inside.back = c.as_slice.ensures ∙ ap elements (sym c.self.view_is) in
+    let bytes : c.as_slice.result.now ≡ slice_range c.self.inside.slice.now c.self.inside.front c.self.inside.back = c.as_slice.ensures.left ∙ ap elements (sym c.self.view_is) in
     let some : c.self.inside.front < c.self.inside.back = omega arith in
     rw (← c.self.view_is) (gives_back_char _ _ _ _ _ some c.self.invariant.1 (rw bytes at c.in-Ok.ensures.decodes))
 
 pub returns-in-Err-clause-gives : goal.returns-in-Err-clause-gives
 returns-in-Err-clause-gives c =
-    let bytes : c.as_slice.result.now ≡ slice_range c.self.inside.slice.now c.self.inside.front c.self.inside.back = c.as_slice.ensures ∙ ap elements (sym c.self.view_is) in
+    let bytes : c.as_slice.result.now ≡ slice_range c.self.inside.slice.now c.self.inside.front c.self.inside.back = c.as_slice.ensures.left ∙ ap elements (sym c.self.view_is) in
     let some : c.self.inside.front < c.self.inside.back = omega arith in
     rw (← c.self.view_is) (gives_back_fault _ _ _ _ some c.self.invariant.1 (rw bytes at c.in-Err.ensures.decodes))

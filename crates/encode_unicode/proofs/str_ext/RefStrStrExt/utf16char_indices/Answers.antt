@@ -1,8 +1,8 @@
-use Rattle.encode_unicode.proofs.PieceRuns.{placed_all, placed_all_back}
+use Rattle.encode_unicode.proofs.PieceRuns.{placed_runs, placed_runs_back}
 use Rattle.encode_unicode.proofs.str_ext.RefStrStrExt.utf16char_indices.Goals as goal
 
-pub returns-clause-all : goal.returns-clause-all
-returns-clause-all c = placed_all _ _ c.from.ensures
+pub returns-clause-runs : goal.returns-clause-runs
+returns-clause-runs c = placed_runs
 
-pub returns-clause-all_back : goal.returns-clause-all_back
-returns-clause-all_back c = placed_all_back _ _ c.from.ensures
+pub returns-clause-runs_back : goal.returns-clause-runs_back
+returns-clause-runs_back c = placed_runs_back

@@ -1,8 +1,8 @@
-use Rattle.encode_unicode.proofs.PieceRuns.{scalars_all, scalars_all_back}
+use Rattle.encode_unicode.proofs.PieceRuns.{scalars_runs, scalars_runs_back}
 use Rattle.encode_unicode.proofs.str_ext.RefStrStrExt.utf16chars.Goals as goal
 
-pub returns-clause-all : goal.returns-clause-all
-returns-clause-all c = scalars_all _ _ c.from.ensures
+pub returns-clause-runs : goal.returns-clause-runs
+returns-clause-runs c = scalars_runs
 
-pub returns-clause-all_back : goal.returns-clause-all_back
-returns-clause-all_back c = scalars_all_back _ _ c.from.ensures
+pub returns-clause-runs_back : goal.returns-clause-runs_back
+returns-clause-runs_back c = scalars_runs_back

@@ -1,0 +1,33 @@
+-- What a run tells of the list that it goes over: what `all`, `any`, `find`, `position` and `last` answer, for any test.
+use Rattle.std.specs.Prelude.{◌≡◌, ℕ, ◌-◌, ◌<◌, Bool, true, false, List, Option, Some, None, IsSomeAnd, length}
+use Rattle.std.specs.List.{find, last_or, list_all, list_any, prefix_len}
+use Rattle.std.specs.Iterator.Runs.{Run, AllItems, AllItemsBelow, AnyItem}
+
+module _ {S A : Type 0} {steps : S → Option A → S → Type 0} (p : Run steps) (xs : List A) where
+  -- `all`: each element passes where each item of a whole run does, and not all pass where some item fails
+  abbrev pub TellsAll : Type 0
+  TellsAll = ((test : A → Bool) → p.whole ≡ true → AllItems p (λ x. test x ≡ true) → list_all test xs ≡ true)
+      × ((test : A → Bool) → AnyItem p (λ x. test x ≡ false) → list_all test xs ≡ false)
+
+  -- `any`: some element passes where some item does, and none where each item of a whole run fails
+  abbrev pub TellsAny : Type 0
+  TellsAny = ((test : A → Bool) → p.whole ≡ true → AllItems p (λ x. test x ≡ false) → list_any test xs ≡ false)
+      × ((test : A → Bool) → AnyItem p (λ x. test x ≡ true) → list_any test xs ≡ true)
+
+  -- `find`: the first element that passes is the first item that does, and there is none where each item of a whole run fails
+  abbrev pub TellsFind : Type 0
+  TellsFind = ((test : A → Bool) → p.whole ≡ true → AllItems p (λ x. test x ≡ false) → find test xs ≡ None)
+      × ((test : A → Bool) (k : ℕ) (x : A) → p.at k ≡ Some x → test x ≡ true → AllItemsBelow p k (λ y. test y ≡ false) → find test xs ≡ Some x)
+
+  -- `position`: as many elements stand before the first that fails as items do, and all where each item of a whole run passes
+  abbrev pub TellsPlace : Type 0
+  TellsPlace = ((test : A → Bool) → p.whole ≡ true → AllItems p (λ x. test x ≡ true) → prefix_len test xs ≡ length xs)
+      × ((test : A → Bool) (k : ℕ) (x : A) → p.at k ≡ Some x → test x ≡ false → AllItemsBelow p k (λ y. test y ≡ true) → (prefix_len test xs ≡ k) × (k < length xs))
+
+  -- `last`: the last element is the last item of a whole run
+  abbrev pub TellsLast : Type 0
+  TellsLast = (p.whole ≡ true → p.len ≡ 0 → last_or None xs ≡ None) × (p.whole ≡ true → 0 < p.len → last_or None xs ≡ p.at (p.len - 1))
+
+  -- all of these
+  abbrev pub Tells : Type 0
+  Tells = TellsAll × TellsAny × TellsFind × TellsPlace × TellsLast
