@@ -27,6 +27,7 @@ pub mod KeptPairs
 pub mod TextUnits
 pub mod UnitLanes
 pub mod JudgedUnits
+pub mod KeptRows
 pub mod KeptSlots
 pub mod NarrowedUnits
 pub mod SlotLanes

@@ -3,6 +3,7 @@
 
 pub(crate) mod code_puts;
 pub mod form;
+pub(crate) mod kept_ends;
 pub(crate) mod kept_pairs;
 pub(crate) mod kept_slots;
 pub(crate) mod narrowed_units;

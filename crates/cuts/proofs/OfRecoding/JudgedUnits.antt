@@ -6,7 +6,7 @@ use Rattle.std.proofs.lemmas.List.{take_at}
 use Rattle.std.specs.Int.{bit_at}
 use Rattle.utf_base.specs.Units.{is_leading_surrogate, is_trailing_surrogate, is_surrogate}
 use Rattle.cuts.specs.Recoding.GivenUnits.{joined}
-use Rattle.cuts.specs.Recoding.UnitCodes.{lane_unit, unit_code, code_at, AreText, slot, slot_at, first_byte, middle_byte, last_byte, lead_byte, second_byte, first_in_text, middle_in_text, last_in_text}
+use Rattle.cuts.specs.Recoding.UnitCodes.{lane_unit, unit_code, code_at, AreText, slot, slot_at, first_byte, middle_byte, last_byte, lead_byte, second_byte, first_in_text, middle_in_text, last_in_text, kept, short_at}
 use Rattle.cuts.proofs.OfRecoding.Joined.{joined_add, joined_same, joined_moved, joined_1}
 use Rattle.cuts.proofs.OfRecoding.NarrowedUnits.{not_both, ascii_code, leading_code}
 use Rattle.cuts.proofs.OfRecoding.UnitSlots.{below_16, leading_is, surrogate_is}
@@ -150,15 +150,15 @@ characters_text u n none = record {
     no_lead : (u : ℕ) → is_surrogate u ≡ false → is_leading_surrogate u ≡ false
     no_lead u e = grind (arith, common_steps)
 
+code_of : (p u : ℕ) → is_surrogate u ≡ false → slot (first_byte u) (middle_byte u) (last_byte u) ≡ unit_code p u
+code_of p u e = let f : is_leading_surrogate u ≡ false = grind (arith, common_steps) in rw (e, f) refl
+
 module _ (low high : List ℕ) (fits : (k : ℕ) → k < 16 → get_or low k 0 < 256) (none : (k : ℕ) → k < 16 → eqb (get_or high k 0 / 8) 0x1B ≡ false) where
   no_surrogates : (k : ℕ) → k < 16 → is_surrogate (lane_unit low high k) ≡ false
   no_surrogates k lt = sym (surrogate_is (get_or high k 0) (get_or low k 0) (fits k lt)) ∙ none k lt
 
   pub characters_are_text : AreText (lane_unit low high) 16
   characters_are_text = characters_text (lane_unit low high) 16 no_surrogates
-
-  code_of : (p u : ℕ) → is_surrogate u ≡ false → slot (first_byte u) (middle_byte u) (last_byte u) ≡ unit_code p u
-  code_of p u e = let f : is_leading_surrogate u ≡ false = grind (arith, common_steps) in rw (e, f) refl
 
   module _ (firsts middles lasts : List ℕ)
       (first : (k : ℕ) → k < 16 → get_or firsts k 0 ≡ first_byte (lane_unit low high k))
@@ -168,6 +168,31 @@ module _ (low high : List ℕ) (fits : (k : ℕ) → k < 16 → get_or low k 0 <
     character_codes =
         joined_same (slot_at firsts middles lasts) (code_at (lane_unit low high)) 0 16
         (λ i ge more. let lt : i < 16 = omega arith in rw (first i lt, middle i lt, last i lt) (code_of (lane_unit low high (i - 1)) (lane_unit low high i) (no_surrogates i lt)))
+
+-- Units that have one byte or two.
+
+module _ (low high : List ℕ) (fits : (k : ℕ) → k < 16 → get_or low k 0 < 256) (short : (k : ℕ) → k < 16 → get_or high k 0 < 8) where
+  unit_short : (k : ℕ) → k < 16 → lane_unit low high k < 0x800
+  unit_short k lt = let l = fits k lt in let h = short k lt in omega arith
+
+  below_surrogates : (u : ℕ) → u < 0x800 → is_surrogate u ≡ false
+  below_surrogates u h = grind (arith, common_steps)
+
+  pub short_text : AreText (lane_unit low high) 16
+  short_text = characters_text (lane_unit low high) 16 (λ k lt. below_surrogates (lane_unit low high k) (unit_short k lt))
+
+  short_code : (p u : ℕ) → u < 0x800 → kept (middle_byte u) ++ (last_byte u ∷ []) ≡ unit_code p u
+  short_code p u h =
+      let none : first_byte u ≡ 0 = grind (arith, common_steps) in
+      sym (ap (λ n. slot n (middle_byte u) (last_byte u)) none) ∙ code_of p u (below_surrogates u h)
+
+  module _ (middles lasts : List ℕ)
+      (middle : (k : ℕ) → k < 16 → get_or middles k 0 ≡ middle_byte (lane_unit low high k))
+      (last : (k : ℕ) → k < 16 → get_or lasts k 0 ≡ last_byte (lane_unit low high k)) where
+    pub short_codes : joined (short_at middles lasts) 0 16 ≡ joined (code_at (lane_unit low high)) 0 16
+    short_codes =
+        joined_same (short_at middles lasts) (code_at (lane_unit low high)) 0 16
+        (λ i ge more. let lt : i < 16 = omega arith in rw (middle i lt, last i lt) (short_code (lane_unit low high (i - 1)) (lane_unit low high i) (unit_short i lt)))
 
 -- Units of ASCII.
 

@@ -6,7 +6,7 @@ use Rattle.std.proofs.lemmas.Simd.{bitmask_splat, bit_mask_l, mask_l-lt, zip2_sp
 use Rattle.std.specs.Int.{bit_at}
 use lib.Lanes.{zip2, mask_l}
 use Rattle.cuts.specs.Recoding.GivenUnits.{joined}
-use Rattle.cuts.specs.Recoding.UnitCodes.{kept, slot, slot_at, pair_slot_at, marked, slot_bytes}
+use Rattle.cuts.specs.Recoding.UnitCodes.{kept, slot, slot_at, pair_slot_at, marked, slot_bytes, short_at, short_bytes}
 use Rattle.cuts.proofs.OfRecoding.BlockUnits.{low_bit, high_bit}
 use Rattle.cuts.proofs.OfRecoding.Joined.{joined_add, joined_moved, joined_same}
 use Rattle.cuts.proofs.OfRecoding.LaneLemmas.{high_mask}
@@ -106,3 +106,22 @@ module _ (firsts middles lasts fronts more_fronts ends more_ends : List ℕ) (fr
       (joined_moved (pair_slot_at more_fronts more_ends) (slot_at firsts middles lasts) 0 8 8
       (λ i lt. let z : 0 + i ≡ i = omega arith in rw z (slots_at more_fronts more_ends (at_back firsts) (at_back middles) (at_back lasts) more_front more_end i lt)))
       ∙ sym (joined_add (slot_at firsts middles lasts) 0 8 8)
+
+-- Sixteen pairs, by a mask whose halves say where the first of each is kept.
+module _ (middles lasts vs ws : List ℕ) (long : length middles ≡ 16) (pairs : ArePairs vs (at_front middles) (at_front lasts)) (more : ArePairs ws (at_back middles) (at_back lasts)) where
+  front_eight : (i : ℕ) → i < 8 → short_bytes (bit_and (high_mask middles) 255) vs i ≡ short_at middles lasts i
+  front_eight i lt =
+      rw (pair_first vs (at_front middles) (at_front lasts) pairs i lt, pair_second vs (at_front middles) (at_front lasts) pairs i lt)
+      (ap (λ xs. xs ++ (get_or lasts i 0 ∷ [])) (marked_kept (bit_and (high_mask middles) 255) i (get_or middles i 0) (low_bit (high_mask middles) i lt ∙ high_bits middles long i (omega arith))))
+
+  back_eight : (i : ℕ) → i < 8 → short_bytes (high_mask middles / 256) ws i ≡ short_at middles lasts (8 + i)
+  back_eight i lt =
+      rw (pair_first ws (at_back middles) (at_back lasts) more i lt, pair_second ws (at_back middles) (at_back lasts) more i lt)
+      (ap (λ xs. xs ++ (get_or lasts (8 + i) 0 ∷ [])) (marked_kept (high_mask middles / 256) i (get_or middles (8 + i) 0) (high_bit (high_mask middles) i lt ∙ high_bits middles long (8 + i) (omega arith))))
+
+  pub sixteen_pairs : joined (short_bytes (bit_and (high_mask middles) 255) vs) 0 8 ++ joined (short_bytes (high_mask middles / 256) ws) 0 8 ≡ joined (short_at middles lasts) 0 16
+  sixteen_pairs =
+      ap₂ (λ xs ys. xs ++ ys)
+      (joined_same (short_bytes (bit_and (high_mask middles) 255) vs) (short_at middles lasts) 0 8 (λ i ge lt. front_eight i lt))
+      (joined_moved (short_bytes (high_mask middles / 256) ws) (short_at middles lasts) 0 8 8 (λ i lt. let z : 0 + i ≡ i = omega arith in rw z (back_eight i lt)))
+      ∙ sym (joined_add (short_at middles lasts) 0 8 8)

@@ -56,6 +56,12 @@ all_ascii low high p q none k lt =
     let or_zero : bit_or (get_or high k 0) (get_or low k 0 / 128) ≡ 0 = ap (bit_or (get_or high k 0)) (sym shifted) ∙ sym at ∙ zero in
     ascii_unit (get_or low k 0) (get_or high k 0) _ (le_or_l (get_or high k 0) (get_or low k 0 / 128)) (le_or_r (get_or high k 0) (get_or low k 0 / 128)) or_zero
 
+pub all_short : (high : List ℕ) → length high ≡ 16 → differ_mask (zip2 down high (replicate 16 3)) ≡ 0 → (k : ℕ) → k < 16 → get_or high k 0 < 8
+all_short high q none k lt =
+    let zero = none_differs (zip2 down high (replicate 16 3)) (wide_with down high 3 q) none k lt in
+    let at = lane_with down high 3 q k lt in
+    omega arith
+
 not_true : (b : Bool) → not b ≡ true → b ≡ false
 not_true true e = sym e
 not_true false e = refl

@@ -77,3 +77,14 @@ slot_places mask i = marked mask (2 * i) (4 * i) ++ (marked mask (2 * i + 1) (4 
 abbrev pub slot_bytes : ℕ → List ℕ → ℕ → List ℕ
 slot_bytes mask slots i =
     marked mask (2 * i) (slice_index slots (4 * i)) ++ (marked mask (2 * i + 1) (slice_index slots (4 * i + 2)) ++ (slice_index slots (4 * i + 1) ∷ []))
+
+-- The same of pairs of bytes: the last, and the one before it where the mask has its bit.
+abbrev pub short_places : ℕ → ℕ → List ℕ
+short_places mask i = marked mask i (2 * i) ++ ((2 * i + 1) ∷ [])
+
+abbrev pub short_bytes : ℕ → List ℕ → ℕ → List ℕ
+short_bytes mask pairs i = marked mask i (slice_index pairs (2 * i)) ++ (slice_index pairs (2 * i + 1) ∷ [])
+
+-- the bytes of one of two lanes
+abbrev pub short_at : List ℕ → List ℕ → ℕ → List ℕ
+short_at middles lasts k = kept (slice_index middles k) ++ (slice_index lasts k ∷ [])

@@ -5,9 +5,10 @@ ghost use Rattle.cuts.specs.Recoding.OutputRuns.{RunsOnto};
 ghost use Rattle.cuts.specs.Recoding.UnitCodes.{lane_unit, code_at, AreText};
 
 use crate::recoding::form::Form;
-use crate::recoding::slot_puts::{put_lanes, put_slots};
+use crate::recoding::slot_puts::{put_lanes, put_short_slots, put_slots};
 use crate::recoding::unit_bytes::{
-    are_ascii, are_characters, character_slots, having_top, one_later, sixteen_halves, text_slots,
+    are_ascii, are_characters, are_short, character_slots, having_top, one_later, sixteen_halves,
+    text_slots,
 };
 use std::alloc::Allocator;
 use std::simd::prelude::*;
@@ -65,6 +66,11 @@ fn put_sixteen<A: Allocator>(low: u8x16, high: u8x16, out: &mut Vec<u8, A>) -> u
 {
     if are_ascii(low, high) {
         put_lanes(low, out);
+        return 16;
+    }
+    if are_short(high) {
+        let slots = character_slots(low, high);
+        put_short_slots(slots.middle, slots.last, out);
         return 16;
     }
     if are_characters(high) {

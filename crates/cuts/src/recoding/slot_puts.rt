@@ -1,8 +1,9 @@
 //! The bytes of slots, written to the end of an output that has room for them.
 ghost use Rattle.std.specs.Prelude.{◌≡◌, ℕ, ◌+◌, ◌<◌, ◌≤◌, ◌++◌, length, take, slice_index, vec_len, vec_capacity, count_ones, replicate};
 ghost use Rattle.cuts.specs.Recoding.GivenUnits.{joined};
-ghost use Rattle.cuts.specs.Recoding.UnitCodes.{slot_at, pair_slot_at, slot_places, slot_bytes};
+ghost use Rattle.cuts.specs.Recoding.UnitCodes.{slot_at, pair_slot_at, slot_places, slot_bytes, short_at, short_places, short_bytes};
 
+use crate::recoding::kept_ends::KEPT_ENDS;
 use crate::recoding::kept_slots::KEPT_SLOTS;
 use crate::recoding::unit_bytes::Slots;
 use std::alloc::Allocator;
@@ -102,4 +103,58 @@ fn kept_places(mask: usize) -> [u8; 16]
     ensures places { take (4 + count_ones mask) result ≡ joined (slot_places mask) 0 4 }
 {
     KEPT_SLOTS[mask]
+}
+
+// Appends the bytes of sixteen slots of which none has three bytes.
+#[inline(always)]
+pub(crate) fn put_short_slots<A: Allocator>(middles: u8x16, lasts: u8x16, out: &mut Vec<u8, A>)
+    requires { vec_len out.old + 64 ≤ vec_capacity out.old }
+    ensures items { out.new.items ≡ out.old.items ++ joined (short_at middles lasts) 0 16 }
+    ensures len { vec_len out.new ≤ vec_len out.old + 32 }
+    ensures capacity { vec_capacity out.old ≤ vec_capacity out.new }
+{
+    let start = out.len();
+    put_nuls(out);
+    let end = write_short_slots(middles, lasts, out.as_mut_slice(), start);
+    out.truncate(end);
+}
+
+// Writes the bytes of these slots from the place on. Answers where they end.
+#[inline(always)]
+fn write_short_slots(middles: u8x16, lasts: u8x16, room: &mut [u8], at: usize) -> usize
+    requires { at + 32 ≤ length room.old }
+    ensures len { length room.new ≡ length room.old }
+    ensures bytes { take result room.new ≡ take at room.old ++ joined (short_at middles lasts) 0 16 }
+    ensures most { result ≤ at + 32 }
+{
+    let mask = middles.simd_ge(u8x16::splat(0x80)).to_bitmask() as usize;
+    let (pairs, more_pairs) = middles.interleave(lasts);
+    let middle = write_ends(pairs, mask & 255, room, at);
+    write_ends(more_pairs, mask >> 8, room, middle)
+}
+
+// The same of eight pairs, of which the mask says where the first is kept.
+#[inline(always)]
+fn write_ends(pairs: u8x16, mask: usize, room: &mut [u8], at: usize) -> usize
+    requires mask { mask < 256 }
+    requires room { at + 16 ≤ length room.old }
+    ensures len { length room.new ≡ length room.old }
+    ensures bytes { take result room.new ≡ take at room.old ++ joined (short_bytes mask pairs) 0 8 }
+    ensures most { result ≤ at + 16 }
+{
+    let places = kept_ends(mask);
+    let kept = pairs.swizzle_dyn(u8x16::from_array(places));
+    kept.copy_to_slice(&mut room[at..]);
+    at + 8 + (mask.count_ones() as usize)
+}
+
+// Where these bytes are: their places, and then any.
+#[inline(always)]
+fn kept_ends(mask: usize) -> [u8; 16]
+    requires { mask < 256 }
+    ensures few { count_ones mask ≤ 8 }
+    ensures within { (k : ℕ) → k < 16 → slice_index result k < 16 }
+    ensures places { take (8 + count_ones mask) result ≡ joined (short_places mask) 0 8 }
+{
+    KEPT_ENDS[mask]
 }

@@ -25,6 +25,15 @@ pub(crate) fn are_ascii(low: u8x16, high: u8x16) -> bool
         == 0
 }
 
+// Whether no unit has three bytes.
+#[inline(always)]
+pub(crate) fn are_short(high: u8x16) -> bool
+    ensures { IsTrue result → (k : ℕ) → k < 16 → slice_index high k < 8 }
+{
+    let upper = high >> u8x16::splat(3);
+    upper.simd_ne(u8x16::splat(0)).to_bitmask() == 0
+}
+
 // Whether no unit is a surrogate.
 #[inline(always)]
 pub(crate) fn are_characters(high: u8x16) -> bool

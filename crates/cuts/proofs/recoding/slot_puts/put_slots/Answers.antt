@@ -1,5 +1,5 @@
 use Rattle.std.proofs.Common.{ap, sym, length, ◌∙◌}
-use Rattle.cuts.proofs.OfRecoding.KeptSlots.{written_back}
+use Rattle.cuts.proofs.OfRecoding.KeptRows.{written_back}
 use Rattle.cuts.proofs.recoding.slot_puts.put_slots.Goals as goal
 
 pub returns-clause-items : goal.returns-clause-items

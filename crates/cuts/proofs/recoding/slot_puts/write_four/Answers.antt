@@ -1,8 +1,8 @@
 use Rattle.std.proofs.Common.{◌≡◌, ◌+◌, ◌++◌, length, take, count_ones, arith, ap, ◌∙◌, w8}
 use Rattle.std.proofs.lemmas.Simd.{swz_l, length-swz_l}
 use lib.Lanes.{put_chunk}
-use Rattle.cuts.proofs.OfRecoding.KeptPairs.{in_vector}
-use Rattle.cuts.proofs.OfRecoding.KeptSlots.{slots_kept, part_stored}
+use Rattle.cuts.proofs.OfRecoding.KeptRows.{in_vector, part_stored}
+use Rattle.cuts.proofs.OfRecoding.KeptSlots.{slots_len, slots_kept}
 use Rattle.cuts.proofs.recoding.slot_puts.write_four.Goals as goal
 
 pub swizzle-kept : goal.swizzle-kept
@@ -11,7 +11,7 @@ swizzle-kept c = in_vector c.kept_places-places.result (omega arith) c.kept_plac
 pub returns-clause-bytes : goal.returns-clause-bytes
 returns-clause-bytes c =
     let places = c.kept_places-places in
-    let n = 4 + count_ones c.args.mask in
+    let n = slots_len c.args.mask in
     let kept = swz_l w8 16 c.args.slots 0 places.result in
     let long : length kept ≡ 16 = length-swz_l w8 16 c.args.slots 0 places.result ∙ omega arith in
     let few = places.ensures.few in

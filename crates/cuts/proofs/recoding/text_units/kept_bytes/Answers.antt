@@ -1,5 +1,6 @@
 use Rattle.std.proofs.Common.{arith}
-use Rattle.cuts.proofs.OfRecoding.KeptPairs.{in_vector, kept_pairs}
+use Rattle.cuts.proofs.OfRecoding.KeptPairs.{kept_pairs}
+use Rattle.cuts.proofs.OfRecoding.KeptRows.{in_vector}
 use Rattle.cuts.proofs.recoding.text_units.kept_bytes.Goals as goal
 
 pub swizzle : goal.swizzle
