@@ -10,6 +10,7 @@ pub mod Growing
 pub mod JoinedShards
 pub mod JudgedText
 pub mod LaneLemmas
+pub mod Listed
 pub mod NoneBegins
 pub mod PairTables
 pub mod PartLaws
@@ -26,3 +27,4 @@ pub mod Joined
 pub mod KeptPairs
 pub mod TextUnits
 pub mod UnitLanes
+pub mod ValueSums
