@@ -10,6 +10,7 @@ pub mod Growing
 pub mod JoinedShards
 pub mod JudgedText
 pub mod LaneLemmas
+pub mod Listed
 pub mod NoneBegins
 pub mod PairTables
 pub mod PartLaws
@@ -37,3 +38,4 @@ pub mod CodedUnits
 pub mod SwappedBytes
 pub mod CopiedUnits
 pub mod AsciiUnits
+pub mod ValueSums

@@ -1,16 +1,14 @@
 -- What a block gives: the units of its lanes, in order.
-use Rattle.std.proofs.Common.{◌≡◌, ℕ, zero, suc, ◌+◌, ◌-◌, ◌*◌, ◌/◌, ◌%◌, ◌^◌, ◌<◌, ◌≤◌, Bool, true, false, not, cond, leb, ltb, ◌&&◌, List, [], ◌∷◌, ◌++◌, map, length, get_or, replicate, bit_and, refl, sym, ap, ap₂, ◌∙◌, arith, lit<, w8, Fits, ltb-true, ltb-false, leb-false}
+use Rattle.std.proofs.Common.{◌≡◌, ℕ, zero, suc, ◌+◌, ◌-◌, ◌*◌, ◌/◌, ◌%◌, ◌<◌, ◌≤◌, Bool, true, false, cond, leb, ltb, ◌&&◌, List, [], ◌∷◌, ◌++◌, length, get_or, bit_and, refl, sym, ap, ap₂, ◌∙◌, arith, lit<, w8, Fits, ltb-true, ltb-false}
 use Rattle.std.proofs.lemmas.Grind.{common_steps}
 use Rattle.std.proofs.lemmas.List.{get_or_append_left, get_or-append_right}
-use Rattle.std.proofs.lemmas.List.Sums.{prefix_len_passes}
 use Rattle.std.proofs.lemmas.Nat.{and_mask}
-use Rattle.std.proofs.lemmas.Simd.{get_or-chunk, length-chunk, chunk-fits, bitmask_splat, zip2_splat, zip2_splat_left, leading_from_mask_l}
+use Rattle.std.proofs.lemmas.Simd.{get_or-chunk, length-chunk, chunk-fits}
 use Rattle.std.specs.Int.{bit_at}
-use Rattle.std.specs.List.{prefix_len}
-use lib.Lanes.{zip2, mask_l, top, chunk}
+use lib.Lanes.{chunk}
 use Rattle.cuts.specs.Recoding.GivenUnits.{joined, gives, low_half, high_half, unit_low, unit_high, halves, given_at, pair_at}
 use Rattle.cuts.proofs.OfRecoding.Joined.{joined_same, joined_none, joined_add, joined_moved}
-use Rattle.cuts.proofs.OfRecoding.LaneLemmas.{IsBlock}
+use Rattle.cuts.proofs.OfRecoding.LaneLemmas.{IsBlock, reach_mask, none_reach}
 use Rattle.cuts.proofs.OfRecoding.ChosenLanes.{where_below, where_below_len, where_below_at}
 
 -- one fact at each number below 8
@@ -141,31 +139,16 @@ module _ (xs : List ℕ) (place : ℕ) (fits : (k : ℕ) → Fits w8 (get_or xs 
   abbrev greater : List ℕ
   greater = where_below (chunk (place - 2) 16 xs) (chunk (place - 3) 16 xs) (chunk (place - 3) 16 xs) (chunk (place - 2) 16 xs)
 
-  abbrev at_most : ℕ → ℕ → ℕ
-  at_most a b = cond (leb a b) 255 0
-
   abbrev pub longest_mask : ℕ
-  longest_mask = mask_l (map (top 7) (zip2 at_most (replicate 16 0xF0) greater)) % 2 ^ 64
+  longest_mask = reach_mask 0xF0 greater
 
   greater_len : length greater ≡ 16
   greater_len =
       where_below_len (chunk (place - 2) 16 xs) (chunk (place - 3) 16 xs) (chunk (place - 3) 16 xs) (chunk (place - 2) 16 xs)
       (length-chunk (place - 2) 16 xs (omega arith)) (length-chunk (place - 3) 16 xs (omega arith)) (length-chunk (place - 3) 16 xs (omega arith)) (length-chunk (place - 2) 16 xs (omega arith))
 
-  not_high : (x : ℕ) → not (leb 0xF0 x) ≡ true → x < 0xF0
-  not_high x e = leb-false 0xF0 x (flip (leb 0xF0 x) e)
-    where
-      flip : (b : Bool) → not b ≡ true → b ≡ false
-      flip true e = sym e
-      flip false e = refl
-
   greater_low : longest_mask ≡ 0 → (k : ℕ) → k < 16 → get_or greater k 0 < 0xF0
-  greater_low none k lt =
-      let turned : zip2 at_most (replicate 16 0xF0) greater ≡ zip2 (λ a b. at_most b a) greater (replicate 16 0xF0)
-      = zip2_splat_left at_most 0xF0 16 greater greater_len ∙ sym (zip2_splat (λ a b. at_most b a) greater 16 0xF0 greater_len) in
-      let mask : longest_mask ≡ mask_l (map (λ x. leb 0xF0 x) greater) = rw turned (bitmask_splat w8 (λ a b. leb b a) greater 16 0xF0 greater_len (lit< tt)) in
-      let all : prefix_len (λ x. not (leb 0xF0 x)) greater ≡ length greater = leading_from_mask_l (λ x. leb 0xF0 x) greater (sym mask ∙ none) in
-      not_high (get_or greater k 0) (prefix_len_passes (λ x. not (leb 0xF0 x)) greater k 0 (omega (arith, all, greater_len)))
+  greater_low none k lt = none_reach 0xF0 greater greater_len none k lt
 
   both_low : (a b : ℕ) (t : Bool) → ltb b a ≡ t → cond t a b < 0xF0 → (a < 0xF0) × (b < 0xF0)
   both_low a b true e h = let below = ltb-true b a e in (h, omega arith)

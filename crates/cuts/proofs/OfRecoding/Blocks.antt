@@ -11,6 +11,7 @@ use Rattle.cuts.specs.declared.recoding.form.Form.{Form}
 use Rattle.cuts.specs.declared.recoding.form.Form.TheVariants.{Utf8, Utf16Le, Utf16Be}
 use Rattle.cuts.specs.Recoding.Recoded.{ShowsUnits, unit_of, units_of, odd_end, written, bytes_of}
 use Rattle.cuts.specs.Recoding.ShownFronts.{ShowsEach, IsPlain}
+use Rattle.cuts.proofs.OfRecoding.Listed.{elements_from, listed}
 
 -- a unit that is a character by itself
 abbrev pub IsCharacter : ℕ → Type 0
@@ -67,16 +68,7 @@ both_bytes false u h = rw (utf16-1 u h.1) refl
 
 eight : (code : ℕ → List ℕ) (w : List ℕ) → length w ≡ 8
     → code (get_or w 0 0) ++ (code (get_or w 1 0) ++ (code (get_or w 2 0) ++ (code (get_or w 3 0) ++ (code (get_or w 4 0) ++ (code (get_or w 5 0) ++ (code (get_or w 6 0) ++ (code (get_or w 7 0) ++ []))))))) ≡ flat_map code w
-eight code [] h = absurd (omega arith)
-eight code (a ∷ []) h = absurd (omega arith)
-eight code (a ∷ b ∷ []) h = absurd (omega arith)
-eight code (a ∷ b ∷ c ∷ []) h = absurd (omega arith)
-eight code (a ∷ b ∷ c ∷ d ∷ []) h = absurd (omega arith)
-eight code (a ∷ b ∷ c ∷ d ∷ e ∷ []) h = absurd (omega arith)
-eight code (a ∷ b ∷ c ∷ d ∷ e ∷ f ∷ []) h = absurd (omega arith)
-eight code (a ∷ b ∷ c ∷ d ∷ e ∷ f ∷ g ∷ []) h = absurd (omega arith)
-eight code (a ∷ b ∷ c ∷ d ∷ e ∷ f ∷ g ∷ i ∷ []) h = refl
-eight code (a ∷ b ∷ c ∷ d ∷ e ∷ f ∷ g ∷ i ∷ j ∷ w) h = absurd (omega arith)
+eight code w h = ap (flat_map code) (listed 8 w h)
 
 pub block_bytes : (us : List ℕ) → length us ≡ 8 → All (IsPlain Utf8) us
     → get_or us 0 0 % 256 ∷ get_or us 1 0 % 256 ∷ get_or us 2 0 % 256 ∷ get_or us 3 0 % 256 ∷ get_or us 4 0 % 256 ∷ get_or us 5 0 % 256 ∷ get_or us 6 0 % 256 ∷ get_or us 7 0 % 256 ∷ []
@@ -97,24 +89,7 @@ block_high us h plain = eight (bytes_of true) us h ∙ flat_map_same (bytes_of t
 pub eight_units : (high : Bool) (w : List ℕ) → length w ≡ 16
     → unit_of high (get_or w 0 0) (get_or w 1 0) ∷ unit_of high (get_or w 2 0) (get_or w 3 0) ∷ unit_of high (get_or w 4 0) (get_or w 5 0) ∷ unit_of high (get_or w 6 0) (get_or w 7 0) ∷ unit_of high (get_or w 8 0) (get_or w 9 0) ∷ unit_of high (get_or w 10 0) (get_or w 11 0) ∷ unit_of high (get_or w 12 0) (get_or w 13 0) ∷ unit_of high (get_or w 14 0) (get_or w 15 0) ∷ []
     ≡ units_of high w
-eight_units high [] h = absurd (omega arith)
-eight_units high (b0 ∷ []) h = absurd (omega arith)
-eight_units high (b0 ∷ b1 ∷ []) h = absurd (omega arith)
-eight_units high (b0 ∷ b1 ∷ b2 ∷ []) h = absurd (omega arith)
-eight_units high (b0 ∷ b1 ∷ b2 ∷ b3 ∷ []) h = absurd (omega arith)
-eight_units high (b0 ∷ b1 ∷ b2 ∷ b3 ∷ b4 ∷ []) h = absurd (omega arith)
-eight_units high (b0 ∷ b1 ∷ b2 ∷ b3 ∷ b4 ∷ b5 ∷ []) h = absurd (omega arith)
-eight_units high (b0 ∷ b1 ∷ b2 ∷ b3 ∷ b4 ∷ b5 ∷ b6 ∷ []) h = absurd (omega arith)
-eight_units high (b0 ∷ b1 ∷ b2 ∷ b3 ∷ b4 ∷ b5 ∷ b6 ∷ b7 ∷ []) h = absurd (omega arith)
-eight_units high (b0 ∷ b1 ∷ b2 ∷ b3 ∷ b4 ∷ b5 ∷ b6 ∷ b7 ∷ b8 ∷ []) h = absurd (omega arith)
-eight_units high (b0 ∷ b1 ∷ b2 ∷ b3 ∷ b4 ∷ b5 ∷ b6 ∷ b7 ∷ b8 ∷ b9 ∷ []) h = absurd (omega arith)
-eight_units high (b0 ∷ b1 ∷ b2 ∷ b3 ∷ b4 ∷ b5 ∷ b6 ∷ b7 ∷ b8 ∷ b9 ∷ b10 ∷ []) h = absurd (omega arith)
-eight_units high (b0 ∷ b1 ∷ b2 ∷ b3 ∷ b4 ∷ b5 ∷ b6 ∷ b7 ∷ b8 ∷ b9 ∷ b10 ∷ b11 ∷ []) h = absurd (omega arith)
-eight_units high (b0 ∷ b1 ∷ b2 ∷ b3 ∷ b4 ∷ b5 ∷ b6 ∷ b7 ∷ b8 ∷ b9 ∷ b10 ∷ b11 ∷ b12 ∷ []) h = absurd (omega arith)
-eight_units high (b0 ∷ b1 ∷ b2 ∷ b3 ∷ b4 ∷ b5 ∷ b6 ∷ b7 ∷ b8 ∷ b9 ∷ b10 ∷ b11 ∷ b12 ∷ b13 ∷ []) h = absurd (omega arith)
-eight_units high (b0 ∷ b1 ∷ b2 ∷ b3 ∷ b4 ∷ b5 ∷ b6 ∷ b7 ∷ b8 ∷ b9 ∷ b10 ∷ b11 ∷ b12 ∷ b13 ∷ b14 ∷ []) h = absurd (omega arith)
-eight_units high (b0 ∷ b1 ∷ b2 ∷ b3 ∷ b4 ∷ b5 ∷ b6 ∷ b7 ∷ b8 ∷ b9 ∷ b10 ∷ b11 ∷ b12 ∷ b13 ∷ b14 ∷ b15 ∷ []) h = refl
-eight_units high (b0 ∷ b1 ∷ b2 ∷ b3 ∷ b4 ∷ b5 ∷ b6 ∷ b7 ∷ b8 ∷ b9 ∷ b10 ∷ b11 ∷ b12 ∷ b13 ∷ b14 ∷ b15 ∷ b16 ∷ w) h = absurd (omega arith)
+eight_units high w h = ap (units_of high) (listed 16 w h)
 
 -- each of eight
 all_more : (P : ℕ → Type 0) (x : ℕ) (xs : List ℕ) → P x → All P xs → All P (x ∷ xs)
@@ -123,13 +98,9 @@ all_more P x xs h r (suc k) d lt = r k d (omega arith)
 
 pub all_eight : (P : ℕ → Type 0) (w : List ℕ) → length w ≡ 8
     → P (get_or w 0 0) → P (get_or w 1 0) → P (get_or w 2 0) → P (get_or w 3 0) → P (get_or w 4 0) → P (get_or w 5 0) → P (get_or w 6 0) → P (get_or w 7 0) → All P w
-all_eight P [] h pa pb pc pd pe pf pg pi = absurd (omega arith)
-all_eight P (a ∷ []) h pa pb pc pd pe pf pg pi = absurd (omega arith)
-all_eight P (a ∷ b ∷ []) h pa pb pc pd pe pf pg pi = absurd (omega arith)
-all_eight P (a ∷ b ∷ c ∷ []) h pa pb pc pd pe pf pg pi = absurd (omega arith)
-all_eight P (a ∷ b ∷ c ∷ d ∷ []) h pa pb pc pd pe pf pg pi = absurd (omega arith)
-all_eight P (a ∷ b ∷ c ∷ d ∷ e ∷ []) h pa pb pc pd pe pf pg pi = absurd (omega arith)
-all_eight P (a ∷ b ∷ c ∷ d ∷ e ∷ f ∷ []) h pa pb pc pd pe pf pg pi = absurd (omega arith)
-all_eight P (a ∷ b ∷ c ∷ d ∷ e ∷ f ∷ g ∷ []) h pa pb pc pd pe pf pg pi = absurd (omega arith)
-all_eight P (a ∷ b ∷ c ∷ d ∷ e ∷ f ∷ g ∷ i ∷ []) h pa pb pc pd pe pf pg pi = all_more P a (b ∷ c ∷ d ∷ e ∷ f ∷ g ∷ i ∷ []) pa (all_more P b (c ∷ d ∷ e ∷ f ∷ g ∷ i ∷ []) pb (all_more P c (d ∷ e ∷ f ∷ g ∷ i ∷ []) pc (all_more P d (e ∷ f ∷ g ∷ i ∷ []) pd (all_more P e (f ∷ g ∷ i ∷ []) pe (all_more P f (g ∷ i ∷ []) pf (all_more P g (i ∷ []) pg (all_more P i [] pi (λ k d lt. absurd (omega arith)))))))))
-all_eight P (a ∷ b ∷ c ∷ d ∷ e ∷ f ∷ g ∷ i ∷ j ∷ w) h pa pb pc pd pe pf pg pi = absurd (omega arith)
+all_eight P w h pa pb pc pd pe pf pg pi =
+    let none : All P [] = λ k d lt. absurd (omega arith) in
+    let last_two : All P (elements_from 6 2 w) = all_more P _ (elements_from 7 1 w) pg (all_more P _ [] pi none) in
+    let last_four : All P (elements_from 4 4 w) = all_more P _ (elements_from 5 3 w) pe (all_more P _ (elements_from 6 2 w) pf last_two) in
+    let last_six : All P (elements_from 2 6 w) = all_more P _ (elements_from 3 5 w) pc (all_more P _ (elements_from 4 4 w) pd last_four) in
+    subst (All P) (listed 8 w h) (all_more P _ (elements_from 1 7 w) pa (all_more P _ (elements_from 2 6 w) pb last_six))

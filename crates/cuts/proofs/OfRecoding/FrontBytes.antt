@@ -121,48 +121,35 @@ first_unit high w = unit_of high (get_or w 0 0) (get_or w 1 0)
 abbrev pub second_unit : Bool → List ℕ → ℕ
 second_unit high w = unit_of high (get_or w 2 0) (get_or w 3 0)
 
-pub Decides-unit : (high : Bool) (w : List ℕ) (s : ℕ) → 2 ≤ length w → IsScalar s → first_unit high w ∷ [] ≡ utf16 s → Decides (ShowsUnits high) w s 2
-Decides-unit high w s two scalar e = record {
+-- what the units show is what the bytes do, where half a unit at the end stays
+decides_units : (high : Bool) (w : List ℕ) (s n : ℕ) → 2 ≤ n → n ≤ length w → IsScalar s → ((later : List ℕ) → odd_end (w ++ later) ≡ odd_end (drop n w ++ later))
+    → ((later ts : List ℕ) → Shows utf16 (units_of high (drop n w ++ later)) ts → Shows utf16 (units_of high (w ++ later)) (s ∷ ts)) → Decides (ShowsUnits high) w s n
+decides_units high w s n two within scalar odd shows = record {
   some = omega arith;
-  within = two;
+  within = within;
   scalar = scalar;
-  wide = λ h. omega arith;
-  first = λ later ss (ts, r, f). (
-    s ∷ ts,
-    rw (units_two high w later two) (whole_code_shows_first utf16 utf16_is_code (first_unit high w ∷ []) (units_of high (drop 2 w ++ later)) s ts scalar e r),
-    ap (λ xs. s ∷ xs) (f ∙ ap (λ o. ts ++ o) (sym (odd_two w later two))),
-  );
+  wide = λ h. two;
+  first = λ later ss (ts, r, f). (s ∷ ts, shows later ts r, ap (λ xs. s ∷ xs) (f ∙ ap (λ o. ts ++ o) (sym (odd later))));
 }
 
+pub Decides-unit : (high : Bool) (w : List ℕ) (s : ℕ) → 2 ≤ length w → IsScalar s → first_unit high w ∷ [] ≡ utf16 s → Decides (ShowsUnits high) w s 2
+Decides-unit high w s two scalar e =
+    decides_units high w s 2 (lit< tt) two scalar (λ later. odd_two w later two)
+    (λ later ts r. rw (units_two high w later two) (whole_code_shows_first utf16 utf16_is_code (first_unit high w ∷ []) (units_of high (drop 2 w ++ later)) s ts scalar e r))
+
 pub Decides-pair : (high : Bool) (w : List ℕ) (s : ℕ) → 4 ≤ length w → IsScalar s → first_unit high w ∷ second_unit high w ∷ [] ≡ utf16 s → Decides (ShowsUnits high) w s 4
-Decides-pair high w s four scalar e = record {
-  some = omega arith;
-  within = four;
-  scalar = scalar;
-  wide = λ h. omega arith;
-  first = λ later ss (ts, r, f). (
-    s ∷ ts,
-    rw (units_two high w later (omega arith), units_next high w later four)
-        (whole_code_shows_first utf16 utf16_is_code (first_unit high w ∷ second_unit high w ∷ []) (units_of high (drop 4 w ++ later)) s ts scalar e r),
-    ap (λ xs. s ∷ xs) (f ∙ ap (λ o. ts ++ o) (sym (odd_four w later four))),
-  );
-}
+Decides-pair high w s four scalar e =
+    decides_units high w s 4 (lit< tt) four scalar (λ later. odd_four w later four)
+    (λ later ts r. rw (units_two high w later (omega arith), units_next high w later four)
+    (whole_code_shows_first utf16 utf16_is_code (first_unit high w ∷ second_unit high w ∷ []) (units_of high (drop 4 w ++ later)) s ts scalar e r))
 
 -- a unit that begins no code, whatever follows the bytes
 fault_of_unit : (high : Bool) (w : List ℕ) → 2 ≤ length w
     → ((later : List ℕ) (s : ℕ) → Stands utf16 (first_unit high w ∷ units_of high (drop 2 w ++ later)) 0 s → ⊥) → Decides (ShowsUnits high) w 0xFFFD 2
-fault_of_unit high w two none = record {
-  some = omega arith;
-  within = two;
-  scalar = replacement;
-  wide = λ h. omega arith;
-  first = λ later ss (ts, r, f). (
-    0xFFFD ∷ ts,
-    rw (units_two high w later two)
-        (fault_shows_first utf16 utf16_is_code (first_unit high w ∷ []) (units_of high (drop 2 w ++ later)) ts (lit< tt) (none later) r),
-    ap (λ xs. 0xFFFD ∷ xs) (f ∙ ap (λ o. ts ++ o) (sym (odd_two w later two))),
-  );
-}
+fault_of_unit high w two none =
+    decides_units high w 0xFFFD 2 (lit< tt) two replacement (λ later. odd_two w later two)
+    (λ later ts r. rw (units_two high w later two)
+    (fault_shows_first utf16 utf16_is_code (first_unit high w ∷ []) (units_of high (drop 2 w ++ later)) ts (lit< tt) (none later) r))
 
 pub Decides-trailing : (high : Bool) (w : List ℕ) → 2 ≤ length w → is_trailing_surrogate (first_unit high w) ≡ true → Decides (ShowsUnits high) w 0xFFFD 2
 Decides-trailing high w two t = fault_of_unit high w two (λ later s h. no_code_at_trailing (first_unit high w) (units_of high (drop 2 w ++ later)) s t h)

@@ -123,46 +123,42 @@ module _ (xs : List ℕ) (i e : ℕ) (end : e < length xs) (last : Begins xs e) 
     small : get_or xs (k + 3) 0 < 0xC0 → get_or xs (k + 3) 0 < 0x80
     small low = elim (cases_lt (get_or xs (k + 3) 0) 0x80) [ inl lt ↦ lt | inr ge ↦ (let g = first ge in absurd (omega arith)) ]
 
-    ascii : get_or xs (k + 3) 0 < 0xC0 → OneCode k
-    ascii low = record {
-      len = 1;
-      some = lit< tt;
-      within = omega arith;
-      front = (get_or xs (k + 3) 0, rw (here 0 (k + 3) (omega arith)) at (begins_with-1 (drop (k + 3) xs) (enough 1 (omega arith)) (rw (here 0 (k + 3) (omega arith)) (small low))));
-      next = λ high. begins_after _ _ _ _ (judged (k + 1) (k + 2) (k + 3) (k + 3 + 1) (omega arith) (omega arith) (omega arith) (omega arith) (omega arith)) (omega (arith, before.1)) (omega (arith, before.2)) low high;
+    -- a code of so many bytes, before which and in whose bytes none asks for the byte after it
+    of_len : (len j l m : ℕ) → 0 < len → k + len ≡ j → j + 1 ≡ l → j + 2 ≡ m → k + 3 + len ≤ e → Front (drop (k + 3) xs) len
+        → get_or xs j 0 < 0xF0 → get_or xs l 0 < 0xE0 → get_or xs m 0 < 0xC0 → OneCode k
+    of_len len j l m some at one two within front low middle high = record {
+      len = len;
+      some = some;
+      within = within;
+      front = front;
+      next = λ more. begins_after _ _ _ _ (judged j l m (k + 3 + len) one two (omega arith) (omega arith) (omega arith)) low middle high more;
     }
+
+    ascii : get_or xs (k + 3) 0 < 0xC0 → OneCode k
+    ascii low =
+        let byte = begins_with-1 (drop (k + 3) xs) (enough 1 (omega arith)) (rw (here 0 (k + 3) (omega arith)) (small low)) in
+        let front : Front (drop (k + 3) xs) 1 = (get_or xs (k + 3) 0, rw (here 0 (k + 3) (omega arith)) at byte) in
+        of_len 1 (k + 1) (k + 2) (k + 3) (lit< tt) refl (omega arith) (omega arith) (omega arith) front (omega (arith, before.1)) (omega (arith, before.2)) low
 
     lead : 0xC0 ≤ get_or xs (k + 3) 0 → MayBegin (get_or xs (k + 3) 0) (get_or xs (k + 4) 0)
     lead high = begun _ _ _ _ (judged (k + 1) (k + 2) (k + 3) (k + 4) (omega arith) (omega arith) (omega arith) (omega arith) (omega arith)) high
 
     two : MayBegin (get_or xs (k + 3) 0) (get_or xs (k + 4) 0) → k + 4 < e → get_or xs (k + 3) 0 < 0xE0 → OneCode k
-    two b more low = record {
-      len = 2;
-      some = lit< tt;
-      within = omega arith;
-      front = front-2 (drop (k + 3) xs) (enough 2 (omega arith)) (rw (here 0 (k + 3) (omega arith), here 1 (k + 4) (omega arith)) b) (rw (here 0 (k + 3) (omega arith)) low);
-      next = λ high. begins_after _ _ _ _ (judged (k + 2) (k + 3) (k + 4) (k + 3 + 2) (omega arith) (omega arith) (omega arith) (omega arith) (omega arith)) (omega (arith, before.2)) low (b.second.1) high;
-    }
+    two b more low =
+        let front = front-2 (drop (k + 3) xs) (enough 2 (omega arith)) (rw (here 0 (k + 3) (omega arith), here 1 (k + 4) (omega arith)) b) (rw (here 0 (k + 3) (omega arith)) low) in
+        of_len 2 (k + 2) (k + 3) (k + 4) (lit< tt) refl (omega arith) (omega arith) (omega arith) front (omega (arith, before.2)) low (b.second.1)
 
     three : MayBegin (get_or xs (k + 3) 0) (get_or xs (k + 4) 0) → Continues (get_or xs (k + 5) 0) → k + 5 < e → 0xE0 ≤ get_or xs (k + 3) 0 → get_or xs (k + 3) 0 < 0xF0 → OneCode k
-    three b third more low top = record {
-      len = 3;
-      some = lit< tt;
-      within = omega arith;
-      front = front-3 (drop (k + 3) xs) (enough 3 (omega arith)) (rw (here 0 (k + 3) (omega arith), here 1 (k + 4) (omega arith)) b) (rw (here 2 (k + 5) (omega arith)) third)
-          (rw (here 0 (k + 3) (omega arith)) low) (rw (here 0 (k + 3) (omega arith)) top);
-      next = λ high. begins_after _ _ _ _ (judged (k + 3) (k + 4) (k + 5) (k + 3 + 3) (omega arith) (omega arith) (omega arith) (omega arith) (omega arith)) top (omega (arith, b.second.1)) (third.1) high;
-    }
+    three b third more low top =
+        let front = front-3 (drop (k + 3) xs) (enough 3 (omega arith)) (rw (here 0 (k + 3) (omega arith), here 1 (k + 4) (omega arith)) b) (rw (here 2 (k + 5) (omega arith)) third)
+        (rw (here 0 (k + 3) (omega arith)) low) (rw (here 0 (k + 3) (omega arith)) top) in
+        of_len 3 (k + 3) (k + 4) (k + 5) (lit< tt) refl (omega arith) (omega arith) (omega arith) front top (omega (arith, b.second.1)) (third.1)
 
     four : MayBegin (get_or xs (k + 3) 0) (get_or xs (k + 4) 0) → Continues (get_or xs (k + 5) 0) → Continues (get_or xs (k + 6) 0) → k + 6 < e → 0xF0 ≤ get_or xs (k + 3) 0 → OneCode k
-    four b third fourth more low = record {
-      len = 4;
-      some = lit< tt;
-      within = omega arith;
-      front = front-4 (drop (k + 3) xs) (enough 4 (omega arith)) (rw (here 0 (k + 3) (omega arith), here 1 (k + 4) (omega arith)) b) (rw (here 2 (k + 5) (omega arith)) third)
-          (rw (here 3 (k + 6) (omega arith)) fourth) (rw (here 0 (k + 3) (omega arith)) low);
-      next = λ high. begins_after _ _ _ _ (judged (k + 4) (k + 5) (k + 6) (k + 3 + 4) (omega arith) (omega arith) (omega arith) (omega arith) (omega arith)) (omega (arith, b.second.1)) (omega (arith, third.1)) (fourth.1) high;
-    }
+    four b third fourth more low =
+        let front = front-4 (drop (k + 3) xs) (enough 4 (omega arith)) (rw (here 0 (k + 3) (omega arith), here 1 (k + 4) (omega arith)) b) (rw (here 2 (k + 5) (omega arith)) third)
+        (rw (here 3 (k + 6) (omega arith)) fourth) (rw (here 0 (k + 3) (omega arith)) low) in
+        of_len 4 (k + 4) (k + 5) (k + 6) (lit< tt) refl (omega arith) (omega arith) (omega arith) front (omega (arith, b.second.1)) (omega (arith, third.1)) (fourth.1)
 
     longer : MayBegin (get_or xs (k + 3) 0) (get_or xs (k + 4) 0) → k + 4 < e → 0xE0 ≤ get_or xs (k + 3) 0 → OneCode k
     longer b more low =

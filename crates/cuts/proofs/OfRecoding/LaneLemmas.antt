@@ -250,23 +250,24 @@ first_differs v r long some e =
 abbrev at_most : ℕ → ℕ → ℕ
 at_most a b = cond (leb a b) 255 0
 
-abbrev pub high_mask : List ℕ → ℕ
-high_mask v = mask_l (map (top 7) (zip2 at_most (replicate 16 0x80) v)) % 2 ^ 64
+-- which lanes reach a number
+abbrev pub reach_mask : ℕ → List ℕ → ℕ
+reach_mask n v = mask_l (map (top 7) (zip2 at_most (replicate 16 n) v)) % 2 ^ 64
 
-not_high : (x : ℕ) → not (leb 0x80 x) ≡ true → x < 0x80
-not_high x e = leb-false 0x80 x (flip (leb 0x80 x) e)
+not_reached : (n x : ℕ) → not (leb n x) ≡ true → x < n
+not_reached n x e = leb-false n x (flip (leb n x) e)
   where
     flip : (b : Bool) → not b ≡ true → b ≡ false
     flip true e = sym e
     flip false e = refl
 
-none_high : (v : List ℕ) → length v ≡ 16 → high_mask v ≡ 0 → (k : ℕ) → k < 16 → get_or v k 0 < 0x80
-none_high v long none k lt =
-    let turned : zip2 at_most (replicate 16 0x80) v ≡ zip2 (λ a b. at_most b a) v (replicate 16 0x80)
-    = zip2_splat_left at_most 0x80 16 v long ∙ sym (zip2_splat (λ a b. at_most b a) v 16 0x80 long) in
-    let mask : high_mask v ≡ mask_l (map (λ x. leb 0x80 x) v) = rw turned (bitmask_splat w8 (λ a b. leb b a) v 16 0x80 long (lit< tt)) in
-    let all : prefix_len (λ x. not (leb 0x80 x)) v ≡ length v = leading_from_mask_l (λ x. leb 0x80 x) v (sym mask ∙ none) in
-    not_high (get_or v k 0) (prefix_len_passes (λ x. not (leb 0x80 x)) v k 0 (omega (arith, all, long)))
+pub none_reach : (n : ℕ) (v : List ℕ) → length v ≡ 16 → reach_mask n v ≡ 0 → (k : ℕ) → k < 16 → get_or v k 0 < n
+none_reach n v long none k lt =
+    let turned : zip2 at_most (replicate 16 n) v ≡ zip2 (λ a b. at_most b a) v (replicate 16 n)
+    = zip2_splat_left at_most n 16 v long ∙ sym (zip2_splat (λ a b. at_most b a) v 16 n long) in
+    let mask : reach_mask n v ≡ mask_l (map (λ x. leb n x) v) = rw turned (bitmask_splat w8 (λ a b. leb b a) v 16 n long (lit< tt)) in
+    let all : prefix_len (λ x. not (leb n x)) v ≡ length v = leading_from_mask_l (λ x. leb n x) v (sym mask ∙ none) in
+    not_reached n (get_or v k 0) (prefix_len_passes (λ x. not (leb n x)) v k 0 (omega (arith, all, long)))
 
 -- Four blocks at once.
 
@@ -301,15 +302,15 @@ module _ (p q r s : List ℕ) (lp : length p ≡ 16) (lq : length q ≡ 16) (lr 
       let le = each_le k lt in
       (omega (arith, le.0), omega (arith, le.1), omega (arith, le.2), omega (arith, le.3))
 
-  pub all_low : high_mask any ≡ 0 → (k : ℕ) → k < 16 → (get_or p k 0 < 0x80) × (get_or q k 0 < 0x80) × (get_or r k 0 < 0x80) × (get_or s k 0 < 0x80)
+  pub all_low : reach_mask 0x80 any ≡ 0 → (k : ℕ) → k < 16 → (get_or p k 0 < 0x80) × (get_or q k 0 < 0x80) × (get_or r k 0 < 0x80) × (get_or s k 0 < 0x80)
   all_low none k lt =
-      let low = none_high any any_len none k lt in
+      let low = none_reach 0x80 any any_len none k lt in
       let le = each_le k lt in
       (omega (arith, le.0), omega (arith, le.1), omega (arith, le.2), omega (arith, le.3))
 
 -- 64 bytes by four loads
 pub loads_low : (bytes : List ℕ) (place : ℕ) → place + 64 ≤ length bytes
-    → high_mask (zip2 bit_or (zip2 bit_or (chunk place 16 bytes) (chunk (place + 16) 16 bytes)) (zip2 bit_or (chunk (place + 32) 16 bytes) (chunk (place + 48) 16 bytes))) ≡ 0
+    → reach_mask 0x80 (zip2 bit_or (zip2 bit_or (chunk place 16 bytes) (chunk (place + 16) 16 bytes)) (zip2 bit_or (chunk (place + 32) 16 bytes) (chunk (place + 48) 16 bytes))) ≡ 0
     → (k : ℕ) → k < 64 → get_or bytes (place + k) 0 < 0x80
 loads_low bytes place within none k lt =
     let low = all_low (chunk place 16 bytes) (chunk (place + 16) 16 bytes) (chunk (place + 32) 16 bytes) (chunk (place + 48) 16 bytes)

@@ -1,6 +1,6 @@
 -- Runs to the end of an output that has room, step by step.
-use Rattle.std.proofs.Common.{◌≡◌, ℕ, ◌+◌, ◌*◌, ◌<◌, ◌≤◌, List, ◌++◌, length, take, drop, IsUtf8, arith, length-drop, length-append}
-use Rattle.std.proofs.lemmas.List.{drop-drop}
+use Rattle.std.proofs.Common.{◌≡◌, ℕ, ◌+◌, ◌-◌, ◌*◌, ◌<◌, ◌≤◌, List, ◌++◌, length, take, drop, IsUtf8, arith, length-drop, length-append}
+use Rattle.std.proofs.lemmas.List.{drop-drop, take_rest}
 use Rattle.std.specs.Prelude.{Vec, vec_len, vec_capacity}
 use Rattle.cuts.specs.declared.recoding.form.Form.{Form}
 use Rattle.cuts.specs.declared.recoding.form.Form.TheVariants.{Utf8}
@@ -27,6 +27,13 @@ RunsOnto-next from to bytes old mid new p n f g = record {
   short = omega arith;
   capacity = omega arith;
 }
+
+-- two runs after another one, over what is left of the bytes
+pub RunsOnto-two : {Z : Type 0} (from to : Form) (bytes : List ℕ) (old mid more new : Vec ℕ Z) (p n m : ℕ) → RunsOnto from to bytes old mid p
+    → RunsOnto from to (take (length bytes - p) (drop p bytes)) mid more n → RunsOnto from to (take (length bytes - (p + n)) (drop (p + n) bytes)) more new m
+    → RunsOnto from to bytes old new (p + n + m)
+RunsOnto-two from to bytes old mid more new p n m f g h =
+    RunsOnto-next from to bytes old more new (p + n) m (RunsOnto-next from to bytes old mid more p n f (rw (take_rest bytes p) at g)) (rw (take_rest bytes (p + n)) at h)
 
 -- the same with more bytes after them
 pub RunsOnto-more : {Z : Type 0} (from to : Form) (w x : List ℕ) (old new : Vec ℕ Z) (p : ℕ) → RunsOnto from to w old new p → RunsOnto from to (w ++ x) old new p

@@ -1,6 +1,6 @@
 -- Runs into room of a fixed size, step by step.
-use Rattle.std.proofs.Common.{◌≡◌, ℕ, ◌+◌, ◌-◌, ◌*◌, ◌<◌, ◌≤◌, List, [], ◌∷◌, ◌++◌, length, get_or, take, drop, flat_map, arith, refl, ap, sym, ⊎_elim, subst, ◌∙◌, append_assoc, length-drop, length-take}
-use Rattle.std.proofs.lemmas.List.{drop-drop, take-take, take_all}
+use Rattle.std.proofs.Common.{◌≡◌, ℕ, ◌+◌, ◌-◌, ◌*◌, ◌<◌, ◌≤◌, List, [], ◌∷◌, ◌++◌, length, get_or, take, drop, flat_map, arith, ap, sym, ⊎_elim, subst, ◌∙◌, append_assoc, length-drop, length-take}
+use Rattle.std.proofs.lemmas.List.{drop-drop, take-take, take_all, take_rest}
 use Rattle.std.proofs.lemmas.List.Concat.{flat_map-append}
 use Rattle.std.proofs.lemmas.Bool.{cases_lt}
 use Rattle.cuts.specs.declared.recoding.form.Form.{Form}
@@ -8,7 +8,13 @@ use Rattle.cuts.specs.Recoding.Recoded.{Reads, written, Grows}
 use Rattle.cuts.specs.Recoding.ShownFronts.{Decides, ShowsEach}
 use Rattle.cuts.specs.Recoding.Rooms.{Fills, RunsInto}
 use Rattle.cuts.proofs.OfRecoding.Growing.{Grows-trans, length_written}
+use Rattle.cuts.proofs.OfRecoding.Listed.{listed}
 use Rattle.cuts.proofs.OfRecoding.RoomLemmas.{drop_later, cut_part, take_more, Grows-ahead, Grows-more-read}
+
+-- what a loop keeps that writes into a room: what it has done is such a run, and the room is as long as before
+pub record KeepsRun (from to : Form) (bytes old new : List ℕ) (place read wrote : ℕ) : Type 0 where
+  pub runs : RunsInto from to bytes old new place read wrote
+  pub len : length new ≡ length old
 
 -- one run after another, each by the three bytes that follow it
 pub Grows-after : (from to : Form) (bytes old mid new : List ℕ) (p n : ℕ) → Grows from to (take (p + 3) bytes) old mid (take 3 (drop p bytes))
@@ -138,12 +144,17 @@ RunsInto-part from to bytes old new count place read wrote f =
       rest = f.rest;
     }
 
--- two runs after another one
-pub RunsInto-two : (from to : Form) (bytes old mid more new : List ℕ) (place read wrote n end m last : ℕ) → RunsInto from to bytes old mid place read wrote → length mid ≡ length old
-    → RunsInto from to (drop read bytes) mid more wrote n end → length more ≡ length mid → RunsInto from to (drop (read + n) bytes) more new end m last
-    → RunsInto from to bytes old new place (read + n + m) last
-RunsInto-two from to bytes old mid more new place read wrote n end m last f len g kept h =
-    RunsInto-then from to bytes old more new place (read + n) end m last (RunsInto-then from to bytes old mid more place read wrote n end f len g) (kept ∙ len) h
+-- two runs after another one, over what is left of the bytes
+pub KeepsRun-two : (from to : Form) (bytes old mid more new : List ℕ) (place read wrote n end m last : ℕ) → KeepsRun from to bytes old mid place read wrote
+    → RunsInto from to (take (length bytes - read) (drop read bytes)) mid more wrote n end → length more ≡ length mid
+    → RunsInto from to (take (length bytes - (read + n)) (drop (read + n) bytes)) more new end m last → length new ≡ length more → KeepsRun from to bytes old new place (read + n + m) last
+KeepsRun-two from to bytes old mid more new place read wrote n end m last f g kept h same =
+    let first = rw (take_rest bytes read) at g in
+    let second = rw (take_rest bytes (read + n)) at h in
+    record {
+      runs = RunsInto-then from to bytes old more new place (read + n) end m last (RunsInto-then from to bytes old mid more place read wrote n end f.runs f.len first) (kept ∙ f.len) second;
+      len = same ∙ kept ∙ f.len;
+    }
 
 -- Bytes written after others.
 
@@ -159,15 +170,7 @@ Fills-then old mid new xs ys from to end f len g =
       rest = g.rest ∙ drop_later mid old to end later f.rest;
     }
 
-four : (w : List ℕ) → length w ≡ 4 → get_or w 0 0 ∷ get_or w 1 0 ∷ get_or w 2 0 ∷ get_or w 3 0 ∷ [] ≡ w
-four [] h = absurd (omega arith)
-four (a ∷ []) h = absurd (omega arith)
-four (a ∷ b ∷ []) h = absurd (omega arith)
-four (a ∷ b ∷ c ∷ []) h = absurd (omega arith)
-four (a ∷ b ∷ c ∷ d ∷ []) h = refl
-four (a ∷ b ∷ c ∷ d ∷ e ∷ w) h = absurd (omega arith)
-
 -- two and then two
 pub Fills-four : (old mid new w : List ℕ) (from to end : ℕ) → length w ≡ 4 → Fills old mid from to (get_or w 0 0 ∷ get_or w 1 0 ∷ []) → length mid ≡ length old
     → Fills mid new to end (get_or w 2 0 ∷ get_or w 3 0 ∷ []) → Fills old new from end w
-Fills-four old mid new w from to end h f len g = subst (λ xs. Fills old new from end xs) (four w h) (Fills-then old mid new _ _ from to end f len g)
+Fills-four old mid new w from to end h f len g = subst (λ xs. Fills old new from end xs) (listed 4 w h) (Fills-then old mid new _ _ from to end f len g)

@@ -9,7 +9,7 @@ use Rattle.cuts.specs.Recoding.GivenUnits.{joined}
 use Rattle.cuts.specs.Recoding.UnitCodes.{kept, slot, slot_at, pair_slot_at, marked, slot_bytes, short_at, short_bytes}
 use Rattle.cuts.proofs.OfRecoding.BlockUnits.{low_bit, high_bit}
 use Rattle.cuts.proofs.OfRecoding.Joined.{joined_add, joined_moved, joined_same}
-use Rattle.cuts.proofs.OfRecoding.LaneLemmas.{high_mask}
+use Rattle.cuts.proofs.OfRecoding.LaneLemmas.{reach_mask}
 
 -- The pairs of a vector: the first of each, and the second.
 abbrev pub ArePairs : List ℕ → (ℕ → ℕ) → (ℕ → ℕ) → Type 0
@@ -33,19 +33,19 @@ module _ (vs : List ℕ) (f g : ℕ → ℕ) (pairs : ArePairs vs f g) where
 abbrev at_most : ℕ → ℕ → ℕ
 at_most a b = cond (leb a b) 255 0
 
-mask_is : (v : List ℕ) → length v ≡ 16 → high_mask v ≡ mask_l (map (λ x. leb 0x80 x) v)
+mask_is : (v : List ℕ) → length v ≡ 16 → reach_mask 0x80 v ≡ mask_l (map (λ x. leb 0x80 x) v)
 mask_is v long =
     let turned : zip2 at_most (replicate 16 0x80) v ≡ zip2 (λ a b. at_most b a) v (replicate 16 0x80)
     = zip2_splat_left at_most 0x80 16 v long ∙ sym (zip2_splat (λ a b. at_most b a) v 16 0x80 long) in
     rw turned (bitmask_splat w8 (λ a b. leb b a) v 16 0x80 long (lit< tt))
 
-pub high_most : (v : List ℕ) → length v ≡ 16 → high_mask v < 65536
+pub high_most : (v : List ℕ) → length v ≡ 16 → reach_mask 0x80 v < 65536
 high_most v long =
     let wide : length (map (λ x. leb 0x80 x) v) ≡ 16 = length-map v (λ x. leb 0x80 x) ∙ long in
     let below : mask_l (map (λ x. leb 0x80 x) v) < 2 ^ 16 = rw wide at (mask_l-lt (map (λ x. leb 0x80 x) v)) in
     omega (arith, mask_is v long)
 
-high_bits : (v : List ℕ) → length v ≡ 16 → (k : ℕ) → k < 16 → bit_at (high_mask v) k ≡ cond (leb 0x80 (get_or v k 0)) 1 0
+high_bits : (v : List ℕ) → length v ≡ 16 → (k : ℕ) → k < 16 → bit_at (reach_mask 0x80 v) k ≡ cond (leb 0x80 (get_or v k 0)) 1 0
 high_bits v long k lt =
     let test : get_or (map (λ x. leb 0x80 x) v) k false ≡ leb 0x80 (get_or v k 0) = get_or-map (λ x. leb 0x80 x) v k 0 false (omega (arith, long)) in
     rw (mask_is v long) (bit_mask_l (map (λ x. leb 0x80 x) v) k ∙ ap (λ (b : Bool). cond {A = ℕ} b 1 0) test)
@@ -76,21 +76,21 @@ module _ (m : ℕ) (vs : List ℕ) (f g : ℕ → ℕ) (pairs : ArePairs vs f g)
 
 -- Eight slots, by a mask whose halves say which bytes of four slots are kept.
 module _ (fronts lasts vs ws : List ℕ) (long : length fronts ≡ 16) (pairs : ArePairs vs (at_front fronts) (at_front lasts)) (more : ArePairs ws (at_back fronts) (at_back lasts)) where
-  front_four : (i : ℕ) → i < 4 → slot_bytes (bit_and (high_mask fronts) 255) vs i ≡ pair_slot_at fronts lasts i
-  front_four = four_slots (bit_and (high_mask fronts) 255) vs (at_front fronts) (at_front lasts) pairs (λ k lt. low_bit (high_mask fronts) k lt ∙ high_bits fronts long k (omega arith))
+  front_four : (i : ℕ) → i < 4 → slot_bytes (bit_and (reach_mask 0x80 fronts) 255) vs i ≡ pair_slot_at fronts lasts i
+  front_four = four_slots (bit_and (reach_mask 0x80 fronts) 255) vs (at_front fronts) (at_front lasts) pairs (λ k lt. low_bit (reach_mask 0x80 fronts) k lt ∙ high_bits fronts long k (omega arith))
 
-  back_four : (i : ℕ) → i < 4 → slot_bytes (high_mask fronts / 256) ws i ≡ pair_slot_at fronts lasts (4 + i)
+  back_four : (i : ℕ) → i < 4 → slot_bytes (reach_mask 0x80 fronts / 256) ws i ≡ pair_slot_at fronts lasts (4 + i)
   back_four i lt =
       let a : 8 + 2 * i ≡ 2 * (4 + i) = omega arith in
       let b : 8 + (2 * i + 1) ≡ 2 * (4 + i) + 1 = omega arith in
-      four_slots (high_mask fronts / 256) ws (at_back fronts) (at_back lasts) more (λ k lt. high_bit (high_mask fronts) k lt ∙ high_bits fronts long (8 + k) (omega arith)) i lt
+      four_slots (reach_mask 0x80 fronts / 256) ws (at_back fronts) (at_back lasts) more (λ k lt. high_bit (reach_mask 0x80 fronts) k lt ∙ high_bits fronts long (8 + k) (omega arith)) i lt
       ∙ ap₂ (λ p q. slot (get_or fronts p 0) (get_or fronts q 0) (get_or lasts p 0)) a b
 
-  pub eight_slots : joined (slot_bytes (bit_and (high_mask fronts) 255) vs) 0 4 ++ joined (slot_bytes (high_mask fronts / 256) ws) 0 4 ≡ joined (pair_slot_at fronts lasts) 0 8
+  pub eight_slots : joined (slot_bytes (bit_and (reach_mask 0x80 fronts) 255) vs) 0 4 ++ joined (slot_bytes (reach_mask 0x80 fronts / 256) ws) 0 4 ≡ joined (pair_slot_at fronts lasts) 0 8
   eight_slots =
       ap₂ (λ xs ys. xs ++ ys)
-      (joined_same (slot_bytes (bit_and (high_mask fronts) 255) vs) (pair_slot_at fronts lasts) 0 4 (λ i ge lt. front_four i lt))
-      (joined_moved (slot_bytes (high_mask fronts / 256) ws) (pair_slot_at fronts lasts) 0 4 4 (λ i lt. let z : 0 + i ≡ i = omega arith in rw z (back_four i lt)))
+      (joined_same (slot_bytes (bit_and (reach_mask 0x80 fronts) 255) vs) (pair_slot_at fronts lasts) 0 4 (λ i ge lt. front_four i lt))
+      (joined_moved (slot_bytes (reach_mask 0x80 fronts / 256) ws) (pair_slot_at fronts lasts) 0 4 4 (λ i lt. let z : 0 + i ≡ i = omega arith in rw z (back_four i lt)))
       ∙ sym (joined_add (pair_slot_at fronts lasts) 0 4 4)
 
 -- Sixteen slots in three vectors.
@@ -109,19 +109,19 @@ module _ (firsts middles lasts fronts more_fronts ends more_ends : List ℕ) (fr
 
 -- Sixteen pairs, by a mask whose halves say where the first of each is kept.
 module _ (middles lasts vs ws : List ℕ) (long : length middles ≡ 16) (pairs : ArePairs vs (at_front middles) (at_front lasts)) (more : ArePairs ws (at_back middles) (at_back lasts)) where
-  front_eight : (i : ℕ) → i < 8 → short_bytes (bit_and (high_mask middles) 255) vs i ≡ short_at middles lasts i
+  front_eight : (i : ℕ) → i < 8 → short_bytes (bit_and (reach_mask 0x80 middles) 255) vs i ≡ short_at middles lasts i
   front_eight i lt =
       rw (pair_first vs (at_front middles) (at_front lasts) pairs i lt, pair_second vs (at_front middles) (at_front lasts) pairs i lt)
-      (ap (λ xs. xs ++ (get_or lasts i 0 ∷ [])) (marked_kept (bit_and (high_mask middles) 255) i (get_or middles i 0) (low_bit (high_mask middles) i lt ∙ high_bits middles long i (omega arith))))
+      (ap (λ xs. xs ++ (get_or lasts i 0 ∷ [])) (marked_kept (bit_and (reach_mask 0x80 middles) 255) i (get_or middles i 0) (low_bit (reach_mask 0x80 middles) i lt ∙ high_bits middles long i (omega arith))))
 
-  back_eight : (i : ℕ) → i < 8 → short_bytes (high_mask middles / 256) ws i ≡ short_at middles lasts (8 + i)
+  back_eight : (i : ℕ) → i < 8 → short_bytes (reach_mask 0x80 middles / 256) ws i ≡ short_at middles lasts (8 + i)
   back_eight i lt =
       rw (pair_first ws (at_back middles) (at_back lasts) more i lt, pair_second ws (at_back middles) (at_back lasts) more i lt)
-      (ap (λ xs. xs ++ (get_or lasts (8 + i) 0 ∷ [])) (marked_kept (high_mask middles / 256) i (get_or middles (8 + i) 0) (high_bit (high_mask middles) i lt ∙ high_bits middles long (8 + i) (omega arith))))
+      (ap (λ xs. xs ++ (get_or lasts (8 + i) 0 ∷ [])) (marked_kept (reach_mask 0x80 middles / 256) i (get_or middles (8 + i) 0) (high_bit (reach_mask 0x80 middles) i lt ∙ high_bits middles long (8 + i) (omega arith))))
 
-  pub sixteen_pairs : joined (short_bytes (bit_and (high_mask middles) 255) vs) 0 8 ++ joined (short_bytes (high_mask middles / 256) ws) 0 8 ≡ joined (short_at middles lasts) 0 16
+  pub sixteen_pairs : joined (short_bytes (bit_and (reach_mask 0x80 middles) 255) vs) 0 8 ++ joined (short_bytes (reach_mask 0x80 middles / 256) ws) 0 8 ≡ joined (short_at middles lasts) 0 16
   sixteen_pairs =
       ap₂ (λ xs ys. xs ++ ys)
-      (joined_same (short_bytes (bit_and (high_mask middles) 255) vs) (short_at middles lasts) 0 8 (λ i ge lt. front_eight i lt))
-      (joined_moved (short_bytes (high_mask middles / 256) ws) (short_at middles lasts) 0 8 8 (λ i lt. let z : 0 + i ≡ i = omega arith in rw z (back_eight i lt)))
+      (joined_same (short_bytes (bit_and (reach_mask 0x80 middles) 255) vs) (short_at middles lasts) 0 8 (λ i ge lt. front_eight i lt))
+      (joined_moved (short_bytes (reach_mask 0x80 middles / 256) ws) (short_at middles lasts) 0 8 8 (λ i lt. let z : 0 + i ≡ i = omega arith in rw z (back_eight i lt)))
       ∙ sym (joined_add (short_at middles lasts) 0 8 8)

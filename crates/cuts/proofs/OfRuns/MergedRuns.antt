@@ -3,8 +3,6 @@ use Rattle.std.proofs.Common.{◌≡◌, ℕ, suc, ◌+◌, ◌-◌, ◌<◌, Li
 use Rattle.std.proofs.lemmas.Grind.{common_steps}
 use Rattle.std.proofs.lemmas.List.{map-append, take_rest, drop_at, drop-drop}
 use Rattle.std.specs.Prelude.{slice_range}
-use Rattle.utf_base.specs.declared.errors.Utf8ErrorKind.{Utf8ErrorKind}
-use Rattle.utf_base.specs.declared.errors.units.Utf16PairError.{Utf16PairError}
 use Rattle.utf_base.specs.Code.{IsCode, utf8, utf16}
 use Rattle.utf_base.specs.Kinds.{merger_kind}
 use Rattle.utf_base.specs.Units.{unit_fault_kind}
@@ -16,11 +14,27 @@ use Rattle.utf_base.proofs.UnitLemmas.{no_units_where_kind, utf16_finds}
 use Rattle.utf_base.proofs.Utf8Code.{utf8_is_code}
 use Rattle.utf_base.proofs.Utf16Code.{utf16_is_code}
 use Rattle.encode_unicode.specs.Mergers.{TakesFront}
-use Rattle.encode_unicode.specs.Window.{Placed, UnitItem, IsFrontOf}
-use Rattle.cuts.specs.Runs.Items.{answers_of}
-use Rattle.cuts.specs.Runs.Collected.{IsMergedRun, IsJoinedExactly, IsUnitRun}
+use Rattle.encode_unicode.specs.Window.{Placed, IsFrontOf}
+use Rattle.cuts.specs.Runs.Items.{IsRun, answers_of}
+use Rattle.cuts.specs.Runs.Collected.{IsMergedRun, IsJoinedExactly}
 use Rattle.cuts.proofs.OfRuns.PieceRuns.{Excludes, IsRunTo, IsRunTo-front, IsRunTo-push, IsRun-all}
 use Rattle.cuts.proofs.OfRuns.RunLaws.{run_unique, run_of_joined, joined_of_run}
+
+-- What a merger of a code rests on: it is one, no kind of a fault is told where a scalar stands, and it is found where one
+-- does.
+pub record IsMerger {E : Type 0} (code : ℕ → List ℕ) (kind : List ℕ → Option E) : Type 0 where
+  pub is_code : IsCode code
+  pub apart : Excludes code kind
+  pub finds : Finds code
+
+no_bytes_where_kind : Excludes utf8 merger_kind
+no_bytes_where_kind w k s e h = let none = merger_none_where_code w s h in cc
+
+pub of_bytes : IsMerger utf8 merger_kind
+of_bytes = record { is_code = utf8_is_code; apart = no_bytes_where_kind; finds = utf8_finds }
+
+pub of_units : IsMerger utf16 unit_fault_kind
+of_units = record { is_code = utf16_is_code; apart = no_units_where_kind; finds = utf16_finds }
 
 -- The answers are those of the run as far as a place, after which the unread elements stand.
 pub record IsMergedSoFar {E : Type 0} (code : ℕ → List ℕ) (kind : List ℕ → Option E) (xs : List ℕ) (answers : List (Result ℕ E)) (unread : List ℕ) : Type 0 where
@@ -58,93 +72,52 @@ taken code kind c old new (Err k) h =
 place_before : (xs : List ℕ) (i : ℕ) → 0 < length (drop i xs) → i < length xs
 place_before xs i some = grind (arith, common_steps)
 
--- one answer more
-pub IsMergedSoFar-push : {E : Type 0} (code : ℕ → List ℕ) (kind : List ℕ → Option E) → IsCode code → Excludes code kind → (xs : List ℕ) (answers : List (Result ℕ E)) (old new : List ℕ) (r : Result ℕ E)
-    → IsMergedSoFar code kind xs answers old → TakesFront code kind old (Some r) new → IsMergedSoFar code kind xs (answers ++ r ∷ []) new
-IsMergedSoFar-push {E} code kind c apart xs answers old new r f h =
-    let t = taken code kind c old new r h in
-    let lt = place_before xs f.place (rw f.following at t.some) in
-    let rest : old ≡ slice_range xs f.place (length xs) = f.following ∙ sym (take_rest xs f.place) in
-    record {
-      items = f.items ++ (f.place, r, t.len) ∷ [];
-      place = f.place + t.len;
-      run = IsRunTo-push code kind c apart xs 0 f.items f.place (f.place, r, t.len) f.run refl lt (rw (← rest) t.front);
-      following = t.left ∙ ap (drop t.len) f.following ∙ drop-drop t.len f.place xs;
-      same = ap (λ rs. rs ++ r ∷ []) f.same ∙ sym (map-append (λ (x : Placed E). x.1) f.items ((f.place, r, t.len) ∷ []));
-    }
+module _ {E : Type 0} {code : ℕ → List ℕ} {kind : List ℕ → Option E} (m : IsMerger code kind) (xs : List ℕ) (answers : List (Result ℕ E)) (old new : List ℕ) (f : IsMergedSoFar code kind xs answers old) where
+  -- one answer more
+  pub merged_push : (r : Result ℕ E) → TakesFront code kind old (Some r) new → IsMergedSoFar code kind xs (answers ++ r ∷ []) new
+  merged_push r h =
+      let t = taken code kind m.is_code old new r h in
+      let lt = place_before xs f.place (rw f.following at t.some) in
+      let rest : old ≡ slice_range xs f.place (length xs) = f.following ∙ sym (take_rest xs f.place) in
+      record {
+        items = f.items ++ (f.place, r, t.len) ∷ [];
+        place = f.place + t.len;
+        run = IsRunTo-push code kind m.is_code m.apart xs 0 f.items f.place (f.place, r, t.len) f.run refl lt (rw (← rest) t.front);
+        following = t.left ∙ ap (drop t.len) f.following ∙ drop-drop t.len f.place xs;
+        same = ap (λ rs. rs ++ r ∷ []) f.same ∙ sym (map-append (λ (x : Placed E). x.1) f.items ((f.place, r, t.len) ∷ []));
+      }
 
--- once nothing is unread the run is whole
-IsMergedRun-all : {E : Type 0} (code : ℕ → List ℕ) (kind : List ℕ → Option E) (xs : List ℕ) (answers : List (Result ℕ E)) (old : List ℕ)
-    → IsMergedSoFar code kind xs answers old → old ≡ [] → IsMergedRun code kind xs answers
-IsMergedRun-all code kind xs answers old f none =
-    let end : length xs - f.place ≡ 0 = length_after xs f.place (sym f.following ∙ none) in
-    record { items = f.items; run = IsRun-all code kind xs f.items f.place f.run (omega arith); same = f.same }
-  where
-    length_after : (xs : List ℕ) (i : ℕ) → drop i xs ≡ [] → length xs - i ≡ 0
-    length_after xs i e = ends (drop i xs) (length xs - i) (grind (arith, common_steps)) e
-      where
-        ends : (ys : List ℕ) (n : ℕ) → length ys ≡ n → ys ≡ [] → n ≡ 0
-        ends ys n len e = sym len ∙ ap length e
+  -- an answer stands for some element
+  pub merged_some : (r : Result ℕ E) → TakesFront code kind old (Some r) new → xs ≡ [] → ⊥
+  merged_some r h none =
+      let t = taken code kind m.is_code old new r h in
+      let lt = place_before xs f.place (rw f.following at t.some) in
+      let empty : length xs ≡ 0 = ap length none in
+      omega arith
 
--- an answer stands for some element
-pub merged_some : {E : Type 0} (code : ℕ → List ℕ) (kind : List ℕ → Option E) → IsCode code → (xs : List ℕ) (answers : List (Result ℕ E)) (old new : List ℕ) (r : Result ℕ E)
-    → IsMergedSoFar code kind xs answers old → TakesFront code kind old (Some r) new → xs ≡ [] → ⊥
-merged_some code kind c xs answers old new r f h none =
-    let t = taken code kind c old new r h in
-    let lt = place_before xs f.place (rw f.following at t.some) in
-    let empty : length xs ≡ 0 = ap length none in
-    omega arith
+  -- once nothing is unread the run is whole
+  pub merged_all : TakesFront code kind old None new → IsMergedRun code kind xs answers
+  merged_all h =
+      let end : length xs - f.place ≡ 0 = length_after xs f.place (sym f.following ∙ h.0) in
+      record { items = f.items; run = IsRun-all code kind xs f.items f.place f.run (omega arith); same = f.same }
+    where
+      length_after : (xs : List ℕ) (i : ℕ) → drop i xs ≡ [] → length xs - i ≡ 0
+      length_after xs i e = ends (drop i xs) (length xs - i) (grind (arith, common_steps)) e
+        where
+          ends : (ys : List ℕ) (n : ℕ) → length ys ≡ n → ys ≡ [] → n ≡ 0
+          ends ys n len e = sym len ∙ ap length e
 
--- its answers are characters all exactly where the elements are joined codes
-IsJoinedExactly-all : {E : Type 0} (code : ℕ → List ℕ) (kind : List ℕ → Option E) → IsCode code → Finds code → (xs : List ℕ) (answers : List (Result ℕ E)) → IsMergedRun code kind xs answers
-    → IsJoinedExactly code xs answers
-IsJoinedExactly-all code kind c find xs answers m = record {
-  joined = λ scalars h. m.same ∙ run_of_joined code kind c find xs scalars m.items h m.run;
-  only = λ scalars e. joined_of_run code kind c find xs scalars m.items m.run (sym m.same ∙ e);
-}
+  -- its answers are characters all exactly where the elements are joined codes
+  pub merged_joined : TakesFront code kind old None new → IsJoinedExactly code xs answers
+  merged_joined h =
+      let run = merged_all h in
+      record {
+        joined = λ scalars is. run.same ∙ run_of_joined code kind m.is_code m.finds xs scalars run.items is run.run;
+        only = λ scalars e. joined_of_run code kind m.is_code m.finds xs scalars run.items run.run (sym run.same ∙ e);
+      }
 
--- Of bytes.
-
-no_bytes_where_kind : Excludes utf8 merger_kind
-no_bytes_where_kind w k s e h = let none = merger_none_where_code w s h in cc
-
-pub bytes_push : (xs : List ℕ) (answers : List (Result ℕ Utf8ErrorKind)) (old new : List ℕ) (r : Result ℕ Utf8ErrorKind)
-    → IsMergedSoFar utf8 merger_kind xs answers old → TakesFront utf8 merger_kind old (Some r) new → IsMergedSoFar utf8 merger_kind xs (answers ++ r ∷ []) new
-bytes_push = IsMergedSoFar-push utf8 merger_kind utf8_is_code no_bytes_where_kind
-
-pub bytes_some : (xs : List ℕ) (answers : List (Result ℕ Utf8ErrorKind)) (old new : List ℕ) (r : Result ℕ Utf8ErrorKind)
-    → IsMergedSoFar utf8 merger_kind xs answers old → TakesFront utf8 merger_kind old (Some r) new → xs ≡ [] → ⊥
-bytes_some = merged_some utf8 merger_kind utf8_is_code
-
-pub bytes_all : (xs : List ℕ) (answers : List (Result ℕ Utf8ErrorKind)) (old new : List ℕ)
-    → IsMergedSoFar utf8 merger_kind xs answers old → TakesFront utf8 merger_kind old None new → IsMergedRun utf8 merger_kind xs answers
-bytes_all xs answers old new f h = IsMergedRun-all utf8 merger_kind xs answers old f h.0
-
-pub bytes_joined : (xs : List ℕ) (answers : List (Result ℕ Utf8ErrorKind)) (old new : List ℕ)
-    → IsMergedSoFar utf8 merger_kind xs answers old → TakesFront utf8 merger_kind old None new → IsJoinedExactly utf8 xs answers
-bytes_joined xs answers old new f h = IsJoinedExactly-all utf8 merger_kind utf8_is_code utf8_finds xs answers (bytes_all xs answers old new f h)
-
--- And of units.
-
-pub units_push : (xs : List ℕ) (answers : List (Result ℕ Utf16PairError)) (old new : List ℕ) (r : Result ℕ Utf16PairError)
-    → IsMergedSoFar utf16 unit_fault_kind xs answers old → TakesFront utf16 unit_fault_kind old (Some r) new → IsMergedSoFar utf16 unit_fault_kind xs (answers ++ r ∷ []) new
-units_push = IsMergedSoFar-push utf16 unit_fault_kind utf16_is_code no_units_where_kind
-
-pub units_some : (xs : List ℕ) (answers : List (Result ℕ Utf16PairError)) (old new : List ℕ) (r : Result ℕ Utf16PairError)
-    → IsMergedSoFar utf16 unit_fault_kind xs answers old → TakesFront utf16 unit_fault_kind old (Some r) new → xs ≡ [] → ⊥
-units_some = merged_some utf16 unit_fault_kind utf16_is_code
-
-pub units_all : (xs : List ℕ) (answers : List (Result ℕ Utf16PairError)) (old new : List ℕ)
-    → IsMergedSoFar utf16 unit_fault_kind xs answers old → TakesFront utf16 unit_fault_kind old None new → IsMergedRun utf16 unit_fault_kind xs answers
-units_all xs answers old new f h = IsMergedRun-all utf16 unit_fault_kind xs answers old f h.0
-
-pub units_joined : (xs : List ℕ) (answers : List (Result ℕ Utf16PairError)) (old new : List ℕ)
-    → IsMergedSoFar utf16 unit_fault_kind xs answers old → TakesFront utf16 unit_fault_kind old None new → IsJoinedExactly utf16 xs answers
-units_joined xs answers old new f h = IsJoinedExactly-all utf16 unit_fault_kind utf16_is_code utf16_finds xs answers (units_all xs answers old new f h)
-
--- the run of a decoder of units answers the same
-pub units_alike : (xs : List ℕ) (answers : List (Result ℕ Utf16PairError)) (old new : List ℕ) (items : List UnitItem)
-    → IsMergedSoFar utf16 unit_fault_kind xs answers old → TakesFront utf16 unit_fault_kind old None new → IsUnitRun xs items → answers ≡ answers_of items
-units_alike xs answers old new items f h run =
-    let m = units_all xs answers old new f h in
-    m.same ∙ ap answers_of (run_unique utf16 unit_fault_kind utf16_is_code xs m.items items m.run run)
+  -- and every run over the elements answers the same
+  pub merged_alike : TakesFront code kind old None new → (items : List (Placed E)) → IsRun code kind xs items → answers ≡ answers_of items
+  merged_alike h items is =
+      let run = merged_all h in
+      run.same ∙ ap answers_of (run_unique code kind m.is_code xs run.items items run.run is)

@@ -131,18 +131,23 @@ module _ {E : Type 0} where
   pub walk_outside : (e : Encoding E) → IsCode e.code → (xs : List ℕ) (word : List End) (answers : List (Option (Placed E))) → IsWalk e xs (map side word) answers → StaysOutside e xs (map side word) answers
   walk_outside e c xs word answers w = walk_stays_outside e c xs (map side word) answers w
 
+  -- one call more, at either end, of what gives pieces of the encoding
+  call_more : (e : Encoding E) → IsCode e.code → Excludes e.code e.forward → (next back : Window → Option (Placed E) → Window → Type 0) (most : ℕ) (answer answer_back : List ℕ → Result (ℕ × ℕ) E)
+      → ((w v : Window) → next w None v → GivesNone w v) → ((w v : Window) (x : Placed E) → next w (Some x) v → GivesFrontOf e.code most e.forward answer w x v)
+      → ((w v : Window) → back w None v → GivesNone w v) → ((w v : Window) (x : Placed E) → back w (Some x) v → GivesBackOf e.code most e.backward answer_back w x v)
+      → (xs : List ℕ) (word : List End) (answers : List (Option (Placed E))) (w v : Window) (end : End) (a : Option (Placed E)) → IsWalkSoFar e xs word answers w → CallGives next back end w a v
+      → IsWalkSoFar e xs (word ++ end ∷ []) (answers ++ a ∷ []) v
+  call_more e c apart next back most answer answer_back none some none_back some_back xs word answers w v Front None f g = none_more e xs word answers w v Front f (none w v g)
+  call_more e c apart next back most answer answer_back none some none_back some_back xs word answers w v Front (Some x) f g = front_more e c apart most answer xs word answers w v x f (some w v x g)
+  call_more e c apart next back most answer answer_back none some none_back some_back xs word answers w v Back None f g = none_more e xs word answers w v Back f (none_back w v g)
+  call_more e c apart next back most answer answer_back none some none_back some_back xs word answers w v Back (Some x) f g = back_more e c most answer_back xs word answers w v x f (some_back w v x g)
+
 -- One call more of the decoder of bytes, and of that of units.
 
 pub byte_more : (xs : List ℕ) (word : List End) (answers : List (Option Item)) (w v : Window) (end : End) (a : Option Item) → IsWalkSoFar utf8_bytes xs word answers w
     → CallGives NextGives NextBackGives end w a v → IsWalkSoFar utf8_bytes xs (word ++ end ∷ []) (answers ++ a ∷ []) v
-byte_more xs word answers w v Front None f g = none_more utf8_bytes xs word answers w v Front f g
-byte_more xs word answers w v Back None f g = none_more utf8_bytes xs word answers w v Back f g
-byte_more xs word answers w v Front (Some x) f g = front_more utf8_bytes utf8_is_code no_code_where_fault 4 decoded xs word answers w v x f g
-byte_more xs word answers w v Back (Some x) f g = back_more utf8_bytes utf8_is_code 4 decoded_end xs word answers w v x f g
+byte_more = call_more utf8_bytes utf8_is_code no_code_where_fault NextGives NextBackGives 4 decoded decoded_end (λ w v g. g) (λ w v x g. g) (λ w v g. g) (λ w v x g. g)
 
 pub unit_more : (xs : List ℕ) (word : List End) (answers : List (Option UnitItem)) (w v : Window) (end : End) (a : Option UnitItem) → IsWalkSoFar utf16_units xs word answers w
     → CallGives NextGivesUnits NextBackGivesUnits end w a v → IsWalkSoFar utf16_units xs (word ++ end ∷ []) (answers ++ a ∷ []) v
-unit_more xs word answers w v Front None f g = none_more utf16_units xs word answers w v Front f g
-unit_more xs word answers w v Back None f g = none_more utf16_units xs word answers w v Back f g
-unit_more xs word answers w v Front (Some x) f g = front_more utf16_units utf16_is_code no_units_where_kind 2 decoded_pairs xs word answers w v x f g
-unit_more xs word answers w v Back (Some x) f g = back_more utf16_units utf16_is_code 2 decoded_pairs_end xs word answers w v x f g
+unit_more = call_more utf16_units utf16_is_code no_units_where_kind NextGivesUnits NextBackGivesUnits 2 decoded_pairs decoded_pairs_end (λ w v g. g) (λ w v x g. g) (λ w v g. g) (λ w v x g. g)

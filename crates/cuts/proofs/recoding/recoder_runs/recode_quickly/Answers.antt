@@ -1,35 +1,19 @@
-use Rattle.std.proofs.Common.{◌+◌}
 use Rattle.std.proofs.lemmas.List.{take_rest}
-use Rattle.cuts.proofs.OfRecoding.OutputRuns.{RunsOnto-next, RunsUntil-all, RunsUntil-next}
+use Rattle.cuts.proofs.OfRecoding.OutputRuns.{RunsOnto-next, RunsOnto-two, RunsUntil-all, RunsUntil-next}
 use Rattle.cuts.proofs.recoding.recoder_runs.recode_quickly.Goals as goal
 
 pub returns-then-done-stop : goal.returns-then-done-stop
 returns-then-done-stop g c =
-    let bytes = c.args.bytes.now in
-    let p = c.loop-place.place in
-    let n = c.recode_blocks-place.result in
-    let m = c.recode_stretch-count.result in
-    let first = RunsOnto-next _ _ bytes _ _ _ p n c.loop-place.invariant (rw (take_rest bytes p) at c.recode_blocks-place.ensures) in
-    let second = RunsOnto-next _ _ bytes _ _ _ (p + n) m first (rw (take_rest bytes (p + n)) at c.recode_stretch-count.ensures) in
-    RunsUntil-next _ _ bytes _ _ _ _ _ (p + n + m) _ second (rw (take_rest bytes (p + n + m)) at c.recode_apart-done.ensures) c.if-done-stop.true
+    let runs = RunsOnto-two _ _ c.args.bytes.now _ _ _ _ _ _ _ c.loop-place.invariant c.recode_blocks-place.ensures c.recode_stretch-count.ensures in
+    RunsUntil-next _ _ _ _ _ _ _ _ _ _ runs (rw (take_rest _ _) at c.recode_apart-done.ensures) c.if-done-stop.true
 
 pub loop-place-preserved-else-done-stop : goal.loop-place-preserved-else-done-stop
 loop-place-preserved-else-done-stop g c =
-    let bytes = c.args.bytes.now in
-    let p = c.loop-place.place in
-    let n = c.recode_blocks-place.result in
-    let m = c.recode_stretch-count.result in
-    let first = RunsOnto-next _ _ bytes _ _ _ p n c.loop-place.invariant (rw (take_rest bytes p) at c.recode_blocks-place.ensures) in
-    let second = RunsOnto-next _ _ bytes _ _ _ (p + n) m first (rw (take_rest bytes (p + n)) at c.recode_stretch-count.ensures) in
-    RunsOnto-next _ _ bytes _ _ _ (p + n + m) _ second (rw (take_rest bytes (p + n + m)) at c.recode_apart-done.ensures.runs)
+    let runs = RunsOnto-two _ _ c.args.bytes.now _ _ _ _ _ _ _ c.loop-place.invariant c.recode_blocks-place.ensures c.recode_stretch-count.ensures in
+    RunsOnto-next _ _ _ _ _ _ _ _ runs (rw (take_rest _ _) at c.recode_apart-done.ensures.runs)
 
 pub loop-place-preserved : goal.loop-place-preserved
-loop-place-preserved g c =
-    let bytes = c.args.bytes.now in
-    let p = c.loop-place.place in
-    let n = c.recode_blocks-place.result in
-    let first = RunsOnto-next _ _ bytes _ _ _ p n c.loop-place.invariant (rw (take_rest bytes p) at c.recode_blocks-place.ensures) in
-    RunsOnto-next _ _ bytes _ _ _ (p + n) _ first (rw (take_rest bytes (p + n)) at c.recode_stretch-count.ensures)
+loop-place-preserved g c = RunsOnto-two _ _ c.args.bytes.now _ _ _ _ _ _ _ c.loop-place.invariant c.recode_blocks-place.ensures c.recode_stretch-count.ensures
 
 pub returns : goal.returns
 returns g c = RunsUntil-all _ _ _ _ _ _ _ c.loop-place.invariant c.loop-place-test.false

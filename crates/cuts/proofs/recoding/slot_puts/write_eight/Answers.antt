@@ -1,12 +1,12 @@
 use Rattle.std.proofs.Common.{◌<◌, arith}
 use Rattle.cuts.proofs.OfRecoding.BlockUnits.{first_pairs, last_pairs, first_pairs_at, last_pairs_at}
-use Rattle.cuts.proofs.OfRecoding.LaneLemmas.{high_mask}
+use Rattle.cuts.proofs.OfRecoding.LaneLemmas.{reach_mask}
 use Rattle.cuts.proofs.OfRecoding.SlotLanes.{high_most, eight_slots}
 use Rattle.cuts.proofs.OfRecoding.TextUnits.{two_halves}
 use Rattle.cuts.proofs.recoding.slot_puts.write_eight.Goals as goal
 
 pub write_four-requires-clause-mask : goal.write_four-requires-clause-mask
-write_four-requires-clause-mask c = let most : high_mask c.args.fronts < 65536 = high_most c.args.fronts c.fits-fronts.0 in omega arith
+write_four-requires-clause-mask c = let most : reach_mask 0x80 c.args.fronts < 65536 = high_most c.args.fronts c.fits-fronts.0 in omega arith
 
 pub returns-clause-bytes : goal.returns-clause-bytes
 returns-clause-bytes c =

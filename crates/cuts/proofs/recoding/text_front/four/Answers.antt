@@ -1,10 +1,8 @@
-use Rattle.std.proofs.Common.{◌≡◌, ◌+◌, ◌-◌, ◌*◌, ◌%◌, ◌≤◌, ◌∙◌, ◌&&◌, get_or, lit<, true, arith, refl, sym}
-use Rattle.std.specs.Int.Bits.{bit_and}
-use Rattle.std.proofs.lemmas.Nat.{and_mask}
-use Rattle.utf_base.specs.Kinds.{is_continuation}
+use Rattle.std.proofs.Common.{◌≤◌, ◌∙◌, lit<, arith, sym}
 use Rattle.utf_base.specs.Scalar.{IsScalar}
 use Rattle.utf_base.proofs.FrontLemmas.{asked-4, least_value-4}
-use Rattle.utf_base.proofs.KindCases.{Asks-4, Sums-4, begins_with}
+use Rattle.utf_base.proofs.KindCases.{begins_with}
+use Rattle.cuts.proofs.OfRecoding.ValueSums.{four_sum}
 use Rattle.cuts.proofs.OfRecoding.NoneBegins.{none_by_continuation_byte, none_by_value}
 use Rattle.cuts.proofs.recoding.text_front.four.Goals.{then-value-lt65536-via-then-value-lt65536, then-value-lt65536-via-else-value-lt65536+then-value-gt1114111}
 use Rattle.cuts.proofs.recoding.text_front.four.Goals.{then-not-continues-via-then-not-continues, then-not-continues-via-else-not-continues+then-not-continues-2}
@@ -21,20 +19,9 @@ returns-then-not-continues-clause-none c =
 
 pub returns-then-value-lt65536-clause-none : goal.returns-then-value-lt65536-clause-none
 returns-then-value-lt65536-clause-none c =
-    let low = c.requires.low in
-    let high = c.requires.high in
-    let first : bit_and (get_or c.args.src.now 0 0) 0x07 ≡ get_or c.args.src.now 0 0 % 8 = and_mask (get_or c.args.src.now 0 0) 3 in
-    let front = c.followed-front.ensures in
-    let middle = c.followed.ensures in
-    let value = c.followed-value.ensures in
-    let sum : c.followed-value.result ≡ (get_or c.args.src.now 0 0 - 0xF0) * 262144 + (get_or c.args.src.now 1 0 - 0x80) * 4096 + (get_or c.args.src.now 2 0 - 0x80) * 64 + (get_or c.args.src.now 3 0 - 0x80) = omega arith in
-    let enough = c.requires.enough in
     let third = sym c.continues.ensures ∙ c.if-not-continues.false in
     let fourth = sym c.continues-else-not-continues.ensures ∙ c.if-not-continues-2.false in
-    let all : (is_continuation (get_or c.args.src.now 1 0) && is_continuation (get_or c.args.src.now 2 0) && is_continuation (get_or c.args.src.now 3 0)) ≡ true
-    = rw (c.requires.second, third, fourth) refl in
-    let asks = Asks-4 _ (omega arith) c.requires.low c.requires.high in
-    let sums = Sums-4 _ _ asks (omega arith) all sum in
+    let sums = four_sum c.args.src.now _ _ _ c.requires.enough c.requires.low c.requires.high c.requires.second third fourth c.followed-front.ensures c.followed.ensures c.followed-value.ensures in
     let least = least_value-4 in
     none_by_value c.args.src.now 4 c.followed-value.result sums (λ long scalar. let below = scalar.below in elim c.then-value-lt65536.branch [
       | then-value-lt65536-via-then-value-lt65536 w ↦ let low = w.if-value-lt65536.true in absurd (omega arith)
@@ -43,16 +30,9 @@ returns-then-value-lt65536-clause-none c =
 
 pub returns-clause-some : goal.returns-clause-some
 returns-clause-some c =
-    let least : 0x1_0000 ≤ c.followed-value.result = omega arith in
-    let scalar : IsScalar c.followed-value.result = record { below = omega arith; no_surrogate = λ h. omega arith } in
-    let low = c.requires.low in
-    let high = c.requires.high in
-    let first : bit_and (get_or c.args.src.now 0 0) 0x07 ≡ get_or c.args.src.now 0 0 % 8 = and_mask (get_or c.args.src.now 0 0) 3 in
-    let sum : c.followed-value.result ≡ (get_or c.args.src.now 0 0 - 0xF0) * 262144 + (get_or c.args.src.now 1 0 - 0x80) * 4096 + (get_or c.args.src.now 2 0 - 0x80) * 64 + (get_or c.args.src.now 3 0 - 0x80) = omega arith in
     let third = sym c.continues.ensures ∙ c.if-not-continues.false in
     let fourth = sym c.continues-else-not-continues.ensures ∙ c.if-not-continues-2.false in
-    let all : (is_continuation (get_or c.args.src.now 1 0) && is_continuation (get_or c.args.src.now 2 0) && is_continuation (get_or c.args.src.now 3 0)) ≡ true
-    = rw (c.requires.second, third, fourth) refl in
-    let asks = Asks-4 _ (omega arith) c.requires.low c.requires.high in
-    let sums = Sums-4 _ _ asks (omega arith) all sum in
+    let sums = four_sum c.args.src.now _ _ _ c.requires.enough c.requires.low c.requires.high c.requires.second third fourth c.followed-front.ensures c.followed.ensures c.followed-value.ensures in
+    let least : 0x1_0000 ≤ c.followed-value.result = omega arith in
+    let scalar : IsScalar c.followed-value.result = record { below = omega arith; no_surrogate = λ h. omega arith } in
     rw c.from_u32_unchecked.ensures (begins_with _ 4 _ sums (rw least_value-4 least) scalar)

@@ -2,7 +2,7 @@ use Rattle.std.proofs.Common.{ap, ◌∙◌}
 use Rattle.utf_base.specs.Code.{utf8}
 use Rattle.utf_base.specs.Kinds.{merger_kind}
 use Rattle.encode_unicode.specs.Mergers.{unread}
-use Rattle.cuts.proofs.OfRuns.MergedRuns.{IsMergedSoFar-none, bytes_push, bytes_some, bytes_all, bytes_joined}
+use Rattle.cuts.proofs.OfRuns.MergedRuns.{IsMergedSoFar-none, of_bytes, merged_push, merged_some, merged_all, merged_joined}
 use Rattle.cuts.proofs.runs.collected.merge_utf8.Goals as goal
 
 pub loop-answer-init : goal.loop-answer-init
@@ -11,14 +11,14 @@ loop-answer-init g c rest listed =
 
 pub loop-answer-preserved : goal.loop-answer-preserved
 loop-answer-preserved g c rest listed =
-    rw c.in_ok-push.ensures.items (bytes_push _ _ _ _ _ (c.loop-answer.invariant rest listed) (c.in-Some.ensures.steps.takes rest listed))
+    rw c.in_ok-push.ensures.items (merged_push of_bytes _ _ _ _ (c.loop-answer.invariant rest listed) _ (c.in-Some.ensures.steps.takes rest listed))
 
 pub returns-clause-run : goal.returns-clause-run
-returns-clause-run g c rest listed = bytes_all _ _ _ _ (c.loop-answer.invariant rest listed) (c.in-None.ensures.steps.takes rest listed)
+returns-clause-run g c rest listed = merged_all of_bytes _ _ _ _ (c.loop-answer.invariant rest listed) (c.in-None.ensures.steps.takes rest listed)
 
 pub returns-clause-joined : goal.returns-clause-joined
-returns-clause-joined g c rest listed = bytes_joined _ _ _ _ (c.loop-answer.invariant rest listed) (c.in-None.ensures.steps.takes rest listed)
+returns-clause-joined g c rest listed = merged_joined of_bytes _ _ _ _ (c.loop-answer.invariant rest listed) (c.in-None.ensures.steps.takes rest listed)
 
 pub returns-in_err-push-clause-nothing : goal.returns-in_err-push-clause-nothing
 returns-in_err-push-clause-nothing g c rest listed none =
-    absurd (bytes_some _ _ _ _ _ (c.loop-answer.invariant rest listed) (c.in-Some.ensures.steps.takes rest listed) none)
+    absurd (merged_some of_bytes _ _ _ _ (c.loop-answer.invariant rest listed) _ (c.in-Some.ensures.steps.takes rest listed) none)

@@ -20,11 +20,6 @@ returns-clause-ok g c =
 
 pub returns-clause-waits : goal.returns-clause-waits
 returns-clause-waits g c some =
-    let held = c.held_bytes-held.result.now in
-    let p = c.recode_joined-place.result in
-    let q = c.recode_whole-place.result in
-    let rest : List ℕ = drop (p - length held) c.args.part.now in
-    let whole : take (length c.args.part.now - (p - length held)) rest ≡ rest = take_rest c.args.part.now (p - length held) in
+    let whole = take_rest c.args.part.now (c.recode_joined-place.result - length c.held_bytes-held.result.now) in
     let run = rw whole at c.recode_whole-place.ensures in
-    let hold = rw (whole, take_rest rest q) at c.hold-2.ensures in
-    rw (hold, ← ap (λ r. r.from) c.self.view_is) (lacks_left c.self.inside.from rest q run.lacks)
+    rw (rw (whole, take_rest _ c.recode_whole-place.result) at c.hold-2.ensures, ← ap (λ r. r.from) c.self.view_is) (lacks_left c.self.inside.from _ c.recode_whole-place.result run.lacks)

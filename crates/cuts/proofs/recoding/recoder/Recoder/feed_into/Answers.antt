@@ -27,15 +27,10 @@ returns-clause-feeds c =
 
 pub returns-clause-full : goal.returns-clause-full
 returns-clause-full c is =
-    let part = c.args.part.now in
     let first = c.feed_held-first.result in
-    let s = c.feed_held-first.new.self in
-    let run = c.recode_into-then.ensures in
-    let then = c.recode_into-then.result in
-    let end = c.min-end.result in
-    let rest = take_rest part first.read in
-    let least : end ≡ min (length (drop first.read part)) (then.read + 3) = rw rest at c.min-end.ensures in
-    let within : then.read ≤ length (drop first.read part) = rw rest at run.within in
+    let rest = take_rest c.args.part.now first.read in
+    let least = rw rest at c.min-end.ensures in
+    let within = rw rest at c.recode_into-then.ensures.within in
     rw (sym c.feed_held-first.auto.room)
-    (IsFull-then s c.hold.new.self c.self.inside.from c.self.inside.to part first.read then.read end _ (ap (λ x. x.from) c.self.view_is) (ap (λ x. x.to) c.self.view_is) (omega arith)
-    (rw rest at c.hold.ensures) (rw rest at (run.full is)))
+    (IsFull-then c.feed_held-first.new.self c.hold.new.self c.self.inside.from c.self.inside.to c.args.part.now first.read c.recode_into-then.result.read c.min-end.result _
+    (ap (λ x. x.from) c.self.view_is) (ap (λ x. x.to) c.self.view_is) (omega arith) (rw rest at c.hold.ensures) (rw rest at (c.recode_into-then.ensures.full is)))
