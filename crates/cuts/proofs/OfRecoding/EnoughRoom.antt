@@ -28,13 +28,13 @@ longer_of from to bytes ss s room reads long = record {
 full_is_longer : (s : Recoding) (left : List ℕ) (room : ℕ) → IsFull s left room → IsLonger s.from s.to left room
 full_is_longer s left room full =
     let rest = (recoded_once s.from s.to (drop full.len left)).1 in
-    let reads : Reads s.from (left ++ []) (full.scalar ∷ rest.0) = full.decides.first [] rest.0 (rw (append-nil (drop full.len left)) rest.1) in
+    let reads : Reads s.from (left ++ []) (full.scalar ∷ rest.0) = full.begins.first [] rest.0 (rw (append-nil (drop full.len left)) rest.1) in
     longer_of s.from s.to left rest.0 full.scalar room (rw (append-nil left) at reads) full.longer
 
 last_is_longer : (s : Recoding) (left : List ℕ) (room : ℕ) → IsLastFull s left room → IsLonger s.from s.to left room
 last_is_longer s left room full =
     let rest = (recoded_once s.from s.to (drop full.len left)).1 in
-    longer_of s.from s.to left rest.0 full.scalar room (full.ends.first rest.0 rest.1) full.longer
+    longer_of s.from s.to left rest.0 full.scalar room (full.begins.first rest.0 rest.1) full.longer
 
 -- what comes of the held bytes, and of those that are not read, comes after what was written
 after_written : (r s : Recoding) (part old new out later : List ℕ) (read wrote : ℕ) → FeedsInto r part old new read wrote s

@@ -65,7 +65,7 @@ IsLastFull-of r s from to left room e f k full =
     rw k (record {
       scalar = full.scalar;
       len = full.len;
-      ends = subst (λ x. Ends (Reads x) left full.scalar full.len) e full.ends;
+      begins = subst (λ x. Ends (Reads x) left full.scalar full.len) e full.begins;
       longer = subst (λ x. room < length (written x full.scalar)) f full.longer;
     })
 
@@ -122,7 +122,7 @@ pub IsFull-of : (s : Recoding) (from to : Form) (w x : List ℕ) (c n room : ℕ
 IsFull-of s from to w x c n room e f d long = record {
   scalar = c;
   len = n;
-  decides = subst (λ y. Decides (Reads y) (w ++ x) c n) e (Decides-more from w x c n d);
+  begins = subst (λ y. Decides (Reads y) (w ++ x) c n) e (Decides-more from w x c n d);
   longer = subst (λ y. room < length (written y c)) f long;
 }
 
@@ -196,8 +196,8 @@ IsFull-then s v from to part read more end room e f le k full =
     record {
       scalar = scalar;
       len = len;
-      decides =
+      begins =
           subst (λ ys. Decides (Reads v.from) ys scalar len) (sym left)
-          (subst (λ x. Decides (Reads x) (drop more xs) scalar len) (e ∙ sym (ap (λ x. x.from) k)) full.decides);
+          (subst (λ x. Decides (Reads x) (drop more xs) scalar len) (e ∙ sym (ap (λ x. x.from) k)) full.begins);
       longer = subst (λ x. room < length (written x scalar)) (f ∙ sym (ap (λ x. x.to) k)) full.longer;
     }

@@ -97,6 +97,14 @@ RunsInto-each from to bytes old mid new ts place read wrote n end f len shows fi
       rest = fills.rest ∙ drop_later mid old wrote end later f.rest;
     }
 
+-- and a loop that reads so many goes on
+pub KeepsRun-each : (from to : Form) (bytes old mid new ts : List ℕ) (place read wrote n end : ℕ) → KeepsRun from to bytes old mid place read wrote
+    → ShowsEach (Reads from) (take (read + n - read) (drop read bytes)) ts → Fills mid new wrote end (flat_map (written to) ts) → length new ≡ length mid → read + n ≤ length bytes → end ≤ wrote + 3 * n
+    → KeepsRun from to bytes old new place (read + n) end
+KeepsRun-each from to bytes old mid new ts place read wrote n end f shows fills same taken few =
+    let span : read + n - read ≡ n = omega arith in
+    record { runs = RunsInto-each from to bytes old mid new ts place read wrote n end f.runs f.len (rw span at shows) fills taken few; len = same ∙ f.len }
+
 -- A run over the first bytes of some is one over all of them.
 
 Grows-clipped : (from to : Form) (bytes old new : List ℕ) (count read : ℕ) → read ≤ count → count ≤ read + 3 → Grows from to (take count bytes) old new (take (count - read) (drop read bytes))
@@ -160,14 +168,11 @@ KeepsRun-two from to bytes old mid more new place read wrote n end m last f g ke
 
 Fills-then : (old mid new xs ys : List ℕ) (from to end : ℕ) → Fills old mid from to xs → length mid ≡ length old → Fills mid new to end ys → Fills old new from end (xs ++ ys)
 Fills-then old mid new xs ys from to end f len g =
-    let ordered = f.ordered in
-    let later = g.ordered in
-    let fits = g.fits in
     record {
-      ordered = omega arith;
-      fits = omega arith;
+      ordered = omega (arith, f.ordered, g.ordered);
+      fits = omega (arith, g.fits);
       front = g.front ∙ ap (λ zs. zs ++ ys) f.front ∙ append_assoc (take from old) xs ys;
-      rest = g.rest ∙ drop_later mid old to end later f.rest;
+      rest = g.rest ∙ drop_later mid old to end g.ordered f.rest;
     }
 
 -- two and then two

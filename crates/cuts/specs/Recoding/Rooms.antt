@@ -30,12 +30,16 @@ pub record FeedsInto (r : Recoding) (part old new : List ℕ) (read wrote : ℕ)
   pub fits : wrote ≤ length old
   pub rest : drop wrote new ≡ drop wrote old
 
--- The bytes that are left begin with a scalar, whatever follows them, whose code is longer than the room.
-pub record IsFull (r : Recoding) (left : List ℕ) (room : ℕ) : Type 0 where
+-- What begins so shows a scalar and has a length, and the code of the scalar is longer than the room.
+pub record BeginsLonger (shows : ℕ → ℕ → Type 0) (to : Form) (room : ℕ) : Type 0 where
   pub scalar : ℕ
   pub len : ℕ
-  pub decides : Decides (Reads r.from) left scalar len
-  pub longer : room < length (written r.to scalar)
+  pub begins : shows scalar len
+  pub longer : room < length (written to scalar)
+
+-- The bytes that are left begin with a scalar, whatever follows them, whose code is longer than the room.
+abbrev pub IsFull : Recoding → List ℕ → ℕ → Type 0
+IsFull r left room = BeginsLonger (Decides (Reads r.from) left) r.to room
 
 -- Where nothing follows the bytes, they are recoded as `grown`, and then as the held ones are.
 abbrev pub Leaves : Form → Form → List ℕ → List ℕ → List ℕ → Type 0
@@ -52,11 +56,8 @@ pub record FinishesInto (r : Recoding) (old new : List ℕ) (wrote : ℕ) (s : R
   pub rest : drop wrote new ≡ drop wrote old
 
 -- The bytes that are left, which nothing follows, begin with a scalar whose code is longer than the room.
-pub record IsLastFull (r : Recoding) (left : List ℕ) (room : ℕ) : Type 0 where
-  pub scalar : ℕ
-  pub len : ℕ
-  pub ends : Ends (Reads r.from) left scalar len
-  pub longer : room < length (written r.to scalar)
+abbrev pub IsLastFull : Recoding → List ℕ → ℕ → Type 0
+IsLastFull r left room = BeginsLonger (Ends (Reads r.from) left) r.to room
 
 -- How much room recoding takes.
 
