@@ -1,5 +1,5 @@
 -- A window of a text, and what one call of an iterator over its characters gives, from either end.
-use Rattle.std.specs.Prelude.{◌≡◌, ℕ, ◌≤◌, List, ◌++◌, length, Option}
+use Rattle.std.specs.Prelude.{◌≡◌, ℕ, ◌≤◌, List, ◌++◌, length, Option, Some, None}
 use Rattle.std.specs.List.{flat_map}
 use Rattle.std.specs.Str.{IsUtf8, IsCharBoundary}
 use Rattle.utf_base.specs.Scalar.{IsScalar}
@@ -7,7 +7,7 @@ use Rattle.utf_base.specs.Code.{utf8}
 use Rattle.utf_base.specs.Ends.{EndsWith}
 use Rattle.utf_chars.specs.Padded.{padded}
 use Rattle.utf_chars.specs.Taking.{BoundsLength}
-use Rattle.encode_unicode.specs.Window.{Window, elements, without_front, without_back, CallGives}
+use Rattle.encode_unicode.specs.Window.{Window, elements, without_front, without_back, GivesNone}
 
 -- the window begins and ends between characters of the text, and is text itself
 pub record IsTextWindow (w : Window) : Type 0 where
@@ -39,17 +39,21 @@ pub record GivesLast (w : Window) (place s : ℕ) (v : Window) : Type 0 where
 
 -- one call of `next` and one of `next_back`, whose items have a place
 abbrev pub NextPlaced : Window → Option (ℕ × ℕ) → Window → Type 0
-NextPlaced = CallGives (λ w x v. GivesFirst w x.0 x.1 v)
+NextPlaced w None v = GivesNone w v
+NextPlaced w (Some x) v = GivesFirst w x.0 x.1 v
 
 abbrev pub BackPlaced : Window → Option (ℕ × ℕ) → Window → Type 0
-BackPlaced = CallGives (λ w x v. GivesLast w x.0 x.1 v)
+BackPlaced w None v = GivesNone w v
+BackPlaced w (Some x) v = GivesLast w x.0 x.1 v
 
 -- the same of items without a place
 abbrev pub NextScalar : Window → Option ℕ → Window → Type 0
-NextScalar = CallGives (λ w s v. GivesFirst w w.front s v)
+NextScalar w None v = GivesNone w v
+NextScalar w (Some s) v = GivesFirst w w.front s v
 
 abbrev pub BackScalar : Window → Option ℕ → Window → Type 0
-BackScalar = CallGives (λ w s v. GivesLast w v.back s v)
+BackScalar w None v = GivesNone w v
+BackScalar w (Some s) v = GivesLast w v.back s v
 
 -- the array is the code that ends the text, and zeros after it, and the code has n bytes
 pub record IsLastCode (text code : List ℕ) (n : ℕ) : Type 0 where

@@ -99,21 +99,21 @@ pub record GivesNone (w v : Window) : Type 0 where
   pub none : w.front ≡ w.back
   pub left : v ≡ w
 
--- one call, from the window w to the window v, where `gives` says what an item is
-abbrev pub CallGives : {A : Type 0} → (Window → A → Window → Type 0) → Window → Option A → Window → Type 0
-CallGives gives w None v = GivesNone w v
-CallGives gives w (Some x) v = gives w x v
-
--- one call of `next` of a decoder of bytes, and one of `next_back`
+-- one call of `next` of a decoder of bytes, from the window w to the window v
 abbrev pub NextGives : Window → Option Item → Window → Type 0
-NextGives = CallGives GivesFront
+NextGives w None v = GivesNone w v
+NextGives w (Some x) v = GivesFront w x v
 
+-- one call of `next_back`, from the window w to the window v
 abbrev pub NextBackGives : Window → Option Item → Window → Type 0
-NextBackGives = CallGives GivesBack
+NextBackGives w None v = GivesNone w v
+NextBackGives w (Some x) v = GivesBack w x v
 
 -- the same of a decoder of units
 abbrev pub NextGivesUnits : Window → Option UnitItem → Window → Type 0
-NextGivesUnits = CallGives GivesFrontUnits
+NextGivesUnits w None v = GivesNone w v
+NextGivesUnits w (Some x) v = GivesFrontUnits w x v
 
 abbrev pub NextBackGivesUnits : Window → Option UnitItem → Window → Type 0
-NextBackGivesUnits = CallGives GivesBackUnits
+NextBackGivesUnits w None v = GivesNone w v
+NextBackGivesUnits w (Some x) v = GivesBackUnits w x v
