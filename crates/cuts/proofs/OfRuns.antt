@@ -10,3 +10,5 @@ pub mod RunLaws
 pub mod TextRuns
 pub mod ValidLengths
 pub mod WalkLemmas
+pub mod PairedUnits
+pub mod GoodCodes

@@ -2,5 +2,6 @@
 
 pub mod collected;
 pub mod items;
+pub(crate) mod paired_units;
 pub mod walks;
 pub mod well_formed;

@@ -6,6 +6,7 @@ ghost use Rattle.encode_unicode.specs.Pieces.{pieces, unit_pieces};
 ghost use Rattle.cuts.specs.Runs.WellFormed.{IsFirstFault, valid_len};
 
 use crate::recoding::text_blocks::text_len;
+use crate::runs::paired_units::paired_len;
 use encode_unicode::CharExt;
 
 /// The offset of the first fault in the bytes, or how many bytes there are where there is none: these are then UTF-8.
@@ -29,7 +30,7 @@ pub fn units_valid_up_to(units: &[u16]) -> usize
     ensures first { IsFirstFault utf16 units.now result }
     ensures value { result ≡ valid_len (unit_pieces units.now) }
 {
-    let mut place = 0;
+    let mut place = paired_len(units);
     while place < units.len() {
         match char::from_utf16_slice_start(&units[place..]) {
             Ok((_, len)) => place += len,

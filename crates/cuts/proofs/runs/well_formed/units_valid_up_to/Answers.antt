@@ -2,8 +2,12 @@ use Rattle.std.proofs.Common.{arith}
 use Rattle.std.proofs.lemmas.List.{take_rest}
 use Rattle.utf_base.specs.Code.{utf16}
 use Rattle.cuts.proofs.OfRuns.FirstFaults.{good_all, good_units, first_unit_fault}
+use Rattle.cuts.proofs.OfRuns.GoodCodes.{good_front_codes}
 use Rattle.cuts.proofs.OfRuns.ValidLengths.{first_unit_fault_known}
 use Rattle.cuts.proofs.runs.well_formed.units_valid_up_to.Goals as goal
+
+pub loop-place-init : goal.loop-place-init
+loop-place-init c = good_front_codes c.args.units.now c.paired_len-place.result c.paired_len-place.ensures.within c.paired_len-place.ensures.codes
 
 pub loop-place-preserved : goal.loop-place-preserved
 loop-place-preserved c =
