@@ -31,3 +31,4 @@ pub mod CodedUnits
 pub mod SwappedBytes
 pub mod CopiedUnits
 pub mod AsciiUnits
+pub mod SameLanes
