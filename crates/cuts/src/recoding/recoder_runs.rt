@@ -243,10 +243,26 @@ fn recode_blocks<A: Allocator>(from: Form, to: Form, bytes: &[u8], out: &mut Vec
 {
     match (from, to) {
         (Utf8, _) => recode_judged(to, bytes, out),
-        (Utf16Le, Utf8) => narrow_units(Utf16Le, false, bytes, out),
-        (Utf16Be, Utf8) => narrow_units(Utf16Be, true, bytes, out),
+        (Utf16Le, Utf8) => narrow_text(Utf16Le, false, bytes, out),
+        (Utf16Be, Utf8) => narrow_text(Utf16Be, true, bytes, out),
         _ => recode_units(from, to, bytes, out),
     }
+}
+
+// Recodes the blocks of units at the front of the bytes as UTF-8, and answers how many bytes they have: first long ones.
+#[inline(always)]
+fn narrow_text<A: Allocator>(
+    from: Form,
+    high_first: bool,
+    bytes: &[u8],
+    out: &mut Vec<u8, A>,
+) -> usize
+    requires form { IsUnits high_first from }
+    requires room { vec_len out.old + 3 * length bytes.now ≤ vec_capacity out.old }
+    ensures { RunsOnto from Form.Utf8 bytes.now out.old out.new result }
+{
+    let len = narrow_units(from, high_first, bytes, out);
+    len + recode_units(from, Utf8, &bytes[len..], out)
 }
 
 // Recodes the blocks of units at the front of the bytes, each unit a character by itself, and answers how
