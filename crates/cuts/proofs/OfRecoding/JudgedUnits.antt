@@ -4,9 +4,11 @@ use Rattle.std.proofs.lemmas.Bool.{cases_lt}
 use Rattle.std.proofs.lemmas.Grind.{common_steps}
 use Rattle.std.proofs.lemmas.List.{take_at}
 use Rattle.std.specs.Int.{bit_at}
+use Rattle.std.specs.Prelude.{Vec, vec_len, vec_capacity}
 use Rattle.utf_base.specs.Units.{is_leading_surrogate, is_trailing_surrogate, is_surrogate}
 use Rattle.cuts.specs.Recoding.GivenUnits.{joined}
 use Rattle.cuts.specs.Recoding.UnitCodes.{lane_unit, unit_code, code_at, AreText, slot, slot_at, first_byte, middle_byte, last_byte, lead_byte, second_byte, first_in_text, middle_in_text, last_in_text, kept, short_at}
+use Rattle.cuts.specs.Recoding.UnitRuns.{NarrowsOnto}
 use Rattle.cuts.proofs.OfRecoding.Joined.{joined_add, joined_same, joined_moved, joined_1}
 use Rattle.cuts.proofs.OfRecoding.NarrowedUnits.{not_both, ascii_code, leading_code}
 use Rattle.cuts.proofs.OfRecoding.UnitSlots.{below_16, leading_is, surrogate_is}
@@ -43,6 +45,32 @@ high_bit m most least = omega arith
 no_high_bit : (m : ℕ) → m < 0x8000 → bit_at m 15 ≡ 0
 no_high_bit m most = omega arith
 
+-- The middle byte, by the unit before.
+
+any_before : (p q u : ℕ) → is_trailing_surrogate u ≡ false → middle_in_text p u ≡ middle_in_text q u
+any_before p q u none = grind (arith, common_steps)
+
+low_before : (h l u : ℕ) → middle_in_text l u ≡ middle_in_text (h * 256 + l) u
+low_before h l u = let at : l % 4 ≡ (h * 256 + l) % 4 = omega arith in ap (λ n. cond (is_leading_surrogate u) (lead_byte u) (cond (is_surrogate u) (0x80 + n * 16 + u / 64 % 16) (middle_byte u))) at
+
+-- Fifteen units, where a leading surrogate is the last of sixteen.
+module _ (u : ℕ → ℕ) (old new : List ℕ) (last : is_leading_surrogate (u 15) ≡ true) (items : new ≡ old ++ joined (code_at u) 0 16) where
+  split : new ≡ (old ++ joined (code_at u) 0 15) ++ (lead_byte (u 15) ∷ second_byte (u 15) ∷ [])
+  split =
+      items ∙ ap (λ xs. old ++ xs) (joined_add (code_at u) 0 15 1 ∙ ap (λ xs. joined (code_at u) 0 15 ++ xs) (joined_1 (code_at u) 15 ∙ leading_code (u 14) (u 15) last))
+      ∙ sym (append_assoc old (joined (code_at u) 0 15) (lead_byte (u 15) ∷ second_byte (u 15) ∷ []))
+
+  new_len : length new ≡ length (old ++ joined (code_at u) 0 15) + 2
+  new_len = ap length split ∙ length-append (old ++ joined (code_at u) 0 15) (lead_byte (u 15) ∷ second_byte (u 15) ∷ [])
+
+  two_of_last : 2 ≤ length new
+  two_of_last = omega (arith, new_len)
+
+  without_last : take (length new - 2) new ≡ old ++ joined (code_at u) 0 15
+  without_last =
+      let at : length new - 2 ≡ length (old ++ joined (code_at u) 0 15) = omega (arith, new_len) in
+      rw at (ap (take (length (old ++ joined (code_at u) 0 15))) split ∙ take_at (old ++ joined (code_at u) 0 15) (lead_byte (u 15) ∷ second_byte (u 15) ∷ []) (length (old ++ joined (code_at u) 0 15)) refl)
+
 -- Units among which each leading surrogate is before a trailing one, and each trailing one after a leading one.
 module _ (low high : List ℕ) (lead trail : ℕ) (fits : (k : ℕ) → k < 16 → get_or low k 0 < 256) (most : lead < 65536)
     (leads : (k : ℕ) → k < 16 → bit_at lead k ≡ cond (eqb (get_or high k 0 / 4) 0x36) 1 0)
@@ -57,7 +85,7 @@ module _ (low high : List ℕ) (lead trail : ℕ) (fits : (k : ℕ) → k < 16 �
   follows : (k : ℕ) → k < 15 → is_trailing_surrogate (lane_unit low high (k + 1)) ≡ is_leading_surrogate (lane_unit low high k)
   follows k lt = same_bit _ _ (sym (trails_at (k + 1) (omega arith)) ∙ next_bit lead k (omega arith) lt ∙ leads_at k (omega arith))
 
-  pub starts : is_trailing_surrogate (lane_unit low high 0) ≡ false
+  starts : is_trailing_surrogate (lane_unit low high 0) ≡ false
   starts = bit_false _ (sym (trails_at 0 (omega arith)) ∙ first_bit lead)
 
   pub text_whole : lead < 0x8000 → AreText (lane_unit low high) 16
@@ -74,7 +102,7 @@ module _ (low high : List ℕ) (lead trail : ℕ) (fits : (k : ℕ) → k < 16 �
     trailing = λ k lt yes. sym (follows k (omega arith)) ∙ yes;
   }
 
-  pub last_leads : 0x8000 ≤ lead → is_leading_surrogate (lane_unit low high 15) ≡ true
+  last_leads : 0x8000 ≤ lead → is_leading_surrogate (lane_unit low high 15) ≡ true
   last_leads above = bit_true _ (sym (leads_at 15 (omega arith)) ∙ high_bit lead most above)
 
   pub text_short : 0x8000 ≤ lead → AreText (lane_unit low high) 15
@@ -90,50 +118,49 @@ module _ (low high : List ℕ) (lead trail : ℕ) (fits : (k : ℕ) → k < 16 �
     trailing = λ k lt yes. sym (follows k (omega arith)) ∙ yes;
   }
 
--- The bytes of those lanes.
+  -- The bytes of those lanes.
+  module _ (before firsts middles lasts : List ℕ)
+      (later : (k : ℕ) → k < 15 → get_or before (k + 1) 0 ≡ get_or low k 0)
+      (first : (k : ℕ) → k < 16 → get_or firsts k 0 ≡ first_in_text (lane_unit low high k))
+      (middle : (k : ℕ) → k < 16 → get_or middles k 0 ≡ middle_in_text (get_or before k 0) (lane_unit low high k))
+      (last : (k : ℕ) → k < 16 → get_or lasts k 0 ≡ last_in_text (lane_unit low high k)) where
+    middle_at : (k : ℕ) → k < 16 → get_or middles k 0 ≡ middle_in_text (lane_unit low high (k - 1)) (lane_unit low high k)
+    middle_at zero lt = middle 0 lt ∙ any_before (get_or before 0 0) (lane_unit low high (0 - 1)) (lane_unit low high 0) starts
+    middle_at (suc k) lt =
+        let at : k + 1 ≡ suc k = omega arith in
+        let back : suc k - 1 ≡ k = omega arith in
+        let low_one : get_or before (suc k) 0 ≡ get_or low k 0 = rw at at (later k (omega arith)) in
+        rw back (middle (suc k) lt ∙ ap (λ n. middle_in_text n (lane_unit low high (suc k))) low_one ∙ low_before (get_or high k 0) (get_or low k 0) (lane_unit low high (suc k)))
 
-any_before : (p q u : ℕ) → is_trailing_surrogate u ≡ false → middle_in_text p u ≡ middle_in_text q u
-any_before p q u none = grind (arith, common_steps)
+    code_is : (k : ℕ) → k < 16 → slot_at firsts middles lasts k ≡ code_at (lane_unit low high) k
+    code_is k lt = rw (first k lt, middle_at k lt, last k lt) refl
 
-low_before : (h l u : ℕ) → middle_in_text l u ≡ middle_in_text (h * 256 + l) u
-low_before h l u = let at : l % 4 ≡ (h * 256 + l) % 4 = omega arith in ap (λ n. cond (is_leading_surrogate u) (lead_byte u) (cond (is_surrogate u) (0x80 + n * 16 + u / 64 % 16) (middle_byte u))) at
+    pub text_codes : joined (slot_at firsts middles lasts) 0 16 ≡ joined (code_at (lane_unit low high)) 0 16
+    text_codes = joined_same (slot_at firsts middles lasts) (code_at (lane_unit low high)) 0 16 (λ i ge lt. code_is i (omega arith))
 
-module _ (low high before firsts middles lasts : List ℕ) (start : is_trailing_surrogate (lane_unit low high 0) ≡ false)
-    (later : (k : ℕ) → k < 15 → get_or before (k + 1) 0 ≡ get_or low k 0)
-    (first : (k : ℕ) → k < 16 → get_or firsts k 0 ≡ first_in_text (lane_unit low high k))
-    (middle : (k : ℕ) → k < 16 → get_or middles k 0 ≡ middle_in_text (get_or before k 0) (lane_unit low high k))
-    (last : (k : ℕ) → k < 16 → get_or lasts k 0 ≡ last_in_text (lane_unit low high k)) where
-  middle_at : (k : ℕ) → k < 16 → get_or middles k 0 ≡ middle_in_text (lane_unit low high (k - 1)) (lane_unit low high k)
-  middle_at zero lt = middle 0 lt ∙ any_before (get_or before 0 0) (lane_unit low high (0 - 1)) (lane_unit low high 0) start
-  middle_at (suc k) lt =
-      let at : k + 1 ≡ suc k = omega arith in
-      let back : suc k - 1 ≡ k = omega arith in
-      let low_one : get_or before (suc k) 0 ≡ get_or low k 0 = rw at at (later k (omega arith)) in
-      rw back (middle (suc k) lt ∙ ap (λ n. middle_in_text n (lane_unit low high (suc k))) low_one ∙ low_before (get_or high k 0) (get_or low k 0) (lane_unit low high (suc k)))
+    module _ (old new : List ℕ) (items : new ≡ old ++ joined (slot_at firsts middles lasts) 0 16) where
+      all_codes : new ≡ old ++ joined (code_at (lane_unit low high)) 0 16
+      all_codes = items ∙ ap (λ xs. old ++ xs) text_codes
 
-  code_is : (k : ℕ) → k < 16 → slot_at firsts middles lasts k ≡ code_at (lane_unit low high) k
-  code_is k lt = rw (first k lt, middle_at k lt, last k lt) refl
+      pub two_more : 0x8000 ≤ lead → 2 ≤ length new
+      two_more above = two_of_last (lane_unit low high) old new (last_leads above) all_codes
 
-  pub text_codes : joined (slot_at firsts middles lasts) 0 16 ≡ joined (code_at (lane_unit low high)) 0 16
-  text_codes = joined_same (slot_at firsts middles lasts) (code_at (lane_unit low high)) 0 16 (λ i ge lt. code_is i (omega arith))
+      pub codes_but_last : 0x8000 ≤ lead → take (length new - 2) new ≡ old ++ joined (code_at (lane_unit low high)) 0 15
+      codes_but_last above = without_last (lane_unit low high) old new (last_leads above) all_codes
 
--- Fifteen units, where a leading surrogate is the last of sixteen.
-module _ (u : ℕ → ℕ) (old new : List ℕ) (last : is_leading_surrogate (u 15) ≡ true) (items : new ≡ old ++ joined (code_at u) 0 16) where
-  split : new ≡ (old ++ joined (code_at u) 0 15) ++ (lead_byte (u 15) ∷ second_byte (u 15) ∷ [])
-  split =
-      items ∙ ap (λ xs. old ++ xs) (joined_add (code_at u) 0 15 1 ∙ ap (λ xs. joined (code_at u) 0 15 ++ xs) (joined_1 (code_at u) 15 ∙ leading_code (u 14) (u 15) last))
-      ∙ sym (append_assoc old (joined (code_at u) 0 15) (lead_byte (u 15) ∷ second_byte (u 15) ∷ []))
+pub no_units : (u : ℕ → ℕ) → AreText u 0
+no_units u = record { first = λ some. absurd (omega arith); leading = λ k lt yes. absurd (omega arith); trailing = λ k lt yes. absurd (omega arith) }
 
-  new_len : length new ≡ length (old ++ joined (code_at u) 0 15) + 2
-  new_len = ap length split ∙ length-append (old ++ joined (code_at u) 0 15) (lead_byte (u 15) ∷ second_byte (u 15) ∷ [])
-
-  pub two_more : 2 ≤ length new
-  two_more = omega (arith, new_len)
-
-  pub without_last : take (length new - 2) new ≡ old ++ joined (code_at u) 0 15
-  without_last =
-      let at : length new - 2 ≡ length (old ++ joined (code_at u) 0 15) = omega (arith, new_len) in
-      rw at (ap (take (length (old ++ joined (code_at u) 0 15))) split ∙ take_at (old ++ joined (code_at u) 0 15) (lead_byte (u 15) ∷ second_byte (u 15) ∷ []) (length (old ++ joined (code_at u) 0 15)) refl)
+-- An output to which sixteen units were written.
+pub NarrowsOnto-all : {Z : Type 0} (low high codes : List ℕ) (old new : Vec ℕ Z) → AreText (lane_unit low high) 16 → new.items ≡ old.items ++ codes → codes ≡ joined (code_at (lane_unit low high)) 0 16
+    → vec_len new ≤ vec_len old + 96 → vec_capacity old ≤ vec_capacity new → NarrowsOnto low high old new 16
+NarrowsOnto-all low high codes old new text items is len capacity = record {
+  most = omega arith;
+  text = text;
+  items = items ∙ ap (λ xs. old.items ++ xs) is;
+  len = omega arith;
+  capacity = capacity;
+}
 
 -- Units that are characters.
 
