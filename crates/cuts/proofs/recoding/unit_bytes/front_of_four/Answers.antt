@@ -1,5 +1,5 @@
 use Rattle.cuts.proofs.OfRecoding.UnitSlots.{lead_lanes_len, lead_lanes_at, second_lanes_len, second_lanes_at}
-use Rattle.cuts.proofs.recoding.unit_bytes.leading_bytes.Goals as goal
+use Rattle.cuts.proofs.recoding.unit_bytes.front_of_four.Goals as goal
 
 pub returns : goal.returns
 returns c = record {
