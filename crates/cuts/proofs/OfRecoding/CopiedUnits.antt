@@ -14,6 +14,7 @@ use Rattle.cuts.specs.Recoding.ShownFronts.{ShowsEach}
 use Rattle.cuts.specs.Recoding.GivenUnits.{IsUnits}
 use Rattle.cuts.specs.Recoding.OutputRuns.{RunsOnto}
 use Rattle.cuts.specs.Recoding.UnitBlocks.{AreCodes, swapped, turned}
+use Rattle.cuts.specs.Recoding.UnitRuns.{CopiesOnto}
 use Rattle.cuts.proofs.OfRecoding.Blocks.{units_append, odd_append}
 use Rattle.cuts.proofs.OfRecoding.Growing.{Grows-each}
 
@@ -89,16 +90,19 @@ front_fits (x ∷ w) (suc n) le fits (suc j) = front_fits w n (omega arith) (λ 
 
 -- So a run over well-formed units copies them.
 pub RunsOnto-units : {Z : Type 0} (high other : Bool) (from to : Form) (w : List ℕ) (old new : Vec ℕ Z) (n : ℕ) → IsUnits high from → IsUnits other to
-    → ((j : ℕ) → Fits w8 (get_or w j 0)) → n ≤ length w → n % 2 ≡ 0 → AreCodes (units_of high (take n w)) → new.items ≡ old.items ++ turned (differ high other) (take n w)
-    → vec_len new ≡ vec_len old + n → vec_capacity old ≤ vec_capacity new → RunsOnto from to w old new n
-RunsOnto-units high other from to w old new n reads writes fits within even h items len capacity =
+    → ((j : ℕ) → Fits w8 (get_or w j 0)) → CopiesOnto high (differ high other) w old new n → RunsOnto from to w old new n
+RunsOnto-units high other from to w old new n reads writes fits copied =
+    let within = copied.within in
+    let even = copied.even in
+    let h = copied.codes in
+    let len = copied.len in
     let v = take n w in
     let half : length (take n w) ≡ 2 * (n / 2) = omega (arith, length-take n w) in
     let codes : flat_map (written to) h.scalars ≡ turned (differ high other) (take n w)
     = all_written other to h.scalars writes ∙ ap (flat_map (bytes_of other)) (sym h.codes) ∙ in_order high other (take n w) (n / 2) half (front_fits w n within fits) in
     record {
       within = within;
-      grows = Grows-each from to w _ _ h.scalars n (as_read high from (take n w) h.scalars reads (coded_bytes_show high (take n w) (n / 2) h half)) (items ∙ ap (λ ys. old.items ++ ys) (sym codes));
+      grows = Grows-each from to w _ _ h.scalars n (as_read high from (take n w) h.scalars reads (coded_bytes_show high (take n w) (n / 2) h half)) (copied.items ∙ ap (λ ys. old.items ++ ys) (sym codes));
       short = omega arith;
-      capacity = capacity;
+      capacity = copied.capacity;
     }

@@ -1,8 +1,8 @@
 //! Text in UTF-16 recoded as UTF-8, sixteen units at once.
 ghost use Rattle.std.specs.Prelude.{◌≡◌, ◌+◌, ◌*◌, ◌≤◌, ◌++◌, length, vec_len, vec_capacity, replicate};
-ghost use Rattle.cuts.specs.Recoding.GivenUnits.{IsUnits, joined};
+ghost use Rattle.cuts.specs.Recoding.GivenUnits.{IsUnits};
 ghost use Rattle.cuts.specs.Recoding.OutputRuns.{RunsOnto};
-ghost use Rattle.cuts.specs.Recoding.UnitCodes.{lane_unit, code_at, AreText};
+ghost use Rattle.cuts.specs.Recoding.UnitCodes.{PutsUnits};
 
 use crate::recoding::form::Form;
 use crate::recoding::slot_blocks::write_others;
@@ -55,11 +55,7 @@ fn narrow_block<A: Allocator>(
 #[inline(always)]
 fn put_sixteen<A: Allocator>(low: u8x16, high: u8x16, out: &mut Vec<u8, A>) -> usize
     requires { vec_len out.old + 96 ≤ vec_capacity out.old }
-    ensures most { result ≤ 16 }
-    ensures text { AreText (lane_unit low high) result }
-    ensures items { out.new.items ≡ out.old.items ++ joined (code_at (lane_unit low high)) 0 result }
-    ensures len { vec_len out.new ≤ vec_len out.old + 6 * result }
-    ensures capacity { vec_capacity out.old ≤ vec_capacity out.new }
+    ensures { PutsUnits low high out.old out.new result }
 {
     if are_ascii(low, high) {
         put_lanes(low, out);

@@ -22,7 +22,7 @@ returns c =
     let room = c.args.room.now in
     let put = c.put_all in
     let most = written.most in
-    let few = written.end in
+    let few = written.short in
     let long = c.requires.long in
     RunsInto-units c.args.high_first c.args.from c.args.bytes.now _ block.result.0 c.requires.form c.type_inv.bytes (omega arith)
     (λ k lt. c.sixteen_halves.ensures.units k (omega arith)) written.text _ _ _ _
