@@ -15,7 +15,9 @@ use Rattle.cuts.specs.Recoding.ShownFronts.{ShowsEach}
 use Rattle.cuts.specs.Recoding.GivenUnits.{IsUnits, joined}
 use Rattle.cuts.specs.Recoding.UnitCodes.{unit_code, code_at, AreText, slot, first_byte, middle_byte, last_byte, lead_byte, second_byte, third_byte}
 use Rattle.cuts.proofs.OfRecoding.Blocks.{units_append, odd_append}
+use Rattle.cuts.specs.Recoding.Rooms.{Fills, RunsInto}
 use Rattle.cuts.proofs.OfRecoding.Growing.{Grows-each}
+use Rattle.cuts.proofs.OfRecoding.RoomRuns.{Grows-shown}
 
 -- The bytes of one character.
 
@@ -204,7 +206,22 @@ module _ (high : Bool) (from : Form) (w : List ℕ) (u : ℕ → ℕ) (n : ℕ) 
         ap (λ xs. s.ts ++ xs) f ∙ sym (append_assoc s.ts ts (odd_end later)) ∙ ap (λ o. (s.ts ++ ts) ++ o) (sym (odd_append (take (2 * n) w) later n front_len)),
       )
 
+  abbrev s : Shown u 0 n
+  s = all_shown u n unit_below text
+
+  units_show : ShowsEach (Reads from) (take (2 * n) w) s.ts
+  units_show = as_form high from (take (2 * n) w) s.ts form front_shows
+
   pub Grows-units : (old new : List ℕ) → new ≡ old ++ joined (code_at u) 0 n → Grows from Utf8 w old new (drop (2 * n) w)
-  Grows-units old new items =
-      let s = all_shown u n unit_below text in
-      Grows-each from Utf8 w old new s.ts (2 * n) (as_form high from (take (2 * n) w) s.ts form front_shows) (items ∙ ap (λ xs. old ++ xs) s.codes)
+  Grows-units old new items = Grows-each from Utf8 w old new s.ts (2 * n) units_show (items ∙ ap (λ xs. old ++ xs) s.codes)
+
+  -- and so does room of a fixed size
+  pub RunsInto-units : (old new : List ℕ) (place wrote : ℕ) → Fills old new place wrote (joined (code_at u) 0 n) → wrote ≤ place + 3 * (2 * n) → RunsInto from Utf8 w old new place (2 * n) wrote
+  RunsInto-units old new place wrote fills few = record {
+    within = enough;
+    ordered = fills.ordered;
+    short = few;
+    fits = fills.fits;
+    grows = Grows-shown from Utf8 w (take place old) (take wrote new) s.ts (2 * n) units_show (fills.front ∙ ap (λ xs. take place old ++ xs) s.codes);
+    rest = fills.rest;
+  }

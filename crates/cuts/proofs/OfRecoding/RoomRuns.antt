@@ -68,7 +68,7 @@ RunsInto-step from to bytes old mid new place read wrote s n end f len d fills e
     }
 
 -- bytes that show several scalars
-Grows-shown : (from to : Form) (xs old new ts : List ℕ) (n : ℕ) → ShowsEach (Reads from) (take n xs) ts → new ≡ old ++ flat_map (written to) ts
+pub Grows-shown : (from to : Form) (xs old new ts : List ℕ) (n : ℕ) → ShowsEach (Reads from) (take n xs) ts → new ≡ old ++ flat_map (written to) ts
     → Grows from to (take (n + 3) xs) old new (take 3 (drop n xs))
 Grows-shown from to xs old new ts n shows e = record {
   grown = flat_map (written to) ts;
@@ -152,17 +152,18 @@ RunsInto-part from to bytes old new count place read wrote f =
       rest = f.rest;
     }
 
--- two runs after another one, over what is left of the bytes
+-- a run after another one, over what is left of the bytes
+pub KeepsRun-then : (from to : Form) (bytes old mid new : List ℕ) (place read wrote n end : ℕ) → KeepsRun from to bytes old mid place read wrote
+    → RunsInto from to (take (length bytes - read) (drop read bytes)) mid new wrote n end → length new ≡ length mid → KeepsRun from to bytes old new place (read + n) end
+KeepsRun-then from to bytes old mid new place read wrote n end f g kept =
+    record { runs = RunsInto-then from to bytes old mid new place read wrote n end f.runs f.len (rw (take_rest bytes read) at g); len = kept ∙ f.len }
+
+-- and two
 pub KeepsRun-two : (from to : Form) (bytes old mid more new : List ℕ) (place read wrote n end m last : ℕ) → KeepsRun from to bytes old mid place read wrote
     → RunsInto from to (take (length bytes - read) (drop read bytes)) mid more wrote n end → length more ≡ length mid
     → RunsInto from to (take (length bytes - (read + n)) (drop (read + n) bytes)) more new end m last → length new ≡ length more → KeepsRun from to bytes old new place (read + n + m) last
 KeepsRun-two from to bytes old mid more new place read wrote n end m last f g kept h same =
-    let first = rw (take_rest bytes read) at g in
-    let second = rw (take_rest bytes (read + n)) at h in
-    record {
-      runs = RunsInto-then from to bytes old more new place (read + n) end m last (RunsInto-then from to bytes old mid more place read wrote n end f.runs f.len first) (kept ∙ f.len) second;
-      len = same ∙ kept ∙ f.len;
-    }
+    KeepsRun-then from to bytes old more new place (read + n) end m last (KeepsRun-then from to bytes old mid more place read wrote n end f g kept) h same
 
 -- Bytes written after others.
 

@@ -1,5 +1,5 @@
 -- Units of UTF-16 as bytes of UTF-8: which bytes a unit gives, by it and the one before it.
-use Rattle.std.specs.Prelude.{◌≡◌, ℕ, ◌<◌, ◌+◌, ◌-◌, ◌*◌, true, false, ◌/◌, ◌%◌, if◌then◌else◌, List, [], ◌∷◌, ◌++◌, nat_lt, nat_eq, slice_index, ◌≤◌, Vec, vec_len, vec_capacity}
+use Rattle.std.specs.Prelude.{◌≡◌, ℕ, ◌<◌, ◌+◌, ◌-◌, ◌*◌, true, false, ◌/◌, ◌%◌, if◌then◌else◌, List, [], ◌∷◌, ◌++◌, nat_lt, nat_eq, slice_index, ◌≤◌, Vec, vec_len, vec_capacity, length, take}
 use Rattle.std.specs.Int.{bit_at}
 use Rattle.cuts.specs.Recoding.GivenUnits.{joined}
 use Rattle.utf_base.specs.Units.{is_leading_surrogate, is_trailing_surrogate, is_surrogate}
@@ -66,6 +66,15 @@ pub record PutsUnits {Z : Type 0} (low high : List ℕ) (old new : Vec ℕ Z) (n
   pub items : new.items ≡ old.items ++ joined (code_at (lane_unit low high)) 0 n
   pub short : vec_len new ≤ vec_len old + 6 * n
   pub capacity : vec_capacity old ≤ vec_capacity new
+
+-- The first n of sixteen units are text, and their bytes were written into room, from one place to another.
+pub record WritesUnits (low high old new : List ℕ) (at n end : ℕ) : Type 0 where
+  pub most : n ≤ 16
+  pub text : AreText (lane_unit low high) n
+  pub len : length new ≡ length old
+  pub bytes : take end new ≡ take at old ++ joined (code_at (lane_unit low high)) 0 n
+  pub short : end ≤ at + 6 * n
+  pub fits : end ≤ at + 48
 
 -- the slot in the lane k of three vectors
 abbrev pub slot_at : List ℕ → List ℕ → List ℕ → ℕ → List ℕ

@@ -1,16 +1,12 @@
 //! Text in UTF-16 recoded as UTF-8, sixteen units at once.
-ghost use Rattle.std.specs.Prelude.{◌≡◌, ◌+◌, ◌*◌, ◌<◌, ◌≤◌, true, length, vec_len, vec_capacity};
+ghost use Rattle.std.specs.Prelude.{◌≡◌, ◌+◌, ◌*◌, ◌≤◌, ◌++◌, length, vec_len, vec_capacity, replicate};
 ghost use Rattle.cuts.specs.Recoding.GivenUnits.{IsUnits};
 ghost use Rattle.cuts.specs.Recoding.OutputRuns.{RunsOnto};
-ghost use Rattle.cuts.specs.Recoding.UnitCodes.{lane_unit, AreText, PutsUnits};
-ghost use Rattle.utf_base.specs.Units.{is_leading_surrogate};
+ghost use Rattle.cuts.specs.Recoding.UnitCodes.{PutsUnits};
 
 use crate::recoding::form::Form;
-use crate::recoding::slot_puts::{put_lanes, put_short_slots, put_slots};
-use crate::recoding::unit_bytes::{
-    are_ascii, are_characters, are_short, character_slots, having_top, one_later, sixteen_halves,
-    text_slots,
-};
+use crate::recoding::slot_blocks::write_others;
+use crate::recoding::unit_bytes::{are_ascii, sixteen_halves};
 use std::alloc::Allocator;
 use std::simd::prelude::*;
 
@@ -65,49 +61,31 @@ fn put_sixteen<A: Allocator>(low: u8x16, high: u8x16, out: &mut Vec<u8, A>) -> u
         put_lanes(low, out);
         return 16;
     }
-    if are_short(high) {
-        let slots = character_slots(low, high);
-        put_short_slots(slots.middle, slots.last, out);
-        return 16;
-    }
-    if are_characters(high) {
-        put_slots(character_slots(low, high), out);
-        return 16;
-    }
-    put_text(low, high, out)
-}
-
-// The same where some units may be surrogates.
-#[inline(always)]
-fn put_text<A: Allocator>(low: u8x16, high: u8x16, out: &mut Vec<u8, A>) -> usize
-    requires { vec_len out.old + 96 ≤ vec_capacity out.old }
-    ensures { PutsUnits low high out.old out.new result }
-{
-    let count = paired_units(low, high);
-    if count == 0 {
-        return 0;
-    }
-    put_slots(text_slots(one_later(low), low, high), out);
-    if count == 16 {
-        return 16;
-    }
-    let end = out.len() - 2;
+    let start = out.len();
+    put_nuls(out);
+    let (units, end) = write_others(low, high, out.as_mut_slice(), start);
     out.truncate(end);
-    15
+    units
 }
 
-// How many units are text: all sixteen, or fifteen and then a leading surrogate, or none where that is not so.
+// Appends 64 NULs.
 #[inline(always)]
-fn paired_units(low: u8x16, high: u8x16) -> usize
-    ensures few { 0 < result → 15 ≤ result }
-    ensures most { result ≤ 16 }
-    ensures text { AreText (lane_unit low high) result }
-    ensures last { result ≡ 15 → is_leading_surrogate (lane_unit low high 15) ≡ true }
+fn put_nuls<A: Allocator>(out: &mut Vec<u8, A>)
+    requires { vec_len out.old + 64 ≤ vec_capacity out.old }
+    ensures items { out.new.items ≡ out.old.items ++ replicate 64 0 }
+    ensures len { vec_len out.new ≡ vec_len out.old + 64 }
+    ensures capacity { vec_capacity out.old ≤ vec_capacity out.new }
 {
-    let leading = having_top(high, 0x36);
-    let trailing = having_top(high, 0x37);
-    if trailing != leading * 2 % 0x1_0000 {
-        return 0;
-    }
-    if leading < 0x8000 { 16 } else { 15 }
+    let _ = out.extend_from_slice(&[0; 64]);
+}
+
+// Appends sixteen bytes.
+#[inline(always)]
+fn put_lanes<A: Allocator>(lanes: u8x16, out: &mut Vec<u8, A>)
+    requires room { vec_len out.old + 16 ≤ vec_capacity out.old }
+    ensures items { out.new.items ≡ out.old.items ++ lanes }
+    ensures len { vec_len out.new ≡ vec_len out.old + 16 }
+    ensures capacity { vec_capacity out.old ≤ vec_capacity out.new }
+{
+    let _ = out.extend_from_slice(&lanes.to_array());
 }

@@ -1,8 +1,10 @@
 //! Runs over bytes, into room of a fixed size, where it is large enough for what comes of them.
 ghost use Rattle.std.specs.Prelude.{◌+◌, ◌*◌, ◌≤◌, length};
+ghost use Rattle.cuts.specs.Recoding.GivenUnits.{IsUnits};
 ghost use Rattle.cuts.specs.Recoding.Rooms.{RunsInto};
 
 use crate::recoding::form::Form::{self, Utf8, Utf16Be, Utf16Le};
+use crate::recoding::room_narrows::narrow_into;
 use crate::recoding::room_puts::{put_block_at, put_code_at, put_eight_at};
 use crate::recoding::shown_fronts::{text_front, unit_block};
 
@@ -64,9 +66,11 @@ fn blocks_into(from: Form, to: Form, bytes: &[u8], room: &mut [u8], place: usize
     requires { place ≤ length room.old }
     ensures { RunsInto from to bytes.now room.old room.new place result.0 result.1 }
 {
-    match from {
-        Utf8 => ascii_into(to, bytes, room, place),
-        Utf16Le | Utf16Be => units_into(from, to, bytes, room, place),
+    match (from, to) {
+        (Utf8, _) => ascii_into(to, bytes, room, place),
+        (Utf16Le, Utf8) => narrow_text_into(Utf16Le, false, bytes, room, place),
+        (Utf16Be, Utf8) => narrow_text_into(Utf16Be, true, bytes, room, place),
+        _ => units_into(from, to, bytes, room, place),
     }
 }
 
@@ -87,6 +91,24 @@ fn ascii_into(to: Form, bytes: &[u8], room: &mut [u8], place: usize) -> (usize, 
         read += 8;
     }
     (read, written)
+}
+
+// Recodes the blocks of units at the front of the bytes as UTF-8: first long ones, and then those of ASCII that are short.
+#[inline(always)]
+fn narrow_text_into(
+    from: Form,
+    high_first: bool,
+    bytes: &[u8],
+    room: &mut [u8],
+    place: usize,
+) -> (usize, usize)
+    requires form { IsUnits high_first from }
+    requires place { place ≤ length room.old }
+    ensures { RunsInto from Form.Utf8 bytes.now room.old room.new place result.0 result.1 }
+{
+    let (len, middle) = narrow_into(from, high_first, bytes, room, place);
+    let (rest, end) = units_into(from, Utf8, &bytes[len..], room, middle);
+    (len + rest, end)
 }
 
 // Recodes the blocks of units at the front of the bytes, each unit a character by itself.

@@ -1,56 +1,16 @@
-//! The bytes of slots, written to the end of an output that has room for them.
-ghost use Rattle.std.specs.Prelude.{◌≡◌, ℕ, ◌+◌, ◌<◌, ◌≤◌, ◌++◌, length, take, slice_index, vec_len, vec_capacity, count_ones, replicate, map};
+//! The bytes of slots, written into room from a place on.
+ghost use Rattle.std.specs.Prelude.{◌≡◌, ℕ, ◌+◌, ◌<◌, ◌≤◌, ◌++◌, length, take, slice_index, count_ones, map};
 ghost use Rattle.cuts.specs.Recoding.GivenUnits.{joined, IsRow};
 ghost use Rattle.cuts.specs.Recoding.UnitCodes.{slot_at, pair_slot_at, slot_places, slot_bytes, short_at, short_places, short_bytes};
 
 use crate::recoding::kept_ends::KEPT_ENDS;
 use crate::recoding::kept_slots::KEPT_SLOTS;
 use crate::recoding::unit_bytes::Slots;
-use std::alloc::Allocator;
 use std::simd::prelude::*;
-
-// Appends the bytes of sixteen slots: all that three bytes a slot may take, and then those that are none of theirs go.
-#[inline(always)]
-pub(crate) fn put_slots<A: Allocator>(slots: Slots, out: &mut Vec<u8, A>)
-    requires first { length slots.first ≡ 16 }
-    requires middle { length slots.middle ≡ 16 }
-    requires last { length slots.last ≡ 16 }
-    requires room { vec_len out.old + 64 ≤ vec_capacity out.old }
-    ensures items { out.new.items ≡ out.old.items ++ joined (slot_at slots.first slots.middle slots.last) 0 16 }
-    ensures len { vec_len out.new ≤ vec_len out.old + 48 }
-    ensures capacity { vec_capacity out.old ≤ vec_capacity out.new }
-{
-    let start = out.len();
-    put_nuls(out);
-    let end = write_slots(slots, out.as_mut_slice(), start);
-    out.truncate(end);
-}
-
-// Appends 64 NULs.
-#[inline(always)]
-fn put_nuls<A: Allocator>(out: &mut Vec<u8, A>)
-    requires { vec_len out.old + 64 ≤ vec_capacity out.old }
-    ensures items { out.new.items ≡ out.old.items ++ replicate 64 0 }
-    ensures len { vec_len out.new ≡ vec_len out.old + 64 }
-    ensures capacity { vec_capacity out.old ≤ vec_capacity out.new }
-{
-    let _ = out.extend_from_slice(&[0; 64]);
-}
-
-// Appends sixteen bytes.
-#[inline(always)]
-pub(crate) fn put_lanes<A: Allocator>(lanes: u8x16, out: &mut Vec<u8, A>)
-    requires room { vec_len out.old + 16 ≤ vec_capacity out.old }
-    ensures items { out.new.items ≡ out.old.items ++ lanes }
-    ensures len { vec_len out.new ≡ vec_len out.old + 16 }
-    ensures capacity { vec_capacity out.old ≤ vec_capacity out.new }
-{
-    let _ = out.extend_from_slice(&lanes.to_array());
-}
 
 // Writes the bytes of sixteen slots from the place on. Answers where they end.
 #[inline(always)]
-fn write_slots(slots: Slots, room: &mut [u8], at: usize) -> usize
+pub(crate) fn write_slots(slots: Slots, room: &mut [u8], at: usize) -> usize
     requires first { length slots.first ≡ 16 }
     requires middle { length slots.middle ≡ 16 }
     requires last { length slots.last ≡ 16 }
@@ -101,23 +61,9 @@ fn kept_places(mask: usize) -> [u8; 16]
     KEPT_SLOTS[mask]
 }
 
-// Appends the bytes of sixteen slots of which none has three bytes.
+// The same of sixteen slots of which none has three bytes.
 #[inline(always)]
-pub(crate) fn put_short_slots<A: Allocator>(middles: u8x16, lasts: u8x16, out: &mut Vec<u8, A>)
-    requires { vec_len out.old + 64 ≤ vec_capacity out.old }
-    ensures items { out.new.items ≡ out.old.items ++ joined (short_at middles lasts) 0 16 }
-    ensures len { vec_len out.new ≤ vec_len out.old + 32 }
-    ensures capacity { vec_capacity out.old ≤ vec_capacity out.new }
-{
-    let start = out.len();
-    put_nuls(out);
-    let end = write_short_slots(middles, lasts, out.as_mut_slice(), start);
-    out.truncate(end);
-}
-
-// Writes the bytes of these slots from the place on. Answers where they end.
-#[inline(always)]
-fn write_short_slots(middles: u8x16, lasts: u8x16, room: &mut [u8], at: usize) -> usize
+pub(crate) fn write_short_slots(middles: u8x16, lasts: u8x16, room: &mut [u8], at: usize) -> usize
     requires { at + 32 ≤ length room.old }
     ensures len { length room.new ≡ length room.old }
     ensures bytes { take result room.new ≡ take at room.old ++ joined (short_at middles lasts) 0 16 }

@@ -1,6 +1,6 @@
-use Rattle.std.proofs.Common.{◌++◌, arith, ap, ◌∙◌}
-use Rattle.cuts.proofs.OfRecoding.JudgedUnits.{characters_are_text, character_codes, ascii_text, ascii_codes, short_text, short_codes}
-use Rattle.cuts.proofs.OfRecoding.LaneLemmas.{lane_fits}
+use Rattle.std.proofs.Common.{◌++◌, length, arith, ap, sym, ◌∙◌}
+use Rattle.cuts.proofs.OfRecoding.JudgedUnits.{ascii_text, ascii_codes}
+use Rattle.cuts.proofs.OfRecoding.KeptRows.{written_back}
 use Rattle.cuts.proofs.recoding.narrowed_units.put_sixteen.Goals as goal
 
 pub returns-then-are_ascii : goal.returns-then-are_ascii
@@ -14,28 +14,16 @@ returns-then-are_ascii g c =
       capacity = c.put_lanes.ensures.capacity;
     }
 
-pub returns-then-are_short : goal.returns-then-are_short
-returns-then-are_short g c =
-    let short = c.are_short.ensures c.if-are_short.true in
-    let slots = c.character_slots-slots.ensures in
-    let codes = short_codes c.args.low c.args.high (λ k lt. lane_fits c.args.low k c.fits-low lt) short _ _ slots.middle slots.last in
+pub returns : goal.returns
+returns g c =
+    let value = c.as_mut_slice.ensures.value in
+    let written = c.write_others-units.ensures in
     record {
-      most = omega arith;
-      text = short_text c.args.low c.args.high (λ k lt. lane_fits c.args.low k c.fits-low lt) short;
-      items = c.put_short_slots.ensures.items ∙ ap (λ xs. c.args.out.now.items ++ xs) codes;
-      short = omega arith;
-      capacity = c.put_short_slots.ensures.capacity;
-    }
-
-pub returns-then-are_characters : goal.returns-then-are_characters
-returns-then-are_characters g c =
-    let none = c.are_characters.ensures c.if-are_characters.true in
-    let slots = c.character_slots.ensures in
-    let codes = character_codes c.args.low c.args.high (λ k lt. lane_fits c.args.low k c.fits-low lt) none _ _ _ slots.first slots.middle slots.last in
-    record {
-      most = omega arith;
-      text = characters_are_text c.args.low c.args.high (λ k lt. lane_fits c.args.low k c.fits-low lt) none;
-      items = c.put_slots.ensures.items ∙ ap (λ xs. c.args.out.now.items ++ xs) codes;
-      short = omega arith;
-      capacity = c.put_slots.ensures.capacity;
+      most = written.most;
+      text = written.text;
+      items =
+          written_back _ _ _ _ _ _ _ c.len-start.result _ _ (value ∙ c.put_nuls.ensures.items) (c.len-start.ensures ∙ c.args.out.now.ok.0)
+          (written.len ∙ ap length value ∙ sym c.put_nuls.new.out.ok.0) written.bytes c.truncate.ensures.items;
+      short = omega (arith, written.short);
+      capacity = omega arith;
     }

@@ -1,4 +1,4 @@
-use Rattle.std.proofs.Common.{◌-◌, ◌+◌, ◌≡◌, arith}
+use Rattle.std.proofs.Common.{◌-◌, ◌+◌, arith}
 use Rattle.cuts.proofs.OfRecoding.TextUnits.{GivesOnto-none, GivesOnto-next, given_more}
 use Rattle.cuts.proofs.recoding.unit_puts.put_rest.Goals as goal
 

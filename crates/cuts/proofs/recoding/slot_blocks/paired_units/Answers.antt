@@ -1,6 +1,6 @@
 use Rattle.cuts.proofs.OfRecoding.JudgedUnits.{text_whole, text_short, last_leads}
 use Rattle.cuts.proofs.OfRecoding.LaneLemmas.{lane_fits}
-use Rattle.cuts.proofs.recoding.narrowed_units.paired_units.Goals as goal
+use Rattle.cuts.proofs.recoding.slot_blocks.paired_units.Goals as goal
 
 pub returns-then-leading-lt32768-clause-text : goal.returns-then-leading-lt32768-clause-text
 returns-then-leading-lt32768-clause-text c =
