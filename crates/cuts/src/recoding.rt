@@ -11,6 +11,7 @@ pub mod recoder;
 pub(crate) mod recoder_rooms;
 pub(crate) mod recoder_runs;
 pub mod relayed;
+pub(crate) mod room_copies;
 pub(crate) mod room_puts;
 pub(crate) mod room_runs;
 pub mod rooms;

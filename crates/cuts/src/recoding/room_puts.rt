@@ -91,7 +91,7 @@ fn put_units_at(high_first: bool, c: char, room: &mut [u8], place: usize) -> usi
 
 // Writes two bytes at the place, and answers the place after them.
 #[inline(always)]
-fn put_two(first: u8, second: u8, room: &mut [u8], place: usize) -> usize
+pub(crate) fn put_two(first: u8, second: u8, room: &mut [u8], place: usize) -> usize
     requires { place + 2 ≤ length room.old }
     ensures fills { Fills room.old room.new place result (first ∷ second ∷ []) }
     ensures end { result ≡ place + 2 }

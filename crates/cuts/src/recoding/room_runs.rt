@@ -3,6 +3,7 @@ ghost use Rattle.std.specs.Prelude.{◌+◌, ◌*◌, ◌≤◌, length};
 ghost use Rattle.cuts.specs.Recoding.Rooms.{RunsInto};
 
 use crate::recoding::form::Form::{self, Utf8, Utf16Be, Utf16Le};
+use crate::recoding::room_copies::{text_copied, units_copied};
 use crate::recoding::room_puts::{put_block_at, put_code_at, put_eight_at};
 use crate::recoding::shown_fronts::{text_front, unit_block};
 
@@ -64,9 +65,11 @@ fn blocks_into(from: Form, to: Form, bytes: &[u8], room: &mut [u8], place: usize
     requires { place ≤ length room.old }
     ensures { RunsInto from to bytes.now room.old room.new place result.0 result.1 }
 {
-    match from {
-        Utf8 => ascii_into(to, bytes, room, place),
-        Utf16Le | Utf16Be => units_into(from, to, bytes, room, place),
+    match (from, to) {
+        (Utf8, Utf8) => text_copied(bytes, room, place),
+        (Utf8, _) => ascii_into(to, bytes, room, place),
+        (_, Utf8) => units_into(from, to, bytes, room, place),
+        _ => units_copied(from, to, bytes, room, place),
     }
 }
 
