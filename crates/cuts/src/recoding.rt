@@ -14,6 +14,7 @@ pub mod relayed;
 pub(crate) mod room_copies;
 pub(crate) mod room_puts;
 pub(crate) mod room_runs;
+pub(crate) mod room_widths;
 pub mod rooms;
 pub mod shards;
 pub(crate) mod shown_fronts;

@@ -5,6 +5,7 @@ ghost use Rattle.cuts.specs.Recoding.Rooms.{RunsInto};
 use crate::recoding::form::Form::{self, Utf8, Utf16Be, Utf16Le};
 use crate::recoding::room_copies::{text_copied, units_copied};
 use crate::recoding::room_puts::{put_block_at, put_code_at, put_eight_at};
+use crate::recoding::room_widths::widen_into;
 use crate::recoding::shown_fronts::{text_front, unit_block};
 
 // How many bytes of text go piece by piece before runs look for a block again.
@@ -67,7 +68,8 @@ fn blocks_into(from: Form, to: Form, bytes: &[u8], room: &mut [u8], place: usize
 {
     match (from, to) {
         (Utf8, Utf8) => text_copied(bytes, room, place),
-        (Utf8, _) => ascii_into(to, bytes, room, place),
+        (Utf8, Utf16Le) => widen_into(Utf16Le, false, bytes, room, place),
+        (Utf8, Utf16Be) => widen_into(Utf16Be, true, bytes, room, place),
         (_, Utf8) => units_into(from, to, bytes, room, place),
         _ => units_copied(from, to, bytes, room, place),
     }

@@ -45,7 +45,7 @@ fn put_first<A: Allocator>(high_first: bool, text: &[u8], out: &mut Vec<u8, A>)
 
 // The first sixteen bytes after three NULs.
 #[inline(always)]
-fn after_nuls(text: &[u8]) -> [u8; 19]
+pub(crate) fn after_nuls(text: &[u8]) -> [u8; 19]
     requires { 16 ≤ length text.now }
     ensures { result ≡ 0 ∷ 0 ∷ 0 ∷ take 16 text.now }
 {
