@@ -4,7 +4,7 @@ ghost use Rattle.cuts.specs.Recoding.Rooms.{RunsInto};
 
 use crate::recoding::form::Form::{self, Utf8, Utf16Be, Utf16Le};
 use crate::recoding::room_copies::{text_copied, units_copied};
-use crate::recoding::room_puts::{put_block_at, put_code_at, put_eight_at};
+use crate::recoding::room_puts::{put_block_at, put_code_at};
 use crate::recoding::room_widths::widen_into;
 use crate::recoding::shown_fronts::{text_front, unit_block};
 
@@ -73,25 +73,6 @@ fn blocks_into(from: Form, to: Form, bytes: &[u8], room: &mut [u8], place: usize
         (_, Utf8) => units_into(from, to, bytes, room, place),
         _ => units_copied(from, to, bytes, room, place),
     }
-}
-
-// Recodes the blocks of ASCII at the front of the bytes.
-#[inline(always)]
-fn ascii_into(to: Form, bytes: &[u8], room: &mut [u8], place: usize) -> (usize, usize)
-    requires { place ≤ length room.old }
-    ensures { RunsInto Form.Utf8 to bytes.now room.old room.new place result.0 result.1 }
-{
-    let mut read = 0;
-    let mut written = place;
-    while 8 <= bytes.len() - read && 16 <= room.len() - written {
-        let block = &bytes[read..read + 8];
-        if !block.is_ascii() {
-            return (read, written);
-        }
-        written = put_eight_at(to, block, room, written);
-        read += 8;
-    }
-    (read, written)
 }
 
 // Recodes the blocks of units at the front of the bytes, each unit a character by itself.

@@ -5,9 +5,9 @@ ghost use Rattle.cuts.specs.Recoding.Rooms.{Fills, RunsInto};
 
 use crate::recoding::form::Form;
 use crate::recoding::room_puts::put_all;
-use crate::recoding::text_blocks::text_len;
+use crate::recoding::text_blocks::{is_ascii_block, is_closed, text_len};
 use crate::recoding::text_units::{UnitBytes, block_units};
-use crate::recoding::unit_puts::after_nuls;
+use crate::recoding::unit_puts::{after_nuls, ascii_units};
 
 // How many bytes of text are judged at once, so that they are near when they are recoded.
 const PART: usize = 8192;
@@ -43,7 +43,8 @@ fn units_at(high_first: bool, text: &[u8], room: &mut [u8], place: usize) -> usi
     ensures short { result ≤ place + 3 * length text.now }
 {
     let next = first_at(high_first, text, room, place);
-    rest_at(high_first, text, room, next)
+    let (read, end) = wide_at(high_first, text, room, next);
+    rest_at(high_first, text, read, room, end)
 }
 
 // Writes the units of the first sixteen places.
@@ -59,15 +60,69 @@ fn first_at(high_first: bool, text: &[u8], room: &mut [u8], place: usize) -> usi
     halves_at(first, second, room, place)
 }
 
-// Writes the units of the places from 16 on, in blocks of sixteen, of which the last ends with the text.
+// Writes the units of the places from 16 on, in blocks of 64. Answers where the last block ends, and the place after what was
+// written.
 #[inline(always)]
-fn rest_at(high_first: bool, text: &[u8], room: &mut [u8], place: usize) -> usize
-    requires long { 32 ≤ length text.now }
+fn wide_at(high_first: bool, text: &[u8], room: &mut [u8], place: usize) -> (usize, usize)
+    requires long { 16 ≤ length text.now }
     requires room { place + 2 * (length text.now - 16) + 32 ≤ length room.old }
-    ensures fills { Fills room.old room.new place result (given high_first text.now 16 (length text.now - 16)) }
-    ensures short { result ≤ place + 2 * (length text.now - 16) + 32 }
+    ensures least { 16 ≤ result.0 }
+    ensures within { result.0 ≤ length text.now }
+    ensures fills { Fills room.old room.new place result.1 (given high_first text.now 16 (result.0 - 16)) }
+    ensures short { result.1 ≤ place + 2 * (result.0 - 16) }
 {
     let mut read = 16;
+    let mut end = place;
+    while 64 <= text.len() - read {
+        end = wide_block_at(high_first, text, read, room, end);
+        read += 64;
+    }
+    (read, end)
+}
+
+// Writes the units of 64 places.
+#[inline(always)]
+fn wide_block_at(high_first: bool, text: &[u8], read: usize, room: &mut [u8], place: usize) -> usize
+    requires start { 3 ≤ read }
+    requires within { read + 64 ≤ length text.now }
+    requires room { place + 128 ≤ length room.old }
+    ensures fills { Fills room.old room.new place result (given high_first text.now read 64) }
+    ensures short { result ≤ place + 128 }
+{
+    if text[read] < 0x80 && is_ascii_block(text, read) && is_closed(text, read) {
+        let (first, second) = ascii_units(high_first, text, read);
+        let next = put_all(&first, room, place);
+        return put_all(&second, room, next);
+    }
+    four_at(high_first, text, read, room, place)
+}
+
+// The same, sixteen at once.
+#[inline(always)]
+fn four_at(high_first: bool, text: &[u8], read: usize, room: &mut [u8], place: usize) -> usize
+    requires start { 3 ≤ read }
+    requires within { read + 64 ≤ length text.now }
+    requires room { place + 128 ≤ length room.old }
+    ensures fills { Fills room.old room.new place result (given high_first text.now read 64) }
+    ensures short { result ≤ place + 128 }
+{
+    let second = block_at(high_first, text, read, 0, room, place);
+    let third = block_at(high_first, text, read + 16, 0, room, second);
+    let fourth = block_at(high_first, text, read + 32, 0, room, third);
+    block_at(high_first, text, read + 48, 0, room, fourth)
+}
+
+// Writes the units of the places from one on to the end, in blocks of sixteen, of which the last ends with the text.
+#[inline(always)]
+fn rest_at(high_first: bool, text: &[u8], start: usize, room: &mut [u8], place: usize) -> usize
+    requires start { 16 ≤ start }
+    requires within { start ≤ length text.now }
+    requires long { 32 ≤ length text.now }
+    requires room { place + 2 * (length text.now - start) + 32 ≤ length room.old }
+    ensures fills { Fills room.old room.new place result (given high_first text.now start (length text.now - start)) }
+    ensures short { result ≤ place + 2 * (length text.now - start) + 32 }
+{
+    let mut read = start;
     let mut end = place;
     while 16 <= text.len() - read {
         end = block_at(high_first, text, read, 0, room, end);

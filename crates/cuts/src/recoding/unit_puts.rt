@@ -109,7 +109,7 @@ fn put_ascii<A: Allocator>(high_first: bool, text: &[u8], place: usize, out: &mu
 
 // The units of 64 bytes of ASCII: each byte and a NUL.
 #[inline(always)]
-fn ascii_units(high_first: bool, text: &[u8], place: usize) -> ([u8; 64], [u8; 64])
+pub(crate) fn ascii_units(high_first: bool, text: &[u8], place: usize) -> ([u8; 64], [u8; 64])
     requires start { 3 ≤ place }
     requires within { place + 64 ≤ length text.now }
     requires closed { AreClosed text.now place }

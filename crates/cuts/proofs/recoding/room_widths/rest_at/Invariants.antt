@@ -5,10 +5,10 @@ use Rattle.cuts.proofs.recoding.room_widths.rest_at.Given as goal
 
 abbrev pub invariant-loop-read : goal.invariant-loop-read
 invariant-loop-read l = record {
-  least : 16 ≤ l.read;
+  least : l.start ≤ l.read;
   within : l.read ≤ length l.text;
-  fills : Fills l.fn.room l.room l.place l.end (given l.high_first l.text 16 (l.read - 16));
-  short : l.end ≤ l.place + 2 * (l.read - 16);
+  fills : Fills l.fn.room l.room l.place l.end (given l.high_first l.text l.start (l.read - l.start));
+  short : l.end ≤ l.place + 2 * (l.read - l.start);
   room : length l.room ≡ length l.fn.room;
 }
 
