@@ -1,5 +1,4 @@
 -- Lemmas on recoding.
-pub mod Ascii
 pub mod Blocks
 pub mod BoundLemmas
 pub mod EnoughRoom

@@ -1,6 +1,6 @@
 -- Runs into room of a fixed size that copy, with the bytes of each pair swapped or as they are, and those that write text as units.
 use Rattle.std.proofs.Common.{◌≡◌, ℕ, ◌+◌, ◌-◌, ◌*◌, ◌%◌, ◌≤◌, Bool, List, [], ◌∷◌, ◌++◌, length, get_or, take, drop, IsUtf8, arith, refl, ap, sym, ◌∙◌, length-take, subst, w8, Fits}
-use Rattle.std.proofs.lemmas.List.{append-nil, take-take, take_all}
+use Rattle.std.proofs.lemmas.List.{append-nil, take-take}
 use Rattle.cuts.specs.declared.recoding.form.Form.{Form}
 use Rattle.cuts.specs.declared.recoding.form.Form.TheVariants.{Utf8}
 use Rattle.cuts.specs.Recoding.Recoded.{units_of, Grows}
