@@ -39,3 +39,4 @@ pub mod CopiedUnits
 pub mod AsciiUnits
 pub mod ValueSums
 pub mod RoomCopies
+pub mod SameLanes

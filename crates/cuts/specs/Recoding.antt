@@ -11,3 +11,4 @@ pub mod TextBlocks
 pub mod GivenUnits
 pub mod UnitCodes
 pub mod UnitBlocks
+pub mod UnitRuns

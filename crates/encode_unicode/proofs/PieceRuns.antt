@@ -1,5 +1,5 @@
 -- A run of a decoder, or of an iterator over a text, gives the list of its pieces, or of its characters.
-use Rattle.std.proofs.Common.{◌≡◌, ℕ, zero, suc, ◌+◌, ◌-◌, ◌≤◌, List, [], ◌∷◌, ◌++◌, length, take, drop, Option, Some, None, Ok, Err, Result, map, refl, ap, sym, subst, ◌∙◌, arith, length-append, length-drop, append-nil}
+use Rattle.std.proofs.Common.{◌≡◌, ℕ, zero, suc, ◌+◌, ◌-◌, ◌*◌, ◌≤◌, List, [], ◌∷◌, ◌++◌, length, take, drop, Option, Some, None, Ok, Err, Result, map, refl, ap, sym, subst, ◌∙◌, arith, length-append, length-drop, append-nil}
 use Rattle.std.specs.Iterator.{Yields, YieldsLast}
 use Rattle.std.specs.Iterator.Runs.{Run, EveryRun, EachRunFrom, WholeRun, AllItems}
 use Rattle.std.proofs.iter.runs.Lists.{Everywhere}
@@ -267,36 +267,36 @@ module _ {S A : Type 0} (steps : S → Option A → S → Type 0) (Keeps : S →
   all_items p k = each p P (everywhere p.items p.from (took p).0 k (took p).1)
 
 place_kept : {E : Type 0} (code : ℕ → List ℕ) (most : ℕ) (kind : List ℕ → Option E) (answer : List ℕ → Result (ℕ × ℕ) E) (n : ℕ) (w v : Window) (x : Placed E)
-    → w.back ≡ n → GivesFrontOf code most kind answer w x v → LiesWithin n x × (v.back ≡ n)
+    → w.back ≡ n → GivesFrontOf code most kind answer w x v → LiesWithin most n x × (v.back ≡ n)
 place_kept code most kind answer n w v x end g =
-    let most : length (elements w) ≤ w.back - w.front = grind (arith, common_steps) in
-    ((omega arith, omega arith, omega arith), ap (λ (u : Window). u.back) g.left ∙ end)
+    let all : length (elements w) ≤ w.back - w.front = grind (arith, common_steps) in
+    ((omega arith, omega arith, omega arith, omega arith), ap (λ (u : Window). u.back) g.left ∙ end)
 
-pub decoder_places : (xs : List ℕ) (s : Window) → s ≡ whole_window xs → EachRunFrom NextGives s (λ p. AllItems p (LiesWithin (length xs)))
+pub decoder_places : (xs : List ℕ) (s : Window) → s ≡ whole_window xs → EachRunFrom NextGives s (λ p. AllItems p (LiesWithin 4 (length xs)))
 decoder_places xs s e p seen from =
-    all_items NextGives (λ w. w.back ≡ length xs) (LiesWithin (length xs)) (λ w x v k g. place_kept utf8 4 fault_kind decoded (length xs) w v x k g) p
+    all_items NextGives (λ w. w.back ≡ length xs) (LiesWithin 4 (length xs)) (λ w x v k g. place_kept utf8 4 fault_kind decoded (length xs) w v x k g) p
     (ap (λ (u : Window). u.back) (from ∙ e))
 
-pub unit_decoder_places : (xs : List ℕ) (s : Window) → s ≡ whole_window xs → EachRunFrom NextGivesUnits s (λ p. AllItems p (LiesWithin (length xs)))
+pub unit_decoder_places : (xs : List ℕ) (s : Window) → s ≡ whole_window xs → EachRunFrom NextGivesUnits s (λ p. AllItems p (LiesWithin 2 (length xs)))
 unit_decoder_places xs s e p seen from =
-    all_items NextGivesUnits (λ w. w.back ≡ length xs) (LiesWithin (length xs)) (λ w x v k g. place_kept utf16 2 unit_fault_kind decoded_pairs (length xs) w v x k g) p
+    all_items NextGivesUnits (λ w. w.back ≡ length xs) (LiesWithin 2 (length xs)) (λ w x v k g. place_kept utf16 2 unit_fault_kind decoded_pairs (length xs) w v x k g) p
     (ap (λ (u : Window). u.back) (from ∙ e))
 
 piece_kept_back : {E : Type 0} (code : ℕ → List ℕ) (most : ℕ) (kind : ℕ → E) (answer : List ℕ → Result (ℕ × ℕ) E) (n : ℕ) (w v : Window) (x : Placed E)
-    → w.back ≤ n → GivesBackOf code most kind answer w x v → LiesWithin n x × (v.back ≤ n)
+    → w.back ≤ n → GivesBackOf code most kind answer w x v → LiesWithin most n x × (v.back ≤ n)
 piece_kept_back code most kind answer n w v x end g =
     let back : v.back ≡ w.back - x.2 = ap (λ (u : Window). u.back) g.left in
-    ((omega arith, omega arith, omega arith), omega arith)
+    ((omega arith, omega arith, omega arith, omega arith), omega arith)
 
-pub decoder_places_back : (xs : List ℕ) (s : Window) → s ≡ whole_window xs → EachRunFrom NextBackGives s (λ p. AllItems p (LiesWithin (length xs)))
+pub decoder_places_back : (xs : List ℕ) (s : Window) → s ≡ whole_window xs → EachRunFrom NextBackGives s (λ p. AllItems p (LiesWithin 4 (length xs)))
 decoder_places_back xs s e p seen from =
     let end : p.from.back ≡ length xs = ap (λ (u : Window). u.back) (from ∙ e) in
-    all_items NextBackGives (λ w. w.back ≤ length xs) (LiesWithin (length xs)) (λ w x v k g. piece_kept_back utf8 4 back_kind decoded_end (length xs) w v x k g) p (omega arith)
+    all_items NextBackGives (λ w. w.back ≤ length xs) (LiesWithin 4 (length xs)) (λ w x v k g. piece_kept_back utf8 4 back_kind decoded_end (length xs) w v x k g) p (omega arith)
 
-pub unit_decoder_places_back : (xs : List ℕ) (s : Window) → s ≡ whole_window xs → EachRunFrom NextBackGivesUnits s (λ p. AllItems p (LiesWithin (length xs)))
+pub unit_decoder_places_back : (xs : List ℕ) (s : Window) → s ≡ whole_window xs → EachRunFrom NextBackGivesUnits s (λ p. AllItems p (LiesWithin 2 (length xs)))
 unit_decoder_places_back xs s e p seen from =
     let end : p.from.back ≡ length xs = ap (λ (u : Window). u.back) (from ∙ e) in
-    all_items NextBackGivesUnits (λ w. w.back ≤ length xs) (LiesWithin (length xs)) (λ w x v k g. piece_kept_back utf16 2 unit_back_kind decoded_pairs_end (length xs) w v x k g) p (omega arith)
+    all_items NextBackGivesUnits (λ w. w.back ≤ length xs) (LiesWithin 2 (length xs)) (λ w x v k g. piece_kept_back utf16 2 unit_back_kind decoded_pairs_end (length xs) w v x k g) p (omega arith)
 
 -- what a window of a text keeps
 record KeepsText (text : List ℕ) (w : Window) : Type 0 where
@@ -349,9 +349,13 @@ lengths_added code n (x ∷ xs) =
     let both = length-append (code x) (flat_map code xs) in
     rest ∙ (omega arith)
 
-no_longer : (s : ℕ) → length (utf16 s) ≤ length (utf8 s)
+pub no_longer : (s : ℕ) → length (utf16 s) ≤ length (utf8 s)
 unfolding utf8 utf16
 no_longer s = grind (arith, common_steps)
+
+pub three_for_each : (s : ℕ) → length (utf8 s) ≤ 3 * length (utf16 s)
+unfolding utf8 utf16
+three_for_each s = grind (arith, common_steps)
 
 all_no_longer : (xs : List ℕ) → length (flat_map utf16 xs) ≤ length (flat_map utf8 xs)
 all_no_longer [] = omega arith

@@ -1,13 +1,14 @@
--- The list that a run gives is the one of which it tells what `all`, `any`, `find`, `position` and `last` answer.
-use Rattle.std.proofs.Common.{◌≡◌, ℕ, zero, suc, ◌+◌, ◌-◌, ◌<◌, ◌≤◌, Bool, true, false, List, [], ◌∷◌, length, get_or, reverse, Option, Some, None, refl, ap, sym, subst, ◌∙◌, arith}
+-- The list that a run gives is the one of which it tells what `all`, `any`, `find`, `position`, `last`, `nth` and `take` answer.
+use Rattle.std.proofs.Common.{◌≡◌, ℕ, zero, suc, ◌+◌, ◌-◌, ◌<◌, ◌≤◌, Bool, true, false, List, [], ◌∷◌, length, get_or, reverse, Option, Some, None, take, take_all, ⊎_elim, refl, ap, sym, subst, ◌∙◌, arith}
 use Rattle.std.specs.List.{find, last_or, list_all, list_any, prefix_len}
 use Rattle.std.specs.Prelude.{IfSome, IsSomeAnd, slice_get}
 use Rattle.std.specs.Iterator.Runs.{Run, ItemsAre, ItemsAreReversed, AllItems, AllItemsBelow, AnyItem}
 use Rattle.std.proofs.iter.runs.Lists.{Everywhere, at_some, none-some, same_Some, nth_last, nth_read, slice_get_within}
 use Rattle.std.proofs.iter.runs.Made.{at-is, each_of}
+use Rattle.std.proofs.lemmas.Bool.{cases_lt}
 use Rattle.std.proofs.lemmas.Grind.{common_steps}
 use Rattle.std.proofs.lemmas.List.{get_or-reverse, length-reverse}
-use Rattle.encode_unicode.specs.RunTests.{Tells, TellsAll, TellsAny, TellsFind, TellsPlace, TellsLast}
+use Rattle.encode_unicode.specs.RunTests.{Tells, TellsAll, TellsAny, TellsFind, TellsPlace, TellsLast, TellsNth, TellsTake}
 
 module _ {A : Type 0} (test : A → Bool) where
   all_pass : (xs : List A) → Everywhere xs (λ x. test x ≡ true) → list_all test xs ≡ true
@@ -49,6 +50,20 @@ last_none (x ∷ xs) e = absurd (omega arith)
 last_there : {A : Type 0} (xs : List A) → 0 < length xs → last_or None xs ≡ slice_get xs (length xs - 1)
 last_there [] some = absurd (omega arith)
 last_there (x ∷ xs) some = let e : suc (length xs) - 1 ≡ length xs = omega arith in rw e (sym (nth_last x xs))
+
+none_after : {A : Type 0} (xs : List A) (k : ℕ) → length xs ≤ k → slice_get xs k ≡ None
+none_after [] k le = refl
+none_after (x ∷ xs) zero le = absurd (omega arith)
+none_after (x ∷ xs) (suc k) le = none_after xs k (omega arith)
+
+first_of : {A : Type 0} (ys xs : List A) (n : ℕ) → length ys ≡ n → ((k : ℕ) (x : A) → slice_get ys k ≡ Some x → slice_get xs k ≡ Some x) → ys ≡ take n xs
+first_of [] xs zero len same = refl
+first_of [] xs (suc n) len same = absurd (omega arith)
+first_of (y ∷ ys) xs zero len same = absurd (omega arith)
+first_of (y ∷ ys) [] (suc n) len same = absurd (none-some y (same 0 y refl))
+first_of (y ∷ ys) (x ∷ xs) (suc n) len same =
+    let rest = first_of ys xs n (omega arith) (λ k z e. same (suc k) z e) in
+    rw (same_Some x y (same 0 y refl), ← rest) refl
 
 some_there : {A : Type 0} (o : Option A) (P : A → Type 0) → IsSomeAnd o P → (x : A) × (o ≡ Some x) × P x
 some_there None P h = absurd h
@@ -98,8 +113,18 @@ module _ {S A : Type 0} {steps : S → Option A → S → Type 0} (p : Run steps
     λ whole some. last_item whole ∙ last_there p.items (omega (arith, p.long)) ∙ ap (λ n. slice_get p.items (n - 1)) (sym p.long) ∙ sym (at-is p (p.len - 1)),
   )
 
+  tells_nth : TellsNth p xs
+  tells_nth = (placed, λ k whole le. rw (← all whole) (none_after p.items k (omega (arith, p.long))))
+
+  tells_take : TellsTake p xs
+  tells_take n le ends =
+      ⊎_elim
+      (λ (less : p.len < n). rw (← all (ends less)) (sym (take_all n p.items (omega (arith, p.long)))))
+      (λ (ge : n ≤ p.len). first_of p.items xs n (omega (arith, p.long)) (λ k x e. placed k x (at-is p k ∙ e)))
+      (cases_lt p.len n)
+
   tells_placed : Tells p xs
-  tells_placed = (tells_all, tells_any, tells_find, tells_place, tells_last)
+  tells_placed = (tells_all, tells_any, tells_find, tells_place, tells_last, tells_nth, tells_take)
 
 within_run : {S A : Type 0} {steps : S → Option A → S → Type 0} (p : Run steps) (k : ℕ) (x : A) → p.at k ≡ Some x → k < p.len
 within_run p k x e = omega (arith, p.long, slice_get_within p.items k x (sym (at-is p k) ∙ e))

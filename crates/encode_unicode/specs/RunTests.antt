@@ -1,5 +1,5 @@
--- What a run tells of the list that it goes over: what `all`, `any`, `find`, `position` and `last` answer, for any test.
-use Rattle.std.specs.Prelude.{◌≡◌, ℕ, ◌-◌, ◌<◌, Bool, true, false, List, Option, Some, None, IsSomeAnd, length}
+-- What a run tells of the list that it goes over: what `all`, `any`, `find`, `position`, `last`, `nth` and `take` answer, for any test.
+use Rattle.std.specs.Prelude.{◌≡◌, ℕ, ◌-◌, ◌<◌, ◌≤◌, Bool, true, false, List, Option, Some, None, length, slice_get, take}
 use Rattle.std.specs.List.{find, last_or, list_all, list_any, prefix_len}
 use Rattle.std.specs.Iterator.Runs.{Run, AllItems, AllItemsBelow, AnyItem}
 
@@ -28,6 +28,14 @@ module _ {S A : Type 0} {steps : S → Option A → S → Type 0} (p : Run steps
   abbrev pub TellsLast : Type 0
   TellsLast = (p.whole ≡ true → p.len ≡ 0 → last_or None xs ≡ None) × (p.whole ≡ true → 0 < p.len → last_or None xs ≡ p.at (p.len - 1))
 
+  -- `nth`: an item stands at its place in the list, and after a whole run there is no more
+  abbrev pub TellsNth : Type 0
+  TellsNth = ((k : ℕ) (x : A) → p.at k ≡ Some x → slice_get xs k ≡ Some x) × ((k : ℕ) → p.whole ≡ true → p.len ≤ k → slice_get xs k ≡ None)
+
+  -- `take`: the first n items, or all of a whole run, are the first n elements
+  abbrev pub TellsTake : Type 0
+  TellsTake = (n : ℕ) → p.len ≤ n → (p.len < n → p.whole ≡ true) → p.items ≡ take n xs
+
   -- all of these
   abbrev pub Tells : Type 0
-  Tells = TellsAll × TellsAny × TellsFind × TellsPlace × TellsLast
+  Tells = TellsAll × TellsAny × TellsFind × TellsPlace × TellsLast × TellsNth × TellsTake

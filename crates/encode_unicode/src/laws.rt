@@ -1,7 +1,8 @@
 //! The laws of codes, pieces and errors, each the contract of a function that does nothing. A caller
 //! calls the one that its proof needs.
 ghost use Rattle.std.specs.Iterator.Runs.{EveryRun};
-ghost use Rattle.std.specs.Prelude.{◌-◌};
+ghost use Rattle.std.specs.Prelude.{ℕ, ◌-◌, ◌*◌, ◌≤◌, length};
+ghost use Rattle.utf_base.specs.Code.{utf8, utf16};
 ghost use Rattle.encode_unicode.specs.GivenBounds.{NoMoreGiven, NoLongerGiven};
 ghost use Rattle.encode_unicode.specs.Pieces.{CodesAreTheText, PiecesFit, pieces, unit_pieces};
 ghost use Rattle.encode_unicode.specs.Window.{NextGives, NextGivesUnits};
@@ -35,4 +36,10 @@ pub fn lengths_are_bounded()
 /// The codes of the characters of a text, one after another, are the text.
 pub fn codes_are_the_text()
     ensures { CodesAreTheText }
+{}
+
+/// A character has no more units in UTF-16 than bytes in UTF-8, and no more bytes than three for each unit.
+pub fn forms_are_bounded()
+    ensures units { (s : ℕ) → length (utf16 s) ≤ length (utf8 s) }
+    ensures bytes { (s : ℕ) → length (utf8 s) ≤ 3 * length (utf16 s) }
 {}

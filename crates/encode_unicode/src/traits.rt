@@ -19,8 +19,8 @@ pub trait U8SliceExt<'a>: Sized {
         ensures window { result ≡ whole_window (bytes self) }
         ensures runs { EveryRun NextGives (λ p. Gives p (pieces_left p.from)) }
         ensures listed { IsListed NextGives pieces_left }
-        ensures places { EachRunFrom NextGives result (λ p. AllItems p (LiesWithin (length (bytes self)))) }
-        ensures places_back { EachRunFrom NextBackGives result (λ p. AllItems p (LiesWithin (length (bytes self)))) };
+        ensures places { EachRunFrom NextGives result (λ p. AllItems p (LiesWithin 4 (length (bytes self)))) }
+        ensures places_back { EachRunFrom NextBackGives result (λ p. AllItems p (LiesWithin 4 (length (bytes self)))) };
 }
 
 impl<'a> U8SliceExt<'a> for &'a [u8] {
@@ -44,8 +44,8 @@ pub trait U16SliceExt<'a>: Sized {
         ensures window { result ≡ whole_window (units self) }
         ensures runs { EveryRun NextGivesUnits (λ p. Gives p (unit_pieces_left p.from)) }
         ensures listed { IsListed NextGivesUnits unit_pieces_left }
-        ensures places { EachRunFrom NextGivesUnits result (λ p. AllItems p (LiesWithin (length (units self)))) }
-        ensures places_back { EachRunFrom NextBackGivesUnits result (λ p. AllItems p (LiesWithin (length (units self)))) };
+        ensures places { EachRunFrom NextGivesUnits result (λ p. AllItems p (LiesWithin 2 (length (units self)))) }
+        ensures places_back { EachRunFrom NextBackGivesUnits result (λ p. AllItems p (LiesWithin 2 (length (units self)))) };
 }
 
 impl<'a> U16SliceExt<'a> for &'a [u16] {

@@ -1,5 +1,5 @@
 //! Chains over a decoder: what a chain answers is said of `pieces`, the list of what the decoder gives.
-ghost use Rattle.std.specs.Prelude.{◌≡◌, ◌+◌, ◌↔◌, IsTrue, None, cond, count_by, is_err, is_ok, max, nat_eq, not, position, reverse, slice_get, take};
+ghost use Rattle.std.specs.Prelude.{◌≡◌, ◌+◌, ◌↔◌, IsTrue, None, cond, count_by, IfSome, ◌≤◌, is_err, is_ok, max, nat_eq, not, position, reverse, slice_get, take};
 ghost use Rattle.std.specs.List.{filter_map, find, fold, last_or, list_all, list_any};
 ghost use Rattle.std.specs.Result.{result_ok};
 ghost use Rattle.std.specs.Str.{IsUtf8, chars};
@@ -89,6 +89,20 @@ pub fn first_character(text: &str) -> Option<Utf8Char>
     ensures { result ≡ slice_get (chars text.now) 0 }
 {
     text.utf8chars().next()
+}
+
+/// The character after so many others.
+pub fn nth_character(text: &str, count: usize) -> Option<Utf8Char>
+    ensures { result ≡ slice_get (chars text.now) count }
+{
+    text.utf8chars().nth(count)
+}
+
+/// How many bytes the longest piece has: 4 at most.
+pub fn longest_piece(bytes: &[u8]) -> Option<usize>
+    ensures { IfSome result (λ len. len ≤ 4) }
+{
+    bytes.utf8char_indices().map(|x| x.2).max()
 }
 
 /// The text after its first space, which is all of it where there is none.

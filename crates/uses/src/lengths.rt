@@ -1,6 +1,7 @@
 //! Lengths: a code has 1 to 4 bytes, or 1 or 2 units, so small buffers do and runs along a slice end.
 ghost use Rattle.std.specs.Prelude.{◌≡◌, ◌≤◌, length};
 
+use encode_unicode::laws::forms_are_bounded;
 use encode_unicode::{CharExt, Utf8Char, Utf16Char};
 
 /// The last byte of the code of a character.
@@ -61,4 +62,12 @@ pub fn characters_in_front(bytes: &[u8]) -> usize
         count += 1;
     }
     count
+}
+
+/// How many bytes the character has in UTF-8, and how many units in UTF-16: no more, by the law.
+pub fn sizes(c: char) -> (usize, usize)
+    ensures { result.1 ≤ result.0 }
+{
+    forms_are_bounded();
+    (c.to_utf8().len(), c.to_utf16().len())
 }

@@ -151,6 +151,19 @@ before_end high bytes e some le =
     let second : 2 * e - 2 + 1 ≡ 2 * e - 1 = omega arith in
     rw (first, second) at (unit_at high bytes (e - 1) (omega arith))
 
+-- A front of units that pair, judged by its last unit as the code makes it.
+module _ (high : Bool) (bytes : List ℕ) (fits : (k : ℕ) → Fits w8 (get_or bytes k 0)) (e : ℕ) (some : 0 < e) (within : 2 * e ≤ length bytes)
+    (first : 0 < e → is_trailing_surrogate (get_or (units_of high bytes) 0 0) ≡ false) (pairs : AllPaired (units_of high bytes) 1 e)
+    (last : ℕ) (made : last ≡ unit_of high (get_or bytes (2 * e - 2) 0) (get_or bytes (2 * e - 1) 0)) where
+  last_is : is_leading_surrogate (get_or (units_of high bytes) (e - 1) 0) ≡ is_leading_surrogate last
+  last_is = ap is_leading_surrogate (before_end high bytes e some within ∙ sym made)
+
+  pub units_codes : is_leading_surrogate last ≡ false → AreCodes (units_of high (take (2 * e) bytes))
+  units_codes none = rw (units_front high bytes e) at (front_codes (units_of high bytes) (units_fit high bytes fits) (first some) e some (units_length high bytes e within) pairs (last_is ∙ none))
+
+  pub units_codes_less : is_leading_surrogate last ≡ true → AreCodes (units_of high (take (2 * (e - 1)) bytes))
+  units_codes_less leads = rw (units_front high bytes (e - 1)) at (front_codes_less (units_of high bytes) (units_fit high bytes fits) (first some) e some (units_length high bytes e within) pairs (last_is ∙ leads))
+
 -- The first eight units, judged after a NUL: the first ends no pair, and the others are as they stand.
 
 after_a_nul : (high : Bool) (v : List ℕ) → units_of high (0 ∷ 0 ∷ v) ≡ 0 ∷ units_of high v

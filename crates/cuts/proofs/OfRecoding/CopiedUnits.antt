@@ -14,6 +14,7 @@ use Rattle.cuts.specs.Recoding.ShownFronts.{ShowsEach}
 use Rattle.cuts.specs.Recoding.GivenUnits.{IsUnits}
 use Rattle.cuts.specs.Recoding.OutputRuns.{RunsOnto}
 use Rattle.cuts.specs.Recoding.UnitBlocks.{AreCodes, swapped, turned}
+use Rattle.cuts.specs.Recoding.UnitRuns.{CopiesOnto}
 use Rattle.cuts.proofs.OfRecoding.Blocks.{units_append, odd_append}
 use Rattle.cuts.proofs.OfRecoding.Growing.{Grows-each}
 
@@ -97,11 +98,12 @@ Grows-turned high other from to w old new n reads writes fits within even h item
     Grows-each from to w old new h.scalars n (as_read high from (take n w) h.scalars reads (coded_bytes_show high (take n w) (n / 2) h half)) (items ∙ ap (λ ys. old ++ ys) (sym codes))
 
 pub RunsOnto-units : {Z : Type 0} (high other : Bool) (from to : Form) (w : List ℕ) (old new : Vec ℕ Z) (n : ℕ) → IsUnits high from → IsUnits other to
-    → ((j : ℕ) → Fits w8 (get_or w j 0)) → n ≤ length w → n % 2 ≡ 0 → AreCodes (units_of high (take n w)) → new.items ≡ old.items ++ turned (differ high other) (take n w)
-    → vec_len new ≡ vec_len old + n → vec_capacity old ≤ vec_capacity new → RunsOnto from to w old new n
-RunsOnto-units high other from to w old new n reads writes fits within even h items len capacity = record {
-  within = within;
-  grows = Grows-turned high other from to w _ _ n reads writes fits within even h items;
-  short = omega arith;
-  capacity = capacity;
-}
+    → ((j : ℕ) → Fits w8 (get_or w j 0)) → CopiesOnto high (differ high other) w old new n → RunsOnto from to w old new n
+RunsOnto-units high other from to w old new n reads writes fits copied =
+    let len = copied.len in
+    record {
+      within = copied.within;
+      grows = Grows-turned high other from to w _ _ n reads writes fits copied.within copied.even copied.codes copied.items;
+      short = omega arith;
+      capacity = copied.capacity;
+    }

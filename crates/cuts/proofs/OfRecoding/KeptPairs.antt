@@ -1,10 +1,10 @@
 -- The table of the pairs that a mask keeps, and what keeping them makes of a vector.
-use Rattle.std.proofs.Common.{◌≡◌, ℕ, ◌+◌, ◌*◌, ◌<◌, Bool, true, false, cond, eqb, List, [], ◌∷◌, map, length, get_or, take, count_ones, refl, w8}
+use Rattle.std.proofs.Common.{◌≡◌, ℕ, ◌+◌, ◌*◌, Bool, true, false, cond, eqb, List, [], ◌∷◌, map, length, get_or, take, count_ones, refl, ◌∙◌, w8}
 use Rattle.std.proofs.lemmas.Simd.{swz_l}
 use Rattle.std.specs.Int.{bit_at}
 use lib.Count.{ones, ones_in}
-use Rattle.cuts.proofs.OfRecoding.KeptRows.{RowsAreRight, row_kept}
-use Rattle.cuts.specs.Recoding.GivenUnits.{joined, places_at, pair_at}
+use Rattle.cuts.proofs.OfRecoding.KeptRows.{RowsAreRight, places_kept, front_kept}
+use Rattle.cuts.specs.Recoding.GivenUnits.{joined, IsRow, places_at, pair_at}
 use Rattle.cuts.specs.declared.recoding.kept_pairs.TheConstants.{KEPT}
 
 abbrev pub pairs_len : ℕ → ℕ
@@ -21,6 +21,5 @@ pair_of_places m v i = either (eqb (bit_at m i) 1)
     either true = refl
     either false = refl
 
-pub kept_pairs : (m : ℕ) (v js : List ℕ) → length js ≡ 16 → ((k : ℕ) → k < 16 → get_or js k 0 < 16) → take (pairs_len m) js ≡ joined (places_at m) 0 8
-    → take (pairs_len m) (swz_l w8 16 v 0 js) ≡ joined (pair_at m v) 0 8
-kept_pairs m v js = row_kept (places_at m) (pair_at m v) (pairs_len m) 8 v js (pair_of_places m v)
+pub kept_pairs : (m : ℕ) (v js : List ℕ) → length js ≡ 16 → IsRow js m (pairs_len m) 8 (places_at m) → take (pairs_len m) (swz_l w8 16 v 0 js) ≡ joined (pair_at m v) 0 8
+kept_pairs m v js long row = front_kept v js (pairs_len m) long row.within ∙ places_kept (places_at m) (pair_at m v) (pairs_len m) 8 v js (pair_of_places m v) row.listed

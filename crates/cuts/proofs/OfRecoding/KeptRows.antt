@@ -6,7 +6,7 @@ use Rattle.std.proofs.lemmas.List.{ext_get_or, get_or-map, length-map, take-map,
 use lib.Lanes.{put_chunk}
 use Rattle.cuts.proofs.OfRecoding.PairTables.{each_below, at_each}
 use Rattle.cuts.proofs.OfRecoding.Joined.{joined_map, joined_same}
-use Rattle.cuts.specs.Recoding.GivenUnits.{joined}
+use Rattle.cuts.specs.Recoding.GivenUnits.{joined, IsRow}
 
 abbrev same : List ℕ → List ℕ → Bool
 same [] [] = true
@@ -32,20 +32,16 @@ module _ (table : List (List ℕ)) (places : ℕ → ℕ → List ℕ) (len : �
     row_right : is_right m (get_or table m []) ≡ true
     row_right = at_each (λ k. is_right k (get_or table k [])) 256 right m lt
 
-    pub row_few : count_ones m ≤ 8
-    row_few = leb-true (count_ones m) 8 (and_parts (leb (count_ones m) 8) _ row_right).0
-
-    pub row_within : (k : ℕ) → k < 16 → get_or (get_or table m []) k 0 < 16
-    row_within k in_row =
+    pub is_row : IsRow (get_or table m []) m (len m) n (places m)
+    is_row =
         let row = get_or table m [] in
-        let p = and_parts (each_below (λ i. ltb (get_or row i 0) 16) 16) _ (and_parts (leb (count_ones m) 8) _ row_right).1 in
-        ltb-true _ 16 (at_each (λ i. ltb (get_or row i 0) 16) 16 p.0 k in_row)
-
-    pub row_is : take (len m) (get_or table m []) ≡ joined (places m) 0 n
-    row_is =
-        let row = get_or table m [] in
-        let p = and_parts (each_below (λ i. ltb (get_or row i 0) 16) 16) _ (and_parts (leb (count_ones m) 8) _ row_right).1 in
-        same_is (take (len m) row) (joined (places m) 0 n) p.1
+        let p = and_parts (leb (count_ones m) 8) _ row_right in
+        let q = and_parts (each_below (λ i. ltb (get_or row i 0) 16) 16) _ p.1 in
+        record {
+          few = leb-true (count_ones m) 8 p.0;
+          within = λ k in_row. ltb-true _ 16 (at_each (λ i. ltb (get_or row i 0) 16) 16 q.0 k in_row);
+          listed = same_is (take (len m) row) (joined (places m) 0 n) q.1;
+        }
 
 -- The vector at those places.
 
@@ -62,14 +58,15 @@ at_places v js long below =
     get_or-swz_l_below w8 16 v 0 js i (omega (arith, long)) (below i few) ∙ ap (λ n. get_or v n 0) at
     ∙ sym (get_or-map (λ j. get_or v j 0) js i 0 0 (omega (arith, long))))
 
--- the first of them are the bytes of the parts
-pub row_kept : (places bytes : ℕ → List ℕ) (len n : ℕ) (v js : List ℕ) → ((i : ℕ) → map (λ j. get_or v j 0) (places i) ≡ bytes i)
-    → length js ≡ 16 → ((k : ℕ) → k < 16 → get_or js k 0 < 16) → take len js ≡ joined places 0 n
-    → take len (swz_l w8 16 v 0 js) ≡ joined bytes 0 n
-row_kept places bytes len n v js each long below are =
-    let h = λ (j : ℕ). get_or v j 0 in
-    ap (take len) (at_places v js long below) ∙ take-map h len js ∙ ap (map h) are ∙ joined_map h places 0 n
-    ∙ joined_same (λ i. map h (places i)) bytes 0 n (λ i ge lt. each i)
+-- bytes at the places of parts are those of the parts
+pub places_kept : (places bytes : ℕ → List ℕ) (len n : ℕ) (v js : List ℕ) → ((i : ℕ) → map (λ j. get_or v j 0) (places i) ≡ bytes i)
+    → take len js ≡ joined places 0 n → map (λ j. get_or v j 0) (take len js) ≡ joined bytes 0 n
+places_kept places bytes len n v js each are =
+    ap (map (λ j. get_or v j 0)) are ∙ joined_map (λ j. get_or v j 0) places 0 n ∙ joined_same (λ i. map (λ j. get_or v j 0) (places i)) bytes 0 n (λ i ge lt. each i)
+
+-- the first of them
+pub front_kept : (v js : List ℕ) (len : ℕ) → length js ≡ 16 → ((k : ℕ) → k < 16 → get_or js k 0 < 16) → take len (swz_l w8 16 v 0 js) ≡ map (λ j. get_or v j 0) (take len js)
+front_kept v js len long below = ap (take len) (at_places v js long below) ∙ take-map (λ j. get_or v j 0) len js
 
 -- Bytes stored from a place on, of which the first n count.
 pub part_stored : (xs ys : List ℕ) (i n : ℕ) → n ≤ length ys → i + length ys ≤ length xs → take (i + n) (put_chunk i xs ys) ≡ take i xs ++ take n ys

@@ -1,10 +1,9 @@
 -- The tables of the bytes that a mask keeps of slots, and what keeping them makes of a vector.
-use Rattle.std.proofs.Common.{◌≡◌, ℕ, ◌+◌, ◌*◌, ◌<◌, Bool, true, false, cond, eqb, List, [], ◌∷◌, ◌++◌, map, length, get_or, take, count_ones, refl, w8}
-use Rattle.std.proofs.lemmas.Simd.{swz_l}
+use Rattle.std.proofs.Common.{◌≡◌, ℕ, ◌+◌, ◌*◌, Bool, true, false, cond, eqb, List, [], ◌∷◌, ◌++◌, map, get_or, take, count_ones, refl}
 use Rattle.std.specs.Int.{bit_at}
 use lib.Count.{ones, ones_in}
-use Rattle.cuts.proofs.OfRecoding.KeptRows.{RowsAreRight, row_kept}
-use Rattle.cuts.specs.Recoding.GivenUnits.{joined}
+use Rattle.cuts.proofs.OfRecoding.KeptRows.{RowsAreRight, places_kept}
+use Rattle.cuts.specs.Recoding.GivenUnits.{joined, IsRow}
 use Rattle.cuts.specs.Recoding.UnitCodes.{slot_places, slot_bytes, short_places, short_bytes}
 use Rattle.cuts.specs.declared.recoding.kept_slots.TheConstants.{KEPT_SLOTS}
 use Rattle.cuts.specs.declared.recoding.kept_ends.TheConstants.{KEPT_ENDS}
@@ -28,9 +27,8 @@ slot_of_places m v i = either (eqb (bit_at m (2 * i)) 1) (eqb (bit_at m (2 * i +
     either false true = refl
     either false false = refl
 
-pub slots_kept : (m : ℕ) (v js : List ℕ) → length js ≡ 16 → ((k : ℕ) → k < 16 → get_or js k 0 < 16) → take (slots_len m) js ≡ joined (slot_places m) 0 4
-    → take (slots_len m) (swz_l w8 16 v 0 js) ≡ joined (slot_bytes m v) 0 4
-slots_kept m v js = row_kept (slot_places m) (slot_bytes m v) (slots_len m) 4 v js (slot_of_places m v)
+pub slots_kept : (m : ℕ) (v js : List ℕ) → IsRow js m (slots_len m) 4 (slot_places m) → map (λ j. get_or v j 0) (take (slots_len m) js) ≡ joined (slot_bytes m v) 0 4
+slots_kept m v js row = places_kept (slot_places m) (slot_bytes m v) (slots_len m) 4 v js (slot_of_places m v) row.listed
 
 -- Eight slots of two.
 
@@ -48,6 +46,5 @@ short_of_places m v i = either (eqb (bit_at m i) 1)
     either true = refl
     either false = refl
 
-pub ends_kept : (m : ℕ) (v js : List ℕ) → length js ≡ 16 → ((k : ℕ) → k < 16 → get_or js k 0 < 16) → take (ends_len m) js ≡ joined (short_places m) 0 8
-    → take (ends_len m) (swz_l w8 16 v 0 js) ≡ joined (short_bytes m v) 0 8
-ends_kept m v js = row_kept (short_places m) (short_bytes m v) (ends_len m) 8 v js (short_of_places m v)
+pub ends_kept : (m : ℕ) (v js : List ℕ) → IsRow js m (ends_len m) 8 (short_places m) → map (λ j. get_or v j 0) (take (ends_len m) js) ≡ joined (short_bytes m v) 0 8
+ends_kept m v js row = places_kept (short_places m) (short_bytes m v) (ends_len m) 8 v js (short_of_places m v) row.listed

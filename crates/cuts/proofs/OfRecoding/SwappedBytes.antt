@@ -1,7 +1,9 @@
 -- Bytes swapped in pairs, part by part, and as lanes.
 use Rattle.std.proofs.Common.{◌≡◌, ℕ, zero, suc, ◌+◌, ◌-◌, ◌*◌, ◌/◌, ◌%◌, ◌≤◌, List, [], ◌∷◌, ◌++◌, map, length, get_or, take, drop, refl, sym, ap, ap₂, ◌∙◌, arith, append_assoc, length-append, length-take, length-drop, drop-cons, take-add, take-append-drop}
 use Rattle.std.proofs.lemmas.List.{append-nil, drop-drop, drop_at, take_at, take_all}
+use Rattle.std.specs.Prelude.{Vec, vec_len, vec_capacity}
 use Rattle.cuts.specs.Recoding.UnitBlocks.{swapped}
+use Rattle.cuts.specs.Recoding.UnitRuns.{SwapsOnto}
 
 pub swapped_append : (v later : List ℕ) (k : ℕ) → length v ≡ 2 * k → swapped (v ++ later) ≡ swapped v ++ swapped later
 swapped_append [] later k h = refl
@@ -17,6 +19,29 @@ swapped_more xs old mid new p n even within e f =
 
 pub swapped_none : (xs old : List ℕ) → old ≡ old ++ swapped (take 0 xs)
 swapped_none xs old = sym (append-nil old)
+
+-- The same of outputs.
+
+pub SwapsOnto-none : {Z : Type 0} (xs : List ℕ) (old : Vec ℕ Z) → SwapsOnto xs old old 0
+SwapsOnto-none xs old = record {
+  within = omega arith;
+  even = refl;
+  items = swapped_none xs old.items;
+  len = omega arith;
+  capacity = omega arith;
+}
+
+pub SwapsOnto-next : {Z : Type 0} (xs : List ℕ) (old mid new : Vec ℕ Z) (p n : ℕ) → n % 2 ≡ 0 → p + n ≤ length xs → SwapsOnto xs old mid p
+    → new.items ≡ mid.items ++ swapped (take n (drop p xs)) → vec_len new ≡ vec_len mid + n → vec_capacity mid ≤ vec_capacity new → SwapsOnto xs old new (p + n)
+SwapsOnto-next xs old mid new p n pairs within before items len capacity =
+    let even = before.even in
+    record {
+      within = within;
+      even = omega arith;
+      items = swapped_more xs old.items _ _ p n before.even before.within before.items items;
+      len = omega arith;
+      capacity = omega arith;
+    }
 
 -- the rest of the bytes after a front
 pub swapped_rest : (xs old mid new : List ℕ) (p : ℕ) → p % 2 ≡ 0 → p ≤ length xs → mid ≡ old ++ swapped (take p xs) → new ≡ mid ++ swapped (drop p xs) → new ≡ old ++ swapped xs

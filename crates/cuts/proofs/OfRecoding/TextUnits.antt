@@ -4,7 +4,7 @@ use Rattle.std.proofs.Math.Seq.{drop-append_seam}
 use Rattle.std.proofs.lemmas.Bool.{cases_lt}
 use Rattle.std.proofs.lemmas.Grind.{common_steps}
 use Rattle.std.proofs.lemmas.List.{append-nil, drop-drop, get_or-drop, get_or-take}
-use Rattle.std.specs.Prelude.{All}
+use Rattle.std.specs.Prelude.{All, Vec}
 use Rattle.utf_base.specs.Code.{utf8, utf16}
 use Rattle.utf_base.specs.Scalar.{IsScalar}
 use Rattle.utf_base.specs.Shown.{Shows}
@@ -16,6 +16,7 @@ use Rattle.cuts.specs.declared.recoding.form.Form.TheVariants.{Utf8, Utf16Le, Ut
 use Rattle.cuts.specs.Recoding.Recoded.{written, bytes_of, Grows}
 use Rattle.cuts.specs.Recoding.ShownFronts.{ShowsEach}
 use Rattle.cuts.specs.Recoding.GivenUnits.{IsUnits, joined, given, given_at, gives, halves, unit_low, unit_high}
+use Rattle.cuts.specs.Recoding.UnitRuns.{GivesOnto}
 use Rattle.cuts.proofs.OfRecoding.Growing.{Grows-each}
 use Rattle.cuts.proofs.OfRecoding.Joined.{joined_add, joined_moved, joined_same, joined_1, joined_2, joined_3, joined_4}
 use Rattle.cuts.proofs.OfRuns.TextRuns.{joined_from_text}
@@ -60,6 +61,21 @@ given_more high xs old mid new p m q n t e f at sum =
     let next : given high xs (p + m) n ≡ given high xs q n = ap (λ j. given high xs j n) at in
     f ∙ ap (λ ys. ys ++ given high xs q n) e ∙ append_assoc old (given high xs p m) (given high xs q n)
     ∙ ap (λ ys. old ++ ys) (ap (λ ys. given high xs p m ++ ys) (sym next) ∙ sym whole ∙ ap (given high xs p) sum)
+
+-- The same of outputs.
+
+pub GivesOnto-none : {Z : Type 0} (high : Bool) (xs : List ℕ) (old : Vec ℕ Z) (p n : ℕ) → n ≡ 0 → GivesOnto high xs old old p n
+GivesOnto-none high xs old p n none = rw none (record { items = given_nothing high xs old.items p; len = omega arith; capacity = omega arith })
+
+pub GivesOnto-next : {Z : Type 0} (high : Bool) (xs : List ℕ) (old mid new : Vec ℕ Z) (p m q n t : ℕ) → GivesOnto high xs old mid p m → GivesOnto high xs mid new q n → p + m ≡ q → m + n ≡ t → GivesOnto high xs old new p t
+GivesOnto-next high xs old mid new p m q n t before more at sum =
+    let few = before.len in
+    let first = before.capacity in
+    record {
+      items = given_more high xs _ _ _ p m q n t before.items more.items at sum;
+      len = omega (arith, more.len);
+      capacity = omega (arith, more.capacity);
+    }
 
 pub two_halves : (old mid new first second all : List ℕ) → mid ≡ old ++ first → new ≡ mid ++ second → first ++ second ≡ all → new ≡ old ++ all
 two_halves old mid new first second all e f g = f ∙ ap (λ ys. ys ++ second) e ∙ append_assoc old first second ∙ ap (λ ys. old ++ ys) g

@@ -66,13 +66,13 @@ module _ (before here : List ℕ) (p : IsBlock before) (q : IsBlock here) where
 
 -- Halves of units.
 
-abbrev added : ℕ → ℕ → ℕ
+abbrev pub added : ℕ → ℕ → ℕ
 added a b = (a + b) % 2 ^ 8
 
-abbrev up : ℕ → ℕ → ℕ
+abbrev pub up : ℕ → ℕ → ℕ
 up a b = a * 2 ^ b % 2 ^ 8
 
-abbrev down : ℕ → ℕ → ℕ
+abbrev pub down : ℕ → ℕ → ℕ
 down a b = a / 2 ^ b
 
 abbrev continues : List ℕ → List ℕ → List ℕ

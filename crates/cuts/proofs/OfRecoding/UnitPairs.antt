@@ -1,41 +1,14 @@
 -- Units that pair with the one before them: what lanes say of them, and that they are codes.
-use Rattle.std.proofs.Common.{◌≡◌, ℕ, zero, suc, ◌+◌, ◌-◌, ◌*◌, ◌/◌, ◌<◌, ◌≤◌, Bool, true, false, cond, eqb, ◌∷◌, [], List, map, length, get_or, replicate, bit_and, bit_xor, refl, sym, ap, ◌∙◌, inl, inr, arith, lit<, w8, Fits, eqb-true}
+use Rattle.std.proofs.Common.{◌≡◌, ℕ, zero, suc, ◌+◌, ◌-◌, ◌*◌, ◌/◌, ◌<◌, ◌≤◌, Bool, true, false, cond, eqb, ◌∷◌, [], List, length, get_or, bit_and, bit_xor, refl, sym, ap, inl, inr, arith, lit<, w8, Fits, eqb-true}
 use Rattle.std.proofs.lemmas.Bool.{cases_lt}
 use Rattle.std.proofs.lemmas.Grind.{common_steps}
-use Rattle.std.proofs.lemmas.Simd.{length-zip2, get_or-zip2, get_or-replicate, get_or-chunk, length-chunk, length-sel_l, get_or-sel_l, tops_compared}
-use lib.Lanes.{zip2, sel_l, top, chunk}
+use Rattle.std.proofs.lemmas.Simd.{get_or-chunk, length-chunk}
+use lib.Lanes.{zip2, chunk}
 use Rattle.utf_base.specs.Units.{is_leading_surrogate, is_trailing_surrogate}
 use Rattle.cuts.specs.Recoding.Recoded.{unit_of, units_of}
 use Rattle.cuts.specs.Recoding.UnitBlocks.{AllPaired, high_place}
 use Rattle.cuts.proofs.OfRecoding.LaneLemmas.{wide, lane}
 use Rattle.cuts.proofs.OfRecoding.PairTables.{at_each}
-
--- Lanes that are one byte.
-
-abbrev same_mask : ℕ → ℕ → ℕ
-same_mask a b = cond (eqb a b) 255 0
-
-abbrev pub where_same : List ℕ → ℕ → List ℕ
-where_same xs y = sel_l (map (top 7) (zip2 same_mask xs (replicate 16 y))) (replicate 16 255) (replicate 16 0)
-
-module _ (xs : List ℕ) (y : ℕ) (x : length xs ≡ 16) where
-  tests_len : length (zip2 eqb xs (replicate 16 y)) ≡ 16
-  tests_len = length-zip2 eqb xs (replicate 16 y) x ∙ x
-
-  pub where_same_len : length (where_same xs y) ≡ 16
-  where_same_len = rw (tops_compared w8 eqb xs (replicate 16 y)) (length-sel_l {X = ℕ} (zip2 eqb xs (replicate 16 y)) (replicate 16 255) (replicate 16 0) tests_len tests_len ∙ tests_len)
-
-  pub where_same_at : (k : ℕ) → k < 16 → get_or (where_same xs y) k 0 ≡ cond (eqb (get_or xs k 0) y) 255 0
-  where_same_at k lt =
-      let test : get_or (zip2 eqb xs (replicate 16 y)) k false ≡ eqb (get_or xs k 0) y
-      = get_or-zip2 eqb xs (replicate 16 y) k 0 0 false (omega (arith, x)) lt ∙ ap (eqb (get_or xs k 0)) (get_or-replicate 16 k y 0 lt) in
-      rw (
-        tops_compared w8 eqb xs (replicate 16 y),
-        get_or-sel_l {X = ℕ} (zip2 eqb xs (replicate 16 y)) (replicate 16 255) (replicate 16 0) k 0 (omega (arith, tests_len)) lt lt,
-        test,
-        get_or-replicate {A = ℕ} 16 k 255 0 lt,
-        get_or-replicate {A = ℕ} 16 k 0 0 lt,
-      ) refl
 
 -- Units by their bytes.
 

@@ -13,16 +13,8 @@ use Rattle.cuts.specs.Recoding.Recoded.{unit_of}
 use Rattle.cuts.specs.Recoding.UnitCodes.{lane_unit, first_byte, middle_byte, last_byte, lead_byte, second_byte, third_byte}
 use Rattle.cuts.proofs.OfRecoding.BlockUnits.{below_8}
 use Rattle.cuts.proofs.OfRecoding.ChosenLanes.{wide_with}
+use Rattle.cuts.proofs.OfRecoding.UnitLanes.{added, up, down}
 use Rattle.cuts.proofs.OfRecoding.LaneLemmas.{IsBlock, wide, lane, lane_with, lane_fits, differ_mask, none_differs}
-
-abbrev added : ℕ → ℕ → ℕ
-added a b = (a + b) % 2 ^ 8
-
-abbrev up : ℕ → ℕ → ℕ
-up a b = a * 2 ^ b % 2 ^ 8
-
-abbrev down : ℕ → ℕ → ℕ
-down a b = a / 2 ^ b
 
 -- Where a test passes of a lane and a number, the lane of one vector, and else that of another.
 module _ (t : ℕ → ℕ → Bool) (xs : List ℕ) (y : ℕ) (ps qs : List ℕ) where

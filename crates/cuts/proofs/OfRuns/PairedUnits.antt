@@ -1,45 +1,13 @@
 -- Lanes of units that pair with the one before them.
-use Rattle.std.proofs.Common.{◌≡◌, ℕ, ◌+◌, ◌-◌, ◌/◌, ◌%◌, ◌^◌, ◌<◌, ◌≤◌, Bool, true, false, not, cond, eqb, List, map, length, get_or, replicate, bit_or, bit_xor, refl, sym, ap, ◌∙◌, arith, lit<, w16}
+use Rattle.std.proofs.Common.{◌≡◌, ℕ, ◌+◌, ◌-◌, ◌/◌, ◌%◌, ◌^◌, ◌<◌, ◌≤◌, Bool, true, false, not, cond, eqb, List, map, length, get_or, replicate, bit_or, bit_xor, refl, sym, ◌∙◌, arith, lit<, w16}
 use Rattle.std.proofs.lemmas.Grind.{common_steps}
 use Rattle.std.proofs.lemmas.Nat.{le_or_l, le_or_r}
-use Rattle.std.proofs.lemmas.Simd.{length-zip2, get_or-zip2, get_or-replicate, get_or-chunk, length-chunk, length-sel_l, get_or-sel_l, tops_compared, bitmask_splat, leading_from_mask_l}
-use lib.Lanes.{zip2, sel_l, mask_l, top, chunk}
+use Rattle.std.proofs.lemmas.Simd.{get_or-replicate, get_or-chunk, length-chunk, bitmask_splat, leading_from_mask_l}
+use lib.Lanes.{zip2, mask_l, top, chunk}
 use Rattle.utf_base.specs.Units.{is_leading_surrogate, is_trailing_surrogate}
 use Rattle.cuts.specs.Recoding.UnitBlocks.{AllPaired}
 use Rattle.cuts.proofs.OfRecoding.LaneLemmas.{zero_before}
-
-wide : (f : ℕ → ℕ → ℕ) (xs ys : List ℕ) → length xs ≡ 8 → length ys ≡ 8 → length (zip2 f xs ys) ≡ 8
-wide f xs ys p q = length-zip2 f xs ys (p ∙ sym q) ∙ p
-
-lane : (f : ℕ → ℕ → ℕ) (xs ys : List ℕ) → length xs ≡ 8 → length ys ≡ 8 → (k : ℕ) → k < 8 → get_or (zip2 f xs ys) k 0 ≡ f (get_or xs k 0) (get_or ys k 0)
-lane f xs ys p q k lt = get_or-zip2 f xs ys k 0 0 0 (omega (arith, p)) (omega (arith, q))
-
--- Lanes that are one number.
-
-abbrev same_mask : ℕ → ℕ → ℕ
-same_mask a b = cond (eqb a b) 0xFFFF 0
-
-abbrev where_same : List ℕ → ℕ → List ℕ
-where_same xs y = sel_l (map (top 15) (zip2 same_mask xs (replicate 8 y))) (replicate 8 0xFFFF) (replicate 8 0)
-
-module _ (xs : List ℕ) (y : ℕ) (x : length xs ≡ 8) where
-  tests_len : length (zip2 eqb xs (replicate 8 y)) ≡ 8
-  tests_len = length-zip2 eqb xs (replicate 8 y) x ∙ x
-
-  pub where_same_len : length (where_same xs y) ≡ 8
-  where_same_len = rw (tops_compared w16 eqb xs (replicate 8 y)) (length-sel_l {X = ℕ} (zip2 eqb xs (replicate 8 y)) (replicate 8 0xFFFF) (replicate 8 0) tests_len tests_len ∙ tests_len)
-
-  pub where_same_at : (k : ℕ) → k < 8 → get_or (where_same xs y) k 0 ≡ cond (eqb (get_or xs k 0) y) 0xFFFF 0
-  where_same_at k lt =
-      let test : get_or (zip2 eqb xs (replicate 8 y)) k false ≡ eqb (get_or xs k 0) y
-      = get_or-zip2 eqb xs (replicate 8 y) k 0 0 false (omega (arith, x)) lt ∙ ap (eqb (get_or xs k 0)) (get_or-replicate 8 k y 0 lt) in
-      rw (
-        tops_compared w16 eqb xs (replicate 8 y),
-        get_or-sel_l {X = ℕ} (zip2 eqb xs (replicate 8 y)) (replicate 8 0xFFFF) (replicate 8 0) k 0 (omega (arith, tests_len)) lt lt,
-        test,
-        get_or-replicate {A = ℕ} 8 k 0xFFFF 0 lt,
-        get_or-replicate {A = ℕ} 8 k 0 0 lt,
-      ) refl
+use Rattle.cuts.proofs.OfRecoding.SameLanes.{wide_of, lane_of}
 
 -- A unit by its upper six bits.
 
@@ -67,7 +35,7 @@ module _ (us : List ℕ) (place : ℕ) (start : 1 ≤ place) (within : place + 8
   before = zip2 down (chunk (place - 1) 8 us) (replicate 8 10)
 
   shifted : (n k : ℕ) → n + 8 ≤ length us → k < 8 → get_or (zip2 down (chunk n 8 us) (replicate 8 10)) k 0 ≡ get_or us (n + k) 0 / 1024
-  shifted n k room lt = rw (lane down (chunk n 8 us) (replicate 8 10) (length-chunk n 8 us room) refl k lt, get_or-chunk n 8 us k 0 lt, get_or-replicate {A = ℕ} 8 k 10 0 lt) refl
+  shifted n k room lt = rw (lane_of 8 down (chunk n 8 us) (replicate 8 10) (length-chunk n 8 us room) refl k lt, get_or-chunk n 8 us k 0 lt, get_or-replicate {A = ℕ} 8 k 10 0 lt) refl
 
   pub lanes_pair : (xs ys : List ℕ) → length xs ≡ 8 → length ys ≡ 8 → ((k : ℕ) → k < 8 → get_or xs k 0 ≡ cond (eqb (get_or here k 0) 55) 0xFFFF 0)
       → ((k : ℕ) → k < 8 → get_or ys k 0 ≡ cond (eqb (get_or before k 0) 54) 0xFFFF 0)
@@ -77,7 +45,7 @@ module _ (us : List ℕ) (place : ℕ) (start : 1 ≤ place) (within : place + 8
       let one : place - 1 + k ≡ j = omega arith in
       let e : bit_xor (cond (is_trailing_surrogate (get_or us (j + 1) 0)) 0xFFFF 0) (cond (is_leading_surrogate (get_or us j 0)) 0xFFFF 0) ≡ 0
       = rw (
-        lane bit_xor xs ys p q k lt,
+        lane_of 8 bit_xor xs ys p q k lt,
         x k lt,
         y k lt,
         shifted place k (omega arith) lt,
@@ -90,7 +58,7 @@ module _ (us : List ℕ) (place : ℕ) (start : 1 ≤ place) (within : place + 8
       agree _ _ e
 
 pub unpaired_len : (xs ys : List ℕ) → length xs ≡ 8 → length ys ≡ 8 → length (zip2 bit_xor xs ys) ≡ 8
-unpaired_len xs ys p q = wide bit_xor xs ys p q
+unpaired_len xs ys p q = wide_of 8 bit_xor xs ys p q
 
 -- Four vectors at once.
 
@@ -109,10 +77,10 @@ module _ (p q r s : List ℕ) (lp : length p ≡ 8) (lq : length q ≡ 8) (lr : 
 
   pub all_zero : differ_mask any ≡ 0 → (k : ℕ) → k < 8 → (get_or p k 0 ≡ 0) × (get_or q k 0 ≡ 0) × (get_or r k 0 ≡ 0) × (get_or s k 0 ≡ 0)
   all_zero none k lt =
-      let zeros = none_differs any (wide bit_or (zip2 bit_or p q) (zip2 bit_or r s) (wide bit_or p q lp lq) (wide bit_or r s lr ls)) none k lt in
-      let whole = lane bit_or (zip2 bit_or p q) (zip2 bit_or r s) (wide bit_or p q lp lq) (wide bit_or r s lr ls) k lt in
-      let first = lane bit_or p q lp lq k lt in
-      let second = lane bit_or r s lr ls k lt in
+      let zeros = none_differs any (wide_of 8 bit_or (zip2 bit_or p q) (zip2 bit_or r s) (wide_of 8 bit_or p q lp lq) (wide_of 8 bit_or r s lr ls)) none k lt in
+      let whole = lane_of 8 bit_or (zip2 bit_or p q) (zip2 bit_or r s) (wide_of 8 bit_or p q lp lq) (wide_of 8 bit_or r s lr ls) k lt in
+      let first = lane_of 8 bit_or p q lp lq k lt in
+      let second = lane_of 8 bit_or r s lr ls k lt in
       let front = le_or_l (get_or (zip2 bit_or p q) k 0) (get_or (zip2 bit_or r s) k 0) in
       let back = le_or_r (get_or (zip2 bit_or p q) k 0) (get_or (zip2 bit_or r s) k 0) in
       let p_le = le_or_l (get_or p k 0) (get_or q k 0) in

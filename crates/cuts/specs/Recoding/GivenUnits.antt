@@ -1,5 +1,5 @@
 -- Text in UTF-8 as units of UTF-16: which unit the byte at a place gives, by it and the three before it.
-use Rattle.std.specs.Prelude.{◌≡◌, ℕ, suc, zero, ◌+◌, ◌-◌, ◌*◌, ◌/◌, ◌%◌, Bool, true, false, ◌&&◌, if◌then◌else◌, List, [], ◌∷◌, ◌++◌, nat_lt, nat_eq, slice_index}
+use Rattle.std.specs.Prelude.{◌≡◌, ℕ, suc, zero, ◌+◌, ◌-◌, ◌*◌, ◌/◌, ◌%◌, Bool, true, false, ◌&&◌, if◌then◌else◌, List, [], ◌∷◌, ◌++◌, nat_lt, nat_eq, slice_index, ◌<◌, ◌≤◌, take, count_ones}
 use Rattle.std.specs.Int.{bit_at}
 use Rattle.cuts.specs.declared.recoding.form.Form.{Form}
 use Rattle.cuts.specs.declared.recoding.form.Form.TheVariants.{Utf8, Utf16Le, Utf16Be}
@@ -54,6 +54,12 @@ given_at high_first xs k =
     let c = slice_index xs (k + 2) in
     let d = slice_index xs (k + 3) in
     if gives c d then halves high_first (unit_low b c d) (unit_high a b c d) else []
+
+-- A row of places below 16, for a mask of eight bits at most: the first of them, so many, are those of n parts.
+pub record IsRow (row : List ℕ) (mask len n : ℕ) (places : ℕ → List ℕ) : Type 0 where
+  pub few : count_ones mask ≤ 8
+  pub within : (k : ℕ) → k < 16 → slice_index row k < 16
+  pub listed : take len row ≡ joined places 0 n
 
 -- the places of the pair of bytes number i, where the mask has its bit
 abbrev pub places_at : ℕ → ℕ → List ℕ

@@ -1,6 +1,7 @@
 -- Units of UTF-16 as bytes of UTF-8: which bytes a unit gives, by it and the one before it.
-use Rattle.std.specs.Prelude.{◌≡◌, ℕ, ◌<◌, ◌+◌, ◌-◌, ◌*◌, true, false, ◌/◌, ◌%◌, if◌then◌else◌, List, [], ◌∷◌, ◌++◌, nat_lt, nat_eq, slice_index}
+use Rattle.std.specs.Prelude.{◌≡◌, ℕ, ◌<◌, ◌+◌, ◌-◌, ◌*◌, true, false, ◌/◌, ◌%◌, if◌then◌else◌, List, [], ◌∷◌, ◌++◌, nat_lt, nat_eq, slice_index, ◌≤◌, Vec, vec_len, vec_capacity}
 use Rattle.std.specs.Int.{bit_at}
+use Rattle.cuts.specs.Recoding.GivenUnits.{joined}
 use Rattle.utf_base.specs.Units.{is_leading_surrogate, is_trailing_surrogate, is_surrogate}
 
 -- the unit in the lane k, of which two vectors have the halves
@@ -57,6 +58,14 @@ pub record AreText (unit : ℕ → ℕ) (n : ℕ) : Type 0 where
   pub first : 0 < n → is_trailing_surrogate (unit 0) ≡ false
   pub leading : (k : ℕ) → k < n → is_leading_surrogate (unit k) ≡ true → (k + 1 < n) × (is_trailing_surrogate (unit (k + 1)) ≡ true)
   pub trailing : (k : ℕ) → k + 1 < n → is_trailing_surrogate (unit (k + 1)) ≡ true → is_leading_surrogate (unit k) ≡ true
+
+-- The first n of sixteen units are text, and an output has grown by their bytes. It lost no room.
+pub record PutsUnits {Z : Type 0} (low high : List ℕ) (old new : Vec ℕ Z) (n : ℕ) : Type 0 where
+  pub most : n ≤ 16
+  pub text : AreText (lane_unit low high) n
+  pub items : new.items ≡ old.items ++ joined (code_at (lane_unit low high)) 0 n
+  pub short : vec_len new ≤ vec_len old + 6 * n
+  pub capacity : vec_capacity old ≤ vec_capacity new
 
 -- the slot in the lane k of three vectors
 abbrev pub slot_at : List ℕ → List ℕ → List ℕ → ℕ → List ℕ

@@ -101,6 +101,19 @@ fn put_unit<A: Allocator>(high_first: bool, unit: u16, out: &mut Vec<u8, A>)
     }
 }
 
+// Appends the codes of eight units, each a character by itself.
+#[inline(always)]
+pub(crate) fn put_block<A: Allocator>(to: Form, units: [u16; 8], out: &mut Vec<u8, A>)
+    requires plain { All (IsPlain to) units }
+    requires room { vec_len out.old + 16 ≤ vec_capacity out.old }
+    ensures items { out.new.items ≡ out.old.items ++ flat_map (written to) units }
+    ensures len { vec_len out.new ≤ vec_len out.old + 16 }
+    ensures capacity { vec_capacity out.old ≤ vec_capacity out.new }
+{
+    let (codes, len) = block_codes(to, units);
+    let _ = out.extend_from_slice(&codes[..len]);
+}
+
 // The codes of eight units, each a character by itself, and how many bytes they have.
 #[inline(always)]
 #[tactic(auto, using(crate::proofs::OfRecoding::Blocks::block_bytes, crate::proofs::OfRecoding::Blocks::block_low, crate::proofs::OfRecoding::Blocks::block_high))]

@@ -1,8 +1,9 @@
 //! Text in UTF-16 recoded as UTF-8, sixteen units at once.
-ghost use Rattle.std.specs.Prelude.{◌≡◌, ◌+◌, ◌*◌, ◌≤◌, ◌++◌, length, vec_len, vec_capacity};
-ghost use Rattle.cuts.specs.Recoding.GivenUnits.{IsUnits, joined};
+ghost use Rattle.std.specs.Prelude.{◌≡◌, ◌+◌, ◌*◌, ◌<◌, ◌≤◌, true, length, vec_len, vec_capacity};
+ghost use Rattle.cuts.specs.Recoding.GivenUnits.{IsUnits};
 ghost use Rattle.cuts.specs.Recoding.OutputRuns.{RunsOnto};
-ghost use Rattle.cuts.specs.Recoding.UnitCodes.{lane_unit, code_at, AreText};
+ghost use Rattle.cuts.specs.Recoding.UnitCodes.{lane_unit, AreText, PutsUnits};
+ghost use Rattle.utf_base.specs.Units.{is_leading_surrogate};
 
 use crate::recoding::form::Form;
 use crate::recoding::slot_puts::{put_lanes, put_short_slots, put_slots};
@@ -58,11 +59,7 @@ fn narrow_block<A: Allocator>(
 #[inline(always)]
 fn put_sixteen<A: Allocator>(low: u8x16, high: u8x16, out: &mut Vec<u8, A>) -> usize
     requires { vec_len out.old + 96 ≤ vec_capacity out.old }
-    ensures most { result ≤ 16 }
-    ensures text { AreText (lane_unit low high) result }
-    ensures items { out.new.items ≡ out.old.items ++ joined (code_at (lane_unit low high)) 0 result }
-    ensures len { vec_len out.new ≤ vec_len out.old + 6 * result }
-    ensures capacity { vec_capacity out.old ≤ vec_capacity out.new }
+    ensures { PutsUnits low high out.old out.new result }
 {
     if are_ascii(low, high) {
         put_lanes(low, out);
@@ -84,22 +81,33 @@ fn put_sixteen<A: Allocator>(low: u8x16, high: u8x16, out: &mut Vec<u8, A>) -> u
 #[inline(always)]
 fn put_text<A: Allocator>(low: u8x16, high: u8x16, out: &mut Vec<u8, A>) -> usize
     requires { vec_len out.old + 96 ≤ vec_capacity out.old }
+    ensures { PutsUnits low high out.old out.new result }
+{
+    let count = paired_units(low, high);
+    if count == 0 {
+        return 0;
+    }
+    put_slots(text_slots(one_later(low), low, high), out);
+    if count == 16 {
+        return 16;
+    }
+    let end = out.len() - 2;
+    out.truncate(end);
+    15
+}
+
+// How many units are text: all sixteen, or fifteen and then a leading surrogate, or none where that is not so.
+#[inline(always)]
+fn paired_units(low: u8x16, high: u8x16) -> usize
+    ensures few { 0 < result → 15 ≤ result }
     ensures most { result ≤ 16 }
     ensures text { AreText (lane_unit low high) result }
-    ensures items { out.new.items ≡ out.old.items ++ joined (code_at (lane_unit low high)) 0 result }
-    ensures len { vec_len out.new ≤ vec_len out.old + 6 * result }
-    ensures capacity { vec_capacity out.old ≤ vec_capacity out.new }
+    ensures last { result ≡ 15 → is_leading_surrogate (lane_unit low high 15) ≡ true }
 {
     let leading = having_top(high, 0x36);
     let trailing = having_top(high, 0x37);
     if trailing != leading * 2 % 0x1_0000 {
         return 0;
     }
-    put_slots(text_slots(one_later(low), low, high), out);
-    if leading < 0x8000 {
-        return 16;
-    }
-    let end = out.len() - 2;
-    out.truncate(end);
-    15
+    if leading < 0x8000 { 16 } else { 15 }
 }

@@ -4,10 +4,10 @@ ghost use Rattle.cuts.specs.Recoding.Recoded.{Finishes};
 ghost use Rattle.cuts.specs.Recoding.OutputRuns.{RunsOnto, RunsUntil};
 ghost use Rattle.cuts.specs.Recoding.GivenUnits.{IsUnits};
 
-use crate::recoding::code_puts::put_code;
+use crate::recoding::code_puts::{put_block, put_code};
 use crate::recoding::form::Form::{self, Utf8, Utf16Be, Utf16Le};
 use crate::recoding::narrowed_units::narrow_units;
-use crate::recoding::shown_fronts::{front, last_front, text_front};
+use crate::recoding::shown_fronts::{front, last_front, text_front, unit_block};
 use crate::recoding::text_blocks::text_len;
 use crate::recoding::unit_copies::copy_units;
 use crate::recoding::unit_puts::put_units;
@@ -244,10 +244,46 @@ fn recode_blocks<A: Allocator>(from: Form, to: Form, bytes: &[u8], out: &mut Vec
 {
     match (from, to) {
         (Utf8, _) => recode_judged(to, bytes, out),
-        (Utf16Le, Utf8) => narrow_units(Utf16Le, false, bytes, out),
-        (Utf16Be, Utf8) => narrow_units(Utf16Be, true, bytes, out),
+        (Utf16Le, Utf8) => narrow_text(Utf16Le, false, bytes, out),
+        (Utf16Be, Utf8) => narrow_text(Utf16Be, true, bytes, out),
         _ => recode_as_units(from, to, bytes, out),
     }
+}
+
+// Recodes the blocks of units at the front of the bytes as UTF-8, and answers how many bytes they have: first long ones.
+#[inline(always)]
+fn narrow_text<A: Allocator>(
+    from: Form,
+    high_first: bool,
+    bytes: &[u8],
+    out: &mut Vec<u8, A>,
+) -> usize
+    requires form { IsUnits high_first from }
+    requires room { vec_len out.old + 3 * length bytes.now ≤ vec_capacity out.old }
+    ensures { RunsOnto from Form.Utf8 bytes.now out.old out.new result }
+{
+    let len = narrow_units(from, high_first, bytes, out);
+    len + recode_units(from, Utf8, &bytes[len..], out)
+}
+
+// Recodes the blocks of units at the front of the bytes, each unit a character by itself, and answers how
+// many bytes they have.
+#[inline(always)]
+fn recode_units<A: Allocator>(from: Form, to: Form, bytes: &[u8], out: &mut Vec<u8, A>) -> usize
+    requires { vec_len out.old + 3 * length bytes.now ≤ vec_capacity out.old }
+    ensures { RunsOnto from to bytes.now out.old out.new result }
+{
+    let mut place = 0;
+    while 16 <= bytes.len() - place {
+        match unit_block(from, to, &bytes[place..place + 16]) {
+            None => return place,
+            Some(units) => {
+                put_block(to, units, out);
+                place += 16;
+            }
+        }
+    }
+    place
 }
 
 // Recodes the well-formed units at the front of the bytes as units, and answers how many bytes they have.

@@ -1,6 +1,6 @@
 //! The bytes of slots, written to the end of an output that has room for them.
-ghost use Rattle.std.specs.Prelude.{◌≡◌, ℕ, ◌+◌, ◌<◌, ◌≤◌, ◌++◌, length, take, slice_index, vec_len, vec_capacity, count_ones, replicate};
-ghost use Rattle.cuts.specs.Recoding.GivenUnits.{joined};
+ghost use Rattle.std.specs.Prelude.{◌≡◌, ℕ, ◌+◌, ◌<◌, ◌≤◌, ◌++◌, length, take, slice_index, vec_len, vec_capacity, count_ones, replicate, map};
+ghost use Rattle.cuts.specs.Recoding.GivenUnits.{joined, IsRow};
 ghost use Rattle.cuts.specs.Recoding.UnitCodes.{slot_at, pair_slot_at, slot_places, slot_bytes, short_at, short_places, short_bytes};
 
 use crate::recoding::kept_ends::KEPT_ENDS;
@@ -88,19 +88,15 @@ fn write_four(slots: u8x16, mask: usize, room: &mut [u8], at: usize) -> usize
     ensures bytes { take result room.new ≡ take at room.old ++ joined (slot_bytes mask slots) 0 4 }
     ensures most { result ≤ at + 12 }
 {
-    let places = kept_places(mask);
-    let kept = slots.swizzle_dyn(u8x16::from_array(places));
-    kept.copy_to_slice(&mut room[at..]);
-    at + 4 + (mask.count_ones() as usize)
+    let len = 4 + (mask.count_ones() as usize);
+    write_kept(slots, kept_places(mask), len, room, at)
 }
 
 // Where these bytes are: their places, and then any.
 #[inline(always)]
 fn kept_places(mask: usize) -> [u8; 16]
     requires { mask < 256 }
-    ensures few { count_ones mask ≤ 8 }
-    ensures within { (k : ℕ) → k < 16 → slice_index result k < 16 }
-    ensures places { take (4 + count_ones mask) result ≡ joined (slot_places mask) 0 4 }
+    ensures { IsRow result mask (4 + count_ones mask) 4 (slot_places mask) }
 {
     KEPT_SLOTS[mask]
 }
@@ -142,19 +138,30 @@ fn write_ends(pairs: u8x16, mask: usize, room: &mut [u8], at: usize) -> usize
     ensures bytes { take result room.new ≡ take at room.old ++ joined (short_bytes mask pairs) 0 8 }
     ensures most { result ≤ at + 16 }
 {
-    let places = kept_ends(mask);
-    let kept = pairs.swizzle_dyn(u8x16::from_array(places));
-    kept.copy_to_slice(&mut room[at..]);
-    at + 8 + (mask.count_ones() as usize)
+    let len = 8 + (mask.count_ones() as usize);
+    write_kept(pairs, kept_ends(mask), len, room, at)
 }
 
 // Where these bytes are: their places, and then any.
 #[inline(always)]
 fn kept_ends(mask: usize) -> [u8; 16]
     requires { mask < 256 }
-    ensures few { count_ones mask ≤ 8 }
-    ensures within { (k : ℕ) → k < 16 → slice_index result k < 16 }
-    ensures places { take (8 + count_ones mask) result ≡ joined (short_places mask) 0 8 }
+    ensures { IsRow result mask (8 + count_ones mask) 8 (short_places mask) }
 {
     KEPT_ENDS[mask]
+}
+
+// Writes the bytes at these places, as many of them as `len` says. Answers where they end.
+#[inline(always)]
+fn write_kept(lanes: u8x16, places: [u8; 16], len: usize, room: &mut [u8], at: usize) -> usize
+    requires few { len ≤ 16 }
+    requires within { (k : ℕ) → k < 16 → slice_index places k < 16 }
+    requires room { at + 16 ≤ length room.old }
+    ensures len { length room.new ≡ length room.old }
+    ensures bytes { take result room.new ≡ take at room.old ++ map (slice_index lanes) (take len places) }
+    ensures end { result ≡ at + len }
+{
+    let kept = lanes.swizzle_dyn(u8x16::from_array(places));
+    kept.copy_to_slice(&mut room[at..]);
+    at + len
 }

@@ -1,7 +1,7 @@
 //! Text in UTF-8 as UTF-16, sixteen bytes at once.
 ghost use Rattle.std.specs.Prelude.{◌≡◌, ℕ, ◌+◌, ◌-◌, ◌*◌, ◌<◌, ◌≤◌, ◌&&◌, ◌++◌, [], ◌∷◌, cond, nat_le, length, take, slice_index, count_ones};
 ghost use Rattle.std.specs.Int.{bit_at};
-ghost use Rattle.cuts.specs.Recoding.GivenUnits.{joined, gives, low_half, high_half, unit_low, unit_high, halves, given_at, pair_at, places_at, leading_low, leading_high, trailing_high};
+ghost use Rattle.cuts.specs.Recoding.GivenUnits.{joined, IsRow, gives, low_half, high_half, unit_low, unit_high, halves, given_at, pair_at, places_at, leading_low, leading_high, trailing_high};
 
 use crate::recoding::kept_pairs::KEPT;
 use std::simd::prelude::*;
@@ -168,9 +168,7 @@ fn kept_bytes(pairs: u8x16, mask: usize) -> UnitBytes
 #[inline(always)]
 fn kept_places(mask: usize) -> [u8; 16]
     requires { mask < 256 }
-    ensures few { count_ones mask ≤ 8 }
-    ensures within { (k : ℕ) → k < 16 → slice_index result k < 16 }
-    ensures places { take (2 * count_ones mask) result ≡ joined (places_at mask) 0 8 }
+    ensures { IsRow result mask (2 * count_ones mask) 8 (places_at mask) }
 {
     KEPT[mask]
 }

@@ -6,6 +6,7 @@ ghost use Rattle.std.specs.Prelude.{◌≡◌, ℕ, ◌+◌, ◌-◌, ◌*◌, �
 ghost use Rattle.utf_base.specs.Units.{is_trailing_surrogate};
 ghost use Rattle.cuts.specs.Recoding.Recoded.{units_of};
 ghost use Rattle.cuts.specs.Recoding.UnitBlocks.{AllPaired, AreCodes, high_place};
+ghost use Rattle.cuts.specs.Recoding.UnitRuns.{PairsTo};
 
 use crate::recoding::shown_fronts::unit;
 use encode_unicode::U16UtfExt;
@@ -74,9 +75,7 @@ fn after_a_nul(bytes: &[u8]) -> [u8; 18]
 fn paired_wide(high_first: bool, bytes: &[u8], start: usize) -> usize
     requires start { 1 ≤ start }
     requires within { 2 * start ≤ length bytes.now }
-    ensures least { start ≤ result }
-    ensures within { 2 * result ≤ length bytes.now }
-    ensures paired { AllPaired (units_of high_first bytes.now) start result }
+    ensures { PairsTo high_first bytes.now start result }
 {
     let mut place = start;
     while 64 <= bytes.len() - 2 * place {

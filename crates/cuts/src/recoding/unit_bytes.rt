@@ -91,8 +91,8 @@ pub(crate) fn text_slots(before: u8x16, low: u8x16, high: u8x16) -> Slots
     ensures last { (k : ℕ) → k < 16 → slice_index result.last k ≡ last_in_text (lane_unit low high k) }
 {
     let plain = character_slots(low, high);
-    let (lead, lead_end) = leading_bytes(low, high);
-    let middle = trailing_bytes(before, low, high);
+    let (lead, lead_end) = front_of_four(low, high);
+    let middle = third_of_four(before, low, high);
     let is_surrogate = (high >> u8x16::splat(3)).simd_eq(u8x16::splat(0x1b));
     let is_leading = (high >> u8x16::splat(2)).simd_eq(u8x16::splat(0x36));
     Slots {
@@ -104,7 +104,7 @@ pub(crate) fn text_slots(before: u8x16, low: u8x16, high: u8x16) -> Slots
 
 // The first two bytes of four, which leading surrogates give.
 #[inline(always)]
-fn leading_bytes(low: u8x16, high: u8x16) -> (u8x16, u8x16)
+fn front_of_four(low: u8x16, high: u8x16) -> (u8x16, u8x16)
     ensures first_len { length result.0 ≡ 16 }
     ensures second_len { length result.1 ≡ 16 }
     ensures first { (k : ℕ) → k < 16 → slice_index result.0 k ≡ lead_byte (lane_unit low high k) }
@@ -119,7 +119,7 @@ fn leading_bytes(low: u8x16, high: u8x16) -> (u8x16, u8x16)
 
 // The third byte of four, which trailing surrogates give.
 #[inline(always)]
-fn trailing_bytes(before: u8x16, low: u8x16, high: u8x16) -> u8x16
+fn third_of_four(before: u8x16, low: u8x16, high: u8x16) -> u8x16
     ensures len { length result ≡ 16 }
     ensures lanes { (k : ℕ) → k < 16 → slice_index result k ≡ third_byte (slice_index before k) (lane_unit low high k) }
 {

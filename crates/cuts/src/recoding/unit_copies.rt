@@ -1,7 +1,7 @@
 //! Well-formed units copied, as they are or with the bytes of each swapped.
-ghost use Rattle.std.specs.Prelude.{◌≡◌, ◌+◌, ◌-◌, ◌*◌, ◌%◌, ◌<◌, ◌≤◌, ◌++◌, length, take, drop, vec_len, vec_capacity};
-ghost use Rattle.cuts.specs.Recoding.Recoded.{units_of};
-ghost use Rattle.cuts.specs.Recoding.UnitBlocks.{AreCodes, swapped, turned};
+ghost use Rattle.std.specs.Prelude.{◌≡◌, ◌+◌, ◌-◌, ◌%◌, ◌<◌, ◌≤◌, ◌++◌, length, take, drop, vec_len, vec_capacity};
+ghost use Rattle.cuts.specs.Recoding.UnitBlocks.{swapped};
+ghost use Rattle.cuts.specs.Recoding.UnitRuns.{CopiesOnto, SwapsOnto};
 
 use crate::recoding::unit_blocks::units_len;
 use std::alloc::Allocator;
@@ -17,12 +17,7 @@ pub(crate) fn copy_units<A: Allocator, const PAIR: usize>(
     out: &mut Vec<u8, A>,
 ) -> usize
     requires { vec_len out.old + length bytes.now ≤ vec_capacity out.old }
-    ensures within { result ≤ length bytes.now }
-    ensures even { result % 2 ≡ 0 }
-    ensures codes { AreCodes (units_of high_first (take result bytes.now)) }
-    ensures items { out.new.items ≡ out.old.items ++ turned swaps (take result bytes.now) }
-    ensures len { vec_len out.new ≡ vec_len out.old + result }
-    ensures capacity { vec_capacity out.old ≤ vec_capacity out.new }
+    ensures { CopiesOnto high_first swaps bytes.now out.old out.new result }
 {
     let len = 2 * units_len(high_first, bytes);
     if len == 0 {
@@ -59,9 +54,7 @@ fn put_swapped<A: Allocator>(bytes: &[u8], out: &mut Vec<u8, A>)
 fn put_pairs<A: Allocator>(bytes: &[u8], out: &mut Vec<u8, A>)
     requires even { length bytes.now % 2 ≡ 0 }
     requires room { vec_len out.old + length bytes.now ≤ vec_capacity out.old }
-    ensures items { out.new.items ≡ out.old.items ++ swapped bytes.now }
-    ensures len { vec_len out.new ≡ vec_len out.old + length bytes.now }
-    ensures capacity { vec_capacity out.old ≤ vec_capacity out.new }
+    ensures { SwapsOnto bytes.now out.old out.new (length bytes.now) }
 {
     let mut place = 0;
     while 2 <= bytes.len() - place {
@@ -75,11 +68,7 @@ fn put_pairs<A: Allocator>(bytes: &[u8], out: &mut Vec<u8, A>)
 #[inline(always)]
 fn put_wide<A: Allocator>(bytes: &[u8], out: &mut Vec<u8, A>) -> usize
     requires { vec_len out.old + length bytes.now ≤ vec_capacity out.old }
-    ensures within { result ≤ length bytes.now }
-    ensures even { result % 2 ≡ 0 }
-    ensures items { out.new.items ≡ out.old.items ++ swapped (take result bytes.now) }
-    ensures len { vec_len out.new ≡ vec_len out.old + result }
-    ensures capacity { vec_capacity out.old ≤ vec_capacity out.new }
+    ensures { SwapsOnto bytes.now out.old out.new result }
 {
     let mut place = 0;
     while 64 <= bytes.len() - place {
@@ -93,12 +82,8 @@ fn put_wide<A: Allocator>(bytes: &[u8], out: &mut Vec<u8, A>) -> usize
 #[inline(always)]
 fn put_blocks<A: Allocator>(bytes: &[u8], out: &mut Vec<u8, A>) -> usize
     requires { vec_len out.old + length bytes.now ≤ vec_capacity out.old }
-    ensures within { result ≤ length bytes.now }
+    ensures swaps { SwapsOnto bytes.now out.old out.new result }
     ensures few { length bytes.now < result + 16 }
-    ensures even { result % 2 ≡ 0 }
-    ensures items { out.new.items ≡ out.old.items ++ swapped (take result bytes.now) }
-    ensures len { vec_len out.new ≡ vec_len out.old + result }
-    ensures capacity { vec_capacity out.old ≤ vec_capacity out.new }
 {
     let mut place = 0;
     while 16 <= bytes.len() - place {

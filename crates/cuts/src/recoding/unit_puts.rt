@@ -2,6 +2,7 @@
 ghost use Rattle.std.specs.Prelude.{◌≡◌, ℕ, ◌+◌, ◌-◌, ◌*◌, ◌<◌, ◌≤◌, ◌++◌, ◌∷◌, length, take, slice_index, vec_len, vec_capacity};
 ghost use Rattle.cuts.specs.Recoding.GivenUnits.{given, halves, joined};
 ghost use Rattle.cuts.specs.Recoding.TextBlocks.{AreClosed};
+ghost use Rattle.cuts.specs.Recoding.UnitRuns.{GivesOnto};
 
 use crate::recoding::text_blocks::{is_ascii_block, is_closed};
 use crate::recoding::text_units::{UnitBytes, block_units};
@@ -33,9 +34,7 @@ pub(crate) fn put_units<A: Allocator, const ORDER: usize>(
 fn put_first<A: Allocator>(high_first: bool, text: &[u8], out: &mut Vec<u8, A>)
     requires long { 16 ≤ length text.now }
     requires room { vec_len out.old + 32 ≤ vec_capacity out.old }
-    ensures items { out.new.items ≡ out.old.items ++ given high_first text.now 0 16 }
-    ensures len { vec_len out.new ≤ vec_len out.old + 32 }
-    ensures capacity { vec_capacity out.old ≤ vec_capacity out.new }
+    ensures { GivesOnto high_first text.now out.old out.new 0 16 }
 {
     let front = after_nuls(text);
     let (first, second) = block_units(high_first, &front, 3, 0);
@@ -61,9 +60,7 @@ fn put_wide<A: Allocator>(high_first: bool, text: &[u8], out: &mut Vec<u8, A>) -
     requires room { vec_len out.old + 3 * (length text.now - 16) ≤ vec_capacity out.old }
     ensures least { 16 ≤ result }
     ensures within { result ≤ length text.now }
-    ensures items { out.new.items ≡ out.old.items ++ given high_first text.now 16 (result - 16) }
-    ensures len { vec_len out.new ≤ vec_len out.old + 2 * (result - 16) }
-    ensures capacity { vec_capacity out.old ≤ vec_capacity out.new }
+    ensures gives { GivesOnto high_first text.now out.old out.new 16 (result - 16) }
 {
     let mut place = 16;
     while 64 <= text.len() - place {
@@ -79,9 +76,7 @@ fn put_64<A: Allocator>(high_first: bool, text: &[u8], place: usize, out: &mut V
     requires start { 3 ≤ place }
     requires within { place + 64 ≤ length text.now }
     requires room { vec_len out.old + 128 ≤ vec_capacity out.old }
-    ensures items { out.new.items ≡ out.old.items ++ given high_first text.now place 64 }
-    ensures len { vec_len out.new ≤ vec_len out.old + 128 }
-    ensures capacity { vec_capacity out.old ≤ vec_capacity out.new }
+    ensures { GivesOnto high_first text.now out.old out.new place 64 }
 {
     if text[place] < 0x80 && is_ascii_block(text, place) && is_closed(text, place) {
         put_ascii(high_first, text, place, out);
@@ -98,9 +93,7 @@ fn put_ascii<A: Allocator>(high_first: bool, text: &[u8], place: usize, out: &mu
     requires closed { AreClosed text.now place }
     requires ascii { (k : ℕ) → k < 64 → slice_index text.now (place + k) < 0x80 }
     requires room { vec_len out.old + 128 ≤ vec_capacity out.old }
-    ensures items { out.new.items ≡ out.old.items ++ given high_first text.now place 64 }
-    ensures len { vec_len out.new ≤ vec_len out.old + 128 }
-    ensures capacity { vec_capacity out.old ≤ vec_capacity out.new }
+    ensures { GivesOnto high_first text.now out.old out.new place 64 }
 {
     let (first, second) = ascii_units(high_first, text, place);
     append(&first, out);
@@ -141,9 +134,7 @@ fn put_four<A: Allocator>(high_first: bool, text: &[u8], place: usize, out: &mut
     requires start { 3 ≤ place }
     requires within { place + 64 ≤ length text.now }
     requires room { vec_len out.old + 128 ≤ vec_capacity out.old }
-    ensures items { out.new.items ≡ out.old.items ++ given high_first text.now place 64 }
-    ensures len { vec_len out.new ≤ vec_len out.old + 128 }
-    ensures capacity { vec_capacity out.old ≤ vec_capacity out.new }
+    ensures { GivesOnto high_first text.now out.old out.new place 64 }
 {
     put_block(high_first, text, place, 0, out);
     put_block(high_first, text, place + 16, 0, out);

@@ -7,4 +7,4 @@ pub swizzle : goal.swizzle
 swizzle c = in_vector c.kept_places-places.result (omega arith) c.kept_places-places.ensures.within
 
 pub returns-clause-bytes : goal.returns-clause-bytes
-returns-clause-bytes c = kept_pairs c.args.mask c.args.pairs c.kept_places-places.result (omega arith) c.kept_places-places.ensures.within c.kept_places-places.ensures.places
+returns-clause-bytes c = kept_pairs c.args.mask c.args.pairs c.kept_places-places.result (omega arith) c.kept_places-places.ensures

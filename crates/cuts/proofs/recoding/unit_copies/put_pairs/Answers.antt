@@ -1,37 +1,17 @@
-use Rattle.std.proofs.Common.{◌≡◌, take, arith}
-use Rattle.std.proofs.lemmas.List.{take_all}
-use Rattle.cuts.proofs.OfRecoding.SwappedBytes.{swapped_more, swapped_none, swapped_pair}
+use Rattle.std.proofs.Common.{◌≡◌, length, arith, refl}
+use Rattle.cuts.proofs.OfRecoding.SwappedBytes.{SwapsOnto-none, SwapsOnto-next, swapped_pair}
 use Rattle.cuts.proofs.recoding.unit_copies.put_pairs.Goals as goal
 
 pub loop-place-init : goal.loop-place-init
-loop-place-init g c = record {
-  within = omega arith;
-  even = omega arith;
-  items = swapped_none c.args.bytes.now c.args.out.now.items;
-  len = omega arith;
-  capacity = omega arith;
-}
+loop-place-init g c = SwapsOnto-none _ _
 
 pub loop-place-preserved : goal.loop-place-preserved
 loop-place-preserved g c =
-    let bytes = c.args.bytes.now in
-    let place = c.loop-place.place in
-    let before = c.loop-place.invariant in
-    let len = before.len in
-    let even = before.even in
-    let capacity = before.capacity in
-    let pair = swapped_pair bytes c.loop-place.out.items _ _ place (omega arith) c.push_reserved.ensures.items c.push_reserved-in-loop-place.ensures.items in
-    record {
-      within = omega arith;
-      even = omega arith;
-      items = swapped_more bytes c.args.out.now.items _ _ place 2 before.even before.within before.items pair;
-      len = omega arith;
-      capacity = omega arith;
-    }
+    let pair = swapped_pair c.args.bytes.now c.loop-place.out.items _ _ c.loop-place.place (omega arith) c.push_reserved.ensures.items c.push_reserved-in-loop-place.ensures.items in
+    SwapsOnto-next c.args.bytes.now c.args.out.now c.loop-place.out _ c.loop-place.place 2 refl (omega arith) c.loop-place.invariant pair (omega arith) (omega arith)
 
-pub returns-clause-items : goal.returns-clause-items
-returns-clause-items g c =
-    let bytes = c.args.bytes.now in
+pub returns : goal.returns
+returns g c =
     let even = c.loop-place.invariant.even in
-    let whole : take c.loop-place.place bytes ≡ bytes = take_all c.loop-place.place bytes (omega arith) in
-    rw whole at c.loop-place.invariant.items
+    let end : c.loop-place.place ≡ length c.args.bytes.now = omega arith in
+    rw end at c.loop-place.invariant

@@ -1,15 +1,12 @@
-use Rattle.std.proofs.Common.{◌≡◌, ◌+◌, ◌-◌, ◌*◌, ◌≤◌, ◌++◌, length}
-use Rattle.std.specs.Prelude.{vec_len, vec_capacity}
-use Rattle.cuts.specs.Recoding.GivenUnits.{given}
+use Rattle.std.proofs.Common.{◌-◌, ◌≤◌, length}
+use Rattle.cuts.specs.Recoding.UnitRuns.{GivesOnto}
 use Rattle.cuts.proofs.recoding.unit_puts.put_wide.Given as goal
 
 abbrev pub invariant-loop-place : goal.invariant-loop-place
 invariant-loop-place g l = record {
   least : 16 ≤ l.place;
   within : l.place ≤ length l.text;
-  items : l.out.items ≡ l.fn.out.items ++ given l.high_first l.text 16 (l.place - 16);
-  len : vec_len l.out ≤ vec_len l.fn.out + 2 * (l.place - 16);
-  capacity : vec_capacity l.fn.out ≤ vec_capacity l.out;
+  gives : GivesOnto l.high_first l.text l.fn.out l.out 16 (l.place - 16);
 }
 
 abbrev pub decreases-loop-place : goal.decreases-loop-place

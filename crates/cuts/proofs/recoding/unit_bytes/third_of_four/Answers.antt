@@ -1,5 +1,5 @@
 use Rattle.cuts.proofs.OfRecoding.UnitSlots.{third_lanes_len, third_lanes_at}
-use Rattle.cuts.proofs.recoding.unit_bytes.trailing_bytes.Goals as goal
+use Rattle.cuts.proofs.recoding.unit_bytes.third_of_four.Goals as goal
 
 pub returns-clause-len : goal.returns-clause-len
 returns-clause-len c = third_lanes_len c.args.low c.args.high c.fits-low c.fits-high c.args.before c.fits-before
