@@ -1,5 +1,4 @@
 -- Lemmas on recoding.
-pub mod Ascii
 pub mod Blocks
 pub mod BoundLemmas
 pub mod EnoughRoom
@@ -39,4 +38,5 @@ pub mod SwappedBytes
 pub mod CopiedUnits
 pub mod AsciiUnits
 pub mod ValueSums
+pub mod RoomCopies
 pub mod SameLanes

@@ -1,5 +1,5 @@
 -- An output that grows by units as they stand, or with the bytes of each swapped.
-use Rattle.std.proofs.Common.{◌≡◌, ℕ, zero, suc, ◌+◌, ◌-◌, ◌*◌, ◌/◌, ◌%◌, ◌<◌, ◌≤◌, Bool, true, false, not, List, [], ◌∷◌, ◌++◌, length, get_or, take, flat_map, refl, sym, ap, ap₂, ◌∙◌, arith, append_assoc, length-take, w8, Fits}
+use Rattle.std.proofs.Common.{◌≡◌, ℕ, zero, suc, ◌+◌, ◌-◌, ◌*◌, ◌/◌, ◌%◌, ◌<◌, ◌≤◌, Bool, true, false, not, List, [], ◌∷◌, ◌++◌, length, get_or, take, drop, flat_map, refl, sym, ap, ap₂, ◌∙◌, arith, append_assoc, length-take, w8, Fits}
 use Rattle.std.proofs.lemmas.List.Concat.{flat_map-append}
 use Rattle.std.specs.Prelude.{All, Vec}
 use Rattle.utf_base.specs.Code.{utf16}
@@ -9,7 +9,7 @@ use Rattle.utf_base.proofs.Rests.{whole_code_shows_first}
 use Rattle.utf_base.proofs.Utf16Code.{utf16_is_code}
 use Rattle.cuts.specs.declared.recoding.form.Form.{Form}
 use Rattle.cuts.specs.declared.recoding.form.Form.TheVariants.{Utf8, Utf16Le, Utf16Be}
-use Rattle.cuts.specs.Recoding.Recoded.{Reads, ShowsUnits, unit_of, units_of, bytes_of, odd_end, written}
+use Rattle.cuts.specs.Recoding.Recoded.{Reads, ShowsUnits, unit_of, units_of, bytes_of, odd_end, written, Grows}
 use Rattle.cuts.specs.Recoding.ShownFronts.{ShowsEach}
 use Rattle.cuts.specs.Recoding.GivenUnits.{IsUnits}
 use Rattle.cuts.specs.Recoding.OutputRuns.{RunsOnto}
@@ -82,27 +82,28 @@ in_order true false v k even fits = other_order true v k even fits
 in_order false true v k even fits = other_order false v k even fits
 in_order false false v k even fits = same_order false v k even fits
 
-front_fits : (w : List ℕ) (n : ℕ) → n ≤ length w → ((j : ℕ) → Fits w8 (get_or w j 0)) → (j : ℕ) → Fits w8 (get_or (take n w) j 0)
-front_fits [] n le fits j = let none : n ≡ 0 = omega arith in rw none (record { fits = omega arith })
-front_fits (x ∷ w) zero le fits j = record { fits = omega arith }
-front_fits (x ∷ w) (suc n) le fits zero = fits 0
-front_fits (x ∷ w) (suc n) le fits (suc j) = front_fits w n (omega arith) (λ i. fits (suc i)) j
+pub front_fits : (w : List ℕ) (n : ℕ) → ((j : ℕ) → Fits w8 (get_or w j 0)) → (j : ℕ) → Fits w8 (get_or (take n w) j 0)
+front_fits w zero fits j = record { fits = omega arith }
+front_fits [] (suc n) fits j = record { fits = omega arith }
+front_fits (x ∷ w) (suc n) fits zero = fits 0
+front_fits (x ∷ w) (suc n) fits (suc j) = front_fits w n (λ i. fits (suc i)) j
 
--- So a run over well-formed units copies them.
+-- So an output grows by well-formed units.
+pub Grows-turned : (high other : Bool) (from to : Form) (w old new : List ℕ) (n : ℕ) → IsUnits high from → IsUnits other to → ((j : ℕ) → Fits w8 (get_or w j 0)) → n ≤ length w
+    → n % 2 ≡ 0 → AreCodes (units_of high (take n w)) → new ≡ old ++ turned (differ high other) (take n w) → Grows from to w old new (drop n w)
+Grows-turned high other from to w old new n reads writes fits within even h items =
+    let half : length (take n w) ≡ 2 * (n / 2) = omega (arith, length-take n w) in
+    let codes : flat_map (written to) h.scalars ≡ turned (differ high other) (take n w)
+    = all_written other to h.scalars writes ∙ ap (flat_map (bytes_of other)) (sym h.codes) ∙ in_order high other (take n w) (n / 2) half (front_fits w n fits) in
+    Grows-each from to w old new h.scalars n (as_read high from (take n w) h.scalars reads (coded_bytes_show high (take n w) (n / 2) h half)) (items ∙ ap (λ ys. old ++ ys) (sym codes))
+
 pub RunsOnto-units : {Z : Type 0} (high other : Bool) (from to : Form) (w : List ℕ) (old new : Vec ℕ Z) (n : ℕ) → IsUnits high from → IsUnits other to
     → ((j : ℕ) → Fits w8 (get_or w j 0)) → CopiesOnto high (differ high other) w old new n → RunsOnto from to w old new n
 RunsOnto-units high other from to w old new n reads writes fits copied =
-    let within = copied.within in
-    let even = copied.even in
-    let h = copied.codes in
     let len = copied.len in
-    let v = take n w in
-    let half : length (take n w) ≡ 2 * (n / 2) = omega (arith, length-take n w) in
-    let codes : flat_map (written to) h.scalars ≡ turned (differ high other) (take n w)
-    = all_written other to h.scalars writes ∙ ap (flat_map (bytes_of other)) (sym h.codes) ∙ in_order high other (take n w) (n / 2) half (front_fits w n within fits) in
     record {
-      within = within;
-      grows = Grows-each from to w _ _ h.scalars n (as_read high from (take n w) h.scalars reads (coded_bytes_show high (take n w) (n / 2) h half)) (copied.items ∙ ap (λ ys. old.items ++ ys) (sym codes));
+      within = copied.within;
+      grows = Grows-turned high other from to w _ _ n reads writes fits copied.within copied.even copied.codes copied.items;
       short = omega arith;
       capacity = copied.capacity;
     }

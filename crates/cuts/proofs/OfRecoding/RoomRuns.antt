@@ -167,7 +167,7 @@ KeepsRun-two from to bytes old mid more new place read wrote n end m last f g ke
 
 -- Bytes written after others.
 
-Fills-then : (old mid new xs ys : List ℕ) (from to end : ℕ) → Fills old mid from to xs → length mid ≡ length old → Fills mid new to end ys → Fills old new from end (xs ++ ys)
+pub Fills-then : (old mid new xs ys : List ℕ) (from to end : ℕ) → Fills old mid from to xs → length mid ≡ length old → Fills mid new to end ys → Fills old new from end (xs ++ ys)
 Fills-then old mid new xs ys from to end f len g =
     record {
       ordered = omega (arith, f.ordered, g.ordered);

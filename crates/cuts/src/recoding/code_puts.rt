@@ -1,5 +1,5 @@
 //! Codes written to the end of an output that has room for them.
-ghost use Rattle.std.specs.Prelude.{◌≡◌, ◌+◌, ◌/◌, ◌%◌, ◌≤◌, ◌++◌, length, vec_len, vec_capacity, IsAscii};
+ghost use Rattle.std.specs.Prelude.{◌≡◌, ◌+◌, ◌/◌, ◌%◌, ◌≤◌, ◌++◌, length, vec_len, vec_capacity};
 ghost use Rattle.std.specs.Prelude.{flat_map, take};
 ghost use Rattle.utf_base.specs.Code.{utf8, utf16};
 ghost use Rattle.std.specs.List.{All};
@@ -98,38 +98,6 @@ fn put_unit<A: Allocator>(high_first: bool, unit: u16, out: &mut Vec<u8, A>)
     } else {
         out.push_reserved(low(unit));
         out.push_reserved(high(unit));
-    }
-}
-
-// Appends the codes of eight bytes of ASCII.
-#[inline(always)]
-pub(crate) fn put_eight<A: Allocator>(to: Form, block: &[u8], out: &mut Vec<u8, A>)
-    requires eight { length block.now ≡ 8 }
-    requires ascii { IsAscii block.now }
-    requires room { vec_len out.old + 16 ≤ vec_capacity out.old }
-    ensures items { out.new.items ≡ out.old.items ++ flat_map (written to) block.now }
-    ensures len { vec_len out.new ≤ vec_len out.old + 16 }
-    ensures capacity { vec_capacity out.old ≤ vec_capacity out.new }
-{
-    let (codes, len) = eight_codes(to, block);
-    let _ = out.extend_from_slice(&codes[..len]);
-}
-
-// The codes of eight bytes of ASCII, and how many bytes they have.
-#[inline(always)]
-#[tactic(auto, using(crate::proofs::OfRecoding::Ascii::eight_bytes, crate::proofs::OfRecoding::Ascii::eight_low, crate::proofs::OfRecoding::Ascii::eight_high))]
-pub(crate) fn eight_codes(to: Form, block: &[u8]) -> ([u8; 16], usize)
-    requires eight { length block.now ≡ 8 }
-    requires ascii { IsAscii block.now }
-    ensures codes { take result.1 result.0 ≡ flat_map (written to) block.now }
-    ensures len { result.1 ≤ 16 }
-{
-    let [a, b, c, d] = [block[0], block[1], block[2], block[3]];
-    let [e, f, g, h] = [block[4], block[5], block[6], block[7]];
-    match to {
-        Form::Utf8 => ([a, b, c, d, e, f, g, h, 0, 0, 0, 0, 0, 0, 0, 0], 8),
-        Form::Utf16Le => ([a, 0, b, 0, c, 0, d, 0, e, 0, f, 0, g, 0, h, 0], 16),
-        Form::Utf16Be => ([0, a, 0, b, 0, c, 0, d, 0, e, 0, f, 0, g, 0, h], 16),
     }
 }
 

@@ -1,12 +1,12 @@
 //! Codes written at a place of room that is large enough.
-ghost use Rattle.std.specs.Prelude.{◌≡◌, ◌+◌, ◌≤◌, ◌<◌, [], ◌∷◌, length, take, flat_map, IsAscii};
+ghost use Rattle.std.specs.Prelude.{◌≡◌, ◌+◌, ◌≤◌, ◌<◌, [], ◌∷◌, length, take, flat_map};
 ghost use Rattle.std.specs.List.{All};
 ghost use Rattle.utf_base.specs.Code.{utf8, utf16};
 ghost use Rattle.cuts.specs.Recoding.Recoded.{written, bytes_of};
 ghost use Rattle.cuts.specs.Recoding.Rooms.{Fills};
 ghost use Rattle.cuts.specs.Recoding.ShownFronts.{IsPlain};
 
-use crate::recoding::code_puts::{block_codes, eight_codes};
+use crate::recoding::code_puts::block_codes;
 use crate::recoding::form::Form;
 use crate::recoding::recoder_rooms::two_bytes;
 use encode_unicode::CharExt;
@@ -91,7 +91,7 @@ fn put_units_at(high_first: bool, c: char, room: &mut [u8], place: usize) -> usi
 
 // Writes two bytes at the place, and answers the place after them.
 #[inline(always)]
-fn put_two(first: u8, second: u8, room: &mut [u8], place: usize) -> usize
+pub(crate) fn put_two(first: u8, second: u8, room: &mut [u8], place: usize) -> usize
     requires { place + 2 ≤ length room.old }
     ensures fills { Fills room.old room.new place result (first ∷ second ∷ []) }
     ensures end { result ≡ place + 2 }
@@ -121,19 +121,6 @@ fn put_byte(byte: u8, room: &mut [u8], place: usize) -> usize
 {
     room[place] = byte;
     place + 1
-}
-
-// Writes the codes of eight bytes of ASCII.
-#[inline(always)]
-pub(crate) fn put_eight_at(to: Form, block: &[u8], room: &mut [u8], place: usize) -> usize
-    requires eight { length block.now ≡ 8 }
-    requires ascii { IsAscii block.now }
-    requires room { place + 16 ≤ length room.old }
-    ensures fills { Fills room.old room.new place result (flat_map (written to) block.now) }
-    ensures end { result ≤ place + 16 }
-{
-    let (codes, len) = eight_codes(to, block);
-    put_all(&codes[..len], room, place)
 }
 
 // Writes the codes of eight units, each a character by itself.

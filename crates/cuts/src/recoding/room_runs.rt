@@ -4,8 +4,10 @@ ghost use Rattle.cuts.specs.Recoding.GivenUnits.{IsUnits};
 ghost use Rattle.cuts.specs.Recoding.Rooms.{RunsInto};
 
 use crate::recoding::form::Form::{self, Utf8, Utf16Be, Utf16Le};
+use crate::recoding::room_copies::{text_copied, units_copied};
 use crate::recoding::room_narrows::narrow_into;
-use crate::recoding::room_puts::{put_block_at, put_code_at, put_eight_at};
+use crate::recoding::room_puts::{put_block_at, put_code_at};
+use crate::recoding::room_widths::widen_into;
 use crate::recoding::shown_fronts::{text_front, unit_block};
 
 // How many bytes of text go piece by piece before runs look for a block again.
@@ -67,30 +69,13 @@ fn blocks_into(from: Form, to: Form, bytes: &[u8], room: &mut [u8], place: usize
     ensures { RunsInto from to bytes.now room.old room.new place result.0 result.1 }
 {
     match (from, to) {
-        (Utf8, _) => ascii_into(to, bytes, room, place),
+        (Utf8, Utf8) => text_copied(bytes, room, place),
+        (Utf8, Utf16Le) => widen_into(Utf16Le, false, bytes, room, place),
+        (Utf8, Utf16Be) => widen_into(Utf16Be, true, bytes, room, place),
         (Utf16Le, Utf8) => narrow_text_into(Utf16Le, false, bytes, room, place),
         (Utf16Be, Utf8) => narrow_text_into(Utf16Be, true, bytes, room, place),
-        _ => units_into(from, to, bytes, room, place),
+        _ => units_copied(from, to, bytes, room, place),
     }
-}
-
-// Recodes the blocks of ASCII at the front of the bytes.
-#[inline(always)]
-fn ascii_into(to: Form, bytes: &[u8], room: &mut [u8], place: usize) -> (usize, usize)
-    requires { place ≤ length room.old }
-    ensures { RunsInto Form.Utf8 to bytes.now room.old room.new place result.0 result.1 }
-{
-    let mut read = 0;
-    let mut written = place;
-    while 8 <= bytes.len() - read && 16 <= room.len() - written {
-        let block = &bytes[read..read + 8];
-        if !block.is_ascii() {
-            return (read, written);
-        }
-        written = put_eight_at(to, block, room, written);
-        read += 8;
-    }
-    (read, written)
 }
 
 // Recodes the blocks of units at the front of the bytes as UTF-8: first long ones, and then those of ASCII that are short.

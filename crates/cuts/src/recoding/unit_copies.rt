@@ -137,7 +137,7 @@ fn swapped_64(bytes: &[u8], place: usize) -> [u8; 64]
 
 // The sixteen bytes from the place on, those of each pair swapped.
 #[inline(always)]
-fn swapped_16(bytes: &[u8], place: usize) -> [u8; 16]
+pub(crate) fn swapped_16(bytes: &[u8], place: usize) -> [u8; 16]
     requires { place + 16 ≤ length bytes.now }
     ensures { result ≡ swapped (take 16 (drop place bytes.now)) }
 {

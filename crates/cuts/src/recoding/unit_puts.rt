@@ -44,7 +44,7 @@ fn put_first<A: Allocator>(high_first: bool, text: &[u8], out: &mut Vec<u8, A>)
 
 // The first sixteen bytes after three NULs.
 #[inline(always)]
-fn after_nuls(text: &[u8]) -> [u8; 19]
+pub(crate) fn after_nuls(text: &[u8]) -> [u8; 19]
     requires { 16 ≤ length text.now }
     ensures { result ≡ 0 ∷ 0 ∷ 0 ∷ take 16 text.now }
 {
@@ -102,7 +102,7 @@ fn put_ascii<A: Allocator>(high_first: bool, text: &[u8], place: usize, out: &mu
 
 // The units of 64 bytes of ASCII: each byte and a NUL.
 #[inline(always)]
-fn ascii_units(high_first: bool, text: &[u8], place: usize) -> ([u8; 64], [u8; 64])
+pub(crate) fn ascii_units(high_first: bool, text: &[u8], place: usize) -> ([u8; 64], [u8; 64])
     requires start { 3 ≤ place }
     requires within { place + 64 ≤ length text.now }
     requires closed { AreClosed text.now place }

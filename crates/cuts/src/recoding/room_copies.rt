@@ -1,0 +1,123 @@
+//! Text copied into room of a fixed size: as it is, or units with the bytes of each swapped.
+ghost use Rattle.std.specs.Prelude.{◌≡◌, ◌+◌, ◌%◌, ◌≤◌, length, take};
+ghost use Rattle.cuts.specs.Recoding.Recoded.{units_of};
+ghost use Rattle.cuts.specs.Recoding.Rooms.{Fills, RunsInto};
+ghost use Rattle.cuts.specs.Recoding.UnitBlocks.{AreCodes, swapped, turned};
+
+use crate::recoding::form::Form::{self, Utf8, Utf16Be, Utf16Le};
+use crate::recoding::room_puts::{put_all, put_two};
+use crate::recoding::text_blocks::text_len;
+use crate::recoding::unit_blocks::units_len;
+use crate::recoding::unit_copies::swapped_16;
+
+// Copies the text at the front of the bytes that the room is enough for. Answers how many bytes it has, and the place after
+// what was written.
+#[inline(always)]
+pub(crate) fn text_copied(bytes: &[u8], room: &mut [u8], place: usize) -> (usize, usize)
+    requires { place ≤ length room.old }
+    ensures { RunsInto Form.Utf8 Form.Utf8 bytes.now room.old room.new place result.0 result.1 }
+{
+    let most = bytes.len().min(room.len() - place);
+    let len = text_len(&bytes[..most]);
+    (len, put_all(&bytes[..len], room, place))
+}
+
+// Copies the well-formed units at the front of the bytes that the room is enough for, in the order that is wanted.
+#[inline(always)]
+pub(crate) fn units_copied(
+    from: Form,
+    to: Form,
+    bytes: &[u8],
+    room: &mut [u8],
+    place: usize,
+) -> (usize, usize)
+    requires { place ≤ length room.old }
+    ensures { RunsInto from to bytes.now room.old room.new place result.0 result.1 }
+{
+    match (from, to) {
+        (Utf16Le, Utf16Le) => copy_into(false, false, bytes, room, place),
+        (Utf16Le, Utf16Be) => copy_into(false, true, bytes, room, place),
+        (Utf16Be, Utf16Le) => copy_into(true, true, bytes, room, place),
+        (Utf16Be, Utf16Be) => copy_into(true, false, bytes, room, place),
+        _ => (0, place),
+    }
+}
+
+// The same of units in one order, the two bytes of each swapped or as they are.
+#[inline(always)]
+fn copy_into(
+    high_first: bool,
+    swaps: bool,
+    bytes: &[u8],
+    room: &mut [u8],
+    place: usize,
+) -> (usize, usize)
+    requires { place ≤ length room.old }
+    ensures within { result.0 ≤ length bytes.now }
+    ensures even { result.0 % 2 ≡ 0 }
+    ensures codes { AreCodes (units_of high_first (take result.0 bytes.now)) }
+    ensures fills { Fills room.old room.new place result.1 (turned swaps (take result.0 bytes.now)) }
+    ensures end { result.1 ≡ place + result.0 }
+{
+    let most = bytes.len().min(room.len() - place);
+    let len = 2 * units_len(high_first, &bytes[..most]);
+    (len, put_turned(swaps, &bytes[..len], room, place))
+}
+
+// Writes the bytes at the place, those of each pair swapped or as they are. Answers the place after them.
+#[inline(always)]
+fn put_turned(swaps: bool, bytes: &[u8], room: &mut [u8], place: usize) -> usize
+    requires even { length bytes.now % 2 ≡ 0 }
+    requires room { place + length bytes.now ≤ length room.old }
+    ensures fills { Fills room.old room.new place result (turned swaps bytes.now) }
+    ensures end { result ≡ place + length bytes.now }
+{
+    if swaps {
+        return swap_into(bytes, room, place);
+    }
+    put_all(bytes, room, place)
+}
+
+// Writes the bytes at the place, those of each pair swapped. Answers the place after them.
+#[inline(always)]
+fn swap_into(bytes: &[u8], room: &mut [u8], place: usize) -> usize
+    requires even { length bytes.now % 2 ≡ 0 }
+    requires room { place + length bytes.now ≤ length room.old }
+    ensures fills { Fills room.old room.new place result (swapped bytes.now) }
+    ensures end { result ≡ place + length bytes.now }
+{
+    let len = blocks_swapped(bytes, room, place);
+    pairs_swapped(&bytes[len..], room, place + len)
+}
+
+// The same in blocks of sixteen. Answers how many bytes they have.
+#[inline(always)]
+fn blocks_swapped(bytes: &[u8], room: &mut [u8], place: usize) -> usize
+    requires { place + length bytes.now ≤ length room.old }
+    ensures within { result ≤ length bytes.now }
+    ensures even { result % 2 ≡ 0 }
+    ensures fills { Fills room.old room.new place (place + result) (swapped (take result bytes.now)) }
+{
+    let mut len = 0;
+    while 16 <= bytes.len() - len {
+        put_all(&swapped_16(bytes, len), room, place + len);
+        len += 16;
+    }
+    len
+}
+
+// The same of the few that are left, pair by pair.
+#[inline(always)]
+fn pairs_swapped(bytes: &[u8], room: &mut [u8], place: usize) -> usize
+    requires even { length bytes.now % 2 ≡ 0 }
+    requires room { place + length bytes.now ≤ length room.old }
+    ensures fills { Fills room.old room.new place result (swapped bytes.now) }
+    ensures end { result ≡ place + length bytes.now }
+{
+    let mut len = 0;
+    while 2 <= bytes.len() - len {
+        put_two(bytes[len + 1], bytes[len], room, place + len);
+        len += 2;
+    }
+    place + len
+}
