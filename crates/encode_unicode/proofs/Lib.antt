@@ -1,4 +1,5 @@
 pub mod PieceRuns
+pub mod ItemCodes
 pub mod RunTests
 pub mod TableWalks
 pub mod Collected

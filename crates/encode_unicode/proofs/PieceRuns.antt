@@ -30,7 +30,7 @@ use Rattle.encode_unicode.proofs.RunTests.{tells, tells_back}
 use Rattle.encode_unicode.specs.Pieces.{Gives, GivesReversed, LengthsFit, LiesWithin, LiesInText, PiecesFit, pieces, unit_pieces, pieces_by, pieces_left, unit_pieces_left, placed_chars, chars_left, placed_chars_left}
 use Rattle.encode_unicode.specs.Sources.{IsListed, IsListedBack}
 use Rattle.encode_unicode.specs.TextWindow.{NextScalar, NextPlaced, BackScalar, BackPlaced, GivesFirst, GivesLast}
-use Rattle.encode_unicode.specs.Window.{Window, Placed, elements, whole_window, without_front, as_piece, GivesNone, GivesFrontOf, GivesBackOf, NextGives, NextGivesUnits, NextBackGives, NextBackGivesUnits}
+use Rattle.encode_unicode.specs.Window.{Window, Placed, elements, whole_window, without_front, as_piece, GivesNone, GivesFrontOf, GivesBackOf, HasCode, NextGives, NextGivesUnits, NextBackGives, NextBackGivesUnits}
 
 -- A list that tells what each state still gives is what each run gives.
 pub listed_run : {S A : Type 0} (steps : S → Option A → S → Type 0) (rest : S → List A) → IsListed steps rest → EveryRun steps (λ p. Gives p (rest p.from))
@@ -297,6 +297,32 @@ pub unit_decoder_places_back : (xs : List ℕ) (s : Window) → s ≡ whole_wind
 unit_decoder_places_back xs s e p seen from =
     let end : p.from.back ≡ length xs = ap (λ (u : Window). u.back) (from ∙ e) in
     all_items NextBackGivesUnits (λ w. w.back ≤ length xs) (LiesWithin 2 (length xs)) (λ w x v k g. piece_kept_back utf16 2 unit_back_kind decoded_pairs_end (length xs) w v x k g) p (omega arith)
+
+-- Where they are characters, their codes stand at their places.
+
+code_kept : {E : Type 0} (code : ℕ → List ℕ) (most : ℕ) (kind : List ℕ → Option E) (answer : List ℕ → Result (ℕ × ℕ) E) (xs : List ℕ) (w v : Window) (x : Placed E)
+    → w.whole ≡ xs → GivesFrontOf code most kind answer w x v → HasCode code xs x × (v.whole ≡ xs)
+code_kept code most kind answer xs w v x is g = (subst (λ ys. HasCode code ys x) is g.there, ap (λ (u : Window). u.whole) g.left ∙ is)
+
+code_kept_back : {E : Type 0} (code : ℕ → List ℕ) (most : ℕ) (kind : ℕ → E) (answer : List ℕ → Result (ℕ × ℕ) E) (xs : List ℕ) (w v : Window) (x : Placed E)
+    → w.whole ≡ xs → GivesBackOf code most kind answer w x v → HasCode code xs x × (v.whole ≡ xs)
+code_kept_back code most kind answer xs w v x is g = (subst (λ ys. HasCode code ys x) is g.there, ap (λ (u : Window). u.whole) g.left ∙ is)
+
+module _ {E : Type 0} (code : ℕ → List ℕ) (steps : Window → Option (Placed E) → Window → Type 0) (step : (xs : List ℕ) (w v : Window) (x : Placed E) → w.whole ≡ xs → steps w (Some x) v → HasCode code xs x × (v.whole ≡ xs)) where
+  codes_there : (xs : List ℕ) (s : Window) → s ≡ whole_window xs → EachRunFrom steps s (λ p. AllItems p (HasCode code xs))
+  codes_there xs s e p seen from = all_items steps (λ w. w.whole ≡ xs) (HasCode code xs) (λ w x v k g. step xs w v x k g) p (ap (λ (u : Window). u.whole) (from ∙ e))
+
+pub decoder_codes : (xs : List ℕ) (s : Window) → s ≡ whole_window xs → EachRunFrom NextGives s (λ p. AllItems p (HasCode utf8 xs))
+decoder_codes = codes_there utf8 NextGives (λ xs w v x k g. code_kept utf8 4 fault_kind decoded xs w v x k g)
+
+pub decoder_codes_back : (xs : List ℕ) (s : Window) → s ≡ whole_window xs → EachRunFrom NextBackGives s (λ p. AllItems p (HasCode utf8 xs))
+decoder_codes_back = codes_there utf8 NextBackGives (λ xs w v x k g. code_kept_back utf8 4 back_kind decoded_end xs w v x k g)
+
+pub unit_decoder_codes : (xs : List ℕ) (s : Window) → s ≡ whole_window xs → EachRunFrom NextGivesUnits s (λ p. AllItems p (HasCode utf16 xs))
+unit_decoder_codes = codes_there utf16 NextGivesUnits (λ xs w v x k g. code_kept utf16 2 unit_fault_kind decoded_pairs xs w v x k g)
+
+pub unit_decoder_codes_back : (xs : List ℕ) (s : Window) → s ≡ whole_window xs → EachRunFrom NextBackGivesUnits s (λ p. AllItems p (HasCode utf16 xs))
+unit_decoder_codes_back = codes_there utf16 NextBackGivesUnits (λ xs w v x k g. code_kept_back utf16 2 unit_back_kind decoded_pairs_end xs w v x k g)
 
 -- what a window of a text keeps
 record KeepsText (text : List ℕ) (w : Window) : Type 0 where

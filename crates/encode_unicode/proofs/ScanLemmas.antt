@@ -13,6 +13,7 @@ use Rattle.utf_base.proofs.BackLemmas.{answer_of_end, decoded_end_code, end_len_
 use Rattle.utf_base.proofs.DecodedLemmas.{front_len_utf8}
 use Rattle.utf_base.proofs.EndLemmas.{back_kind-continuation, code_or_last_byte}
 use Rattle.encode_unicode.specs.Scan.{IsScanned, IsWholeOrUnexpected}
+use Rattle.encode_unicode.proofs.ItemCodes.{ends_taken, ends_there}
 use Rattle.encode_unicode.specs.Window.{GivesBack}
 
 -- A last byte that is no continuation byte is judged by itself.
@@ -217,6 +218,8 @@ gives_back_char whole i j s n some fits h =
       known = rw (decoded_end_code (slice_range whole i j) s n h) refl;
       len = len;
       left = refl;
+      taken = ends_taken utf8 (slice_range whole i j) s n h;
+      there = ends_there utf8 whole i j s n some fits len.2 h;
     }
 
 pub gives_back_fault : (whole : List ℕ) (i j : ℕ) (k : Utf8ErrorKind) → i < j → j ≤ length whole → NoCodeEnds utf8 (slice_range whole i j) × (k ≡ end_fault (slice_range whole i j))
@@ -230,4 +233,6 @@ gives_back_fault whole i j k some fits h =
       known = rw (← answer_of_end (slice_range whole i j) (Err k) h) refl;
       len = (omega arith, omega arith, omega arith);
       left = refl;
+      taken = tt;
+      there = tt;
     }

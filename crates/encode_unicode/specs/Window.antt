@@ -1,5 +1,5 @@
 -- A window of a slice, and what one call of a decoder gives. A place is an index into the whole slice.
-use Rattle.std.specs.Prelude.{◌≡◌, ℕ, ◌+◌, ◌-◌, ◌<◌, List, length, slice_range, Option, Some, None, Result, Ok, Err}
+use Rattle.std.specs.Prelude.{◌≡◌, ℕ, ◌+◌, ◌-◌, ◌<◌, List, length, slice_range, take, drop, Option, Some, None, Result, Ok, Err, IfOk}
 use Rattle.utf_base.specs.declared.errors.Utf8ErrorKind.{Utf8ErrorKind}
 use Rattle.utf_base.specs.Back.{decoded_end, decoded_pairs_end}
 use Rattle.utf_base.specs.Code.{utf8, utf16}
@@ -50,13 +50,17 @@ abbrev pub IsBackOf : {E : Type 0} → (ℕ → List ℕ) → (ℕ → E) → Li
 IsBackOf code kind xs (Ok s) n = EndsWith code xs s n
 IsBackOf code kind xs (Err k) n = NoCodeEnds code xs × (k ≡ kind (last_of xs)) × (n ≡ 1)
 
+-- where an item is a character, its code stands in the list at the item's place
+abbrev pub HasCode : {E : Type 0} → (ℕ → List ℕ) → List ℕ → Placed E → Type 0
+HasCode code xs x = IfOk x.1 (λ s. slice_range xs x.0 (x.0 + x.2) ≡ code s)
+
 -- the answer of a decoding as a piece: a scalar with the length of its code, a fault with length 1
 abbrev pub as_piece : {E : Type 0} → Result (ℕ × ℕ) E → Result ℕ E × ℕ
 as_piece (Ok x) = (Ok x.0, x.1)
 as_piece (Err k) = (Err k, 1)
 
 -- The item is the piece that begins the window, and exactly that piece has left it. A piece has at most `most` elements,
--- and is a function of the window's.
+-- and is a function of the window's; that of a character is its code.
 pub record GivesFrontOf {E : Type 0} (code : ℕ → List ℕ) (most : ℕ) (kind : List ℕ → Option E) (answer : List ℕ → Result (ℕ × ℕ) E)
     (w : Window) (x : Placed E) (v : Window) : Type 0 where
   pub some : w.front < w.back
@@ -65,6 +69,8 @@ pub record GivesFrontOf {E : Type 0} (code : ℕ → List ℕ) (most : ℕ) (kin
   pub known : (x.1, x.2) ≡ as_piece (answer (elements w))
   pub len : IsFrontLen most (elements w) x.2
   pub left : v ≡ without_front w x.2
+  pub taken : IfOk x.1 (λ s. take x.2 (elements w) ≡ code s)
+  pub there : HasCode code w.whole x
 
 -- the same of bytes, and of units
 abbrev pub IsFrontPiece : List ℕ → Result ℕ Utf8ErrorKind → ℕ → Type 0
@@ -77,7 +83,7 @@ abbrev pub GivesFrontUnits : Window → UnitItem → Window → Type 0
 GivesFrontUnits = GivesFrontOf utf16 2 unit_fault_kind decoded_pairs
 
 -- The item is the piece that ends the window, and exactly that piece has left it. A piece has at most `most` elements,
--- and is a function of the window's.
+-- and is a function of the window's; that of a character is its code.
 pub record GivesBackOf {E : Type 0} (code : ℕ → List ℕ) (most : ℕ) (kind : ℕ → E) (answer : List ℕ → Result (ℕ × ℕ) E)
     (w : Window) (x : Placed E) (v : Window) : Type 0 where
   pub some : w.front < w.back
@@ -86,6 +92,8 @@ pub record GivesBackOf {E : Type 0} (code : ℕ → List ℕ) (most : ℕ) (kind
   pub known : (x.1, x.2) ≡ as_piece (answer (elements w))
   pub len : IsFrontLen most (elements w) x.2
   pub left : v ≡ without_back w x.2
+  pub taken : IfOk x.1 (λ s. drop (length (elements w) - x.2) (elements w) ≡ code s)
+  pub there : HasCode code w.whole x
 
 -- the same of bytes, and of units
 abbrev pub GivesBack : Window → Item → Window → Type 0

@@ -1,9 +1,10 @@
 //! Methods of slices.
 ghost use Rattle.std.specs.Prelude.{◌≡◌, length, List, ℕ};
 ghost use Rattle.std.specs.Iterator.Runs.{AllItems, EachRunFrom, EveryRun};
+ghost use Rattle.utf_base.specs.Code.{utf8, utf16};
 ghost use Rattle.encode_unicode.specs.Pieces.{Gives, LiesWithin, pieces_left, unit_pieces_left};
 ghost use Rattle.encode_unicode.specs.Sources.{IsListed};
-ghost use Rattle.encode_unicode.specs.Window.{whole_window, NextGives, NextGivesUnits, NextBackGives, NextBackGivesUnits};
+ghost use Rattle.encode_unicode.specs.Window.{whole_window, HasCode, NextGives, NextGivesUnits, NextBackGives, NextBackGivesUnits};
 
 use crate::decoding_iterators::Utf8CharDecoder;
 use crate::utf16_decoder::Utf16CharDecoder;
@@ -20,14 +21,16 @@ pub trait U8SliceExt<'a>: Sized {
         ensures runs { EveryRun NextGives (λ p. Gives p (pieces_left p.from)) }
         ensures listed { IsListed NextGives pieces_left }
         ensures places { EachRunFrom NextGives result (λ p. AllItems p (LiesWithin 4 (length (bytes self)))) }
-        ensures places_back { EachRunFrom NextBackGives result (λ p. AllItems p (LiesWithin 4 (length (bytes self)))) };
+        ensures places_back { EachRunFrom NextBackGives result (λ p. AllItems p (LiesWithin 4 (length (bytes self)))) }
+        ensures codes { EachRunFrom NextGives result (λ p. AllItems p (HasCode utf8 (bytes self))) }
+        ensures codes_back { EachRunFrom NextBackGives result (λ p. AllItems p (HasCode utf8 (bytes self))) };
 }
 
 impl<'a> U8SliceExt<'a> for &'a [u8] {
     ghost bytes = { λ slice. slice.now };
 
     #[inline]
-    #[tactic(auto, using(crate::proofs::PieceRuns::decoder_listed, crate::proofs::PieceRuns::decoder_places, crate::proofs::PieceRuns::decoder_places_back))]
+    #[tactic(auto, using(crate::proofs::PieceRuns::decoder_listed, crate::proofs::PieceRuns::decoder_places, crate::proofs::PieceRuns::decoder_places_back, crate::proofs::PieceRuns::decoder_codes, crate::proofs::PieceRuns::decoder_codes_back))]
     fn utf8char_indices(self) -> Utf8CharDecoder<'a> {
         Utf8CharDecoder::from(self)
     }
@@ -45,14 +48,16 @@ pub trait U16SliceExt<'a>: Sized {
         ensures runs { EveryRun NextGivesUnits (λ p. Gives p (unit_pieces_left p.from)) }
         ensures listed { IsListed NextGivesUnits unit_pieces_left }
         ensures places { EachRunFrom NextGivesUnits result (λ p. AllItems p (LiesWithin 2 (length (units self)))) }
-        ensures places_back { EachRunFrom NextBackGivesUnits result (λ p. AllItems p (LiesWithin 2 (length (units self)))) };
+        ensures places_back { EachRunFrom NextBackGivesUnits result (λ p. AllItems p (LiesWithin 2 (length (units self)))) }
+        ensures codes { EachRunFrom NextGivesUnits result (λ p. AllItems p (HasCode utf16 (units self))) }
+        ensures codes_back { EachRunFrom NextBackGivesUnits result (λ p. AllItems p (HasCode utf16 (units self))) };
 }
 
 impl<'a> U16SliceExt<'a> for &'a [u16] {
     ghost units = { λ slice. slice.now };
 
     #[inline]
-    #[tactic(auto, using(crate::proofs::PieceRuns::unit_decoder_listed, crate::proofs::PieceRuns::unit_decoder_places, crate::proofs::PieceRuns::unit_decoder_places_back))]
+    #[tactic(auto, using(crate::proofs::PieceRuns::unit_decoder_listed, crate::proofs::PieceRuns::unit_decoder_places, crate::proofs::PieceRuns::unit_decoder_places_back, crate::proofs::PieceRuns::unit_decoder_codes, crate::proofs::PieceRuns::unit_decoder_codes_back))]
     fn utf16char_indices(self) -> Utf16CharDecoder<'a> {
         Utf16CharDecoder::from(self)
     }

@@ -15,6 +15,7 @@ use Rattle.utf_base.proofs.Utf8Code.{utf8_is_code}
 use Rattle.utf_base.proofs.Utf16Code.{utf16_is_code}
 use Rattle.encode_unicode.specs.Window.{Window, Placed, Item, UnitItem, elements, whole_window, without_front, GivesFrontOf, GivesFront, GivesFrontUnits, GivesNone, IsFrontOf}
 use Rattle.encode_unicode.specs.Pieces.{pieces, pieces_left}
+use Rattle.encode_unicode.proofs.ItemCodes.{begins_taken, begins_there}
 use Rattle.encode_unicode.proofs.Listed.{decoder_listed}
 use Rattle.cuts.specs.Runs.Items.{IsRun}
 use Rattle.cuts.specs.Programs.Listings.{IsForwardRun}
@@ -76,15 +77,18 @@ front_item w some fits = by_kind w some fits (fault_kind (elements w)) refl
     by_kind : (w : Window) → w.front < w.back → w.back ≤ length w.whole → (k : Option Utf8ErrorKind) → fault_kind (elements w) ≡ k
         → (x : Item) × GivesFront w x (without_front w x.2)
     by_kind w some fits None e =
-        let code = (code_where_no_fault (elements w) e).0 in (
+        let code = (code_where_no_fault (elements w) e).0 in
+        let len = front_len_utf8 (elements w) _ _ (code, refl) in (
           (w.front, Ok (value (elements w)), length (utf8 (value (elements w)))),
           record {
             some = some;
             place = refl;
             piece = (code, refl);
             known = rw (decoded_code (elements w) _ code) refl;
-            len = front_len_utf8 (elements w) _ _ (code, refl);
+            len = len;
             left = refl;
+            taken = begins_taken utf8 (elements w) _ _ (code, refl);
+            there = begins_there utf8 w.whole w.front w.back _ _ some len.2 (code, refl);
           },
         )
     by_kind w some fits (Some k) e =
@@ -97,6 +101,8 @@ front_item w some fits = by_kind w some fits (fault_kind (elements w)) refl
             known = rw (← answer_of_bytes (elements w) (Err k) e) refl;
             len = (omega arith, omega arith, one);
             left = refl;
+            taken = tt;
+            there = tt;
           },
         )
 
