@@ -1,5 +1,6 @@
 pub mod PieceRuns
 pub mod ItemCodes
+pub mod SplitterRuns
 pub mod RunTests
 pub mod TableWalks
 pub mod Collected

@@ -37,7 +37,7 @@ copied_listed s r t h = rw h.2 (at_item s t h.0 h.1)
 
 -- a splitter gives what it has not sent
 pub splitter_listed : {S : Type 0} (code : ℕ → List ℕ) (steps : S → Option ℕ → S → Type 0) (rest : S → List ℕ) → IsListed steps rest → IsListed (SplitterNext code steps) (unsent code rest)
-splitter_listed code steps rest listed s r t h = h rest listed
+splitter_listed code steps rest listed s r t h = h.takes rest listed
 
 -- What a function makes of each item of a source, where calls leave the closure as it was and `h` tells what they answer by
 -- what the closure has captured. `view` reads an item of the source, as `λ x. x.now` reads a reference.

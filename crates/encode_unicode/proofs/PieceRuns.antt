@@ -368,7 +368,7 @@ text_places_back text s h e p seen from =
 
 -- How long their codes are together.
 
-lengths_added : (code : ℕ → List ℕ) (n : ℕ) (xs : List ℕ) → fold (λ a c. a + length (code c)) n xs ≡ n + length (flat_map code xs)
+pub lengths_added : (code : ℕ → List ℕ) (n : ℕ) (xs : List ℕ) → fold (λ a c. a + length (code c)) n xs ≡ n + length (flat_map code xs)
 lengths_added code n [] = sym (omega arith)
 lengths_added code n (x ∷ xs) =
     let rest = lengths_added code (n + length (code x)) xs in

@@ -1,20 +1,25 @@
 -- What a splitter has still to send, call by call. All of it is generic in the code.
-use Rattle.std.proofs.Common.{◌≡◌, ℕ, suc, ◌+◌, ◌*◌, ◌<◌, ◌≤◌, List, [], ◌∷◌, Some, None, length, refl, ap, sym, ◌∙◌, arith, length-append}
+use Rattle.std.proofs.Common.{◌≡◌, ℕ, suc, ◌+◌, ◌*◌, ◌<◌, ◌≤◌, List, [], ◌∷◌, ◌++◌, Some, None, length, refl, ap, sym, ◌∙◌, arith, length-append, append-nil}
 use Rattle.std.proofs.Math.Nat.{mul-le-mul_left, mul_comm}
 use Rattle.std.proofs.lemmas.Grind.{common_steps}
 use Rattle.std.specs.Iterator.{Count, MakesProgress, YieldsFirst, count_map}
 use Rattle.std.specs.List.{flat_map}
 use Rattle.std.specs.Prelude.{Option, IfSome, Bool, true, false, nat_lt, ◌^◌, if◌then◌else◌}
 use Rattle.utf_chars.specs.Taking.{BoundsLength}
-use Rattle.encode_unicode.specs.Sources.{Splitting, IsHintOf, SplitsHint, unsent, split_upper, split_hint}
+use Rattle.encode_unicode.specs.Sources.{Splitting, SplitterNext, IsHintOf, SplitsHint, unsent, split_upper, split_hint}
 use Rattle.encode_unicode.proofs.Joined.{joined_bounds}
 
--- the first element of the code of the next item
-pub first_of_next : {S : Type 0} (code : ℕ → List ℕ) (rest : S → List ℕ) (s t : S) (x : ℕ) (begun fresh left : List ℕ) (r : Option ℕ) → begun ≡ [] → rest s ≡ x ∷ rest t
-    → fresh ≡ code x → 0 < length (code x) → YieldsFirst (λ (xs : List ℕ). xs) fresh r left
-    → YieldsFirst (unsent code rest) (record { begun = begun; source = s }) r (record { begun = left; source = t })
-first_of_next code rest s t x begun fresh left None none first is some h = let e : length (code x) ≡ 0 = ap length (sym is ∙ h.0) in absurd (omega arith)
-first_of_next code rest s t x begun fresh left (Some y) none first is some h = rw (none, first, ← is, h) refl
+module _ {S : Type 0} (code : ℕ → List ℕ) (steps : S → Option ℕ → S → Type 0) where
+  -- the first element of the code of the next item
+  pub sent_next : (s t : S) (x : ℕ) (begun fresh left : List ℕ) (r : Option ℕ) → begun ≡ [] → steps s (Some x) t → fresh ≡ code x → 0 < length (code x) → YieldsFirst (λ (xs : List ℕ). xs) fresh r left
+      → SplitterNext code steps (record { begun = begun; source = s }) r (record { begun = left; source = t })
+  sent_next s t x begun fresh left None none step is some h = let e : length (code x) ≡ 0 = ap length (sym is ∙ h.0) in absurd (omega arith)
+  sent_next s t x begun fresh left (Some y) none step is some h = record {
+    takes = λ rest listed. rw (none, listed s (Some x) t step, ← is, h) refl;
+    given = x ∷ [];
+    gave = (t, step, refl);
+    sends = ap (λ xs. xs ++ flat_map code (x ∷ [])) none ∙ append-nil (code x) ∙ sym is ∙ h;
+  }
 
 times_less : (m a b : ℕ) → a < b → m * a + m ≤ m * b
 times_less m a b h = grind (arith, common_steps)

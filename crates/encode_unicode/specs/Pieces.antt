@@ -1,5 +1,5 @@
 -- What whole runs of decoders and of iterators over a text give, as lists.
-use Rattle.std.specs.Prelude.{◌≡◌, ℕ, zero, suc, ◌+◌, ◌<◌, ◌≤◌, List, [], ◌∷◌, length, drop, reverse, Result, Option}
+use Rattle.std.specs.Prelude.{◌≡◌, ℕ, zero, suc, ◌+◌, ◌<◌, ◌≤◌, List, [], ◌∷◌, length, take, drop, reverse, true, Result, Option}
 use Rattle.std.specs.List.{flat_map, fold}
 use Rattle.std.specs.Iterator.Runs.{Run, ItemsAre, ItemsMapTo, ItemsAreReversed, ItemsMapToReversed}
 use Rattle.std.specs.Str.{chars, IsCharBoundary, IsUtf8}
@@ -53,6 +53,12 @@ Gives p xs = ItemsAre p xs × ItemsMapTo p (λ x. x) xs × Tells p xs
 -- the same, last first
 abbrev pub GivesReversed : {S A : Type 0} {steps : S → Option A → S → Type 0} → Run steps → List A → Type 0
 GivesReversed p xs = ItemsAreReversed p xs × ItemsMapToReversed p (λ x. x) xs × Tells p (reverse xs)
+
+-- p is a run of a splitter, and q that of its source: p gives the codes of the items of q, one after another, and those of a list
+-- whose first elements, or all, are these items
+abbrev pub IsSplitterRun : {S T : Type 0} {steps : S → Option ℕ → S → Type 0} {source : T → Option ℕ → T → Type 0} → (ℕ → List ℕ) → Run steps → Run source → Type 0
+IsSplitterRun code p q = (q.whole ≡ p.whole) × (p.len ≤ fold (λ sum s. sum + length (code s)) 0 q.items) × (p.whole ≡ true → p.items ≡ flat_map code q.items)
+    × ((xs : List ℕ) → q.items ≡ take q.len xs → (q.whole ≡ true → q.items ≡ xs) → Gives p (flat_map code xs))
 
 -- the codes of the characters that a run gives have no more elements together than this
 abbrev pub LengthsFit : {S : Type 0} {steps : S → Option ℕ → S → Type 0} → (ℕ → List ℕ) → ℕ → Run steps → Type 0

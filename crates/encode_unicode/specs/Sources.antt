@@ -1,6 +1,6 @@
 -- What a source of items still gives, and what a splitter of characters makes of it.
-use Rattle.std.specs.Prelude.{◌≡◌, ℕ, ◌+◌, ◌*◌, ◌^◌, ◌-◌, List, ◌++◌, [], length, min, Option, IfSome, nat_lt, if◌then◌else◌, Some, None}
-use Rattle.std.specs.Iterator.{Count, YieldsFirst, YieldsLast, UpTo}
+use Rattle.std.specs.Prelude.{◌≡◌, ℕ, ◌+◌, ◌*◌, ◌^◌, ◌-◌, List, ◌++◌, [], ◌∷◌, length, min, Option, IfSome, MatchOption, nat_lt, if◌then◌else◌, Some, None}
+use Rattle.std.specs.Iterator.{Count, Yields, YieldsFirst, YieldsLast, UpTo}
 use Rattle.std.specs.Iterator.SizeHint.{IsWithinCount}
 use Rattle.std.specs.List.{flat_map, last_or}
 use Rattle.utf_chars.specs.Taking.{BoundsLength}
@@ -31,9 +31,13 @@ unbegun s = record { begun = []; source = s }
 abbrev pub unsent : {S : Type 0} → (ℕ → List ℕ) → (S → List ℕ) → Splitting S → List ℕ
 unsent code rest s = s.begun ++ flat_map code (rest s.source)
 
--- one call of `next`: it takes the first of the unsent elements, whatever list the source gives
-abbrev pub SplitterNext : {S : Type 0} → (ℕ → List ℕ) → (S → Option ℕ → S → Type 0) → Splitting S → Option ℕ → Splitting S → Type 0
-SplitterNext {S} code steps s r t = (rest : S → List ℕ) → IsListed steps rest → YieldsFirst (unsent code rest) s r t
+-- One call of `next`: it takes the first of the unsent elements, whatever list the source gives. `given` is what the source gave
+-- to that call: an item where no code was begun. Its code follows the begun one, and the answer is the first element of both.
+pub record SplitterNext {S : Type 0} (code : ℕ → List ℕ) (steps : S → Option ℕ → S → Type 0) (s : Splitting S) (r : Option ℕ) (t : Splitting S) : Type 0 where
+  pub takes : (rest : S → List ℕ) → IsListed steps rest → YieldsFirst (unsent code rest) s r t
+  pub given : List ℕ
+  pub gave : MatchOption r ((given ≡ []) × steps s.source None t.source) (λ x. Yields steps s.source given t.source)
+  pub sends : MatchOption r ((s.begun ≡ []) × (t.begun ≡ [])) (λ x. s.begun ++ flat_map code given ≡ x ∷ t.begun)
 
 -- the bounds of a count, as a source's hint gives them
 abbrev pub IsHintOf : Count → ℕ × Option ℕ → Type 0

@@ -1,12 +1,13 @@
 //! Methods of iterators over bytes, units and characters.
 ghost use Rattle.std.specs.Prelude.{◌≡◌, ◌++◌, [], List, ℕ, IfOk, IsOk, OnOk, OnErr, string_bytes, string_capacity, vec_capacity};
 ghost use Rattle.std.specs.Iterator.{IsFinite};
-ghost use Rattle.std.specs.Iterator.Runs.{WholeRun};
+ghost use Rattle.std.specs.Iterator.Runs.{EachRunFrom, SomeRun, WholeRun};
 ghost use Rattle.std.specs.List.{flat_map};
 ghost use Rattle.utf_base.specs.Code.{utf8, utf16};
 ghost use Rattle.encode_unicode.specs.Collections.{AddsCodes, AddsFirstCodes};
 ghost use Rattle.encode_unicode.specs.Mergers.{unasked};
-ghost use Rattle.encode_unicode.specs.Sources.{IsListed, unbegun};
+ghost use Rattle.encode_unicode.specs.Pieces.{IsSplitterRun};
+ghost use Rattle.encode_unicode.specs.Sources.{IsListed, SplitterNext, unbegun};
 
 use crate::collecting::extend;
 use crate::utf8_merger::Utf8CharMerger;
@@ -53,7 +54,8 @@ impl<I: Iterator<Item = u16>> U16IterExt for I {
 pub trait Utf8CharIterExt: Iterator<Item = Utf8Char> + Sized {
     /// The bytes of the characters, one code after another.
     fn to_bytes(self) -> Utf8CharSplitter<Self>
-        ensures { result ≡ unbegun self };
+        ensures splitter { result ≡ unbegun self }
+        ensures runs { EachRunFrom (SplitterNext utf8 Self.next_gives) result (λ p. SomeRun Self.next_gives self (λ q. IsSplitterRun utf8 p q)) };
 
     /// The bytes of all characters. The error is that a growth was refused.
     fn collect_bytes<A: Allocator>(self, alloc: A) -> Result<Vec<u8, A>, AllocError>
@@ -131,7 +133,8 @@ impl<I: Iterator<Item = Utf8Char>> Utf8CharIterExt for I {
 pub trait Utf16CharIterExt: Iterator<Item = Utf16Char> + Sized {
     /// The units of the characters, one code after another.
     fn to_units(self) -> Utf16CharSplitter<Self>
-        ensures { result ≡ unbegun self };
+        ensures splitter { result ≡ unbegun self }
+        ensures runs { EachRunFrom (SplitterNext utf16 Self.next_gives) result (λ p. SomeRun Self.next_gives self (λ q. IsSplitterRun utf16 p q)) };
 
     /// The units of all characters. The error is that a growth was refused.
     fn collect_units<A: Allocator>(self, alloc: A) -> Result<Vec<u16, A>, AllocError>

@@ -10,4 +10,4 @@ use Rattle.uses.proofs.SourceLemmas.{at_list, units_turned}
 use Rattle.uses.proofs.listed.turned_by_units.Goals as goal
 
 pub returns : goal.returns
-returns g c = at_list (λ xs all. IsMergedRun utf16 unit_fault_kind xs all.items) (unsent utf16 (λ s. reverse (chars_left (rev_source s)))) (splitter_listed utf16 _ _ scalars_rev_listed) _ _ _ (units_turned _ _ _ _ c.to_units.ensures c.rev.ensures.source c.utf16chars.ensures.window) c.merge_utf16.ensures.run
+returns g c = at_list (λ xs all. IsMergedRun utf16 unit_fault_kind xs all.items) (unsent utf16 (λ s. reverse (chars_left (rev_source s)))) (splitter_listed utf16 _ _ scalars_rev_listed) _ _ _ (units_turned _ _ _ _ c.to_units.ensures.splitter c.rev.ensures.source c.utf16chars.ensures.window) c.merge_utf16.ensures.run
