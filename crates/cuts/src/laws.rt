@@ -6,7 +6,7 @@ ghost use Rattle.cuts.specs.Recoding.Shards.{ShardsJoin};
 ghost use Rattle.cuts.specs.Recoding.Recoded.{RecodedOnce, PartsAreRecoded, PartsDoNotMatter};
 ghost use Rattle.cuts.specs.Recoding.Bounds.{RecodedIsBounded, LossyIsBounded, FeedsInRoom, RoomIsLeft, FinishesInRoom};
 ghost use Rattle.cuts.specs.Runs.EqualRuns.{OneRun, OneMergedRun};
-ghost use Rattle.cuts.specs.Recoding.Fed.{NothingIsFed, PartIsFed, FedIsFront, FedIsRecoded};
+ghost use Rattle.cuts.specs.Recoding.Fed.{NothingIsFed, PartIsFed, FedIsFront, FedIsRecoded, TwoPartsAreOne, TwoPartsAreRecoded};
 ghost use Rattle.utf_base.specs.Code.{utf8, utf16};
 ghost use Rattle.utf_base.specs.Kinds.{fault_kind, merger_kind};
 ghost use Rattle.utf_base.specs.Units.{unit_fault_kind};
@@ -24,12 +24,14 @@ pub fn parts_do_not_matter()
 {}
 
 /// Parts that are fed one after another are one part. What came of them begins what the whole is recoded as,
-/// whatever follows, and after the end it is the whole.
+/// whatever follows, and after the end it is the whole. A caller of two parts needs the last clause alone.
 pub fn parts_are_one_part()
     ensures nothing { NothingIsFed }
     ensures part { PartIsFed }
     ensures front { FedIsFront }
     ensures whole { FedIsRecoded }
+    ensures two { TwoPartsAreOne }
+    ensures two_recoded { TwoPartsAreRecoded }
 {}
 
 /// Bytes are recoded as no more bytes than `room_for` answers: a lossy text is at most three times as long as

@@ -2,7 +2,7 @@
 use Rattle.std.proofs.Common.{◌≡◌, ℕ, List, [], ◌++◌, refl, ap, sym, subst, ◌∙◌, append_assoc, arith}
 use Rattle.std.proofs.lemmas.List.{append-nil}
 use Rattle.cuts.specs.Recoding.Recoded.{Recoding, IsRecoded, Grows, Feeds}
-use Rattle.cuts.specs.Recoding.Fed.{NothingIsFed, PartIsFed, FedIsFront, FedIsRecoded}
+use Rattle.cuts.specs.Recoding.Fed.{NothingIsFed, PartIsFed, FedIsFront, FedIsRecoded, TwoPartsAreOne, TwoPartsAreRecoded}
 use Rattle.cuts.proofs.OfRecoding.Growing.{recoded_once, Continues-none, Grows-append, Grows-trans}
 
 pub parts_join : (r s t : Recoding) (part next old mid new : List ℕ) → Feeds r part old mid s → Feeds s next mid new t → Feeds r (part ++ next) old new t
@@ -51,3 +51,12 @@ fed_is_recoded from to bytes all out new r fed last e =
     let same : new ≡ grows.grown ++ last.grown = last.appended ∙ ap (λ xs. xs ++ last.grown) grows.appended in
     let joined : bytes ++ [] ≡ all = append-nil bytes ∙ sym e in
     subst (λ xs. IsRecoded from to xs new) joined (subst (λ xs. IsRecoded from to (bytes ++ []) xs) (sym same) whole)
+
+pub two_parts_are_one : TwoPartsAreOne
+two_parts_are_one part next old mid new r s t f g = parts_join r s t part next old mid new f g
+
+pub two_parts_are_recoded : TwoPartsAreRecoded
+two_parts_are_recoded from to part next old mid out new r s t is none f g last =
+    let both = parts_join r s t part next old mid out f g in
+    let once : Feeds (record { from = from; to = to; held = [] }) (part ++ next) [] out t = subst (λ u. Feeds u (part ++ next) [] out t) is (subst (λ xs. Feeds r (part ++ next) xs out t) none both) in
+    fed_is_recoded from to (part ++ next) (part ++ next) out new t (record { once = once }) last refl

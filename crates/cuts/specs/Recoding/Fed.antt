@@ -17,6 +17,19 @@ PartIsFed =
     (from to : Form) (bytes part more out new : List ℕ) (r s : Recoding)
     → IsFed from to bytes out r → Feeds r part out new s → more ≡ bytes ++ part → IsFed from to more new s
 
+-- Two parts that are fed one after another are one part, whatever was held before.
+abbrev pub TwoPartsAreOne : Type 0
+TwoPartsAreOne =
+    (part next old mid new : List ℕ) (r s t : Recoding)
+    → Feeds r part old mid s → Feeds s next mid new t → Feeds r (part ++ next) old new t
+
+-- so what a new recoder makes of them, and then of the end, is what both together are recoded as
+abbrev pub TwoPartsAreRecoded : Type 0
+TwoPartsAreRecoded =
+    (from to : Form) (part next old mid out new : List ℕ) (r s t : Recoding)
+    → r ≡ record { from = from; to = to; held = [] } → old ≡ []
+    → Feeds r part old mid s → Feeds s next mid out t → Finishes t out new → IsRecoded from to (part ++ next) new
+
 -- what came so far begins what all is recoded as, whatever follows
 abbrev pub FedIsFront : Type 0
 FedIsFront =
