@@ -12,6 +12,7 @@ pub mod boundaries;
 pub mod bounds;
 pub mod cases;
 pub mod chains;
+pub mod codes;
 pub mod cursor;
 pub mod damage;
 pub mod editor;

@@ -1,5 +1,5 @@
 //! Text that comes in parts, as from a socket.
-ghost use Rattle.std.specs.Prelude.{◌<◌, IfOk, flat_map};
+ghost use Rattle.std.specs.Prelude.{◌<◌, ◌++◌, IfOk, flat_map};
 ghost use Rattle.cuts.specs.Recoded.{IsRecoded};
 
 use cuts::{Form, Recoder, laws};
@@ -51,4 +51,25 @@ pub fn recode_parts<A: Allocator>(
         return Err(unfinished.cause);
     }
     Ok(out)
+}
+
+/// The same of two parts, as of a buffer that wraps.
+pub fn recode_two<A: Allocator>(
+    alloc: A,
+    from: Form,
+    to: Form,
+    first: &[u8],
+    second: &[u8],
+) -> Result<Vec<u8, A>, AllocError>
+    ensures { IfOk result (λ out. IsRecoded from to (first.now ++ second.now) out.items) }
+{
+    laws::parts_are_one_part();
+    let mut made = Vec::new(alloc);
+    let mut recoder = Recoder::new(from, to);
+    recoder.feed(first, &mut made)?;
+    recoder.feed(second, &mut made)?;
+    match recoder.finish(&mut made) {
+        Ok(()) => Ok(made),
+        Err(unfinished) => Err(unfinished.cause),
+    }
 }
