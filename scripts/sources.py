@@ -76,7 +76,7 @@ def without_parameters(head):
 
 def camel(of):
     """A type as the prover's paths write it."""
-    words = re.findall(r"&|\[|[A-Za-z]\w*(?:::\w+)*", re.sub(r"'\w+\s?", "", of))
+    words = re.findall(r"&|\[|[A-Za-z]\w*(?:::\w+)*", re.sub(r"'\w+\s?|\b\d\w*", "", of))
     words = [it.rpartition("::")[2] for it in words]
     if len(words) == 1 and len(words[0]) == 1 and words[0].isalpha():
         return "Any"
