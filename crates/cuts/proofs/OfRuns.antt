@@ -8,6 +8,7 @@ pub mod PieceRuns
 pub mod RunExists
 pub mod RunLaws
 pub mod TextRuns
+pub mod CharacterRuns
 pub mod ValidLengths
 pub mod WalkLemmas
 pub mod PairedUnits

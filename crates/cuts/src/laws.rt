@@ -1,6 +1,11 @@
 //! The laws of recoding, and of whole runs over bytes.
 //!
 //! Each function does nothing: its contract is the law.
+ghost use Rattle.std.specs.Prelude.{◌↔◌, is_ok};
+ghost use Rattle.std.specs.Bool.{IsTrue};
+ghost use Rattle.std.specs.List.{list_all};
+ghost use Rattle.std.specs.Str.{IsUtf8};
+ghost use Rattle.encode_unicode.specs.Pieces.{pieces};
 ghost use Rattle.cuts.specs.Programs.Listings.{PiecesAreTheRun, TextHasNoFault};
 ghost use Rattle.cuts.specs.Recoding.Shards.{ShardsJoin};
 ghost use Rattle.cuts.specs.Recoding.Recoded.{RecodedOnce, PartsAreRecoded, PartsDoNotMatter};
@@ -71,4 +76,9 @@ pub fn pieces_are_the_run()
 /// Bytes have no fault exactly where they are UTF-8.
 pub fn text_has_no_fault()
     ensures { TextHasNoFault }
+{}
+
+/// Bytes are UTF-8 exactly where each of their pieces is a character. Said of the bytes that are given, which stay as they are.
+pub fn text_is_all_characters(bytes: &[u8])
+    ensures { IsTrue (list_all (λ x. is_ok x.1) (pieces bytes.now)) ↔ IsUtf8 bytes.now }
 {}

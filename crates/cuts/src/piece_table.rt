@@ -4,7 +4,7 @@ ghost use Rattle.std.specs.List.Sorted.{IsNonDecreasingBy};
 ghost use Rattle.std.specs.Prelude.{◌≡◌, ◌+◌, ◌-◌, ◌^◌, ◌<◌, ◌≤◌, ◌++◌, [], length, map, slice_range, take, drop, All, IfOk, IsOk, OnOk, OnErr, vec_len, vec_capacity};
 ghost use Rattle.utf_base.specs.Code.{utf8};
 ghost use Rattle.utf_base.specs.Piece.{Inside};
-ghost use Rattle.encode_unicode.specs.Pieces.{pieces as all_pieces};
+ghost use Rattle.encode_unicode.specs.Pieces.{pieces as all_pieces, LiesWithin};
 ghost use Rattle.encode_unicode.specs.Window.{Item as AnItem, IsFrontPiece};
 ghost use Rattle.cuts.specs.Programs.Listings.{IsForwardRun, IsForwardRunBetween};
 ghost use Rattle.cuts.specs.Tables.{StayAround, StepForEach, WereReplaced, IsSpot, IsRenewed, IsSplitAt, EndsAt, IsRestMoved, moved_item};
@@ -62,6 +62,7 @@ impl<A: Allocator + Copy> PieceTable<A> {
         ensures held { result.now ≡ self.now.pieces }
         ensures run { IsForwardRun self.now.bytes result.now }
         ensures value { result.now ≡ all_pieces self.now.bytes }
+        ensures places { All (LiesWithin 4 (length self.now.bytes)) result.now }
     {
         self.pieces.as_slice()
     }

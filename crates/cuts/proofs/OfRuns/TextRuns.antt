@@ -48,7 +48,7 @@ first_is_char : (r : Result ℕ Utf8ErrorKind) (n : ℕ) → cond (is_err r) 1 0
 first_is_char (Ok s) n e = (refl, omega arith)
 first_is_char (Err k) n e = absurd (omega arith)
 
-fault_count-more : (x : Item) (items : List Item) → fault_count (x ∷ items) ≡ cond (is_err x.1) 1 0 + fault_count items
+pub fault_count-more : (x : Item) (items : List Item) → fault_count (x ∷ items) ≡ cond (is_err x.1) 1 0 + fault_count items
 fault_count-more x items = sum_by-cons (λ (y : Item). cond (is_err y.1) 1 0) x items
 
 no_fault_from_zero : (items : List Item) → fault_count items ≡ 0 → HaveNoFault (map piece_of items)

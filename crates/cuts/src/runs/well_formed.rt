@@ -1,5 +1,5 @@
 //! How far bytes and units are well-formed.
-ghost use Rattle.std.specs.Prelude.{◌≡◌, take};
+ghost use Rattle.std.specs.Prelude.{◌≡◌, length, take};
 ghost use Rattle.std.specs.Str.{IsUtf8};
 ghost use Rattle.utf_base.specs.Code.{utf8, utf16};
 ghost use Rattle.encode_unicode.specs.Pieces.{pieces, unit_pieces};
@@ -14,6 +14,7 @@ pub fn valid_up_to(bytes: &[u8]) -> usize
     ensures first { IsFirstFault utf8 bytes.now result }
     ensures value { result ≡ valid_len (pieces bytes.now) }
     ensures text { IsUtf8 (take result bytes.now) }
+    ensures whole { IsUtf8 bytes.now → result ≡ length bytes.now }
 {
     let mut place = text_len(bytes);
     while place < bytes.len() {

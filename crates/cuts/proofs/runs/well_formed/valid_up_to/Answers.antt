@@ -2,6 +2,7 @@ use Rattle.std.proofs.Common.{arith}
 use Rattle.std.proofs.lemmas.List.{take_rest}
 use Rattle.utf_base.specs.Code.{utf8}
 use Rattle.cuts.proofs.OfRecoding.JudgedText.{text_step}
+use Rattle.cuts.proofs.OfRuns.CharacterRuns.{first_fault_of_text}
 use Rattle.cuts.proofs.OfRuns.FirstFaults.{good_all, good_bytes, first_fault}
 use Rattle.cuts.proofs.OfRuns.GoodText.{good_text}
 use Rattle.cuts.proofs.OfRuns.ValidLengths.{first_fault_known}
@@ -30,3 +31,9 @@ returns-in-Err-clause-value c = first_fault_known _ _ (returns-in-Err-clause-fir
 
 pub returns-clause-value : goal.returns-clause-value
 returns-clause-value c = first_fault_known _ _ (good_all utf8 _ _ c.loop-place.invariant.0 (omega (arith, c.loop-place-test.false)))
+
+pub returns-in-Err-clause-whole : goal.returns-in-Err-clause-whole
+returns-in-Err-clause-whole c text = first_fault_of_text _ _ (returns-in-Err-clause-first c) text
+
+pub returns-clause-whole : goal.returns-clause-whole
+returns-clause-whole c text = first_fault_of_text _ _ (good_all utf8 _ _ c.loop-place.invariant.0 (omega (arith, c.loop-place-test.false))) text
