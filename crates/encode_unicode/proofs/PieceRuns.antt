@@ -40,7 +40,7 @@ listed_run {S} {A} steps rest listed p seen =
     (items, mapped, tells p (rest p.from) items)
 
 -- The same from the back.
-listed_run_back : {S A : Type 0} (back : S → Option A → S → Type 0) (rest : S → List A) → ((s : S) (r : Option A) (t : S) → back s r t → YieldsLast rest s r t)
+pub listed_run_back : {S A : Type 0} (back : S → Option A → S → Type 0) (rest : S → List A) → ((s : S) (r : Option A) (t : S) → back s r t → YieldsLast rest s r t)
     → EveryRun back (λ p. GivesReversed p (rest p.from))
 listed_run_back {S} {A} back rest listed p seen =
     let mapped = from_back back (λ (x : A). x) rest (λ s t h. ap length (listed s None t h).0) (λ s x t h. listed s (Some x) t h) p seen in
@@ -222,26 +222,6 @@ scalars_listed_back w r v h = listed_back chars_left w r v (scalars_last w r v h
 pub placed_listed_back : IsListedBack BackPlaced placed_chars_left
 placed_listed_back w r v h = listed_back placed_chars_left w r v (placed_last w r v h)
 
--- What their runs give.
-
-pub decoder_runs : EveryRun NextGives (λ p. Gives p (pieces_left p.from))
-decoder_runs = listed_run NextGives pieces_left decoder_listed
-
-pub unit_decoder_runs : EveryRun NextGivesUnits (λ p. Gives p (unit_pieces_left p.from))
-unit_decoder_runs = listed_run NextGivesUnits unit_pieces_left unit_decoder_listed
-
-pub scalars_runs : EveryRun NextScalar (λ p. Gives p (chars_left p.from))
-scalars_runs = listed_run NextScalar chars_left scalars_listed
-
-pub scalars_runs_back : EveryRun BackScalar (λ p. GivesReversed p (chars_left p.from))
-scalars_runs_back = listed_run_back BackScalar chars_left scalars_last
-
-pub placed_runs_back : EveryRun BackPlaced (λ p. GivesReversed p (placed_chars_left p.from))
-placed_runs_back = listed_run_back BackPlaced placed_chars_left placed_last
-
-pub placed_runs : EveryRun NextPlaced (λ p. Gives p (placed_chars_left p.from))
-placed_runs = listed_run NextPlaced placed_chars_left placed_listed
-
 -- What a window of the whole text gives.
 
 pub whole_text : (text : List ℕ) → elements (whole_window text) ≡ text
@@ -368,7 +348,7 @@ all_no_longer (x ∷ xs) =
 
 lengths_fit : (code : ℕ → List ℕ) (text : List ℕ) (s : Window) → s ≡ whole_window text → length (flat_map code (chars text)) ≤ length text → EachRunFrom NextScalar s (LengthsFit code (length text))
 lengths_fit code text s e le p seen from =
-    let gives : Gives p (chars text) = subst (Gives p) (ap chars_left from ∙ (chars_of_text text s e).0) (scalars_runs p seen) in
+    let gives : Gives p (chars text) = subst (Gives p) (ap chars_left from ∙ (chars_of_text text s e).0) (listed_run NextScalar chars_left scalars_listed p seen) in
     let most : fold (λ a c. a + length (code c)) 0 p.items ≤ fold (λ a c. a + length (code c)) 0 (chars text) = gives.0.5 (λ a c. a + length (code c)) 0 (λ a c. omega arith) in
     let all = lengths_added code 0 (chars text) in
     omega arith
