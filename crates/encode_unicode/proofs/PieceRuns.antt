@@ -278,31 +278,27 @@ unit_decoder_places_back xs s e p seen from =
     let end : p.from.back ≡ length xs = ap (λ (u : Window). u.back) (from ∙ e) in
     all_items NextBackGivesUnits (λ w. w.back ≤ length xs) (LiesWithin 2 (length xs)) (λ w x v k g. piece_kept_back utf16 2 unit_back_kind decoded_pairs_end (length xs) w v x k g) p (omega arith)
 
--- what a window of a text keeps
-record KeepsText (text : List ℕ) (w : Window) : Type 0 where
+-- what a window of a text keeps, with this end
+record KeepsText (text : List ℕ) (w : Window) (end : ℕ) : Type 0 where
   whole : w.whole ≡ text
-  front : IsCharBoundary text w.front
+  boundary : IsCharBoundary text end
 
-char_kept : (text : List ℕ) (w v : Window) (x : ℕ × ℕ) → KeepsText text w → GivesFirst w x.0 x.1 v → LiesInText text x × KeepsText text v
+char_kept : (text : List ℕ) (w v : Window) (x : ℕ × ℕ) → KeepsText text w w.front → GivesFirst w x.0 x.1 v → LiesInText text x × KeepsText text v v.front
 char_kept text w v x k g =
     let whole : v.whole ≡ text = ap (λ (u : Window). u.whole) g.left ∙ k.whole in
     let front : v.front ≡ x.0 + length (utf8 x.1) = ap (λ (u : Window). u.front) g.left ∙ ap (λ p. p + length (utf8 x.1)) (sym g.at_front) in
     let new_front : IsCharBoundary text v.front = rw whole at g.between.front in
     let some = some_utf8 x.1 in
-    let here : IsCharBoundary text x.0 = rw (← g.at_front) at k.front in
+    let here : IsCharBoundary text x.0 = rw (← g.at_front) at k.boundary in
     let after : IsCharBoundary text (x.0 + length (utf8 x.1)) = rw front at new_front in
-    ((omega arith, here, omega arith, after), record { whole = whole; front = new_front })
+    ((omega arith, here, omega arith, after), record { whole = whole; boundary = new_front })
 
 pub text_places : (text : List ℕ) (s : Window) → IsUtf8 text → s ≡ whole_window text → EachRunFrom NextPlaced s (λ p. AllItems p (LiesInText text))
 text_places text s h e p seen from =
-    all_items NextPlaced (KeepsText text) (LiesInText text) (λ w x v k g. char_kept text w v x k g) p (rw (from, e) (record { whole = refl; front = IsCharBoundary-start text h }))
+    all_items NextPlaced (λ w. KeepsText text w w.front) (LiesInText text) (λ w x v k g. char_kept text w v x k g) p (rw (from, e) (record { whole = refl; boundary = IsCharBoundary-start text h }))
 
 -- the same from the back
-record KeepsTextBack (text : List ℕ) (w : Window) : Type 0 where
-  whole : w.whole ≡ text
-  back : IsCharBoundary text w.back
-
-char_kept_back : (text : List ℕ) (w v : Window) (x : ℕ × ℕ) → KeepsTextBack text w → GivesLast w x.0 x.1 v → LiesInText text x × KeepsTextBack text v
+char_kept_back : (text : List ℕ) (w v : Window) (x : ℕ × ℕ) → KeepsText text w w.back → GivesLast w x.0 x.1 v → LiesInText text x × KeepsText text v v.back
 char_kept_back text w v x k g =
     let whole : v.whole ≡ text = ap (λ (u : Window). u.whole) g.left ∙ k.whole in
     let back : v.back ≡ w.back - length (utf8 x.1) = ap (λ (u : Window). u.back) g.left in
@@ -313,12 +309,12 @@ char_kept_back text w v x k g =
     let at : x.0 ≡ v.back = g.at_back in
     let end : x.0 + length (utf8 x.1) ≡ w.back = omega arith in
     let here : IsCharBoundary text x.0 = rw (← at) at new_back in
-    let after : IsCharBoundary text (x.0 + length (utf8 x.1)) = rw end k.back in
-    ((omega arith, here, omega arith, after), record { whole = whole; back = new_back })
+    let after : IsCharBoundary text (x.0 + length (utf8 x.1)) = rw end k.boundary in
+    ((omega arith, here, omega arith, after), record { whole = whole; boundary = new_back })
 
 pub text_places_back : (text : List ℕ) (s : Window) → IsUtf8 text → s ≡ whole_window text → EachRunFrom BackPlaced s (λ p. AllItems p (LiesInText text))
 text_places_back text s h e p seen from =
-    all_items BackPlaced (KeepsTextBack text) (LiesInText text) (λ w x v k g. char_kept_back text w v x k g) p (rw (from, e) (record { whole = refl; back = IsCharBoundary-end text }))
+    all_items BackPlaced (λ w. KeepsText text w w.back) (LiesInText text) (λ w x v k g. char_kept_back text w v x k g) p (rw (from, e) (record { whole = refl; boundary = IsCharBoundary-end text }))
 
 -- How long their codes are together.
 
