@@ -176,7 +176,8 @@ pub scalars_last : (w : Window) (r : Option ℕ) (v : Window) → BackScalar w r
 scalars_last w None v h = no_chars_back w v h
 scalars_last w (Some s) v h = last_char w v v.back s h
 
-encodes_are_codes : (cs : List ℕ) → encode_utf8_all cs ≡ flat_map utf8 cs
+-- what std encodes are the codes
+pub encodes_are_codes : (cs : List ℕ) → encode_utf8_all cs ≡ flat_map utf8 cs
 encodes_are_codes [] = refl
 encodes_are_codes (c ∷ cs) = rw (encodes_are_codes cs, utf8_is_std c) refl
 
