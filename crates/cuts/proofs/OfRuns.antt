@@ -2,7 +2,6 @@
 pub mod EqualRunLemmas
 pub mod FirstFaults
 pub mod ForwardRuns
-pub mod GoodText
 pub mod MergedRuns
 pub mod PieceRuns
 pub mod RunExists

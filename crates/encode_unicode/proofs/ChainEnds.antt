@@ -1,26 +1,10 @@
--- How chains over a decoder or a text end: a fold that counts, and the last item.
-use Rattle.std.proofs.Common.{◌≡◌, ℕ, ◌+◌, ◌<◌, ◌≤◌, List, [], ◌∷◌, ◌++◌, length, Option, Some, None, refl, ap, sym, ◌∙◌, arith}
-use Rattle.std.specs.Iterator.{Drains, CallableAtEachTurn}
-use Rattle.std.specs.List.{last_or, sum_by}
-use Rattle.std.specs.Str.{chars}
-use Rattle.std.proofs.lemmas.Iterator.{YieldsList, items_from_drains}
+-- How chains over a decoder or a text end: a fold that counts.
+use Rattle.std.proofs.Common.{◌≡◌, ℕ, ◌+◌, ◌<◌, ◌≤◌, List, [], ◌∷◌, ◌++◌, length, Option, refl, ◌∙◌, arith}
+use Rattle.std.specs.Iterator.{CallableAtEachTurn}
+use Rattle.std.specs.List.{sum_by}
+use Rattle.std.proofs.lemmas.Iterator.{YieldsList}
 use Rattle.std.proofs.lemmas.Iterator.Adapters.{serves_from_total}
-use Rattle.std.proofs.lemmas.List.{map-id}
 use Rattle.std.proofs.lemmas.List.Sums.{sum_by-cons}
-use Rattle.encode_unicode.specs.TextWindow.{BackScalar}
-use Rattle.encode_unicode.specs.Window.{Window, whole_window}
-use Rattle.encode_unicode.proofs.PieceRuns.{chars_of_text, scalars_listed_back}
-
--- the last item of a chain whose list is known
-pub last_from_yields : {S A : Type 0} {steps : S → Option A → S → Type 0} {s : S} (xs : List A) (r : Option A) → ((ys : List A) × Drains steps s ys × (r ≡ last_or None ys))
-    → YieldsList steps (λ x. x) s xs → r ≡ last_or None xs
-last_from_yields xs r ran yields =
-    let end = ran.1 in
-    ran.2 ∙ ap (last_or None) (sym (map-id ran.0) ∙ items_from_drains ran.0 (end.1.0, end.1.1, λ _. (end.0, end.1.2)) yields)
-
--- what `next_back` answers of a whole text is its last character
-pub last_of_text : (w v : Window) (text : List ℕ) (r : Option ℕ) → w ≡ whole_window text → BackScalar w r v → r ≡ last_or None (chars text)
-last_of_text w v text r e h = (scalars_listed_back w r v h).1 ∙ ap (last_or None) (chars_of_text text w e).0
 
 ones : {A : Type 0} (xs : List A) → sum_by (λ _. 1) xs ≡ length xs
 ones [] = refl

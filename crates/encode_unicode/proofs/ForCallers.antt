@@ -10,6 +10,6 @@ pub use Rattle.utf_base.proofs.BackLemmas.{decoded_end_code, end_found, last_fou
 pub use Rattle.utf_base.proofs.UnitEnds.{decoded_units_end_code, decoded_pairs_end_code, ends_with_unit, ends_with_pair}
 pub use Rattle.utf_base.proofs.UnitLemmas.{no_kind_where_units, no_units_where_kind, units_where_no_kind}
 pub use Rattle.utf_base.proofs.Cuts.{front_char, front_fault, back_char, back_fault, piece_some, cut_none, cut_one, cut_push, cut_append}
-pub use Rattle.encode_unicode.proofs.PieceRuns.{as_it_is, codes_of_text, collected_from_yields, listed_yields, pieces_yielded, unit_pieces_yielded, chars_yielded, placed_yielded}
-pub use Rattle.encode_unicode.proofs.ChainEnds.{count_serves, last_from_yields, last_of_text}
+pub use Rattle.encode_unicode.proofs.PieceRuns.{as_it_is, codes_of_text, collected_from_yields, encodes_are_codes, listed_yields, pieces_yielded, unit_pieces_yielded, chars_yielded, placed_yielded}
+pub use Rattle.encode_unicode.proofs.ChainEnds.{count_serves}
 pub use Rattle.encode_unicode.proofs.PieceCounts.{pieces_within, unit_pieces_within}

@@ -40,7 +40,7 @@ listed_run {S} {A} steps rest listed p seen =
     (items, mapped, tells p (rest p.from) items)
 
 -- The same from the back.
-listed_run_back : {S A : Type 0} (back : S → Option A → S → Type 0) (rest : S → List A) → ((s : S) (r : Option A) (t : S) → back s r t → YieldsLast rest s r t)
+pub listed_run_back : {S A : Type 0} (back : S → Option A → S → Type 0) (rest : S → List A) → ((s : S) (r : Option A) (t : S) → back s r t → YieldsLast rest s r t)
     → EveryRun back (λ p. GivesReversed p (rest p.from))
 listed_run_back {S} {A} back rest listed p seen =
     let mapped = from_back back (λ (x : A). x) rest (λ s t h. ap length (listed s None t h).0) (λ s x t h. listed s (Some x) t h) p seen in
@@ -176,7 +176,8 @@ pub scalars_last : (w : Window) (r : Option ℕ) (v : Window) → BackScalar w r
 scalars_last w None v h = no_chars_back w v h
 scalars_last w (Some s) v h = last_char w v v.back s h
 
-encodes_are_codes : (cs : List ℕ) → encode_utf8_all cs ≡ flat_map utf8 cs
+-- what std encodes are the codes
+pub encodes_are_codes : (cs : List ℕ) → encode_utf8_all cs ≡ flat_map utf8 cs
 encodes_are_codes [] = refl
 encodes_are_codes (c ∷ cs) = rw (encodes_are_codes cs, utf8_is_std c) refl
 
@@ -221,26 +222,6 @@ scalars_listed_back w r v h = listed_back chars_left w r v (scalars_last w r v h
 
 pub placed_listed_back : IsListedBack BackPlaced placed_chars_left
 placed_listed_back w r v h = listed_back placed_chars_left w r v (placed_last w r v h)
-
--- What their runs give.
-
-pub decoder_runs : EveryRun NextGives (λ p. Gives p (pieces_left p.from))
-decoder_runs = listed_run NextGives pieces_left decoder_listed
-
-pub unit_decoder_runs : EveryRun NextGivesUnits (λ p. Gives p (unit_pieces_left p.from))
-unit_decoder_runs = listed_run NextGivesUnits unit_pieces_left unit_decoder_listed
-
-pub scalars_runs : EveryRun NextScalar (λ p. Gives p (chars_left p.from))
-scalars_runs = listed_run NextScalar chars_left scalars_listed
-
-pub scalars_runs_back : EveryRun BackScalar (λ p. GivesReversed p (chars_left p.from))
-scalars_runs_back = listed_run_back BackScalar chars_left scalars_last
-
-pub placed_runs_back : EveryRun BackPlaced (λ p. GivesReversed p (placed_chars_left p.from))
-placed_runs_back = listed_run_back BackPlaced placed_chars_left placed_last
-
-pub placed_runs : EveryRun NextPlaced (λ p. Gives p (placed_chars_left p.from))
-placed_runs = listed_run NextPlaced placed_chars_left placed_listed
 
 -- What a window of the whole text gives.
 
@@ -324,31 +305,27 @@ unit_decoder_codes = codes_there utf16 NextGivesUnits (λ xs w v x k g. code_kep
 pub unit_decoder_codes_back : (xs : List ℕ) (s : Window) → s ≡ whole_window xs → EachRunFrom NextBackGivesUnits s (λ p. AllItems p (HasCode utf16 xs))
 unit_decoder_codes_back = codes_there utf16 NextBackGivesUnits (λ xs w v x k g. code_kept_back utf16 2 unit_back_kind decoded_pairs_end xs w v x k g)
 
--- what a window of a text keeps
-record KeepsText (text : List ℕ) (w : Window) : Type 0 where
+-- what a window of a text keeps, with this end
+record KeepsText (text : List ℕ) (w : Window) (end : ℕ) : Type 0 where
   whole : w.whole ≡ text
-  front : IsCharBoundary text w.front
+  boundary : IsCharBoundary text end
 
-char_kept : (text : List ℕ) (w v : Window) (x : ℕ × ℕ) → KeepsText text w → GivesFirst w x.0 x.1 v → LiesInText text x × KeepsText text v
+char_kept : (text : List ℕ) (w v : Window) (x : ℕ × ℕ) → KeepsText text w w.front → GivesFirst w x.0 x.1 v → LiesInText text x × KeepsText text v v.front
 char_kept text w v x k g =
     let whole : v.whole ≡ text = ap (λ (u : Window). u.whole) g.left ∙ k.whole in
     let front : v.front ≡ x.0 + length (utf8 x.1) = ap (λ (u : Window). u.front) g.left ∙ ap (λ p. p + length (utf8 x.1)) (sym g.at_front) in
     let new_front : IsCharBoundary text v.front = rw whole at g.between.front in
     let some = some_utf8 x.1 in
-    let here : IsCharBoundary text x.0 = rw (← g.at_front) at k.front in
+    let here : IsCharBoundary text x.0 = rw (← g.at_front) at k.boundary in
     let after : IsCharBoundary text (x.0 + length (utf8 x.1)) = rw front at new_front in
-    ((omega arith, here, omega arith, after), record { whole = whole; front = new_front })
+    ((omega arith, here, omega arith, after), record { whole = whole; boundary = new_front })
 
 pub text_places : (text : List ℕ) (s : Window) → IsUtf8 text → s ≡ whole_window text → EachRunFrom NextPlaced s (λ p. AllItems p (LiesInText text))
 text_places text s h e p seen from =
-    all_items NextPlaced (KeepsText text) (LiesInText text) (λ w x v k g. char_kept text w v x k g) p (rw (from, e) (record { whole = refl; front = IsCharBoundary-start text h }))
+    all_items NextPlaced (λ w. KeepsText text w w.front) (LiesInText text) (λ w x v k g. char_kept text w v x k g) p (rw (from, e) (record { whole = refl; boundary = IsCharBoundary-start text h }))
 
 -- the same from the back
-record KeepsTextBack (text : List ℕ) (w : Window) : Type 0 where
-  whole : w.whole ≡ text
-  back : IsCharBoundary text w.back
-
-char_kept_back : (text : List ℕ) (w v : Window) (x : ℕ × ℕ) → KeepsTextBack text w → GivesLast w x.0 x.1 v → LiesInText text x × KeepsTextBack text v
+char_kept_back : (text : List ℕ) (w v : Window) (x : ℕ × ℕ) → KeepsText text w w.back → GivesLast w x.0 x.1 v → LiesInText text x × KeepsText text v v.back
 char_kept_back text w v x k g =
     let whole : v.whole ≡ text = ap (λ (u : Window). u.whole) g.left ∙ k.whole in
     let back : v.back ≡ w.back - length (utf8 x.1) = ap (λ (u : Window). u.back) g.left in
@@ -359,12 +336,12 @@ char_kept_back text w v x k g =
     let at : x.0 ≡ v.back = g.at_back in
     let end : x.0 + length (utf8 x.1) ≡ w.back = omega arith in
     let here : IsCharBoundary text x.0 = rw (← at) at new_back in
-    let after : IsCharBoundary text (x.0 + length (utf8 x.1)) = rw end k.back in
-    ((omega arith, here, omega arith, after), record { whole = whole; back = new_back })
+    let after : IsCharBoundary text (x.0 + length (utf8 x.1)) = rw end k.boundary in
+    ((omega arith, here, omega arith, after), record { whole = whole; boundary = new_back })
 
 pub text_places_back : (text : List ℕ) (s : Window) → IsUtf8 text → s ≡ whole_window text → EachRunFrom BackPlaced s (λ p. AllItems p (LiesInText text))
 text_places_back text s h e p seen from =
-    all_items BackPlaced (KeepsTextBack text) (LiesInText text) (λ w x v k g. char_kept_back text w v x k g) p (rw (from, e) (record { whole = refl; back = IsCharBoundary-end text }))
+    all_items BackPlaced (λ w. KeepsText text w w.back) (LiesInText text) (λ w x v k g. char_kept_back text w v x k g) p (rw (from, e) (record { whole = refl; boundary = IsCharBoundary-end text }))
 
 -- How long their codes are together.
 
@@ -394,7 +371,7 @@ all_no_longer (x ∷ xs) =
 
 lengths_fit : (code : ℕ → List ℕ) (text : List ℕ) (s : Window) → s ≡ whole_window text → length (flat_map code (chars text)) ≤ length text → EachRunFrom NextScalar s (LengthsFit code (length text))
 lengths_fit code text s e le p seen from =
-    let gives : Gives p (chars text) = subst (Gives p) (ap chars_left from ∙ (chars_of_text text s e).0) (scalars_runs p seen) in
+    let gives : Gives p (chars text) = subst (Gives p) (ap chars_left from ∙ (chars_of_text text s e).0) (listed_run NextScalar chars_left scalars_listed p seen) in
     let most : fold (λ a c. a + length (code c)) 0 p.items ≤ fold (λ a c. a + length (code c)) 0 (chars text) = gives.0.5 (λ a c. a + length (code c)) 0 (λ a c. omega arith) in
     let all = lengths_added code 0 (chars text) in
     omega arith

@@ -2,15 +2,13 @@
 ghost use Rattle.std.specs.Prelude.{◌≡◌, ◌-◌, ◌/◌, ◌<◌, drop, [], IfSome, Some, ⊤, length, List, ℕ};
 ghost use Rattle.std.specs.Iterator.{at_most, UpTo};
 ghost use Rattle.std.specs.Iterator.SizeHint.{IsWithinCount};
-ghost use Rattle.utf_base.specs.Back.{decoded_pairs_end, unit_end_fault};
-ghost use Rattle.utf_base.specs.Code.{utf16};
-ghost use Rattle.utf_base.specs.Decoded.{decoded_pairs};
+ghost use Rattle.utf_base.specs.Back.{unit_end_fault};
 ghost use Rattle.utf_base.specs.Ends.{last_of};
 ghost use Rattle.utf_base.specs.Front.{IsFrontLen};
-ghost use Rattle.utf_base.specs.Units.{slice_fault, unit_back_kind, unit_fault_kind};
 ghost use Rattle.encode_unicode.specs.Hints.{BoundsUnitPieces};
 ghost use Rattle.encode_unicode.specs.Window.{whole_window, elements, as_piece, IsBackOf, IsFrontOf};
 ghost use Rattle.encode_unicode.specs.Window.{NextGivesUnits, NextBackGivesUnits};
+ghost use Rattle.encode_unicode.specs.Words.{decoded_pairs, decoded_pairs_end, slice_fault, unit_back_kind, unit_fault_kind, utf16};
 
 use std::alloc::AllocError;
 use std::fmt;

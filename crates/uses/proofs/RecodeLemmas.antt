@@ -3,7 +3,7 @@ use Rattle.std.proofs.Common.{◌≡◌, ℕ, suc, ◌+◌, List, [], ◌∷◌,
 use Rattle.std.proofs.lemmas.Grind.{common_steps}
 use Rattle.std.proofs.lemmas.List.{drop_at}
 use Rattle.std.proofs.lemmas.List.Elements.{All-cons, All-nil}
-use Rattle.std.proofs.lemmas.Str.{encodes-chars, scalars-chars}
+use Rattle.std.proofs.lemmas.Str.{scalars-chars}
 use Rattle.std.specs.Char.{IsScalar as IsStdScalar}
 use Rattle.std.specs.List.{flat_map}
 use Rattle.std.specs.Prelude.{All, encode_utf8_all, slice_range}
@@ -16,8 +16,9 @@ use Rattle.encode_unicode.specs.TextWindow.{NextScalar}
 use Rattle.encode_unicode.specs.Units.{unit_fault_kind}
 use Rattle.encode_unicode.specs.Window.{Window, elements, whole_window}
 use Rattle.encode_unicode.specs.declared.error.Utf16PairError.{Utf16PairError}
-use Rattle.encode_unicode.proofs.ForCallers.{utf8_is_std, scalar_from_std, utf16_is_code, same_char, stands_first, no_units_where_kind}
+use Rattle.encode_unicode.proofs.ForCallers.{codes_of_text, utf16_is_code, same_char, stands_first, no_units_where_kind}
 use Rattle.encode_unicode.proofs.Listed.{scalars_listed, splitter_listed}
+use Rattle.cuts.proofs.TextRuns.{all_scalar}
 
 -- the units that a splitter over the characters of a text still gives
 abbrev pub units_left : Splitting Window → List ℕ
@@ -30,22 +31,12 @@ pub record IsRecodedSoFar (text again following : List ℕ) : Type 0 where
   pub units : following ≡ flat_map utf16 left
   pub joined : text ≡ again ++ flat_map utf8 left
 
-encodes_are_codes : (cs : List ℕ) → encode_utf8_all cs ≡ flat_map utf8 cs
-encodes_are_codes [] = refl
-encodes_are_codes (c ∷ cs) = rw (encodes_are_codes cs, utf8_is_std c) refl
-
-are_scalars : (cs : List ℕ) → all_scalars cs ≡ true → All IsScalar cs
-are_scalars [] e = All-nil IsScalar
-are_scalars (c ∷ cs) e =
-    let first : IsStdScalar c = grind (arith, common_steps) in
-    All-cons IsScalar c cs (scalar_from_std c first) (are_scalars cs (grind (arith, common_steps)))
-
 pub recoded_none : (text : List ℕ) → IsUtf8 text → IsRecodedSoFar text [] (flat_map utf16 (chars text))
 recoded_none text utf = record {
   left = chars text;
-  scalars = are_scalars (chars text) (scalars-chars text utf);
+  scalars = all_scalar (chars text) (scalars-chars text utf);
   units = refl;
-  joined = sym (encodes-chars text utf) ∙ encodes_are_codes (chars text);
+  joined = sym (codes_of_text text utf);
 }
 
 -- the character that begins the unread units is the next of the text

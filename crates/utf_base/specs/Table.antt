@@ -23,28 +23,35 @@ class b =
     else if b == 0xF4 then 11
     else 4
 
--- the place of a state among all: its row in the table, where it has one
+-- of each state its place among all, which is its row in the table where it has one, and how many bytes it asks for: none at
+-- an end, and at the start that is not known
+abbrev pub place_and_missing : State → ℕ × ℕ
+place_and_missing Start = (0, 0)
+place_and_missing OneMore = (1, 1)
+place_and_missing TwoMore = (2, 2)
+place_and_missing ThreeMore = (3, 3)
+place_and_missing AfterE0 = (4, 2)
+place_and_missing AfterEd = (5, 2)
+place_and_missing AfterF0 = (6, 3)
+place_and_missing AfterF4 = (7, 3)
+place_and_missing TwoMoreOverlong = (8, 2)
+place_and_missing OneMoreOverlong = (9, 1)
+place_and_missing OneMoreReserved = (10, 1)
+place_and_missing TwoMoreTooHigh = (11, 2)
+place_and_missing OneMoreTooHigh = (12, 1)
+place_and_missing Done = (13, 0)
+place_and_missing Unexpected = (14, 0)
+place_and_missing Never = (15, 0)
+place_and_missing Interrupted = (16, 0)
+place_and_missing Overlong = (17, 0)
+place_and_missing Reserved = (18, 0)
+place_and_missing TooHigh = (19, 0)
+
 abbrev pub row : State → ℕ
-row Start = 0
-row OneMore = 1
-row TwoMore = 2
-row ThreeMore = 3
-row AfterE0 = 4
-row AfterEd = 5
-row AfterF0 = 6
-row AfterF4 = 7
-row TwoMoreOverlong = 8
-row OneMoreOverlong = 9
-row OneMoreReserved = 10
-row TwoMoreTooHigh = 11
-row OneMoreTooHigh = 12
-row Done = 13
-row Unexpected = 14
-row Never = 15
-row Interrupted = 16
-row Overlong = 17
-row Reserved = 18
-row TooHigh = 19
+row state = (place_and_missing state).0
+
+abbrev pub missing : State → ℕ
+missing state = (place_and_missing state).1
 
 -- the state asks for a byte, so it has a row; the others are ends
 abbrev pub is_running : State → Bool
@@ -68,43 +75,31 @@ begun c =
 abbrev pub continued : State → State → State → ℕ → State
 continued one two three c = if c == 1 then one else if c == 2 then two else if c == 3 then three else Interrupted
 
+-- the same where they lead to one state
+abbrev pub continued_to : State → ℕ → State
+continued_to state = continued state state state
+
 -- the state after a byte of the class; an end has none
 unfoldable pub next_state : State → ℕ → State
 next_state Start c = begun c
-next_state OneMore c = continued Done Done Done c
-next_state TwoMore c = continued OneMore OneMore OneMore c
-next_state ThreeMore c = continued TwoMore TwoMore TwoMore c
+next_state OneMore c = continued_to Done c
+next_state TwoMore c = continued_to OneMore c
+next_state ThreeMore c = continued_to TwoMore c
 next_state AfterE0 c = continued OneMoreOverlong OneMoreOverlong OneMore c
 next_state AfterEd c = continued OneMore OneMore OneMoreReserved c
 next_state AfterF0 c = continued TwoMoreOverlong TwoMore TwoMore c
 next_state AfterF4 c = continued TwoMore TwoMoreTooHigh TwoMoreTooHigh c
-next_state TwoMoreOverlong c = continued OneMoreOverlong OneMoreOverlong OneMoreOverlong c
-next_state OneMoreOverlong c = continued Overlong Overlong Overlong c
-next_state OneMoreReserved c = continued Reserved Reserved Reserved c
-next_state TwoMoreTooHigh c = continued OneMoreTooHigh OneMoreTooHigh OneMoreTooHigh c
-next_state OneMoreTooHigh c = continued TooHigh TooHigh TooHigh c
+next_state TwoMoreOverlong c = continued_to OneMoreOverlong c
+next_state OneMoreOverlong c = continued_to Overlong c
+next_state OneMoreReserved c = continued_to Reserved c
+next_state TwoMoreTooHigh c = continued_to OneMoreTooHigh c
+next_state OneMoreTooHigh c = continued_to TooHigh c
 next_state ended c = ended
 
 -- the state after the first k bytes
 abbrev pub state_after : List ℕ → ℕ → State
 state_after w zero = Start
 state_after w (suc k) = next_state (state_after w k) (class (slice_index w k))
-
--- how many bytes a running state asks for; at the start that is not known
-abbrev pub missing : State → ℕ
-missing OneMore = 1
-missing TwoMore = 2
-missing ThreeMore = 3
-missing AfterE0 = 2
-missing AfterEd = 2
-missing AfterF0 = 3
-missing AfterF4 = 3
-missing TwoMoreOverlong = 2
-missing OneMoreOverlong = 1
-missing OneMoreReserved = 1
-missing TwoMoreTooHigh = 2
-missing OneMoreTooHigh = 1
-missing state = 0
 
 -- what is wrong with bytes that led to the state, where no more follow
 abbrev pub fault_of : State → Option Utf8ErrorKind

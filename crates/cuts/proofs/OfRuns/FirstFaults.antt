@@ -32,7 +32,7 @@ good_front code xs = record { within = omega arith; none = λ x h e. omega arith
 no_some : (s : ℕ) → Some s ≡ None → ⊥
 no_some s e = cc
 
-good_step : (code : ℕ → List ℕ) → IsCode code → (xs : List ℕ) (i s n : ℕ) → IsGoodTo code xs i → BeginsWith code (drop i xs) s n → IsGoodTo code xs (i + n)
+pub good_step : (code : ℕ → List ℕ) → IsCode code → (xs : List ℕ) (i s n : ℕ) → IsGoodTo code xs i → BeginsWith code (drop i xs) s n → IsGoodTo code xs (i + n)
 good_step code c xs i s n g (h, e) =
     let within = g.within in
     let stands : Stands code (slice_range xs i (length xs)) 0 s = rw (take_rest xs i) h in

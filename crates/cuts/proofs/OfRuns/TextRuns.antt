@@ -1,11 +1,11 @@
 -- A run has no error exactly where its bytes are text.
-use Rattle.std.proofs.Common.{◌≡◌, ℕ, suc, ◌+◌, List, [], ◌∷◌, ◌++◌, map, refl, ap₂, sym, ◌∙◌, arith, true, cond, Ok, Err, Result}
+use Rattle.std.proofs.Common.{◌≡◌, ℕ, suc, ◌+◌, List, [], ◌∷◌, ◌++◌, map, refl, sym, ◌∙◌, arith, true, cond, Ok, Err, Result}
 use Rattle.std.proofs.lemmas.Grind.{common_steps}
 use Rattle.std.proofs.lemmas.List.Elements.{All-cons, All-nil}
 use Rattle.std.proofs.lemmas.List.Sums.{sum_by-cons}
 use Rattle.std.proofs.lemmas.Str.{IsUtf8-append, IsUtf8-nil}
 use Rattle.std.specs.Char.{IsScalar as IsStdScalar}
-use Rattle.std.specs.Prelude.{◌↔◌, Option, All, encode_utf8_all, flat_map, is_err, is_some}
+use Rattle.std.specs.Prelude.{◌↔◌, Option, All, flat_map, is_err, is_some}
 use Rattle.std.specs.Result.{result_ok}
 use Rattle.std.specs.Str.{IsUtf8, all_scalars}
 use Rattle.utf_base.specs.declared.errors.Utf8ErrorKind.{Utf8ErrorKind}
@@ -15,9 +15,10 @@ use Rattle.utf_base.specs.CutLaws.{HaveNoFault, IsJoined}
 use Rattle.utf_base.specs.Kinds.{fault_kind}
 use Rattle.utf_base.proofs.FrontLemmas.{utf8_finds}
 use Rattle.utf_base.proofs.JoinedCodes.{no_fault_in_joined_codes}
-use Rattle.utf_base.proofs.StdText.{utf8_is_std, utf8_is_text, scalar_from_std}
+use Rattle.utf_base.proofs.StdText.{utf8_is_text, scalar_from_std}
 use Rattle.utf_base.proofs.Utf8Code.{utf8_is_code}
 use Rattle.encode_unicode.specs.Window.{Item}
+use Rattle.encode_unicode.proofs.ForCallers.{encodes_are_codes}
 use Rattle.cuts.specs.Programs.Layouts.{WritesListing}
 use Rattle.cuts.specs.Runs.Items.{piece_of, answers_of}
 use Rattle.cuts.specs.Programs.Listings.{IsForwardRun, fault_count}
@@ -26,18 +27,14 @@ use Rattle.cuts.proofs.OfRuns.RunLaws.{run_of_joined}
 scalars_more : (s : ℕ) (rest : List ℕ) → all_scalars (s ∷ rest) ≡ true → IsStdScalar s × (all_scalars rest ≡ true)
 scalars_more s rest h = (grind (arith, common_steps), grind (arith, common_steps))
 
-all_scalar : (scalars : List ℕ) → all_scalars scalars ≡ true → All IsScalar scalars
+pub all_scalar : (scalars : List ℕ) → all_scalars scalars ≡ true → All IsScalar scalars
 all_scalar [] h = All-nil IsScalar
 all_scalar (s ∷ rest) h =
     let w = scalars_more s rest h in
     All-cons IsScalar s rest (scalar_from_std s w.0) (all_scalar rest w.1)
 
-codes_of_characters : (scalars : List ℕ) → encode_utf8_all scalars ≡ flat_map utf8 scalars
-codes_of_characters [] = refl
-codes_of_characters (s ∷ rest) = ap₂ (λ xs ys. xs ++ ys) (utf8_is_std s) (codes_of_characters rest)
-
 pub joined_from_text : (xs : List ℕ) → IsUtf8 xs → (scalars : List ℕ) × IsJoined utf8 xs scalars
-joined_from_text xs (scalars, (all, e)) = (scalars, (all_scalar scalars all, sym e ∙ codes_of_characters scalars))
+joined_from_text xs (scalars, (all, e)) = (scalars, (all_scalar scalars all, sym e ∙ encodes_are_codes scalars))
 
 text_from_joined : (scalars : List ℕ) → All IsScalar scalars → IsUtf8 (flat_map utf8 scalars)
 text_from_joined [] h = IsUtf8-nil

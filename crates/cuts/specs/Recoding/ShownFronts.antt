@@ -1,5 +1,6 @@
 -- What the front of some bytes shows.
-use Rattle.std.specs.Prelude.{ℕ, ◌<◌, ◌≤◌, ◌++◌, ◌∷◌, List, length, drop}
+use Rattle.std.specs.Prelude.{◌≡◌, ℕ, ◌<◌, ◌≤◌, ◌++◌, ◌∷◌, List, length, drop, slice_index, true}
+use Rattle.utf_base.specs.Kinds.{is_continuation}
 use Rattle.utf_base.specs.Scalar.{IsScalar}
 use Rattle.cuts.specs.declared.recoding.form.Form.{Form}
 use Rattle.cuts.specs.declared.recoding.form.Form.TheVariants.{Utf8, Utf16Le, Utf16Be}
@@ -40,3 +41,10 @@ abbrev pub IsPlain : Form → ℕ → Type 0
 IsPlain Utf8 u = u < 0x80
 IsPlain Utf16Le u = IsScalar u × (u < 0x1_0000)
 IsPlain Utf16Be u = IsScalar u × (u < 0x1_0000)
+
+-- Four bytes or more, of which the first is from `least` on and before `past`, and the second continues.
+pub record IsBegun (least past : ℕ) (w : List ℕ) : Type 0 where
+  pub enough : 4 ≤ length w
+  pub low : least ≤ slice_index w 0
+  pub high : slice_index w 0 < past
+  pub second : is_continuation (slice_index w 1) ≡ true

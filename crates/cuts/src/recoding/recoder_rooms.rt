@@ -128,22 +128,23 @@ fn recode_few(from: Form, to: Form, bytes: &[u8], room: &mut [u8], place: usize)
         let Some((c, len)) = front(from, four(&bytes[read..])) else {
             break;
         };
-        match put_at(to, c, room, written) {
-            None => return Progress {
-                read,
-                written,
-                is_full: true,
-            },
-            Some(end) => {
-                read += len;
-                written = end;
-            }
-        }
+        let Some(end) = put_at(to, c, room, written) else {
+            return progress(read, written, true);
+        };
+        read += len;
+        written = end;
     }
+    progress(read, written, false)
+}
+
+#[inline(always)]
+fn progress(read: usize, written: usize, is_full: bool) -> Progress
+    ensures { result ≡ record { read = read; written = written; is_full = is_full } }
+{
     Progress {
         read,
         written,
-        is_full: false,
+        is_full,
     }
 }
 
@@ -169,23 +170,13 @@ pub(crate) fn recode_last_into(from: Form, to: Form, bytes: &[u8], room: &mut [u
     let mut written = 0;
     while read < bytes.len() {
         let (c, len) = last_front(from, &bytes[read..]);
-        match put_at(to, c, room, written) {
-            None => return Progress {
-                read,
-                written,
-                is_full: true,
-            },
-            Some(end) => {
-                read += len;
-                written = end;
-            }
-        }
+        let Some(end) = put_at(to, c, room, written) else {
+            return progress(read, written, true);
+        };
+        read += len;
+        written = end;
     }
-    Progress {
-        read,
-        written,
-        is_full: false,
-    }
+    progress(read, written, false)
 }
 
 // The scalar that begins the held bytes with those that follow them, how many bytes it has, and how many of those

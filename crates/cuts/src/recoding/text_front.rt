@@ -4,6 +4,7 @@ ghost use Rattle.utf_base.specs.Code.{utf8};
 ghost use Rattle.utf_base.specs.Decoded.{decoded};
 ghost use Rattle.utf_base.specs.Front.{as_scalar, BeginsWith, IsFrontLen, NoneBegins};
 ghost use Rattle.utf_base.specs.Kinds.{is_continuation};
+ghost use Rattle.cuts.specs.Recoding.ShownFronts.{IsBegun};
 
 /// The character whose code begins the bytes, and how many bytes the code has: 1 to 4 (RFC 3629, section 4).
 /// `None` where no code begins them, and where they are fewer than four.
@@ -30,7 +31,7 @@ pub fn front_of_text(src: &[u8]) -> Option<(char, usize)>
         return None;
     }
     match src[0] {
-        0xc2..=0xdf => two(src),
+        0xc2..=0xdf => Some(two(src)),
         0xe0..=0xef => three(src),
         0xf0..=0xf4 => four(src),
         _ => None,
@@ -39,25 +40,18 @@ pub fn front_of_text(src: &[u8]) -> Option<(char, usize)>
 
 // The character of two bytes, of which the second continues.
 #[inline(always)]
-fn two(src: &[u8]) -> Option<(char, usize)>
-    requires enough { 4 ≤ length src.now }
-    requires low { 0xC2 ≤ slice_index src.now 0 }
-    requires high { slice_index src.now 0 < 0xE0 }
-    requires second { is_continuation (slice_index src.now 1) ≡ true }
-    ensures some { IfSome result (λ x. BeginsWith utf8 src.now (as_scalar x.0) x.1) }
-    ensures none { IfNone result (NoneBegins utf8 src.now) }
+fn two(src: &[u8]) -> (char, usize)
+    requires { IsBegun 0xC2 0xE0 src.now }
+    ensures { BeginsWith utf8 src.now (as_scalar result.0) result.1 }
 {
     let value = followed((src[0] & 0x1f) as u32, src[1]);
-    Some((unsafe { char::from_u32_unchecked(value) }, 2))
+    (unsafe { char::from_u32_unchecked(value) }, 2)
 }
 
 // The character of three.
 #[inline(always)]
 fn three(src: &[u8]) -> Option<(char, usize)>
-    requires enough { 4 ≤ length src.now }
-    requires low { 0xE0 ≤ slice_index src.now 0 }
-    requires high { slice_index src.now 0 < 0xF0 }
-    requires second { is_continuation (slice_index src.now 1) ≡ true }
+    requires { IsBegun 0xE0 0xF0 src.now }
     ensures some { IfSome result (λ x. BeginsWith utf8 src.now (as_scalar x.0) x.1) }
     ensures none { IfNone result (NoneBegins utf8 src.now) }
 {
@@ -76,10 +70,7 @@ fn three(src: &[u8]) -> Option<(char, usize)>
 // The character of four.
 #[inline(always)]
 fn four(src: &[u8]) -> Option<(char, usize)>
-    requires enough { 4 ≤ length src.now }
-    requires low { 0xF0 ≤ slice_index src.now 0 }
-    requires high { slice_index src.now 0 < 0xF5 }
-    requires second { is_continuation (slice_index src.now 1) ≡ true }
+    requires { IsBegun 0xF0 0xF5 src.now }
     ensures some { IfSome result (λ x. BeginsWith utf8 src.now (as_scalar x.0) x.1) }
     ensures none { IfNone result (NoneBegins utf8 src.now) }
 {

@@ -6,16 +6,16 @@ use Rattle.cuts.proofs.OfRecoding.RoomLemmas.{IsFull-of}
 use Rattle.cuts.proofs.OfRecoding.RoomRuns.{RunsInto-step}
 use Rattle.cuts.proofs.recoding.recoder_rooms.recode_few.Goals as goal
 
-pub returns-in-None-clause-full : goal.returns-in-None-clause-full
-returns-in-None-clause-full c is =
+pub returns-in_default-put_at-clause-full : goal.returns-in_default-put_at-clause-full
+returns-in_default-put_at-clause-full c is =
     let bytes = c.args.bytes.now in
     let xs = drop c.loop-read.read bytes in
     let len = c.loop-read.invariant.len in
     let window = c.four.ensures ∙ ap (take 4) (take_rest bytes c.loop-read.read) in
     let d : Decides (Reads c.args.from) (take 4 xs) c.in-Some.c c.in-Some.len = rw window at c.in-Some.ensures.some in
-    let long = c.in-None.ensures.long in
+    let long = c.in_default-put_at.ensures.long in
     let longer : length c.args.room.now - c.loop-read.written < length (written c.args.to c.in-Some.c) = omega arith in
-    rw (take-append-drop 4 xs) at (IsFull-of (record { from = c.args.from; to = c.args.to; held = [] }) c.args.from c.args.to (take 4 xs) (drop 4 xs) c.in-Some.c c.in-Some.len _ refl refl d longer)
+    rw c.progress.ensures (rw (take-append-drop 4 xs) at (IsFull-of (record { from = c.args.from; to = c.args.to; held = [] }) c.args.from c.args.to (take 4 xs) (drop 4 xs) c.in-Some.c c.in-Some.len _ refl refl d longer))
 
 pub loop-read-preserved : goal.loop-read-preserved
 loop-read-preserved c =

@@ -5,8 +5,11 @@ use Rattle.cuts.specs.Recoding.ShownFronts.{Ends}
 use Rattle.cuts.proofs.OfRecoding.RoomLemmas.{drop_later, Leaves-step}
 use Rattle.cuts.proofs.recoding.recoder_rooms.recode_last_into.Goals as goal
 
-pub returns-in-None-clause-leaves : goal.returns-in-None-clause-leaves
-returns-in-None-clause-leaves c = rw c.in-None.ensures.none c.loop-read.invariant.leaves
+pub returns-in_default-clause-leaves : goal.returns-in_default-clause-leaves
+returns-in_default-clause-leaves c = rw (c.progress.ensures, c.in_default.ensures.none) c.loop-read.invariant.leaves
+
+pub returns-clause-leaves : goal.returns-clause-leaves
+returns-clause-leaves c = rw c.progress-2.ensures c.loop-read.invariant.leaves
 
 pub loop-read-preserved : goal.loop-read-preserved
 loop-read-preserved c =

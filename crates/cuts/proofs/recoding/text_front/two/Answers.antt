@@ -6,8 +6,8 @@ use Rattle.utf_base.proofs.FrontLemmas.{least_value-below_3}
 use Rattle.utf_base.proofs.KindCases.{Asks-2, Sums-2, begins_with}
 use Rattle.cuts.proofs.recoding.text_front.two.Goals as goal
 
-pub returns-clause-some : goal.returns-clause-some
-returns-clause-some c =
+pub returns : goal.returns
+returns c =
     let any : 0 ≤ c.followed-value.result = omega arith in
     let low = c.requires.low in
     let high = c.requires.high in

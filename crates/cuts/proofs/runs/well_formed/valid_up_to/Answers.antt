@@ -4,7 +4,7 @@ use Rattle.utf_base.specs.Code.{utf8}
 use Rattle.cuts.proofs.OfRecoding.JudgedText.{text_step}
 use Rattle.cuts.proofs.OfRuns.CharacterRuns.{first_fault_of_text}
 use Rattle.cuts.proofs.OfRuns.FirstFaults.{good_all, good_bytes, first_fault}
-use Rattle.cuts.proofs.OfRuns.GoodText.{good_text}
+use Rattle.cuts.proofs.OfRuns.GoodCodes.{good_text}
 use Rattle.cuts.proofs.OfRuns.ValidLengths.{first_fault_known}
 use Rattle.cuts.proofs.runs.well_formed.valid_up_to.Goals as goal
 

@@ -1,8 +1,8 @@
-use Rattle.encode_unicode.proofs.PieceRuns.{placed_runs, placed_runs_back}
+use Rattle.encode_unicode.proofs.PieceRuns.{listed_run, listed_run_back, placed_last, placed_listed}
 use Rattle.encode_unicode.proofs.str_ext.RefStrStrExt.utf16char_indices.Goals as goal
 
 pub returns-clause-runs : goal.returns-clause-runs
-returns-clause-runs c = placed_runs
+returns-clause-runs c = listed_run _ _ placed_listed
 
 pub returns-clause-runs_back : goal.returns-clause-runs_back
-returns-clause-runs_back c = placed_runs_back
+returns-clause-runs_back c = listed_run_back _ _ placed_last

@@ -1,8 +1,8 @@
-use Rattle.encode_unicode.proofs.PieceRuns.{scalars_runs, scalars_runs_back}
+use Rattle.encode_unicode.proofs.PieceRuns.{listed_run, listed_run_back, scalars_last, scalars_listed}
 use Rattle.encode_unicode.proofs.str_ext.RefStrStrExt.utf16chars.Goals as goal
 
 pub returns-clause-runs : goal.returns-clause-runs
-returns-clause-runs c = scalars_runs
+returns-clause-runs c = listed_run _ _ scalars_listed
 
 pub returns-clause-runs_back : goal.returns-clause-runs_back
-returns-clause-runs_back c = scalars_runs_back
+returns-clause-runs_back c = listed_run_back _ _ scalars_last
