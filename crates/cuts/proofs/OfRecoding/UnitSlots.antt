@@ -10,7 +10,7 @@ use Rattle.std.specs.Int.{bit_at}
 use lib.Lanes.{zip2, sel_l, mask_l, top, chunk}
 use Rattle.utf_base.specs.Units.{is_leading_surrogate, is_surrogate}
 use Rattle.cuts.specs.Recoding.Recoded.{unit_of}
-use Rattle.cuts.specs.Recoding.UnitCodes.{lane_unit, first_byte, middle_byte, last_byte, lead_byte, second_byte, third_byte}
+use Rattle.cuts.specs.Recoding.UnitCodes.{lane_unit, AreLanes, first_byte, middle_byte, last_byte, lead_byte, second_byte, third_byte, first_in_text, middle_in_text, last_in_text}
 use Rattle.cuts.proofs.OfRecoding.BlockUnits.{below_8}
 use Rattle.cuts.proofs.OfRecoding.ChosenLanes.{wide_with}
 use Rattle.cuts.proofs.OfRecoding.UnitLanes.{added, up, down}
@@ -296,8 +296,9 @@ module _ (low high : List ℕ) (p : IsBlock low) (q : IsBlock high) where
         (third_is (get_or before k 0) (get_or high k 0) (get_or low k 0) (lane_fits high k q lt) (lane_fits low k p lt))
 
 -- Where some units may be surrogates.
-module _ (low high first middle last lead second third : List ℕ) (p : IsBlock low) (q : IsBlock high) (fl : length first ≡ 16) (ml : length middle ≡ 16) (ll : length last ≡ 16)
-    (dl : length lead ≡ 16) (sl : length second ≡ 16) (tl : length third ≡ 16) where
+module _ (low high before first middle last lead second third : List ℕ) (p : IsBlock low) (q : IsBlock high) (f : AreLanes first (λ k. first_byte (lane_unit low high k)))
+    (m : AreLanes middle (λ k. middle_byte (lane_unit low high k))) (l : AreLanes last (λ k. last_byte (lane_unit low high k))) (d : AreLanes lead (λ k. lead_byte (lane_unit low high k)))
+    (s : AreLanes second (λ k. second_byte (lane_unit low high k))) (t : AreLanes third (λ k. third_byte (get_or before k 0) (lane_unit low high k))) where
   abbrev eighths : List ℕ
   eighths = zip2 down high (replicate 16 3)
 
@@ -323,16 +324,7 @@ module _ (low high first middle last lead second third : List ℕ) (p : IsBlock 
   fourths_len = wide_with down high 2 q.0
 
   paired_len : length paired ≡ 16
-  paired_len = where_passed_len eqb eighths 0x1B third middle eighths_len tl ml
-
-  pub text_firsts_len : length text_firsts ≡ 16
-  text_firsts_len = where_passed_len eqb eighths 0x1B (replicate 16 0) first eighths_len refl fl
-
-  pub text_middles_len : length text_middles ≡ 16
-  text_middles_len = where_passed_len eqb fourths 0x36 lead paired fourths_len dl paired_len
-
-  pub text_lasts_len : length text_lasts ≡ 16
-  text_lasts_len = where_passed_len eqb fourths 0x36 second last fourths_len sl ll
+  paired_len = where_passed_len eqb eighths 0x1B third middle eighths_len t.wide m.wide
 
   eighth : (k : ℕ) → k < 16 → eqb (get_or eighths k 0) 0x1B ≡ is_surrogate (lane_unit low high k)
   eighth k lt = rw (lane_with down high 3 q.0 k lt) (surrogate_is (get_or high k 0) (get_or low k 0) (lane_fits low k p lt))
@@ -340,16 +332,32 @@ module _ (low high first middle last lead second third : List ℕ) (p : IsBlock 
   fourth : (k : ℕ) → k < 16 → eqb (get_or fourths k 0) 0x36 ≡ is_leading_surrogate (lane_unit low high k)
   fourth k lt = rw (lane_with down high 2 q.0 k lt) (leading_is (get_or high k 0) (get_or low k 0) (lane_fits low k p lt))
 
-  pub text_firsts_at : (k : ℕ) → k < 16 → get_or text_firsts k 0 ≡ cond (is_surrogate (lane_unit low high k)) 0 (get_or first k 0)
-  text_firsts_at k lt = rw (where_passed_at eqb eighths 0x1B (replicate 16 0) first eighths_len refl fl k lt, eighth k lt, get_or-replicate {A = ℕ} 16 k 0 0 lt) refl
+  pub text_firsts_are : AreLanes text_firsts (λ k. first_in_text (lane_unit low high k))
+  text_firsts_are = record {
+    wide = where_passed_len eqb eighths 0x1B (replicate 16 0) first eighths_len refl f.wide;
+    each = λ k lt. rw (where_passed_at eqb eighths 0x1B (replicate 16 0) first eighths_len refl f.wide k lt, eighth k lt, get_or-replicate {A = ℕ} 16 k 0 0 lt, f.each k lt) refl;
+  }
 
-  pub text_middles_at : (k : ℕ) → k < 16
-      → get_or text_middles k 0 ≡ cond (is_leading_surrogate (lane_unit low high k)) (get_or lead k 0) (cond (is_surrogate (lane_unit low high k)) (get_or third k 0) (get_or middle k 0))
-  text_middles_at k lt =
-      rw (where_passed_at eqb fourths 0x36 lead paired fourths_len dl paired_len k lt, where_passed_at eqb eighths 0x1B third middle eighths_len tl ml k lt, eighth k lt, fourth k lt) refl
+  pub text_middles_are : AreLanes text_middles (λ k. middle_in_text (get_or before k 0) (lane_unit low high k))
+  text_middles_are = record {
+    wide = where_passed_len eqb fourths 0x36 lead paired fourths_len d.wide paired_len;
+    each = λ k lt.
+        rw (
+          where_passed_at eqb fourths 0x36 lead paired fourths_len d.wide paired_len k lt,
+          where_passed_at eqb eighths 0x1B third middle eighths_len t.wide m.wide k lt,
+          eighth k lt,
+          fourth k lt,
+          d.each k lt,
+          t.each k lt,
+          m.each k lt,
+        ) refl;
+  }
 
-  pub text_lasts_at : (k : ℕ) → k < 16 → get_or text_lasts k 0 ≡ cond (is_leading_surrogate (lane_unit low high k)) (get_or second k 0) (get_or last k 0)
-  text_lasts_at k lt = rw (where_passed_at eqb fourths 0x36 second last fourths_len sl ll k lt, fourth k lt) refl
+  pub text_lasts_are : AreLanes text_lasts (λ k. last_in_text (lane_unit low high k))
+  text_lasts_are = record {
+    wide = where_passed_len eqb fourths 0x36 second last fourths_len s.wide l.wide;
+    each = λ k lt. rw (where_passed_at eqb fourths 0x36 second last fourths_len s.wide l.wide k lt, fourth k lt, s.each k lt, l.each k lt) refl;
+  }
 
 -- Shuffles.
 

@@ -8,7 +8,7 @@ returns-then-are_short c =
     let short = c.are_short.ensures c.if-are_short.true in
     let slots = c.character_slots-slots.ensures in
     let put = c.write_short_slots.ensures in
-    let codes = short_codes c.args.low c.args.high (λ k lt. lane_fits c.args.low k c.fits-low lt) short _ _ slots.middle slots.last in
+    let codes = short_codes c.args.low c.args.high (λ k lt. lane_fits c.args.low k c.fits-low lt) short _ _ slots.middle.each slots.last.each in
     WritesUnits-all _ _ _ _ _ _ _ (short_text c.args.low c.args.high (λ k lt. lane_fits c.args.low k c.fits-low lt) short) put.len put.bytes codes (omega (arith, put.most))
 
 pub returns-then-are_characters : goal.returns-then-are_characters
@@ -17,4 +17,4 @@ returns-then-are_characters c =
     let slots = c.character_slots.ensures in
     let put = c.write_slots.ensures in
     WritesUnits-all _ _ _ _ _ _ _ (characters_are_text c.args.low c.args.high (λ k lt. lane_fits c.args.low k c.fits-low lt) none) put.len put.bytes
-    (character_codes c.args.low c.args.high (λ k lt. lane_fits c.args.low k c.fits-low lt) none _ _ _ slots.first slots.middle slots.last) put.most
+    (character_codes c.args.low c.args.high (λ k lt. lane_fits c.args.low k c.fits-low lt) none _ _ _ slots.first.each slots.middle.each slots.last.each) put.most
