@@ -1,5 +1,5 @@
 -- Bytes swapped in pairs, part by part, and as lanes.
-use Rattle.std.proofs.Common.{◌≡◌, ℕ, zero, suc, ◌+◌, ◌-◌, ◌*◌, ◌/◌, ◌%◌, ◌≤◌, List, [], ◌∷◌, ◌++◌, map, length, get_or, take, drop, refl, sym, ap, ap₂, ◌∙◌, arith, append_assoc, length-append, length-take, length-drop, drop-cons, take-add, take-append-drop}
+use Rattle.std.proofs.Common.{◌≡◌, ℕ, zero, suc, ◌+◌, ◌-◌, ◌*◌, ◌/◌, ◌%◌, ◌≤◌, List, [], ◌∷◌, ◌++◌, ◌⊎◌, inl, inr, map, length, get_or, take, drop, refl, sym, ap, ap₂, ◌∙◌, arith, append_assoc, length-append, length-take, length-drop, drop-cons, take-add, take-append-drop}
 use Rattle.std.proofs.lemmas.List.{append-nil, drop-drop, drop_at, take_at, take_all}
 use Rattle.std.specs.Prelude.{Vec, vec_len, vec_capacity}
 use Rattle.cuts.specs.Recoding.UnitBlocks.{swapped}
@@ -42,6 +42,11 @@ SwapsOnto-next xs old mid new p n pairs within before items len capacity =
       len = omega arith;
       capacity = omega arith;
     }
+
+-- blocks of whole pairs
+pub width_pairs : (n : ℕ) → (n ≡ 64) ⊎ (n ≡ 16) → n % 2 ≡ 0
+width_pairs n (inl at) = omega arith
+width_pairs n (inr at) = omega arith
 
 -- the rest of the bytes after a front
 pub swapped_rest : (xs old mid new : List ℕ) (p : ℕ) → p % 2 ≡ 0 → p ≤ length xs → mid ≡ old ++ swapped (take p xs) → new ≡ mid ++ swapped (drop p xs) → new ≡ old ++ swapped xs
