@@ -93,6 +93,36 @@ Fills-given high old mid new text place p m q n t end last f len g at sum =
 pub Fills-no-units : (high : Bool) (old text : List ℕ) (place p : ℕ) → place ≤ length old → Fills old old place place (given high text p 0)
 Fills-no-units high old text place p fits = subst (λ xs. Fills old old place place xs) (given_nothing high text [] p) (Fills-none old place place refl fits)
 
+-- what a loop keeps that writes units: those of the places from one on and before another, in two bytes each at most
+pub record KeepsUnits (high : Bool) (text old new : List ℕ) (place start read end : ℕ) : Type 0 where
+  pub least : start ≤ read
+  pub within : read ≤ length text
+  pub fills : Fills old new place end (given high text start (read - start))
+  pub short : end ≤ place + 2 * (read - start)
+  pub room : length new ≡ length old
+
+pub KeepsUnits-none : (high : Bool) (text old : List ℕ) (place start : ℕ) → start ≤ length text → place ≤ length old → KeepsUnits high text old old place start start place
+KeepsUnits-none high text old place start within fits = record {
+  least = omega arith;
+  within = within;
+  fills = (let none : start - start ≡ 0 = omega arith in rw none (Fills-no-units high old text place start fits));
+  short = omega arith;
+  room = refl;
+}
+
+pub KeepsUnits-next : (high : Bool) (text old mid new : List ℕ) (place start read n q end last : ℕ) → KeepsUnits high text old mid place start read end → q ≡ read → read + n ≤ length text
+    → Fills mid new end last (given high text q n) → last ≤ end + 2 * n → length new ≡ length mid → KeepsUnits high text old new place start (read + n) last
+KeepsUnits-next high text old mid new place start read n q end last before at within fills short same =
+    let least = before.least in
+    let few = before.short in
+    record {
+      least = omega arith;
+      within = within;
+      fills = Fills-given high old mid new text place start (read - start) q n (read + n - start) end last before.fills before.room fills (omega arith) (omega arith);
+      short = omega arith;
+      room = same ∙ before.room;
+    }
+
 -- Bytes written part by part, those of each pair swapped.
 
 pub Fills-swapped : (old mid new w : List ℕ) (place p n end last next : ℕ) → p % 2 ≡ 0 → p ≤ length w → Fills old mid place end (swapped (take p w)) → length mid ≡ length old
