@@ -25,30 +25,14 @@ pub(crate) fn narrow_units<A: Allocator>(
 {
     let mut place = 0;
     while 32 <= bytes.len() - place {
-        let len = narrow_block(from, high_first, &bytes[place..], out);
-        if len == 0 {
+        let (low, high) = sixteen_halves(high_first, &bytes[place..]);
+        let units = put_sixteen(low, high, out);
+        if units == 0 {
             return place;
         }
-        place += len;
+        place += 2 * units;
     }
     place
-}
-
-// Recodes the first sixteen units, or fifteen, or none.
-#[inline(always)]
-fn narrow_block<A: Allocator>(
-    from: Form,
-    high_first: bool,
-    bytes: &[u8],
-    out: &mut Vec<u8, A>,
-) -> usize
-    requires form { IsUnits high_first from }
-    requires long { 32 ≤ length bytes.now }
-    requires room { vec_len out.old + 96 ≤ vec_capacity out.old }
-    ensures { RunsOnto from Form.Utf8 bytes.now out.old out.new result }
-{
-    let (low, high) = sixteen_halves(high_first, bytes);
-    2 * put_sixteen(low, high, out)
 }
 
 // Appends the bytes of sixteen units, or of fifteen, or none. Answers of how many.
