@@ -1,5 +1,5 @@
 -- Runs into room of a fixed size that copy, with the bytes of each pair swapped or as they are, and those that write text as units.
-use Rattle.std.proofs.Common.{◌≡◌, ℕ, ◌+◌, ◌-◌, ◌*◌, ◌%◌, ◌≤◌, Bool, List, [], ◌∷◌, ◌++◌, length, get_or, take, drop, IsUtf8, arith, refl, ap, sym, ◌∙◌, length-take, subst, w8, Fits}
+use Rattle.std.proofs.Common.{◌≡◌, ℕ, ◌+◌, ◌-◌, ◌*◌, ◌%◌, ◌≤◌, Bool, ◌⊎◌, inl, inr, List, [], ◌∷◌, ◌++◌, length, get_or, take, drop, IsUtf8, arith, refl, ap, sym, ◌∙◌, length-take, subst, w8, Fits}
 use Rattle.std.proofs.lemmas.List.{append-nil, take-take}
 use Rattle.cuts.specs.declared.recoding.form.Form.{Form}
 use Rattle.cuts.specs.declared.recoding.form.Form.TheVariants.{Utf8}
@@ -131,6 +131,11 @@ Fills-swapped old mid new w place p n end last next even within f len g at =
     subst (λ e. Fills old new place e (swapped (take (p + n) w))) at
     (subst (λ xs. Fills old new place last xs) (swapped_more w [] (swapped (take p w)) (swapped (take p w) ++ swapped (take n (drop p w))) p n even within refl refl)
     (Fills-then old mid new (swapped (take p w)) (swapped (take n (drop p w))) place end last f len g))
+
+-- blocks of whole pairs
+pub width_even : (n : ℕ) → (n ≡ 16) ⊎ (n ≡ 2) → n % 2 ≡ 0
+width_even n (inl at) = omega arith
+width_even n (inr at) = omega arith
 
 pub Fills-rest : (old mid new w : List ℕ) (place p end last : ℕ) → p % 2 ≡ 0 → p ≤ length w → Fills old mid place end (swapped (take p w)) → length mid ≡ length old
     → Fills mid new end last (swapped (drop p w)) → Fills old new place last (swapped w)

@@ -1,5 +1,5 @@
 //! Text copied into room of a fixed size: as it is, or units with the bytes of each swapped.
-ghost use Rattle.std.specs.Prelude.{◌≡◌, ◌+◌, ◌%◌, ◌≤◌, length, take};
+ghost use Rattle.std.specs.Prelude.{◌≡◌, ◌⊎◌, ◌+◌, ◌%◌, ◌<◌, ◌≤◌, length, take, drop};
 ghost use Rattle.cuts.specs.Recoding.Recoded.{units_of};
 ghost use Rattle.cuts.specs.Recoding.Rooms.{Fills, RunsInto};
 ghost use Rattle.cuts.specs.Recoding.UnitBlocks.{AreCodes, swapped, turned};
@@ -86,38 +86,39 @@ fn swap_into(bytes: &[u8], room: &mut [u8], place: usize) -> usize
     ensures fills { Fills room.old room.new place result (swapped bytes.now) }
     ensures end { result ≡ place + length bytes.now }
 {
-    let len = blocks_swapped(bytes, room, place);
-    pairs_swapped(&bytes[len..], room, place + len)
+    let len = blocks_swapped(16, bytes, room, place);
+    place + len + blocks_swapped(2, &bytes[len..], room, place + len)
 }
 
-// The same in blocks of sixteen. Answers how many bytes they have.
+// The same in blocks of so many bytes. Answers how many bytes they have.
 #[inline(always)]
-fn blocks_swapped(bytes: &[u8], room: &mut [u8], place: usize) -> usize
-    requires { place + length bytes.now ≤ length room.old }
+fn blocks_swapped(width: usize, bytes: &[u8], room: &mut [u8], place: usize) -> usize
+    requires width { width ≡ 16 ⊎ width ≡ 2 }
+    requires room { place + length bytes.now ≤ length room.old }
     ensures within { result ≤ length bytes.now }
     ensures even { result % 2 ≡ 0 }
+    ensures few { length bytes.now < result + width }
     ensures fills { Fills room.old room.new place (place + result) (swapped (take result bytes.now)) }
 {
     let mut len = 0;
-    while 16 <= bytes.len() - len {
-        put_all(&swapped_16(bytes, len), room, place + len);
-        len += 16;
+    while width <= bytes.len() - len {
+        swap_block(width, bytes, len, room, place + len);
+        len += width;
     }
     len
 }
 
-// The same of the few that are left, pair by pair.
+// One block.
 #[inline(always)]
-fn pairs_swapped(bytes: &[u8], room: &mut [u8], place: usize) -> usize
-    requires even { length bytes.now % 2 ≡ 0 }
-    requires room { place + length bytes.now ≤ length room.old }
-    ensures fills { Fills room.old room.new place result (swapped bytes.now) }
-    ensures end { result ≡ place + length bytes.now }
+fn swap_block(width: usize, bytes: &[u8], start: usize, room: &mut [u8], place: usize)
+    requires width { width ≡ 16 ⊎ width ≡ 2 }
+    requires within { start + width ≤ length bytes.now }
+    requires room { place + width ≤ length room.old }
+    ensures { Fills room.old room.new place (place + width) (swapped (take width (drop start bytes.now))) }
 {
-    let mut len = 0;
-    while 2 <= bytes.len() - len {
-        put_two(bytes[len + 1], bytes[len], room, place + len);
-        len += 2;
+    if width == 16 {
+        put_all(&swapped_16(bytes, start), room, place);
+    } else {
+        put_two(bytes[start + 1], bytes[start], room, place);
     }
-    place + len
 }
