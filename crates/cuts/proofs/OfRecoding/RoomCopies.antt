@@ -45,13 +45,18 @@ RunsInto-text bytes old new place n most end within text fills at =
     (Grows-text (take (n + 3) bytes) _ _ n (rw (same_front bytes n) (rw front at text)) (fills.front ∙ ap (λ xs. take place old ++ xs) (sym (same_front bytes n))))
 
 -- well-formed units, in the order that is wanted
-pub RunsInto-units : (high other : Bool) (from to : Form) (bytes old new : List ℕ) (place n end : ℕ) → IsUnits high from → IsUnits other to → ((j : ℕ) → Fits w8 (get_or bytes j 0))
-    → n ≤ length bytes → n % 2 ≡ 0 → AreCodes (units_of high (take n bytes)) → Fills old new place end (turned (differ high other) (take n bytes)) → end ≡ place + n
-    → RunsInto from to bytes old new place n end
-RunsInto-units high other from to bytes old new place n end reads writes fits within even h fills at =
-    RunsInto-filled from to bytes old new _ place n end within fills (omega arith)
-    (Grows-turned high other from to (take (n + 3) bytes) _ _ n reads writes (front_fits bytes (n + 3) fits) (omega (arith, length-take (n + 3) bytes)) even (rw (same_front bytes n) h)
-    (fills.front ∙ ap (λ xs. take place old ++ turned (differ high other) xs) (sym (same_front bytes n))))
+pub RunsInto-units : (high other : Bool) (from to : Form) (bytes old new : List ℕ) (place n most end : ℕ) → IsUnits high from → IsUnits other to → ((j : ℕ) → Fits w8 (get_or bytes j 0))
+    → n ≤ length (take most bytes) → n % 2 ≡ 0 → AreCodes (units_of high (take n (take most bytes))) → Fills old new place end (turned (differ high other) (take n bytes))
+    → end ≡ place + length (take n bytes) → RunsInto from to bytes old new place n (place + n)
+RunsInto-units high other from to bytes old new place n most end reads writes fits within even h fills at =
+    let few : n ≤ most = omega (arith, length-take most bytes) in
+    let all : n ≤ length bytes = omega (arith, length-take most bytes) in
+    let front : take n (take most bytes) ≡ take n bytes = take-take n most bytes few in
+    let last : end ≡ place + n = omega (arith, at, length-take n bytes) in
+    subst (λ e. RunsInto from to bytes old new place n e) last
+    (RunsInto-filled from to bytes old new _ place n end all fills (omega arith)
+    (Grows-turned high other from to (take (n + 3) bytes) _ _ n reads writes (front_fits bytes (n + 3) fits) (omega (arith, length-take (n + 3) bytes)) even (rw (same_front bytes n) (rw front at h))
+    (fills.front ∙ ap (λ xs. take place old ++ turned (differ high other) xs) (sym (same_front bytes n)))))
 
 -- text in UTF-8 as units
 pub RunsInto-given : (high : Bool) (to : Form) (bytes old new : List ℕ) (place n most end : ℕ) → IsUnits high to → n ≤ length (take most bytes) → IsUtf8 (take n (take most bytes))
