@@ -53,7 +53,7 @@ pub joined_1 : (f : ℕ → List ℕ) (p : ℕ) → joined f p 1 ≡ f p
 unfolding joined
 joined_1 f p = append-nil (f p)
 
-pub joined_next : (f : ℕ → List ℕ) (p n q : ℕ) → suc p ≡ q → joined f p (suc n) ≡ f p ++ joined f q n
+joined_next : (f : ℕ → List ℕ) (p n q : ℕ) → suc p ≡ q → joined f p (suc n) ≡ f p ++ joined f q n
 unfolding joined
 joined_next f p n q at = ap (λ j. f p ++ joined f j n) at
 

@@ -149,7 +149,7 @@ WritesUnits-all low high old new bytes at end text len written codes fits = reco
 
 -- Units that are characters.
 
-pub characters_text : (u : ℕ → ℕ) (n : ℕ) → ((k : ℕ) → k < n → is_surrogate (u k) ≡ false) → AreText u n
+characters_text : (u : ℕ → ℕ) (n : ℕ) → ((k : ℕ) → k < n → is_surrogate (u k) ≡ false) → AreText u n
 characters_text u n none = record {
   first = λ some. no_trail (u 0) (none 0 some);
   leading = λ k lt yes. let no = no_lead (u k) (none k lt) in absurd cc;

@@ -35,7 +35,7 @@ two_bytes u g h = grind (arith, common_steps)
 three_bytes : (u : ℕ) → 0x800 ≤ u → u < 0x1_0000 → slot (first_byte u) (middle_byte u) (last_byte u) ≡ (0xE0 + u / 4096) ∷ (0x80 + u / 64 % 64) ∷ (0x80 + u % 64) ∷ []
 three_bytes u g h = grind (arith, common_steps)
 
-pub character_slot : (u : ℕ) → u < 0x1_0000 → slot (first_byte u) (middle_byte u) (last_byte u) ≡ utf8 u
+character_slot : (u : ℕ) → u < 0x1_0000 → slot (first_byte u) (middle_byte u) (last_byte u) ≡ utf8 u
 character_slot u fits =
     elim (cases_lt u 0x80) [
       | inl a ↦ one_byte u a ∙ sym (utf8-1 u a)
@@ -154,7 +154,7 @@ module _ (u : ℕ → ℕ) (count : ℕ) (fits : (k : ℕ) → k < count → u k
         | inr lone ↦ shown_one u k (suc n) (fits k (omega arith)) lone (no_surrogate (u k) lone (starts (omega arith))) (shown (suc n) (suc k) (omega arith) (after_character k lone))
       ]
 
-  pub all_shown : Shown u 0 count
+  all_shown : Shown u 0 count
   all_shown = shown count 0 (omega arith) text.first
 
 -- The units that bytes make, one by one.

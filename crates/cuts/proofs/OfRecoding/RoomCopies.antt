@@ -1,5 +1,5 @@
 -- Runs into room of a fixed size that copy, with the bytes of each pair swapped or as they are, and those that write text as units.
-use Rattle.std.proofs.Common.{◌≡◌, ℕ, ◌+◌, ◌-◌, ◌*◌, ◌%◌, ◌≤◌, Bool, ◌⊎◌, inl, inr, List, [], ◌∷◌, ◌++◌, length, get_or, take, drop, IsUtf8, arith, refl, ap, sym, ◌∙◌, length-take, subst, w8, Fits}
+use Rattle.std.proofs.Common.{◌≡◌, ℕ, ◌+◌, ◌-◌, ◌*◌, ◌%◌, ◌≤◌, Bool, ◌⊎◌, inl, inr, List, [], ◌++◌, length, get_or, take, drop, IsUtf8, arith, refl, ap, sym, ◌∙◌, length-take, subst, w8, Fits}
 use Rattle.std.proofs.lemmas.List.{append-nil, take-take}
 use Rattle.cuts.specs.declared.recoding.form.Form.{Form}
 use Rattle.cuts.specs.declared.recoding.form.Form.TheVariants.{Utf8}
@@ -11,7 +11,7 @@ use Rattle.cuts.proofs.OfRecoding.CopiedUnits.{Grows-turned, differ, front_fits}
 use Rattle.cuts.proofs.OfRecoding.Growing.{Grows-none, Grows-text}
 use Rattle.cuts.proofs.OfRecoding.RoomLemmas.{cut_part}
 use Rattle.cuts.proofs.OfRecoding.RoomRuns.{Fills-then}
-use Rattle.cuts.proofs.OfRecoding.SwappedBytes.{swapped_more, swapped_rest, swapped_pair}
+use Rattle.cuts.proofs.OfRecoding.SwappedBytes.{swapped_more, swapped_rest}
 use Rattle.cuts.proofs.OfRecoding.TextUnits.{Grows-given, given_more, given_nothing}
 
 -- The first bytes of some, and the three after them.
@@ -95,7 +95,7 @@ Fills-given high old mid new text place p m q n t end last f len g at sum =
     subst (λ xs. Fills old new place last xs) (given_more high text [] (given high text p m) (given high text p m ++ given high text q n) p m q n t refl refl at sum)
     (Fills-then old mid new (given high text p m) (given high text q n) place end last f len g)
 
-pub Fills-no-units : (high : Bool) (old text : List ℕ) (place p : ℕ) → place ≤ length old → Fills old old place place (given high text p 0)
+Fills-no-units : (high : Bool) (old text : List ℕ) (place p : ℕ) → place ≤ length old → Fills old old place place (given high text p 0)
 Fills-no-units high old text place p fits = subst (λ xs. Fills old old place place xs) (given_nothing high text [] p) (Fills-none old place place refl fits)
 
 -- what a loop keeps that writes units: those of the places from one on and before another, in two bytes each at most
@@ -147,6 +147,3 @@ pub Fills-rest : (old mid new w : List ℕ) (place p end last : ℕ) → p % 2 �
 Fills-rest old mid new w place p end last even within f len g =
     subst (λ xs. Fills old new place last xs) (swapped_rest w [] (swapped (take p w)) (swapped (take p w) ++ swapped (drop p w)) p even within refl refl)
     (Fills-then old mid new (swapped (take p w)) (swapped (drop p w)) place end last f len g)
-
-pub one_pair : (w : List ℕ) (p : ℕ) → p + 2 ≤ length w → get_or w (p + 1) 0 ∷ get_or w p 0 ∷ [] ≡ swapped (take 2 (drop p w))
-one_pair w p within = swapped_pair w [] (get_or w (p + 1) 0 ∷ []) (get_or w (p + 1) 0 ∷ get_or w p 0 ∷ []) p within refl refl

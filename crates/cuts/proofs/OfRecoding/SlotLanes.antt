@@ -12,7 +12,7 @@ use Rattle.cuts.proofs.OfRecoding.Joined.{joined_halves}
 use Rattle.cuts.proofs.OfRecoding.LaneLemmas.{reach_mask}
 
 -- The pairs of a vector: the first of each, and the second.
-abbrev pub ArePairs : List ℕ → (ℕ → ℕ) → (ℕ → ℕ) → Type 0
+abbrev ArePairs : List ℕ → (ℕ → ℕ) → (ℕ → ℕ) → Type 0
 ArePairs vs f g = (k : ℕ) → k < 8 → get_or vs (2 * k) 0 ∷ get_or vs (2 * k + 1) 0 ∷ [] ≡ f k ∷ g k ∷ []
 
 abbrev at_front : List ℕ → ℕ → ℕ
