@@ -1,5 +1,5 @@
 //! Text in UTF-16 recoded as UTF-8, sixteen units at once.
-ghost use Rattle.std.specs.Prelude.{◌≡◌, ◌+◌, ◌*◌, ◌≤◌, ◌++◌, length, vec_len, vec_capacity, replicate};
+ghost use Rattle.std.specs.Prelude.{◌+◌, ◌*◌, ◌≤◌, length, vec_len, vec_capacity};
 ghost use Rattle.cuts.specs.Recoding.GivenUnits.{IsUnits};
 ghost use Rattle.cuts.specs.Recoding.OutputRuns.{RunsOnto};
 ghost use Rattle.cuts.specs.Recoding.UnitCodes.{PutsUnits};
@@ -7,6 +7,7 @@ ghost use Rattle.cuts.specs.Recoding.UnitCodes.{PutsUnits};
 use crate::recoding::form::Form;
 use crate::recoding::slot_blocks::write_others;
 use crate::recoding::unit_bytes::{are_ascii, sixteen_halves};
+use crate::recoding::unit_copies::append;
 use std::alloc::Allocator;
 use std::simd::prelude::*;
 
@@ -42,34 +43,12 @@ fn put_sixteen<A: Allocator>(low: u8x16, high: u8x16, out: &mut Vec<u8, A>) -> u
     ensures { PutsUnits low high out.old out.new result }
 {
     if are_ascii(low, high) {
-        put_lanes(low, out);
+        append(&low.to_array(), out);
         return 16;
     }
     let start = out.len();
-    put_nuls(out);
+    append(&[0; 64], out);
     let (units, end) = write_others(low, high, out.as_mut_slice(), start);
     out.truncate(end);
     units
-}
-
-// Appends 64 NULs.
-#[inline(always)]
-fn put_nuls<A: Allocator>(out: &mut Vec<u8, A>)
-    requires { vec_len out.old + 64 ≤ vec_capacity out.old }
-    ensures items { out.new.items ≡ out.old.items ++ replicate 64 0 }
-    ensures len { vec_len out.new ≡ vec_len out.old + 64 }
-    ensures capacity { vec_capacity out.old ≤ vec_capacity out.new }
-{
-    let _ = out.extend_from_slice(&[0; 64]);
-}
-
-// Appends sixteen bytes.
-#[inline(always)]
-fn put_lanes<A: Allocator>(lanes: u8x16, out: &mut Vec<u8, A>)
-    requires room { vec_len out.old + 16 ≤ vec_capacity out.old }
-    ensures items { out.new.items ≡ out.old.items ++ lanes }
-    ensures len { vec_len out.new ≡ vec_len out.old + 16 }
-    ensures capacity { vec_capacity out.old ≤ vec_capacity out.new }
-{
-    let _ = out.extend_from_slice(&lanes.to_array());
 }
