@@ -11,7 +11,7 @@ use Rattle.cuts.proofs.OfRecoding.Joined.{joined_same, joined_moved}
 use Rattle.cuts.proofs.OfRecoding.TextUnits.{given_here}
 
 -- The places of two vectors of d lanes, one beside the other.
-abbrev pub side_places : ℕ → ℕ → ℕ → List ℕ
+abbrev side_places : ℕ → ℕ → ℕ → List ℕ
 side_places d p zero = []
 side_places d p (suc n) = p ∷ (p + d) ∷ side_places d (suc p) n
 

@@ -3,12 +3,12 @@ use Rattle.std.proofs.Common.{◌≡◌, ℕ, zero, suc, ◌+◌, ◌-◌, ◌*�
 use Rattle.std.proofs.lemmas.Grind.{common_steps}
 use Rattle.std.proofs.lemmas.List.{get_or_append_left, get_or-append_right}
 use Rattle.std.proofs.lemmas.Nat.{and_mask}
-use Rattle.std.proofs.lemmas.Simd.{get_or-chunk, length-chunk, chunk-fits}
+use Rattle.std.proofs.lemmas.Simd.{get_or-chunk, length-chunk}
 use Rattle.std.specs.Int.{bit_at}
 use lib.Lanes.{chunk}
 use Rattle.cuts.specs.Recoding.GivenUnits.{joined, gives, low_half, high_half, unit_low, unit_high, halves, given_at, pair_at}
 use Rattle.cuts.proofs.OfRecoding.Joined.{joined_same, joined_none, joined_add, joined_moved}
-use Rattle.cuts.proofs.OfRecoding.LaneLemmas.{IsBlock, reach_mask, none_reach}
+use Rattle.cuts.proofs.OfRecoding.LaneLemmas.{reach_mask, none_reach}
 use Rattle.cuts.proofs.OfRecoding.ChosenLanes.{where_below, where_below_len, where_below_at}
 
 -- one fact at each number below 8
@@ -115,9 +115,6 @@ module _ (high_first : Bool) (xs : List ℕ) (place s : ℕ) (start : 3 ≤ plac
 -- Loads, and the bytes in them.
 
 module _ (xs : List ℕ) (place : ℕ) (fits : (k : ℕ) → Fits w8 (get_or xs k 0)) (start : 3 ≤ place) (within : place + 16 ≤ length xs) where
-  pub loaded : (i : ℕ) → i + 16 ≤ length xs → IsBlock (chunk i 16 xs)
-  loaded i room = (length-chunk i 16 xs room, chunk-fits w8 i 16 xs fits)
-
   pub loaded_bits : (mask s : ℕ)
       → ((k : ℕ) → k < 16 → bit_at mask k ≡ cond (gives (get_or (chunk (place - 1) 16 xs) k 0) (get_or (chunk place 16 xs) k 0) && leb s k) 1 0)
       → (k : ℕ) → k < 16 → bit_at mask k ≡ cond (gives (get_or xs (place - 1 + k) 0) (get_or xs (place + k) 0) && leb s k) 1 0
@@ -139,7 +136,7 @@ module _ (xs : List ℕ) (place : ℕ) (fits : (k : ℕ) → Fits w8 (get_or xs 
   abbrev greater : List ℕ
   greater = where_below (chunk (place - 2) 16 xs) (chunk (place - 3) 16 xs) (chunk (place - 3) 16 xs) (chunk (place - 2) 16 xs)
 
-  abbrev pub longest_mask : ℕ
+  abbrev longest_mask : ℕ
   longest_mask = reach_mask 0xF0 greater
 
   greater_len : length greater ≡ 16

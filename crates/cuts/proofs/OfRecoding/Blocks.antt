@@ -14,7 +14,7 @@ use Rattle.cuts.specs.Recoding.ShownFronts.{ShowsEach, IsPlain}
 use Rattle.cuts.proofs.OfRecoding.Listed.{elements_from, listed}
 
 -- a unit that is a character by itself
-abbrev pub IsCharacter : ℕ → Type 0
+abbrev IsCharacter : ℕ → Type 0
 IsCharacter u = IsScalar u × (u < 0x1_0000)
 
 plain_is_character : (to : Form) (u : ℕ) → IsPlain to u → IsCharacter u

@@ -121,13 +121,13 @@ module _ (us : List ℕ) (fits : (k : ℕ) → get_or us k 0 < 0x1_0000) (first 
 
 -- The units of a front of the bytes.
 
-pub units_length : (high : Bool) (bytes : List ℕ) (n : ℕ) → 2 * n ≤ length bytes → n ≤ length (units_of high bytes)
+units_length : (high : Bool) (bytes : List ℕ) (n : ℕ) → 2 * n ≤ length bytes → n ≤ length (units_of high bytes)
 units_length high bytes zero le = omega arith
 units_length high [] (suc n) le = absurd (omega arith)
 units_length high (a ∷ []) (suc n) le = absurd (omega arith)
 units_length high (a ∷ b ∷ bytes) (suc n) le = let more = units_length high bytes n (omega arith) in omega arith
 
-pub units_front : (high : Bool) (bytes : List ℕ) (n : ℕ) → take n (units_of high bytes) ≡ units_of high (take (2 * n) bytes)
+units_front : (high : Bool) (bytes : List ℕ) (n : ℕ) → take n (units_of high bytes) ≡ units_of high (take (2 * n) bytes)
 units_front high bytes zero = refl
 units_front high [] (suc n) = let two : 2 * suc n ≡ suc (suc (2 * n)) = omega arith in rw two refl
 units_front high (a ∷ []) (suc n) = let two : 2 * suc n ≡ suc (suc (2 * n)) = omega arith in rw two refl
@@ -144,7 +144,7 @@ units_fit high (a ∷ b ∷ bytes) fits zero = unit_below high a b (fits 0).fits
 units_fit high (a ∷ b ∷ bytes) fits (suc k) = units_fit high bytes (λ j. fits (suc (suc j))) k
 
 -- the last unit before a place, as the code makes it
-pub before_end : (high : Bool) (bytes : List ℕ) (e : ℕ) → 1 ≤ e → 2 * e ≤ length bytes
+before_end : (high : Bool) (bytes : List ℕ) (e : ℕ) → 1 ≤ e → 2 * e ≤ length bytes
     → get_or (units_of high bytes) (e - 1) 0 ≡ unit_of high (get_or bytes (2 * e - 2) 0) (get_or bytes (2 * e - 1) 0)
 before_end high bytes e some le =
     let first : 2 * (e - 1) ≡ 2 * e - 2 = omega arith in

@@ -1,5 +1,6 @@
 -- An output that grows by units as they stand, or with the bytes of each swapped.
 use Rattle.std.proofs.Common.{◌≡◌, ℕ, zero, suc, ◌+◌, ◌-◌, ◌*◌, ◌/◌, ◌%◌, ◌<◌, ◌≤◌, Bool, true, false, not, List, [], ◌∷◌, ◌++◌, length, get_or, take, drop, flat_map, refl, sym, ap, ap₂, ◌∙◌, arith, append_assoc, length-take, w8, Fits}
+use Rattle.std.proofs.Math.Bool.{beq}
 use Rattle.std.proofs.lemmas.List.Concat.{flat_map-append}
 use Rattle.std.specs.Prelude.{All, Vec}
 use Rattle.utf_base.specs.Code.{utf16}
@@ -61,8 +62,7 @@ other_pair false a b A B = let first : (b * 256 + a) / 256 ≡ b = omega arith i
 
 -- whether the bytes of a unit are swapped from one order to another
 abbrev pub differ : Bool → Bool → Bool
-differ true high = not high
-differ false high = high
+differ high other = not (beq high other)
 
 same_order : (high : Bool) (v : List ℕ) (k : ℕ) → length v ≡ 2 * k → ((j : ℕ) → Fits w8 (get_or v j 0)) → flat_map (bytes_of high) (units_of high v) ≡ v
 same_order high [] k even fits = refl

@@ -17,7 +17,7 @@ pub AppendsFront-all : (old new : Option (List ℕ)) (xs : List ℕ) → Appends
 AppendsFront-all old new xs h = (length xs, rw take-length h)
 
 -- a front may be taken to be no longer than the list
-pub front_within : (n : ℕ) (xs : List ℕ) → (m : ℕ) × (m ≤ length xs) × (take m xs ≡ take n xs)
+front_within : (n : ℕ) (xs : List ℕ) → (m : ℕ) × (m ≤ length xs) × (take m xs ≡ take n xs)
 front_within n xs =
     ⊎_elim
     (λ lt. (n, omega arith, refl))

@@ -40,13 +40,20 @@ joined_moved f g p q (suc n) same =
     let sq : suc q + i ≡ q + suc i = omega arith in
     rw (sp, sq) (same (suc i) (omega arith))))
 
+-- two halves of as many
+pub joined_halves : (f g h : ℕ → List ℕ) (n : ℕ) → ((i : ℕ) → i < n → f i ≡ h i) → ((i : ℕ) → i < n → g i ≡ h (n + i)) → joined f 0 n ++ joined g 0 n ≡ joined h 0 (n + n)
+joined_halves f g h n front back =
+    let at : 0 + n ≡ n = omega arith in
+    ap₂ (λ xs ys. xs ++ ys) (joined_same f h 0 n (λ i ge lt. front i (omega arith))) (joined_moved g h 0 n n (λ i lt. let z : 0 + i ≡ i = omega arith in rw z (back i lt)))
+    ∙ ap (λ k. joined h 0 n ++ joined h k n) (sym at) ∙ sym (joined_add h 0 n n)
+
 -- A few of them, written out.
 
 pub joined_1 : (f : ℕ → List ℕ) (p : ℕ) → joined f p 1 ≡ f p
 unfolding joined
 joined_1 f p = append-nil (f p)
 
-pub joined_next : (f : ℕ → List ℕ) (p n q : ℕ) → suc p ≡ q → joined f p (suc n) ≡ f p ++ joined f q n
+joined_next : (f : ℕ → List ℕ) (p n q : ℕ) → suc p ≡ q → joined f p (suc n) ≡ f p ++ joined f q n
 unfolding joined
 joined_next f p n q at = ap (λ j. f p ++ joined f j n) at
 

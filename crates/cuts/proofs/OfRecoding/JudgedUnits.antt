@@ -6,7 +6,7 @@ use Rattle.std.proofs.lemmas.List.{take_at}
 use Rattle.std.specs.Int.{bit_at}
 use Rattle.utf_base.specs.Units.{is_leading_surrogate, is_trailing_surrogate, is_surrogate}
 use Rattle.cuts.specs.Recoding.GivenUnits.{joined}
-use Rattle.cuts.specs.Recoding.UnitCodes.{lane_unit, unit_code, code_at, AreText, slot, slot_at, first_byte, middle_byte, last_byte, lead_byte, second_byte, first_in_text, middle_in_text, last_in_text, kept, short_at}
+use Rattle.cuts.specs.Recoding.UnitCodes.{lane_unit, unit_code, code_at, AreText, slot, slot_at, first_byte, middle_byte, last_byte, lead_byte, second_byte, first_in_text, middle_in_text, last_in_text, kept, short_at, WritesUnits}
 use Rattle.cuts.proofs.OfRecoding.Joined.{joined_add, joined_same, joined_moved, joined_1}
 use Rattle.cuts.proofs.OfRecoding.NarrowedUnits.{not_both, ascii_code, leading_code}
 use Rattle.cuts.proofs.OfRecoding.UnitSlots.{below_16, leading_is, surrogate_is}
@@ -135,9 +135,21 @@ module _ (u : ℕ → ℕ) (old new : List ℕ) (last : is_leading_surrogate (u 
       let at : length new - 2 ≡ length (old ++ joined (code_at u) 0 15) = omega (arith, new_len) in
       rw at (ap (take (length (old ++ joined (code_at u) 0 15))) split ∙ take_at (old ++ joined (code_at u) 0 15) (lead_byte (u 15) ∷ second_byte (u 15) ∷ []) (length (old ++ joined (code_at u) 0 15)) refl)
 
+-- bytes of all sixteen, written into room
+pub WritesUnits-all : (low high old new bytes : List ℕ) (at end : ℕ) → AreText (lane_unit low high) 16 → length new ≡ length old → take end new ≡ take at old ++ bytes
+    → bytes ≡ joined (code_at (lane_unit low high)) 0 16 → end ≤ at + 48 → WritesUnits low high old new at 16 end
+WritesUnits-all low high old new bytes at end text len written codes fits = record {
+  most = omega arith;
+  text = text;
+  len = len;
+  bytes = written ∙ ap (λ xs. take at old ++ xs) codes;
+  short = omega arith;
+  fits = fits;
+}
+
 -- Units that are characters.
 
-pub characters_text : (u : ℕ → ℕ) (n : ℕ) → ((k : ℕ) → k < n → is_surrogate (u k) ≡ false) → AreText u n
+characters_text : (u : ℕ → ℕ) (n : ℕ) → ((k : ℕ) → k < n → is_surrogate (u k) ≡ false) → AreText u n
 characters_text u n none = record {
   first = λ some. no_trail (u 0) (none 0 some);
   leading = λ k lt yes. let no = no_lead (u k) (none k lt) in absurd cc;

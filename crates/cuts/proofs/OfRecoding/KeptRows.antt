@@ -1,5 +1,5 @@
 -- A table that has for each mask the places of the bytes that it keeps, computed at each mask; and the vector at those places.
-use Rattle.std.proofs.Common.{◌≡◌, ℕ, ◌+◌, ◌*◌, ◌/◌, ◌<◌, ◌≤◌, Bool, true, false, ◌&&◌, eqb, ltb, leb, List, [], ◌∷◌, ◌++◌, map, length, get_or, take, drop, count_ones, arith, refl, sym, ap, ap₂, ◌∙◌, append_assoc, length-append, length-take, take-append-drop, w8, ltb-true, leb-true, eqb-true}
+use Rattle.std.proofs.Common.{◌≡◌, ℕ, ◌+◌, ◌*◌, ◌/◌, ◌<◌, ◌≤◌, Bool, true, false, cond, ◌&&◌, eqb, ltb, leb, List, [], ◌∷◌, ◌++◌, map, length, get_or, take, drop, count_ones, arith, refl, sym, ap, ap₂, ◌∙◌, append_assoc, length-append, length-take, take-append-drop, w8, ltb-true, leb-true, eqb-true}
 use Rattle.std.proofs.lemmas.Bool.{and_parts}
 use Rattle.std.proofs.lemmas.Simd.{Each1-from_get_or, swz_l, SwzOk, SwzOk-from_below, length-swz_l, get_or-swz_l_below, take_more_put_chunk}
 use Rattle.std.proofs.lemmas.List.{ext_get_or, get_or-map, length-map, take-map, take-take, take_at}
@@ -63,6 +63,11 @@ pub places_kept : (places bytes : ℕ → List ℕ) (len n : ℕ) (v js : List �
     → take len js ≡ joined places 0 n → map (λ j. get_or v j 0) (take len js) ≡ joined bytes 0 n
 places_kept places bytes len n v js each are =
     ap (map (λ j. get_or v j 0)) are ∙ joined_map (λ j. get_or v j 0) places 0 n ∙ joined_same (λ i. map (λ j. get_or v j 0) (places i)) bytes 0 n (λ i ge lt. each i)
+
+-- a part that stands only where a bit says so
+pub kept_where : (h : ℕ → ℕ) (b : Bool) (xs : List ℕ) → map h (cond b xs []) ≡ cond b (map h xs) []
+kept_where h true xs = refl
+kept_where h false xs = refl
 
 -- the first of them
 pub front_kept : (v js : List ℕ) (len : ℕ) → length js ≡ 16 → ((k : ℕ) → k < 16 → get_or js k 0 < 16) → take len (swz_l w8 16 v 0 js) ≡ map (λ j. get_or v j 0) (take len js)

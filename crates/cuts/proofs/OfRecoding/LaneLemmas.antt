@@ -32,10 +32,10 @@ lane_with f xs y p k lt = lane f xs (replicate 16 y) p refl k lt ∙ ap (f (get_
 abbrev down : ℕ → ℕ → ℕ
 down a b = a / 2 ^ b
 
-abbrev pub upper_halves : List ℕ → List ℕ
+abbrev upper_halves : List ℕ → List ℕ
 upper_halves v = zip2 down v (replicate 16 4)
 
-abbrev pub lower_halves : List ℕ → List ℕ
+abbrev lower_halves : List ℕ → List ℕ
 lower_halves v = zip2 bit_and v (replicate 16 15)
 
 upper_at : (v : List ℕ) → IsBlock v → (k : ℕ) → k < 16 → get_or (upper_halves v) k 0 ≡ get_or v k 0 / 16
@@ -221,9 +221,6 @@ not_not : (b : Bool) → not (not b) ≡ true → b ≡ true
 not_not true e = refl
 not_not false e = e
 
-differs : ℕ → Bool
-differs x = not (eqb x 0)
-
 -- before the first lane that is not 0, each is
 pub zero_before : (v : List ℕ) (k : ℕ) → k < prefix_len (λ x. not (not (eqb x 0))) v → get_or v k 0 ≡ 0
 zero_before v k lt = eqb-true (get_or v k 0) 0 (not_not _ (prefix_len_passes (λ x. not (not (eqb x 0))) v k 0 lt))
@@ -231,7 +228,7 @@ zero_before v k lt = eqb-true (get_or v k 0) 0 (not_not _ (prefix_len_passes (λ
 abbrev pub differ_mask : List ℕ → ℕ
 differ_mask v = mask_l (map (top 7) (zip2 (λ a b. cond (not (eqb a b)) 255 0) v (replicate 16 0))) % 2 ^ 64
 
-pub differ_mask_is : (v : List ℕ) → length v ≡ 16 → differ_mask v ≡ mask_l (map (λ x. not (eqb x 0)) v)
+differ_mask_is : (v : List ℕ) → length v ≡ 16 → differ_mask v ≡ mask_l (map (λ x. not (eqb x 0)) v)
 differ_mask_is v long = bitmask_splat w8 (λ a b. not (eqb a b)) v 16 0 long (lit< tt)
 
 pub none_differs : (v : List ℕ) → length v ≡ 16 → differ_mask v ≡ 0 → (k : ℕ) → k < 16 → get_or v k 0 ≡ 0
@@ -302,7 +299,7 @@ module _ (p q r s : List ℕ) (lp : length p ≡ 16) (lq : length q ≡ 16) (lr 
       let le = each_le k lt in
       (omega (arith, le.0), omega (arith, le.1), omega (arith, le.2), omega (arith, le.3))
 
-  pub all_low : reach_mask 0x80 any ≡ 0 → (k : ℕ) → k < 16 → (get_or p k 0 < 0x80) × (get_or q k 0 < 0x80) × (get_or r k 0 < 0x80) × (get_or s k 0 < 0x80)
+  all_low : reach_mask 0x80 any ≡ 0 → (k : ℕ) → k < 16 → (get_or p k 0 < 0x80) × (get_or q k 0 < 0x80) × (get_or r k 0 < 0x80) × (get_or s k 0 < 0x80)
   all_low none k lt =
       let low = none_reach 0x80 any any_len none k lt in
       let le = each_le k lt in

@@ -2,6 +2,7 @@
 use Rattle.std.proofs.Common.{◌≡◌, ℕ, zero, suc, ◌+◌, ◌-◌, ◌*◌, ◌/◌, ◌%◌, ◌<◌, ◌≤◌, Bool, true, false, ◌⊎◌, List, [], ◌∷◌, ◌++◌, length, get_or, take, drop, flat_map, arith, refl, sym, ap, ap₂, ◌∙◌, inl, inr, append_assoc, length-take, subst, w8, Fits}
 use Rattle.std.proofs.lemmas.Bool.{cases_lt}
 use Rattle.std.proofs.lemmas.Grind.{common_steps}
+use Rattle.std.specs.Prelude.{Vec, vec_len, vec_capacity}
 use Rattle.utf_base.specs.Code.{utf8, utf16}
 use Rattle.utf_base.specs.Shown.{Shows}
 use Rattle.utf_base.specs.Units.{is_leading_surrogate, is_trailing_surrogate, is_surrogate, pair_value}
@@ -11,6 +12,7 @@ use Rattle.utf_base.proofs.Utf16Code.{utf16_is_code, unit_is_code, pair_is_code,
 use Rattle.cuts.specs.declared.recoding.form.Form.{Form}
 use Rattle.cuts.specs.declared.recoding.form.Form.TheVariants.{Utf8, Utf16Le, Utf16Be}
 use Rattle.cuts.specs.Recoding.Recoded.{Reads, ShowsUnits, unit_of, units_of, odd_end, Grows}
+use Rattle.cuts.specs.Recoding.OutputRuns.{RunsOnto}
 use Rattle.cuts.specs.Recoding.ShownFronts.{ShowsEach}
 use Rattle.cuts.specs.Recoding.GivenUnits.{IsUnits, joined}
 use Rattle.cuts.specs.Recoding.UnitCodes.{unit_code, code_at, AreText, slot, first_byte, middle_byte, last_byte, lead_byte, second_byte, third_byte}
@@ -33,7 +35,7 @@ two_bytes u g h = grind (arith, common_steps)
 three_bytes : (u : ℕ) → 0x800 ≤ u → u < 0x1_0000 → slot (first_byte u) (middle_byte u) (last_byte u) ≡ (0xE0 + u / 4096) ∷ (0x80 + u / 64 % 64) ∷ (0x80 + u % 64) ∷ []
 three_bytes u g h = grind (arith, common_steps)
 
-pub character_slot : (u : ℕ) → u < 0x1_0000 → slot (first_byte u) (middle_byte u) (last_byte u) ≡ utf8 u
+character_slot : (u : ℕ) → u < 0x1_0000 → slot (first_byte u) (middle_byte u) (last_byte u) ≡ utf8 u
 character_slot u fits =
     elim (cases_lt u 0x80) [
       | inl a ↦ one_byte u a ∙ sym (utf8-1 u a)
@@ -152,7 +154,7 @@ module _ (u : ℕ → ℕ) (count : ℕ) (fits : (k : ℕ) → k < count → u k
         | inr lone ↦ shown_one u k (suc n) (fits k (omega arith)) lone (no_surrogate (u k) lone (starts (omega arith))) (shown (suc n) (suc k) (omega arith) (after_character k lone))
       ]
 
-  pub all_shown : Shown u 0 count
+  all_shown : Shown u 0 count
   all_shown = shown count 0 (omega arith) text.first
 
 -- The units that bytes make, one by one.
@@ -212,8 +214,12 @@ module _ (high : Bool) (from : Form) (w : List ℕ) (u : ℕ → ℕ) (n : ℕ) 
   units_show : ShowsEach (Reads from) (take (2 * n) w) s.ts
   units_show = as_form high from (take (2 * n) w) s.ts form front_shows
 
-  pub Grows-units : (old new : List ℕ) → new ≡ old ++ joined (code_at u) 0 n → Grows from Utf8 w old new (drop (2 * n) w)
+  Grows-units : (old new : List ℕ) → new ≡ old ++ joined (code_at u) 0 n → Grows from Utf8 w old new (drop (2 * n) w)
   Grows-units old new items = Grows-each from Utf8 w old new s.ts (2 * n) units_show (items ∙ ap (λ xs. old ++ xs) s.codes)
+
+  pub RunsOnto-units : {Z : Type 0} (old new : Vec ℕ Z) → new.items ≡ old.items ++ joined (code_at u) 0 n → vec_len new ≤ vec_len old + 6 * n → vec_capacity old ≤ vec_capacity new
+      → RunsOnto from Utf8 w old new (2 * n)
+  RunsOnto-units old new items short capacity = record { within = enough; grows = Grows-units _ _ items; short = omega arith; capacity = capacity }
 
   -- and so does room of a fixed size
   pub RunsInto-units : (old new : List ℕ) (place wrote : ℕ) → Fills old new place wrote (joined (code_at u) 0 n) → wrote ≤ place + 3 * (2 * n) → RunsInto from Utf8 w old new place (2 * n) wrote

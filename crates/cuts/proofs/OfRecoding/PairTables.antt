@@ -31,7 +31,7 @@ abbrev late_half : ℕ → ℕ → Bool
 late_half c h = (leb 0x80 c && ltb c 0xC0) && (leb 8 h && ltb h 12)
 
 -- what the tables leave, by the byte c and the upper half of the next
-abbrev pub left_of : List ℕ → List ℕ → List ℕ → ℕ → ℕ → ℕ
+abbrev left_of : List ℕ → List ℕ → List ℕ → ℕ → ℕ → ℕ
 left_of high low here c h = bit_and (bit_and (get_or high (c / 16) 0) (get_or low (bit_and c 15) 0)) (get_or here h 0)
 
 abbrev is_right : List ℕ → List ℕ → List ℕ → ℕ → ℕ → Bool

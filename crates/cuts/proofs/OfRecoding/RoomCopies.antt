@@ -1,5 +1,5 @@
 -- Runs into room of a fixed size that copy, with the bytes of each pair swapped or as they are, and those that write text as units.
-use Rattle.std.proofs.Common.{◌≡◌, ℕ, ◌+◌, ◌-◌, ◌*◌, ◌%◌, ◌≤◌, Bool, List, [], ◌∷◌, ◌++◌, length, get_or, take, drop, IsUtf8, arith, refl, ap, sym, ◌∙◌, length-take, subst, w8, Fits}
+use Rattle.std.proofs.Common.{◌≡◌, ℕ, ◌+◌, ◌-◌, ◌*◌, ◌%◌, ◌≤◌, Bool, ◌⊎◌, inl, inr, List, [], ◌++◌, length, get_or, take, drop, IsUtf8, arith, refl, ap, sym, ◌∙◌, length-take, subst, w8, Fits}
 use Rattle.std.proofs.lemmas.List.{append-nil, take-take}
 use Rattle.cuts.specs.declared.recoding.form.Form.{Form}
 use Rattle.cuts.specs.declared.recoding.form.Form.TheVariants.{Utf8}
@@ -11,7 +11,7 @@ use Rattle.cuts.proofs.OfRecoding.CopiedUnits.{Grows-turned, differ, front_fits}
 use Rattle.cuts.proofs.OfRecoding.Growing.{Grows-none, Grows-text}
 use Rattle.cuts.proofs.OfRecoding.RoomLemmas.{cut_part}
 use Rattle.cuts.proofs.OfRecoding.RoomRuns.{Fills-then}
-use Rattle.cuts.proofs.OfRecoding.SwappedBytes.{swapped_more, swapped_rest, swapped_pair}
+use Rattle.cuts.proofs.OfRecoding.SwappedBytes.{swapped_more, swapped_rest}
 use Rattle.cuts.proofs.OfRecoding.TextUnits.{Grows-given, given_more, given_nothing}
 
 -- The first bytes of some, and the three after them.
@@ -45,13 +45,18 @@ RunsInto-text bytes old new place n most end within text fills at =
     (Grows-text (take (n + 3) bytes) _ _ n (rw (same_front bytes n) (rw front at text)) (fills.front ∙ ap (λ xs. take place old ++ xs) (sym (same_front bytes n))))
 
 -- well-formed units, in the order that is wanted
-pub RunsInto-units : (high other : Bool) (from to : Form) (bytes old new : List ℕ) (place n end : ℕ) → IsUnits high from → IsUnits other to → ((j : ℕ) → Fits w8 (get_or bytes j 0))
-    → n ≤ length bytes → n % 2 ≡ 0 → AreCodes (units_of high (take n bytes)) → Fills old new place end (turned (differ high other) (take n bytes)) → end ≡ place + n
-    → RunsInto from to bytes old new place n end
-RunsInto-units high other from to bytes old new place n end reads writes fits within even h fills at =
-    RunsInto-filled from to bytes old new _ place n end within fills (omega arith)
-    (Grows-turned high other from to (take (n + 3) bytes) _ _ n reads writes (front_fits bytes (n + 3) fits) (omega (arith, length-take (n + 3) bytes)) even (rw (same_front bytes n) h)
-    (fills.front ∙ ap (λ xs. take place old ++ turned (differ high other) xs) (sym (same_front bytes n))))
+pub RunsInto-units : (high other : Bool) (from to : Form) (bytes old new : List ℕ) (place n most end : ℕ) → IsUnits high from → IsUnits other to → ((j : ℕ) → Fits w8 (get_or bytes j 0))
+    → n ≤ length (take most bytes) → n % 2 ≡ 0 → AreCodes (units_of high (take n (take most bytes))) → Fills old new place end (turned (differ high other) (take n bytes))
+    → end ≡ place + length (take n bytes) → RunsInto from to bytes old new place n (place + n)
+RunsInto-units high other from to bytes old new place n most end reads writes fits within even h fills at =
+    let few : n ≤ most = omega (arith, length-take most bytes) in
+    let all : n ≤ length bytes = omega (arith, length-take most bytes) in
+    let front : take n (take most bytes) ≡ take n bytes = take-take n most bytes few in
+    let last : end ≡ place + n = omega (arith, at, length-take n bytes) in
+    subst (λ e. RunsInto from to bytes old new place n e) last
+    (RunsInto-filled from to bytes old new _ place n end all fills (omega arith)
+    (Grows-turned high other from to (take (n + 3) bytes) _ _ n reads writes (front_fits bytes (n + 3) fits) (omega (arith, length-take (n + 3) bytes)) even (rw (same_front bytes n) (rw front at h))
+    (fills.front ∙ ap (λ xs. take place old ++ turned (differ high other) xs) (sym (same_front bytes n)))))
 
 -- text in UTF-8 as units
 pub RunsInto-given : (high : Bool) (to : Form) (bytes old new : List ℕ) (place n most end : ℕ) → IsUnits high to → n ≤ length (take most bytes) → IsUtf8 (take n (take most bytes))
@@ -90,8 +95,38 @@ Fills-given high old mid new text place p m q n t end last f len g at sum =
     subst (λ xs. Fills old new place last xs) (given_more high text [] (given high text p m) (given high text p m ++ given high text q n) p m q n t refl refl at sum)
     (Fills-then old mid new (given high text p m) (given high text q n) place end last f len g)
 
-pub Fills-no-units : (high : Bool) (old text : List ℕ) (place p : ℕ) → place ≤ length old → Fills old old place place (given high text p 0)
+Fills-no-units : (high : Bool) (old text : List ℕ) (place p : ℕ) → place ≤ length old → Fills old old place place (given high text p 0)
 Fills-no-units high old text place p fits = subst (λ xs. Fills old old place place xs) (given_nothing high text [] p) (Fills-none old place place refl fits)
+
+-- what a loop keeps that writes units: those of the places from one on and before another, in two bytes each at most
+pub record KeepsUnits (high : Bool) (text old new : List ℕ) (place start read end : ℕ) : Type 0 where
+  pub least : start ≤ read
+  pub within : read ≤ length text
+  pub fills : Fills old new place end (given high text start (read - start))
+  pub short : end ≤ place + 2 * (read - start)
+  pub room : length new ≡ length old
+
+pub KeepsUnits-none : (high : Bool) (text old : List ℕ) (place start : ℕ) → start ≤ length text → place ≤ length old → KeepsUnits high text old old place start start place
+KeepsUnits-none high text old place start within fits = record {
+  least = omega arith;
+  within = within;
+  fills = (let none : start - start ≡ 0 = omega arith in rw none (Fills-no-units high old text place start fits));
+  short = omega arith;
+  room = refl;
+}
+
+pub KeepsUnits-next : (high : Bool) (text old mid new : List ℕ) (place start read n q end last : ℕ) → KeepsUnits high text old mid place start read end → q ≡ read → read + n ≤ length text
+    → Fills mid new end last (given high text q n) → last ≤ end + 2 * n → length new ≡ length mid → KeepsUnits high text old new place start (read + n) last
+KeepsUnits-next high text old mid new place start read n q end last before at within fills short same =
+    let least = before.least in
+    let few = before.short in
+    record {
+      least = omega arith;
+      within = within;
+      fills = Fills-given high old mid new text place start (read - start) q n (read + n - start) end last before.fills before.room fills (omega arith) (omega arith);
+      short = omega arith;
+      room = same ∙ before.room;
+    }
 
 -- Bytes written part by part, those of each pair swapped.
 
@@ -102,11 +137,13 @@ Fills-swapped old mid new w place p n end last next even within f len g at =
     (subst (λ xs. Fills old new place last xs) (swapped_more w [] (swapped (take p w)) (swapped (take p w) ++ swapped (take n (drop p w))) p n even within refl refl)
     (Fills-then old mid new (swapped (take p w)) (swapped (take n (drop p w))) place end last f len g))
 
+-- blocks of whole pairs
+pub width_even : (n : ℕ) → (n ≡ 16) ⊎ (n ≡ 2) → n % 2 ≡ 0
+width_even n (inl at) = omega arith
+width_even n (inr at) = omega arith
+
 pub Fills-rest : (old mid new w : List ℕ) (place p end last : ℕ) → p % 2 ≡ 0 → p ≤ length w → Fills old mid place end (swapped (take p w)) → length mid ≡ length old
     → Fills mid new end last (swapped (drop p w)) → Fills old new place last (swapped w)
 Fills-rest old mid new w place p end last even within f len g =
     subst (λ xs. Fills old new place last xs) (swapped_rest w [] (swapped (take p w)) (swapped (take p w) ++ swapped (drop p w)) p even within refl refl)
     (Fills-then old mid new (swapped (take p w)) (swapped (drop p w)) place end last f len g)
-
-pub one_pair : (w : List ℕ) (p : ℕ) → p + 2 ≤ length w → get_or w (p + 1) 0 ∷ get_or w p 0 ∷ [] ≡ swapped (take 2 (drop p w))
-one_pair w p within = swapped_pair w [] (get_or w (p + 1) 0 ∷ []) (get_or w (p + 1) 0 ∷ get_or w p 0 ∷ []) p within refl refl

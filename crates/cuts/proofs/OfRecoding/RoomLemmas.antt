@@ -104,7 +104,7 @@ FeedsInto-of r s part old new read wrote e f few within fits g rest = record {
 }
 
 -- what is decided of some bytes is so whatever follows them
-pub Decides-more : (from : Form) (w x : List ℕ) (s n : ℕ) → Decides (Reads from) w s n → Decides (Reads from) (w ++ x) s n
+Decides-more : (from : Form) (w x : List ℕ) (s n : ℕ) → Decides (Reads from) w s n → Decides (Reads from) (w ++ x) s n
 Decides-more from w x s n d =
     let within = d.within in
     record {

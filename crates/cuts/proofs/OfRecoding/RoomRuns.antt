@@ -17,7 +17,7 @@ pub record KeepsRun (from to : Form) (bytes old new : List ℕ) (place read wrot
   pub len : length new ≡ length old
 
 -- one run after another, each by the three bytes that follow it
-pub Grows-after : (from to : Form) (bytes old mid new : List ℕ) (p n : ℕ) → Grows from to (take (p + 3) bytes) old mid (take 3 (drop p bytes))
+Grows-after : (from to : Form) (bytes old mid new : List ℕ) (p n : ℕ) → Grows from to (take (p + 3) bytes) old mid (take 3 (drop p bytes))
     → Grows from to (take (n + 3) (drop p bytes)) mid new (take 3 (drop n (drop p bytes))) → Grows from to (take (p + n + 3) bytes) old new (take 3 (drop (p + n) bytes))
 Grows-after from to bytes old mid new p n g h =
     let xs : List ℕ = drop p bytes in
@@ -80,7 +80,7 @@ Grows-shown from to xs old new ts n shows e = record {
       (ts ++ ss, rw whole at (shows (take 3 (drop n xs) ++ later) ss r), codes);
 }
 
-pub RunsInto-each : (from to : Form) (bytes old mid new ts : List ℕ) (place read wrote n end : ℕ) → RunsInto from to bytes old mid place read wrote → length mid ≡ length old
+RunsInto-each : (from to : Form) (bytes old mid new ts : List ℕ) (place read wrote n end : ℕ) → RunsInto from to bytes old mid place read wrote → length mid ≡ length old
     → ShowsEach (Reads from) (take n (drop read bytes)) ts → Fills mid new wrote end (flat_map (written to) ts) → read + n ≤ length bytes → end ≤ wrote + 3 * n
     → RunsInto from to bytes old new place (read + n) end
 RunsInto-each from to bytes old mid new ts place read wrote n end f len shows fills taken few =

@@ -5,7 +5,7 @@ use lib.Lanes.{zip2, sel_l, top}
 use mir.Syntax.{Width}
 use mir.Val.{bits, hbits}
 
-abbrev pub where_same : Width → ℕ → ℕ → List ℕ → ℕ → List ℕ
+abbrev where_same : Width → ℕ → ℕ → List ℕ → ℕ → List ℕ
 where_same w n full xs y = sel_l (map (top (hbits w)) (zip2 (λ a b. cond (eqb a b) (2 ^ bits w - 1) 0) xs (replicate n y))) (replicate n full) (replicate n 0)
 
 module _ (w : Width) (n full : ℕ) (xs : List ℕ) (y : ℕ) (x : length xs ≡ n) where

@@ -5,7 +5,6 @@ use Rattle.std.proofs.lemmas.List.{take_rest}
 use Rattle.std.specs.Prelude.{Some}
 use Rattle.utf_base.specs.Units.{slice_fault}
 use Rattle.utf_base.specs.declared.errors.units.Utf16SliceError.{Utf16SliceError}
-use Rattle.utf_base.proofs.Rests.{stands_on}
 use Rattle.utf_base.specs.Code.{IsCode, utf8, utf16}
 use Rattle.utf_base.specs.Front.{BeginsWith}
 use Rattle.utf_base.specs.Piece.{Stands, Inside}
@@ -80,13 +79,6 @@ two_units high (a ∷ b ∷ []) h = absurd (omega arith)
 two_units high (a ∷ b ∷ c ∷ []) h = absurd (omega arith)
 two_units high (a ∷ b ∷ c ∷ d ∷ w) h = (units_of high w, refl)
 
-few_units : (high : Bool) (w : List ℕ) → length w < 4 → length (units_of high w) ≤ 1
-few_units high [] h = omega arith
-few_units high (a ∷ []) h = omega arith
-few_units high (a ∷ b ∷ []) h = omega arith
-few_units high (a ∷ b ∷ c ∷ []) h = omega arith
-few_units high (a ∷ b ∷ c ∷ d ∷ w) h = absurd (omega arith)
-
 -- what begins a list of two units and more begins the two
 in_two : (u v : ℕ) (ys : List ℕ) (s : ℕ) → Stands utf16 ((u ∷ v ∷ []) ++ ys) 0 s → Stands utf16 (u ∷ v ∷ []) 0 s
 in_two u v ys s h =
@@ -94,12 +86,6 @@ in_two u v ys s h =
     stands_in_part utf16 ((u ∷ v ∷ []) ++ ys) 0 2 0 0 s refl (omega arith) h (omega arith)
 
 module _ (high : Bool) (w : List ℕ) (four : 4 ≤ length w) where
-  pub pair_over : (s n : ℕ) → BeginsWith utf16 (unit_of high (get_or w 0 0) (get_or w 1 0) ∷ unit_of high (get_or w 2 0) (get_or w 3 0) ∷ []) s n → 1 < n
-      → LiesOver utf16 (units_of high w) 0 1
-  pair_over s n (h, e) lt =
-      let two = two_units high w four in
-      record { char = s; stands = rw two.1 (stands_on utf16 _ two.0 s h); ends = omega arith }
-
   pub no_pair : (s n : ℕ) → BeginsWith utf16 (unit_of high (get_or w 0 0) (get_or w 1 0) ∷ unit_of high (get_or w 2 0) (get_or w 3 0) ∷ []) s n → n ≤ 1
       → (t : ℕ) → Stands utf16 (units_of high w) 0 t → length (utf16 t) ≤ 1
   no_pair s n (h, e) le t g =

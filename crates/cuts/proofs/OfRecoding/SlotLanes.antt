@@ -8,11 +8,11 @@ use lib.Lanes.{zip2, mask_l}
 use Rattle.cuts.specs.Recoding.GivenUnits.{joined}
 use Rattle.cuts.specs.Recoding.UnitCodes.{kept, slot, slot_at, pair_slot_at, marked, slot_bytes, short_at, short_bytes}
 use Rattle.cuts.proofs.OfRecoding.BlockUnits.{low_bit, high_bit}
-use Rattle.cuts.proofs.OfRecoding.Joined.{joined_add, joined_moved, joined_same}
+use Rattle.cuts.proofs.OfRecoding.Joined.{joined_halves}
 use Rattle.cuts.proofs.OfRecoding.LaneLemmas.{reach_mask}
 
 -- The pairs of a vector: the first of each, and the second.
-abbrev pub ArePairs : List ℕ → (ℕ → ℕ) → (ℕ → ℕ) → Type 0
+abbrev ArePairs : List ℕ → (ℕ → ℕ) → (ℕ → ℕ) → Type 0
 ArePairs vs f g = (k : ℕ) → k < 8 → get_or vs (2 * k) 0 ∷ get_or vs (2 * k + 1) 0 ∷ [] ≡ f k ∷ g k ∷ []
 
 abbrev at_front : List ℕ → ℕ → ℕ
@@ -87,11 +87,7 @@ module _ (fronts lasts vs ws : List ℕ) (long : length fronts ≡ 16) (pairs : 
       ∙ ap₂ (λ p q. slot (get_or fronts p 0) (get_or fronts q 0) (get_or lasts p 0)) a b
 
   pub eight_slots : joined (slot_bytes (bit_and (reach_mask 0x80 fronts) 255) vs) 0 4 ++ joined (slot_bytes (reach_mask 0x80 fronts / 256) ws) 0 4 ≡ joined (pair_slot_at fronts lasts) 0 8
-  eight_slots =
-      ap₂ (λ xs ys. xs ++ ys)
-      (joined_same (slot_bytes (bit_and (reach_mask 0x80 fronts) 255) vs) (pair_slot_at fronts lasts) 0 4 (λ i ge lt. front_four i lt))
-      (joined_moved (slot_bytes (reach_mask 0x80 fronts / 256) ws) (pair_slot_at fronts lasts) 0 4 4 (λ i lt. let z : 0 + i ≡ i = omega arith in rw z (back_four i lt)))
-      ∙ sym (joined_add (pair_slot_at fronts lasts) 0 4 4)
+  eight_slots = joined_halves _ _ (pair_slot_at fronts lasts) 4 front_four back_four
 
 -- Sixteen slots in three vectors.
 module _ (firsts middles lasts fronts more_fronts ends more_ends : List ℕ) (front : ArePairs fronts (at_front firsts) (at_front middles))
@@ -101,11 +97,9 @@ module _ (firsts middles lasts fronts more_fronts ends more_ends : List ℕ) (fr
 
   pub sixteen_slots : joined (pair_slot_at fronts ends) 0 8 ++ joined (pair_slot_at more_fronts more_ends) 0 8 ≡ joined (slot_at firsts middles lasts) 0 16
   sixteen_slots =
-      ap₂ (λ xs ys. xs ++ ys)
-      (joined_same (pair_slot_at fronts ends) (slot_at firsts middles lasts) 0 8 (λ i ge lt. slots_at fronts ends (at_front firsts) (at_front middles) (at_front lasts) front end i lt))
-      (joined_moved (pair_slot_at more_fronts more_ends) (slot_at firsts middles lasts) 0 8 8
-      (λ i lt. let z : 0 + i ≡ i = omega arith in rw z (slots_at more_fronts more_ends (at_back firsts) (at_back middles) (at_back lasts) more_front more_end i lt)))
-      ∙ sym (joined_add (slot_at firsts middles lasts) 0 8 8)
+      joined_halves (pair_slot_at fronts ends) (pair_slot_at more_fronts more_ends) (slot_at firsts middles lasts) 8
+      (slots_at fronts ends (at_front firsts) (at_front middles) (at_front lasts) front end)
+      (slots_at more_fronts more_ends (at_back firsts) (at_back middles) (at_back lasts) more_front more_end)
 
 -- Sixteen pairs, by a mask whose halves say where the first of each is kept.
 module _ (middles lasts vs ws : List ℕ) (long : length middles ≡ 16) (pairs : ArePairs vs (at_front middles) (at_front lasts)) (more : ArePairs ws (at_back middles) (at_back lasts)) where
@@ -120,8 +114,4 @@ module _ (middles lasts vs ws : List ℕ) (long : length middles ≡ 16) (pairs 
       (ap (λ xs. xs ++ (get_or lasts (8 + i) 0 ∷ [])) (marked_kept (reach_mask 0x80 middles / 256) i (get_or middles (8 + i) 0) (high_bit (reach_mask 0x80 middles) i lt ∙ high_bits middles long (8 + i) (omega arith))))
 
   pub sixteen_pairs : joined (short_bytes (bit_and (reach_mask 0x80 middles) 255) vs) 0 8 ++ joined (short_bytes (reach_mask 0x80 middles / 256) ws) 0 8 ≡ joined (short_at middles lasts) 0 16
-  sixteen_pairs =
-      ap₂ (λ xs ys. xs ++ ys)
-      (joined_same (short_bytes (bit_and (reach_mask 0x80 middles) 255) vs) (short_at middles lasts) 0 8 (λ i ge lt. front_eight i lt))
-      (joined_moved (short_bytes (reach_mask 0x80 middles / 256) ws) (short_at middles lasts) 0 8 8 (λ i lt. let z : 0 + i ≡ i = omega arith in rw z (back_eight i lt)))
-      ∙ sym (joined_add (short_at middles lasts) 0 8 8)
+  sixteen_pairs = joined_halves _ _ (short_at middles lasts) 8 front_eight back_eight

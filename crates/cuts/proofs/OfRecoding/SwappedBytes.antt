@@ -1,11 +1,11 @@
 -- Bytes swapped in pairs, part by part, and as lanes.
-use Rattle.std.proofs.Common.{◌≡◌, ℕ, zero, suc, ◌+◌, ◌-◌, ◌*◌, ◌/◌, ◌%◌, ◌≤◌, List, [], ◌∷◌, ◌++◌, map, length, get_or, take, drop, refl, sym, ap, ap₂, ◌∙◌, arith, append_assoc, length-append, length-take, length-drop, drop-cons, take-add, take-append-drop}
+use Rattle.std.proofs.Common.{◌≡◌, ℕ, zero, suc, ◌+◌, ◌-◌, ◌*◌, ◌/◌, ◌%◌, ◌≤◌, List, [], ◌∷◌, ◌++◌, ◌⊎◌, inl, inr, map, length, get_or, take, drop, refl, sym, ap, ap₂, ◌∙◌, arith, append_assoc, length-append, length-take, length-drop, drop-cons, take-add, take-append-drop}
 use Rattle.std.proofs.lemmas.List.{append-nil, drop-drop, drop_at, take_at, take_all}
 use Rattle.std.specs.Prelude.{Vec, vec_len, vec_capacity}
 use Rattle.cuts.specs.Recoding.UnitBlocks.{swapped}
 use Rattle.cuts.specs.Recoding.UnitRuns.{SwapsOnto}
 
-pub swapped_append : (v later : List ℕ) (k : ℕ) → length v ≡ 2 * k → swapped (v ++ later) ≡ swapped v ++ swapped later
+swapped_append : (v later : List ℕ) (k : ℕ) → length v ≡ 2 * k → swapped (v ++ later) ≡ swapped v ++ swapped later
 swapped_append [] later k h = refl
 swapped_append (a ∷ []) later k h = absurd (omega arith)
 swapped_append (a ∷ b ∷ v) later k h = ap (λ ys. b ∷ a ∷ ys) (swapped_append v later (k - 1) (omega arith))
@@ -17,7 +17,7 @@ swapped_more xs old mid new p n even within e f =
     f ∙ ap (λ ys. ys ++ swapped (take n (drop p xs))) e ∙ append_assoc old (swapped (take p xs)) (swapped (take n (drop p xs)))
     ∙ ap (λ ys. old ++ ys) (sym (swapped_append (take p xs) (take n (drop p xs)) (p / 2) half) ∙ ap swapped (sym (take-add p n xs)))
 
-pub swapped_none : (xs old : List ℕ) → old ≡ old ++ swapped (take 0 xs)
+swapped_none : (xs old : List ℕ) → old ≡ old ++ swapped (take 0 xs)
 swapped_none xs old = sym (append-nil old)
 
 -- The same of outputs.
@@ -43,6 +43,11 @@ SwapsOnto-next xs old mid new p n pairs within before items len capacity =
       capacity = omega arith;
     }
 
+-- blocks of whole pairs
+pub width_pairs : (n : ℕ) → (n ≡ 64) ⊎ (n ≡ 16) → n % 2 ≡ 0
+width_pairs n (inl at) = omega arith
+width_pairs n (inr at) = omega arith
+
 -- the rest of the bytes after a front
 pub swapped_rest : (xs old mid new : List ℕ) (p : ℕ) → p % 2 ≡ 0 → p ≤ length xs → mid ≡ old ++ swapped (take p xs) → new ≡ mid ++ swapped (drop p xs) → new ≡ old ++ swapped xs
 swapped_rest xs old mid new p even within e f =
@@ -61,7 +66,7 @@ swapped_pair xs mid one two p within e f =
 
 -- The places at which lanes are looked up.
 
-abbrev pub turned_places : ℕ → ℕ → List ℕ
+abbrev turned_places : ℕ → ℕ → List ℕ
 turned_places p zero = []
 turned_places p (suc n) = (p + 1) ∷ p ∷ turned_places (p + 2) n
 

@@ -20,7 +20,7 @@ greater_below c d false t u e f g = grind (arith, common_steps)
 abbrev later : List ℕ → List ℕ → List ℕ
 later before here = where_below (excess before 0x20) here here (excess before 0x20)
 
-abbrev pub giving_mask : List ℕ → List ℕ → ℕ
+abbrev giving_mask : List ℕ → List ℕ → ℕ
 giving_mask before here = mask_l (map (top 7) (zip2 (λ a b. cond (ltb a b) 255 0) (later before here) (replicate 16 0xC0))) % 2 ^ 64
 
 module _ (before here : List ℕ) (p : IsBlock before) (q : IsBlock here) where
@@ -129,16 +129,16 @@ module _ (first here : List ℕ) (q : IsBlock first) (r : IsBlock here) where
 
 -- Leading and trailing surrogates.
 
-abbrev pub leading_lows : List ℕ → List ℕ → List ℕ
+abbrev leading_lows : List ℕ → List ℕ → List ℕ
 leading_lows first here = zip2 added (zip2 added (zip2 up (zip2 bit_and first (replicate 16 0x3F)) (replicate 16 2)) (zip2 down (zip2 bit_and here (replicate 16 0x3F)) (replicate 16 4))) (replicate 16 0xC0)
 
 abbrev carried : List ℕ → List ℕ → List ℕ
 carried first here = where_below (leading_lows first here) (replicate 16 0xC0) (replicate 16 0xD8) (replicate 16 0xD7)
 
-abbrev pub leading_highs : List ℕ → List ℕ → List ℕ → List ℕ
+abbrev leading_highs : List ℕ → List ℕ → List ℕ → List ℕ
 leading_highs second first here = zip2 added (zip2 bit_and second (replicate 16 7)) (carried first here)
 
-abbrev pub trailing_highs : List ℕ → List ℕ
+abbrev trailing_highs : List ℕ → List ℕ
 trailing_highs first = zip2 added (zip2 bit_and (zip2 down first (replicate 16 2)) (replicate 16 3)) (replicate 16 0xDC)
 
 sum_is : (c d : ℕ) → added (added (up (c % 64) 2) (down (d % 64) 4)) 0xC0 ≡ leading_low c d
@@ -215,13 +215,13 @@ trailing_at first q k lt =
 -- Where some units may be surrogates.
 module _ (third second low high leading_l leading_h trailing : List ℕ) (t : length third ≡ 16) (u : length second ≡ 16) (l : length low ≡ 16) (h : length high ≡ 16)
     (ll : length leading_l ≡ 16) (lh : length leading_h ≡ 16) (tr : length trailing ≡ 16) where
-  abbrev pub chosen_lows : List ℕ
+  abbrev chosen_lows : List ℕ
   chosen_lows = where_below second (replicate 16 0xF0) low leading_l
 
   abbrev shorter : List ℕ
   shorter = where_below third (replicate 16 0xF0) high trailing
 
-  abbrev pub chosen_highs : List ℕ
+  abbrev chosen_highs : List ℕ
   chosen_highs = where_below second (replicate 16 0xF0) shorter leading_h
 
   shorter_len : length shorter ≡ 16

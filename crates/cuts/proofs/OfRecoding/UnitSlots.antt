@@ -10,7 +10,7 @@ use Rattle.std.specs.Int.{bit_at}
 use lib.Lanes.{zip2, sel_l, mask_l, top, chunk}
 use Rattle.utf_base.specs.Units.{is_leading_surrogate, is_surrogate}
 use Rattle.cuts.specs.Recoding.Recoded.{unit_of}
-use Rattle.cuts.specs.Recoding.UnitCodes.{lane_unit, first_byte, middle_byte, last_byte, lead_byte, second_byte, third_byte}
+use Rattle.cuts.specs.Recoding.UnitCodes.{lane_unit, AreLanes, first_byte, middle_byte, last_byte, lead_byte, second_byte, third_byte, first_in_text, middle_in_text, last_in_text}
 use Rattle.cuts.proofs.OfRecoding.BlockUnits.{below_8}
 use Rattle.cuts.proofs.OfRecoding.ChosenLanes.{wide_with}
 use Rattle.cuts.proofs.OfRecoding.UnitLanes.{added, up, down}
@@ -18,17 +18,17 @@ use Rattle.cuts.proofs.OfRecoding.LaneLemmas.{IsBlock, wide, lane, lane_with, la
 
 -- Where a test passes of a lane and a number, the lane of one vector, and else that of another.
 module _ (t : ℕ → ℕ → Bool) (xs : List ℕ) (y : ℕ) (ps qs : List ℕ) where
-  abbrev pub where_passed : List ℕ
+  abbrev where_passed : List ℕ
   where_passed = sel_l (map (top 7) (zip2 (λ a b. cond {A = ℕ} (t a b) 255 0) xs (replicate 16 y))) ps qs
 
   module _ (x : length xs ≡ 16) (p : length ps ≡ 16) (q : length qs ≡ 16) where
     tests_len : length (zip2 t xs (replicate 16 y)) ≡ 16
     tests_len = length-zip2 t xs (replicate 16 y) x ∙ x
 
-    pub where_passed_len : length where_passed ≡ 16
+    where_passed_len : length where_passed ≡ 16
     where_passed_len = rw (tops_compared w8 t xs (replicate 16 y)) (length-sel_l (zip2 t xs (replicate 16 y)) ps qs (tests_len ∙ sym p) (tests_len ∙ sym q) ∙ tests_len)
 
-    pub where_passed_at : (k : ℕ) → k < 16 → get_or where_passed k 0 ≡ cond (t (get_or xs k 0) y) (get_or ps k 0) (get_or qs k 0)
+    where_passed_at : (k : ℕ) → k < 16 → get_or where_passed k 0 ≡ cond (t (get_or xs k 0) y) (get_or ps k 0) (get_or qs k 0)
     where_passed_at k lt =
         let test : get_or (zip2 t xs (replicate 16 y)) k false ≡ t (get_or xs k 0) y
         = get_or-zip2 t xs (replicate 16 y) k 0 0 false (omega (arith, x)) lt ∙ ap (t (get_or xs k 0)) (get_or-replicate {A = ℕ} 16 k y 0 lt) in
@@ -89,7 +89,7 @@ top_bits high y q k lt =
 
 -- The bytes of one unit by its halves.
 
-pub first_is : (h l : ℕ) → h < 256 → l < 256 → cond (ltb h 8) 0 (added (h / 16) 0xE0) ≡ first_byte (h * 256 + l)
+first_is : (h l : ℕ) → h < 256 → l < 256 → cond (ltb h 8) 0 (added (h / 16) 0xE0) ≡ first_byte (h * 256 + l)
 first_is h l H L = grind (arith, common_steps)
 
 abbrev middle_bits : ℕ → ℕ → ℕ
@@ -98,19 +98,19 @@ middle_bits h l = added (up (h % 16) 2) (l / 64)
 abbrev middle_of : ℕ → ℕ → ℕ
 middle_of h l = cond (ltb h 8) (cond (ltb (middle_bits h l) 2) 0 (added (middle_bits h l) 0xC0)) (added (middle_bits h l) 0x80)
 
-pub middle_is : (h l : ℕ) → h < 256 → l < 256 → middle_of h l ≡ middle_byte (h * 256 + l)
+middle_is : (h l : ℕ) → h < 256 → l < 256 → middle_of h l ≡ middle_byte (h * 256 + l)
 middle_is h l H L = grind (arith, common_steps)
 
 pub last_is : (h l m : ℕ) → h < 256 → l < 256 → m ≡ middle_byte (h * 256 + l) → cond (ltb m 1) l (added (l % 64) 0x80) ≡ last_byte (h * 256 + l)
 last_is h l m H L e = grind (arith, common_steps)
 
-pub lead_is : (h l : ℕ) → h < 256 → l < 256 → added (h % 4) (cond (ltb l 0xC0) 0xF0 0xF1) ≡ lead_byte (h * 256 + l)
+lead_is : (h l : ℕ) → h < 256 → l < 256 → added (h % 4) (cond (ltb l 0xC0) 0xF0 0xF1) ≡ lead_byte (h * 256 + l)
 lead_is h l H L = grind (arith, common_steps)
 
-pub second_is : (h l : ℕ) → h < 256 → l < 256 → added (added (l / 4) 16 % 64) 0x80 ≡ second_byte (h * 256 + l)
+second_is : (h l : ℕ) → h < 256 → l < 256 → added (added (l / 4) 16 % 64) 0x80 ≡ second_byte (h * 256 + l)
 second_is h l H L = omega arith
 
-pub third_is : (p h l : ℕ) → h < 256 → l < 256 → added (added (up (p % 4) 4) (added (up (h % 4) 2) (l / 64))) 0x80 ≡ third_byte p (h * 256 + l)
+third_is : (p h l : ℕ) → h < 256 → l < 256 → added (added (up (p % 4) 4) (added (up (h % 4) 2) (l / 64))) 0x80 ≡ third_byte p (h * 256 + l)
 third_is p h l H L = omega arith
 
 pub surrogate_is : (h l : ℕ) → l < 256 → eqb (h / 8) 0x1B ≡ is_surrogate (h * 256 + l)
@@ -213,13 +213,13 @@ module _ (low high : List ℕ) (p : IsBlock low) (q : IsBlock high) where
   abbrev carries : List ℕ
   carries = where_passed ltb low 0xC0 (replicate 16 0xF0) (replicate 16 0xF1)
 
-  abbrev pub lead_lanes : List ℕ
+  abbrev lead_lanes : List ℕ
   lead_lanes = zip2 added (zip2 bit_and high (replicate 16 3)) carries
 
   abbrev sums : List ℕ
   sums = zip2 added (zip2 down low (replicate 16 2)) (replicate 16 16)
 
-  abbrev pub second_lanes : List ℕ
+  abbrev second_lanes : List ℕ
   second_lanes = zip2 added (zip2 bit_and sums (replicate 16 0x3F)) (replicate 16 0x80)
 
   carries_len : length carries ≡ 16
@@ -264,7 +264,7 @@ module _ (low high : List ℕ) (p : IsBlock low) (q : IsBlock high) where
     abbrev fours : List ℕ
     fours = zip2 added (zip2 up (zip2 bit_and high (replicate 16 3)) (replicate 16 2)) (zip2 down low (replicate 16 6))
 
-    abbrev pub third_lanes : List ℕ
+    abbrev third_lanes : List ℕ
     third_lanes = zip2 added (zip2 added twos fours) (replicate 16 0x80)
 
     twos_len : length twos ≡ 16
@@ -296,24 +296,25 @@ module _ (low high : List ℕ) (p : IsBlock low) (q : IsBlock high) where
         (third_is (get_or before k 0) (get_or high k 0) (get_or low k 0) (lane_fits high k q lt) (lane_fits low k p lt))
 
 -- Where some units may be surrogates.
-module _ (low high first middle last lead second third : List ℕ) (p : IsBlock low) (q : IsBlock high) (fl : length first ≡ 16) (ml : length middle ≡ 16) (ll : length last ≡ 16)
-    (dl : length lead ≡ 16) (sl : length second ≡ 16) (tl : length third ≡ 16) where
+module _ (low high before first middle last lead second third : List ℕ) (p : IsBlock low) (q : IsBlock high) (f : AreLanes first (λ k. first_byte (lane_unit low high k)))
+    (m : AreLanes middle (λ k. middle_byte (lane_unit low high k))) (l : AreLanes last (λ k. last_byte (lane_unit low high k))) (d : AreLanes lead (λ k. lead_byte (lane_unit low high k)))
+    (s : AreLanes second (λ k. second_byte (lane_unit low high k))) (t : AreLanes third (λ k. third_byte (get_or before k 0) (lane_unit low high k))) where
   abbrev eighths : List ℕ
   eighths = zip2 down high (replicate 16 3)
 
   abbrev fourths : List ℕ
   fourths = zip2 down high (replicate 16 2)
 
-  abbrev pub text_firsts : List ℕ
+  abbrev text_firsts : List ℕ
   text_firsts = where_passed eqb eighths 0x1B (replicate 16 0) first
 
   abbrev paired : List ℕ
   paired = where_passed eqb eighths 0x1B third middle
 
-  abbrev pub text_middles : List ℕ
+  abbrev text_middles : List ℕ
   text_middles = where_passed eqb fourths 0x36 lead paired
 
-  abbrev pub text_lasts : List ℕ
+  abbrev text_lasts : List ℕ
   text_lasts = where_passed eqb fourths 0x36 second last
 
   eighths_len : length eighths ≡ 16
@@ -323,16 +324,7 @@ module _ (low high first middle last lead second third : List ℕ) (p : IsBlock 
   fourths_len = wide_with down high 2 q.0
 
   paired_len : length paired ≡ 16
-  paired_len = where_passed_len eqb eighths 0x1B third middle eighths_len tl ml
-
-  pub text_firsts_len : length text_firsts ≡ 16
-  text_firsts_len = where_passed_len eqb eighths 0x1B (replicate 16 0) first eighths_len refl fl
-
-  pub text_middles_len : length text_middles ≡ 16
-  text_middles_len = where_passed_len eqb fourths 0x36 lead paired fourths_len dl paired_len
-
-  pub text_lasts_len : length text_lasts ≡ 16
-  text_lasts_len = where_passed_len eqb fourths 0x36 second last fourths_len sl ll
+  paired_len = where_passed_len eqb eighths 0x1B third middle eighths_len t.wide m.wide
 
   eighth : (k : ℕ) → k < 16 → eqb (get_or eighths k 0) 0x1B ≡ is_surrogate (lane_unit low high k)
   eighth k lt = rw (lane_with down high 3 q.0 k lt) (surrogate_is (get_or high k 0) (get_or low k 0) (lane_fits low k p lt))
@@ -340,16 +332,32 @@ module _ (low high first middle last lead second third : List ℕ) (p : IsBlock 
   fourth : (k : ℕ) → k < 16 → eqb (get_or fourths k 0) 0x36 ≡ is_leading_surrogate (lane_unit low high k)
   fourth k lt = rw (lane_with down high 2 q.0 k lt) (leading_is (get_or high k 0) (get_or low k 0) (lane_fits low k p lt))
 
-  pub text_firsts_at : (k : ℕ) → k < 16 → get_or text_firsts k 0 ≡ cond (is_surrogate (lane_unit low high k)) 0 (get_or first k 0)
-  text_firsts_at k lt = rw (where_passed_at eqb eighths 0x1B (replicate 16 0) first eighths_len refl fl k lt, eighth k lt, get_or-replicate {A = ℕ} 16 k 0 0 lt) refl
+  pub text_firsts_are : AreLanes text_firsts (λ k. first_in_text (lane_unit low high k))
+  text_firsts_are = record {
+    wide = where_passed_len eqb eighths 0x1B (replicate 16 0) first eighths_len refl f.wide;
+    each = λ k lt. rw (where_passed_at eqb eighths 0x1B (replicate 16 0) first eighths_len refl f.wide k lt, eighth k lt, get_or-replicate {A = ℕ} 16 k 0 0 lt, f.each k lt) refl;
+  }
 
-  pub text_middles_at : (k : ℕ) → k < 16
-      → get_or text_middles k 0 ≡ cond (is_leading_surrogate (lane_unit low high k)) (get_or lead k 0) (cond (is_surrogate (lane_unit low high k)) (get_or third k 0) (get_or middle k 0))
-  text_middles_at k lt =
-      rw (where_passed_at eqb fourths 0x36 lead paired fourths_len dl paired_len k lt, where_passed_at eqb eighths 0x1B third middle eighths_len tl ml k lt, eighth k lt, fourth k lt) refl
+  pub text_middles_are : AreLanes text_middles (λ k. middle_in_text (get_or before k 0) (lane_unit low high k))
+  text_middles_are = record {
+    wide = where_passed_len eqb fourths 0x36 lead paired fourths_len d.wide paired_len;
+    each = λ k lt.
+        rw (
+          where_passed_at eqb fourths 0x36 lead paired fourths_len d.wide paired_len k lt,
+          where_passed_at eqb eighths 0x1B third middle eighths_len t.wide m.wide k lt,
+          eighth k lt,
+          fourth k lt,
+          d.each k lt,
+          t.each k lt,
+          m.each k lt,
+        ) refl;
+  }
 
-  pub text_lasts_at : (k : ℕ) → k < 16 → get_or text_lasts k 0 ≡ cond (is_leading_surrogate (lane_unit low high k)) (get_or second k 0) (get_or last k 0)
-  text_lasts_at k lt = rw (where_passed_at eqb fourths 0x36 second last fourths_len sl ll k lt, fourth k lt) refl
+  pub text_lasts_are : AreLanes text_lasts (λ k. last_in_text (lane_unit low high k))
+  text_lasts_are = record {
+    wide = where_passed_len eqb fourths 0x36 second last fourths_len s.wide l.wide;
+    each = λ k lt. rw (where_passed_at eqb fourths 0x36 second last fourths_len s.wide l.wide k lt, fourth k lt, s.each k lt, l.each k lt) refl;
+  }
 
 -- Shuffles.
 
@@ -383,16 +391,16 @@ module _ (xs : List ℕ) (enough : 32 ≤ length xs) where
             get_or-append_right (chunk 0 16 xs) (chunk 16 16 xs) 16 j 0 (length-chunk 0 16 xs (omega arith)) high ∙ get_or-chunk 16 16 xs (j - 16) 0 (omega arith) ∙ ap (λ n. get_or xs n 0) at)
       ]
 
-  abbrev pub evens : List ℕ
+  abbrev evens : List ℕ
   evens = get_or both 0 0 ∷ get_or both 2 0 ∷ get_or both 4 0 ∷ get_or both 6 0 ∷ get_or both 8 0 ∷ get_or both 10 0 ∷ get_or both 12 0 ∷ get_or both 14 0 ∷ get_or both 16 0 ∷ get_or both 18 0 ∷ get_or both 20 0 ∷ get_or both 22 0 ∷ get_or both 24 0 ∷ get_or both 26 0 ∷ get_or both 28 0 ∷ get_or both 30 0 ∷ []
 
-  abbrev pub odds : List ℕ
+  abbrev odds : List ℕ
   odds = get_or both 1 0 ∷ get_or both 3 0 ∷ get_or both 5 0 ∷ get_or both 7 0 ∷ get_or both 9 0 ∷ get_or both 11 0 ∷ get_or both 13 0 ∷ get_or both 15 0 ∷ get_or both 17 0 ∷ get_or both 19 0 ∷ get_or both 21 0 ∷ get_or both 23 0 ∷ get_or both 25 0 ∷ get_or both 27 0 ∷ get_or both 29 0 ∷ get_or both 31 0 ∷ []
 
-  pub evens_at : (k : ℕ) → k < 16 → get_or evens k 0 ≡ get_or xs (2 * k) 0
+  evens_at : (k : ℕ) → k < 16 → get_or evens k 0 ≡ get_or xs (2 * k) 0
   evens_at = below_16 (λ i. get_or evens i 0 ≡ get_or xs (2 * i) 0) (both_at 0 (lit< tt)) (both_at 2 (lit< tt)) (both_at 4 (lit< tt)) (both_at 6 (lit< tt)) (both_at 8 (lit< tt)) (both_at 10 (lit< tt)) (both_at 12 (lit< tt)) (both_at 14 (lit< tt)) (both_at 16 (lit< tt)) (both_at 18 (lit< tt)) (both_at 20 (lit< tt)) (both_at 22 (lit< tt)) (both_at 24 (lit< tt)) (both_at 26 (lit< tt)) (both_at 28 (lit< tt)) (both_at 30 (lit< tt))
 
-  pub odds_at : (k : ℕ) → k < 16 → get_or odds k 0 ≡ get_or xs (2 * k + 1) 0
+  odds_at : (k : ℕ) → k < 16 → get_or odds k 0 ≡ get_or xs (2 * k + 1) 0
   odds_at = below_16 (λ i. get_or odds i 0 ≡ get_or xs (2 * i + 1) 0) (both_at 1 (lit< tt)) (both_at 3 (lit< tt)) (both_at 5 (lit< tt)) (both_at 7 (lit< tt)) (both_at 9 (lit< tt)) (both_at 11 (lit< tt)) (both_at 13 (lit< tt)) (both_at 15 (lit< tt)) (both_at 17 (lit< tt)) (both_at 19 (lit< tt)) (both_at 21 (lit< tt)) (both_at 23 (lit< tt)) (both_at 25 (lit< tt)) (both_at 27 (lit< tt)) (both_at 29 (lit< tt)) (both_at 31 (lit< tt))
 
   pub high_first_units : (k : ℕ) → k < 16 → lane_unit odds evens k ≡ unit_of true (get_or xs (2 * k) 0) (get_or xs (2 * k + 1) 0)

@@ -8,6 +8,7 @@ use Rattle.utf_base.specs.Units.{is_leading_surrogate, is_trailing_surrogate}
 use Rattle.cuts.specs.Recoding.UnitBlocks.{AllPaired}
 use Rattle.cuts.proofs.OfRecoding.LaneLemmas.{zero_before}
 use Rattle.cuts.proofs.OfRecoding.SameLanes.{wide_of, lane_of}
+use Rattle.cuts.proofs.OfRecoding.UnitPairs.{pair_lanes, pair_more}
 
 -- A unit by its upper six bits.
 
@@ -62,6 +63,10 @@ unpaired_len xs ys p q = wide_of 8 bit_xor xs ys p q
 
 -- Four vectors at once.
 
+-- the lanes that are 0 pair, from the place i on
+abbrev LanesPair : List ℕ → List ℕ → ℕ → Type 0
+LanesPair us v i = (k : ℕ) → k < 8 → get_or v k 0 ≡ 0 → AllPaired us (i + k) (i + k + 1)
+
 abbrev differ_mask : List ℕ → ℕ
 differ_mask v = mask_l (map (top 15) (zip2 (λ a b. cond (not (eqb a b)) 0xFFFF 0) v (replicate 8 0))) % 2 ^ 64
 
@@ -75,7 +80,7 @@ module _ (p q r s : List ℕ) (lp : length p ≡ 8) (lq : length q ≡ 8) (lr : 
   abbrev any : List ℕ
   any = zip2 bit_or (zip2 bit_or p q) (zip2 bit_or r s)
 
-  pub all_zero : differ_mask any ≡ 0 → (k : ℕ) → k < 8 → (get_or p k 0 ≡ 0) × (get_or q k 0 ≡ 0) × (get_or r k 0 ≡ 0) × (get_or s k 0 ≡ 0)
+  all_zero : differ_mask any ≡ 0 → (k : ℕ) → k < 8 → (get_or p k 0 ≡ 0) × (get_or q k 0 ≡ 0) × (get_or r k 0 ≡ 0) × (get_or s k 0 ≡ 0)
   all_zero none k lt =
       let zeros = none_differs any (wide_of 8 bit_or (zip2 bit_or p q) (zip2 bit_or r s) (wide_of 8 bit_or p q lp lq) (wide_of 8 bit_or r s lr ls)) none k lt in
       let whole = lane_of 8 bit_or (zip2 bit_or p q) (zip2 bit_or r s) (wide_of 8 bit_or p q lp lq) (wide_of 8 bit_or r s lr ls) k lt in
@@ -88,3 +93,10 @@ module _ (p q r s : List ℕ) (lp : length p ≡ 8) (lq : length q ≡ 8) (lr : 
       let r_le = le_or_l (get_or r k 0) (get_or s k 0) in
       let s_le = le_or_r (get_or r k 0) (get_or s k 0) in
       (omega arith, omega arith, omega arith, omega arith)
+
+  pub all_pair : (us : List ℕ) (i : ℕ) → LanesPair us p i → LanesPair us q (i + 8) → LanesPair us r (i + 16) → LanesPair us s (i + 24) → differ_mask any ≡ 0 → AllPaired us i (i + 32)
+  all_pair us i f g h e none =
+      let zero = all_zero none in
+      pair_more us i (i + 24) 8 (i + 32) (omega arith)
+      (pair_more us i (i + 16) 8 (i + 24) (omega arith)
+      (pair_more us i (i + 8) 8 (i + 16) (omega arith) (pair_lanes us i 8 (λ k lt. f k lt (zero k lt).0)) (λ k lt. g k lt (zero k lt).1)) (λ k lt. h k lt (zero k lt).2)) (λ k lt. e k lt (zero k lt).3)

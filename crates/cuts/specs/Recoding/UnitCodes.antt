@@ -53,6 +53,11 @@ unit_code p u = slot (first_in_text u) (middle_in_text p u) (last_in_text u)
 abbrev pub code_at : (ℕ → ℕ) → ℕ → List ℕ
 code_at unit k = unit_code (unit (k - 1)) (unit k)
 
+-- A vector has sixteen lanes, and each is what its number says.
+pub record AreLanes (v : List ℕ) (lane : ℕ → ℕ) : Type 0 where
+  pub wide : length v ≡ 16
+  pub each : (k : ℕ) → k < 16 → slice_index v k ≡ lane k
+
 -- The first n units are text: each leading surrogate has a trailing one after it, and each trailing one a leading one before it.
 pub record AreText (unit : ℕ → ℕ) (n : ℕ) : Type 0 where
   pub first : 0 < n → is_trailing_surrogate (unit 0) ≡ false

@@ -1,9 +1,8 @@
 -- Bytes and units written to the end of an output that has room.
 use Rattle.std.specs.Prelude.{◌≡◌, ℕ, ◌+◌, ◌*◌, ◌%◌, ◌≤◌, Bool, List, ◌++◌, length, take, Vec, vec_len, vec_capacity}
-use Rattle.cuts.specs.Recoding.GivenUnits.{given, joined}
+use Rattle.cuts.specs.Recoding.GivenUnits.{given}
 use Rattle.cuts.specs.Recoding.Recoded.{units_of}
 use Rattle.cuts.specs.Recoding.UnitBlocks.{AllPaired, AreCodes, swapped, turned}
-use Rattle.cuts.specs.Recoding.UnitCodes.{lane_unit, code_at, AreText}
 
 -- So many bytes at the front were written, those of each pair swapped.
 pub record SwapsOnto {Z : Type 0} (bytes : List ℕ) (old new : Vec ℕ Z) (read : ℕ) : Type 0 where
@@ -26,14 +25,6 @@ pub record CopiesOnto {Z : Type 0} (high_first swaps : Bool) (bytes : List ℕ) 
 pub record GivesOnto {Z : Type 0} (high_first : Bool) (text : List ℕ) (old new : Vec ℕ Z) (start count : ℕ) : Type 0 where
   pub items : new.items ≡ old.items ++ given high_first text start count
   pub len : vec_len new ≤ vec_len old + 2 * count
-  pub capacity : vec_capacity old ≤ vec_capacity new
-
--- So many of sixteen units are text, and were written as UTF-8.
-pub record NarrowsOnto {Z : Type 0} (low high : List ℕ) (old new : Vec ℕ Z) (count : ℕ) : Type 0 where
-  pub most : count ≤ 16
-  pub text : AreText (lane_unit low high) count
-  pub items : new.items ≡ old.items ++ joined (code_at (lane_unit low high)) 0 count
-  pub len : vec_len new ≤ vec_len old + 6 * count
   pub capacity : vec_capacity old ≤ vec_capacity new
 
 -- The units from one place on and before another each pair with the one before them.

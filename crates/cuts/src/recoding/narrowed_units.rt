@@ -1,5 +1,5 @@
 //! Text in UTF-16 recoded as UTF-8, sixteen units at once.
-ghost use Rattle.std.specs.Prelude.{◌≡◌, ◌+◌, ◌*◌, ◌≤◌, ◌++◌, length, vec_len, vec_capacity, replicate};
+ghost use Rattle.std.specs.Prelude.{◌+◌, ◌*◌, ◌≤◌, length, vec_len, vec_capacity};
 ghost use Rattle.cuts.specs.Recoding.GivenUnits.{IsUnits};
 ghost use Rattle.cuts.specs.Recoding.OutputRuns.{RunsOnto};
 ghost use Rattle.cuts.specs.Recoding.UnitCodes.{PutsUnits};
@@ -7,6 +7,7 @@ ghost use Rattle.cuts.specs.Recoding.UnitCodes.{PutsUnits};
 use crate::recoding::form::Form;
 use crate::recoding::slot_blocks::write_others;
 use crate::recoding::unit_bytes::{are_ascii, sixteen_halves};
+use crate::recoding::unit_copies::append;
 use std::alloc::Allocator;
 use std::simd::prelude::*;
 
@@ -25,30 +26,14 @@ pub(crate) fn narrow_units<A: Allocator>(
 {
     let mut place = 0;
     while 32 <= bytes.len() - place {
-        let len = narrow_block(from, high_first, &bytes[place..], out);
-        if len == 0 {
+        let (low, high) = sixteen_halves(high_first, &bytes[place..]);
+        let units = put_sixteen(low, high, out);
+        if units == 0 {
             return place;
         }
-        place += len;
+        place += 2 * units;
     }
     place
-}
-
-// Recodes the first sixteen units, or fifteen, or none.
-#[inline(always)]
-fn narrow_block<A: Allocator>(
-    from: Form,
-    high_first: bool,
-    bytes: &[u8],
-    out: &mut Vec<u8, A>,
-) -> usize
-    requires form { IsUnits high_first from }
-    requires long { 32 ≤ length bytes.now }
-    requires room { vec_len out.old + 96 ≤ vec_capacity out.old }
-    ensures { RunsOnto from Form.Utf8 bytes.now out.old out.new result }
-{
-    let (low, high) = sixteen_halves(high_first, bytes);
-    2 * put_sixteen(low, high, out)
 }
 
 // Appends the bytes of sixteen units, or of fifteen, or none. Answers of how many.
@@ -58,34 +43,12 @@ fn put_sixteen<A: Allocator>(low: u8x16, high: u8x16, out: &mut Vec<u8, A>) -> u
     ensures { PutsUnits low high out.old out.new result }
 {
     if are_ascii(low, high) {
-        put_lanes(low, out);
+        append(&low.to_array(), out);
         return 16;
     }
     let start = out.len();
-    put_nuls(out);
+    append(&[0; 64], out);
     let (units, end) = write_others(low, high, out.as_mut_slice(), start);
     out.truncate(end);
     units
-}
-
-// Appends 64 NULs.
-#[inline(always)]
-fn put_nuls<A: Allocator>(out: &mut Vec<u8, A>)
-    requires { vec_len out.old + 64 ≤ vec_capacity out.old }
-    ensures items { out.new.items ≡ out.old.items ++ replicate 64 0 }
-    ensures len { vec_len out.new ≡ vec_len out.old + 64 }
-    ensures capacity { vec_capacity out.old ≤ vec_capacity out.new }
-{
-    let _ = out.extend_from_slice(&[0; 64]);
-}
-
-// Appends sixteen bytes.
-#[inline(always)]
-fn put_lanes<A: Allocator>(lanes: u8x16, out: &mut Vec<u8, A>)
-    requires room { vec_len out.old + 16 ≤ vec_capacity out.old }
-    ensures items { out.new.items ≡ out.old.items ++ lanes }
-    ensures len { vec_len out.new ≡ vec_len out.old + 16 }
-    ensures capacity { vec_capacity out.old ≤ vec_capacity out.new }
-{
-    let _ = out.extend_from_slice(&lanes.to_array());
 }

@@ -1,11 +1,11 @@
 //! Text copied into room of a fixed size: as it is, or units with the bytes of each swapped.
-ghost use Rattle.std.specs.Prelude.{◌≡◌, ◌+◌, ◌%◌, ◌≤◌, length, take};
-ghost use Rattle.cuts.specs.Recoding.Recoded.{units_of};
+ghost use Rattle.std.specs.Prelude.{◌≡◌, ◌⊎◌, ◌+◌, ◌%◌, ◌<◌, ◌≤◌, length, take, drop};
 ghost use Rattle.cuts.specs.Recoding.Rooms.{Fills, RunsInto};
-ghost use Rattle.cuts.specs.Recoding.UnitBlocks.{AreCodes, swapped, turned};
+ghost use Rattle.cuts.specs.Recoding.UnitBlocks.{swapped, turned};
 
-use crate::recoding::form::Form::{self, Utf8, Utf16Be, Utf16Le};
+use crate::recoding::form::Form;
 use crate::recoding::room_puts::{put_all, put_two};
+use crate::recoding::shown_fronts::high_is_first;
 use crate::recoding::text_blocks::text_len;
 use crate::recoding::unit_blocks::units_len;
 use crate::recoding::unit_copies::swapped_16;
@@ -22,7 +22,8 @@ pub(crate) fn text_copied(bytes: &[u8], room: &mut [u8], place: usize) -> (usize
     (len, put_all(&bytes[..len], room, place))
 }
 
-// Copies the well-formed units at the front of the bytes that the room is enough for, in the order that is wanted.
+// Copies the well-formed units at the front of the bytes that the room is enough for, in the order that is wanted. Answers how
+// many bytes they have.
 #[inline(always)]
 pub(crate) fn units_copied(
     from: Form,
@@ -30,38 +31,17 @@ pub(crate) fn units_copied(
     bytes: &[u8],
     room: &mut [u8],
     place: usize,
-) -> (usize, usize)
+) -> usize
     requires { place ≤ length room.old }
-    ensures { RunsInto from to bytes.now room.old room.new place result.0 result.1 }
+    ensures { RunsInto from to bytes.now room.old room.new place result (place + result) }
 {
-    match (from, to) {
-        (Utf16Le, Utf16Le) => copy_into(false, false, bytes, room, place),
-        (Utf16Le, Utf16Be) => copy_into(false, true, bytes, room, place),
-        (Utf16Be, Utf16Le) => copy_into(true, true, bytes, room, place),
-        (Utf16Be, Utf16Be) => copy_into(true, false, bytes, room, place),
-        _ => (0, place),
-    }
-}
-
-// The same of units in one order, the two bytes of each swapped or as they are.
-#[inline(always)]
-fn copy_into(
-    high_first: bool,
-    swaps: bool,
-    bytes: &[u8],
-    room: &mut [u8],
-    place: usize,
-) -> (usize, usize)
-    requires { place ≤ length room.old }
-    ensures within { result.0 ≤ length bytes.now }
-    ensures even { result.0 % 2 ≡ 0 }
-    ensures codes { AreCodes (units_of high_first (take result.0 bytes.now)) }
-    ensures fills { Fills room.old room.new place result.1 (turned swaps (take result.0 bytes.now)) }
-    ensures end { result.1 ≡ place + result.0 }
-{
+    let (Some(high_first), Some(wanted)) = (high_is_first(from), high_is_first(to)) else {
+        return 0;
+    };
     let most = bytes.len().min(room.len() - place);
     let len = 2 * units_len(high_first, &bytes[..most]);
-    (len, put_turned(swaps, &bytes[..len], room, place))
+    put_turned(high_first != wanted, &bytes[..len], room, place);
+    len
 }
 
 // Writes the bytes at the place, those of each pair swapped or as they are. Answers the place after them.
@@ -86,38 +66,39 @@ fn swap_into(bytes: &[u8], room: &mut [u8], place: usize) -> usize
     ensures fills { Fills room.old room.new place result (swapped bytes.now) }
     ensures end { result ≡ place + length bytes.now }
 {
-    let len = blocks_swapped(bytes, room, place);
-    pairs_swapped(&bytes[len..], room, place + len)
+    let len = blocks_swapped(16, bytes, room, place);
+    place + len + blocks_swapped(2, &bytes[len..], room, place + len)
 }
 
-// The same in blocks of sixteen. Answers how many bytes they have.
+// The same in blocks of so many bytes. Answers how many bytes they have.
 #[inline(always)]
-fn blocks_swapped(bytes: &[u8], room: &mut [u8], place: usize) -> usize
-    requires { place + length bytes.now ≤ length room.old }
+fn blocks_swapped(width: usize, bytes: &[u8], room: &mut [u8], place: usize) -> usize
+    requires width { width ≡ 16 ⊎ width ≡ 2 }
+    requires room { place + length bytes.now ≤ length room.old }
     ensures within { result ≤ length bytes.now }
     ensures even { result % 2 ≡ 0 }
+    ensures few { length bytes.now < result + width }
     ensures fills { Fills room.old room.new place (place + result) (swapped (take result bytes.now)) }
 {
     let mut len = 0;
-    while 16 <= bytes.len() - len {
-        put_all(&swapped_16(bytes, len), room, place + len);
-        len += 16;
+    while width <= bytes.len() - len {
+        swap_block(width, bytes, len, room, place + len);
+        len += width;
     }
     len
 }
 
-// The same of the few that are left, pair by pair.
+// One block.
 #[inline(always)]
-fn pairs_swapped(bytes: &[u8], room: &mut [u8], place: usize) -> usize
-    requires even { length bytes.now % 2 ≡ 0 }
-    requires room { place + length bytes.now ≤ length room.old }
-    ensures fills { Fills room.old room.new place result (swapped bytes.now) }
-    ensures end { result ≡ place + length bytes.now }
+fn swap_block(width: usize, bytes: &[u8], start: usize, room: &mut [u8], place: usize)
+    requires width { width ≡ 16 ⊎ width ≡ 2 }
+    requires within { start + width ≤ length bytes.now }
+    requires room { place + width ≤ length room.old }
+    ensures { Fills room.old room.new place (place + width) (swapped (take width (drop start bytes.now))) }
 {
-    let mut len = 0;
-    while 2 <= bytes.len() - len {
-        put_two(bytes[len + 1], bytes[len], room, place + len);
-        len += 2;
+    if width == 16 {
+        put_all(&swapped_16(bytes, start), room, place);
+    } else {
+        put_two(bytes[start + 1], bytes[start], room, place);
     }
-    place + len
 }

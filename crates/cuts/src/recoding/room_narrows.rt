@@ -1,5 +1,5 @@
 //! Text in UTF-16 recoded as UTF-8, sixteen units at once, into room of a fixed size.
-ghost use Rattle.std.specs.Prelude.{◌+◌, ◌≤◌, length};
+ghost use Rattle.std.specs.Prelude.{◌≤◌, length};
 ghost use Rattle.cuts.specs.Recoding.GivenUnits.{IsUnits};
 ghost use Rattle.cuts.specs.Recoding.Rooms.{RunsInto};
 
@@ -10,6 +10,9 @@ use crate::recoding::unit_bytes::sixteen_halves;
 
 // Recodes the blocks of sixteen units at the front of the bytes as UTF-8, as far as they have no fault and the room is surely
 // enough. Answers how many bytes were recoded, and the place after what was written.
+//
+// What a block gives is made beside the room, where more bytes may be written than it is, so that no place of the room after
+// them changes.
 #[inline(always)]
 pub(crate) fn narrow_into(
     from: Form,
@@ -25,33 +28,14 @@ pub(crate) fn narrow_into(
     let mut read = 0;
     let mut written = place;
     while 32 <= bytes.len() - read && 64 <= room.len() - written {
-        let (len, end) = narrow_block_into(from, high_first, &bytes[read..], room, written);
-        read += len;
-        written = end;
-        if len == 0 {
+        let (low, high) = sixteen_halves(high_first, &bytes[read..]);
+        let mut block = [0; 64];
+        let (units, len) = write_sixteen(low, high, &mut block, 0);
+        written = put_all(&block[..len], room, written);
+        read += 2 * units;
+        if units == 0 {
             return (read, written);
         }
     }
     (read, written)
-}
-
-// Recodes the first sixteen units, or fifteen, or none. What they give is made beside the room, where more bytes may be
-// written than it is, so that no place of the room after them changes.
-#[inline(always)]
-fn narrow_block_into(
-    from: Form,
-    high_first: bool,
-    bytes: &[u8],
-    room: &mut [u8],
-    place: usize,
-) -> (usize, usize)
-    requires form { IsUnits high_first from }
-    requires long { 32 ≤ length bytes.now }
-    requires room { place + 64 ≤ length room.old }
-    ensures { RunsInto from Form.Utf8 bytes.now room.old room.new place result.0 result.1 }
-{
-    let (low, high) = sixteen_halves(high_first, bytes);
-    let mut block = [0; 64];
-    let (units, len) = write_sixteen(low, high, &mut block, 0);
-    (2 * units, put_all(&block[..len], room, place))
 }

@@ -74,7 +74,10 @@ fn blocks_into(from: Form, to: Form, bytes: &[u8], room: &mut [u8], place: usize
         (Utf8, Utf16Be) => widen_into(Utf16Be, true, bytes, room, place),
         (Utf16Le, Utf8) => narrow_text_into(Utf16Le, false, bytes, room, place),
         (Utf16Be, Utf8) => narrow_text_into(Utf16Be, true, bytes, room, place),
-        _ => units_copied(from, to, bytes, room, place),
+        _ => {
+            let len = units_copied(from, to, bytes, room, place);
+            (len, place + len)
+        }
     }
 }
 

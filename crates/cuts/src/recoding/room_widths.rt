@@ -80,7 +80,7 @@ fn wide_at(high_first: bool, text: &[u8], room: &mut [u8], place: usize) -> (usi
     (read, end)
 }
 
-// Writes the units of 64 places.
+// Writes the units of 64 places, sixteen at once where they are not ASCII.
 #[inline(always)]
 fn wide_block_at(high_first: bool, text: &[u8], read: usize, room: &mut [u8], place: usize) -> usize
     requires start { 3 ≤ read }
@@ -94,18 +94,6 @@ fn wide_block_at(high_first: bool, text: &[u8], read: usize, room: &mut [u8], pl
         let next = put_all(&first, room, place);
         return put_all(&second, room, next);
     }
-    four_at(high_first, text, read, room, place)
-}
-
-// The same, sixteen at once.
-#[inline(always)]
-fn four_at(high_first: bool, text: &[u8], read: usize, room: &mut [u8], place: usize) -> usize
-    requires start { 3 ≤ read }
-    requires within { read + 64 ≤ length text.now }
-    requires room { place + 128 ≤ length room.old }
-    ensures fills { Fills room.old room.new place result (given high_first text.now read 64) }
-    ensures short { result ≤ place + 128 }
-{
     let second = block_at(high_first, text, read, 0, room, place);
     let third = block_at(high_first, text, read + 16, 0, room, second);
     let fourth = block_at(high_first, text, read + 32, 0, room, third);

@@ -6,6 +6,7 @@ ghost use Rattle.utf_base.specs.Shown.{Shows};
 ghost use Rattle.utf_base.specs.Units.{unit_fault_kind};
 ghost use Rattle.utf_base.specs.declared.errors.units.Utf16PairError.TheVariants.{Incomplete};
 ghost use Rattle.cuts.specs.Recoding.Recoded.{Reads, Lacks, ShowsUnits, unit_of, units_of};
+ghost use Rattle.cuts.specs.Recoding.GivenUnits.{IsUnits};
 ghost use Rattle.cuts.specs.Recoding.ShownFronts.{Decides, Ends, Waits, fault_len, ShowsEach, IsPlain};
 
 use crate::recoding::form::Form;
@@ -197,6 +198,18 @@ fn is_plain(to: Form, unit: u16) -> bool
     match to {
         Form::Utf8 => unit < 0x80,
         Form::Utf16Le | Form::Utf16Be => unit < 0xd800 || 0xe000 <= unit,
+    }
+}
+
+// Whether the high byte of each unit is the first, in a form that has units.
+#[inline(always)]
+pub(crate) fn high_is_first(form: Form) -> Option<bool>
+    ensures { IfSome result (λ high_first. IsUnits high_first form) }
+{
+    match form {
+        Form::Utf8 => None,
+        Form::Utf16Le => Some(false),
+        Form::Utf16Be => Some(true),
     }
 }
 

@@ -1,7 +1,7 @@
 //! Units of UTF-16 as bytes of UTF-8, sixteen at once.
 ghost use Rattle.std.specs.Prelude.{◌≡◌, ℕ, ◌+◌, ◌*◌, ◌<◌, ◌≤◌, IsTrue, length, slice_index, cond, nat_eq, false, ◌/◌};
 ghost use Rattle.std.specs.Int.{bit_at};
-ghost use Rattle.cuts.specs.Recoding.UnitCodes.{lane_unit, first_byte, middle_byte, last_byte, first_in_text, middle_in_text, last_in_text, lead_byte, second_byte, third_byte};
+ghost use Rattle.cuts.specs.Recoding.UnitCodes.{lane_unit, AreLanes, first_byte, middle_byte, last_byte, first_in_text, middle_in_text, last_in_text, lead_byte, second_byte, third_byte};
 ghost use Rattle.cuts.specs.Recoding.Recoded.{unit_of};
 
 use std::simd::prelude::*;
@@ -57,12 +57,9 @@ pub(crate) fn having_top(high: u8x16, top: u8) -> usize
 // The bytes of units that are characters.
 #[inline(always)]
 pub(crate) fn character_slots(low: u8x16, high: u8x16) -> Slots
-    ensures first_len { length result.first ≡ 16 }
-    ensures middle_len { length result.middle ≡ 16 }
-    ensures last_len { length result.last ≡ 16 }
-    ensures first { (k : ℕ) → k < 16 → slice_index result.first k ≡ first_byte (lane_unit low high k) }
-    ensures middle { (k : ℕ) → k < 16 → slice_index result.middle k ≡ middle_byte (lane_unit low high k) }
-    ensures last { (k : ℕ) → k < 16 → slice_index result.last k ≡ last_byte (lane_unit low high k) }
+    ensures first { AreLanes result.first (λ k. first_byte (lane_unit low high k)) }
+    ensures middle { AreLanes result.middle (λ k. middle_byte (lane_unit low high k)) }
+    ensures last { AreLanes result.last (λ k. last_byte (lane_unit low high k)) }
 {
     let none = u8x16::splat(0);
     let bits = ((high & u8x16::splat(15)) << u8x16::splat(2)) + (low >> u8x16::splat(6));
@@ -83,12 +80,9 @@ pub(crate) fn character_slots(low: u8x16, high: u8x16) -> Slots
 // The bytes of units in text, by the low halves of those before them.
 #[inline(always)]
 pub(crate) fn text_slots(before: u8x16, low: u8x16, high: u8x16) -> Slots
-    ensures first_len { length result.first ≡ 16 }
-    ensures middle_len { length result.middle ≡ 16 }
-    ensures last_len { length result.last ≡ 16 }
-    ensures first { (k : ℕ) → k < 16 → slice_index result.first k ≡ first_in_text (lane_unit low high k) }
-    ensures middle { (k : ℕ) → k < 16 → slice_index result.middle k ≡ middle_in_text (slice_index before k) (lane_unit low high k) }
-    ensures last { (k : ℕ) → k < 16 → slice_index result.last k ≡ last_in_text (lane_unit low high k) }
+    ensures first { AreLanes result.first (λ k. first_in_text (lane_unit low high k)) }
+    ensures middle { AreLanes result.middle (λ k. middle_in_text (slice_index before k) (lane_unit low high k)) }
+    ensures last { AreLanes result.last (λ k. last_in_text (lane_unit low high k)) }
 {
     let plain = character_slots(low, high);
     let (lead, lead_end) = front_of_four(low, high);
@@ -105,10 +99,8 @@ pub(crate) fn text_slots(before: u8x16, low: u8x16, high: u8x16) -> Slots
 // The first two bytes of four, which leading surrogates give.
 #[inline(always)]
 fn front_of_four(low: u8x16, high: u8x16) -> (u8x16, u8x16)
-    ensures first_len { length result.0 ≡ 16 }
-    ensures second_len { length result.1 ≡ 16 }
-    ensures first { (k : ℕ) → k < 16 → slice_index result.0 k ≡ lead_byte (lane_unit low high k) }
-    ensures second { (k : ℕ) → k < 16 → slice_index result.1 k ≡ second_byte (lane_unit low high k) }
+    ensures first { AreLanes result.0 (λ k. lead_byte (lane_unit low high k)) }
+    ensures second { AreLanes result.1 (λ k. second_byte (lane_unit low high k)) }
 {
     let carry = low
         .simd_lt(u8x16::splat(0xc0))
@@ -120,8 +112,7 @@ fn front_of_four(low: u8x16, high: u8x16) -> (u8x16, u8x16)
 // The third byte of four, which trailing surrogates give.
 #[inline(always)]
 fn third_of_four(before: u8x16, low: u8x16, high: u8x16) -> u8x16
-    ensures len { length result ≡ 16 }
-    ensures lanes { (k : ℕ) → k < 16 → slice_index result k ≡ third_byte (slice_index before k) (lane_unit low high k) }
+    ensures { AreLanes result (λ k. third_byte (slice_index before k) (lane_unit low high k)) }
 {
     let two = (before & u8x16::splat(3)) << u8x16::splat(4);
     let four = ((high & u8x16::splat(3)) << u8x16::splat(2)) + (low >> u8x16::splat(6));

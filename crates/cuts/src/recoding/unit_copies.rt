@@ -1,5 +1,5 @@
 //! Well-formed units copied, as they are or with the bytes of each swapped.
-ghost use Rattle.std.specs.Prelude.{◌≡◌, ◌+◌, ◌-◌, ◌%◌, ◌<◌, ◌≤◌, ◌++◌, length, take, drop, vec_len, vec_capacity};
+ghost use Rattle.std.specs.Prelude.{◌≡◌, ◌⊎◌, ◌+◌, ◌-◌, ◌%◌, ◌<◌, ◌≤◌, ◌++◌, length, take, drop, vec_len, vec_capacity};
 ghost use Rattle.cuts.specs.Recoding.UnitBlocks.{swapped};
 ghost use Rattle.cuts.specs.Recoding.UnitRuns.{CopiesOnto, SwapsOnto};
 
@@ -44,8 +44,8 @@ fn put_swapped<A: Allocator>(bytes: &[u8], out: &mut Vec<u8, A>)
         put_pairs(bytes, out);
         return;
     }
-    let rest = &bytes[put_wide(bytes, out)..];
-    let place = put_blocks(rest, out);
+    let rest = &bytes[put_blocks(64, bytes, out)..];
+    let place = put_blocks(16, rest, out);
     put_last(bytes, rest.len() - place, out);
 }
 
@@ -64,33 +64,37 @@ fn put_pairs<A: Allocator>(bytes: &[u8], out: &mut Vec<u8, A>)
     }
 }
 
-// The same in blocks of 64. Answers where the last block ends.
+// The same in blocks of so many bytes. Answers where the last block ends.
 #[inline(always)]
-fn put_wide<A: Allocator>(bytes: &[u8], out: &mut Vec<u8, A>) -> usize
-    requires { vec_len out.old + length bytes.now ≤ vec_capacity out.old }
-    ensures { SwapsOnto bytes.now out.old out.new result }
+fn put_blocks<A: Allocator>(width: usize, bytes: &[u8], out: &mut Vec<u8, A>) -> usize
+    requires width { width ≡ 64 ⊎ width ≡ 16 }
+    requires room { vec_len out.old + length bytes.now ≤ vec_capacity out.old }
+    ensures swaps { SwapsOnto bytes.now out.old out.new result }
+    ensures few { length bytes.now < result + width }
 {
     let mut place = 0;
-    while 64 <= bytes.len() - place {
-        append(&swapped_64(bytes, place), out);
-        place += 64;
+    while width <= bytes.len() - place {
+        put_block(width, bytes, place, out);
+        place += width;
     }
     place
 }
 
-// The same in blocks of sixteen.
+// One block.
 #[inline(always)]
-fn put_blocks<A: Allocator>(bytes: &[u8], out: &mut Vec<u8, A>) -> usize
-    requires { vec_len out.old + length bytes.now ≤ vec_capacity out.old }
-    ensures swaps { SwapsOnto bytes.now out.old out.new result }
-    ensures few { length bytes.now < result + 16 }
+fn put_block<A: Allocator>(width: usize, bytes: &[u8], place: usize, out: &mut Vec<u8, A>)
+    requires width { width ≡ 64 ⊎ width ≡ 16 }
+    requires within { place + width ≤ length bytes.now }
+    requires room { vec_len out.old + width ≤ vec_capacity out.old }
+    ensures items { out.new.items ≡ out.old.items ++ swapped (take width (drop place bytes.now)) }
+    ensures len { vec_len out.new ≡ vec_len out.old + width }
+    ensures capacity { vec_capacity out.old ≤ vec_capacity out.new }
 {
-    let mut place = 0;
-    while 16 <= bytes.len() - place {
+    if width == 64 {
+        append(&swapped_64(bytes, place), out);
+    } else {
         append(&swapped_16(bytes, place), out);
-        place += 16;
     }
-    place
 }
 
 // The same of the last few.

@@ -70,7 +70,7 @@ fn put_wide<A: Allocator>(high_first: bool, text: &[u8], out: &mut Vec<u8, A>) -
     place
 }
 
-// Appends the units of 64 places.
+// Appends the units of 64 places, sixteen at once where they are not ASCII.
 #[inline(always)]
 fn put_64<A: Allocator>(high_first: bool, text: &[u8], place: usize, out: &mut Vec<u8, A>)
     requires start { 3 ≤ place }
@@ -80,9 +80,12 @@ fn put_64<A: Allocator>(high_first: bool, text: &[u8], place: usize, out: &mut V
 {
     if text[place] < 0x80 && is_ascii_block(text, place) && is_closed(text, place) {
         put_ascii(high_first, text, place, out);
-    } else {
-        put_four(high_first, text, place, out);
+        return;
     }
+    put_block(high_first, text, place, 0, out);
+    put_block(high_first, text, place + 16, 0, out);
+    put_block(high_first, text, place + 32, 0, out);
+    put_block(high_first, text, place + 48, 0, out);
 }
 
 // The same where the places are ASCII, after bytes that ask for no more.
@@ -126,20 +129,6 @@ fn beside_nuls(high_first: bool, bytes: u8x64) -> (u8x64, u8x64)
     } else {
         bytes.interleave(nuls)
     }
-}
-
-// Appends the units of 64 places, sixteen at once.
-#[inline(always)]
-fn put_four<A: Allocator>(high_first: bool, text: &[u8], place: usize, out: &mut Vec<u8, A>)
-    requires start { 3 ≤ place }
-    requires within { place + 64 ≤ length text.now }
-    requires room { vec_len out.old + 128 ≤ vec_capacity out.old }
-    ensures { GivesOnto high_first text.now out.old out.new place 64 }
-{
-    put_block(high_first, text, place, 0, out);
-    put_block(high_first, text, place + 16, 0, out);
-    put_block(high_first, text, place + 32, 0, out);
-    put_block(high_first, text, place + 48, 0, out);
 }
 
 // Appends the units of the places from one on to the end, in blocks of sixteen, of which the last ends with the text.

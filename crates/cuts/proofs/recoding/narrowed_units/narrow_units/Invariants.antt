@@ -4,7 +4,7 @@ use Rattle.cuts.specs.Recoding.OutputRuns.{RunsOnto}
 use Rattle.cuts.proofs.recoding.narrowed_units.narrow_units.Given as goal
 
 abbrev pub invariant-loop-place : goal.invariant-loop-place
-invariant-loop-place g l = RunsOnto l.from Utf8 l.bytes l.fn.out l.out l.place
+invariant-loop-place g l = RunsOnto l.fn.from Utf8 l.bytes l.fn.out l.out l.place
 
 abbrev pub decreases-loop-place : goal.decreases-loop-place
 decreases-loop-place g l = length l.bytes - l.place

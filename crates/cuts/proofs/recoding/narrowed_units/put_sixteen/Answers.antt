@@ -9,9 +9,9 @@ returns-then-are_ascii g c =
     record {
       most = omega arith;
       text = ascii_text c.args.low c.args.high c.fits-low.0 ascii;
-      items = c.put_lanes.ensures.items ∙ ap (λ xs. c.args.out.now.items ++ xs) (ascii_codes c.args.low c.args.high c.fits-low.0 ascii);
+      items = c.append.ensures.items ∙ ap (λ xs. c.args.out.now.items ++ xs) (ascii_codes c.args.low c.args.high c.fits-low.0 ascii);
       short = omega arith;
-      capacity = c.put_lanes.ensures.capacity;
+      capacity = c.append.ensures.capacity;
     }
 
 pub returns : goal.returns
@@ -22,8 +22,8 @@ returns g c =
       most = written.most;
       text = written.text;
       items =
-          written_back _ _ _ _ _ _ _ c.len-start.result _ _ (value ∙ c.put_nuls.ensures.items) (c.len-start.ensures ∙ c.args.out.now.ok.0)
-          (written.len ∙ ap length value ∙ sym c.put_nuls.new.out.ok.0) written.bytes c.truncate.ensures.items;
+          written_back _ _ _ _ _ _ _ c.len-start.result _ _ (value ∙ c.append-2.ensures.items) (c.len-start.ensures ∙ c.args.out.now.ok.0)
+          (written.len ∙ ap length value ∙ sym c.append-2.new.out.ok.0) written.bytes c.truncate.ensures.items;
       short = omega (arith, written.short);
       capacity = omega arith;
     }

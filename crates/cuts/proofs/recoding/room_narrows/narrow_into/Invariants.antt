@@ -4,7 +4,7 @@ use Rattle.cuts.proofs.OfRecoding.RoomRuns.{KeepsRun}
 use Rattle.cuts.proofs.recoding.room_narrows.narrow_into.Given as goal
 
 abbrev pub invariant-loop-read : goal.invariant-loop-read
-invariant-loop-read l = KeepsRun l.from Utf8 l.bytes l.fn.room l.room l.place l.read l.written
+invariant-loop-read l = KeepsRun l.fn.from Utf8 l.bytes l.fn.room l.room l.place l.read l.written
 
 abbrev pub decreases-loop-read : goal.decreases-loop-read
 decreases-loop-read l = length l.bytes - l.read

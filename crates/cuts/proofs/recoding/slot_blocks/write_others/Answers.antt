@@ -1,5 +1,5 @@
-use Rattle.std.proofs.Common.{◌++◌, take, arith, ap, ◌∙◌}
-use Rattle.cuts.proofs.OfRecoding.JudgedUnits.{characters_are_text, character_codes, short_text, short_codes}
+use Rattle.std.proofs.Common.{arith}
+use Rattle.cuts.proofs.OfRecoding.JudgedUnits.{characters_are_text, character_codes, short_text, short_codes, WritesUnits-all}
 use Rattle.cuts.proofs.OfRecoding.LaneLemmas.{lane_fits}
 use Rattle.cuts.proofs.recoding.slot_blocks.write_others.Goals as goal
 
@@ -8,27 +8,13 @@ returns-then-are_short c =
     let short = c.are_short.ensures c.if-are_short.true in
     let slots = c.character_slots-slots.ensures in
     let put = c.write_short_slots.ensures in
-    let codes = short_codes c.args.low c.args.high (λ k lt. lane_fits c.args.low k c.fits-low lt) short _ _ slots.middle slots.last in
-    record {
-      most = omega arith;
-      text = short_text c.args.low c.args.high (λ k lt. lane_fits c.args.low k c.fits-low lt) short;
-      len = put.len;
-      bytes = put.bytes ∙ ap (λ xs. take c.args.at c.args.room.now ++ xs) codes;
-      short = omega (arith, put.most);
-      fits = omega (arith, put.most);
-    }
+    let codes = short_codes c.args.low c.args.high (λ k lt. lane_fits c.args.low k c.fits-low lt) short _ _ slots.middle.each slots.last.each in
+    WritesUnits-all _ _ _ _ _ _ _ (short_text c.args.low c.args.high (λ k lt. lane_fits c.args.low k c.fits-low lt) short) put.len put.bytes codes (omega (arith, put.most))
 
 pub returns-then-are_characters : goal.returns-then-are_characters
 returns-then-are_characters c =
     let none = c.are_characters.ensures c.if-are_characters.true in
     let slots = c.character_slots.ensures in
     let put = c.write_slots.ensures in
-    let codes = character_codes c.args.low c.args.high (λ k lt. lane_fits c.args.low k c.fits-low lt) none _ _ _ slots.first slots.middle slots.last in
-    record {
-      most = omega arith;
-      text = characters_are_text c.args.low c.args.high (λ k lt. lane_fits c.args.low k c.fits-low lt) none;
-      len = put.len;
-      bytes = put.bytes ∙ ap (λ xs. take c.args.at c.args.room.now ++ xs) codes;
-      short = omega (arith, put.most);
-      fits = put.most;
-    }
+    WritesUnits-all _ _ _ _ _ _ _ (characters_are_text c.args.low c.args.high (λ k lt. lane_fits c.args.low k c.fits-low lt) none) put.len put.bytes
+    (character_codes c.args.low c.args.high (λ k lt. lane_fits c.args.low k c.fits-low lt) none _ _ _ slots.first.each slots.middle.each slots.last.each) put.most

@@ -2,7 +2,7 @@ use Rattle.std.proofs.Common.{◌≡◌, ◌-◌, List, ℕ, ◌++◌, length, t
 use Rattle.std.proofs.lemmas.List.{append-nil, take-take}
 use Rattle.cuts.specs.Recoding.GivenUnits.{joined}
 use Rattle.cuts.specs.Recoding.UnitCodes.{lane_unit, AreText}
-use Rattle.cuts.proofs.OfRecoding.JudgedUnits.{text_codes, two_more, without_last}
+use Rattle.cuts.proofs.OfRecoding.JudgedUnits.{text_codes, two_more, without_last, WritesUnits-all}
 use Rattle.cuts.proofs.recoding.slot_blocks.write_text.Goals as goal
 
 pub returns-then-count-eq0 : goal.returns-then-count-eq0
@@ -21,15 +21,8 @@ returns-then-count-eq16 c =
     let judged = c.paired_units-count.ensures in
     let slots = c.text_slots.ensures in
     let put = c.write_slots-end.ensures in
-    let codes = text_codes c.args.low c.args.high c.one_later.result _ _ _ (judged.text.first (omega arith)) c.one_later.ensures slots.first slots.middle slots.last in
-    record {
-      most = omega arith;
-      text = subst (AreText (lane_unit c.args.low c.args.high)) c.if-count-eq16.true judged.text;
-      len = put.len;
-      bytes = put.bytes ∙ ap (λ xs. take c.args.at c.args.room.now ++ xs) codes;
-      short = omega (arith, put.most);
-      fits = put.most;
-    }
+    let codes = text_codes c.args.low c.args.high c.one_later.result _ _ _ (judged.text.first (omega arith)) c.one_later.ensures slots.first.each slots.middle.each slots.last.each in
+    WritesUnits-all _ _ _ _ _ _ _ (subst (AreText (lane_unit c.args.low c.args.high)) c.if-count-eq16.true judged.text) put.len put.bytes codes put.most
 
 pub overflow_sub-result : goal.overflow_sub-result
 overflow_sub-result c =
@@ -37,7 +30,7 @@ overflow_sub-result c =
     let count : c.paired_units-count.result ≡ 15 = omega arith in
     let slots = c.text_slots.ensures in
     let put = c.write_slots-end in
-    let codes = text_codes c.args.low c.args.high c.one_later.result _ _ _ (judged.text.first (omega arith)) c.one_later.ensures slots.first slots.middle slots.last in
+    let codes = text_codes c.args.low c.args.high c.one_later.result _ _ _ (judged.text.first (omega arith)) c.one_later.ensures slots.first.each slots.middle.each slots.last.each in
     let two = two_more (lane_unit c.args.low c.args.high) _ _ (judged.last count) (put.ensures.bytes ∙ ap (λ xs. take c.args.at c.args.room.now ++ xs) codes) in
     omega (arith, two, length-take put.result put.new.room)
 
@@ -49,7 +42,7 @@ returns c =
     let put = c.write_slots-end in
     let end = put.result in
     let front : List ℕ = take end put.new.room in
-    let codes = text_codes c.args.low c.args.high c.one_later.result _ _ _ (judged.text.first (omega arith)) c.one_later.ensures slots.first slots.middle slots.last in
+    let codes = text_codes c.args.low c.args.high c.one_later.result _ _ _ (judged.text.first (omega arith)) c.one_later.ensures slots.first.each slots.middle.each slots.last.each in
     let most = put.ensures.most in
     let len = put.ensures.len in
     let fit = c.requires in

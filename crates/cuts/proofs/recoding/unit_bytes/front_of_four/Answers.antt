@@ -3,8 +3,6 @@ use Rattle.cuts.proofs.recoding.unit_bytes.front_of_four.Goals as goal
 
 pub returns : goal.returns
 returns c = record {
-  first_len = lead_lanes_len c.args.low c.args.high c.fits-low c.fits-high;
-  second_len = second_lanes_len c.args.low c.args.high c.fits-low c.fits-high;
-  first = lead_lanes_at c.args.low c.args.high c.fits-low c.fits-high;
-  second = second_lanes_at c.args.low c.args.high c.fits-low c.fits-high;
+  first = record { wide = lead_lanes_len c.args.low c.args.high c.fits-low c.fits-high; each = lead_lanes_at c.args.low c.args.high c.fits-low c.fits-high };
+  second = record { wide = second_lanes_len c.args.low c.args.high c.fits-low c.fits-high; each = second_lanes_at c.args.low c.args.high c.fits-low c.fits-high };
 }

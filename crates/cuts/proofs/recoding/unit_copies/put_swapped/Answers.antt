@@ -7,9 +7,9 @@ pub returns-clause-items : goal.returns-clause-items
 returns-clause-items g c =
     let bytes = c.args.bytes.now in
     let old = c.args.out.now.items in
-    let wide = c.put_wide.result in
+    let wide = c.put_blocks.result in
     let place = c.put_blocks-place.result in
-    let first = c.put_wide.ensures in
+    let first = c.put_blocks.ensures.swaps in
     let blocks = rw (take_rest bytes wide) at c.put_blocks-place.ensures.swaps in
     let within = first.within in
     let more = blocks.within in

@@ -1,6 +1,6 @@
 use Rattle.std.proofs.Common.{◌+◌, arith, ◌≡◌}
 use Rattle.cuts.proofs.OfRecoding.TextUnits.{given_more}
-use Rattle.cuts.proofs.recoding.unit_puts.put_four.Goals as goal
+use Rattle.cuts.proofs.recoding.unit_puts.put_64.Goals as goal
 
 pub returns : goal.returns
 returns g c =
