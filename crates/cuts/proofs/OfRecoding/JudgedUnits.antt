@@ -6,7 +6,7 @@ use Rattle.std.proofs.lemmas.List.{take_at}
 use Rattle.std.specs.Int.{bit_at}
 use Rattle.utf_base.specs.Units.{is_leading_surrogate, is_trailing_surrogate, is_surrogate}
 use Rattle.cuts.specs.Recoding.GivenUnits.{joined}
-use Rattle.cuts.specs.Recoding.UnitCodes.{lane_unit, unit_code, code_at, AreText, slot, slot_at, first_byte, middle_byte, last_byte, lead_byte, second_byte, first_in_text, middle_in_text, last_in_text, kept, short_at, WritesUnits}
+use Rattle.cuts.specs.Recoding.UnitCodes.{lane_unit, unit_code, code_at, AreText, slot, slot_at, first_byte, middle_byte, last_byte, lead_byte, second_byte, first_in_text, middle_in_text, last_in_text, kept, lanes_at, WritesUnits}
 use Rattle.cuts.proofs.OfRecoding.Joined.{joined_add, joined_same, joined_moved, joined_1}
 use Rattle.cuts.proofs.OfRecoding.NarrowedUnits.{not_both, ascii_code, leading_code}
 use Rattle.cuts.proofs.OfRecoding.UnitSlots.{below_16, leading_is, surrogate_is}
@@ -201,9 +201,9 @@ module _ (low high : List ℕ) (fits : (k : ℕ) → k < 16 → get_or low k 0 <
   module _ (middles lasts : List ℕ)
       (middle : (k : ℕ) → k < 16 → get_or middles k 0 ≡ middle_byte (lane_unit low high k))
       (last : (k : ℕ) → k < 16 → get_or lasts k 0 ≡ last_byte (lane_unit low high k)) where
-    pub short_codes : joined (short_at middles lasts) 0 16 ≡ joined (code_at (lane_unit low high)) 0 16
+    pub short_codes : joined (lanes_at true middles lasts) 0 16 ≡ joined (code_at (lane_unit low high)) 0 16
     short_codes =
-        joined_same (short_at middles lasts) (code_at (lane_unit low high)) 0 16
+        joined_same (lanes_at true middles lasts) (code_at (lane_unit low high)) 0 16
         (λ i ge more. let lt : i < 16 = omega arith in rw (middle i lt, last i lt) (short_code (lane_unit low high (i - 1)) (lane_unit low high i) (unit_short i lt)))
 
 -- Units of ASCII.

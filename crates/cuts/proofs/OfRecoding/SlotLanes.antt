@@ -6,7 +6,7 @@ use Rattle.std.proofs.lemmas.Simd.{bitmask_splat, bit_mask_l, mask_l-lt, zip2_sp
 use Rattle.std.specs.Int.{bit_at}
 use lib.Lanes.{zip2, mask_l}
 use Rattle.cuts.specs.Recoding.GivenUnits.{joined}
-use Rattle.cuts.specs.Recoding.UnitCodes.{kept, slot, slot_at, pair_slot_at, marked, slot_bytes, short_at, short_bytes}
+use Rattle.cuts.specs.Recoding.UnitCodes.{kept, slot, slot_at, marked, row_bytes, row_slots, lanes_at}
 use Rattle.cuts.proofs.OfRecoding.BlockUnits.{low_bit, high_bit}
 use Rattle.cuts.proofs.OfRecoding.Joined.{joined_halves}
 use Rattle.cuts.proofs.OfRecoding.LaneLemmas.{reach_mask}
@@ -20,6 +20,11 @@ at_front xs k = get_or xs k 0
 
 abbrev at_back : List ℕ → ℕ → ℕ
 at_back xs k = get_or xs (8 + k) 0
+
+-- the slot of one lane, by what stands first and second in each pair
+abbrev lane_at : Bool → (ℕ → ℕ) → (ℕ → ℕ) → ℕ → List ℕ
+lane_at true f g i = kept (f i) ++ (g i ∷ [])
+lane_at false f g i = slot (f (2 * i)) (f (2 * i + 1)) (g (2 * i))
 
 module _ (vs : List ℕ) (f g : ℕ → ℕ) (pairs : ArePairs vs f g) where
   pair_first : (k : ℕ) → k < 8 → get_or vs (2 * k) 0 ≡ f k
@@ -59,10 +64,12 @@ marked_kept m i b bit = rw bit (either (leb 0x80 b) (ltb b 0x80) refl refl)
     either true true e f = grind (arith, common_steps)
     either false false e f = grind (arith, common_steps)
 
--- Four slots of four bytes, which are pairs of pairs.
+-- The slots of one vector, by a mask that says which bytes are kept.
 module _ (m : ℕ) (vs : List ℕ) (f g : ℕ → ℕ) (pairs : ArePairs vs f g) (bits : (k : ℕ) → k < 8 → bit_at m k ≡ cond (leb 0x80 (f k)) 1 0) where
-  four_slots : (i : ℕ) → i < 4 → slot_bytes m vs i ≡ slot (f (2 * i)) (f (2 * i + 1)) (g (2 * i))
-  four_slots i lt =
+  row_is : (short : Bool) (i : ℕ) → i < row_slots short → row_bytes short m vs i ≡ lane_at short f g i
+  row_is true i lt = rw (pair_first vs f g pairs i lt, pair_second vs f g pairs i lt) (ap (λ xs. xs ++ (g i ∷ [])) (marked_kept m i (f i) (bits i lt)))
+  -- slots of four bytes are pairs of pairs
+  row_is false i lt =
       let a : 4 * i ≡ 2 * (2 * i) = omega arith in
       let b : 4 * i + 2 ≡ 2 * (2 * i + 1) = omega arith in
       let c : 4 * i + 1 ≡ 2 * (2 * i) + 1 = omega arith in
@@ -74,44 +81,41 @@ module _ (m : ℕ) (vs : List ℕ) (f g : ℕ → ℕ) (pairs : ArePairs vs f g)
       (marked_kept m (2 * i) (f (2 * i)) (bits (2 * i) (omega arith)))
       (marked_kept m (2 * i + 1) (f (2 * i + 1)) (bits (2 * i + 1) (omega arith))))
 
--- Eight slots, by a mask whose halves say which bytes of four slots are kept.
-module _ (fronts lasts vs ws : List ℕ) (long : length fronts ≡ 16) (pairs : ArePairs vs (at_front fronts) (at_front lasts)) (more : ArePairs ws (at_back fronts) (at_back lasts)) where
-  front_four : (i : ℕ) → i < 4 → slot_bytes (bit_and (reach_mask 0x80 fronts) 255) vs i ≡ pair_slot_at fronts lasts i
-  front_four = four_slots (bit_and (reach_mask 0x80 fronts) 255) vs (at_front fronts) (at_front lasts) pairs (λ k lt. low_bit (reach_mask 0x80 fronts) k lt ∙ high_bits fronts long k (omega arith))
+-- Those of two, by a mask whose halves say so of each.
+module _ (fronts lasts vs ws : List ℕ) (long : length fronts ≡ 16) (pairs : ArePairs vs (at_front fronts) (at_front lasts)) (more : ArePairs ws (at_back fronts) (at_back lasts)) (short : Bool) where
+  front_row : (i : ℕ) → i < row_slots short → row_bytes short (bit_and (reach_mask 0x80 fronts) 255) vs i ≡ lanes_at short fronts lasts i
+  front_row i lt =
+      row_is (bit_and (reach_mask 0x80 fronts) 255) vs (at_front fronts) (at_front lasts) pairs (λ k lt. low_bit (reach_mask 0x80 fronts) k lt ∙ high_bits fronts long k (omega arith)) short i lt
+      ∙ here short
+    where
+      here : (s : Bool) → lane_at s (at_front fronts) (at_front lasts) i ≡ lanes_at s fronts lasts i
+      here true = refl
+      here false = refl
 
-  back_four : (i : ℕ) → i < 4 → slot_bytes (reach_mask 0x80 fronts / 256) ws i ≡ pair_slot_at fronts lasts (4 + i)
-  back_four i lt =
-      let a : 8 + 2 * i ≡ 2 * (4 + i) = omega arith in
-      let b : 8 + (2 * i + 1) ≡ 2 * (4 + i) + 1 = omega arith in
-      four_slots (reach_mask 0x80 fronts / 256) ws (at_back fronts) (at_back lasts) more (λ k lt. high_bit (reach_mask 0x80 fronts) k lt ∙ high_bits fronts long (8 + k) (omega arith)) i lt
-      ∙ ap₂ (λ p q. slot (get_or fronts p 0) (get_or fronts q 0) (get_or lasts p 0)) a b
+  back_row : (i : ℕ) → i < row_slots short → row_bytes short (reach_mask 0x80 fronts / 256) ws i ≡ lanes_at short fronts lasts (row_slots short + i)
+  back_row i lt =
+      row_is (reach_mask 0x80 fronts / 256) ws (at_back fronts) (at_back lasts) more (λ k lt. high_bit (reach_mask 0x80 fronts) k lt ∙ high_bits fronts long (8 + k) (omega arith)) short i lt
+      ∙ there short
+    where
+      there : (s : Bool) → lane_at s (at_back fronts) (at_back lasts) i ≡ lanes_at s fronts lasts (row_slots s + i)
+      there true = refl
+      there false =
+          let a : 8 + 2 * i ≡ 2 * (4 + i) = omega arith in
+          let b : 8 + (2 * i + 1) ≡ 2 * (4 + i) + 1 = omega arith in
+          ap₂ (λ p q. slot (get_or fronts p 0) (get_or fronts q 0) (get_or lasts p 0)) a b
 
-  pub eight_slots : joined (slot_bytes (bit_and (reach_mask 0x80 fronts) 255) vs) 0 4 ++ joined (slot_bytes (reach_mask 0x80 fronts / 256) ws) 0 4 ≡ joined (pair_slot_at fronts lasts) 0 8
-  eight_slots = joined_halves _ _ (pair_slot_at fronts lasts) 4 front_four back_four
+  pub rows_joined : joined (row_bytes short (bit_and (reach_mask 0x80 fronts) 255) vs) 0 (row_slots short) ++ joined (row_bytes short (reach_mask 0x80 fronts / 256) ws) 0 (row_slots short)
+      ≡ joined (lanes_at short fronts lasts) 0 (row_slots short + row_slots short)
+  rows_joined = joined_halves _ _ _ (row_slots short) front_row back_row
 
 -- Sixteen slots in three vectors.
 module _ (firsts middles lasts fronts more_fronts ends more_ends : List ℕ) (front : ArePairs fronts (at_front firsts) (at_front middles))
     (more_front : ArePairs more_fronts (at_back firsts) (at_back middles)) (end : ArePairs ends (at_front lasts) (at_front lasts)) (more_end : ArePairs more_ends (at_back lasts) (at_back lasts)) where
-  slots_at : (vs zs : List ℕ) (f g h : ℕ → ℕ) → ArePairs vs f g → ArePairs zs h h → (k : ℕ) → k < 8 → pair_slot_at vs zs k ≡ slot (f k) (g k) (h k)
+  slots_at : (vs zs : List ℕ) (f g h : ℕ → ℕ) → ArePairs vs f g → ArePairs zs h h → (k : ℕ) → k < 8 → lanes_at false vs zs k ≡ slot (f k) (g k) (h k)
   slots_at vs zs f g h p e k lt = rw (pair_first vs f g p k lt, pair_second vs f g p k lt, pair_first zs h h e k lt) refl
 
-  pub sixteen_slots : joined (pair_slot_at fronts ends) 0 8 ++ joined (pair_slot_at more_fronts more_ends) 0 8 ≡ joined (slot_at firsts middles lasts) 0 16
+  pub sixteen_slots : joined (lanes_at false fronts ends) 0 8 ++ joined (lanes_at false more_fronts more_ends) 0 8 ≡ joined (slot_at firsts middles lasts) 0 16
   sixteen_slots =
-      joined_halves (pair_slot_at fronts ends) (pair_slot_at more_fronts more_ends) (slot_at firsts middles lasts) 8
+      joined_halves (lanes_at false fronts ends) (lanes_at false more_fronts more_ends) (slot_at firsts middles lasts) 8
       (slots_at fronts ends (at_front firsts) (at_front middles) (at_front lasts) front end)
       (slots_at more_fronts more_ends (at_back firsts) (at_back middles) (at_back lasts) more_front more_end)
-
--- Sixteen pairs, by a mask whose halves say where the first of each is kept.
-module _ (middles lasts vs ws : List ℕ) (long : length middles ≡ 16) (pairs : ArePairs vs (at_front middles) (at_front lasts)) (more : ArePairs ws (at_back middles) (at_back lasts)) where
-  front_eight : (i : ℕ) → i < 8 → short_bytes (bit_and (reach_mask 0x80 middles) 255) vs i ≡ short_at middles lasts i
-  front_eight i lt =
-      rw (pair_first vs (at_front middles) (at_front lasts) pairs i lt, pair_second vs (at_front middles) (at_front lasts) pairs i lt)
-      (ap (λ xs. xs ++ (get_or lasts i 0 ∷ [])) (marked_kept (bit_and (reach_mask 0x80 middles) 255) i (get_or middles i 0) (low_bit (reach_mask 0x80 middles) i lt ∙ high_bits middles long i (omega arith))))
-
-  back_eight : (i : ℕ) → i < 8 → short_bytes (reach_mask 0x80 middles / 256) ws i ≡ short_at middles lasts (8 + i)
-  back_eight i lt =
-      rw (pair_first ws (at_back middles) (at_back lasts) more i lt, pair_second ws (at_back middles) (at_back lasts) more i lt)
-      (ap (λ xs. xs ++ (get_or lasts (8 + i) 0 ∷ [])) (marked_kept (reach_mask 0x80 middles / 256) i (get_or middles (8 + i) 0) (high_bit (reach_mask 0x80 middles) i lt ∙ high_bits middles long (8 + i) (omega arith))))
-
-  pub sixteen_pairs : joined (short_bytes (bit_and (reach_mask 0x80 middles) 255) vs) 0 8 ++ joined (short_bytes (reach_mask 0x80 middles / 256) ws) 0 8 ≡ joined (short_at middles lasts) 0 16
-  sixteen_pairs = joined_halves _ _ (short_at middles lasts) 8 front_eight back_eight

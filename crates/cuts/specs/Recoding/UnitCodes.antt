@@ -1,5 +1,5 @@
 -- Units of UTF-16 as bytes of UTF-8: which bytes a unit gives, by it and the one before it.
-use Rattle.std.specs.Prelude.{◌≡◌, ℕ, ◌<◌, ◌+◌, ◌-◌, ◌*◌, true, false, ◌/◌, ◌%◌, if◌then◌else◌, List, [], ◌∷◌, ◌++◌, nat_lt, nat_eq, slice_index, ◌≤◌, Vec, vec_len, vec_capacity, length, take}
+use Rattle.std.specs.Prelude.{◌≡◌, ℕ, ◌<◌, ◌+◌, ◌-◌, ◌*◌, Bool, true, false, ◌/◌, ◌%◌, if◌then◌else◌, List, [], ◌∷◌, ◌++◌, nat_lt, nat_eq, slice_index, ◌≤◌, Vec, vec_len, vec_capacity, length, take}
 use Rattle.std.specs.Int.{bit_at}
 use Rattle.cuts.specs.Recoding.GivenUnits.{joined}
 use Rattle.utf_base.specs.Units.{is_leading_surrogate, is_trailing_surrogate, is_surrogate}
@@ -85,29 +85,29 @@ pub record WritesUnits (low high old new : List ℕ) (at n end : ℕ) : Type 0 w
 abbrev pub slot_at : List ℕ → List ℕ → List ℕ → ℕ → List ℕ
 slot_at firsts middles lasts k = slot (slice_index firsts k) (slice_index middles k) (slice_index lasts k)
 
--- the same where one vector has the first two bytes, and another the last and any
-abbrev pub pair_slot_at : List ℕ → List ℕ → ℕ → List ℕ
-pair_slot_at fronts lasts k = slot (slice_index fronts (2 * k)) (slice_index fronts (2 * k + 1)) (slice_index lasts (2 * k))
-
 -- the byte where the mask has its bit
 abbrev pub marked : ℕ → ℕ → ℕ → List ℕ
 marked mask i byte = if nat_eq (bit_at mask i) 1 then byte ∷ [] else []
 
 -- The slot number i of four bytes: the first, the last, the middle one and any. The mask says which of the first and middle are kept.
-abbrev pub slot_places : ℕ → ℕ → List ℕ
-slot_places mask i = marked mask (2 * i) (4 * i) ++ (marked mask (2 * i + 1) (4 * i + 2) ++ ((4 * i + 1) ∷ []))
+-- Where they are short, a slot is a pair: the last, and the one before it where the mask has its bit.
+abbrev pub row_places : Bool → ℕ → ℕ → List ℕ
+row_places true mask i = marked mask i (2 * i) ++ ((2 * i + 1) ∷ [])
+row_places false mask i = marked mask (2 * i) (4 * i) ++ (marked mask (2 * i + 1) (4 * i + 2) ++ ((4 * i + 1) ∷ []))
 
-abbrev pub slot_bytes : ℕ → List ℕ → ℕ → List ℕ
-slot_bytes mask slots i =
-    marked mask (2 * i) (slice_index slots (4 * i)) ++ (marked mask (2 * i + 1) (slice_index slots (4 * i + 2)) ++ (slice_index slots (4 * i + 1) ∷ []))
+abbrev pub row_bytes : Bool → ℕ → List ℕ → ℕ → List ℕ
+row_bytes true mask lanes i = marked mask i (slice_index lanes (2 * i)) ++ (slice_index lanes (2 * i + 1) ∷ [])
+row_bytes false mask lanes i =
+    marked mask (2 * i) (slice_index lanes (4 * i)) ++ (marked mask (2 * i + 1) (slice_index lanes (4 * i + 2)) ++ (slice_index lanes (4 * i + 1) ∷ []))
 
--- The same of pairs of bytes: the last, and the one before it where the mask has its bit.
-abbrev pub short_places : ℕ → ℕ → List ℕ
-short_places mask i = marked mask i (2 * i) ++ ((2 * i + 1) ∷ [])
+-- how many slots a vector has, and how many bytes of them are kept at most
+abbrev pub row_slots : Bool → ℕ
+row_slots short = if short then 8 else 4
 
-abbrev pub short_bytes : ℕ → List ℕ → ℕ → List ℕ
-short_bytes mask pairs i = marked mask i (slice_index pairs (2 * i)) ++ (slice_index pairs (2 * i + 1) ∷ [])
+abbrev pub row_most : Bool → ℕ
+row_most short = if short then 16 else 12
 
--- the bytes of one of two lanes
-abbrev pub short_at : List ℕ → List ℕ → ℕ → List ℕ
-short_at middles lasts k = kept (slice_index middles k) ++ (slice_index lasts k ∷ [])
+-- the slot in the lane k of two vectors
+abbrev pub lanes_at : Bool → List ℕ → List ℕ → ℕ → List ℕ
+lanes_at true middles lasts k = kept (slice_index middles k) ++ (slice_index lasts k ∷ [])
+lanes_at false fronts lasts k = slot (slice_index fronts (2 * k)) (slice_index fronts (2 * k + 1)) (slice_index lasts (2 * k))

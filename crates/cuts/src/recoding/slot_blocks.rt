@@ -3,7 +3,7 @@ ghost use Rattle.std.specs.Prelude.{◌≡◌, ◌+◌, ◌<◌, ◌≤◌, true
 ghost use Rattle.cuts.specs.Recoding.UnitCodes.{lane_unit, AreText, WritesUnits};
 ghost use Rattle.utf_base.specs.Units.{is_leading_surrogate};
 
-use crate::recoding::slot_puts::{write_short_slots, write_slots};
+use crate::recoding::slot_puts::{write_lanes, write_slots};
 use crate::recoding::unit_bytes::{
     are_ascii, are_characters, are_short, character_slots, having_top, one_later, text_slots,
 };
@@ -30,7 +30,7 @@ pub(crate) fn write_others(low: u8x16, high: u8x16, room: &mut [u8], at: usize) 
 {
     if are_short(high) {
         let slots = character_slots(low, high);
-        return (16, write_short_slots(slots.middle, slots.last, room, at));
+        return (16, write_lanes(true, slots.middle, slots.last, room, at));
     }
     if are_characters(high) {
         return (16, write_slots(character_slots(low, high), room, at));

@@ -1,7 +1,7 @@
 //! The bytes of slots, written into room from a place on.
-ghost use Rattle.std.specs.Prelude.{◌≡◌, ℕ, ◌+◌, ◌<◌, ◌≤◌, ◌++◌, length, take, slice_index, count_ones, map};
+ghost use Rattle.std.specs.Prelude.{◌≡◌, ℕ, ◌+◌, ◌<◌, ◌≤◌, ◌++◌, length, take, slice_index, map};
 ghost use Rattle.cuts.specs.Recoding.GivenUnits.{joined, IsRow};
-ghost use Rattle.cuts.specs.Recoding.UnitCodes.{slot_at, pair_slot_at, slot_places, slot_bytes, short_at, short_places, short_bytes};
+ghost use Rattle.cuts.specs.Recoding.UnitCodes.{slot_at, lanes_at, row_bytes, row_most, row_places, row_slots};
 
 use crate::recoding::kept_ends::KEPT_ENDS;
 use crate::recoding::kept_slots::KEPT_SLOTS;
@@ -21,80 +21,59 @@ pub(crate) fn write_slots(slots: Slots, room: &mut [u8], at: usize) -> usize
 {
     let (fronts, more_fronts) = slots.first.interleave(slots.middle);
     let (lasts, more_lasts) = slots.last.interleave(slots.last);
-    let middle = write_eight(fronts, lasts, room, at);
-    write_eight(more_fronts, more_lasts, room, middle)
+    let middle = write_lanes(false, fronts, lasts, room, at);
+    write_lanes(false, more_fronts, more_lasts, room, middle)
 }
 
-// The same of eight slots: one vector has the first two bytes of each, the other the last.
+// The same of two vectors: of sixteen slots in which none has three bytes, or of eight of which one vector has the first two
+// bytes of each and the other the last.
 #[inline(always)]
-fn write_eight(fronts: u8x16, lasts: u8x16, room: &mut [u8], at: usize) -> usize
-    requires room { at + 40 ≤ length room.old }
-    ensures len { length room.new ≡ length room.old }
-    ensures bytes { take result room.new ≡ take at room.old ++ joined (pair_slot_at fronts lasts) 0 8 }
-    ensures most { result ≤ at + 24 }
-{
-    let mask = fronts.simd_ge(u8x16::splat(0x80)).to_bitmask() as usize;
-    let (slots, more_slots) = fronts.interleave(lasts);
-    let middle = write_four(slots, mask & 255, room, at);
-    write_four(more_slots, mask >> 8, room, middle)
-}
-
-// The same of four slots, of which the mask says which bytes are kept.
-#[inline(always)]
-fn write_four(slots: u8x16, mask: usize, room: &mut [u8], at: usize) -> usize
-    requires mask { mask < 256 }
-    requires room { at + 16 ≤ length room.old }
-    ensures len { length room.new ≡ length room.old }
-    ensures bytes { take result room.new ≡ take at room.old ++ joined (slot_bytes mask slots) 0 4 }
-    ensures most { result ≤ at + 12 }
-{
-    let len = 4 + (mask.count_ones() as usize);
-    write_kept(slots, kept_places(mask), len, room, at)
-}
-
-// Where these bytes are: their places, and then any.
-#[inline(always)]
-fn kept_places(mask: usize) -> [u8; 16]
-    requires { mask < 256 }
-    ensures { IsRow result mask (4 + count_ones mask) 4 (slot_places mask) }
-{
-    KEPT_SLOTS[mask]
-}
-
-// The same of sixteen slots of which none has three bytes.
-#[inline(always)]
-pub(crate) fn write_short_slots(middles: u8x16, lasts: u8x16, room: &mut [u8], at: usize) -> usize
+pub(crate) fn write_lanes(
+    short: bool,
+    fronts: u8x16,
+    lasts: u8x16,
+    room: &mut [u8],
+    at: usize,
+) -> usize
     requires { at + 32 ≤ length room.old }
     ensures len { length room.new ≡ length room.old }
-    ensures bytes { take result room.new ≡ take at room.old ++ joined (short_at middles lasts) 0 16 }
-    ensures most { result ≤ at + 32 }
+    ensures bytes { take result room.new ≡ take at room.old ++ joined (lanes_at short fronts lasts) 0 (row_slots short + row_slots short) }
+    ensures most { result ≤ at + (row_most short + row_most short) }
 {
-    let mask = middles.simd_ge(u8x16::splat(0x80)).to_bitmask() as usize;
-    let (pairs, more_pairs) = middles.interleave(lasts);
-    let middle = write_ends(pairs, mask & 255, room, at);
-    write_ends(more_pairs, mask >> 8, room, middle)
+    let mask = fronts.simd_ge(u8x16::splat(0x80)).to_bitmask() as usize;
+    let (pairs, more_pairs) = fronts.interleave(lasts);
+    let middle = write_row(short, pairs, mask & 255, room, at);
+    write_row(short, more_pairs, mask >> 8, room, middle)
 }
 
-// The same of eight pairs, of which the mask says where the first is kept.
+// The same of the slots of one vector, of which the mask says which bytes are kept.
 #[inline(always)]
-fn write_ends(pairs: u8x16, mask: usize, room: &mut [u8], at: usize) -> usize
+fn write_row(short: bool, lanes: u8x16, mask: usize, room: &mut [u8], at: usize) -> usize
     requires mask { mask < 256 }
     requires room { at + 16 ≤ length room.old }
     ensures len { length room.new ≡ length room.old }
-    ensures bytes { take result room.new ≡ take at room.old ++ joined (short_bytes mask pairs) 0 8 }
-    ensures most { result ≤ at + 16 }
+    ensures bytes { take result room.new ≡ take at room.old ++ joined (row_bytes short mask lanes) 0 (row_slots short) }
+    ensures most { result ≤ at + row_most short }
+    ensures within { result ≤ at + 16 }
 {
-    let len = 8 + (mask.count_ones() as usize);
-    write_kept(pairs, kept_ends(mask), len, room, at)
+    let (places, len) = kept_row(short, mask);
+    write_kept(lanes, places, len, room, at)
 }
 
-// Where these bytes are: their places, and then any.
+// Where these bytes are: their places, and then any. Answers of how many too.
 #[inline(always)]
-fn kept_ends(mask: usize) -> [u8; 16]
+fn kept_row(short: bool, mask: usize) -> ([u8; 16], usize)
     requires { mask < 256 }
-    ensures { IsRow result mask (8 + count_ones mask) 8 (short_places mask) }
+    ensures row { IsRow result.0 mask result.1 (row_slots short) (row_places short mask) }
+    ensures most { result.1 ≤ row_most short }
+    ensures few { result.1 ≤ 16 }
 {
-    KEPT_ENDS[mask]
+    let count = mask.count_ones() as usize;
+    if short {
+        (KEPT_ENDS[mask], 8 + count)
+    } else {
+        (KEPT_SLOTS[mask], 4 + count)
+    }
 }
 
 // Writes the bytes at these places, as many of them as `len` says. Answers where they end.

@@ -7,7 +7,7 @@ pub returns-then-are_short : goal.returns-then-are_short
 returns-then-are_short c =
     let short = c.are_short.ensures c.if-are_short.true in
     let slots = c.character_slots-slots.ensures in
-    let put = c.write_short_slots.ensures in
+    let put = c.write_lanes.ensures in
     let codes = short_codes c.args.low c.args.high (λ k lt. lane_fits c.args.low k c.fits-low lt) short _ _ slots.middle.each slots.last.each in
     WritesUnits-all _ _ _ _ _ _ _ (short_text c.args.low c.args.high (λ k lt. lane_fits c.args.low k c.fits-low lt) short) put.len put.bytes codes (omega (arith, put.most))
 

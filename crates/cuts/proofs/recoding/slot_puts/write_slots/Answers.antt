@@ -11,6 +11,6 @@ returns-clause-bytes c =
     let p = c.requires.first in
     let q = c.requires.middle in
     let r = c.requires.last in
-    two_halves _ _ _ _ _ _ c.write_eight-middle.ensures.bytes c.write_eight.ensures.bytes
+    two_halves _ _ _ _ _ _ c.write_lanes-middle.ensures.bytes c.write_lanes.ensures.bytes
     (sixteen_slots first middle last (first_pairs first middle p q) (last_pairs first middle p q) (first_pairs last last r r) (last_pairs last last r r)
     (first_pairs_at first middle p q) (last_pairs_at first middle p q) (first_pairs_at last last r r) (last_pairs_at last last r r))
