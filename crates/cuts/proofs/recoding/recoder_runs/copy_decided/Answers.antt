@@ -10,7 +10,7 @@ returns-then-done-stop g c =
     let n = c.copy_text-place.result in
     let text = rw (take_rest bytes p) at c.copy_text-place.ensures in
     let first = RunsOnto-next _ _ bytes _ _ _ p n c.loop-place.invariant (RunsOnto-text _ _ _ n text.within text.text text.items text.len text.capacity) in
-    RunsUntil-next _ _ bytes _ _ _ _ _ (p + n) _ first (rw (take_rest bytes (p + n)) at c.recode_decided-done.ensures) c.if-done-stop.true
+    RunsUntil-next _ _ bytes _ _ _ _ _ (p + n) _ first (rw (take_rest bytes (p + n)) at c.recode_faults-done.ensures.runs) c.if-done-stop.true
 
 pub loop-place-preserved : goal.loop-place-preserved
 loop-place-preserved g c =
@@ -19,7 +19,7 @@ loop-place-preserved g c =
     let n = c.copy_text-place.result in
     let text = rw (take_rest bytes p) at c.copy_text-place.ensures in
     let first = RunsOnto-next _ _ bytes _ _ _ p n c.loop-place.invariant (RunsOnto-text _ _ _ n text.within text.text text.items text.len text.capacity) in
-    RunsOnto-next _ _ bytes _ _ _ (p + n) _ first (rw (take_rest bytes (p + n)) at c.recode_decided-done.ensures.runs)
+    RunsOnto-next _ _ bytes _ _ _ (p + n) _ first (rw (take_rest bytes (p + n)) at c.recode_faults-done.ensures.runs.runs)
 
 pub returns : goal.returns
 returns g c = RunsUntil-all _ _ _ _ _ _ _ c.loop-place.invariant c.loop-place-test.false
