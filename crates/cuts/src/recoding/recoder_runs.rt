@@ -1,5 +1,5 @@
 //! Runs over bytes, into an output that has room for what comes of them.
-ghost use Rattle.std.specs.Prelude.{◌≡◌, ◌+◌, ◌*◌, ◌<◌, ◌≤◌, length, take, ◌++◌, min, vec_len, vec_capacity, IsUtf8};
+ghost use Rattle.std.specs.Prelude.{◌≡◌, ◌+◌, ◌*◌, ◌<◌, ◌≤◌, length, take, ◌++◌, min, vec_len, vec_capacity};
 ghost use Rattle.cuts.specs.Recoding.Recoded.{Finishes};
 ghost use Rattle.cuts.specs.Recoding.OutputRuns.{RunsOnto, RunsUntil};
 ghost use Rattle.cuts.specs.Recoding.GivenUnits.{IsUnits};
@@ -9,7 +9,7 @@ use crate::recoding::form::Form::{self, Utf8, Utf16Be, Utf16Le};
 use crate::recoding::narrowed_units::narrow_units;
 use crate::recoding::shown_fronts::{front, last_front, text_front, unit_block};
 use crate::recoding::text_blocks::text_len;
-use crate::recoding::unit_copies::copy_units;
+use crate::recoding::unit_copies::{append, copy_units};
 use crate::recoding::unit_puts::put_units;
 use std::alloc::Allocator;
 
@@ -22,7 +22,7 @@ const AFTER_FAULT: usize = 8;
 // How many bytes of text go piece by piece before runs look for a block again.
 const STRETCH: usize = 128;
 
-// How many bytes are judged before what is text among them is widened.
+// How many bytes are judged before what is text among them is copied or widened, while they are near.
 const PART: usize = 8192;
 
 // Recodes the bytes as far as no later byte can change what they show, and not past the place `stop`
@@ -144,18 +144,33 @@ pub(crate) fn copy_decided<A: Allocator>(bytes: &[u8], out: &mut Vec<u8, A>) -> 
     place
 }
 
-// Appends the text at the front of the bytes, and answers how many bytes it has.
+// Appends the text at the front of the bytes, part by part as long as a whole part is text, and answers how many bytes it
+// has.
 #[inline(always)]
 fn copy_text<A: Allocator>(bytes: &[u8], out: &mut Vec<u8, A>) -> usize
-    requires { vec_len out.old + length bytes.now ≤ vec_capacity out.old }
-    ensures within { result ≤ length bytes.now }
-    ensures text { IsUtf8 (take result bytes.now) }
-    ensures items { out.new.items ≡ out.old.items ++ take result bytes.now }
-    ensures len { vec_len out.new ≡ vec_len out.old + result }
-    ensures capacity { vec_capacity out.old ≤ vec_capacity out.new }
+    requires { vec_len out.old + 3 * length bytes.now ≤ vec_capacity out.old }
+    ensures { RunsOnto Form.Utf8 Form.Utf8 bytes.now out.old out.new result }
 {
-    let len = text_len(bytes);
-    let _ = out.extend_from_slice(&bytes[..len]);
+    let mut place = 0;
+    while place < bytes.len() {
+        let len = copy_part(&bytes[place..], out);
+        place += len;
+        // The last code of a part is left to the next.
+        if len < PART - 4 {
+            return place;
+        }
+    }
+    place
+}
+
+// The same of the first part.
+#[inline(always)]
+fn copy_part<A: Allocator>(bytes: &[u8], out: &mut Vec<u8, A>) -> usize
+    requires { vec_len out.old + 3 * length bytes.now ≤ vec_capacity out.old }
+    ensures { RunsOnto Form.Utf8 Form.Utf8 bytes.now out.old out.new result }
+{
+    let len = text_len(&bytes[..PART.min(bytes.len())]);
+    append(&bytes[..len], out);
     len
 }
 
