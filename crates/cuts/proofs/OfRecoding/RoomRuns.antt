@@ -1,10 +1,14 @@
 -- Runs into room of a fixed size, step by step.
-use Rattle.std.proofs.Common.{◌≡◌, ℕ, ◌+◌, ◌-◌, ◌*◌, ◌<◌, ◌≤◌, List, [], ◌∷◌, ◌++◌, length, get_or, take, drop, flat_map, arith, ap, sym, ⊎_elim, subst, ◌∙◌, append_assoc, length-drop, length-take}
+use Rattle.std.proofs.Common.{◌≡◌, ℕ, Bool, true, false, ◌+◌, ◌-◌, ◌*◌, ◌<◌, ◌≤◌, List, [], ◌∷◌, ◌++◌, length, get_or, take, drop, flat_map, arith, ap, sym, ⊎_elim, subst, ◌∙◌, append_assoc, length-drop, length-take}
 use Rattle.std.proofs.lemmas.List.{drop-drop, take-take, take_all, take_rest}
 use Rattle.std.proofs.lemmas.List.Concat.{flat_map-append}
 use Rattle.std.proofs.lemmas.Bool.{cases_lt}
+use Rattle.utf_base.specs.Code.{utf16}
+use Rattle.utf_base.proofs.Utf8Code.{length_utf8}
+use Rattle.utf_base.proofs.Utf16Code.{utf16-1, utf16-2}
 use Rattle.cuts.specs.declared.recoding.form.Form.{Form}
-use Rattle.cuts.specs.Recoding.Recoded.{Reads, written, Grows}
+use Rattle.cuts.specs.declared.recoding.form.Form.TheVariants.{Utf8, Utf16Le, Utf16Be}
+use Rattle.cuts.specs.Recoding.Recoded.{Reads, written, bytes_of, Grows}
 use Rattle.cuts.specs.Recoding.ShownFronts.{Decides, ShowsEach}
 use Rattle.cuts.specs.Recoding.Rooms.{Fills, RunsInto}
 use Rattle.cuts.proofs.OfRecoding.Growing.{Grows-trans, length_written}
@@ -46,6 +50,16 @@ RunsInto-then from to bytes old mid new place read wrote more end f len g =
       grows = Grows-after from to bytes _ _ _ read more f.grows g.grows;
       rest = g.rest ∙ drop_later mid old wrote end then_ordered f.rest;
     }
+
+few_units : (high : Bool) (s : ℕ) → length (flat_map (bytes_of high) (utf16 s)) ≤ 4
+few_units true s = ⊎_elim (λ (low : s < 0x1_0000). rw (utf16-1 s low) (omega arith)) (λ (high : 0x1_0000 ≤ s). rw (utf16-2 s high) (omega arith)) (cases_lt s 0x1_0000)
+few_units false s = ⊎_elim (λ (low : s < 0x1_0000). rw (utf16-1 s low) (omega arith)) (λ (high : 0x1_0000 ≤ s). rw (utf16-2 s high) (omega arith)) (cases_lt s 0x1_0000)
+
+-- a code has no more than four bytes
+pub few_written : (to : Form) (s : ℕ) → length (written to s) ≤ 4
+few_written Utf8 s = length_utf8 s
+few_written Utf16Le s = few_units false s
+few_written Utf16Be s = few_units true s
 
 -- a scalar more, told by four bytes
 pub RunsInto-step : (from to : Form) (bytes old mid new : List ℕ) (place read wrote s n end : ℕ) → RunsInto from to bytes old mid place read wrote → length mid ≡ length old

@@ -1,5 +1,5 @@
 //! Runs over bytes, into an output that has room for what comes of them.
-ghost use Rattle.std.specs.Prelude.{◌≡◌, ◌+◌, ◌*◌, ◌≤◌, length, take, ◌++◌, min, vec_len, vec_capacity, IsUtf8};
+ghost use Rattle.std.specs.Prelude.{◌≡◌, ◌+◌, ◌*◌, ◌<◌, ◌≤◌, length, take, ◌++◌, min, vec_len, vec_capacity};
 ghost use Rattle.cuts.specs.Recoding.Recoded.{Finishes};
 ghost use Rattle.cuts.specs.Recoding.OutputRuns.{RunsOnto, RunsUntil};
 ghost use Rattle.cuts.specs.Recoding.GivenUnits.{IsUnits};
@@ -9,17 +9,20 @@ use crate::recoding::form::Form::{self, Utf8, Utf16Be, Utf16Le};
 use crate::recoding::narrowed_units::narrow_units;
 use crate::recoding::shown_fronts::{front, last_front, text_front, unit_block};
 use crate::recoding::text_blocks::text_len;
-use crate::recoding::unit_copies::copy_units;
+use crate::recoding::unit_copies::{append, copy_units};
 use crate::recoding::unit_puts::put_units;
 use std::alloc::Allocator;
 
-// How far runs go piece by piece before they look for a stretch again.
+// How many bytes go with care before runs look for text again, where no fault is among them.
 const STRIDE: usize = 16;
+
+// How many bytes go with care from a fault on.
+const AFTER_FAULT: usize = 8;
 
 // How many bytes of text go piece by piece before runs look for a block again.
 const STRETCH: usize = 128;
 
-// How many bytes are judged before what is text among them is widened.
+// How many bytes are judged before what is text among them is copied or widened, while they are near.
 const PART: usize = 8192;
 
 // Recodes the bytes as far as no later byte can change what they show, and not past the place `stop`
@@ -132,9 +135,7 @@ pub(crate) fn copy_decided<A: Allocator>(bytes: &[u8], out: &mut Vec<u8, A>) -> 
     let mut place = 0;
     while place < bytes.len() {
         place += copy_text(&bytes[place..], out);
-        let rest = &bytes[place..];
-        let stop = STRIDE.min(rest.len());
-        let done = recode_decided(Utf8, Utf8, rest, stop, out);
+        let (done, stop) = recode_faults(Utf8, Utf8, &bytes[place..], out);
         place += done;
         if done < stop {
             return place;
@@ -143,18 +144,33 @@ pub(crate) fn copy_decided<A: Allocator>(bytes: &[u8], out: &mut Vec<u8, A>) -> 
     place
 }
 
-// Appends the text at the front of the bytes, and answers how many bytes it has.
+// Appends the text at the front of the bytes, part by part as long as a whole part is text, and answers how many bytes it
+// has.
 #[inline(always)]
 fn copy_text<A: Allocator>(bytes: &[u8], out: &mut Vec<u8, A>) -> usize
-    requires { vec_len out.old + length bytes.now ≤ vec_capacity out.old }
-    ensures within { result ≤ length bytes.now }
-    ensures text { IsUtf8 (take result bytes.now) }
-    ensures items { out.new.items ≡ out.old.items ++ take result bytes.now }
-    ensures len { vec_len out.new ≡ vec_len out.old + result }
-    ensures capacity { vec_capacity out.old ≤ vec_capacity out.new }
+    requires { vec_len out.old + 3 * length bytes.now ≤ vec_capacity out.old }
+    ensures { RunsOnto Form.Utf8 Form.Utf8 bytes.now out.old out.new result }
 {
-    let len = text_len(bytes);
-    let _ = out.extend_from_slice(&bytes[..len]);
+    let mut place = 0;
+    while place < bytes.len() {
+        let len = copy_part(&bytes[place..], out);
+        place += len;
+        // The last code of a part is left to the next.
+        if len < PART - 4 {
+            return place;
+        }
+    }
+    place
+}
+
+// The same of the first part.
+#[inline(always)]
+fn copy_part<A: Allocator>(bytes: &[u8], out: &mut Vec<u8, A>) -> usize
+    requires { vec_len out.old + 3 * length bytes.now ≤ vec_capacity out.old }
+    ensures { RunsOnto Form.Utf8 Form.Utf8 bytes.now out.old out.new result }
+{
+    let len = text_len(&bytes[..PART.min(bytes.len())]);
+    append(&bytes[..len], out);
     len
 }
 
@@ -178,10 +194,9 @@ fn recode_quickly<A: Allocator, const PAIR: usize>(
         place += recode_blocks(from, to, &bytes[place..], out);
         let count = recode_stretch(from, to, &bytes[place..], out);
         place += count;
-        if count == 0 {
-            let rest = &bytes[place..];
-            let stop = STRIDE.min(rest.len());
-            let done = recode_apart(from, to, rest, stop, out);
+        // A stretch with no fault in it goes to its last code.
+        if count < STRETCH - 3 {
+            let (done, stop) = recode_apart::<A, PAIR>(from, to, &bytes[place..], out);
             place += done;
             if done < stop {
                 return place;
@@ -191,20 +206,54 @@ fn recode_quickly<A: Allocator, const PAIR: usize>(
     place
 }
 
-// `recode_decided`, kept out of the loops that seldom call it.
+// `recode_faults`, kept out of the loops that seldom call it. Each pair of forms has a copy of this too.
 #[inline(never)]
-fn recode_apart<A: Allocator>(
+fn recode_apart<A: Allocator, const PAIR: usize>(
     from: Form,
     to: Form,
     bytes: &[u8],
-    stop: usize,
     out: &mut Vec<u8, A>,
-) -> usize
-    requires stop { stop ≤ length bytes.now }
-    requires room { vec_len out.old + 3 * length bytes.now ≤ vec_capacity out.old }
-    ensures { RunsUntil from to bytes.now out.old out.new stop result }
+) -> (usize, usize)
+    requires { vec_len out.old + 3 * length bytes.now ≤ vec_capacity out.old }
+    ensures stop { 0 < length bytes.now → 0 < result.1 }
+    ensures runs { RunsUntil from to bytes.now out.old out.new result.1 result.0 }
 {
-    recode_decided(from, to, bytes, stop, out)
+    recode_faults(from, to, bytes, out)
+}
+
+// `recode_decided` of a few bytes, or of fewer from the last fault among them on. Answers how many bytes were recoded, and
+// the place that they were to reach.
+#[inline(always)]
+fn recode_faults<A: Allocator>(
+    from: Form,
+    to: Form,
+    bytes: &[u8],
+    out: &mut Vec<u8, A>,
+) -> (usize, usize)
+    requires { vec_len out.old + 3 * length bytes.now ≤ vec_capacity out.old }
+    ensures stop { 0 < length bytes.now → 0 < result.1 }
+    ensures runs { RunsUntil from to bytes.now out.old out.new result.1 result.0 }
+{
+    let mut stop = STRIDE.min(bytes.len());
+    let mut place = 0;
+    while place < stop {
+        match front(from, &bytes[place..]) {
+            None => return (place, stop),
+            Some((c, len)) => {
+                // A compiler knows the code of a fault where nothing else is written.
+                let is_fault = c == char::REPLACEMENT_CHARACTER;
+                if is_fault {
+                    stop = place + AFTER_FAULT;
+                    put_code(to, c, out);
+                    place += len;
+                } else {
+                    put_code(to, c, out);
+                    place += len;
+                }
+            }
+        }
+    }
+    (place, stop)
 }
 
 // Recodes text at the front of the bytes, and answers how many bytes of it: as far as a stretch goes, and

@@ -53,7 +53,7 @@ fn recode_pair<const PAIR: usize>(
     loop {
         let (blocks, end) = blocks_into(from, to, &bytes[read..], room, written);
         read += blocks;
-        let (text, end) = stretch_into(from, to, &bytes[read..], room, end);
+        let (text, end) = stretch_into::<PAIR>(from, to, &bytes[read..], room, end);
         read += text;
         written = end;
         if text == 0 {
@@ -119,15 +119,56 @@ fn units_into(from: Form, to: Form, bytes: &[u8], room: &mut [u8], place: usize)
     (read, written)
 }
 
-// Recodes text at the front of the bytes, as far as a stretch goes for which the room is surely enough, and no fault
-// and none of the last bytes.
+// Recodes text at the front of the bytes, as far as a stretch goes and the room is surely enough, and no fault and none of
+// the last bytes.
 #[inline(always)]
-fn stretch_into(from: Form, to: Form, bytes: &[u8], room: &mut [u8], place: usize) -> (usize, usize)
+fn stretch_into<const PAIR: usize>(
+    from: Form,
+    to: Form,
+    bytes: &[u8],
+    room: &mut [u8],
+    place: usize,
+) -> (usize, usize)
     requires { place ≤ length room.old }
     ensures { RunsInto from to bytes.now room.old room.new place result.0 result.1 }
 {
-    let fitting = bytes.len().min((room.len() - place) / 3);
-    text_into(from, to, &bytes[..STRETCH.min(fitting)], room, place)
+    let stretch = &bytes[..STRETCH.min(bytes.len())];
+    let left = room.len() - place;
+    if left < 4 {
+        return (0, place);
+    }
+    let is_ample = 3 * stretch.len() <= left;
+    if is_ample {
+        return text_into(from, to, stretch, room, place);
+    }
+    scant_into::<PAIR>(from, to, stretch, room, place)
+}
+
+// The same where the room may end first: as long as it is enough for any code. Each pair of forms has a copy of this too.
+#[inline(never)]
+fn scant_into<const PAIR: usize>(
+    from: Form,
+    to: Form,
+    bytes: &[u8],
+    room: &mut [u8],
+    place: usize,
+) -> (usize, usize)
+    requires { place ≤ length room.old }
+    ensures { RunsInto from to bytes.now room.old room.new place result.0 result.1 }
+{
+    let stop = bytes.len().saturating_sub(3);
+    let mut read = 0;
+    let mut written = place;
+    while read < stop && 4 <= room.len() - written {
+        match text_front(from, &bytes[read..read + 4]) {
+            None => return (read, written),
+            Some((c, len)) => {
+                written = put_code_at(to, c, room, written);
+                read += len;
+            }
+        }
+    }
+    (read, written)
 }
 
 // Recodes text at the front of the bytes: no fault, and not the last.

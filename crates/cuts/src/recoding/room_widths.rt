@@ -27,6 +27,10 @@ pub(crate) fn widen_into(
     ensures { RunsInto Form.Utf8 to bytes.now room.old room.new place result.0 result.1 }
 {
     let most = bytes.len().min((room.len() - place) / 3);
+    // Fewer are never taken in lanes, and so not judged either.
+    if most < 32 {
+        return (0, place);
+    }
     let len = text_len(&bytes[..PART.min(most)]);
     if len < 32 {
         return (0, place);

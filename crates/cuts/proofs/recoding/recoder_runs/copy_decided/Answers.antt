@@ -1,6 +1,6 @@
 use Rattle.std.proofs.Common.{◌+◌}
 use Rattle.std.proofs.lemmas.List.{take_rest}
-use Rattle.cuts.proofs.OfRecoding.OutputRuns.{RunsOnto-next, RunsOnto-text, RunsUntil-all, RunsUntil-next}
+use Rattle.cuts.proofs.OfRecoding.OutputRuns.{RunsOnto-next, RunsUntil-all, RunsUntil-next}
 use Rattle.cuts.proofs.recoding.recoder_runs.copy_decided.Goals as goal
 
 pub returns-then-done-stop : goal.returns-then-done-stop
@@ -8,18 +8,16 @@ returns-then-done-stop g c =
     let bytes = c.args.bytes.now in
     let p = c.loop-place.place in
     let n = c.copy_text-place.result in
-    let text = rw (take_rest bytes p) at c.copy_text-place.ensures in
-    let first = RunsOnto-next _ _ bytes _ _ _ p n c.loop-place.invariant (RunsOnto-text _ _ _ n text.within text.text text.items text.len text.capacity) in
-    RunsUntil-next _ _ bytes _ _ _ _ _ (p + n) _ first (rw (take_rest bytes (p + n)) at c.recode_decided-done.ensures) c.if-done-stop.true
+    let first = RunsOnto-next _ _ bytes _ _ _ p n c.loop-place.invariant (rw (take_rest bytes p) at c.copy_text-place.ensures) in
+    RunsUntil-next _ _ bytes _ _ _ _ _ (p + n) _ first (rw (take_rest bytes (p + n)) at c.recode_faults-done.ensures.runs) c.if-done-stop.true
 
 pub loop-place-preserved : goal.loop-place-preserved
 loop-place-preserved g c =
     let bytes = c.args.bytes.now in
     let p = c.loop-place.place in
     let n = c.copy_text-place.result in
-    let text = rw (take_rest bytes p) at c.copy_text-place.ensures in
-    let first = RunsOnto-next _ _ bytes _ _ _ p n c.loop-place.invariant (RunsOnto-text _ _ _ n text.within text.text text.items text.len text.capacity) in
-    RunsOnto-next _ _ bytes _ _ _ (p + n) _ first (rw (take_rest bytes (p + n)) at c.recode_decided-done.ensures.runs)
+    let first = RunsOnto-next _ _ bytes _ _ _ p n c.loop-place.invariant (rw (take_rest bytes p) at c.copy_text-place.ensures) in
+    RunsOnto-next _ _ bytes _ _ _ (p + n) _ first (rw (take_rest bytes (p + n)) at c.recode_faults-done.ensures.runs.runs)
 
 pub returns : goal.returns
 returns g c = RunsUntil-all _ _ _ _ _ _ _ c.loop-place.invariant c.loop-place-test.false

@@ -5,12 +5,12 @@ use Rattle.cuts.proofs.recoding.recoder_runs.recode_quickly.Goals as goal
 pub returns-then-done-stop : goal.returns-then-done-stop
 returns-then-done-stop g c =
     let runs = RunsOnto-two _ _ c.args.bytes.now _ _ _ _ _ _ _ c.loop-place.invariant c.recode_blocks-place.ensures c.recode_stretch-count.ensures in
-    RunsUntil-next _ _ _ _ _ _ _ _ _ _ runs (rw (take_rest _ _) at c.recode_apart-done.ensures) c.if-done-stop.true
+    RunsUntil-next _ _ _ _ _ _ _ _ _ _ runs (rw (take_rest _ _) at c.recode_apart-done.ensures.runs) c.if-done-stop.true
 
 pub loop-place-preserved-else-done-stop : goal.loop-place-preserved-else-done-stop
 loop-place-preserved-else-done-stop g c =
     let runs = RunsOnto-two _ _ c.args.bytes.now _ _ _ _ _ _ _ c.loop-place.invariant c.recode_blocks-place.ensures c.recode_stretch-count.ensures in
-    RunsOnto-next _ _ _ _ _ _ _ _ runs (rw (take_rest _ _) at c.recode_apart-done.ensures.runs)
+    RunsOnto-next _ _ _ _ _ _ _ _ runs (rw (take_rest _ _) at c.recode_apart-done.ensures.runs.runs)
 
 pub loop-place-preserved : goal.loop-place-preserved
 loop-place-preserved g c = RunsOnto-two _ _ c.args.bytes.now _ _ _ _ _ _ _ c.loop-place.invariant c.recode_blocks-place.ensures c.recode_stretch-count.ensures

@@ -1,6 +1,9 @@
 use Rattle.cuts.proofs.OfRecoding.RoomCopies.{RunsInto-given, RunsInto-none}
 use Rattle.cuts.proofs.recoding.room_widths.widen_into.Goals as goal
 
+pub returns-then-most-lt32 : goal.returns-then-most-lt32
+returns-then-most-lt32 c = RunsInto-none _ _ _ _ _ c.requires.place
+
 pub returns-then-len-lt32 : goal.returns-then-len-lt32
 returns-then-len-lt32 c = RunsInto-none _ _ _ _ _ c.requires.place
 
