@@ -92,8 +92,8 @@ fn first(bytes: &[u8]) -> NodyPiece
     }
 }
 
-// The same of bytes that may be anything. The piece is copied whole to where the answer goes: so the compiler sees that all of
-// that place is written, and no caller clears it before.
+// The same of bytes that may be anything, copied whole to where the answer goes: so the compiler sees that all of that place is
+// written, and no caller clears it before.
 #[inline(never)]
 fn first_copied(bytes: &[u8]) -> NodyPiece
     ensures { IsPieceOf first_of bytes.now result }
@@ -101,7 +101,7 @@ fn first_copied(bytes: &[u8]) -> NodyPiece
     first_with_care(bytes)
 }
 
-// What both are made of.
+// The same, written by parts.
 #[inline(never)]
 fn first_with_care(bytes: &[u8]) -> NodyPiece
     ensures { IsPieceOf first_of bytes.now result }
