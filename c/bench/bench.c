@@ -3,7 +3,8 @@
  *
  * Decoding adds up the scalars. nody_utf8_first is called as utf8proc_iterate is: with an address and what is left, and the
  * caller keeps the place. nody_utf8_next keeps the place, and takes pieces from both ends. Both tell what is wrong and not
- * only that something is, as do nody_utf8_pieces and the Rattle loop. U8_NEXT of ICU is a macro: nothing is called.
+ * only that something is, as do nody_utf8_pieces and the Rattle loop. U8_NEXT of ICU is a macro, and the
+ * decoder of the Rattle loop is compiled into it: nothing is called.
  *
  * bench times ROUNDS           a line for each work and input: nanoseconds for each byte of input, of each side
  * bench once WORK INPUT SIDE   does it once, so that instructions can be counted; the side `none` does nothing

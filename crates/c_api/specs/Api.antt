@@ -1,5 +1,5 @@
 -- What C sees: numbers of kinds and forms, pieces, what is left, and recoders.
-use Rattle.std.specs.Prelude.{◌≡◌, ℕ, zero, suc, ◌+◌, ◌-◌, ◌<◌, ◌≤◌, List, [], ◌∷◌, length, take, drop, get_or, All, Result, Ok, Err, ◌++◌, codes, replicate}
+use Rattle.std.specs.Prelude.{◌≡◌, ℕ, zero, suc, ◌+◌, ◌-◌, ◌<◌, ◌≤◌, List, [], ◌∷◌, length, take, drop, set, get_or, All, Result, Ok, Err, ◌++◌, codes, replicate}
 use Rattle.utf_base.specs.declared.errors.Utf8ErrorKind.{Utf8ErrorKind}
 use Rattle.utf_base.specs.declared.errors.Utf8ErrorKind.TheVariants.{TooFewBytes, NonUtf8Byte, UnexpectedContinuationByte, InterruptedSequence, OverlongEncoding, Utf16ReservedCodepoint, TooHighCodepoint}
 use Rattle.utf_base.specs.declared.errors.units.Utf16PairError.{Utf16PairError}
@@ -90,6 +90,14 @@ pub record Gives (piece : List ℕ → NodyPiece) (left : List ℕ → NodyPiece
 abbrev pub GivesEach : (List ℕ → NodyPiece) → List ℕ → List NodyPiece → List ℕ → Type 0
 GivesEach piece xs [] ys = ys ≡ xs
 GivesEach piece xs (x ∷ ps) ys = (0 < length xs) × (x ≡ piece xs) × GivesEach piece (after xs x) ps ys
+
+-- The piece that begins the bytes was put in a place of the room, and is so long; of no bytes nothing was put.
+pub record IsPut (xs : List ℕ) (first : List NodyPiece) (place n : ℕ) (room : List NodyPiece) : Type 0 where
+  pub some : 0 < length xs → room ≡ set first place (first_of xs)
+  pub leaves : 0 < length xs → drop n xs ≡ after xs (first_of xs)
+  pub least : 0 < length xs → 1 ≤ n
+  pub most : n ≤ length xs
+  pub none : length xs ≡ 0 → room ≡ first
 
 -- the form of a number below three
 abbrev pub form_of : ℕ → Form

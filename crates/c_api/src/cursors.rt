@@ -1,6 +1,6 @@
 //! Single pieces, what is left of bytes and units, and runs of pieces into an array.
 ghost use Rattle.std.specs.Prelude.{◌≡◌, ◌<◌, ◌≤◌, length, take, drop};
-ghost use Rattle.c_api.specs.Api.{first_of, last_of, first_of_units, last_of_units, first_merged, no_piece, IsMergedPiece, IsPieceOf, Gives, GivesEach, after, before};
+ghost use Rattle.c_api.specs.Api.{first_of, last_of, first_of_units, last_of_units, first_merged, no_piece, IsMergedPiece, IsPieceOf, IsPut, Gives, GivesEach, after, before};
 
 use crate::kinds::{number_of, pair_number_of};
 use cuts::front_of_text;
@@ -88,11 +88,20 @@ fn first(bytes: &[u8]) -> NodyPiece
 {
     match front_of_text(bytes) {
         Some((c, len)) => character(c, len),
-        None => anew(first_with_care(bytes)),
+        None => anew(first_copied(bytes)),
     }
 }
 
-// The same of bytes that may be anything.
+// The same of bytes that may be anything, copied whole to where the answer goes: so the compiler sees that all of that place is
+// written, and no caller clears it before.
+#[inline(never)]
+fn first_copied(bytes: &[u8]) -> NodyPiece
+    ensures { IsPieceOf first_of bytes.now result }
+{
+    first_with_care(bytes)
+}
+
+// The same, written by parts.
 #[inline(never)]
 fn first_with_care(bytes: &[u8]) -> NodyPiece
     ensures { IsPieceOf first_of bytes.now result }
@@ -263,6 +272,35 @@ pub extern "C" fn nody_utf16_last(units: &[u16]) -> NodyPiece
     last_unit(units)
 }
 
+// Puts the piece that begins the bytes in a place of the room, and answers its length: 0 where there is none.
+#[inline(always)]
+#[tactic(auto, using(utf_base::proofs::DecodedLemmas::decoded_code, utf_base::proofs::DecodedLemmas::front_len_utf8))]
+fn put_first(bytes: &[u8], room: &mut [NodyPiece], place: usize) -> usize
+    requires { place < length room.old }
+    ensures { IsPut bytes.now room.old place result room.new }
+{
+    match front_of_text(bytes) {
+        Some((c, len)) => {
+            room[place] = character(c, len);
+            len
+        }
+        None => put_with_care(bytes, room, place),
+    }
+}
+
+// The same of bytes that may be anything.
+#[inline(never)]
+fn put_with_care(bytes: &[u8], room: &mut [NodyPiece], place: usize) -> usize
+    requires { place < length room.old }
+    ensures { IsPut bytes.now room.old place result room.new }
+{
+    let piece = first_with_care(bytes);
+    if piece.len > 0 {
+        room[place] = piece;
+    }
+    piece.len
+}
+
 /// Puts into the array the pieces that begin the bytes that are left, one after another, as many as there are or as there
 /// is room for, and answers how many. These then leave the bytes.
 #[unsafe(no_mangle)]
@@ -275,13 +313,12 @@ pub extern "C" fn nody_utf8_pieces(left: &mut NodyBytes<'_>, room: &mut [NodyPie
     let mut bytes = left.bytes;
     let mut count = 0;
     while count < room.len() {
-        let piece = first(bytes);
-        if piece.len == 0 {
+        let len = put_first(bytes, room, count);
+        if len == 0 {
             left.bytes = bytes;
             return count;
         }
-        bytes = &bytes[piece.len..];
-        room[count] = piece;
+        bytes = &bytes[len..];
         count += 1;
     }
     left.bytes = bytes;

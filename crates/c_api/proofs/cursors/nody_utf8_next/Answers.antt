@@ -1,7 +1,6 @@
-use Rattle.std.proofs.Common.{◌≡◌, ◌≤◌, length, arith, ap, sym, ◌∙◌}
+use Rattle.std.proofs.Common.{arith}
 use Rattle.std.proofs.lemmas.List.{take_rest}
 use Rattle.utf_base.proofs.DecodedLemmas.{decoded_code, front_len_utf8}
-use Rattle.c_api.specs.Api.{first_of}
 use Rattle.c_api.proofs.cursors.nody_utf8_next.Goals as goal
 
 pub returns-in-Some : goal.returns-in-Some
