@@ -7,7 +7,7 @@ ghost use Rattle.cuts.specs.WellFormed.{IsFirstFault};
 ghost use Rattle.encode_unicode.specs.Code.{utf8};
 ghost use Rattle.encode_unicode.specs.Pieces.{pieces, placed_chars};
 
-use cuts::laws;
+use cuts::{laws, valid_up_to};
 use encode_unicode::error::Utf8Error;
 use encode_unicode::laws::{lengths_are_bounded, runs_are_bounded};
 use encode_unicode::{StrExt, U8SliceExt, Utf8Char};
@@ -156,6 +156,21 @@ pub fn is_text(bytes: &[u8]) -> bool
     laws::pieces_are_the_run();
     laws::text_has_no_fault();
     fault_count(bytes) == 0
+}
+
+/// The same, by the pieces themselves.
+pub fn has_characters_alone(bytes: &[u8]) -> bool
+    ensures { IsTrue result ↔ IsUtf8 bytes.now }
+{
+    laws::text_is_all_characters(bytes);
+    bytes.utf8char_indices().all(|item| item.1.is_ok())
+}
+
+/// The same, by how far the bytes are well-formed.
+pub fn is_well_formed(bytes: &[u8]) -> bool
+    ensures { IsTrue result ↔ IsUtf8 bytes.now }
+{
+    valid_up_to(bytes) == bytes.len()
 }
 
 /// How many line feeds the text has.

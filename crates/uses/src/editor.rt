@@ -1,6 +1,6 @@
 //! An editor's buffer: a table of pieces, an edit in it, and the pieces that have to be drawn anew.
 ghost use Rattle.std.specs.List.{splice};
-ghost use Rattle.std.specs.Prelude.{◌≡◌, ◌+◌, ◌≤◌, ◌<◌, ◌↔◌, length, Contains, IfOk, OnOk, OnErr, filter};
+ghost use Rattle.std.specs.Prelude.{◌≡◌, ◌+◌, ◌≤◌, ◌<◌, ◌↔◌, length, Contains, IfOk, IfSome, OnOk, OnErr, filter};
 ghost use Rattle.cuts.specs.Tables.{moved_item};
 ghost use Rattle.encode_unicode.specs.Window.{Item as AnItem};
 ghost use Rattle.uses.specs.Editor.{begins_between};
@@ -54,4 +54,12 @@ pub fn pieces_to_draw<A: Allocator + Copy>(
         .copied()
         .filter(|item| changed.from <= item.0 && item.0 < changed.until)
         .collect(alloc)
+}
+
+/// The bytes of the piece with this number.
+pub fn piece_bytes<A: Allocator + Copy>(table: &PieceTable<A>, number: usize) -> Option<&[u8]>
+    ensures { IfSome result (λ piece. length piece.now ≤ 4) }
+{
+    let (place, _, len) = table.pieces().get(number)?;
+    Some(&table.bytes()[*place..*place + *len])
 }
