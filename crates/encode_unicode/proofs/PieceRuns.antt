@@ -251,7 +251,7 @@ place_kept : {E : Type 0} (code : ℕ → List ℕ) (most : ℕ) (kind : List �
     → w.back ≡ n → GivesFrontOf code most kind answer w x v → LiesWithin most n x × (v.back ≡ n)
 place_kept code most kind answer n w v x end g =
     let all : length (elements w) ≤ w.back - w.front = grind (arith, common_steps) in
-    ((omega arith, omega arith, omega arith, omega arith, omega arith), ap (λ (u : Window). u.back) g.left ∙ end)
+    ((omega arith, omega arith, omega arith, omega arith), ap (λ (u : Window). u.back) g.left ∙ end)
 
 pub decoder_places : (xs : List ℕ) (s : Window) → s ≡ whole_window xs → EachRunFrom NextGives s (λ p. AllItems p (LiesWithin 4 (length xs)))
 decoder_places xs s e p seen from =
@@ -267,7 +267,7 @@ piece_kept_back : {E : Type 0} (code : ℕ → List ℕ) (most : ℕ) (kind : �
     → w.back ≤ n → GivesBackOf code most kind answer w x v → LiesWithin most n x × (v.back ≤ n)
 piece_kept_back code most kind answer n w v x end g =
     let back : v.back ≡ w.back - x.2 = ap (λ (u : Window). u.back) g.left in
-    ((omega arith, omega arith, omega arith, omega arith, omega arith), omega arith)
+    ((omega arith, omega arith, omega arith, omega arith), omega arith)
 
 pub decoder_places_back : (xs : List ℕ) (s : Window) → s ≡ whole_window xs → EachRunFrom NextBackGives s (λ p. AllItems p (LiesWithin 4 (length xs)))
 decoder_places_back xs s e p seen from =

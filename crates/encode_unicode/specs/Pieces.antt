@@ -68,9 +68,9 @@ LengthsFit code most p = fold (λ sum s. sum + length (code s)) 0 p.items ≤ mo
 abbrev pub PiecesFit : {S E : Type 0} {steps : S → Option (Placed E) → S → Type 0} → ℕ → Run steps → Type 0
 PiecesFit most p = fold (λ sum x. sum + x.2) 0 p.items ≤ most
 
--- a piece of at most so many elements lies within n: its place can be an index and the end of a slice
+-- a piece of at most so many elements lies within n
 abbrev pub LiesWithin : {E : Type 0} → ℕ → ℕ → Placed E → Type 0
-LiesWithin most n x = (x.0 < n) × (x.0 ≤ n) × (1 ≤ x.2) × (x.2 ≤ most) × (x.0 + x.2 ≤ n)
+LiesWithin most n x = (x.0 < n) × (1 ≤ x.2) × (x.2 ≤ most) × (x.0 + x.2 ≤ n)
 
 -- a character with its offset lies in the text, between two places at which the text can be cut
 abbrev pub LiesInText : List ℕ → ℕ × ℕ → Type 0

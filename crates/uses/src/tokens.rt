@@ -29,13 +29,3 @@ pub fn tokens<'a, A: Allocator>(
     tokens.push(&bytes[start..])?;
     Ok(tokens)
 }
-
-/// What stands before the first such character, and after it.
-pub fn split_once(bytes: &[u8], delimiter: char) -> Option<(&[u8], &[u8])> {
-    for (place, answer, len) in bytes.utf8char_indices() {
-        if let Ok(c) = answer && c.eq_char(delimiter) {
-            return Some((&bytes[..place], &bytes[place + len..]));
-        }
-    }
-    None
-}

@@ -59,8 +59,8 @@ lies_within xs x (Some s) h lt =
     let most = length_utf8 s in
     let some = some_utf8 s in
     let fits = h.0.within in
-    (omega arith, omega arith, omega (arith, h.1), omega (arith, h.1), omega (arith, h.1))
-lies_within xs x None h lt = (omega arith, omega arith, omega (arith, h.1), omega (arith, h.1), omega (arith, h.1))
+    (omega arith, omega (arith, h.1), omega (arith, h.1), omega (arith, h.1))
+lies_within xs x None h lt = (omega arith, omega (arith, h.1), omega (arith, h.1), omega (arith, h.1))
 
 of_pieces : (Q : Piece → Type 0) (P : Item → Type 0) → ((x : Item) → Q (piece_of x) → P x) → (items : List Item) → All Q (map piece_of items) → All P items
 of_pieces Q P f [] h = All-nil P
