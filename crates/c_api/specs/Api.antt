@@ -92,12 +92,12 @@ GivesEach piece xs [] ys = ys ≡ xs
 GivesEach piece xs (x ∷ ps) ys = (0 < length xs) × (x ≡ piece xs) × GivesEach piece (after xs x) ps ys
 
 -- The piece that begins the bytes was put in a place of the room, and is so long; of no bytes nothing was put.
-pub record IsPut (xs : List ℕ) (first : List NodyPiece) (place n : ℕ) (room : List NodyPiece) : Type 0 where
-  pub some : 0 < length xs → room ≡ set first place (first_of xs)
+pub record IsPut (xs : List ℕ) (old : List NodyPiece) (place n : ℕ) (new : List NodyPiece) : Type 0 where
+  pub some : 0 < length xs → new ≡ set old place (first_of xs)
   pub leaves : 0 < length xs → drop n xs ≡ after xs (first_of xs)
   pub least : 0 < length xs → 1 ≤ n
   pub most : n ≤ length xs
-  pub none : length xs ≡ 0 → room ≡ first
+  pub none : length xs ≡ 0 → new ≡ old
 
 -- the form of a number below three
 abbrev pub form_of : ℕ → Form
@@ -125,10 +125,11 @@ full = 1
 abbrev pub refused : ℕ
 refused = 2
 
--- the names of kinds in ASCII, with zeros after them
+-- a name in ASCII, with zeros after it up to 32 bytes
 abbrev pub named : List ℕ → List ℕ
 named name = name ++ replicate (32 - length name) 0
 
+-- the names of kinds, by their numbers
 abbrev pub name_at : List (List ℕ)
 name_at =
     named (codes "Ok") ∷ named (codes "TooFewBytes") ∷ named (codes "NonUtf8Byte") ∷

@@ -137,6 +137,7 @@ fn recode_few(from: Form, to: Form, bytes: &[u8], room: &mut [u8], place: usize)
     progress(read, written, false)
 }
 
+// How far a call came.
 #[inline(always)]
 fn progress(read: usize, written: usize, is_full: bool) -> Progress
     ensures { result ≡ record { read = read; written = written; is_full = is_full } }

@@ -204,7 +204,8 @@ fn is_plain(to: Form, unit: u16) -> bool
 // Whether the high byte of each unit is the first, in a form that has units.
 #[inline(always)]
 pub(crate) fn high_is_first(form: Form) -> Option<bool>
-    ensures { IfSome result (λ high_first. IsUnits high_first form) }
+    ensures some { IfSome result (λ high_first. IsUnits high_first form) }
+    ensures none { IfNone result (form ≡ Form.Utf8) }
 {
     match form {
         Form::Utf8 => None,
