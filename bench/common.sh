@@ -32,8 +32,8 @@ run_cargo() {
     fi
 }
 
-# Copies the sources of the peers, and of what they use, beside the copy of this folder. The attribute that is taken
-# out of `simdutf8` names a lint that rustc has no more.
+# Copies the sources of the peers, and of what they use, beside the copy of this folder. The attributes that are taken
+# out of `simdutf8` name a lint that rustc has no more, or make rustc's newer warnings errors.
 copy_peers() {
     local crate folders
     for crate in bstr encoding_rs simdutf8 memchr cfg-if; do
@@ -41,7 +41,7 @@ copy_peers() {
         [ -d "${folders[0]}" ] || die "$crate is missing (apt-get install librust-${crate//_/-}-dev)"
         cp -r "${folders[0]}" "$work_folder/$crate"
     done
-    find "$work_folder/simdutf8/src" -name '*.rs' -exec sed -i '/#\[allow(const_err)\]/d' {} +
+    find "$work_folder/simdutf8/src" -name '*.rs' -exec sed -i '/#\[allow(const_err)\]/d; /#!\[deny(warnings)\]/d' {} +
 }
 
 # Builds the Rust programs in a temporary folder beside a copy of the Rust crate, and sets `programs`. Where BENCH_FOLDER

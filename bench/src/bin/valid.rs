@@ -10,11 +10,13 @@ use bench::inputs::Input;
 use bench::passages;
 use bench::report::Best;
 use encoding_rs::Encoding;
+use simdutf8::basic::imp::x86::sse42::Utf8ValidatorImp as Lanes;
+use simdutf8::basic::imp::Utf8Validator;
 use std::hint::black_box;
 use std::process::ExitCode;
 use std::time::Instant;
 
-const UTF8_SIDES: [&str; 4] = ["ours", "std", "simdutf8", "encoding_rs"];
+const UTF8_SIDES: [&str; 5] = ["ours", "std", "simdutf8", "simdutf8_16", "encoding_rs"];
 const UTF16_SIDES: [&str; 3] = ["ours", "std", "encoding_rs"];
 const USAGE: &str = "valid times SIZE ROUNDS | one utf8|utf16 INPUT SIDE SIZE CALLS | list";
 
@@ -119,12 +121,23 @@ fn valid_up_to(form: &str, side: &str, input: &Input) -> usize {
         ("utf8", "ours") => unsafe { bench_c_valid_up_to(bytes.as_ptr(), bytes.len()) },
         ("utf8", "std") => std::str::from_utf8(bytes).map_or_else(|error| error.valid_up_to(), str::len),
         ("utf8", "simdutf8") => simdutf8::basic::from_utf8(bytes).map_or(0, str::len),
+        ("utf8", "simdutf8_16") => text_len_by_sixteen(bytes),
         ("utf8", "encoding_rs") => Encoding::utf8_valid_up_to(bytes),
         ("utf16", "ours") => unsafe { bench_c_units_valid_up_to(units.as_ptr(), units.len()) as usize },
         ("utf16", "std") => well_formed_units(units),
         ("utf16", "encoding_rs") => encoding_rs::mem::utf16_valid_up_to(units),
         _ => 0,
     }
+}
+
+// By `simdutf8` in the lanes of sixteen bytes that this program is built for.
+fn text_len_by_sixteen(bytes: &[u8]) -> usize {
+    let is_text = unsafe {
+        let mut validator = Lanes::new();
+        validator.update(bytes);
+        validator.finalize().is_ok()
+    };
+    if is_text { bytes.len() } else { 0 }
 }
 
 // By std's decoder, since it has no such call of units.
