@@ -1,9 +1,10 @@
 //! The code of a scalar in UTF-8 (RFC 3629).
-ghost use Rattle.std.specs.Prelude.{◌≡◌, ◌+◌, ◌-◌, ◌*◌, ◌%◌, ◌≤◌, ◌<◌, ◌&&◌, true, length, slice_index};
+ghost use Rattle.std.specs.Prelude.{◌≡◌, ◌+◌, ◌-◌, ◌*◌, ◌%◌, ◌≤◌, ◌<◌, ◌&&◌, true, length, slice_index, Some};
 ghost use Rattle.std.specs.Int.{w32, from_le_bytes};
 ghost use Rattle.utf_base.specs.Code.{utf8};
 ghost use Rattle.utf_base.specs.Front.{as_scalar, IsOneCode, DecodesFront, DecodesBytes};
-ghost use Rattle.utf_base.specs.Kinds.{is_continuation};
+ghost use Rattle.utf_base.specs.Kinds.{fault_kind, is_continuation};
+ghost use Rattle.utf_base.specs.Table.{fault_of, is_later_fault};
 ghost use Rattle.utf_chars.specs.Padded.{padded};
 
 use utf_base::errors::{Utf8Error, Utf8ErrorKind};
@@ -43,12 +44,24 @@ pub(crate) fn decode_start(src: &[u8]) -> Result<(char, usize), Utf8Error>
     if src.is_empty() {
         return Err(Utf8Error::new(Utf8ErrorKind::TooFewBytes));
     }
-    match step(State::Start, class_of(src[0])) {
-        State::Done => Ok((ascii(src[0]), 1)),
-        State::Unexpected => Err(Utf8Error::new(Utf8ErrorKind::UnexpectedContinuationByte)),
-        State::Never => Err(Utf8Error::new(Utf8ErrorKind::NonUtf8Byte)),
-        _ => decode_asked(src),
+    // Where each first byte leads is known, so it takes no step.
+    let first = src[0];
+    if first < 0x80 {
+        return Ok((ascii(first), 1));
     }
+    if first < 0xc2 {
+        return Err(fault_below_two(src));
+    }
+    if first < 0xe0 {
+        return decode_two(src);
+    }
+    if first < 0xf0 {
+        return decode_three(src);
+    }
+    if first < 0xf5 {
+        return decode_four(src);
+    }
+    Err(Utf8Error::new(Utf8ErrorKind::NonUtf8Byte))
 }
 
 /// The character whose code begins the four bytes. Those after the code are ignored.
@@ -162,19 +175,29 @@ fn ascii(byte: u8) -> char
     }
 }
 
-// The character that begins the bytes, where the first asks for two or more: one walk for each number of bytes.
+// What is wrong with a first byte that is not ASCII and begins no code, below the first that begins one.
 #[inline(always)]
-fn decode_asked(src: &[u8]) -> Result<(char, usize), Utf8Error>
+fn fault_below_two(src: &[u8]) -> Utf8Error
     requires some { 0 < length src.now }
-    requires low { 0xC2 ≤ slice_index src.now 0 }
-    requires high { slice_index src.now 0 < 0xF5 }
-    ensures { DecodesFront as_scalar src.now result }
+    requires low { 0x80 ≤ slice_index src.now 0 }
+    requires high { slice_index src.now 0 < 0xC2 }
+    ensures { fault_kind src.now ≡ Some result }
 {
-    match src[0] {
-        0x00..=0xdf => decode_two(src),
-        0xe0..=0xef => decode_three(src),
-        _ => decode_four(src),
+    if src[0] < 0xc0 {
+        return Utf8Error::new(Utf8ErrorKind::UnexpectedContinuationByte);
     }
+    Utf8Error::new(Utf8ErrorKind::NonUtf8Byte)
+}
+
+// What is wrong where a walk ends and no code does. It is seldom asked, and stands apart: a compiler would make one jump
+// through a table of it and of the test for the end of a code.
+#[cold]
+#[inline(never)]
+fn later_fault(end: State) -> Utf8Error
+    requires { is_later_fault end ≡ true }
+    ensures { fault_of end ≡ Some result }
+{
+    error_after(end)
 }
 
 // The character that begins the bytes, where the first asks for two: its class is known, and so is the state after it.
@@ -217,7 +240,7 @@ fn decode_three(src: &[u8]) -> Result<(char, usize), Utf8Error>
     }
     let third = step(second, class_of(src[2]));
     if third != State::Done {
-        return Err(error_after(third));
+        return Err(later_fault(third));
     }
     let value = value_of_three(src[0], src[1], src[2]);
     Ok((unsafe { char::from_u32_unchecked(value) }, 3))
@@ -246,7 +269,7 @@ fn decode_four(src: &[u8]) -> Result<(char, usize), Utf8Error>
     }
     let fourth = step(third, class_of(src[3]));
     if fourth != State::Done {
-        return Err(error_after(fourth));
+        return Err(later_fault(fourth));
     }
     let value = value_of_four(src[0], src[1], src[2], src[3]);
     Ok((unsafe { char::from_u32_unchecked(value) }, 4))

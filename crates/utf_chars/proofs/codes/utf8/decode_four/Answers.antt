@@ -43,13 +43,13 @@ returns-then-eq-2 c =
 pub step-fourth-requires-clause-running : goal.step-fourth-requires-clause-running
 step-fourth-requires-clause-running c = running _ 3 0 _ (third (goal.at.step-fourth-requires-clause-running c).Else-eq-2)
 
-pub error_after-requires : goal.error_after-requires
-error_after-requires c = walk_fails _ 3 _ _ _ (third (goal.at.error_after-requires c).Else-eq-2) c.step-fourth.ensures (differs_true the_type c.step-fourth.result Done (sym c.ne.ensures ∙ c.if-ne.true))
+pub later_fault-requires : goal.later_fault-requires
+later_fault-requires c = walk_fails _ 3 _ _ _ (third (goal.at.later_fault-requires c).Else-eq-2) c.step-fourth.ensures (differs_true the_type c.step-fourth.result Done (sym c.ne.ensures ∙ c.if-ne.true))
 
 pub returns-then-ne : goal.returns-then-ne
 returns-then-ne c =
     let asks = asked-4 _ c.requires.low c.requires.high in
-    walk_ends _ 3 _ _ _ (third (goal.at.returns-then-ne c).Else-eq-2) (record { class = c.class_of-4.ensures.class; step = c.step-fourth.ensures }) (omega arith) (omega arith) ∙ c.error_after.ensures
+    walk_ends _ 3 _ _ _ (third (goal.at.returns-then-ne c).Else-eq-2) (record { class = c.class_of-4.ensures.class; step = c.step-fourth.ensures }) (omega arith) (omega arith) ∙ c.later_fault.ensures
 
 pub value_of_four-value-requires-clause-continuation_bytes : goal.value_of_four-value-requires-clause-continuation_bytes
 value_of_four-value-requires-clause-continuation_bytes c =

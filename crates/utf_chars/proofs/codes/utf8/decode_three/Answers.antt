@@ -29,13 +29,13 @@ returns-then-eq c = rw c.new-then-eq.ensures (walk_breaks _ 1 2 _ _ _ (first (go
 pub step-third-requires-clause-running : goal.step-third-requires-clause-running
 step-third-requires-clause-running c = running _ 2 0 _ (second (goal.at.step-third-requires-clause-running c).Else-eq)
 
-pub error_after-requires : goal.error_after-requires
-error_after-requires c = walk_fails _ 2 _ _ _ (second (goal.at.error_after-requires c).Else-eq) c.step-third.ensures (differs_true the_type c.step-third.result Done (sym c.ne.ensures ∙ c.if-ne.true))
+pub later_fault-requires : goal.later_fault-requires
+later_fault-requires c = walk_fails _ 2 _ _ _ (second (goal.at.later_fault-requires c).Else-eq) c.step-third.ensures (differs_true the_type c.step-third.result Done (sym c.ne.ensures ∙ c.if-ne.true))
 
 pub returns-then-ne : goal.returns-then-ne
 returns-then-ne c =
     let asks = asked-3 _ c.requires.low c.requires.high in
-    walk_ends _ 2 _ _ _ (second (goal.at.returns-then-ne c).Else-eq) (record { class = c.class_of-3.ensures.class; step = c.step-third.ensures }) (omega arith) (omega arith) ∙ c.error_after.ensures
+    walk_ends _ 2 _ _ _ (second (goal.at.returns-then-ne c).Else-eq) (record { class = c.class_of-3.ensures.class; step = c.step-third.ensures }) (omega arith) (omega arith) ∙ c.later_fault.ensures
 
 pub value_of_three-value-requires-clause-continuation_bytes : goal.value_of_three-value-requires-clause-continuation_bytes
 value_of_three-value-requires-clause-continuation_bytes c =
