@@ -1,5 +1,5 @@
 -- How chains over a decoder or a text end: a fold that counts.
-use Rattle.std.proofs.Common.{◌≡◌, ℕ, ◌+◌, ◌<◌, ◌≤◌, List, [], ◌∷◌, ◌++◌, length, Option, refl, ◌∙◌, arith}
+use Rattle.std.proofs.Common.{◌≡◌, ℕ, ◌+◌, ◌<◌, ◌≤◌, List, [], ◌∷◌, length, Option, refl, ◌∙◌, arith}
 use Rattle.std.specs.Iterator.{CallableAtEachTurn}
 use Rattle.std.specs.List.{sum_by}
 use Rattle.std.proofs.lemmas.Iterator.{YieldsList}

@@ -9,6 +9,7 @@ pub mod HintLemmas
 pub mod Joined
 pub mod Listed
 pub mod Refills
+pub mod SecondUnits
 pub mod Splits
 pub mod TextEnds
 pub mod TextLemmas
@@ -16,6 +17,8 @@ pub mod ScanLemmas
 pub mod UnitPieces
 pub mod HeldWords
 pub mod MergerSteps
+pub mod MergerRuns
+pub mod MergedLists
 pub mod ByteMerging
 pub mod UnitMerging
 pub mod MergerHints

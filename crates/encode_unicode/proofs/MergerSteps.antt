@@ -1,14 +1,32 @@
 -- What one call of a merger reads and answers. All of it is generic in the code.
 use Rattle.std.proofs.Common.{◌≡◌, ℕ, suc, subst, List, [], ◌∷◌, ◌++◌, Some, None, Ok, Bool, true, false, length, refl, ap, sym, ◌∙◌, arith, length-append, append_assoc, append-nil}
-use Rattle.std.specs.Iterator.{Count, MakesProgress}
+use Rattle.std.specs.Iterator.{Count, MakesProgress, Yields}
 use Rattle.std.specs.Prelude.{Option, Result, MatchOption}
 use Rattle.utf_base.specs.Decoded.{unless_fault}
-use Rattle.encode_unicode.specs.Mergers.{Merging, MergerNext, TakesFront, still, unread_count}
+use Rattle.encode_unicode.specs.Mergers.{Gave, Merging, MergerNext, TakesFront, still, unread_count}
 use Rattle.encode_unicode.specs.Reading.{Answers, Reads, TakesFirst}
+
+-- calls that follow one another
+pub yields_joined : {S A : Type 0} (steps : S → Option A → S → Type 0) (s t u : S) (xs ys : List A) → Yields steps s xs t → Yields steps t ys u → Yields steps s (xs ++ ys) u
+yields_joined steps s t u [] ys one two = rw one two
+yields_joined steps s t u (x ∷ xs) ys one two = (one.0, one.1, yields_joined steps one.0 t u xs ys one.2 two)
+
+pub gave_none : {S A : Type 0} (steps : S → Option A → S → Type 0) (s : S) (e : Bool) → Gave steps s e [] s e
+gave_none steps s true = (refl, refl, refl)
+gave_none steps s false = refl
+
+pub gave_more : {S A : Type 0} (steps : S → Option A → S → Type 0) (s t u : S) (e f g : Bool) (xs ys : List A) → Gave steps s e xs t f → Gave steps t f ys u g → Gave steps s e (xs ++ ys) u g
+gave_more steps s t u true true g xs ys one two = (rw (one.0, two.0) refl, two.1 ∙ one.1, two.2)
+gave_more steps s t u true false g xs ys one two = absurd (cc one.2)
+gave_more steps s t u false true true xs ys one two = rw (two.0, two.1, append-nil xs) one
+gave_more steps s t u false true false xs ys one two = absurd (cc two.2)
+gave_more steps s t u false false true xs ys one two = (two.0, yields_joined steps s t two.0 xs ys one two.1, two.2)
+gave_more steps s t u false false false xs ys one two = yields_joined steps s t u xs ys one two
 
 pub reads_none : {S A : Type 0} (can_next : S → Type 0) (remaining : S → Count) (steps : S → Option A → S → Type 0) (s : S) (e : Bool) → (e ≡ false → can_next s) → Reads can_next remaining steps s e [] s e
 reads_none can_next remaining steps s e can = record {
   gives = λ rest listed. refl;
+  gave = gave_none steps s e;
   can = can;
   stays = λ ends. (ends, refl);
   spent = λ rest listed spent. spent;
@@ -19,6 +37,7 @@ pub reads_more : {S A : Type 0} (can_next : S → Type 0) (remaining : S → Cou
     → Reads can_next remaining steps s e xs t f → Reads can_next remaining steps t f ys u g → Reads can_next remaining steps s e (xs ++ ys) u g
 reads_more can_next remaining steps s t u e f g xs ys one two = record {
   gives = λ rest listed. one.gives rest listed ∙ ap (λ zs. xs ++ zs) (two.gives rest listed) ∙ sym (append_assoc xs ys (still rest u g));
+  gave = gave_more steps s t u e f g xs ys one.gave two.gave;
   can = two.can;
   stays = λ ends. let a = one.stays ends in let b = two.stays a.0 in (b.0, b.1 ∙ a.1);
   spent = λ rest listed spent. two.spent rest listed (one.spent rest listed spent);
@@ -47,6 +66,14 @@ merger_next code kind Held can_next remaining steps held xs s u t e d f first ol
       ∙ ap (λ zs. (first ∷ old) ++ zs) (a.reads.gives rest listed)
       ∙ sym (append_assoc (first ∷ old) a.more (still rest t f)) in
       subst (λ zs. TakesFront code kind zs (Some r) (new ++ still rest t f)) (sym all) (a.settles (still rest t f) (nothing_still rest t f));
+  reads = record {
+    given = xs ++ a.more;
+    gave = gave_more steps s u t e d f xs a.more reads.gave a.reads.gave;
+    settles = λ later none.
+        let all : held ++ ((xs ++ a.more) ++ later) ≡ (first ∷ old ++ a.more) ++ later
+        = ap (λ zs. held ++ zs) (append_assoc xs a.more later) ∙ sym (append_assoc held xs (a.more ++ later)) ∙ ap (λ zs. zs ++ (a.more ++ later)) begins ∙ sym (append_assoc (first ∷ old) a.more later) in
+        subst (λ zs. TakesFront code kind zs (Some r) (new ++ later)) (sym all) (a.settles later none);
+  };
   held = keeps;
   none_held = a.clear;
   ends = tt;

@@ -98,7 +98,7 @@ pub some_units : (xs : List ℕ) → 1 ≤ (as_piece (decoded_pairs xs)).1
 some_units xs = (len_of_units xs).0
 
 module _ {E : Type 0} (code : ℕ → List ℕ) (most : ℕ) (kind : List ℕ → Option E) (answer : List ℕ → Result (ℕ × ℕ) E) (some : (xs : List ℕ) → 1 ≤ (as_piece (answer xs)).1) where
-  first_piece : (n place : ℕ) (xs ys : List ℕ) (x : Placed E) → 1 ≤ length xs → length xs ≤ n → x.0 ≡ place → (x.1, x.2) ≡ as_piece (answer xs) → ys ≡ drop x.2 xs
+  pub first_piece : (n place : ℕ) (xs ys : List ℕ) (x : Placed E) → 1 ≤ length xs → length xs ≤ n → x.0 ≡ place → (x.1, x.2) ≡ as_piece (answer xs) → ys ≡ drop x.2 xs
       → pieces_by answer n place xs ≡ x ∷ pieces_by answer (length ys) (place + x.2) ys
   unfolding pieces_by
   first_piece zero place xs ys x h enough e known rest = absurd (omega arith)

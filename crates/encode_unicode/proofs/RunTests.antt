@@ -1,9 +1,9 @@
 -- The list that a run gives is the one of which it tells what `all`, `any`, `find`, `position`, `last`, `nth` and `take` answer.
-use Rattle.std.proofs.Common.{◌≡◌, ℕ, zero, suc, ◌+◌, ◌-◌, ◌<◌, ◌≤◌, Bool, true, false, List, [], ◌∷◌, length, get_or, reverse, Option, Some, None, take, take_all, ⊎_elim, refl, ap, sym, subst, ◌∙◌, arith}
+use Rattle.std.proofs.Common.{◌≡◌, ℕ, zero, suc, ◌-◌, ◌<◌, ◌≤◌, Bool, true, false, List, [], ◌∷◌, length, get_or, reverse, Option, Some, None, take, take_all, ⊎_elim, refl, ap, sym, subst, ◌∙◌, arith}
 use Rattle.std.specs.List.{find, last_or, list_all, list_any, prefix_len}
 use Rattle.std.specs.Prelude.{IfSome, IsSomeAnd, slice_get}
 use Rattle.std.specs.Iterator.Runs.{Run, ItemsAre, ItemsAreReversed, AllItems, AllItemsBelow, AnyItem}
-use Rattle.std.proofs.iter.runs.Lists.{Everywhere, at_some, none-some, same_Some, nth_last, nth_read, slice_get_within}
+use Rattle.std.proofs.iter.runs.Lists.{Everywhere, none-some, same_Some, nth_last, nth_read, slice_get_within}
 use Rattle.std.proofs.iter.runs.Made.{at-is, each_of}
 use Rattle.std.proofs.lemmas.Bool.{cases_lt}
 use Rattle.std.proofs.lemmas.Grind.{common_steps}
@@ -56,7 +56,7 @@ none_after [] k le = refl
 none_after (x ∷ xs) zero le = absurd (omega arith)
 none_after (x ∷ xs) (suc k) le = none_after xs k (omega arith)
 
-first_of : {A : Type 0} (ys xs : List A) (n : ℕ) → length ys ≡ n → ((k : ℕ) (x : A) → slice_get ys k ≡ Some x → slice_get xs k ≡ Some x) → ys ≡ take n xs
+pub first_of : {A : Type 0} (ys xs : List A) (n : ℕ) → length ys ≡ n → ((k : ℕ) (x : A) → slice_get ys k ≡ Some x → slice_get xs k ≡ Some x) → ys ≡ take n xs
 first_of [] xs zero len same = refl
 first_of [] xs (suc n) len same = absurd (omega arith)
 first_of (y ∷ ys) xs zero len same = absurd (omega arith)

@@ -9,13 +9,9 @@ use Rattle.std.proofs.lemmas.Grind.{flat_map-append}
 use Rattle.std.proofs.lemmas.List.{map-id, take-append-drop}
 use Rattle.encode_unicode.specs.Pieces.{Gives, IsSplitterRun}
 use Rattle.encode_unicode.specs.Sources.{Splitting, SplitterNext, unbegun}
+use Rattle.encode_unicode.proofs.MergerSteps.{yields_joined}
 use Rattle.encode_unicode.proofs.PieceRuns.{lengths_added}
 use Rattle.encode_unicode.proofs.RunTests.{tells}
-
--- calls that follow one another
-pub yields_joined : {S A : Type 0} (steps : S → Option A → S → Type 0) (s t u : S) (xs ys : List A) → Yields steps s xs t → Yields steps t ys u → Yields steps s (xs ++ ys) u
-yields_joined steps s t u [] ys one two = rw one two
-yields_joined steps s t u (x ∷ xs) ys one two = (one.0, one.1, yields_joined steps one.0 t u xs ys one.2 two)
 
 none_more : {A : Type 0} (xs more : List A) → xs ++ more ≡ xs → length more ≡ 0
 none_more xs more e = let len = length-append xs more in let same = ap length e in omega arith

@@ -4,6 +4,7 @@ pub mod GivenBounds
 pub mod Words
 pub mod Window
 pub mod Scan
+pub mod SecondUnit
 pub mod Hints
 pub mod Sources
 pub mod Collections

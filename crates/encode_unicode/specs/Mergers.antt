@@ -1,11 +1,17 @@
 -- What a merger of elements has still to answer for, and what one call of it gives. It is seen as what it holds, its source,
 -- and whether that has ended.
-use Rattle.std.specs.Prelude.{◌≡◌, ℕ, ◌+◌, ◌/◌, ◌<◌, ◌≤◌, Bool, true, false, if◌then◌else◌, List, [], ◌∷◌, ◌++◌, length, slice_index, Option, Some, None, Result, Ok, Err, MatchOption, IfNone, IfOk}
-use Rattle.std.specs.Iterator.{Count, YieldsFirst, count_map, count_unless}
-use Rattle.utf_base.specs.Kinds.{is_continuation}
+use Rattle.std.specs.Prelude.{◌≡◌, ℕ, ◌+◌, ◌/◌, ◌<◌, ◌≤◌, Bool, true, false, if◌then◌else◌, List, [], ◌∷◌, ◌++◌, length, map, option_map, slice_index, slice_index_or, Option, Some, None, Result, Ok, Err, MatchOption, IfNone, IfOk}
+use Rattle.std.specs.Bool.{MatchBool}
+use Rattle.std.specs.Iterator.{Count, Yields, YieldsFirst, YieldsThen, count_map, count_unless}
+use Rattle.std.specs.Iterator.Runs.{Run}
+use Rattle.utf_base.specs.declared.errors.Utf8ErrorKind.{Utf8ErrorKind}
+use Rattle.utf_base.specs.declared.errors.units.Utf16PairError.{Utf16PairError}
+use Rattle.utf_base.specs.Decoded.{decoded_pairs, unless_fault}
+use Rattle.utf_base.specs.Kinds.{asked_by, is_continuation, merger_kind, value}
 use Rattle.utf_base.specs.Scalar.{IsScalar}
 use Rattle.utf_chars.specs.Taking.{BoundsLength}
 use Rattle.encode_unicode.specs.Hints.{BoundsCut}
+use Rattle.encode_unicode.specs.Pieces.{Gives, pieces_by}
 use Rattle.encode_unicode.specs.Sources.{IsListed, IsHintOf, split_hint, split_upper}
 
 -- a merger: the elements that it has read and not answered for, in order, its source, and whether that has answered `None`
@@ -41,6 +47,16 @@ TakesFront code kind old None new = (old ≡ []) × (new ≡ [])
 TakesFront code kind old (Some (Ok s)) new = IsScalar s × (old ≡ code s ++ new)
 TakesFront code kind old (Some (Err k)) new = (kind old ≡ Some k) × (old ≡ slice_index old 0 ∷ new)
 
+-- calls of a source gave xs, from the state s with the end e to the state t with the end f; once it has ended it is not asked again
+abbrev pub Gave : {S A : Type 0} → (S → Option A → S → Type 0) → S → Bool → List A → S → Bool → Type 0
+Gave steps s e xs t f = MatchBool e ((xs ≡ []) × (t ≡ s) × (f ≡ true)) (MatchBool f (YieldsThen steps s xs None t) (Yields steps s xs t))
+
+-- a call from s to t read `given` of the source, and these settle its answer, whatever comes later
+pub record ReadsEnough {S E : Type 0} (code : ℕ → List ℕ) (kind : List ℕ → Option E) (steps : S → Option ℕ → S → Type 0) (s : Merging S) (r : Option (Result ℕ E)) (t : Merging S) : Type 0 where
+  pub given : List ℕ
+  pub gave : Gave steps s.source s.ended given t.source t.ended
+  pub settles : (later : List ℕ) → (t.ended ≡ true → later ≡ []) → TakesFront code kind (s.held ++ (given ++ later)) r (t.held ++ later)
+
 -- what a merger of bytes may hold: three, all but the last of them continuation bytes
 pub record IsHeldBytes (held : List ℕ) : Type 0 where
   pub few : length held ≤ 3
@@ -54,11 +70,33 @@ pub record IsHeldUnits (held : List ℕ) : Type 0 where
 -- character and after `None`; and a source that has ended stays as it is
 pub record MergerNext {S E : Type 0} (code : ℕ → List ℕ) (kind : List ℕ → Option E) (Held : List ℕ → Type 0) (steps : S → Option ℕ → S → Type 0) (s : Merging S) (r : Option (Result ℕ E)) (t : Merging S) : Type 0 where
   pub takes : (rest : S → List ℕ) → IsListed steps rest → TakesFront code kind (unread rest s) r (unread rest t)
+  pub reads : ReadsEnough code kind steps s r t
   pub held : Held t.held
   pub none_held : MatchOption r (t.held ≡ []) (λ x. IfOk x (λ _. t.held ≡ []))
   pub ends : IfNone r (t.ended ≡ true)
   pub stays : s.ended ≡ true → (t.ended ≡ true) × (t.source ≡ s.source)
   pub spent : (rest : S → List ℕ) → IsListed steps rest → IsSpent rest s.source s.ended → IsSpent rest t.source t.ended
+
+-- the scalar whose code begins the bytes, with the code's length, else the kind that a merger gives
+unfoldable pub decoded_by_merger : List ℕ → Result (ℕ × ℕ) Utf8ErrorKind
+decoded_by_merger w = unless_fault (merger_kind w) (value w, asked_by w)
+
+-- what a merger answers for some bytes, one answer after another
+unfoldable pub merged : List ℕ → List (Result ℕ Utf8ErrorKind)
+merged xs = map (λ x. x.1) (pieces_by decoded_by_merger (length xs) 0 xs)
+
+-- the same of units
+unfoldable pub merged_units : List ℕ → List (Result ℕ Utf16PairError)
+merged_units xs = map (λ x. x.1) (pieces_by decoded_pairs (length xs) 0 xs)
+
+-- P holds where the items of the run q are the first elements of a list, and all of it where the run is whole
+abbrev pub WhereFront : {S : Type 0} {steps : S → Option ℕ → S → Type 0} → Run steps → List ℕ → Type 0 → Type 0
+WhereFront q xs P = q.len ≤ length xs → (q.whole ≡ true → q.len ≡ length xs) → ((k : ℕ) (d : ℕ) → k < q.len → option_map (λ y. y) (q.at k) ≡ Some (slice_index_or xs k d)) → P
+
+-- p is a run of a merger, and q that of its source: p gives the answers for a list whose first elements, or all, are the items of q
+abbrev pub IsMergerRun : {S T A : Type 0} {steps : S → Option A → S → Type 0} {source : T → Option ℕ → T → Type 0} → (List ℕ → List A) → Run steps → Run source → Type 0
+IsMergerRun answers p q = (p.whole ≡ true → q.whole ≡ true) × (p.len ≤ q.len) × (p.whole ≡ true → p.items ≡ answers q.items)
+    × ((xs : List ℕ) → WhereFront q xs (Gives p (answers xs)))
 
 -- one call of `next` of the remaining elements, from s to t: the first of the unread list goes, whatever list the source gives
 pub record RemainingNext {S : Type 0} (steps : S → Option ℕ → S → Type 0) (s : Merging S) (r : Option ℕ) (t : Merging S) : Type 0 where

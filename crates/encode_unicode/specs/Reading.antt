@@ -9,11 +9,12 @@ use Rattle.utf_base.specs.Scalar.{IsScalar}
 use Rattle.utf_base.specs.Units.{is_padded_units, unit_fault_kind, unit_value}
 use Rattle.utf_chars.specs.Padded.{IsPadded}
 use Rattle.encode_unicode.specs.Sources.{IsListed}
-use Rattle.encode_unicode.specs.Mergers.{IsHeldBytes, IsSpent, TakesFront, still}
+use Rattle.encode_unicode.specs.Mergers.{Gave, IsHeldBytes, IsSpent, TakesFront, still}
 
 -- the elements xs were read, from the state s with the end e to the state t with the end f
 pub record Reads {S A : Type 0} (can_next : S → Type 0) (remaining : S → Count) (steps : S → Option A → S → Type 0) (s : S) (e : Bool) (xs : List A) (t : S) (f : Bool) : Type 0 where
   pub gives : (rest : S → List A) → IsListed steps rest → still rest s e ≡ xs ++ still rest t f
+  pub gave : Gave steps s e xs t f
   pub can : f ≡ false → can_next t
   pub stays : e ≡ true → (f ≡ true) × (t ≡ s)
   pub spent : (rest : S → List A) → IsListed steps rest → IsSpent rest s e → IsSpent rest t f

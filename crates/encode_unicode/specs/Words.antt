@@ -6,3 +6,4 @@ pub use Rattle.utf_base.specs.Decoded.{decoded, decoded_bytes, decoded_units, de
 pub use Rattle.utf_base.specs.Back.{end_len, decoded_end, unit_end, decoded_units_end, decoded_pairs_end}
 pub use Rattle.utf_chars.specs.Chars.{first_of_text, parsed}
 pub use Rattle.utf_chars.specs.Padded.{padded}
+pub use Rattle.encode_unicode.specs.Mergers.{decoded_by_merger, merged, merged_units}

@@ -5,8 +5,10 @@ ghost use Rattle.std.specs.Iterator.Runs.{EachRunFrom, SomeRun, WholeRun};
 ghost use Rattle.std.specs.List.{flat_map};
 ghost use Rattle.utf_base.specs.Code.{utf8, utf16};
 ghost use Rattle.encode_unicode.specs.Collections.{AddsCodes, AddsFirstCodes};
-ghost use Rattle.encode_unicode.specs.Mergers.{unasked};
-ghost use Rattle.encode_unicode.specs.Pieces.{IsSplitterRun};
+ghost use Rattle.utf_base.specs.Kinds.{merger_kind};
+ghost use Rattle.utf_base.specs.Units.{unit_fault_kind};
+ghost use Rattle.encode_unicode.specs.Mergers.{IsHeldBytes, IsHeldUnits, IsMergerRun, MergerNext, merged, merged_units, unasked};
+ghost use Rattle.encode_unicode.specs.Pieces.{Gives, IsSplitterRun};
 ghost use Rattle.encode_unicode.specs.Sources.{IsListed, SplitterNext, unbegun};
 
 use crate::collecting::extend;
@@ -22,7 +24,9 @@ use utf_chars::utf16_char::Utf16Char;
 pub trait U8IterExt: Iterator<Item = u8> + Sized {
     /// The characters and the faulty bytes.
     fn to_utf8chars(self) -> Utf8CharMerger<Self>
-        ensures { result ≡ unasked self };
+        ensures merger { result ≡ unasked self }
+        ensures runs { EachRunFrom (MergerNext utf8 merger_kind IsHeldBytes Self.next_gives) result (λ p. SomeRun Self.next_gives self (λ q. IsMergerRun merged p q)) }
+        ensures listed { (rest : Self → List ℕ) → IsListed Self.next_gives rest → EachRunFrom (MergerNext utf8 merger_kind IsHeldBytes Self.next_gives) result (λ p. Gives p (merged (rest self))) };
 }
 
 impl<I: Iterator<Item = u8>> U8IterExt for I {
@@ -36,7 +40,9 @@ impl<I: Iterator<Item = u8>> U8IterExt for I {
 pub trait U16IterExt: Iterator<Item = u16> + Sized {
     /// The characters and the faulty units.
     fn to_utf16chars(self) -> Utf16CharMerger<Self>
-        ensures { result ≡ unasked self };
+        ensures merger { result ≡ unasked self }
+        ensures runs { EachRunFrom (MergerNext utf16 unit_fault_kind IsHeldUnits Self.next_gives) result (λ p. SomeRun Self.next_gives self (λ q. IsMergerRun merged_units p q)) }
+        ensures listed { (rest : Self → List ℕ) → IsListed Self.next_gives rest → EachRunFrom (MergerNext utf16 unit_fault_kind IsHeldUnits Self.next_gives) result (λ p. Gives p (merged_units (rest self))) };
 }
 
 impl<I: Iterator<Item = u16>> U16IterExt for I {

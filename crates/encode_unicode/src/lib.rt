@@ -12,6 +12,7 @@ mod iter_ext;
 pub mod laws;
 mod merging;
 mod remaining;
+mod second_unit;
 mod splitting;
 mod steps;
 mod str_ext;

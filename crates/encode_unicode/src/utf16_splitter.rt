@@ -5,10 +5,10 @@ ghost use Rattle.std.specs.Iterator.SizeHint.{IsWithinCount};
 ghost use Rattle.utf_base.specs.Code.{utf16};
 ghost use Rattle.encode_unicode.specs.Sources.{GivesTheSame, unbegun, unsent, SplitterNext, SplitsHint};
 
+use crate::second_unit::SecondUnit;
 use crate::splitting::hint_of;
 use std::alloc::AllocError;
 use std::marker::Model;
-use utf_chars::unsent::Unsent;
 use utf_chars::utf16_char::Utf16Char;
 
 /// The units of the characters of an iterator, one code after another.
@@ -17,7 +17,7 @@ use utf_chars::utf16_char::Utf16Char;
 #[derive(Debug, Drop)]
 pub struct Utf16CharSplitter<I> {
     source: I,
-    begun: Unsent<0x1_0000>,
+    begun: SecondUnit,
 }
 
 impl<I> Model for Utf16CharSplitter<I> {
@@ -35,7 +35,7 @@ impl<I: Iterator<Item = Utf16Char>> From<I> for Utf16CharSplitter<I> {
     fn from(source: I) -> Utf16CharSplitter<I> {
         Utf16CharSplitter {
             source,
-            begun: Unsent::default(),
+            begun: SecondUnit::none(),
         }
     }
 }
@@ -51,11 +51,12 @@ impl<I: Iterator<Item = Utf16Char>> Iterator for Utf16CharSplitter<I> {
 
     #[inline(always)]
     fn next(&mut self) -> Option<u16> {
-        match self.begun.next_unit() {
+        match self.begun.take() {
             Some(unit) => Some(unit),
             None => {
-                self.begun = Unsent::from(self.source.next()?);
-                self.begun.next_unit()
+                let (first, second) = SecondUnit::split(self.source.next()?);
+                self.begun = second;
+                Some(first)
             }
         }
     }

@@ -1,4 +1,4 @@
-use Rattle.std.proofs.Common.{[], ◌∷◌, lit<, sym, ◌∙◌, arith, refl, rules}
+use Rattle.std.proofs.Common.{[], ◌∷◌, lit<, sym, ◌∙◌, refl, rules}
 use denote.Enum.Bare.{differs_true, differs_false}
 use Rattle.utf_base.specs.contracts.table.State.{the_type}
 use Rattle.utf_base.specs.declared.table.State.TheVariants.{Done}

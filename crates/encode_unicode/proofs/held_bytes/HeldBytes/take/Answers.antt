@@ -1,4 +1,4 @@
-use Rattle.std.proofs.Common.{◌-◌, ◌/◌, ◌≤◌, arith}
+use Rattle.std.proofs.Common.{◌-◌, ◌/◌, arith}
 use Rattle.encode_unicode.proofs.HeldWords.{first_of_word}
 use Rattle.encode_unicode.proofs.held_bytes.HeldBytes.take.Goals as goal
 
