@@ -40,3 +40,5 @@ pub mod AsciiUnits
 pub mod ValueSums
 pub mod RoomCopies
 pub mod SameLanes
+pub mod AsciiTexts
+pub mod FewBytes

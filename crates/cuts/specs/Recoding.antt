@@ -12,3 +12,4 @@ pub mod GivenUnits
 pub mod UnitCodes
 pub mod UnitBlocks
 pub mod UnitRuns
+pub mod AsciiTexts

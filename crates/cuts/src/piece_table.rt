@@ -63,7 +63,10 @@ impl<A: Allocator + Copy> PieceTable<A> {
         ensures run { IsForwardRun self.now.bytes result.now }
         ensures value { result.now ≡ all_pieces self.now.bytes }
         ensures places { All (LiesWithin 4 (length self.now.bytes)) result.now }
+        ensures fits { length self.now.bytes < 2 ^ 64 }
     {
+        // A length is a `usize`: this call is all that tells a proof so.
+        let _len = self.bytes.len();
         self.pieces.as_slice()
     }
 

@@ -1,6 +1,7 @@
 //! Recoding from one form of text into another: in parts, into room of a fixed size, in shards, and from a reader to a
 //! writer.
 
+pub(crate) mod ascii_texts;
 pub(crate) mod code_puts;
 pub mod form;
 pub(crate) mod kept_ends;

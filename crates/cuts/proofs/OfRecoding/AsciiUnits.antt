@@ -2,7 +2,7 @@
 use Rattle.std.proofs.Common.{◌≡◌, ℕ, zero, suc, ◌+◌, ◌-◌, ◌<◌, ◌≤◌, Bool, true, false, List, [], ◌∷◌, ◌++◌, map, length, get_or, replicate, refl, sym, ap, ap₂, ◌∙◌, arith, inl, inr}
 use Rattle.std.proofs.lemmas.Bool.{cases_lt}
 use Rattle.std.proofs.lemmas.Grind.{common_steps}
-use Rattle.std.proofs.lemmas.List.{get_or_append_left, get_or-append_right}
+use Rattle.std.proofs.lemmas.List.{get_or_append_left, get_or-append_right, length-replicate}
 use Rattle.std.proofs.lemmas.Simd.{get_or-replicate, get_or-chunk}
 use lib.Lanes.{chunk}
 use Rattle.cuts.specs.Recoding.TextBlocks.{AreClosed}
@@ -20,27 +20,28 @@ unfolding joined
 beside ys d p zero = refl
 beside ys d p (suc n) = ap (λ zs. get_or ys p 0 ∷ get_or ys (p + d) 0 ∷ zs) (beside ys d (suc p) n)
 
-module _ (xs : List ℕ) (long : length xs ≡ 64) where
+module _ (d : ℕ) (xs : List ℕ) (long : length xs ≡ d) where
   abbrev nuls : List ℕ
-  nuls = replicate 64 0
+  nuls = replicate d 0
 
-  right : (k : ℕ) → k < 64 → get_or (xs ++ nuls) k 0 ∷ get_or (xs ++ nuls) (k + 64) 0 ∷ [] ≡ halves false (get_or xs k 0) 0
+  right : (k : ℕ) → k < d → get_or (xs ++ nuls) k 0 ∷ get_or (xs ++ nuls) (k + d) 0 ∷ [] ≡ halves false (get_or xs k 0) 0
   right k lt =
-      let back : k + 64 - 64 ≡ k = omega arith in
+      let back : k + d - d ≡ k = omega arith in
       ap₂ (λ x y. x ∷ y ∷ []) (get_or_append_left xs nuls 0 k (omega (arith, long)))
-      (get_or-append_right xs nuls 64 (k + 64) 0 long (omega arith) ∙ ap (λ j. get_or nuls j 0) back ∙ get_or-replicate 64 k 0 0 lt)
+      (get_or-append_right xs nuls d (k + d) 0 long (omega arith) ∙ ap (λ j. get_or nuls j 0) back ∙ get_or-replicate d k 0 0 lt)
 
-  left : (k : ℕ) → k < 64 → get_or (nuls ++ xs) k 0 ∷ get_or (nuls ++ xs) (k + 64) 0 ∷ [] ≡ halves true (get_or xs k 0) 0
+  left : (k : ℕ) → k < d → get_or (nuls ++ xs) k 0 ∷ get_or (nuls ++ xs) (k + d) 0 ∷ [] ≡ halves true (get_or xs k 0) 0
   left k lt =
-      let back : k + 64 - 64 ≡ k = omega arith in
-      ap₂ (λ x y. x ∷ y ∷ []) (get_or_append_left nuls xs 0 k lt ∙ get_or-replicate 64 k 0 0 lt)
-      (get_or-append_right nuls xs 64 (k + 64) 0 refl (omega arith) ∙ ap (λ j. get_or xs j 0) back)
+      let back : k + d - d ≡ k = omega arith in
+      let wide : length nuls ≡ d = length-replicate d 0 in
+      ap₂ (λ x y. x ∷ y ∷ []) (get_or_append_left nuls xs 0 k (omega (arith, wide)) ∙ get_or-replicate d k 0 0 lt)
+      (get_or-append_right nuls xs d (k + d) 0 wide (omega arith) ∙ ap (λ j. get_or xs j 0) back)
 
-  pub nuls_second : (p : ℕ) → p + 32 ≤ 64 → map (λ k. get_or (xs ++ nuls) k 0) (side_places 64 p 32) ≡ joined (λ k. halves false (get_or xs k 0) 0) p 32
-  nuls_second p within = beside (xs ++ nuls) 64 p 32 ∙ joined_same _ _ p 32 (λ k ge lt. right k (omega arith))
+  pub nuls_second : (p n : ℕ) → p + n ≤ d → map (λ k. get_or (xs ++ nuls) k 0) (side_places d p n) ≡ joined (λ k. halves false (get_or xs k 0) 0) p n
+  nuls_second p n within = beside (xs ++ nuls) d p n ∙ joined_same _ _ p n (λ k ge lt. right k (omega arith))
 
-  pub nuls_first : (p : ℕ) → p + 32 ≤ 64 → map (λ k. get_or (nuls ++ xs) k 0) (side_places 64 p 32) ≡ joined (λ k. halves true (get_or xs k 0) 0) p 32
-  nuls_first p within = beside (nuls ++ xs) 64 p 32 ∙ joined_same _ _ p 32 (λ k ge lt. left k (omega arith))
+  pub nuls_first : (p n : ℕ) → p + n ≤ d → map (λ k. get_or (nuls ++ xs) k 0) (side_places d p n) ≡ joined (λ k. halves true (get_or xs k 0) 0) p n
+  nuls_first p n within = beside (nuls ++ xs) d p n ∙ joined_same _ _ p n (λ k ge lt. left k (omega arith))
 
 -- what a byte of ASCII gives after bytes that ask for no more
 one_given : (high : Bool) (xs : List ℕ) (k : ℕ) → get_or xs k 0 < 0xF0 → get_or xs (k + 1) 0 < 0xE0 → get_or xs (k + 2) 0 < 0xC0 → get_or xs (k + 3) 0 < 0x80

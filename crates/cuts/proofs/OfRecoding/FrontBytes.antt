@@ -217,7 +217,7 @@ lacks_second high w two few l =
     rw (units, rest) (alone (first_unit high w) l)
 
 -- and so does nothing at all
-lacks_all : (from : Form) → Lacks from []
+pub lacks_all : (from : Form) → Lacks from []
 lacks_all Utf8 = kind-empty [] refl
 lacks_all Utf16Le = lacks_byte false [] (lit< tt)
 lacks_all Utf16Be = lacks_byte true [] (lit< tt)

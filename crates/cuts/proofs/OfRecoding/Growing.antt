@@ -5,7 +5,7 @@ use Rattle.std.proofs.lemmas.Bool.{cases_lt}
 use Rattle.std.specs.Str.{IsUtf8}
 use Rattle.std.proofs.lemmas.List.Concat.{flat_map-append}
 use Rattle.utf_base.proofs.ShownTexts.{text_shows_first}
-use Rattle.std.proofs.lemmas.List.{append-nil, drop-drop, drop_at, drop-append-le}
+use Rattle.std.proofs.lemmas.List.{append-nil, drop-drop, drop_at, drop_all, drop-append-le}
 use Rattle.utf_base.specs.Code.{utf8, utf16}
 use Rattle.utf_base.proofs.FrontLemmas.{utf8_finds}
 use Rattle.utf_base.proofs.UnitLemmas.{utf16_finds}
@@ -118,6 +118,15 @@ Feeds-whole r s from to held part rest old mid new p q e f i g le j h few k =
     let whole : Grows from to (held ++ part) old new (drop q rest) = Grows-trans from to (held ++ part) rest (drop q rest) old mid new first h in
     rw k (record { grows = rw (e, f, i) at whole; from = refl; to = refl; few = few })
 
+-- where nothing is held, the part is all that there is
+pub Feeds-alone : (r s : Recoding) (from to : Form) (part old new : List ℕ) (q : ℕ) → from ≡ r.from → to ≡ r.to → length r.held ≡ 0 → Grows from to part old new (drop q part)
+    → length (drop q part) ≤ 3 → s ≡ record { from = r.from; to = r.to; held = drop q part } → Feeds r part old new s
+Feeds-alone r s from to part old new q e f none g few k =
+    let nothing : r.held ≡ [] = drop_all 0 r.held (omega arith) in
+    let alone : r.held ++ part ≡ part = ap (λ xs. xs ++ part) nothing in
+    let whole : Grows from to (r.held ++ part) old new (drop q part) = rw alone g in
+    rw k (record { grows = rw (e, f) at whole; from = refl; to = refl; few = few })
+
 all_of : (w : List ℕ) (n : ℕ) (later : List ℕ) → take n w ++ (drop n w ++ later) ≡ w ++ later
 all_of w n later = sym (append_assoc (take n w) (drop n w) later) ∙ ap (λ xs. xs ++ later) (take-append-drop n w)
 
@@ -165,6 +174,12 @@ Remains-all from to bytes old new g = record {
   appended = g.appended;
   recoded = rw (append-nil g.grown) at (g.continues [] (recoded_nothing from to));
 }
+
+-- where nothing is held, nothing comes of it
+pub Finishes-none : (r : Recoding) (old : List ℕ) → length r.held ≡ 0 → Finishes r old old
+Finishes-none r old none =
+    let nothing : r.held ≡ [] = drop_all 0 r.held (omega arith) in
+    record { grown = []; appended = sym (append-nil old); recoded = rw nothing (recoded_nothing r.from r.to) }
 
 -- How long codes are.
 

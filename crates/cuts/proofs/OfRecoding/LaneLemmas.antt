@@ -8,6 +8,7 @@ use Rattle.std.proofs.lemmas.Simd.{Each1-get_or, Each1-from_get_or, length-zip2,
 use Rattle.std.specs.List.{prefix_len}
 use lib.Count.{count_trailing_zeros}
 use lib.Lanes.{zip2, sel_l, mask_l, top, Each1, chunk}
+use Rattle.cuts.specs.Recoding.AsciiTexts.{AreAscii}
 use Rattle.cuts.specs.Recoding.TextBlocks.{Follows, AllFollow, IsPair}
 use Rattle.cuts.proofs.OfRecoding.PairTables.{AreRight, tables_judge}
 
@@ -331,9 +332,17 @@ follow_on xs i j m p q k least most = elim (cases_lt (k + 3) j) [ inl lt ↦ p k
 pub follow_lanes : (xs : List ℕ) (i n : ℕ) → ((k : ℕ) → k < n → AllFollow xs (i + k) (i + k + 1)) → AllFollow xs i (i + n)
 follow_lanes xs i n each k least most = each (k + 3 - i) (omega arith) k (omega arith) (omega arith)
 
+-- a block of ASCII
+pub ascii_block : (xs : List ℕ) (i : ℕ) → ((k : ℕ) → k < 64 → get_or xs (i + k) 0 < 0x80) → AreAscii xs i (i + 64)
+ascii_block xs i block k ge lt = let at : i + (k - i) ≡ k = omega arith in rw at at (block (k - i) (omega arith))
+
+-- and the ASCII after it
+pub ascii_on : (xs : List ℕ) (i j m : ℕ) → AreAscii xs i j → AreAscii xs j m → AreAscii xs i m
+ascii_on xs i j m p q k least most = elim (cases_lt k j) [ inl lt ↦ p k least lt | inr ge ↦ q k ge most ]
+
 -- ASCII may follow where no code has to go on
 pub ascii_follows : (xs : List ℕ) (i n : ℕ) → ((k : ℕ) → k + 3 ≡ i → (get_or xs k 0 < 0xF0) × (get_or xs (k + 1) 0 < 0xE0) × (get_or xs (k + 2) 0 < 0xC0))
-    → ((k : ℕ) → i ≤ k → k < n → get_or xs k 0 < 0x80) → 3 ≤ i → AllFollow xs i n
+    → AreAscii xs i n → 3 ≤ i → AllFollow xs i n
 ascii_follows xs i n closed at start k least most =
     let before = closed (i - 3) (omega arith) in
     let first : get_or xs (i - 3) 0 < 0xF0 = before.0 in

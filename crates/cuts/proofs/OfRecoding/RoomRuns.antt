@@ -4,7 +4,8 @@ use Rattle.std.proofs.lemmas.List.{drop-drop, take-take, take_all, take_rest}
 use Rattle.std.proofs.lemmas.List.Concat.{flat_map-append}
 use Rattle.std.proofs.lemmas.Bool.{cases_lt}
 use Rattle.utf_base.specs.Code.{utf16}
-use Rattle.utf_base.proofs.Utf8Code.{length_utf8}
+use Rattle.utf_base.specs.Scalar.{IsScalar}
+use Rattle.utf_base.proofs.Utf8Code.{length_utf8, utf8_is_code}
 use Rattle.utf_base.proofs.Utf16Code.{utf16-1, utf16-2}
 use Rattle.cuts.specs.declared.recoding.form.Form.{Form}
 use Rattle.cuts.specs.declared.recoding.form.Form.TheVariants.{Utf8, Utf16Le, Utf16Be}
@@ -60,6 +61,16 @@ pub few_written : (to : Form) (s : ℕ) → length (written to s) ≤ 4
 few_written Utf8 s = length_utf8 s
 few_written Utf16Le s = few_units false s
 few_written Utf16Be s = few_units true s
+
+some_units : (high : Bool) (s : ℕ) → 0 < length (flat_map (bytes_of high) (utf16 s))
+some_units true s = ⊎_elim (λ (low : s < 0x1_0000). rw (utf16-1 s low) (omega arith)) (λ (high : 0x1_0000 ≤ s). rw (utf16-2 s high) (omega arith)) (cases_lt s 0x1_0000)
+some_units false s = ⊎_elim (λ (low : s < 0x1_0000). rw (utf16-1 s low) (omega arith)) (λ (high : 0x1_0000 ≤ s). rw (utf16-2 s high) (omega arith)) (cases_lt s 0x1_0000)
+
+-- and some
+pub some_written : (to : Form) (s : ℕ) → IsScalar s → 0 < length (written to s)
+some_written Utf8 s scalar = utf8_is_code.some s scalar
+some_written Utf16Le s scalar = some_units false s
+some_written Utf16Be s scalar = some_units true s
 
 -- a scalar more, told by four bytes
 pub RunsInto-step : (from to : Form) (bytes old mid new : List ℕ) (place read wrote s n end : ℕ) → RunsInto from to bytes old mid place read wrote → length mid ≡ length old

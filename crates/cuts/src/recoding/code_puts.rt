@@ -86,7 +86,7 @@ fn low(unit: u16) -> u8
 }
 
 #[inline(always)]
-fn put_unit<A: Allocator>(high_first: bool, unit: u16, out: &mut Vec<u8, A>)
+pub(crate) fn put_unit<A: Allocator>(high_first: bool, unit: u16, out: &mut Vec<u8, A>)
     requires { vec_len out.old + 2 ≤ vec_capacity out.old }
     ensures items { out.new.items ≡ out.old.items ++ bytes_of high_first unit }
     ensures len { vec_len out.new ≡ vec_len out.old + 2 }

@@ -5,7 +5,7 @@ ghost use Rattle.std.specs.Prelude.{ℕ, List, ◌-◌, ◌++◌, take, drop, Is
 ghost use Rattle.cuts.specs.Recoding.Rooms.{FeedsInto, FinishesInto, IsFull, IsLastFull};
 
 use crate::recoding::form::Form;
-use crate::recoding::recoder_rooms::{first_of, put_at, recode_into, recode_last_into};
+use crate::recoding::recoder_rooms::{first_of, progress, put_at, recode_into, recode_last_into};
 use crate::recoding::recoder_runs::{join, recode_joined, recode_last, recode_whole};
 use std::alloc::{AllocError, Allocator};
 use std::marker::Model;
@@ -17,10 +17,11 @@ use std::marker::Model;
 /// one part and end in another, and what is put out does not depend on how the input was cut.
 #[derive(Debug, Drop)]
 pub struct Recoder {
+    // The first field, so that no store of the others overlaps it, for which each call would wait.
+    count: usize,
     from: Form,
     to: Form,
     held: [u8; 3],
-    count: usize,
 }
 
 impl Model for Recoder {
@@ -60,10 +61,10 @@ impl Recoder {
         ensures { result ≡ record { from = from; to = to; held = [] } }
     {
         Recoder {
+            count: 0,
             from,
             to,
             held: [0; 3],
-            count: 0,
         }
     }
 
@@ -73,6 +74,7 @@ impl Recoder {
     /// All memory is asked for before the first byte is put out: three times as many bytes as are held and
     /// in the part. Where it is refused, nothing has changed, and the same part can be fed again. A part
     /// without bytes asks for none.
+    #[inline]
     pub fn feed<A: Allocator>(
         &mut self,
         part: &[u8],
@@ -86,10 +88,54 @@ impl Recoder {
         ensures unchanged { length part.now ≡ 0 → self.new ≡ self.old }
         ensures succeeds { vec_len out.old + 3 * (length self.old.held + length part.now) ≤ vec_capacity out.old → IsOk result }
     {
-        let held = self.held_bytes();
+        let count = self.count;
         if part.is_empty() {
             return Ok(());
         }
+        if count == 0 {
+            return self.feed_alone(part, out);
+        }
+        self.feed_joined(part, out)
+    }
+
+    // `feed` of some bytes where nothing is held.
+    #[inline(always)]
+    fn feed_alone<A: Allocator>(
+        &mut self,
+        part: &[u8],
+        out: &mut Vec<u8, A>,
+    ) -> Result<(), AllocError>
+        requires { length self.old.held ≡ 0 }
+        ensures ok { OnOk result (Feeds self.old part.now out.old.items out.new.items self.new) }
+        ensures err { OnErr result (self.new ≡ self.old) }
+        ensures unwritten { OnErr result (out.new.items ≡ out.old.items) }
+        ensures waits { OnOk result (Lacks self.old.from self.new.held) }
+        ensures succeeds { vec_len out.old + 3 * length part.now ≤ vec_capacity out.old → IsOk result }
+    {
+        out.reserve(part.len().saturating_mul(3))?;
+        let place = recode_whole(self.from, self.to, part, out);
+        if place == part.len() {
+            return Ok(());
+        }
+        self.hold(&part[place..]);
+        Ok(())
+    }
+
+    // `feed` of some bytes, and of those that are held before them.
+    #[inline(never)]
+    fn feed_joined<A: Allocator>(
+        &mut self,
+        part: &[u8],
+        out: &mut Vec<u8, A>,
+    ) -> Result<(), AllocError>
+        requires { 0 < length part.now }
+        ensures ok { OnOk result (Feeds self.old part.now out.old.items out.new.items self.new) }
+        ensures err { OnErr result (self.new ≡ self.old) }
+        ensures unwritten { OnErr result (out.new.items ≡ out.old.items) }
+        ensures waits { OnOk result (Lacks self.old.from self.new.held) }
+        ensures succeeds { vec_len out.old + 3 * (length self.old.held + length part.now) ≤ vec_capacity out.old → IsOk result }
+    {
+        let held = self.held_bytes();
         out.reserve((held.len() + part.len()).saturating_mul(3))?;
         let place = recode_joined(self.from, self.to, held, part, out);
         if place < held.len() {
@@ -117,8 +163,10 @@ impl Recoder {
         requires { length bytes.now ≤ 3 }
         ensures { self.new ≡ record { from = self.old.from; to = self.old.to; held = bytes.now } }
     {
-        self.held[..bytes.len()].copy_from_slice(bytes);
         self.count = bytes.len();
+        if !bytes.is_empty() {
+            self.held[..bytes.len()].copy_from_slice(bytes);
+        }
     }
 
     /// Appends to `out` what the held bytes are where nothing follows them. A code whose rest never came is
@@ -126,11 +174,26 @@ impl Recoder {
     ///
     /// Where memory is refused, the error has the recoder as it was, which can be finished again. Where
     /// nothing is held none is asked for.
+    #[inline(always)]
     pub fn finish<A: Allocator>(self, out: &mut Vec<u8, A>) -> Result<(), Unfinished>
         ensures ok { OnOk result (Finishes self out.old.items out.new.items) }
         ensures err { IfErr result (λ e. e.recoder ≡ self) }
         ensures unwritten { OnErr result (out.new.items ≡ out.old.items) }
         ensures nothing { length self.held ≡ 0 → IsOk result }
+        ensures succeeds { vec_len out.old + 3 * length self.held ≤ vec_capacity out.old → IsOk result }
+    {
+        if self.count == 0 {
+            return Ok(());
+        }
+        self.finish_held(out)
+    }
+
+    // `finish` where something is held, kept apart so that the test is inlined.
+    #[inline(never)]
+    fn finish_held<A: Allocator>(self, out: &mut Vec<u8, A>) -> Result<(), Unfinished>
+        ensures ok { OnOk result (Finishes self out.old.items out.new.items) }
+        ensures err { IfErr result (λ e. e.recoder ≡ self) }
+        ensures unwritten { OnErr result (out.new.items ≡ out.old.items) }
         ensures succeeds { vec_len out.old + 3 * length self.held ≤ vec_capacity out.old → IsOk result }
     {
         if let Err(cause) = out.reserve(3 * self.count) {
@@ -251,6 +314,9 @@ impl Recoder {
         ensures done { IsFalse result.is_full → (out : List ℕ) → Finishes self.old out (out ++ take result.written room.new) }
         ensures read { result.read ≡ 0 }
     {
+        if self.count == 0 {
+            return progress(0, 0, false);
+        }
         let (held, len) = join(self.held_bytes(), &[]);
         let done = recode_last_into(self.from, self.to, &held[..len], room);
         self.hold(&held[done.read..len]);

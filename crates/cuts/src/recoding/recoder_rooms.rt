@@ -8,7 +8,7 @@ ghost use Rattle.cuts.specs.Recoding.Rooms.{Fills, IsFull, IsLastFull, Leaves, R
 use crate::recoding::form::Form;
 use crate::recoding::recoder::Progress;
 use crate::recoding::recoder_runs::join;
-use crate::recoding::room_puts::put_all;
+use crate::recoding::room_puts::{put_all, put_code_at};
 use crate::recoding::room_runs::recode_ahead;
 use crate::recoding::shown_fronts::{front, last_front};
 use encode_unicode::CharExt;
@@ -23,6 +23,23 @@ pub(crate) fn put_at(to: Form, c: char, room: &mut [u8], place: usize) -> Option
     ensures some { IfSome result (λ end. Fills room.old room.new place end (written to c)) }
     ensures long { IfNone result (length room.old - place < length (written to c)) }
     ensures short { IfNone result (length room.old < place + 4) }
+    ensures none { IfNone result (room.new ≡ room.old) }
+    ensures more { IfSome result (λ end. place < end) }
+    ensures end { IfSome result (λ end. end ≡ place + length (written to c)) }
+{
+    if 4 <= room.len() - place {
+        return Some(put_code_at(to, c, room, place));
+    }
+    put_at_end(to, c, room, place)
+}
+
+// The same where the room is less than any code may have.
+#[inline(never)]
+fn put_at_end(to: Form, c: char, room: &mut [u8], place: usize) -> Option<usize>
+    requires place { place ≤ length room.old }
+    requires few { length room.old < place + 4 }
+    ensures some { IfSome result (λ end. Fills room.old room.new place end (written to c)) }
+    ensures long { IfNone result (length room.old - place < length (written to c)) }
     ensures none { IfNone result (room.new ≡ room.old) }
     ensures more { IfSome result (λ end. place < end) }
     ensures end { IfSome result (λ end. end ≡ place + length (written to c)) }
@@ -103,6 +120,9 @@ pub(crate) fn recode_into(
     loop {
         let (ahead, end) = recode_ahead(from, to, &bytes[read..], room, written);
         read += ahead;
+        if read == bytes.len() {
+            return progress(read, end, false);
+        }
         let few = recode_few(from, to, &bytes[read..], room, end);
         read += few.read;
         written = few.written;
@@ -139,7 +159,7 @@ fn recode_few(from: Form, to: Form, bytes: &[u8], room: &mut [u8], place: usize)
 
 // How far a call came.
 #[inline(always)]
-fn progress(read: usize, written: usize, is_full: bool) -> Progress
+pub(crate) fn progress(read: usize, written: usize, is_full: bool) -> Progress
     ensures { result ≡ record { read = read; written = written; is_full = is_full } }
 {
     Progress {
@@ -151,7 +171,7 @@ fn progress(read: usize, written: usize, is_full: bool) -> Progress
 
 // The first four bytes, or all where they are fewer.
 #[inline(always)]
-fn four(bytes: &[u8]) -> &[u8]
+pub(crate) fn four(bytes: &[u8]) -> &[u8]
     ensures { result.now ≡ take 4 bytes.now }
 {
     &bytes[..bytes.len().min(4)]

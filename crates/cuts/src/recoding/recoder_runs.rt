@@ -4,10 +4,11 @@ ghost use Rattle.cuts.specs.Recoding.Recoded.{Finishes};
 ghost use Rattle.cuts.specs.Recoding.OutputRuns.{RunsOnto, RunsUntil};
 ghost use Rattle.cuts.specs.Recoding.GivenUnits.{IsUnits};
 
+use crate::recoding::ascii_texts::{is_ascii, put_widened};
 use crate::recoding::code_puts::{put_block, put_code};
 use crate::recoding::form::Form::{self, Utf8, Utf16Be, Utf16Le};
 use crate::recoding::narrowed_units::narrow_units;
-use crate::recoding::shown_fronts::{front, last_front, text_front, unit_block};
+use crate::recoding::shown_fronts::{front, last_front, least_front, text_front, unit_block};
 use crate::recoding::text_blocks::text_len;
 use crate::recoding::unit_copies::{append, copy_units};
 use crate::recoding::unit_puts::put_units;
@@ -24,6 +25,9 @@ const STRETCH: usize = 128;
 
 // How many bytes are judged before what is text among them is copied or widened, while they are near.
 const PART: usize = 8192;
+
+// The most bytes that are first asked whether they are ASCII. Of more, faults among them would have the same bytes asked again.
+const SHORT: usize = 1024;
 
 // Recodes the bytes as far as no later byte can change what they show, and not past the place `stop`
 // but by the rest of a code that begins before it. Answers how many bytes were recoded.
@@ -135,6 +139,9 @@ pub(crate) fn copy_decided<A: Allocator>(bytes: &[u8], out: &mut Vec<u8, A>) -> 
     let mut place = 0;
     while place < bytes.len() {
         place += copy_text(&bytes[place..], out);
+        if place == bytes.len() {
+            return place;
+        }
         let (done, stop) = recode_faults(Utf8, Utf8, &bytes[place..], out);
         place += done;
         if done < stop {
@@ -169,7 +176,12 @@ fn copy_part<A: Allocator>(bytes: &[u8], out: &mut Vec<u8, A>) -> usize
     requires { vec_len out.old + 3 * length bytes.now ≤ vec_capacity out.old }
     ensures { RunsOnto Form.Utf8 Form.Utf8 bytes.now out.old out.new result }
 {
-    let len = text_len(&bytes[..PART.min(bytes.len())]);
+    let part = &bytes[..PART.min(bytes.len())];
+    if part.len() <= SHORT && is_ascii(part) {
+        append(part, out);
+        return part.len();
+    }
+    let len = text_len(part);
     append(&bytes[..len], out);
     len
 }
@@ -194,6 +206,9 @@ fn recode_quickly<A: Allocator, const PAIR: usize>(
         place += recode_blocks(from, to, &bytes[place..], out);
         let count = recode_stretch(from, to, &bytes[place..], out);
         place += count;
+        if place == bytes.len() {
+            return place;
+        }
         // A stretch with no fault in it goes to its last code.
         if count < STRETCH - 3 {
             let (done, stop) = recode_apart::<A, PAIR>(from, to, &bytes[place..], out);
@@ -272,8 +287,9 @@ fn recode_text<A: Allocator>(from: Form, to: Form, bytes: &[u8], out: &mut Vec<u
     requires { vec_len out.old + 3 * length bytes.now ≤ vec_capacity out.old }
     ensures { RunsOnto from to bytes.now out.old out.new result }
 {
+    let least = least_front(from);
     let mut place = 0;
-    while 4 <= bytes.len() - place {
+    while least <= bytes.len() - place {
         match text_front(from, &bytes[place..]) {
             None => return place,
             Some((c, len)) => {
@@ -404,7 +420,15 @@ fn widen_part<A: Allocator, const ORDER: usize>(
     requires room { vec_len out.old + 3 * length bytes.now ≤ vec_capacity out.old }
     ensures { RunsOnto Form.Utf8 to bytes.now out.old out.new result }
 {
-    let len = text_len(&bytes[..PART.min(bytes.len())]);
+    let part = &bytes[..PART.min(bytes.len())];
+    if part.len() <= SHORT && is_ascii(part) {
+        put_widened(high_first, part, out);
+        return part.len();
+    }
+    if part.len() < 32 {
+        return 0;
+    }
+    let len = text_len(part);
     if len < 32 {
         return 0;
     }

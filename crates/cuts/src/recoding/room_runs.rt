@@ -1,9 +1,12 @@
 //! Runs over bytes, into room of a fixed size, where it is large enough for what comes of them.
-ghost use Rattle.std.specs.Prelude.{◌+◌, ◌*◌, ◌≤◌, length};
+ghost use Rattle.std.specs.Prelude.{◌+◌, ◌*◌, ◌<◌, ◌≤◌, length, IfSome};
 ghost use Rattle.cuts.specs.Recoding.GivenUnits.{IsUnits};
+ghost use Rattle.cuts.specs.Recoding.Recoded.{Reads};
 ghost use Rattle.cuts.specs.Recoding.Rooms.{RunsInto};
+ghost use Rattle.cuts.specs.Recoding.ShownFronts.{Decides};
 
 use crate::recoding::form::Form::{self, Utf8, Utf16Be, Utf16Le};
+use crate::recoding::recoder_rooms::four;
 use crate::recoding::room_copies::{text_copied, units_copied};
 use crate::recoding::room_narrows::narrow_into;
 use crate::recoding::room_puts::{put_block_at, put_code_at};
@@ -57,7 +60,8 @@ fn recode_pair<const PAIR: usize>(
         read += text;
         written = end;
         if text == 0 {
-            return (read, written);
+            let (last, end) = last_into(from, to, &bytes[read..], room, written);
+            return (read + last, end);
         }
     }
 }
@@ -190,4 +194,38 @@ fn text_into(from: Form, to: Form, bytes: &[u8], room: &mut [u8], place: usize) 
         }
     }
     (read, written)
+}
+
+// Recodes text at the front of the last bytes, where a character has fewer than four of them, as far as the room is enough
+// for any code.
+#[inline(always)]
+fn last_into(from: Form, to: Form, bytes: &[u8], room: &mut [u8], place: usize) -> (usize, usize)
+    requires { place ≤ length room.old }
+    ensures { RunsInto from to bytes.now room.old room.new place result.0 result.1 }
+{
+    let mut read = 0;
+    let mut written = place;
+    while read < bytes.len() && 4 <= room.len() - written {
+        match near_front(from, four(&bytes[read..])) {
+            None => return (read, written),
+            Some((c, len)) => {
+                written = put_code_at(to, c, room, written);
+                read += len;
+            }
+        }
+    }
+    (read, written)
+}
+
+// The character that begins the bytes, and how many bytes it has; `None` at a fault, and at fewer than four bytes of UTF-8
+// of which the first is not ASCII.
+#[inline(always)]
+fn near_front(from: Form, bytes: &[u8]) -> Option<(char, usize)>
+    requires { 0 < length bytes.now }
+    ensures { IfSome result (λ x. Decides (Reads from) bytes.now x.0 x.1) }
+{
+    match from {
+        Utf8 if bytes[0] < 0x80 => Some((char::from(bytes[0]), 1)),
+        _ => text_front(from, bytes),
+    }
 }

@@ -108,11 +108,22 @@ pub(crate) fn text_front(from: Form, bytes: &[u8]) -> Option<(char, usize)>
     }
 }
 
+// How many bytes there have to be for `text_front` to answer a character.
+#[inline(always)]
+pub(crate) fn least_front(from: Form) -> usize
+    ensures { 0 < result }
+{
+    match from {
+        Form::Utf8 => 4,
+        Form::Utf16Le | Form::Utf16Be => 2,
+    }
+}
+
 #[inline(always)]
 fn char_of_utf16(high_first: bool, bytes: &[u8]) -> Option<(char, usize)>
     ensures { IfSome result (λ x. Decides (ShowsUnits high_first) bytes.now x.0 x.1) }
 {
-    if bytes.len() < 4 {
+    if bytes.len() < 2 {
         return None;
     }
     let first = unit(high_first, bytes[0], bytes[1]);
@@ -121,6 +132,9 @@ fn char_of_utf16(high_first: bool, bytes: &[u8]) -> Option<(char, usize)>
             Ok(c) => Some((c, 2)),
             Err(_) => None,
         };
+    }
+    if bytes.len() < 4 {
+        return None;
     }
     let second = unit(high_first, bytes[2], bytes[3]);
     match char::from_utf16_tuple((first, Some(second))) {

@@ -3,10 +3,12 @@
 //! A byte is judged by the three before it: three look-ups tell whether it may follow the one before it, and
 //! the two before that tell whether a code of three or four bytes has to go on (Keiser and Lemire, "Validating
 //! UTF-8 in less than one instruction per byte", 2021).
-ghost use Rattle.std.specs.Prelude.{◌≡◌, ℕ, ◌+◌, ◌<◌, ◌≤◌, ◌↔◌, length, take, slice_index, IsTrue, IsUtf8, true, false};
+ghost use Rattle.std.specs.Prelude.{◌≡◌, ℕ, ◌+◌, ◌-◌, ◌<◌, ◌≤◌, ◌↔◌, ◌∷◌, ◌++◌, length, take, replicate, slice_index, IsTrue, IsUtf8, true, false};
+ghost use Rattle.cuts.specs.Recoding.AsciiTexts.{AreAscii};
 ghost use Rattle.cuts.specs.Recoding.TextBlocks.{AllFollow, AreClosed, IsPair};
 ghost use Rattle.utf_base.specs.Kinds.{is_continuation};
 
+use crate::recoding::ascii_texts::is_ascii_each;
 use crate::recoding::text_front::{continues, front_of_text};
 use std::simd::prelude::*;
 
@@ -102,22 +104,61 @@ pub(crate) fn text_len(bytes: &[u8]) -> usize
     ensures within { result ≤ length bytes.now }
     ensures text { IsUtf8 (take result bytes.now) }
 {
-    let start = few_chars(bytes);
+    if bytes.len() <= 16 && are_text(bytes) {
+        return bytes.len();
+    }
+    let start = few_chars(bytes, 3);
     if start < 3 || bytes.len() < start + 16 || continues(bytes[start]) {
         return start;
     }
     let end = followed(bytes, start);
+    if end == bytes.len() && is_closed(bytes, end) {
+        return end;
+    }
     last_code(bytes, start, end)
 }
 
-// How many bytes the first characters have, as far as three bytes and no fault.
+// Whether sixteen bytes at most are text, judged at once.
 #[inline(always)]
-fn few_chars(bytes: &[u8]) -> usize
+fn are_text(bytes: &[u8]) -> bool
+    requires { length bytes.now ≤ 16 }
+    ensures { IsTrue result → IsUtf8 bytes.now }
+{
+    if bytes.len() < 8 {
+        return are_chars(bytes);
+    }
+    let block = past_nuls(bytes);
+    followed_lanes(&block, 3) == 16 && is_closed(&block, 19)
+}
+
+// The same, one character after another.
+#[inline(always)]
+fn are_chars(bytes: &[u8]) -> bool
+    ensures { IsTrue result → IsUtf8 bytes.now }
+{
+    let place = few_chars(bytes, bytes.len().saturating_sub(3));
+    is_ascii_each(&bytes[place..])
+}
+
+// The bytes after so many NULs that all are nineteen.
+#[inline(always)]
+fn past_nuls(bytes: &[u8]) -> [u8; 19]
+    requires { length bytes.now ≤ 16 }
+    ensures { result ≡ 0 ∷ 0 ∷ 0 ∷ (replicate (16 - length bytes.now) 0 ++ bytes.now) }
+{
+    let mut block = [0; 19];
+    block[19 - bytes.len()..].copy_from_slice(bytes);
+    block
+}
+
+// How many bytes the first characters have, until they have `least`, and as far as no fault.
+#[inline(always)]
+fn few_chars(bytes: &[u8], least: usize) -> usize
     ensures within { result ≤ length bytes.now }
     ensures text { IsUtf8 (take result bytes.now) }
 {
     let mut place = 0;
-    while place < 3 {
+    while place < least {
         match front_of_text(&bytes[place..]) {
             None => return place,
             Some((_, len)) => place += len,
@@ -163,11 +204,13 @@ fn followed_wide(bytes: &[u8], start: usize) -> usize
 {
     let mut place = start;
     while 64 <= bytes.len() - place {
-        let end = block_end(bytes, place);
-        if end == place {
+        if is_ascii_block(bytes, place) && is_closed(bytes, place) {
+            place = ascii_end(bytes, place + 64);
+        } else if follows_block(bytes, place) {
+            place += 64;
+        } else {
             return place;
         }
-        place = end;
     }
     place
 }
@@ -193,31 +236,26 @@ fn followed_lane_by_lane(bytes: &[u8], start: usize) -> usize
     place
 }
 
-// Where the next block of 64 ends, or the last of many that are ASCII; the place itself where some byte may not follow.
+// Whether each of the 64 bytes from the place on may follow the three before it. A place that waits for no judgement
+// lets the processor judge some blocks at once, so the loop above branches on this answer.
 #[inline(always)]
-fn block_end(bytes: &[u8], place: usize) -> usize
+fn follows_block(bytes: &[u8], place: usize) -> bool
     requires start { 3 ≤ place }
     requires within { place + 64 ≤ length bytes.now }
-    ensures least { place ≤ result }
-    ensures within { result ≤ length bytes.now }
-    ensures follow { AllFollow bytes.now place result }
+    ensures { IsTrue result → AllFollow bytes.now place (place + 64) }
 {
-    if is_ascii_block(bytes, place) && is_closed(bytes, place) {
-        return ascii_end(bytes, place);
-    }
     let first = faults_at(bytes, place) | faults_at(bytes, place + 16);
     let second = faults_at(bytes, place + 32) | faults_at(bytes, place + 48);
-    let wrong = (first | second).simd_ne(u8x16::splat(0)).to_bitmask();
-    if wrong == 0 { place + 64 } else { place }
+    (first | second).simd_ne(u8x16::splat(0)).to_bitmask() == 0
 }
 
 // Where the blocks of ASCII end that begin at the place.
 #[inline(always)]
-fn ascii_end(bytes: &[u8], start: usize) -> usize
+pub(crate) fn ascii_end(bytes: &[u8], start: usize) -> usize
     requires { start ≤ length bytes.now }
     ensures least { start ≤ result }
     ensures within { result ≤ length bytes.now }
-    ensures ascii { (k : ℕ) → start ≤ k → k < result → slice_index bytes.now k < 0x80 }
+    ensures ascii { AreAscii bytes.now start result }
 {
     let mut place = start;
     while 64 <= bytes.len() - place {

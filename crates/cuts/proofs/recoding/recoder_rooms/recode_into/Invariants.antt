@@ -2,8 +2,8 @@ use Rattle.std.proofs.Common.{◌-◌, length}
 use Rattle.cuts.proofs.OfRecoding.RoomRuns.{KeepsRun}
 use Rattle.cuts.proofs.recoding.recoder_rooms.recode_into.Given as goal
 
-abbrev pub invariant-loop-from : goal.invariant-loop-from
-invariant-loop-from l = KeepsRun l.from l.to l.bytes l.fn.room l.room l.place l.read l.written
+abbrev pub invariant-loop-read : goal.invariant-loop-read
+invariant-loop-read l = KeepsRun l.from l.to l.bytes l.fn.room l.room l.place l.read l.written
 
-abbrev pub decreases-loop-from : goal.decreases-loop-from
-decreases-loop-from l = length l.bytes - l.read
+abbrev pub decreases-loop-read : goal.decreases-loop-read
+decreases-loop-read l = length l.bytes - l.read

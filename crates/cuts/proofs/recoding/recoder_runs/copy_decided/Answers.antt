@@ -1,4 +1,4 @@
-use Rattle.std.proofs.Common.{◌+◌}
+use Rattle.std.proofs.Common.{◌+◌, arith}
 use Rattle.std.proofs.lemmas.List.{take_rest}
 use Rattle.cuts.proofs.OfRecoding.OutputRuns.{RunsOnto-next, RunsUntil-all, RunsUntil-next}
 use Rattle.cuts.proofs.recoding.recoder_runs.copy_decided.Goals as goal
@@ -10,6 +10,13 @@ returns-then-done-stop g c =
     let n = c.copy_text-place.result in
     let first = RunsOnto-next _ _ bytes _ _ _ p n c.loop-place.invariant (rw (take_rest bytes p) at c.copy_text-place.ensures) in
     RunsUntil-next _ _ bytes _ _ _ _ _ (p + n) _ first (rw (take_rest bytes (p + n)) at c.recode_faults-done.ensures.runs) c.if-done-stop.true
+
+pub returns-then-place-bytes : goal.returns-then-place-bytes
+returns-then-place-bytes g c =
+    let bytes = c.args.bytes.now in
+    let p = c.loop-place.place in
+    let run = RunsOnto-next _ _ bytes _ _ _ p _ c.loop-place.invariant (rw (take_rest bytes p) at c.copy_text-place.ensures) in
+    RunsUntil-all _ _ _ _ _ _ _ run (omega (arith, c.if-place-bytes.true))
 
 pub loop-place-preserved : goal.loop-place-preserved
 loop-place-preserved g c =

@@ -1,6 +1,12 @@
+use Rattle.std.proofs.Common.{arith}
 use Rattle.std.proofs.lemmas.List.{take_rest}
 use Rattle.cuts.proofs.OfRecoding.OutputRuns.{RunsOnto-next, RunsOnto-two, RunsUntil-all, RunsUntil-next}
 use Rattle.cuts.proofs.recoding.recoder_runs.recode_quickly.Goals as goal
+
+pub returns-then-place-bytes : goal.returns-then-place-bytes
+returns-then-place-bytes g c =
+    let runs = RunsOnto-two _ _ c.args.bytes.now _ _ _ _ _ _ _ c.loop-place.invariant c.recode_blocks-place.ensures c.recode_stretch-count.ensures in
+    RunsUntil-all _ _ _ _ _ _ _ runs (omega (arith, c.if-place-bytes.true))
 
 pub returns-then-done-stop : goal.returns-then-done-stop
 returns-then-done-stop g c =

@@ -1,11 +1,19 @@
-use Rattle.std.proofs.Common.{◌≤◌, take, arith, IsUtf8, length-take}
+use Rattle.std.proofs.Common.{◌≡◌, ◌≤◌, length, take, arith, IsUtf8, length-take}
 use Rattle.std.proofs.lemmas.List.{take-take}
+use Rattle.cuts.proofs.OfRecoding.AsciiTexts.{RunsOnto-widened}
 use Rattle.cuts.proofs.OfRecoding.OutputRuns.{RunsOnto-none}
 use Rattle.cuts.proofs.OfRecoding.TextUnits.{Grows-given}
 use Rattle.cuts.proofs.recoding.recoder_runs.widen_part.Goals as goal
 
 pub returns-then-len-lt32 : goal.returns-then-len-lt32
 returns-then-len-lt32 g c = RunsOnto-none _ _ _ _
+
+pub returns-then-is_ascii : goal.returns-then-is_ascii
+returns-then-is_ascii g c =
+    let bytes = c.args.bytes.now in
+    let n = c.min.result in
+    let all : length (take n bytes) ≡ n = omega (arith, length-take n bytes) in
+    rw all (RunsOnto-widened c.args.high_first _ bytes _ _ n c.requires.form (omega arith) (c.is_ascii.ensures c.if-is_ascii.true) c.put_widened.ensures)
 
 pub returns : goal.returns
 returns g c =

@@ -1,11 +1,12 @@
-use Rattle.cuts.proofs.OfRecoding.RoomRuns.{KeepsRun-two}
+use Rattle.std.proofs.lemmas.List.{take_rest}
+use Rattle.cuts.proofs.OfRecoding.RoomRuns.{KeepsRun-two, RunsInto-then}
 use Rattle.cuts.proofs.recoding.room_runs.recode_pair.Goals as goal
 
 pub returns-then-text-eq0 : goal.returns-then-text-eq0
 returns-then-text-eq0 g c =
-    let kept = KeepsRun-two _ _ _ _ _ _ _ _ _ _ _ _ _ _ c.loop-from.invariant c.blocks_into-blocks.ensures c.blocks_into-blocks.auto.room c.stretch_into-text.ensures c.stretch_into-text.auto.room in
-    kept.runs
+    let kept = KeepsRun-two _ _ _ _ _ _ _ _ _ _ _ _ _ _ c.loop-room.invariant c.blocks_into-blocks.ensures c.blocks_into-blocks.auto.room c.stretch_into-text.ensures c.stretch_into-text.auto.room in
+    RunsInto-then _ _ _ _ _ _ _ _ _ _ _ kept.runs kept.len (rw (take_rest _ _) at c.last_into-last.ensures)
 
-pub loop-from-preserved : goal.loop-from-preserved
-loop-from-preserved g c =
-    KeepsRun-two _ _ _ _ _ _ _ _ _ _ _ _ _ _ c.loop-from.invariant c.blocks_into-blocks.ensures c.blocks_into-blocks.auto.room c.stretch_into-text.ensures c.stretch_into-text.auto.room
+pub loop-room-preserved : goal.loop-room-preserved
+loop-room-preserved g c =
+    KeepsRun-two _ _ _ _ _ _ _ _ _ _ _ _ _ _ c.loop-room.invariant c.blocks_into-blocks.ensures c.blocks_into-blocks.auto.room c.stretch_into-text.ensures c.stretch_into-text.auto.room

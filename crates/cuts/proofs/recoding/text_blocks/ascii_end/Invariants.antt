@@ -1,8 +1,9 @@
-use Rattle.std.proofs.Common.{ℕ, ◌-◌, ◌<◌, ◌≤◌, length, get_or}
+use Rattle.std.proofs.Common.{◌-◌, ◌≤◌, length}
+use Rattle.cuts.specs.Recoding.AsciiTexts.{AreAscii}
 use Rattle.cuts.proofs.recoding.text_blocks.ascii_end.Given as goal
 
 abbrev pub invariant-loop-place : goal.invariant-loop-place
-invariant-loop-place l = (l.start ≤ l.place) × (l.place ≤ length l.bytes) × ((k : ℕ) → l.start ≤ k → k < l.place → get_or l.bytes k 0 < 0x80)
+invariant-loop-place l = (l.start ≤ l.place) × (l.place ≤ length l.bytes) × AreAscii l.bytes l.start l.place
 
 abbrev pub decreases-loop-place : goal.decreases-loop-place
 decreases-loop-place l = length l.bytes - l.place

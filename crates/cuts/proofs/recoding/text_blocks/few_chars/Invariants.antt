@@ -5,4 +5,4 @@ abbrev pub invariant-loop-place : goal.invariant-loop-place
 invariant-loop-place l = (l.place ≤ length l.bytes) × IsUtf8 (take l.place l.bytes)
 
 abbrev pub decreases-loop-place : goal.decreases-loop-place
-decreases-loop-place l = 3 - l.place
+decreases-loop-place l = l.least - l.place

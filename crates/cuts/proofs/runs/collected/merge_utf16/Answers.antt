@@ -7,7 +7,7 @@ use Rattle.cuts.proofs.runs.collected.merge_utf16.Goals as goal
 
 pub loop-answer-init : goal.loop-answer-init
 loop-answer-init g c rest listed =
-    IsMergedSoFar-none utf16 unit_fault_kind _ _ _ c.new-all.ensures.items (ap (unread rest) (c.into_iter-answer-iterator.ensures.into_iter_gives ∙ c.to_utf16chars-answer-items.ensures))
+    IsMergedSoFar-none utf16 unit_fault_kind _ _ _ c.new-all.ensures.items (ap (unread rest) (c.into_iter-answer-iterator.ensures.into_iter_gives ∙ c.to_utf16chars-answer-items.ensures.merger))
 
 pub loop-answer-preserved : goal.loop-answer-preserved
 loop-answer-preserved g c rest listed =

@@ -1,7 +1,17 @@
-use Rattle.std.proofs.Common.{◌≡◌, ◌≤◌, List, ℕ, [], take, drop, arith, ap, ◌∙◌, length-take}
+use Rattle.std.proofs.Common.{◌≡◌, ◌≤◌, List, ℕ, [], take, drop, arith, refl, ap, sym, ◌∙◌, length-take}
 use Rattle.std.proofs.lemmas.List.{append-nil, drop_all}
+use Rattle.cuts.specs.Recoding.Rooms.{FinishesInto}
 use Rattle.cuts.proofs.OfRecoding.RoomLemmas.{cut_part, FinishesInto-of, Finishes-of, IsLastFull-of}
 use Rattle.cuts.proofs.recoding.recoder.Recoder.finish_into.Goals as goal
+
+pub returns-then-self-eq0-clause-done : goal.returns-then-self-eq0-clause-done
+returns-then-self-eq0-clause-done c =
+    let r = c.args.self.now in
+    let zero : c.self.inside.count ≡ 0 = omega arith in
+    let none : r.held ≡ [] = sym (ap (λ x. x.held) c.self.view_is) ∙ ap (λ n. take n c.self.inside.held) zero in
+    let same : FinishesInto r c.args.room.now c.args.room.now 0 r
+    = record { leaves = λ rest whole. whole; from = refl; to = refl; few = omega arith; fits = omega arith; rest = refl } in
+    rw c.progress.ensures (λ _. Finishes-of r r c.args.room.now c.args.room.now 0 same none)
 
 pub returns-clause-finishes : goal.returns-clause-finishes
 returns-clause-finishes c =

@@ -2,7 +2,7 @@ use Rattle.std.proofs.Common.{◌≡◌, ◌-◌, ℕ, List, length, take, drop,
 use Rattle.std.proofs.lemmas.List.{take_rest}
 use Rattle.cuts.proofs.OfRecoding.FrontBytes.{lacks_left}
 use Rattle.cuts.proofs.OfRecoding.Growing.{Feeds-whole, few_left}
-use Rattle.cuts.proofs.recoding.recoder.Recoder.feed.Goals as goal
+use Rattle.cuts.proofs.recoding.recoder.Recoder.feed_joined.Goals as goal
 
 pub returns-clause-ok : goal.returns-clause-ok
 returns-clause-ok g c =
@@ -19,7 +19,7 @@ returns-clause-ok g c =
     grows c.if-place-held.false refl run.runs.grows (few_left rest q run.waits) hold
 
 pub returns-clause-waits : goal.returns-clause-waits
-returns-clause-waits g c some =
+returns-clause-waits g c =
     let whole = take_rest c.args.part.now (c.recode_joined-place.result - length c.held_bytes-held.result.now) in
     let run = rw whole at c.recode_whole-place.ensures in
     rw (rw (whole, take_rest _ c.recode_whole-place.result) at c.hold-2.ensures, ← ap (λ r. r.from) c.self.view_is) (lacks_left c.self.inside.from _ c.recode_whole-place.result run.lacks)
