@@ -7,6 +7,8 @@ mod bounds;
 #[cfg(test)]
 mod callers;
 #[cfg(test)]
+mod codes;
+#[cfg(test)]
 mod first_faults;
 #[cfg(test)]
 mod long_inputs;

@@ -63,3 +63,25 @@ pub fn piece_bytes<A: Allocator + Copy>(table: &PieceTable<A>, number: usize) ->
     let (place, _, len) = table.pieces().get(number)?;
     Some(&table.bytes()[*place..*place + *len])
 }
+
+/// The piece that has the byte at this place.
+pub fn piece_at<A: Allocator + Copy>(table: &PieceTable<A>, place: usize) -> Option<Item>
+    ensures { IfSome result (λ x. (x.0 ≤ place) × (place < x.0 + x.2)) }
+{
+    let mut pieces = table.pieces().iter().copied();
+    pieces.find(|x| x.0 <= place && place < x.0 + x.2)
+}
+
+/// Puts other bytes in place of the first fault, and says whether there was one.
+pub fn mend_first<A: Allocator + Copy>(
+    table: &mut PieceTable<A>,
+    new: &[u8],
+) -> Result<bool, AllocError> {
+    match table.pieces().iter().copied().find(|x| x.1.is_err()) {
+        Some((place, _, len)) => {
+            table.replace(place, place + len, new, &mut Steps::new())?;
+            Ok(true)
+        }
+        None => Ok(false),
+    }
+}

@@ -20,6 +20,7 @@ pub mod equals;
 pub mod lengths;
 pub mod listed;
 pub mod merged;
+pub mod merges;
 pub mod names;
 pub mod needles;
 pub mod opened;

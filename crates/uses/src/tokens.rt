@@ -29,3 +29,33 @@ pub fn tokens<'a, A: Allocator>(
     tokens.push(&bytes[start..])?;
     Ok(tokens)
 }
+
+/// The words between spaces. A place that goes from one turn of a loop to the next is no known place of the bytes, so
+/// `get` slices there.
+pub fn words<A: Allocator>(alloc: A, bytes: &[u8]) -> Result<Vec<&[u8], A>, AllocError> {
+    let mut words = Vec::new(alloc);
+    let mut start = 0;
+    for (place, answer, len) in bytes.utf8char_indices() {
+        if answer.is_ok_and(|c| c.eq_char(' ')) {
+            words.push(bytes.get(start..place).unwrap_or(&[]))?;
+            start = place + len;
+        }
+    }
+    words.push(bytes.get(start..).unwrap_or(&[]))?;
+    Ok(words)
+}
+
+/// The line with this number. No error hides a line feed, so std's `split` finds the lines.
+pub fn line(bytes: &[u8], number: usize) -> Option<&[u8]> {
+    bytes.split(|byte| *byte == b'\n').nth(number)
+}
+
+/// The bytes before the first equals sign, and those after it.
+pub fn key_and_value(bytes: &[u8]) -> Option<(&[u8], &[u8])> {
+    for (place, answer, len) in bytes.utf8char_indices() {
+        if answer.is_ok_and(|c| c.eq_char('=')) {
+            return Some((&bytes[0..place], &bytes[place + len..]));
+        }
+    }
+    None
+}

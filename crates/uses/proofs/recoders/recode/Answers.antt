@@ -5,7 +5,7 @@ use Rattle.uses.proofs.recoders.recode.Goals as goal
 
 pub loop-answer-init : goal.loop-answer-init
 loop-answer-init c =
-    rw c.new-again.ensures.bytes (recoded_begun _ _ c.utf8.text (c.into_iter-answer-iterator.ensures.into_iter_gives ∙ c.to_utf16chars-answer-items.ensures ∙ rw (c.to_units.ensures.splitter, c.utf16chars.ensures.window) refl))
+    rw c.new-again.ensures.bytes (recoded_begun _ _ c.utf8.text (c.into_iter-answer-iterator.ensures.into_iter_gives ∙ c.to_utf16chars-answer-items.ensures.merger ∙ rw (c.to_units.ensures.splitter, c.utf16chars.ensures.window) refl))
 
 pub loop-answer-preserved-in-Continue-1 : goal.loop-answer-preserved-in-Continue-1
 loop-answer-preserved-in-Continue-1 c =

@@ -1,0 +1,99 @@
+//! The callers in `uses` that speak of codes, of faults, of two parts and of the pieces of a table.
+use cuts::{Form, PieceTable};
+use encode_unicode::{Utf8Char, Utf16Char};
+use std::test::Fail;
+use uses::parts::recode_two;
+use uses::tokens::words;
+use uses::{chains, codes, editor};
+
+// Six pieces, two of them faults, as the README shows them.
+fn damaged() -> &'static [u8] {
+    b"h\xc3\xa9\xe2\x82A\xf0\x9f\x98\x80"
+}
+
+#[test]
+fn codes_stand_at_their_places(rt: HostRuntime) {
+    let e = Utf8Char::new('\u{e9}');
+    let face = Utf8Char::new('\u{1f600}');
+    let first = codes::first_code(b"\xc3\xa9A");
+    assert!(rt; first == Some((e, b"\xc3\xa9".as_slice())));
+    assert!(rt; codes::first_code(b"\xe2\x82A").is_none());
+    let last = codes::last_code(b"\x80\xf0\x9f\x98\x80");
+    assert!(rt; last == Some((face, b"\xf0\x9f\x98\x80".as_slice())));
+    let good = codes::first_good_code(b"\x80\xe2\x82A\xff");
+    assert!(rt; good == Some((Utf8Char::new('A'), b"A".as_slice())));
+    let units = [0x61, 0xd83d, 0xde00, 0xd800];
+    let pair = codes::last_good_code(&units);
+    assert!(rt; pair == Some((Utf16Char::from(face), &units[1..3])));
+}
+
+#[test]
+fn splitters_send_every_code(rt: HostRuntime) -> Result<(), Fail> {
+    let text = "a\u{e9}\u{1f600} b";
+    assert!(rt; codes::unit_count(text) == 6);
+    assert!(rt; codes::spaces(text) == 1);
+    assert!(rt; !codes::is_ascii(text) && codes::is_ascii("a b"));
+    assert!(rt; !codes::has_zero(text) && codes::has_zero("a\0"));
+    assert!(rt; codes::nth_unit(text, 3) == Some(0xde00));
+    assert!(rt; codes::nth_unit(text, 6).is_none());
+    assert!(rt; codes::last_byte(text) == Some(b'b'));
+    let first = codes::first_bytes(rt.alloc(), text, 4)?;
+    assert!(rt; first.as_slice() == b"a\xc3\xa9\xf0".as_slice());
+    let turned = codes::turned_bytes(rt.alloc(), "a\u{e9}\u{1f600}")?;
+    assert!(rt; turned.as_slice() == b"\xf0\x9f\x98\x80\xc3\xa9a".as_slice());
+    Ok(())
+}
+
+#[test]
+fn chains_find_the_faults(rt: HostRuntime) {
+    assert!(rt; chains::fault_count(damaged()) == 2);
+    assert!(rt; chains::faults_by_fold(damaged()) == 2);
+    assert!(rt; chains::characters_before(damaged()) == Some(2));
+    assert!(rt; chains::first_fault_place(damaged()) == 3);
+    assert!(rt; chains::before_fault(damaged()) == b"h\xc3\xa9".as_slice());
+    assert!(rt; chains::has_fault(damaged()) && !chains::has_no_fault(damaged()));
+    assert!(rt; chains::bytes_covered(damaged()) == 10);
+    assert!(rt; chains::line_feeds_of_bytes(b"a\n\xff\n") == 2);
+}
+
+#[test]
+fn text_has_characters_alone(rt: HostRuntime) {
+    let text = b"h\xc3\xa9";
+    assert!(rt; chains::is_text(text) && !chains::is_text(damaged()));
+    assert!(rt; chains::has_characters_alone(text));
+    assert!(rt; !chains::has_characters_alone(damaged()));
+    assert!(rt; chains::is_well_formed(text));
+    assert!(rt; !chains::is_well_formed(damaged()));
+}
+
+#[test]
+fn a_code_lies_over_two_parts(rt: HostRuntime) -> Result<(), Fail> {
+    let joined = recode_two(rt.alloc(), Form::Utf8, Form::Utf16Le, b"f\xcf", b"\x80b")?;
+    assert!(rt; joined.as_slice() == b"f\0\xc0\x03b\0".as_slice());
+    let broken = recode_two(rt.alloc(), Form::Utf8, Form::Utf16Le, b"\xe2\x82", b"b")?;
+    assert!(rt; broken.as_slice() == b"\xfd\xff\xfd\xffb\0".as_slice());
+    Ok(())
+}
+
+#[test]
+fn a_table_gives_its_pieces(rt: HostRuntime) -> Result<(), Fail> {
+    let mut table = PieceTable::new(rt.alloc(), damaged())?;
+    assert!(rt; editor::piece_bytes(&table, 4) == Some(b"A".as_slice()));
+    assert!(rt; editor::piece_bytes(&table, 6).is_none());
+    assert!(rt; editor::piece_at(&table, 9).is_some_and(|x| x.0 == 6 && x.2 == 4));
+    assert!(rt; editor::piece_at(&table, 10).is_none());
+    assert!(rt; editor::mend_first(&mut table, b"?")?);
+    assert!(rt; table.bytes() == b"h\xc3\xa9?\x82A\xf0\x9f\x98\x80".as_slice());
+    assert!(rt; editor::mend_first(&mut table, b"")?);
+    assert!(rt; !editor::mend_first(&mut table, b"")?);
+    Ok(())
+}
+
+#[test]
+fn words_are_cut_at_spaces(rt: HostRuntime) -> Result<(), Fail> {
+    let words = words(rt.alloc(), b"a \xe2\x82 \xf0\x9f")?;
+    assert!(rt; words.len() == 3);
+    assert!(rt; words[1] == b"\xe2\x82".as_slice());
+    assert!(rt; words[2] == b"\xf0\x9f".as_slice());
+    Ok(())
+}

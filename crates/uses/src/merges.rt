@@ -1,0 +1,68 @@
+//! Chains over mergers: what a chain answers is said of `merged`, the list of a merger's answers for some bytes.
+ghost use Rattle.std.specs.Prelude.{◌≡◌, IfOk, List, ℕ, count_by, is_err, is_ok, position, slice_get};
+ghost use Rattle.std.specs.Iterator.{IsFinite};
+ghost use Rattle.std.specs.List.{find, list_all, list_any};
+ghost use Rattle.encode_unicode.specs.Mergers.{merged, merged_units};
+ghost use Rattle.encode_unicode.specs.Sources.{IsListed};
+
+use encode_unicode::error::{Utf8Error, Utf16PairError};
+use encode_unicode::{U8IterExt, U16IterExt, Utf8Char, Utf16Char};
+use std::alloc::{AllocError, Allocator};
+
+/// How many answers for the bytes are errors.
+pub fn fault_count(bytes: &[u8]) -> usize
+    ensures { result ≡ count_by (λ r. is_err r) (merged bytes.now) }
+{
+    let answers = bytes.iter().copied().to_utf8chars();
+    answers.filter(|r| r.is_err()).count()
+}
+
+/// The answer after so many others.
+pub fn nth_answer(bytes: &[u8], count: usize) -> Option<Result<Utf8Char, Utf8Error>>
+    ensures { result ≡ slice_get (merged bytes.now) count }
+{
+    bytes.iter().copied().to_utf8chars().nth(count)
+}
+
+/// All answers for the bytes of a vector, which is taken apart.
+pub fn all_answers<A: Allocator, B: Allocator>(
+    alloc: A,
+    bytes: Vec<u8, B>,
+) -> Result<Vec<Result<Utf8Char, Utf8Error>, A>, AllocError>
+    ensures { IfOk result (λ all. all.items ≡ merged bytes.items) }
+{
+    bytes.into_iter().to_utf8chars().collect(alloc)
+}
+
+/// Whether all bytes of a source are characters.
+pub fn all_characters<I: Iterator<Item = u8>>(source: I) -> bool
+    requires can { I.can_next source }
+    requires ends { IsFinite (I.remaining source) }
+    ensures { (rest : I → List ℕ) → IsListed I.next_gives rest → result ≡ list_all (λ r. is_ok r) (merged (rest source)) }
+{
+    source.to_utf8chars().all(|r| r.is_ok())
+}
+
+/// How many characters stand before the first faulty unit.
+pub fn characters_before(units: &[u16]) -> Option<usize>
+    ensures { result ≡ position (λ r. is_err r) (merged_units units.now) }
+{
+    let mut answers = units.iter().copied().to_utf16chars();
+    answers.position(|r| r.is_err())
+}
+
+/// Whether a unit of a source is faulty.
+pub fn has_faulty_unit<I: Iterator<Item = u16>>(source: I) -> bool
+    requires can { I.can_next source }
+    requires ends { IsFinite (I.remaining source) }
+    ensures { (rest : I → List ℕ) → IsListed I.next_gives rest → result ≡ list_any (λ r. is_err r) (merged_units (rest source)) }
+{
+    source.to_utf16chars().any(|r| r.is_err())
+}
+
+/// The first answer that is an error.
+pub fn first_fault(units: &[u16]) -> Option<Result<Utf16Char, Utf16PairError>>
+    ensures { result ≡ find (λ r. is_err r) (merged_units units.now) }
+{
+    units.iter().copied().to_utf16chars().find(|r| r.is_err())
+}
