@@ -3,8 +3,8 @@ use cuts::{Form, PieceTable};
 use encode_unicode::{Utf8Char, Utf16Char};
 use std::test::Fail;
 use uses::parts::recode_two;
-use uses::tokens::words;
-use uses::{chains, codes, editor};
+use uses::tokens::{key_and_value, line, words};
+use uses::{chains, codes, editor, merges};
 
 // Six pieces, two of them faults, as the README shows them.
 fn damaged() -> &'static [u8] {
@@ -57,6 +57,21 @@ fn chains_find_the_faults(rt: HostRuntime) {
 }
 
 #[test]
+fn mergers_are_asked_in_chains(rt: HostRuntime) {
+    assert!(rt; merges::fault_count(damaged()) == 2);
+    assert!(rt; merges::nth_answer(damaged(), 2).is_some_and(|r| r.is_err()));
+    assert!(rt; merges::nth_answer(damaged(), 4) == Some(Ok(Utf8Char::new('A'))));
+    assert!(rt; merges::nth_answer(damaged(), 6).is_none());
+    assert!(rt; merges::all_characters(b"h\xc3\xa9".iter().copied()));
+    assert!(rt; !merges::all_characters(damaged().iter().copied()));
+    let units = [0x61, 0xd83d, 0xde00, 0xd800];
+    assert!(rt; merges::characters_before(&units) == Some(2));
+    assert!(rt; merges::has_faulty_unit(units.iter().copied()));
+    assert!(rt; merges::first_fault(&units).is_some());
+    assert!(rt; merges::first_fault(&units[..3]).is_none());
+}
+
+#[test]
 fn text_has_characters_alone(rt: HostRuntime) {
     let text = b"h\xc3\xa9";
     assert!(rt; chains::is_text(text) && !chains::is_text(damaged()));
@@ -95,5 +110,8 @@ fn words_are_cut_at_spaces(rt: HostRuntime) -> Result<(), Fail> {
     assert!(rt; words.len() == 3);
     assert!(rt; words[1] == b"\xe2\x82".as_slice());
     assert!(rt; words[2] == b"\xf0\x9f".as_slice());
+    assert!(rt; line(b"a\n\xe2b\n", 1) == Some(b"\xe2b".as_slice()));
+    let split = key_and_value(b"a=\xe2b");
+    assert!(rt; split == Some((b"a".as_slice(), b"\xe2b".as_slice())));
     Ok(())
 }
