@@ -88,6 +88,7 @@ impl Recoder {
         ensures unchanged { length part.now ≡ 0 → self.new ≡ self.old }
         ensures succeeds { vec_len out.old + 3 * (length self.old.held + length part.now) ≤ vec_capacity out.old → IsOk result }
     {
+        // To read it tells a proof that few bytes are held, also where the part has none.
         let count = self.count;
         if part.is_empty() {
             return Ok(());
