@@ -1,11 +1,32 @@
-/* Noddychest for C and C++: UTF-8 and UTF-16 cut, decoded and recoded, over proved code.
+/* Noddychest: UTF-8 and UTF-16 decoded, validated, cut and recoded, over proved code. For C and C++.
  *
- * Bytes and units cross as a pointer and then a length. At the length 0 the pointer may be NULL; else it has to be valid
- * for that length, and what a call writes must not overlap what it reads. Nothing is allocated and nothing is kept: all
- * that lasts from call to call stands in the caller's structs, which may be copied. Calls on different structs may run at
- * the same time. No call fails in any other way than the comments say.
+ * LANGUAGES AND PLATFORMS. C99 and later, C++98 and later. Linux on x86-64 (with x86-64-v2) and on ARM with 64 bits, with glibc
+ * or musl. Nothing is allocated, no locale is read, and no call keeps anything: what lasts from call to call is in the caller's
+ * structs, which may be copied. Calls on different structs may run in different threads at the same time.
  *
- * A piece is a character, or a single byte (of UTF-16 a single unit) in which no character stands.
+ * WORDS. A character is a Unicode scalar value, 0 to 10FFFF without D800 to DFFF. A unit is one uint16_t of UTF-16. Each
+ * invalid byte (in UTF-16, each invalid unit) is a fault of its own, with a kind that says why. A piece is a character or a fault.
+ *
+ * INVALID INPUT IS REPLACED BYTE BY BYTE. Recoding writes one U+FFFD replacement character for each faulty byte. Browsers and
+ * Python write one for several bytes in some cases: E2 82 41 is here U+FFFD U+FFFD A, and there U+FFFD A.
+ *
+ * WHICH KIND WINS. The kind of a byte is decided from it and the bytes that follow it, and is the first of these that
+ * applies: UNEXPECTED_CONTINUATION_BYTE, NON_UTF8_BYTE, TOO_FEW_BYTES, INTERRUPTED_SEQUENCE, then what the value is. So E0 80 41 is
+ * NODY_KIND_INTERRUPTED_SEQUENCE and not overlong, and ED A0 at the end is NODY_KIND_TOO_FEW_BYTES though no third byte could
+ * make it a character. nody_utf8_streamed_at tells the kind that a reader of one byte at a time sees.
+ *
+ * POINTERS. Bytes and units cross as a pointer and then a length. At the length 0 the pointer may be NULL; else it has to be valid
+ * for that length. What a call writes must not overlap what it reads. `written`, `read`, `left` and `recoder` must not be NULL.
+ * Make structs by nody_recoder, nody_bytes and nody_units alone. A recoder that was made otherwise may be refused, or recode
+ * what it happens to hold; it never writes out of bounds. A cursor that you fill yourself must hold a pointer that is not NULL
+ * and valid for its length. No call fails in any other way than its comment says, and none sets errno; on x86-64 call
+ * nody_supported first.
+ *
+ * UNITS. uint16_t has the byte order of the machine. Calls on bytes take the order from the form. NODY_FORM_UTF16_NATIVE is the
+ * order of the machine.
+ *
+ * COST. "Linear" is in the length of the input, one pass, with nothing allocated; c/README.md has the instructions for each byte.
+ * "Constant" looks at a few bytes, whatever the length.
  */
 #ifndef NODDYCHEST_H
 #define NODDYCHEST_H
@@ -13,46 +34,70 @@
 #include <stddef.h>
 #include <stdint.h>
 
-#define NODY_VERSION 1
+/* The version of this header. nody_version() is that of the library. */
+#define NODY_VERSION_MAJOR 1
+#define NODY_VERSION_MINOR 0
+#define NODY_VERSION_PATCH 0
+#define NODY_VERSION (NODY_VERSION_MAJOR * 1000000 + NODY_VERSION_MINOR * 1000 + NODY_VERSION_PATCH)
 
 #ifdef __cplusplus
 extern "C" {
 #endif
 
-/* Kinds of pieces. */
-enum {
-    NODY_OK = 0,                            /* a character */
-    NODY_TOO_FEW_BYTES = 1,                 /* fewer bytes are left than the first asks for */
-    NODY_NON_UTF8_BYTE = 2,                 /* 0xC0, 0xC1, or above 0xF4 */
-    NODY_UNEXPECTED_CONTINUATION_BYTE = 3,  /* 0x80 to 0xBF where a character should begin */
-    NODY_INTERRUPTED_SEQUENCE = 4,          /* a byte that should be a continuation byte is none */
-    NODY_OVERLONG_ENCODING = 5,             /* the value fits in fewer bytes */
-    NODY_UTF16_RESERVED_CODEPOINT = 6,      /* the value is a surrogate */
-    NODY_TOO_HIGH_CODEPOINT = 7,            /* the value is above 0x10FFFF */
-    NODY_UNEXPECTED_TRAILING_SURROGATE = 8, /* of units: a trailing surrogate where a character should begin */
-    NODY_UNMATCHED_LEADING_SURROGATE = 9,   /* of units: what follows does not complete it */
-    NODY_INCOMPLETE = 10,                   /* of units: the last one is a leading surrogate */
-    NODY_NONE = 11                          /* no piece: nothing is left */
+/* The enums have one byte, so that calls and structs are the same whoever compiles. A compiler of C++11 or C23 knows them as
+ * types of their own; before that nody_kind_t, nody_form_t and nody_status_t are other names of uint8_t. */
+#if (defined(__cplusplus) && __cplusplus >= 201103L) || (defined(__STDC_VERSION__) && __STDC_VERSION__ >= 202311L)
+#define NODY_ENUM(name) enum name : uint8_t; typedef enum name name; enum name : uint8_t
+#else
+#define NODY_ENUM(name) typedef uint8_t name; enum
+#endif
+
+/* What a piece is: a character, or what is wrong with a byte or a unit. */
+NODY_ENUM(nody_kind_t) {
+    NODY_KIND_OK = 0,                            /* a character */
+    NODY_KIND_TOO_FEW_BYTES = 1,                 /* fewer bytes are left than the first one asks for */
+    NODY_KIND_NON_UTF8_BYTE = 2,                 /* C0, C1, or F5 to FF: never in UTF-8 */
+    NODY_KIND_UNEXPECTED_CONTINUATION_BYTE = 3,  /* 80 to BF where a character should begin */
+    NODY_KIND_INTERRUPTED_SEQUENCE = 4,          /* a byte that should be a continuation byte is none */
+    NODY_KIND_OVERLONG_ENCODING = 5,             /* the value fits in fewer bytes */
+    NODY_KIND_UTF16_RESERVED_CODEPOINT = 6,      /* the value is a surrogate, D800 to DFFF */
+    NODY_KIND_TOO_HIGH_CODEPOINT = 7,            /* the value is above 10FFFF */
+    NODY_KIND_UNEXPECTED_TRAILING_SURROGATE = 8, /* of units: DC00 to DFFF where a character should begin */
+    NODY_KIND_UNMATCHED_LEADING_SURROGATE = 9,   /* of units: D800 to DBFF, and no trailing surrogate follows */
+    NODY_KIND_INCOMPLETE = 10,                   /* of units: D800 to DBFF is the last one */
+    NODY_KIND_NONE = 11                          /* no piece: nothing is left */
 };
 
-/* Forms of text in bytes. */
-enum { NODY_UTF8 = 0, NODY_UTF16LE = 1, NODY_UTF16BE = 2 };
-
-/* What a recoder answers. */
-enum {
-    NODY_DONE = 0,    /* all was read, or put out */
-    NODY_FULL = 1,    /* the next code does not fit in the room that is left: call again with more */
-    NODY_REFUSED = 2  /* the struct is no recoder: a form above 2, or more than three bytes held. Nothing changed */
+/* How text stands in bytes. No form has a byte order mark: one in the input is the character U+FEFF, and stays. */
+NODY_ENUM(nody_form_t) {
+    NODY_FORM_UTF8 = 0,
+    NODY_FORM_UTF16LE = 1, /* little-endian: of each unit the low byte first */
+    NODY_FORM_UTF16BE = 2  /* big-endian */
 };
 
-/* The length stands apart from the others: whoever adds it to a place then need not wait for the scalar. */
+/* The form of an array of uint16_t on this machine. */
+#if defined(__BYTE_ORDER__) && __BYTE_ORDER__ == __ORDER_BIG_ENDIAN__
+#define NODY_FORM_UTF16_NATIVE NODY_FORM_UTF16BE
+#else
+#define NODY_FORM_UTF16_NATIVE NODY_FORM_UTF16LE
+#endif
+
+/* How a call that writes into room ended. */
+NODY_ENUM(nody_status_t) {
+    NODY_STATUS_DONE = 0,   /* all was read, or put out */
+    NODY_STATUS_FULL = 1,   /* the next character does not fit in the room that is left */
+    NODY_STATUS_REFUSED = 2 /* a form above 2, or a struct that is no recoder. Nothing was read or written */
+};
+
+/* A piece. */
 typedef struct {
-    size_t len;      /* in bytes or units: 1 to 4, or 1 to 2; 1 for a fault; 0 for NODY_NONE */
-    uint32_t scalar; /* the scalar value, or 0 for a fault */
-    uint8_t kind;    /* NODY_OK, or what is wrong, or NODY_NONE */
-} nody_piece;
+    size_t len;       /* in bytes or units: 1 to 4, or 1 to 2; 1 for a fault; 0 for NODY_KIND_NONE */
+    uint32_t scalar;  /* the character's number, or 0 for a fault */
+    nody_kind_t kind; /* NODY_KIND_OK, or what is wrong, or NODY_KIND_NONE */
+} nody_piece_t;
 
-/* What is left of some bytes, or units: a cursor, which nody_bytes and nody_units make. Their addresses are never NULL. */
+/* A cursor: what is left of some bytes, or of some units, made by nody_bytes and nody_units. Of an empty input the
+ * pointer is to nothing of yours, and not NULL. */
 typedef struct {
     const uint8_t *bytes;
     size_t len;
@@ -63,35 +108,101 @@ typedef struct {
     size_t len;
 } nody_units_t;
 
-/* A recoder. It holds at most three bytes, of which it cannot say yet what they are or for which there was no room. */
+/* A recoder. It holds at most three bytes between calls: the front of a character whose rest has not come, or bytes for whose
+ * character there was no room. Read it by nody_recoder_held. */
 typedef struct {
-    uint8_t from;
-    uint8_t to;
+    nody_form_t from;
+    nody_form_t to;
     uint8_t count;
     uint8_t held[3];
 } nody_recoder_t;
 
-/* The name of a kind, with zeros after it. */
+/* The name of a kind, and a sentence about it, in ASCII with zeros after it. */
 typedef struct {
     char text[32];
-} nody_name;
+} nody_name_t;
 
-/* One piece. The first judges all bytes from the front, the last the byte at the end; of no bytes the piece is NODY_NONE. */
-nody_piece nody_utf8_first(const uint8_t *bytes, size_t len);
-nody_piece nody_utf8_last(const uint8_t *bytes, size_t len);
-nody_piece nody_utf16_first(const uint16_t *units, size_t len);
-nody_piece nody_utf16_last(const uint16_t *units, size_t len);
+typedef struct {
+    char text[64];
+} nody_sentence_t;
 
-/* The offset of the first fault, or `len` where there is none: all is then UTF-8, or UTF-16. */
-size_t nody_utf8_valid_up_to(const uint8_t *bytes, size_t len);
-size_t nody_utf16_valid_up_to(const uint16_t *units, size_t len);
+/* ---- The library ------------------------------------------------------------------------------------------------------------ */
 
-/* How many bytes or units the code of a scalar has, or 0 where the number is none. It is written where `room` has so many;
- * the other places stay. Four bytes, or two units, are always enough. */
+/* The version of the library that is linked: major * 1000000 + minor * 1000 + patch. Constant. A program that was compiled with
+ * this header needs the same major version, and a minor version that is no lower:
+ *
+ *     uint32_t minor = nody_version() / 1000 % 1000;
+ *     if (nody_version() / 1000000 != NODY_VERSION_MAJOR || minor < NODY_VERSION_MINOR) return other_version();
+ */
+uint32_t nody_version(void);
+
+/* Whether this processor has what the library was compiled for, which on x86-64 is x86-64-v2: not 0 where it has. Constant. No
+ * other call asks: on a processor without, a call may be stopped by SIGILL.
+ *
+ *     if (!nody_supported()) return use_another_library();
+ */
+int nody_supported(void);
+
+/* ---- One character ---------------------------------------------------------------------------------------------------------- */
+
+/* The piece that begins the bytes, or the units; NODY_KIND_NONE where len is 0. At most the first four bytes, or two
+ * units, decide it; those after them change nothing. Constant.
+ *
+ *     nody_piece_t piece = nody_utf8_first(bytes, len);
+ *     if (piece.kind == NODY_KIND_OK) use(piece.scalar);
+ */
+nody_piece_t nody_utf8_first(const uint8_t *bytes, size_t len);
+nody_piece_t nody_utf16_first(const uint16_t *units, size_t len);
+
+/* The piece that ends the bytes, or the units; NODY_KIND_NONE where len is 0. A fault is judged by the last byte alone: its kind
+ * may be another than the one from the front, but it is a fault from both sides. Constant.
+ *
+ *     size_t shorter = len - nody_utf8_last(bytes, len).len;
+ */
+nody_piece_t nody_utf8_last(const uint8_t *bytes, size_t len);
+nody_piece_t nody_utf16_last(const uint16_t *units, size_t len);
+
+/* Writes the bytes, or the units, of a character. The result is how many they are, 1 to 4 or 1 to 2; where it is greater than
+ * `room`, nothing was written. 0 where the number is no character: a surrogate or above 10FFFF. The rest of `out` stays. Constant.
+ *
+ *     uint8_t euro[4];
+ *     size_t len = nody_utf8_encode(0x20AC, euro, sizeof euro); // 3: E2 82 AC
+ */
 size_t nody_utf8_encode(uint32_t scalar, uint8_t *out, size_t room);
 size_t nody_utf16_encode(uint32_t scalar, uint16_t *out, size_t room);
 
-/* A cursor that leaves all of the bytes, or units. They must stay valid and the same for as long as it is used. */
+/* The piece that begins at `place`, with the kind that a reader of one byte at a time sees: where the input ends early,
+ * but a byte that is there is not the continuation byte that is needed, NODY_KIND_INTERRUPTED_SEQUENCE and not
+ * NODY_KIND_TOO_FEW_BYTES. Else it is nody_utf8_first of the bytes from there on. NODY_KIND_NONE where place is len or more. Constant.
+ *
+ *     nody_utf8_streamed_at((const uint8_t *)"\xf0\x9f!", 3, 0).kind // NODY_KIND_INTERRUPTED_SEQUENCE
+ */
+nody_piece_t nody_utf8_streamed_at(const uint8_t *bytes, size_t len, size_t place);
+
+/* ---- All characters --------------------------------------------------------------------------------------------------------- */
+
+/* The offset of the first fault, or len where there is none: all is then valid UTF-8, or UTF-16. Linear, in blocks.
+ *
+ *     if (nody_utf8_valid_up_to(bytes, len) != len) return invalid();
+ */
+size_t nody_utf8_valid_up_to(const uint8_t *bytes, size_t len);
+size_t nody_utf16_valid_up_to(const uint16_t *units, size_t len);
+
+/* The same for bytes in the given form, UTF-8 included. The answer is an offset in bytes. A single byte at the end of UTF-16
+ * is a fault. SIZE_MAX where the form is above 2, so compare with `!=`. Linear; of UTF-16 unit by unit.
+ *
+ *     if (nody_utf16_bytes_valid_up_to(NODY_FORM_UTF16BE, bytes, len) != len) return invalid();
+ */
+size_t nody_utf16_bytes_valid_up_to(nody_form_t form, const uint8_t *bytes, size_t len);
+
+/* The number of pieces: characters, and faults, each counted as one. Linear, character by character.
+ *
+ *     nody_utf8_char_count((const uint8_t *)"\xe2\x82\xac!", 4) // 2
+ */
+size_t nody_utf8_char_count(const uint8_t *bytes, size_t len);
+size_t nody_utf16_char_count(const uint16_t *units, size_t len);
+
+/* A cursor that leaves all of the bytes, or of the units. They have to stay valid and the same for as long as it is used. */
 static inline nody_bytes_t nody_bytes(const uint8_t *bytes, size_t len) {
     static const uint8_t nothing = 0;
     nody_bytes_t left;
@@ -107,56 +218,161 @@ static inline nody_units_t nody_units(const uint16_t *units, size_t len) {
     return left;
 }
 
-/* The piece that begins, or ends, what is left, and which then leaves it. What is wrong is judged by what is left. NODY_NONE
- * where nothing is left. Asked from both ends in any order, a cursor gives each piece once. `left->bytes` is where the next
- * piece begins, and `left->bytes + left->len` where the last one ends. */
-nody_piece nody_utf8_next(nody_bytes_t *left);
-nody_piece nody_utf8_next_back(nody_bytes_t *left);
-nody_piece nody_utf16_next(nody_units_t *left);
-nody_piece nody_utf16_next_back(nody_units_t *left);
+/* Takes the piece that begins, or ends, what is left. Only the bytes, or units, that are left decide it: so pieces taken
+ * from the other end can change the kind of a fault, and never where pieces begin and end. Asked from both ends in any order, a
+ * cursor gives each piece once. NODY_KIND_NONE where nothing is left: then the cursor stays. left->bytes is where the next piece
+ * begins, and left->bytes + left->len where the last one ends; a piece from the back began there, once it is taken. Constant.
+ *
+ *     nody_bytes_t left = nody_bytes(bytes, len);
+ *     nody_piece_t piece;
+ *     while ((piece = nody_utf8_next(&left)).kind != NODY_KIND_NONE) {
+ *         if (piece.kind == NODY_KIND_OK) use(piece.scalar);
+ *         else report(left.bytes - piece.len - bytes, nody_kind_sentence(piece.kind));
+ *     }
+ */
+nody_piece_t nody_utf8_next(nody_bytes_t *left);
+nody_piece_t nody_utf8_next_back(nody_bytes_t *left);
+nody_piece_t nody_utf16_next(nody_units_t *left);
+nody_piece_t nody_utf16_next_back(nody_units_t *left);
 
-/* As many calls of `next` as give a piece and as there is room for. Answers how many; the other places stay. */
-size_t nody_utf8_pieces(nody_bytes_t *left, nody_piece *out, size_t room);
-size_t nody_utf16_pieces(nody_units_t *left, nody_piece *out, size_t room);
+/* Calls `next` until `out` is full or nothing is left. The result is how many pieces were written; the rest of `out` stays. Linear
+ * in that.
+ *
+ *     while ((count = nody_utf8_pieces(&left, pieces, 256)) > 0) use(pieces, count);
+ */
+size_t nody_utf8_pieces(nody_bytes_t *left, nody_piece_t *out, size_t room);
+size_t nody_utf16_pieces(nody_units_t *left, nody_piece_t *out, size_t room);
 
-/* The piece that begins at a place, as a reader that gets one byte at a time names it: of the merged run, the piece that
- * begins there. The cut is that of `nody_utf8_next`, and so is each kind but one: where fewer bytes are left than the first
- * asks for and one of those breaks the code, it is NODY_INTERRUPTED_SEQUENCE and not NODY_TOO_FEW_BYTES. NODY_NONE from `len`
- * on. */
-nody_piece nody_utf8_merged(const uint8_t *bytes, size_t len, size_t place);
+/* ---- Where text may be cut -------------------------------------------------------------------------------------------------- */
 
-/* A recoder that holds nothing. The forms may be the same. Each fault becomes one U+FFFD. */
-nody_recoder_t nody_recoder(uint8_t from, uint8_t to);
+/* Before: the greatest boundary up to `at`. After: the least boundary from `at` on. A boundary is an offset that is not inside a
+ * character, nor in UTF-16 inside a unit. Both sides of it have the pieces of the whole, and can be recoded by themselves and joined;
+ * the kind of a fault beside it may be another. It is at most three bytes away from `at`; len where at is len or more. SIZE_MAX
+ * where the form is above 2: test that first. Constant.
+ *
+ *     size_t most = nody_boundary_before(NODY_FORM_UTF8, name, len, 255); // as much of a name as fits 255 bytes
+ */
+size_t nody_boundary_before(nody_form_t form, const uint8_t *bytes, size_t len, size_t at);
+size_t nody_boundary_after(nody_form_t form, const uint8_t *bytes, size_t len, size_t at);
 
-/* Feeds a part of the input, as far as there is room, in the manner of iconv(3): `*read` bytes of it were fed, and `*written`
- * bytes at the front of the room came of it. NODY_DONE: the whole part was read. NODY_FULL: call again with the rest of the
- * part and more room; at most three bytes were read of which nothing was written yet. In room for four bytes each call with a
- * part that is not empty reads or writes something. What comes out is the same however the input is cut into parts. */
-uint8_t nody_recoder_feed(nody_recoder_t *recoder, const uint8_t *in, size_t in_len, uint8_t *out, size_t room, size_t *read,
+/* The same of units: at most one unit away. Constant. */
+size_t nody_utf16_boundary_before(const uint16_t *units, size_t len, size_t at);
+size_t nody_utf16_boundary_after(const uint16_t *units, size_t len, size_t at);
+
+/* Where a shard of a large input may end: nody_boundary_before under another name. Shards that end at such places are recoded by
+ * themselves, also on several machines, and joined. The last shard ends at `len`. Constant: six bytes around `at` are looked at.
+ *
+ *     size_t end = i + 1 < count ? nody_shard_end(NODY_FORM_UTF8, bytes, len, (i + 1) * (len / count)) : len;
+ */
+size_t nody_shard_end(nody_form_t from, const uint8_t *bytes, size_t len, size_t at);
+
+/* ---- A whole input recoded -------------------------------------------------------------------------------------------------- */
+
+/* Recodes all of the input into the room. Each faulty byte, or unit, becomes one U+FFFD, and so does a single byte at the end
+ * of UTF-16. The forms may be the same. `*written` says how many bytes were written, from the front of the room; the other
+ * places stay. NODY_STATUS_DONE: the whole input was recoded. NODY_STATUS_FULL: the room is too small, and the rest is missing (to
+ * go on from there use a recoder); no character is written in part. NODY_STATUS_REFUSED: a form is above 2; `*written` is 0. Linear.
+ *
+ *     size_t written, room = nody_recoded_len(from, to, bytes, len); // in bytes
+ *     uint8_t *out = room < SIZE_MAX ? malloc(room + 1) : NULL;
+ *     if (!out || nody_recode(from, to, bytes, len, out, room, &written) != NODY_STATUS_DONE) return failed();
+ */
+nody_status_t nody_recode(nody_form_t from, nody_form_t to, const uint8_t *in, size_t len, uint8_t *out, size_t room,
                           size_t *written);
 
-/* Puts out what is held, when no more input follows: at most nine bytes. NODY_FULL: call this again with more room. */
-uint8_t nody_recoder_finish(nody_recoder_t *recoder, uint8_t *out, size_t room, size_t *written);
+/* How many bytes nody_recode writes of this input, given enough room. SIZE_MAX where a size_t cannot count them, or a form is above
+ * 2. Linear: it recodes, in parts, into a kilobyte of the stack.
+ *
+ *     size_t room = nody_recoded_len(NODY_FORM_UTF8, NODY_FORM_UTF16LE, bytes, len);
+ */
+size_t nody_recoded_len(nody_form_t from, nody_form_t to, const uint8_t *in, size_t len);
 
-/* The most bytes that so many bytes are recoded as; add to `len` those that the recoder holds. SIZE_MAX where a size_t cannot
- * count them, or a form is above 2. */
-size_t nody_room_for(uint8_t from, uint8_t to, size_t len);
+/* A bound: the most bytes that any input of `len` bytes is recoded as, at most three for each. For a part that a recoder is fed,
+ * add to `len` the bytes that it holds. SIZE_MAX where a size_t cannot count them, or a form is above 2. Constant.
+ *
+ *     nody_recoded_len_max(NODY_FORM_UTF8, NODY_FORM_UTF16LE, 100) // 200
+ */
+size_t nody_recoded_len_max(nody_form_t from, nody_form_t to, size_t len);
 
-/* The last place, up to `at`, where bytes of that form may be cut, so that each side can be recoded by itself and the two
- * joined: no character lies over it, and of UTF-16 no unit. It is at most three bytes before `at`, and `len` where `at` is no
- * less. Six bytes around `at` are looked at. SIZE_MAX where the form is above 2. */
-size_t nody_shard_end(uint8_t from, const uint8_t *bytes, size_t len, size_t at);
+/* nody_recode between UTF-8 and an array of uint16_t. Lengths and `*written` count units where the array has units. (Do not cast a
+ * buffer of bytes to uint16_t *: for bytes use nody_recode. `len` and `room` are below SIZE_MAX / 2.)
+ *
+ *     size_t count, room = nody_recoded_len(NODY_FORM_UTF8, NODY_FORM_UTF16_NATIVE, bytes, len) / 2; // bytes, so half as many units
+ *     uint16_t *units = malloc(2 * room + 2);
+ *     if (!units || nody_utf8_to_utf16(bytes, len, units, room, &count) != NODY_STATUS_DONE) return failed();
+ */
+static inline nody_status_t nody_utf8_to_utf16(const uint8_t *in, size_t len, uint16_t *out, size_t room, size_t *written) {
+    nody_status_t status = nody_recode(NODY_FORM_UTF8, NODY_FORM_UTF16_NATIVE, in, len, (uint8_t *)out, 2 * room, written);
+    *written /= 2;
+    return status;
+}
+static inline nody_status_t nody_utf16_to_utf8(const uint16_t *in, size_t len, uint8_t *out, size_t room, size_t *written) {
+    return nody_recode(NODY_FORM_UTF16_NATIVE, NODY_FORM_UTF8, (const uint8_t *)in, 2 * len, out, room, written);
+}
 
-/* Writes the address of the name of a kind, which lives for ever, to `*name`, which has to be the address of a name before;
- * of a number that is no kind it stays. */
-void nody_put_kind_name(uint8_t kind, const nody_name **name);
+/* ---- Input that comes in parts ---------------------------------------------------------------------------------------------- */
 
-/* The name of a kind, which lives for ever; "?" of a number that is no kind. */
-static inline const char *nody_kind_name(uint8_t kind) {
-    static const nody_name unknown = {"?"};
-    const nody_name *name = &unknown;
+/* A recoder that holds nothing. The forms may be the same: then valid text is copied, and each fault becomes U+FFFD. A form above 2
+ * makes a recoder that the calls refuse. Constant. */
+nody_recoder_t nody_recoder(nody_form_t from, nody_form_t to);
+
+/* Feeds a part of the input, as far as there is room: `*read` bytes of it were fed, and `*written` bytes
+ * at the front of the room came of it. What comes out is the same however the input is cut into parts. Linear.
+ * NODY_STATUS_DONE: the whole part was read. NODY_STATUS_FULL: call again with the rest of the part and new room, also the same
+ * buffer once it is emptied. Up to three of the bytes counted in `*read` may be held in the recoder: do not feed them again.
+ * NODY_STATUS_REFUSED: a form above 2, or more than three bytes held; both counts are 0. Give room for four bytes or more: then
+ * each call with a part that is not empty reads or writes something. A loop that calls again with the same room of 3 bytes or
+ * less may never end.
+ *
+ *     do {
+ *         status = nody_recoder_feed(&recoder, in + place, len - place, out, sizeof out, &read, &written);
+ *         fwrite(out, 1, written, stdout);
+ *         place += read;
+ *     } while (status == NODY_STATUS_FULL);
+ */
+nody_status_t nody_recoder_feed(nody_recoder_t *recoder, const uint8_t *in, size_t in_len, uint8_t *out, size_t room, size_t *read,
+                                size_t *written);
+
+/* Puts out what is held, when no more input follows: at most nine bytes. NODY_STATUS_FULL: call this, and not feed, again with more
+ * room. After NODY_STATUS_DONE the recoder holds nothing, and is as a new one: it may be fed another input. Constant.
+ *
+ *     do {
+ *         status = nody_recoder_finish(&recoder, out, sizeof out, &written);
+ *         fwrite(out, 1, written, stdout);
+ *     } while (status == NODY_STATUS_FULL);
+ */
+nody_status_t nody_recoder_finish(nody_recoder_t *recoder, uint8_t *out, size_t room, size_t *written);
+
+/* How many bytes the recoder holds, 0 to 3: those of the input that were read and not yet recoded. They are written to `out` if
+ * `room` is at least that many. SIZE_MAX where the struct is no recoder. Constant.
+ *
+ *     uint8_t held[3];
+ *     size_t count = nody_recoder_held(&recoder, held, sizeof held);
+ */
+size_t nody_recoder_held(const nody_recoder_t *recoder, uint8_t *out, size_t room);
+
+/* ---- Kinds in words --------------------------------------------------------------------------------------------------------- */
+
+/* Writes the address of the name of a kind, or of a sentence about it, to `*name` or `*sentence`. That must point to a name or
+ * a sentence already: for a number that is no kind it stays as it is. Names and sentences live as long as the program. From C
+ * and C++ call the two functions below. Constant. */
+void nody_put_kind_name(nody_kind_t kind, const nody_name_t **name);
+void nody_put_kind_sentence(nody_kind_t kind, const nody_sentence_t **sentence);
+
+/* The name of a kind, as "OverlongEncoding", or "?" of a number that is no kind. */
+static inline const char *nody_kind_name(nody_kind_t kind) {
+    static const nody_name_t unknown = {"?"};
+    const nody_name_t *name = &unknown;
     nody_put_kind_name(kind, &name);
     return name->text;
+}
+
+/* What a kind means, as "overlong encoding: the value has a shorter code", or "?" of a number that is no kind. */
+static inline const char *nody_kind_sentence(nody_kind_t kind) {
+    static const nody_sentence_t unknown = {"?"};
+    const nody_sentence_t *sentence = &unknown;
+    nody_put_kind_sentence(kind, &sentence);
+    return sentence->text;
 }
 
 #ifdef __cplusplus

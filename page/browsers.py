@@ -1,9 +1,10 @@
-"""Two browsers under one set of calls: Chromium by its driver, Firefox by WebDriver BiDi."""
+"""Two browsers under one set of calls: Chromium by its driver, Firefox by WebDriver BiDi. And node, for the module alone."""
 import asyncio
 import base64
 import json
 import os
 import re
+import shutil
 import subprocess
 import tempfile
 import threading
@@ -17,7 +18,7 @@ CONTROL = "\ue009"
 class Chromium:
     name = "chromium"
 
-    def __init__(self, is_dark):
+    def __init__(self, look):
         from selenium import webdriver
         from selenium.webdriver.chrome.service import Service
 
@@ -27,7 +28,7 @@ class Chromium:
         options.set_capability("goog:loggingPrefs", {"browser": "ALL"})
         self.driver = webdriver.Chrome(service=Service("/usr/bin/chromedriver"), options=options)
         self.driver.set_script_timeout(120)
-        scheme = [{"name": "prefers-color-scheme", "value": "dark" if is_dark else "light"}]
+        scheme = [{"name": "forced-colors", "value": "active"} if look == "forced" else {"name": "prefers-color-scheme", "value": look}]
         self.driver.execute_cdp_cmd("Emulation.setEmulatedMedia", {"features": scheme})
 
     def size(self, width, height):
@@ -71,10 +72,11 @@ class Chromium:
 class Firefox:
     name = "firefox"
 
-    def __init__(self, is_dark):
+    def __init__(self, look):
         self.folder = tempfile.TemporaryDirectory()
         with open(f"{self.folder.name}/user.js", "w", encoding="ascii") as file:
-            file.write(f'user_pref("layout.css.prefers-color-scheme.content-override", {0 if is_dark else 1});\n'
+            file.write(f'user_pref("layout.css.prefers-color-scheme.content-override", {0 if look == "dark" else 1});\n'
+                       f'user_pref("browser.display.document_color_use", {2 if look == "forced" else 0});\n'
                        'user_pref("remote.prefs.recommended", true);\nuser_pref("browser.shell.checkDefaultBrowser", false);\n'
                        'user_pref("datareporting.policy.dataSubmissionEnabled", false);\n'
                        'user_pref("browser.startup.homepage_override.mstone", "ignore");\n')
@@ -161,6 +163,41 @@ class Firefox:
             self.process.terminate()
         self.process.wait(20)
         self.folder.cleanup()
+
+
+class Node:
+    """The module and the kept cut under node, with no page."""
+
+    name = "node"
+    # In place of the page's: there is no document.
+    PAGE = """
+import { readFileSync } from "node:fs";
+const [folder] = process.argv.slice(-1);
+const [{ Codec }, { Cut }, { bytesOf }, { others }] = await Promise.all(["codec", "cut", "input", "others"].map((it) => import(`${folder}/${it}.js`)));
+const { instance } = await WebAssembly.instantiate(readFileSync(`${folder}/noddychest.wasm`));
+const codec = new Codec(instance.exports);
+globalThis.window = { noddychest: { codec, cut: new Cut(codec), bytesOf, others } };
+"""
+
+    def __init__(self, folder):
+        self.folder = tempfile.TemporaryDirectory()
+        shutil.copytree(folder, f"{self.folder.name}/page", ignore=shutil.ignore_patterns("shots"))
+        with open(f"{self.folder.name}/page/package.json", "w", encoding="ascii") as file:
+            file.write('{ "type": "module" }')
+
+    def run(self, script):
+        """What the body of an async function answers."""
+        file = f"{self.folder.name}/asked.mjs"
+        with open(file, "w", encoding="utf-8") as asked:
+            asked.write(f"{self.PAGE}\nconsole.log(JSON.stringify([await (async () => {{ {script} }})() ?? null]));\n")
+        ran = subprocess.run(["node", file, f"{self.folder.name}/page"], capture_output=True, text=True, timeout=150)
+        return answered(ran.stdout if ran.returncode == 0 else f"!{ran.stderr[-2000:]}")
+
+
+def node(folder):
+    """Node over the page in that folder, where one is there that knows WebAssembly's 64-bit integers: from 16 on."""
+    test = "process.exit(process.versions.node.split('.')[0] >= 16 ? 0 : 1)"
+    return Node(folder) if shutil.which("node") and subprocess.run(["node", "-e", test], capture_output=True).returncode == 0 else None
 
 
 def answered(told):

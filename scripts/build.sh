@@ -23,6 +23,21 @@ crates_up_to() {
     ' "$top_folder/crates.txt"
 }
 
+# The checksum of the `.rt` files of a crate and of those that it stands on, as MANIFEST has it.
+sum_of_sources() {
+    (
+        cd "$top_folder" || exit
+        for crate in $(crates_up_to "$1"); do
+            find "crates/$crate/src" -name '*.rt' | LC_ALL=C sort
+        done | xargs sha256sum | sha256sum | cut -d ' ' -f 1
+    )
+}
+
+# Whether the sources of a crate are those that generated/ was made from.
+are_generated() {
+    grep -q " $1 $(sum_of_sources "$1")\$" "$top_folder/generated/MANIFEST"
+}
+
 # run_rt CRATE COMMAND [FILE]: rt on one crate, on all processors. It has failed where its status is not 0, or, where it
 # makes FILE, that is not there: a program that is built is also run, and may end with any status. What it prints is then
 # shown.

@@ -5,13 +5,20 @@ import re
 
 TOP = os.path.dirname(os.path.dirname(os.path.abspath(__file__)))
 # Made by scripts from the sources and from logs.
-GENERATED = ("docs/CONTRACTS.md", "docs/WRONG-BODIES.md")
+GENERATED = ("docs/API.md", "docs/CONTRACTS.md", "docs/WRONG-BODIES.md")
+# What people read who use the project: it is in the words that they search for. The others keep to the glossary.
+FOR_USERS = ("README.md", "CHANGELOG.md", "docs/API.md", "docs/BENCHMARKS.md", "docs/GUIDE.md", "docs/PROVING.md", "docs/THE-CUT.md", "docs/DIFFERENCES.md",
+             "c/README.md", "page/README.md", "python/README.md", "rust/README.md", "js/README.md", "packaging/README.md")
+
+# Those of the packages, whose own tests run their blocks.
+OF_PACKAGES = ("python/README.md", "rust/README.md", "js/README.md", "packaging/README.md")
 
 
 def pages():
     """Every document, as a path from the top."""
     docs = [f"docs/{it}" for it in os.listdir(f"{TOP}/docs") if it.endswith(".md")]
-    return sorted([it for it in os.listdir(TOP) if it.endswith(".md")]) + sorted(docs) + ["c/README.md", "page/README.md"]
+    of_parts = [f"{it}/README.md" for it in ("c", "page", "python", "rust", "js", "packaging") if os.path.isfile(f"{TOP}/{it}/README.md")]
+    return sorted([it for it in os.listdir(TOP) if it.endswith(".md")]) + sorted(docs) + of_parts
 
 
 def read(page):

@@ -3,7 +3,7 @@ import os
 import re
 
 TOP = os.path.dirname(os.path.dirname(os.path.abspath(__file__)))
-LIBRARIES = ("utf_base", "utf_chars", "encode_unicode", "cuts", "c_api")
+LIBRARIES = ("utf_base", "utf_chars", "utf_lanes", "encode_unicode", "recoding", "cuts", "c_api")
 HEAD = re.compile(r'^(pub(?:\([^)]*\))? )?(?:(?:const|unsafe|final|extern "C") )*(fn|impl|trait)\b(.*)')
 
 
@@ -52,6 +52,8 @@ class Function:
         trait, brackets, of = self.owner_words()
         if not trait:
             return between[0].partition("+")[0].rstrip("0123456789") == self.owner_type()
+        # (the prover's path leaves out a constant that the type takes)
+        of = re.sub(r"<[A-Z]{2,}>$", "", of)
         of_what = camel(brackets) if brackets else ""
         return re.sub(r"0x10000|256", "", between[0]) == f"{camel(of)}{trait}{'' if of_what == 'Any' else of_what}"
 
@@ -169,8 +171,8 @@ def read_rest(function, lines, number):
             break
         at += 1
     function.signature = re.sub(r"\s*(\{.*|;)?$", "", " ".join(it for it in signature if it != "{"))
-    begun = at
-    while at < len(lines) and not (lines[at].startswith(" " * indent + "}") or lines[at].rstrip().endswith(";") and at == begun):
+    begun, is_empty = at, lines[at].strip() == "{}"
+    while at < len(lines) and not is_empty and not (lines[at].startswith(" " * indent + "}") or lines[at].rstrip().endswith(";") and at == begun):
         at += 1
     function.body = "\n".join(lines[begun : at + 1])
     function.lines = range(number, at + 1)

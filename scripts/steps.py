@@ -8,7 +8,7 @@ import time
 
 TOP = os.path.dirname(os.path.dirname(os.path.abspath(__file__)))
 # The package of Debian that has each command; a command of the kit or of rustup has none.
-PACKAGES = {"valgrind": "valgrind", "clang": "clang", "python3": "python3", "cargo": None, "rustc": None, "rt": None}
+PACKAGES = {"cc": "gcc", "make": "make", "valgrind": "valgrind", "clang": "clang", "python3": "python3", "cargo": None, "rustc": None, "rt": None}
 
 
 class Step:
@@ -54,7 +54,8 @@ def keep(step, printed):
     with open(f"{TOP}/{step.stored}", "w", encoding="utf-8") as file:
         file.write(printed)
     with open(f"{TOP}/{os.path.dirname(step.stored)}/dates", "a", encoding="utf-8") as file:
-        print(f"{datetime.date.today()} {os.path.basename(step.stored)}: {' '.join(step.words)}", file=file)
+        command = " ".join("PATH" if os.path.isabs(it) else it for it in step.words)
+        print(f"{datetime.date.today()} {os.path.basename(step.stored)}: {command}", file=file)
 
 
 def path_of(words, document):

@@ -13,16 +13,18 @@ PAGE = os.sysconf("SC_PAGE_SIZE")
 
 
 def stat_of(pid):
-    """What the system says of a process: its parent, when it began, its processor seconds and its bytes of memory."""
+    """What the system says of a process: its parent, when it began, its bytes of memory, and its processor seconds with those of the processes
+    that it began and that ended."""
     with open(f"/proc/{pid}/stat", encoding="utf-8", errors="replace") as file:
         words = file.read().rpartition(")")[2].split()
-    return int(words[1]), int(words[19]), (int(words[11]) + int(words[12])) / TICKS, int(words[21]) * PAGE
+    return int(words[1]), int(words[19]), sum(map(int, words[11:15])) / TICKS, int(words[21]) * PAGE
 
 
 def kind_of(command, folder, above):
-    """What a check of the prover is for: a crate, its tests, or a wrong body that `rt ci` or `wrong-bodies` tries."""
+    """What a check of the prover is for: a crate, its tests, work to keep, or a wrong body that `rt ci` or `wrong-bodies` tries."""
     if re.match(r".*/rt-edit-", folder):
-        return "wrong bodies at once" if "wrong-bodies" in above else "wrong bodies"
+        at_once = "wrong bodies at once" if "wrong-bodies" in above else "wrong bodies"
+        return "kept work" if "scripts/keep" in above else at_once
     return "tests" if "--test" in command else "crates"
 
 
@@ -73,7 +75,9 @@ class Watch(threading.Thread):
                 folder = os.readlink(f"/proc/{key[0]}/cwd")
             except OSError:
                 return
-            if words[0].endswith("/rattle") and "--crate-name" in words:
+            # (a check that has much to do forks copies of itself, which count as a part of it)
+            is_copy = above.partition("\0")[0].endswith("/rattle")
+            if words[0].endswith("/rattle") and "--crate-name" in words and not is_copy:
                 seen["crate"] = words[words.index("--crate-name") + 1]
                 seen["kind"] = kind_of(words, folder, above)
         seen["cpu"], seen["memory"] = round(cpu, 2), max(seen["memory"], memory)

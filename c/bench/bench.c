@@ -65,7 +65,7 @@ static size_t of_iconv(const char *to, const char *from, uint8_t *in, size_t len
     return ROOM - room;
 }
 
-static size_t widen_nody(void) { return of_recoder(NODY_UTF8, NODY_UTF16LE, text, text_len); }
+static size_t widen_nody(void) { return of_recoder(NODY_FORM_UTF8, NODY_FORM_UTF16LE, text, text_len); }
 static size_t widen_iconv(void) { return of_iconv("UTF-16LE", "UTF-8", text, text_len); }
 static size_t widen_icu(void) {
     int32_t len = 0;
@@ -74,7 +74,7 @@ static size_t widen_icu(void) {
     return 2 * (size_t)len;
 }
 
-static size_t narrow_nody(void) { return of_recoder(NODY_UTF16LE, NODY_UTF8, units, units_len); }
+static size_t narrow_nody(void) { return of_recoder(NODY_FORM_UTF16LE, NODY_FORM_UTF8, units, units_len); }
 static size_t narrow_iconv(void) { return of_iconv("UTF-8", "UTF-16LE", units, units_len); }
 static size_t narrow_icu(void) {
     int32_t len = 0;
@@ -85,7 +85,7 @@ static size_t narrow_icu(void) {
 
 static size_t decode_next(void) {
     nody_bytes_t left = nody_bytes(text, text_len);
-    nody_piece piece;
+    nody_piece_t piece;
     size_t sum = 0;
     while ((piece = nody_utf8_next(&left)).len > 0) sum += piece.scalar;
     return sum;
@@ -93,7 +93,7 @@ static size_t decode_next(void) {
 static size_t decode_first(void) {
     size_t sum = 0;
     for (size_t place = 0; place < text_len;) {
-        nody_piece piece = nody_utf8_first(text + place, text_len - place);
+        nody_piece_t piece = nody_utf8_first(text + place, text_len - place);
         place += piece.len;
         sum += piece.scalar;
     }
@@ -101,7 +101,7 @@ static size_t decode_first(void) {
 }
 static size_t decode_pieces(void) {
     nody_bytes_t left = nody_bytes(text, text_len);
-    nody_piece pieces[AT_ONCE];
+    nody_piece_t pieces[AT_ONCE];
     size_t sum = 0, count;
     while ((count = nody_utf8_pieces(&left, pieces, AT_ONCE)) > 0)
         for (size_t i = 0; i < count; i++) sum += pieces[i].scalar;
@@ -127,9 +127,9 @@ static size_t decode_utf8proc(void) {
 }
 static size_t decode_rattle(void) { return bench_c_scalars(text, text_len); }
 
-static size_t widen_parts(void) { return in_parts(NODY_UTF8, NODY_UTF16LE, text, text_len); }
+static size_t widen_parts(void) { return in_parts(NODY_FORM_UTF8, NODY_FORM_UTF16LE, text, text_len); }
 static size_t widen_rattle(void) { return bench_c_widen(text, text_len, out, ROOM); }
-static size_t narrow_parts(void) { return in_parts(NODY_UTF16LE, NODY_UTF8, units, units_len); }
+static size_t narrow_parts(void) { return in_parts(NODY_FORM_UTF16LE, NODY_FORM_UTF8, units, units_len); }
 static size_t narrow_rattle(void) { return bench_c_narrow(units, units_len, out, ROOM); }
 static size_t valid_nody(void) { return nody_utf8_valid_up_to(text, text_len); }
 static size_t valid_rattle(void) { return bench_c_valid_up_to(text, text_len); }

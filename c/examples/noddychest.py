@@ -18,9 +18,9 @@ class Recoder(ctypes.Structure):
 
 
 LIBRARY = ctypes.CDLL(os.environ["NODDYCHEST"])
-LIBRARY.nody_utf8_next.restype = LIBRARY.nody_utf8_merged.restype = Piece
+LIBRARY.nody_utf8_next.restype = LIBRARY.nody_utf8_streamed_at.restype = Piece
 LIBRARY.nody_utf8_next.argtypes = [POINTER(Bytes)]
-LIBRARY.nody_utf8_merged.argtypes = [c_char_p, c_size_t, c_size_t]
+LIBRARY.nody_utf8_streamed_at.argtypes = [c_char_p, c_size_t, c_size_t]
 LIBRARY.nody_recoder_feed.argtypes = [POINTER(Recoder), c_void_p, c_size_t, c_void_p, c_size_t, POINTER(c_size_t), POINTER(c_size_t)]
 LIBRARY.nody_recoder_finish.argtypes = [POINTER(Recoder), c_void_p, c_size_t, POINTER(c_size_t)]
 LIBRARY.nody_shard_end.restype = c_size_t
@@ -49,7 +49,7 @@ def pieces(data):
 
 def merged(data):
     """The same, with the errors that a reader of one byte at a time names."""
-    return listed(data, lambda place: LIBRARY.nody_utf8_merged(data, len(data), place))
+    return listed(data, lambda place: LIBRARY.nody_utf8_streamed_at(data, len(data), place))
 
 
 if __name__ == "__main__":

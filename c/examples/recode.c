@@ -1,35 +1,45 @@
-/* Recodes standard input in blocks, as the program `recode` does: recode FROM TO. */
+/* Recodes standard input in blocks, as the program `recode` does: recode FROM TO, each utf8, utf16le or utf16be. The status is 2
+ * for wrong arguments, and 3 where a read or a write failed. */
 #include "noddychest.h"
 
 #include <stdio.h>
 #include <string.h>
 
-enum { BLOCK = 4096 };
+enum { BLOCK = 4096, NO_FORM = 3 };
 
-static uint8_t form_of(const char *name) {
-    if (strcmp(name, "utf8") == 0) return NODY_UTF8;
-    if (strcmp(name, "utf16le") == 0) return NODY_UTF16LE;
-    if (strcmp(name, "utf16be") == 0) return NODY_UTF16BE;
-    return NODY_REFUSED + 1;
+static nody_form_t form_of(const char *name) {
+    if (strcmp(name, "utf8") == 0) return NODY_FORM_UTF8;
+    if (strcmp(name, "utf16le") == 0) return NODY_FORM_UTF16LE;
+    if (strcmp(name, "utf16be") == 0) return NODY_FORM_UTF16BE;
+    return (nody_form_t)NO_FORM;
+}
+
+static int fails(const char *why) {
+    fprintf(stderr, "recode: cannot %s\n", why);
+    return 3;
 }
 
 int main(int argc, char **argv) {
-    uint8_t in[BLOCK], out[BLOCK], status;
+    uint8_t in[BLOCK], out[BLOCK];
+    nody_status_t status;
     size_t len, read, written;
-    if (argc != 3 || form_of(argv[1]) > NODY_UTF16BE || form_of(argv[2]) > NODY_UTF16BE) return 2;
+    if (argc != 3 || form_of(argv[1]) == NO_FORM || form_of(argv[2]) == NO_FORM) {
+        fprintf(stderr, "usage: %s FROM TO <FILE, each of utf8, utf16le, utf16be\n", argv[0]);
+        return 2;
+    }
     nody_recoder_t recoder = nody_recoder(form_of(argv[1]), form_of(argv[2]));
     while ((len = fread(in, 1, sizeof in, stdin)) > 0) {
         size_t place = 0;
         do {
             status = nody_recoder_feed(&recoder, in + place, len - place, out, sizeof out, &read, &written);
-            if (fwrite(out, 1, written, stdout) < written) return 3;
+            if (fwrite(out, 1, written, stdout) < written) return fails("write");
             place += read;
-        } while (status == NODY_FULL);
+        } while (status == NODY_STATUS_FULL);
     }
-    if (ferror(stdin)) return 3;
+    if (ferror(stdin)) return fails("read");
     do {
         status = nody_recoder_finish(&recoder, out, sizeof out, &written);
-        if (fwrite(out, 1, written, stdout) < written) return 3;
-    } while (status == NODY_FULL);
-    return fflush(stdout) == 0 ? 0 : 3;
+        if (fwrite(out, 1, written, stdout) < written) return fails("write");
+    } while (status == NODY_STATUS_FULL);
+    return fflush(stdout) == 0 ? 0 : fails("write");
 }

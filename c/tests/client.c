@@ -1,24 +1,15 @@
-/* Holds the library against vectors from standard input, lines of FROM TO INPUT OUTPUT with the forms as numbers and the bytes
- * in hexadecimal (`-` for none), and then against itself in random parts and rooms: client COUNT. Prints what failed, and then
- * `N passed, M failed`. */
+/* Holds the library against rows from standard input, FROM TO|INPUT|OUTPUT with the bytes in hexadecimal, and then against
+ * itself in random parts and rooms: client COUNT. Prints what failed, and then `N passed, M failed`. */
 #include "noddychest.h"
+#include "rows.h"
 
 #include <pthread.h>
-#include <stdio.h>
-#include <stdlib.h>
-#include <string.h>
 
 enum { MOST = 4096, GUARD = 0xA5 };
 
-static unsigned long passed, failed;
-
-static void expect(int holds, const char *what) {
-    if (holds) {
-        passed++;
-    } else if (failed++ < 20) {
-        printf("client: FAILED: %s\n", what);
-    }
-}
+/* (of vectors, the input is shown) */
+static const char *which = "";
+#define expect(holds, what) expect(holds, what, which)
 
 static uint32_t seed = 1;
 
@@ -29,21 +20,14 @@ static uint32_t below(uint32_t n) {
     return seed % n;
 }
 
-static size_t parse(const char *text, uint8_t *bytes) {
-    size_t len = 0;
-    unsigned byte;
-    while (sscanf(text + 2 * len, "%2x", &byte) == 1) bytes[len++] = (uint8_t)byte;
-    return len;
-}
-
 /* Feeds the bytes in parts, each into room after room of a size; the first room may have another size. Sizes of 0 stand for
  * random ones. Answers how many bytes came of it, or MOST + 1 where a promise was broken. */
 static size_t recode(uint8_t from, uint8_t to, const uint8_t *in, size_t len, uint8_t *out, size_t part, size_t first, size_t room) {
     nody_recoder_t recoder = nody_recoder(from, to);
     size_t made = 0, place = 0;
-    uint8_t status = NODY_DONE;
+    uint8_t status = NODY_STATUS_DONE;
     int is_last = 0;
-    while (!is_last || status == NODY_FULL) {
+    while (!is_last || status == NODY_STATUS_FULL) {
         size_t read = 0, written, end = place + (part ? part : below(9));
         size_t size = first != MOST ? first : room ? room : below(12);
         uint8_t buffer[3 * MOST + 1];
@@ -53,9 +37,9 @@ static size_t recode(uint8_t from, uint8_t to, const uint8_t *in, size_t len, ui
         memset(buffer, GUARD, size + 1);
         status = is_last ? nody_recoder_finish(&recoder, buffer, size, &written)
                          : nody_recoder_feed(&recoder, in + place, end - place, buffer, size, &read, &written);
-        if (status > NODY_FULL || written > size || read > end - place) return MOST + 1;
-        if (!is_last && status == NODY_DONE && read != end - place) return MOST + 1;
-        if (status == NODY_FULL && size >= written + 4) return MOST + 1;
+        if (status > NODY_STATUS_FULL || written > size || read > end - place) return MOST + 1;
+        if (!is_last && status == NODY_STATUS_DONE && read != end - place) return MOST + 1;
+        if (status == NODY_STATUS_FULL && size >= written + 4) return MOST + 1;
         for (size_t i = written; i <= size; i++)
             if (buffer[i] != GUARD) return MOST + 1;
         memcpy(out + made, buffer, written);
@@ -76,24 +60,33 @@ static int shards_join(uint8_t from, uint8_t to, const uint8_t *in, size_t len, 
         size_t end = nody_shard_end(from, in, len, at), limit = at < len ? at : len, made;
         uint8_t out[6 * MOST];
         if (end > limit || limit > end + 3) return 0;
-        made = recode(from, to, in, end, out, len + 1, MOST, 3 * MOST);
-        made += recode(from, to, in + end, len - end, out + made, len + 1, MOST, 3 * MOST);
+        made = recode(from, to, in, end, out, len + 1, MOST, want_len + 16);
+        made += recode(from, to, in + end, len - end, out + made, len + 1, MOST, want_len + 16);
         if (made != want_len || memcmp(out, want, made) != 0) return 0;
     }
     return 1;
 }
 
+static uint8_t form_of(const char *name) {
+    return name[3] == '8' ? NODY_FORM_UTF8 : name[5] == 'l' ? NODY_FORM_UTF16LE : NODY_FORM_UTF16BE;
+}
+
 static void vectors(void) {
-    static char in_text[2 * MOST + 2], want_text[6 * MOST + 2];
-    static uint8_t in[MOST], want[3 * MOST];
-    unsigned from, to;
-    while (scanf("%u %u %8193s %24577s", &from, &to, in_text, want_text) == 4) {
-        size_t len = parse(in_text, in), need = parse(want_text, want);
-        expect(need <= nody_room_for((uint8_t)from, (uint8_t)to, len), "bound of the output");
+    struct rows rows = {stdin, NULL, 0, {NULL}};
+    while (next_row(&rows)) {
+        size_t len, need;
+        uint8_t *in = bytes_of(rows.column[1], &len), *want = bytes_of(rows.column[2], &need);
+        uint8_t from = form_of(rows.column[0]), to = form_of(strchr(rows.column[0], ' ') + 1);
+        which = rows.column[1];
+        expect(need <= nody_recoded_len_max(from, to, len), "bound of the output");
+        expect(need == nody_recoded_len(from, to, in, len), "length of the output");
         for (size_t first = 0; first <= need; first++)
-            expect(is_recoded((uint8_t)from, (uint8_t)to, in, len, want, need, len + 1, first, 3 * MOST), "room of every size");
-        expect(shards_join((uint8_t)from, (uint8_t)to, in, len, want, need), "two shards");
-        for (size_t room = 4; room < 13; room++) expect(is_recoded((uint8_t)from, (uint8_t)to, in, len, want, need, 1, MOST, room), "byte by byte");
+            expect(is_recoded(from, to, in, len, want, need, len + 1, first, need + 16), "room of every size");
+        expect(shards_join(from, to, in, len, want, need), "two shards");
+        for (size_t room = 4; room < 13; room++) expect(is_recoded(from, to, in, len, want, need, 1, MOST, room), "byte by byte");
+        free(in);
+        free(want);
+        which = "";
     }
 }
 
@@ -104,18 +97,18 @@ static void random_cases(unsigned long count) {
         size_t len = below(sizeof in + 1), made;
         for (size_t i = 0; i < len; i++) in[i] = below(4) ? bytes[below(sizeof bytes)] : (uint8_t)below(256);
         made = recode(from, to, in, len, whole, len + 1, MOST, 3 * MOST);
-        expect(made <= nody_room_for(from, to, len) && is_recoded(from, to, in, len, whole, made, 0, MOST, 0), "random parts and rooms");
+        expect(made <= nody_recoded_len_max(from, to, len) && is_recoded(from, to, in, len, whole, made, 0, MOST, 0), "random parts and rooms");
     }
 }
 
-static int alike(nody_piece a, nody_piece b) { return a.scalar == b.scalar && a.kind == b.kind && a.len == b.len; }
+static int alike(nody_piece_t a, nody_piece_t b) { return a.scalar == b.scalar && a.kind == b.kind && a.len == b.len; }
 
 static void scalars(void) {
     for (uint32_t s = 0; s < 0x110010; s++) {
         uint8_t code[4];
         uint16_t units[2];
         size_t len = nody_utf8_encode(s, code, 4), count = nody_utf16_encode(s, units, 2);
-        nody_piece byte_piece = {len, s, NODY_OK}, unit_piece = {count, s, NODY_OK};
+        nody_piece_t byte_piece = {len, s, NODY_KIND_OK}, unit_piece = {count, s, NODY_KIND_OK};
         if (s > 0x10ffff || (s >= 0xd800 && s < 0xe000)) {
             expect(len == 0 && count == 0, "a number that is no scalar");
         } else {
@@ -128,97 +121,173 @@ static void scalars(void) {
 static void cursors(void) {
     static const uint8_t bytes[] = {0x41, 0xe2, 0x82, 0xac, 0xe0, 0x80, 0xf0, 0x9f, 0x82, 0xa0, 0x80};
     static const uint16_t units[] = {0x41, 0xd83c, 0xdca0, 0xdc00, 0xd800};
-    nody_piece pieces[2], more[8];
+    nody_piece_t pieces[2], more[8];
     nody_bytes_t left = nody_bytes(bytes, sizeof bytes), copy;
     nody_units_t left_units = nody_units(units, 5);
     expect(nody_utf8_pieces(&left, pieces, 2) == 2 && pieces[1].scalar == 0x20ac && left.bytes == bytes + 4 && left.len == 7, "two pieces");
     copy = left;
     expect(nody_utf8_pieces(&left, more, 8) == 4 && left.bytes == bytes + sizeof bytes && left.len == 0, "the others");
-    expect(alike(nody_utf8_next(&copy), more[0]) && more[0].kind == NODY_INTERRUPTED_SEQUENCE && copy.bytes == bytes + 5, "a cursor that was copied");
-    expect(nody_utf8_next_back(&copy).kind == NODY_UNEXPECTED_CONTINUATION_BYTE && copy.len == 5, "a byte at the end");
+    expect(alike(nody_utf8_next(&copy), more[0]) && more[0].kind == NODY_KIND_INTERRUPTED_SEQUENCE && copy.bytes == bytes + 5, "a cursor that was copied");
+    expect(nody_utf8_next_back(&copy).kind == NODY_KIND_UNEXPECTED_CONTINUATION_BYTE && copy.len == 5, "a byte at the end");
     expect(nody_utf8_next_back(&copy).scalar == 0x1f0a0 && copy.len == 1 && copy.bytes == bytes + 5, "a character at the end");
     expect(nody_utf8_next_back(&copy).len == 1 && copy.len == 0, "the last that is left");
-    expect(nody_utf8_next(&copy).kind == NODY_NONE && nody_utf8_next_back(&copy).kind == NODY_NONE && copy.len == 0, "nothing is left");
+    expect(nody_utf8_next(&copy).kind == NODY_KIND_NONE && nody_utf8_next_back(&copy).kind == NODY_KIND_NONE && copy.len == 0, "nothing is left");
     left = nody_bytes(bytes + 4, 2);
-    expect(nody_utf8_next(&left).kind == NODY_TOO_FEW_BYTES && left.len == 1, "what is left judges");
+    expect(nody_utf8_next(&left).kind == NODY_KIND_TOO_FEW_BYTES && left.len == 1, "what is left judges");
     expect(nody_utf16_pieces(&left_units, more, 8) == 4 && more[1].scalar == 0x1f0a0 && more[1].len == 2 && left_units.len == 0, "units");
-    expect(more[2].kind == NODY_UNEXPECTED_TRAILING_SURROGATE && more[3].kind == NODY_INCOMPLETE, "surrogates");
+    expect(more[2].kind == NODY_KIND_UNEXPECTED_TRAILING_SURROGATE && more[3].kind == NODY_KIND_INCOMPLETE, "surrogates");
     left_units = nody_units(units, 3);
     expect(nody_utf16_next_back(&left_units).scalar == 0x1f0a0 && left_units.len == 1 && nody_utf16_next(&left_units).scalar == 0x41, "units from both ends");
-    expect(nody_utf16_next(&left_units).kind == NODY_NONE && nody_utf16_next_back(&left_units).kind == NODY_NONE, "no unit is left");
+    expect(nody_utf16_next(&left_units).kind == NODY_KIND_NONE && nody_utf16_next_back(&left_units).kind == NODY_KIND_NONE, "no unit is left");
     expect(nody_utf8_valid_up_to(bytes, sizeof bytes) == 4 && nody_utf8_valid_up_to(bytes, 4) == 4 && nody_utf8_valid_up_to(bytes, 3) == 1, "the first faulty byte");
     expect(nody_utf16_valid_up_to(units, 5) == 3 && nody_utf16_valid_up_to(units, 3) == 3 && nody_utf16_valid_up_to(units, 2) == 1, "the first faulty unit");
-    expect(nody_shard_end(NODY_UTF8, bytes, sizeof bytes, 3) == 1 && nody_shard_end(NODY_UTF8, bytes, sizeof bytes, 5) == 5, "a shard of UTF-8");
-    expect(nody_shard_end(NODY_UTF8, bytes, sizeof bytes, 9) == 6 && nody_shard_end(NODY_UTF8, bytes, sizeof bytes, 99) == 11, "a shard before four bytes");
+    expect(nody_shard_end(NODY_FORM_UTF8, bytes, sizeof bytes, 3) == 1 && nody_shard_end(NODY_FORM_UTF8, bytes, sizeof bytes, 5) == 5, "a shard of UTF-8");
+    expect(nody_shard_end(NODY_FORM_UTF8, bytes, sizeof bytes, 9) == 6 && nody_shard_end(NODY_FORM_UTF8, bytes, sizeof bytes, 99) == 11, "a shard before four bytes");
     left_units = nody_units(units, 5);
-    expect(nody_utf16_next_back(&left_units).kind != NODY_OK && left_units.len == 4, "a unit at the end");
+    expect(nody_utf16_next_back(&left_units).kind != NODY_KIND_OK && left_units.len == 4, "a unit at the end");
 }
 
 /* The same cut, read byte by byte. The kind differs where bytes are missing and one that is there breaks the code. */
-static void merged(void) {
+static void streamed(void) {
     static const uint8_t bytes[] = {0x41, 0xe2, 0x82, 0xac, 0xf0, 0x9f, 0x21};
     nody_bytes_t left = nody_bytes(bytes, sizeof bytes);
-    nody_piece piece;
+    nody_piece_t piece;
     size_t place = 0;
-    while ((piece = nody_utf8_next(&left)).kind != NODY_NONE) {
-        nody_piece same = nody_utf8_merged(bytes, sizeof bytes, place);
+    while ((piece = nody_utf8_next(&left)).kind != NODY_KIND_NONE) {
+        nody_piece_t same = nody_utf8_streamed_at(bytes, sizeof bytes, place);
         uint8_t kind = same.kind;
         same.kind = piece.kind;
         expect(alike(same, piece), "a piece read byte by byte");
-        expect(kind == (place == 4 ? NODY_INTERRUPTED_SEQUENCE : piece.kind), "its kind");
-        expect(place != 4 || piece.kind == NODY_TOO_FEW_BYTES, "the kind of a decoder");
+        expect(kind == (place == 4 ? NODY_KIND_INTERRUPTED_SEQUENCE : piece.kind), "its kind");
+        expect(place != 4 || piece.kind == NODY_KIND_TOO_FEW_BYTES, "the kind of a decoder");
         place += piece.len;
     }
-    expect(nody_utf8_merged(bytes, 6, 4).kind == NODY_TOO_FEW_BYTES, "bytes that are missing alone");
-    expect(nody_utf8_merged(bytes, sizeof bytes, sizeof bytes).kind == NODY_NONE, "no byte is there");
-    expect(nody_utf8_merged(bytes, sizeof bytes, SIZE_MAX).kind == NODY_NONE && nody_utf8_merged(NULL, 0, 0).kind == NODY_NONE, "a place after the bytes");
+    expect(nody_utf8_streamed_at(bytes, 6, 4).kind == NODY_KIND_TOO_FEW_BYTES, "bytes that are missing alone");
+    expect(nody_utf8_streamed_at(bytes, sizeof bytes, sizeof bytes).kind == NODY_KIND_NONE, "no byte is there");
+    expect(nody_utf8_streamed_at(bytes, sizeof bytes, SIZE_MAX).kind == NODY_KIND_NONE && nody_utf8_streamed_at(NULL, 0, 0).kind == NODY_KIND_NONE, "a place after the bytes");
 }
 
 static void nothing(void) {
     nody_bytes_t left = nody_bytes(NULL, 0);
     nody_units_t left_units = nody_units(NULL, 0);
-    nody_recoder_t recoder = nody_recoder(NODY_UTF8, NODY_UTF16LE), none = nody_recoder(3, 0);
+    nody_recoder_t recoder = nody_recoder(NODY_FORM_UTF8, NODY_FORM_UTF16LE), none = nody_recoder(3, 0);
     size_t read = 7, written = 7;
-    expect(nody_utf8_first(NULL, 0).kind == NODY_NONE && nody_utf8_last(NULL, 0).kind == NODY_NONE, "no bytes");
-    expect(nody_utf16_first(NULL, 0).kind == NODY_NONE && nody_utf16_last(NULL, 0).kind == NODY_NONE, "no units");
-    expect(nody_utf8_next(&left).kind == NODY_NONE && nody_utf8_next_back(&left).kind == NODY_NONE, "a cursor over no bytes");
-    expect(nody_utf16_next(&left_units).kind == NODY_NONE && nody_utf16_next_back(&left_units).kind == NODY_NONE, "a cursor over no units");
+    expect(nody_utf8_first(NULL, 0).kind == NODY_KIND_NONE && nody_utf8_last(NULL, 0).kind == NODY_KIND_NONE, "no bytes");
+    expect(nody_utf16_first(NULL, 0).kind == NODY_KIND_NONE && nody_utf16_last(NULL, 0).kind == NODY_KIND_NONE, "no units");
+    expect(nody_utf8_next(&left).kind == NODY_KIND_NONE && nody_utf8_next_back(&left).kind == NODY_KIND_NONE, "a cursor over no bytes");
+    expect(nody_utf16_next(&left_units).kind == NODY_KIND_NONE && nody_utf16_next_back(&left_units).kind == NODY_KIND_NONE, "a cursor over no units");
     expect(nody_utf8_pieces(&left, NULL, 0) == 0 && nody_utf16_pieces(&left_units, NULL, 0) == 0, "room for no piece");
     expect(nody_utf8_valid_up_to(NULL, 0) == 0 && nody_utf16_valid_up_to(NULL, 0) == 0, "nothing is well-formed");
     expect(nody_utf8_encode('a', NULL, 0) == 1 && nody_utf16_encode('a', NULL, 0) == 1, "no room for a code");
-    expect(nody_recoder_feed(&recoder, NULL, 0, NULL, 0, &read, &written) == NODY_DONE && read == 0 && written == 0, "an empty part");
-    expect(nody_recoder_finish(&recoder, NULL, 0, &written) == NODY_DONE && written == 0, "nothing to finish");
-    expect(nody_recoder_feed(&none, NULL, 0, NULL, 0, &read, &written) == NODY_REFUSED && nody_recoder_finish(&none, NULL, 0, &written) == NODY_REFUSED, "no recoder");
-    expect(nody_room_for(0, 3, 1) == SIZE_MAX && nody_room_for(0, 0, SIZE_MAX) == SIZE_MAX && nody_room_for(1, 0, 3) == 6, "bounds");
-    expect(nody_shard_end(NODY_UTF16BE, NULL, 0, 7) == 0 && nody_shard_end(3, NULL, 0, 0) == SIZE_MAX, "no shard");
-    expect(strcmp(nody_kind_name(NODY_TOO_HIGH_CODEPOINT), "TooHighCodepoint") == 0 && strcmp(nody_kind_name(200), "?") == 0, "names");
+    expect(nody_recoder_feed(&recoder, NULL, 0, NULL, 0, &read, &written) == NODY_STATUS_DONE && read == 0 && written == 0, "an empty part");
+    expect(nody_recoder_finish(&recoder, NULL, 0, &written) == NODY_STATUS_DONE && written == 0, "nothing to finish");
+    expect(nody_recoder_feed(&none, NULL, 0, NULL, 0, &read, &written) == NODY_STATUS_REFUSED && nody_recoder_finish(&none, NULL, 0, &written) == NODY_STATUS_REFUSED, "no recoder");
+    expect(nody_recoded_len_max(0, 3, 1) == SIZE_MAX && nody_recoded_len_max(0, 0, SIZE_MAX) == SIZE_MAX && nody_recoded_len_max(1, 0, 3) == 6, "bounds");
+    expect(nody_shard_end(NODY_FORM_UTF16BE, NULL, 0, 7) == 0 && nody_shard_end(3, NULL, 0, 0) == SIZE_MAX, "no shard");
+    expect(strcmp(nody_kind_name(NODY_KIND_TOO_HIGH_CODEPOINT), "TooHighCodepoint") == 0 && strcmp(nody_kind_name(200), "?") == 0, "names");
+}
+
+/* The calls that take a whole input, count, find boundaries and speak of kinds, with values from the standards. */
+static void whole_inputs(void) {
+    static const uint8_t in[] = {0x41, 0xe2, 0x82, 0xac, 0xf0, 0x9f, 0x82, 0xa0, 0xe2, 0x82, 0x21};
+    static const uint8_t le[] = {0x41, 0, 0xac, 0x20, 0x3c, 0xd8, 0xa0, 0xdc, 0xfd, 0xff, 0xfd, 0xff, 0x21, 0};
+    static const uint16_t units[] = {0x41, 0x20ac, 0xd83c, 0xdca0, 0xfffd, 0xfffd, 0x21, 0xdc00, 0xd800};
+    uint8_t out[32], text[32];
+    uint16_t native[16];
+    size_t written = 9;
+    memset(out, GUARD, sizeof out);
+    expect(nody_recode(NODY_FORM_UTF8, NODY_FORM_UTF16LE, in, sizeof in, out, 14, &written) == NODY_STATUS_DONE, "a whole input");
+    expect(written == sizeof le && memcmp(out, le, sizeof le) == 0 && out[14] == GUARD, "what it is recoded as");
+    expect(nody_recoded_len(NODY_FORM_UTF8, NODY_FORM_UTF16LE, in, sizeof in) == sizeof le, "how long it is");
+    expect(nody_recoded_len(NODY_FORM_UTF8, NODY_FORM_UTF8, in, sizeof in) == 1 + 3 + 4 + 3 + 3 + 1, "how long it is with each fault as U+FFFD");
+    expect(nody_recoded_len(3, NODY_FORM_UTF8, in, 1) == SIZE_MAX && nody_recoded_len(NODY_FORM_UTF8, 3, in, 1) == SIZE_MAX, "the length in no form");
+    memset(out, GUARD, sizeof out);
+    expect(nody_recode(NODY_FORM_UTF8, NODY_FORM_UTF16LE, in, sizeof in, out, 7, &written) == NODY_STATUS_FULL, "too little room");
+    expect(written == 4 && memcmp(out, le, 4) == 0 && out[7] == GUARD, "the front that fits");
+    expect(nody_recode(NODY_FORM_UTF8, 3, in, sizeof in, out, 32, &written) == NODY_STATUS_REFUSED && written == 0 && out[7] == GUARD, "into no form");
+    expect(nody_utf8_to_utf16(in, sizeof in, native, 16, &written) == NODY_STATUS_DONE && written == 7 && memcmp(native, units, 14) == 0, "into an array of units");
+    expect(nody_utf8_to_utf16(in, sizeof in, native, 3, &written) == NODY_STATUS_FULL && written == 2, "into too few units");
+    expect(nody_utf16_to_utf8(units, 4, text, 32, &written) == NODY_STATUS_DONE && written == 8 && memcmp(text, in, 8) == 0, "of an array of units");
+    expect(nody_utf8_char_count(in, sizeof in) == 6 && nody_utf8_char_count(in, 8) == 3 && nody_utf8_char_count(in, 7) == 5, "how many characters");
+    expect(nody_utf16_char_count(units, 9) == 8 && nody_utf16_char_count(units, 3) == 3, "how many characters of units");
+    expect(nody_utf16_bytes_valid_up_to(NODY_FORM_UTF16LE, le, sizeof le) == 14 && nody_utf16_bytes_valid_up_to(NODY_FORM_UTF16LE, le, 13) == 12, "half a unit");
+    expect(nody_utf16_bytes_valid_up_to(NODY_FORM_UTF16LE, le, 6) == 4 && nody_utf16_bytes_valid_up_to(NODY_FORM_UTF16LE, le + 6, 4) == 0, "surrogates in bytes");
+    expect(nody_utf16_bytes_valid_up_to(NODY_FORM_UTF16BE, le + 5, 4) == 4 && nody_utf16_bytes_valid_up_to(NODY_FORM_UTF16BE, le + 5, 3) == 0 && nody_utf16_bytes_valid_up_to(NODY_FORM_UTF16BE, le, 4) == 4, "the other order");
+    expect(nody_utf16_bytes_valid_up_to(NODY_FORM_UTF8, in, sizeof in) == 8 && nody_utf16_bytes_valid_up_to(3, in, 1) == SIZE_MAX, "the other forms");
+}
+
+static void boundaries(void) {
+    static const uint8_t in[] = {0x41, 0xf0, 0x9f, 0x82, 0xa0, 0x80, 0xc3, 0xa9};
+    static const uint8_t be[] = {0, 0x41, 0xd8, 0x3c, 0xdc, 0xa0, 0x21};
+    static const uint16_t units[] = {0x41, 0xd83c, 0xdca0, 0xdc00};
+    static const size_t before[] = {0, 1, 1, 1, 1, 5, 6, 6, 8, 8}, after[] = {0, 1, 5, 5, 5, 5, 6, 8, 8, 8};
+    static const size_t even_before[] = {0, 0, 2, 2, 2, 2, 6, 7, 7}, even_after[] = {0, 2, 2, 6, 6, 6, 6, 7, 7};
+    for (size_t at = 0; at < 10; at++) {
+        expect(nody_boundary_before(NODY_FORM_UTF8, in, sizeof in, at) == before[at], "the boundary before a place");
+        expect(nody_shard_end(NODY_FORM_UTF8, in, sizeof in, at) == before[at], "the end of a shard");
+        expect(nody_boundary_after(NODY_FORM_UTF8, in, sizeof in, at) == after[at], "the boundary after a place");
+    }
+    for (size_t at = 0; at < 9; at++) {
+        expect(nody_boundary_before(NODY_FORM_UTF16BE, be, sizeof be, at) == even_before[at], "the boundary before a place in UTF-16");
+        expect(nody_boundary_after(NODY_FORM_UTF16BE, be, sizeof be, at) == even_after[at], "the boundary after a place in UTF-16");
+    }
+    expect(nody_boundary_before(3, in, 1, 0) == SIZE_MAX && nody_boundary_after(3, in, 1, 0) == SIZE_MAX, "a boundary in no form");
+    expect(nody_utf16_boundary_before(units, 4, 2) == 1 && nody_utf16_boundary_after(units, 4, 2) == 3, "in a pair");
+    expect(nody_utf16_boundary_before(units, 4, 3) == 3 && nody_utf16_boundary_after(units, 4, 3) == 3, "after a pair");
+    expect(nody_utf16_boundary_before(units, 4, 9) == 4 && nody_utf16_boundary_after(units, 4, 9) == 4, "after the end");
+    expect(nody_utf16_boundary_before(NULL, 0, 0) == 0 && nody_boundary_after(NODY_FORM_UTF8, NULL, 0, 1) == 0, "in nothing");
+}
+
+/* Which kind wins, what a kind is called, and the version. */
+static void words(void) {
+    static const uint8_t short_surrogate[] = {0xed, 0xa0}, overlong[] = {0xe0, 0x80, 0x41}, euro[] = {0xe2, 0x82};
+    nody_recoder_t recoder = nody_recoder(NODY_FORM_UTF8, NODY_FORM_UTF8), wrong = nody_recoder(NODY_FORM_UTF8, 9);
+    uint8_t out[8], held[3] = {1, 2, 3};
+    size_t read, written;
+    expect(nody_utf8_first(overlong, 3).kind == NODY_KIND_INTERRUPTED_SEQUENCE, "E0 80 41");
+    expect(nody_utf8_first(short_surrogate, 2).kind == NODY_KIND_TOO_FEW_BYTES, "ED A0");
+    expect(strcmp(nody_kind_name(NODY_KIND_OK), "Ok") == 0 && strcmp(nody_kind_name(NODY_KIND_INCOMPLETE), "Incomplete") == 0, "names of kinds");
+    expect(strcmp(nody_kind_sentence(NODY_KIND_OVERLONG_ENCODING), "overlong encoding: the value has a shorter code") == 0, "a sentence");
+    expect(strcmp(nody_kind_sentence(NODY_KIND_NONE), "nothing is left") == 0 && strcmp(nody_kind_sentence(12), "?") == 0, "the last sentence, and none");
+    expect(nody_version() == NODY_VERSION && nody_version() == 1000000, "the version");
+    expect(sizeof(nody_piece_t) == 16 && sizeof(nody_recoder_t) == 6 && sizeof(nody_kind_t) == 1 && sizeof(nody_form_t) == 1, "sizes");
+    expect(nody_recoder_feed(&recoder, euro, 2, out, 8, &read, &written) == NODY_STATUS_DONE && read == 2 && written == 0, "a part that waits");
+    expect(nody_recoder_held(&recoder, held, 1) == 2 && held[0] == 1, "no room for what is held");
+    expect(nody_recoder_held(&recoder, held, 3) == 2 && held[0] == 0xe2 && held[1] == 0x82 && held[2] == 3, "what is held");
+    expect(nody_recoder_held(&wrong, held, 3) == SIZE_MAX && held[0] == 0xe2, "what no recoder holds");
+    expect(nody_recoder_finish(&recoder, out, 8, &written) == NODY_STATUS_DONE && written == 6 && nody_recoder_held(&recoder, NULL, 0) == 0, "an input that ended early");
+    expect(nody_recoder_feed(&recoder, overlong + 2, 1, out, 8, &read, &written) == NODY_STATUS_DONE && written == 1 && out[0] == 0x41, "a recoder that is used again");
 }
 
 /* Recodes the same bytes again and again, and answers how often the output was wrong. */
 static void *of_a_thread(void *wrong) {
     static const uint8_t in[] = {0x41, 0xf0, 0x9f, 0x82, 0xa0, 0xe0, 0x80}, want[] = {0, 0x41, 0xd8, 0x3c, 0xdc, 0xa0, 0xff, 0xfd, 0xff, 0xfd};
-    for (int i = 0; i < 100000; i++) *(int *)wrong += !is_recoded(NODY_UTF8, NODY_UTF16BE, in, sizeof in, want, sizeof want, 3, MOST, 4);
+    for (int i = 0; i < 25000; i++) *(int *)wrong += !is_recoded(NODY_FORM_UTF8, NODY_FORM_UTF16BE, in, sizeof in, want, sizeof want, 3, MOST, 4);
     return NULL;
 }
 
 static void threads(void) {
-    pthread_t each[2];
-    int wrong[2] = {0, 0};
-    for (int i = 0; i < 2; i++) pthread_create(&each[i], NULL, of_a_thread, &wrong[i]);
-    for (int i = 0; i < 2; i++) pthread_join(each[i], NULL);
-    expect(wrong[0] + wrong[1] == 0, "two threads");
+    enum { THREADS = 8 };
+    pthread_t each[THREADS];
+    int wrong[THREADS] = {0}, sum = 0;
+    for (int i = 0; i < THREADS; i++) expect(pthread_create(&each[i], NULL, of_a_thread, &wrong[i]) == 0, "a thread");
+    for (int i = 0; i < THREADS; i++) pthread_join(each[i], NULL);
+    for (int i = 0; i < THREADS; i++) sum += wrong[i];
+    expect(sum == 0, "eight threads");
 }
 
 int main(int argc, char **argv) {
     nothing();
     cursors();
-    merged();
+    streamed();
+    whole_inputs();
+    boundaries();
+    words();
     vectors();
     random_cases(argc > 1 ? strtoul(argv[1], NULL, 10) : 1000);
     if (argc == 2) {
         scalars();
         threads();
     }
-    printf("%lu passed, %lu failed\n", passed, failed);
-    return failed != 0;
+    return tell();
 }

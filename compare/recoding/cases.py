@@ -61,6 +61,9 @@ def main(folder, seed, count):
 
 
 if __name__ == '__main__':
+    if sys.argv[1:] in (['--help'], ['-h']):
+        print(__doc__)
+        sys.exit(0)
     if len(sys.argv) != 4:
         print(__doc__.splitlines()[2], file=sys.stderr)
         sys.exit(2)

@@ -49,11 +49,19 @@ export class Cut {
         return this.between(place, place + 1)[0];
     }
 
-    // The faults that a reader of one byte at a time names otherwise, with its answers. All begin in the last three bytes.
+    // The invalid bytes that a streaming decoder names otherwise, with its answers. All begin in the last three bytes.
     get otherwise() {
         const { codec } = this;
         const last = codec.len ? this.between(Math.max(codec.len - NEAR, 0), codec.len) : [];
-        return last.map((it) => [it, codec.merged(it.place)]).filter(([it, merged]) => it.kind !== merged.kind);
+        return last.map((it) => [it, codec.streamedAt(it.place)]).filter(([it, streamed]) => it.kind !== streamed.kind);
+    }
+
+    // The offset of the first invalid byte after a place, or null where there is none.
+    nextFault(place) {
+        const { codec } = this;
+        const piece = this.at(place);
+        const found = codec.validUpTo(piece ? piece.place + piece.len : codec.len);
+        return found < codec.len ? found : null;
     }
 
     // Changes one byte, and answers the new pieces that were none before.

@@ -1,6 +1,6 @@
 // The grid of bytes and pieces. What is in view alone is drawn.
 import { OK } from "./codec.js";
-import { blockName, codePoint, glyph, hexByte, otherwise, sentence, shortKind } from "./words.js";
+import { codePoint, describe, glyph, hexByte, otherwise, sentence, shortKind, why } from "./words.js";
 
 const ROW = 66;
 // Browsers draw nothing below some tens of millions of pixels; higher grids scroll by more than a row at a time.
@@ -108,7 +108,7 @@ export class View {
             block.setAttribute("role", "option");
             block.setAttribute("aria-selected", String(is_chosen));
             block.setAttribute("aria-label", this.said([piece, other]));
-            block.title = is_fault ? codec.names[piece.kind] : blockName(piece.scalar);
+            block.title = is_fault ? `${codec.names[piece.kind]}: ${why(codec.names[piece.kind])}` : describe(piece.scalar);
         } else {
             block.setAttribute("aria-hidden", "true");
         }
@@ -118,8 +118,8 @@ export class View {
     // A piece of the cut as it is read now, and as it is read the other way; a character is the same in both.
     read(piece) {
         if (piece.kind === OK) return [piece, piece];
-        const merged = this.codec.merged(piece.place);
-        return this.isByByte ? [merged, piece] : [piece, merged];
+        const streamed = this.codec.streamedAt(piece.place);
+        return this.isByByte ? [streamed, piece] : [piece, streamed];
     }
 
     // What is said of a piece that was read.
@@ -154,8 +154,8 @@ export class View {
     tell(place) {
         const piece = this.cut.at(place);
         const text = piece ? this.said(this.read(piece)) : "There are no bytes.";
-        const why = document.getElementById("why");
-        if (why.textContent !== text) why.textContent = text;
+        const panel = document.getElementById("why");
+        if (panel.textContent !== text) panel.textContent = text;
     }
 
     // Goes to the piece after, before, or at an end.

@@ -1,5 +1,4 @@
 // The sentences of the page.
-import { BLOCKS } from "./blocks.js";
 import { OK } from "./codec.js";
 
 export const hexByte = (byte) => byte.toString(16).padStart(2, "0");
@@ -7,44 +6,55 @@ export const hexOf = (bytes) => Array.from(bytes, hexByte).join(" ");
 export const codePoint = (scalar) => scalar.toString(16).toUpperCase().padStart(4, "0");
 export const counted = (count, one, more = `${one}s`) => `${count.toLocaleString("en")} ${count === 1 ? one : more}`;
 
-// Why a byte is a fault, by its kind, and the section of RFC 3629 that says so.
-const WHY = {
-    TooFewBytes: ["begins a character that asks for more bytes than are left", 4],
-    NonUtf8Byte: ["stands in no UTF-8 text", 1],
-    UnexpectedContinuationByte: ["continues a character, but none began", 3],
-    InterruptedSequence: ["begins a character that the bytes after it do not continue", 4],
-    OverlongEncoding: ["begins a code that is longer than its value needs", 3],
-    Utf16ReservedCodepoint: ["begins the code of a surrogate, which is no character", 3],
-    TooHighCodepoint: ["begins a code above U+10FFFF, the highest that there is", 3],
+// For each error what is wrong with a byte, and the section of RFC 3629 that says so.
+const ERRORS = {
+    TooFewBytes: ["begins a character, but fewer bytes are left than it needs", 4],
+    NonUtf8Byte: ["never occurs in UTF-8: 0xC0, 0xC1 and 0xF5 to 0xFF are unused", 1],
+    UnexpectedContinuationByte: ["is a continuation byte (0x80 to 0xBF) where a character should begin", 3],
+    InterruptedSequence: ["begins a character, but a byte after it is no continuation byte", 4],
+    OverlongEncoding: ["begins an overlong encoding: the same value fits in fewer bytes", 3],
+    Utf16ReservedCodepoint: ["begins the encoding of a surrogate (U+D800 to U+DFFF), which UTF-8 must not contain", 3],
+    TooHighCodepoint: ["begins a value above U+10FFFF, the highest that Unicode has", 3],
 };
+export const ERROR_NAMES = new RegExp(`\\b(${Object.keys(ERRORS).join("|")})\\b`);
 
-export function why(kindName, byte) {
-    const [reason, section] = WHY[kindName];
-    return `0x${hexByte(byte).toUpperCase()} ${reason} (RFC 3629, section ${section}).`;
+// The sentence of an error, of the byte that has it or of any.
+export function why(name, subject = "The byte") {
+    const [reason, section] = ERRORS[name];
+    return `${subject} ${reason} (RFC 3629, section ${section}).`;
 }
 
-// What the other way of reading names a fault.
-export const otherwise = (kindName, isByByte) =>
-    isByByte ? ` A decoder that sees all bytes names it ${kindName}.` : ` A reader of one byte at a time names it ${kindName}.`;
+// What the other way of reading names an invalid byte.
+export const otherwise = (name, isByByte) => (isByByte ? ` A decoder that sees all bytes names it ${name}.` : ` A streaming decoder names it ${name}.`);
 
-// What a reader of one byte at a time finds.
+// What a streaming decoder finds.
 export function readByByte(otherwise, names) {
-    if (!otherwise.length) return "Read byte by byte, the cut is the same, and so is each kind.";
-    const each = otherwise.map(([piece, merged]) => ` The fault at offset ${piece.place} is ${names[merged.kind]} and not ${names[piece.kind]}.`);
-    return `Read byte by byte, the cut is the same.${each.join("")}`;
+    const same = "A streaming decoder, which gets one byte at a time, splits the bytes in the same way";
+    if (!otherwise.length) return `${same}, and names each error the same.`;
+    const each = otherwise.map(([piece, streamed]) => ` It names the invalid byte at offset ${piece.place} ${names[streamed.kind]}, not ${names[piece.kind]}.`);
+    return `${same}.${each.join("")}`;
 }
 
-// Two letters that stand for a kind where there is no room for its name.
-export const shortKind = (kindName) => kindName.match(/[A-Z]/g).slice(0, 2).join("");
+// Two letters that stand for an error where there is no room for its name.
+export const shortKind = (name) => name.match(/[A-Z]/g).slice(0, 2).join("");
 
-export function blockName(scalar) {
-    let [low, high] = [0, BLOCKS.length];
-    while (low < high) {
-        const middle = (low + high) >> 1;
-        if (BLOCKS[middle][1] < scalar) low = middle + 1;
-        else high = middle;
+const SCRIPTS = "Latin Greek Cyrillic Armenian Hebrew Arabic Devanagari Bengali Tamil Telugu Thai Georgian Hangul Ethiopic Khmer Hiragana Katakana Han".split(" ");
+const KINDS = { L: "letter", M: "combining mark", N: "number", P: "punctuation", S: "symbol", Z: "space", Cc: "control character", Cf: "format character", Co: "private use" };
+const matcher = (property, value, shown) => [new RegExp(`^\\p{${property}=${value}}`, "u"), shown];
+const OF_SCRIPT = SCRIPTS.map((it) => matcher("Script", it, `${it} `));
+const OF_KIND = Object.entries(KINDS).map(([it, shown]) => matcher("General_Category", it, shown));
+
+const described = new Map();
+
+// What the browser knows of a character: its script, of the common ones, and what sort of character it is.
+export function describe(scalar) {
+    if (!described.has(scalar)) {
+        const text = String.fromCodePoint(scalar);
+        const found = (listed) => listed.find(([test]) => test.test(text))?.[1];
+        const isEmoji = /^\p{Emoji_Presentation}/u.test(text);
+        described.set(scalar, isEmoji ? "emoji" : `${found(OF_SCRIPT) ?? ""}${found(OF_KIND) ?? "unassigned"}`);
     }
-    return low < BLOCKS.length && BLOCKS[low][0] <= scalar ? BLOCKS[low][2] : "no block";
+    return described.get(scalar);
 }
 
 const CONTROLS = "NUL SOH STX ETX EOT ENQ ACK BEL BS HT LF VT FF CR SO SI DLE DC1 DC2 DC3 DC4 NAK SYN ETB CAN EM SUB ESC FS GS RS US SP".split(" ");
@@ -59,7 +69,6 @@ export function glyph(scalar) {
 }
 
 export function sentence(piece, names, bytes) {
-    if (piece.kind !== OK) return `Offset ${piece.place}: ${names[piece.kind]}. ${why(names[piece.kind], bytes[piece.place])}`;
-    const length = counted(piece.len, "byte");
-    return `Offset ${piece.place}: ${glyph(piece.scalar)} U+${codePoint(piece.scalar)}, ${length}, ${blockName(piece.scalar)}.`;
+    if (piece.kind !== OK) return `Offset ${piece.place}: ${names[piece.kind]}. ${why(names[piece.kind], `0x${hexByte(bytes[piece.place]).toUpperCase()}`)}`;
+    return `Offset ${piece.place}: ${glyph(piece.scalar)} U+${codePoint(piece.scalar)}, ${counted(piece.len, "byte")}, ${describe(piece.scalar)}.`;
 }

@@ -12,7 +12,7 @@ mod collections;
 mod decoders;
 mod ends;
 mod mergers;
-mod recoding;
+mod recodings;
 mod tables;
 mod texts;
 

@@ -1,5 +1,5 @@
 -- What C sees: numbers of kinds and forms, pieces, what is left, and recoders.
-use Rattle.std.specs.Prelude.{◌≡◌, ℕ, zero, suc, ◌+◌, ◌-◌, ◌<◌, ◌≤◌, List, [], ◌∷◌, length, take, drop, set, get_or, All, Result, Ok, Err, ◌++◌, codes, replicate}
+use Rattle.std.specs.Prelude.{◌≡◌, ℕ, true, false, zero, suc, ◌+◌, ◌-◌, ◌<◌, ◌≤◌, List, [], ◌∷◌, length, take, drop, set, get_or, All, Result, Ok, Err, ◌++◌, codes, replicate}
 use Rattle.utf_base.specs.declared.errors.Utf8ErrorKind.{Utf8ErrorKind}
 use Rattle.utf_base.specs.declared.errors.Utf8ErrorKind.TheVariants.{TooFewBytes, NonUtf8Byte, UnexpectedContinuationByte, InterruptedSequence, OverlongEncoding, Utf16ReservedCodepoint, TooHighCodepoint}
 use Rattle.utf_base.specs.declared.errors.units.Utf16PairError.{Utf16PairError}
@@ -10,11 +10,12 @@ use Rattle.utf_base.specs.Decoded.{decoded, decoded_pairs, unless_fault}
 use Rattle.utf_base.specs.Kinds.{asked_by, merger_kind, value}
 use Rattle.encode_unicode.specs.Window.{Item, as_piece}
 use Rattle.cuts.specs.Items.{IsRun}
-use Rattle.cuts.specs.declared.recoding.form.Form.{Form}
-use Rattle.cuts.specs.declared.recoding.form.Form.TheVariants.{Utf8, Utf16Le, Utf16Be}
+use Rattle.cuts.specs.declared.Form.{Form}
+use Rattle.cuts.specs.declared.Form.TheVariants.{Utf8, Utf16Le, Utf16Be}
 use Rattle.cuts.specs.Recoded.{Recoding}
+use Rattle.cuts.specs.WellFormed.{IsFirstFault, IsFirstUnitFault}
 use Rattle.c_api.specs.declared.cursors.NodyPiece.{NodyPiece}
-use Rattle.c_api.specs.declared.recoding.NodyRecoder.{NodyRecoder}
+use Rattle.c_api.specs.declared.recodings.NodyRecoder.{NodyRecoder}
 
 -- the number of an error
 abbrev pub kind_number : Utf8ErrorKind → ℕ
@@ -115,16 +116,6 @@ pub record IsRecoder (r : NodyRecoder) : Type 0 where
 abbrev pub recoder_of : NodyRecoder → Recoding
 recoder_of r = record { from = form_of r.from; to = form_of r.to; held = take r.count r.held }
 
--- statuses
-abbrev pub done : ℕ
-done = 0
-
-abbrev pub full : ℕ
-full = 1
-
-abbrev pub refused : ℕ
-refused = 2
-
 -- a name in ASCII, with zeros after it up to 32 bytes
 abbrev pub named : List ℕ → List ℕ
 named name = name ++ replicate (32 - length name) 0
@@ -140,3 +131,31 @@ name_at =
 
 abbrev pub name_of : ℕ → List ℕ
 name_of kind = get_or name_at kind []
+
+-- what the kinds mean, by their numbers: each in ASCII, with zeros after it up to 64 bytes
+abbrev pub told : List ℕ → List ℕ
+told sentence = sentence ++ replicate (64 - length sentence) 0
+
+abbrev pub sentence_at : List (List ℕ)
+sentence_at =
+    told (codes "a character") ∷
+    told (codes "too few bytes: the input ends inside a character") ∷
+    told (codes "invalid byte: C0, C1 and F5 to FF never occur in UTF-8") ∷
+    told (codes "unexpected continuation byte: no character begins with it") ∷
+    told (codes "interrupted sequence: a continuation byte is missing") ∷
+    told (codes "overlong encoding: the value has a shorter code") ∷
+    told (codes "surrogate: the value is one of D800 to DFFF") ∷
+    told (codes "too high: the value is above 10FFFF") ∷
+    told (codes "unexpected trailing surrogate: no leading one stands before it") ∷
+    told (codes "unmatched leading surrogate: no trailing one follows it") ∷
+    told (codes "incomplete: the input ends after a leading surrogate") ∷
+    told (codes "nothing is left") ∷ []
+
+abbrev pub sentence_of : ℕ → List ℕ
+sentence_of kind = get_or sentence_at kind []
+
+-- the first fault of bytes of that form begins at the place n, or there is none, and n is their length
+abbrev pub IsFirstFaultIn : Form → List ℕ → ℕ → Type 0
+IsFirstFaultIn Utf8 bytes n = IsFirstFault utf8 bytes n
+IsFirstFaultIn Utf16Le bytes n = IsFirstUnitFault false bytes n
+IsFirstFaultIn Utf16Be bytes n = IsFirstUnitFault true bytes n

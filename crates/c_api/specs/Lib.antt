@@ -1,1 +1,2 @@
 pub mod Api
+pub mod Whole

@@ -17,7 +17,7 @@ pub struct NodyPiece {
     pub len: usize,
     /// The scalar, or 0 for a fault.
     pub scalar: u32,
-    /// 0 for a character, else the number of the error, or of `NODY_NONE`.
+    /// 0 for a character, else the number of the error, or of `NODY_KIND_NONE`.
     pub kind: u8,
 }
 
@@ -224,7 +224,7 @@ fn merged(bytes: &[u8]) -> NodyPiece
 
 /// The piece of bytes that begins at a place, as a reader of one byte at a time names it.
 #[unsafe(no_mangle)]
-pub extern "C" fn nody_utf8_merged(bytes: &[u8], place: usize) -> NodyPiece
+pub extern "C" fn nody_utf8_streamed_at(bytes: &[u8], place: usize) -> NodyPiece
     ensures some { place < length bytes.now → result ≡ first_merged (drop place bytes.now) }
     ensures run { IsMergedPiece bytes.now place result }
     ensures none { length bytes.now ≤ place → result ≡ no_piece }

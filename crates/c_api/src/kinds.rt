@@ -1,6 +1,6 @@
-//! Numbers and names of errors.
+//! Numbers, names and sentences of errors.
 ghost use Rattle.std.specs.Prelude.{◌≡◌, ◌<◌, ◌≤◌};
-ghost use Rattle.c_api.specs.Api.{kind_number, pair_number, name_of};
+ghost use Rattle.c_api.specs.Api.{kind_number, pair_number, name_of, sentence_of};
 
 use encode_unicode::error::{Utf8ErrorKind, Utf16PairError};
 
@@ -84,5 +84,64 @@ pub extern "C" fn nody_put_kind_name(kind: u8, name: &mut &'static NodyName)
 {
     if (kind as usize) < NAMES.len() {
         *name = &NAMES[kind as usize];
+    }
+}
+
+/// What a kind means, with zeros after it.
+#[repr(C)]
+pub struct NodySentence {
+    /// In ASCII.
+    pub text: [u8; 64],
+}
+
+// The sentences, by number.
+static SENTENCES: [NodySentence; 12] = [
+    NodySentence {
+        text: *b"a character\0\0\0\0\0\0\0\0\0\0\0\0\0\0\0\0\0\0\0\0\0\0\0\0\0\0\0\0\0\0\0\0\0\0\0\0\0\0\0\0\0\0\0\0\0\0\0\0\0\0\0\0\0",
+    },
+    NodySentence {
+        text: *b"too few bytes: the input ends inside a character\0\0\0\0\0\0\0\0\0\0\0\0\0\0\0\0",
+    },
+    NodySentence {
+        text: *b"invalid byte: C0, C1 and F5 to FF never occur in UTF-8\0\0\0\0\0\0\0\0\0\0",
+    },
+    NodySentence {
+        text: *b"unexpected continuation byte: no character begins with it\0\0\0\0\0\0\0",
+    },
+    NodySentence {
+        text: *b"interrupted sequence: a continuation byte is missing\0\0\0\0\0\0\0\0\0\0\0\0",
+    },
+    NodySentence {
+        text: *b"overlong encoding: the value has a shorter code\0\0\0\0\0\0\0\0\0\0\0\0\0\0\0\0\0",
+    },
+    NodySentence {
+        text: *b"surrogate: the value is one of D800 to DFFF\0\0\0\0\0\0\0\0\0\0\0\0\0\0\0\0\0\0\0\0\0",
+    },
+    NodySentence {
+        text: *b"too high: the value is above 10FFFF\0\0\0\0\0\0\0\0\0\0\0\0\0\0\0\0\0\0\0\0\0\0\0\0\0\0\0\0\0",
+    },
+    NodySentence {
+        text: *b"unexpected trailing surrogate: no leading one stands before it\0\0",
+    },
+    NodySentence {
+        text: *b"unmatched leading surrogate: no trailing one follows it\0\0\0\0\0\0\0\0\0",
+    },
+    NodySentence {
+        text: *b"incomplete: the input ends after a leading surrogate\0\0\0\0\0\0\0\0\0\0\0\0",
+    },
+    NodySentence {
+        text: *b"nothing is left\0\0\0\0\0\0\0\0\0\0\0\0\0\0\0\0\0\0\0\0\0\0\0\0\0\0\0\0\0\0\0\0\0\0\0\0\0\0\0\0\0\0\0\0\0\0\0\0\0",
+    },
+];
+
+/// Puts a pointer to a sentence that says what a kind means, which lives for ever, in the place of another; of a number that is
+/// no kind the pointer stays.
+#[unsafe(no_mangle)]
+pub extern "C" fn nody_put_kind_sentence(kind: u8, sentence: &mut &'static NodySentence)
+    ensures sentence { kind < 12 → sentence.new.now.text ≡ sentence_of kind }
+    ensures other { 12 ≤ kind → sentence.new ≡ sentence.old }
+{
+    if (kind as usize) < SENTENCES.len() {
+        *sentence = &SENTENCES[kind as usize];
     }
 }

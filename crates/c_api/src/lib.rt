@@ -4,9 +4,13 @@
 //! length 0 the pointer may be null. `c/noddychest.h` declares all of them.
 #![tactic(auto)]
 
+mod boundaries;
 mod characters;
+mod counts;
 mod cursors;
 mod kinds;
-mod recoding;
+mod recodings;
 mod shards;
+mod version;
 mod well_formed;
+mod whole;

@@ -3,7 +3,7 @@ ghost use Rattle.std.specs.Prelude.{◌≡◌, ◌+◌, ◌-◌, ◌<◌, ◌≤
 ghost use Rattle.cuts.specs.Shards.{IsLastShardEnd};
 ghost use Rattle.c_api.specs.Api.{form_of};
 
-use crate::recoding::form_of;
+use crate::boundaries::nody_boundary_before;
 
 /// The last place, up to `at`, where a shard of the bytes may end, or all ones where the form is none.
 #[unsafe(no_mangle)]
@@ -12,8 +12,5 @@ pub extern "C" fn nody_shard_end(from: u8, bytes: &[u8], at: usize) -> usize
     ensures near { from < 3 → min at (length bytes.now) ≤ result + 3 }
     ensures none { 3 ≤ from → result ≡ 2 ^ 64 - 1 }
 {
-    if 3 <= from {
-        return usize::MAX;
-    }
-    cuts::shard_end(form_of(from), bytes, at)
+    nody_boundary_before(from, bytes, at)
 }

@@ -1,6 +1,11 @@
 //! How far bytes and units are well-formed.
+ghost use Rattle.std.specs.Prelude.{◌≡◌, ◌-◌, ◌<◌, ◌≤◌, ◌^◌};
 ghost use Rattle.utf_base.specs.Code.{utf8, utf16};
 ghost use Rattle.cuts.specs.WellFormed.{IsFirstFault};
+ghost use Rattle.c_api.specs.Api.{form_of, IsFirstFaultIn};
+
+use crate::recodings::form_of;
+use cuts::Form;
 
 /// The offset of the first fault in the bytes, or how many there are where there is none.
 #[unsafe(no_mangle)]
@@ -16,4 +21,21 @@ pub extern "C" fn nody_utf16_valid_up_to(units: &[u16]) -> usize
     ensures { IsFirstFault utf16 units.now result }
 {
     cuts::units_valid_up_to(units)
+}
+
+/// The offset of the first fault in bytes of that form, or how many there are where there is none; all ones where the form is
+/// none.
+#[unsafe(no_mangle)]
+pub extern "C" fn nody_utf16_bytes_valid_up_to(form: u8, bytes: &[u8]) -> usize
+    ensures first { form < 3 → IsFirstFaultIn (form_of form) bytes.now result }
+    ensures none { 3 ≤ form → result ≡ 2 ^ 64 - 1 }
+{
+    if 3 <= form {
+        return usize::MAX;
+    }
+    match form_of(form) {
+        Form::Utf8 => cuts::valid_up_to(bytes),
+        Form::Utf16Le => cuts::unit_bytes_valid_up_to(false, bytes),
+        Form::Utf16Be => cuts::unit_bytes_valid_up_to(true, bytes),
+    }
 }

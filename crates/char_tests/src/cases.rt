@@ -57,4 +57,5 @@ fn cases_of_ascii_letters_alone_change(rt: HostRuntime) {
             assert_eq!(rt; same, [lower == lower_other; 2], "at {c:?} and {other:?}");
         }
     }
+    assert_eq!(rt; same_but_for_case('\u{f9}', '\u{d9}'), [false; 2]);
 }

@@ -1,6 +1,7 @@
-//! What the first byte, or unit, of a code asks for.
+//! What the first byte, or unit, of a code asks for, and which bytes and units come after it.
 use encode_unicode::error::{Utf8ErrorKind, Utf16FirstUnitError};
 use encode_unicode::{U8UtfExt, U16UtfExt};
+use utf_base::elements::{is_continuation, is_trailing_surrogate};
 
 // The answer, asked through the bound.
 fn extra_bytes<T: U8UtfExt>(byte: T) -> Result<usize, Utf8ErrorKind> {
@@ -89,6 +90,30 @@ fn first_units_ask_for_a_second(rt: HostRuntime) {
                 (answer, leads),
                 "through the bound at {unit:04x}"
             );
+        }
+    }
+}
+
+#[test]
+fn later_bytes_are_told(rt: HostRuntime) {
+    let table: [(u8, u8, bool); 3] = [(0x00, 0x7f, false), (0x80, 0xbf, true), (0xc0, 0xff, false)];
+    for (lowest, highest, answer) in table {
+        for byte in lowest..=highest {
+            assert_eq!(rt; is_continuation(byte), answer, "at {byte:02x}");
+        }
+    }
+}
+
+#[test]
+fn later_units_are_told(rt: HostRuntime) {
+    let table: [(u16, u16, bool); 3] = [
+        (0x0000, 0xdbff, false),
+        (0xdc00, 0xdfff, true),
+        (0xe000, 0xffff, false),
+    ];
+    for (lowest, highest, answer) in table {
+        for unit in lowest..=highest {
+            assert_eq!(rt; is_trailing_surrogate(unit), answer, "at {unit:04x}");
         }
     }
 }

@@ -21,9 +21,12 @@ fn gives_codes<T: CharExt + Copy>(c: T, edge: &Edge) -> bool {
 // Whether the calls of the bound make the character of the row from its number and from its bytes.
 fn is_made_of_bytes<T: CharExt + Copy + PartialEq>(c: T, edge: &Edge) -> bool {
     let (scalar, _, bytes, _) = *edge;
+    let longer: [u8; 5] = filled(bytes, 0xff);
     T::from_u32_detailed(scalar as u32).ok() == Some(c)
         && T::from_utf8_slice_start(bytes).ok() == Some((c, bytes.len()))
+        && T::from_utf8_slice_start(&longer).ok() == Some((c, bytes.len()))
         && T::from_utf8_array(filled(bytes, 0xff)).ok() == Some(c)
+        && T::from_utf8_array(filled(bytes, 0)).ok() == Some(c)
 }
 
 // Whether the calls of the bound make the character of the row from its units.
@@ -36,7 +39,9 @@ fn is_made_of_units<T: CharExt + Copy + PartialEq>(c: T, edge: &Edge) -> bool {
         return false;
     }
     let array = filled(units, 0);
+    let longer: [u16; 3] = filled(units, 0);
     T::from_utf16_slice_start(units).ok() == Some((c, units.len()))
+        && T::from_utf16_slice_start(&longer).ok() == Some((c, units.len()))
         && T::from_utf16_array(array).ok() == Some(c)
         && T::from_utf16_tuple((first, second)).ok() == Some(c)
         && T::from_utf16_array_unchecked(array) == c
@@ -60,6 +65,7 @@ fn is_made_in_utf8(edge: &Edge) -> bool {
         && Utf8Char::from_slice_start(&longer).ok() == found
         && kept_bytes(filled(bytes, 0xff)) == Some(kept.to_array())
         && Utf8Char::from_array(filled(bytes, 0xff)).ok() == Some(kept)
+        && Utf8Char::from_array(filled(bytes, 0)).ok() == Some(kept)
 }
 
 // Whether the `Utf8Char` gives back the row.
@@ -88,6 +94,7 @@ fn is_made_in_utf16(edge: &Edge) -> bool {
     let (c, _, _, units) = *edge;
     let kept = Utf16Char::new(c);
     let found = Some((kept, units.len()));
+    let before_zeros: [u16; 3] = filled(units, 0);
     let (before_unit, before_stray): ([u16; 4], [u16; 4]) = (
         filled(units, 0x79),
         filled(units, 0xdead),
@@ -95,6 +102,7 @@ fn is_made_in_utf16(edge: &Edge) -> bool {
     Utf16Char::from(c) == kept
         && Utf16Char::from(Utf8Char::new(c)) == kept
         && Utf16Char::from_slice_start(units).ok() == found
+        && Utf16Char::from_slice_start(&before_zeros).ok() == found
         && Utf16Char::from_slice_start(&before_unit).ok() == found
         && Utf16Char::from_slice_start(&before_stray).ok() == found
         && Utf16Char::from_array(filled(units, 0x79)).ok() == Some(kept)

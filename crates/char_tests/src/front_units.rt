@@ -56,6 +56,18 @@ fn begin(src: &[u16], answer: Result<(char, usize), Utf16SliceError>) -> bool {
         && kept_front_of(src) == answer
 }
 
+// Whether each call answers so at the front of every slice of two to six units that begins with these two.
+fn begin_longer(units: [u16; 2], answer: Result<(char, usize), Utf16SliceError>) -> bool {
+    let [first, second] = units;
+    let six = [first, second, 0x0041, 0xdc00, first, second];
+    for len in 2..=6 {
+        if !begin(&six[..len], answer) {
+            return false;
+        }
+    }
+    true
+}
+
 #[test]
 fn two_units_are_decoded_unchecked(rt: HostRuntime) {
     for (units, c) in [([0xd802, 0], '\u{10800}'), ([0xdbad, 0xf19e], '\u{fb59e}')] {
@@ -75,7 +87,7 @@ fn are_refused(
 ) -> bool {
     let [first, second] = units;
     are_exactly((first, Some(second)), Err(tuple))
-        && begin(&units, Err(slice))
+        && begin_longer(units, Err(slice))
         && are(units, Err(array))
 }
 
@@ -103,7 +115,7 @@ fn leading_surrogates_need_a_trailing_one(rt: HostRuntime) {
         let alone = are_exactly((first, None), Err(Utf16TupleError::MissingSecond))
             && begin(&[first], Err(Utf16SliceError::MissingSecond));
         assert!(rt; alone, "at {first:x}");
-        for second in [0x0000, 0xd7ff, 0xd800, 0xdbff, 0xe000, 0xffff] {
+        for second in [first, 0x0000, 0xd7ff, 0xd800, 0xdbff, 0xe000, 0xffff] {
             let units = [first, second];
             assert!(rt; are_refused(units, tuple, slice, array), "at {units:?}");
         }
@@ -119,7 +131,7 @@ fn units_that_stand_alone_need_no_second(rt: HostRuntime) {
             for second in ENDS {
                 let units = [first, second];
                 let holds = are_exactly((first, Some(second)), superfluous)
-                    && begin(&units, Ok((c, 1)))
+                    && begin_longer(units, Ok((c, 1)))
                     && are(units, Ok(c));
                 assert!(rt; holds, "at {units:?}");
             }

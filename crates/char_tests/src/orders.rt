@@ -51,11 +51,12 @@ fn characters_go_by_their_scalars(rt: HostRuntime) {
         }
     }
     // The lesser has the greater unit.
-    let (one, other) = ('\u{e000}', '\u{10000}');
-    assert!(rt; forms_compare(one, other, Ordering::Less));
-    assert!(rt; forms_mix(one, other, Ordering::Less));
-    let units = one.to_utf16().as_units().cmp(other.to_utf16().as_units());
-    assert_eq!(rt; units, Ordering::Greater);
+    for (one, other) in [('\u{e000}', '\u{10000}'), ('\u{ffff}', '\u{10000}')] {
+        assert!(rt; forms_compare(one, other, Ordering::Less));
+        assert!(rt; forms_mix(one, other, Ordering::Less));
+        let units = one.to_utf16().as_units().cmp(other.to_utf16().as_units());
+        assert_eq!(rt; units, Ordering::Greater);
+    }
 }
 
 fn hash_of<T: Hash + Drop>(value: T) -> u64 {

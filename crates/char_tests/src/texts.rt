@@ -84,8 +84,17 @@ fn shows(alloc: Global, c: char, text: &str) -> Result<bool, AllocError> {
 
 #[test]
 fn characters_show_as_a_char_does(rt: HostRuntime) -> Result<(), Fail> {
-    for (c, text) in [('a', "'a'"), ('\n', "'\\n'"), ('\u{e9}', "'\u{e9}'")] {
-        assert!(rt; shows(rt.alloc(), c, text)?, "at {c:?}");
+    for (c, text) in [
+        ('a', "'a'"),
+        ('\n', "'\\n'"),
+        ('\u{e9}', "'\u{e9}'"),
+        ('\u{fffd}', "'\u{fffd}'"),
+        ('\u{fffe}', "'\\u{fffe}'"),
+    ] {
+        assert!(rt;
+            shows(rt.alloc(), c, text)? && is_shown(rt.alloc(), c)?,
+            "at {c:?}"
+        );
     }
     Ok(())
 }

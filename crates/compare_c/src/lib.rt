@@ -19,7 +19,7 @@ mod errors;
 mod mergers;
 mod numbers;
 mod pairs;
-mod recoding;
+mod recodings;
 mod rooms;
 mod runs;
 mod sheet;

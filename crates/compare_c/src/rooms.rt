@@ -1,7 +1,7 @@
 //! Recoding into room of a fixed size, and the calls that answer a place.
 ghost use Rattle.std.specs.Prelude.{◌≤◌, length};
 
-use crate::recoding::form_of;
+use crate::recodings::form_of;
 use cuts::Recoder;
 
 /// What the recoder makes of some bytes by `feed_into` and `finish_into`. Two numbers are a call: how many bytes its part

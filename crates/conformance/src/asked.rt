@@ -1,20 +1,15 @@
 //! Rows of calls: what is asked, by which calls, and what each has to answer.
 
+use crate::answers::Asked;
 use crate::characters::{Number, TextOfOne};
 use crate::decoders::{BytesAtEnds, UnitsAtEnds};
-use crate::rows::parse_bytes;
 use crate::texts::{BytesOf, CharactersOf, CodeOfOne, UnitsOf};
-use crate::units::parse_units;
-use encode_unicode::{U8IterExt, U8SliceExt, U16IterExt, U16SliceExt};
+use encode_unicode::{
+    StrExt, U8IterExt, U8SliceExt, U16IterExt, U16SliceExt, Utf8CharIterExt, Utf16CharIterExt,
+};
+use fakes::rows::{bytes_of, units_of, wrong_row};
 use std::alloc::{AllocError, Global};
 use std::io;
-use std::io::ErrorKind;
-
-/// What answers calls that are named.
-pub(crate) trait Asked {
-    /// The answer to the next call, as `Debug` writes it.
-    fn answer(&mut self, alloc: Global, call: &str) -> Result<String, AllocError>;
-}
 
 /// What a row says: what is asked, its input, the calls and their answers.
 #[derive(Drop)]
@@ -43,10 +38,10 @@ pub(crate) fn parse(alloc: Global, file: &str) -> io::Result<Vec<CallRow<'_>>> {
 fn parse_row(line: &str) -> io::Result<CallRow<'_>> {
     let mut columns = line.split(" | ");
     let (Some(asked), Some(input)) = (columns.next(), columns.next()) else {
-        return Err(io::Error::from(ErrorKind::InvalidData));
+        return Err(wrong_row());
     };
     let (Some(calls), Some(answers)) = (columns.next(), columns.next()) else {
-        return Err(io::Error::from(ErrorKind::InvalidData));
+        return Err(wrong_row());
     };
     Ok(CallRow {
         text: line,
@@ -63,12 +58,14 @@ impl<'a> CallRow<'a> {
         match self.asked {
             "bytes" | "decoder" | "merger" => self.bytes_agree(alloc),
             "units" | "decoder of units" | "merger of units" => self.units_agree(alloc),
+            "bytes of a list" | "units of a list" => self.list_agrees(alloc),
+            "number" => self.number_agrees(alloc),
             _ => self.text_agrees(alloc),
         }
     }
 
     fn bytes_agree(&self, alloc: Global) -> io::Result<bool> {
-        let bytes = parse_bytes(alloc, self.input)?;
+        let bytes = bytes_of(alloc, self.input)?;
         let bytes = bytes.as_slice();
         Ok(match self.asked {
             "bytes" => self.holds(alloc, BytesAtEnds { bytes })?,
@@ -78,7 +75,7 @@ impl<'a> CallRow<'a> {
     }
 
     fn units_agree(&self, alloc: Global) -> io::Result<bool> {
-        let units = parse_units(alloc, self.input)?;
+        let units = units_of(alloc, self.input)?;
         let units = units.as_slice();
         Ok(match self.asked {
             "units" => self.holds(alloc, UnitsAtEnds { units })?,
@@ -87,16 +84,31 @@ impl<'a> CallRow<'a> {
         })
     }
 
+    fn list_agrees(&self, alloc: Global) -> io::Result<bool> {
+        let chars = Vec::from_iter(alloc, self.input.utf8chars())?;
+        let unit_chars = Vec::from_iter(alloc, self.input.utf16chars())?;
+        Ok(match self.asked {
+            "bytes of a list" => self.holds(alloc, chars.iter().copied().to_bytes())?,
+            _ => self.holds(alloc, unit_chars.iter().copied().to_units())?,
+        })
+    }
+
+    fn number_agrees(&self, alloc: Global) -> io::Result<bool> {
+        match u32::from_str_radix(self.input, 16) {
+            Ok(number) => Ok(self.holds(alloc, Number { number })?),
+            Err(_) => Err(wrong_row()),
+        }
+    }
+
     fn text_agrees(&self, alloc: Global) -> io::Result<bool> {
         let text = self.input;
         Ok(match self.asked {
             "text" => self.holds(alloc, TextOfOne { text })?,
-            "number" => self.holds(alloc, Number { text })?,
             "code" => self.holds(alloc, CodeOfOne::new(text))?,
             "characters" => self.holds(alloc, CharactersOf::new(text))?,
             "bytes of a text" => self.holds(alloc, BytesOf::new(text))?,
             "units of a text" => self.holds(alloc, UnitsOf::new(text))?,
-            _ => false,
+            _ => return Err(wrong_row()),
         })
     }
 

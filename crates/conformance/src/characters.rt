@@ -1,6 +1,6 @@
 //! Texts and numbers as characters.
 
-use crate::asked::Asked;
+use crate::answers::{Asked, no_call};
 use encode_unicode::{CharExt, Utf8Char, Utf16Char};
 use std::alloc::{AllocError, Global};
 use std::str::FromStr;
@@ -21,30 +21,32 @@ impl<'a> Asked for TextOfOne<'a> {
                 );
                 format!(in alloc; "{bytes:?} {units:?}")
             }
-            _ => {
+            "from_str_start" => {
                 let bytes = Utf8Char::from_str_start(self.text);
                 let units = Utf16Char::from_str_start(self.text);
                 format!(in alloc; "{bytes:?} {units:?}")
             }
+            _ => no_call(alloc, call),
         }
     }
 }
 
-/// A number in hexadecimal, as a byte, a unit or a character.
+/// A number, as a byte, a unit or a character.
 #[derive(Drop)]
-pub(crate) struct Number<'a> {
-    pub(crate) text: &'a str,
+pub(crate) struct Number {
+    pub(crate) number: u32,
 }
 
-impl<'a> Asked for Number<'a> {
+impl Asked for Number {
     fn answer(&mut self, alloc: Global, call: &str) -> Result<String, AllocError> {
-        let number = u32::from_str_radix(self.text, 16).unwrap_or(0);
-        let unit = u16::from_str_radix(self.text, 16).unwrap_or(0);
-        let byte = u8::from_str_radix(self.text, 16).unwrap_or(0);
-        match call {
-            "from_u32_detailed" => format!(in alloc; "{:?}", char::from_u32_detailed(number)),
-            "from_bmp" => format!(in alloc; "{:?}", Utf16Char::from_bmp(unit)),
-            _ => format!(in alloc; "{:?}", Utf8Char::from_ascii(byte)),
+        let (byte, unit) = (u8::try_from(self.number), u16::try_from(self.number));
+        match (call, byte, unit) {
+            ("from_u32_detailed", _, _) => {
+                format!(in alloc; "{:?}", char::from_u32_detailed(self.number))
+            }
+            ("from_bmp", _, Ok(unit)) => format!(in alloc; "{:?}", Utf16Char::from_bmp(unit)),
+            ("from_ascii", Ok(byte), _) => format!(in alloc; "{:?}", Utf8Char::from_ascii(byte)),
+            _ => no_call(alloc, call),
         }
     }
 }

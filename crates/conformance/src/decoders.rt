@@ -1,6 +1,6 @@
 //! The decoders and the mergers, and the calls that decode the ends of a slice.
 
-use crate::asked::Asked;
+use crate::answers::{Asked, no_call};
 use encode_unicode::iterator::{
     Utf8CharDecoder, Utf8CharMerger, Utf16CharDecoder, Utf16CharMerger,
 };
@@ -25,7 +25,8 @@ impl<'a> Asked for BytesAtEnds<'a> {
             "char::from_utf8_array" => format!(in alloc; "{:?}", char::from_utf8_array(four)),
             "from_slice_start" => format!(in alloc; "{:?}", Utf8Char::from_slice_start(self.bytes)),
             "from_slice_end" => format!(in alloc; "{:?}", Utf8Char::from_slice_end(self.bytes)),
-            _ => format!(in alloc; "{:?}", Utf8Char::from_array(four)),
+            "from_array" => format!(in alloc; "{:?}", Utf8Char::from_array(four)),
+            _ => no_call(alloc, call),
         }
     }
 }
@@ -64,7 +65,8 @@ impl<'a> Asked for UnitsAtEnds<'a> {
             }
             "from_slice_end" => format!(in alloc; "{:?}", Utf16Char::from_slice_end(self.units)),
             "from_array" => format!(in alloc; "{:?}", Utf16Char::from_array(self.two())),
-            _ => format!(in alloc; "{:?}", Utf16Char::from_tuple(self.tuple())),
+            "from_tuple" => format!(in alloc; "{:?}", Utf16Char::from_tuple(self.tuple())),
+            _ => no_call(alloc, call),
         }
     }
 }
@@ -77,7 +79,8 @@ impl<'a> Asked for Utf8CharDecoder<'a> {
             "size_hint" => format!(in alloc; "{:?}", self.size_hint()),
             "as_slice" => format!(in alloc; "{:?}", self.as_slice()),
             "count" => format!(in alloc; "{}", self.clone()?.count()),
-            _ => format!(in alloc; "{self:?}"),
+            "debug" => format!(in alloc; "{self:?}"),
+            _ => no_call(alloc, call),
         }
     }
 }
@@ -91,7 +94,8 @@ impl<'a> Asked for Utf16CharDecoder<'a> {
             "size_hint" => format!(in alloc; "{:?}", self.size_hint()),
             "as_slice" => format!(in alloc; "{:?}", self.as_slice()),
             "count" => format!(in alloc; "{}", self.clone()?.count()),
-            _ => format!(in alloc; "{self:?}"),
+            "debug" => format!(in alloc; "{self:?}"),
+            _ => no_call(alloc, call),
         }
     }
 }
@@ -113,7 +117,8 @@ impl<'a> Asked for Utf8CharMerger<Copied<Iter<'a, u8>>> {
                 let bytes = Vec::from_iter(alloc, rest)?;
                 format!(in alloc; "{hint:?} {bytes:?}")
             }
-            _ => without_source(alloc, &format!(in alloc; "{self:?}")?),
+            "debug" => without_source(alloc, &format!(in alloc; "{self:?}")?),
+            _ => no_call(alloc, call),
         }
     }
 }
@@ -130,7 +135,8 @@ impl<'a> Asked for Utf16CharMerger<Copied<Iter<'a, u16>>> {
                 let units = Vec::from_iter(alloc, rest)?;
                 format!(in alloc; "{hint:?} {units:?}")
             }
-            _ => without_source(alloc, &format!(in alloc; "{self:?}")?),
+            "debug" => without_source(alloc, &format!(in alloc; "{self:?}")?),
+            _ => no_call(alloc, call),
         }
     }
 }

@@ -3,6 +3,7 @@
 //! A row that differs is printed too, and the status is then 1.
 #![tactic(auto)]
 
+mod answers;
 mod asked;
 mod characters;
 mod decoders;

@@ -1,10 +1,9 @@
 //! The rows of recoded bytes, and the ways of feeding them that are held against the rows.
 
-use crate::rows::parse_bytes;
 use cuts::{Form, Recoder};
+use fakes::rows::{bytes_of, wrong_row};
 use std::alloc::{AllocError, Global};
 use std::io;
-use std::io::ErrorKind;
 
 /// What a row says: two forms, some bytes in the first, and what they are in the second.
 #[derive(Drop)]
@@ -33,18 +32,18 @@ fn parse_row(alloc: Global, line: &str) -> io::Result<RecodedRow<'_>> {
     let mut columns = line.split('|');
     let (Some(forms), Some(bytes), Some(recoded)) = (columns.next(), columns.next(), columns.next())
     else {
-        return Err(io::Error::from(ErrorKind::InvalidData));
+        return Err(wrong_row());
     };
     let mut names = forms.split(' ');
     let (Some(from), Some(to)) = (names.next(), names.next()) else {
-        return Err(io::Error::from(ErrorKind::InvalidData));
+        return Err(wrong_row());
     };
     Ok(RecodedRow {
         text: line,
         from: form_of(from)?,
         to: form_of(to)?,
-        bytes: parse_bytes(alloc, bytes)?,
-        recoded: parse_bytes(alloc, recoded)?,
+        bytes: bytes_of(alloc, bytes)?,
+        recoded: bytes_of(alloc, recoded)?,
     })
 }
 
@@ -53,7 +52,7 @@ fn form_of(name: &str) -> io::Result<Form> {
         "utf8" => Ok(Form::Utf8),
         "utf16le" => Ok(Form::Utf16Le),
         "utf16be" => Ok(Form::Utf16Be),
-        _ => Err(io::Error::from(ErrorKind::InvalidData)),
+        _ => Err(wrong_row()),
     }
 }
 
@@ -85,9 +84,7 @@ impl Feeding {
         for part in row.bytes.as_slice().chunks(most) {
             recoder.feed(part, &mut made)?;
         }
-        match recoder.finish(&mut made) {
-            Ok(()) => Ok(made.as_slice() == row.recoded.as_slice()),
-            Err(unfinished) => Err(unfinished.cause),
-        }
+        recoder.finish(&mut made)?;
+        Ok(made.as_slice() == row.recoded.as_slice())
     }
 }

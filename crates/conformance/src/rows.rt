@@ -1,9 +1,9 @@
 //! The rows of a file of vectors.
 
 use cuts::End;
+use fakes::rows::{bytes_of, wrong_row};
 use std::alloc::Global;
 use std::io;
-use std::io::ErrorKind;
 
 /// What a row says: some bytes, and what runs over them have to give, as text with `;` between the
 /// answers.
@@ -37,14 +37,14 @@ fn parse_row(alloc: Global, line: &str) -> io::Result<Row<'_>> {
     let mut columns = line.split('|');
     let (Some(text), Some(pieces), Some(merged)) = (columns.next(), columns.next(), columns.next())
     else {
-        return Err(io::Error::from(ErrorKind::InvalidData));
+        return Err(wrong_row());
     };
     let (Some(letters), Some(walk)) = (columns.next(), columns.next()) else {
-        return Err(io::Error::from(ErrorKind::InvalidData));
+        return Err(wrong_row());
     };
     Ok(Row {
         text,
-        bytes: parse_bytes(alloc, text)?,
+        bytes: bytes_of(alloc, text)?,
         pieces,
         merged,
         word: parse_word(alloc, letters)?,
@@ -58,27 +58,8 @@ pub(crate) fn parse_word(alloc: Global, letters: &str) -> io::Result<Vec<End>> {
         word.push(match letter {
             b'F' => End::Front,
             b'B' => End::Back,
-            _ => return Err(io::Error::from(ErrorKind::InvalidData)),
+            _ => return Err(wrong_row()),
         })?;
     }
     Ok(word)
-}
-
-pub(crate) fn parse_bytes(alloc: Global, text: &str) -> io::Result<Vec<u8>> {
-    let mut bytes = Vec::new(alloc);
-    for digits in text.as_bytes().chunks(2) {
-        match digits {
-            [high, low] => bytes.push(digit(*high)? << 4 | digit(*low)?)?,
-            _ => return Err(io::Error::from(ErrorKind::InvalidData)),
-        }
-    }
-    Ok(bytes)
-}
-
-pub(crate) fn digit(byte: u8) -> io::Result<u8> {
-    match byte {
-        b'0'..=b'9' => Ok(byte - b'0'),
-        b'a'..=b'f' => Ok(byte - b'a' + 10),
-        _ => Err(io::Error::from(ErrorKind::InvalidData)),
-    }
 }

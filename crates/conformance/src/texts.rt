@@ -1,13 +1,15 @@
-//! The characters of a text, and their codes, one by one.
+//! The characters of a text or a list, and their codes, one by one.
 
-use crate::asked::Asked;
+use crate::answers::{Asked, no_call};
 use encode_unicode::iterator::{
     Utf8CharIndices, Utf8CharSplitter, Utf8Chars, Utf8Iterator, Utf16CharIndices,
     Utf16CharSplitter, Utf16Chars, Utf16Iterator,
 };
-use encode_unicode::{CharExt, StrExt, Utf8CharIterExt, Utf16CharIterExt};
+use encode_unicode::{CharExt, StrExt, Utf8Char, Utf8CharIterExt, Utf16Char, Utf16CharIterExt};
 use std::alloc::{AllocError, Global};
 use std::io::Read;
+use std::iter::Copied;
+use std::slice::Iter;
 
 /// The four iterators of a text, which answer each call in turn.
 #[derive(Drop)]
@@ -52,7 +54,7 @@ impl<'a> Asked for CharactersOf<'a> {
                 let units = (self.unit_indices.as_str(), self.unit_chars.as_str());
                 format!(in alloc; "{bytes:?} {units:?}")
             }
-            _ => {
+            "debug" => {
                 let CharactersOf {
                     indices,
                     chars,
@@ -61,6 +63,7 @@ impl<'a> Asked for CharactersOf<'a> {
                 } = self;
                 format!(in alloc; "{indices:?} {chars:?} {unit_indices:?} {unit_chars:?}")
             }
+            _ => no_call(alloc, call),
         }
     }
 }
@@ -97,7 +100,9 @@ impl Asked for CodeOfOne {
             "debug" => format!(in alloc; "{:?} {:?}", self.bytes, self.units),
             _ => {
                 let mut places = [0x45; 9];
-                let room = places.get_mut(..room_of(call)).unwrap_or(&mut []);
+                let Some(room) = room_of(call, &mut places) else {
+                    return no_call(alloc, call);
+                };
                 let count = self.bytes.read(room).ok();
                 format!(in alloc; "{count:?} {places:?}")
             }
@@ -105,10 +110,10 @@ impl Asked for CodeOfOne {
     }
 }
 
-// How many places a call `read-N` has.
-fn room_of(call: &str) -> usize {
-    let digits = call.strip_prefix("read-").unwrap_or("");
-    digits.parse().unwrap_or(0)
+// The places that a call `read-N` is given: the first N.
+fn room_of<'a>(call: &str, places: &'a mut [u8; 9]) -> Option<&'a mut [u8]> {
+    let digits = call.strip_prefix("read-")?;
+    places.get_mut(..digits.parse().ok()?)
 }
 
 /// The bytes of the characters of a text.
@@ -136,7 +141,9 @@ impl<'a> Asked for BytesOf<'a> {
             }
             _ => {
                 let mut places = [0x45; 9];
-                let room = places.get_mut(..room_of(call)).unwrap_or(&mut []);
+                let Some(room) = room_of(call, &mut places) else {
+                    return no_call(alloc, call);
+                };
                 let count = self.splitter.read(room).ok();
                 format!(in alloc; "{count:?} {places:?}")
             }
@@ -163,10 +170,40 @@ impl<'a> Asked for UnitsOf<'a> {
         match call {
             "next" => format!(in alloc; "{:?}", self.splitter.next()),
             "size_hint" => format!(in alloc; "{:?}", self.splitter.size_hint()),
-            _ => {
+            "into_inner" => {
                 let source = self.splitter.clone()?.into_inner();
                 format!(in alloc; "{:?}", source.as_str())
             }
+            _ => no_call(alloc, call),
+        }
+    }
+}
+
+// The bytes of the characters of a list, whose source says exactly how many come.
+impl<'a> Asked for Utf8CharSplitter<Copied<Iter<'a, Utf8Char>>> {
+    fn answer(&mut self, alloc: Global, call: &str) -> Result<String, AllocError> {
+        match call {
+            "next" => format!(in alloc; "{:?}", self.next()),
+            "size_hint" => format!(in alloc; "{:?}", self.size_hint()),
+            _ => {
+                let mut places = [0x45; 9];
+                let Some(room) = room_of(call, &mut places) else {
+                    return no_call(alloc, call);
+                };
+                let count = self.read(room).ok();
+                format!(in alloc; "{count:?} {places:?}")
+            }
+        }
+    }
+}
+
+// The units of the characters of a list.
+impl<'a> Asked for Utf16CharSplitter<Copied<Iter<'a, Utf16Char>>> {
+    fn answer(&mut self, alloc: Global, call: &str) -> Result<String, AllocError> {
+        match call {
+            "next" => format!(in alloc; "{:?}", self.next()),
+            "size_hint" => format!(in alloc; "{:?}", self.size_hint()),
+            _ => no_call(alloc, call),
         }
     }
 }

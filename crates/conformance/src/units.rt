@@ -1,12 +1,12 @@
 //! The rows of units, and the kinds of run that are held against them.
 
-use crate::rows::{digit, parse_word};
+use crate::rows::parse_word;
 use cuts::{End, walk_utf16};
 use encode_unicode::error::Utf16PairError;
 use encode_unicode::{U16IterExt, U16SliceExt};
+use fakes::rows::{units_of, wrong_row};
 use std::alloc::{AllocError, Global};
 use std::io;
-use std::io::ErrorKind;
 
 /// What a row says: some units, and what runs over them have to give, as text with `;` between the
 /// answers.
@@ -37,30 +37,18 @@ pub(crate) fn parse(alloc: Global, file: &str) -> io::Result<Vec<UnitRow<'_>>> {
 fn parse_row(alloc: Global, line: &str) -> io::Result<UnitRow<'_>> {
     let mut columns = line.split('|');
     let (Some(text), Some(pieces)) = (columns.next(), columns.next()) else {
-        return Err(io::Error::from(ErrorKind::InvalidData));
+        return Err(wrong_row());
     };
     let (Some(letters), Some(walk)) = (columns.next(), columns.next()) else {
-        return Err(io::Error::from(ErrorKind::InvalidData));
+        return Err(wrong_row());
     };
     Ok(UnitRow {
         text,
-        units: parse_units(alloc, text)?,
+        units: units_of(alloc, text)?,
         pieces,
         word: parse_word(alloc, letters)?,
         walk,
     })
-}
-
-pub(crate) fn parse_units(alloc: Global, text: &str) -> io::Result<Vec<u16>> {
-    let mut units = Vec::new(alloc);
-    for digits in text.as_bytes().chunks(4) {
-        let mut unit = 0;
-        for one in digits {
-            unit = unit << 4 | u16::from(digit(*one)?);
-        }
-        units.push(unit)?;
-    }
-    Ok(units)
 }
 
 /// A kind of run over some units.

@@ -1,9 +1,9 @@
 -- A reader or writer together with counts of its calls, and what a failed write leaves.
-use Rattle.std.specs.Prelude.{◌≡◌, ◌≢◌, ℕ, ◌+◌, ◌==◌, Bool, false, IfErr, OnOk, ◌||◌, List, [], ◌∷◌, take, Option, Result, Ok, Err, if◌then◌else◌}
+use Rattle.std.specs.Prelude.{◌≡◌, ◌≢◌, ℕ, ◌+◌, ◌<◌, ◌==◌, Bool, false, IfErr, OnOk, ◌||◌, List, [], ◌∷◌, take, Option, Result, Ok, Err, if◌then◌else◌}
 use Rattle.std.specs.Io.KnownBytes.{Appends}
 use Rattle.std.specs.IoError.{error_kind}
 use Rattle.std.specs.declared.io.Error.{Error}
-use Rattle.std.specs.declared.io.ErrorKind.TheVariants.{Interrupted}
+use Rattle.std.specs.declared.io.ErrorKind.TheVariants.{Interrupted, WriteZero}
 
 -- What is known of the reads so far: how many were broken off, which is by an error other than an interruption; whether one
 -- answered the end; and how many were made after that.
@@ -19,11 +19,12 @@ pub record Extras : Type 0 where
   pub flushes : ℕ
   pub failed_flushes : ℕ
 
--- what callers see of a `Counted`: the reader or writer inside, how many of its reads or writes failed, and what else is
--- counted of them
+-- what callers see of a `Counted`: the reader or writer inside, how many of its reads or writes failed, how many of those were
+-- stalls, which are writes that took nothing, and what else is counted of them
 pub record Counting (T : Type 0) : Type 0 where
   pub inner : T
   pub failures : ℕ
+  pub stalls : ℕ
   pub reads : Reads
   pub extras : Extras
 
@@ -32,6 +33,17 @@ abbrev pub put_failures : {E : Type 0} → Result ℕ E → List ℕ → ℕ
 put_failures (Err error) bytes = 1
 put_failures (Ok count) [] = 0
 put_failures (Ok count) (byte ∷ bytes) = if count == 0 then 1 else 0
+
+-- 1 where a write of these bytes took none though there were some, which is a stall and no error, and 0 elsewhere
+abbrev pub put_stalls : {E : Type 0} → Result ℕ E → List ℕ → ℕ
+put_stalls (Err error) bytes = 0
+put_stalls (Ok count) [] = 0
+put_stalls (Ok count) (byte ∷ bytes) = if count == 0 then 1 else 0
+
+-- where all was written no write stalled, and where one stalled the error says so
+abbrev pub TellsStall : {T : Type 0} → Result T Error → ℕ → ℕ → Type 0
+TellsStall (Ok done) old new = new ≡ old
+TellsStall (Err error) old new = old < new → error_kind error ≡ WriteZero
 
 -- a write of no bytes is counted among the extras
 abbrev pub after_put : Extras → List ℕ → Extras

@@ -4,7 +4,7 @@ use Rattle.std.specs.Prelude.{◌≡◌, ℕ, ◌+◌, ◌-◌, ◌^◌, ◌<◌
 use Rattle.utf_base.specs.Code.{utf8}
 use Rattle.utf_base.specs.Piece.{Inside, Piece, IsPiece, IsCutBetween}
 use Rattle.encode_unicode.specs.Window.{Item}
-use Rattle.cuts.specs.Programs.Listings.{IsForwardRun}
+use Rattle.cuts.specs.ForwardRuns.{IsForwardRun}
 
 -- what callers see of a table
 pub record Table : Type 0 where

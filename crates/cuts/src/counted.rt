@@ -7,18 +7,19 @@
 ghost use Rattle.std.specs.Prelude.{◌≡◌, ◌+◌, false};
 ghost use Rattle.std.specs.Io.{ReadsAtMost, WritesAtMost};
 ghost use Rattle.std.specs.Io.KnownBytes.{Keeps, ReadConsumes, WriteAppends};
-ghost use Rattle.cuts.specs.Failures.{put_failures, take_failures, flush_failures, after_put, after_flush, CountsRead};
+ghost use Rattle.cuts.specs.Failures.{put_failures, put_stalls, take_failures, after_put, after_flush, CountsRead};
 
 use encode_unicode::Steps;
 use std::io;
 use std::io::{ErrorKind, Read, Write};
 use std::marker::Model;
 
-/// A reader or writer, and counts of its calls.
+/// A reader or writer, and counts of how its calls went, by which contracts speak.
 #[derive(Drop)]
 pub struct Counted<T> {
     inner: T,
     failures: Steps,
+    stalls: Steps,
     broken: Steps,
     ended: bool,
     late: Steps,
@@ -35,17 +36,19 @@ impl<T> Model for Counted<T> {
     ghost view = { λ c. record {
       inner = c.inner;
       failures = c.failures;
+      stalls = c.stalls;
       reads = record { broken = c.broken; ended = c.ended; late = c.late };
       extras = record { empty_puts = c.empty_puts; flushes = c.flushes; failed_flushes = c.failed_flushes };
     } };
 }
 
 impl<T> Counted<T> {
-    /// Counts from here on: what `inner` did before is no part of the count.
+    /// Counts from here on. What `inner` did before does not count.
     #[inline(always)]
     pub fn new(inner: T) -> Counted<T>
         ensures inner { result.inner ≡ inner }
         ensures failures { result.failures ≡ 0 }
+        ensures stalls { result.stalls ≡ 0 }
         ensures broken { result.reads.broken ≡ 0 }
         ensures ended { result.reads.ended ≡ false }
         ensures late { result.reads.late ≡ 0 }
@@ -56,6 +59,7 @@ impl<T> Counted<T> {
         Counted {
             inner,
             failures: Steps::new(),
+            stalls: Steps::new(),
             broken: Steps::new(),
             ended: false,
             late: Steps::new(),
@@ -65,7 +69,7 @@ impl<T> Counted<T> {
         }
     }
 
-    /// The reader or writer, whose calls are counted no more.
+    /// The reader or writer, no longer counted.
     #[inline(always)]
     pub fn into_inner(self) -> T
         ensures { result ≡ self.inner }
@@ -73,6 +77,7 @@ impl<T> Counted<T> {
         let Counted {
             inner,
             failures: _,
+            stalls: _,
             broken: _,
             ended: _,
             late: _,
@@ -85,15 +90,19 @@ impl<T> Counted<T> {
 }
 
 impl<W: Write> Counted<W> {
-    /// One call of the inner `write`, with its answer, the error included.
+    /// Calls `write` of the inner writer once, and gives what that gave.
     ///
-    /// A failure is an error, or `Ok(0)` for at least one byte.
+    /// An error counts as a failure. So does `Ok(0)` for at least one byte, a stall, which is also
+    /// counted apart.
+    ///
+    /// Cost: that of the call.
     #[inline(always)]
     pub fn put(&mut self, bytes: &[u8]) -> io::Result<usize>
         ensures at_most { WritesAtMost result bytes.now }
         ensures appends { WriteAppends (W.contents self.old.inner) (W.contents self.new.inner)
             result bytes.now }
         ensures failures { self.new.failures ≡ self.old.failures + put_failures result bytes.now }
+        ensures stalls { self.new.stalls ≡ self.old.stalls + put_stalls result bytes.now }
         ensures extras { self.new.extras ≡ after_put self.old.extras bytes.now }
         ensures reads { self.new.reads ≡ self.old.reads }
     {
@@ -106,17 +115,22 @@ impl<W: Write> Counted<W> {
             Ok(count) => {
                 if count == 0 && !bytes.is_empty() {
                     self.failures.tick();
+                    self.stalls.tick();
                 }
             }
         }
         answer
     }
 
-    /// One call of the inner `flush`, with its answer. Its error is counted apart from the failures.
+    /// Calls `flush` of the inner writer once, and gives what that gave. An error is counted, apart
+    /// from failures.
+    ///
+    /// Cost: that of the call.
     #[inline(always)]
     pub fn flush(&mut self) -> io::Result<()>
         ensures keeps { Keeps (W.contents self.old.inner) (W.contents self.new.inner) }
         ensures failures { self.new.failures ≡ self.old.failures }
+        ensures stalls { self.new.stalls ≡ self.old.stalls }
         ensures extras { self.new.extras ≡ after_flush self.old.extras result }
         ensures reads { self.new.reads ≡ self.old.reads }
     {
@@ -130,15 +144,18 @@ impl<W: Write> Counted<W> {
 }
 
 impl<R: Read> Counted<R> {
-    /// One call of the inner `read`, with its answer, the error included.
+    /// Calls `read` of the inner reader once, and gives what that gave.
     ///
-    /// A failure is an error. `Ok(0)` is none: it is the end, or there was no room.
+    /// An error counts as a failure. `Ok(0)` does not: it is the end, or there was no room.
+    ///
+    /// Cost: that of the call.
     #[inline(always)]
     pub fn take(&mut self, buf: &mut [u8]) -> io::Result<usize>
         ensures at_most { ReadsAtMost result buf.new }
         ensures consumes { ReadConsumes (R.remaining self.old.inner) (R.remaining self.new.inner)
             result buf.new }
         ensures failures { self.new.failures ≡ self.old.failures + take_failures result }
+        ensures stalls { self.new.stalls ≡ self.old.stalls }
         ensures reads { CountsRead self.old.reads self.new.reads result buf.new }
         ensures extras { self.new.extras ≡ self.old.extras }
     {

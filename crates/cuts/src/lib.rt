@@ -1,20 +1,22 @@
 //! Whole runs over bytes and units, recoding, and what the programs do, over the calls of `encode_unicode`.
 //!
 //! - Runs: `walk_utf8` and `walk_utf16` ask from both ends, `forward_utf16` from the front; `merge_utf8` and
-//!   `merge_utf16` collect what a merger answers; `valid_up_to` and `units_valid_up_to` find the first fault.
+//!   `merge_utf16` collect what a merger answers; `valid_up_to` and `units_valid_up_to` find the first fault, and
+//!   `unit_bytes_valid_up_to` that of units in bytes.
+//! - Boundaries: `boundaries` finds the character boundaries next to any byte.
 //! - Tables: `PieceTable` keeps the pieces of bytes that are edited.
 //! - Recoding: `Recoder` takes text in parts, `recode` from a reader to a writer; `room_for` says how much comes of some
-//!   bytes at most, and `shard_end` where a large input may be cut; `front_of_text` gives one character.
+//!   bytes at most, `shard_end` and `boundary_after` where a large input may be cut; `front_of_text` gives one character.
 //! - Programs: `write_listing`, `write_merged` and `write_walk` write lines, and `run_pieces` and `run_recode` are one
 //!   run each. Their `main`s are in `programs::mains`.
 //! - `Counted` counts the failures of a reader or writer, and `laws` has what holds of all runs.
 #![tactic(auto)]
 
+pub mod boundaries;
 pub mod counted;
 pub mod laws;
 pub mod piece_table;
 pub mod programs;
-pub mod recoding;
 pub mod runs;
 pub mod streams;
 
@@ -23,13 +25,15 @@ pub use piece_table::PieceTable;
 pub use programs::listing::{write_listing, write_merged, write_walk};
 pub use programs::pieces_program::run_pieces;
 pub use programs::recode_program::run_recode;
+pub use programs::relayed::{RecodeFault, recode};
+pub use recoding::boundaries::{boundary_after, unit_boundary_after, unit_boundary_before};
 pub use recoding::form::Form;
-pub use recoding::recoder::{Progress, Recoder, Unfinished};
-pub use recoding::relayed::{RecodeFault, recode};
-pub use recoding::rooms::room_for;
+pub use recoding::recoder::{Recoder, Unfinished};
+pub use recoding::rooms::{Progress, room_for};
 pub use recoding::shards::shard_end;
-pub use recoding::text_front::front_of_text;
 pub use runs::collected::{forward_utf16, merge_utf8, merge_utf16};
 pub use runs::items::{End, Item, UnitItem};
+pub use runs::unit_bytes::unit_bytes_valid_up_to;
 pub use runs::walks::{walk_utf8, walk_utf16};
 pub use runs::well_formed::{units_valid_up_to, valid_up_to};
+pub use utf_lanes::text_front::front_of_text;

@@ -6,7 +6,7 @@ ghost use Rattle.utf_base.specs.Code.{utf8};
 ghost use Rattle.utf_base.specs.Piece.{Inside};
 ghost use Rattle.encode_unicode.specs.Pieces.{pieces as all_pieces, LiesWithin};
 ghost use Rattle.encode_unicode.specs.Window.{Item as AnItem, IsFrontPiece};
-ghost use Rattle.cuts.specs.Programs.Listings.{IsForwardRun, IsForwardRunBetween};
+ghost use Rattle.cuts.specs.ForwardRuns.{IsForwardRun, IsForwardRunBetween};
 ghost use Rattle.cuts.specs.Tables.{StayAround, StepForEach, WereReplaced, IsSpot, IsRenewed, IsSplitAt, EndsAt, IsRestMoved, moved_item};
 
 use crate::runs::items::Item;
@@ -14,7 +14,7 @@ use encode_unicode::{Steps, Utf8Char};
 use std::alloc::{AllocError, Allocator};
 use std::marker::Model;
 
-/// Some bytes, and the pieces of their cut. Contracts see both.
+/// Bytes and their pieces, kept together while the bytes are edited. Contracts see both.
 ///
 /// A change of the bytes reaches few pieces: `replace` decodes those alone, and moves the others.
 #[derive(Drop)]
@@ -24,7 +24,7 @@ pub struct PieceTable<A: Allocator + Copy> {
 }
 
 impl<A: Allocator + Copy> Model for PieceTable<A> {
-    ghost use Rattle.cuts.specs.Programs.Listings.{IsForwardRun};
+    ghost use Rattle.cuts.specs.ForwardRuns.{IsForwardRun};
     ghost use Rattle.cuts.specs.Tables.{Table};
 
     ghost Value = { Table };
@@ -36,6 +36,8 @@ impl<A: Allocator + Copy> Model for PieceTable<A> {
 
 impl<A: Allocator + Copy> PieceTable<A> {
     /// The table of a copy of the bytes. The error is that memory was refused.
+    ///
+    /// Cost: O(n), allocates.
     pub fn new(alloc: A, bytes: &[u8]) -> Result<PieceTable<A>, AllocError>
         ensures ok { IfOk result (λ table. table.bytes ≡ bytes.now) }
         ensures nothing { length bytes.now ≡ 0 → IsOk result }
@@ -57,7 +59,7 @@ impl<A: Allocator + Copy> PieceTable<A> {
         self.bytes.as_slice()
     }
 
-    /// All pieces of the bytes, in order, the faults with their forward kinds.
+    /// All pieces of the bytes, in order, with the errors that a decoder gives from the front.
     pub fn pieces(&self) -> &[Item]
         ensures held { result.now ≡ self.now.pieces }
         ensures run { IsForwardRun self.now.bytes result.now }
@@ -70,10 +72,16 @@ impl<A: Allocator + Copy> PieceTable<A> {
         self.pieces.as_slice()
     }
 
-    /// Replaces the bytes from `start` to `end` by `new`. Each piece that is decoded takes one step.
+    /// Replaces the bytes from `start` to `end` by `new`, and counts in `steps` the pieces that it
+    /// decodes.
     ///
-    /// The error is that memory was refused, or that the bytes would be more than `usize` counts. The table
-    /// is then as it was.
+    /// The error says that memory was refused, or that there would be more bytes than a `usize`
+    /// counts. The table is then as it was. Where nothing is put in the place of nothing, no memory
+    /// is asked for.
+    ///
+    /// Condition: `start` is at most `end`, and `end` at most the length.
+    ///
+    /// Cost: decodes at most n + 6 pieces for n new bytes, and moves all that follow; allocates.
     pub fn replace(
         &mut self,
         start: usize,
@@ -85,11 +93,18 @@ impl<A: Allocator + Copy> PieceTable<A> {
         requires within { end ≤ length self.old.bytes }
         ensures ok { OnOk result (self.new.bytes ≡ splice self.old.bytes start end new.now) }
         ensures run { IsForwardRun self.new.bytes self.new.pieces }
-        ensures around { OnOk result (StayAround self.old.pieces self.new.pieces start end (start + length new.now)) }
+        ensures around { OnOk result (StayAround self.old.pieces self.new.pieces start end
+            (start + length new.now)) }
         ensures err { OnErr result (self.new ≡ self.old) }
-        ensures least { OnOk result (StepForEach self.new.bytes (start - 3) (start + length new.now + 3) steps.old steps.new) }
+        ensures least { OnOk result (StepForEach self.new.bytes (start - 3)
+            (start + length new.now + 3) steps.old steps.new) }
         ensures most { steps.new ≤ steps.old + length new.now + 6 }
+        ensures nothing { start ≡ end → length new.now ≡ 0 → IsOk result × (self.new ≡ self.old) }
     {
+        if start == end && new.is_empty() {
+            decode_near(self.bytes.as_slice(), start, self.pieces.as_slice(), steps);
+            return Ok(());
+        }
         // All room is taken before the first change.
         let most = new.len().saturating_add(6);
         let mut fresh = Vec::with_capacity(*self.bytes.allocator(), most)?;
@@ -130,6 +145,22 @@ fn renew<A: Allocator>(
     put_pieces(pieces, spot.keep, spot.resume, fresh.as_slice(), end, after)
 }
 
+// Decodes the pieces that a change at the place would reach, each in one step, and keeps none: where nothing changes
+// they are known. So it asks for no memory.
+fn decode_near(bytes: &[u8], place: usize, pieces: &[Item], steps: &mut Steps)
+    requires replaced { WereReplaced bytes.now place place place pieces.now }
+    ensures least { StepForEach bytes.now (place - 3) (place + 3) steps.old steps.new }
+    ensures most { steps.new ≤ steps.old + 6 }
+{
+    let spot = find_spot(bytes, place, place, place, pieces);
+    let end = bytes.len().min(place + 3);
+    let mut next = spot.from;
+    while next < end {
+        let item = piece_at(bytes, next, steps);
+        next += item.2;
+    }
+}
+
 // Where the new pieces go: in place of the old ones from `keep` to `resume`, and decoded from the place
 // `from` on.
 #[derive(Drop)]
@@ -166,7 +197,8 @@ fn put_pieces<A: Allocator>(
     requires within { resume ≤ vec_len pieces.old }
     requires counted { All (λ (x : AnItem). from ≤ x.0) (drop resume pieces.old.items) }
     requires fits { All (λ (x : AnItem). to + (x.0 - from) < 2 ^ 64) (drop resume pieces.old.items) }
-    ensures ok { OnOk result (pieces.new.items ≡ take keep pieces.old.items ++ (fresh.now ++ map (moved_item from to) (drop resume pieces.old.items))) }
+    ensures ok { OnOk result (pieces.new.items ≡ take keep pieces.old.items ++
+        (fresh.now ++ map (moved_item from to) (drop resume pieces.old.items))) }
     ensures room { vec_len pieces.old + length fresh.now ≤ vec_capacity pieces.old → IsOk result }
 {
     move_places(&mut pieces[resume..], from, to);

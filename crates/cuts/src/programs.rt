@@ -6,5 +6,6 @@ pub mod listing;
 pub mod mains;
 pub mod pieces_program;
 pub mod recode_program;
+pub mod relayed;
 pub(crate) mod requests;
 pub mod stops;

@@ -2,6 +2,6 @@
 
 pub mod collected;
 pub mod items;
-pub(crate) mod paired_units;
+pub mod unit_bytes;
 pub mod walks;
 pub mod well_formed;

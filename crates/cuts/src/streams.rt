@@ -2,13 +2,13 @@
 ghost use Rattle.std.specs.Prelude.{◌≡◌, ◌+◌, ◌<◌, ◌≤◌, IsTrue, Option, ℕ, Bool, List, OnOk, OnErr};
 ghost use Rattle.std.specs.Io.{ReadsAtMost, WritesAtMost};
 ghost use Rattle.std.specs.Io.KnownBytes.{Appends, ReadConsumes, WriteAppends};
-ghost use Rattle.cuts.specs.Failures.{Reads, Extras, put_failures, take_failures, after_put, CountsRead, AppendsFront};
+ghost use Rattle.cuts.specs.Failures.{Reads, Extras, put_failures, put_stalls, take_failures, after_put, CountsRead, AppendsFront, TellsStall};
 
 use crate::counted::Counted;
 use std::io;
 use std::io::{Read, Write};
 
-/// What is read from: a reader, or a `Counted` one.
+/// What programs read from: a reader, or a `Counted` one.
 pub trait Source {
     // the bytes that reads will give, where they are known
     ghost remaining: { Self → Option (List ℕ) };
@@ -23,6 +23,8 @@ pub trait Source {
     ghost reads: { Self → Reads };
 
     /// One call of the reader's `read`, with its answer.
+    ///
+    /// Cost: that of the call.
     fn read_once(&mut self, buf: &mut [u8]) -> io::Result<usize>
         ensures at_most { ReadsAtMost result buf.new }
         ensures consumes { ReadConsumes (remaining self.old) (remaining self.new) result buf.new }
@@ -64,7 +66,7 @@ impl<R: Read> Source for Counted<R> {
     }
 }
 
-/// What is written to: a writer, or a `Counted` one.
+/// What programs write to: a writer, or a `Counted` one.
 pub trait Sink {
     // the bytes that were written, where they are known
     ghost contents: { Self → Option (List ℕ) };
@@ -75,14 +77,21 @@ pub trait Sink {
     // how many writes failed
     ghost failures: { Self → ℕ };
 
+    // how many writes took nothing
+    ghost stalls: { Self → ℕ };
+
     // what else is known of the writes
     ghost extras: { Self → Extras };
 
     /// One call of the writer's `write`, with its answer.
+    ///
+    /// Cost: that of the call.
     fn write_once(&mut self, bytes: &[u8]) -> io::Result<usize>
         ensures at_most { WritesAtMost result bytes.now }
         ensures appends { WriteAppends (contents self.old) (contents self.new) result bytes.now }
-        ensures failures { IsTrue is_counted → failures self.new ≡ failures self.old + put_failures result bytes.now }
+        ensures failures { IsTrue is_counted →
+            failures self.new ≡ failures self.old + put_failures result bytes.now }
+        ensures stalls { IsTrue is_counted → stalls self.new ≡ stalls self.old + put_stalls result bytes.now }
         ensures extras { IsTrue is_counted → extras self.new ≡ after_put (extras self.old) bytes.now };
 }
 
@@ -94,6 +103,8 @@ impl<W: Write> Sink for W {
     ghost is_counted = { false };
 
     ghost failures = { λ _. 0 };
+
+    ghost stalls = { λ _. 0 };
 
     ghost extras = { λ _. record { empty_puts = 0; flushes = 0; failed_flushes = 0 } };
 
@@ -111,6 +122,8 @@ impl<W: Write> Sink for Counted<W> {
     ghost is_counted = { true };
 
     ghost failures = { λ c. c.failures };
+
+    ghost stalls = { λ c. c.stalls };
 
     ghost extras = { λ c. c.extras };
 
@@ -130,6 +143,8 @@ pub(crate) fn write_whole<S: Sink>(bytes: &[u8], to: &mut S) -> io::Result<()>
     ensures front { AppendsFront (S.contents to.old) (S.contents to.new) bytes.now }
     ensures quiet { IsTrue S.is_counted → OnOk result (S.failures to.new ≡ S.failures to.old) }
     ensures err { IsTrue S.is_counted → OnErr result (S.failures to.old < S.failures to.new) }
+    ensures never_fewer { IsTrue S.is_counted → S.failures to.old ≤ S.failures to.new }
+    ensures stalls { IsTrue S.is_counted → TellsStall result (S.stalls to.old) (S.stalls to.new) }
     ensures extras { IsTrue S.is_counted → S.extras to.new ≡ S.extras to.old }
 {
     let mut sent = 0;
@@ -141,18 +156,4 @@ pub(crate) fn write_whole<S: Sink>(bytes: &[u8], to: &mut S) -> io::Result<()>
         sent += count;
     }
     Ok(())
-}
-
-/// Writes all the bytes, as `write_whole` does.
-#[inline(always)]
-pub(crate) fn put_whole<W: Write>(bytes: &[u8], out: &mut Counted<W>) -> io::Result<()>
-    ensures ok { OnOk result
-        (Appends (W.contents out.old.inner) (W.contents out.new.inner) bytes.now) }
-    ensures front { AppendsFront (W.contents out.old.inner) (W.contents out.new.inner) bytes.now }
-    ensures quiet { OnOk result (out.new.failures ≡ out.old.failures) }
-    ensures err { OnErr result (out.old.failures < out.new.failures) }
-    ensures never_fewer { out.old.failures ≤ out.new.failures }
-    ensures extras { out.new.extras ≡ out.old.extras }
-{
-    write_whole(bytes, out)
 }

@@ -89,21 +89,21 @@ byte_alone can_next remaining steps first old s e (Err k) can few alone j = reco
 
 -- An answer, as it completes the first byte.
 
-completes_ok : {S : Type 0} (can_next : S → Type 0) (remaining : S → Count) (steps : S → Option ℕ → S → Type 0) (first : ℕ) (old continuation_bytes : List ℕ) (c : ℕ) (s t : S) (e f : Bool) (new : List ℕ)
-    → IsScalar c → first ∷ continuation_bytes ≡ padded 4 (utf8 c) → Answers utf8 merger_kind can_next remaining steps first old s e (Ok c) new t f
-    → Completes can_next remaining steps first old s e (Ok continuation_bytes) new t f
-completes_ok can_next remaining steps first old continuation_bytes c s t e f new scalar bytes a = record {
-  answers = (IsPadded_padded (first ∷ continuation_bytes) c scalar bytes, rw (value_padded (first ∷ continuation_bytes) c scalar bytes) a);
+completes_ok : {S : Type 0} (can_next : S → Type 0) (remaining : S → Count) (steps : S → Option ℕ → S → Type 0) (first : ℕ) (old bytes : List ℕ) (c : ℕ) (s t : S) (e f : Bool) (new : List ℕ)
+    → IsScalar c → bytes ≡ padded 4 (utf8 c) → Answers utf8 merger_kind can_next remaining steps first old s e (Ok c) new t f
+    → Completes can_next remaining steps first old s e (Ok bytes) new t f
+completes_ok can_next remaining steps first old bytes c s t e f new scalar same a = record {
+  answers = (IsPadded_padded bytes c scalar same, rw (value_padded bytes c scalar same) a);
   held = rw a.clear held_none;
 }
 
 pub alone_completes : {S : Type 0} (can_next : S → Type 0) (remaining : S → Count) (steps : S → Option ℕ → S → Type 0) (first c : ℕ) (old : List ℕ) (s : S) (e : Bool)
     → (e ≡ false → can_next s) → asked first ≤ 1 → (is_continuation first ≡ false → old ≡ []) → JudgesBytes (first ∷ []) (Ok c)
-    → Completes can_next remaining steps first old s e (Ok (0 ∷ 0 ∷ 0 ∷ [])) old s e
+    → Completes can_next remaining steps first old s e (Ok (first ∷ 0 ∷ 0 ∷ 0 ∷ [])) old s e
 unfolding padded
 alone_completes can_next remaining steps first c old s e can few alone j =
-    let bytes : first ∷ 0 ∷ 0 ∷ 0 ∷ [] ≡ padded 4 (utf8 c) = rw (← j.1) refl in
-    completes_ok can_next remaining steps first old (0 ∷ 0 ∷ 0 ∷ []) c s s e e old j.0 bytes (byte_alone can_next remaining steps first old s e (Ok c) can few alone j)
+    let same : first ∷ 0 ∷ 0 ∷ 0 ∷ [] ≡ padded 4 (utf8 c) = rw (← j.1) refl in
+    completes_ok can_next remaining steps first old (first ∷ 0 ∷ 0 ∷ 0 ∷ []) c s s e e old j.0 same (byte_alone can_next remaining steps first old s e (Ok c) can few alone j)
 
 pub alone_fails : {S : Type 0} (can_next : S → Type 0) (remaining : S → Count) (steps : S → Option ℕ → S → Type 0) (first : ℕ) (k : Utf8ErrorKind) (old : List ℕ) (s : S) (e : Bool)
     → (e ≡ false → can_next s) → asked first ≤ 1 → (is_continuation first ≡ false → old ≡ []) → IsHeldBytes old → JudgesBytes (first ∷ []) (Err k)
@@ -116,11 +116,11 @@ begins_alone b h = grind (arith, common_steps)
 -- After what was read before.
 
 -- a code, whose last byte is b
-pub code_after : {S : Type 0} (can_next : S → Type 0) (remaining : S → Count) (steps : S → Option ℕ → S → Type 0) (first : ℕ) (before : List ℕ) (b c : ℕ) (continuation_bytes : List ℕ) (u t : S) (new : List ℕ) (f : Bool)
-    → Reads can_next remaining steps u false (b ∷ []) t false → IsScalar c → first ∷ before ++ b ∷ [] ≡ utf8 c → first ∷ continuation_bytes ≡ padded 4 (utf8 c) → new ≡ [] → f ≡ false
-    → CompletesAfter can_next remaining steps first before u (Ok continuation_bytes) new t f
-code_after can_next remaining steps first before b c continuation_bytes u t new f reads scalar code bytes none going s so_far =
-    completes_ok can_next remaining steps first [] continuation_bytes c s t false f new scalar bytes
+pub code_after : {S : Type 0} (can_next : S → Type 0) (remaining : S → Count) (steps : S → Option ℕ → S → Type 0) (first : ℕ) (before : List ℕ) (b c : ℕ) (bytes : List ℕ) (u t : S) (new : List ℕ) (f : Bool)
+    → Reads can_next remaining steps u false (b ∷ []) t false → IsScalar c → first ∷ before ++ b ∷ [] ≡ utf8 c → bytes ≡ padded 4 (utf8 c) → new ≡ [] → f ≡ false
+    → CompletesAfter can_next remaining steps first before u (Ok bytes) new t f
+code_after can_next remaining steps first before b c bytes u t new f reads scalar code same none going s so_far =
+    completes_ok can_next remaining steps first [] bytes c s t false f new scalar same
     (record {
       more = before ++ b ∷ [];
       reads = rw going (reads_more can_next remaining steps s u t false false false before (b ∷ []) so_far reads);
@@ -199,10 +199,10 @@ four_padded a b d g c e = rw (← e) refl
 
 -- The character of four bytes that are its own.
 
-pub known_bytes : {S : Type 0} (can_next : S → Type 0) (remaining : S → Count) (steps : S → Option ℕ → S → Type 0) (first : ℕ) (continuation_bytes old : List ℕ) (c : ℕ) (s t : S) (e f : Bool) (new : List ℕ)
-    → Completes can_next remaining steps first old s e (Ok continuation_bytes) new t f → decoded_bytes (first ∷ continuation_bytes) ≡ Ok c
+pub known_bytes : {S : Type 0} (can_next : S → Type 0) (remaining : S → Count) (steps : S → Option ℕ → S → Type 0) (first : ℕ) (bytes old : List ℕ) (c : ℕ) (s t : S) (e f : Bool) (new : List ℕ)
+    → Completes can_next remaining steps first old s e (Ok bytes) new t f → decoded_bytes bytes ≡ Ok c
     → Answers utf8 merger_kind can_next remaining steps first old s e (Ok c) new t f
 unfolding decoded_bytes
-known_bytes can_next remaining steps first continuation_bytes old c s t e f new h known =
-    let is : value (first ∷ continuation_bytes) ≡ c = value_of_answer (fault_kind (first ∷ continuation_bytes)) _ c known in
+known_bytes can_next remaining steps first bytes old c s t e f new h known =
+    let is : value bytes ≡ c = value_of_answer (fault_kind bytes) _ c known in
     rw (← is) h.answers.1

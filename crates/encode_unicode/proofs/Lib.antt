@@ -1,4 +1,6 @@
 pub mod PieceRuns
+pub mod AsciiPieces
+pub mod SeenRuns
 pub mod ItemCodes
 pub mod SplitterRuns
 pub mod RunTests
@@ -25,3 +27,4 @@ pub mod MergerHints
 pub mod Wholes
 pub mod PieceCounts
 pub mod ChainEnds
+pub mod TextScalars

@@ -21,11 +21,11 @@ use Rattle.encode_unicode.proofs.MergerRuns.{listed_merger_runs, merger_runs}
 use Rattle.encode_unicode.proofs.PieceRuns.{first_piece, some_bytes, some_units}
 
 -- where the merger's kind is none, its decoding is that of a slice
-same_code : (w : List ℕ) → merger_kind w ≡ None → decoded_by_merger w ≡ decoded w
+pub same_code : (w : List ℕ) → merger_kind w ≡ None → decoded_by_merger w ≡ decoded w
 unfolding decoded_by_merger decoded
 same_code w none = rw (none, merger_none w none) refl
 
-fault_by_merger : (w : List ℕ) (k : Utf8ErrorKind) → merger_kind w ≡ Some k → decoded_by_merger w ≡ Err k
+pub fault_by_merger : (w : List ℕ) (k : Utf8ErrorKind) → merger_kind w ≡ Some k → decoded_by_merger w ≡ Err k
 unfolding decoded_by_merger
 fault_by_merger w k h = rw h refl
 

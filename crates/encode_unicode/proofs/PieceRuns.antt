@@ -1,5 +1,5 @@
 -- A run of a decoder, or of an iterator over a text, gives the list of its pieces, or of its characters.
-use Rattle.std.proofs.Common.{◌≡◌, ℕ, zero, suc, ◌+◌, ◌-◌, ◌*◌, ◌≤◌, List, [], ◌∷◌, ◌++◌, length, take, drop, Option, Some, None, Ok, Err, Result, map, refl, ap, sym, subst, ◌∙◌, arith, length-append, length-drop, append-nil}
+use Rattle.std.proofs.Common.{◌≡◌, ℕ, zero, suc, ◌+◌, ◌-◌, ◌*◌, ◌<◌, ◌≤◌, List, [], ◌∷◌, ◌++◌, length, take, drop, Option, Some, None, Ok, Err, Result, map, refl, ap, sym, subst, ◌∙◌, arith, length-append, length-drop, append-nil}
 use Rattle.std.specs.Iterator.{Yields, YieldsLast}
 use Rattle.std.specs.Iterator.Runs.{Run, EveryRun, EachRunFrom, WholeRun, AllItems}
 use Rattle.std.proofs.iter.runs.Lists.{Everywhere}
@@ -29,7 +29,7 @@ use Rattle.encode_unicode.proofs.Joined.{some_utf8}
 use Rattle.encode_unicode.proofs.RunTests.{tells, tells_back}
 use Rattle.encode_unicode.specs.Pieces.{Gives, GivesReversed, LengthsFit, LiesWithin, LiesInText, PiecesFit, pieces, unit_pieces, pieces_by, pieces_left, unit_pieces_left, placed_chars, chars_left, placed_chars_left}
 use Rattle.encode_unicode.specs.Sources.{IsListed, IsListedBack}
-use Rattle.encode_unicode.specs.TextWindow.{NextScalar, NextPlaced, BackScalar, BackPlaced, GivesFirst, GivesLast}
+use Rattle.encode_unicode.specs.TextWindow.{IsTextWindow, NextScalar, NextPlaced, BackScalar, BackPlaced, GivesFirst, GivesLast}
 use Rattle.encode_unicode.specs.Window.{Window, Placed, elements, whole_window, without_front, as_piece, GivesNone, GivesFrontOf, GivesBackOf, HasCode, NextGives, NextGivesUnits, NextBackGives, NextBackGivesUnits}
 
 -- A list that tells what each state still gives is what each run gives.
@@ -263,6 +263,15 @@ unit_decoder_places xs s e p seen from =
     all_items NextGivesUnits (λ w. w.back ≡ length xs) (LiesWithin 2 (length xs)) (λ w x v k g. place_kept utf16 2 unit_fault_kind decoded_pairs (length xs) w v x k g) p
     (ap (λ (u : Window). u.back) (from ∙ e))
 
+-- The same of a decoder that was asked already.
+pub decoder_places_on : EveryRun NextGives (λ p. AllItems p (LiesWithin 4 p.from.back))
+decoder_places_on p seen =
+    all_items NextGives (λ w. w.back ≡ p.from.back) (LiesWithin 4 p.from.back) (λ w x v k g. place_kept utf8 4 fault_kind decoded p.from.back w v x k g) p refl
+
+pub unit_decoder_places_on : EveryRun NextGivesUnits (λ p. AllItems p (LiesWithin 2 p.from.back))
+unit_decoder_places_on p seen =
+    all_items NextGivesUnits (λ w. w.back ≡ p.from.back) (LiesWithin 2 p.from.back) (λ w x v k g. place_kept utf16 2 unit_fault_kind decoded_pairs p.from.back w v x k g) p refl
+
 piece_kept_back : {E : Type 0} (code : ℕ → List ℕ) (most : ℕ) (kind : ℕ → E) (answer : List ℕ → Result (ℕ × ℕ) E) (n : ℕ) (w v : Window) (x : Placed E)
     → w.back ≤ n → GivesBackOf code most kind answer w x v → LiesWithin most n x × (v.back ≤ n)
 piece_kept_back code most kind answer n w v x end g =
@@ -278,6 +287,14 @@ pub unit_decoder_places_back : (xs : List ℕ) (s : Window) → s ≡ whole_wind
 unit_decoder_places_back xs s e p seen from =
     let end : p.from.back ≡ length xs = ap (λ (u : Window). u.back) (from ∙ e) in
     all_items NextBackGivesUnits (λ w. w.back ≤ length xs) (LiesWithin 2 (length xs)) (λ w x v k g. piece_kept_back utf16 2 unit_back_kind decoded_pairs_end (length xs) w v x k g) p (omega arith)
+
+pub decoder_places_back_on : EveryRun NextBackGives (λ p. AllItems p (LiesWithin 4 p.from.back))
+decoder_places_back_on p seen =
+    all_items NextBackGives (λ w. w.back ≤ p.from.back) (LiesWithin 4 p.from.back) (λ w x v k g. piece_kept_back utf8 4 back_kind decoded_end p.from.back w v x k g) p (omega arith)
+
+pub unit_decoder_places_back_on : EveryRun NextBackGivesUnits (λ p. AllItems p (LiesWithin 2 p.from.back))
+unit_decoder_places_back_on p seen =
+    all_items NextBackGivesUnits (λ w. w.back ≤ p.from.back) (LiesWithin 2 p.from.back) (λ w x v k g. piece_kept_back utf16 2 unit_back_kind decoded_pairs_end p.from.back w v x k g) p (omega arith)
 
 -- Where they are characters, their codes stand at their places.
 
@@ -342,6 +359,32 @@ char_kept_back text w v x k g =
 pub text_places_back : (text : List ℕ) (s : Window) → IsUtf8 text → s ≡ whole_window text → EachRunFrom BackPlaced s (λ p. AllItems p (LiesInText text))
 text_places_back text s h e p seen from =
     all_items BackPlaced (λ w. KeepsText text w w.back) (LiesInText text) (λ w x v k g. char_kept_back text w v x k g) p (rw (from, e) (record { whole = refl; boundary = IsCharBoundary-end text }))
+
+-- The same of an iterator that was asked already.
+
+-- a window that begins with a code begins between two characters of the text
+begins_between : (w v : Window) (place s : ℕ) → GivesFirst w place s v → IsCharBoundary w.whole w.front
+begins_between w v place s g =
+    let text : IsUtf8 (elements w) = rw g.code (IsUtf8-append (utf8 s) (elements v) (utf8_is_text s g.scalar) g.between.text) in
+    let start = IsCharBoundary-start (elements w) text in
+    let some = some_utf8 s in
+    let both : length (elements w) ≡ length (utf8 s) + length (elements v) = ap length g.code ∙ length-append (utf8 s) (elements v) in
+    let fits : w.front < length w.whole = grind (arith, common_steps) in
+    let same : slice_index (elements w) 0 ≡ slice_index w.whole w.front = grind (arith, common_steps) in
+    (omega arith, λ lt. rw (← same) (start.1 (omega arith)))
+
+placed_on : (text : List ℕ) (w v : Window) (x : ℕ × ℕ) → w.whole ≡ text → GivesFirst w x.0 x.1 v → LiesInText text x × (v.whole ≡ text)
+placed_on text w v x is g =
+    let begins : IsCharBoundary text w.front = rw is at (begins_between w v x.0 x.1 g) in
+    let kept = char_kept text w v x (record { whole = is; boundary = begins }) g in
+    (kept.0, kept.1.whole)
+
+pub text_places_on : EveryRun NextPlaced (λ p. AllItems p (LiesInText p.from.whole))
+text_places_on p seen = all_items NextPlaced (λ w. w.whole ≡ p.from.whole) (LiesInText p.from.whole) (λ w x v k g. placed_on p.from.whole w v x k g) p refl
+
+pub text_places_back_on : EveryRun BackPlaced (λ p. IsTextWindow p.from → AllItems p (LiesInText p.from.whole))
+text_places_back_on p seen ends =
+    all_items BackPlaced (λ w. KeepsText p.from.whole w w.back) (LiesInText p.from.whole) (λ w x v k g. char_kept_back p.from.whole w v x k g) p (record { whole = refl; boundary = ends.back })
 
 -- How long their codes are together.
 

@@ -44,7 +44,7 @@ none_by_last w k c state next len h x other = none_by_end w (suc k) next (omega 
 
 -- where the last one does, they are one
 pub code_by_walk : (w : List ℕ) (k c : ℕ) (state next : State) → length w ≡ suc k → 0 < k → Walk w k state 1 → Next w k state c next → next ≡ Done → IsCode w
-code_by_walk w k c state next len some h x done = code_after_walk w k len some (ap is_running h.at ∙ running w k 0 state h) (walk_at w k 1 c state next h x ∙ done)
+code_by_walk w k c state next len some h x done = let code = code_after_walk w k len some (ap is_running h.at ∙ running w k 0 state h) (walk_at w k 1 c state next h x ∙ done) in (code.0, code.1)
 
 -- nor are bytes of which the first asks for another number of them
 none_by_first : (w : List ℕ) (n : ℕ) → length w ≡ n → (asked_by w ≡ n → ⊥) → IsWholeCode w None

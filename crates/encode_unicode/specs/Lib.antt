@@ -1,8 +1,10 @@
 pub mod Pieces
+pub mod AsciiBytes
 pub mod RunTests
 pub mod GivenBounds
 pub mod Words
 pub mod Window
+pub mod DebugTexts
 pub mod Scan
 pub mod SecondUnit
 pub mod Hints
@@ -31,6 +33,11 @@ pub use Rattle.utf_base.specs.Walk
 pub use Rattle.utf_base.specs.WalkLaws
 pub use Rattle.utf_base.specs.Shown
 pub use Rattle.utf_base.specs.ShownLaws
+pub use Rattle.utf_base.specs.Grammar
+pub use Rattle.utf_base.specs.GrammarLaws
+pub use Rattle.utf_base.specs.Subparts
+pub use Rattle.utf_base.specs.SurrogatePairs
+pub use Rattle.utf_base.specs.WellFormedBytes
 pub use Rattle.utf_chars.specs.Chars
 pub use Rattle.utf_chars.specs.Padded
 pub use Rattle.utf_chars.specs.FormLaws

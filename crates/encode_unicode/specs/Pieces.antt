@@ -1,7 +1,9 @@
 -- What whole runs of decoders and of iterators over a text give, as lists.
-use Rattle.std.specs.Prelude.{◌≡◌, ℕ, zero, suc, ◌+◌, ◌<◌, ◌≤◌, List, [], ◌∷◌, length, take, drop, reverse, true, Result, Option}
-use Rattle.std.specs.List.{flat_map, fold}
+use Rattle.std.specs.Prelude.{◌≡◌, ℕ, zero, suc, ◌+◌, ◌<◌, ◌≤◌, List, [], ◌∷◌, length, take, drop, reverse, true, Result, Option, None}
+use Rattle.std.specs.List.{filter_map, flat_map, fold}
+use Rattle.std.specs.Iterator.{Yields}
 use Rattle.std.specs.Iterator.Runs.{Run, ItemsAre, ItemsMapTo, ItemsAreReversed, ItemsMapToReversed}
+use Rattle.std.specs.Result.{result_ok}
 use Rattle.std.specs.Str.{chars, IsCharBoundary, IsUtf8}
 use Rattle.utf_base.specs.Code.{utf8}
 use Rattle.utf_base.specs.Decoded.{decoded, decoded_pairs}
@@ -75,3 +77,15 @@ LiesWithin most n x = (x.0 < n) × (1 ≤ x.2) × (x.2 ≤ most) × (x.0 + x.2 �
 -- a character with its offset lies in the text, between two places at which the text can be cut
 abbrev pub LiesInText : List ℕ → ℕ × ℕ → Type 0
 LiesInText text x = (x.0 < length text) × IsCharBoundary text x.0 × (x.0 + length (utf8 x.1) ≤ length text) × IsCharBoundary text (x.0 + length (utf8 x.1))
+
+-- the characters among the pieces of some bytes
+abbrev pub characters : List ℕ → List ℕ
+characters xs = filter_map (λ x. result_ok x.1) (pieces xs)
+
+-- calls from s that gave these items, and then `None`, gave the list
+abbrev pub GaveAll : {S A : Type 0} → (S → Option A → S → Type 0) → S → List A → Type 0
+GaveAll {S} {A} steps s xs = (seen : List A) (t u : S) → Yields steps s seen t → steps t None u → seen ≡ xs
+
+-- calls from s give no more items than so many
+abbrev pub GiveAtMost : {S A : Type 0} → (S → Option A → S → Type 0) → S → ℕ → Type 0
+GiveAtMost {S} {A} steps s n = (seen : List A) (t : S) → Yields steps s seen t → length seen ≤ n

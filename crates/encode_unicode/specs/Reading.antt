@@ -62,12 +62,12 @@ pub record Answers {S E : Type 0} (code : ℕ → List ℕ) (kind : List ℕ →
 abbrev pub JudgesBytes : List ℕ → Result ℕ Utf8ErrorKind → Type 0
 JudgesBytes bytes r = MatchResult r (λ s. IsScalar s × (bytes ≡ utf8 s)) (λ k. fault_kind bytes ≡ Some k)
 
--- the bytes that complete a code after its first byte, with zeros after them, and the answer that the character is; or the
+-- the bytes of the code that the first begins, with zeros after them, and the answer that the character is; or the
 -- answer that is an error. The source was at s when the first byte had left the merger, which held `old` then
 pub record Completes {S : Type 0} (can_next : S → Type 0) (remaining : S → Count) (steps : S → Option ℕ → S → Type 0)
     (first : ℕ) (old : List ℕ) (s : S) (e : Bool) (r : Result (List ℕ) Utf8ErrorKind) (new : List ℕ) (t : S) (f : Bool) : Type 0 where
   pub answers : MatchResult r
-      (λ continuation_bytes. IsPadded utf8 4 value (first ∷ continuation_bytes) × Answers utf8 merger_kind can_next remaining steps first old s e (Ok (value (first ∷ continuation_bytes))) new t f)
+      (λ bytes. IsPadded utf8 4 value bytes × Answers utf8 merger_kind can_next remaining steps first old s e (Ok (value bytes)) new t f)
       (λ k. Answers utf8 merger_kind can_next remaining steps first old s e (Err k) new t f)
   pub held : IsHeldBytes new
 

@@ -1,7 +1,8 @@
 //! Iterators that cut slices into characters and errors.
-ghost use Rattle.std.specs.Prelude.{◌≡◌, ◌-◌, ◌/◌, drop, length, IfSome, Some, [], ⊤};
+ghost use Rattle.std.specs.Prelude.{◌≡◌, ◌-◌, ◌/◌, codes, drop, length, IfSome, Some, [], ⊤};
 ghost use Rattle.std.specs.Iterator.{at_most, UpTo};
 ghost use Rattle.std.specs.Iterator.SizeHint.{IsWithinCount};
+ghost use Rattle.encode_unicode.specs.DebugTexts.{debug_decoder};
 ghost use Rattle.encode_unicode.specs.Hints.{BoundsPieces};
 ghost use Rattle.encode_unicode.specs.Scan.{BackSteps};
 ghost use Rattle.encode_unicode.specs.Window.{whole_window, elements, NextGives, NextBackGives};
@@ -16,14 +17,15 @@ use utf_chars::utf8_char::Utf8Char;
 
 mod back_scan;
 
-/// Cuts a slice of bytes into the characters that stand in it and single faulty bytes.
+/// Splits a slice of bytes into characters and single invalid bytes, from both ends.
 ///
-/// An item is the offset of the piece from the front of the slice that the decoder was made from, the
-/// character or what is wrong with the byte, and the piece's length in bytes. An error always has
-/// length 1: the byte after it is judged anew, so that no error hides an ASCII character.
+/// An item is (offset, result, length): the offset in bytes from the front of the slice that the
+/// decoder was made from, the character or the error, and how many bytes it has. An error always
+/// has length 1: the next byte is judged anew, so no error hides an ASCII character.
 ///
-/// One call looks at the bytes that are left and at nothing else. Which error a byte gives is decided
-/// by `CharExt::from_utf8_slice_start` on what is left; from the back by `Utf8Char::from_slice_end`.
+/// One call looks at the bytes that remain and at nothing else. Which kind an error has is decided
+/// by `CharExt::from_utf8_slice_start` on what remains; from the back by
+/// `Utf8Char::from_slice_end`.
 #[derive(Drop)]
 pub struct Utf8CharDecoder<'a> {
     slice: &'a [u8],
@@ -45,6 +47,7 @@ impl<'a> Model for Utf8CharDecoder<'a> {
 impl<'a> From<&'a [u8]> for Utf8CharDecoder<'a> {
     ghost from_gives = { λ slice decoder. decoder ≡ whole_window slice.now };
 
+    /// A decoder of all bytes of the slice.
     fn from(slice: &'a [u8]) -> Utf8CharDecoder<'a> {
         Utf8CharDecoder {
             slice,
@@ -55,7 +58,7 @@ impl<'a> From<&'a [u8]> for Utf8CharDecoder<'a> {
 }
 
 impl<'a> Utf8CharDecoder<'a> {
-    /// The bytes that no call has answered for yet, lent from the slice for as long as it lives.
+    /// The bytes that remain, borrowed from the slice for as long as it lives.
     #[inline(always)]
     pub fn as_slice(&self) -> &'a [u8]
         ensures left { result.now ≡ elements self.now }
@@ -64,10 +67,10 @@ impl<'a> Utf8CharDecoder<'a> {
         &self.slice[self.front..self.back]
     }
 
-    /// `next_back`, with one step for each byte that it looks at.
+    /// `next_back`, which counts in `steps` the bytes that it looks at.
     ///
-    /// These are the last byte and those before it, as far as they are continuation bytes and one
-    /// further: at least one byte and at most four, of a window that has any.
+    /// It looks at the last byte, and as long as that is a continuation byte at the one before it:
+    /// at one to four bytes, and at none where none remains.
     #[inline(always)]
     pub fn next_back_counted(
         &mut self,
@@ -99,6 +102,11 @@ impl<'a> Iterator for Utf8CharDecoder<'a> {
 
     ghost remaining = { λ w. at_most (w.back - w.front) };
 
+    /// Takes the piece at the front: (offset, character or error, length). `None` once no byte
+    /// remains.
+    ///
+    /// An error is one invalid byte, with length 1. Its kind is decided by the bytes that remain,
+    /// as `CharExt::from_utf8_slice_start` says.
     #[inline(always)]
     #[tactic(auto, using(utf_base::proofs::Utf8Code::utf8_is_code))]
     fn next(&mut self) -> Option<(usize, Result<Utf8Char, Utf8Error>, usize)> {
@@ -118,7 +126,7 @@ impl<'a> Iterator for Utf8CharDecoder<'a> {
         }
     }
 
-    /// A quarter of the bytes that are left, rounded down, and all of them.
+    /// Bounds of how many items remain: (a quarter of the bytes, rounded down; all of them).
     #[inline]
     fn size_hint(&self) -> (usize, Option<usize>)
         ensures lower { IsWithinCount result.0 (at_most (self.now.back - self.now.front)) }
@@ -134,9 +142,10 @@ impl<'a> Iterator for Utf8CharDecoder<'a> {
 impl<'a> DoubleEndedIterator for Utf8CharDecoder<'a> {
     ghost next_back_gives = { NextBackGives };
 
-    /// The character whose code ends the bytes that are left, else what is wrong with the last of them.
+    /// Takes the piece at the back: (offset, character or error, length). `None` once no byte
+    /// remains.
     ///
-    /// Which error that byte gives is decided by `Utf8Char::from_slice_end`, so by the byte alone.
+    /// Which kind an error has is decided by the byte alone, as `Utf8Char::from_slice_end` says.
     #[inline(always)]
     fn next_back(&mut self) -> Option<(usize, Result<Utf8Char, Utf8Error>, usize)> {
         self.next_back_counted(&mut Steps::new())
@@ -147,6 +156,7 @@ impl<'a> DoubleEndedIterator for Utf8CharDecoder<'a> {
 impl<'a> Default for Utf8CharDecoder<'a> {
     ghost is_default = { λ d. d ≡ whole_window [] };
 
+    /// A decoder of no bytes.
     fn default() -> Utf8CharDecoder<'a> {
         Utf8CharDecoder {
             slice: &[],
@@ -162,6 +172,7 @@ impl<'a> Clone for Utf8CharDecoder<'a> {
 
     ghost is_infallible = { λ _. ⊤ };
 
+    /// A second decoder of the bytes that remain. It never fails.
     fn clone(&self) -> Result<Utf8CharDecoder<'a>, AllocError> {
         Ok(Utf8CharDecoder {
             slice: self.slice,
@@ -171,13 +182,15 @@ impl<'a> Clone for Utf8CharDecoder<'a> {
     }
 }
 
+/// The offset of the first byte that is left, and the bytes that are left.
 impl<'a> fmt::Debug for Utf8CharDecoder<'a> {
+    ghost debug_output = { debug_decoder (codes "Utf8CharDecoder { bytes[") };
+
+    /// The offset of the front, and the bytes that remain.
+    ///
+    /// Cost: O(n) in the bytes that remain.
     fn fmt<W: fmt::Write>(&self, f: &mut fmt::Formatter<W>) -> fmt::Result {
-        write!(
-            f,
-            "Utf8CharDecoder {{ bytes[{}..]: {:?} }}",
-            self.front,
-            self.as_slice()
-        )
+        let (front, left) = (self.front, self.as_slice());
+        write!(f, "Utf8CharDecoder {{ bytes[{front}..]: {left:?} }}")
     }
 }

@@ -1,111 +1,111 @@
 //! The bytes that a merger has read and not answered for.
 ghost use Rattle.std.specs.Prelude.{◌≡◌, ◌≤◌, ◌+◌, ◌-◌, ◌*◌, ◌/◌, ◌%◌, [], ◌∷◌, length, true, false};
 ghost use Rattle.std.specs.Iterator.{YieldsFirst};
+ghost use Rattle.utf_chars.specs.DebugTexts.{debug_numbers};
+ghost use Rattle.encode_unicode.specs.HeldWord.{count_of};
 
 use std::fmt;
 use std::marker::Model;
 
 /// At most three bytes in one word, and whether the source has ended. Contracts see the list and the mark.
 ///
-/// Of the word the lowest 24 bits have the bytes, the next one in the lowest eight, and the highest eight have their
-/// number. So they stay in a register, and one comparison tells that none is held.
+/// Of the word the lowest 24 bits have the bytes, the next one in the lowest eight, the seven above them have their
+/// number, and the highest one says that the source has ended. So all of it stays in a register, and one comparison
+/// tells that none is held and that the source goes on.
 #[derive(Drop)]
 pub(crate) struct HeldBytes {
     word: u32,
-    ended: bool,
 }
 
 impl Model for HeldBytes {
-    ghost use Rattle.std.specs.Prelude.{◌≤◌, ◌/◌};
-    ghost use Rattle.encode_unicode.specs.HeldWord.{Kept, bytes_of};
+    ghost use Rattle.std.specs.Prelude.{◌≤◌};
+    ghost use Rattle.encode_unicode.specs.HeldWord.{Kept, bytes_of, count_of, has_ended};
 
     ghost Value = { Kept };
 
-    ghost view = { λ h. record { held = bytes_of h.word; ended = h.ended } };
+    ghost view = { λ h. record { held = bytes_of h.word; ended = has_ended h.word } };
 
-    ghost invariant = { λ h. h.word / 0x100_0000 ≤ 3 };
+    ghost invariant = { λ h. count_of h.word ≤ 3 };
 }
 
 impl HeldBytes {
     /// None.
     #[inline(always)]
-    #[tactic(auto, using(crate::proofs::HeldWords::holds_none))]
+    #[tactic(auto, unfolding(crate::specs::HeldWord::has_ended), using(crate::proofs::HeldWords::holds_none))]
     pub(crate) fn none() -> HeldBytes
         ensures held { result.held ≡ [] }
         ensures going { result.ended ≡ false }
     {
-        HeldBytes {
-            word: 0,
-            ended: false,
-        }
+        HeldBytes { word: 0 }
     }
 
     /// One.
     #[inline(always)]
+    #[tactic(auto, unfolding(crate::specs::HeldWord::has_ended))]
     pub(crate) fn one(first: u8) -> HeldBytes
         ensures held { result.held ≡ first ∷ [] }
         ensures going { result.ended ≡ false }
     {
         HeldBytes {
             word: 0x100_0000 + first as u32,
-            ended: false,
         }
     }
 
     /// Two.
     #[inline(always)]
+    #[tactic(auto, unfolding(crate::specs::HeldWord::has_ended))]
     pub(crate) fn two(first: u8, second: u8) -> HeldBytes
         ensures held { result.held ≡ first ∷ second ∷ [] }
         ensures going { result.ended ≡ false }
     {
         HeldBytes {
             word: 0x200_0000 + second as u32 * 256 + first as u32,
-            ended: false,
         }
     }
 
     /// Three.
     #[inline(always)]
+    #[tactic(auto, unfolding(crate::specs::HeldWord::has_ended))]
     pub(crate) fn three(first: u8, second: u8, third: u8) -> HeldBytes
         ensures held { result.held ≡ first ∷ second ∷ third ∷ [] }
         ensures going { result.ended ≡ false }
     {
         HeldBytes {
             word: 0x300_0000 + third as u32 * 0x1_0000 + second as u32 * 256 + first as u32,
-            ended: false,
         }
     }
 
     /// The same bytes, and the source has ended.
     #[inline(always)]
+    #[tactic(auto, unfolding(crate::specs::HeldWord::has_ended), using(crate::proofs::HeldWords::marked_bytes))]
     pub(crate) fn ended(self) -> HeldBytes
         ensures held { result.held ≡ self.held }
         ensures ended { result.ended ≡ true }
     {
         HeldBytes {
-            word: self.word,
-            ended: true,
+            word: self.word % 0x8000_0000 + 0x8000_0000,
         }
     }
 
     /// Whether nothing is held, and the source has not ended.
     #[inline(always)]
-    #[tactic(auto, using(crate::proofs::HeldWords::holds_none, crate::proofs::HeldWords::holds_some))]
+    #[tactic(auto, unfolding(crate::specs::HeldWord::has_ended), using(crate::proofs::HeldWords::holds_none, crate::proofs::HeldWords::holds_some))]
     pub(crate) fn is_idle(&self) -> bool
         ensures none { result ≡ true → self.now.held ≡ [] }
         ensures going { result ≡ true → self.now.ended ≡ false }
         ensures busy { result ≡ false → self.now.held ≡ [] → self.now.ended ≡ true }
     {
         // Not a comparison with 0: a compiler would put a 0 into its register again for each byte.
-        self.word < 0x100_0000 && !self.ended
+        self.word < 0x100_0000
     }
 
     /// Whether the source has ended.
     #[inline(always)]
+    #[tactic(auto, unfolding(crate::specs::HeldWord::has_ended))]
     pub(crate) fn is_ended(&self) -> bool
         ensures { result ≡ self.now.ended }
     {
-        self.ended
+        0x8000_0000 <= self.word
     }
 
     /// How many there are.
@@ -115,7 +115,7 @@ impl HeldBytes {
         ensures len { result ≡ length self.now.held }
         ensures few { result ≤ 3 }
     {
-        (self.word / 0x100_0000) as usize
+        (self.word / 0x100_0000 % 0x80) as usize
     }
 
     /// The same bytes once more.
@@ -123,26 +123,23 @@ impl HeldBytes {
     pub(crate) fn copy(&self) -> HeldBytes
         ensures { result ≡ self.now }
     {
-        HeldBytes {
-            word: self.word,
-            ended: self.ended,
-        }
+        HeldBytes { word: self.word }
     }
 
     /// Takes the first.
     #[inline(always)]
-    #[tactic(auto, using(crate::proofs::HeldWords::first_of_word, crate::proofs::HeldWords::holds_none, crate::proofs::HeldWords::only_of_word))]
+    #[tactic(auto, unfolding(crate::specs::HeldWord::has_ended), using(crate::proofs::HeldWords::first_of_word, crate::proofs::HeldWords::holds_nothing, crate::proofs::HeldWords::only_of_word))]
     pub(crate) fn take(&mut self) -> Option<u8>
         ensures first { YieldsFirst (λ kept. kept.held) self.old result self.new }
         ensures same { self.new.ended ≡ self.old.ended }
     {
-        // One is held most of the time.
+        // One is held most of the time, and the source goes on.
         if 0x100_0000 <= self.word && self.word < 0x200_0000 {
             let only = (self.word % 256) as u8;
             self.word = 0;
             return Some(only);
         }
-        if self.word < 0x100_0000 {
+        if self.word / 0x100_0000 % 0x80 < 1 {
             return None;
         }
         let first = (self.word % 256) as u8;
@@ -156,13 +153,17 @@ impl HeldBytes {
 #[cold]
 #[inline(never)]
 fn without_first(word: u32) -> u32
-    requires { 1 ≤ word / 0x100_0000 }
+    requires { 1 ≤ count_of word }
     ensures { result ≡ (word / 0x100_0000 - 1) * 0x100_0000 + word / 256 % 0x1_0000 }
 {
     (word / 0x100_0000 - 1) * 0x100_0000 + word / 256 % 0x1_0000
 }
 
+/// The bytes, as a list.
 impl fmt::Debug for HeldBytes {
+    ghost debug_output = { λ kept. debug_numbers kept.held };
+
+    #[tactic(auto, unfolding(crate::specs::HeldWord::bytes_of))]
     fn fmt<W: fmt::Write>(&self, f: &mut fmt::Formatter<W>) -> fmt::Result {
         let word = self.word;
         let bytes = [
@@ -170,6 +171,7 @@ impl fmt::Debug for HeldBytes {
             (word / 256 % 256) as u8,
             (word / 0x1_0000 % 256) as u8,
         ];
-        fmt::Debug::fmt(&bytes[..self.len()], f)
+        let count = (word / 0x100_0000 % 0x80) as usize;
+        fmt::Debug::fmt(&bytes[..count], f)
     }
 }

@@ -1,6 +1,7 @@
 //! The unit that a merger has read and not answered for.
 ghost use Rattle.std.specs.Prelude.{◌≡◌, ◌<◌, [], ◌∷◌, length, true, false, IfSome, MatchOption};
 ghost use Rattle.std.specs.Iterator.{YieldsFirst};
+ghost use Rattle.encode_unicode.specs.DebugTexts.{debug_unit};
 ghost use Rattle.encode_unicode.specs.Mergers.{IsHeldUnits};
 
 use std::fmt;
@@ -129,11 +130,16 @@ impl HeldUnit {
     }
 }
 
+/// The unit, as an `Option`.
 impl fmt::Debug for HeldUnit {
+    ghost debug_output = { λ kept. debug_unit kept.held };
+
+    #[tactic(auto, unfolding(crate::specs::HeldWord::unit_of))]
     fn fmt<W: fmt::Write>(&self, f: &mut fmt::Formatter<W>) -> fmt::Result {
-        let unit = match self.len() {
-            0 => None,
-            _ => Some((self.word % 0x1_0000) as u16),
+        let unit = if self.word >= 0x1_0000 {
+            Some((self.word % 0x1_0000) as u16)
+        } else {
+            None
         };
         fmt::Debug::fmt(&unit, f)
     }

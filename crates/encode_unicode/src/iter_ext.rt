@@ -20,9 +20,9 @@ use std::alloc::{AllocError, Allocator};
 use utf_chars::utf8_char::Utf8Char;
 use utf_chars::utf16_char::Utf16Char;
 
-/// Methods of every iterator over bytes.
+/// Methods of every iterator of `u8`.
 pub trait U8IterExt: Iterator<Item = u8> + Sized {
-    /// The characters and the faulty bytes.
+    /// The characters and the invalid bytes, decoded one after another.
     fn to_utf8chars(self) -> Utf8CharMerger<Self>
         ensures merger { result ≡ unasked self }
         ensures runs { EachRunFrom (MergerNext utf8 merger_kind IsHeldBytes Self.next_gives) result (λ p. SomeRun Self.next_gives self (λ q. IsMergerRun merged p q)) }
@@ -36,9 +36,9 @@ impl<I: Iterator<Item = u8>> U8IterExt for I {
     }
 }
 
-/// Methods of every iterator over units.
+/// Methods of every iterator of `u16`.
 pub trait U16IterExt: Iterator<Item = u16> + Sized {
-    /// The characters and the faulty units.
+    /// The characters and the lone surrogates, decoded one after another.
     fn to_utf16chars(self) -> Utf16CharMerger<Self>
         ensures merger { result ≡ unasked self }
         ensures runs { EachRunFrom (MergerNext utf16 unit_fault_kind IsHeldUnits Self.next_gives) result (λ p. SomeRun Self.next_gives self (λ q. IsMergerRun merged_units p q)) }
@@ -52,18 +52,21 @@ impl<I: Iterator<Item = u16>> U16IterExt for I {
     }
 }
 
-/// Methods of every iterator over characters kept in UTF-8.
+/// Methods of every iterator of `Utf8Char`.
 ///
-/// The calls that collect and extend ask that the source ends. They take room for one character at a time,
-/// and for its whole code, so that no part of a code stands after the others where a growth is refused.
-/// What the source's hint says is not used.
+/// The calls that collect and extend take memory for one whole character at a time, so that no part
+/// of a character stands where memory is refused. The source's `size_hint` is not used.
 pub trait Utf8CharIterExt: Iterator<Item = Utf8Char> + Sized {
-    /// The bytes of the characters, one code after another.
+    /// The bytes of the characters, one character after another.
     fn to_bytes(self) -> Utf8CharSplitter<Self>
         ensures splitter { result ≡ unbegun self }
         ensures runs { EachRunFrom (SplitterNext utf8 Self.next_gives) result (λ p. SomeRun Self.next_gives self (λ q. IsSplitterRun utf8 p q)) };
 
-    /// The bytes of all characters. The error is that a growth was refused.
+    /// The bytes of all characters. The error is that memory was refused.
+    ///
+    /// Condition: the source ends.
+    ///
+    /// Cost: O(n), allocates.
     fn collect_bytes<A: Allocator>(self, alloc: A) -> Result<Vec<u8, A>, AllocError>
         requires can { Self.can_next self }
         requires ends { IsFinite (Self.remaining self) }
@@ -71,7 +74,11 @@ pub trait Utf8CharIterExt: Iterator<Item = Utf8Char> + Sized {
         ensures runs { IfOk result (λ bytes. WholeRun Self.next_gives self (λ p. bytes.items ≡ flat_map utf8 p.items)) }
         ensures nothing { (rest : Self → List ℕ) → IsListed Self.next_gives rest → rest self ≡ [] → IsOk result };
 
-    /// The text of all characters. The error is that a growth was refused.
+    /// The text of all characters. The error is that memory was refused.
+    ///
+    /// Condition: the source ends.
+    ///
+    /// Cost: O(n), allocates.
     fn collect_string<A: Allocator>(self, alloc: A) -> Result<String<A>, AllocError>
         requires can { Self.can_next self }
         requires ends { IsFinite (Self.remaining self) }
@@ -79,8 +86,12 @@ pub trait Utf8CharIterExt: Iterator<Item = Utf8Char> + Sized {
         ensures runs { IfOk result (λ text. WholeRun Self.next_gives self (λ p. string_bytes text ≡ flat_map utf8 p.items)) }
         ensures nothing { (rest : Self → List ℕ) → IsListed Self.next_gives rest → rest self ≡ [] → IsOk result };
 
-    /// Adds the bytes of all characters after those that are there. Where a growth is refused, the
-    /// characters before it have been added, and the source is gone.
+    /// Adds the bytes of all characters to the end. Where memory is refused, the characters before
+    /// it have been added, and the source is gone.
+    ///
+    /// Condition: the source ends.
+    ///
+    /// Cost: O(n), allocates.
     fn extend_bytes<A: Allocator>(self, bytes: &mut Vec<u8, A>) -> Result<(), AllocError>
         requires can { Self.can_next self }
         requires ends { IsFinite (Self.remaining self) }
@@ -89,8 +100,12 @@ pub trait Utf8CharIterExt: Iterator<Item = Utf8Char> + Sized {
         ensures runs { OnOk result (WholeRun Self.next_gives self (λ p. bytes.new.items ≡ bytes.old.items ++ flat_map utf8 p.items)) }
         ensures nothing { (rest : Self → List ℕ) → IsListed Self.next_gives rest → rest self ≡ [] → IsOk result };
 
-    /// Adds all characters to the text. Where a growth is refused, those before it have been added, and
-    /// the source is gone.
+    /// Adds all characters to the end of the text. Where memory is refused, those before it have
+    /// been added, and the source is gone.
+    ///
+    /// Condition: the source ends.
+    ///
+    /// Cost: O(n), allocates.
     fn extend_string<A: Allocator>(self, text: &mut String<A>) -> Result<(), AllocError>
         requires can { Self.can_next self }
         requires ends { IsFinite (Self.remaining self) }
@@ -131,18 +146,21 @@ impl<I: Iterator<Item = Utf8Char>> Utf8CharIterExt for I {
     }
 }
 
-/// Methods of every iterator over characters kept in UTF-16.
+/// Methods of every iterator of `Utf16Char`.
 ///
-/// The calls that collect and extend ask that the source ends. They take room for one character at a time,
-/// and for its whole code, so that no part of a code stands after the others where a growth is refused.
-/// What the source's hint says is not used.
+/// The calls that collect and extend take memory for one whole character at a time, so that no part
+/// of a character stands where memory is refused. The source's `size_hint` is not used.
 pub trait Utf16CharIterExt: Iterator<Item = Utf16Char> + Sized {
-    /// The units of the characters, one code after another.
+    /// The units of the characters, one character after another.
     fn to_units(self) -> Utf16CharSplitter<Self>
         ensures splitter { result ≡ unbegun self }
         ensures runs { EachRunFrom (SplitterNext utf16 Self.next_gives) result (λ p. SomeRun Self.next_gives self (λ q. IsSplitterRun utf16 p q)) };
 
-    /// The units of all characters. The error is that a growth was refused.
+    /// The units of all characters. The error is that memory was refused.
+    ///
+    /// Condition: the source ends.
+    ///
+    /// Cost: O(n), allocates.
     fn collect_units<A: Allocator>(self, alloc: A) -> Result<Vec<u16, A>, AllocError>
         requires can { Self.can_next self }
         requires ends { IsFinite (Self.remaining self) }
@@ -150,7 +168,11 @@ pub trait Utf16CharIterExt: Iterator<Item = Utf16Char> + Sized {
         ensures runs { IfOk result (λ units. WholeRun Self.next_gives self (λ p. units.items ≡ flat_map utf16 p.items)) }
         ensures nothing { (rest : Self → List ℕ) → IsListed Self.next_gives rest → rest self ≡ [] → IsOk result };
 
-    /// The string of all characters. The error is that a growth was refused.
+    /// The text of all characters. The error is that memory was refused.
+    ///
+    /// Condition: the source ends.
+    ///
+    /// Cost: O(n), allocates.
     fn collect_string<A: Allocator>(self, alloc: A) -> Result<String<A>, AllocError>
         requires can { Self.can_next self }
         requires ends { IsFinite (Self.remaining self) }
@@ -158,8 +180,12 @@ pub trait Utf16CharIterExt: Iterator<Item = Utf16Char> + Sized {
         ensures runs { IfOk result (λ string. WholeRun Self.next_gives self (λ p. string_bytes string ≡ flat_map utf8 p.items)) }
         ensures nothing { (rest : Self → List ℕ) → IsListed Self.next_gives rest → rest self ≡ [] → IsOk result };
 
-    /// Adds the units of all characters after those that are there. Where a growth is refused, the
-    /// characters before it have been added, and the source is gone.
+    /// Adds the units of all characters to the end. Where memory is refused, the characters before
+    /// it have been added, and the source is gone.
+    ///
+    /// Condition: the source ends.
+    ///
+    /// Cost: O(n), allocates.
     fn extend_units<A: Allocator>(self, units: &mut Vec<u16, A>) -> Result<(), AllocError>
         requires can { Self.can_next self }
         requires ends { IsFinite (Self.remaining self) }
@@ -168,8 +194,12 @@ pub trait Utf16CharIterExt: Iterator<Item = Utf16Char> + Sized {
         ensures runs { OnOk result (WholeRun Self.next_gives self (λ p. units.new.items ≡ units.old.items ++ flat_map utf16 p.items)) }
         ensures nothing { (rest : Self → List ℕ) → IsListed Self.next_gives rest → rest self ≡ [] → IsOk result };
 
-    /// Adds all characters to the string. Where a growth is refused, those before it have been added, and
-    /// the source is gone.
+    /// Adds all characters to the end of the text. Where memory is refused, those before it have
+    /// been added, and the source is gone.
+    ///
+    /// Condition: the source ends.
+    ///
+    /// Cost: O(n), allocates.
     fn extend_string<A: Allocator>(self, string: &mut String<A>) -> Result<(), AllocError>
         requires can { Self.can_next self }
         requires ends { IsFinite (Self.remaining self) }

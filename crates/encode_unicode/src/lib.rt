@@ -3,8 +3,9 @@
 //! The errors stand in `error`, the iterators in `iterator`, and the rest at the top.
 #![tactic(auto)]
 
+mod code_bytes;
 mod collecting;
-mod continuation_bytes;
+mod debugging;
 mod decoding_iterators;
 mod held_bytes;
 mod held_unit;

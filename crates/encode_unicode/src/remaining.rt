@@ -1,23 +1,27 @@
 //! What a merger of bytes has left.
-ghost use Rattle.std.specs.Prelude.{◌≡◌, List, ℕ, IfOk, IfSome, IsOk, false};
+ghost use Rattle.std.specs.Prelude.{◌≡◌, [], codes, List, ℕ, IfOk, IfSome, IsOk, false};
 ghost use Rattle.std.specs.Iterator.{UpTo};
 ghost use Rattle.std.specs.Iterator.SizeHint.{IsWithinCount};
+ghost use Rattle.utf_chars.specs.DebugTexts.{debug_numbers};
+ghost use Rattle.encode_unicode.specs.DebugTexts.{debug_merger};
 ghost use Rattle.encode_unicode.specs.Mergers.{unread, unread_count, IsHeldBytes, RemainingNext, RemainsHint};
+ghost use Rattle.encode_unicode.specs.Reading.{TakesFirst};
 ghost use Rattle.encode_unicode.specs.Sources.{GivesTheSame};
+ghost use Rattle.utf_base.specs.Kinds.{is_continuation};
 
+use crate::debugging::write_fields;
 use crate::held_bytes::HeldBytes;
-use crate::merging::hint_of_source;
+use crate::merging::{hint_of_source, read};
 use crate::splitting::hint_of;
-use crate::utf8_merger::first_byte;
 use std::alloc::AllocError;
 use std::fmt;
 use std::marker::Model;
 
-/// The bytes that no call of a merger has answered for: those that it held, in order, and then those that
-/// its source still gives.
+/// What a merger of bytes has not used: the bytes that it held, in order, and then those that its
+/// source still gives.
 ///
-/// The source is not asked again once it has answered `None`. Contracts see what is held, the source, and
-/// whether it has ended.
+/// The source is not asked again once it has given `None`. Contracts see what is held, the source,
+/// and whether it has ended.
 #[derive(Drop)]
 pub struct RemainingBytes<I> {
     source: I,
@@ -43,6 +47,7 @@ impl<I: Iterator<Item = u8>> Iterator for RemainingBytes<I> {
 
     ghost remaining = { unread_count I.remaining };
 
+    /// Takes the next byte: first those that the merger had read, then those of its source.
     #[inline(always)]
     #[tactic(auto, using(crate::proofs::MergerSteps::first_nearer))]
     fn next(&mut self) -> Option<u8> {
@@ -74,6 +79,8 @@ impl<I: Iterator<Item = u8>> RemainingBytes<I> {
 
     /// The same bytes once more, where a clone of the source gives the same items. It answers as the
     /// source's `clone` does.
+    ///
+    /// Cost: that of the source's `clone`.
     pub fn clone(&self) -> Result<RemainingBytes<I>, AllocError>
     where
         I: Clone,
@@ -90,11 +97,37 @@ impl<I: Iterator<Item = u8>> RemainingBytes<I> {
     }
 }
 
+/// The bytes that are held, and the source.
 impl<I: Iterator<Item = u8> + fmt::Debug> fmt::Debug for RemainingBytes<I> {
+    ghost debug_output = { λ m. debug_merger (codes "RemainingBytes") (debug_numbers m.held) (I.debug_output m.source) };
+
+    /// The bytes that are held, and the source.
     fn fmt<W: fmt::Write>(&self, f: &mut fmt::Formatter<W>) -> fmt::Result {
-        f.debug_struct("RemainingBytes")
-            .field("buffered", &self.held)
-            .field("inner", &self.source)
-            .finish()
+        write_fields(
+            f,
+            "RemainingBytes",
+            ("buffered", &self.held),
+            ("inner", &self.source),
+        )
+    }
+}
+
+// Takes the first of the unread bytes: one that is held, else one of the source.
+#[inline(always)]
+pub(crate) fn first_byte<I: Iterator<Item = u8>>(held: &mut HeldBytes, source: &mut I) -> Option<u8>
+    requires can { held.old.ended ≡ false → I.can_next source.old }
+    requires held { IsHeldBytes held.old.held }
+    ensures first { TakesFirst IsHeldBytes I.can_next I.remaining I.next_gives held.old.held source.old held.old.ended result held.new.held source.new held.new.ended }
+    ensures alone { IfSome result (λ b. is_continuation b ≡ false → held.new.held ≡ []) }
+{
+    if !held.is_idle() {
+        return held.take();
+    }
+    match read(source) {
+        None => {
+            *held = HeldBytes::none().ended();
+            None
+        }
+        Some(byte) => Some(byte),
     }
 }

@@ -2,6 +2,7 @@
 ghost use Rattle.std.specs.Prelude.{◌≡◌, [], ◌∷◌, length};
 ghost use Rattle.std.specs.Iterator.{YieldsFirst};
 ghost use Rattle.utf_base.specs.Code.{utf16};
+ghost use Rattle.utf_chars.specs.DebugTexts.{debug_numbers};
 ghost use Rattle.encode_unicode.specs.SecondUnit.{second_unit};
 
 use std::fmt;
@@ -74,12 +75,12 @@ impl SecondUnit {
     }
 }
 
+/// The unit, as a list.
 impl fmt::Debug for SecondUnit {
+    ghost debug_output = { debug_numbers };
+
     fn fmt<W: fmt::Write>(&self, f: &mut fmt::Formatter<W>) -> fmt::Result {
-        let mut list = f.debug_list();
-        if self.unit != 0 {
-            list.entry(&self.unit);
-        }
-        list.finish()
+        let unit = [self.unit];
+        write!(f, "{:?}", &unit[..self.len()])
     }
 }

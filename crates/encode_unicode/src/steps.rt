@@ -4,11 +4,12 @@ ghost use Rattle.std.specs.Prelude.{◌≡◌, ◌+◌};
 use crate::tally::Tally;
 use std::marker::Model;
 
-/// How many steps were taken, or how many calls failed. Contracts see it as a number without a bound; at
-/// run time it is nothing.
+/// How many steps a call took, or how many calls failed: a number for contracts alone. At run time
+/// it is nothing.
 ///
-/// A call that takes steps, as `Utf8CharDecoder::next_back_counted` does, ticks once for each, and its
-/// contract says how many they are at most.
+/// A call that takes steps, as `Utf8CharDecoder::next_back_counted` does, ticks once for each, and
+/// its contract says how many they are at most. Where you state nothing about steps, pass `&mut
+/// Steps::new()`.
 #[derive(Drop)]
 pub struct Steps {
     taken: Tally,

@@ -1,10 +1,13 @@
 //! A window of a text that shrinks from both ends by whole characters.
 ghost use Rattle.std.specs.Prelude.{◌≡◌, ◌-◌, ◌<◌, ◌≤◌, Some, OnSome, length};
+ghost use Rattle.std.specs.Fmt.{DisplaysOnOk};
 ghost use Rattle.std.specs.Int.{div_ceil};
 ghost use Rattle.std.specs.Str.{IsUtf8};
+ghost use Rattle.encode_unicode.specs.DebugTexts.{debug_indices};
 ghost use Rattle.encode_unicode.specs.TextWindow.{IsLastCode, IsTextWindow, NextPlaced, BackPlaced, BoundsScalars};
 ghost use Rattle.encode_unicode.specs.Window.{whole_window, elements};
 
+use std::fmt;
 use std::marker::Model;
 use utf_base::errors::EmptyStrError;
 use utf_chars::utf8_char::Utf8Char;
@@ -65,12 +68,16 @@ impl<'a> TextWindow<'a> {
         &self.text[self.front..self.back]
     }
 
-    /// The place at which the window begins, in bytes.
-    #[inline(always)]
-    pub(crate) fn front(&self) -> usize
-        ensures { result ≡ self.now.front }
+    /// Writes a name, the place at which the window begins, in bytes, and the part of the text that is left.
+    pub(crate) fn write_debug<W: fmt::Write>(
+        &self,
+        f: &mut fmt::Formatter<W>,
+        name: &str,
+    ) -> fmt::Result
+        ensures { DisplaysOnOk W.write_str_gives f.old result (debug_indices name.now self.now) f.new }
     {
-        self.front
+        f.write_str(name)?;
+        fmt::Debug::fmt(&(self.front, self.as_str()), f)
     }
 
     /// How many characters are left at least and at most.

@@ -1,10 +1,11 @@
 //! The iterator that cuts a slice of units into characters and errors.
-ghost use Rattle.std.specs.Prelude.{◌≡◌, ◌-◌, ◌/◌, ◌<◌, drop, [], IfSome, Some, ⊤, length, List, ℕ};
+ghost use Rattle.std.specs.Prelude.{◌≡◌, ◌-◌, ◌/◌, ◌<◌, codes, drop, [], IfSome, Some, ⊤, length, List, ℕ};
 ghost use Rattle.std.specs.Iterator.{at_most, UpTo};
 ghost use Rattle.std.specs.Iterator.SizeHint.{IsWithinCount};
 ghost use Rattle.utf_base.specs.Back.{unit_end_fault};
 ghost use Rattle.utf_base.specs.Ends.{last_of};
 ghost use Rattle.utf_base.specs.Front.{IsFrontLen};
+ghost use Rattle.encode_unicode.specs.DebugTexts.{debug_decoder};
 ghost use Rattle.encode_unicode.specs.Hints.{BoundsUnitPieces};
 ghost use Rattle.encode_unicode.specs.Window.{whole_window, elements, as_piece, IsBackOf, IsFrontOf};
 ghost use Rattle.encode_unicode.specs.Window.{NextGivesUnits, NextBackGivesUnits};
@@ -16,13 +17,13 @@ use std::marker::Model;
 use utf_base::errors::{Utf16PairError, Utf16SliceError};
 use utf_chars::utf16_char::Utf16Char;
 
-/// Cuts a slice of units into the characters that stand in it and single faulty units.
+/// Splits a slice of UTF-16 units into characters and lone surrogates, from both ends.
 ///
-/// An item is the offset of the piece from the front of the slice that the decoder was made from, the
-/// character or what is wrong with the unit, and the piece's length in units. An error always has
-/// length 1: the unit after it is judged anew. Which error a surrogate gives is decided by the units that
-/// are left, those that were taken from the back excepted: it ends no pair, or what stands after it ends
-/// none, or nothing stands there (RFC 2781, section 2.2).
+/// An item is (offset, result, length): the offset in units from the front of the slice that the
+/// decoder was made from, the character or the error, and how many units it has. An error always
+/// has length 1: the next unit is judged anew. Which kind it has is decided by the units that
+/// remain: the surrogate ends no pair, or the unit after it ends none, or nothing follows (RFC
+/// 2781, section 2.2).
 #[derive(Drop)]
 pub struct Utf16CharDecoder<'a> {
     slice: &'a [u16],
@@ -44,6 +45,7 @@ impl<'a> Model for Utf16CharDecoder<'a> {
 impl<'a> From<&'a [u16]> for Utf16CharDecoder<'a> {
     ghost from_gives = { λ slice decoder. decoder ≡ whole_window slice.now };
 
+    /// A decoder of all units of the slice.
     #[inline(always)]
     fn from(slice: &'a [u16]) -> Utf16CharDecoder<'a> {
         Utf16CharDecoder {
@@ -57,7 +59,7 @@ impl<'a> From<&'a [u16]> for Utf16CharDecoder<'a> {
 impl<'a> Default for Utf16CharDecoder<'a> {
     ghost is_default = { λ decoder. decoder ≡ whole_window [] };
 
-    /// The decoder of no units.
+    /// A decoder of no units.
     fn default() -> Utf16CharDecoder<'a> {
         let none: &'a [u16] = &[];
         Utf16CharDecoder::from(none)
@@ -65,7 +67,7 @@ impl<'a> Default for Utf16CharDecoder<'a> {
 }
 
 impl<'a> Utf16CharDecoder<'a> {
-    /// The units that no call has answered for yet, lent from the slice for as long as it lives.
+    /// The units that remain, borrowed from the slice for as long as it lives.
     #[inline(always)]
     pub fn as_slice(&self) -> &'a [u16]
         ensures left { result.now ≡ elements self.now }
@@ -82,6 +84,10 @@ impl<'a> Iterator for Utf16CharDecoder<'a> {
 
     ghost remaining = { λ w. at_most (w.back - w.front) };
 
+    /// Takes the piece at the front: (offset, character or error, length). `None` once no unit
+    /// remains.
+    ///
+    /// An error is one lone surrogate, with length 1. Its kind is decided by the units that remain.
     #[inline(always)]
     fn next(&mut self) -> Option<(usize, Result<Utf16Char, Utf16PairError>, usize)> {
         if self.front == self.back {
@@ -93,7 +99,7 @@ impl<'a> Iterator for Utf16CharDecoder<'a> {
         Some((place, answer, len))
     }
 
-    /// Half of the units that are left, rounded down, and all of them.
+    /// Bounds of how many items remain: (half of the units, rounded down; all of them).
     #[inline]
     fn size_hint(&self) -> (usize, Option<usize>)
         ensures lower { IsWithinCount result.0 (at_most (self.now.back - self.now.front)) }
@@ -109,8 +115,10 @@ impl<'a> Iterator for Utf16CharDecoder<'a> {
 impl<'a> DoubleEndedIterator for Utf16CharDecoder<'a> {
     ghost next_back_gives = { NextBackGivesUnits };
 
-    /// The character whose code ends the units that are left, else what is wrong with the last of them: a
-    /// trailing surrogate ends no pair, and a leading one has nothing after it.
+    /// Takes the piece at the back: (offset, character or error, length). `None` once no unit
+    /// remains.
+    ///
+    /// A lone trailing surrogate is `UnexpectedTrailingSurrogate`, a lone leading one `Incomplete`.
     #[inline(always)]
     fn next_back(&mut self) -> Option<(usize, Result<Utf16Char, Utf16PairError>, usize)> {
         if self.front == self.back {
@@ -127,6 +135,7 @@ impl<'a> Clone for Utf16CharDecoder<'a> {
 
     ghost is_infallible = { λ _. ⊤ };
 
+    /// A second decoder of the units that remain. It never fails.
     fn clone(&self) -> Result<Utf16CharDecoder<'a>, AllocError> {
         Ok(Utf16CharDecoder {
             slice: self.slice,
@@ -136,14 +145,16 @@ impl<'a> Clone for Utf16CharDecoder<'a> {
     }
 }
 
+/// The offset of the first unit that is left, and the units that are left.
 impl<'a> fmt::Debug for Utf16CharDecoder<'a> {
+    ghost debug_output = { debug_decoder (codes "Utf16CharDecoder { units[") };
+
+    /// The offset of the front, and the units that remain.
+    ///
+    /// Cost: O(n) in the units that remain.
     fn fmt<W: fmt::Write>(&self, f: &mut fmt::Formatter<W>) -> fmt::Result {
-        write!(
-            f,
-            "Utf16CharDecoder {{ units[{}..]: {:?} }}",
-            self.front,
-            self.as_slice()
-        )
+        let (front, left) = (self.front, self.as_slice());
+        write!(f, "Utf16CharDecoder {{ units[{front}..]: {left:?} }}")
     }
 }
 

@@ -1,20 +1,22 @@
 //! The characters of a text, kept as their codes in UTF-16.
-ghost use Rattle.std.specs.Prelude.{◌≡◌, ◌-◌, Some, IfSome, ⊤};
+ghost use Rattle.std.specs.Prelude.{◌≡◌, ◌-◌, codes, Some, IfSome, ⊤};
 ghost use Rattle.std.specs.Int.{div_ceil};
 ghost use Rattle.std.specs.Iterator.{at_most, UpTo};
 ghost use Rattle.std.specs.Iterator.SizeHint.{IsWithinCount};
+ghost use Rattle.encode_unicode.specs.DebugTexts.{debug_chars, debug_indices};
 ghost use Rattle.encode_unicode.specs.TextWindow.{IsTextWindow, NextPlaced, BackPlaced, NextScalar, BackScalar, BoundsScalars};
 ghost use Rattle.encode_unicode.specs.Window.{whole_window, elements};
 
+use crate::debugging::write_variant;
 use crate::text_window::TextWindow;
 use std::alloc::AllocError;
 use std::fmt;
 use std::marker::Model;
 use utf_chars::utf16_char::Utf16Char;
 
-/// The characters of a text, each with its offset from the front of the text in bytes.
+/// The characters of a text, kept as UTF-16, each with its offset: (offset in bytes, character).
 ///
-/// Both ends may be asked in turn. Contracts see the part of the text that is left.
+/// Both ends may be asked in turn. Contracts see the part of the text that remains.
 #[derive(Drop)]
 pub struct Utf16CharIndices<'a> {
     window: TextWindow<'a>,
@@ -31,6 +33,7 @@ impl<'a> Model for Utf16CharIndices<'a> {
 impl<'a> From<&'a str> for Utf16CharIndices<'a> {
     ghost from_gives = { λ text indices. indices ≡ whole_window text.now };
 
+    /// All characters of the text.
     #[inline(always)]
     fn from(text: &'a str) -> Utf16CharIndices<'a> {
         Utf16CharIndices {
@@ -40,7 +43,7 @@ impl<'a> From<&'a str> for Utf16CharIndices<'a> {
 }
 
 impl<'a> Utf16CharIndices<'a> {
-    /// The part of the text that is left, lent from the text for as long as it lives.
+    /// The text that remains, borrowed from the text for as long as it lives.
     #[inline(always)]
     pub fn as_str(&self) -> &'a str
         ensures text { result.now ≡ elements self.now }
@@ -57,13 +60,14 @@ impl<'a> Iterator for Utf16CharIndices<'a> {
 
     ghost remaining = { λ w. at_most (w.back - w.front) };
 
+    /// Takes the first character: (offset in bytes, character). `None` once no text remains.
     #[inline(always)]
     fn next(&mut self) -> Option<(usize, Utf16Char)> {
         let (place, c) = self.window.next()?;
         Some((place, Utf16Char::from(c)))
     }
 
-    /// A quarter of the bytes that are left, rounded up, and all of them.
+    /// Bounds of how many characters remain: (a quarter of the bytes, rounded up; all of them).
     #[inline]
     fn size_hint(&self) -> (usize, Option<usize>)
         ensures lower { IsWithinCount result.0 (at_most (self.now.back - self.now.front)) }
@@ -78,6 +82,7 @@ impl<'a> Iterator for Utf16CharIndices<'a> {
 impl<'a> DoubleEndedIterator for Utf16CharIndices<'a> {
     ghost next_back_gives = { BackPlaced };
 
+    /// Takes the last character: (offset in bytes, character). `None` once no text remains.
     #[inline(always)]
     fn next_back(&mut self) -> Option<(usize, Utf16Char)> {
         let (place, c) = self.window.next_back()?;
@@ -90,6 +95,7 @@ impl<'a> Clone for Utf16CharIndices<'a> {
 
     ghost is_infallible = { λ _. ⊤ };
 
+    /// A second iterator over the text that remains. It never fails.
     fn clone(&self) -> Result<Utf16CharIndices<'a>, AllocError> {
         Ok(Utf16CharIndices {
             window: self.window.copy(),
@@ -97,18 +103,21 @@ impl<'a> Clone for Utf16CharIndices<'a> {
     }
 }
 
+/// The offset of the text that is left, and that text.
 impl<'a> fmt::Debug for Utf16CharIndices<'a> {
+    ghost debug_output = { debug_indices (codes "Utf16CharIndices") };
+
+    /// The offset of the text that remains, and that text.
+    ///
+    /// Cost: O(n) in the text that remains.
     fn fmt<W: fmt::Write>(&self, f: &mut fmt::Formatter<W>) -> fmt::Result {
-        f.debug_tuple("Utf16CharIndices")
-            .field(&self.window.front())
-            .field(&self.as_str())
-            .finish()
+        self.window.write_debug(f, "Utf16CharIndices")
     }
 }
 
-/// The characters of a text.
+/// The characters of a text, kept as UTF-16.
 ///
-/// Both ends may be asked in turn. Contracts see the part of the text that is left.
+/// Both ends may be asked in turn. Contracts see the part of the text that remains.
 #[derive(Drop)]
 pub struct Utf16Chars<'a> {
     indices: Utf16CharIndices<'a>,
@@ -125,6 +134,7 @@ impl<'a> Model for Utf16Chars<'a> {
 impl<'a> From<&'a str> for Utf16Chars<'a> {
     ghost from_gives = { λ text chars. chars ≡ whole_window text.now };
 
+    /// All characters of the text.
     #[inline(always)]
     fn from(text: &'a str) -> Utf16Chars<'a> {
         Utf16Chars {
@@ -134,7 +144,7 @@ impl<'a> From<&'a str> for Utf16Chars<'a> {
 }
 
 impl<'a> Utf16Chars<'a> {
-    /// The part of the text that is left, lent from the text for as long as it lives.
+    /// The text that remains, borrowed from the text for as long as it lives.
     #[inline(always)]
     pub fn as_str(&self) -> &'a str
         ensures text { result.now ≡ elements self.now }
@@ -151,13 +161,14 @@ impl<'a> Iterator for Utf16Chars<'a> {
 
     ghost remaining = { λ w. at_most (w.back - w.front) };
 
+    /// Takes the first character. `None` once no text remains.
     #[inline(always)]
     fn next(&mut self) -> Option<Utf16Char> {
         let (_, c) = self.indices.next()?;
         Some(c)
     }
 
-    /// A quarter of the bytes that are left, rounded up, and all of them.
+    /// Bounds of how many characters remain: (a quarter of the bytes, rounded up; all of them).
     #[inline]
     fn size_hint(&self) -> (usize, Option<usize>)
         ensures lower { IsWithinCount result.0 (at_most (self.now.back - self.now.front)) }
@@ -172,6 +183,7 @@ impl<'a> Iterator for Utf16Chars<'a> {
 impl<'a> DoubleEndedIterator for Utf16Chars<'a> {
     ghost next_back_gives = { BackScalar };
 
+    /// Takes the last character. `None` once no text remains.
     #[inline(always)]
     fn next_back(&mut self) -> Option<Utf16Char> {
         let (_, c) = self.indices.next_back()?;
@@ -184,6 +196,7 @@ impl<'a> Clone for Utf16Chars<'a> {
 
     ghost is_infallible = { λ _. ⊤ };
 
+    /// A second iterator over the text that remains. It never fails.
     fn clone(&self) -> Result<Utf16Chars<'a>, AllocError> {
         Ok(Utf16Chars {
             indices: self.indices.clone()?,
@@ -191,8 +204,14 @@ impl<'a> Clone for Utf16Chars<'a> {
     }
 }
 
+/// The text that is left.
 impl<'a> fmt::Debug for Utf16Chars<'a> {
+    ghost debug_output = { debug_chars (codes "Utf16Chars") };
+
+    /// The text that remains.
+    ///
+    /// Cost: O(n) in the text that remains.
     fn fmt<W: fmt::Write>(&self, f: &mut fmt::Formatter<W>) -> fmt::Result {
-        f.debug_tuple("Utf16Chars").field(&self.as_str()).finish()
+        write_variant(f, "Utf16Chars", &self.as_str())
     }
 }

@@ -1,33 +1,36 @@
 //! Characters, and what is wrong, from the units of an iterator.
-ghost use Rattle.std.specs.Prelude.{◌≡◌, ◌<◌, ℕ, List, [], length, IsOk, IfOk, IfSome, true, false};
+ghost use Rattle.std.specs.Prelude.{◌≡◌, ◌<◌, codes, ℕ, List, [], length, IsOk, IfOk, IfSome, true, false};
 ghost use Rattle.std.specs.Iterator.{UpTo};
 ghost use Rattle.std.specs.Iterator.SizeHint.{IsWithinCount};
 ghost use Rattle.utf_base.specs.Code.{utf16};
-ghost use Rattle.utf_base.specs.Units.{is_surrogate, is_trailing_surrogate, unit_fault_kind};
+ghost use Rattle.utf_base.specs.Units.{is_surrogate, unit_fault_kind};
+ghost use Rattle.encode_unicode.specs.DebugTexts.{debug_merger, debug_unit};
 ghost use Rattle.encode_unicode.specs.Mergers.{unasked, unread, unread_count, IsHeldUnits, IsSpent, MergerNext, MergesHint};
 ghost use Rattle.encode_unicode.specs.Mergers.{RemainingNext, RemainsHint};
 ghost use Rattle.encode_unicode.specs.Reading.{CompletesUnits, TakesFirst};
 ghost use Rattle.encode_unicode.specs.Sources.{GivesTheSame};
 
+use crate::debugging::write_fields;
 use crate::held_unit::HeldUnit;
 use crate::merging::{hint_of_source, merged_hint, read};
 use crate::splitting::hint_of;
 use std::alloc::AllocError;
 use std::fmt;
 use std::marker::Model;
+use utf_base::elements::is_trailing_surrogate;
 use utf_base::errors::Utf16PairError;
 use utf_chars::utf16_char::Utf16Char;
 
-/// Cuts the units of an iterator into characters and single faulty units.
+/// Splits the units of any iterator into characters and lone surrogates: a streaming decoder.
 ///
-/// An error is for one unit, and the one after it is judged anew. What was read after a leading surrogate
-/// and does not complete it is held until it has been answered for: one unit at most. Nothing is held before
-/// the first call, after a character and after `None`. The source is not asked again once it has answered
-/// `None`.
+/// An error is of one unit, and the next is judged anew. A unit that was read after a leading
+/// surrogate and does not complete it is held until it has been given: one at most. Nothing is held
+/// before the first call, after a character, and after `None`. The source is not asked again once
+/// it has given `None`.
 ///
-/// A trailing surrogate where a character should begin is `UnexpectedTrailingSurrogate`, a leading one
-/// before another unit `UnmatchedLeadingSurrogate`, and one at the end `Incomplete` (RFC 2781, section 2.2).
-/// Contracts see what is held, the source, and whether it has ended.
+/// A trailing surrogate where a character should begin is `UnexpectedTrailingSurrogate`, a leading
+/// one before another unit `UnmatchedLeadingSurrogate`, and one at the end `Incomplete` (RFC 2781,
+/// section 2.2). Contracts see what is held, the source, and whether it has ended.
 #[derive(Drop)]
 pub struct Utf16CharMerger<I> {
     source: I,
@@ -47,6 +50,7 @@ impl<I> Model for Utf16CharMerger<I> {
 impl<I: Iterator<Item = u16>> From<I> for Utf16CharMerger<I> {
     ghost from_gives = { λ source merger. merger ≡ unasked source };
 
+    /// A merger that has read nothing of the source.
     #[inline]
     fn from(source: I) -> Utf16CharMerger<I> {
         Utf16CharMerger {
@@ -59,6 +63,7 @@ impl<I: Iterator<Item = u16>> From<I> for Utf16CharMerger<I> {
 impl<I: Iterator<Item = u16> + Default> Default for Utf16CharMerger<I> {
     ghost is_default = { λ merger. (merger ≡ unasked merger.source) × I.is_default merger.source };
 
+    /// A merger over the source's own default.
     #[inline]
     fn default() -> Utf16CharMerger<I> {
         Utf16CharMerger::from(I::default())
@@ -74,6 +79,10 @@ impl<I: Iterator<Item = u16>> Iterator for Utf16CharMerger<I> {
 
     ghost remaining = { unread_count I.remaining };
 
+    /// Takes one character, or the error of one lone surrogate. `None` once the source has ended and
+    /// nothing is held.
+    ///
+    /// It reads only the units that it needs to decide.
     #[inline(always)]
     fn next(&mut self) -> Option<Result<Utf16Char, Utf16PairError>> {
         let first = match first_unit(&mut self.held, &mut self.source) {
@@ -101,7 +110,8 @@ impl<I: Iterator<Item = u16>> Iterator for Utf16CharMerger<I> {
 }
 
 impl<I: Iterator<Item = u16>> Utf16CharMerger<I> {
-    /// The source as it stands. What is held is lost, which is something only after an error.
+    /// The source, as far as it was read. The unit that is held is lost: after a character none is,
+    /// after an error there may be one, and then `into_remaining_units` keeps it.
     #[inline]
     pub fn into_inner(self) -> I
         ensures source { result ≡ self.source }
@@ -112,7 +122,7 @@ impl<I: Iterator<Item = u16>> Utf16CharMerger<I> {
         source
     }
 
-    /// The units that no call has answered for: what is held, and then what the source still gives.
+    /// All units that no answer has used: what is held, and then what the source still gives.
     #[inline]
     pub fn into_remaining_units(self) -> RemainingUnits<I>
         ensures { result ≡ self }
@@ -125,6 +135,8 @@ impl<I: Iterator<Item = u16>> Utf16CharMerger<I> {
 
     /// A second merger with the same units to come, where a clone of the source gives the same items. It
     /// answers as the source's `clone` does.
+    ///
+    /// Cost: that of the source's `clone`.
     pub fn clone(&self) -> Result<Utf16CharMerger<I>, AllocError>
     where
         I: Clone,
@@ -141,12 +153,18 @@ impl<I: Iterator<Item = u16>> Utf16CharMerger<I> {
     }
 }
 
+/// The unit that is held, and the source.
 impl<I: Iterator<Item = u16> + fmt::Debug> fmt::Debug for Utf16CharMerger<I> {
+    ghost debug_output = { λ m. debug_merger (codes "Utf16CharMerger") (debug_unit m.held) (I.debug_output m.source) };
+
+    /// The unit that is held, and the source.
     fn fmt<W: fmt::Write>(&self, f: &mut fmt::Formatter<W>) -> fmt::Result {
-        f.debug_struct("Utf16CharMerger")
-            .field("buffered", &self.held)
-            .field("inner", &self.source)
-            .finish()
+        write_fields(
+            f,
+            "Utf16CharMerger",
+            ("buffered", &self.held),
+            ("inner", &self.source),
+        )
     }
 }
 
@@ -200,20 +218,12 @@ fn second_unit<I: Iterator<Item = u16>>(
             *held = HeldUnit::ended();
             Err(Utf16PairError::Incomplete)
         }
-        Some(second) if trails(second) => Ok(second),
+        Some(second) if is_trailing_surrogate(second) => Ok(second),
         Some(second) => {
             *held = HeldUnit::one(second);
             Err(Utf16PairError::UnmatchedLeadingSurrogate)
         }
     }
-}
-
-// Whether the unit is a trailing surrogate.
-#[inline(always)]
-fn trails(unit: u16) -> bool
-    ensures { result ≡ is_trailing_surrogate unit }
-{
-    unit & 0xfc00 == 0xdc00
 }
 
 // Whether the unit is a character by itself, which is to be no surrogate. One comparison tells of the units
@@ -228,11 +238,11 @@ fn stands_alone(unit: u64) -> bool
     unit.wrapping_sub(0xe000) < 0xffff_ffff_ffff_f800
 }
 
-/// The units that no call of a merger has answered for: the one that it held, and then those that its source
-/// still gives.
+/// What a merger of units has not used: the unit that it held, and then those that its source still
+/// gives.
 ///
-/// The source is not asked again once it has answered `None`. Contracts see what is held, the source, and
-/// whether it has ended.
+/// The source is not asked again once it has given `None`. Contracts see what is held, the source,
+/// and whether it has ended.
 #[derive(Drop)]
 pub struct RemainingUnits<I> {
     source: I,
@@ -256,6 +266,7 @@ impl<I: Iterator<Item = u16>> Iterator for RemainingUnits<I> {
 
     ghost remaining = { unread_count I.remaining };
 
+    /// Takes the next unit: first the one that the merger had read, then those of its source.
     #[inline(always)]
     fn next(&mut self) -> Option<u16> {
         match first_unit(&mut self.held, &mut self.source) {
@@ -280,6 +291,8 @@ impl<I: Iterator<Item = u16>> Iterator for RemainingUnits<I> {
 impl<I: Iterator<Item = u16>> RemainingUnits<I> {
     /// The same units once more, where a clone of the source gives the same items. It answers as the
     /// source's `clone` does.
+    ///
+    /// Cost: that of the source's `clone`.
     pub fn clone(&self) -> Result<RemainingUnits<I>, AllocError>
     where
         I: Clone,
@@ -296,11 +309,17 @@ impl<I: Iterator<Item = u16>> RemainingUnits<I> {
     }
 }
 
+/// The unit that is held, and the source.
 impl<I: Iterator<Item = u16> + fmt::Debug> fmt::Debug for RemainingUnits<I> {
+    ghost debug_output = { λ m. debug_merger (codes "RemainingUnits") (debug_unit m.held) (I.debug_output m.source) };
+
+    /// The unit that is held, and the source.
     fn fmt<W: fmt::Write>(&self, f: &mut fmt::Formatter<W>) -> fmt::Result {
-        f.debug_struct("RemainingUnits")
-            .field("buffered", &self.held)
-            .field("inner", &self.source)
-            .finish()
+        write_fields(
+            f,
+            "RemainingUnits",
+            ("buffered", &self.held),
+            ("inner", &self.source),
+        )
     }
 }

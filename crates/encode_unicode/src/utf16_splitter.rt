@@ -1,20 +1,23 @@
 //! Characters as the units of their codes in UTF-16.
-ghost use Rattle.std.specs.Prelude.{◌≡◌, ◌+◌, ◌*◌, ℕ, List, length, IsOk, IfOk, IfSome};
+ghost use Rattle.std.specs.Prelude.{◌≡◌, ◌+◌, ◌*◌, codes, ℕ, List, length, IsOk, IfOk, IfSome};
 ghost use Rattle.std.specs.Iterator.{count_map, UpTo};
 ghost use Rattle.std.specs.Iterator.SizeHint.{IsWithinCount};
 ghost use Rattle.utf_base.specs.Code.{utf16};
+ghost use Rattle.encode_unicode.specs.DebugTexts.{debug_splitter};
 ghost use Rattle.encode_unicode.specs.Sources.{GivesTheSame, unbegun, unsent, SplitterNext, SplitsHint};
 
+use crate::debugging::write_fields;
 use crate::second_unit::SecondUnit;
 use crate::splitting::hint_of;
 use std::alloc::AllocError;
+use std::fmt;
 use std::marker::Model;
 use utf_chars::utf16_char::Utf16Char;
 
-/// The units of the characters of an iterator, one code after another.
+/// The units of the characters of any iterator, one character after another: a streaming encoder.
 ///
-/// Contracts see what is left of the begun code, and the source.
-#[derive(Debug, Drop)]
+/// Contracts see what remains of the character that was begun, and the source.
+#[derive(Drop)]
 pub struct Utf16CharSplitter<I> {
     source: I,
     begun: SecondUnit,
@@ -31,6 +34,7 @@ impl<I> Model for Utf16CharSplitter<I> {
 impl<I: Iterator<Item = Utf16Char>> From<I> for Utf16CharSplitter<I> {
     ghost from_gives = { λ source splitter. splitter ≡ unbegun source };
 
+    /// A splitter that has taken nothing of the source.
     #[inline]
     fn from(source: I) -> Utf16CharSplitter<I> {
         Utf16CharSplitter {
@@ -49,6 +53,7 @@ impl<I: Iterator<Item = Utf16Char>> Iterator for Utf16CharSplitter<I> {
 
     ghost remaining = { λ s. count_map (λ n. length s.begun + 2 * n) (I.remaining s.source) };
 
+    /// Takes the next unit. `None` once the source has ended.
     #[inline(always)]
     fn next(&mut self) -> Option<u16> {
         match self.begun.take() {
@@ -61,7 +66,8 @@ impl<I: Iterator<Item = Utf16Char>> Iterator for Utf16CharSplitter<I> {
         }
     }
 
-    /// The units left of the begun code and one for each character of the source, and two for each.
+    /// Bounds of how many units come: what is left of the character that was begun, and at least
+    /// one unit and at most two for each character of the source.
     #[inline]
     fn size_hint(&self) -> (usize, Option<usize>)
         ensures lower { IsWithinCount result.0 (count_map (λ n. length self.now.begun + 2 * n) (I.remaining self.now.source)) }
@@ -73,7 +79,7 @@ impl<I: Iterator<Item = Utf16Char>> Iterator for Utf16CharSplitter<I> {
 }
 
 impl<I: Iterator<Item = Utf16Char>> Utf16CharSplitter<I> {
-    /// The source as it stands. What is left of the begun code is lost.
+    /// The source, as far as it was read. What remains of the character that was begun is lost.
     #[inline]
     pub fn into_inner(self) -> I
         ensures { result ≡ self.source }
@@ -84,6 +90,8 @@ impl<I: Iterator<Item = Utf16Char>> Utf16CharSplitter<I> {
 
     /// A second splitter with the same units to come, where a clone of the source gives the same items. It
     /// answers as the source's `clone` does.
+    ///
+    /// Cost: that of the source's `clone`.
     pub fn clone(&self) -> Result<Utf16CharSplitter<I>, AllocError>
     where
         I: Clone,
@@ -96,5 +104,20 @@ impl<I: Iterator<Item = Utf16Char>> Utf16CharSplitter<I> {
             source: self.source.clone()?,
             begun: self.begun.copy(),
         })
+    }
+}
+
+/// The source, and what is left of the begun code.
+impl<I: fmt::Debug> fmt::Debug for Utf16CharSplitter<I> {
+    ghost debug_output = { λ s. debug_splitter (codes "Utf16CharSplitter") (I.debug_output s.source) s.begun };
+
+    /// The source, and what remains of the character that was begun.
+    fn fmt<W: fmt::Write>(&self, f: &mut fmt::Formatter<W>) -> fmt::Result {
+        write_fields(
+            f,
+            "Utf16CharSplitter",
+            ("source", &self.source),
+            ("begun", &self.begun),
+        )
     }
 }

@@ -1,20 +1,22 @@
 //! The characters of a text, kept as their codes in UTF-8.
-ghost use Rattle.std.specs.Prelude.{◌≡◌, ◌-◌, Some, IfSome, ⊤};
+ghost use Rattle.std.specs.Prelude.{◌≡◌, ◌-◌, codes, Some, IfSome, ⊤};
 ghost use Rattle.std.specs.Int.{div_ceil};
 ghost use Rattle.std.specs.Iterator.{at_most, UpTo};
 ghost use Rattle.std.specs.Iterator.SizeHint.{IsWithinCount};
+ghost use Rattle.encode_unicode.specs.DebugTexts.{debug_chars, debug_indices};
 ghost use Rattle.encode_unicode.specs.TextWindow.{IsTextWindow, NextPlaced, BackPlaced, NextScalar, BackScalar, BoundsScalars};
 ghost use Rattle.encode_unicode.specs.Window.{whole_window, elements};
 
+use crate::debugging::write_variant;
 use crate::text_window::TextWindow;
 use std::alloc::AllocError;
 use std::fmt;
 use std::marker::Model;
 use utf_chars::utf8_char::Utf8Char;
 
-/// The characters of a text, each with its offset from the front of the text in bytes.
+/// The characters of a text, kept as UTF-8, each with its offset: (offset in bytes, character).
 ///
-/// Both ends may be asked in turn. Contracts see the part of the text that is left.
+/// Both ends may be asked in turn. Contracts see the part of the text that remains.
 #[derive(Drop)]
 pub struct Utf8CharIndices<'a> {
     window: TextWindow<'a>,
@@ -31,6 +33,7 @@ impl<'a> Model for Utf8CharIndices<'a> {
 impl<'a> From<&'a str> for Utf8CharIndices<'a> {
     ghost from_gives = { λ text indices. indices ≡ whole_window text.now };
 
+    /// All characters of the text.
     #[inline(always)]
     fn from(text: &'a str) -> Utf8CharIndices<'a> {
         Utf8CharIndices {
@@ -40,7 +43,7 @@ impl<'a> From<&'a str> for Utf8CharIndices<'a> {
 }
 
 impl<'a> Utf8CharIndices<'a> {
-    /// The part of the text that is left, lent from the text for as long as it lives.
+    /// The text that remains, borrowed from the text for as long as it lives.
     #[inline(always)]
     pub fn as_str(&self) -> &'a str
         ensures text { result.now ≡ elements self.now }
@@ -57,12 +60,13 @@ impl<'a> Iterator for Utf8CharIndices<'a> {
 
     ghost remaining = { λ w. at_most (w.back - w.front) };
 
+    /// Takes the first character: (offset in bytes, character). `None` once no text remains.
     #[inline(always)]
     fn next(&mut self) -> Option<(usize, Utf8Char)> {
         self.window.next()
     }
 
-    /// A quarter of the bytes that are left, rounded up, and all of them.
+    /// Bounds of how many characters remain: (a quarter of the bytes, rounded up; all of them).
     #[inline]
     fn size_hint(&self) -> (usize, Option<usize>)
         ensures lower { IsWithinCount result.0 (at_most (self.now.back - self.now.front)) }
@@ -77,6 +81,7 @@ impl<'a> Iterator for Utf8CharIndices<'a> {
 impl<'a> DoubleEndedIterator for Utf8CharIndices<'a> {
     ghost next_back_gives = { BackPlaced };
 
+    /// Takes the last character: (offset in bytes, character). `None` once no text remains.
     #[inline(always)]
     fn next_back(&mut self) -> Option<(usize, Utf8Char)> {
         self.window.next_back()
@@ -88,6 +93,7 @@ impl<'a> Clone for Utf8CharIndices<'a> {
 
     ghost is_infallible = { λ _. ⊤ };
 
+    /// A second iterator over the text that remains. It never fails.
     fn clone(&self) -> Result<Utf8CharIndices<'a>, AllocError> {
         Ok(Utf8CharIndices {
             window: self.window.copy(),
@@ -95,18 +101,21 @@ impl<'a> Clone for Utf8CharIndices<'a> {
     }
 }
 
+/// The offset of the text that is left, and that text.
 impl<'a> fmt::Debug for Utf8CharIndices<'a> {
+    ghost debug_output = { debug_indices (codes "Utf8CharIndices") };
+
+    /// The offset of the text that remains, and that text.
+    ///
+    /// Cost: O(n) in the text that remains.
     fn fmt<W: fmt::Write>(&self, f: &mut fmt::Formatter<W>) -> fmt::Result {
-        f.debug_tuple("Utf8CharIndices")
-            .field(&self.window.front())
-            .field(&self.as_str())
-            .finish()
+        self.window.write_debug(f, "Utf8CharIndices")
     }
 }
 
-/// The characters of a text.
+/// The characters of a text, kept as UTF-8.
 ///
-/// Both ends may be asked in turn. Contracts see the part of the text that is left.
+/// Both ends may be asked in turn. Contracts see the part of the text that remains.
 #[derive(Drop)]
 pub struct Utf8Chars<'a> {
     indices: Utf8CharIndices<'a>,
@@ -123,6 +132,7 @@ impl<'a> Model for Utf8Chars<'a> {
 impl<'a> From<&'a str> for Utf8Chars<'a> {
     ghost from_gives = { λ text chars. chars ≡ whole_window text.now };
 
+    /// All characters of the text.
     #[inline(always)]
     fn from(text: &'a str) -> Utf8Chars<'a> {
         Utf8Chars {
@@ -132,7 +142,7 @@ impl<'a> From<&'a str> for Utf8Chars<'a> {
 }
 
 impl<'a> Utf8Chars<'a> {
-    /// The part of the text that is left, lent from the text for as long as it lives.
+    /// The text that remains, borrowed from the text for as long as it lives.
     #[inline(always)]
     pub fn as_str(&self) -> &'a str
         ensures text { result.now ≡ elements self.now }
@@ -149,13 +159,14 @@ impl<'a> Iterator for Utf8Chars<'a> {
 
     ghost remaining = { λ w. at_most (w.back - w.front) };
 
+    /// Takes the first character. `None` once no text remains.
     #[inline(always)]
     fn next(&mut self) -> Option<Utf8Char> {
         let (_, c) = self.indices.next()?;
         Some(c)
     }
 
-    /// A quarter of the bytes that are left, rounded up, and all of them.
+    /// Bounds of how many characters remain: (a quarter of the bytes, rounded up; all of them).
     #[inline]
     fn size_hint(&self) -> (usize, Option<usize>)
         ensures lower { IsWithinCount result.0 (at_most (self.now.back - self.now.front)) }
@@ -170,6 +181,7 @@ impl<'a> Iterator for Utf8Chars<'a> {
 impl<'a> DoubleEndedIterator for Utf8Chars<'a> {
     ghost next_back_gives = { BackScalar };
 
+    /// Takes the last character. `None` once no text remains.
     #[inline(always)]
     fn next_back(&mut self) -> Option<Utf8Char> {
         let (_, c) = self.indices.next_back()?;
@@ -182,6 +194,7 @@ impl<'a> Clone for Utf8Chars<'a> {
 
     ghost is_infallible = { λ _. ⊤ };
 
+    /// A second iterator over the text that remains. It never fails.
     fn clone(&self) -> Result<Utf8Chars<'a>, AllocError> {
         Ok(Utf8Chars {
             indices: self.indices.clone()?,
@@ -189,8 +202,14 @@ impl<'a> Clone for Utf8Chars<'a> {
     }
 }
 
+/// The text that is left.
 impl<'a> fmt::Debug for Utf8Chars<'a> {
+    ghost debug_output = { debug_chars (codes "Utf8Chars") };
+
+    /// The text that remains.
+    ///
+    /// Cost: O(n) in the text that remains.
     fn fmt<W: fmt::Write>(&self, f: &mut fmt::Formatter<W>) -> fmt::Result {
-        f.debug_tuple("Utf8Chars").field(&self.as_str()).finish()
+        write_variant(f, "Utf8Chars", &self.as_str())
     }
 }

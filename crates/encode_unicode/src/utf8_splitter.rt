@@ -1,23 +1,25 @@
 //! Characters as the bytes of their codes in UTF-8.
-ghost use Rattle.std.specs.Prelude.{◌≡◌, ◌≤◌, ◌+◌, ◌*◌, ℕ, List, [], length, drop, IsOk, IfOk, IfSome, Ok};
+ghost use Rattle.std.specs.Prelude.{◌≡◌, ◌≤◌, ◌+◌, ◌*◌, codes, ℕ, List, [], length, drop, IsOk, IfOk, IfSome, Ok};
 ghost use Rattle.std.specs.Iterator.{count_map, UpTo};
 ghost use Rattle.std.specs.Iterator.SizeHint.{IsWithinCount};
 ghost use Rattle.utf_base.specs.Code.{utf8};
 ghost use Rattle.utf_chars.specs.Taking.{fitting, filled};
+ghost use Rattle.encode_unicode.specs.DebugTexts.{debug_splitter};
 ghost use Rattle.encode_unicode.specs.Sources.{GivesTheSame, IsListed, unbegun, unsent, SplitterNext, SplitsHint};
 
+use crate::debugging::write_fields;
 use crate::splitting::hint_of;
 use std::alloc::AllocError;
-use std::io;
 use std::marker::Model;
+use std::{fmt, io};
 use utf_chars::unsent::Unsent;
 use utf_chars::utf8_char::Utf8Char;
 
-/// The bytes of the characters of an iterator, one code after another.
+/// The bytes of the characters of any iterator, one character after another: a streaming encoder.
 ///
-/// `next` and `read` may be mixed: both take from the front of what is left. Contracts see what is left of
-/// the begun code, and the source.
-#[derive(Debug, Drop)]
+/// `next` and `read` may be mixed: both take from the front of what remains. Contracts see what
+/// remains of the character that was begun, and the source.
+#[derive(Drop)]
 pub struct Utf8CharSplitter<I> {
     source: I,
     begun: Unsent<256>,
@@ -34,6 +36,7 @@ impl<I> Model for Utf8CharSplitter<I> {
 impl<I: Iterator<Item = Utf8Char>> From<I> for Utf8CharSplitter<I> {
     ghost from_gives = { λ source splitter. splitter ≡ unbegun source };
 
+    /// A splitter that has taken nothing of the source.
     #[inline]
     fn from(source: I) -> Utf8CharSplitter<I> {
         Utf8CharSplitter {
@@ -52,6 +55,7 @@ impl<I: Iterator<Item = Utf8Char>> Iterator for Utf8CharSplitter<I> {
 
     ghost remaining = { λ s. count_map (λ n. length s.begun + 4 * n) (I.remaining s.source) };
 
+    /// Takes the next byte. `None` once the source has ended.
     #[inline(always)]
     fn next(&mut self) -> Option<u8> {
         match self.begun.next_byte() {
@@ -63,7 +67,8 @@ impl<I: Iterator<Item = Utf8Char>> Iterator for Utf8CharSplitter<I> {
         }
     }
 
-    /// The bytes left of the begun code and one for each character of the source, and four for each.
+    /// Bounds of how many bytes come: what is left of the character that was begun, and at least
+    /// one byte and at most four for each character of the source.
     #[inline]
     fn size_hint(&self) -> (usize, Option<usize>)
         ensures lower { IsWithinCount result.0 (count_map (λ n. length self.now.begun + 4 * n) (I.remaining self.now.source)) }
@@ -75,8 +80,12 @@ impl<I: Iterator<Item = Utf8Char>> Iterator for Utf8CharSplitter<I> {
 }
 
 impl<I: Iterator<Item = Utf8Char>> Utf8CharSplitter<I> {
-    /// Moves as many bytes as fit into the front of the buffer, and answers how many they are. It never
-    /// fails, and the other places of the buffer stay as they are. An empty buffer changes nothing.
+    /// Writes the next bytes to the front of the buffer, as many as fit, and gives how many they
+    /// are. It never fails. The other places of the buffer stay.
+    ///
+    /// Condition: the `next` of the source may be called.
+    ///
+    /// Cost: O(n) in the bytes that are written.
     pub fn read(&mut self, buf: &mut [u8]) -> io::Result<usize>
         requires { I.can_next self.old.source }
         ensures always { IsOk result }
@@ -99,7 +108,7 @@ impl<I: Iterator<Item = Utf8Char>> Utf8CharSplitter<I> {
         Ok(count)
     }
 
-    /// The source as it stands. What is left of the begun code is lost.
+    /// The source, as far as it was read. What remains of the character that was begun is lost.
     #[inline]
     pub fn into_inner(self) -> I
         ensures { result ≡ self.source }
@@ -110,6 +119,8 @@ impl<I: Iterator<Item = Utf8Char>> Utf8CharSplitter<I> {
 
     /// A second splitter with the same bytes to come, where a clone of the source gives the same items. It
     /// answers as the source's `clone` does.
+    ///
+    /// Cost: that of the source's `clone`.
     pub fn clone(&self) -> Result<Utf8CharSplitter<I>, AllocError>
     where
         I: Clone,
@@ -122,5 +133,20 @@ impl<I: Iterator<Item = Utf8Char>> Utf8CharSplitter<I> {
             source: self.source.clone()?,
             begun: self.begun.copy(),
         })
+    }
+}
+
+/// The source, and what is left of the begun code.
+impl<I: fmt::Debug> fmt::Debug for Utf8CharSplitter<I> {
+    ghost debug_output = { λ s. debug_splitter (codes "Utf8CharSplitter") (I.debug_output s.source) s.begun };
+
+    /// The source, and what remains of the character that was begun.
+    fn fmt<W: fmt::Write>(&self, f: &mut fmt::Formatter<W>) -> fmt::Result {
+        write_fields(
+            f,
+            "Utf8CharSplitter",
+            ("source", &self.source),
+            ("begun", &self.begun),
+        )
     }
 }

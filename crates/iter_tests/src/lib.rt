@@ -8,6 +8,8 @@ mod codes;
 #[cfg(test)]
 mod collected;
 #[cfg(test)]
+mod debug_texts;
+#[cfg(test)]
 mod decoders;
 #[cfg(test)]
 mod hints;

@@ -5,18 +5,23 @@ use crate::columns::{column, lines_of, number};
 use cuts::{Counted, Item, write_merged, write_walk};
 use encode_unicode::Utf8Char;
 use encode_unicode::error::{Utf8Error, Utf8ErrorKind};
-use std::alloc::{AllocError, Global};
+use fakes::rows::wrong_row;
+use std::alloc::Global;
+use std::io;
 
 /// The entries of a column.
-pub(crate) fn entries_of(alloc: Global, column: &str) -> Result<Vec<Option<Item>>, AllocError> {
+pub(crate) fn entries_of(alloc: Global, column: &str) -> io::Result<Vec<Option<Item>>> {
     let mut entries = Vec::new(alloc);
     for entry in column.split_terminator(';') {
-        entries.push(entry_of(entry))?;
+        entries.push(match entry {
+            "none" => None,
+            _ => Some(item_of(entry).ok_or(wrong_row())?),
+        })?;
     }
     Ok(entries)
 }
 
-fn entry_of(entry: &str) -> Option<Item> {
+fn item_of(entry: &str) -> Option<Item> {
     let mut parts = entry.split(' ');
     let place = number(parts.next()?)?;
     let len = number(parts.next()?)?;
@@ -48,7 +53,7 @@ fn kind_of(name: &str) -> Option<Utf8ErrorKind> {
 
 /// Whether the entries of the first column are written as they stand there, and their answers as the second has
 /// them.
-pub(crate) fn agrees(alloc: Global, row: &str) -> Result<bool, AllocError> {
+pub(crate) fn agrees(alloc: Global, row: &str) -> io::Result<bool> {
     let entries = entries_of(alloc, column(row, 0))?;
     let mut out = Counted::new(Vec::new(alloc));
     let is_written = write_walk(&entries, &mut out).is_ok();

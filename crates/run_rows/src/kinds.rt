@@ -3,7 +3,8 @@
 use crate::recodings::{parts_agree, refused_parts_agree, rooms_agree, shards_agree};
 use crate::trials::{growths_agree, interrupted_agree, reads_agree, writes_agree};
 use crate::{entries, lines, lists, places, replacements, runs};
-use std::alloc::{AllocError, Global};
+use std::alloc::Global;
+use std::io;
 
 /// What is held against the rows of one file.
 #[derive(Clone, Copy)]
@@ -17,6 +18,7 @@ pub(crate) enum Kind {
     Lines,
     Entries,
     Lists,
+    LongLists,
     Parts,
     RefusedParts,
     Rooms,
@@ -32,7 +34,7 @@ pub(crate) enum Kind {
 }
 
 impl Kind {
-    pub(crate) fn all() -> [Kind; 21] {
+    pub(crate) fn all() -> [Kind; 22] {
         [
             Kind::Runs,
             Kind::Reads,
@@ -43,6 +45,7 @@ impl Kind {
             Kind::Lines,
             Kind::Entries,
             Kind::Lists,
+            Kind::LongLists,
             Kind::Parts,
             Kind::RefusedParts,
             Kind::Rooms,
@@ -70,6 +73,7 @@ impl Kind {
             Kind::Lines => "each write of lines refused",
             Kind::Entries => "entries written",
             Kind::Lists => "lists collected, each growth refused",
+            Kind::LongLists => "longer lists collected, each growth refused",
             Kind::Parts => "recoded in parts",
             Kind::RefusedParts => "recoded in parts, each growth refused",
             Kind::Rooms => "recoded into rooms of each size",
@@ -93,6 +97,7 @@ impl Kind {
             Kind::LongGrowths => "long_runs.txt",
             Kind::Entries => "entries.txt",
             Kind::Lists => "lists.txt",
+            Kind::LongLists => "long_lists.txt",
             Kind::Parts | Kind::RefusedParts | Kind::Rooms | Kind::Shards => "recodings.txt",
             Kind::LongParts | Kind::LongRooms => "long_recodings.txt",
             Kind::Places => "places.txt",
@@ -102,8 +107,8 @@ impl Kind {
         }
     }
 
-    /// Whether the row holds.
-    pub(crate) fn agrees(self, alloc: Global, row: &str) -> Result<bool, AllocError> {
+    /// Whether the row holds. A row that cannot be read is an error of the kind `InvalidData`.
+    pub(crate) fn agrees(self, alloc: Global, row: &str) -> io::Result<bool> {
         match self {
             Kind::Runs => runs::agrees(alloc, row),
             Kind::Reads => reads_agree(alloc, row),
@@ -112,7 +117,7 @@ impl Kind {
             Kind::Growths | Kind::LongGrowths => growths_agree(alloc, row),
             Kind::Lines => lines::agrees(alloc, row),
             Kind::Entries => entries::agrees(alloc, row),
-            Kind::Lists => lists::agrees(alloc, row),
+            Kind::Lists | Kind::LongLists => lists::agrees(alloc, row),
             Kind::Parts | Kind::LongParts | Kind::Blocks => parts_agree(alloc, row),
             Kind::RefusedParts => refused_parts_agree(alloc, row),
             Kind::Rooms | Kind::LongRooms | Kind::BlockRooms => rooms_agree(alloc, row),

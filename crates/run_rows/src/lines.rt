@@ -6,7 +6,7 @@ use crate::runs::{Row, parse};
 use crate::trials::writes_of;
 use cuts::{Counted, merge_utf8, walk_utf8, write_listing, write_merged, write_walk};
 use fakes::fuse::{Failure, Fuse};
-use std::alloc::{AllocError, Global};
+use std::alloc::Global;
 use std::io;
 use std::io::ErrorKind;
 
@@ -57,7 +57,7 @@ fn refusals(alloc: Global, row: &Row<'_>, failure: Failure, most: usize) -> Opti
 }
 
 /// Whether each write is refused that there is, however it fails.
-pub(crate) fn agrees(alloc: Global, row: &str) -> Result<bool, AllocError> {
+pub(crate) fn agrees(alloc: Global, row: &str) -> io::Result<bool> {
     let row = parse(alloc, row)?;
     if row.recodes || row.status == 2 {
         return Ok(true);

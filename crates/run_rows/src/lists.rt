@@ -3,15 +3,17 @@
 //! The elements are bytes or units in hexadecimal, and the answers have `;` after each. The last column says how
 //! many growths are refused before the list is whole: its room begins at four entries and doubles.
 
-use crate::columns::{bytes_of, column, number, units_of, word_of};
+use crate::columns::{column, number, word_of};
 use cuts::{
-    Counted, UnitItem, forward_utf16, merge_utf8, merge_utf16, walk_utf8, walk_utf16, write_merged,
-    write_walk,
+    Counted, End, UnitItem, forward_utf16, merge_utf8, merge_utf16, walk_utf8, walk_utf16,
+    write_merged, write_walk,
 };
 use encode_unicode::Utf16Char;
 use encode_unicode::error::Utf16PairError;
 use fakes::budget::Budget;
+use fakes::rows::{bytes_of, units_of, wrong_row};
 use std::alloc::{AllocError, Global};
+use std::io;
 
 // Appends a text and `;`.
 fn push(all: &mut Vec<u8>, text: &str) -> Result<(), AllocError> {
@@ -37,18 +39,24 @@ fn push_item(alloc: Global, all: &mut Vec<u8>, item: UnitItem) -> Result<(), All
     push_answer(alloc, all, answer)
 }
 
-fn walk_bytes(alloc: Global, budget: &Budget<Global>, row: &str) -> Result<Vec<u8>, AllocError> {
-    let bytes = bytes_of(alloc, column(row, 1))?;
-    let word = word_of(alloc, column(row, 2))?;
+fn walk_bytes(
+    alloc: Global,
+    budget: &Budget<Global>,
+    bytes: &[u8],
+    word: &[End],
+) -> Result<Vec<u8>, AllocError> {
     let mut out = Counted::new(Vec::new(alloc));
-    match write_walk(&walk_utf8(budget, &bytes, &word)?, &mut out) {
+    match write_walk(&walk_utf8(budget, bytes, word)?, &mut out) {
         Ok(_) => Ok(out.into_inner()),
         Err(_) => Err(AllocError),
     }
 }
 
-fn merge_bytes(alloc: Global, budget: &Budget<Global>, row: &str) -> Result<Vec<u8>, AllocError> {
-    let bytes = bytes_of(alloc, column(row, 1))?;
+fn merge_bytes(
+    alloc: Global,
+    budget: &Budget<Global>,
+    bytes: &[u8],
+) -> Result<Vec<u8>, AllocError> {
     let mut out = Counted::new(Vec::new(alloc));
     match write_merged(&merge_utf8(budget, bytes.iter().copied())?, &mut out) {
         Ok(_) => Ok(out.into_inner()),
@@ -56,11 +64,14 @@ fn merge_bytes(alloc: Global, budget: &Budget<Global>, row: &str) -> Result<Vec<
     }
 }
 
-fn walk_units(alloc: Global, budget: &Budget<Global>, row: &str) -> Result<Vec<u8>, AllocError> {
-    let units = units_of(alloc, &bytes_of(alloc, column(row, 1))?)?;
-    let word = word_of(alloc, column(row, 2))?;
+fn walk_units(
+    alloc: Global,
+    budget: &Budget<Global>,
+    units: &[u16],
+    word: &[End],
+) -> Result<Vec<u8>, AllocError> {
     let mut all = Vec::new(alloc);
-    for entry in walk_utf16(budget, &units, &word)?.iter() {
+    for entry in walk_utf16(budget, units, word)?.iter() {
         match entry {
             Some(item) => push_item(alloc, &mut all, *item)?,
             None => push(&mut all, "none")?,
@@ -69,8 +80,11 @@ fn walk_units(alloc: Global, budget: &Budget<Global>, row: &str) -> Result<Vec<u
     Ok(all)
 }
 
-fn merge_units(alloc: Global, budget: &Budget<Global>, row: &str) -> Result<Vec<u8>, AllocError> {
-    let units = units_of(alloc, &bytes_of(alloc, column(row, 1))?)?;
+fn merge_units(
+    alloc: Global,
+    budget: &Budget<Global>,
+    units: &[u16],
+) -> Result<Vec<u8>, AllocError> {
     let mut all = Vec::new(alloc);
     for answer in merge_utf16(budget, units.iter().copied())?.iter() {
         push_answer(alloc, &mut all, *answer)?;
@@ -78,23 +92,50 @@ fn merge_units(alloc: Global, budget: &Budget<Global>, row: &str) -> Result<Vec<
     Ok(all)
 }
 
-fn forward_units(alloc: Global, budget: &Budget<Global>, row: &str) -> Result<Vec<u8>, AllocError> {
-    let units = units_of(alloc, &bytes_of(alloc, column(row, 1))?)?;
+fn forward_units(
+    alloc: Global,
+    budget: &Budget<Global>,
+    units: &[u16],
+) -> Result<Vec<u8>, AllocError> {
     let mut all = Vec::new(alloc);
-    for item in forward_utf16(budget, &units)?.iter() {
+    for item in forward_utf16(budget, units)?.iter() {
         push_item(alloc, &mut all, *item)?;
     }
     Ok(all)
 }
 
-// The list of the row's call as text, where the growths that are left are enough.
-fn collect(alloc: Global, budget: &Budget<Global>, row: &str) -> Result<Vec<u8>, AllocError> {
+// A call that collects a list, and what it is given.
+#[derive(Drop)]
+enum Call {
+    WalkBytes(Vec<u8>, Vec<End>),
+    MergeBytes(Vec<u8>),
+    WalkUnits(Vec<u16>, Vec<End>),
+    MergeUnits(Vec<u16>),
+    ForwardUnits(Vec<u16>),
+}
+
+impl Call {
+    // The list as text, where the growths that are left are enough.
+    fn collect(&self, alloc: Global, budget: &Budget<Global>) -> Result<Vec<u8>, AllocError> {
+        match self {
+            Call::WalkBytes(bytes, word) => walk_bytes(alloc, budget, bytes, word),
+            Call::MergeBytes(bytes) => merge_bytes(alloc, budget, bytes),
+            Call::WalkUnits(units, word) => walk_units(alloc, budget, units, word),
+            Call::MergeUnits(units) => merge_units(alloc, budget, units),
+            Call::ForwardUnits(units) => forward_units(alloc, budget, units),
+        }
+    }
+}
+
+fn call_of(alloc: Global, row: &str) -> io::Result<Call> {
+    let (elements, word) = (column(row, 1), word_of(alloc, column(row, 2))?);
     match column(row, 0) {
-        "walk_utf8" => walk_bytes(alloc, budget, row),
-        "merge_utf8" => merge_bytes(alloc, budget, row),
-        "walk_utf16" => walk_units(alloc, budget, row),
-        "merge_utf16" => merge_units(alloc, budget, row),
-        _ => forward_units(alloc, budget, row),
+        "walk_utf8" => Ok(Call::WalkBytes(bytes_of(alloc, elements)?, word)),
+        "merge_utf8" => Ok(Call::MergeBytes(bytes_of(alloc, elements)?)),
+        "walk_utf16" => Ok(Call::WalkUnits(units_of(alloc, elements)?, word)),
+        "merge_utf16" => Ok(Call::MergeUnits(units_of(alloc, elements)?)),
+        "forward_utf16" => Ok(Call::ForwardUnits(units_of(alloc, elements)?)),
+        _ => Err(wrong_row()),
     }
 }
 
@@ -106,10 +147,11 @@ fn is_list(list: &[u8], answers: &str) -> bool {
 }
 
 /// Whether the list is as the row says, and is refused as often.
-pub(crate) fn agrees(alloc: Global, row: &str) -> Result<bool, AllocError> {
+pub(crate) fn agrees(alloc: Global, row: &str) -> io::Result<bool> {
+    let call = call_of(alloc, row)?;
     for growths in 0..100 {
         let budget = Budget::new(alloc, growths);
-        if let Ok(list) = collect(alloc, &budget, row) {
+        if let Ok(list) = call.collect(alloc, &budget) {
             return Ok(
                 is_list(&list, column(row, 3)) && number(column(row, 4)) == Some(growths as usize),
             );

@@ -1,7 +1,7 @@
 //! Whole runs, programs, tables and recoders against rows that another program computed. Each read, write and
 //! growth of each row is also refused in turn, until none is.
 //!
-//! It prints how many rows agree. A row that differs is printed too, and the status is then 1.
+//! It prints how many rows agree. A row that differs, or that cannot be read, is printed too, and the status is then 1.
 #![tactic(auto)]
 
 mod columns;
@@ -39,10 +39,10 @@ fn report(rt: &HostRuntime, kind: Kind) -> io::Result<bool> {
             continue;
         }
         count = count.saturating_add(1);
-        if kind.agrees(rt.alloc(), row)? {
-            equal = equal.saturating_add(1);
-        } else {
-            println!(rt; "{}: differs at {row}", kind.name())?;
+        match kind.agrees(rt.alloc(), row) {
+            Ok(true) => equal = equal.saturating_add(1),
+            Ok(false) => println!(rt; "{}: differs at {row}", kind.name())?,
+            Err(error) => println!(rt; "{}: {error} at {row}", kind.name())?,
         }
     }
     println!(rt; "{}: {count} rows, {equal} equal", kind.name())?;

@@ -3,31 +3,38 @@
 //! The elements are bytes or units in hexadecimal. `shard_end` is asked `FORM PLACE`, and `room_for` `FORM FORM LENGTH`,
 //! where `none` stands for no size. `front_of_text` is asked for a scalar, and answers the length of its code.
 
-use crate::columns::{bytes_of, column, number, units_of};
+use crate::columns::{column, number};
 use crate::recodings::form_of;
 use cuts::{front_of_text, room_for, shard_end, units_valid_up_to, valid_up_to};
-use std::alloc::{AllocError, Global};
+use fakes::rows::{bytes_of, units_of, wrong_row};
+use std::alloc::Global;
+use std::io;
 
 /// Whether the call answers what the row says.
-pub(crate) fn agrees(alloc: Global, row: &str) -> Result<bool, AllocError> {
-    let bytes = bytes_of(alloc, column(row, 1))?;
-    let answer = match column(row, 0) {
-        "valid_up_to" => Some(valid_up_to(&bytes)),
-        "units_valid_up_to" => Some(units_valid_up_to(&units_of(alloc, &bytes)?)),
-        "shard_end" => end_of(column(row, 2), &bytes),
-        "room_for" => size_of(column(row, 2)),
-        "front_of_text" => text_len(column(row, 2), &bytes),
-        _ => return Ok(false),
-    };
+pub(crate) fn agrees(alloc: Global, row: &str) -> io::Result<bool> {
+    let answer = answer_of(alloc, row)?;
     Ok(match column(row, 3) {
         "none" => answer.is_none(),
         place => answer.is_some() && answer == number(place),
     })
 }
 
-fn end_of(asked: &str, bytes: &[u8]) -> Option<usize> {
-    let (form, at) = asked.split_once(' ')?;
-    Some(shard_end(form_of(form), bytes, number(at)?))
+fn answer_of(alloc: Global, row: &str) -> io::Result<Option<usize>> {
+    let (elements, asked) = (column(row, 1), column(row, 2));
+    match column(row, 0) {
+        "valid_up_to" => Ok(Some(valid_up_to(&bytes_of(alloc, elements)?))),
+        "units_valid_up_to" => Ok(Some(units_valid_up_to(&units_of(alloc, elements)?))),
+        "shard_end" => Ok(Some(end_of(asked, &bytes_of(alloc, elements)?)?)),
+        "room_for" => size_of(asked),
+        "front_of_text" => Ok(text_len(asked, &bytes_of(alloc, elements)?)),
+        _ => Err(wrong_row()),
+    }
+}
+
+fn end_of(asked: &str, bytes: &[u8]) -> io::Result<usize> {
+    let (form, at) = asked.split_once(' ').ok_or(wrong_row())?;
+    let at = number(at).ok_or(wrong_row())?;
+    Ok(shard_end(form_of(form)?, bytes, at))
 }
 
 // How many bytes the code of the scalar has that begins the bytes, or 0 where another does.
@@ -40,8 +47,9 @@ fn text_len(asked: &str, bytes: &[u8]) -> Option<usize> {
     })
 }
 
-fn size_of(asked: &str) -> Option<usize> {
-    let (from, rest) = asked.split_once(' ')?;
-    let (to, len) = rest.split_once(' ')?;
-    room_for(form_of(from), form_of(to), number(len)?)
+fn size_of(asked: &str) -> io::Result<Option<usize>> {
+    let (from, rest) = asked.split_once(' ').ok_or(wrong_row())?;
+    let (to, len) = rest.split_once(' ').ok_or(wrong_row())?;
+    let len = number(len).ok_or(wrong_row())?;
+    Ok(room_for(form_of(from)?, form_of(to)?, len))
 }

@@ -3,66 +3,66 @@
 //! The last column says how many growths are refused where the bytes are fed one by one: one for each of them, and
 //! one for an end that leaves some held. Bytes are held while fewer are there than the first of them asks for.
 
-use crate::columns::{bytes_of, column, number};
+use crate::columns::{column, number};
 use cuts::{Form, Recoder, shard_end};
 use fakes::budget::Budget;
+use fakes::rows::{bytes_of, wrong_row};
 use std::alloc::{AllocError, Allocator, Global};
+use std::io;
 
 /// The form of that name.
-pub(crate) fn form_of(name: &str) -> Form {
+pub(crate) fn form_of(name: &str) -> io::Result<Form> {
     match name {
-        "utf16le" => Form::Utf16Le,
-        "utf16be" => Form::Utf16Be,
-        _ => Form::Utf8,
+        "utf8" => Ok(Form::Utf8),
+        "utf16le" => Ok(Form::Utf16Le),
+        "utf16be" => Ok(Form::Utf16Be),
+        _ => Err(wrong_row()),
     }
 }
 
 // The two forms of the row.
-fn forms_of(row: &str) -> (Form, Form) {
-    let forms = column(row, 0);
-    let (from, to) = forms.split_once(' ').unwrap_or((forms, forms));
-    (form_of(from), form_of(to))
+fn forms_of(row: &str) -> io::Result<(Form, Form)> {
+    let (from, to) = column(row, 0).split_once(' ').ok_or(wrong_row())?;
+    Ok((form_of(from)?, form_of(to)?))
 }
 
 // The recoder that the row asks for.
-fn recoder_of(row: &str) -> Recoder {
-    let (from, to) = forms_of(row);
-    Recoder::new(from, to)
+fn recoder_of(row: &str) -> io::Result<Recoder> {
+    let (from, to) = forms_of(row)?;
+    Ok(Recoder::new(from, to))
 }
 
 // The same, where it holds what the other holds.
-fn taken_over(row: &str, recoder: &Recoder) -> Recoder {
-    let (from, to) = forms_of(row);
-    Recoder::holding(from, to, recoder.held())
+fn taken_over(row: &str, recoder: &Recoder) -> io::Result<Recoder> {
+    let (from, to) = forms_of(row)?;
+    Ok(Recoder::holding(from, to, recoder.held()))
 }
 
 fn finish<A: Allocator>(recoder: Recoder, out: &mut Vec<u8, A>) -> Result<(), AllocError> {
-    match recoder.finish(out) {
-        Ok(()) => Ok(()),
-        Err(unfinished) => Err(unfinished.cause),
-    }
+    recoder.finish(out)?;
+    Ok(())
 }
 
 // Appends what comes of the input, cut at this place with nothing between.
-fn recode_two(row: &str, front: &[u8], back: &[u8], out: &mut Vec<u8>) -> Result<(), AllocError> {
-    let mut recoder = recoder_of(row);
+fn recode_two(row: &str, front: &[u8], back: &[u8], out: &mut Vec<u8>) -> io::Result<()> {
+    let mut recoder = recoder_of(row)?;
     recoder.feed(front, out)?;
     recoder.feed(&[], out)?;
     recoder.feed(back, out)?;
-    finish(recoder, out)
+    Ok(finish(recoder, out)?)
 }
 
 // Appends what comes of the input, fed in parts of so many bytes.
-fn recode_parts(row: &str, input: &[u8], size: usize, out: &mut Vec<u8>) -> Result<(), AllocError> {
-    let mut recoder = recoder_of(row);
+fn recode_parts(row: &str, input: &[u8], size: usize, out: &mut Vec<u8>) -> io::Result<()> {
+    let mut recoder = recoder_of(row)?;
     for part in input.chunks(size.max(1)) {
         recoder.feed(part, out)?;
     }
-    finish(recoder, out)
+    Ok(finish(recoder, out)?)
 }
 
 // Whether what stands after the word is the output of the row.
-fn is_output(alloc: Global, row: &str, out: &[u8]) -> Result<bool, AllocError> {
+fn is_output(alloc: Global, row: &str, out: &[u8]) -> io::Result<bool> {
     let output = bytes_of(alloc, column(row, 2))?;
     Ok(out.strip_prefix(BEFORE) == Some(output.as_slice()))
 }
@@ -78,7 +78,7 @@ fn before(alloc: Global) -> Result<Vec<u8>, AllocError> {
 
 /// Whether the row holds however its input is cut: into two parts, with an empty one between them, and into parts
 /// of any one size. What comes of them stands after what was there.
-pub(crate) fn parts_agree(alloc: Global, row: &str) -> Result<bool, AllocError> {
+pub(crate) fn parts_agree(alloc: Global, row: &str) -> io::Result<bool> {
     let input = bytes_of(alloc, column(row, 1))?;
     for place in 0..=input.len() {
         let mut out = before(alloc)?;
@@ -98,35 +98,31 @@ const AMPLE: usize = 512;
 
 // Appends what comes of the input in a first room of so many bytes and then in an ample one, where another recoder
 // takes over after each call.
-fn recode_rooms(row: &str, input: &[u8], size: usize, out: &mut Vec<u8>) -> Result<(), AllocError> {
+fn recode_rooms(row: &str, input: &[u8], size: usize, out: &mut Vec<u8>) -> io::Result<()> {
     let mut room = [0; AMPLE];
-    let mut recoder = recoder_of(row);
+    let mut recoder = recoder_of(row)?;
     let first = recoder.feed_into(input, &mut room[..size.min(AMPLE)]);
     out.extend_from_slice(&room[..first.written])?;
-    let mut recoder = taken_over(row, &recoder);
+    let mut recoder = taken_over(row, &recoder)?;
     let then = recoder.feed_into(&input[first.read..], &mut room);
     out.extend_from_slice(&room[..then.written])?;
     finish_rooms(row, recoder, size, out)
 }
 
 // The same of the end.
-fn finish_rooms(
-    row: &str,
-    recoder: Recoder,
-    size: usize,
-    out: &mut Vec<u8>,
-) -> Result<(), AllocError> {
+fn finish_rooms(row: &str, recoder: Recoder, size: usize, out: &mut Vec<u8>) -> io::Result<()> {
     let mut room = [0; AMPLE];
-    let mut recoder = taken_over(row, &recoder);
+    let mut recoder = taken_over(row, &recoder)?;
     let end = recoder.finish_into(&mut room[..size.min(AMPLE)]);
     out.extend_from_slice(&room[..end.written])?;
-    let mut recoder = taken_over(row, &recoder);
+    let mut recoder = taken_over(row, &recoder)?;
     let last = recoder.finish_into(&mut room);
-    out.extend_from_slice(&room[..last.written])
+    out.extend_from_slice(&room[..last.written])?;
+    Ok(())
 }
 
 /// Whether the row holds for a first room of each size, from none to as many bytes as the output has.
-pub(crate) fn rooms_agree(alloc: Global, row: &str) -> Result<bool, AllocError> {
+pub(crate) fn rooms_agree(alloc: Global, row: &str) -> io::Result<bool> {
     let input = bytes_of(alloc, column(row, 1))?;
     for size in 0..=column(row, 2).len() / 2 {
         let mut out = before(alloc)?;
@@ -140,9 +136,9 @@ pub(crate) fn rooms_agree(alloc: Global, row: &str) -> Result<bool, AllocError> 
 
 /// Whether the row holds where its input is cut into two shards, at the place that is asked for each place in it, and
 /// each is recoded by itself.
-pub(crate) fn shards_agree(alloc: Global, row: &str) -> Result<bool, AllocError> {
+pub(crate) fn shards_agree(alloc: Global, row: &str) -> io::Result<bool> {
     let input = bytes_of(alloc, column(row, 1))?;
-    let (from, _) = forms_of(row);
+    let (from, _) = forms_of(row)?;
     for at in 0..=input.len() {
         let mut out = before(alloc)?;
         let (front, rest) = input.split_at(shard_end(from, &input, at));
@@ -193,10 +189,10 @@ fn finish_refused(
 
 /// Whether each growth of `feed` and `finish` that is refused leaves recoder and output as they were, and the call
 /// made again gives what it should. The output is taken out after each byte, so that each growth is refused.
-pub(crate) fn refused_parts_agree(alloc: Global, row: &str) -> Result<bool, AllocError> {
+pub(crate) fn refused_parts_agree(alloc: Global, row: &str) -> io::Result<bool> {
     let budget = Budget::new(alloc, 0);
     let mut all = before(alloc)?;
-    let mut recoder = recoder_of(row);
+    let mut recoder = recoder_of(row)?;
     let mut refused = 0usize;
     for byte in bytes_of(alloc, column(row, 1))?.iter() {
         let mut out = Vec::new(&budget);

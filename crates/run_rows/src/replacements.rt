@@ -3,12 +3,14 @@
 //! The bytes and the pieces stand there before and after it, in hexadecimal and with `;` after each piece. The last
 //! two columns may say how many growths are refused of the new table, and of the replacement.
 
-use crate::columns::{bytes_of, column, number};
+use crate::columns::{column, number};
 use crate::entries::entries_of;
 use cuts::PieceTable;
 use encode_unicode::Steps;
 use fakes::budget::Budget;
+use fakes::rows::bytes_of;
 use std::alloc::{AllocError, Allocator, Global};
+use std::io;
 
 // Whether the table is that of the two columns from this one on.
 fn is_table<A: Allocator + Copy>(
@@ -16,7 +18,7 @@ fn is_table<A: Allocator + Copy>(
     table: &PieceTable<A>,
     row: &str,
     first: usize,
-) -> Result<bool, AllocError> {
+) -> io::Result<bool> {
     let bytes = bytes_of(alloc, column(row, first))?;
     let pieces = entries_of(alloc, column(row, first.saturating_add(1)))?;
     Ok(
@@ -43,7 +45,7 @@ fn replace<A: Allocator + Copy>(
 }
 
 // How often the new table is refused, where it is then that of the row.
-fn refusals_of_new(alloc: Global, row: &str) -> Result<Option<usize>, AllocError> {
+fn refusals_of_new(alloc: Global, row: &str) -> io::Result<Option<usize>> {
     let bytes = bytes_of(alloc, column(row, 0))?;
     for growths in 0..100 {
         let budget = Budget::new(alloc, growths);
@@ -55,7 +57,7 @@ fn refusals_of_new(alloc: Global, row: &str) -> Result<Option<usize>, AllocError
 }
 
 // How often the replacement is refused, where the table is then as it was, and in the end as the row says.
-fn refusals_of_replacing(alloc: Global, row: &str) -> Result<Option<usize>, AllocError> {
+fn refusals_of_replacing(alloc: Global, row: &str) -> io::Result<Option<usize>> {
     let bytes = bytes_of(alloc, column(row, 0))?;
     let new = bytes_of(alloc, column(row, 4))?;
     for growths in 0..100 {
@@ -77,7 +79,7 @@ fn is_count(count: Option<usize>, column: &str) -> bool {
 }
 
 /// Whether the replacement is as the row says, and the table as it was wherever memory is refused.
-pub(crate) fn agrees(alloc: Global, row: &str) -> Result<bool, AllocError> {
+pub(crate) fn agrees(alloc: Global, row: &str) -> io::Result<bool> {
     Ok(
         is_count(refusals_of_new(alloc, row)?, column(row, 7))
             && is_count(refusals_of_replacing(alloc, row)?, column(row, 8)),

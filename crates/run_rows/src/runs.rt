@@ -4,12 +4,14 @@
 //! output of `recode`, and that of `pieces` has `;` in place of each line feed. What is said on standard error
 //! has no line feed, and the last column may say how many growths the run asks for.
 
-use crate::columns::{bytes_of, column, lines_of, number, words_of};
+use crate::columns::{column, lines_of, number, words_of};
 use cuts::programs::mains::arguments_of;
 use cuts::{Counted, run_pieces, run_recode};
 use fakes::budget::Budget;
 use fakes::fuse::{Fuse, Plan};
+use fakes::rows::{bytes_of, wrong_row};
 use std::alloc::{AllocError, Allocator, Global};
+use std::io;
 
 /// What a row says.
 #[derive(Drop)]
@@ -23,7 +25,7 @@ pub(crate) struct Row<'a> {
     pub(crate) growths: Option<usize>,
 }
 
-pub(crate) fn parse(alloc: Global, row: &str) -> Result<Row<'_>, AllocError> {
+pub(crate) fn parse(alloc: Global, row: &str) -> io::Result<Row<'_>> {
     let words = column(row, 0);
     let recodes = words.starts_with("recode,");
     let output = column(row, 3);
@@ -31,7 +33,7 @@ pub(crate) fn parse(alloc: Global, row: &str) -> Result<Row<'_>, AllocError> {
         recodes,
         args: words.split_once(',').map_or("", |(_, args)| args),
         input: bytes_of(alloc, column(row, 1))?,
-        status: number(column(row, 2)).unwrap_or(usize::MAX),
+        status: number(column(row, 2)).ok_or(wrong_row())?,
         output: if recodes {
             bytes_of(alloc, output)?
         } else {
@@ -174,9 +176,28 @@ impl Ended<'_> {
     }
 }
 
-/// Whether the row's run is as it says: by the arguments after the program's name, with one write for each line,
-/// and idle where the arguments are wrong.
-pub(crate) fn agrees(alloc: Global, row: &str) -> Result<bool, AllocError> {
+// Whether the streams were asked no more often than it takes, where each call passes all that it is given: one read
+// for the whole of a short input and one for its end, one write for each line of `pieces`, and at most one for each
+// read of `recode`.
+fn asks_no_more(ended: &Ended<'_>, row: &Row<'_>) -> bool {
+    if row.status == 2 {
+        return ended.is_idle();
+    }
+    let reads = if row.input.is_empty() { 1 } else { 2 };
+    let writes = ended.out.given.len();
+    let lines = row.output.iter().filter(|byte| **byte == b'\n').count();
+    let is_short = row.input.len() < 65536;
+    (ended.reads == reads || !is_short)
+        && if row.recodes {
+            writes <= ended.reads
+        } else {
+            writes == lines
+        }
+}
+
+/// Whether the row's run is as it says, by the arguments after the program's name, and asks its streams no more often
+/// than it takes, and not at all where the arguments are wrong.
+pub(crate) fn agrees(alloc: Global, row: &str) -> io::Result<bool> {
     let words = words_of(alloc, column(row, 0))?;
     let row = parse(alloc, row)?;
     let args = words_of(alloc, row.args)?;
@@ -184,10 +205,5 @@ pub(crate) fn agrees(alloc: Global, row: &str) -> Result<bool, AllocError> {
         return Ok(false);
     }
     let ended = run(alloc, &row, Trial::pass(usize::MAX))?;
-    let lines = row.output.iter().filter(|byte| **byte == b'\n').count();
-    Ok(
-        ended.is_whole(&row)
-            && (row.recodes || ended.out.given.len() == lines)
-            && (row.status != 2 || ended.is_idle()),
-    )
+    Ok(ended.is_whole(&row) && asks_no_more(&ended, &row))
 }

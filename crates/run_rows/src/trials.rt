@@ -3,6 +3,7 @@
 use crate::runs::{Row, Trial, parse, run};
 use fakes::fuse::{Failure, Plan};
 use std::alloc::{AllocError, Global};
+use std::io;
 use std::io::ErrorKind;
 
 // What is refused of a run.
@@ -10,7 +11,8 @@ use std::io::ErrorKind;
 enum Refused {
     Read(ErrorKind),
     Reads,
-    Write(Failure),
+    Write(ErrorKind),
+    Writes(Failure),
     Growth,
 }
 
@@ -21,7 +23,8 @@ impl Refused {
         match self {
             Refused::Read(kind) => trial.reads = Plan::fail_once(passes, kind),
             Refused::Reads => trial.reads = Plan::fail(passes, Failure::Nothing),
-            Refused::Write(failure) => trial.writes = Plan::fail(passes, failure),
+            Refused::Write(kind) => trial.writes = Plan::fail_once(passes, kind),
+            Refused::Writes(failure) => trial.writes = Plan::fail(passes, failure),
             Refused::Growth => trial.growths = passes,
         }
         trial
@@ -31,7 +34,7 @@ impl Refused {
     fn text(self) -> &'static str {
         match self {
             Refused::Read(_) | Refused::Reads => "cannot read",
-            Refused::Write(_) => "cannot write",
+            Refused::Write(_) | Refused::Writes(_) => "cannot write",
             Refused::Growth => "no memory",
         }
     }
@@ -50,11 +53,11 @@ fn refusals(
         if ended.is_whole(row) {
             return Ok(Some(passes as usize));
         }
-        let writes = match refused {
-            Refused::Write(_) => passes as usize + 1,
-            _ => 0,
+        let writes = ended.out.given.len();
+        let is_last = match refused {
+            Refused::Write(_) | Refused::Writes(_) => writes == passes as usize + 1,
+            _ => row.recodes || writes == 0,
         };
-        let is_last = row.recodes || ended.out.given.len() == writes;
         if !is_last || !ended.is_stopped(row, refused.text()) {
             return Ok(None);
         }
@@ -63,7 +66,7 @@ fn refusals(
 }
 
 /// Whether each read can be refused, by errors and for good.
-pub(crate) fn reads_agree(alloc: Global, row: &str) -> Result<bool, AllocError> {
+pub(crate) fn reads_agree(alloc: Global, row: &str) -> io::Result<bool> {
     let row = parse(alloc, row)?;
     let count = if row.status == 2 {
         Some(0)
@@ -83,7 +86,7 @@ pub(crate) fn reads_agree(alloc: Global, row: &str) -> Result<bool, AllocError> 
 }
 
 /// Whether a run whose read is interrupted goes on.
-pub(crate) fn interrupted_agree(alloc: Global, row: &str) -> Result<bool, AllocError> {
+pub(crate) fn interrupted_agree(alloc: Global, row: &str) -> io::Result<bool> {
     let row = parse(alloc, row)?;
     for passes in 0..row.input.len().min(100) {
         let refused = Refused::Read(ErrorKind::Interrupted);
@@ -95,22 +98,33 @@ pub(crate) fn interrupted_agree(alloc: Global, row: &str) -> Result<bool, AllocE
     Ok(true)
 }
 
-/// Whether each write can be refused, of whole lines, of parts of them, and of bytes.
-pub(crate) fn writes_agree(alloc: Global, row: &str) -> Result<bool, AllocError> {
+/// Whether each write can be refused, once and for good, of whole lines, of parts of them, and of bytes.
+pub(crate) fn writes_agree(alloc: Global, row: &str) -> io::Result<bool> {
     let row = parse(alloc, row)?;
-    for failure in [
-        Failure::Error(ErrorKind::BrokenPipe),
-        Failure::Error(ErrorKind::Interrupted),
-        Failure::Nothing,
+    for refused in [
+        Refused::Write(ErrorKind::Interrupted),
+        Refused::Writes(Failure::Error(ErrorKind::BrokenPipe)),
+        Refused::Writes(Failure::Error(ErrorKind::Interrupted)),
+        Refused::Writes(Failure::Nothing),
     ] {
         for most in [usize::MAX, 3, 1] {
-            let count = refusals(alloc, &row, Refused::Write(failure), most)?;
-            if count.is_none() || !row.recodes && count != Some(writes_of(&row.output, most)) {
+            let count = refusals(alloc, &row, refused, most)?;
+            if !count.is_some_and(|count| is_write_count(&row, count, most)) {
                 return Ok(false);
             }
         }
     }
     Ok(true)
+}
+
+// Whether the run has so many writes of so many bytes at most. Those of `recode` go by the parts that it reads: there is
+// one where it writes anything.
+fn is_write_count(row: &Row<'_>, count: usize, most: usize) -> bool {
+    if row.recodes {
+        (count > 0) == !row.output.is_empty()
+    } else {
+        count == writes_of(&row.output, most)
+    }
 }
 
 /// How many writes of so many bytes at most the lines take, where each line takes its own.
@@ -132,7 +146,7 @@ pub(crate) fn writes_of(lines: &[u8], most: usize) -> usize {
 }
 
 /// Whether each growth can be refused.
-pub(crate) fn growths_agree(alloc: Global, row: &str) -> Result<bool, AllocError> {
+pub(crate) fn growths_agree(alloc: Global, row: &str) -> io::Result<bool> {
     let row = parse(alloc, row)?;
     let count = refusals(alloc, &row, Refused::Growth, 2)?;
     Ok(count.is_some() && (row.growths.is_none() || count == row.growths))

@@ -3,6 +3,8 @@
 #![tactic(auto)]
 
 #[cfg(test)]
+mod asked;
+#[cfg(test)]
 mod bounds;
 #[cfg(test)]
 mod callers;
@@ -13,9 +15,13 @@ mod first_faults;
 #[cfg(test)]
 mod long_inputs;
 #[cfg(test)]
+mod mains;
+#[cfg(test)]
 mod places;
 #[cfg(test)]
 mod programs;
+#[cfg(test)]
+mod rows;
 #[cfg(test)]
 mod streams;
 #[cfg(test)]

@@ -1,8 +1,11 @@
-//! A million bytes. From the back, a scan of the whole run for each of its bytes would not end in time.
-use cuts::{Counted, Item, run_pieces, write_listing};
-use encode_unicode::error::{Utf8Error, Utf8ErrorKind};
+//! A million bytes, or units. From the back, a scan of the whole run for each of its bytes would not end in time.
+use cuts::{
+    Counted, End, Item, forward_utf16, merge_utf8, merge_utf16, run_pieces, walk_utf8, walk_utf16,
+    write_listing,
+};
+use encode_unicode::error::{Utf8Error, Utf8ErrorKind, Utf16PairError};
 use encode_unicode::iterator::Utf8CharDecoder;
-use encode_unicode::{Steps, Utf8Char};
+use encode_unicode::{Steps, Utf8Char, Utf16Char};
 use fakes::fuse::Fuse;
 use std::alloc::{AllocError, Global};
 use std::process::Abort;
@@ -65,6 +68,54 @@ fn pieces_come_from_the_back(rt: HostRuntime) -> Result<(), Fail> {
         come_by_next_back(&rt, &bytes, len);
         come_by_rev(&rt, &bytes, len);
         come_counted(&rt, &bytes, len);
+    }
+    Ok(())
+}
+
+#[test]
+fn a_million_bytes_are_collected(rt: HostRuntime) -> Result<(), Fail> {
+    let bytes = strays(rt.alloc(), 0xf1)?;
+    let word = vec![in rt.alloc(); End::Back; LEN]?;
+    let walked = walk_utf8(rt.alloc(), &bytes, &word)?;
+    assert!(rt;
+        walked.len() == LEN && merge_utf8(rt.alloc(), bytes.iter().copied())?.len() == LEN - 3
+    );
+    for (place, answer) in (4..LEN).rev().zip(walked.iter()) {
+        assert!(rt; *answer == stray(place));
+    }
+    assert!(rt; walked[LEN - 4..] == [character(4), None, None, None]);
+    Ok(())
+}
+
+// A pair, and units that end none.
+fn stray_units(alloc: Global) -> Result<Vec<u16>, AllocError> {
+    let mut units = vec![in alloc; 0xdca3; LEN]?;
+    if let Some(unit) = units.first_mut() {
+        *unit = 0xd83d;
+    }
+    Ok(units)
+}
+
+#[test]
+fn a_million_units_are_collected(rt: HostRuntime) -> Result<(), Fail> {
+    let units = stray_units(rt.alloc())?;
+    let word = vec![in rt.alloc(); End::Back; LEN]?;
+    let pair = Ok(Utf16Char::new('\u{1f4a3}'));
+    let stray = Err(Utf16PairError::UnexpectedTrailingSurrogate);
+    let forward = forward_utf16(rt.alloc(), &units)?;
+    assert!(rt; forward.len() == LEN - 1 && forward.first() == Some(&(0, pair, 2)));
+    let merged = merge_utf16(rt.alloc(), units.iter().copied())?;
+    assert!(rt; merged.len() == LEN - 1 && merged.first() == Some(&pair));
+    let walked = walk_utf16(rt.alloc(), &units, &word)?;
+    assert!(rt; walked.len() == LEN && walked[LEN - 2..] == [Some((0, pair, 2)), None]);
+    for (place, answer) in (2..LEN).zip(walked.iter().rev().skip(2)) {
+        assert!(rt; *answer == Some((place, stray, 1)));
+    }
+    for (place, piece) in (2..LEN).zip(forward.iter().skip(1)) {
+        assert!(rt; *piece == (place, stray, 1));
+    }
+    for answer in merged.iter().skip(1) {
+        assert!(rt; *answer == stray);
     }
     Ok(())
 }

@@ -1,8 +1,8 @@
 //! The callers in `uses` that look for places in damaged bytes, and that make texts of texts.
+use cuts::boundaries::{ceil, floor, following, previous, truncated};
 use std::process::Abort;
 use std::test::Fail;
 use uses::blocks::count_block;
-use uses::boundaries::{ceil, floor, following, previous, truncated};
 use uses::listed::{pieces_of_both, turned_by_units};
 use uses::needles::find_ascii;
 use uses::shown::{lossy, valid_front};

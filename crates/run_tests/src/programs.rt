@@ -4,7 +4,7 @@ use cuts::programs::pieces_program::finish_run;
 use cuts::programs::stops::Stop;
 use cuts::{
     Counted, Form, RecodeFault, forward_utf16, merge_utf8, merge_utf16, recode, run_pieces,
-    walk_utf8,
+    walk_utf8, write_listing,
 };
 use encode_unicode::{StrExt, Utf8CharIterExt, Utf16CharIterExt};
 use fakes::budget::Budget;
@@ -14,7 +14,7 @@ use std::io;
 use std::io::ErrorKind;
 use std::test::Fail;
 
-fn words_of(alloc: Global, texts: &str) -> Result<Vec<String>, AllocError> {
+pub(crate) fn words_of(alloc: Global, texts: &str) -> Result<Vec<String>, AllocError> {
     let mut words = Vec::new(alloc);
     for text in texts.split_terminator(',') {
         words.push(String::from_str(alloc, text)?)?;
@@ -86,6 +86,15 @@ fn standard_error_may_fail(rt: HostRuntime) {
     }
 }
 
+// No count sees the writes to standard error.
+#[test]
+fn an_interrupted_write_is_not_made_again(rt: HostRuntime) {
+    let mut stderr = Fuse::ample(rt.alloc());
+    stderr.plan = Plan::fail_once(1, ErrorKind::Interrupted);
+    assert!(rt; Stop::CannotRead.report("pieces", &mut stderr) == 3);
+    assert!(rt; stderr.written.as_slice() == b"pieces".as_slice() && stderr.given.len() == 2);
+}
+
 #[test]
 fn stops_have_their_lines(rt: HostRuntime) -> Result<(), Fail> {
     for (stop, status, line) in [
@@ -132,6 +141,19 @@ fn recoding_tells_what_failed(rt: HostRuntime) {
 }
 
 #[test]
+fn a_stall_is_no_broken_pipe(rt: HostRuntime) {
+    for (failure, kind) in [
+        (Failure::Nothing, ErrorKind::WriteZero),
+        (Failure::Error(ErrorKind::BrokenPipe), ErrorKind::BrokenPipe),
+    ] {
+        let mut out = Counted::new(Fuse::failing(rt.alloc(), 1, failure));
+        let answer = write_listing(b"AB", &mut out);
+        assert!(rt; answer.is_err_and(|error| error.kind() == kind));
+        assert!(rt; out.into_inner().written.as_slice() == b"0 1 000041\n".as_slice());
+    }
+}
+
+#[test]
 fn what_was_split_is_merged_again(rt: HostRuntime) -> Result<(), Fail> {
     let text = "A\u{e9}\u{20ac}\u{1f4a3}";
     let merged = merge_utf8(rt.alloc(), text.utf8chars().to_bytes())?;
@@ -150,4 +172,8 @@ fn nothing_to_hold_needs_no_memory(rt: HostRuntime) {
     assert!(rt; merge_utf16(&budget, no_units.iter().copied()).is_ok());
     assert!(rt; forward_utf16(&budget, &no_units).is_ok());
     assert!(rt; walk_utf8(&budget, b"a", &[]).is_ok());
+    let mut input = Counted::new(Fuse::over(rt.alloc(), &[]));
+    let mut out = Counted::new(Fuse::ample(rt.alloc()));
+    let answer = recode(&budget, &mut input, &mut out, Form::Utf16Be, Form::Utf8);
+    assert!(rt; answer == Ok(()));
 }

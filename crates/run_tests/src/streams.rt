@@ -40,21 +40,22 @@ fn flush_is_one_call(rt: HostRuntime) {
 
 #[test]
 fn take_is_one_read(rt: HostRuntime) {
-    let kind = ErrorKind::BrokenPipe;
-    let mut input = Counted::new(fuse(&rt, kind));
-    let mut part = [0; 4];
-    let mut answers = [Err(kind); 5];
-    for (answer, has_room) in answers.iter_mut().zip([true, true, false, true, true]) {
-        let given = if has_room {
-            input.take(&mut part)
-        } else {
-            input.take(&mut [])
-        };
-        *answer = given.map_err(|error| error.kind());
+    for kind in [ErrorKind::Interrupted, ErrorKind::BrokenPipe] {
+        let mut input = Counted::new(fuse(&rt, kind));
+        let mut part = [0; 4];
+        let mut answers = [Err(kind); 5];
+        for (answer, has_room) in answers.iter_mut().zip([true, true, false, true, true]) {
+            let given = if has_room {
+                input.take(&mut part)
+            } else {
+                input.take(&mut [])
+            };
+            *answer = given.map_err(|error| error.kind());
+        }
+        assert!(rt; answers == [Ok(2), Err(kind), Ok(0), Ok(1), Ok(0)]);
+        assert!(rt; part == *b"cb\0\0");
+        assert!(rt; input.into_inner().given.as_slice() == [4, 4, 0, 4, 4].as_slice());
     }
-    assert!(rt; answers == [Ok(2), Err(kind), Ok(0), Ok(1), Ok(0)]);
-    assert!(rt; part == *b"cb\0\0");
-    assert!(rt; input.into_inner().given.len() == 5);
 }
 
 #[test]

@@ -3,6 +3,7 @@ ghost use Rattle.std.specs.Prelude.{◌<◌, ◌≤◌, ◌+◌, length};
 
 use cuts::PieceTable;
 use encode_unicode::{Steps, Utf8Char};
+use fakes::budget::Budget;
 use std::alloc::{AllocError, Allocator};
 use std::test::Fail;
 
@@ -33,6 +34,17 @@ fn one_character_changes_among_ten_thousand(rt: HostRuntime) -> Result<(), Fail>
     Ok(())
 }
 
+#[test]
+fn a_table_has_a_million_bytes(rt: HostRuntime) -> Result<(), Fail> {
+    let bytes = vec![in rt.alloc(); b'a'; 1_000_000]?;
+    let mut table = PieceTable::new(rt.alloc(), bytes.as_slice())?;
+    put_two(&mut table, 999_999, &mut Steps::new())?;
+    assert!(rt; table.bytes().len() == 1_000_001 && table.pieces().len() == 1_000_000);
+    let last = (999_999, Ok(Utf8Char::new('\u{e9}')), 2);
+    assert!(rt; table.pieces().last() == Some(&last));
+    Ok(())
+}
+
 // One replacement after another leaves what a table made anew of the bytes has.
 #[test]
 fn replacements_follow_each_other(rt: HostRuntime) -> Result<(), Fail> {
@@ -53,5 +65,19 @@ fn replacements_follow_each_other(rt: HostRuntime) -> Result<(), Fail> {
         assert!(rt; table.pieces() == anew.pieces(), "in round {round}");
     }
     assert!(rt; table.bytes().len() == 46);
+    Ok(())
+}
+
+#[test]
+fn nothing_takes_the_place_of_nothing_without_memory(rt: HostRuntime) -> Result<(), Fail> {
+    let budget = Budget::new(rt.alloc(), u32::MAX);
+    let bytes = b"a\xf0\x90\x80";
+    let mut table = PieceTable::new(&budget, bytes)?;
+    budget.allow(0);
+    for wanted in 0..=bytes.len() {
+        let place = wanted.min(table.bytes().len());
+        table.replace(place, place, b"", &mut Steps::new())?;
+        assert!(rt; table.bytes() == bytes.as_slice() && table.pieces().len() == 4);
+    }
     Ok(())
 }

@@ -7,7 +7,8 @@ use Rattle.encode_unicode.specs.Ends.{EndsWith, NoCodeEnds}
 use Rattle.encode_unicode.specs.Front.{BeginsWith}
 use Rattle.encode_unicode.specs.Piece.{Stands}
 use Rattle.encode_unicode.proofs.ForCallers.{utf8_is_code, front_char, front_fault, back_char, back_fault, outside_front, outside_end}
-use Rattle.uses.specs.Cursor.{IsBetween, IsStep}
+use Rattle.cuts.specs.PieceBoundaries.{IsBetween}
+use Rattle.uses.specs.Cursor.{IsStep}
 
 pub on_char : (xs : List ℕ) (i s n : ℕ) → IsBetween xs i → BeginsWith utf8 (slice_range xs i (length xs)) s n → IsBetween xs (i + n) × IsStep xs i (i + n)
 on_char xs i s n b h =

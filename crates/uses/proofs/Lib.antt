@@ -4,7 +4,6 @@ pub mod RecordLemmas
 pub mod TableLemmas
 pub mod TokenLemmas
 pub mod EditorLemmas
-pub mod BoundaryLemmas
 pub mod StringLemmas
 pub mod ShownLemmas
 pub mod NeedleLemmas

@@ -1,13 +1,11 @@
 -- A text that goes through its units, character by character.
-use Rattle.std.proofs.Common.{◌≡◌, ℕ, suc, ◌+◌, List, [], ◌∷◌, ◌++◌, length, drop, refl, ap, sym, ◌∙◌, arith, true, Some, Result, Ok, Err, length-append, append_assoc, append-nil}
+use Rattle.std.proofs.Common.{◌≡◌, ℕ, suc, ◌+◌, List, [], ◌∷◌, ◌++◌, length, drop, refl, ap, sym, ◌∙◌, arith, Some, Result, Ok, Err, length-append, append_assoc, append-nil}
 use Rattle.std.proofs.lemmas.Grind.{common_steps}
 use Rattle.std.proofs.lemmas.List.{drop_at}
-use Rattle.std.proofs.lemmas.List.Elements.{All-cons, All-nil}
 use Rattle.std.proofs.lemmas.Str.{scalars-chars}
-use Rattle.std.specs.Char.{IsScalar as IsStdScalar}
 use Rattle.std.specs.List.{flat_map}
-use Rattle.std.specs.Prelude.{All, encode_utf8_all, slice_range}
-use Rattle.std.specs.Str.{IsUtf8, chars, all_scalars}
+use Rattle.std.specs.Prelude.{All, slice_range}
+use Rattle.std.specs.Str.{IsUtf8, chars}
 use Rattle.encode_unicode.specs.Code.{utf8, utf16}
 use Rattle.encode_unicode.specs.Mergers.{Merging, TakesFront, unasked, unread}
 use Rattle.encode_unicode.specs.Scalar.{IsScalar}
@@ -18,7 +16,7 @@ use Rattle.encode_unicode.specs.Window.{Window, elements, whole_window}
 use Rattle.encode_unicode.specs.declared.error.Utf16PairError.{Utf16PairError}
 use Rattle.encode_unicode.proofs.ForCallers.{codes_of_text, utf16_is_code, same_char, stands_first, no_units_where_kind}
 use Rattle.encode_unicode.proofs.Listed.{scalars_listed, splitter_listed}
-use Rattle.cuts.proofs.TextRuns.{all_scalar}
+use Rattle.encode_unicode.proofs.TextScalars.{all_scalar}
 
 -- the units that a splitter over the characters of a text still gives
 abbrev pub units_left : Splitting Window → List ℕ

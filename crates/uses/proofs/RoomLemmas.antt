@@ -3,7 +3,7 @@ use Rattle.std.proofs.Common.{◌≡◌, ℕ, ◌+◌, ◌-◌, ◌≤◌, Bool,
 use Rattle.std.proofs.lemmas.List.{take_all, take-append-le}
 use Rattle.std.proofs.Math.Seq.{take-append-add}
 use Rattle.std.specs.Prelude.{IsTrue, IsFalse}
-use Rattle.cuts.specs.declared.recoding.form.Form.{Form}
+use Rattle.cuts.specs.declared.Form.{Form}
 use Rattle.cuts.specs.Bounds.{FeedsInRoom, RoomIsLeft, FinishesInRoom, HasRoom}
 use Rattle.cuts.specs.Recoded.{Recoding, Feeds, Finishes, IsRecoded}
 use Rattle.cuts.specs.Rooms.{FeedsInto, FinishesInto, IsFull, IsLastFull}

@@ -16,9 +16,9 @@ use Rattle.encode_unicode.specs.Window.{Item}
 use Rattle.encode_unicode.specs.declared.error.Utf8ErrorKind.{Utf8ErrorKind}
 use Rattle.cuts.specs.Items.{piece_of}
 use Rattle.cuts.specs.Recoded.{IsRecoded}
-use Rattle.cuts.specs.Listings.{PiecesAreTheRun, TextHasNoFault, fault_count}
+use Rattle.cuts.specs.ForwardRuns.{PiecesAreTheRun, TextHasNoFault, fault_count}
 use Rattle.cuts.specs.WellFormed.{IsFirstFault}
-use Rattle.cuts.specs.declared.recoding.form.Form.TheVariants.{Utf8}
+use Rattle.cuts.specs.declared.Form.TheVariants.{Utf8}
 use Rattle.uses.specs.Shown.{shown_item}
 
 same_shown : (items : List Item) → map shown_item items ≡ map shown (map piece_of items)

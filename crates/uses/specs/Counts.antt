@@ -1,7 +1,7 @@
 -- How many errors some bytes have.
 use Rattle.std.specs.Prelude.{◌≡◌, ℕ, List}
 use Rattle.encode_unicode.specs.Window.{Item}
-use Rattle.cuts.specs.Listings.{IsForwardRun, fault_count}
+use Rattle.cuts.specs.ForwardRuns.{IsForwardRun, fault_count}
 
 -- so many items of the forward run over the bytes are errors
 pub record CountsFaults (xs : List ℕ) (faults : ℕ) : Type 0 where

@@ -1,12 +1,7 @@
 -- A place in some bytes that may be damaged, between two of their pieces.
-use Rattle.std.specs.Prelude.{◌≡◌, ℕ, ◌≤◌, List, length}
+use Rattle.std.specs.Prelude.{◌≡◌, ℕ, List}
 use Rattle.encode_unicode.specs.Code.{utf8}
-use Rattle.encode_unicode.specs.Piece.{Inside, Piece, IsPiece, end_of}
-
--- no code lies over the place
-pub record IsBetween (xs : List ℕ) (p : ℕ) : Type 0 where
-  pub within : p ≤ length xs
-  pub outside : ¬ Inside utf8 xs p
+use Rattle.encode_unicode.specs.Piece.{Piece, IsPiece, end_of}
 
 -- a piece of the bytes begins at i and ends at j
 pub record IsStep (xs : List ℕ) (i j : ℕ) : Type 0 where

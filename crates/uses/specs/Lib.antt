@@ -5,7 +5,6 @@ pub mod Records
 pub mod Tables
 pub mod Tokens
 pub mod Editor
-pub mod Boundaries
 pub mod Strings
 pub mod Shown
 pub mod Needles

@@ -1,7 +1,7 @@
 -- Records of a length and a text in UTF-16.
 use Rattle.std.specs.Prelude.{◌≡◌, ℕ, ◌+◌, ◌*◌, ◌≤◌, List, length, drop, slice_index, slice_range}
 use Rattle.cuts.specs.Recoded.{IsRecoded}
-use Rattle.cuts.specs.declared.recoding.form.Form.TheVariants.{Utf8, Utf16Le}
+use Rattle.cuts.specs.declared.Form.TheVariants.{Utf8, Utf16Le}
 
 -- where the record ends that begins the bytes
 abbrev pub record_end : List ℕ → ℕ

@@ -1,79 +1,39 @@
-//! Any place in bytes that may be damaged, also one inside of a character: for a viewer that is asked for a byte, and
-//! for a log whose lines are cut to a length.
-ghost use Rattle.std.specs.Prelude.{◌+◌, ◌-◌, ◌<◌, ◌≤◌, MatchOption, length};
-ghost use Rattle.uses.specs.Boundaries.{IsEndFrom, IsFirstBetween, IsLastBetween, IsTruncated, LiesOver};
-ghost use Rattle.uses.specs.Cursor.{IsBetween};
+//! Character boundaries near any byte, by `cuts::boundaries`: for a viewer, a search that shows what stands around a hit,
+//! and a log whose lines are cut to a length.
+ghost use Rattle.std.specs.Prelude.{◌<◌, ◌≤◌, length};
 
-use encode_unicode::{Utf8Char, laws};
+use cuts::boundaries::{ceil, floor, following, previous, truncated};
 
-/// The code that lies over a place: where it begins, and where it ends.
-pub fn code_over(src: &[u8], place: usize) -> Option<(usize, usize)>
-    requires { place ≤ length src.now }
-    ensures { MatchOption result (IsBetween src.now place) (λ x. LiesOver src.now x.0 x.1 place) }
+/// What stands around a place: so many bytes on each side, and as many more as end at boundaries.
+pub fn around(bytes: &[u8], place: usize, reach: usize) -> &[u8]
+    requires { place ≤ length bytes.now }
 {
-    for start in place.saturating_sub(3)..place {
-        let end = end_of_code(src, start);
-        if place < end {
-            return Some((start, end));
-        }
+    let from = floor(bytes, place.saturating_sub(reach));
+    let to = ceil(bytes, place.saturating_add(reach).min(bytes.len()));
+    &bytes[from..to]
+}
+
+/// The character or faulty byte that has this byte.
+pub fn piece_of(bytes: &[u8], place: usize) -> &[u8]
+    requires { place < length bytes.now }
+{
+    &bytes[previous(bytes, place + 1)..following(bytes, place)]
+}
+
+/// The first row of so many bytes at most, and the rows after it.
+pub fn first_row(bytes: &[u8], width: usize) -> (&[u8], &[u8])
+    ensures { length result.0.now ≤ width }
+{
+    let row = truncated(bytes, width);
+    (row, &bytes[row.len()..])
+}
+
+/// The bytes before a cursor and those after it, without the piece that the backspace key takes away.
+pub fn without_previous(bytes: &[u8], cursor: usize) -> (&[u8], &[u8])
+    requires { cursor ≤ length bytes.now }
+{
+    if cursor == 0 {
+        return (&[], bytes);
     }
-    None
-}
-
-// Where the code ends that begins at a place, and that place where none does.
-fn end_of_code(src: &[u8], start: usize) -> usize
-    requires { start ≤ length src.now }
-    ensures { IsEndFrom src.now start result }
-{
-    match Utf8Char::from_slice_start(&src[start..]) {
-        Ok((_, len)) => start + len,
-        Err(_) => start,
-    }
-}
-
-/// The last place between two pieces that is not after this one.
-pub fn floor(src: &[u8], place: usize) -> usize
-    requires { place ≤ length src.now }
-    ensures { IsLastBetween src.now place result }
-{
-    laws::codes_never_overlap();
-    match code_over(src, place) {
-        Some((start, _)) => start,
-        None => place,
-    }
-}
-
-/// The first place between two pieces that is not before this one.
-pub fn ceil(src: &[u8], place: usize) -> usize
-    requires { place ≤ length src.now }
-    ensures { IsFirstBetween src.now place result }
-{
-    match code_over(src, place) {
-        Some((_, end)) => end,
-        None => place,
-    }
-}
-
-/// Where the piece begins that has the byte before this place.
-pub fn previous(src: &[u8], place: usize) -> usize
-    requires some { 0 < place }
-    requires within { place ≤ length src.now }
-    ensures { IsLastBetween src.now (place - 1) result }
-{
-    floor(src, place - 1)
-}
-
-/// Where the piece ends that has the byte at this place.
-pub fn following(src: &[u8], place: usize) -> usize
-    requires { place < length src.now }
-    ensures { IsFirstBetween src.now (place + 1) result }
-{
-    ceil(src, place + 1)
-}
-
-/// As many of the first bytes as end between two pieces, and no more than asked for.
-pub fn truncated(bytes: &[u8], most: usize) -> &[u8]
-    ensures { IsTruncated bytes.now most result.now }
-{
-    &bytes[..floor(bytes, most.min(bytes.len()))]
+    (&bytes[..previous(bytes, cursor)], &bytes[cursor..])
 }

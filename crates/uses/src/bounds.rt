@@ -29,10 +29,8 @@ pub fn lossy_text<A: Allocator>(alloc: A, bytes: &[u8]) -> Result<Vec<u8, A>, Al
     let mut out = Vec::with_capacity(alloc, bytes.len().saturating_mul(3))?;
     let mut recoder = Recoder::new(Form::Utf8, Form::Utf8);
     recoder.feed(bytes, &mut out)?;
-    match recoder.finish(&mut out) {
-        Ok(()) => Ok(out),
-        Err(unfinished) => Err(unfinished.cause),
-    }
+    recoder.finish(&mut out)?;
+    Ok(out)
 }
 
 /// The bytes in another form, in a vector that has room for all of it before the first byte is read.

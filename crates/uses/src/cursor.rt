@@ -1,6 +1,7 @@
 //! A cursor in bytes that may be damaged: a place between two pieces, which steps both ways.
 ghost use Rattle.std.specs.Prelude.{◌≡◌, ◌<◌, length};
-ghost use Rattle.uses.specs.Cursor.{IsBetween, IsStep};
+ghost use Rattle.cuts.specs.PieceBoundaries.{IsBetween};
+ghost use Rattle.uses.specs.Cursor.{IsStep};
 
 use encode_unicode::{Utf8Char, laws};
 

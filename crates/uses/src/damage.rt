@@ -1,10 +1,11 @@
 //! What the laws say of damaged bytes.
-ghost use Rattle.std.specs.Prelude.{◌≡◌, ◌<◌, ℕ, IsTrue, Some, length, slice_index};
+ghost use Rattle.std.specs.Prelude.{◌≡◌, ◌<◌, ℕ, Contains, IfSome, IsTrue, Ok, Some, count_by, length, nat_eq, slice_index};
 ghost use Rattle.encode_unicode.specs.Code.{utf8};
-ghost use Rattle.encode_unicode.specs.Piece.{IsPiece, Stands};
+ghost use Rattle.encode_unicode.specs.Piece.{Inside, IsPiece, Stands};
+ghost use Rattle.encode_unicode.specs.Pieces.{characters, pieces};
 ghost use Rattle.encode_unicode.specs.ShownLaws.{CodeShowsFirst, FaultShowsFirst, FirstPieceStays, KindStays, ShowsOne, ShowsSome};
 
-use encode_unicode::{Utf8Char, laws};
+use encode_unicode::{U8SliceExt, Utf8Char, laws};
 
 /// Whether a byte is ASCII, and so a piece of its own, whatever stands around it.
 pub fn is_ascii_piece(bytes: &[u8], place: usize) -> bool
@@ -13,6 +14,41 @@ pub fn is_ascii_piece(bytes: &[u8], place: usize) -> bool
 {
     laws::ascii_stands_alone();
     bytes[place] < 0x80
+}
+
+/// How many line feeds the bytes have, counted as characters.
+pub fn line_feeds(bytes: &[u8]) -> usize
+    ensures { result ≡ count_by (λ b. nat_eq b 10) bytes.now }
+{
+    laws::ascii_is_counted(bytes, b'\n');
+    let characters = bytes.utf8char_indices().filter_map(|x| x.1.ok());
+    characters.filter(|c| c.eq_char('\n')).count()
+}
+
+/// How many of an ASCII delimiter the bytes have, counted as bytes: as many as there are fields after the first.
+pub fn delimiters(bytes: &[u8], delimiter: u8) -> usize
+    requires { delimiter < 128 }
+    ensures { result ≡ count_by (λ c. nat_eq c delimiter) (characters bytes.now) }
+{
+    laws::ascii_is_counted(bytes, delimiter);
+    bytes.iter().filter(|b| **b == delimiter).count()
+}
+
+/// Whether a quote stands at the place, which is then a piece that a decoder gives.
+pub fn is_quote(bytes: &[u8], place: usize) -> bool
+    ensures { IsTrue result → Contains (pieces bytes.now) (place, Ok 34, 1) }
+{
+    laws::ascii_is_a_piece(bytes, place);
+    place < bytes.len() && bytes[place] == b'"'
+}
+
+/// The place after the first comma, where a piece begins.
+pub fn after_comma(bytes: &[u8]) -> Option<usize>
+    ensures { IfSome result (λ place. ¬ Inside utf8 bytes.now place) }
+{
+    let comma = bytes.iter().position(|b| *b == b',')?;
+    laws::ascii_is_a_piece(bytes, comma);
+    Some(comma + 1)
 }
 
 /// Whether no code begins the bytes.

@@ -26,10 +26,8 @@ pub fn recode_in_parts<A: Allocator>(
         recoder.feed(&bytes[place..place + len], &mut out)?;
         place += len;
     }
-    match recoder.finish(&mut out) {
-        Ok(()) => Ok(out),
-        Err(unfinished) => Err(unfinished.cause),
-    }
+    recoder.finish(&mut out)?;
+    Ok(out)
 }
 
 /// The same of parts that are there already, as a server keeps them while a request comes.
@@ -42,15 +40,13 @@ pub fn recode_parts<A: Allocator>(
     ensures { IfOk result (λ out. IsRecoded from to (flat_map (λ part. part.items) parts.now) out.items) }
 {
     laws::parts_are_one_part();
-    let mut out = Vec::new(alloc);
+    let mut joined = Vec::new(alloc);
     let mut recoder = Recoder::new(from, to);
     for part in parts {
-        recoder.feed(part, &mut out)?;
+        recoder.feed(part, &mut joined)?;
     }
-    if let Err(unfinished) = recoder.finish(&mut out) {
-        return Err(unfinished.cause);
-    }
-    Ok(out)
+    recoder.finish(&mut joined)?;
+    Ok(joined)
 }
 
 /// The same of two parts, as of a buffer that wraps.
@@ -68,8 +64,6 @@ pub fn recode_two<A: Allocator>(
     let mut recoder = Recoder::new(from, to);
     recoder.feed(first, &mut made)?;
     recoder.feed(second, &mut made)?;
-    match recoder.finish(&mut made) {
-        Ok(()) => Ok(made),
-        Err(unfinished) => Err(unfinished.cause),
-    }
+    recoder.finish(&mut made)?;
+    Ok(made)
 }

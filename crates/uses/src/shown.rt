@@ -4,7 +4,7 @@ ghost use Rattle.std.specs.Prelude.{◌≡◌, ℕ, IfOk, flat_map, map, string_
 ghost use Rattle.encode_unicode.specs.Code.{utf8};
 ghost use Rattle.encode_unicode.specs.Pieces.{pieces};
 ghost use Rattle.cuts.specs.Recoded.{IsRecoded};
-ghost use Rattle.cuts.specs.declared.recoding.form.Form.TheVariants.{Utf8};
+ghost use Rattle.cuts.specs.declared.Form.TheVariants.{Utf8};
 ghost use Rattle.cuts.specs.WellFormed.{IsFirstFault};
 ghost use Rattle.uses.specs.Shown.{shown_item};
 

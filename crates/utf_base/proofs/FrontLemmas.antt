@@ -15,13 +15,13 @@ use Rattle.utf_base.proofs.Utf8Code.{utf8_is_code, utf8-1, utf8-2, utf8-3, utf8-
 
 -- From the bytes to the code of their value.
 
-code_of_2 : (v b c : ℕ) → v ≡ (b - 0xC0) * 64 + (c - 0x80) → 0xC2 ≤ b → b < 0xE0 → 0x80 ≤ c → c < 0xC0 → utf8 v ≡ b ∷ c ∷ []
+pub code_of_2 : (v b c : ℕ) → v ≡ (b - 0xC0) * 64 + (c - 0x80) → 0xC2 ≤ b → b < 0xE0 → 0x80 ≤ c → c < 0xC0 → utf8 v ≡ b ∷ c ∷ []
 code_of_2 v b c e b1 b2 c1 c2 =
     let x : 0xC0 + v / 64 ≡ b = omega arith in
     let y : 0x80 + v % 64 ≡ c = omega arith in
     utf8-2 v (omega arith) (omega arith) ∙ cc
 
-code_of_3 : (v b c d : ℕ) → v ≡ (b - 0xE0) * 4096 + (c - 0x80) * 64 + (d - 0x80) → 0x800 ≤ v → 0xE0 ≤ b → b < 0xF0
+pub code_of_3 : (v b c d : ℕ) → v ≡ (b - 0xE0) * 4096 + (c - 0x80) * 64 + (d - 0x80) → 0x800 ≤ v → 0xE0 ≤ b → b < 0xF0
     → 0x80 ≤ c → c < 0xC0 → 0x80 ≤ d → d < 0xC0 → utf8 v ≡ b ∷ c ∷ d ∷ []
 code_of_3 v b c d e low b1 b2 c1 c2 d1 d2 =
     let x : 0xE0 + v / 4096 ≡ b = omega arith in
@@ -29,7 +29,7 @@ code_of_3 v b c d e low b1 b2 c1 c2 d1 d2 =
     let z : 0x80 + v % 64 ≡ d = omega arith in
     utf8-3 v (omega arith) (omega arith) ∙ cc
 
-code_of_4 : (v b c d f : ℕ) → v ≡ (b - 0xF0) * 262144 + (c - 0x80) * 4096 + (d - 0x80) * 64 + (f - 0x80) → 0x1_0000 ≤ v → v < 0x11_0000 → 0xF0 ≤ b → b < 0xF5
+pub code_of_4 : (v b c d f : ℕ) → v ≡ (b - 0xF0) * 262144 + (c - 0x80) * 4096 + (d - 0x80) * 64 + (f - 0x80) → 0x1_0000 ≤ v → v < 0x11_0000 → 0xF0 ≤ b → b < 0xF5
     → 0x80 ≤ c → c < 0xC0 → 0x80 ≤ d → d < 0xC0 → 0x80 ≤ f → f < 0xC0 → utf8 v ≡ b ∷ c ∷ d ∷ f ∷ []
 code_of_4 v b c d f e low high b1 b2 c1 c2 d1 d2 f1 f2 =
     let x : 0xF0 + v / 262144 ≡ b = omega arith in

@@ -26,3 +26,7 @@ pub mod TableSteps
 pub mod Rests
 pub mod LaterLemmas
 pub mod ShownTexts
+pub mod GrammarLemmas
+pub mod GrammarTexts
+pub mod SurrogateLemmas
+pub mod SubpartLemmas

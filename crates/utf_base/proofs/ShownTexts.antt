@@ -10,7 +10,7 @@ use Rattle.utf_base.proofs.Rests.{whole_code_shows_first}
 use Rattle.utf_base.proofs.StdText.{utf8_is_std, scalar_from_std}
 use Rattle.utf_base.proofs.Utf8Code.{utf8_is_code}
 
-scalars_more : (s : ℕ) (rest : List ℕ) → all_scalars (s ∷ rest) ≡ true → IsStdScalar s × (all_scalars rest ≡ true)
+pub scalars_more : (s : ℕ) (rest : List ℕ) → all_scalars (s ∷ rest) ≡ true → IsStdScalar s × (all_scalars rest ≡ true)
 scalars_more s rest h = (grind (arith, common_steps), grind (arith, common_steps))
 
 characters_show_first : (cs later ss : List ℕ) → all_scalars cs ≡ true → Shows utf8 later ss → Shows utf8 (encode_utf8_all cs ++ later) (cs ++ ss)
@@ -20,7 +20,7 @@ characters_show_first (s ∷ rest) later ss all h =
     rw (append_assoc (encode_utf8 s) (encode_utf8_all rest) later)
     (whole_code_shows_first utf8 utf8_is_code (encode_utf8 s) (encode_utf8_all rest ++ later) s (rest ++ ss) (scalar_from_std s w.0) (utf8_is_std s) (characters_show_first rest later ss w.1 h))
 
-codes_of_characters : (cs : List ℕ) → encode_utf8_all cs ≡ flat_map utf8 cs
+pub codes_of_characters : (cs : List ℕ) → encode_utf8_all cs ≡ flat_map utf8 cs
 codes_of_characters [] = refl
 codes_of_characters (s ∷ rest) = ap₂ (λ xs ys. xs ++ ys) (utf8_is_std s) (codes_of_characters rest)
 

@@ -1,5 +1,5 @@
 -- A walk over the table tells the kind of the bytes: step by step, what is known of them by the state that is reached.
-use Rattle.std.proofs.Common.{◌≡◌, ℕ, zero, suc, ◌+◌, ◌-◌, ◌*◌, ◌<◌, ◌≤◌, ◌⊎◌, inl, inr, ⊎_elim, List, length, get_or, arith, refl, subst, sym, ◌∙◌, ◌==◌, if◌then◌else◌, ap, Some, None, Bool, true, false, lit<}
+use Rattle.std.proofs.Common.{◌≡◌, ℕ, zero, suc, ◌+◌, ◌-◌, ◌*◌, ◌<◌, ◌≤◌, ◌⊎◌, inl, inr, ⊎_elim, List, [], ◌∷◌, length, get_or, arith, refl, subst, sym, ◌∙◌, ◌==◌, if◌then◌else◌, ap, Some, None, Bool, true, false, lit<}
 use Rattle.std.proofs.lemmas.Grind.{common_steps}
 use Rattle.std.proofs.lemmas.Bool.{cases_lt}
 use Rattle.utf_base.specs.declared.errors.Utf8ErrorKind.TheVariants.{TooFewBytes, InterruptedSequence, OverlongEncoding, Utf16ReservedCodepoint, TooHighCodepoint}
@@ -7,10 +7,10 @@ use Rattle.utf_base.specs.declared.table.State.{State}
 use Rattle.utf_base.specs.declared.table.State.TheVariants.{Start, OneMore, TwoMore, ThreeMore, AfterE0, AfterEd, AfterF0, AfterF4, TwoMoreOverlong, OneMoreOverlong, OneMoreReserved, TwoMoreTooHigh, OneMoreTooHigh, Done, Unexpected, Never, Interrupted, Overlong, Reserved, TooHigh}
 use Rattle.utf_base.specs.Scalar.{IsScalar}
 use Rattle.utf_base.specs.Kinds.{fault_kind, merger_kind, asked, asked_by, value, least_value, is_continuation, continues_at, all_continue, breaks_at, is_broken}
-use Rattle.utf_base.specs.Table.{class, continued, fault_of, is_later_fault, is_running, missing, next_state, state_after}
+use Rattle.utf_base.specs.Table.{class, continued, fault_of, is_first_fault, is_later_fault, is_running, missing, next_state, state_after}
 use Rattle.utf_base.proofs.FrontLemmas.{asked-0, asked-1, asked-2, asked-3, asked-4, asked_le, asked-no_continuation, value-1, value-2, value-3, value-4, least_value-below_3, least_value-3, least_value-4}
 use Rattle.utf_base.proofs.KindCases.{Sums, kind-empty, kind-continuation, kind-never, kind-overlong, kind-surrogate, kind-too_high, kind-none}
-use Rattle.utf_base.proofs.MergerLemmas.{broken_kind, unbroken_kind, enough_kind, kind_of_few}
+use Rattle.utf_base.proofs.MergerLemmas.{broken_kind, unbroken_kind, enough_kind, few-1, kind_of_few}
 use Rattle.utf_base.proofs.TableLemmas.{Begins, begins}
 
 -- the byte at j is a continuation byte
@@ -345,11 +345,51 @@ kind_of_all w = all_tell w _ (reached w (length w) (omega arith))
 pub fault_at_end : (w : List ℕ) (k : ℕ) (state : State) → k ≤ length w → asked_by w ≤ length w → state_after w k ≡ state → is_running state ≡ false → fault_kind w ≡ fault_of state
 fault_at_end w k state le enough e end = sym (enough_kind w enough) ∙ kind_at_end w k le (ap is_running e ∙ end) ∙ ap fault_of e
 
+-- A running state after some bytes asks for more of them.
+pub runs_after : (w : List ℕ) (k : ℕ) (state : State) → 0 < k → is_running state ≡ true → Reached w k state → Runs w k state × (0 < missing state) × (fault_of state ≡ Some TooFewBytes)
+runs_after w k Start some e r = let none : k ≡ 0 = r in absurd (omega arith)
+runs_after w k Done some e r = cc
+runs_after w k Unexpected some e r = cc
+runs_after w k Never some e r = cc
+runs_after w k Interrupted some e r = cc
+runs_after w k Overlong some e r = cc
+runs_after w k Reserved some e r = cc
+runs_after w k TooHigh some e r = cc
+runs_after w k _ some e r = (r, lit< tt, refl)
+
+-- So the first asks for more than these.
+pub asks_on : (w : List ℕ) (k : ℕ) (state : State) → 0 < k → k ≤ length w → state ≡ state_after w k → is_running state ≡ true → (k < asked_by w) × (asked_by w ≡ k + missing state)
+asks_on w k state some le at runs =
+    let r = runs_after w k (state_after w k) some (sym (ap is_running at) ∙ runs) (reached w k le) in
+    let asks = r.0.asks in
+    let more = r.1 in
+    let same = ap missing at in
+    (omega arith, omega arith)
+
+-- An end is no lack of bytes, so a first byte that leads to one asks for no other.
+no_lack : (end : State) → is_running end ≡ false → fault_of end ≡ Some TooFewBytes → ⊥
+no_lack Start stops lacks = cc
+no_lack _ stops lacks = cc
+
+pub asks_no_other : (b : ℕ) (end : State) → end ≡ state_after (b ∷ []) 1 → is_running end ≡ false → asked b ≤ 1
+asks_no_other b end at stops =
+    let kind = kind_at_end (b ∷ []) 1 (lit< tt) (sym (ap is_running at) ∙ stops) in
+    let none : 1 < asked b → ⊥ = λ many. no_lack end stops (ap fault_of at ∙ sym kind ∙ few-1 b many) in
+    grind arith
+
+-- A step that the code made, as one of the walk.
+pub stepped : (w : List ℕ) (k c : ℕ) (state next : State) → next ≡ next_state state c → c ≡ class (get_or w k 0) → state ≡ state_after w k → next ≡ state_after w (suc k)
+stepped w k c state next h e f = h ∙ ap (next_state state) e ∙ ap (λ (x : State). next_state x (class (get_or w k 0))) f
+
 -- What a walk needs from step to step: a state that asks for a byte is running, and each byte that continues is one less.
 
 pub asks_runs : (state : State) → 0 < missing state → is_running state ≡ true
 asks_runs Start more = absurd (omega arith)
 asks_runs _ more = grind arith
+
+pub missing_le : (state : State) → missing state ≤ 3
+missing_le Start = omega arith
+missing_le _ = omega arith
 
 by_continued : (P : State → Type 0) (one two three : State) (c : ℕ) → P one → P two → P three → P Interrupted → P (continued one two three c)
 by_continued P one two three c p q r out = choose P (c == 1) p (choose P (c == 2) q (choose P (c == 3) r out))
@@ -357,6 +397,9 @@ by_continued P one two three c p q r out = choose P (c == 1) p (choose P (c == 2
     choose : (P : State → Type 0) (b : Bool) {x y : State} → P x → P y → P (if b then x else y)
     choose P true p q = p
     choose P false p q = q
+
+abbrev FaultsLater : State → Type 0
+FaultsLater next = is_running next ≡ false → (next ≡ Done → ⊥) → is_later_fault next ≡ true
 
 abbrev IsLess : State → State → Type 0
 IsLess state next = (next ≡ Interrupted → ⊥) → missing state ≡ 1 + missing next
@@ -373,16 +416,6 @@ one_less Reserved c more = absurd (omega arith)
 one_less TooHigh c more = absurd (omega arith)
 one_less state c more = by_continued (IsLess state) _ _ _ c (λ n. refl) (λ n. refl) (λ n. refl) (λ n. absurd (n refl))
 
--- the last byte that a state asks for leads to a fault, where it does not complete a code
-pub faults_later : (state : State) (c : ℕ) → missing state ≡ 1 → (next_state state c ≡ Done → ⊥) → is_later_fault (next_state state c) ≡ true
-unfolding next_state
-faults_later OneMore c e other =
-    by_continued (λ next. (next ≡ Done → ⊥) → is_later_fault next ≡ true) Done Done Done c (λ n. absurd (n refl)) (λ n. absurd (n refl)) (λ n. absurd (n refl)) (λ n. refl) other
-faults_later OneMoreOverlong c e other = by_continued (λ next. is_later_fault next ≡ true) Overlong Overlong Overlong c refl refl refl refl
-faults_later OneMoreReserved c e other = by_continued (λ next. is_later_fault next ≡ true) Reserved Reserved Reserved c refl refl refl refl
-faults_later OneMoreTooHigh c e other = by_continued (λ next. is_later_fault next ≡ true) TooHigh TooHigh TooHigh c refl refl refl refl
-faults_later _ c e other = absurd (omega arith)
-
 -- the last byte that a state asks for leads to an end
 pub last_ends : (state : State) (c : ℕ) → missing state ≡ 1 → is_running (next_state state c) ≡ false
 unfolding next_state
@@ -392,11 +425,34 @@ last_ends OneMoreReserved c e = by_continued (λ next. is_running next ≡ false
 last_ends OneMoreTooHigh c e = by_continued (λ next. is_running next ≡ false) TooHigh TooHigh TooHigh c refl refl refl refl
 last_ends _ c e = absurd (omega arith)
 
--- where one byte is missing and any continuation byte completes a code, no other fault is left
-pub one_more_breaks : (c : ℕ) → (next_state OneMore c ≡ Done → ⊥) → next_state OneMore c ≡ Interrupted
+-- an end that a running state leads to, and not that of a code, is a fault of more than the first byte
+pub faults_later : (state : State) (c : ℕ) → 0 < missing state → is_running (next_state state c) ≡ false → (next_state state c ≡ Done → ⊥) → is_later_fault (next_state state c) ≡ true
 unfolding next_state
-one_more_breaks c =
-    by_continued (λ next. (next ≡ Done → ⊥) → next ≡ Interrupted) Done Done Done c (λ n. absurd (n refl)) (λ n. absurd (n refl)) (λ n. absurd (n refl)) (λ n. refl)
+faults_later Start c more = absurd (omega arith)
+faults_later Done c more = absurd (omega arith)
+faults_later Unexpected c more = absurd (omega arith)
+faults_later Never c more = absurd (omega arith)
+faults_later Interrupted c more = absurd (omega arith)
+faults_later Overlong c more = absurd (omega arith)
+faults_later Reserved c more = absurd (omega arith)
+faults_later TooHigh c more = absurd (omega arith)
+faults_later OneMore c more = by_continued FaultsLater Done Done Done c (λ stops other. absurd (other refl)) (λ stops other. absurd (other refl)) (λ stops other. absurd (other refl)) (λ stops other. refl)
+faults_later OneMoreOverlong c more = by_continued FaultsLater Overlong Overlong Overlong c (λ stops other. refl) (λ stops other. refl) (λ stops other. refl) (λ stops other. refl)
+faults_later OneMoreReserved c more = by_continued FaultsLater Reserved Reserved Reserved c (λ stops other. refl) (λ stops other. refl) (λ stops other. refl) (λ stops other. refl)
+faults_later OneMoreTooHigh c more = by_continued FaultsLater TooHigh TooHigh TooHigh c (λ stops other. refl) (λ stops other. refl) (λ stops other. refl) (λ stops other. refl)
+faults_later state c more = by_continued FaultsLater _ _ _ c (λ stops other. cc) (λ stops other. cc) (λ stops other. cc) (λ stops other. refl)
+
+-- a byte that leads to the end of a code is the last that the first asks for
+pub completes : (w : List ℕ) (k : ℕ) (state : State) → 0 < k → k ≤ length w → state ≡ state_after w k → is_running state ≡ true → state_after w (suc k) ≡ Done → asked_by w ≡ suc k
+completes w k state some le at runs done =
+    let r = runs_after w k (state_after w k) some (sym (ap is_running at) ∙ runs) (reached w k le) in
+    let less = one_less (state_after w k) (class (get_or w k 0)) r.1 (λ i. no (sym done ∙ i)) in
+    let none = ap missing done in
+    let asks = r.0.asks in
+    omega arith
+  where
+    no : Done ≡ Interrupted → ⊥
+    no e = cc
 
 -- The state after a first byte of two, three and four.
 
@@ -421,12 +477,16 @@ first-3 b low high = let asks = begun_asks (next_state Start (class b)) low (ome
 pub first-4 : (b : ℕ) → 0xF0 ≤ b → b < 0xF5 → missing (next_state Start (class b)) ≡ 3
 first-4 b low high = let asks = begun_asks (next_state Start (class b)) (omega arith) high (begins b) in omega (arith, asked-4 b low high)
 
--- the other way round: a first byte that leads to none of the three ends asks for others
-pub asks_for_others : (b : ℕ) (state : State) → state ≡ next_state Start (class b) → (state ≡ Done → ⊥) → (state ≡ Unexpected → ⊥) → (state ≡ Never → ⊥) → (0xC2 ≤ b) × (b < 0xF5)
-asks_for_others b state e d u n = by_begins state (subst (λ (s : State). Begins b s) (sym e) (begins b)) d u n
+-- the other way round: a first byte that leads to an end, and not that of a code, begins none
+pub faults_first : (b : ℕ) (end : State) → end ≡ next_state Start (class b) → is_running end ≡ false → (end ≡ Done → ⊥) → is_first_fault end ≡ true
+faults_first b end e stops other = by_begins b end (subst (λ (s : State). Begins b s) (sym e) (begins b)) stops other
   where
-    by_begins : {b : ℕ} (state : State) → Begins b state → (state ≡ Done → ⊥) → (state ≡ Unexpected → ⊥) → (state ≡ Never → ⊥) → (0xC2 ≤ b) × (b < 0xF5)
-    by_begins Done h d u n = absurd (d refl)
-    by_begins Unexpected h d u n = absurd (u refl)
-    by_begins Never h d u n = absurd (n refl)
-    by_begins _ h d u n = (omega arith, omega arith)
+    by_begins : (b : ℕ) (end : State) → Begins b end → is_running end ≡ false → (end ≡ Done → ⊥) → is_first_fault end ≡ true
+    by_begins b Unexpected h stops other = refl
+    by_begins b Never h stops other = refl
+    by_begins b Done h stops other = absurd (other refl)
+    by_begins b Interrupted h stops other = absurd h
+    by_begins b Overlong h stops other = absurd h
+    by_begins b Reserved h stops other = absurd h
+    by_begins b TooHigh h stops other = absurd h
+    by_begins b _ h stops other = cc

@@ -18,3 +18,8 @@ pub mod Table
 pub mod Shown
 pub mod ShownLaws
 pub mod Bounds
+pub mod Grammar
+pub mod WellFormedBytes
+pub mod SurrogatePairs
+pub mod GrammarLaws
+pub mod Subparts

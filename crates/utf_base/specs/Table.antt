@@ -112,6 +112,12 @@ fault_of Reserved = Some Utf16ReservedCodepoint
 fault_of TooHigh = Some TooHighCodepoint
 fault_of running = Some TooFewBytes
 
+-- the end after a first byte that begins no code
+abbrev pub is_first_fault : State → Bool
+is_first_fault Unexpected = true
+is_first_fault Never = true
+is_first_fault state = false
+
 -- an end after a first byte that asks for others, and not that of a code
 abbrev pub is_later_fault : State → Bool
 is_later_fault Interrupted = true

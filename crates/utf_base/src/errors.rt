@@ -14,25 +14,27 @@ pub use units::{
     Utf16ArrayError, Utf16FirstUnitError, Utf16PairError, Utf16SliceError, Utf16TupleError,
 };
 
-/// What is wrong with bytes that do not begin with the code of a scalar.
+/// Why bytes are not valid UTF-8: the kind of an error.
 ///
-/// Where several apply, the calls say which is answered. RFC 3629, section 4, has the grammar of bytes
-/// that have none.
+/// Where several apply, `CharExt::from_utf8_slice_start` says which is given. RFC 3629, section 4, has
+/// the grammar of what is valid.
 #[derive(Clone, Copy, Debug, PartialEq, Eq, Drop)]
 pub enum Utf8ErrorKind {
-    /// There are fewer bytes than the first one asks for, or none at all.
+    /// The sequence is truncated: fewer bytes remain than the first one asks for, as where `e2 82` ends
+    /// the input; or none remains.
     TooFewBytes,
-    /// The first byte occurs in no code: it is 0xc0, 0xc1, or above 0xf4.
+    /// The first byte never occurs in UTF-8: it is 0xc0, 0xc1, or above 0xf4.
     NonUtf8Byte,
-    /// The first byte is a continuation byte, 0x80 to 0xbf.
+    /// The first byte is a continuation byte, 0x80 to 0xbf: no character begins there.
     UnexpectedContinuationByte,
-    /// One of the bytes that the first one asks for is no continuation byte.
+    /// One of the bytes that the first one asks for is no continuation byte, 0x80 to 0xbf, as in
+    /// `e2 82 41`.
     InterruptedSequence,
-    /// The value fits in fewer bytes.
+    /// The sequence is overlong: its value fits in fewer bytes, as the `/` that `e0 80 af` encodes.
     OverlongEncoding,
-    /// The value is a surrogate of UTF-16, 0xd800 to 0xdfff.
+    /// The value is a surrogate, 0xd800 to 0xdfff, which only UTF-16 uses, as that of `ed a0 80`.
     Utf16ReservedCodepoint,
-    /// The value is above 0x10ffff.
+    /// The value is above 0x10ffff, the last code point, as that of `f4 90 80 80`.
     TooHighCodepoint,
 }
 
@@ -46,7 +48,7 @@ impl Utf8ErrorKind {
     }
 }
 
-/// The error of decoding UTF-8. Contracts see it as its kind.
+/// Why bytes could not be decoded as UTF-8. Contracts see it as its kind.
 #[derive(Clone, Copy, Debug, PartialEq, Eq, Drop)]
 pub struct Utf8Error {
     kind: Utf8ErrorKind,
@@ -71,7 +73,7 @@ impl Utf8Error {
         Utf8Error { kind }
     }
 
-    /// What is wrong.
+    /// Why the bytes are invalid.
     #[inline(always)]
     pub fn kind(&self) -> Utf8ErrorKind
         ensures { result ≡ self.now }
@@ -109,6 +111,7 @@ impl fmt::Display for Utf8Error {
 
     ghost styled_output = { λ e _. Some (utf8_error_text e) };
 
+    /// Writes the text of `description`. Width and fill are ignored.
     fn fmt<W: fmt::Write>(&self, f: &mut fmt::Formatter<W>) -> fmt::Result {
         f.write_str(self.description())
     }

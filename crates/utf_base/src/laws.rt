@@ -7,6 +7,8 @@ ghost use Rattle.utf_base.specs.Code.{utf8, utf16};
 ghost use Rattle.utf_base.specs.CutLaws.{CodesNeverOverlap, PiecesNeverOverlap, OnePieceBegins, OnePieceEnds};
 ghost use Rattle.utf_base.specs.CutLaws.{CutsFollow, CutExists, CutIsUnique, NoFaultInJoinedCodes};
 ghost use Rattle.utf_base.specs.CutLaws.{AsciiStandsAlone, OneCodeEnds};
+ghost use Rattle.utf_base.specs.GrammarLaws.{CodesAreTheGrammar, CodesAreTheTable, TextsAreTheGrammar};
+ghost use Rattle.utf_base.specs.GrammarLaws.{UnitsAreDecoded, UnitsAreEncoded};
 ghost use Rattle.utf_base.specs.KindLaws.{CodeOrOneFault, UnitsCodeOrOneFault, UnitsCodeOrOneKind};
 ghost use Rattle.utf_base.specs.KindLaws.{FourBytesDecide, TwoUnitsDecide, MergerCodeOrOneFault};
 ghost use Rattle.utf_base.specs.KindLaws.{FourBytesDecideMerger, KindsDiffer, CodeOrLastByte};
@@ -16,6 +18,7 @@ ghost use Rattle.utf_base.specs.LocalLaws.{DamageIsLocal, FrontStays, RestStays}
 ghost use Rattle.utf_base.specs.Scalar.{IsUnits};
 ghost use Rattle.utf_base.specs.ShownLaws.{ShowsSome, ShowsOne, CodeShowsFirst, FaultShowsFirst};
 ghost use Rattle.utf_base.specs.ShownLaws.{FirstPieceStays, KindStays, UnitsFaultStays};
+ghost use Rattle.utf_base.specs.Subparts.{PartsBecomeTheCut, SubpartsAreFaults};
 ghost use Rattle.utf_base.specs.Units.{unit_fault_kind};
 ghost use Rattle.utf_base.specs.Walk.{utf8_bytes, utf16_units};
 ghost use Rattle.utf_base.specs.WalkLaws.{WalkExists, WalkExistsOver, WalkIsUnique};
@@ -156,7 +159,6 @@ pub fn two_units_decide()
 /// A change in a list leaves every piece that begins far enough before it, and every one that begins far
 /// enough after it but for its place: of bytes those that begin at least four before it, or after three
 /// that it left; of units two, or one. What is wrong there stays the same too.
-#[tactic(auto, using(crate::proofs::LocalDamage::utf8_damage_is_local, crate::proofs::LocalDamage::utf16_damage_is_local))]
 pub fn damage_is_local()
     ensures utf8 { DamageIsLocal utf8 fault_kind 4 }
     ensures utf16 { DamageIsLocal utf16 unit_fault_kind 2 }
@@ -206,7 +208,6 @@ pub fn shows_one()
 
 /// A code that begins a list is shown first, whatever follows, and where none begins it U+FFFD is, for the
 /// fault of one element.
-#[tactic(auto, using(crate::proofs::Rests::code_shows_first, crate::proofs::Rests::fault_shows_first, crate::proofs::Utf8Code::utf8_is_code, crate::proofs::Utf16Code::utf16_is_code))]
 pub fn first_is_shown()
     ensures utf8_code { CodeShowsFirst utf8 }
     ensures utf16_code { CodeShowsFirst utf16 }
@@ -226,4 +227,44 @@ pub fn first_piece_stays()
 pub fn faults_stay()
     ensures utf8 { KindStays }
     ensures utf16 { UnitsFaultStays }
+{}
+
+/// Bytes are the code of some scalar exactly where they are one `UTF8-char` of the grammar of RFC 3629, section 4.
+pub fn codes_are_the_grammar()
+    ensures { CodesAreTheGrammar }
+{}
+
+/// Bytes are the codes of some scalars, one after another, exactly where they are the `UTF8-octets` of that grammar, and
+/// so exactly where std says that they are the bytes of a text.
+#[tactic(auto, using(crate::proofs::GrammarTexts::texts_are_the_grammar))]
+pub fn texts_are_the_grammar()
+    ensures { TextsAreTheGrammar }
+{}
+
+/// The codes of scalars are the rows of the Unicode standard's table of well-formed UTF-8 (table 3-7), and each scalar
+/// has a row.
+#[tactic(auto, using(crate::proofs::GrammarLemmas::codes_are_the_table))]
+pub fn codes_are_the_table()
+    ensures { CodesAreTheTable }
+{}
+
+/// The units of a scalar are those that the steps of RFC 2781, section 2.1, make of it.
+#[tactic(auto, using(crate::proofs::SurrogateLemmas::units_are_encoded))]
+pub fn units_are_encoded()
+    ensures { UnitsAreEncoded }
+{}
+
+/// The steps of RFC 2781, section 2.2, give the scalar whose code begins some units, and an error exactly where none does.
+#[tactic(auto, using(crate::proofs::SurrogateLemmas::units_are_decoded))]
+pub fn units_are_decoded()
+    ensures { UnitsAreDecoded }
+{}
+
+/// A maximal subpart, of which Unicode and the WHATWG make one U+FFFD, is a run of faults of one element each. So a list
+/// that is cut into characters and maximal subparts has the same cut, with each subpart as its single faults.
+pub fn subparts_are_faults()
+    ensures utf8 { SubpartsAreFaults utf8 }
+    ensures utf16 { SubpartsAreFaults utf16 }
+    ensures utf8_whole { PartsBecomeTheCut utf8 }
+    ensures utf16_whole { PartsBecomeTheCut utf16 }
 {}

@@ -101,7 +101,9 @@ pub fn class_of(b: u8) -> u8
     CLASSES[b as usize]
 }
 
-/// The state after one more byte, of which the class is given.
+/// The state after one more byte, whose class is given.
+///
+/// Condition: the state is running, and the class is one that `class_of` gives.
 #[inline(always)]
 pub fn step(state: State, c: u8) -> State
     requires running { is_running state ≡ true }

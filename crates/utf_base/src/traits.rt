@@ -7,24 +7,24 @@ ghost use Rattle.utf_base.specs.Units.{is_leading_surrogate, NeedsExtraUnit};
 use crate::errors::{Utf8Error, Utf8ErrorKind, Utf16FirstUnitError};
 use crate::table::{State, class_of, step};
 
-/// Methods of a byte as the first of a code in UTF-8.
+/// Methods of a byte that may begin a character in UTF-8.
 pub trait U8UtfExt: Sized {
     // The byte as a number.
     ghost byte: { Self → ℕ };
 
-    /// How many bytes follow this one in the code that it begins: 0 to 3.
+    /// How many bytes follow this one in the character that it begins: 0 to 3.
     ///
-    /// A continuation byte is an `UnexpectedContinuationByte`. A byte that no code has, 0xc0, 0xc1 or
-    /// 0xf5 to 0xff, is a `NonUtf8Byte` (RFC 3629, section 3).
+    /// A continuation byte is an `UnexpectedContinuationByte`. A byte that never occurs in UTF-8,
+    /// 0xc0, 0xc1 or 0xf5 to 0xff, is a `NonUtf8Byte` (RFC 3629, section 3).
     fn extra_utf8_bytes(self) -> Result<usize, Utf8Error>
         ensures asks { AsksForMore (byte self) result }
         ensures most { IfOk result (λ n. n ≤ 3) }
         ensures unchecked { IfOk result (λ n. n ≡ leading_ones w8 (byte self) - 1) };
 
-    /// The number of leading one bits less one, or 0 for a byte below 128.
+    /// How many bytes follow this one, by its highest bits alone, without a check.
     ///
-    /// For the first byte of a code this is how many bytes follow it. For every other byte the number is
-    /// answered all the same: up to 7, and 0 for a continuation byte.
+    /// For a byte below 128 it is 0, else the number of leading one bits less one. A byte that
+    /// begins no character has an answer too: 0 for a continuation byte, and up to 7 for others.
     fn extra_utf8_bytes_unchecked(self) -> usize
         ensures value { result ≡ leading_ones w8 (byte self) - 1 }
         ensures most { result ≤ 7 };
@@ -52,7 +52,7 @@ impl U8UtfExt for u8 {
     }
 }
 
-/// Methods of a unit as the first of a code in UTF-16 (RFC 2781, section 2).
+/// Methods of a unit that may begin a character in UTF-16 (RFC 2781, section 2).
 pub trait U16UtfExt: Sized {
     // The unit as a number.
     ghost unit: { Self → ℕ };

@@ -23,6 +23,17 @@ unfolding low_digits
 some_digits base zero number some = absurd (omega arith)
 some_digits base (suc n) number some = let one : suc n - 1 ≡ n = omega arith in rw one refl
 
+-- at most four digits
+pub four_digits : (base n number : ℕ) → n ≤ 4
+    → take n (number % base ∷ number / base % base ∷ number / base / base % base ∷ number / base / base / base % base ∷ []) ≡ low_digits base n number
+unfolding low_digits
+four_digits base zero number few = refl
+four_digits base (suc zero) number few = refl
+four_digits base (suc (suc zero)) number few = refl
+four_digits base (suc (suc (suc zero))) number few = refl
+four_digits base (suc (suc (suc (suc zero)))) number few = refl
+four_digits base (suc (suc (suc (suc (suc n))))) number few = absurd (omega arith)
+
 -- the lowest digits are the first elements
 pub first_digits : (base n : ℕ) (xs : List ℕ) → n ≤ length xs → ((i : ℕ) → get_or xs i 0 < base) → low_digits base n (number_of base xs) ≡ take n xs
 unfolding low_digits number_of

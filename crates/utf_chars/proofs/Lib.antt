@@ -1,4 +1,5 @@
 pub mod Decoded
+pub mod DebugLemmas
 pub mod DigitLemmas
 pub mod OwnCodes
 pub mod PaddedLemmas

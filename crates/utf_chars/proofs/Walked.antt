@@ -1,18 +1,18 @@
 -- A walk of some bytes over the table of classes and states, step by step.
-use Rattle.std.proofs.Common.{◌≡◌, ℕ, suc, ◌<◌, ◌≤◌, List, length, get_or, arith, refl, ap, sym, ◌∙◌, Some, None, true, ⊎_elim}
+use Rattle.std.proofs.Common.{◌≡◌, ℕ, suc, ◌+◌, ◌<◌, ◌≤◌, List, length, get_or, arith, refl, ap, sym, ◌∙◌, Some, None, true, false, ⊎_elim, lit<}
 use Rattle.std.proofs.lemmas.Bool.{cases_lt}
 use Rattle.std.proofs.lemmas.Grind.{common_steps}
 use Rattle.std.specs.Char.{IsScalar as IsStdScalar}
-use Rattle.utf_base.specs.declared.errors.Utf8ErrorKind.TheVariants.{InterruptedSequence, TooFewBytes}
+use Rattle.utf_base.specs.declared.errors.Utf8ErrorKind.TheVariants.{TooFewBytes}
 use Rattle.utf_base.specs.declared.table.State.{State}
 use Rattle.utf_base.specs.declared.table.State.TheVariants.{Start, OneMore, Done, Interrupted}
 use Rattle.utf_base.specs.Code.{utf8}
 use Rattle.utf_base.specs.Front.{BeginsWith}
-use Rattle.utf_base.specs.Kinds.{fault_kind, asked_by, value, is_continuation}
+use Rattle.utf_base.specs.Kinds.{fault_kind, asked, asked_by, value, is_continuation}
 use Rattle.utf_base.specs.Table.{class, fault_of, is_later_fault, is_running, missing, next_state, state_after}
-use Rattle.utf_base.proofs.FrontLemmas.{decodes_from_none, code_where_no_fault}
-use Rattle.utf_base.proofs.KindCases.{Asks-2, Asks-3, Asks-4, kind-few}
-use Rattle.utf_base.proofs.TableSteps.{asks_runs, fault_at_end, faults_later, first-2, first-3, first-4, last_ends, one_less}
+use Rattle.utf_base.proofs.FrontLemmas.{asked_le, asked-no_continuation, decodes_from_none, code_where_no_fault}
+use Rattle.utf_base.proofs.KindCases.{kind-few}
+use Rattle.utf_base.proofs.TableSteps.{asks_on, asks_runs, completes, fault_at_end, faults_later, first-2, first-3, first-4, one_less}
 
 -- after k bytes the walk has come to the state, which asks for n more
 pub record Walk (w : List ℕ) (k : ℕ) (state : State) (n : ℕ) : Type 0 where
@@ -47,16 +47,6 @@ pub second_runs : (b : ℕ) → 0xE0 ≤ b → b < 0xF5 → is_running (next_sta
 second_runs b low high =
     ⊎_elim (λ (h : b < 0xF0). let two = first-3 b low h in asks_runs _ (omega arith)) (λ (h : 0xF0 ≤ b). let three = first-4 b h high in asks_runs _ (omega arith)) (cases_lt b 0xF0)
 
--- where those are not there, they are too few
-pub few_of_two : (w : List ℕ) → 0 < length w → 0xC2 ≤ get_or w 0 0 → get_or w 0 0 < 0xE0 → length w < 2 → fault_kind w ≡ Some TooFewBytes
-few_of_two w some low high = kind-few w 2 (Asks-2 w some low high)
-
-pub few_of_three : (w : List ℕ) → 0 < length w → 0xE0 ≤ get_or w 0 0 → get_or w 0 0 < 0xF0 → length w < 3 → fault_kind w ≡ Some TooFewBytes
-few_of_three w some low high = kind-few w 3 (Asks-3 w some low high)
-
-pub few_of_four : (w : List ℕ) → 0 < length w → 0xF0 ≤ get_or w 0 0 → get_or w 0 0 < 0xF5 → length w < 4 → fault_kind w ≡ Some TooFewBytes
-few_of_four w some low high = kind-few w 4 (Asks-4 w some low high)
-
 -- the state after one more byte
 pub walk_at : (w : List ℕ) (k n c : ℕ) (state next : State) → Walk w k state n → Next w k state c next → state_after w (suc k) ≡ next
 walk_at w k n c state next h x = rw (h.at, ← x.class) (sym x.step)
@@ -67,19 +57,53 @@ walk_on w k n c state next h x on =
     let same : missing next ≡ missing (next_state state c) = ap missing x.step in
     record { at = walk_at w k (suc n) c state next h x; asks = omega (arith, h.asks) }
 
--- A byte that is asked for and does not continue, and the last one that is asked for.
+-- So where all are there that the first asks for, the next one is.
+pub there : (w : List ℕ) (k : ℕ) (state : State) → 0 < k → k ≤ length w → state ≡ state_after w k → is_running state ≡ true → asked_by w ≤ length w → k < length w
+there w k state some le at runs enough = let more = (asks_on w k state some le at runs).0 in omega arith
 
-pub walk_breaks : (w : List ℕ) (k n c : ℕ) (state next : State) → Walk w k state n → Next w k state c next → k < length w → asked_by w ≤ length w → next ≡ Interrupted
-    → fault_kind w ≡ Some InterruptedSequence
-walk_breaks w k n c state next h x there enough e = fault_at_end w (suc k) Interrupted (omega arith) enough (walk_at w k n c state next h x ∙ e) refl
+-- after three bytes that is the last
+pub last_of_four : (w : List ℕ) (state : State) → 3 ≤ length w → state ≡ state_after w 3 → is_running state ≡ true → missing state ≡ 1
+last_of_four w state le at runs =
+    let asks = asks_on w 3 state (lit< tt) le at runs in
+    omega (arith, asks.0, asks.1, asked_le (get_or w 0 0))
 
-pub walk_ends : (w : List ℕ) (k c : ℕ) (state next : State) → Walk w k state 1 → Next w k state c next → k < length w → asked_by w ≤ length w → fault_kind w ≡ fault_of next
-walk_ends w k c state next h x there enough =
-    fault_at_end w (suc k) next (omega arith) enough (walk_at w k 1 c state next h x) (ap is_running x.step ∙ last_ends state c h.asks)
+-- an end tells the fault
+pub fault_found : (w : List ℕ) (k : ℕ) (end : State) → k ≤ length w → asked_by w ≤ length w → end ≡ state_after w k → is_running end ≡ false → fault_kind w ≡ fault_of end
+fault_found w k end le enough at stops = fault_at_end w k end le enough (sym at) stops
 
--- where it does not complete a code, that end is a fault
-pub walk_fails : (w : List ℕ) (k c : ℕ) (state next : State) → Walk w k state 1 → next ≡ next_state state c → (next ≡ Done → ⊥) → is_later_fault next ≡ true
-walk_fails w k c state next h step other = ap is_later_fault step ∙ faults_later state c h.asks (λ e. other (step ∙ e))
+-- one that is no code's is a fault of more than the first byte
+pub later_found : (w : List ℕ) (k c : ℕ) (state next : State) → 0 < k → k ≤ length w → state ≡ state_after w k → is_running state ≡ true → next ≡ next_state state c → is_running next ≡ false → (next ≡ Done → ⊥)
+    → is_later_fault next ≡ true
+later_found w k c state next some le at runs step stops other =
+    let asks = asks_on w k state some le at runs in
+    ap is_later_fault step ∙ faults_later state c (omega (arith, asks.0, asks.1)) (sym (ap is_running step) ∙ stops) (λ e. other (step ∙ e))
+
+-- that of a code, that there is none
+pub code_found : (w : List ℕ) (k : ℕ) (state next : State) → 0 < k → k < length w → state ≡ state_after w k → is_running state ≡ true → next ≡ state_after w (suc k) → next ≡ Done
+    → (fault_kind w ≡ None) × (asked_by w ≡ suc k)
+code_found w k state next some lt at runs to done =
+    let asks = completes w k state some (omega arith) at runs (sym to ∙ done) in
+    (fault_at_end w (suc k) Done (omega arith) (omega arith) (sym to ∙ done) refl, asks)
+
+-- Fewer bytes than the first asks for.
+pub few_found : (w : List ℕ) (state : State) → 0 < length w → state ≡ state_after w 1 → is_running state ≡ true → length w < 1 + missing state → fault_kind w ≡ Some TooFewBytes
+few_found w state some at runs few =
+    let asks = (asks_on w 1 state (lit< tt) (omega arith) at runs).1 in
+    kind-few w (asked_by w) (record { some = some; first = asked-no_continuation (get_or w 0 0) (omega arith); asks = refl; positive = omega arith }) (omega arith)
+
+-- The first byte of a code, by how many it has.
+
+pub first_of_two : (b : ℕ) → asked b ≡ 2 → (0xC0 ≤ b) × (b < 0xE0)
+unfolding asked
+first_of_two b e = (grind (arith, common_steps), grind (arith, common_steps))
+
+pub first_of_three : (b : ℕ) → asked b ≡ 3 → (0xE0 ≤ b) × (b < 0xF0)
+unfolding asked
+first_of_three b e = (grind (arith, common_steps), grind (arith, common_steps))
+
+pub first_of_four : (b : ℕ) → asked b ≡ 4 → (0xF0 ≤ b) × (b < 0xF8)
+unfolding asked
+first_of_four b e = (grind (arith, common_steps), grind (arith, common_steps))
 
 -- the value of bytes that are a code is a scalar, whose code they are
 pub walk_finds : (w : List ℕ) (n v : ℕ) → fault_kind w ≡ None → asked_by w ≡ n → value w ≡ v → BeginsWith utf8 w v n

@@ -1,4 +1,5 @@
 pub mod Chars
+pub mod DebugTexts
 pub mod Digits
 pub mod FormLaws
 pub mod Padded

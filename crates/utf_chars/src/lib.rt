@@ -2,7 +2,6 @@
 #![tactic(auto)]
 
 mod codes;
-pub mod continuation;
 pub mod laws;
 pub mod traits;
 pub mod unsent;

@@ -18,32 +18,33 @@ use utf_base::errors::{
     CodepointError, Utf8Error, Utf16ArrayError, Utf16SliceError, Utf16TupleError,
 };
 
-/// Methods of a character as a Unicode scalar value.
+/// Methods of `char`: to UTF-8 and UTF-16, and back, with the reason where bytes or units are
+/// invalid.
 ///
-/// The calls ending in `_unchecked` ask their caller for what the others test.
+/// The calls ending in `_unchecked` make no check; their caller shows the condition.
 pub trait CharExt: Sized {
     // The scalar that the character is.
     ghost scalar: { Self → ℕ };
 
-    /// The character kept as its code in UTF-8.
+    /// The same character, kept as UTF-8.
     fn to_utf8(self) -> Utf8Char
         ensures { result ≡ scalar self };
 
-    /// The character kept as its code in UTF-16.
+    /// The same character, kept as UTF-16.
     fn to_utf16(self) -> Utf16Char
         ensures { result ≡ scalar self };
 
-    /// The bytes of the code in UTF-8, one after another.
+    /// Its bytes in UTF-8, one after another.
     fn iter_utf8_bytes(self) -> Utf8Iterator
         ensures code { result ≡ utf8 (scalar self) }
         ensures few { length result ≤ 4 };
 
-    /// The units of the code in UTF-16, one after another.
+    /// Its units in UTF-16, one after another.
     fn iter_utf16_units(self) -> Utf16Iterator
         ensures code { result ≡ utf16 (scalar self) }
         ensures few { length result ≤ 2 };
 
-    /// The code in UTF-8, then zeros, and how many bytes the code has: 1 to 4 (RFC 3629, section 3).
+    /// Its UTF-8: (bytes, then zeros; length), the length 1 to 4 (RFC 3629, section 3).
     fn to_utf8_array(self) -> ([u8; 4], usize)
         ensures code { result.0 ≡ padded 4 (utf8 (scalar self)) }
         ensures len { result.1 ≡ length (utf8 (scalar self)) }
@@ -54,26 +55,28 @@ pub trait CharExt: Sized {
         ensures decodes_bytes { decoded_bytes result.0 ≡ Ok (scalar self) }
         ensures decodes_front { decoded (take result.1 result.0) ≡ Ok (scalar self, result.1) };
 
-    /// The code in UTF-16: a unit and 0, or a pair of surrogates (RFC 2781, section 2.1).
+    /// Its UTF-16: one unit and 0, or a surrogate pair (RFC 2781, section 2.1).
     fn to_utf16_array(self) -> [u16; 2]
         ensures code { result ≡ padded 2 (utf16 (scalar self)) }
         ensures own { is_padded_units (slice_index result 0) (slice_index result 1) ≡ true }
         ensures decodes { decoded_two result ≡ Ok (scalar self) }
         ensures decodes_units { decoded_units result ≡ Ok (scalar self, length (utf16 (scalar self))) };
 
-    /// The code in UTF-16, whose second unit is there only where the code has two.
+    /// Its UTF-16: (first unit, second unit where there is one).
     fn to_utf16_tuple(self) -> (u16, Option<u16>)
         ensures code { units_of result.0 result.1 ≡ utf16 (scalar self) }
         ensures own { is_padded_units result.0 (unwrap_or result.1 0) ≡ true }
         ensures decodes { decoded_tuple result.0 result.1 ≡ Ok (scalar self) };
 
-    /// The character whose code in UTF-8 begins the bytes, and how many bytes the code has: 1 to 4.
+    /// The character that begins the bytes: (character, length in bytes), the length 1 to 4. What
+    /// follows it does not matter.
     ///
-    /// Bytes after the code do not matter. Where no code begins them, the error is the first that
-    /// applies: no byte at all or fewer than the first asks for, whatever they are, is `TooFewBytes`; a
-    /// first byte that begins no code is `UnexpectedContinuationByte` or `NonUtf8Byte`; one that is asked
-    /// for and is no continuation byte is `InterruptedSequence`; and then the value itself is judged, as
-    /// `OverlongEncoding`, `Utf16ReservedCodepoint` or `TooHighCodepoint` (RFC 3629, sections 3 and 4).
+    /// Where no character begins the bytes, the error is the first of these that applies: (1)
+    /// `UnexpectedContinuationByte` or `NonUtf8Byte`, where the first byte begins no character; (2)
+    /// `TooFewBytes`, where there are fewer bytes than the first one asks for, or none; (3)
+    /// `InterruptedSequence`, where one of the bytes that it asks for is no continuation byte; (4)
+    /// `OverlongEncoding`, `Utf16ReservedCodepoint` or `TooHighCodepoint`, by the value (RFC 3629,
+    /// sections 3 and 4).
     fn from_utf8_slice_start(src: &[u8]) -> Result<(Self, usize), Utf8Error>
         ensures decodes { DecodesFront scalar src.now result }
         ensures known { GivesFirst scalar (decoded src.now) result }
@@ -81,22 +84,24 @@ pub trait CharExt: Sized {
         ensures len { IfOk result (λ x. IsFrontLen 4 src.now x.1) }
         ensures exact { IfOk result (λ x. decoded (take x.1 src.now) ≡ Ok (scalar x.0, x.1)) };
 
-    /// The character whose code in UTF-8 begins the four bytes. Those after the code are ignored.
+    /// The character that begins the four bytes. What follows it is ignored.
     ///
     /// The error is that of `from_utf8_slice_start`, and never `TooFewBytes`.
     fn from_utf8_array(utf8: [u8; 4]) -> Result<Self, Utf8Error>
         ensures decodes { DecodesBytes scalar utf8 result }
         ensures known { GivesChar scalar (decoded_bytes utf8) result };
 
-    /// The character whose code in UTF-8 the bytes are.
+    /// The character that the bytes are, without a check.
+    ///
+    /// Condition: the bytes are the UTF-8 of one character.
     fn from_utf8_exact_slice_unchecked(src: &[u8]) -> Self
         requires { DecodesWhole src.now }
         ensures code { utf8 (scalar result) ≡ src.now }
         ensures known { decoded src.now ≡ Ok (scalar result, length src.now) };
 
-    /// The character whose code in UTF-16 begins the units, and how many units the code has: 1 or 2.
+    /// The character that begins the units: (character, length in units), the length 1 or 2.
     ///
-    /// Where no code begins them, the error is the first that applies of `EmptySlice`,
+    /// Where no character begins the units, the error is the first that applies of `EmptySlice`,
     /// `FirstIsTrailingSurrogate`, `MissingSecond` and `SecondIsNotTrailingSurrogate` (RFC 2781,
     /// section 2.2).
     fn from_utf16_slice_start(src: &[u16]) -> Result<(Self, usize), Utf16SliceError>
@@ -105,37 +110,39 @@ pub trait CharExt: Sized {
         ensures len { IfOk result (λ x. IsFrontLen 2 src.now x.1) }
         ensures exact { IfOk result (λ x. decoded_units (take x.1 src.now) ≡ Ok (scalar x.0, x.1)) };
 
-    /// The character whose code in UTF-16 begins the two units. A second unit that the first does not
-    /// ask for is ignored.
+    /// The character that begins the two units. A second unit that the first does not need is
+    /// ignored.
     fn from_utf16_array(utf16: [u16; 2]) -> Result<Self, Utf16ArrayError>
         ensures decodes { DecodesTwoUnits scalar utf16 result }
         ensures known { GivesChar scalar (decoded_two utf16) result };
 
-    /// The character whose code in UTF-16 the one or two units are. A second unit that the first does
-    /// not ask for is an error.
+    /// The character that the one or two units are. A second unit that the first does not need is
+    /// an error.
     fn from_utf16_tuple(utf16: (u16, Option<u16>)) -> Result<Self, Utf16TupleError>
         ensures decodes { DecodesTuple scalar utf16 result }
         ensures known { GivesChar scalar (decoded_tuple utf16.0 utf16.1) result }
         ensures units { IfOk result (λ _. is_padded_units utf16.0 (unwrap_or utf16.1 0) ≡ true) };
 
-    /// The character of two units, whatever they are.
+    /// The character of two units, without a check.
     ///
-    /// A first unit that is no surrogate stands for itself. Any other is taken for a leading surrogate,
-    /// and the second for a trailing one: ten bits of each, above 0x10000.
+    /// A first unit that is no surrogate is the character, and the second is ignored. Else the two
+    /// are taken for a surrogate pair, whatever they are: 0x10000, and the lower ten bits of each.
     fn from_utf16_array_unchecked(utf16: [u16; 2]) -> Self
         ensures value { scalar result ≡ (if is_surrogate (slice_index utf16 0) then pair_value (slice_index utf16 0) (slice_index utf16 1) else slice_index utf16 0) }
         ensures known { IfOk (decoded_two utf16) (λ s. scalar result ≡ s) };
 
-    /// The character of one unit that is no surrogate, or of two units, which are taken for a leading
-    /// and a trailing surrogate whatever they are.
+    /// The character of one unit, or of two, without a check. Two units are taken for a surrogate
+    /// pair whatever they are.
+    ///
+    /// Condition: a single unit is no surrogate.
     fn from_utf16_tuple_unchecked(utf16: (u16, Option<u16>)) -> Self
         requires { IfNone utf16.1 (is_surrogate utf16.0 ≡ false) }
         ensures value { scalar result ≡ tuple_value utf16.0 utf16.1 }
         ensures known { IfOk (decoded_tuple utf16.0 utf16.1) (λ s. scalar result ≡ s) };
 
-    /// The character of that number.
+    /// The character with that code point.
     ///
-    /// Above 0x10ffff it is `TooHigh`, and from 0xd800 to 0xdfff `Utf16Reserved`.
+    /// Above 0x10ffff the error is `TooHigh`, and from 0xd800 to 0xdfff `Utf16Reserved`.
     fn from_u32_detailed(c: u32) -> Result<Self, CodepointError>
         ensures decodes { DecodesNumber scalar c result }
         ensures known { GivesChar scalar (decoded_number c) result };

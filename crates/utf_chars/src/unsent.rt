@@ -2,6 +2,7 @@
 ghost use Rattle.std.specs.Prelude.{◌≡◌, ◌≤◌, ◌<◌, [], length, take, drop, IfSome};
 ghost use Rattle.std.specs.Iterator.{YieldsFirst};
 ghost use Rattle.utf_base.specs.Code.{utf8, utf16};
+ghost use Rattle.utf_chars.specs.DebugTexts.{debug_numbers};
 ghost use Rattle.utf_chars.specs.Digits.{low_digits};
 ghost use Rattle.utf_chars.specs.Taking.{fitting, filled};
 
@@ -59,6 +60,21 @@ impl<const BASE: usize> Unsent<BASE> {
         ensures { result ≡ length self.now }
     {
         self.left
+    }
+
+    // The elements, and then the digits above them.
+    #[tactic(auto, using(crate::proofs::DigitLemmas::four_digits, crate::proofs::DigitLemmas::length_low_digits))]
+    fn digits(&self) -> [usize; 4]
+        ensures { take (length self.now) result ≡ self.now }
+    {
+        let second = self.code / BASE;
+        let third = second / BASE;
+        [
+            self.code % BASE,
+            second % BASE,
+            third % BASE,
+            third / BASE % BASE,
+        ]
     }
 
     // Takes the first element.
@@ -147,6 +163,7 @@ impl Unsent<0x1_0000> {
 impl Default for Unsent<256> {
     ghost is_default = { λ bytes. bytes ≡ [] };
 
+    /// No elements.
     #[inline(always)]
     fn default() -> Unsent<256> {
         Unsent::<256>::new(0, 0)
@@ -156,6 +173,7 @@ impl Default for Unsent<256> {
 impl Default for Unsent<0x1_0000> {
     ghost is_default = { λ units. units ≡ [] };
 
+    /// No elements.
     #[inline(always)]
     fn default() -> Unsent<0x1_0000> {
         Unsent::<0x1_0000>::new(0, 0)
@@ -165,6 +183,7 @@ impl Default for Unsent<0x1_0000> {
 impl From<Utf8Char> for Unsent<256> {
     ghost from_gives = { λ c bytes. bytes ≡ utf8 c };
 
+    /// All bytes of the character.
     #[inline(always)]
     fn from(c: Utf8Char) -> Unsent<256> {
         let (code, len) = c.to_array();
@@ -194,6 +213,7 @@ fn number_of_front(code: [u8; 4], len: usize) -> usize
 impl From<Utf16Char> for Unsent<0x1_0000> {
     ghost from_gives = { λ c units. units ≡ utf16 c };
 
+    /// All units of the character.
     #[inline(always)]
     fn from(c: Utf16Char) -> Unsent<0x1_0000> {
         let [first, second] = c.to_array();
@@ -201,13 +221,13 @@ impl From<Utf16Char> for Unsent<0x1_0000> {
     }
 }
 
+/// The list of the elements, in one line whatever the formatter asks for.
 impl<const BASE: usize> fmt::Debug for Unsent<BASE> {
+    ghost debug_output = { debug_numbers };
+
+    /// The elements as a list of numbers.
     fn fmt<W: fmt::Write>(&self, f: &mut fmt::Formatter<W>) -> fmt::Result {
-        let mut list = f.debug_list();
-        let mut rest = self.copy();
-        while let Some(element) = rest.next() {
-            list.entry(&element);
-        }
-        list.finish()
+        let digits = self.digits();
+        write!(f, "{:?}", &digits[..self.len()])
     }
 }

@@ -4,6 +4,7 @@ ghost use Rattle.std.specs.Prelude.{true, false, unwrap_or, slice_index};
 ghost use Rattle.std.specs.Char.{encode_utf8};
 ghost use Rattle.std.specs.Cmp.{partial_order_from_own_ties};
 ghost use Rattle.std.specs.Cmp.Rules.{comparing, hashing};
+ghost use Rattle.std.specs.Fmt.{debug_char};
 ghost use Rattle.std.specs.Hash as fed;
 ghost use Rattle.std.specs.Ordering.{nat_cmp, as_partial_cmp};
 ghost use Rattle.std.specs.Result.{OkIff};
@@ -30,10 +31,10 @@ use utf_base::errors::{
     EmptyStrError, FromStrError, NonBmpError, Utf16ArrayError, Utf16SliceError, Utf16TupleError,
 };
 
-/// A Unicode scalar value, kept as its code in UTF-16. Contracts see it as the scalar.
+/// A character, kept as its UTF-16. Contracts see it as its code point.
 ///
-/// Characters are ordered, compared and hashed by the scalar, as a `char` is: U+E000 comes before
-/// U+10000, although its unit is greater.
+/// Characters are ordered, compared and hashed by the code point, as a `char` is: U+E000 comes
+/// before U+10000, although its unit is greater.
 #[derive(Clone, Copy, Drop)]
 pub struct Utf16Char {
     units: [u16; 2],
@@ -59,7 +60,7 @@ impl Model for Utf16Char {
 
 /// Making a character.
 impl Utf16Char {
-    /// The character.
+    /// The same character as the `char`.
     #[inline(always)]
     #[tactic(auto, using(utf_base::proofs::StdText::scalar_from_std, crate::proofs::PaddedUnits::unit_value_padded, crate::proofs::PaddedUnits::IsPadded_units))]
     pub fn new(c: char) -> Utf16Char
@@ -69,7 +70,8 @@ impl Utf16Char {
         Utf16Char { units }
     }
 
-    /// The first character of the text, and how many bytes of the text it is: 1 to 4.
+    /// The first character of the text: (character, length in bytes of the text), the length 1 to
+    /// 4.
     #[inline(always)]
     pub fn from_str_start(src: &str) -> Result<(Utf16Char, usize), EmptyStrError>
         ensures begins { BeginsText src.now result }
@@ -81,9 +83,9 @@ impl Utf16Char {
         Ok((Utf16Char::from(first), len))
     }
 
-    /// The character whose code begins the units, and how many units the code has: 1 or 2.
+    /// The character that begins the units: (character, length in units), the length 1 or 2.
     ///
-    /// The error is that of `CharExt::from_utf16_slice_start`.
+    /// What follows it does not matter. The error is that of `CharExt::from_utf16_slice_start`.
     #[inline(always)]
     #[tactic(auto, using(utf_base::proofs::DecodedLemmas::answer_of_units, utf_base::proofs::DecodedLemmas::front_len_utf16, crate::proofs::OwnCodes::unit_front_alone))]
     pub fn from_slice_start(src: &[u16]) -> Result<(Utf16Char, usize), Utf16SliceError>
@@ -96,7 +98,9 @@ impl Utf16Char {
         Ok((Utf16Char::new(c), len))
     }
 
-    /// The character whose code begins the units, and how many units the code has.
+    /// The character that begins the units, without a check: (character, length in units).
+    ///
+    /// Condition: a character begins the units.
     #[inline(always)]
     pub fn from_slice_start_unchecked(src: &[u16]) -> (Utf16Char, usize)
         requires { IsOk (decoded_units src.now) }
@@ -107,13 +111,13 @@ impl Utf16Char {
         Utf16Char::from_slice_start(src).unwrap()
     }
 
-    /// The character whose code ends the units, and how many units the code has: 1 or 2.
+    /// The character that ends the units: (character, length in units), the length 1 or 2.
     ///
-    /// Where no code ends them, the error is that of the last unit by itself: a trailing surrogate is
-    /// `FirstIsTrailingSurrogate`, and a leading one, after which nothing stands, is `MissingSecond`. No
-    /// unit at all is `EmptySlice`.
+    /// Where no character ends them, the error is that of the last unit by itself: a trailing
+    /// surrogate is `FirstIsTrailingSurrogate`, and a leading one, after which nothing stands, is
+    /// `MissingSecond`. No unit at all is `EmptySlice`.
     ///
-    /// No more than the last two units matter.
+    /// Only the last two units matter.
     #[inline(always)]
     #[tactic(auto, using(utf_base::proofs::UnitEnds::answer_of_units_end, utf_base::proofs::UnitEnds::end_len_utf16, crate::proofs::OwnCodes::unit_end_alone))]
     pub fn from_slice_end(src: &[u16]) -> Result<(Utf16Char, usize), Utf16SliceError>
@@ -127,8 +131,8 @@ impl Utf16Char {
         Ok((Utf16Char::new(last), len))
     }
 
-    /// The character whose code begins the two units. A second unit that the first does not ask for is
-    /// not kept.
+    /// The character that begins the two units. A second unit that the first does not need is
+    /// ignored.
     ///
     /// The error is that of `CharExt::from_utf16_array`.
     #[inline(always)]
@@ -140,7 +144,9 @@ impl Utf16Char {
         Ok(Utf16Char::new(utf16::decode_array(utf16)?))
     }
 
-    /// The character whose code, and then zero where it has one unit, the two units are.
+    /// The character that the two units are, without a check: the way back from `to_array`.
+    ///
+    /// Condition: the units are the UTF-16 of one character, with a zero after a single unit.
     #[inline(always)]
     #[tactic(auto, using(crate::proofs::OwnCodes::own_units, crate::proofs::PaddedUnits::IsPadded_units_of, crate::proofs::PaddedUnits::two_elements))]
     pub fn from_array_unchecked(array: [u16; 2]) -> Utf16Char
@@ -154,8 +160,8 @@ impl Utf16Char {
         }
     }
 
-    /// The character whose code the one or two units are. A second unit that the first does not ask for
-    /// is an error.
+    /// The character that the one or two units are. A second unit that the first does not need is
+    /// an error.
     ///
     /// The error is that of `CharExt::from_utf16_tuple`.
     #[inline(always)]
@@ -167,7 +173,10 @@ impl Utf16Char {
         Ok(Utf16Char::new(utf16::decode_tuple(utf16)?))
     }
 
-    /// The character whose code the one or two units are. A second unit of 0 counts as none.
+    /// The character that the one or two units are, without a check.
+    ///
+    /// Condition: they are one unit that is no surrogate, alone or with a 0 after it, or a
+    /// surrogate pair.
     #[inline(always)]
     #[tactic(auto, using(crate::proofs::PaddedUnits::unchecked_units))]
     pub fn from_tuple_unchecked(units: (u16, Option<u16>)) -> Utf16Char
@@ -179,7 +188,7 @@ impl Utf16Char {
         Utf16Char::from_array_unchecked([first, second.unwrap_or(0)])
     }
 
-    /// The character that one unit is, and an error for a surrogate.
+    /// The character that one unit is. A surrogate is an error.
     #[inline(always)]
     pub fn from_bmp(bmp: u16) -> Result<Utf16Char, NonBmpError>
         ensures { OkIff result (is_surrogate bmp ≡ false) bmp }
@@ -191,7 +200,9 @@ impl Utf16Char {
         }
     }
 
-    /// The character that one unit is.
+    /// The character that one unit is, without a check.
+    ///
+    /// Condition: the unit is no surrogate.
     #[inline(always)]
     pub fn from_bmp_unchecked(bmp: u16) -> Utf16Char
         requires { is_surrogate bmp ≡ false }
@@ -203,7 +214,7 @@ impl Utf16Char {
 
 /// What a character is.
 impl Utf16Char {
-    /// Whether the code is one unit: the scalar is below 0x10000.
+    /// Whether it has one unit in UTF-16: its code point is below 0x10000.
     #[inline(always)]
     #[tactic(auto, using(crate::proofs::PaddedUnits::second_is_zero, crate::proofs::PaddedUnits::of_one_unit))]
     pub fn is_bmp(self) -> bool
@@ -214,7 +225,7 @@ impl Utf16Char {
         self.units[1] == 0
     }
 
-    /// How many units the code has: 1 or 2.
+    /// How many units it has in UTF-16: 1 or 2.
     #[inline(always)]
     #[tactic(auto, using(crate::proofs::PaddedUnits::length_unit, crate::proofs::PaddedUnits::length_pair))]
     pub fn len(self) -> usize
@@ -225,7 +236,7 @@ impl Utf16Char {
         if self.is_bmp() { 1 } else { 2 }
     }
 
-    /// Whether the scalar is below 128.
+    /// Whether it is ASCII, below 128.
     #[inline(always)]
     #[tactic(auto, using(crate::proofs::PaddedUnits::first_is_ascii, crate::proofs::PaddedUnits::of_one_unit))]
     pub fn is_ascii(self) -> bool
@@ -263,8 +274,10 @@ impl Utf16Char {
         unsafe { char::from_u32_unchecked(number) }
     }
 
-    /// Writes the code to the front of the slice, and answers how many units it has. The places after
-    /// it stay as they are.
+    /// Writes its UTF-16 to the front of the slice, and gives the length. What follows in the slice
+    /// stays.
+    ///
+    /// Condition: the slice has at least `len()` places; two always do.
     #[inline(always)]
     #[tactic(auto, using(crate::proofs::OwnCodes::own_unit_front))]
     pub fn to_slice(self, dst: &mut [u16]) -> usize
@@ -274,13 +287,14 @@ impl Utf16Char {
         ensures written { dst.new ≡ utf16 self ++ drop (length (utf16 self)) dst.old }
         ensures decodes { decoded_units dst.new ≡ Ok (self, result) }
     {
+        // Names the field: so a proof sees what the type keeps of it.
         let _ = &self.units;
         let len = self.len();
         dst[..len].copy_from_slice(self.as_units());
         len
     }
 
-    /// The code, and then zero where it has one unit.
+    /// Its UTF-16: both units, or one unit and 0.
     #[inline(always)]
     pub fn to_array(self) -> [u16; 2]
         ensures code { result ≡ padded 2 (utf16 self) }
@@ -292,7 +306,7 @@ impl Utf16Char {
         kept
     }
 
-    /// The code, whose second unit is there only where the code has two.
+    /// Its UTF-16: (first unit, second unit where there is one).
     #[inline(always)]
     #[tactic(auto, using(utf_base::proofs::DecodedLemmas::padded_tuple, utf_base::proofs::DecodedLemmas::decoded_tuple_code, crate::proofs::PaddedUnits::code_by_second))]
     pub fn to_tuple(self) -> (u16, Option<u16>)
@@ -308,7 +322,7 @@ impl Utf16Char {
         }
     }
 
-    /// The code, lent from inside the character.
+    /// Its UTF-16, borrowed from inside it.
     #[inline(always)]
     #[tactic(auto, using(crate::proofs::OwnCodes::own_unit_view, crate::proofs::PaddedUnits::take_units))]
     pub fn as_units(&self) -> &[u16]
@@ -366,7 +380,7 @@ impl Utf16Char {
 
 /// Comparisons with other types.
 impl Utf16Char {
-    /// Whether it is that `char`.
+    /// Whether it is the same character as the `char`.
     #[inline(always)]
     pub fn eq_char(self, c: char) -> bool
         ensures equal { IsTrue result ↔ (self ≡ c) }
@@ -375,7 +389,7 @@ impl Utf16Char {
         c == self.to_char()
     }
 
-    /// The order of the scalars.
+    /// The order of the code points.
     #[inline(always)]
     pub fn cmp_char(self, c: char) -> Ordering
         ensures { result ≡ nat_cmp self c }
@@ -392,7 +406,7 @@ impl Utf16Char {
         self.to_char() == c.to_char()
     }
 
-    /// The order of the scalars.
+    /// The order of the code points.
     #[inline(always)]
     pub fn cmp_utf8(self, c: Utf8Char) -> Ordering
         ensures { result ≡ nat_cmp self c }
@@ -400,7 +414,7 @@ impl Utf16Char {
         self.to_char().cmp(&c.to_char())
     }
 
-    /// Whether the scalar is that byte, 0xff among them.
+    /// Whether its code point is this byte, up to 0xff.
     #[inline(always)]
     pub fn eq_u8(self, byte: u8) -> bool
         ensures equal { IsTrue result ↔ (self ≡ byte) }
@@ -409,7 +423,7 @@ impl Utf16Char {
         self.to_char() == char::from(byte)
     }
 
-    /// Whether the scalar is that unit. No character is a surrogate.
+    /// Whether its code point is this unit. No character is a surrogate.
     #[inline(always)]
     pub fn eq_u16(self, unit: u16) -> bool
         ensures equal { IsTrue result ↔ (self ≡ unit) }
@@ -424,6 +438,7 @@ impl PartialEq for Utf16Char {
 
     ghost laws = { Prim.search (comparing, rules) };
 
+    /// Whether both are the same character.
     #[inline(always)]
     fn eq(&self, other: &Utf16Char) -> bool {
         self.to_char() == other.to_char()
@@ -443,6 +458,7 @@ impl Ord for Utf16Char {
 
     ghost matches_eq = { Prim.search (comparing, rules) };
 
+    /// The order of the code points, as that of `char`.
     #[inline(always)]
     fn cmp(&self, other: &Utf16Char) -> Ordering {
         self.to_char().cmp(&other.to_char())
@@ -454,6 +470,7 @@ impl PartialOrd for Utf16Char {
 
     ghost laws = { partial_order_from_own_ties (Prim.search (comparing, rules)) (Prim.search (comparing, rules)) };
 
+    /// The answer of `cmp`, never `None`.
     #[inline(always)]
     fn partial_cmp(&self, other: &Utf16Char) -> Option<Ordering> {
         Some(self.cmp(other))
@@ -465,6 +482,7 @@ impl Hash for Utf16Char {
 
     ghost respects_eq = { Prim.search (hashing, rules) };
 
+    /// Feeds what the `char` feeds, so equal characters of all three types hash alike.
     fn hash<H: Hasher>(&self, state: &mut H) {
         self.to_char().hash(state);
     }
@@ -473,6 +491,7 @@ impl Hash for Utf16Char {
 impl Default for Utf16Char {
     ghost is_default = { λ c. c ≡ 0 };
 
+    /// U+0000.
     fn default() -> Utf16Char {
         Utf16Char::from_bmp_unchecked(0)
     }
@@ -481,6 +500,7 @@ impl Default for Utf16Char {
 impl From<char> for Utf16Char {
     ghost from_gives = { λ c r. r ≡ c };
 
+    /// The same character, kept as UTF-16.
     #[inline(always)]
     fn from(c: char) -> Utf16Char {
         Utf16Char::new(c)
@@ -490,6 +510,7 @@ impl From<char> for Utf16Char {
 impl From<Utf16Char> for char {
     ghost from_gives = { λ c r. r ≡ c };
 
+    /// The same character, kept as UTF-16.
     #[inline(always)]
     fn from(c: Utf16Char) -> char {
         c.to_char()
@@ -501,6 +522,7 @@ impl From<Utf8Char> for Utf16Char {
 
     // From bytes to units, by the number that both encode. The length says which code it is, and follows
     // from the first byte as the number does: so the same tests tell both.
+    /// The same character, kept as UTF-16.
     #[inline(always)]
     #[tactic(auto, using(crate::proofs::PaddedLemmas::four_bytes, crate::proofs::PaddedUnits::unit_value_padded, crate::proofs::PaddedUnits::IsPadded_units))]
     fn from(c: Utf8Char) -> Utf16Char {
@@ -514,6 +536,7 @@ impl FromStr for Utf16Char {
 
     ghost from_str_gives = { Parses };
 
+    /// The only character of the text. None, or more than one, is an error.
     fn from_str(s: &str) -> Result<Utf16Char, FromStrError> {
         Ok(Utf16Char::from(Utf8Char::from_str(s)?))
     }
@@ -524,12 +547,17 @@ impl fmt::Display for Utf16Char {
 
     ghost styled_output = { λ c _. Some (utf8 c) };
 
+    /// Writes the character. Width and fill are ignored.
     fn fmt<W: fmt::Write>(&self, f: &mut fmt::Formatter<W>) -> fmt::Result {
         f.write_str(Utf8Char::from(*self).as_str())
     }
 }
 
+/// As that of the `char`.
 impl fmt::Debug for Utf16Char {
+    ghost debug_output = { debug_char };
+
+    /// Writes what `{:?}` writes of the `char`.
     fn fmt<W: fmt::Write>(&self, f: &mut fmt::Formatter<W>) -> fmt::Result {
         fmt::Debug::fmt(&self.to_char(), f)
     }

@@ -3,6 +3,7 @@ ghost use Rattle.std.specs.Prelude.{◌≡◌, IfSome, Some, length, ⊤};
 ghost use Rattle.std.specs.Iterator.{YieldsFirst, item_count, UpTo};
 ghost use Rattle.std.specs.Iterator.SizeHint.{IsWithinCount};
 ghost use Rattle.utf_base.specs.Code.{utf16};
+ghost use Rattle.utf_chars.specs.DebugTexts.{debug_numbers};
 ghost use Rattle.utf_chars.specs.Taking.{BoundsLength};
 
 use crate::unsent::Unsent;
@@ -11,7 +12,7 @@ use std::alloc::AllocError;
 use std::fmt;
 use std::marker::Model;
 
-/// The units of a character's code that have not been given yet. Contracts see their list.
+/// The units of one character in UTF-16. Contracts see the list of those that remain.
 #[derive(Drop)]
 pub struct Utf16Iterator {
     unsent: Unsent<0x1_0000>,
@@ -28,6 +29,7 @@ impl Model for Utf16Iterator {
 impl From<Utf16Char> for Utf16Iterator {
     ghost from_gives = { λ c units. units ≡ utf16 c };
 
+    /// All units of the character in UTF-16.
     #[inline(always)]
     fn from(c: Utf16Char) -> Utf16Iterator {
         Utf16Iterator {
@@ -39,6 +41,7 @@ impl From<Utf16Char> for Utf16Iterator {
 impl From<char> for Utf16Iterator {
     ghost from_gives = { λ c units. units ≡ utf16 c };
 
+    /// All units of the character in UTF-16.
     #[inline(always)]
     fn from(c: char) -> Utf16Iterator {
         Utf16Iterator::from(Utf16Char::new(c))
@@ -52,6 +55,7 @@ impl IntoIterator for Utf16Char {
 
     ghost into_iter_gives = { λ c units. units ≡ utf16 c };
 
+    /// The units of the character, one after another.
     #[inline(always)]
     fn into_iter(self) -> Utf16Iterator {
         Utf16Iterator::from(self)
@@ -65,12 +69,13 @@ impl Iterator for Utf16Iterator {
 
     ghost remaining = { item_count (λ units. units) };
 
+    /// Takes the next unit, or gives `None` once all are taken.
     #[inline(always)]
     fn next(&mut self) -> Option<u16> {
         self.unsent.next_unit()
     }
 
-    /// How many units are left, from below and from above.
+    /// How many units remain, exactly: (number, `Some` of it).
     #[inline]
     fn size_hint(&self) -> (usize, Option<usize>)
         ensures lower { IsWithinCount result.0 (item_count (λ units. units) self.now) }
@@ -84,7 +89,7 @@ impl Iterator for Utf16Iterator {
 }
 
 impl ExactSizeIterator for Utf16Iterator {
-    /// How many units are left: 0 to 2.
+    /// How many units remain: 0 to 2.
     #[inline(always)]
     fn len(&self) -> usize {
         self.unsent.len()
@@ -96,6 +101,7 @@ impl Clone for Utf16Iterator {
 
     ghost is_infallible = { λ _. ⊤ };
 
+    /// The same units once more. It never fails.
     fn clone(&self) -> Result<Utf16Iterator, AllocError> {
         Ok(Utf16Iterator {
             unsent: self.unsent.copy(),
@@ -103,7 +109,11 @@ impl Clone for Utf16Iterator {
     }
 }
 
+/// What is left, as a list of numbers.
 impl fmt::Debug for Utf16Iterator {
+    ghost debug_output = { debug_numbers };
+
+    /// The units that remain, as a list of numbers.
     fn fmt<W: fmt::Write>(&self, f: &mut fmt::Formatter<W>) -> fmt::Result {
         fmt::Debug::fmt(&self.unsent, f)
     }

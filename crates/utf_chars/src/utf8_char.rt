@@ -3,6 +3,7 @@ ghost use Rattle.std.specs.Prelude.{◌≡◌, ◌==◌, ◌<◌, ◌≤◌, ◌
 ghost use Rattle.std.specs.Char.{encode_utf8};
 ghost use Rattle.std.specs.Cmp.{partial_order_from_own_ties};
 ghost use Rattle.std.specs.Cmp.Rules.{comparing, hashing};
+ghost use Rattle.std.specs.Fmt.{debug_char};
 ghost use Rattle.std.specs.Hash as fed;
 ghost use Rattle.std.specs.Ordering.{nat_cmp, as_partial_cmp};
 ghost use Rattle.std.specs.Result.{OkIff};
@@ -27,9 +28,9 @@ use std::marker::Model;
 use std::str::FromStr;
 use utf_base::errors::{EmptyStrError, FromStrError, NonAsciiError, Utf8Error, Utf8ErrorKind};
 
-/// A Unicode scalar value, kept as its code in UTF-8. Contracts see it as the scalar.
+/// A character, kept as its UTF-8. Contracts see it as its code point.
 ///
-/// Characters are ordered, compared and hashed by the scalar, as a `char` is.
+/// Characters are ordered, compared and hashed by the code point, as a `char` is.
 #[derive(Clone, Copy, Drop)]
 pub struct Utf8Char {
     bytes: [u8; 4],
@@ -55,7 +56,7 @@ impl Model for Utf8Char {
 
 /// Making a character.
 impl Utf8Char {
-    /// The character.
+    /// The same character as the `char`.
     #[inline(always)]
     #[tactic(auto, using(utf_base::proofs::StdText::scalar_from_std, crate::proofs::PaddedLemmas::value_padded, crate::proofs::PaddedLemmas::IsPadded_padded))]
     pub fn new(c: char) -> Utf8Char
@@ -65,7 +66,7 @@ impl Utf8Char {
         Utf8Char { bytes }
     }
 
-    /// The first character of the text, and how many bytes of the text it is: 1 to 4.
+    /// The first character of the text: (character, length in bytes), the length 1 to 4.
     #[inline(always)]
     pub fn from_str_start(src: &str) -> Result<(Utf8Char, usize), EmptyStrError>
         ensures begins { BeginsText src.now result }
@@ -81,9 +82,9 @@ impl Utf8Char {
         Ok((Utf8Char::from_front(bytes, len), len))
     }
 
-    /// The character whose code begins the bytes, and how many bytes the code has: 1 to 4.
+    /// The character that begins the bytes: (character, length in bytes), the length 1 to 4.
     ///
-    /// The error is that of `CharExt::from_utf8_slice_start`.
+    /// What follows it does not matter. The error is that of `CharExt::from_utf8_slice_start`.
     #[inline(always)]
     pub fn from_slice_start(src: &[u8]) -> Result<(Utf8Char, usize), Utf8Error>
         ensures decodes { DecodesFront as_scalar src.now result }
@@ -92,7 +93,7 @@ impl Utf8Char {
         ensures len { IfOk result (λ x. IsFrontLen 4 src.now x.1) }
         ensures exact { IfOk result (λ x. decoded (take x.1 src.now) ≡ Ok x) }
     {
-        let (_, len) = utf8::decode_start(src)?;
+        let len = front_len(src)?;
         Ok((Utf8Char::from_front(src, len), len))
     }
 
@@ -108,7 +109,9 @@ impl Utf8Char {
         Utf8Char { bytes }
     }
 
-    /// The character whose code begins the bytes, and how many bytes the code has.
+    /// The character that begins the bytes, without a check: (character, length in bytes).
+    ///
+    /// Condition: a character begins the bytes.
     #[inline(always)]
     pub fn from_slice_start_unchecked(src: &[u8]) -> (Utf8Char, usize)
         requires { IsOk (decoded src.now) }
@@ -119,13 +122,13 @@ impl Utf8Char {
         Utf8Char::from_slice_start(src).unwrap()
     }
 
-    /// The character whose code ends the bytes, and how many bytes the code has: 1 to 4.
+    /// The character that ends the bytes: (character, length in bytes), the length 1 to 4.
     ///
-    /// Where no code ends them, the error is that of the last byte by itself: a continuation byte is
-    /// `UnexpectedContinuationByte`, one that begins a code of more bytes is `TooFewBytes`, and one that
-    /// no code has is `NonUtf8Byte`. No byte at all is `TooFewBytes`.
+    /// Where no character ends them, the error is that of the last byte by itself: a continuation
+    /// byte is `UnexpectedContinuationByte`, one that begins a longer character is `TooFewBytes`,
+    /// and one that never occurs in UTF-8 is `NonUtf8Byte`. No byte at all is `TooFewBytes`.
     ///
-    /// No more than the last four bytes matter.
+    /// Only the last four bytes matter.
     #[inline(always)]
     pub fn from_slice_end(src: &[u8]) -> Result<(Utf8Char, usize), Utf8Error>
         ensures decodes { DecodesEnd as_scalar src.now result }
@@ -157,7 +160,7 @@ impl Utf8Char {
         }
     }
 
-    /// The character whose code begins the four bytes. Those after the code are not kept.
+    /// The character that begins the four bytes. What follows it is ignored.
     ///
     /// The error is that of `CharExt::from_utf8_array`.
     #[inline(always)]
@@ -169,7 +172,9 @@ impl Utf8Char {
         Ok(Utf8Char::new(utf8::decode_array(utf8)?))
     }
 
-    /// The character whose code, and then zeros, the four bytes are.
+    /// The character that the four bytes are, without a check: the way back from `to_array`.
+    ///
+    /// Condition: the bytes are the UTF-8 of one character, and then zeros.
     #[inline(always)]
     #[tactic(auto, using(crate::proofs::OwnCodes::own_array))]
     pub fn from_array_unchecked(array: [u8; 4]) -> Utf8Char
@@ -180,7 +185,7 @@ impl Utf8Char {
         Utf8Char { bytes: array }
     }
 
-    /// The character of an ASCII code, and an error from 128 on.
+    /// The character of an ASCII byte. From 128 on it is an error.
     #[inline(always)]
     pub fn from_ascii(ascii: u8) -> Result<Utf8Char, NonAsciiError>
         ensures { OkIff result (ascii < 128) ascii }
@@ -192,7 +197,9 @@ impl Utf8Char {
         }
     }
 
-    /// The character of an ASCII code.
+    /// The character of an ASCII byte, without a check.
+    ///
+    /// Condition: the byte is below 128.
     #[inline(always)]
     pub fn from_ascii_unchecked(ascii: u8) -> Utf8Char
         requires { ascii < 128 }
@@ -202,6 +209,23 @@ impl Utf8Char {
             bytes: [ascii, 0, 0, 0],
         }
     }
+}
+
+// How many bytes the code has that begins the bytes, else what is wrong with them. ASCII is told by itself. Of other codes
+// the first byte tells it once more: so a compiler knows of the character what it asks of it next.
+#[inline(always)]
+fn front_len(src: &[u8]) -> Result<usize, Utf8Error>
+    ensures ok { IfOk result (λ n. IsFrontCode src.now n) }
+    ensures err { IfErr result (λ k. fault_kind src.now ≡ Some k) }
+{
+    if src.is_empty() {
+        return Err(Utf8Error::new(Utf8ErrorKind::TooFewBytes));
+    }
+    if src[0] < 0x80 {
+        return Ok(1);
+    }
+    let _ = utf8::decode_start(src)?;
+    Ok(code_len(src[0]))
 }
 
 // The first bytes, as many as `len` says, then zeros.
@@ -236,7 +260,7 @@ fn code_len(first: u8) -> usize
 
 /// What a character is.
 impl Utf8Char {
-    /// How many bytes the code has: 1 to 4.
+    /// How many bytes it has in UTF-8: 1 to 4.
     #[inline(always)]
     #[tactic(auto, using(crate::proofs::PaddedLemmas::asked_by_first))]
     pub fn len(self) -> usize
@@ -247,7 +271,7 @@ impl Utf8Char {
         code_len(self.bytes[0])
     }
 
-    /// Whether the scalar is below 128.
+    /// Whether it is ASCII, below 128.
     #[inline(always)]
     #[tactic(auto, using(crate::proofs::PaddedLemmas::first_is_ascii, crate::proofs::PaddedLemmas::of_one_byte))]
     pub fn is_ascii(self) -> bool
@@ -286,7 +310,7 @@ impl Utf8Char {
         unsafe { char::from_u32_unchecked(number) }
     }
 
-    /// The code, then zeros, and how many bytes the code has.
+    /// Its UTF-8: (bytes, then zeros; length).
     #[inline(always)]
     #[tactic(auto, using(crate::proofs::OwnCodes::own_array))]
     pub fn to_array(self) -> ([u8; 4], usize)
@@ -302,7 +326,7 @@ impl Utf8Char {
         (bytes, self.len())
     }
 
-    /// The code as text of one character, lent from inside the character.
+    /// It as a text of one character, borrowed from inside it.
     #[inline(always)]
     #[tactic(auto, using(utf_base::proofs::StdText::utf8_is_text, crate::proofs::TextLemmas::text_of_code))]
     pub fn as_str(&self) -> &str
@@ -312,12 +336,13 @@ impl Utf8Char {
         ensures first { first_of_text result.now ≡ Ok (self.now, length result.now) }
         ensures parses { parsed result.now ≡ Ok self.now }
     {
+        // Names the field: so a proof sees what the type keeps of it.
         let _ = &self.bytes;
         // The code of a scalar is text.
         unsafe { str::from_utf8_unchecked(self.as_bytes()) }
     }
 
-    /// The code, lent from inside the character.
+    /// Its UTF-8, borrowed from inside it.
     #[inline(always)]
     #[tactic(auto, using(crate::proofs::OwnCodes::own_view, crate::proofs::PaddedLemmas::take_padded))]
     pub fn as_bytes(&self) -> &[u8]
@@ -328,8 +353,10 @@ impl Utf8Char {
         &self.bytes[..self.len()]
     }
 
-    /// Writes the code to the front of the slice, and answers how many bytes it has. The places after
-    /// it stay as they are.
+    /// Writes its UTF-8 to the front of the slice, and gives the length. What follows in the slice
+    /// stays.
+    ///
+    /// Condition: the slice has at least `len()` places; four always do.
     #[inline(always)]
     #[tactic(auto, using(crate::proofs::OwnCodes::own_front))]
     pub fn to_slice(self, dst: &mut [u8]) -> usize
@@ -339,6 +366,7 @@ impl Utf8Char {
         ensures written { dst.new ≡ utf8 self ++ drop (length (utf8 self)) dst.old }
         ensures decodes { decoded dst.new ≡ Ok (self, result) }
     {
+        // Names the field: so a proof sees what the type keeps of it.
         let _ = &self.bytes;
         let len = self.len();
         self.store(len, dst);
@@ -421,7 +449,7 @@ impl Utf8Char {
 
 /// Comparisons with other types.
 impl Utf8Char {
-    /// Whether it is that `char`.
+    /// Whether it is the same character as the `char`.
     #[inline(always)]
     pub fn eq_char(self, c: char) -> bool
         ensures equal { IsTrue result ↔ (self ≡ c) }
@@ -430,7 +458,7 @@ impl Utf8Char {
         self.to_char() == c
     }
 
-    /// The order of the scalars.
+    /// The order of the code points.
     #[inline(always)]
     pub fn cmp_char(self, c: char) -> Ordering
         ensures { result ≡ nat_cmp self c }
@@ -447,7 +475,7 @@ impl Utf8Char {
         c.to_char() == self.to_char()
     }
 
-    /// The order of the scalars.
+    /// The order of the code points.
     #[inline(always)]
     pub fn cmp_utf16(self, c: Utf16Char) -> Ordering
         ensures { result ≡ nat_cmp self c }
@@ -455,7 +483,7 @@ impl Utf8Char {
         self.to_char().cmp(&c.to_char())
     }
 
-    /// Whether it is the ASCII character of that code. No byte from 128 on is one.
+    /// Whether it is this ASCII byte. No byte from 128 on is a character.
     #[inline(always)]
     pub fn eq_u8(self, byte: u8) -> bool
         ensures equal { IsTrue result ↔ ((byte < 128) × (self ≡ byte)) }
@@ -470,6 +498,7 @@ impl PartialEq for Utf8Char {
 
     ghost laws = { Prim.search (comparing, rules) };
 
+    /// Whether both are the same character.
     #[inline(always)]
     fn eq(&self, other: &Utf8Char) -> bool {
         self.to_char() == other.to_char()
@@ -489,6 +518,7 @@ impl Ord for Utf8Char {
 
     ghost matches_eq = { Prim.search (comparing, rules) };
 
+    /// The order of the code points, as that of `char`.
     #[inline(always)]
     fn cmp(&self, other: &Utf8Char) -> Ordering {
         self.to_char().cmp(&other.to_char())
@@ -500,6 +530,7 @@ impl PartialOrd for Utf8Char {
 
     ghost laws = { partial_order_from_own_ties (Prim.search (comparing, rules)) (Prim.search (comparing, rules)) };
 
+    /// The answer of `cmp`, never `None`.
     #[inline(always)]
     fn partial_cmp(&self, other: &Utf8Char) -> Option<Ordering> {
         Some(self.cmp(other))
@@ -511,6 +542,7 @@ impl Hash for Utf8Char {
 
     ghost respects_eq = { Prim.search (hashing, rules) };
 
+    /// Feeds what the `char` feeds, so equal characters of all three types hash alike.
     fn hash<H: Hasher>(&self, state: &mut H) {
         self.to_char().hash(state);
     }
@@ -519,6 +551,7 @@ impl Hash for Utf8Char {
 impl Default for Utf8Char {
     ghost is_default = { λ c. c ≡ 0 };
 
+    /// U+0000.
     fn default() -> Utf8Char {
         Utf8Char::from_ascii_unchecked(0)
     }
@@ -527,6 +560,7 @@ impl Default for Utf8Char {
 impl From<char> for Utf8Char {
     ghost from_gives = { λ c r. r ≡ c };
 
+    /// The same character, kept as UTF-8.
     #[inline(always)]
     fn from(c: char) -> Utf8Char {
         Utf8Char::new(c)
@@ -536,6 +570,7 @@ impl From<char> for Utf8Char {
 impl From<Utf8Char> for char {
     ghost from_gives = { λ c r. r ≡ c };
 
+    /// The same character, kept as UTF-8.
     #[inline(always)]
     fn from(c: Utf8Char) -> char {
         c.to_char()
@@ -546,6 +581,7 @@ impl From<Utf16Char> for Utf8Char {
     ghost from_gives = { λ c r. r ≡ c };
 
     // From units to bytes, by the number that both encode.
+    /// The same character, kept as UTF-8.
     #[inline(always)]
     #[tactic(auto, using(crate::proofs::PaddedLemmas::value_padded, crate::proofs::PaddedLemmas::IsPadded_padded))]
     fn from(c: Utf16Char) -> Utf8Char {
@@ -559,6 +595,7 @@ impl FromStr for Utf8Char {
 
     ghost from_str_gives = { Parses };
 
+    /// The only character of the text. None, or more than one, is an error.
     fn from_str(s: &str) -> Result<Utf8Char, FromStrError> {
         match Utf8Char::from_str_start(s) {
             Err(EmptyStrError) => Err(FromStrError::Empty),
@@ -573,12 +610,17 @@ impl fmt::Display for Utf8Char {
 
     ghost styled_output = { λ c _. Some (utf8 c) };
 
+    /// Writes the character. Width and fill are ignored.
     fn fmt<W: fmt::Write>(&self, f: &mut fmt::Formatter<W>) -> fmt::Result {
         f.write_str(self.as_str())
     }
 }
 
+/// As that of the `char`.
 impl fmt::Debug for Utf8Char {
+    ghost debug_output = { debug_char };
+
+    /// Writes what `{:?}` writes of the `char`.
     fn fmt<W: fmt::Write>(&self, f: &mut fmt::Formatter<W>) -> fmt::Result {
         fmt::Debug::fmt(&self.to_char(), f)
     }

@@ -5,6 +5,7 @@ ghost use Rattle.std.specs.Iterator.SizeHint.{IsWithinCount};
 ghost use Rattle.std.specs.Io.{ReadsAtMost};
 ghost use Rattle.std.specs.Io.KnownBytes.{ReadConsumes};
 ghost use Rattle.utf_base.specs.Code.{utf8};
+ghost use Rattle.utf_chars.specs.DebugTexts.{debug_numbers};
 ghost use Rattle.utf_chars.specs.Taking.{fitting, filled, BoundsLength};
 
 use crate::unsent::Unsent;
@@ -14,9 +15,9 @@ use std::io::Read;
 use std::marker::Model;
 use std::{fmt, io};
 
-/// The bytes of a character's code that have not been given yet. Contracts see their list.
+/// The bytes of one character in UTF-8. Contracts see the list of those that remain.
 ///
-/// `next` and `read` may be mixed: both take from the front of what is left.
+/// `next` and `read` may be mixed: both take from the front.
 #[derive(Drop)]
 pub struct Utf8Iterator {
     unsent: Unsent<256>,
@@ -33,6 +34,7 @@ impl Model for Utf8Iterator {
 impl From<Utf8Char> for Utf8Iterator {
     ghost from_gives = { λ c bytes. bytes ≡ utf8 c };
 
+    /// All bytes of the character in UTF-8.
     #[inline(always)]
     fn from(c: Utf8Char) -> Utf8Iterator {
         Utf8Iterator {
@@ -44,6 +46,7 @@ impl From<Utf8Char> for Utf8Iterator {
 impl From<char> for Utf8Iterator {
     ghost from_gives = { λ c bytes. bytes ≡ utf8 c };
 
+    /// All bytes of the character in UTF-8.
     #[inline(always)]
     fn from(c: char) -> Utf8Iterator {
         Utf8Iterator::from(Utf8Char::new(c))
@@ -57,6 +60,7 @@ impl IntoIterator for Utf8Char {
 
     ghost into_iter_gives = { λ c bytes. bytes ≡ utf8 c };
 
+    /// The bytes of the character, one after another.
     #[inline(always)]
     fn into_iter(self) -> Utf8Iterator {
         Utf8Iterator::from(self)
@@ -70,12 +74,13 @@ impl Iterator for Utf8Iterator {
 
     ghost remaining = { item_count (λ bytes. bytes) };
 
+    /// Takes the next byte, or gives `None` once all are taken.
     #[inline(always)]
     fn next(&mut self) -> Option<u8> {
         self.unsent.next_byte()
     }
 
-    /// How many bytes are left, from below and from above.
+    /// How many bytes remain, exactly: (number, `Some` of it).
     #[inline]
     fn size_hint(&self) -> (usize, Option<usize>)
         ensures lower { IsWithinCount result.0 (item_count (λ bytes. bytes) self.now) }
@@ -89,7 +94,7 @@ impl Iterator for Utf8Iterator {
 }
 
 impl ExactSizeIterator for Utf8Iterator {
-    /// How many bytes are left: 0 to 4.
+    /// How many bytes remain: 0 to 4.
     #[inline(always)]
     fn len(&self) -> usize {
         self.unsent.len()
@@ -99,8 +104,8 @@ impl ExactSizeIterator for Utf8Iterator {
 impl Read for Utf8Iterator {
     ghost remaining = { λ bytes. Some bytes };
 
-    /// Moves as many bytes as fit into the front of the buffer, and answers how many they are. It never
-    /// fails, and the other places of the buffer stay as they are.
+    /// Moves as many bytes as fit into the front of the buffer, and gives their number. It never
+    /// fails, and the other places of the buffer stay.
     #[inline]
     fn read(&mut self, buf: &mut [u8]) -> io::Result<usize>
         ensures bound { ReadsAtMost result buf.new }
@@ -118,6 +123,7 @@ impl Clone for Utf8Iterator {
 
     ghost is_infallible = { λ _. ⊤ };
 
+    /// The same bytes once more. It never fails.
     fn clone(&self) -> Result<Utf8Iterator, AllocError> {
         Ok(Utf8Iterator {
             unsent: self.unsent.copy(),
@@ -125,7 +131,11 @@ impl Clone for Utf8Iterator {
     }
 }
 
+/// What is left, as a list of numbers.
 impl fmt::Debug for Utf8Iterator {
+    ghost debug_output = { debug_numbers };
+
+    /// The bytes that remain, as a list of numbers.
     fn fmt<W: fmt::Write>(&self, f: &mut fmt::Formatter<W>) -> fmt::Result {
         fmt::Debug::fmt(&self.unsent, f)
     }

@@ -1,14 +1,14 @@
 //! The entries of a list that is written line by line.
 ghost use Rattle.std.specs.Prelude.{◌≡◌, ◌+◌, ◌<◌, ◌≤◌, ◌++◌, ℕ, Bool, List, [], ◌∷◌, length, flat_map, IfOk, OnOk, OnErr};
-ghost use Rattle.cuts.specs.Failures.{AppendsFront};
-ghost use Rattle.cuts.specs.Programs.Lines.{kind_name, answer_text};
-ghost use Rattle.cuts.specs.Programs.Written.{WritesLines};
+ghost use Rattle.cuts.specs.Failures.{AppendsFront, TellsStall};
+ghost use Rattle.cuts.specs.Lines.{kind_name, answer_text};
+ghost use Rattle.cuts.specs.Written.{WritesLines};
 ghost use Rattle.cuts.specs.declared.programs.line.TheConstants.{ROOM};
 
 use crate::counted::Counted;
 use crate::programs::line::Line;
 use crate::runs::items::Item;
-use crate::streams::put_whole;
+use crate::streams::write_whole;
 use encode_unicode::Utf8Char;
 use encode_unicode::error::{Utf8Error, Utf8ErrorKind};
 use std::io;
@@ -31,7 +31,8 @@ pub(crate) trait Entry: Copy {
 
 // A piece: its offset, its length and its answer.
 impl Entry for Item {
-    ghost use Rattle.cuts.specs.Programs.Lines.{item_line, is_fault};
+    ghost use Rattle.cuts.specs.Lines.{item_line};
+    ghost use Rattle.cuts.specs.ForwardRuns.{is_fault};
 
     ghost line = { item_line };
 
@@ -59,7 +60,7 @@ impl Entry for Item {
 // What a merger answers.
 impl Entry for Result<Utf8Char, Utf8Error> {
     ghost use Rattle.std.specs.Prelude.{is_err};
-    ghost use Rattle.cuts.specs.Programs.Lines.{answer_line};
+    ghost use Rattle.cuts.specs.Lines.{answer_line};
 
     ghost line = { answer_line };
 
@@ -79,7 +80,7 @@ impl Entry for Result<Utf8Char, Utf8Error> {
 
 // What a walk answers: a piece, or none.
 impl Entry for Option<Item> {
-    ghost use Rattle.cuts.specs.Programs.Lines.{step_line, is_fault_step};
+    ghost use Rattle.cuts.specs.Lines.{step_line, is_fault_step};
 
     ghost line = { step_line };
 
@@ -107,14 +108,16 @@ impl Entry for Option<Item> {
 /// Writes the line of one entry, and answers 1 where that is an error line, and 0 elsewhere.
 #[inline(always)]
 pub(crate) fn write_entry<T: Entry, W: Write>(entry: T, out: &mut Counted<W>) -> io::Result<usize>
-    ensures lines { IfOk result (WritesLines T.line T.wrong (entry ∷ []) (W.contents out.old.inner) (W.contents out.new.inner)) }
+    ensures lines { IfOk result (WritesLines T.line T.wrong (entry ∷ []) (W.contents out.old.inner)
+        (W.contents out.new.inner)) }
     ensures front { AppendsFront (W.contents out.old.inner) (W.contents out.new.inner) (T.line entry) }
     ensures few { IfOk result (λ faults. faults ≤ 1) }
     ensures quiet { OnOk result (out.new.failures ≡ out.old.failures) }
     ensures err { OnErr result (out.old.failures < out.new.failures) }
+    ensures stalls { TellsStall result out.old.stalls out.new.stalls }
     ensures extras { out.new.extras ≡ out.old.extras }
 {
-    put_whole(entry.line().as_bytes(), out)?;
+    write_whole(entry.line().as_bytes(), out)?;
     Ok(if entry.is_wrong() { 1 } else { 0 })
 }
 
@@ -123,10 +126,13 @@ pub(crate) fn write_entries<T: Entry, W: Write>(
     entries: &[T],
     out: &mut Counted<W>,
 ) -> io::Result<usize>
-    ensures lines { IfOk result (WritesLines T.line T.wrong entries.now (W.contents out.old.inner) (W.contents out.new.inner)) }
-    ensures front { AppendsFront (W.contents out.old.inner) (W.contents out.new.inner) (flat_map T.line entries.now) }
+    ensures lines { IfOk result (WritesLines T.line T.wrong entries.now (W.contents out.old.inner)
+        (W.contents out.new.inner)) }
+    ensures front { AppendsFront (W.contents out.old.inner) (W.contents out.new.inner)
+        (flat_map T.line entries.now) }
     ensures quiet { OnOk result (out.new.failures ≡ out.old.failures) }
     ensures err { OnErr result (out.old.failures < out.new.failures) }
+    ensures stalls { TellsStall result out.old.stalls out.new.stalls }
     ensures extras { out.new.extras ≡ out.old.extras }
 {
     let mut faults = 0;

@@ -1,7 +1,7 @@
 //! A line of output, built on the stack and written in one call.
 ghost use Rattle.std.specs.Prelude.{◌≡◌, ◌+◌, ◌<◌, ◌≤◌, [], ◌∷◌, ◌++◌, length, take, drop};
 ghost use Rattle.std.specs.Fmt.{decimal};
-ghost use Rattle.cuts.specs.Programs.Line.{hex_digit, six_hex_digits};
+ghost use Rattle.cuts.specs.Line.{hex_digit, six_hex_digits};
 
 use std::marker::Model;
 
@@ -72,7 +72,7 @@ impl Line {
 
     /// Adds the number in decimal digits, with no leading zero.
     #[inline(always)]
-    #[tactic(auto, using(crate::proofs::OfPrograms::Decimal::decimal_steps))]
+    #[tactic(auto, using(crate::proofs::Decimal::decimal_steps))]
     pub(crate) fn push_decimal(&mut self, n: usize)
         requires { length self.old + DECIMAL_ROOM ≤ ROOM }
         ensures digits { self.new ≡ self.old ++ decimal n }
@@ -120,7 +120,7 @@ impl Line {
 }
 
 // Writes the digits of the number at the end of the slice, and answers where they start.
-#[tactic(auto, using(crate::proofs::OfPrograms::Decimal::decimal_steps))]
+#[tactic(auto, using(crate::proofs::Decimal::decimal_steps))]
 fn fill_decimal(n: usize, digits: &mut [u8]) -> usize
     requires { DECIMAL_ROOM ≤ length digits.old }
     ensures within { result ≤ length digits.new }

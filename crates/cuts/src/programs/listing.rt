@@ -2,11 +2,11 @@
 ghost use Rattle.std.specs.Prelude.{◌≡◌, ◌<◌, ◌↔◌, IfOk, OnOk, OnErr, count_by, is_err};
 ghost use Rattle.std.specs.Str.{IsUtf8};
 ghost use Rattle.encode_unicode.specs.Pieces.{pieces};
-ghost use Rattle.cuts.specs.Failures.{AppendsFront};
-ghost use Rattle.cuts.specs.Programs.Layouts.{WritesListing, WritesListingFront};
-ghost use Rattle.cuts.specs.Programs.Lines.{is_fault_step};
-ghost use Rattle.cuts.specs.Programs.Listings.{fault_count};
-ghost use Rattle.cuts.specs.Programs.Written.{merged_lines, walk_lines, WritesMerged, WritesWalk};
+ghost use Rattle.cuts.specs.Failures.{AppendsFront, TellsStall};
+ghost use Rattle.cuts.specs.Layouts.{WritesListing, WritesListingFront};
+ghost use Rattle.cuts.specs.Lines.{is_fault_step};
+ghost use Rattle.cuts.specs.ForwardRuns.{fault_count};
+ghost use Rattle.cuts.specs.Written.{merged_lines, walk_lines, WritesMerged, WritesWalk};
 
 use crate::counted::Counted;
 use crate::programs::entries::{write_entries, write_entry};
@@ -17,18 +17,22 @@ use encode_unicode::iterator::Utf8CharDecoder;
 use std::io;
 use std::io::Write;
 
-/// Writes one line for each piece of the bytes, and answers how many of the pieces are errors.
+/// Writes one line for each piece of the bytes, and gives the number of errors.
 ///
-/// A line is the offset and the length in decimal, and the scalar in six hexadecimal digits or the name
-/// of the error. Lines go out as they are made: nothing is kept, and no memory is taken. After an error
-/// of the writer a front of the same lines stands there, the last of them perhaps in part.
+/// A line is the offset and the length in decimal, and the code point in six hexadecimal digits or
+/// the name of the error. Lines go out as they are made. After an error of the writer it has the
+/// first of the same lines, the last of them perhaps in part.
+///
+/// Cost: O(n).
 pub fn write_listing<W: Write>(src: &[u8], out: &mut Counted<W>) -> io::Result<usize>
-    ensures listing { IfOk result (WritesListing src.now (W.contents out.old.inner) (W.contents out.new.inner)) }
+    ensures listing { IfOk result (WritesListing src.now (W.contents out.old.inner)
+        (W.contents out.new.inner)) }
     ensures count { IfOk result (λ faults. faults ≡ fault_count (pieces src.now)) }
     ensures text { IfOk result (λ faults. (faults ≡ 0) ↔ IsUtf8 src.now) }
     ensures front { WritesListingFront src.now (W.contents out.old.inner) (W.contents out.new.inner) }
     ensures quiet { OnOk result (out.new.failures ≡ out.old.failures) }
     ensures err { OnErr result (out.old.failures < out.new.failures) }
+    ensures stalls { TellsStall result out.old.stalls out.new.stalls }
     ensures extras { out.new.extras ≡ out.old.extras }
 {
     let mut faults = 0;
@@ -38,34 +42,43 @@ pub fn write_listing<W: Write>(src: &[u8], out: &mut Counted<W>) -> io::Result<u
     Ok(faults)
 }
 
-/// Writes one line for each answer of a merger, and answers how many of them are errors.
+/// Writes one line for each answer of a merger, and gives the number of errors.
 ///
-/// A line is the scalar in six hexadecimal digits or the name of the error. No memory is taken, and after
-/// an error of the writer a front of the lines stands there, as with `write_listing`.
+/// A line is the code point in six hexadecimal digits or the name of the error. An error of the
+/// writer is as with `write_listing`.
+///
+/// Cost: O(n).
 pub fn write_merged<W: Write>(
     results: &[Result<Utf8Char, Utf8Error>],
     out: &mut Counted<W>,
 ) -> io::Result<usize>
     ensures count { IfOk result (λ faults. faults ≡ count_by is_err results.now) }
-    ensures lines { IfOk result (WritesMerged results.now (W.contents out.old.inner) (W.contents out.new.inner)) }
-    ensures front { AppendsFront (W.contents out.old.inner) (W.contents out.new.inner) (merged_lines results.now) }
+    ensures lines { IfOk result (WritesMerged results.now (W.contents out.old.inner)
+        (W.contents out.new.inner)) }
+    ensures front { AppendsFront (W.contents out.old.inner) (W.contents out.new.inner)
+        (merged_lines results.now) }
     ensures quiet { OnOk result (out.new.failures ≡ out.old.failures) }
     ensures err { OnErr result (out.old.failures < out.new.failures) }
+    ensures stalls { TellsStall result out.old.stalls out.new.stalls }
     ensures extras { out.new.extras ≡ out.old.extras }
 {
     write_entries(results, out)
 }
 
-/// Writes one line for each answer of a walk, and answers how many of them are errors.
+/// Writes one line for each answer of a walk, and gives the number of errors.
 ///
-/// A line is that of the piece as `write_listing` has it, or `none`, which is no error. No memory is
-/// taken, and after an error of the writer a front of the lines stands there, as with `write_listing`.
+/// A line is that of the piece as `write_listing` has it, or `none`, which is no error. An error of
+/// the writer is as with `write_listing`.
+///
+/// Cost: O(n).
 pub fn write_walk<W: Write>(steps: &[Option<Item>], out: &mut Counted<W>) -> io::Result<usize>
     ensures count { IfOk result (λ faults. faults ≡ count_by is_fault_step steps.now) }
     ensures lines { IfOk result (WritesWalk steps.now (W.contents out.old.inner) (W.contents out.new.inner)) }
-    ensures front { AppendsFront (W.contents out.old.inner) (W.contents out.new.inner) (walk_lines steps.now) }
+    ensures front { AppendsFront (W.contents out.old.inner) (W.contents out.new.inner)
+        (walk_lines steps.now) }
     ensures quiet { OnOk result (out.new.failures ≡ out.old.failures) }
     ensures err { OnErr result (out.old.failures < out.new.failures) }
+    ensures stalls { TellsStall result out.old.stalls out.new.stalls }
     ensures extras { out.new.extras ≡ out.old.extras }
 {
     write_entries(steps, out)

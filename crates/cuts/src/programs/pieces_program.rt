@@ -1,14 +1,12 @@
 //! One run of `pieces`, over any reader and writers.
-ghost use Rattle.std.specs.Prelude.{◌≡◌, ◌≢◌, ◌+◌, ◌<◌, ◌≤◌, ◌++◌, [], ◌∷◌, ℕ, List, false, length, drop, codes, map, string_bytes, Contains, IsTrue, IfOk, IfErr, IfSome, IsOkAnd, OnOk, OnErr};
-ghost use Rattle.std.specs.Io.KnownBytes.{Appends, Keeps};
-ghost use Rattle.std.specs.IoError.{error_kind};
-ghost use Rattle.cuts.specs.Failures.{AppendsFront};
+ghost use Rattle.std.specs.Prelude.{◌≡◌, ◌≢◌, ◌+◌, ◌<◌, ◌≤◌, ◌++◌, [], ◌∷◌, false, codes, map, string_bytes, Contains, IsTrue, IfOk, IfErr, IfSome, OnOk, OnErr};
+ghost use Rattle.std.specs.Io.KnownBytes.{Keeps};
 ghost use Rattle.utf_base.specs.Code.{utf8};
 ghost use Rattle.utf_base.specs.Kinds.{merger_kind};
-ghost use Rattle.cuts.specs.Programs.Arguments.{Asked, Asks, AreWrong, HaveArguments, asked_by};
-ghost use Rattle.cuts.specs.Runs.Collected.{IsMergedRun};
-ghost use Rattle.cuts.specs.Programs.Layouts.{forward_layout, merged_layout, walk_layout, WritesRun, WritesRunFront};
-ghost use Rattle.cuts.specs.Programs.Endings.{status_of, stop_text, stop_line, IsDrained, WritesAsked, WritesAskedFront, DoesAsked, TellsAsked, BeginsAsked, FailsOrStays, ReadsUntil, Says, EndsEarly};
+ghost use Rattle.cuts.specs.Arguments.{Asked, Asks, AreWrong, asked_by};
+ghost use Rattle.cuts.specs.Collected.{IsMergedRun};
+ghost use Rattle.cuts.specs.Layouts.{forward_layout, merged_layout, walk_layout, WritesRun, WritesRunFront};
+ghost use Rattle.cuts.specs.Endings.{stop_line, IsDrained, WritesAsked, WritesAskedFront, DoesAsked, TellsAsked, BeginsAsked, FailsOrStays, ReadsUntil, Says, EndsEarly};
 
 use crate::counted::Counted;
 use crate::programs::listing::{write_listing, write_merged, write_walk};
@@ -32,12 +30,15 @@ const PART: usize = 65536;
 
 /// One run of `pieces` on the arguments after the program's name, and its status.
 ///
-/// With no argument it writes the listing of all that the reader gives; with `--merge` the lines of what a
-/// merger answers over it; with `--ends` and a word, of letters `F` and `B`, those of what the word's walk
-/// answers. The status 0 says that no line is an error line, 1 that one is. All other arguments are wrong,
-/// and then nothing is read or written, and the status is 2. Where reading or writing fails, or memory is
-/// refused, it is 3, and before all is read, merged or walked, nothing is written. `stderr` takes the line
-/// for standard error, and nothing where the status is 0 or 1.
+/// With no argument it writes the listing of all that the reader gives; with `--merge` the lines of
+/// what a merger answers over it; with `--ends` and a word, of letters `F` and `B`, those of what
+/// the word's walk answers. The status 0 says that no line is an error line, 1 that one is. All
+/// other arguments are wrong, and then nothing is read or written, and the status is 2. Where
+/// reading or writing fails, or memory is refused, it is 3, and before all is read, merged or
+/// walked, nothing is written. `stderr` takes the line for standard error, and nothing where the
+/// status is 0 or 1.
+///
+/// Cost: O(n), allocates for the whole input.
 pub fn run_pieces<A: Allocator + Copy, R: Source, W: Write, E: Sink>(
     alloc: A,
     args: &[String<A>],
@@ -45,14 +46,21 @@ pub fn run_pieces<A: Allocator + Copy, R: Source, W: Write, E: Sink>(
     out: &mut Counted<W>,
     stderr: &mut E,
 ) -> u8
-    ensures lines { (asked : Asked) → Asks (map string_bytes args.now) asked → result < 2 → TellsAsked asked (R.remaining input.old) (W.contents out.old.inner) (W.contents out.new.inner) result }
-    ensures front { (asked : Asked) → Asks (map string_bytes args.now) asked → BeginsAsked asked (R.remaining input.old) (W.contents out.old.inner) (W.contents out.new.inner) }
+    ensures lines { (asked : Asked) → Asks (map string_bytes args.now) asked → result < 2 →
+        TellsAsked asked (R.remaining input.old) (W.contents out.old.inner)
+        (W.contents out.new.inner) result }
+    ensures front { (asked : Asked) → Asks (map string_bytes args.now) asked →
+        BeginsAsked asked (R.remaining input.old) (W.contents out.old.inner) (W.contents out.new.inner) }
     ensures drained { result < 2 → IsDrained (R.remaining input.old) (R.remaining input.new) }
-    ensures unbroken { result < 2 → IsTrue R.is_counted → (R.reads input.new).broken ≡ (R.reads input.old).broken }
-    ensures in_time { IsTrue R.is_counted → (R.reads input.old).ended ≡ false → (R.reads input.new).late ≡ (R.reads input.old).late }
+    ensures unbroken { result < 2 → IsTrue R.is_counted →
+        (R.reads input.new).broken ≡ (R.reads input.old).broken }
+    ensures in_time { IsTrue R.is_counted → (R.reads input.old).ended ≡ false →
+        (R.reads input.new).late ≡ (R.reads input.old).late }
     ensures quiet { result < 2 → out.new.failures ≡ out.old.failures }
     ensures silent { result < 2 → stderr.new ≡ stderr.old }
-    ensures early { 2 ≤ result → EndsEarly (codes "pieces") (ReadsUntil R.is_counted (R.remaining input.old) (R.failures input.old) (R.failures input.new) (R.reads input.old) (R.reads input.new)) (λ reason. FailsOrStays reason out.old out.new) (Says E.is_counted (E.failures stderr.old) (E.failures stderr.new) (E.contents stderr.old) (E.contents stderr.new)) result }
+    ensures early { 2 ≤ result → EndsEarly (codes "pieces")
+        (ReadsUntil R.is_counted R.remaining R.failures R.reads input.old input.new)
+        (FailsOrStays out.old out.new) (Says E.is_counted E.failures E.contents stderr.old stderr.new) result }
     ensures extras { out.new.extras ≡ out.old.extras }
     ensures wrong { AreWrong (map string_bytes args.now) → result ≡ 2 }
     ensures untouched { AreWrong (map string_bytes args.now) → (input.new ≡ input.old) × (out.new ≡ out.old) }
@@ -71,16 +79,22 @@ pub fn run_pieces<A: Allocator + Copy, R: Source, W: Write, E: Sink>(
 ///
 /// Where the input was listed the output is flushed, once, and where that fails the status is 3 and
 /// `stderr` takes the line for standard error. Any other status stays, and nothing is done.
+///
+/// Cost: one flush.
 pub fn finish_run<W: Write, E: Sink>(status: u8, out: &mut Counted<W>, stderr: &mut E) -> u8
     ensures flushed { status < 2 → out.new.extras.flushes ≡ out.old.extras.flushes + 1 }
     ensures keeps { Keeps (W.contents out.old.inner) (W.contents out.new.inner) }
-    ensures whole { out.new.extras.failed_flushes ≡ out.old.extras.failed_flushes → (result ≡ status) × (stderr.new ≡ stderr.old) }
+    ensures whole { out.new.extras.failed_flushes ≡ out.old.extras.failed_flushes → (result ≡ status) ×
+        (stderr.new ≡ stderr.old) }
     ensures early { 2 ≤ status → out.new ≡ out.old }
     ensures quiet { out.new.failures ≡ out.old.failures }
     ensures never_fewer { out.old.extras.failed_flushes ≤ out.new.extras.failed_flushes }
     ensures failed { out.old.extras.failed_flushes < out.new.extras.failed_flushes → result ≡ 3 }
-    ensures kept { result < 3 → (result ≡ status) × (stderr.new ≡ stderr.old) × (out.new.extras.failed_flushes ≡ out.old.extras.failed_flushes) }
-    ensures line { out.old.extras.failed_flushes < out.new.extras.failed_flushes → Says E.is_counted (E.failures stderr.old) (E.failures stderr.new) (E.contents stderr.old) (E.contents stderr.new) (stop_line (codes "pieces") Stop.CannotWrite) }
+    ensures kept { result < 3 → (result ≡ status) × (stderr.new ≡ stderr.old) ×
+        (out.new.extras.failed_flushes ≡ out.old.extras.failed_flushes) }
+    ensures line { out.old.extras.failed_flushes < out.new.extras.failed_flushes →
+        Says E.is_counted E.failures E.contents stderr.old stderr.new
+        (stop_line (codes "pieces") Stop.CannotWrite) }
 {
     if status >= 2 {
         return status;
@@ -99,16 +113,22 @@ fn do_asked<A: Allocator + Copy, R: Source, W: Write>(
     input: &mut R,
     out: &mut Counted<W>,
 ) -> Result<usize, Stop>
-    ensures lines { IfOk result (λ faults. (asked : Asked) → Asks (map string_bytes args.now) asked → DoesAsked asked (R.remaining input.old) (W.contents out.old.inner) (W.contents out.new.inner) faults) }
-    ensures front { (asked : Asked) → Asks (map string_bytes args.now) asked → BeginsAsked asked (R.remaining input.old) (W.contents out.old.inner) (W.contents out.new.inner) }
+    ensures lines { IfOk result (λ faults. (asked : Asked) → Asks (map string_bytes args.now) asked →
+        DoesAsked asked (R.remaining input.old) (W.contents out.old.inner)
+        (W.contents out.new.inner) faults) }
+    ensures front { (asked : Asked) → Asks (map string_bytes args.now) asked →
+        BeginsAsked asked (R.remaining input.old) (W.contents out.old.inner) (W.contents out.new.inner) }
     ensures drained { OnOk result (IsDrained (R.remaining input.old) (R.remaining input.new)) }
-    ensures unbroken { OnOk result (IsTrue R.is_counted → (R.reads input.new).broken ≡ (R.reads input.old).broken) }
-    ensures until { IfErr result (ReadsUntil R.is_counted (R.remaining input.old) (R.failures input.old) (R.failures input.new) (R.reads input.old) (R.reads input.new)) }
-    ensures in_time { IsTrue R.is_counted → (R.reads input.old).ended ≡ false → (R.reads input.new).late ≡ (R.reads input.old).late }
+    ensures unbroken { OnOk result (IsTrue R.is_counted →
+        (R.reads input.new).broken ≡ (R.reads input.old).broken) }
+    ensures until { IfErr result (ReadsUntil R.is_counted R.remaining R.failures R.reads input.old input.new) }
+    ensures in_time { IsTrue R.is_counted → (R.reads input.old).ended ≡ false →
+        (R.reads input.new).late ≡ (R.reads input.old).late }
     ensures quiet { OnOk result (out.new.failures ≡ out.old.failures) }
-    ensures early { IfErr result (λ stop. FailsOrStays stop out.old out.new) }
+    ensures early { IfErr result (FailsOrStays out.old out.new) }
     ensures extras { out.new.extras ≡ out.old.extras }
-    ensures wrong { AreWrong (map string_bytes args.now) → (result ≡ Err Stop.WrongArguments) × (input.new ≡ input.old) × (out.new ≡ out.old) }
+    ensures wrong { AreWrong (map string_bytes args.now) → (result ≡ Err Stop.WrongArguments) ×
+        (input.new ≡ input.old) × (out.new ≡ out.old) }
     ensures right { result ≡ Err Stop.WrongArguments → AreWrong (map string_bytes args.now) }
     ensures unwritten { OnErr result (out.new.failures ≡ out.old.failures → out.new ≡ out.old) }
 {
@@ -124,10 +144,12 @@ fn write_asked<A: Allocator + Copy, W: Write>(
     bytes: &[u8],
     out: &mut Counted<W>,
 ) -> Result<usize, Stop>
-    ensures lines { IfOk result (WritesAsked (asked_by request.now) bytes.now (W.contents out.old.inner) (W.contents out.new.inner)) }
-    ensures front { WritesAskedFront (asked_by request.now) bytes.now (W.contents out.old.inner) (W.contents out.new.inner) }
+    ensures lines { IfOk result (WritesAsked (asked_by request.now) bytes.now (W.contents out.old.inner)
+        (W.contents out.new.inner)) }
+    ensures front { WritesAskedFront (asked_by request.now) bytes.now (W.contents out.old.inner)
+        (W.contents out.new.inner) }
     ensures quiet { OnOk result (out.new.failures ≡ out.old.failures) }
-    ensures early { IfErr result (λ stop. FailsOrStays stop out.old out.new) }
+    ensures early { IfErr result (FailsOrStays out.old out.new) }
     ensures extras { out.new.extras ≡ out.old.extras }
     ensures right { IfErr result (λ stop. Contains (Stop.CannotWrite ∷ Stop.NoMemory ∷ []) stop) }
 {
@@ -140,10 +162,12 @@ fn write_asked<A: Allocator + Copy, W: Write>(
 
 // Writes the listing of the bytes.
 fn list_bytes<W: Write>(bytes: &[u8], out: &mut Counted<W>) -> Result<usize, Stop>
-    ensures lines { IfOk result (WritesRun forward_layout bytes.now (W.contents out.old.inner) (W.contents out.new.inner)) }
-    ensures front { WritesRunFront forward_layout bytes.now (W.contents out.old.inner) (W.contents out.new.inner) }
+    ensures lines { IfOk result (WritesRun forward_layout bytes.now (W.contents out.old.inner)
+        (W.contents out.new.inner)) }
+    ensures front { WritesRunFront forward_layout bytes.now (W.contents out.old.inner)
+        (W.contents out.new.inner) }
     ensures quiet { OnOk result (out.new.failures ≡ out.old.failures) }
-    ensures early { IfErr result (λ stop. FailsOrStays stop out.old out.new) }
+    ensures early { IfErr result (FailsOrStays out.old out.new) }
     ensures extras { out.new.extras ≡ out.old.extras }
     ensures right { IfErr result (λ stop. Contains (Stop.CannotWrite ∷ Stop.NoMemory ∷ []) stop) }
 {
@@ -159,10 +183,12 @@ fn merge_bytes<A: Allocator, W: Write>(
     bytes: &[u8],
     out: &mut Counted<W>,
 ) -> Result<usize, Stop>
-    ensures lines { IfOk result (WritesRun merged_layout bytes.now (W.contents out.old.inner) (W.contents out.new.inner)) }
-    ensures front { WritesRunFront merged_layout bytes.now (W.contents out.old.inner) (W.contents out.new.inner) }
+    ensures lines { IfOk result (WritesRun merged_layout bytes.now (W.contents out.old.inner)
+        (W.contents out.new.inner)) }
+    ensures front { WritesRunFront merged_layout bytes.now (W.contents out.old.inner)
+        (W.contents out.new.inner) }
     ensures quiet { OnOk result (out.new.failures ≡ out.old.failures) }
-    ensures early { IfErr result (λ stop. FailsOrStays stop out.old out.new) }
+    ensures early { IfErr result (FailsOrStays out.old out.new) }
     ensures extras { out.new.extras ≡ out.old.extras }
     ensures right { IfErr result (λ stop. Contains (Stop.CannotWrite ∷ Stop.NoMemory ∷ []) stop) }
 {
@@ -193,10 +219,12 @@ fn walk_bytes<A: Allocator, W: Write>(
     word: &[End],
     out: &mut Counted<W>,
 ) -> Result<usize, Stop>
-    ensures lines { IfOk result (WritesRun (walk_layout word.now) bytes.now (W.contents out.old.inner) (W.contents out.new.inner)) }
-    ensures front { WritesRunFront (walk_layout word.now) bytes.now (W.contents out.old.inner) (W.contents out.new.inner) }
+    ensures lines { IfOk result (WritesRun (walk_layout word.now) bytes.now (W.contents out.old.inner)
+        (W.contents out.new.inner)) }
+    ensures front { WritesRunFront (walk_layout word.now) bytes.now (W.contents out.old.inner)
+        (W.contents out.new.inner) }
     ensures quiet { OnOk result (out.new.failures ≡ out.old.failures) }
-    ensures early { IfErr result (λ stop. FailsOrStays stop out.old out.new) }
+    ensures early { IfErr result (FailsOrStays out.old out.new) }
     ensures extras { out.new.extras ≡ out.old.extras }
     ensures right { IfErr result (λ stop. Contains (Stop.CannotWrite ∷ Stop.NoMemory ∷ []) stop) }
 {
@@ -214,9 +242,11 @@ fn walk_bytes<A: Allocator, W: Write>(
 fn read_whole<A: Allocator, R: Source>(alloc: A, input: &mut R) -> Result<Vec<u8, A>, Stop>
     ensures bytes { IfOk result (λ bytes. IfSome (R.remaining input.old) (λ xs. bytes.items ≡ xs)) }
     ensures drained { OnOk result (IsDrained (R.remaining input.old) (R.remaining input.new)) }
-    ensures unbroken { OnOk result (IsTrue R.is_counted → (R.reads input.new).broken ≡ (R.reads input.old).broken) }
-    ensures until { IfErr result (ReadsUntil R.is_counted (R.remaining input.old) (R.failures input.old) (R.failures input.new) (R.reads input.old) (R.reads input.new)) }
-    ensures in_time { IsTrue R.is_counted → (R.reads input.old).ended ≡ false → (R.reads input.new).late ≡ (R.reads input.old).late }
+    ensures unbroken { OnOk result (IsTrue R.is_counted →
+        (R.reads input.new).broken ≡ (R.reads input.old).broken) }
+    ensures until { IfErr result (ReadsUntil R.is_counted R.remaining R.failures R.reads input.old input.new) }
+    ensures in_time { IsTrue R.is_counted → (R.reads input.old).ended ≡ false →
+        (R.reads input.new).late ≡ (R.reads input.old).late }
     ensures right { IfErr result (λ stop. Contains (Stop.CannotRead ∷ Stop.NoMemory ∷ []) stop) }
 {
     let mut bytes = Vec::new(alloc);

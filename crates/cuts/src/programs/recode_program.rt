@@ -1,13 +1,14 @@
 //! One run of `recode`, over any reader and writers.
-ghost use Rattle.std.specs.Prelude.{◌≡◌, ◌≢◌, ◌<◌, codes, map, string_bytes, true, false, IfSome, IfNone};
-ghost use Rattle.cuts.specs.Programs.Endings.{IsDrained, ReadsUntil, FailsOrIsQuiet, Says, EndsEarly};
-ghost use Rattle.cuts.specs.Recoding.Relayed.{form_name, AsksForms, WritesRecoded, BeginsRecoded, reason_of};
+ghost use Rattle.std.specs.Prelude.{◌≡◌, ◌≢◌, ◌<◌, ◌⊎◌, [], codes, map, string_bytes, false, Some, IfSome, IfNone};
+ghost use Rattle.cuts.specs.Endings.{IsDrained, CountsUntil, FailsOrIsQuiet, Says, EndsEarly, reason_of};
+ghost use Rattle.cuts.specs.Arguments.{form_name, AsksForms};
+ghost use Rattle.cuts.specs.Relayed.{WritesRecoded, BeginsRecoded};
 
 use crate::counted::Counted;
+use crate::programs::relayed::{RecodeFault, recode};
 use crate::programs::stops::Stop;
-use crate::recoding::form::Form;
-use crate::recoding::relayed::{RecodeFault, recode};
 use crate::streams::Sink;
+use recoding::form::Form;
 use std::alloc::Allocator;
 use std::io::{Read, Write};
 
@@ -16,11 +17,13 @@ pub const PROGRAM: &str = "recode";
 
 /// One run of `recode` on the arguments after the program's name, and its status.
 ///
-/// The arguments are the names of two forms, `utf8`, `utf16le` or `utf16be`, which may be the same: that of
-/// the input and that of the output. The status is then 0, whatever was replaced. All other arguments are
-/// wrong, and then nothing is read or written, and the status is 2. Where reading or writing fails, or
-/// memory is refused, it is 3. `stderr` takes the line for standard error, and nothing where the status
-/// is 0.
+/// The arguments are the names of two forms, `utf8`, `utf16le` or `utf16be`, which may be the same:
+/// that of the input and that of the output. The status is then 0, whatever was replaced. All other
+/// arguments are wrong, and then nothing is read or written, and the status is 2. Where reading or
+/// writing fails, or memory is refused, it is 3. `stderr` takes the line for standard error, and
+/// nothing where the status is 0.
+///
+/// Cost: O(n), allocates an amount that does not grow with the input.
 pub fn run_recode<A: Allocator + Copy, R: Read, W: Write, E: Sink>(
     alloc: A,
     args: &[String<A>],
@@ -28,16 +31,25 @@ pub fn run_recode<A: Allocator + Copy, R: Read, W: Write, E: Sink>(
     out: &mut Counted<W>,
     stderr: &mut E,
 ) -> u8
-    ensures recoded { (from to : Form) → AsksForms (map string_bytes args.now) from to → result ≡ 0 → WritesRecoded from to (R.remaining input.old.inner) (W.contents out.old.inner) (W.contents out.new.inner) }
-    ensures front { (from to : Form) → AsksForms (map string_bytes args.now) from to → BeginsRecoded from to (R.remaining input.old.inner) (R.remaining input.new.inner) (W.contents out.old.inner) (W.contents out.new.inner) }
+    ensures recoded { (from to : Form) → AsksForms (map string_bytes args.now) from to → result ≡ 0 →
+        WritesRecoded from to (R.remaining input.old.inner) (W.contents out.old.inner)
+        (W.contents out.new.inner) }
+    ensures front { (from to : Form) → AsksForms (map string_bytes args.now) from to →
+        BeginsRecoded from to (R.remaining input.old.inner) (R.remaining input.new.inner)
+        (W.contents out.old.inner) (W.contents out.new.inner) }
     ensures drained { result ≡ 0 → IsDrained (R.remaining input.old.inner) (R.remaining input.new.inner) }
     ensures quiet { result ≡ 0 → out.new.failures ≡ out.old.failures }
     ensures unbroken { result ≡ 0 → input.new.reads.broken ≡ input.old.reads.broken }
     ensures in_time { input.old.reads.ended ≡ false → input.new.reads.late ≡ input.old.reads.late }
     ensures silent { result ≡ 0 → stderr.new ≡ stderr.old }
-    ensures early { 0 < result → EndsEarly (codes "recode") (ReadsUntil true (R.remaining input.old.inner) input.old.failures input.new.failures input.old.reads input.new.reads) (λ reason. FailsOrIsQuiet reason out.old out.new) (Says E.is_counted (E.failures stderr.old) (E.failures stderr.new) (E.contents stderr.old) (E.contents stderr.new)) result }
+    ensures early { 0 < result → EndsEarly (codes "recode") (CountsUntil R.remaining input.old input.new)
+        (FailsOrIsQuiet out.old out.new) (Says E.is_counted E.failures E.contents stderr.old stderr.new) result }
+    ensures nothing { (from to : Form) → AsksForms (map string_bytes args.now) from to →
+        R.remaining input.old.inner ≡ Some [] → 0 < result →
+        (input.old.failures < input.new.failures) ⊎ (out.old.failures < out.new.failures) }
     ensures extras { out.new.extras ≡ out.old.extras }
-    ensures wrong { ((from to : Form) → ¬ AsksForms (map string_bytes args.now) from to) → (result ≡ 2) × (input.new ≡ input.old) × (out.new ≡ out.old) }
+    ensures wrong { ((from to : Form) → ¬ AsksForms (map string_bytes args.now) from to) → (result ≡ 2) ×
+        (input.new ≡ input.old) × (out.new ≡ out.old) }
     ensures right { (from to : Form) → AsksForms (map string_bytes args.now) from to → result ≢ 2 }
 {
     let Some((from, to)) = forms_of(args) else {

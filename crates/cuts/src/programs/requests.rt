@@ -1,6 +1,6 @@
 //! What the arguments of `pieces` ask for.
 ghost use Rattle.std.specs.Prelude.{◌≡◌, ◌↔◌, IsTrue, [], ◌∷◌, map, codes, string_bytes, Contains, IfOk, IfErr};
-ghost use Rattle.cuts.specs.Programs.Arguments.{letter, AreLetters, Asks, AreWrong, asked_by};
+ghost use Rattle.cuts.specs.Arguments.{letter, AreLetters, Asks, AreWrong, asked_by};
 
 use crate::programs::stops::Stop;
 use crate::runs::items::End;
@@ -54,7 +54,8 @@ pub(crate) fn request_of<A: Allocator + Copy>(
 
 // Whether the two ask for the walk of a word.
 fn asks_walk<A: Allocator>(option: &String<A>, word: &String<A>) -> bool
-    ensures { IsTrue result ↔ ((string_bytes option.now ≡ codes "--ends") × AreLetters (string_bytes word.now)) }
+    ensures { IsTrue result ↔ ((string_bytes option.now ≡ codes "--ends") ×
+        AreLetters (string_bytes word.now)) }
 {
     is_text(option, "--ends") && is_word(word.as_bytes())
 }

@@ -2,30 +2,33 @@
 ghost use Rattle.std.specs.Prelude.{◌≡◌, ◌<◌, IsTrue, OnOk, OnErr};
 ghost use Rattle.std.specs.Io.KnownBytes.{Appends};
 ghost use Rattle.cuts.specs.Failures.{AppendsFront};
-ghost use Rattle.cuts.specs.Programs.Endings.{status_of, stop_text, stop_line, Says};
+ghost use Rattle.cuts.specs.Endings.{status_of, stop_text, stop_line, Says};
 
 use crate::streams::{Sink, write_whole};
 use std::{fmt, io};
 
-/// Why a program ends before its work is done.
+/// Why a program ends early.
 #[derive(Clone, Copy, Debug, PartialEq, Eq, Drop)]
 pub enum Stop {
-    /// The arguments are none that the program knows.
+    /// The arguments are wrong.
     WrongArguments,
-    /// The input answered an error.
+    /// The input gave an error.
     CannotRead,
-    /// The output answered an error, or took nothing.
+    /// The output gave an error, or took nothing.
     CannotWrite,
-    /// A growth was refused.
+    /// Memory was refused.
     NoMemory,
 }
 
 impl Stop {
-    /// The status of the program, after the line that says why on standard error. Whether the line
-    /// could be written is ignored.
+    /// The exit status, after the line on standard error that says why. Whether that line could be
+    /// written is ignored.
+    ///
+    /// Cost: one line is written.
     pub fn report<E: Sink>(self, program: &str, stderr: &mut E) -> u8
         ensures status { result ≡ status_of self }
-        ensures line { Says E.is_counted (E.failures stderr.old) (E.failures stderr.new) (E.contents stderr.old) (E.contents stderr.new) (stop_line program.now self) }
+        ensures line { Says E.is_counted E.failures E.contents stderr.old stderr.new
+            (stop_line program.now self) }
     {
         let _ = self.write_line(program, stderr);
         match self {
@@ -36,8 +39,10 @@ impl Stop {
 
     // Writes the line that says why, with the program's name before it, up to the writer's first failure.
     fn write_line<E: Sink>(self, program: &str, stderr: &mut E) -> io::Result<()>
-        ensures whole { OnOk result (Appends (E.contents stderr.old) (E.contents stderr.new) (stop_line program.now self)) }
-        ensures front { AppendsFront (E.contents stderr.old) (E.contents stderr.new) (stop_line program.now self) }
+        ensures whole { OnOk result (Appends (E.contents stderr.old) (E.contents stderr.new)
+            (stop_line program.now self)) }
+        ensures front { AppendsFront (E.contents stderr.old) (E.contents stderr.new)
+            (stop_line program.now self) }
         ensures err { IsTrue E.is_counted → OnErr result (E.failures stderr.old < E.failures stderr.new) }
     {
         write_whole(program.as_bytes(), stderr)?;
@@ -61,12 +66,13 @@ impl Stop {
 
 impl fmt::Display for Stop {
     ghost use Rattle.std.specs.Prelude.{Some};
-    ghost use Rattle.cuts.specs.Programs.Endings.{stop_text};
+    ghost use Rattle.cuts.specs.Endings.{stop_text};
 
     ghost output = { λ s. Some (stop_text s) };
 
     ghost styled_output = { λ s _. Some (stop_text s) };
 
+    /// Writes the reason in a few words, as programs print it.
     fn fmt<W: fmt::Write>(&self, f: &mut fmt::Formatter<W>) -> fmt::Result {
         f.write_str(self.text())
     }

@@ -7,8 +7,8 @@ ghost use Rattle.utf_base.specs.Units.{unit_fault_kind};
 ghost use Rattle.encode_unicode.specs.Pieces.{unit_pieces};
 ghost use Rattle.encode_unicode.specs.Sources.{IsListed};
 ghost use Rattle.encode_unicode.specs.Window.{UnitItem};
-ghost use Rattle.cuts.specs.Runs.Collected.{IsUnitRun, IsMergedRun, IsJoinedExactly};
-ghost use Rattle.cuts.specs.Runs.Items.{answers_of};
+ghost use Rattle.cuts.specs.Collected.{IsUnitRun, IsMergedRun, IsJoinedExactly};
+ghost use Rattle.cuts.specs.Items.{answers_of};
 
 use crate::runs::items::UnitItem;
 use encode_unicode::error::{Utf8Error, Utf16PairError};
@@ -16,9 +16,13 @@ use encode_unicode::iterator::Utf16CharDecoder;
 use encode_unicode::{U8IterExt, U16IterExt, Utf8Char, Utf16Char};
 use std::alloc::{AllocError, Allocator};
 
-/// All characters and faulty bytes of a source, in order: the pieces of the one cut of its bytes.
+/// All characters and invalid bytes of an iterator, in order.
 ///
-/// All answers are characters exactly where the bytes are UTF-8. The error is that memory was refused.
+/// All are characters exactly where the bytes are UTF-8. The error is that memory was refused.
+///
+/// Condition: the source ends, and its `next` may be called.
+///
+/// Cost: O(n), allocates.
 pub fn merge_utf8<A: Allocator, I: Iterator<Item = u8>>(
     alloc: A,
     source: I,
@@ -36,10 +40,14 @@ pub fn merge_utf8<A: Allocator, I: Iterator<Item = u8>>(
     Ok(all)
 }
 
-/// All characters and faulty units of a source, in order: the pieces of the one cut of its units.
+/// All characters and lone surrogates of an iterator, in order: those of `forward_utf16` over the
+/// same units.
 ///
-/// All answers are characters exactly where the units are UTF-16, and they are those of `forward_utf16`
-/// over the same units. The error is that memory was refused.
+/// All are characters exactly where the units are UTF-16. The error is that memory was refused.
+///
+/// Condition: the source ends, and its `next` may be called.
+///
+/// Cost: O(n), allocates.
 pub fn merge_utf16<A: Allocator, I: Iterator<Item = u16>>(
     alloc: A,
     source: I,
@@ -59,6 +67,8 @@ pub fn merge_utf16<A: Allocator, I: Iterator<Item = u16>>(
 }
 
 /// All pieces of the units, in order. The error is that memory was refused.
+///
+/// Cost: O(n), allocates.
 pub fn forward_utf16<A: Allocator>(alloc: A, src: &[u16]) -> Result<Vec<UnitItem, A>, AllocError>
     ensures run { IfOk result (λ items. IsUnitRun src.now items.items) }
     ensures value { IfOk result (λ items. items.items ≡ unit_pieces src.now) }

@@ -1,22 +1,23 @@
 //! Walks: some bytes, or units, asked from front and back, in any order.
-ghost use Rattle.std.specs.Prelude.{◌≡◌, [], length, map, IfOk, IsOk};
+ghost use Rattle.std.specs.Prelude.{◌≡◌, length, map, IfOk, IsOk};
 ghost use Rattle.utf_base.specs.Code.{utf8, utf16};
 ghost use Rattle.utf_base.specs.Walk.{IsWalk, utf8_bytes, utf16_units};
 ghost use Rattle.utf_base.specs.WalkLaws.{StaysOutside, GivesEachOnce};
-ghost use Rattle.cuts.specs.Runs.Walks.{side, CallGives};
+ghost use Rattle.cuts.specs.Walks.{side, CallGives};
 
 use crate::runs::items::{End, Item, UnitItem};
 use encode_unicode::iterator::{Utf8CharDecoder, Utf16CharDecoder};
 use std::alloc::{AllocError, Allocator};
 
-/// Asks the bytes for a piece at one end after another, as the letters of the word say, and answers
-/// one entry for each letter: the piece, or none where no byte was left.
+/// Takes pieces of the bytes from both ends, as the word says: one for each letter, or `None` where
+/// no byte remains.
 ///
-/// Each piece of the bytes is given once, whatever the word. What an error from the front is called
-/// depends on the bytes that are left then, those that were taken from the back excepted; what one from
-/// the back is called depends on its byte alone.
+/// Each piece is given once, whatever the word. The kind of an error from the front depends on the
+/// bytes that remain then; that of one from the back on its byte alone.
 ///
-/// There is an error only where a growth was refused, and none for an empty word.
+/// Where the word is empty, no memory is asked for.
+///
+/// Cost: O(n) in the word, allocates.
 pub fn walk_utf8<A: Allocator>(
     alloc: A,
     src: &[u8],
@@ -36,10 +37,14 @@ pub fn walk_utf8<A: Allocator>(
     Ok(answers)
 }
 
-/// The same of units. What an unmatched leading surrogate from the front is called depends on whether a
-/// unit is left after it then; from the back it is always `Incomplete`.
+/// Takes pieces of units of UTF-16 from both ends, as the word says: one for each letter, or `None`
+/// where no unit remains.
 ///
-/// There is an error only where a growth was refused, and none for an empty word.
+/// A lone leading surrogate from the front is `UnmatchedLeadingSurrogate` where a unit remains
+/// after it, and `Incomplete` where none does; from the back it is always `Incomplete`. Where the
+/// word is empty, no memory is asked for.
+///
+/// Cost: O(n) in the word, allocates.
 pub fn walk_utf16<A: Allocator>(
     alloc: A,
     src: &[u16],

@@ -3,13 +3,16 @@ ghost use Rattle.std.specs.Prelude.{◌≡◌, length, take};
 ghost use Rattle.std.specs.Str.{IsUtf8};
 ghost use Rattle.utf_base.specs.Code.{utf8, utf16};
 ghost use Rattle.encode_unicode.specs.Pieces.{pieces, unit_pieces};
-ghost use Rattle.cuts.specs.Runs.WellFormed.{IsFirstFault, valid_len};
+ghost use Rattle.cuts.specs.WellFormed.{IsFirstFault, valid_len};
 
-use crate::recoding::text_blocks::text_len;
-use crate::runs::paired_units::paired_len;
 use encode_unicode::CharExt;
+use utf_lanes::paired_units::paired_len;
+use utf_lanes::text_blocks::text_len;
 
-/// The offset of the first fault in the bytes, or how many bytes there are where there is none: these are then UTF-8.
+/// The offset of the first invalid byte, or the length where there is none: all bytes are then
+/// UTF-8.
+///
+/// Cost: O(n).
 pub fn valid_up_to(bytes: &[u8]) -> usize
     ensures first { IsFirstFault utf8 bytes.now result }
     ensures value { result ≡ valid_len (pieces bytes.now) }
@@ -26,7 +29,10 @@ pub fn valid_up_to(bytes: &[u8]) -> usize
     place
 }
 
-/// The offset of the first fault in the units, or how many units there are where there is none: these are then UTF-16.
+/// The offset of the first lone surrogate, or the length where there is none: all units are then
+/// UTF-16.
+///
+/// Cost: O(n).
 pub fn units_valid_up_to(units: &[u16]) -> usize
     ensures first { IsFirstFault utf16 units.now result }
     ensures value { result ≡ valid_len (unit_pieces units.now) }

@@ -6,9 +6,9 @@ ghost use Rattle.utf_base.specs.Front.{as_scalar};
 ghost use Rattle.encode_unicode.specs.Scan.{IsScanned, IsWholeOrUnexpected};
 
 use crate::steps::Steps;
+use utf_base::elements::is_continuation;
 use utf_base::errors::{Utf8Error, Utf8ErrorKind};
 use utf_base::table::{State, class_of, step};
-use utf_chars::continuation::continues;
 use utf_chars::utf8_char::Utf8Char;
 
 /// The character whose code ends the bytes, and how many bytes the code has, else what is wrong with the
@@ -68,21 +68,21 @@ fn scan(bytes: [u8; 4], count: usize, steps: &mut Steps) -> Result<(Utf8Char, us
     ensures steps { IsScanned (drop (4 - count) bytes) steps.old steps.new }
 {
     steps.tick();
-    if !continues(bytes[3]) {
+    if !is_continuation(bytes[3]) {
         return Utf8Char::from_slice_start(&bytes[3..]);
     }
     if count == 1 {
         return Err(unexpected());
     }
     steps.tick();
-    if !continues(bytes[2]) {
+    if !is_continuation(bytes[2]) {
         return two_or_unexpected(bytes[2], bytes[3]);
     }
     if count == 2 {
         return Err(unexpected());
     }
     steps.tick();
-    if !continues(bytes[1]) {
+    if !is_continuation(bytes[1]) {
         return three_or_unexpected(bytes[1], bytes[2], bytes[3]);
     }
     if count == 3 {

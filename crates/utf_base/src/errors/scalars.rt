@@ -11,12 +11,12 @@ use std::error::Error;
 use std::fmt;
 use std::ops::RangeInclusive;
 
-/// Why a `u32` is no Unicode scalar value (RFC 3629, section 3).
+/// Why a `u32` is no character: no Unicode scalar value (RFC 3629, section 3).
 #[derive(Clone, Copy, Debug, PartialEq, Eq, Drop)]
 pub enum CodepointError {
-    /// It is one of the numbers that UTF-16 keeps for its pairs, 0xd800 to 0xdfff.
+    /// It is a surrogate, 0xd800 to 0xdfff, which UTF-16 uses in pairs.
     Utf16Reserved,
-    /// It lies above 0x10ffff, where Unicode ends.
+    /// It is above 0x10ffff, the last code point.
     TooHigh,
 }
 
@@ -31,7 +31,7 @@ impl CodepointError {
         }
     }
 
-    /// All the numbers that are refused for this reason.
+    /// All numbers that are refused for this reason.
     pub fn error_range(self) -> RangeInclusive<u32>
         ensures first { range_inclusive_start result ≡ first_refused self }
         ensures last { range_inclusive_end result ≡ last_refused self }
@@ -51,6 +51,7 @@ impl fmt::Display for CodepointError {
 
     ghost styled_output = { λ e _. Some (codepoint_error_text e) };
 
+    /// Writes the text of `description`. Width and fill are ignored.
     fn fmt<W: fmt::Write>(&self, f: &mut fmt::Formatter<W>) -> fmt::Result {
         f.write_str(CodepointError::description(self))
     }
@@ -84,6 +85,7 @@ impl fmt::Display for FromStrError {
 
     ghost styled_output = { λ e _. Some (from_str_error_text e) };
 
+    /// Writes the text of `description`. Width and fill are ignored.
     fn fmt<W: fmt::Write>(&self, f: &mut fmt::Formatter<W>) -> fmt::Result {
         f.write_str(FromStrError::description(self))
     }
@@ -91,7 +93,7 @@ impl fmt::Display for FromStrError {
 
 impl Error for FromStrError {}
 
-/// A text has no first character, since it is empty.
+/// A text is empty, so it has no first character.
 #[derive(Clone, Copy, Debug, PartialEq, Eq, Drop)]
 pub struct EmptyStrError;
 
@@ -109,6 +111,7 @@ impl fmt::Display for EmptyStrError {
 
     ghost styled_output = { λ _ _. Some empty_str_error_text };
 
+    /// Writes the text of `description`. Width and fill are ignored.
     fn fmt<W: fmt::Write>(&self, f: &mut fmt::Formatter<W>) -> fmt::Result {
         f.write_str(EmptyStrError::description(self))
     }
@@ -116,7 +119,7 @@ impl fmt::Display for EmptyStrError {
 
 impl Error for EmptyStrError {}
 
-/// A byte or character is no ASCII: it lies above 0x7f.
+/// A byte is not ASCII: it is above 0x7f.
 #[derive(Clone, Copy, Debug, PartialEq, Eq, Drop)]
 pub struct NonAsciiError;
 
@@ -134,6 +137,7 @@ impl fmt::Display for NonAsciiError {
 
     ghost styled_output = { λ _ _. Some non_ascii_error_text };
 
+    /// Writes the text of `description`. Width and fill are ignored.
     fn fmt<W: fmt::Write>(&self, f: &mut fmt::Formatter<W>) -> fmt::Result {
         f.write_str(NonAsciiError::description(self))
     }
@@ -141,8 +145,8 @@ impl fmt::Display for NonAsciiError {
 
 impl Error for NonAsciiError {}
 
-/// A unit is no character by itself: it is a surrogate, half of a pair that stands for a character
-/// above 0xffff (RFC 2781, section 2).
+/// A unit is no character by itself: it is a surrogate, half of a pair for a character above 0xffff
+/// (RFC 2781, section 2).
 #[derive(Clone, Copy, Debug, PartialEq, Eq, Drop)]
 pub struct NonBmpError;
 
@@ -160,6 +164,7 @@ impl fmt::Display for NonBmpError {
 
     ghost styled_output = { λ _ _. Some non_bmp_error_text };
 
+    /// Writes the text of `description`. Width and fill are ignored.
     fn fmt<W: fmt::Write>(&self, f: &mut fmt::Formatter<W>) -> fmt::Result {
         f.write_str(NonBmpError::description(self))
     }

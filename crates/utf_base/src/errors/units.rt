@@ -24,6 +24,7 @@ impl fmt::Display for Utf16FirstUnitError {
 
     ghost styled_output = { λ _ _. Some first_unit_error_text };
 
+    /// Writes the text of `description`. Width and fill are ignored.
     fn fmt<W: fmt::Write>(&self, f: &mut fmt::Formatter<W>) -> fmt::Result {
         f.write_str(Utf16FirstUnitError::description(self))
     }
@@ -59,6 +60,7 @@ impl fmt::Display for Utf16ArrayError {
 
     ghost styled_output = { λ e _. Some (array_error_text e) };
 
+    /// Writes the text of `description`. Width and fill are ignored.
     fn fmt<W: fmt::Write>(&self, f: &mut fmt::Formatter<W>) -> fmt::Result {
         f.write_str(Utf16ArrayError::description(self))
     }
@@ -101,6 +103,7 @@ impl fmt::Display for Utf16TupleError {
 
     ghost styled_output = { λ e _. Some (tuple_error_text e) };
 
+    /// Writes the text of `description`. Width and fill are ignored.
     fn fmt<W: fmt::Write>(&self, f: &mut fmt::Formatter<W>) -> fmt::Result {
         f.write_str(Utf16TupleError::description(self))
     }
@@ -141,6 +144,7 @@ impl fmt::Display for Utf16SliceError {
 
     ghost styled_output = { λ e _. Some (slice_error_text e) };
 
+    /// Writes the text of `description`. Width and fill are ignored.
     fn fmt<W: fmt::Write>(&self, f: &mut fmt::Formatter<W>) -> fmt::Result {
         f.write_str(Utf16SliceError::description(self))
     }
@@ -148,15 +152,15 @@ impl fmt::Display for Utf16SliceError {
 
 impl Error for Utf16SliceError {}
 
-/// Why units that are read one after another are no UTF-16.
+/// Why a unit is not valid UTF-16: it is a lone surrogate.
 #[derive(Clone, Copy, Debug, PartialEq, Eq, Drop)]
 pub enum Utf16PairError {
-    /// A trailing surrogate stands where a character should begin.
+    /// A trailing (low) surrogate stands where a character should begin.
     UnexpectedTrailingSurrogate,
-    /// After a leading surrogate comes a unit that does not complete it. That unit may itself begin a
-    /// character.
+    /// A leading (high) surrogate is followed by a unit that does not complete it. That unit may
+    /// itself begin a character.
     UnmatchedLeadingSurrogate,
-    /// The last unit is a leading surrogate.
+    /// The last unit is a leading (high) surrogate: the pair is truncated.
     Incomplete,
 }
 
@@ -181,6 +185,7 @@ impl fmt::Display for Utf16PairError {
 
     ghost styled_output = { λ e _. Some (pair_error_text e) };
 
+    /// Writes the text of `description`. Width and fill are ignored.
     fn fmt<W: fmt::Write>(&self, f: &mut fmt::Formatter<W>) -> fmt::Result {
         f.write_str(Utf16PairError::description(self))
     }

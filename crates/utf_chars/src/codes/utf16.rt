@@ -7,6 +7,7 @@ ghost use Rattle.utf_base.specs.Front.{as_scalar, DecodesUnits, DecodesTwoUnits,
 ghost use Rattle.utf_base.specs.Units.{is_surrogate, is_leading_surrogate, is_trailing_surrogate, pair_value, tuple_value, units_of};
 ghost use Rattle.utf_chars.specs.Padded.{padded};
 
+use utf_base::elements::is_trailing_surrogate;
 use utf_base::errors::{Utf16ArrayError, Utf16SliceError, Utf16TupleError};
 use utf_base::traits::U16UtfExt;
 
@@ -110,7 +111,7 @@ pub(crate) fn decode_end(src: &[u16]) -> Result<(char, usize), Utf16SliceError>
     }
     if count >= 2 {
         let first = src[count - 2];
-        if begins_pair(first) && ends_pair(last) {
+        if first.is_utf16_leading_surrogate() && is_trailing_surrogate(last) {
             return Ok((char_of_surrogates(first, last), 2));
         }
     }
@@ -131,7 +132,7 @@ pub(crate) fn decode_array(units: [u16; 2]) -> Result<char, Utf16ArrayError>
     if is_pair(first as u32 - 0xd800, second) {
         return Ok(char_of_surrogates(first, second));
     }
-    if ends_pair(first) {
+    if is_trailing_surrogate(first) {
         Err(Utf16ArrayError::FirstIsTrailingSurrogate)
     } else {
         Err(Utf16ArrayError::SecondIsNotTrailingSurrogate)
@@ -146,7 +147,7 @@ pub(crate) fn decode_tuple(units: (u16, Option<u16>)) -> Result<char, Utf16Tuple
     ensures { DecodesTuple as_scalar units result }
 {
     let (first, second) = units;
-    if ends_pair(first) {
+    if is_trailing_surrogate(first) {
         return Err(Utf16TupleError::FirstIsTrailingSurrogate);
     }
     let leading = first.is_utf16_leading_surrogate();
@@ -154,7 +155,7 @@ pub(crate) fn decode_tuple(units: (u16, Option<u16>)) -> Result<char, Utf16Tuple
         None if leading => Err(Utf16TupleError::MissingSecond),
         None => Ok(char_of_unit(first)),
         Some(_) if !leading => Err(Utf16TupleError::SuperfluousSecond),
-        Some(second) if ends_pair(second) => Ok(char_of_pair(first, second)),
+        Some(second) if is_trailing_surrogate(second) => Ok(char_of_pair(first, second)),
         Some(_) => Err(Utf16TupleError::SecondIsNotTrailingSurrogate),
     }
 }
@@ -235,28 +236,12 @@ fn is_pair(high: u32, second: u16) -> bool
     (high >> 10) + (low >> 10) == 0
 }
 
-// Whether the unit is a leading surrogate.
-#[inline(always)]
-fn begins_pair(unit: u16) -> bool
-    ensures { result ≡ is_leading_surrogate unit }
-{
-    unit & 0xfc00 == 0xd800
-}
-
-// Whether the unit is a trailing surrogate.
-#[inline(always)]
-fn ends_pair(unit: u16) -> bool
-    ensures { result ≡ is_trailing_surrogate unit }
-{
-    unit & 0xfc00 == 0xdc00
-}
-
 // Why a surrogate is part of no code: that it is a trailing one, or otherwise what is wrong after it.
 #[inline(always)]
 fn unpaired(first: u16, otherwise: Utf16SliceError) -> Utf16SliceError
     ensures { result ≡ (if is_trailing_surrogate first then FirstIsTrailingSurrogate else otherwise) }
 {
-    if ends_pair(first) {
+    if is_trailing_surrogate(first) {
         Utf16SliceError::FirstIsTrailingSurrogate
     } else {
         otherwise
@@ -282,7 +267,7 @@ fn char_of_pair(first: u16, second: u16) -> char
     unsafe { char::from_u32_unchecked(value_of_pair(first, second)) }
 }
 
-// The character of a leading and a trailing surrogate.
+// The same of units that are known to be one: two differences take fewer instructions than two masks.
 #[inline(always)]
 fn char_of_surrogates(first: u16, second: u16) -> char
     requires { (is_leading_surrogate first && is_trailing_surrogate second) ≡ true }

@@ -1,14 +1,14 @@
 //! The code of a scalar in UTF-8 (RFC 3629).
-ghost use Rattle.std.specs.Prelude.{◌≡◌, ◌+◌, ◌-◌, ◌*◌, ◌%◌, ◌≤◌, ◌<◌, ◌&&◌, true, length, slice_index, Some};
+ghost use Rattle.std.specs.Prelude.{◌≡◌, ◌+◌, ◌-◌, ◌*◌, ◌%◌, ◌≤◌, ◌<◌, ◌&&◌, true, false, length};
 ghost use Rattle.std.specs.Int.{w32, from_le_bytes};
 ghost use Rattle.utf_base.specs.Code.{utf8};
 ghost use Rattle.utf_base.specs.Front.{as_scalar, IsOneCode, DecodesFront, DecodesBytes};
-ghost use Rattle.utf_base.specs.Kinds.{fault_kind, is_continuation};
-ghost use Rattle.utf_base.specs.Table.{fault_of, is_later_fault};
+ghost use Rattle.utf_base.specs.Kinds.{asked_by, is_continuation};
+ghost use Rattle.utf_base.specs.Table.{is_running as running, missing, state_after};
 ghost use Rattle.utf_chars.specs.Padded.{padded};
 
 use utf_base::errors::{Utf8Error, Utf8ErrorKind};
-use utf_base::table::walks::error_after;
+use utf_base::table::walks::{error_after, error_of_first, is_running};
 use utf_base::table::{State, class_of, step};
 
 /// The code, then zeros, and how many bytes the code has: 1 to 4.
@@ -44,24 +44,14 @@ pub(crate) fn decode_start(src: &[u8]) -> Result<(char, usize), Utf8Error>
     if src.is_empty() {
         return Err(Utf8Error::new(Utf8ErrorKind::TooFewBytes));
     }
-    // Where each first byte leads is known, so it takes no step.
-    let first = src[0];
-    if first < 0x80 {
-        return Ok((ascii(first), 1));
+    let first = step(State::Start, class_of(src[0]));
+    if is_running(first) {
+        return decode_asked(first, src);
     }
-    if first < 0xc2 {
-        return Err(fault_below_two(src));
+    if first != State::Done {
+        return Err(error_of_first(first));
     }
-    if first < 0xe0 {
-        return decode_two(src);
-    }
-    if first < 0xf0 {
-        return decode_three(src);
-    }
-    if first < 0xf5 {
-        return decode_four(src);
-    }
-    Err(Utf8Error::new(Utf8ErrorKind::NonUtf8Byte))
+    Ok((ascii(src[0]), 1))
 }
 
 /// The character whose code begins the four bytes. Those after the code are ignored.
@@ -175,101 +165,103 @@ fn ascii(byte: u8) -> char
     }
 }
 
-// What is wrong with a first byte that is not ASCII and begins no code, below the first that begins one.
+// The character that begins the bytes, where the first asks for others.
 #[inline(always)]
-fn fault_below_two(src: &[u8]) -> Utf8Error
+fn decode_asked(first: State, src: &[u8]) -> Result<(char, usize), Utf8Error>
     requires some { 0 < length src.now }
-    requires low { 0x80 ≤ slice_index src.now 0 }
-    requires high { slice_index src.now 0 < 0xC2 }
-    ensures { fault_kind src.now ≡ Some result }
-{
-    if src[0] < 0xc0 {
-        return Utf8Error::new(Utf8ErrorKind::UnexpectedContinuationByte);
-    }
-    Utf8Error::new(Utf8ErrorKind::NonUtf8Byte)
-}
-
-// What is wrong where a walk ends and no code does. It is seldom asked, and stands apart: a compiler would make one jump
-// through a table of it and of the test for the end of a code.
-#[cold]
-#[inline(never)]
-fn later_fault(end: State) -> Utf8Error
-    requires { is_later_fault end ≡ true }
-    ensures { fault_of end ≡ Some result }
-{
-    error_after(end)
-}
-
-// The character that begins the bytes, where the first asks for two: its class is known, and so is the state after it.
-#[inline(always)]
-#[tactic(auto, using(crate::proofs::Walked::few_of_two))]
-fn decode_two(src: &[u8]) -> Result<(char, usize), Utf8Error>
-    requires some { 0 < length src.now }
-    requires low { 0xC2 ≤ slice_index src.now 0 }
-    requires high { slice_index src.now 0 < 0xE0 }
+    requires walked { first ≡ state_after src.now 1 }
+    requires asks { running first ≡ true }
     ensures { DecodesFront as_scalar src.now result }
 {
-    if src.len() < 2 {
+    if are_too_few(src.len(), first) {
         return Err(Utf8Error::new(Utf8ErrorKind::TooFewBytes));
     }
-    let second = step(State::OneMore, class_of(src[1]));
+    decode_second(first, src)
+}
+
+// Whether so many bytes are fewer than the first asks for.
+#[inline(always)]
+#[tactic(auto, using(utf_base::proofs::TableSteps::missing_le))]
+fn are_too_few(len: usize, first: State) -> bool
+    ensures few { result ≡ true → len < 1 + missing first }
+    ensures enough { result ≡ false → 1 + missing first ≤ len }
+{
+    len < 4 && len < 1 + missing_after(first)
+}
+
+// How many bytes the state asks for. It is asked near the end of the bytes alone, and out of line.
+#[cold]
+#[inline(never)]
+fn missing_after(state: State) -> usize
+    ensures count { result ≡ missing state }
+    ensures most { result ≤ 3 }
+{
+    match state {
+        State::OneMore | State::OneMoreOverlong | State::OneMoreReserved | State::OneMoreTooHigh =>
+            1,
+        State::TwoMore
+        | State::AfterE0
+        | State::AfterEd
+        | State::TwoMoreOverlong
+        | State::TwoMoreTooHigh => 2,
+        State::ThreeMore | State::AfterF0 | State::AfterF4 => 3,
+        _ => 0,
+    }
+}
+
+// The character, from the second byte on. Each byte is asked for by the state that the ones before it led to. The state
+// after the last says whether they are a code, so no value is judged.
+#[inline(always)]
+fn decode_second(first: State, src: &[u8]) -> Result<(char, usize), Utf8Error>
+    requires walked { first ≡ state_after src.now 1 }
+    requires asks { running first ≡ true }
+    requires some { 1 < length src.now }
+    requires enough { asked_by src.now ≤ length src.now }
+    ensures { DecodesFront as_scalar src.now result }
+{
+    let second = step(first, class_of(src[1]));
+    if is_running(second) {
+        return decode_third(second, src);
+    }
     if second != State::Done {
-        return Err(Utf8Error::new(Utf8ErrorKind::InterruptedSequence));
+        return Err(error_after(second));
     }
     let value = value_of_two(src[0], src[1]);
     Ok((unsafe { char::from_u32_unchecked(value) }, 2))
 }
 
-// The character that begins the bytes, where the first asks for three. The state after the last says whether they
-// are a code, so no value is judged.
+// The same from the third on.
 #[inline(always)]
-#[tactic(auto, using(crate::proofs::Walked::few_of_three, crate::proofs::Walked::second_runs))]
-fn decode_three(src: &[u8]) -> Result<(char, usize), Utf8Error>
-    requires some { 0 < length src.now }
-    requires low { 0xE0 ≤ slice_index src.now 0 }
-    requires high { slice_index src.now 0 < 0xF0 }
+fn decode_third(second: State, src: &[u8]) -> Result<(char, usize), Utf8Error>
+    requires walked { second ≡ state_after src.now 2 }
+    requires asks { running second ≡ true }
+    requires some { 2 < length src.now }
+    requires enough { asked_by src.now ≤ length src.now }
     ensures { DecodesFront as_scalar src.now result }
 {
-    if src.len() < 3 {
-        return Err(Utf8Error::new(Utf8ErrorKind::TooFewBytes));
-    }
-    let first = step(State::Start, class_of(src[0]));
-    let second = step(first, class_of(src[1]));
-    if second == State::Interrupted {
-        return Err(Utf8Error::new(Utf8ErrorKind::InterruptedSequence));
-    }
     let third = step(second, class_of(src[2]));
+    if is_running(third) {
+        return decode_fourth(third, src);
+    }
     if third != State::Done {
-        return Err(later_fault(third));
+        return Err(error_after(third));
     }
     let value = value_of_three(src[0], src[1], src[2]);
     Ok((unsafe { char::from_u32_unchecked(value) }, 3))
 }
 
-// The character that begins the bytes, where the first asks for four: the same, with one step more.
+// The same of the fourth.
 #[inline(always)]
-#[tactic(auto, using(crate::proofs::Walked::few_of_four, crate::proofs::Walked::second_runs))]
-fn decode_four(src: &[u8]) -> Result<(char, usize), Utf8Error>
-    requires some { 0 < length src.now }
-    requires low { 0xF0 ≤ slice_index src.now 0 }
-    requires high { slice_index src.now 0 < 0xF5 }
+fn decode_fourth(third: State, src: &[u8]) -> Result<(char, usize), Utf8Error>
+    requires walked { third ≡ state_after src.now 3 }
+    requires asks { running third ≡ true }
+    requires some { 3 < length src.now }
+    requires enough { asked_by src.now ≤ length src.now }
     ensures { DecodesFront as_scalar src.now result }
 {
-    if src.len() < 4 {
-        return Err(Utf8Error::new(Utf8ErrorKind::TooFewBytes));
-    }
-    let first = step(State::Start, class_of(src[0]));
-    let second = step(first, class_of(src[1]));
-    if second == State::Interrupted {
-        return Err(Utf8Error::new(Utf8ErrorKind::InterruptedSequence));
-    }
-    let third = step(second, class_of(src[2]));
-    if third == State::Interrupted {
-        return Err(Utf8Error::new(Utf8ErrorKind::InterruptedSequence));
-    }
     let fourth = step(third, class_of(src[3]));
     if fourth != State::Done {
-        return Err(later_fault(fourth));
+        return Err(error_after(fourth));
     }
     let value = value_of_four(src[0], src[1], src[2], src[3]);
     Ok((unsafe { char::from_u32_unchecked(value) }, 4))

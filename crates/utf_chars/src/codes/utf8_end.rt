@@ -3,7 +3,7 @@ ghost use Rattle.std.specs.Prelude.{◌≡◌};
 ghost use Rattle.utf_base.specs.Back.{EndsInContinuationBytes};
 ghost use Rattle.utf_base.specs.Kinds.{back_kind};
 
-use crate::continuation::continues;
+use utf_base::elements::is_continuation;
 use utf_base::errors::{Utf8Error, Utf8ErrorKind};
 
 /// How many continuation bytes the bytes end with, up to three.
@@ -12,7 +12,7 @@ pub(crate) fn continuation_bytes_at_end(src: &[u8]) -> usize
     ensures { EndsInContinuationBytes src.now result }
 {
     let mut count = 0;
-    while count < 3 && count < src.len() && continues(src[src.len() - 1 - count]) {
+    while count < 3 && count < src.len() && is_continuation(src[src.len() - 1 - count]) {
         count += 1;
     }
     count

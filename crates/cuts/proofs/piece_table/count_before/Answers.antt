@@ -1,7 +1,7 @@
 use Rattle.std.proofs.Common.{ltb, rules}
 use Rattle.std.proofs.lemmas.List.Sorted.{IsPartitionPoint-from_clause, IsPartitionedBy-ltb}
 use Rattle.encode_unicode.specs.Window.{Item}
-use Rattle.cuts.proofs.OfTables.TableRuns.{IsSplitAt-from_point}
+use Rattle.cuts.proofs.TableRuns.{IsSplitAt-from_point}
 use Rattle.cuts.proofs.piece_table.count_before.Goals as goal
 
 pub returns : goal.returns

@@ -1,6 +1,6 @@
 use Rattle.std.proofs.Common.{◌<◌, length, refl, arith}
 use Rattle.std.proofs.lemmas.List.{length_push}
-use Rattle.cuts.proofs.OfTables.Decoding.{IsDecodedTo-push, IsDecodedTo-all, item_has_some}
+use Rattle.cuts.proofs.Decoding.{IsDecodedTo-push, IsDecodedTo-all, item_has_some}
 use Rattle.cuts.proofs.piece_table.decode.Goals as goal
 
 pub loop-next-smaller : goal.loop-next-smaller

@@ -1,6 +1,6 @@
 use Rattle.std.proofs.Common.{◌≡◌, ◌+◌, ◌-◌, ◌≤◌, length}
 use Rattle.std.specs.Prelude.{vec_capacity}
-use Rattle.cuts.proofs.OfTables.Decoding.{IsDecodedTo}
+use Rattle.cuts.proofs.Decoding.{IsDecodedTo}
 use Rattle.cuts.proofs.piece_table.decode.Given as goal
 
 abbrev pub invariant-loop-next : goal.invariant-loop-next

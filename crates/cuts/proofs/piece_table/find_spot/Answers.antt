@@ -1,5 +1,5 @@
 use Rattle.std.proofs.Common.{arith}
-use Rattle.cuts.proofs.OfTables.TableRuns.{run_in_order, run_within, IsSpot-found}
+use Rattle.cuts.proofs.TableRuns.{run_in_order, run_within, IsSpot-found}
 use Rattle.cuts.proofs.piece_table.find_spot.Goals as goal
 
 pub count_before-keep-requires : goal.count_before-keep-requires

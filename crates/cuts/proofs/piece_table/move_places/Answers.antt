@@ -1,5 +1,5 @@
 use Rattle.std.proofs.Common.{sym}
-use Rattle.cuts.proofs.OfTables.TableRuns.{moved_nowhere}
+use Rattle.cuts.proofs.TableRuns.{moved_nowhere}
 use Rattle.cuts.proofs.piece_table.move_places.Goals as goal
 
 pub returns-else-from-to : goal.returns-else-from-to

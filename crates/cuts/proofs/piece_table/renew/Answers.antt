@@ -1,5 +1,5 @@
 use Rattle.std.proofs.Common.{arith, ap, length}
-use Rattle.cuts.proofs.OfTables.TableRuns.{IsRenewed-all, on_ok}
+use Rattle.cuts.proofs.TableRuns.{IsRenewed-all, on_ok}
 use Rattle.cuts.proofs.piece_table.renew.Goals as goal
 
 pub returns-clause-renewed : goal.returns-clause-renewed

@@ -1,5 +1,5 @@
 use Rattle.std.proofs.Common.{rules}
-use Rattle.cuts.proofs.OfRecoding.Parts.{sent_more}
+use Rattle.cuts.proofs.Parts.{sent_more}
 use Rattle.cuts.proofs.streams.write_whole.Goals as goal
 
 pub loop-sent-preserved : goal.loop-sent-preserved
@@ -7,5 +7,6 @@ loop-sent-preserved g c = record {
   in_range = search rules;
   front = sent_more _ _ _ _ c.loop-sent.sent _ c.loop-sent.invariant.front c.in_ok-count.ensures.appends;
   quiet = search rules;
+  stalls = search rules;
   extras = search rules;
 }

@@ -8,6 +8,7 @@ invariant-loop-sent g l = record {
   in_range : l.sent ≤ length l.bytes;
   front : Appends (g.S.Sink.contents l.fn.to) (g.S.Sink.contents l.to) (take l.sent l.bytes);
   quiet : IsTrue g.S.Sink.is_counted → g.S.Sink.failures l.to ≡ g.S.Sink.failures l.fn.to;
+  stalls : IsTrue g.S.Sink.is_counted → g.S.Sink.stalls l.to ≡ g.S.Sink.stalls l.fn.to;
   extras : IsTrue g.S.Sink.is_counted → g.S.Sink.extras l.to ≡ g.S.Sink.extras l.fn.to;
 }
 

@@ -1,33 +1,37 @@
-use Rattle.std.proofs.Common.{◌≡◌, ◌≤◌, [], ◌∷◌, lit<, ap, sym, ◌∙◌, arith, refl}
-use Rattle.utf_base.specs.Kinds.{asked, value}
-use Rattle.utf_base.specs.Table.{is_later_fault, is_running, state_after}
+use Rattle.std.proofs.Common.{[], ◌∷◌, lit<, ap, sym, ◌∙◌, arith, refl, rules}
+use denote.Enum.Bare.{differs_true, differs_false}
+use Rattle.utf_base.specs.contracts.table.State.{the_type}
 use Rattle.utf_base.specs.declared.table.State.TheVariants.{Done}
-use Rattle.utf_base.proofs.MergerLemmas.{few-3}
-use Rattle.utf_base.proofs.TableSteps.{asks_runs, faults_later, last_ends}
-use Rattle.encode_unicode.proofs.ByteMerging.{asks_four, code_after, end_after, fault_after, held_two, held_three, four_padded}
-use Rattle.encode_unicode.proofs.TableWalks.{code_after_walk, kind_of_end, runs_at, stepped}
+use Rattle.utf_base.specs.Kinds.{value}
+use Rattle.utf_base.specs.Table.{is_running}
+use Rattle.utf_base.proofs.TableSteps.{last_ends, stepped}
+use Rattle.utf_chars.proofs.Walked.{first_of_four, last_of_four, later_found}
+use Rattle.encode_unicode.proofs.ByteMerging.{code_after, end_after, fault_after, held_three, held_two, four_padded}
+use Rattle.encode_unicode.proofs.TableWalks.{before, code_after_walk, kind_of_end, lacks}
 use Rattle.encode_unicode.proofs.utf8_merger.fourth.Goals as goal
 
 pub returns-in-None : goal.returns-in-None
 returns-in-None g c =
-    let asks : 4 ≤ asked c.args.first = asks_four c.args.first c.requires.low c.requires.high in
-    rw c.new.ensures (end_after _ _ _ c.args.first (c.args.second ∷ c.args.third ∷ []) _ _ _ _ _ c.in-None.ensures (few-3 c.args.first c.args.second c.args.third (omega arith) c.requires.second c.requires.third) (held_two c.args.second c.args.third c.requires.second) (c.ended.ensures.held ∙ c.two.ensures.held) c.ended.ensures.ended)
+    let few = lacks (c.args.first ∷ c.args.second ∷ c.args.third ∷ []) 3 c.args.state refl (lit< tt) c.requires.walked c.requires.asks in
+    rw c.new.ensures (end_after _ _ _ c.args.first (c.args.second ∷ c.args.third ∷ []) _ _ _ _ _ c.in-None.ensures few (held_two c.args.second c.args.third (before (c.args.first ∷ c.args.second ∷ c.args.third ∷ []) 3 1 c.args.state c.requires.walked (lit< tt) c.requires.asks (lit< tt) (lit< tt))) (c.ended.ensures.held ∙ c.two.ensures.held) c.ended.ensures.ended)
 
-pub step-requires-clause-running : goal.step-requires-clause-running
-step-requires-clause-running g c = asks_runs _ (omega (arith, c.requires.asks))
+pub error_after-requires : goal.error_after-requires
+error_after-requires g c = later_found (c.args.first ∷ c.args.second ∷ c.args.third ∷ []) 3 c.class_of.result c.args.state c.step-next.result (lit< tt) (lit< tt) c.requires.walked c.requires.asks c.step-next.ensures (ap is_running c.step-next.ensures ∙ last_ends c.args.state c.class_of.result (last_of_four (c.args.first ∷ c.args.second ∷ c.args.third ∷ []) c.args.state (lit< tt) c.requires.walked c.requires.asks)) (differs_true the_type c.step-next.result Done (sym c.ne.ensures ∙ c.if-ne.true))
 
-pub returns-in-Done : goal.returns-in-Done
-returns-in-Done g c =
-    let runs = runs_at (c.args.first ∷ c.args.second ∷ c.args.third ∷ []) 3 _ c.requires.walked (omega (arith, c.requires.asks)) in
-    let at : state_after (c.args.first ∷ c.args.second ∷ c.args.third ∷ c.in-Some.byte ∷ []) 4 ≡ Done = sym (stepped (c.args.first ∷ c.args.second ∷ c.args.third ∷ c.in-Some.byte ∷ []) 3 _ _ _ c.step.ensures c.class_of.ensures.class c.requires.walked) ∙ c.in-Done.is in
-    let code = code_after_walk (c.args.first ∷ c.args.second ∷ c.args.third ∷ c.in-Some.byte ∷ []) 3 refl (lit< tt) runs at in
-    rw c.new-in-Done.ensures (code_after _ _ _ c.args.first (c.args.second ∷ c.args.third ∷ []) c.in-Some.byte (value (c.args.first ∷ c.args.second ∷ c.args.third ∷ c.in-Some.byte ∷ [])) _ _ _ _ _ c.in-Some.ensures code.0 code.1 (four_padded c.args.first c.args.second c.args.third c.in-Some.byte _ code.1) c.requires.none c.requires.going)
+pub returns-then-ne : goal.returns-then-ne
+returns-then-ne g c =
+    let at = sym (stepped (c.args.first ∷ c.args.second ∷ c.args.third ∷ c.in-Some.byte ∷ []) 3 _ _ _ c.step-next.ensures c.class_of.ensures.class c.requires.walked) in
+    let stops = ap is_running c.step-next.ensures ∙ last_ends c.args.state c.class_of.result (last_of_four (c.args.first ∷ c.args.second ∷ c.args.third ∷ []) c.args.state (lit< tt) c.requires.walked c.requires.asks) in
+    fault_after _ _ _ c.args.first (c.args.second ∷ c.args.third ∷ []) c.in-Some.byte _ _ _ _ _ c.in-Some.ensures (λ later. kind_of_end (c.args.first ∷ c.args.second ∷ c.args.third ∷ c.in-Some.byte ∷ later) 4 c.step-next.result _ (omega arith) at stops c.error_after.ensures) (held_three c.args.second c.args.third c.in-Some.byte (before (c.args.first ∷ c.args.second ∷ c.args.third ∷ []) 3 1 c.args.state c.requires.walked (lit< tt) c.requires.asks (lit< tt) (lit< tt)) (before (c.args.first ∷ c.args.second ∷ c.args.third ∷ []) 3 2 c.args.state c.requires.walked (lit< tt) c.requires.asks (lit< tt) (lit< tt))) c.three.ensures.held c.three.ensures.going
 
-pub error_of-requires : goal.error_of-requires
-error_of-requires g c = ap is_later_fault c.step.ensures ∙ faults_later c.args.state c.class_of.result c.requires.asks (λ e. c.in_default.not-Done (c.step.ensures ∙ e))
+pub four-requires : goal.four-requires
+four-requires g c =
+    let done = differs_false the_type (search rules) c.step-next.result Done (sym c.ne.ensures ∙ c.if-ne.false) in
+    let code = code_after_walk (c.args.first ∷ c.args.second ∷ c.args.third ∷ c.in-Some.byte ∷ []) 3 refl (lit< tt) (sym (ap is_running c.requires.walked) ∙ c.requires.asks) (sym (stepped (c.args.first ∷ c.args.second ∷ c.args.third ∷ c.in-Some.byte ∷ []) 3 _ _ _ c.step-next.ensures c.class_of.ensures.class c.requires.walked) ∙ done) in
+    first_of_four c.args.first code.2
 
-pub returns-in_default : goal.returns-in_default
-returns-in_default g c =
-    let at = sym (stepped (c.args.first ∷ c.args.second ∷ c.args.third ∷ c.in-Some.byte ∷ []) 3 _ _ _ c.step.ensures c.class_of.ensures.class c.requires.walked) in
-    let ends = ap is_running c.step.ensures ∙ last_ends c.args.state c.class_of.result c.requires.asks in
-    fault_after _ _ _ c.args.first (c.args.second ∷ c.args.third ∷ []) c.in-Some.byte _ _ _ _ _ c.in-Some.ensures (λ later. kind_of_end (c.args.first ∷ c.args.second ∷ c.args.third ∷ c.in-Some.byte ∷ later) 4 c.step.result _ (omega arith) at ends c.error_of.ensures) (held_three c.args.second c.args.third c.in-Some.byte c.requires.second c.requires.third) c.three.ensures.held c.three.ensures.going
+pub returns-else-ne : goal.returns-else-ne
+returns-else-ne g c =
+    let done = differs_false the_type (search rules) c.step-next.result Done (sym c.ne.ensures ∙ c.if-ne.false) in
+    let code = code_after_walk (c.args.first ∷ c.args.second ∷ c.args.third ∷ c.in-Some.byte ∷ []) 3 refl (lit< tt) (sym (ap is_running c.requires.walked) ∙ c.requires.asks) (sym (stepped (c.args.first ∷ c.args.second ∷ c.args.third ∷ c.in-Some.byte ∷ []) 3 _ _ _ c.step-next.ensures c.class_of.ensures.class c.requires.walked) ∙ done) in
+    rw c.four.ensures (code_after _ _ _ c.args.first (c.args.second ∷ c.args.third ∷ []) c.in-Some.byte (value (c.args.first ∷ c.args.second ∷ c.args.third ∷ c.in-Some.byte ∷ [])) _ _ _ _ _ c.in-Some.ensures code.0 code.1 (four_padded c.args.first c.args.second c.args.third c.in-Some.byte _ code.1) c.requires.none c.requires.going)

@@ -1,4 +1,4 @@
-use Rattle.uses.specs.Cursor.{IsBetween}
+use Rattle.cuts.specs.PieceBoundaries.{IsBetween}
 use Rattle.run_tests.proofs.callers.steps_on.Given as goal
 
 abbrev pub invariant-loop-next : goal.invariant-loop-next

@@ -1,5 +1,5 @@
 use Rattle.std.proofs.Common.{◌≡◌, List, ℕ, [], refl}
-use Rattle.cuts.specs.declared.recoding.form.Form.TheVariants.{Utf8}
+use Rattle.cuts.specs.declared.Form.TheVariants.{Utf8}
 use Rattle.cuts.specs.Recoded.{Recoding, Feeds, Finishes, IsRecoded}
 use Rattle.cuts.proofs.FedParts.{nothing_is_fed, part_is_fed, fed_is_recoded}
 use Rattle.uses.proofs.bounds.lossy_text.Goals as goal
@@ -12,10 +12,10 @@ recoded_at_once r s bytes old out new empty none fed last =
     let whole = part_is_fed Utf8 Utf8 [] bytes bytes [] out (record { from = Utf8; to = Utf8; held = [] }) s (nothing_is_fed Utf8 Utf8) first refl in
     fed_is_recoded Utf8 Utf8 bytes bytes out new s whole last refl
 
-pub returns-in-Ok-clause-text : goal.returns-in-Ok-clause-text
-returns-in-Ok-clause-text g c = recoded_at_once _ _ _ _ _ _ c.new-recoder.ensures c.in_ok-out.ensures.items c.in_ok-feed.ensures.ok c.in-Ok.ensures.ok
+pub returns-clause-text : goal.returns-clause-text
+returns-clause-text g c = recoded_at_once _ _ _ _ _ _ c.new-recoder.ensures c.in_ok-out.ensures.items c.in_ok-feed.ensures.ok c.in_ok-finish.ensures.ok
 
-pub returns-in-Ok-clause-most : goal.returns-in-Ok-clause-most
-returns-in-Ok-clause-most g c =
+pub returns-clause-most : goal.returns-clause-most
+returns-clause-most g c =
     c.recoded_is_bounded.ensures.lossy _ _
-    (recoded_at_once _ _ _ _ _ _ c.new-recoder.ensures c.in_ok-out.ensures.items c.in_ok-feed.ensures.ok c.in-Ok.ensures.ok)
+    (recoded_at_once _ _ _ _ _ _ c.new-recoder.ensures c.in_ok-out.ensures.items c.in_ok-feed.ensures.ok c.in_ok-finish.ensures.ok)

@@ -10,7 +10,7 @@ longer p n xs = let count : p + n - p ≡ n = omega arith in rw count (take_plus
 pub loop-place-preserved : goal.loop-place-preserved
 loop-place-preserved g c = c.parts_are_one_part.ensures.part _ _ _ _ _ _ _ _ _ c.loop-place.invariant c.in_ok-feed.ensures.ok (longer _ _ _)
 
-pub returns-in-Ok : goal.returns-in-Ok
-returns-in-Ok g c =
-    c.parts_are_one_part.ensures.whole _ _ _ _ _ _ _ c.loop-place.invariant c.in-Ok.ensures.ok
+pub returns : goal.returns
+returns g c =
+    c.parts_are_one_part.ensures.whole _ _ _ _ _ _ _ c.loop-place.invariant c.in_ok-finish.ensures.ok
     (sym (take_all _ _ c.loop-place-test.false))

@@ -1,5 +1,5 @@
 use Rattle.std.proofs.Common.{◌≡◌, ◌≤◌}
-use Rattle.cuts.specs.Listings.{fault_count}
+use Rattle.cuts.specs.ForwardRuns.{fault_count}
 use Rattle.cuts.proofs.ForwardRuns.{IsRunSoFar}
 use Rattle.uses.proofs.runs.count_faults.Given as goal
 

@@ -1,8 +1,8 @@
 use Rattle.std.proofs.Common.{ap, ◌∙◌}
 use Rattle.encode_unicode.specs.Pieces.{pieces}
 use Rattle.cuts.specs.Tables.{Table}
-use Rattle.cuts.proofs.OfRuns.CharacterRuns.{run_lies_within}
-use Rattle.cuts.proofs.OfRuns.EqualRunLemmas.{run_is_pieces}
+use Rattle.cuts.proofs.CharacterRuns.{run_lies_within}
+use Rattle.cuts.proofs.EqualRunLemmas.{run_is_pieces}
 use Rattle.cuts.proofs.piece_table.PieceTable.pieces.Goals as goal
 
 pub returns-clause-value : goal.returns-clause-value

@@ -1,4 +1,4 @@
-use Rattle.cuts.proofs.OfPrograms.LineLemmas.{AppendsFront-written, AppendsFront-failed}
+use Rattle.cuts.proofs.LineLemmas.{AppendsFront-written, AppendsFront-failed}
 use Rattle.cuts.proofs.programs.entries.write_entries.Goals as goal
 
 pub returns-in_err-faults-clause-front : goal.returns-in_err-faults-clause-front

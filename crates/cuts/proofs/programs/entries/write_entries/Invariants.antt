@@ -1,5 +1,5 @@
 use Rattle.std.proofs.Common.{◌≡◌, ◌≤◌, take}
-use Rattle.cuts.specs.Programs.Written.{WritesLines}
+use Rattle.cuts.specs.Written.{WritesLines}
 use Rattle.cuts.proofs.programs.entries.write_entries.Given as goal
 
 abbrev pub invariant-loop-entry : goal.invariant-loop-entry
@@ -7,5 +7,6 @@ invariant-loop-entry g l = record {
   lines : WritesLines g.T.Entry.line g.T.Entry.wrong (take l.entry-index l.entries) (g.W.Write.contents l.fn.out.inner) (g.W.Write.contents l.out.inner) l.faults;
   few : l.faults ≤ l.entry-index;
   quiet : l.out.failures ≡ l.fn.out.failures;
+  stalls : l.out.stalls ≡ l.fn.out.stalls;
   extras : l.out.extras ≡ l.fn.out.extras;
 }

@@ -1,6 +1,6 @@
 use Rattle.std.proofs.Common.{rules, arith}
 use Rattle.std.proofs.lemmas.Grind.{common_steps}
-use Rattle.cuts.proofs.OfPrograms.Decimal.{length_decimal, length_decimal_step, put_digit, put_first_digit}
+use Rattle.cuts.proofs.Decimal.{length_decimal, length_decimal_step, put_digit, put_first_digit}
 use Rattle.cuts.proofs.programs.line.fill_decimal.Goals as goal
 
 pub loop-rest-init : goal.loop-rest-init

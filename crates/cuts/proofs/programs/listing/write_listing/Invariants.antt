@@ -1,10 +1,11 @@
 use Rattle.std.proofs.Common.{◌≡◌}
-use Rattle.cuts.proofs.OfPrograms.ListingLemmas.{IsListedSoFar}
+use Rattle.cuts.proofs.ListingLemmas.{IsListedSoFar}
 use Rattle.cuts.proofs.programs.listing.write_listing.Given as goal
 
 abbrev pub invariant-loop-item : goal.invariant-loop-item
 invariant-loop-item g l = record {
   listed : IsListedSoFar l.src (g.W.Write.contents l.fn.out.inner) (g.W.Write.contents l.out.inner) l.faults l.item-iterator;
   quiet : l.out.failures ≡ l.fn.out.failures;
+  stalls : l.out.stalls ≡ l.fn.out.stalls;
   extras : l.out.extras ≡ l.fn.out.extras;
 }

@@ -1,6 +1,6 @@
 use Rattle.std.specs.Prelude.{is_err}
-use Rattle.cuts.specs.Programs.Lines.{answer_line}
-use Rattle.cuts.proofs.OfRuns.EqualRunLemmas.{lines_are_counted}
+use Rattle.cuts.specs.Lines.{answer_line}
+use Rattle.cuts.proofs.EqualRunLemmas.{lines_are_counted}
 use Rattle.cuts.proofs.programs.listing.write_merged.Goals as goal
 
 pub returns-clause-count : goal.returns-clause-count

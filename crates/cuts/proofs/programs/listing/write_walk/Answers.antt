@@ -1,5 +1,5 @@
-use Rattle.cuts.specs.Programs.Lines.{step_line, is_fault_step}
-use Rattle.cuts.proofs.OfRuns.EqualRunLemmas.{lines_are_counted}
+use Rattle.cuts.specs.Lines.{step_line, is_fault_step}
+use Rattle.cuts.proofs.EqualRunLemmas.{lines_are_counted}
 use Rattle.cuts.proofs.programs.listing.write_walk.Goals as goal
 
 pub returns-clause-count : goal.returns-clause-count

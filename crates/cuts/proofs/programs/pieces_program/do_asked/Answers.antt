@@ -1,4 +1,4 @@
-use Rattle.cuts.proofs.OfPrograms.RunLemmas.{BeginsAsked-none, BeginsAsked-all, DoesAsked-all, stays_on_err}
+use Rattle.cuts.proofs.RunLemmas.{BeginsAsked-none, BeginsAsked-all, DoesAsked-all, stays_on_err}
 use Rattle.cuts.proofs.programs.pieces_program.do_asked.Goals as goal
 
 pub returns-in_err-request-clause-front : goal.returns-in_err-request-clause-front

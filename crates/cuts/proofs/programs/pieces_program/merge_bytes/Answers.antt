@@ -1,5 +1,5 @@
-use Rattle.cuts.specs.Programs.Arguments.{merged}
-use Rattle.cuts.proofs.OfPrograms.RunLemmas.{WritesAskedFront-none}
+use Rattle.cuts.specs.Arguments.{merged}
+use Rattle.cuts.proofs.RunLemmas.{WritesAskedFront-none}
 use Rattle.cuts.proofs.programs.pieces_program.merge_bytes.Goals as goal
 
 pub returns-in_default-clause-front : goal.returns-in_default-clause-front

@@ -1,5 +1,5 @@
 use Rattle.std.proofs.Common.{rules, arith, refl}
-use Rattle.cuts.proofs.OfRecoding.Readings.{IsReadSoFar-part, IsReadSoFar-idle, reads_all}
+use Rattle.cuts.proofs.Readings.{IsReadSoFar-part, IsReadSoFar-idle, reads_all}
 use Rattle.cuts.proofs.programs.pieces_program.read_whole.Goals.{in-Ok+in_ok-add-in-Ok, in-Err}
 use Rattle.cuts.proofs.programs.pieces_program.read_whole.Goals as goal
 

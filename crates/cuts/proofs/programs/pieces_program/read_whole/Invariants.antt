@@ -1,4 +1,4 @@
-use Rattle.cuts.proofs.OfRecoding.Readings.{IsReadSoFar}
+use Rattle.cuts.proofs.Readings.{IsReadSoFar}
 use Rattle.cuts.proofs.programs.pieces_program.read_whole.Given as goal
 
 abbrev pub invariant-loop : goal.invariant-loop

@@ -1,5 +1,5 @@
-use Rattle.cuts.specs.Programs.Arguments.{walked}
-use Rattle.cuts.proofs.OfPrograms.RunLemmas.{WritesAskedFront-none}
+use Rattle.cuts.specs.Arguments.{walked}
+use Rattle.cuts.proofs.RunLemmas.{WritesAskedFront-none}
 use Rattle.cuts.proofs.programs.pieces_program.walk_bytes.Goals as goal
 
 pub returns-in_default-clause-front : goal.returns-in_default-clause-front

@@ -1,5 +1,5 @@
 use Rattle.std.proofs.Common.{◌≡◌, map, take}
-use Rattle.cuts.specs.Programs.Arguments.{letter}
+use Rattle.cuts.specs.Arguments.{letter}
 use Rattle.cuts.proofs.programs.requests.ends_of.Given as goal
 
 abbrev pub invariant-loop-letter : goal.invariant-loop-letter

@@ -1,6 +1,6 @@
 use Rattle.std.proofs.Common.{arith, ◌∙◌, ap, refl, ◌∷◌, [], string_bytes}
-use Rattle.cuts.specs.Programs.Arguments.{listed, merged}
-use Rattle.cuts.proofs.OfPrograms.ArgumentLemmas.{map_none, map_one, map_two, not_wrong, two_wrong}
+use Rattle.cuts.specs.Arguments.{listed, merged}
+use Rattle.cuts.proofs.ArgumentLemmas.{map_none, map_one, map_two, not_wrong, two_wrong}
 use Rattle.cuts.proofs.programs.requests.request_of.Goals as goal
 
 pub returns-in-empty-clause-wrong : goal.returns-in-empty-clause-wrong

@@ -2,7 +2,7 @@ use Rattle.std.proofs.Common.{◌≡◌, ◌∙◌, ◌++◌, ◌∷◌, [], Lis
 use Rattle.encode_unicode.proofs.Listed.{unit_decoder_listed}
 use Rattle.encode_unicode.specs.Pieces.{unit_pieces_left}
 use Rattle.encode_unicode.specs.Window.{GivesFrontUnits, GivesNone, UnitItem, Window}
-use Rattle.cuts.proofs.OfRuns.ForwardRuns.{IsUnitRunSoFar-push}
+use Rattle.cuts.proofs.ForwardRuns.{IsUnitRunSoFar-push}
 use Rattle.cuts.proofs.runs.collected.forward_utf16.Goals as goal
 
 given-push : (items all : List UnitItem) (w v : Window) (x : UnitItem) → GivesFrontUnits w x v → items ++ unit_pieces_left w ≡ all → (items ++ x ∷ []) ++ unit_pieces_left v ≡ all

@@ -1,7 +1,7 @@
 use Rattle.std.proofs.Common.{◌≡◌, ◌++◌, List, ℕ}
 use Rattle.encode_unicode.specs.Pieces.{unit_pieces, unit_pieces_left}
 use Rattle.encode_unicode.specs.Window.{UnitItem, Window}
-use Rattle.cuts.proofs.OfRuns.ForwardRuns.{IsUnitRunSoFar}
+use Rattle.cuts.proofs.ForwardRuns.{IsUnitRunSoFar}
 use Rattle.cuts.proofs.runs.collected.forward_utf16.Given as goal
 
 -- the items are those that the decoder gave, and it still gives the others

@@ -3,7 +3,7 @@ use Rattle.utf_base.specs.Code.{utf16}
 use Rattle.utf_base.specs.Units.{unit_fault_kind}
 use Rattle.encode_unicode.specs.Mergers.{unread}
 use Rattle.encode_unicode.specs.Sources.{IsListed}
-use Rattle.cuts.proofs.OfRuns.MergedRuns.{IsMergedSoFar}
+use Rattle.cuts.proofs.MergedRuns.{IsMergedSoFar}
 use Rattle.cuts.proofs.runs.collected.merge_utf16.Given as goal
 
 abbrev pub invariant-loop-answer : goal.invariant-loop-answer

@@ -2,7 +2,7 @@ use Rattle.std.proofs.Common.{ap, ◌∙◌}
 use Rattle.utf_base.specs.Code.{utf8}
 use Rattle.utf_base.specs.Kinds.{merger_kind}
 use Rattle.encode_unicode.specs.Mergers.{unread}
-use Rattle.cuts.proofs.OfRuns.MergedRuns.{IsMergedSoFar-none, of_bytes, merged_push, merged_some, merged_all, merged_joined}
+use Rattle.cuts.proofs.MergedRuns.{IsMergedSoFar-none, of_bytes, merged_push, merged_some, merged_all, merged_joined}
 use Rattle.cuts.proofs.runs.collected.merge_utf8.Goals as goal
 
 pub loop-answer-init : goal.loop-answer-init

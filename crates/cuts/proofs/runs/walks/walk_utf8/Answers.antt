@@ -2,7 +2,7 @@ use Rattle.std.proofs.Common.{arith}
 use Rattle.std.proofs.lemmas.List.{take_more}
 use Rattle.utf_base.specs.Walk.{utf8_bytes}
 use Rattle.utf_base.proofs.Utf8Code.{utf8_is_code}
-use Rattle.cuts.proofs.OfRuns.WalkLemmas.{IsWalkSoFar-none, byte_more, IsWalk-all, walk_entries, walk_each_once, walk_outside}
+use Rattle.cuts.proofs.WalkLemmas.{IsWalkSoFar-none, byte_more, IsWalk-all, walk_entries, walk_each_once, walk_outside}
 use Rattle.cuts.proofs.runs.walks.walk_utf8.Goals as goal
 
 pub loop-end-init : goal.loop-end-init

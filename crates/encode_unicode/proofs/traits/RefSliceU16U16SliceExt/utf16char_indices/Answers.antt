@@ -1,5 +1,9 @@
 use Rattle.encode_unicode.proofs.PieceRuns.{listed_run, unit_decoder_listed}
+use Rattle.encode_unicode.proofs.SeenRuns.{unit_pieces_gave}
 use Rattle.encode_unicode.proofs.traits.RefSliceU16U16SliceExt.utf16char_indices.Goals as goal
 
 pub returns-clause-runs : goal.returns-clause-runs
 returns-clause-runs c = listed_run _ _ unit_decoder_listed
+
+pub returns-clause-gave : goal.returns-clause-gave
+returns-clause-gave c = unit_pieces_gave c.args.self.now _ c.from.ensures

@@ -17,7 +17,7 @@ returns-in-Err g c =
 pub returns : goal.returns
 returns g c =
     let begun = c.in-Some.ensures.first in
-    let answers = known_bytes _ _ _ _ _ _ _ _ _ _ _ _ c.in-Ok.ensures (rw c.following.ensures at c.from_array_unchecked.ensures.known) in
+    let answers = known_bytes _ _ _ _ _ _ _ _ _ _ _ _ c.in-Ok.ensures (rw c.to_array.ensures at c.from_array_unchecked.ensures.known) in
     rw (← c.self.view_is)
     (record {
       steps = merger_next utf8 merger_kind IsHeldBytes _ _ _ _ _ _ _ _ _ _ _ _ _ _ _ begun.reads begun.begins answers c.in-Ok.ensures.held;

@@ -1,5 +1,5 @@
 use Rattle.std.proofs.Common.{◌≡◌, arith, length}
-use Rattle.cuts.proofs.OfRecoding.Parts.{take_past}
+use Rattle.cuts.proofs.Parts.{take_past}
 use Rattle.cuts.proofs.programs.line.Line.push_front.Goals as goal
 
 pub returns : goal.returns

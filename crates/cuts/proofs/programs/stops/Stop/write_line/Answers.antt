@@ -1,4 +1,4 @@
-use Rattle.cuts.proofs.OfRecoding.Fronts.{AppendsFront-first, AppendsFront-then}
+use Rattle.cuts.proofs.Fronts.{AppendsFront-first, AppendsFront-then}
 use Rattle.std.proofs.KnownBytes.{Appends-trans}
 use Rattle.cuts.proofs.programs.stops.Stop.write_line.Goals as goal
 

@@ -1,0 +1,212 @@
+"""Makes the tables of README.md and docs/BENCHMARKS.md from the stored output of the benchmarks. bench/plots uses it."""
+import re
+from pathlib import Path
+
+TOP = Path(__file__).resolve().parent.parent
+STORED = TOP / "bench/stored"
+NAMES = {"rust": "encode_unicode", "std": "std", "bstr": "bstr", "encoding_rs": "encoding_rs", "iconv": "iconv(3)", "simdutf8": "simdutf8, 32-byte lanes",
+         "simdutf8_16": "simdutf8, 16-byte lanes", "icu": "ICU", "utf8proc": "utf8proc"}
+FORMS = {"utf8": "UTF-8", "utf16le": "UTF-16LE", "utf16be": "UTF-16BE", "utf16": "UTF-16"}
+# What each work of `bench/run` does, by the question that it answers.
+WORKS = {
+    "pieces": {"forward": "every piece, forward", "backward": "every piece, backward", "ends": "every piece, from both ends in turn",
+               "starts": "`char::from_utf8_slice_start` along the bytes", "text_backward": "every piece of valid text, backward"},
+    "valid text": {"utf8chars": "`utf8chars`", "utf8chars_back": "`utf8chars().rev()`", "indices": "`utf8char_indices`",
+                   "indices_back": "`utf8char_indices().rev()`", "utf16chars": "`utf16chars`", "utf16chars_back": "`utf16chars().rev()`"},
+    "units": {"unit_decoder": "every piece, forward", "units_back": "every piece, backward", "units": "`char::from_utf16_slice_start` along the units",
+              "unit_merger": "streaming, from an iterator"},
+    "streaming": {"merger": "bytes to characters", "bytes_next": "characters to bytes, one by one", "bytes_read": "characters to bytes, by `read`",
+                  "units_next": "characters to units"},
+    "characters": {"to_utf8": "a number to UTF-8", "to_utf16": "a number to UTF-16", "between": "forward, and each to `Utf16Char` and back",
+                   "collect_bytes": "`collect_bytes`", "extend_bytes": "`extend_bytes`", "collect_string": "`collect_string`", "extend_string": "`extend_string`",
+                   "collect_units": "`collect_units`", "extend_units": "`extend_units`", "collect_string16": "`collect_string` of units",
+                   "extend_string16": "`extend_string` of units"},
+}
+
+
+class Row:
+    """A line of a stored output: the words that name it, and for each side what it took and what was asked."""
+
+    def __init__(self, key, numbers, goals):
+        self.key, self.numbers, self.goals = key, numbers, goals
+
+    def ratio(self, side):
+        return self.numbers["ours"] / self.numbers[side] if side in self.numbers else None
+
+
+def stored(name, keys):
+    """The rows of a stored output whose first `keys` words name one."""
+    sides, found = [], []
+    for line in (STORED / name).read_text(encoding="utf-8").splitlines():
+        words, _, told = line.partition("|")
+        words = words.split()
+        if not sides:
+            head = re.sub(r"/.*", "", " ".join(words[keys:])).split()
+            sides = head[: 1 + len(set(head[1:]) - {"ours"})]
+            continue
+        cells = words[keys : keys + len(sides)]
+        if len(cells) == len(sides) and all(re.fullmatch(r"[\d.]+|-", it) for it in cells):
+            numbers = {side: float(it) for side, it in zip(sides, cells) if it != "-"}
+            goals = {side: (float(most), verdict == "met") for side, most, verdict in re.findall(r"(\w+) <=? ([\d.]+) (met|not met)", told)}
+            found.append(Row(tuple(words[:keys]), numbers, goals))
+    return found
+
+
+def table(heads, rows):
+    lines = ["| " + " | ".join(heads) + " |", "|" + "---|" * len(heads)]
+    return "\n".join(lines + ["| " + " | ".join(it) + " |" for it in rows])
+
+
+def between(numbers):
+    least, most = f"{min(numbers):.2f}", f"{max(numbers):.2f}"
+    return least if least == most else f"{least} to {most}"
+
+
+def cells(rows, side, shown, named):
+    """The cells of some rows beside one side: what both took in the shown row, the goals, the ratios, and where ours takes more."""
+    rows = [it for it in rows if side in it.numbers]
+    if not rows:
+        return None
+    ratios = [it.ratio(side) for it in rows]
+    picked = next((it for it in rows if it.key[-1] == shown), rows[0])
+    goals = [it.goals[side] for it in rows if side in it.goals]
+    asked = between([it for it, _ in goals]) if goals else "–"
+    met = f"{sum(it for _, it in goals)} of {len(goals)}" if goals else "–"
+    lost = [f"{named(it.key)} {it.ratio(side):.2f}" for it in rows if it.ratio(side) > 1]
+    return [NAMES[side], f"{picked.numbers['ours']:.2f}", f"{picked.numbers[side]:.2f}", between(ratios), asked, met, ", ".join(lost) or "nowhere"]
+
+
+HEADS = ["beside", "ours", "theirs", "ratio", "goal", "met", "ours is slower on"]
+
+
+def works(question):
+    every, lines = stored("run", 2), []
+    for work, told in WORKS[question].items():
+        of_work = [it for it in every if it.key[0] == work]
+        for side in ("bstr", "std", "rust"):
+            if it := cells(of_work, side, "mix", lambda key: key[1]):
+                lines.append([told, *it])
+    return table(["task", *HEADS], lines)
+
+
+def valid(name="valid"):
+    every, lines = stored(name, 2), []
+    for form in ("utf8", "utf16"):
+        for side in ("std", "simdutf8", "simdutf8_16", "encoding_rs"):
+            if it := cells([row for row in every if row.key[0] == form], side, "japanese", lambda key: key[1]):
+                lines.append([f"validate {FORMS[form]}", *it])
+    return table(["task", *HEADS], lines)
+
+
+def recoding(name="recode"):
+    every, lines = stored(name, 3), []
+    for pair in dict.fromkeys(it.key[:2] for it in every):
+        for side in ("encoding_rs", "iconv", "std"):
+            if it := cells([row for row in every if row.key[:2] == pair], side, "japanese", lambda key: key[2]):
+                lines.append([f"{FORMS[pair[0]]} to {FORMS[pair[1]]}", *it])
+    return table(["task", *HEADS], lines)
+
+
+def short(call):
+    """Parts of a few bytes beside encoding_rs: a row for each pair and input, a column for each size."""
+    found = {it.key: it.ratio("encoding_rs") for it in stored("short", 5) if it.key[4] == call and "encoding_rs" in it.numbers}
+    sizes = sorted({int(key[3]) for key in found})
+    lines = []
+    for a, b, text in dict.fromkeys(key[:3] for key in found):
+        ratios = [found[(a, b, text, str(size), call)] for size in sizes]
+        lines.append([f"{FORMS[a]} to {FORMS[b]}, {text}", *(f"**{it:.2f}**" if it > 1 else f"{it:.2f}" for it in ratios)])
+    lost = sum(it > 1 for it in found.values())
+    return table([f"`{call}`", *(f"{it} bytes" if it > 1 else "1 byte" for it in sizes)], lines) + f"\n\n{len(found) - lost} of {len(found)} are no slower."
+
+
+def programs():
+    lines = []
+    of_recode = stored("recode-programs", 3)
+    ratios = [it.ratio("iconv") for it in of_recode if "iconv" in it.numbers]
+    lines.append(["`recode`", "iconv(1)", between(ratios), f"{sum(it <= 1 for it in ratios)} of {len(ratios)}"])
+    ratios = [it.ratio("rust") for it in stored("pieces", 1)]
+    lines.append(["`pieces`", "a Rust program with the same output", between(ratios), f"{sum(it <= 1 for it in ratios)} of {len(ratios)}"])
+    return table(["program", "beside", "ratio", "no slower"], lines)
+
+
+# What c/bench/run does, and whose call it is there.
+OF_C = {"utf8-to-utf16le": ("UTF-8 to UTF-16LE, `nody_recoder_feed`", "nody"), "utf16le-to-utf8": ("UTF-16LE to UTF-8, `nody_recoder_feed`", "nody"),
+        "decode": ("every piece, `nody_utf8_next`", "nody_utf8_next"), "decode at once": ("every piece, `nody_utf8_pieces`", "nody_utf8_pieces")}
+
+
+def of_c_bench():
+    """What c/bench/run printed: for each work its inputs, each with its sides."""
+    found = {}
+    for line in (STORED / "c").read_text(encoding="utf-8").splitlines():
+        words = line.split()
+        found.setdefault(words[0], []).append((words[1], dict(zip(words[2::2], words[3::2]))))
+    return found
+
+
+def from_c():
+    """The library for C beside others, without the sides in Rattle: those are measured above."""
+    found, lines = of_c_bench(), []
+    for work, (told, ours) in OF_C.items():
+        for side in ("icu", "iconv", "utf8proc"):
+            rows = [Row((work, text), {"ours": float(it[ours]), side: float(it[side])}, {}) for text, it in found[work.split()[0]] if side in it]
+            if it := cells(rows, side, "chinese", lambda key: key[1]):
+                lines.append([told, *it])
+    return table(["task", *HEADS], lines)
+
+
+def limits():
+    found = [line.split() for line in (STORED / "limit").read_text(encoding="utf-8").splitlines()[1:-1]]
+    shown = lambda size: f"{size >> 20} MiB" if size >= 1 << 20 else f"{size >> 10} KiB"
+    return table(["bytes", "read once", "copied"], [[shown(int(size)), f"{read} ns", f"{copy} ns"] for size, read, copy in found])
+
+
+def replacements():
+    lines = []
+    for line in (STORED / "tables").read_text(encoding="utf-8").splitlines():
+        parts = [it.strip() for it in line.strip("|").split("|")]
+        if len(parts) == 6 and parts[1].isdigit():
+            ours, lists, anew = float(parts[2]), float(parts[3]), float(parts[5])
+            lines.append([parts[0], f"{ours:.0f}", f"{lists:.0f}", f"{ours / lists:.2f}", f"{anew:,.0f}"])
+    return table(["input", "`replace`, in microseconds", "moving both lists", "ratio", "decoding all again"], lines)
+
+
+def one(name, keys, key, side):
+    """What both took in one row."""
+    row = next(it for it in stored(name, keys) if it.key == key)
+    return row.numbers["ours"], row.numbers[side]
+
+
+def summary():
+    """The table of README.md: the rows that a first reader asks for, and of each group that loses the worst."""
+    asked = [("split into pieces, forward", "mixed text", "run", ("forward", "mix"), "bstr"),
+             ("split into pieces, forward", "ASCII", "run", ("forward", "ascii"), "bstr"),
+             ("split into pieces, forward", "mixed text, damaged", "run", ("forward", "damaged"), "rust"),
+             ("split into pieces, backward", "mixed text", "run", ("backward", "mix"), "bstr"),
+             ("UTF-8 to UTF-16", "Japanese", "recode", ("utf8", "utf16le", "japanese"), "encoding_rs"),
+             ("UTF-8 to UTF-16", "Japanese", "recode", ("utf8", "utf16le", "japanese"), "iconv"),
+             ("UTF-8 to UTF-16", "a damaged log", "recode", ("utf8", "utf16le", "log"), "encoding_rs"),
+             ("validate UTF-8", "Japanese", "valid", ("utf8", "japanese"), "std")]
+    lines = []
+    for task, text, name, key, side in asked:
+        ours, theirs = one(name, len(key), key, side)
+        lines.append([task, text, NAMES[side], f"{ours:.2f} ns", f"{theirs:.2f} ns", f"{ours / theirs:.2f}"])
+    of_c = [(text, float(it["nody_utf8_pieces"]), float(it["icu"])) for text, it in of_c_bench().get("decode", [])]
+    lost = [("validate UTF-8", "valid", 2, "simdutf8", lambda key: True), ("read valid text backward", "run", 2, "std", lambda key: key[0] == "text_backward"),
+            ("decode from an iterator", "run", 2, "rust", lambda key: key[0] in ("merger", "unit_merger")),
+            ("recode one short part into a buffer", "short", 5, "encoding_rs", lambda key: key[4] == "feed_into")]
+    for task, name, keys, side, holds in lost:
+        row = max((it for it in stored(name, keys) if side in it.numbers and holds(it.key)), key=lambda it: it.ratio(side))
+        text = f"{row.key[2]}, {row.key[3]} bytes, {FORMS[row.key[0]]} to {FORMS[row.key[1]]}" if name == "short" else row.key[-1]
+        lines.append([task, f"{text} (the worst)", NAMES[side], f"{row.numbers['ours']:.2f} ns", f"{row.numbers[side]:.2f} ns", f"**{row.ratio(side):.2f}**"])
+    text, ours, theirs = max(of_c, key=lambda it: it[1] / it[2])
+    lines.append(["split into pieces, from C", f"{text} (the worst)", "ICU", f"{ours:.2f} ns", f"{theirs:.2f} ns", f"**{ours / theirs:.2f}**"])
+    return table(["task", "input", "compared with", "Noddychest", "theirs", "ratio"], lines) + (
+        "\n\nNanoseconds for each byte; in the row of one short part, for the part. Ours was called from Rattle, and in the last row from C.")
+
+
+def marked(page, name, text):
+    """The page with the text between its mark and the end of that part."""
+    made, count = re.subn(rf"(<!-- {re.escape(name)} -->\n).*?(<!-- end -->)", lambda it: f"{it[1]}{text}\n{it[2]}", page, flags=re.S)
+    if count != 1:
+        raise SystemExit(f"bench/plots: the mark '{name}' stands {count} times in its page")
+    return made

@@ -1,0 +1,291 @@
+/* Holds the library against a decoder that is written here from the grammar of RFC 3629, section 4, and from RFC 2781, section 2.2,
+ * and shares nothing with it: edges COUNT. Each buffer lies between two pages that must not be touched, once at the end of the
+ * first and once at the front of the other. Every input is recoded with each room of 0 to 14 bytes and each split into two parts:
+ * all inputs of up to three bytes of those that the grammar names, and then COUNT random ones. Structs of random bytes are refused,
+ * or recode within bounds. Prints what failed, and then `N passed, M failed`. */
+#define _DEFAULT_SOURCE
+#include "noddychest.h"
+#include "rows.h"
+
+#include <sys/mman.h>
+#include <unistd.h>
+
+#ifndef MAP_ANONYMOUS
+#define MAP_ANONYMOUS 0x20
+#endif
+
+enum { MOST = 12, MADE = 4 * MOST, ROOMS = 15 };
+
+/* UTF8-1 to UTF8-4, one row for each alternative. */
+static const struct {
+    size_t len;
+    uint8_t first[4], last[4];
+} GRAMMAR[] = {
+    {1, {0x00}, {0x7F}},
+    {2, {0xC2, 0x80}, {0xDF, 0xBF}},
+    {3, {0xE0, 0xA0, 0x80}, {0xE0, 0xBF, 0xBF}},
+    {3, {0xE1, 0x80, 0x80}, {0xEC, 0xBF, 0xBF}},
+    {3, {0xED, 0x80, 0x80}, {0xED, 0x9F, 0xBF}},
+    {3, {0xEE, 0x80, 0x80}, {0xEF, 0xBF, 0xBF}},
+    {4, {0xF0, 0x90, 0x80, 0x80}, {0xF0, 0xBF, 0xBF, 0xBF}},
+    {4, {0xF1, 0x80, 0x80, 0x80}, {0xF3, 0xBF, 0xBF, 0xBF}},
+    {4, {0xF4, 0x80, 0x80, 0x80}, {0xF4, 0x8F, 0xBF, 0xBF}},
+};
+
+/* A piece, and where it begins, in bytes. */
+typedef struct {
+    size_t start, len;
+    uint32_t scalar; /* U+FFFD for a fault */
+    int is_fault;
+} cut_piece;
+
+typedef struct {
+    size_t count, valid; /* how many, and where the first fault begins */
+    cut_piece piece[MOST];
+} cut_text;
+
+static size_t matched(const uint8_t *b, size_t len, size_t row) {
+    if (len < GRAMMAR[row].len) return 0;
+    for (size_t i = 0; i < GRAMMAR[row].len; i++)
+        if (b[i] < GRAMMAR[row].first[i] || GRAMMAR[row].last[i] < b[i]) return 0;
+    return GRAMMAR[row].len;
+}
+
+static cut_piece first_of_utf8(const uint8_t *b, size_t len) {
+    static const uint32_t lead[5] = {0, 0x7F, 0x1F, 0x0F, 0x07};
+    for (size_t row = 0; row < sizeof GRAMMAR / sizeof *GRAMMAR; row++) {
+        size_t n = matched(b, len, row);
+        uint32_t scalar = n ? b[0] & lead[n] : 0;
+        for (size_t i = 1; i < n; i++) scalar = 64 * scalar + (b[i] - 0x80u);
+        if (n) return (cut_piece){0, n, scalar, 0};
+    }
+    return (cut_piece){0, 1, 0xFFFD, 1};
+}
+
+static cut_piece first_of_utf16(const uint8_t *b, size_t len, int is_big) {
+    uint32_t u = len < 2 ? 0xDC00 : b[!is_big] * 256u + b[is_big];
+    uint32_t v = len < 4 ? 0 : b[2 + !is_big] * 256u + b[2 + is_big];
+    if (u < 0xD800 || u > 0xDFFF) return (cut_piece){0, 2, u, 0};
+    if (u < 0xDC00 && 0xDC00 <= v && v <= 0xDFFF) return (cut_piece){0, 4, 0x10000 + (u - 0xD800) * 0x400 + (v - 0xDC00), 0};
+    return (cut_piece){0, len < 2 ? 1 : 2, 0xFFFD, 1};
+}
+
+static cut_text cut(nody_form_t form, const uint8_t *b, size_t len) {
+    cut_text made = {0, len, {{0, 0, 0, 0}}};
+    for (size_t at = 0; at < len;) {
+        cut_piece it = form == NODY_FORM_UTF8 ? first_of_utf8(b + at, len - at) : first_of_utf16(b + at, len - at, form == NODY_FORM_UTF16BE);
+        it.start = at;
+        if (it.is_fault && at < made.valid) made.valid = at;
+        made.piece[made.count++] = it;
+        at += it.len;
+    }
+    return made;
+}
+
+static size_t put(nody_form_t form, uint32_t s, uint8_t *out) {
+    uint32_t unit[2] = {s, 0};
+    size_t units = 1;
+    if (form == NODY_FORM_UTF8) {
+        size_t len = s < 0x80 ? 1 : s < 0x800 ? 2 : s < 0x10000 ? 3 : 4;
+        static const uint8_t mark[5] = {0, 0, 0xC0, 0xE0, 0xF0};
+        for (size_t i = len; i-- > 1; s /= 64) out[i] = (uint8_t)(0x80 + s % 64);
+        out[0] = (uint8_t)(mark[len] + s);
+        return len;
+    }
+    if (s >= 0x10000) {
+        unit[0] = 0xD800 + (s - 0x10000) / 0x400;
+        unit[1] = 0xDC00 + (s - 0x10000) % 0x400;
+        units = 2;
+    }
+    for (size_t i = 0; i < units; i++) {
+        out[2 * i + (form == NODY_FORM_UTF16LE)] = (uint8_t)(unit[i] / 256);
+        out[2 * i + (form == NODY_FORM_UTF16BE)] = (uint8_t)(unit[i] % 256);
+    }
+    return 2 * units;
+}
+
+/* Pages that can be written, between two that cannot be touched. */
+typedef struct {
+    uint8_t *front, *end;
+} fenced;
+
+static fenced in_fence, out_fence;
+
+static fenced fence(void) {
+    size_t page = (size_t)sysconf(_SC_PAGESIZE);
+    uint8_t *all = mmap(NULL, 3 * page, PROT_NONE, MAP_PRIVATE | MAP_ANONYMOUS, -1, 0);
+    if (all == MAP_FAILED || mprotect(all + page, page, PROT_READ | PROT_WRITE) != 0) stop("no pages", "to fence in");
+    return (fenced){all + page, all + 2 * page};
+}
+
+/* So many bytes at the front of the pages, or at their end. */
+static uint8_t *fenced_bytes(fenced pages, size_t len, int at_end) { return at_end ? pages.end - len : pages.front; }
+
+static char shown[8 * MOST];
+static int at_end;
+
+static void say(nody_form_t from, nody_form_t to, const uint8_t *in, size_t len) {
+    int n = sprintf(shown, "%d to %d:", from, to);
+    for (size_t i = 0; i < len; i++) n += sprintf(shown + n, " %02x", in[i]);
+}
+
+/* Feeds the two parts into room after room. A room of less than four bytes that cannot make progress is made one of fourteen. */
+static int is_recoded_in(nody_form_t from, nody_form_t to, const uint8_t *in, size_t len, size_t split, size_t room, const uint8_t *want, size_t need) {
+    nody_recoder_t recoder = nody_recoder(from, to);
+    size_t place = 0, made = 0, end = split;
+    for (int calls = 0; calls < 200; calls++) {
+        uint8_t *out = fenced_bytes(out_fence, room, at_end);
+        size_t read = 0, written = 0;
+        int is_last = place == len && end == len;
+        nody_status_t status = is_last ? nody_recoder_finish(&recoder, out, room, &written)
+                                       : nody_recoder_feed(&recoder, in + place, end - place, out, room, &read, &written);
+        if (status == NODY_STATUS_REFUSED || written > room || read > end - place || made + written > need) return 0;
+        if (memcmp(out, want + made, written) != 0) return 0;
+        made += written;
+        place += read;
+        if (status == NODY_STATUS_DONE && is_last) return made == need && nody_recoder_held(&recoder, NULL, 0) == 0;
+        if (status == NODY_STATUS_DONE && place != end) return 0;
+        if (status == NODY_STATUS_DONE) end = len;
+        if (status == NODY_STATUS_FULL && read + written == 0) {
+            if (room >= 4) return 0;
+            room = ROOMS - 1;
+        }
+    }
+    return 0;
+}
+
+static int is_recoded_at_once(nody_form_t from, nody_form_t to, const uint8_t *in, size_t len, size_t room, const uint8_t *want, size_t need) {
+    uint8_t *out = fenced_bytes(out_fence, room, at_end);
+    size_t written = MADE + 1;
+    nody_status_t status = nody_recode(from, to, in, len, out, room, &written);
+    if (written > room || memcmp(out, want, written) != 0) return 0;
+    if (room >= need) return status == NODY_STATUS_DONE && written == need;
+    return status == NODY_STATUS_FULL && (need - written <= 4 || room - written < 4);
+}
+
+static void recodings(nody_form_t from, const uint8_t *in, size_t len, const cut_text *pieces) {
+    for (int other = 0; other < 3; other++) {
+        nody_form_t to = (nody_form_t)other;
+        uint8_t want[MADE];
+        size_t need = 0;
+        int holds = 1;
+        for (size_t i = 0; i < pieces->count; i++) need += put(to, pieces->piece[i].scalar, want + need);
+        for (size_t room = 0; room < ROOMS; room++) {
+            holds = holds && is_recoded_at_once(from, to, in, len, room, want, need);
+            for (size_t split = 0; split <= len; split++) holds = holds && is_recoded_in(from, to, in, len, split, room, want, need);
+        }
+        say(from, to, in, len);
+        expect(holds && nody_recoded_len(from, to, in, len) == need && need <= nody_recoded_len_max(from, to, len), "recoded", shown);
+    }
+}
+
+/* Whether a character, or a unit, lies over a place. */
+static int is_over(nody_form_t form, const cut_text *pieces, size_t len, size_t at) {
+    if (at < len && form != NODY_FORM_UTF8 && at % 2) return 1;
+    for (size_t i = 0; i < pieces->count; i++)
+        if (!pieces->piece[i].is_fault && pieces->piece[i].start < at && at < pieces->piece[i].start + pieces->piece[i].len) return 1;
+    return 0;
+}
+
+static int are_boundaries(nody_form_t form, const uint8_t *in, size_t len, const cut_text *pieces) {
+    for (size_t at = 0; at <= len + 1; at++) {
+        size_t before = at < len ? at : len, after = before;
+        while (is_over(form, pieces, len, before)) before--;
+        while (is_over(form, pieces, len, after)) after++;
+        if (nody_boundary_before(form, in, len, at) != before || nody_boundary_after(form, in, len, at) != after) return 0;
+        if (nody_shard_end(form, in, len, at) != before) return 0;
+    }
+    return 1;
+}
+
+static int are_pieces(const uint8_t *in, size_t len, const cut_text *pieces) {
+    nody_bytes_t front = nody_bytes(in, len), back = front;
+    nody_piece_t all[MOST];
+    nody_bytes_t left = front;
+    if (nody_utf8_pieces(&left, all, MOST) != pieces->count || nody_utf8_char_count(in, len) != pieces->count) return 0;
+    for (size_t i = 0; i < pieces->count; i++) {
+        const cut_piece *it = &pieces->piece[i], *last = &pieces->piece[pieces->count - 1 - i];
+        nody_piece_t next = nody_utf8_next(&front), end = nody_utf8_next_back(&back), here = nody_utf8_streamed_at(in, len, it->start);
+        if (next.len != it->len || (next.kind != NODY_KIND_OK) != it->is_fault || next.scalar != (it->is_fault ? 0 : it->scalar)) return 0;
+        if (all[i].len != it->len || all[i].kind != next.kind || all[i].scalar != next.scalar) return 0;
+        if (end.len != last->len || end.scalar != (last->is_fault ? 0 : last->scalar)) return 0;
+        if (here.len != next.len || here.scalar != next.scalar) return 0;
+    }
+    return front.len == 0 && back.len == 0;
+}
+
+static void all_of(const uint8_t *bytes, size_t len) {
+    for (at_end = 0; at_end < 2; at_end++) {
+        uint8_t *in = fenced_bytes(in_fence, len, at_end);
+        memcpy(in, bytes, len);
+        for (int other = 0; other < 3; other++) {
+            nody_form_t form = (nody_form_t)other;
+            cut_text pieces = cut(form, in, len);
+            say(form, form, in, len);
+            expect(nody_utf16_bytes_valid_up_to(form, in, len) == pieces.valid, "valid up to", shown);
+            expect(are_boundaries(form, in, len, &pieces), "boundaries", shown);
+            if (form == NODY_FORM_UTF8) expect(are_pieces(in, len, &pieces) && nody_utf8_valid_up_to(in, len) == pieces.valid, "pieces", shown);
+            recodings(form, in, len, &pieces);
+        }
+    }
+}
+
+static const uint8_t NAMED[] = {0x00, 0x41, 0x7F, 0x80, 0x8F, 0x90, 0xA0, 0xBF, 0xC1, 0xC2, 0xD8, 0xDC, 0xE0, 0xED, 0xF0, 0xF4, 0xF5};
+
+static void short_inputs(size_t most) {
+    for (size_t len = 0; len <= most; len++) {
+        size_t all = 1;
+        for (size_t i = 0; i < len; i++) all *= sizeof NAMED;
+        for (size_t n = 0; n < all; n++) {
+            uint8_t bytes[MOST];
+            for (size_t i = 0, rest = n; i < len; i++, rest /= sizeof NAMED) bytes[i] = NAMED[rest % sizeof NAMED];
+            all_of(bytes, len);
+        }
+    }
+}
+
+static uint32_t chance = 7;
+
+static uint32_t below(uint32_t n) {
+    chance = chance * 1664525 + 1013904223;
+    return (chance >> 8) % n;
+}
+
+static void random_inputs(unsigned long count) {
+    while (count-- > 0) {
+        uint8_t bytes[MOST];
+        size_t len = 4 + below(MOST - 3);
+        for (size_t i = 0; i < len; i++) bytes[i] = below(5) ? NAMED[below(sizeof NAMED)] : (uint8_t)below(256);
+        all_of(bytes, len);
+    }
+}
+
+/* A struct of random bytes is a recoder, or is refused and stays. No call leaves the room. */
+static void random_structs(unsigned long count) {
+    static const uint8_t in[] = {0x41, 0xE2, 0x82, 0xAC, 0xF0, 0x9F, 0x82, 0xD8, 0x3C};
+    while (count-- > 0) {
+        nody_recoder_t recoder, before;
+        uint8_t *bytes = (uint8_t *)&recoder, held[3];
+        size_t room = below(ROOMS), read = 99, written = 99;
+        for (size_t i = 0; i < sizeof recoder; i++) bytes[i] = (uint8_t)(below(2) ? below(5) : below(256));
+        before = recoder;
+        int is_one = bytes[0] < 3 && bytes[1] < 3 && bytes[2] < 4;
+        uint8_t *out = fenced_bytes(out_fence, room, (int)(count % 2));
+        nody_status_t status = nody_recoder_feed(&recoder, in, sizeof in, out, room, &read, &written);
+        expect((status == NODY_STATUS_REFUSED) == !is_one && written <= room && read <= sizeof in, "a random struct", "feed");
+        expect(is_one || (memcmp(&recoder, &before, sizeof before) == 0 && read + written == 0), "a struct that is refused", "feed");
+        expect((nody_recoder_held(&recoder, held, 3) > 3) == !is_one, "a random struct", "held");
+        status = nody_recoder_finish(&recoder, out, room, &written);
+        expect((status == NODY_STATUS_REFUSED) == !is_one && written <= room, "a random struct", "finish");
+    }
+}
+
+int main(int argc, char **argv) {
+    unsigned long count = argc > 1 ? strtoul(argv[1], NULL, 10) : 100;
+    in_fence = fence();
+    out_fence = fence();
+    short_inputs(count < 100 ? 2 : 3);
+    random_inputs(count);
+    random_structs(10 * count);
+    return tell();
+}

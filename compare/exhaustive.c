@@ -1,0 +1,251 @@
+/* Asks the library for every input of one to four bytes, and of one or two units, and compares what it answers with a
+ * matcher that is written here by hand: of bytes from the grammar of RFC 3629, section 4, of units from RFC 2781, section
+ * 2.2. It shares nothing with the library.
+ *
+ *   exhaustive bytes FIRST LAST    inputs whose first byte is FIRST to LAST
+ *   exhaustive units FIRST LAST    inputs whose first unit has FIRST to LAST as its high byte
+ *
+ * For each input: the run from the front, the piece at its end, the first kind of a reader of one byte at a time, the first
+ * fault, and the input recoded. What the other pieces are from the back, or to such a reader, is asked of the shorter inputs
+ * that are left then. Prints each input that differs, up to twenty, and then `N inputs, M differ`.
+ */
+#include "noddychest.h"
+
+#include <stdio.h>
+#include <stdlib.h>
+#include <string.h>
+
+enum { MOST = 4, RECODED = 32, SHOWN = 20 };
+
+static unsigned long long inputs, differ;
+
+/* A piece as the matcher finds it. */
+typedef struct {
+    size_t start, len;
+    uint32_t scalar;
+    uint8_t kind, merged, back;
+} piece;
+
+static int in(unsigned x, unsigned first, unsigned last) { return first <= x && x <= last; }
+
+/* UTF8-tail = %x80-BF */
+static int tail(uint8_t byte) { return in(byte, 0x80, 0xBF); }
+
+/* UTF8-3 = %xE0 %xA0-BF UTF8-tail / %xE1-EC 2( UTF8-tail ) / %xED %x80-9F UTF8-tail / %xEE-EF 2( UTF8-tail ) */
+static int utf8_3(const uint8_t *b) {
+    return (b[0] == 0xE0 && in(b[1], 0xA0, 0xBF) && tail(b[2])) || (in(b[0], 0xE1, 0xEC) && tail(b[1]) && tail(b[2])) ||
+           (b[0] == 0xED && in(b[1], 0x80, 0x9F) && tail(b[2])) || (in(b[0], 0xEE, 0xEF) && tail(b[1]) && tail(b[2]));
+}
+
+/* UTF8-4 = %xF0 %x90-BF 2( UTF8-tail ) / %xF1-F3 3( UTF8-tail ) / %xF4 %x80-8F 2( UTF8-tail ) */
+static int utf8_4(const uint8_t *b) {
+    return (b[0] == 0xF0 && in(b[1], 0x90, 0xBF) && tail(b[2]) && tail(b[3])) ||
+           (in(b[0], 0xF1, 0xF3) && tail(b[1]) && tail(b[2]) && tail(b[3])) ||
+           (b[0] == 0xF4 && in(b[1], 0x80, 0x8F) && tail(b[2]) && tail(b[3]));
+}
+
+/* How many bytes the UTF8-char at the front has, or 0 where none is there. */
+static size_t utf8_char(const uint8_t *b, size_t len) {
+    if (len >= 1 && in(b[0], 0x00, 0x7F)) return 1;
+    if (len >= 2 && in(b[0], 0xC2, 0xDF) && tail(b[1])) return 2;
+    if (len >= 3 && utf8_3(b)) return 3;
+    if (len >= 4 && utf8_4(b)) return 4;
+    return 0;
+}
+
+/* The bits of a character of so many bytes, as section 3 of the RFC lays them out. */
+static uint32_t utf8_scalar(const uint8_t *b, size_t len) {
+    static const uint8_t payload[5] = {0, 0x7F, 0x1F, 0x0F, 0x07};
+    uint32_t scalar = b[0] & payload[len];
+    for (size_t i = 1; i < len; i++) scalar = scalar << 6 | (b[i] & 0x3F);
+    return scalar;
+}
+
+/* How many bytes a first byte announces, or 0 where no character begins with it. */
+static size_t announced(uint8_t byte) {
+    return byte < 0x80 ? 1 : byte < 0xC2 ? 0 : byte < 0xE0 ? 2 : byte < 0xF0 ? 3 : byte < 0xF5 ? 4 : 0;
+}
+
+/* What is wrong where no character begins; `early` is for a reader that sees a wrong byte before it sees the end. */
+static uint8_t utf8_fault(const uint8_t *b, size_t len, int early) {
+    size_t asked = announced(b[0]);
+    if (tail(b[0])) return NODY_KIND_UNEXPECTED_CONTINUATION_BYTE;
+    if (asked == 0) return NODY_KIND_NON_UTF8_BYTE;
+    for (size_t i = 1; early && i < asked && i < len; i++)
+        if (!tail(b[i])) return NODY_KIND_INTERRUPTED_SEQUENCE;
+    if (len < asked) return NODY_KIND_TOO_FEW_BYTES;
+    for (size_t i = 1; i < asked; i++)
+        if (!tail(b[i])) return NODY_KIND_INTERRUPTED_SEQUENCE;
+    if (b[0] == 0xE0 || b[0] == 0xF0) return NODY_KIND_OVERLONG_ENCODING;
+    return b[0] == 0xED ? NODY_KIND_UTF16_RESERVED_CODEPOINT : NODY_KIND_TOO_HIGH_CODEPOINT;
+}
+
+/* What is wrong with a last byte that ends no character. */
+static uint8_t utf8_fault_back(uint8_t byte) {
+    if (tail(byte)) return NODY_KIND_UNEXPECTED_CONTINUATION_BYTE;
+    return announced(byte) ? NODY_KIND_TOO_FEW_BYTES : NODY_KIND_NON_UTF8_BYTE;
+}
+
+/* The cut of the bytes: characters, and single bytes at which none begins. */
+static size_t cut_bytes(const uint8_t *b, size_t len, piece *cut) {
+    size_t count = 0;
+    for (size_t at = 0; at < len; count++) {
+        piece *p = &cut[count];
+        size_t n = utf8_char(b + at, len - at);
+        p->start = at, p->len = n ? n : 1, p->scalar = n ? utf8_scalar(b + at, n) : 0;
+        p->kind = n ? NODY_KIND_OK : utf8_fault(b + at, len - at, 0);
+        p->merged = n ? NODY_KIND_OK : utf8_fault(b + at, len - at, 1);
+        p->back = n ? NODY_KIND_OK : utf8_fault_back(b[at]);
+        at += p->len;
+    }
+    return count;
+}
+
+/* The same of units, by the steps of RFC 2781, section 2.2. */
+static size_t cut_units(const uint16_t *w, size_t len, piece *cut) {
+    size_t count = 0;
+    for (size_t at = 0; at < len; count++) {
+        piece *p = &cut[count];
+        int has_second = at + 1 < len, is_pair = has_second && in(w[at], 0xD800, 0xDBFF) && in(w[at + 1], 0xDC00, 0xDFFF);
+        p->start = at, p->len = is_pair ? 2 : 1, p->kind = p->merged = p->back = NODY_KIND_OK;
+        if (w[at] < 0xD800 || w[at] > 0xDFFF) {
+            p->scalar = w[at];
+        } else if (is_pair) {
+            p->scalar = (((uint32_t)w[at] & 0x3FF) << 10 | (w[at + 1] & 0x3FF)) + 0x10000;
+        } else {
+            int trails = w[at] >= 0xDC00;
+            p->scalar = 0;
+            p->kind = p->merged = trails ? NODY_KIND_UNEXPECTED_TRAILING_SURROGATE
+                                  : has_second ? NODY_KIND_UNMATCHED_LEADING_SURROGATE
+                                               : NODY_KIND_INCOMPLETE;
+            p->back = trails ? NODY_KIND_UNEXPECTED_TRAILING_SURROGATE : NODY_KIND_INCOMPLETE;
+        }
+        at += p->len;
+    }
+    return count;
+}
+
+static int same(nody_piece_t given, const piece *p, uint8_t kind) {
+    return given.len == p->len && given.scalar == p->scalar && given.kind == kind;
+}
+
+static size_t put_utf8(uint32_t s, uint8_t *out) {
+    if (s < 0x80) return out[0] = (uint8_t)s, 1;
+    if (s < 0x800) return out[0] = (uint8_t)(0xC0 | s >> 6), out[1] = (uint8_t)(0x80 | (s & 0x3F)), 2;
+    if (s < 0x10000) {
+        return out[0] = (uint8_t)(0xE0 | s >> 12), out[1] = (uint8_t)(0x80 | (s >> 6 & 0x3F)),
+               out[2] = (uint8_t)(0x80 | (s & 0x3F)), 3;
+    }
+    return out[0] = (uint8_t)(0xF0 | s >> 18), out[1] = (uint8_t)(0x80 | (s >> 12 & 0x3F)),
+           out[2] = (uint8_t)(0x80 | (s >> 6 & 0x3F)), out[3] = (uint8_t)(0x80 | (s & 0x3F)), 4;
+}
+
+static size_t put_unit(uint32_t u, int is_big, uint8_t *out) {
+    out[is_big ? 0 : 1] = (uint8_t)(u >> 8);
+    out[is_big ? 1 : 0] = (uint8_t)u;
+    return 2;
+}
+
+static size_t put_utf16(uint32_t s, int is_big, uint8_t *out) {
+    if (s < 0x10000) return put_unit(s, is_big, out);
+    size_t first = put_unit(0xD800 | (s - 0x10000) >> 10, is_big, out);
+    return first + put_unit(0xDC00 | ((s - 0x10000) & 0x3FF), is_big, out + first);
+}
+
+/* What the pieces are recoded as, U+FFFD for each fault. */
+static size_t recoded(const piece *cut, size_t count, uint8_t to, uint8_t *out) {
+    size_t made = 0;
+    for (size_t i = 0; i < count; i++) {
+        uint32_t s = cut[i].kind == NODY_KIND_OK ? cut[i].scalar : 0xFFFD;
+        made += to == NODY_FORM_UTF8 ? put_utf8(s, out + made) : put_utf16(s, to == NODY_FORM_UTF16BE, out + made);
+    }
+    return made;
+}
+
+/* The library's recoding of the bytes, or more than there is room for where it does not read all of them. */
+static size_t recode(uint8_t from, uint8_t to, const uint8_t *bytes, size_t len, uint8_t *out) {
+    nody_recoder_t recoder = nody_recoder(from, to);
+    size_t read, made, written;
+    if (nody_recoder_feed(&recoder, bytes, len, out, RECODED, &read, &made) != NODY_STATUS_DONE || read != len) return RECODED + 1;
+    return nody_recoder_finish(&recoder, out + made, RECODED - made, &written) == NODY_STATUS_DONE ? made + written : RECODED + 1;
+}
+
+static int recodes(uint8_t from, uint8_t to, const uint8_t *bytes, size_t len, const piece *cut, size_t count) {
+    uint8_t want[RECODED], given[RECODED];
+    size_t made = recoded(cut, count, to, want);
+    return recode(from, to, bytes, len, given) == made && memcmp(given, want, made) == 0;
+}
+
+/* The first of the pieces that is a fault, or the end. */
+static size_t first_fault(const piece *cut, size_t count, size_t len) {
+    for (size_t i = 0; i < count; i++)
+        if (cut[i].kind != NODY_KIND_OK) return cut[i].start;
+    return len;
+}
+
+static int is_bytes_right(const uint8_t *b, size_t len) {
+    piece cut[MOST];
+    nody_piece_t given[MOST];
+    size_t count = cut_bytes(b, len, cut);
+    const piece *last = &cut[count - 1];
+    nody_bytes_t left = nody_bytes(b, len), ends = nody_bytes(b, len);
+    int holds = nody_utf8_pieces(&left, given, MOST) == count && left.len == 0;
+    for (size_t i = 0; holds && i < count; i++) holds = same(given[i], &cut[i], cut[i].kind);
+    holds = holds && same(nody_utf8_next_back(&ends), last, last->back) && ends.len == last->start;
+    holds = holds && same(nody_utf8_streamed_at(b, len, 0), &cut[0], cut[0].merged);
+    return holds && nody_utf8_valid_up_to(b, len) == first_fault(cut, count, len) && recodes(NODY_FORM_UTF8, NODY_FORM_UTF16LE, b, len, cut, count);
+}
+
+static int is_units_right(const uint16_t *w, size_t len) {
+    piece cut[MOST];
+    nody_piece_t given[MOST];
+    uint8_t bytes[2 * MOST];
+    size_t count = cut_units(w, len, cut), size = 0;
+    const piece *last = &cut[count - 1];
+    nody_units_t left = nody_units(w, len), ends = nody_units(w, len);
+    int holds = nody_utf16_pieces(&left, given, MOST) == count && left.len == 0;
+    for (size_t i = 0; holds && i < count; i++) holds = same(given[i], &cut[i], cut[i].kind);
+    holds = holds && same(nody_utf16_next_back(&ends), last, last->back) && ends.len == last->start;
+    for (size_t i = 0; i < len; i++) size += put_unit(w[i], 1, bytes + size);
+    return holds && nody_utf16_valid_up_to(w, len) == first_fault(cut, count, len) && recodes(NODY_FORM_UTF16BE, NODY_FORM_UTF8, bytes, size, cut, count);
+}
+
+static void add(int holds, const char *what, uint32_t input, size_t len) {
+    inputs++;
+    if (!holds && differ++ < SHOWN) printf("differs: %s %0*x\n", what, (int)len, input);
+}
+
+static void add_bytes(uint32_t input, size_t len) {
+    uint8_t b[MOST];
+    for (size_t i = 0; i < len; i++) b[i] = (uint8_t)(input >> 8 * (len - 1 - i));
+    add(is_bytes_right(b, len), "bytes", input, 2 * len);
+}
+
+static void all_bytes(uint32_t first) {
+    for (size_t len = 1; len <= MOST; len++)
+        for (uint32_t i = 0; i < (uint32_t)1 << 8 * (len - 1); i++) add_bytes(first << 8 * (len - 1) | i, len);
+}
+
+static void all_units(uint32_t high) {
+    for (uint32_t i = 0; i < 1 << 8; i++) {
+        uint16_t w[2] = {(uint16_t)(high << 8 | i), 0};
+        add(is_units_right(w, 1), "units", w[0], 4);
+        for (uint32_t j = 0; j < 1 << 16; j++) {
+            w[1] = (uint16_t)j;
+            add(is_units_right(w, 2), "units", (uint32_t)w[0] << 16 | j, 8);
+        }
+    }
+}
+
+int main(int count, char **words) {
+    int is_units = count == 4 && strcmp(words[1], "units") == 0;
+    if (count != 4 || !(is_units || strcmp(words[1], "bytes") == 0)) {
+        fprintf(stderr, "usage: exhaustive bytes|units FIRST LAST\n");
+        return 2;
+    }
+    uint32_t last = (uint32_t)strtoul(words[3], NULL, 0);
+    for (uint32_t first = (uint32_t)strtoul(words[2], NULL, 0); first <= last && first < 256; first++)
+        is_units ? all_units(first) : all_bytes(first);
+    printf("%llu inputs, %llu differ\n", inputs, differ);
+    return differ != 0;
+}

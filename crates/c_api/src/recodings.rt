@@ -1,0 +1,186 @@
+//! Recoding into room of the caller's.
+ghost use Rattle.std.specs.Prelude.{◌≡◌, true, [], ◌∷◌, ◌+◌, ◌-◌, ◌<◌, ◌≤◌, ◌^◌, ◌++◌, length, take, drop, IfSome};
+ghost use Rattle.cuts.specs.Recoded.{Lacks};
+ghost use Rattle.cuts.specs.Rooms.{FeedsInto, FinishesInto, IsFull, IsLastFull, most_bytes};
+ghost use Rattle.c_api.specs.Api.{form_of, IsRecoder, recoder_of};
+
+use cuts::{Form, Recoder, room_for};
+
+/// A recoder, which the caller keeps.
+#[repr(C)]
+#[derive(Clone, Copy, Drop)]
+pub struct NodyRecoder {
+    /// The form of the input: 0 for UTF-8, 1 and 2 for UTF-16 with the low and the high byte first.
+    pub from: u8,
+    /// The form of the output.
+    pub to: u8,
+    /// How many bytes are held.
+    pub count: u8,
+    /// The bytes that are held, and others after them.
+    pub held: [u8; 3],
+}
+
+// What calls answer: all was done, there was no room for the next code, or the arguments are wrong.
+const DONE: u8 = 0;
+
+pub(crate) const FULL: u8 = 1;
+
+pub(crate) const REFUSED: u8 = 2;
+
+// The form of a number.
+pub(crate) fn form_of(number: u8) -> Form
+    requires { number < 3 }
+    ensures { result ≡ form_of number }
+{
+    match number {
+        0 => Form::Utf8,
+        1 => Form::Utf16Le,
+        _ => Form::Utf16Be,
+    }
+}
+
+// Whether the struct is a recoder.
+fn is_recoder(recoder: &NodyRecoder) -> bool
+    ensures yes { result ≡ true → IsRecoder recoder.now }
+    ensures no { IsRecoder recoder.now → result ≡ true }
+{
+    recoder.from < 3 && recoder.to < 3 && recoder.count <= 3
+}
+
+/// A recoder that holds nothing.
+#[unsafe(no_mangle)]
+pub extern "C" fn nody_recoder(from: u8, to: u8) -> NodyRecoder
+    ensures { result ≡ record { from = from; to = to; count = 0; held = 0 ∷ 0 ∷ 0 ∷ [] } }
+{
+    NodyRecoder {
+        from,
+        to,
+        count: 0,
+        held: [0; 3],
+    }
+}
+
+// The recoder that the struct is.
+fn opened(recoder: &NodyRecoder) -> Recoder
+    requires { IsRecoder recoder.now }
+    ensures { result ≡ recoder_of recoder.now }
+{
+    Recoder::holding(
+        form_of(recoder.from),
+        form_of(recoder.to),
+        &recoder.held[..recoder.count as usize],
+    )
+}
+
+// Puts into the struct what the recoder holds.
+fn keep(recoder: &mut NodyRecoder, inner: &Recoder)
+    requires from { inner.now.from ≡ form_of recoder.old.from }
+    requires to { inner.now.to ≡ form_of recoder.old.to }
+    ensures kept { recoder_of recoder.new ≡ inner.now }
+    ensures count { recoder.new.count ≡ length inner.now.held }
+    ensures is_recoder { IsRecoder recoder.old → IsRecoder recoder.new }
+{
+    let held = inner.held();
+    recoder.count = held.len() as u8;
+    recoder.held[..held.len()].copy_from_slice(held);
+}
+
+/// Feeds a part, as far as there is room, and answers 0 where all of it was read, 1 where the next code does not fit,
+/// and 2, with nothing changed, where the struct is no recoder.
+#[unsafe(no_mangle)]
+pub extern "C" fn nody_recoder_feed(
+    recoder: &mut NodyRecoder,
+    part: &[u8],
+    room: &mut [u8],
+    read: &mut usize,
+    written: &mut usize,
+) -> u8
+    ensures recoder { IsRecoder recoder.old → IsRecoder recoder.new }
+    ensures feeds { IsRecoder recoder.old → FeedsInto (recoder_of recoder.old) part.now room.old room.new read.new written.new (recoder_of recoder.new) }
+    ensures all { IsRecoder recoder.old → result ≡ 0 → read.new ≡ length part.now }
+    ensures waits { IsRecoder recoder.old → result ≡ 0 → Lacks (form_of recoder.old.from) (take recoder.new.count recoder.new.held) }
+    ensures full { IsRecoder recoder.old → result ≡ 1 → IsFull (recoder_of recoder.new) (take recoder.new.count recoder.new.held ++ drop read.new part.now) (length room.old - written.new) }
+    ensures short { IsRecoder recoder.old → result ≡ 1 → length room.old < written.new + 4 }
+    ensures status { IsRecoder recoder.old → result < 2 }
+    ensures refused { result ≡ 2 → (recoder.new ≡ recoder.old) × (room.new ≡ room.old) }
+    ensures none { result ≡ 2 → (read.new ≡ 0) × (written.new ≡ 0) }
+    ensures wrong { ¬ IsRecoder recoder.old → result ≡ 2 }
+{
+    *read = 0;
+    *written = 0;
+    if !is_recoder(recoder) {
+        return REFUSED;
+    }
+    let mut inner = opened(recoder);
+    let progress = inner.feed_into(part, room);
+    keep(recoder, &inner);
+    *read = progress.read;
+    *written = progress.written;
+    if progress.is_full { FULL } else { DONE }
+}
+
+/// Puts out what is held, which nothing follows, as far as there is room, and answers 0 where nothing is held any more,
+/// 1 where the next code does not fit, and 2, with nothing changed, where the struct is no recoder.
+#[unsafe(no_mangle)]
+pub extern "C" fn nody_recoder_finish(
+    recoder: &mut NodyRecoder,
+    room: &mut [u8],
+    written: &mut usize,
+) -> u8
+    ensures recoder { IsRecoder recoder.old → IsRecoder recoder.new }
+    ensures finishes { IsRecoder recoder.old → FinishesInto (recoder_of recoder.old) room.old room.new written.new (recoder_of recoder.new) }
+    ensures all { IsRecoder recoder.old → result ≡ 0 → recoder.new.count ≡ 0 }
+    ensures full { IsRecoder recoder.old → result ≡ 1 → IsLastFull (recoder_of recoder.new) (take recoder.new.count recoder.new.held) (length room.old - written.new) }
+    ensures short { IsRecoder recoder.old → result ≡ 1 → length room.old < written.new + 4 }
+    ensures status { IsRecoder recoder.old → result < 2 }
+    ensures refused { result ≡ 2 → (recoder.new ≡ recoder.old) × (room.new ≡ room.old) }
+    ensures none { result ≡ 2 → written.new ≡ 0 }
+    ensures wrong { ¬ IsRecoder recoder.old → result ≡ 2 }
+{
+    *written = 0;
+    if !is_recoder(recoder) {
+        return REFUSED;
+    }
+    let mut inner = opened(recoder);
+    let progress = inner.finish_into(room);
+    keep(recoder, &inner);
+    *written = progress.written;
+    if progress.is_full { FULL } else { DONE }
+}
+
+/// The most bytes that so many bytes are recoded as, or all ones where a `size_t` cannot count them, or a form is none.
+#[unsafe(no_mangle)]
+pub extern "C" fn nody_recoded_len_max(from: u8, to: u8, len: usize) -> usize
+    ensures most { from < 3 → to < 3 → most_bytes (form_of from) (form_of to) len < 2 ^ 64 → result ≡ most_bytes (form_of from) (form_of to) len }
+    ensures none { from < 3 → to < 3 → 2 ^ 64 ≤ most_bytes (form_of from) (form_of to) len → result ≡ 2 ^ 64 - 1 }
+    ensures from { 3 ≤ from → result ≡ 2 ^ 64 - 1 }
+    ensures to { 3 ≤ to → result ≡ 2 ^ 64 - 1 }
+{
+    if 3 <= from || 3 <= to {
+        return usize::MAX;
+    }
+    match room_for(form_of(from), form_of(to), len) {
+        Some(room) => room,
+        None => usize::MAX,
+    }
+}
+
+/// How many bytes the recoder holds, at most three, or all ones where the struct is no recoder. They are written where the room
+/// has so many places.
+#[unsafe(no_mangle)]
+pub extern "C" fn nody_recoder_held(recoder: &NodyRecoder, room: &mut [u8]) -> usize
+    ensures count { IsRecoder recoder.now → result ≡ recoder.now.count }
+    ensures written { IsRecoder recoder.now → recoder.now.count ≤ length room.old → room.new ≡ take recoder.now.count recoder.now.held ++ drop recoder.now.count room.old }
+    ensures short { IsRecoder recoder.now → length room.old < recoder.now.count → room.new ≡ room.old }
+    ensures wrong { ¬ IsRecoder recoder.now → result ≡ 2 ^ 64 - 1 }
+    ensures unwritten { ¬ IsRecoder recoder.now → room.new ≡ room.old }
+{
+    if !is_recoder(recoder) {
+        return usize::MAX;
+    }
+    let held = &recoder.held[..recoder.count as usize];
+    if held.len() <= room.len() {
+        room[..held.len()].copy_from_slice(held);
+    }
+    held.len()
+}

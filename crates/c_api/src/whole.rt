@@ -1,0 +1,78 @@
+//! Recoding of a whole input in one call.
+ghost use Rattle.std.specs.Prelude.{◌≡◌, ◌-◌, ◌<◌, ◌≤◌, ◌^◌, length, take, drop};
+ghost use Rattle.cuts.specs.Recoded.{IsRecoded};
+ghost use Rattle.c_api.specs.Whole.{IsLongerThan, BeginsRecoded, IsRecodedLen};
+ghost use Rattle.c_api.specs.Api.{form_of};
+
+use crate::recodings::{FULL, REFUSED, nody_recoder, nody_recoder_feed, nody_recoder_finish};
+
+// How many bytes are fed at once where only their number is asked for, and room for all that comes of them.
+const PART: usize = 256;
+
+const ROOM: usize = 1024;
+
+/// Recodes all of the bytes into the room, and answers 0 where all of it fitted, 1 where the room is too small, and 2, with
+/// nothing changed, where a form is none.
+#[unsafe(no_mangle)]
+pub extern "C" fn nody_recode(
+    from: u8,
+    to: u8,
+    bytes: &[u8],
+    room: &mut [u8],
+    written: &mut usize,
+) -> u8
+    ensures fits { written.new ≤ length room.old }
+    ensures rest { drop written.new room.new ≡ drop written.new room.old }
+    ensures all { result ≡ 0 → IsRecoded (form_of from) (form_of to) bytes.now (take written.new room.new) }
+    ensures full { result ≡ 1 → IsLongerThan (form_of from) (form_of to) bytes.now (length room.old) }
+    ensures front { result ≡ 1 → BeginsRecoded (form_of from) (form_of to) bytes.now (take written.new room.new) }
+    ensures status { from < 3 → to < 3 → result < 2 }
+    ensures refused { result ≡ 2 → (written.new ≡ 0) × (room.new ≡ room.old) }
+    ensures from { 3 ≤ from → result ≡ 2 }
+    ensures to { 3 ≤ to → result ≡ 2 }
+{
+    *written = 0;
+    if 3 <= from || 3 <= to {
+        return REFUSED;
+    }
+    let mut recoder = nody_recoder(from, to);
+    let mut read = 0;
+    if nody_recoder_feed(&mut recoder, bytes, room, &mut read, written) == FULL {
+        return FULL;
+    }
+    let mut last = 0;
+    let status = nody_recoder_finish(&mut recoder, &mut room[*written..], &mut last);
+    *written += last;
+    status
+}
+
+/// How many bytes all of these are recoded as, or all ones where a `size_t` cannot count them, or a form is none.
+#[unsafe(no_mangle)]
+pub extern "C" fn nody_recoded_len(from: u8, to: u8, bytes: &[u8]) -> usize
+    ensures len { from < 3 → to < 3 → IsRecodedLen (form_of from) (form_of to) bytes.now result }
+    ensures from { 3 ≤ from → result ≡ 2 ^ 64 - 1 }
+    ensures to { 3 ≤ to → result ≡ 2 ^ 64 - 1 }
+{
+    if 3 <= from || 3 <= to {
+        return usize::MAX;
+    }
+    let mut recoder = nody_recoder(from, to);
+    let mut room = [0; ROOM];
+    let (mut read, mut written) = (0, 0);
+    let mut len: usize = 0;
+    let mut place = 0;
+    while place < bytes.len() {
+        let end = bytes.len().min(place + PART);
+        nody_recoder_feed(
+            &mut recoder,
+            &bytes[place..end],
+            &mut room,
+            &mut read,
+            &mut written,
+        );
+        len = len.saturating_add(written);
+        place = end;
+    }
+    nody_recoder_finish(&mut recoder, &mut room, &mut written);
+    len.saturating_add(written)
+}

@@ -1,3 +1,0 @@
--- Lemmas on a table of pieces.
-pub mod Decoding
-pub mod TableRuns

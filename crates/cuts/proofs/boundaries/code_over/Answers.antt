@@ -1,0 +1,15 @@
+use Rattle.std.proofs.Common.{arith}
+use Rattle.cuts.proofs.BoundaryLemmas.{none_over, over_found, over_push}
+use Rattle.cuts.proofs.boundaries.code_over.Goals as goal
+
+pub loop-start-init : goal.loop-start-init
+loop-start-init c k s from before stands = let first = c.saturating_sub-start.ensures in absurd (omega arith)
+
+pub loop-start-preserved : goal.loop-start-preserved
+loop-start-preserved c = over_push _ _ _ _ _ c.loop-start.invariant c.end_of_code-end.ensures c.if-place-end.false
+
+pub returns-then-place-end : goal.returns-then-place-end
+returns-then-place-end c = over_found _ _ _ _ c.end_of_code-end.ensures c.loop-start-test.true c.if-place-end.true
+
+pub returns : goal.returns
+returns c = none_over _ _ c.requires (λ k s from before stands. c.loop-start.invariant k s from (let past = c.loop-start-test.false in omega arith) stands)

@@ -1,6 +1,0 @@
-use Rattle.std.proofs.Common.{eqb-true}
-use Rattle.cuts.proofs.OfRecoding.AsciiTexts.{ascii_lanes}
-use Rattle.cuts.proofs.recoding.ascii_texts.is_ascii_16.Goals as goal
-
-pub returns : goal.returns
-returns c holds = ascii_lanes c.args.bytes.now c.args.place c.requires (eqb-true _ _ holds)

@@ -1,9 +1,0 @@
-use Rattle.std.proofs.Common.{◌-◌, ◌≤◌, length}
-use Rattle.cuts.specs.Recoding.AsciiTexts.{AreAscii}
-use Rattle.cuts.proofs.recoding.ascii_texts.is_ascii_each.Given as goal
-
-abbrev pub invariant-loop-place : goal.invariant-loop-place
-invariant-loop-place l = (l.place ≤ length l.bytes) × AreAscii l.bytes 0 l.place
-
-abbrev pub decreases-loop-place : goal.decreases-loop-place
-decreases-loop-place l = length l.bytes - l.place

@@ -1,5 +1,0 @@
-use Rattle.cuts.proofs.OfRecoding.FrontBytes.{Ends-from_decides}
-use Rattle.cuts.proofs.recoding.shown_fronts.last_front.Goals as goal
-
-pub returns-in-Some : goal.returns-in-Some
-returns-in-Some c = Ends-from_decides _ _ _ _ c.in-Some.ensures.some

@@ -1,9 +1,0 @@
-use Rattle.std.proofs.Common.{◌-◌, length}
-use Rattle.cuts.specs.Recoding.UnitRuns.{PairsTo}
-use Rattle.cuts.proofs.recoding.unit_blocks.paired_wide.Given as goal
-
-abbrev pub invariant-loop-place : goal.invariant-loop-place
-invariant-loop-place l = PairsTo l.high_first l.bytes l.start l.place
-
-abbrev pub decreases-loop-place : goal.decreases-loop-place
-decreases-loop-place l = length l.bytes - l.place

@@ -1,6 +1,0 @@
-use Rattle.std.proofs.Common.{eqb-true}
-use Rattle.cuts.proofs.OfRecoding.UnitSlots.{all_ascii}
-use Rattle.cuts.proofs.recoding.unit_bytes.are_ascii.Goals as goal
-
-pub returns : goal.returns
-returns c holds = all_ascii c.args.low c.args.high c.fits-low.0 c.fits-high.0 (eqb-true _ _ holds)

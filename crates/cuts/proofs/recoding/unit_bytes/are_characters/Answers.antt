@@ -1,6 +1,0 @@
-use Rattle.std.proofs.Common.{eqb-true}
-use Rattle.cuts.proofs.OfRecoding.UnitSlots.{none_equal}
-use Rattle.cuts.proofs.recoding.unit_bytes.are_characters.Goals as goal
-
-pub returns : goal.returns
-returns c holds = none_equal c.args.high c.fits-high.0 (eqb-true _ _ holds)

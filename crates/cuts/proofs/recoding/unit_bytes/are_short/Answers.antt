@@ -1,6 +1,0 @@
-use Rattle.std.proofs.Common.{eqb-true}
-use Rattle.cuts.proofs.OfRecoding.UnitSlots.{all_short}
-use Rattle.cuts.proofs.recoding.unit_bytes.are_short.Goals as goal
-
-pub returns : goal.returns
-returns c holds = all_short c.args.high c.fits-high.0 (eqb-true _ _ holds)

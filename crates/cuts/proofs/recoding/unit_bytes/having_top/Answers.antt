@@ -1,8 +1,0 @@
-use Rattle.cuts.proofs.OfRecoding.UnitSlots.{top_most, top_bits}
-use Rattle.cuts.proofs.recoding.unit_bytes.having_top.Goals as goal
-
-pub returns-clause-most : goal.returns-clause-most
-returns-clause-most c = top_most c.args.high c.args.top c.fits-high.0
-
-pub returns-clause-bits : goal.returns-clause-bits
-returns-clause-bits c = top_bits c.args.high c.args.top c.fits-high.0

@@ -1,6 +1,0 @@
-use Rattle.std.proofs.Common.{take, drop, arith, length-take, length-drop}
-use Rattle.cuts.proofs.OfRecoding.SwappedBytes.{lanes_swapped}
-use Rattle.cuts.proofs.recoding.unit_copies.swapped_16.Goals as goal
-
-pub returns : goal.returns
-returns c = lanes_swapped (take 16 (drop c.args.place c.args.bytes.now)) 8 (omega (arith, length-take 16 (drop c.args.place c.args.bytes.now), length-drop c.args.place c.args.bytes.now))

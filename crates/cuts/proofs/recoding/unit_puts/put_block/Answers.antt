@@ -1,8 +1,0 @@
-use Rattle.std.proofs.Common.{◌∙◌}
-use Rattle.cuts.proofs.OfRecoding.TextUnits.{given_here, two_halves}
-use Rattle.cuts.proofs.recoding.unit_puts.put_block.Goals as goal
-
-pub returns-clause-items : goal.returns-clause-items
-returns-clause-items g c =
-    two_halves _ _ _ _ _ _ c.put_half.ensures.items c.put_half-2.ensures.items
-    (c.block_units.ensures.units ∙ given_here c.args.high_first c.args.text.now c.args.place c.args.skipped _ c.requires.start)

@@ -1,0 +1,14 @@
+use Rattle.std.proofs.lemmas.List.{take_rest}
+use Rattle.cuts.proofs.UnitFaults.{good_unit_front, good_unit_step, good_unit_all}
+use Rattle.cuts.proofs.runs.unit_bytes.unit_bytes_valid_up_to.Goals as goal
+
+pub loop-len-init : goal.loop-len-init
+loop-len-init c = good_unit_front c.args.high_first c.args.bytes.now
+
+pub loop-len-preserved : goal.loop-len-preserved
+loop-len-preserved c =
+    good_unit_step c.args.high_first c.args.bytes.now c.loop-len.place c.in-Some.len c.loop-len.invariant (rw (take_rest c.args.bytes.now c.loop-len.place) at c.in-Some.ensures.some)
+
+pub returns : goal.returns
+returns c =
+    good_unit_all c.args.high_first c.args.bytes.now c.loop-len.place c.loop-len.invariant (rw (take_rest c.args.bytes.now c.loop-len.place) at c.in_default.ensures.none)

@@ -1,0 +1,115 @@
+-- What a run of a program has done once it ends.
+use Rattle.std.specs.Prelude.{◌≡◌, ℕ, ◌-◌, ◌^◌, ◌<◌, ◌==◌, ◌⊎◌, Bool, true, IsTrue, if◌then◌else◌, List, [], ◌∷◌, ◌++◌, length, Option, Some, IfSome, codes}
+use Rattle.std.specs.Io.KnownBytes.{Appends}
+use Rattle.cuts.specs.declared.programs.stops.Stop.{Stop}
+use Rattle.cuts.specs.declared.programs.stops.Stop.TheVariants.{WrongArguments, CannotRead, CannotWrite, NoMemory}
+use Rattle.cuts.specs.Failures.{Counting, Reads, AppendsFront}
+use Rattle.cuts.specs.Arguments.{Asked, listed, merged, walked}
+use Rattle.cuts.specs.Layouts.{forward_layout, merged_layout, walk_layout, WritesRun, WritesRunFront}
+use Rattle.cuts.specs.declared.programs.relayed.RecodeFault.{RecodeFault}
+use Rattle.cuts.specs.declared.programs.relayed.RecodeFault.TheVariants.{Read, Write, Memory}
+
+-- the status of a program that ends early
+abbrev pub status_of : Stop → ℕ
+status_of WrongArguments = 2
+status_of CannotRead = 3
+status_of CannotWrite = 3
+status_of NoMemory = 3
+
+-- what is said of it on standard error
+abbrev pub stop_text : Stop → List ℕ
+stop_text WrongArguments = codes "wrong arguments"
+stop_text CannotRead = codes "cannot read"
+stop_text CannotWrite = codes "cannot write"
+stop_text NoMemory = codes "no memory"
+
+-- the line on standard error: the program's name, why it ended early, and the end of the line, 10
+abbrev pub stop_line : List ℕ → Stop → List ℕ
+stop_line name stop = name ++ codes ": " ++ stop_text stop ++ 10 ∷ []
+
+-- a reader whose bytes were known is at their end
+abbrev pub IsDrained : Option (List ℕ) → Option (List ℕ) → Type 0
+IsDrained old new = IfSome old (λ xs. new ≡ Some [])
+
+-- known bytes grew by the lines of what was asked for of xs, of which so many are error lines
+abbrev pub WritesAsked : Asked → List ℕ → Option (List ℕ) → Option (List ℕ) → ℕ → Type 0
+WritesAsked listed xs old new faults = WritesRun forward_layout xs old new faults
+WritesAsked merged xs old new faults = WritesRun merged_layout xs old new faults
+WritesAsked (walked word) xs old new faults = WritesRun (walk_layout word) xs old new faults
+
+-- known bytes grew by a front of these lines
+abbrev pub WritesAskedFront : Asked → List ℕ → Option (List ℕ) → Option (List ℕ) → Type 0
+WritesAskedFront listed xs old new = WritesRunFront forward_layout xs old new
+WritesAskedFront merged xs old new = WritesRunFront merged_layout xs old new
+WritesAskedFront (walked word) xs old new = WritesRunFront (walk_layout word) xs old new
+
+-- the whole input was read, and the lines of what was asked for were written, of which so many are error lines
+pub record DoesAsked (asked : Asked) (input old new : Option (List ℕ)) (faults : ℕ) : Type 0 where
+  pub bytes : List ℕ
+  pub read : IfSome input (λ xs. bytes ≡ xs)
+  pub lines : WritesAsked asked bytes old new faults
+
+-- the same, and the status says whether there is an error line
+pub record TellsAsked (asked : Asked) (input old new : Option (List ℕ)) (status : ℕ) : Type 0 where
+  pub faults : ℕ
+  pub run : DoesAsked asked input old new faults
+  pub told : status ≡ (if faults == 0 then 0 else 1)
+
+-- what was written is a front of the lines of what was asked for of what the input held
+pub record BeginsAsked (asked : Asked) (input old new : Option (List ℕ)) : Type 0 where
+  pub bytes : List ℕ
+  pub read : IfSome input (λ xs. bytes ≡ xs)
+  pub lines : WritesAskedFront asked bytes old new
+
+-- where a program could not write, its output failed; where it ended early for another reason, the output is as it was
+abbrev pub FailsOrStays : {T : Type 0} → Counting T → Counting T → Stop → Type 0
+FailsOrStays old new WrongArguments = new ≡ old
+FailsOrStays old new CannotRead = new ≡ old
+FailsOrStays old new CannotWrite = old.failures < new.failures
+FailsOrStays old new NoMemory = new ≡ old
+
+-- where a program could not write, its output failed; where it ended early for another reason, it did not
+abbrev pub FailsOrIsQuiet : {T : Type 0} → Counting T → Counting T → Stop → Type 0
+FailsOrIsQuiet old new WrongArguments = new.failures ≡ old.failures
+FailsOrIsQuiet old new CannotRead = new.failures ≡ old.failures
+FailsOrIsQuiet old new CannotWrite = old.failures < new.failures
+FailsOrIsQuiet old new NoMemory = new.failures ≡ old.failures
+
+-- where a program could not write, a write or a flush of its output failed; where it ended early for another reason, the output
+-- is as it was
+abbrev pub FlushFailsOrStays : {T : Type 0} → Counting T → Counting T → Stop → Type 0
+FlushFailsOrStays old new WrongArguments = new ≡ old
+FlushFailsOrStays old new CannotRead = new ≡ old
+FlushFailsOrStays old new CannotWrite = (old.failures < new.failures) ⊎ (old.extras.failed_flushes < new.extras.failed_flushes)
+FlushFailsOrStays old new NoMemory = new ≡ old
+
+-- Where reads are counted and a program could not read, one of them failed, but for a reader of as many bytes as there are
+-- reads; where it ended for another reason, no read was broken off.
+abbrev pub ReadsUntil : {R : Type 0} → Bool → (R → Option (List ℕ)) → (R → ℕ) → (R → Reads) → R → R → Stop → Type 0
+ReadsUntil counted left failures reads old new CannotRead = IsTrue counted → IfSome (left old) (λ xs. length xs < 2 ^ 64 - 1 → failures old < failures new)
+ReadsUntil counted left failures reads old new WrongArguments = IsTrue counted → (reads new).broken ≡ (reads old).broken
+ReadsUntil counted left failures reads old new CannotWrite = IsTrue counted → (reads new).broken ≡ (reads old).broken
+ReadsUntil counted left failures reads old new NoMemory = IsTrue counted → (reads new).broken ≡ (reads old).broken
+
+-- the same of a reader whose reads are counted
+abbrev pub CountsUntil : {R : Type 0} → (R → Option (List ℕ)) → Counting R → Counting R → Stop → Type 0
+CountsUntil left old new stop = ReadsUntil true (λ c. left c.inner) (λ c. c.failures) (λ c. c.reads) old new stop
+
+-- known bytes grew by a front of this line, and by the whole of it where writes are counted and none failed
+pub record Says {E : Type 0} (counted : Bool) (failures : E → ℕ) (contents : E → Option (List ℕ)) (old new : E) (line : List ℕ) : Type 0 where
+  pub front : AppendsFront (contents old) (contents new) line
+  pub whole : IsTrue counted → failures new ≡ failures old → Appends (contents old) (contents new) line
+
+-- a program ended early, and its input, its output, its line on standard error and its status are all of one reason
+pub record EndsEarly (name : List ℕ) (reads writes : Stop → Type 0) (says : List ℕ → Type 0) (status : ℕ) : Type 0 where
+  pub reason : Stop
+  pub input : reads reason
+  pub output : writes reason
+  pub line : says (stop_line name reason)
+  pub told : status ≡ status_of reason
+
+-- why a program ends at a fault
+abbrev pub reason_of : RecodeFault → Stop
+reason_of Read = CannotRead
+reason_of Write = CannotWrite
+reason_of Memory = NoMemory

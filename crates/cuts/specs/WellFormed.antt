@@ -1,0 +1,37 @@
+-- How far a list is well-formed.
+use Rattle.std.specs.Prelude.{◌≡◌, ℕ, ◌+◌, ◌*◌, ◌/◌, ◌<◌, ◌≤◌, Bool, List, [], ◌∷◌, length, None, is_ok, if◌then◌else◌}
+use Rattle.utf_base.specs.Code.{utf16}
+use Rattle.utf_base.specs.Front.{BeginsWith, NoneBegins}
+use Rattle.utf_lanes.specs.BytePairs.{units_of}
+use Rattle.utf_base.specs.Piece.{Piece, IsPiece}
+use Rattle.encode_unicode.specs.Window.{Placed}
+
+-- the first fault of the list begins at the place n, or there is none, and n is the length of the list
+pub record IsFirstFault (code : ℕ → List ℕ) (xs : List ℕ) (n : ℕ) : Type 0 where
+  pub within : n ≤ length xs
+  pub none : (x : Piece) → IsPiece code xs x → x.char ≡ None → n ≤ x.start
+  pub fault : n < length xs → IsPiece code xs (record { start = n; len = 1; char = None })
+
+-- how many elements stand before the first fault of some pieces, which are all where none is a fault
+abbrev pub valid_len : {E : Type 0} → List (Placed E) → ℕ
+valid_len [] = 0
+valid_len (x ∷ items) = if is_ok x.1 then x.2 + valid_len items else 0
+
+-- the bytes begin with the n bytes of a character in UTF-16
+pub record BeginsUnits (high_first : Bool) (bytes : List ℕ) (n : ℕ) : Type 0 where
+  pub char : ℕ
+  pub begins : BeginsWith utf16 (units_of high_first bytes) char (n / 2)
+  pub even : n ≡ 2 * (n / 2)
+  pub within : n ≤ length bytes
+  pub least : 0 < n
+
+-- where they are a unit or more, no character begins them
+abbrev pub NoUnitsBegin : Bool → List ℕ → Type 0
+NoUnitsBegin high_first bytes = 2 ≤ length bytes → NoneBegins utf16 (units_of high_first bytes)
+
+-- the first fault of bytes that are UTF-16 begins at the place n, which is that of a unit, or there is none, and n is their length.
+-- A single byte at the end is a fault.
+pub record IsFirstUnitFault (high_first : Bool) (bytes : List ℕ) (n : ℕ) : Type 0 where
+  pub within : n ≤ length bytes
+  pub even : n ≡ 2 * (n / 2)
+  pub first : IsFirstFault utf16 (units_of high_first bytes) (n / 2)

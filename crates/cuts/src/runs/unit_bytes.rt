@@ -1,0 +1,43 @@
+//! How far bytes are well-formed UTF-16.
+ghost use Rattle.std.specs.Prelude.{ℕ, ◌≡◌, ◌≤◌, IfSome, IfNone, length};
+ghost use Rattle.cuts.specs.WellFormed.{IsFirstUnitFault, BeginsUnits, NoUnitsBegin};
+
+use encode_unicode::CharExt;
+use utf_lanes::byte_pairs::unit;
+
+/// The offset in bytes of the first lone surrogate in bytes of UTF-16, or the length where there is
+/// none. A single byte at the end is invalid too. `high_first` says that the bytes are big-endian.
+///
+/// Cost: O(n).
+pub fn unit_bytes_valid_up_to(high_first: bool, bytes: &[u8]) -> usize
+    ensures { IsFirstUnitFault high_first bytes.now result }
+{
+    let mut place = 0;
+    while let Some(len) = first_len(high_first, &bytes[place..]) {
+        place += len;
+    }
+    place
+}
+
+// How many bytes the character has that begins the bytes; `None` where none does.
+#[inline(always)]
+fn first_len(high_first: bool, bytes: &[u8]) -> Option<usize>
+    ensures some { IfSome result (λ n. BeginsUnits high_first bytes.now n) }
+    ensures none { IfNone result (NoUnitsBegin high_first bytes.now) }
+{
+    if bytes.len() < 2 {
+        return None;
+    }
+    let first = unit(high_first, bytes[0], bytes[1]);
+    if bytes.len() < 4 {
+        return match char::from_utf16_slice_start(&[first]) {
+            Ok(_) => Some(2),
+            Err(_) => None,
+        };
+    }
+    let second = unit(high_first, bytes[2], bytes[3]);
+    match char::from_utf16_slice_start(&[first, second]) {
+        Ok((_, len)) => Some(2 * len),
+        Err(_) => None,
+    }
+}

@@ -1,0 +1,91 @@
+-- Blocks of eight units of ASCII, and what bytes of units show.
+use Rattle.std.proofs.Common.{◌≡◌, ℕ, zero, suc, ◌-◌, ◌*◌, ◌%◌, ◌<◌, Bool, List, [], ◌∷◌, ◌++◌, map, length, get_or, flat_map, arith, refl, ap, ap₂, sym, ◌∙◌, append_assoc}
+use Rattle.utf_base.specs.Code.{utf8, utf16}
+use Rattle.utf_base.specs.Shown.{Shows}
+use Rattle.utf_base.proofs.Rests.{whole_code_shows_first}
+use Rattle.utf_base.proofs.Utf8Code.{utf8-1, ascii_is_scalar}
+use Rattle.utf_base.proofs.Utf16Code.{utf16_is_code, utf16-1}
+use Rattle.recoding.specs.declared.form.Form.{Form}
+use Rattle.recoding.specs.declared.form.Form.TheVariants.{Utf8, Utf16Le, Utf16Be}
+use Rattle.utf_lanes.specs.AsciiTexts.{AreAscii}
+use Rattle.recoding.specs.ShownFronts.{IsUnits}
+use Rattle.recoding.specs.Recoded.{Reads, ShowsUnits, odd_end}
+use Rattle.utf_lanes.specs.BytePairs.{unit_of, units_of}
+use Rattle.recoding.specs.ShownFronts.{ShowsEach}
+use Rattle.recoding.proofs.Listed.{listed}
+
+-- What bytes of units show.
+
+pub units_append : (high : Bool) (v later : List ℕ) (k : ℕ) → length v ≡ 2 * k → units_of high (v ++ later) ≡ units_of high v ++ units_of high later
+units_append high [] later k h = refl
+units_append high (a ∷ []) later k h = absurd (omega arith)
+units_append high (a ∷ b ∷ v) later k h = ap (λ us. unit_of high a b ∷ us) (units_append high v later (k - 1) (omega arith))
+
+pub odd_append : (v later : List ℕ) (k : ℕ) → length v ≡ 2 * k → odd_end (v ++ later) ≡ odd_end later
+odd_append [] later k h = refl
+odd_append (a ∷ []) later k h = absurd (omega arith)
+odd_append (a ∷ b ∷ v) later k h = odd_append v later (k - 1) (omega arith)
+
+pub as_read : (high : Bool) (from : Form) (v ts : List ℕ) → IsUnits high from → ShowsEach (ShowsUnits high) v ts → ShowsEach (Reads from) v ts
+as_read high Utf8 v ts form h = absurd form
+as_read high Utf16Le v ts form h = rw form at h
+as_read high Utf16Be v ts form h = rw form at h
+
+ascii_shows : (us later ss : List ℕ) → AreAscii us 0 (length us) → Shows utf16 later ss → Shows utf16 (us ++ later) (us ++ ss)
+ascii_shows [] later ss low r = r
+ascii_shows (u ∷ us) later ss low r =
+    let first : u < 0x80 = low 0 (omega arith) (omega arith) in
+    whole_code_shows_first utf16 utf16_is_code (u ∷ []) (us ++ later) u (us ++ ss) (ascii_is_scalar u first) (sym (utf16-1 u (omega arith)))
+    (ascii_shows us later ss (λ k ge lt. low (suc k) (omega arith) (omega arith)) r)
+
+-- Eight units of ASCII.
+
+pub block_shows : (high : Bool) (v us ascii : List ℕ) → length v ≡ 16 → length us ≡ 8 → us ≡ units_of high v → AreAscii us 0 8 → ascii ≡ us → ShowsEach (ShowsUnits high) v ascii
+block_shows high v us ascii even eight e low same =
+    let each : AreAscii us 0 (length us) = λ k ge lt. low k ge (omega arith) in
+    let shows : ShowsEach (ShowsUnits high) v us = λ later ss (ts, r, f). (
+      us ++ ts,
+      rw (units_append high v later 8 even, ← e) (ascii_shows us (units_of high later) ts each r),
+      ap (λ xs. us ++ xs) f ∙ sym (append_assoc us ts (odd_end later)) ∙ ap (λ o. (us ++ ts) ++ o) (sym (odd_append v later 8 even)),
+    ) in
+    rw same shows
+
+ascii_codes : (us : List ℕ) → AreAscii us 0 (length us) → flat_map utf8 us ≡ us
+ascii_codes [] low = refl
+ascii_codes (u ∷ us) low =
+    ap₂ (λ xs ys. xs ++ ys) (utf8-1 u (low 0 (omega arith) (omega arith))) (ascii_codes us (λ k ge lt. low (suc k) (omega arith) (omega arith)))
+
+pub block_codes : (us : List ℕ) → length us ≡ 8 → AreAscii us 0 8 → flat_map utf8 us ≡ us
+block_codes us eight low = ascii_codes us (λ k ge lt. low k ge (omega arith))
+
+-- the eight units of sixteen bytes
+pub eight_units : (high : Bool) (w : List ℕ) → length w ≡ 16
+    → unit_of high (get_or w 0 0) (get_or w 1 0) ∷ unit_of high (get_or w 2 0) (get_or w 3 0) ∷ unit_of high (get_or w 4 0) (get_or w 5 0) ∷ unit_of high (get_or w 6 0) (get_or w 7 0) ∷ unit_of high (get_or w 8 0) (get_or w 9 0) ∷ unit_of high (get_or w 10 0) (get_or w 11 0) ∷ unit_of high (get_or w 12 0) (get_or w 13 0) ∷ unit_of high (get_or w 14 0) (get_or w 15 0) ∷ []
+    ≡ units_of high w
+eight_units high w h = ap (units_of high) (listed 16 w h)
+
+low_bytes : (us : List ℕ) → AreAscii us 0 (length us) → map (λ u. u % 256) us ≡ us
+low_bytes [] low = refl
+low_bytes (u ∷ us) low =
+    let first : u < 0x80 = low 0 (omega arith) (omega arith) in
+    let same : u % 256 ≡ u = omega arith in
+    ap₂ (λ x xs. x ∷ xs) same (low_bytes us (λ k ge lt. low (suc k) (omega arith) (omega arith)))
+
+-- the same numbers as bytes
+pub eight_bytes : (us : List ℕ) → length us ≡ 8 → AreAscii us 0 8
+    → get_or us 0 0 % 256 ∷ get_or us 1 0 % 256 ∷ get_or us 2 0 % 256 ∷ get_or us 3 0 % 256 ∷ get_or us 4 0 % 256 ∷ get_or us 5 0 % 256 ∷ get_or us 6 0 % 256 ∷ get_or us 7 0 % 256 ∷ []
+    ≡ us
+eight_bytes us h low = ap (map (λ u. u % 256)) (listed 8 us h) ∙ low_bytes us (λ k ge lt. low k ge (omega arith))
+
+-- each of eight
+pub all_eight : (w : List ℕ) → get_or w 0 0 < 0x80 → get_or w 1 0 < 0x80 → get_or w 2 0 < 0x80 → get_or w 3 0 < 0x80 → get_or w 4 0 < 0x80 → get_or w 5 0 < 0x80 → get_or w 6 0 < 0x80 → get_or w 7 0 < 0x80
+    → AreAscii w 0 8
+all_eight w a b c d e f g h zero ge lt = a
+all_eight w a b c d e f g h (suc zero) ge lt = b
+all_eight w a b c d e f g h (suc (suc zero)) ge lt = c
+all_eight w a b c d e f g h (suc (suc (suc zero))) ge lt = d
+all_eight w a b c d e f g h (suc (suc (suc (suc zero)))) ge lt = e
+all_eight w a b c d e f g h (suc (suc (suc (suc (suc zero))))) ge lt = f
+all_eight w a b c d e f g h (suc (suc (suc (suc (suc (suc zero)))))) ge lt = g
+all_eight w a b c d e f g h (suc (suc (suc (suc (suc (suc (suc zero))))))) ge lt = h
+all_eight w a b c d e f g h (suc (suc (suc (suc (suc (suc (suc (suc k)))))))) ge lt = absurd (omega arith)

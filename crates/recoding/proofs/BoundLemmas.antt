@@ -1,0 +1,133 @@
+-- How many bytes come of some bytes at most.
+use Rattle.std.proofs.Common.{◌≡◌, ℕ, zero, suc, ◌+◌, ◌*◌, ◌/◌, ◌<◌, ◌≤◌, ⊎_elim, Bool, true, false, List, [], ◌∷◌, ◌++◌, length, drop, flat_map, Option, Some, None, IfSome, arith, sym, subst, length-append, length-drop}
+use Rattle.std.proofs.lemmas.Grind.{common_steps}
+use Rattle.std.proofs.lemmas.Bool.{cases_lt}
+use Rattle.std.proofs.lemmas.List.{append-nil}
+use Rattle.std.proofs.lemmas.List.Concat.{flat_map-append}
+use Rattle.utf_base.specs.Code.{utf8, utf16, IsCode}
+use Rattle.utf_base.specs.Piece.{Stands}
+use Rattle.utf_base.specs.Shown.{Shows}
+use Rattle.utf_base.proofs.Cuts.{Finds}
+use Rattle.utf_base.proofs.FrontLemmas.{utf8_finds}
+use Rattle.utf_base.proofs.UnitLemmas.{utf16_finds}
+use Rattle.utf_base.proofs.Rests.{shows_none, shows_one, shows_some, code_shows_first, fault_shows_first}
+use Rattle.utf_base.proofs.Utf8Code.{utf8_is_code}
+use Rattle.utf_base.proofs.Utf16Code.{utf16_is_code, utf16-1, utf16-2}
+use Rattle.recoding.specs.declared.form.Form.{Form}
+use Rattle.recoding.specs.declared.form.Form.TheVariants.{Utf8, Utf16Le, Utf16Be}
+use Rattle.utf_lanes.specs.BytePairs.{units_of, bytes_of}
+use Rattle.recoding.specs.Recoded.{odd_end, written, IsRecoded}
+use Rattle.recoding.specs.Rooms.{widest, parts_of, most_bytes, IsRoomFor}
+use Rattle.recoding.proofs.Growing.{length_written}
+
+-- How long one code is.
+
+bytes_of_units : (high : Bool) (s n : ℕ) → 0 < n → (0x1_0000 ≤ s → 2 ≤ n) → length (flat_map (bytes_of high) (utf16 s)) ≤ 2 * n
+bytes_of_units true s n some wide =
+    ⊎_elim (λ (low : s < 0x1_0000). rw (utf16-1 s low) (omega arith)) (λ (high : 0x1_0000 ≤ s). let two = wide high in rw (utf16-2 s high) (omega arith)) (cases_lt s 0x1_0000)
+bytes_of_units false s n some wide =
+    ⊎_elim (λ (low : s < 0x1_0000). rw (utf16-1 s low) (omega arith)) (λ (high : 0x1_0000 ≤ s). let two = wide high in rw (utf16-2 s high) (omega arith)) (cases_lt s 0x1_0000)
+
+within_widest : (to : Form) (s n : ℕ) → 0 < n → (0x1_0000 ≤ s → 2 ≤ n) → length (written to s) ≤ widest to * n
+within_widest Utf8 s n some wide = length_written Utf8 s n some wide
+within_widest Utf16Le s n some wide = bytes_of_units false s n some wide
+within_widest Utf16Be s n some wide = bytes_of_units true s n some wide
+
+-- a scalar above 0xFFFF has two elements or more
+abbrev IsWide : (ℕ → List ℕ) → Type 0
+IsWide code = (s : ℕ) → 0x1_0000 ≤ s → 2 ≤ length (code s)
+
+wide_utf8 : IsWide utf8
+unfolding utf8
+wide_utf8 s h = grind (arith, common_steps)
+
+wide_utf16 : IsWide utf16
+wide_utf16 s h = rw (utf16-2 s h) (omega arith)
+
+-- What a list shows, by its first piece and the rest.
+
+more : (to : Form) (s n rest whole : ℕ) (ss : List ℕ) → length (written to s) ≤ widest to * n → length (flat_map (written to) ss) ≤ widest to * rest → n + rest ≤ whole
+    → length (written to s ++ flat_map (written to) ss) ≤ widest to * whole
+more Utf8 s n rest whole ss a b le = omega (arith, length-append (written Utf8 s) (flat_map (written Utf8) ss))
+more Utf16Le s n rest whole ss a b le = omega (arith, length-append (written Utf16Le s) (flat_map (written Utf16Le) ss))
+more Utf16Be s n rest whole ss a b le = omega (arith, length-append (written Utf16Be s) (flat_map (written Utf16Be) ss))
+
+module _ (code : ℕ → List ℕ) (c : IsCode code) (find : Finds code) (wide : IsWide code) (to : Form) where
+  abbrev Bounded : List ℕ → List ℕ → Type 0
+  Bounded xs ss = length (flat_map (written to) ss) ≤ widest to * length xs
+
+  shown_bound : (m : ℕ) (xs ss : List ℕ) → length xs ≤ m → Shows code xs ss → Bounded xs ss
+  shown_bound m [] ss le h =
+      let e : ss ≡ [] = shows_one code c [] ss [] h (shows_none code) in
+      rw e (omega arith)
+  shown_bound zero (x ∷ xs) ss le h = elim le [ ]
+  shown_bound (suc m) (x ∷ xs) ss le h =
+      let w : List ℕ = x ∷ xs in
+      ⊎_elim
+      (λ (at : (s : ℕ) × Stands code w 0 s).
+      let n : ℕ = length (code at.0) in
+      let some : 0 < n = c.some at.0 at.1.scalar in
+      let rest = shows_some code c find (drop n w) in
+      let first : Shows code w (at.0 ∷ rest.0) =
+      subst (λ ys. Shows code ys (at.0 ∷ rest.0)) (append-nil w) (code_shows_first code c w at.0 [] rest.0 at.1 (subst (λ ys. Shows code ys rest.0) (sym (append-nil (drop n w))) rest.1)) in
+      let e : ss ≡ at.0 ∷ rest.0 = shows_one code c w ss (at.0 ∷ rest.0) h first in
+      let later = shown_bound m (drop n w) rest.0 (omega (arith, length-drop n w)) rest.1 in
+      rw e (more to at.0 n (length (drop n w)) (length w) rest.0 (within_widest to at.0 n some (wide at.0)) later (omega (arith, length-drop n w))))
+      (λ (none : (s : ℕ) → Stands code w 0 s → ⊥).
+      let rest = shows_some code c find xs in
+      let first : Shows code w (0xFFFD ∷ rest.0) =
+      subst (λ ys. Shows code ys (0xFFFD ∷ rest.0)) (append-nil w)
+      (fault_shows_first code c w [] rest.0 (omega arith) (λ s h. none s (subst (λ ys. Stands code ys 0 s) (append-nil w) h)) (subst (λ ys. Shows code ys rest.0) (sym (append-nil xs)) rest.1)) in
+      let e : ss ≡ 0xFFFD ∷ rest.0 = shows_one code c w ss (0xFFFD ∷ rest.0) h first in
+      let later = shown_bound m xs rest.0 (omega arith) rest.1 in
+      rw e (more to 0xFFFD 1 (length xs) (length w) rest.0 (within_widest to 0xFFFD 1 (omega arith) (λ h. omega arith)) later (omega arith)))
+      (find w)
+
+-- Units, and half a unit.
+
+units_count : (high : Bool) (bytes : List ℕ) → length (units_of high bytes) + length (odd_end bytes) ≤ (length bytes + 1) / 2
+units_count high [] = omega arith
+units_count high (a ∷ []) = omega arith
+units_count high (a ∷ b ∷ bytes) = let rest = units_count high bytes in omega arith
+
+odd_bound : (to : Form) (bytes : List ℕ) → length (flat_map (written to) (odd_end bytes)) ≤ widest to * length (odd_end bytes)
+odd_bound to [] = omega arith
+odd_bound to (a ∷ []) = more to 0xFFFD 1 0 1 [] (within_widest to 0xFFFD 1 (omega arith) (λ h. omega arith)) (omega arith) (omega arith)
+odd_bound to (a ∷ b ∷ bytes) = odd_bound to bytes
+
+scaled : (to : Form) (a b x y n : ℕ) → a ≤ widest to * x → b ≤ widest to * y → x + y ≤ n → a + b ≤ widest to * n
+scaled Utf8 a b x y n h i le = omega arith
+scaled Utf16Le a b x y n h i le = omega arith
+scaled Utf16Be a b x y n h i le = omega arith
+
+units_bound : (high : Bool) (to : Form) (bytes ts : List ℕ) → Shows utf16 (units_of high bytes) ts
+    → length (flat_map (written to) (ts ++ odd_end bytes)) ≤ widest to * ((length bytes + 1) / 2)
+units_bound high to bytes ts h =
+    let units = shown_bound utf16 utf16_is_code utf16_finds wide_utf16 to (length (units_of high bytes)) (units_of high bytes) ts (omega arith) h in
+    let all = scaled to (length (flat_map (written to) ts)) (length (flat_map (written to) (odd_end bytes))) (length (units_of high bytes)) (length (odd_end bytes)) ((length bytes + 1) / 2)
+    units (odd_bound to bytes) (units_count high bytes) in
+    rw (flat_map-append (written to) ts (odd_end bytes), length-append (flat_map (written to) ts) (flat_map (written to) (odd_end bytes))) all
+
+pub recoded_bound : (from to : Form) (bytes out : List ℕ) → IsRecoded from to bytes out → length out ≤ most_bytes from to (length bytes)
+recoded_bound Utf8 to bytes out (ss, r, e) = rw e (shown_bound utf8 utf8_is_code utf8_finds wide_utf8 to (length bytes) bytes ss (omega arith) r)
+recoded_bound Utf16Le to bytes out (ss, (ts, r, f), e) = rw (e, f) (units_bound false to bytes ts r)
+recoded_bound Utf16Be to bytes out (ss, (ts, r, f), e) = rw (e, f) (units_bound true to bytes ts r)
+
+-- more bytes take no less room
+wider : (to : Form) (a x y : ℕ) → a ≤ widest to * x → x ≤ y → a ≤ widest to * y
+wider Utf8 a x y h le = omega arith
+wider Utf16Le a x y h le = omega arith
+wider Utf16Be a x y h le = omega arith
+
+parts_grow : (from : Form) (m n : ℕ) → m ≤ n → parts_of from m ≤ parts_of from n
+parts_grow Utf8 m n le = le
+parts_grow Utf16Le m n le = omega arith
+parts_grow Utf16Be m n le = omega arith
+
+pub room_for_all : (from to : Form) (len n : ℕ) → n ≡ most_bytes from to len → IsRoomFor from to len n
+room_for_all from to len n e bytes out le r =
+    rw e (wider to (length out) (parts_of from (length bytes)) (parts_of from len) (recoded_bound from to bytes out r) (parts_grow from (length bytes) len le))
+
+pub room_for_some : (from to : Form) (len : ℕ) (room : Option ℕ) → IfSome room (λ n. n ≡ most_bytes from to len) → IfSome room (λ n. IsRoomFor from to len n)
+room_for_some from to len (Some n) e = room_for_all from to len n e
+room_for_some from to len None e = e

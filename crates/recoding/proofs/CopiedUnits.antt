@@ -1,0 +1,97 @@
+-- Well-formed units recoded as they stand, or with the bytes of each swapped.
+use Rattle.std.proofs.Common.{◌≡◌, ℕ, zero, suc, ◌+◌, ◌-◌, ◌*◌, ◌/◌, ◌%◌, ◌<◌, Bool, true, false, not, List, [], ◌∷◌, ◌++◌, length, get_or, take, flat_map, refl, sym, ap, ap₂, ◌∙◌, arith, append_assoc, length-take, w8, Fits}
+use Rattle.std.proofs.Math.Bool.{beq}
+use Rattle.std.proofs.lemmas.List.Concat.{flat_map-append}
+use Rattle.std.specs.Prelude.{All}
+use Rattle.utf_base.specs.Code.{utf16}
+use Rattle.utf_base.specs.Scalar.{IsScalar}
+use Rattle.utf_base.specs.Shown.{Shows}
+use Rattle.utf_base.proofs.Rests.{whole_code_shows_first}
+use Rattle.utf_base.proofs.Utf16Code.{utf16_is_code}
+use Rattle.recoding.specs.declared.form.Form.{Form}
+use Rattle.recoding.specs.declared.form.Form.TheVariants.{Utf8, Utf16Le, Utf16Be}
+use Rattle.recoding.specs.Recoded.{ShowsUnits, odd_end, written}
+use Rattle.recoding.specs.Recodes.{CopiesUnits, Recodes}
+use Rattle.utf_lanes.specs.BytePairs.{unit_of, units_of, bytes_of, swapped, turned}
+use Rattle.recoding.specs.ShownFronts.{ShowsEach, IsUnits}
+use Rattle.utf_lanes.specs.UnitBlocks.{AreCodes}
+use Rattle.recoding.proofs.Blocks.{as_read, units_append, odd_append}
+use Rattle.recoding.proofs.Recodes.{Recodes-shown}
+use Rattle.recoding.proofs.SwappedRuns.{length_turned}
+
+-- Codes show their scalars.
+codes_show : (cs later ss : List ℕ) → All IsScalar cs → Shows utf16 later ss → Shows utf16 (flat_map utf16 cs ++ later) (cs ++ ss)
+codes_show [] later ss all r = r
+codes_show (s ∷ cs) later ss all r =
+    rw (append_assoc (utf16 s) (flat_map utf16 cs) later)
+    (whole_code_shows_first utf16 utf16_is_code (utf16 s) (flat_map utf16 cs ++ later) s (cs ++ ss) (all 0 s (omega arith)) refl
+    (codes_show cs later ss (λ k d lt. all (suc k) d (omega arith)) r))
+
+coded_bytes_show : (high : Bool) (v : List ℕ) (k : ℕ) (h : AreCodes (units_of high v)) → length v ≡ 2 * k → ShowsEach (ShowsUnits high) v h.scalars
+coded_bytes_show high v k h even later ss (ts, r, f) = (
+  h.scalars ++ ts,
+  rw (units_append high v later k even, h.codes) (codes_show h.scalars (units_of high later) ts h.all r),
+  ap (λ xs. h.scalars ++ xs) f ∙ sym (append_assoc h.scalars ts (odd_end later)) ∙ ap (λ o. (h.scalars ++ ts) ++ o) (sym (odd_append v later k even)),
+)
+
+-- The codes of scalars as bytes are the bytes of their units.
+
+as_written : (high : Bool) (to : Form) (s : ℕ) → IsUnits high to → written to s ≡ flat_map (bytes_of high) (utf16 s)
+as_written high Utf8 s form = absurd form
+as_written high Utf16Le s form = rw form refl
+as_written high Utf16Be s form = rw form refl
+
+all_written : (high : Bool) (to : Form) (cs : List ℕ) → IsUnits high to → flat_map (written to) cs ≡ flat_map (bytes_of high) (flat_map utf16 cs)
+all_written high to [] form = refl
+all_written high to (s ∷ cs) form = ap₂ (λ xs ys. xs ++ ys) (as_written high to s form) (all_written high to cs form) ∙ sym (flat_map-append (bytes_of high) (utf16 s) (flat_map utf16 cs))
+
+-- The bytes of a unit, as they stand or swapped.
+
+same_pair : (high : Bool) (a b : ℕ) → a < 256 → b < 256 → bytes_of high (unit_of high a b) ≡ a ∷ b ∷ []
+same_pair true a b A B = let first : (a * 256 + b) / 256 ≡ a = omega arith in let second : (a * 256 + b) % 256 ≡ b = omega arith in ap₂ (λ x y. x ∷ y ∷ []) first second
+same_pair false a b A B = let first : (b * 256 + a) % 256 ≡ a = omega arith in let second : (b * 256 + a) / 256 ≡ b = omega arith in ap₂ (λ x y. x ∷ y ∷ []) first second
+
+other_pair : (high : Bool) (a b : ℕ) → a < 256 → b < 256 → bytes_of (not high) (unit_of high a b) ≡ b ∷ a ∷ []
+other_pair true a b A B = let first : (a * 256 + b) % 256 ≡ b = omega arith in let second : (a * 256 + b) / 256 ≡ a = omega arith in ap₂ (λ x y. x ∷ y ∷ []) first second
+other_pair false a b A B = let first : (b * 256 + a) / 256 ≡ b = omega arith in let second : (b * 256 + a) % 256 ≡ a = omega arith in ap₂ (λ x y. x ∷ y ∷ []) first second
+
+-- whether the bytes of a unit are swapped from one order to another
+abbrev pub differ : Bool → Bool → Bool
+differ high other = not (beq high other)
+
+same_order : (high : Bool) (v : List ℕ) (k : ℕ) → length v ≡ 2 * k → ((j : ℕ) → Fits w8 (get_or v j 0)) → flat_map (bytes_of high) (units_of high v) ≡ v
+same_order high [] k even fits = refl
+same_order high (a ∷ []) k even fits = absurd (omega arith)
+same_order high (a ∷ b ∷ v) k even fits =
+    ap₂ (λ xs ys. xs ++ ys) (same_pair high a b (fits 0).fits (fits 1).fits) (same_order high v (k - 1) (omega arith) (λ j. fits (suc (suc j))))
+
+other_order : (high : Bool) (v : List ℕ) (k : ℕ) → length v ≡ 2 * k → ((j : ℕ) → Fits w8 (get_or v j 0)) → flat_map (bytes_of (not high)) (units_of high v) ≡ swapped v
+other_order high [] k even fits = refl
+other_order high (a ∷ []) k even fits = absurd (omega arith)
+other_order high (a ∷ b ∷ v) k even fits =
+    ap₂ (λ xs ys. xs ++ ys) (other_pair high a b (fits 0).fits (fits 1).fits) (other_order high v (k - 1) (omega arith) (λ j. fits (suc (suc j))))
+
+in_order : (high other : Bool) (v : List ℕ) (k : ℕ) → length v ≡ 2 * k → ((j : ℕ) → Fits w8 (get_or v j 0)) → flat_map (bytes_of other) (units_of high v) ≡ turned (differ high other) v
+in_order true true v k even fits = same_order true v k even fits
+in_order true false v k even fits = other_order true v k even fits
+in_order false true v k even fits = other_order false v k even fits
+in_order false false v k even fits = same_order false v k even fits
+
+pub front_fits : (w : List ℕ) (n : ℕ) → ((j : ℕ) → Fits w8 (get_or w j 0)) → (j : ℕ) → Fits w8 (get_or (take n w) j 0)
+front_fits w zero fits j = record { fits = omega arith }
+front_fits [] (suc n) fits j = record { fits = omega arith }
+front_fits (x ∷ w) (suc n) fits zero = fits 0
+front_fits (x ∷ w) (suc n) fits (suc j) = front_fits w n (λ i. fits (suc i)) j
+
+-- So well-formed units are recoded as they are, or as those with the bytes of each swapped.
+pub Recodes-units : {O : Type 0} {appends : O → List ℕ → O → Type 0} {old new : O} {from to : Form} {bytes : List ℕ} {n : ℕ} (high other : Bool) → IsUnits high from → IsUnits other to
+    → ((j : ℕ) → Fits w8 (get_or bytes j 0)) → CopiesUnits appends high (differ high other) bytes old new n → Recodes appends from to bytes old new n
+Recodes-units {from} {to} {bytes} {n} high other reads writes fits copied =
+    let h = copied.codes in
+    let even = copied.even in
+    let within = copied.within in
+    let half : length (take n bytes) ≡ 2 * (n / 2) = omega (arith, length-take n bytes) in
+    let codes : flat_map (written to) h.scalars ≡ turned (differ high other) (take n bytes)
+    = all_written other to h.scalars writes ∙ ap (flat_map (bytes_of other)) (sym h.codes) ∙ in_order high other (take n bytes) (n / 2) half (front_fits bytes n fits) in
+    Recodes-shown h.scalars (turned (differ high other) (take n bytes)) within (as_read high from (take n bytes) h.scalars reads (coded_bytes_show high (take n bytes) (n / 2) h half)) (sym codes)
+    (omega (arith, length_turned (differ high other) (take n bytes) (n / 2) half, length-take n bytes)) copied.appended

@@ -1,0 +1,38 @@
+-- What the places of some text give, appended to any output.
+use Rattle.std.proofs.Common.{◌≡◌, ℕ, zero, suc, ◌+◌, ◌-◌, ◌*◌, ◌≤◌, Bool, true, false, cond, List, [], ◌∷◌, ◌++◌, length, arith, refl, subst, length-append}
+use Rattle.utf_lanes.specs.GivenUnits.{joined, given, given_at, halves}
+use Rattle.utf_lanes.proofs.TextUnits.{given_more, given_nothing}
+
+-- after those of some places, those of the next
+pub appends_given : {O : Type 0} (appends : O → List ℕ → O → Type 0) → ((a b c : O) (xs ys : List ℕ) → appends a xs b → appends b ys c → appends a (xs ++ ys) c)
+    → (high : Bool) (xs : List ℕ) (old mid new : O) (p m q n t : ℕ) → appends old (given high xs p m) mid → appends mid (given high xs q n) new → p + m ≡ q → m + n ≡ t
+    → appends old (given high xs p t) new
+appends_given appends more high xs old mid new p m q n t f g at sum =
+    subst (λ ys. appends old ys new) (given_more high xs [] (given high xs p m) (given high xs p m ++ given high xs q n) p m q n t refl refl at sum) (more old mid new (given high xs p m) (given high xs q n) f g)
+
+pub appends_nothing : {O : Type 0} (appends : O → List ℕ → O → Type 0) → ((a : O) → appends a [] a) → (high : Bool) (xs : List ℕ) (old : O) (p : ℕ) → appends old (given high xs p (p - p)) old
+appends_nothing appends none high xs old p =
+    let nothing : p - p ≡ 0 = omega arith in
+    rw nothing (subst (λ ys. appends old ys old) (given_nothing high xs [] p) (none old))
+
+-- Each place gives two bytes at most.
+
+length_halves : (high : Bool) (low top : ℕ) → length (halves high low top) ≤ 2
+length_halves true low top = omega arith
+length_halves false low top = omega arith
+
+length_chosen : (high : Bool) (low top : ℕ) (b : Bool) → length (cond b (halves high low top) []) ≤ 2
+length_chosen high low top true = length_halves high low top
+length_chosen high low top false = omega arith
+
+length_here : (high : Bool) (xs : List ℕ) (k : ℕ) → length (given_at high xs k) ≤ 2
+unfolding given_at
+length_here high xs k = length_chosen high _ _ _
+
+length_joined : (f : ℕ → List ℕ) (p n : ℕ) → ((k : ℕ) → length (f k) ≤ 2) → length (joined f p n) ≤ 2 * n
+unfolding joined
+length_joined f p zero few = omega arith
+length_joined f p (suc n) few = omega (arith, length-append (f p) (joined f (suc p) n), few p, length_joined f (suc p) n few)
+
+pub length_given : (high : Bool) (xs : List ℕ) (p n : ℕ) → length (given high xs p n) ≤ 2 * n
+length_given high xs p n = length_joined (given_at high (0 ∷ 0 ∷ 0 ∷ xs)) p n (length_here high (0 ∷ 0 ∷ 0 ∷ xs))

@@ -1,0 +1,236 @@
+-- Shards that are recoded by themselves, and joined.
+use Rattle.std.proofs.Common.{◌≡◌, ℕ, zero, suc, ◌+◌, ◌-◌, ◌*◌, ◌/◌, ◌<◌, ◌≤◌, ⊎_elim, Bool, true, false, List, [], ◌∷◌, ◌++◌, length, take, drop, arith, refl, ap, sym, ◌∙◌, append_assoc, take-append-drop, length-append, length-drop}
+use Rattle.std.proofs.lemmas.Bool.{cases_lt}
+use Rattle.std.proofs.lemmas.Grind.{common_steps}
+use Rattle.std.proofs.lemmas.List.{append-nil, drop-drop, drop-append-le, take_rest, take_all, drop_all, length-take-le}
+use Rattle.std.proofs.lemmas.List.Concat.{flat_map-append}
+use Rattle.std.specs.List.{concat}
+use Rattle.std.specs.Prelude.{slice_range}
+use Rattle.utf_base.specs.Code.{IsCode, utf8, utf16}
+use Rattle.utf_base.specs.Piece.{Stands, Inside}
+use Rattle.utf_base.specs.Shown.{Shows}
+use Rattle.utf_base.proofs.Cuts.{Finds}
+use Rattle.utf_base.proofs.FrontLemmas.{utf8_finds}
+use Rattle.utf_base.proofs.UnitLemmas.{utf16_finds}
+use Rattle.utf_base.proofs.Rests.{code_shows_first, fault_shows_first, shows_none, shows_one, shows_some}
+use Rattle.utf_base.proofs.Standing.{outside_front, stands_in_part, stands_in_whole}
+use Rattle.utf_base.proofs.Utf8Code.{utf8_is_code}
+use Rattle.utf_base.proofs.Utf16Code.{utf16_is_code}
+use Rattle.recoding.specs.declared.form.Form.{Form}
+use Rattle.recoding.specs.declared.form.Form.TheVariants.{Utf8, Utf16Le, Utf16Be}
+use Rattle.recoding.specs.Recoded.{Reads, ShowsUnits, odd_end, written, IsRecoded}
+use Rattle.utf_lanes.specs.BytePairs.{units_of}
+use Rattle.recoding.specs.Shards.{IsUnitsEnd, IsShardEnd, shards, AreShardEnds, AreRecoded, ShardsJoin}
+use Rattle.recoding.proofs.Blocks.{units_append, odd_append}
+use Rattle.recoding.proofs.Growing.{recoded_once, recoded_nothing}
+
+-- no code lies over a place of the rest, where none lies over that of the list
+outside_rest : (code : ℕ → List ℕ) (xs : List ℕ) (i n : ℕ) → i ≤ length xs → i ≤ n → (Inside code xs n → ⊥) → Inside code (drop i xs) (n - i) → ⊥
+outside_rest code xs i n le lo out v =
+    let begins = v.begins in
+    let ends = v.ends in
+    let part : Stands code (slice_range xs i (length xs)) v.from v.char = rw (take_rest xs i) v.stands in
+    let whole = stands_in_whole code xs i (length xs) v.from (i + v.from) v.char refl le (omega arith) part in
+    out (record { from = i + v.from; char = v.char; stands = whole.0; begins = omega arith; ends = omega arith })
+
+-- What two parts show, where no code lies over the place between them.
+module _ (code : ℕ → List ℕ) (c : IsCode code) (find : Finds code) where
+  -- where no code begins the first part, none begins both
+  none_begins : (w later : List ℕ) → 0 < length w → (Inside code (w ++ later) (length w) → ⊥) → ((s : ℕ) → Stands code w 0 s → ⊥)
+      → (s : ℕ) → Stands code (w ++ later) 0 s → ⊥
+  none_begins w later some out none s h =
+      ⊎_elim
+      (λ (over : length w < length (code s)). out (record { from = 0; char = s; stands = h; begins = some; ends = omega arith }))
+      (λ (fits : length (code s) ≤ length w).
+      let part : Stands code (slice_range (w ++ later) 0 (length w)) 0 s
+      = stands_in_part code (w ++ later) 0 (length w) 0 0 s refl (omega (arith, length-append w later)) h (omega arith) in
+      let front : slice_range (w ++ later) 0 (length w) ≡ w = grind (arith, common_steps) in
+      none s (rw front at part))
+      (cases_lt (length w) (length (code s)))
+
+  outside_later : (w later : List ℕ) (k : ℕ) → k ≤ length w → (Inside code (w ++ later) (length w) → ⊥) → Inside code (drop k w ++ later) (length (drop k w)) → ⊥
+  outside_later w later k le out v =
+      let len : length (drop k w) ≡ length w - k = length-drop k w in
+      outside_rest code (w ++ later) k (length w) (omega (arith, length-append w later)) le out
+      (rw (drop-append-le k w later le) (rw len at v))
+
+  both_show : (fuel : ℕ) (w later ss ts : List ℕ) → length w ≤ fuel → (Inside code (w ++ later) (length w) → ⊥)
+      → Shows code w ss → Shows code later ts → Shows code (w ++ later) (ss ++ ts)
+  both_show fuel [] later ss ts le out a b = let none : ss ≡ [] = shows_one code c [] ss [] a (shows_none code) in rw none b
+  both_show zero (x ∷ w) later ss ts le out a b = absurd (omega arith)
+  both_show (suc fuel) (x ∷ w) later ss ts le out a b =
+      let whole : w ++ [] ≡ w = append-nil w in
+      ⊎_elim
+      (λ (h : (s : ℕ) × Stands code (x ∷ w) 0 s).
+      let some = c.some h.0 h.1.scalar in
+      let rest = shows_some code c find (drop (length (code h.0)) (x ∷ w)) in
+      let first : Shows code (x ∷ w) (h.0 ∷ rest.0)
+      = rw whole at (code_shows_first code c (x ∷ w) h.0 [] rest.0 h.1 (rw (append-nil (drop (length (code h.0)) (x ∷ w))) rest.1)) in
+      let same : ss ≡ h.0 ∷ rest.0 = shows_one code c (x ∷ w) ss (h.0 ∷ rest.0) a first in
+      let both : Shows code (drop (length (code h.0)) (x ∷ w) ++ later) (rest.0 ++ ts)
+      = both_show fuel (drop (length (code h.0)) (x ∷ w)) later rest.0 ts (omega (arith, length-drop (length (code h.0)) (x ∷ w)))
+      (outside_later (x ∷ w) later (length (code h.0)) (omega arith) out) rest.1 b in
+      rw same (code_shows_first code c (x ∷ w) h.0 later (rest.0 ++ ts) h.1 both))
+      (λ (none : (s : ℕ) → Stands code (x ∷ w) 0 s → ⊥).
+      let some : 0 < length (x ∷ w) = omega arith in
+      let rest = shows_some code c find w in
+      let first : Shows code (x ∷ w) (0xFFFD ∷ rest.0)
+      = rw whole at (fault_shows_first code c (x ∷ w) [] rest.0 some (λ s h. none s (rw whole at h)) (rw (append-nil w) rest.1)) in
+      let same : ss ≡ 0xFFFD ∷ rest.0 = shows_one code c (x ∷ w) ss (0xFFFD ∷ rest.0) a first in
+      let both : Shows code (w ++ later) (rest.0 ++ ts)
+      = both_show fuel w later rest.0 ts (omega arith) (outside_later (x ∷ w) later 1 (omega arith) out) rest.1 b in
+      rw same (fault_shows_first code c (x ∷ w) later (rest.0 ++ ts) some (none_begins (x ∷ w) later some out none) both))
+      (find (x ∷ w))
+
+-- The same of a list and a place in it.
+parts_show : (code : ℕ → List ℕ) → IsCode code → Finds code → (xs : List ℕ) (n : ℕ) (ss ts : List ℕ) → n ≤ length xs → (Inside code xs n → ⊥)
+    → Shows code (take n xs) ss → Shows code (drop n xs) ts → Shows code xs (ss ++ ts)
+parts_show code c find xs n ss ts le out a b =
+    let len : length (take n xs) ≡ n = length-take-le n xs le in
+    let whole : take n xs ++ drop n xs ≡ xs = take-append-drop n xs in
+    rw whole at (both_show code c find n (take n xs) (drop n xs) ss ts (omega arith) (rw (whole, len) out) a b)
+
+-- Units of bytes.
+
+count_of_units : (high : Bool) (v : List ℕ) (k : ℕ) → length v ≡ 2 * k → length (units_of high v) ≡ k
+count_of_units high [] k h = omega arith
+count_of_units high (a ∷ []) k h = absurd (omega arith)
+count_of_units high (a ∷ b ∷ v) k h = let rest = count_of_units high v (k - 1) (omega arith) in omega arith
+
+odd_none : (v : List ℕ) (k : ℕ) → length v ≡ 2 * k → odd_end v ≡ []
+odd_none v k h = rw (append-nil v) at (odd_append v [] k h)
+
+-- where a place is even the units up to it and from it on are those of the bytes
+pub even_units : (high : Bool) (bytes : List ℕ) (n k : ℕ) → n ≤ length bytes → n ≡ 2 * k
+    → (units_of high (take n bytes) ≡ take k (units_of high bytes)) × (units_of high (drop n bytes) ≡ drop k (units_of high bytes))
+even_units high bytes n k le e =
+    let len : length (take n bytes) ≡ 2 * k = length-take-le n bytes le ∙ e in
+    let both = units_append high (take n bytes) (drop n bytes) k len in
+    let split : units_of high bytes ≡ units_of high (take n bytes) ++ units_of high (drop n bytes) = rw (take-append-drop n bytes) at both in
+    let count = count_of_units high (take n bytes) k len in (
+      rw split (sym (take_front (units_of high (take n bytes)) (units_of high (drop n bytes)) k count)),
+      rw split (sym (drop_front (units_of high (take n bytes)) (units_of high (drop n bytes)) k count)),
+    )
+  where
+    take_front : (xs ys : List ℕ) (k : ℕ) → length xs ≡ k → take k (xs ++ ys) ≡ xs
+    take_front xs ys k h = grind (arith, common_steps)
+
+    drop_front : (xs ys : List ℕ) (k : ℕ) → length xs ≡ k → drop k (xs ++ ys) ≡ ys
+    drop_front xs ys k h = grind (arith, common_steps)
+
+pub units_within : (high : Bool) (bytes : List ℕ) (n k : ℕ) → n ≤ length bytes → n ≡ 2 * k → k ≤ length (units_of high bytes)
+units_within high [] n k le e = omega arith
+units_within high (a ∷ []) n k le e = omega arith
+units_within high (a ∷ b ∷ v) n zero le e = omega arith
+units_within high (a ∷ b ∷ v) n (suc k) le e = let rest = units_within high v (n - 2) k (omega arith) (omega arith) in omega arith
+
+-- What parts of bytes show.
+
+units_show : (high : Bool) (bytes : List ℕ) (n : ℕ) (ss ts : List ℕ) → n < length bytes → IsUnitsEnd high bytes n
+    → ShowsUnits high (take n bytes) ss → ShowsUnits high (drop n bytes) ts → ShowsUnits high bytes (ss ++ ts)
+units_show high bytes n ss ts lt ends (us, a, e) (vs, b, f) =
+    let even : n ≡ 2 * (n / 2) = let zero = ends.even lt in omega arith in
+    let len : length (take n bytes) ≡ 2 * (n / 2) = length-take-le n bytes (omega arith) ∙ even in
+    let units = even_units high bytes n (n / 2) (omega arith) even in
+    let count = units_within high bytes n (n / 2) (omega arith) even in
+    let odd : odd_end bytes ≡ odd_end (drop n bytes) = rw (take-append-drop n bytes) at (odd_append (take n bytes) (drop n bytes) (n / 2) len) in
+    let none : odd_end (take n bytes) ≡ [] = odd_none (take n bytes) (n / 2) len in (
+      us ++ vs,
+      parts_show utf16 utf16_is_code utf16_finds (units_of high bytes) (n / 2) us vs count ends.outside (rw units.0 at a) (rw units.1 at b),
+      rw (e, f, none, odd, append-nil us) (sym (append_assoc us vs (odd_end (drop n bytes)))),
+    )
+
+reads_parts : (from : Form) (bytes : List ℕ) (n : ℕ) (ss ts : List ℕ) → n < length bytes → IsShardEnd from bytes n
+    → Reads from (take n bytes) ss → Reads from (drop n bytes) ts → Reads from bytes (ss ++ ts)
+reads_parts Utf8 bytes n ss ts lt out a b = parts_show utf8 utf8_is_code utf8_finds bytes n ss ts (omega arith) out a b
+reads_parts Utf16Le bytes n ss ts lt out a b = units_show false bytes n ss ts lt out a b
+reads_parts Utf16Be bytes n ss ts lt out a b = units_show true bytes n ss ts lt out a b
+
+recoded_parts : (from to : Form) (bytes front rest : List ℕ) (n : ℕ) → n < length bytes → IsShardEnd from bytes n
+    → IsRecoded from to (take n bytes) front → IsRecoded from to (drop n bytes) rest → IsRecoded from to bytes (front ++ rest)
+recoded_parts from to bytes front rest n lt out (ss, a, e) (ts, b, f) =
+    (ss ++ ts, reads_parts from bytes n ss ts lt out a b, rw (e, f) (sym (flat_map-append (written to) ss ts)))
+
+-- the end of the bytes is a shard's too
+recoded_two : (from to : Form) (bytes front rest : List ℕ) (n : ℕ) → n ≤ length bytes → IsShardEnd from bytes n
+    → IsRecoded from to (take n bytes) front → IsRecoded from to (drop n bytes) rest → IsRecoded from to bytes (front ++ rest)
+recoded_two from to bytes front rest n le out a b =
+    ⊎_elim
+    (λ (lt : n < length bytes). recoded_parts from to bytes front rest n lt out a b)
+    (λ (ge : length bytes ≤ n).
+    let nothing : IsRecoded from to [] rest = rw (drop_all n bytes ge) at b in
+    let none : rest ≡ [] = (recoded_once from to []).2 rest nothing ∙ sym ((recoded_once from to []).2 [] (recoded_nothing from to)) in
+    let whole : IsRecoded from to bytes front = rw (take_all n bytes ge) at a in
+    rw (none, append-nil front) whole)
+    (cases_lt n (length bytes))
+
+-- Places of the whole and of its rest.
+
+units_end_of_rest : (high : Bool) (bytes : List ℕ) (i n : ℕ) → i < length bytes → i ≤ n → n ≤ length bytes → IsUnitsEnd high bytes i → IsUnitsEnd high bytes n
+    → IsUnitsEnd high (drop i bytes) (n - i)
+units_end_of_rest high bytes i n lt lo le first end =
+    let even : i ≡ 2 * (i / 2) = let zero = first.even lt in omega arith in
+    let units = even_units high bytes i (i / 2) (omega arith) even in
+    let place : (n - i) / 2 ≡ n / 2 - i / 2 = omega arith in
+    let count : i / 2 ≤ length (units_of high bytes) = units_within high bytes i (i / 2) (omega arith) even in
+    record {
+      even = λ later. let zero = end.even (omega (arith, length-drop i bytes)) in omega arith;
+      outside = rw (units.1, place) (outside_rest utf16 (units_of high bytes) (i / 2) (n / 2) count (omega arith) end.outside);
+    }
+
+end_of_rest : (from : Form) (bytes : List ℕ) (i n : ℕ) → i < length bytes → i ≤ n → n ≤ length bytes → IsShardEnd from bytes i → IsShardEnd from bytes n
+    → IsShardEnd from (drop i bytes) (n - i)
+end_of_rest Utf8 bytes i n lt lo le first end = outside_rest utf8 bytes i n (omega arith) lo end
+end_of_rest Utf16Le bytes i n lt lo le first end = units_end_of_rest false bytes i n lt lo le first end
+end_of_rest Utf16Be bytes i n lt lo le first end = units_end_of_rest true bytes i n lt lo le first end
+
+end_at_front : (from : Form) (bytes : List ℕ) → IsShardEnd from bytes 0
+end_at_front Utf8 bytes = outside_front utf8 bytes
+end_at_front Utf16Le bytes = record { even = λ lt. refl; outside = outside_front utf16 (units_of false bytes) }
+end_at_front Utf16Be bytes = record { even = λ lt. refl; outside = outside_front utf16 (units_of true bytes) }
+
+ends_within : (from : Form) (bytes : List ℕ) (i : ℕ) (places : List ℕ) → AreShardEnds from bytes i places → i ≤ length bytes
+ends_within from bytes i [] h = h
+ends_within from bytes i (n ∷ places) h = let rest = ends_within from bytes n places h.2 in omega (arith, h.0)
+
+-- The shards from a place on.
+
+-- after the end of the bytes there is nothing
+nothing_after : (from to : Form) (bytes : List ℕ) (i : ℕ) (places : List ℕ) (outs : List (List ℕ)) → length bytes ≤ i
+    → AreShardEnds from bytes i places → AreRecoded from to (shards bytes i places) outs → IsRecoded from to [] (concat outs)
+nothing_after from to bytes i [] [] ge h r = absurd r
+nothing_after from to bytes i [] (out ∷ []) ge h r = rw (append-nil out) (rw (drop_all i bytes ge) at r.0)
+nothing_after from to bytes i [] (out ∷ other ∷ outs) ge h r = absurd r.1
+nothing_after from to bytes i (n ∷ places) [] ge h r = absurd r
+nothing_after from to bytes i (n ∷ places) (out ∷ outs) ge h r =
+    let rest = nothing_after from to bytes n places outs (omega (arith, h.0)) h.2 r.1 in
+    let part : slice_range bytes i n ≡ [] = nothing_between bytes i n ge in
+    let none : out ≡ [] = (recoded_once from to []).2 out (rw part at r.0) ∙ sym ((recoded_once from to []).2 [] (recoded_nothing from to)) in
+    rw none rest
+  where
+    nothing_between : (xs : List ℕ) (i n : ℕ) → length xs ≤ i → slice_range xs i n ≡ []
+    nothing_between xs i n ge = grind (arith, common_steps)
+
+shards_from : (from to : Form) (bytes : List ℕ) (i : ℕ) (places : List ℕ) (outs : List (List ℕ)) → IsShardEnd from bytes i
+    → AreShardEnds from bytes i places → AreRecoded from to (shards bytes i places) outs → IsRecoded from to (drop i bytes) (concat outs)
+shards_from from to bytes i [] [] end h r = absurd r
+shards_from from to bytes i [] (out ∷ []) end h r = rw (append-nil out) r.0
+shards_from from to bytes i [] (out ∷ other ∷ outs) end h r = absurd r.1
+shards_from from to bytes i (n ∷ places) [] end h r = absurd r
+shards_from from to bytes i (n ∷ places) (out ∷ outs) end h r =
+    ⊎_elim
+    (λ (lt : i < length bytes).
+    let within = ends_within from bytes n places h.2 in
+    let lo = h.0 in
+    let rest = shards_from from to bytes n places outs h.1 h.2 r.1 in
+    let following : drop (n - i) (drop i bytes) ≡ drop n bytes = drop-drop (n - i) i bytes ∙ ap (λ k. drop k bytes) (back i n lo) in
+    recoded_two from to (drop i bytes) out (concat outs) (n - i) (omega (arith, length-drop i bytes))
+    (end_of_rest from bytes i n lt lo within end h.1) r.0 (rw following rest))
+    (λ (ge : length bytes ≤ i). rw (drop_all i bytes ge) (nothing_after from to bytes i (n ∷ places) (out ∷ outs) ge h r))
+    (cases_lt i (length bytes))
+  where
+    back : (i n : ℕ) → i ≤ n → i + (n - i) ≡ n
+    back i n le = omega arith
+
+pub shards_join : ShardsJoin
+shards_join from to bytes places outs h r = shards_from from to bytes 0 places outs (end_at_front from bytes) h r

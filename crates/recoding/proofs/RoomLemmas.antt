@@ -1,0 +1,203 @@
+-- Steps of runs into room of a fixed size.
+use Rattle.std.proofs.Common.{◌≡◌, ℕ, ◌+◌, ◌-◌, ◌<◌, ◌≤◌, List, [], ◌∷◌, ◌++◌, length, take, drop, arith, refl, ap, ap₂, sym, ⊎_elim, subst, ◌∙◌, append_assoc, length-append, length-drop, length-take, take-append-drop}
+use Rattle.std.proofs.lemmas.List.{drop-drop, drop-take, take-take, drop-append-le, take_all, append-nil}
+use Rattle.std.proofs.lemmas.Bool.{cases_lt}
+use Rattle.recoding.specs.declared.form.Form.{Form}
+use Rattle.recoding.specs.Recoded.{Reads, written, IsRecoded, Recoding, Grows, Finishes}
+use Rattle.recoding.specs.ShownFronts.{Decides, Ends}
+use Rattle.recoding.specs.Rooms.{FeedsInto, FinishesInto, IsFull, IsLastFull, Leaves}
+use Rattle.recoding.proofs.Growing.{recoded_nothing, Continues-step, Grows-append, Grows-trans}
+
+-- Parts of lists.
+
+-- lists that agree from one place on agree from each later one on
+pub drop_later : (xs ys : List ℕ) (m n : ℕ) → m ≤ n → drop m xs ≡ drop m ys → drop n xs ≡ drop n ys
+drop_later xs ys m n le e =
+    let whole : m + (n - m) ≡ n = omega arith in
+    rw whole at (sym (drop-drop (n - m) m xs) ∙ ap (drop (n - m)) e ∙ drop-drop (n - m) m ys)
+
+pub cut_part : (n m : ℕ) (xs : List ℕ) → n ≤ m → take (m - n) (drop n xs) ≡ drop n (take m xs)
+cut_part n m xs le =
+    let whole : n + (m - n) ≡ m = omega arith in
+    rw whole at (sym (drop-take n (m - n) xs))
+
+pub take_more : (n m : ℕ) (xs : List ℕ) → take n xs ++ take m (drop n xs) ≡ take (n + m) xs
+take_more n m xs = sym (ap₂ (λ ys zs. ys ++ zs) (take-take n (n + m) xs (omega arith)) (drop-take n m xs)) ∙ take-append-drop n (take (n + m) xs)
+
+take_clip : (n m : ℕ) (xs : List ℕ) → n ≤ m → (n < m → length xs ≤ n) → take n xs ≡ take m xs
+take_clip n m xs le short =
+    ⊎_elim
+    (λ (lt : n < m). let few = short lt in take_all n xs few ∙ sym (take_all m xs (omega arith)))
+    (λ (ge : m ≤ n). let e : n ≡ m = omega arith in ap (λ k. take k xs) e)
+    (cases_lt n m)
+
+-- Bytes that nothing follows.
+
+pub Leaves-step : (from to : Form) (bytes grown new : List ℕ) (p s n : ℕ) → Leaves from to bytes grown (drop p bytes) → Ends (Reads from) (drop p bytes) s n
+    → new ≡ grown ++ written to s → Leaves from to bytes new (drop (p + n) bytes)
+Leaves-step from to bytes grown new p s n h d e rest (ss, r, f) =
+    let all : IsRecoded from to bytes (grown ++ (written to s ++ rest)) =
+    h (written to s ++ rest) (s ∷ ss, d.first ss (rw (drop-drop n p bytes) r), ap (λ x. written to s ++ x) f) in
+    subst (λ xs. IsRecoded from to bytes xs) (sym (ap (λ x. x ++ rest) e ∙ append_assoc grown (written to s) rest)) all
+
+pub FinishesInto-of : (r s : Recoding) (from to : Form) (bytes old new : List ℕ) (read wrote : ℕ) → from ≡ r.from → to ≡ r.to → bytes ≡ r.held
+    → Leaves from to bytes (take wrote new) (drop read bytes) → wrote ≤ length old → drop wrote new ≡ drop wrote old
+    → s ≡ record { from = r.from; to = r.to; held = drop read bytes } → FinishesInto r old new wrote s
+FinishesInto-of r s from to bytes old new read wrote e f i h fits rest k =
+    let leaves : Leaves r.from r.to r.held (take wrote new) (drop read bytes) =
+    subst (λ x. Leaves x r.to r.held (take wrote new) (drop read bytes)) e
+    (subst (λ x. Leaves from x r.held (take wrote new) (drop read bytes)) f
+    (subst (λ x. Leaves from to x (take wrote new) (drop read bytes)) i h)) in
+    let few : length (drop read bytes) ≤ length r.held = omega (arith, length-drop read bytes, ap length i) in
+    rw k (record { leaves = leaves; from = refl; to = refl; few = few; fits = fits; rest = rest })
+
+-- all of it was put out
+pub Finishes-of : (r s : Recoding) (old new : List ℕ) (wrote : ℕ) → FinishesInto r old new wrote s → s.held ≡ [] → (out : List ℕ) → Finishes r out (out ++ take wrote new)
+Finishes-of r s old new wrote f none out = record {
+  grown = take wrote new;
+  appended = refl;
+  recoded = rw (append-nil (take wrote new)) at (f.leaves [] (subst (λ xs. IsRecoded r.from r.to xs []) (sym none) (recoded_nothing r.from r.to)));
+}
+
+pub IsLastFull-of : (r s : Recoding) (from to : Form) (left : List ℕ) (room : ℕ) → from ≡ r.from → to ≡ r.to
+    → s ≡ record { from = r.from; to = r.to; held = left } → IsLastFull (record { from = from; to = to; held = [] }) left room → IsLastFull s s.held room
+IsLastFull-of r s from to left room e f k full =
+    rw k (record {
+      scalar = full.scalar;
+      len = full.len;
+      begins = subst (λ x. Ends (Reads x) left full.scalar full.len) e full.begins;
+      longer = subst (λ x. room < length (written x full.scalar)) f full.longer;
+    })
+
+-- Parts that are fed.
+
+-- more bytes of the part after those that were read, as far as they were looked at
+pub Grows-more-read : (from to : Form) (first part held old new : List ℕ) (read taken : ℕ) → Grows from to (first ++ take read part) old new held
+    → Grows from to (first ++ take (read + taken) part) old new (held ++ take taken (drop read part))
+Grows-more-read from to first part held old new read taken g =
+    let more = take taken (drop read part) in
+    let joined : take read part ++ more ≡ take (read + taken) part = take_more read taken part in
+    let whole : (first ++ take read part) ++ more ≡ first ++ take (read + taken) part = append_assoc first (take read part) more ∙ ap (λ xs. first ++ xs) joined in
+    rw whole at (Grows-append from to (first ++ take read part) held more old new g)
+
+-- the scalar that begins what is held then
+pub Grows-first : (from to : Form) (bytes old mid new held : List ℕ) (s n : ℕ) → Grows from to bytes old mid held → Decides (Reads from) held s n
+    → new ≡ mid ++ written to s → Grows from to bytes old new (drop n held)
+Grows-first from to bytes old mid new held s n g d e = record {
+  grown = g.grown ++ written to s;
+  appended = e ∙ ap (λ x. x ++ written to s) g.appended ∙ append_assoc old g.grown (written to s);
+  continues = Continues-step from to bytes g.grown held s n g.continues d;
+}
+
+pub FeedsInto-of : (r s : Recoding) (part old new : List ℕ) (read wrote : ℕ) → s.from ≡ r.from → s.to ≡ r.to → length s.held ≤ 3 → read ≤ length part → wrote ≤ length old
+    → Grows r.from r.to (r.held ++ take read part) [] (take wrote new) s.held → drop wrote new ≡ drop wrote old → FeedsInto r part old new read wrote s
+FeedsInto-of r s part old new read wrote e f few within fits g rest = record {
+  within = within;
+  feeds = λ out. record {
+    grows = record { grown = g.grown; appended = ap (λ xs. out ++ xs) g.appended; continues = g.continues };
+    from = e;
+    to = f;
+    few = few;
+  };
+  fits = fits;
+  rest = rest;
+}
+
+-- what is decided of some bytes is so whatever follows them
+Decides-more : (from : Form) (w x : List ℕ) (s n : ℕ) → Decides (Reads from) w s n → Decides (Reads from) (w ++ x) s n
+Decides-more from w x s n d =
+    let within = d.within in
+    record {
+      some = d.some;
+      within = omega (arith, length-append w x);
+      scalar = d.scalar;
+      wide = d.wide;
+      first = λ later ss h.
+          let e : drop n (w ++ x) ++ later ≡ drop n w ++ (x ++ later) = ap (λ xs. xs ++ later) (drop-append-le n w x within) ∙ append_assoc (drop n w) x later in
+          rw (sym (append_assoc w x later)) at (d.first (x ++ later) ss (rw e at h));
+    }
+
+pub IsFull-of : (s : Recoding) (from to : Form) (w x : List ℕ) (c n room : ℕ) → from ≡ s.from → to ≡ s.to → Decides (Reads from) w c n → room < length (written to c)
+    → IsFull s (w ++ x) room
+IsFull-of s from to w x c n room e f d long = record {
+  scalar = c;
+  len = n;
+  begins = subst (λ y. Decides (Reads y) (w ++ x) c n) e (Decides-more from w x c n d);
+  longer = subst (λ y. room < length (written y c)) f long;
+}
+
+-- a scalar more, told by four bytes, where three were looked at before
+pub Grows-ahead : (from to : Form) (bytes old mid new : List ℕ) (p s n : ℕ) → Grows from to (take (p + 3) bytes) old mid (take 3 (drop p bytes))
+    → Decides (Reads from) (take 4 (drop p bytes)) s n → new ≡ mid ++ written to s → Grows from to (take (p + n + 3) bytes) old new (take 3 (drop (p + n) bytes))
+Grows-ahead from to bytes old mid new p s n g d e =
+    let xs : List ℕ = drop p bytes in
+    let le : n ≤ 4 = omega (arith, length-take 4 xs) in
+    let first : Grows from to (take (p + 3 + 1) bytes) old mid (take 3 xs ++ take 1 (drop (p + 3) bytes)) = Grows-more-read from to [] bytes (take 3 xs) old mid (p + 3) 1 g in
+    let looked : take 3 xs ++ take 1 (drop (p + 3) bytes) ≡ take 4 xs = ap (λ ys. take 3 xs ++ take 1 ys) (sym (drop-drop 3 p bytes)) ∙ take_more 3 1 xs in
+    let second : Grows from to (take (p + 3 + 1) bytes) old new (drop n (take 4 xs)) = Grows-first from to (take (p + 3 + 1) bytes) old mid new (take 4 xs) s n (rw looked at first) d e in
+    let third : Grows from to (take (p + 3 + 1 + (n - 1)) bytes) old new (drop n (take 4 xs) ++ take (n - 1) (drop (p + 3 + 1) bytes)) =
+    Grows-more-read from to [] bytes (drop n (take 4 xs)) old new (p + 3 + 1) (n - 1) second in
+    let end : p + 3 + 1 + (n - 1) ≡ p + n + 3 = omega arith in
+    let four : p + 3 + 1 ≡ p + n + (4 - n) = omega arith in
+    let three : 4 - n + (n - 1) ≡ 3 = omega arith in
+    let left : drop n (take 4 xs) ≡ take (4 - n) (drop (p + n) bytes) = sym (cut_part n 4 xs le) ∙ ap (take (4 - n)) (drop-drop n p bytes) in
+    let more : drop (p + 3 + 1) bytes ≡ drop (4 - n) (drop (p + n) bytes) = ap (λ k. drop k bytes) four ∙ sym (drop-drop (4 - n) (p + n) bytes) in
+    let held : drop n (take 4 xs) ++ take (n - 1) (drop (p + 3 + 1) bytes) ≡ take 3 (drop (p + n) bytes) =
+    ap₂ (λ ys zs. ys ++ take (n - 1) zs) left more ∙ take_more (4 - n) (n - 1) (drop (p + n) bytes) ∙ ap (λ k. take k (drop (p + n) bytes)) three in
+    subst (λ ys. Grows from to (take (p + n + 3) bytes) old new ys) held
+    (subst (λ k. Grows from to (take k bytes) old new (drop n (take 4 xs) ++ take (n - 1) (drop (p + 3 + 1) bytes))) end third)
+
+-- nothing is read yet
+pub Grows-start : (from to : Form) (held : List ℕ) → Grows from to (held ++ []) [] [] held
+Grows-start from to held = record { grown = []; appended = refl; continues = λ later rest h. rw (append-nil held) h }
+
+-- One call after another, where the first left nothing held and the second read to the place `end`, up to three bytes past
+-- those that it recoded.
+
+pub FeedsInto-then : (r s v : Recoding) (part old mid new : List ℕ) (read more wrote all end : ℕ) → FeedsInto r part old mid read wrote s → s.held ≡ []
+    → Grows s.from s.to (take (more + 3) (drop read part)) (take wrote mid) (take all new) (take 3 (drop more (drop read part)))
+    → more ≤ end → end ≤ more + 3 → end ≤ length (drop read part) → (end < more + 3 → length (drop read part) ≤ end)
+    → wrote ≤ all → all ≤ length old → drop all new ≡ drop all mid
+    → v ≡ record { from = s.from; to = s.to; held = take (end - more) (drop more (drop read part)) } → FeedsInto r part old new (read + end) all v
+FeedsInto-then r s v part old mid new read more wrote all end f none g over near within short ordered fits rest k =
+    let xs : List ℕ = drop read part in
+    let fed = f.feeds [] in
+    let one : Grows r.from r.to (r.held ++ take (read + end) part) [] (take wrote mid) (s.held ++ take end xs) =
+    Grows-more-read r.from r.to r.held part s.held [] (take wrote mid) read end fed.grows in
+    let first : Grows r.from r.to (r.held ++ take (read + end) part) [] (take wrote mid) (take end xs) =
+    subst (λ ys. Grows r.from r.to (r.held ++ take (read + end) part) [] (take wrote mid) (ys ++ take end xs)) none one in
+    let clip : take end xs ≡ take (more + 3) xs = take_clip end (more + 3) xs near short in
+    let clip_held : take (end - more) (drop more xs) ≡ take 3 (drop more xs) =
+    take_clip (end - more) 3 (drop more xs) (omega arith)
+    (λ (lt : end - more < 3). let earlier : end < more + 3 = omega arith in let few = short earlier in omega (arith, length-drop more xs)) in
+    let second : Grows r.from r.to (take end xs) (take wrote mid) (take all new) (take (end - more) (drop more xs)) =
+    subst (λ x. Grows x r.to (take end xs) (take wrote mid) (take all new) (take (end - more) (drop more xs))) fed.from
+    (subst (λ x. Grows s.from x (take end xs) (take wrote mid) (take all new) (take (end - more) (drop more xs))) fed.to
+    (subst (λ ys. Grows s.from s.to ys (take wrote mid) (take all new) (take (end - more) (drop more xs))) (sym clip)
+    (subst (λ ys. Grows s.from s.to (take (more + 3) xs) (take wrote mid) (take all new) ys) (sym clip_held) g))) in
+    let whole : Grows r.from r.to (r.held ++ take (read + end) part) [] (take all new) (take (end - more) (drop more xs)) =
+    Grows-trans r.from r.to (r.held ++ take (read + end) part) (take end xs) (take (end - more) (drop more xs)) [] (take wrote mid) (take all new) first second in
+    let held = ap (λ x. x.held) k in
+    let few : length v.held ≤ 3 = omega (arith, ap length held, length-take (end - more) (drop more xs)) in
+    FeedsInto-of r v part old new (read + end) all (ap (λ x. x.from) k ∙ fed.from) (ap (λ x. x.to) k ∙ fed.to) few (omega (arith, length-drop read part)) fits
+    (subst (λ ys. Grows r.from r.to (r.held ++ take (read + end) part) [] (take all new) ys) (sym held) whole) (rest ∙ drop_later mid old wrote all ordered f.rest)
+
+pub IsFull-then : (s v : Recoding) (from to : Form) (part : List ℕ) (read more end room : ℕ) → from ≡ s.from → to ≡ s.to → more ≤ end
+    → v ≡ record { from = s.from; to = s.to; held = take (end - more) (drop more (drop read part)) }
+    → IsFull (record { from = from; to = to; held = [] }) (drop more (drop read part)) room → IsFull v (v.held ++ drop (read + end) part) room
+IsFull-then s v from to part read more end room e f le k full =
+    let xs : List ℕ = drop read part in
+    let place : more + (end - more) ≡ end = omega arith in
+    let following : drop (read + end) part ≡ drop (end - more) (drop more xs) =
+    sym (drop-drop end read part) ∙ ap (λ n. drop n xs) (sym place) ∙ sym (drop-drop (end - more) more xs) in
+    let left : v.held ++ drop (read + end) part ≡ drop more xs = ap₂ (λ ys zs. ys ++ zs) (ap (λ x. x.held) k) following ∙ take-append-drop (end - more) (drop more xs) in
+    let scalar = full.scalar in
+    let len = full.len in
+    record {
+      scalar = scalar;
+      len = len;
+      begins =
+          subst (λ ys. Decides (Reads v.from) ys scalar len) (sym left)
+          (subst (λ x. Decides (Reads x) (drop more xs) scalar len) (e ∙ sym (ap (λ x. x.from) k)) full.begins);
+      longer = subst (λ x. room < length (written x scalar)) (f ∙ sym (ap (λ x. x.to) k)) full.longer;
+    }

@@ -1,0 +1,48 @@
+use Rattle.std.proofs.Common.{◌≡◌, ◌≤◌, List, ℕ, [], take, drop, arith, refl, ap, sym, ◌∙◌, length-take}
+use Rattle.std.proofs.lemmas.List.{append-nil, drop_all}
+use Rattle.recoding.specs.Rooms.{FinishesInto}
+use Rattle.recoding.proofs.RoomLemmas.{cut_part, FinishesInto-of, Finishes-of, IsLastFull-of}
+use Rattle.recoding.proofs.recoder.Recoder.finish_into.Goals as goal
+
+pub returns-then-self-eq0-clause-done : goal.returns-then-self-eq0-clause-done
+returns-then-self-eq0-clause-done c =
+    let r = c.args.self.now in
+    let zero : c.self.inside.count ≡ 0 = omega arith in
+    let none : r.held ≡ [] = sym (ap (λ x. x.held) c.self.view_is) ∙ ap (λ n. take n c.self.inside.held) zero in
+    let same : FinishesInto r c.args.room.now c.args.room.now 0 r
+    = record { leaves = λ rest whole. whole; from = refl; to = refl; few = omega arith; fits = omega arith; rest = refl } in
+    rw c.progress.ensures (λ _. Finishes-of r r c.args.room.now c.args.room.now 0 same none)
+
+pub returns-clause-finishes : goal.returns-clause-finishes
+returns-clause-finishes c =
+    let r = c.args.self.now in
+    let done = c.recode_last_into-done.result in
+    let bytes : List ℕ = take c.join-len.result.1 c.join-len.result.0 in
+    let run = c.recode_last_into-done.ensures in
+    let le : done.read ≤ c.join-len.result.1 = omega (arith, length-take c.join-len.result.1 c.join-len.result.0) in
+    let held : bytes ≡ r.held = c.join-len.ensures.bytes ∙ append-nil c.held_bytes.result.now ∙ c.held_bytes.ensures.bytes in
+    FinishesInto-of r c.hold.new.self c.self.inside.from c.self.inside.to bytes c.args.room.now c.recode_last_into-done.new.room done.read done.written
+    (ap (λ x. x.from) c.self.view_is) (ap (λ x. x.to) c.self.view_is) held run.leaves run.fits run.rest
+    (c.hold.ensures ∙ ap (λ xs. record { from = r.from; to = r.to; held = xs }) (cut_part done.read c.join-len.result.1 c.join-len.result.0 le))
+
+pub returns-clause-full : goal.returns-clause-full
+returns-clause-full c is =
+    let r = c.args.self.now in
+    let done = c.recode_last_into-done.result in
+    let bytes : List ℕ = take c.join-len.result.1 c.join-len.result.0 in
+    let run = c.recode_last_into-done.ensures in
+    let le : done.read ≤ c.join-len.result.1 = omega (arith, length-take c.join-len.result.1 c.join-len.result.0) in
+    IsLastFull-of r c.hold.new.self c.self.inside.from c.self.inside.to (drop done.read bytes) _
+    (ap (λ x. x.from) c.self.view_is) (ap (λ x. x.to) c.self.view_is)
+    (c.hold.ensures ∙ ap (λ xs. record { from = r.from; to = r.to; held = xs }) (cut_part done.read c.join-len.result.1 c.join-len.result.0 le))
+    (run.full is)
+
+pub returns-clause-done : goal.returns-clause-done
+returns-clause-done c whole =
+    let done = c.recode_last_into-done.result in
+    let bytes : List ℕ = take c.join-len.result.1 c.join-len.result.0 in
+    let run = c.recode_last_into-done.ensures in
+    let all = run.all whole in
+    let le : done.read ≤ c.join-len.result.1 = omega (arith, length-take c.join-len.result.1 c.join-len.result.0) in
+    let none : c.hold.new.self.held ≡ [] = ap (λ x. x.held) c.hold.ensures ∙ cut_part done.read c.join-len.result.1 c.join-len.result.0 le ∙ drop_all done.read bytes (omega arith) in
+    Finishes-of c.args.self.now c.hold.new.self c.args.room.now c.recode_last_into-done.new.room done.written (returns-clause-finishes c) none

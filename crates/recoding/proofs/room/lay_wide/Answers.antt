@@ -1,0 +1,18 @@
+use Rattle.std.proofs.Common.{◌≡◌, ◌+◌, ◌≤◌, length, drop, arith, ap, refl, ◌∙◌}
+use Rattle.std.proofs.lemmas.Simd.{take_more_put_chunk, put_chunk_is}
+use Rattle.std.proofs.lemmas.Slice.{drop-put_mid}
+use Rattle.recoding.proofs.room.lay_wide.Goals as goal
+
+pub returns-clause-fills : goal.returns-clause-fills
+returns-clause-fills c =
+    let block = c.args.block in
+    let room = c.args.room.now in
+    let place = c.args.place in
+    let wide : length block ≡ 64 = c.fits-block.0 in
+    let fits : place + length block ≤ length room = omega (arith, c.requires) in
+    record {
+      ordered = omega arith;
+      fits = c.requires;
+      front = take_more_put_chunk place room block (place + 64) (omega arith) c.requires;
+      rest = ap (drop (place + 64)) (put_chunk_is place room block fits) ∙ drop-put_mid place (length block) room block (place + 64) (omega arith) (omega arith) refl;
+    }

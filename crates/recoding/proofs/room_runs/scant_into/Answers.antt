@@ -1,0 +1,23 @@
+use Rattle.std.proofs.Common.{◌≡◌, ◌+◌, ◌-◌, take, drop, arith}
+use Rattle.recoding.specs.Recoded.{Reads}
+use Rattle.recoding.specs.ShownFronts.{Decides}
+use Rattle.recoding.proofs.RoomRuns.{RunsInto-step, few_written}
+use Rattle.recoding.proofs.room_runs.scant_into.Goals as goal
+
+pub put_code_at-written-requires : goal.put_code_at-written-requires
+put_code_at-written-requires g c =
+    let few = few_written c.args.to c.in-Some.c in
+    omega arith
+
+pub loop-read-preserved : goal.loop-read-preserved
+loop-read-preserved g c =
+    let read = c.loop-read.read in
+    let span : read + 4 - read ≡ 4 = omega arith in
+    let d : Decides (Reads c.args.from) (take 4 (drop read c.args.bytes.now)) c.in-Some.c c.in-Some.len = rw span at c.in-Some.ensures in
+    let put = c.put_code_at-written.ensures in
+    let before = c.loop-read.invariant in
+    let len = before.len in
+    record {
+      runs = RunsInto-step before.runs len d put.fills put.end;
+      len = omega (arith, c.put_code_at-written.auto.room);
+    }

@@ -1,0 +1,5 @@
+use Rattle.recoding.proofs.ShardEnds.{last_is_end}
+use Rattle.recoding.proofs.shards.shard_end.Goals as goal
+
+pub returns-then-bytes-at-clause-end : goal.returns-then-bytes-at-clause-end
+returns-then-bytes-at-clause-end c = last_is_end c.args.from c.args.bytes.now c.args.at c.if-bytes-at.true

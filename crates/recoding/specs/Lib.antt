@@ -1,0 +1,12 @@
+pub mod Recoded
+pub mod Rooms
+pub mod OutputRuns
+pub mod Bounds
+pub mod Fed
+pub mod Shards
+pub mod ShownFronts
+pub mod UnitRuns
+pub mod Outputs
+pub mod Recodes
+pub mod FilledRooms
+pub mod Boundaries

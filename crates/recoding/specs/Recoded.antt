@@ -1,0 +1,98 @@
+-- Bytes of one form of text recoded as bytes of another: the codes of what they show.
+use Rattle.std.specs.Prelude.{◌≡◌, ℕ, ◌+◌, ◌≤◌, Bool, true, false, List, [], ◌∷◌, ◌++◌, length, flat_map, Some}
+use Rattle.std.specs.List.{concat}
+use Rattle.utf_base.specs.Code.{utf8, utf16}
+use Rattle.utf_base.specs.Kinds.{fault_kind}
+use Rattle.utf_base.specs.Units.{unit_fault_kind}
+use Rattle.utf_base.specs.Shown.{Shows}
+use Rattle.utf_base.specs.declared.errors.Utf8ErrorKind.TheVariants.{TooFewBytes}
+use Rattle.utf_base.specs.declared.errors.units.Utf16PairError.TheVariants.{Incomplete}
+pub use Rattle.utf_lanes.specs.BytePairs.{unit_of, bytes_of, units_of}
+use Rattle.recoding.specs.declared.form.Form.{Form}
+use Rattle.recoding.specs.declared.form.Form.TheVariants.{Utf8, Utf16Le, Utf16Be}
+
+-- an odd last byte is a fault
+abbrev pub odd_end : List ℕ → List ℕ
+odd_end [] = []
+odd_end (a ∷ []) = 0xFFFD ∷ []
+odd_end (a ∷ b ∷ bytes) = odd_end bytes
+
+-- ss is what the units that the bytes make show, and U+FFFD for an odd last byte
+abbrev pub ShowsUnits : Bool → List ℕ → List ℕ → Type 0
+ShowsUnits high_first bytes ss = (ts : List ℕ) × Shows utf16 (units_of high_first bytes) ts × (ss ≡ ts ++ odd_end bytes)
+
+-- ss is what the bytes show as text of that form
+abbrev pub Reads : Form → List ℕ → List ℕ → Type 0
+Reads Utf8 = Shows utf8
+Reads Utf16Le = ShowsUnits false
+Reads Utf16Be = ShowsUnits true
+
+-- The bytes lack elements: there is none, or fewer than the first asks for. Of units a leading surrogate is alone, and half a
+-- unit is none.
+abbrev pub Lacks : Form → List ℕ → Type 0
+Lacks Utf8 bytes = fault_kind bytes ≡ Some TooFewBytes
+Lacks Utf16Le bytes = unit_fault_kind (units_of false bytes) ≡ Some Incomplete
+Lacks Utf16Be bytes = unit_fault_kind (units_of true bytes) ≡ Some Incomplete
+
+-- the code of a scalar, as bytes of that form
+abbrev pub written : Form → ℕ → List ℕ
+written Utf8 s = utf8 s
+written Utf16Le s = flat_map (bytes_of false) (utf16 s)
+written Utf16Be s = flat_map (bytes_of true) (utf16 s)
+
+-- `out` is the codes of what the bytes show
+abbrev pub IsRecoded : Form → Form → List ℕ → List ℕ → Type 0
+IsRecoded from to bytes out = (ss : List ℕ) × Reads from bytes ss × (out ≡ flat_map (written to) ss)
+
+-- Whatever follows the bytes, they are recoded as `grown` and then as the held bytes are before what follows.
+abbrev pub Continues : Form → Form → List ℕ → List ℕ → List ℕ → Type 0
+Continues from to bytes grown held = (later rest : List ℕ) → IsRecoded from to (held ++ later) rest → IsRecoded from to (bytes ++ later) (grown ++ rest)
+
+-- each list of bytes is recoded as one list, and no other
+abbrev pub RecodedOnce : Type 0
+RecodedOnce =
+    (from to : Form) (bytes : List ℕ)
+    → (out : List ℕ) × IsRecoded from to bytes out × ((other : List ℕ) → IsRecoded from to bytes other → other ≡ out)
+
+-- What contracts see of a recoder: the forms, and the bytes that it holds.
+pub record Recoding : Type 0 where
+  pub from : Form
+  pub to : Form
+  pub held : List ℕ
+
+-- what an output holds has grown by what the bytes are recoded as, up to the held ones
+pub record Grows (from to : Form) (bytes old new held : List ℕ) : Type 0 where
+  pub grown : List ℕ
+  pub appended : new ≡ old ++ grown
+  pub continues : Continues from to bytes grown held
+
+-- one call of `feed`
+pub record Feeds (r : Recoding) (part old new : List ℕ) (s : Recoding) : Type 0 where
+  pub grows : Grows r.from r.to (r.held ++ part) old new s.held
+  pub from : s.from ≡ r.from
+  pub to : s.to ≡ r.to
+  pub few : length s.held ≤ 3
+
+-- one call of `finish`
+pub record Finishes (r : Recoding) (old new : List ℕ) : Type 0 where
+  pub grown : List ℕ
+  pub appended : new ≡ old ++ grown
+  pub recoded : IsRecoded r.from r.to r.held grown
+
+-- A recoder is fed these parts one after another and then finished, and what an output holds grows by what comes of it.
+abbrev pub FeedsEach : Recoding → List (List ℕ) → List ℕ → List ℕ → Type 0
+FeedsEach r [] old new = Finishes r old new
+FeedsEach r (part ∷ parts) old new = (s : Recoding) × (mid : List ℕ) × Feeds r part old mid s × FeedsEach s parts mid new
+
+-- what comes of some parts is what they are recoded as, joined
+abbrev pub PartsAreRecoded : Type 0
+PartsAreRecoded =
+    (from to : Form) (parts : List (List ℕ)) (out : List ℕ)
+    → FeedsEach (record { from = from; to = to; held = [] }) parts [] out → IsRecoded from to (concat parts) out
+
+-- so it is the same however they are cut
+abbrev pub PartsDoNotMatter : Type 0
+PartsDoNotMatter =
+    (from to : Form) (parts others : List (List ℕ)) (out other : List ℕ) → concat parts ≡ concat others
+    → FeedsEach (record { from = from; to = to; held = [] }) parts [] out
+    → FeedsEach (record { from = from; to = to; held = [] }) others [] other → out ≡ other

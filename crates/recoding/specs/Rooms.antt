@@ -1,0 +1,90 @@
+-- Recoding into room of a fixed size.
+use Rattle.std.specs.Prelude.{◌≡◌, ℕ, ◌+◌, ◌-◌, ◌*◌, ◌/◌, ◌<◌, ◌≤◌, List, ◌++◌, length, take, drop}
+use Rattle.recoding.specs.Recoded.{Reads, written, IsRecoded, Recoding, Feeds, Grows}
+use Rattle.recoding.specs.ShownFronts.{Decides, Ends}
+use Rattle.recoding.specs.declared.form.Form.{Form}
+use Rattle.recoding.specs.declared.form.Form.TheVariants.{Utf8, Utf16Le, Utf16Be}
+
+-- The places of the room from the one to the other became these bytes, and all others stay.
+pub record Fills (old new : List ℕ) (from to : ℕ) (bytes : List ℕ) : Type 0 where
+  pub ordered : from ≤ to
+  pub fits : to ≤ length old
+  pub front : take to new ≡ take from old ++ bytes
+  pub rest : drop to new ≡ drop to old
+
+-- A run has recoded so many bytes, by the three that follow them and no others, into the room from a place on. No more
+-- than three bytes came of each, and the other places of the room stay.
+pub record RunsInto (from to : Form) (bytes old new : List ℕ) (place read wrote : ℕ) : Type 0 where
+  pub within : read ≤ length bytes
+  pub ordered : place ≤ wrote
+  pub short : wrote ≤ place + 3 * read
+  pub fits : wrote ≤ length old
+  pub grows : Grows from to (take (read + 3) bytes) (take place old) (take wrote new) (take 3 (drop read bytes))
+  pub rest : drop wrote new ≡ drop wrote old
+
+-- One call of `feed_into`: the bytes of the part that were read were fed, whatever had been put out before. What came of
+-- them begins the room, whose other places stay.
+pub record FeedsInto (r : Recoding) (part old new : List ℕ) (read wrote : ℕ) (s : Recoding) : Type 0 where
+  pub within : read ≤ length part
+  pub feeds : (out : List ℕ) → Feeds r (take read part) out (out ++ take wrote new) s
+  pub fits : wrote ≤ length old
+  pub rest : drop wrote new ≡ drop wrote old
+
+-- how much is left of a part, of which so many bytes were read: each of the others counts twice, and each that is held once
+abbrev pub bytes_left : List ℕ → ℕ → Recoding → ℕ
+bytes_left part read r = 2 * (length part - read) + length r.held
+
+-- in room for a code, each call of some bytes comes nearer to their end
+abbrev pub ComesNearer : List ℕ → List ℕ → ℕ → Recoding → Recoding → Type 0
+ComesNearer part room read r s = 4 ≤ length room → 0 < length part → bytes_left part read s < bytes_left part 0 r
+
+-- What begins so shows a scalar and has a length, and the code of the scalar is longer than the room.
+pub record BeginsLonger (shows : ℕ → ℕ → Type 0) (to : Form) (room : ℕ) : Type 0 where
+  pub scalar : ℕ
+  pub len : ℕ
+  pub begins : shows scalar len
+  pub longer : room < length (written to scalar)
+
+-- The bytes that are left begin with a scalar, whatever follows them, whose code is longer than the room.
+abbrev pub IsFull : Recoding → List ℕ → ℕ → Type 0
+IsFull r left room = BeginsLonger (Decides (Reads r.from) left) r.to room
+
+-- Where nothing follows the bytes, they are recoded as `grown`, and then as the held ones are.
+abbrev pub Leaves : Form → Form → List ℕ → List ℕ → List ℕ → Type 0
+Leaves from to bytes grown held = (rest : List ℕ) → IsRecoded from to held rest → IsRecoded from to bytes (grown ++ rest)
+
+-- One call of `finish_into`: what begins the room, and then what the bytes that are held now are recoded as, is what those
+-- that were held are recoded as. The other places of the room stay.
+pub record FinishesInto (r : Recoding) (old new : List ℕ) (wrote : ℕ) (s : Recoding) : Type 0 where
+  pub leaves : Leaves r.from r.to r.held (take wrote new) s.held
+  pub from : s.from ≡ r.from
+  pub to : s.to ≡ r.to
+  pub few : length s.held ≤ length r.held
+  pub fits : wrote ≤ length old
+  pub rest : drop wrote new ≡ drop wrote old
+
+-- The bytes that are left, which nothing follows, begin with a scalar whose code is longer than the room.
+abbrev pub IsLastFull : Recoding → List ℕ → ℕ → Type 0
+IsLastFull r left room = BeginsLonger (Ends (Reads r.from) left) r.to room
+
+-- How much room recoding takes.
+
+-- the most bytes that come of one byte or unit
+abbrev pub widest : Form → ℕ
+widest Utf8 = 3
+widest Utf16Le = 2
+widest Utf16Be = 2
+
+-- how many bytes or units so many bytes are, where half a unit counts as one
+abbrev pub parts_of : Form → ℕ → ℕ
+parts_of Utf8 n = n
+parts_of Utf16Le n = (n + 1) / 2
+parts_of Utf16Be n = (n + 1) / 2
+
+-- the most bytes that so many bytes are recoded as
+abbrev pub most_bytes : Form → Form → ℕ → ℕ
+most_bytes from to n = widest to * parts_of from n
+
+-- no bytes of that number, or fewer, are recoded as more than that
+abbrev pub IsRoomFor : Form → Form → ℕ → ℕ → Type 0
+IsRoomFor from to len room = (bytes out : List ℕ) → length bytes ≤ len → IsRecoded from to bytes out → length out ≤ room

@@ -1,0 +1,47 @@
+-- What the front of some bytes shows.
+use Rattle.std.specs.Prelude.{◌≡◌, ℕ, ◌<◌, ◌≤◌, ◌++◌, ◌∷◌, List, length, drop, Bool, true, false}
+use Rattle.utf_base.specs.Scalar.{IsScalar}
+use Rattle.recoding.specs.declared.form.Form.{Form}
+use Rattle.recoding.specs.declared.form.Form.TheVariants.{Utf8, Utf16Le, Utf16Be}
+
+-- The bytes begin with n bytes that show the scalar s, whatever follows.
+pub record Decides (reads : List ℕ → List ℕ → Type 0) (w : List ℕ) (s n : ℕ) : Type 0 where
+  pub some : 0 < n
+  pub within : n ≤ length w
+  pub scalar : IsScalar s
+  pub wide : 0x1_0000 ≤ s → 2 ≤ n
+  pub first : (later ss : List ℕ) → reads (drop n w ++ later) ss → reads (w ++ later) (s ∷ ss)
+
+-- The same where nothing follows.
+pub record Ends (reads : List ℕ → List ℕ → Type 0) (w : List ℕ) (s n : ℕ) : Type 0 where
+  pub some : 0 < n
+  pub within : n ≤ length w
+  pub scalar : IsScalar s
+  pub wide : 0x1_0000 ≤ s → 2 ≤ n
+  pub first : (ss : List ℕ) → reads (drop n w) ss → reads w (s ∷ ss)
+
+-- how many bytes a fault has, where there are so many
+abbrev pub fault_len : Form → ℕ
+fault_len Utf8 = 1
+fault_len Utf16Le = 2
+fault_len Utf16Be = 2
+
+-- There are few bytes, and what follows decides; where nothing does, a fault of so many bytes begins them.
+pub record Waits (reads : List ℕ → List ℕ → Type 0) (fault : ℕ) (w : List ℕ) : Type 0 where
+  pub few : length w ≤ 3
+  pub last : 0 < length w → (ss : List ℕ) → reads (drop fault w) ss → reads w (0xFFFD ∷ ss)
+
+-- The bytes show these scalars, and then what follows them does.
+abbrev pub ShowsEach : (List ℕ → List ℕ → Type 0) → List ℕ → List ℕ → Type 0
+ShowsEach reads w ts = (later ss : List ℕ) → reads later ss → reads (w ++ later) (ts ++ ss)
+
+-- The form has units, of which the high byte is the first or the second.
+abbrev pub IsUnits : Bool → Form → Type 0
+IsUnits high_first Utf8 = ⊥
+IsUnits high_first Utf16Le = high_first ≡ false
+IsUnits high_first Utf16Be = high_first ≡ true
+
+-- One of the two forms has units, or both have.
+abbrev pub HaveUnits : Form → Form → Type 0
+HaveUnits Utf8 Utf8 = ⊥
+HaveUnits from to = Unit {0}

@@ -1,0 +1,51 @@
+//! The laws of recoding.
+//!
+//! Each function does nothing: its contract is the law.
+ghost use Rattle.recoding.specs.Shards.{ShardsJoin};
+ghost use Rattle.recoding.specs.Recoded.{RecodedOnce, PartsAreRecoded, PartsDoNotMatter};
+ghost use Rattle.recoding.specs.Bounds.{RecodedIsBounded, LossyIsBounded, FeedsInRoom, RoomIsLeft, FinishesInRoom};
+ghost use Rattle.recoding.specs.Fed.{NothingIsFed, PartIsFed, FedIsFront, FedIsRecoded, TwoPartsAreOne, TwoPartsAreRecoded};
+
+/// Bytes are recoded in exactly one way.
+pub fn recoded_once()
+    ensures { RecodedOnce }
+{}
+
+/// What a recoder answers over the parts of an input is what the input is recoded as, however it is cut
+/// into parts.
+pub fn parts_do_not_matter()
+    ensures recoded { PartsAreRecoded }
+    ensures same { PartsDoNotMatter }
+{}
+
+/// Parts that are fed one after another are one part. What came of them begins what the whole is recoded as,
+/// whatever follows, and after the end it is the whole. A caller of two parts needs the last clause alone.
+pub fn parts_are_one_part()
+    ensures nothing { NothingIsFed }
+    ensures part { PartIsFed }
+    ensures front { FedIsFront }
+    ensures whole { FedIsRecoded }
+    ensures two { TwoPartsAreOne }
+    ensures two_recoded { TwoPartsAreRecoded }
+{}
+
+/// Bytes are recoded as no more bytes than `room_for` answers: a lossy text is at most three times as long as
+/// its bytes.
+pub fn recoded_is_bounded()
+    ensures recoded { RecodedIsBounded }
+    ensures lossy { LossyIsBounded }
+{}
+
+/// Where all that comes of some bytes fits into the room, `feed_into` and then `finish_into` are not full.
+pub fn room_is_enough()
+    ensures feeds { FeedsInRoom }
+    ensures left { RoomIsLeft }
+    ensures finishes { FinishesInRoom }
+{}
+
+/// Shards over whose ends no code lies may be recoded apart: what comes of them, joined, is what the whole is recoded as.
+/// The kind of a fault in the last three bytes of a shard may differ from its kind in the whole; recoding makes U+FFFD of
+/// each.
+pub fn shards_join()
+    ensures { ShardsJoin }
+{}

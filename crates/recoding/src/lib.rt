@@ -1,0 +1,26 @@
+//! Recoding from one form of text into another: in parts, into room of a fixed size, and in shards.
+//!
+//! `Recoder` takes text in parts, `room_for` says how much comes of some bytes at most, `shard_end` where a large input may be
+//! cut, and `laws` what holds of all recoding. `cuts` passes these on.
+//!
+//! It is an addition of this project, and no part of the Rust crate.
+#![tactic(auto)]
+
+pub mod boundaries;
+mod code_puts;
+pub mod form;
+pub mod laws;
+mod narrowed_units;
+mod output;
+pub mod recoder;
+mod recoder_rooms;
+mod recoder_runs;
+mod room;
+mod room_puts;
+mod room_runs;
+pub mod rooms;
+pub mod shards;
+mod shown_fronts;
+mod unit_copies;
+mod unit_puts;
+mod widened_texts;

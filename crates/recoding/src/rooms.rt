@@ -1,0 +1,47 @@
+//! How much room recoding takes, and how far a call comes that has some.
+ghost use Rattle.std.specs.Prelude.{◌≡◌, ◌≤◌, ◌^◌, IfSome, IfNone};
+ghost use Rattle.recoding.specs.Rooms.{most_bytes, parts_of, widest, IsRoomFor};
+
+use crate::form::Form;
+
+/// The most bytes that input of `len` bytes can become: into UTF-8 three for each byte of UTF-8 or
+/// unit of UTF-16, into UTF-16 two. An odd byte at the end counts as a unit. `None` where a `usize`
+/// cannot count them.
+///
+/// For a part that is fed to a recoder, add the bytes that it holds.
+pub fn room_for(from: Form, to: Form, len: usize) -> Option<usize>
+    ensures most { IfSome result (λ n. n ≡ most_bytes from to len) }
+    ensures enough { IfSome result (λ n. IsRoomFor from to len n) }
+    ensures none { IfNone result (2 ^ 64 ≤ most_bytes from to len) }
+{
+    count_parts(from, len).checked_mul(bytes_each(to))
+}
+
+fn bytes_each(to: Form) -> usize
+    ensures { result ≡ widest to }
+{
+    match to {
+        Form::Utf8 => 3,
+        Form::Utf16Le | Form::Utf16Be => 2,
+    }
+}
+
+fn count_parts(from: Form, len: usize) -> usize
+    ensures { result ≡ parts_of from len }
+{
+    match from {
+        Form::Utf8 => len,
+        Form::Utf16Le | Form::Utf16Be => len / 2 + len % 2,
+    }
+}
+
+/// How far a call went that fills room of a fixed size.
+#[derive(Clone, Copy, Debug, PartialEq, Eq, Drop)]
+pub struct Progress {
+    /// How many bytes of the part were read.
+    pub read: usize,
+    /// How many bytes of the room were written, from its front.
+    pub written: usize,
+    /// Whether the call ended because the next character does not fit into the room that remained.
+    pub is_full: bool,
+}

@@ -1,0 +1,236 @@
+//! What the front of some bytes shows.
+ghost use Rattle.std.specs.Prelude.{◌≡◌, ◌<◌, length, take, flat_map, IfSome, IfNone, IsTrue, Some};
+ghost use Rattle.utf_base.specs.Code.{utf8};
+ghost use Rattle.utf_base.specs.Shown.{Shows};
+ghost use Rattle.utf_base.specs.Units.{unit_fault_kind};
+ghost use Rattle.utf_base.specs.declared.errors.units.Utf16PairError.TheVariants.{Incomplete};
+ghost use Rattle.utf_lanes.specs.AsciiTexts.{AreAscii};
+ghost use Rattle.recoding.specs.Recoded.{Reads, Lacks, ShowsUnits};
+ghost use Rattle.utf_lanes.specs.BytePairs.{units_of};
+ghost use Rattle.recoding.specs.ShownFronts.{IsUnits, Decides, Ends, Waits, fault_len, ShowsEach};
+
+use crate::code_puts::low;
+use crate::form::Form;
+use encode_unicode::error::Utf8ErrorKind;
+use encode_unicode::{CharExt, U16UtfExt};
+use utf_lanes::byte_pairs::unit;
+use utf_lanes::text_front::front_of_text;
+
+// The scalar that begins the bytes, or U+FFFD for a fault, and how many bytes it has; `None` where that
+// depends on what follows them.
+#[inline(always)]
+pub(crate) fn front(from: Form, bytes: &[u8]) -> Option<(char, usize)>
+    ensures some { IfSome result (λ x. Decides (Reads from) bytes.now x.0 x.1) }
+    ensures none { IfNone result (Waits (Reads from) (fault_len from) bytes.now) }
+    ensures lacks { IfNone result (Lacks from bytes.now) }
+{
+    match from {
+        Form::Utf8 => front_of_utf8(bytes),
+        Form::Utf16Le => front_of_utf16(false, bytes),
+        Form::Utf16Be => front_of_utf16(true, bytes),
+    }
+}
+
+// The same where nothing follows the bytes.
+#[inline(always)]
+pub(crate) fn last_front(from: Form, bytes: &[u8]) -> (char, usize)
+    requires { 0 < length bytes.now }
+    ensures { Ends (Reads from) bytes.now result.0 result.1 }
+{
+    match front(from, bytes) {
+        Some(first) => first,
+        None => (
+            char::REPLACEMENT_CHARACTER,
+            fault_bytes(from).min(bytes.len()),
+        ),
+    }
+}
+
+// How many bytes a fault has.
+#[inline(always)]
+fn fault_bytes(from: Form) -> usize
+    ensures { result ≡ fault_len from }
+{
+    match from {
+        Form::Utf8 => 1,
+        Form::Utf16Le | Form::Utf16Be => 2,
+    }
+}
+
+#[inline(always)]
+fn front_of_utf8(bytes: &[u8]) -> Option<(char, usize)>
+    ensures some { IfSome result (λ x. Decides (Shows utf8) bytes.now x.0 x.1) }
+    ensures none { IfNone result (Waits (Shows utf8) 1 bytes.now) }
+    ensures lacks { IfNone result (Lacks Form.Utf8 bytes.now) }
+{
+    match char::from_utf8_slice_start(bytes) {
+        Ok((c, len)) => Some((c, len)),
+        Err(error) => match error.kind() {
+            Utf8ErrorKind::TooFewBytes => None,
+            _ => Some((char::REPLACEMENT_CHARACTER, 1)),
+        },
+    }
+}
+
+#[inline(always)]
+fn front_of_utf16(high_first: bool, bytes: &[u8]) -> Option<(char, usize)>
+    ensures some { IfSome result (λ x. Decides (ShowsUnits high_first) bytes.now x.0 x.1) }
+    ensures none { IfNone result (Waits (ShowsUnits high_first) 2 bytes.now) }
+    ensures lacks { IfNone result (unit_fault_kind (units_of high_first bytes.now) ≡ Some Incomplete) }
+{
+    if bytes.len() < 2 {
+        return None;
+    }
+    let first = unit(high_first, bytes[0], bytes[1]);
+    if !first.is_utf16_leading_surrogate() {
+        return match char::from_utf16_tuple((first, None)) {
+            Ok(c) => Some((c, 2)),
+            Err(_) => Some((char::REPLACEMENT_CHARACTER, 2)),
+        };
+    }
+    if bytes.len() < 4 {
+        return None;
+    }
+    let second = unit(high_first, bytes[2], bytes[3]);
+    match char::from_utf16_tuple((first, Some(second))) {
+        Ok(c) => Some((c, 4)),
+        Err(_) => Some((char::REPLACEMENT_CHARACTER, 2)),
+    }
+}
+
+// The character that begins the bytes, and how many bytes it has; `None` at a fault, and near the end.
+#[inline(always)]
+pub(crate) fn text_front(from: Form, bytes: &[u8]) -> Option<(char, usize)>
+    ensures { IfSome result (λ x. Decides (Reads from) bytes.now x.0 x.1) }
+{
+    match from {
+        Form::Utf8 => front_of_text(bytes),
+        Form::Utf16Le => char_of_utf16(false, bytes),
+        Form::Utf16Be => char_of_utf16(true, bytes),
+    }
+}
+
+// How many bytes there have to be for `text_front` to answer a character.
+#[inline(always)]
+pub(crate) fn least_front(from: Form) -> usize
+    ensures { 0 < result }
+{
+    match from {
+        Form::Utf8 => 4,
+        Form::Utf16Le | Form::Utf16Be => 2,
+    }
+}
+
+#[inline(always)]
+fn char_of_utf16(high_first: bool, bytes: &[u8]) -> Option<(char, usize)>
+    ensures { IfSome result (λ x. Decides (ShowsUnits high_first) bytes.now x.0 x.1) }
+{
+    if bytes.len() < 2 {
+        return None;
+    }
+    let first = unit(high_first, bytes[0], bytes[1]);
+    if !first.is_utf16_leading_surrogate() {
+        return match char::from_utf16_tuple((first, None)) {
+            Ok(c) => Some((c, 2)),
+            Err(_) => None,
+        };
+    }
+    if bytes.len() < 4 {
+        return None;
+    }
+    let second = unit(high_first, bytes[2], bytes[3]);
+    match char::from_utf16_tuple((first, Some(second))) {
+        Ok(c) => Some((c, 4)),
+        Err(_) => None,
+    }
+}
+
+// The eight characters of ASCII that sixteen bytes are as units. `None` where a unit is anything else.
+#[inline(always)]
+#[tactic(auto, using(crate::proofs::Blocks::block_codes))]
+pub(crate) fn ascii_of_units(high_first: bool, bytes: &[u8]) -> Option<[u8; 8]>
+    requires { length bytes.now ≡ 16 }
+    ensures shows { IfSome result (λ ascii. ShowsEach (ShowsUnits high_first) bytes.now ascii) }
+    ensures codes { IfSome result (λ ascii. flat_map utf8 ascii ≡ ascii) }
+{
+    let units = eight_units(high_first, bytes);
+    if eight_are_ascii(units) {
+        Some(eight_bytes(units))
+    } else {
+        None
+    }
+}
+
+#[inline(always)]
+#[tactic(auto, using(crate::proofs::Blocks::eight_units))]
+fn eight_units(high_first: bool, bytes: &[u8]) -> [u16; 8]
+    requires { length bytes.now ≡ 16 }
+    ensures { result ≡ units_of high_first bytes.now }
+{
+    [
+        unit(high_first, bytes[0], bytes[1]),
+        unit(high_first, bytes[2], bytes[3]),
+        unit(high_first, bytes[4], bytes[5]),
+        unit(high_first, bytes[6], bytes[7]),
+        unit(high_first, bytes[8], bytes[9]),
+        unit(high_first, bytes[10], bytes[11]),
+        unit(high_first, bytes[12], bytes[13]),
+        unit(high_first, bytes[14], bytes[15]),
+    ]
+}
+
+#[inline(always)]
+#[tactic(auto, using(crate::proofs::Blocks::all_eight))]
+fn eight_are_ascii(units: [u16; 8]) -> bool
+    ensures { IsTrue result → AreAscii units 0 8 }
+{
+    units[0] < 0x80
+        && units[1] < 0x80
+        && units[2] < 0x80
+        && units[3] < 0x80
+        && units[4] < 0x80
+        && units[5] < 0x80
+        && units[6] < 0x80
+        && units[7] < 0x80
+}
+
+// The same numbers as bytes.
+#[inline(always)]
+#[tactic(auto, using(crate::proofs::Blocks::eight_bytes))]
+fn eight_bytes(units: [u16; 8]) -> [u8; 8]
+    requires { AreAscii units 0 8 }
+    ensures { result ≡ units }
+{
+    let [a, b, c, d, e, f, g, h] = units;
+    [
+        low(a),
+        low(b),
+        low(c),
+        low(d),
+        low(e),
+        low(f),
+        low(g),
+        low(h),
+    ]
+}
+
+// Whether the high byte of each unit is the first, in a form that has units.
+#[inline(always)]
+pub(crate) fn high_is_first(form: Form) -> Option<bool>
+    ensures some { IfSome result (λ high_first. IsUnits high_first form) }
+    ensures none { IfNone result (form ≡ Form.Utf8) }
+{
+    match form {
+        Form::Utf8 => None,
+        Form::Utf16Le => Some(false),
+        Form::Utf16Be => Some(true),
+    }
+}
+
+// The first four bytes, or all where they are fewer.
+#[inline(always)]
+pub(crate) fn four(bytes: &[u8]) -> &[u8]
+    ensures { result.now ≡ take 4 bytes.now }
+{
+    &bytes[..bytes.len().min(4)]
+}

@@ -1,0 +1,158 @@
+//! Text copied: as it is, or well-formed units with the bytes of each swapped.
+ghost use Rattle.std.specs.Prelude.{◌≡◌, ◌⊎◌, ◌-◌, ◌+◌, ◌%◌, ◌<◌, ◌≤◌, [], ◌∷◌, length, take, drop};
+ghost use Rattle.recoding.specs.Recodes.{CopiesUnits, Recodes};
+ghost use Rattle.utf_lanes.specs.BytePairs.{swapped, turned};
+
+use crate::form::Form;
+use crate::output::Output;
+use std::simd::prelude::*;
+use utf_lanes::byte_pairs::{swapped_16, swapped_64};
+use utf_lanes::text_blocks::text_len;
+use utf_lanes::unit_blocks::units_len;
+
+// Appends the text at the front of the bytes, and answers how many bytes it has.
+#[inline(always)]
+pub(crate) fn copy_judged<O: Output>(bytes: &[u8], out: &mut O) -> usize
+    requires { length bytes.now ≤ O.room out.old }
+    ensures { Recodes O.appends Form.Utf8 Form.Utf8 bytes.now out.old out.new result }
+{
+    let len = text_len(bytes);
+    out.put(&bytes[..len]);
+    len
+}
+
+// Appends the well-formed units at the front of the bytes, the two bytes of each swapped or as they are, and answers
+// how many bytes they have.
+#[inline(always)]
+pub(crate) fn copy_units<O: Output>(
+    high_first: bool,
+    swaps: bool,
+    bytes: &[u8],
+    out: &mut O,
+) -> usize
+    requires { length bytes.now ≤ O.room out.old }
+    ensures { CopiesUnits O.appends high_first swaps bytes.now out.old out.new result }
+{
+    let len = 2 * units_len(high_first, bytes);
+    if len == 0 {
+        return 0;
+    }
+    put_turned(swaps, &bytes[..len], out);
+    len
+}
+
+// The same, kept out of line. Each pair of orders is called under a number of its own, so that it has a copy of the code.
+#[inline(never)]
+pub(crate) fn copy_units_apart<O: Output, const PAIR: usize>(
+    high_first: bool,
+    swaps: bool,
+    bytes: &[u8],
+    out: &mut O,
+) -> usize
+    requires { length bytes.now ≤ O.room out.old }
+    ensures { CopiesUnits O.appends high_first swaps bytes.now out.old out.new result }
+{
+    copy_units(high_first, swaps, bytes, out)
+}
+
+// Appends the bytes, those of each pair swapped or as they are.
+#[inline(always)]
+fn put_turned<O: Output>(swaps: bool, bytes: &[u8], out: &mut O)
+    requires even { length bytes.now % 2 ≡ 0 }
+    requires room { length bytes.now ≤ O.room out.old }
+    ensures { O.appends out.old (turned swaps bytes.now) out.new }
+{
+    if swaps {
+        put_swapped(bytes, out);
+    } else {
+        out.put(bytes);
+    }
+}
+
+// Appends the bytes, those of each pair swapped.
+#[inline(always)]
+fn put_swapped<O: Output>(bytes: &[u8], out: &mut O)
+    requires even { length bytes.now % 2 ≡ 0 }
+    requires room { length bytes.now ≤ O.room out.old }
+    ensures { O.appends out.old (swapped bytes.now) out.new }
+{
+    if bytes.len() < 16 {
+        put_pairs(bytes, out);
+        return;
+    }
+    let wide = put_blocks(64, bytes, out);
+    let rest = &bytes[wide..];
+    let place = put_blocks(16, rest, out);
+    put_last(bytes, rest.len() - place, out);
+}
+
+// The same of a few bytes, pair by pair.
+#[inline(always)]
+fn put_pairs<O: Output>(bytes: &[u8], out: &mut O)
+    requires even { length bytes.now % 2 ≡ 0 }
+    requires room { length bytes.now ≤ O.room out.old }
+    ensures { O.appends out.old (swapped bytes.now) out.new }
+{
+    let mut place = 0;
+    while 2 <= bytes.len() - place {
+        put_pair(bytes[place + 1], bytes[place], out);
+        place += 2;
+    }
+}
+
+// Appends two bytes.
+#[inline(always)]
+pub(crate) fn put_pair<O: Output>(first: u8, second: u8, out: &mut O)
+    requires { 2 ≤ O.room out.old }
+    ensures { O.appends out.old (first ∷ second ∷ []) out.new }
+{
+    out.put_byte(first);
+    out.put_byte(second);
+}
+
+// The same in blocks of so many bytes. Answers where the last block ends.
+#[inline(always)]
+fn put_blocks<O: Output>(width: usize, bytes: &[u8], out: &mut O) -> usize
+    requires width { width ≡ 64 ⊎ width ≡ 16 }
+    requires room { length bytes.now ≤ O.room out.old }
+    ensures within { result ≤ length bytes.now }
+    ensures even { result % 2 ≡ 0 }
+    ensures few { length bytes.now < result + width }
+    ensures appends { O.appends out.old (swapped (take result bytes.now)) out.new }
+{
+    let mut place = 0;
+    while width <= bytes.len() - place {
+        put_block(width, bytes, place, out);
+        place += width;
+    }
+    place
+}
+
+// One block.
+#[inline(always)]
+fn put_block<O: Output>(width: usize, bytes: &[u8], place: usize, out: &mut O)
+    requires width { width ≡ 64 ⊎ width ≡ 16 }
+    requires within { place + width ≤ length bytes.now }
+    requires room { width ≤ O.room out.old }
+    ensures { O.appends out.old (swapped (take width (drop place bytes.now))) out.new }
+{
+    if width == 64 {
+        out.put(&swapped_64(bytes, place));
+    } else {
+        out.put(&swapped_16(bytes, place));
+    }
+}
+
+// The same of the last few.
+#[inline(always)]
+fn put_last<O: Output>(bytes: &[u8], count: usize, out: &mut O)
+    requires even { length bytes.now % 2 ≡ 0 }
+    requires pairs { count % 2 ≡ 0 }
+    requires few { count ≤ 16 }
+    requires enough { 16 ≤ length bytes.now }
+    requires room { count ≤ O.room out.old }
+    ensures { O.appends out.old (swapped (drop (length bytes.now - count) bytes.now)) out.new }
+{
+    let block = swapped_16(bytes, bytes.len() - 16);
+    out.put(&block[16 - count..]);
+}

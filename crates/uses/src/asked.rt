@@ -1,0 +1,60 @@
+//! Decoders and text iterators that were asked already: what still comes lies in the bytes, or in the text.
+use encode_unicode::{StrExt, U8SliceExt, U16SliceExt, Utf8Char};
+
+/// A command's letter, and its argument, which stands after the first space.
+pub fn command(text: &str) -> Option<(Utf8Char, &str)> {
+    let mut characters = text.utf8char_indices();
+    let (_, letter) = characters.next()?;
+    let (place, space) = characters.find(|x| x.1.eq_char(' '))?;
+    Some((letter, &text[place + space.len()..]))
+}
+
+/// The last word of a line, with the line feed or space that ends it.
+pub fn last_word(line: &str) -> Option<&str> {
+    let mut characters = line.utf8char_indices();
+    characters.next_back()?;
+    let (place, space) = characters.rev().find(|x| x.1.eq_char(' '))?;
+    Some(&line[place + space.len()..])
+}
+
+/// The bytes from the first fault on that is not the first piece.
+pub fn from_later_fault(bytes: &[u8]) -> &[u8] {
+    let mut pieces = bytes.utf8char_indices();
+    pieces.next();
+    match pieces.find(|x| x.1.is_err()) {
+        Some((place, _, _)) => &bytes[place..],
+        None => &[],
+    }
+}
+
+/// The bytes before the last fault that is not the last piece.
+pub fn before_earlier_fault(bytes: &[u8]) -> &[u8] {
+    let mut pieces = bytes.utf8char_indices();
+    pieces.next_back();
+    match pieces.rev().find(|x| x.1.is_err()) {
+        Some((place, _, _)) => &bytes[..place],
+        None => &[],
+    }
+}
+
+/// The first line, and how many faults come after it.
+pub fn first_line(bytes: &[u8]) -> (&[u8], usize) {
+    let mut pieces = bytes.utf8char_indices();
+    let mut line = bytes;
+    for (place, answer, _) in pieces.by_ref() {
+        if answer.is_ok_and(|c| c.eq_char('\n')) {
+            line = &bytes[0..place];
+            break;
+        }
+    }
+    (line, pieces.filter(|x| x.1.is_err()).count())
+}
+
+/// The units after the first faulty one that follows the byte order mark.
+pub fn after_faulty_unit(units: &[u16]) -> Option<&[u16]> {
+    let mut pieces = units.utf16char_indices();
+    let (_, mark, _) = pieces.next()?;
+    mark.ok()?;
+    let (place, _, len) = pieces.find(|x| x.1.is_err())?;
+    Some(&units[place + len..])
+}

@@ -1,0 +1,177 @@
+-- What a block gives: the units of its lanes, in order.
+use Rattle.std.proofs.Common.{◌≡◌, ℕ, zero, suc, ◌+◌, ◌-◌, ◌*◌, ◌/◌, ◌%◌, ◌<◌, ◌≤◌, Bool, true, false, cond, leb, ltb, ◌&&◌, List, [], ◌∷◌, ◌++◌, length, get_or, bit_and, refl, sym, ap, ap₂, ◌∙◌, arith, lit<, w8, Fits, ltb-true, ltb-false}
+use Rattle.std.proofs.lemmas.Grind.{common_steps}
+use Rattle.std.proofs.lemmas.List.{get_or_append_left, get_or-append_right}
+use Rattle.std.proofs.lemmas.Nat.{and_mask}
+use Rattle.std.proofs.lemmas.Simd.{get_or-chunk, length-chunk}
+use Rattle.std.specs.Int.{bit_at}
+use lib.Lanes.{chunk}
+use Rattle.utf_lanes.specs.GivenUnits.{joined, gives, low_half, high_half, unit_low, unit_high, halves, given_at, pair_at}
+use Rattle.utf_lanes.proofs.Joined.{joined_same, joined_none, joined_add, joined_moved}
+use Rattle.utf_lanes.proofs.LaneLemmas.{reach_mask, none_reach}
+use Rattle.utf_lanes.proofs.ChosenLanes.{where_below, where_below_len, where_below_at}
+
+-- one fact at each number below 8
+pub below_8 : (P : ℕ → Type 0) → P 0 → P 1 → P 2 → P 3 → P 4 → P 5 → P 6 → P 7 → (k : ℕ) → k < 8 → P k
+below_8 P a b c d e f g h zero lt = a
+below_8 P a b c d e f g h (suc zero) lt = b
+below_8 P a b c d e f g h (suc (suc zero)) lt = c
+below_8 P a b c d e f g h (suc (suc (suc zero))) lt = d
+below_8 P a b c d e f g h (suc (suc (suc (suc zero)))) lt = e
+below_8 P a b c d e f g h (suc (suc (suc (suc (suc zero))))) lt = f
+below_8 P a b c d e f g h (suc (suc (suc (suc (suc (suc zero)))))) lt = g
+below_8 P a b c d e f g h (suc (suc (suc (suc (suc (suc (suc zero))))))) lt = h
+below_8 P a b c d e f g h (suc (suc (suc (suc (suc (suc (suc (suc k)))))))) lt = absurd (omega arith)
+
+-- Bytes of two vectors, one beside the other.
+module _ (xs ys : List ℕ) (p : length xs ≡ 16) (q : length ys ≡ 16) where
+  abbrev pub first_pairs : List ℕ
+  first_pairs =
+      get_or (xs ++ ys) 0 0 ∷ get_or (xs ++ ys) 16 0 ∷ get_or (xs ++ ys) 1 0 ∷ get_or (xs ++ ys) 17 0 ∷ get_or (xs ++ ys) 2 0 ∷ get_or (xs ++ ys) 18 0 ∷ get_or (xs ++ ys) 3 0 ∷ get_or (xs ++ ys) 19 0
+      ∷ get_or (xs ++ ys) 4 0 ∷ get_or (xs ++ ys) 20 0 ∷ get_or (xs ++ ys) 5 0 ∷ get_or (xs ++ ys) 21 0 ∷ get_or (xs ++ ys) 6 0 ∷ get_or (xs ++ ys) 22 0 ∷ get_or (xs ++ ys) 7 0 ∷ get_or (xs ++ ys) 23 0 ∷ []
+
+  abbrev pub last_pairs : List ℕ
+  last_pairs =
+      get_or (xs ++ ys) 8 0 ∷ get_or (xs ++ ys) 24 0 ∷ get_or (xs ++ ys) 9 0 ∷ get_or (xs ++ ys) 25 0 ∷ get_or (xs ++ ys) 10 0 ∷ get_or (xs ++ ys) 26 0 ∷ get_or (xs ++ ys) 11 0 ∷ get_or (xs ++ ys) 27 0
+      ∷ get_or (xs ++ ys) 12 0 ∷ get_or (xs ++ ys) 28 0 ∷ get_or (xs ++ ys) 13 0 ∷ get_or (xs ++ ys) 29 0 ∷ get_or (xs ++ ys) 14 0 ∷ get_or (xs ++ ys) 30 0 ∷ get_or (xs ++ ys) 15 0 ∷ get_or (xs ++ ys) 31 0 ∷ []
+
+  both : (k j : ℕ) → k < 16 → 16 + k ≡ j → get_or (xs ++ ys) k 0 ∷ get_or (xs ++ ys) j 0 ∷ [] ≡ get_or xs k 0 ∷ get_or ys k 0 ∷ []
+  both k j lt at =
+      let back : j - 16 ≡ k = omega arith in
+      ap₂ (λ x y. x ∷ y ∷ []) (get_or_append_left xs ys 0 k (omega (arith, p))) (get_or-append_right xs ys 16 j 0 p (omega arith) ∙ ap (λ n. get_or ys n 0) back)
+
+  pub first_pairs_at : (k : ℕ) → k < 8 → get_or first_pairs (2 * k) 0 ∷ get_or first_pairs (2 * k + 1) 0 ∷ [] ≡ get_or xs k 0 ∷ get_or ys k 0 ∷ []
+  first_pairs_at =
+      below_8 (λ k. get_or first_pairs (2 * k) 0 ∷ get_or first_pairs (2 * k + 1) 0 ∷ [] ≡ get_or xs k 0 ∷ get_or ys k 0 ∷ [])
+      (both 0 16 (lit< tt) refl) (both 1 17 (lit< tt) refl) (both 2 18 (lit< tt) refl) (both 3 19 (lit< tt) refl)
+      (both 4 20 (lit< tt) refl) (both 5 21 (lit< tt) refl) (both 6 22 (lit< tt) refl) (both 7 23 (lit< tt) refl)
+
+  pub last_pairs_at : (k : ℕ) → k < 8 → get_or last_pairs (2 * k) 0 ∷ get_or last_pairs (2 * k + 1) 0 ∷ [] ≡ get_or xs (8 + k) 0 ∷ get_or ys (8 + k) 0 ∷ []
+  last_pairs_at =
+      below_8 (λ k. get_or last_pairs (2 * k) 0 ∷ get_or last_pairs (2 * k + 1) 0 ∷ [] ≡ get_or xs (8 + k) 0 ∷ get_or ys (8 + k) 0 ∷ [])
+      (both 8 24 (lit< tt) refl) (both 9 25 (lit< tt) refl) (both 10 26 (lit< tt) refl) (both 11 27 (lit< tt) refl)
+      (both 12 28 (lit< tt) refl) (both 13 29 (lit< tt) refl) (both 14 30 (lit< tt) refl) (both 15 31 (lit< tt) refl)
+
+-- Bits of both halves of a mask.
+
+pub low_bit : (m k : ℕ) → k < 8 → bit_at (bit_and m 255) k ≡ bit_at m k
+low_bit m k lt = rw (and_mask m 8) (below_8 (λ i. bit_at (m % 256) i ≡ bit_at m i) (omega arith) (omega arith) (omega arith) (omega arith) (omega arith) (omega arith) (omega arith) (omega arith) k lt)
+
+pub high_bit : (m k : ℕ) → k < 8 → bit_at (m / 256) k ≡ bit_at m (8 + k)
+high_bit m = below_8 (λ i. bit_at (m / 256) i ≡ bit_at m (8 + i)) (omega arith) (omega arith) (omega arith) (omega arith) (omega arith) (omega arith) (omega arith) (omega arith)
+
+kept_pair : (m i : ℕ) (v pair : List ℕ) (g : Bool) → bit_at m i ≡ cond g 1 0 → get_or v (2 * i) 0 ∷ get_or v (2 * i + 1) 0 ∷ [] ≡ pair → pair_at m v i ≡ cond g pair []
+kept_pair m i v pair true bit e = rw bit e
+kept_pair m i v pair false bit e = rw bit refl
+
+-- The lanes of one block.
+module _ (high_first : Bool) (xs : List ℕ) (place s : ℕ) (start : 3 ≤ place) (few : s < 16) (mask : ℕ) (low high front back : List ℕ)
+    (bits : (k : ℕ) → k < 16 → bit_at mask k ≡ cond (gives (get_or xs (place - 1 + k) 0) (get_or xs (place + k) 0) && leb s k) 1 0)
+    (lows : (k : ℕ) → k < 16 → get_or low k 0 ≡ unit_low (get_or xs (place - 2 + k) 0) (get_or xs (place - 1 + k) 0) (get_or xs (place + k) 0))
+    (highs : (k : ℕ) → k < 16 → get_or high k 0 ≡ unit_high (get_or xs (place - 3 + k) 0) (get_or xs (place - 2 + k) 0) (get_or xs (place - 1 + k) 0) (get_or xs (place + k) 0))
+    (fronts : (k : ℕ) → k < 8 → get_or front (2 * k) 0 ∷ get_or front (2 * k + 1) 0 ∷ [] ≡ halves high_first (get_or low k 0) (get_or high k 0))
+    (backs : (k : ℕ) → k < 8 → get_or back (2 * k) 0 ∷ get_or back (2 * k + 1) 0 ∷ [] ≡ halves high_first (get_or low (8 + k) 0) (get_or high (8 + k) 0)) where
+  abbrev lane_given : ℕ → List ℕ
+  lane_given k = cond (gives (get_or xs (place - 1 + k) 0) (get_or xs (place + k) 0) && leb s k) (halves high_first (get_or low k 0) (get_or high k 0)) []
+
+  front_pair : (k : ℕ) → k < 8 → pair_at (bit_and mask 255) front k ≡ lane_given k
+  front_pair k lt = kept_pair (bit_and mask 255) k front _ (gives (get_or xs (place - 1 + k) 0) (get_or xs (place + k) 0) && leb s k) (low_bit mask k lt ∙ bits k (omega arith)) (fronts k lt)
+
+  back_pair : (k : ℕ) → k < 8 → pair_at (mask / 256) back k ≡ lane_given (8 + k)
+  back_pair k lt =
+      kept_pair (mask / 256) k back _ (gives (get_or xs (place - 1 + (8 + k)) 0) (get_or xs (place + (8 + k)) 0) && leb s (8 + k)) (high_bit mask k lt ∙ bits (8 + k) (omega arith)) (backs k lt)
+
+  skips : (g : Bool) (k : ℕ) → k < s → cond {A = List ℕ} (g && leb s k) (halves high_first (get_or low k 0) (get_or high k 0)) [] ≡ []
+  skips true k lt = grind (arith, common_steps)
+  skips false k lt = refl
+
+  keeps : (g : Bool) (k : ℕ) → s ≤ k → cond {A = List ℕ} (g && leb s k) (halves high_first (get_or low k 0) (get_or high k 0)) [] ≡ cond g (halves high_first (get_or low k 0) (get_or high k 0)) []
+  keeps true k ge = grind (arith, common_steps)
+  keeps false k ge = refl
+
+  lane_is : (k : ℕ) → s ≤ k → k < 16 → lane_given k ≡ given_at high_first xs (place - 3 + k)
+  unfolding given_at
+  lane_is k ge lt =
+      let b : place - 3 + k + 1 ≡ place - 2 + k = omega arith in
+      let c : place - 3 + k + 2 ≡ place - 1 + k = omega arith in
+      let d : place - 3 + k + 3 ≡ place + k = omega arith in
+      rw (b, c, d) (keeps (gives (get_or xs (place - 1 + k) 0) (get_or xs (place + k) 0)) k ge ∙ ap₂ (λ x y. cond (gives (get_or xs (place - 1 + k) 0) (get_or xs (place + k) 0)) (halves high_first x y) []) (lows k lt) (highs k lt))
+
+  pub block_given : joined (pair_at (bit_and mask 255) front) 0 8 ++ joined (pair_at (mask / 256) back) 0 8 ≡ joined (given_at high_first xs) (place - 3 + s) (16 - s)
+  block_given =
+      let first = joined_same (pair_at (bit_and mask 255) front) lane_given 0 8 (λ i ge lt. front_pair i lt) in
+      let second = joined_moved (pair_at (mask / 256) back) lane_given 0 8 8 (λ i lt. let at : 0 + i ≡ i = omega arith in rw at (back_pair i lt)) in
+      let all : joined lane_given 0 8 ++ joined lane_given 8 8 ≡ joined lane_given 0 16 = sym (joined_add lane_given 0 8 8) in
+      let sum : s + (16 - s) ≡ 16 = omega arith in
+      let at : 0 + s ≡ s = omega arith in
+      let split : joined lane_given 0 16 ≡ joined lane_given 0 s ++ joined lane_given s (16 - s)
+      = ap (joined lane_given 0) (sym sum) ∙ joined_add lane_given 0 s (16 - s) ∙ ap (λ p. joined lane_given 0 s ++ joined lane_given p (16 - s)) at in
+      let none : joined lane_given 0 s ≡ [] = joined_none lane_given 0 s (λ i ge lt. skips (gives (get_or xs (place - 1 + i) 0) (get_or xs (place + i) 0)) i (omega arith)) in
+      let rest : joined lane_given s (16 - s) ≡ joined (given_at high_first xs) (place - 3 + s) (16 - s)
+      = joined_moved lane_given (given_at high_first xs) s (place - 3 + s) (16 - s)
+      (λ i lt. let there : place - 3 + (s + i) ≡ place - 3 + s + i = omega arith in lane_is (s + i) (omega arith) (omega arith) ∙ ap (given_at high_first xs) there) in
+      ap₂ (λ x y. x ++ y) first second ∙ all ∙ split ∙ ap₂ (λ x y. x ++ y) none rest
+
+-- Loads, and the bytes in them.
+
+module _ (xs : List ℕ) (place : ℕ) (fits : (k : ℕ) → Fits w8 (get_or xs k 0)) (start : 3 ≤ place) (within : place + 16 ≤ length xs) where
+  pub loaded_bits : (mask s : ℕ)
+      → ((k : ℕ) → k < 16 → bit_at mask k ≡ cond (gives (get_or (chunk (place - 1) 16 xs) k 0) (get_or (chunk place 16 xs) k 0) && leb s k) 1 0)
+      → (k : ℕ) → k < 16 → bit_at mask k ≡ cond (gives (get_or xs (place - 1 + k) 0) (get_or xs (place + k) 0) && leb s k) 1 0
+  loaded_bits mask s bits k lt = rw (get_or-chunk (place - 1) 16 xs k 0 lt, get_or-chunk place 16 xs k 0 lt) at (bits k lt)
+
+  pub loaded_long_low : (low : List ℕ)
+      → ((k : ℕ) → k < 16 → get_or low k 0 ≡ unit_low (get_or (chunk (place - 2) 16 xs) k 0) (get_or (chunk (place - 1) 16 xs) k 0) (get_or (chunk place 16 xs) k 0))
+      → (k : ℕ) → k < 16 → get_or low k 0 ≡ unit_low (get_or xs (place - 2 + k) 0) (get_or xs (place - 1 + k) 0) (get_or xs (place + k) 0)
+  loaded_long_low low lows k lt = rw (get_or-chunk (place - 2) 16 xs k 0 lt, get_or-chunk (place - 1) 16 xs k 0 lt, get_or-chunk place 16 xs k 0 lt) at (lows k lt)
+
+  pub loaded_long_high : (high : List ℕ)
+      → ((k : ℕ) → k < 16 → get_or high k 0 ≡ unit_high (get_or (chunk (place - 3) 16 xs) k 0) (get_or (chunk (place - 2) 16 xs) k 0) (get_or (chunk (place - 1) 16 xs) k 0) (get_or (chunk place 16 xs) k 0))
+      → (k : ℕ) → k < 16 → get_or high k 0 ≡ unit_high (get_or xs (place - 3 + k) 0) (get_or xs (place - 2 + k) 0) (get_or xs (place - 1 + k) 0) (get_or xs (place + k) 0)
+  loaded_long_high high highs k lt =
+      rw (get_or-chunk (place - 3) 16 xs k 0 lt, get_or-chunk (place - 2) 16 xs k 0 lt, get_or-chunk (place - 1) 16 xs k 0 lt, get_or-chunk place 16 xs k 0 lt) at (highs k lt)
+
+  -- Where no byte begins a code of four.
+
+  abbrev greater : List ℕ
+  greater = where_below (chunk (place - 2) 16 xs) (chunk (place - 3) 16 xs) (chunk (place - 3) 16 xs) (chunk (place - 2) 16 xs)
+
+  abbrev longest_mask : ℕ
+  longest_mask = reach_mask 0xF0 greater
+
+  greater_len : length greater ≡ 16
+  greater_len =
+      where_below_len (chunk (place - 2) 16 xs) (chunk (place - 3) 16 xs) (chunk (place - 3) 16 xs) (chunk (place - 2) 16 xs)
+      (length-chunk (place - 2) 16 xs (omega arith)) (length-chunk (place - 3) 16 xs (omega arith)) (length-chunk (place - 3) 16 xs (omega arith)) (length-chunk (place - 2) 16 xs (omega arith))
+
+  greater_low : longest_mask ≡ 0 → (k : ℕ) → k < 16 → get_or greater k 0 < 0xF0
+  greater_low none k lt = none_reach 0xF0 greater greater_len none k lt
+
+  both_low : (a b : ℕ) (t : Bool) → ltb b a ≡ t → cond t a b < 0xF0 → (a < 0xF0) × (b < 0xF0)
+  both_low a b true e h = let below = ltb-true b a e in (h, omega arith)
+  both_low a b false e h = let above = ltb-false b a e in (omega arith, h)
+
+  short_here : longest_mask ≡ 0 → (k : ℕ) → k < 16 → (get_or xs (place - 3 + k) 0 < 0xF0) × (get_or xs (place - 2 + k) 0 < 0xF0)
+  short_here none k lt =
+      let at = where_below_at (chunk (place - 2) 16 xs) (chunk (place - 3) 16 xs) (chunk (place - 3) 16 xs) (chunk (place - 2) 16 xs)
+      (length-chunk (place - 2) 16 xs (omega arith)) (length-chunk (place - 3) 16 xs (omega arith)) (length-chunk (place - 3) 16 xs (omega arith)) (length-chunk (place - 2) 16 xs (omega arith)) k lt in
+      let low : cond (ltb (get_or (chunk (place - 2) 16 xs) k 0) (get_or (chunk (place - 3) 16 xs) k 0)) (get_or (chunk (place - 3) 16 xs) k 0) (get_or (chunk (place - 2) 16 xs) k 0) < 0xF0 = rw at at (greater_low none k lt) in
+      both_low (get_or xs (place - 3 + k) 0) (get_or xs (place - 2 + k) 0) _ refl (rw (get_or-chunk (place - 2) 16 xs k 0 lt, get_or-chunk (place - 3) 16 xs k 0 lt) at low)
+
+  short_low : (b c d : ℕ) → b < 0xF0 → low_half c d ≡ unit_low b c d
+  short_low b c d lt = grind (arith, common_steps)
+
+  short_high : (a b c d : ℕ) → a < 0xF0 → b < 0xF0 → high_half b c d ≡ unit_high a b c d
+  short_high a b c d la lb = grind (arith, common_steps)
+
+  pub loaded_low : longest_mask ≡ 0 → (low : List ℕ) → ((k : ℕ) → k < 16 → get_or low k 0 ≡ low_half (get_or (chunk (place - 1) 16 xs) k 0) (get_or (chunk place 16 xs) k 0))
+      → (k : ℕ) → k < 16 → get_or low k 0 ≡ unit_low (get_or xs (place - 2 + k) 0) (get_or xs (place - 1 + k) 0) (get_or xs (place + k) 0)
+  loaded_low none low lows k lt =
+      rw (get_or-chunk (place - 1) 16 xs k 0 lt, get_or-chunk place 16 xs k 0 lt) at (lows k lt) ∙ short_low (get_or xs (place - 2 + k) 0) (get_or xs (place - 1 + k) 0) (get_or xs (place + k) 0) (short_here none k lt).1
+
+  pub loaded_high : longest_mask ≡ 0 → (high : List ℕ)
+      → ((k : ℕ) → k < 16 → get_or high k 0 ≡ high_half (get_or (chunk (place - 2) 16 xs) k 0) (get_or (chunk (place - 1) 16 xs) k 0) (get_or (chunk place 16 xs) k 0))
+      → (k : ℕ) → k < 16 → get_or high k 0 ≡ unit_high (get_or xs (place - 3 + k) 0) (get_or xs (place - 2 + k) 0) (get_or xs (place - 1 + k) 0) (get_or xs (place + k) 0)
+  loaded_high none high highs k lt =
+      rw (get_or-chunk (place - 2) 16 xs k 0 lt, get_or-chunk (place - 1) 16 xs k 0 lt, get_or-chunk place 16 xs k 0 lt) at (highs k lt)
+      ∙ short_high (get_or xs (place - 3 + k) 0) (get_or xs (place - 2 + k) 0) (get_or xs (place - 1 + k) 0) (get_or xs (place + k) 0) (short_here none k lt).0 (short_here none k lt).1

@@ -1,0 +1,31 @@
+use Rattle.std.proofs.Common.{◌≤◌, ◌∙◌, lit<, arith, sym}
+use Rattle.utf_base.specs.Scalar.{IsScalar}
+use Rattle.utf_base.proofs.FrontLemmas.{asked-3, least_value-3}
+use Rattle.utf_base.proofs.KindCases.{begins_with}
+use Rattle.utf_lanes.proofs.ValueSums.{three_sum}
+use Rattle.utf_lanes.proofs.NoneBegins.{none_by_continuation_byte, none_by_value}
+use Rattle.utf_lanes.proofs.text_front.three.Goals.{then-value-lt2048-via-then-value-lt2048, then-value-lt2048-via-else-value-lt2048+then-value}
+use Rattle.utf_lanes.proofs.text_front.three.Goals as goal
+
+pub returns-then-not-is_continuation-clause-none : goal.returns-then-not-is_continuation-clause-none
+returns-then-not-is_continuation-clause-none c =
+    let asks = asked-3 _ c.requires.low c.requires.high in
+    none_by_continuation_byte c.args.src.now 2 (lit< tt) (omega arith) (sym c.is_continuation.ensures ∙ c.if-not-is_continuation.true)
+
+pub returns-then-value-lt2048-clause-none : goal.returns-then-value-lt2048-clause-none
+returns-then-value-lt2048-clause-none c =
+    let third = sym c.is_continuation.ensures ∙ c.if-not-is_continuation.false in
+    let (sums, bound) = three_sum c.args.src.now _ _ c.requires.enough c.requires.low c.requires.high c.requires.second third c.followed-front.ensures c.followed-value.ensures in
+    let least = least_value-3 in
+    none_by_value c.args.src.now 3 c.followed-value.result sums (λ enough scalar. elim c.then-value-lt2048.branch [
+      | then-value-lt2048-via-then-value-lt2048 w ↦ let below = w.if-value-lt2048.true in absurd (omega arith)
+      | then-value-lt2048-via-else-value-lt2048+then-value w ↦ let masked = w.if-value.true in absurd (omega arith)
+    ])
+
+pub returns-clause-some : goal.returns-clause-some
+returns-clause-some c =
+    let third = sym c.is_continuation.ensures ∙ c.if-not-is_continuation.false in
+    let (sums, bound) = three_sum c.args.src.now _ _ c.requires.enough c.requires.low c.requires.high c.requires.second third c.followed-front.ensures c.followed-value.ensures in
+    let least : 0x800 ≤ c.followed-value.result = omega arith in
+    let scalar : IsScalar c.followed-value.result = record { below = omega arith; no_surrogate = λ g. omega arith } in
+    rw c.from_u32_unchecked.ensures (begins_with _ 3 _ sums (rw least_value-3 least) scalar)

@@ -1,0 +1,22 @@
+-- Units judged by each one and the one before it.
+use Rattle.std.specs.Prelude.{◌≡◌, ℕ, ◌+◌, ◌<◌, ◌≤◌, Bool, List, All, flat_map, slice_index, ◌*◌, length}
+use Rattle.utf_base.specs.Scalar.{IsScalar}
+use Rattle.utf_base.specs.Code.{utf16}
+use Rattle.utf_base.specs.Units.{is_leading_surrogate, is_trailing_surrogate}
+use Rattle.utf_lanes.specs.BytePairs.{units_of}
+
+-- each unit from the place i on and before j ends a pair just where the one before it begins one
+abbrev pub AllPaired : List ℕ → ℕ → ℕ → Type 0
+AllPaired us i j = (k : ℕ) → i ≤ k + 1 → k + 1 < j → is_leading_surrogate (slice_index us k) ≡ is_trailing_surrogate (slice_index us (k + 1))
+
+-- the units are the codes of some scalars
+pub record AreCodes (us : List ℕ) : Type 0 where
+  pub scalars : List ℕ
+  pub all : All IsScalar scalars
+  pub codes : us ≡ flat_map utf16 scalars
+
+-- The units from one place on and before another each pair with the one before them.
+pub record PairsTo (high_first : Bool) (bytes : List ℕ) (start end : ℕ) : Type 0 where
+  pub least : start ≤ end
+  pub within : 2 * end ≤ length bytes
+  pub paired : AllPaired (units_of high_first bytes) start end

@@ -1,0 +1,105 @@
+-- Units of UTF-16 as bytes of UTF-8: which bytes a unit gives, by it and the one before it.
+use Rattle.std.specs.Prelude.{◌≡◌, ℕ, ◌<◌, ◌+◌, ◌-◌, ◌*◌, Bool, true, false, ◌/◌, ◌%◌, if◌then◌else◌, List, [], ◌∷◌, ◌++◌, nat_lt, nat_eq, slice_index, ◌≤◌, length, take}
+use Rattle.std.specs.Int.{bit_at}
+use Rattle.utf_lanes.specs.GivenUnits.{joined}
+use Rattle.utf_base.specs.Units.{is_leading_surrogate, is_trailing_surrogate, is_surrogate}
+
+-- the unit in the lane k, of which two vectors have the halves
+abbrev pub lane_unit : List ℕ → List ℕ → ℕ → ℕ
+lane_unit low high k = slice_index high k * 256 + slice_index low k
+
+-- The bytes of a unit that is a character: the last, and those before it, 0 where there is none.
+abbrev pub first_byte : ℕ → ℕ
+first_byte u = if nat_lt u 0x800 then 0 else 0xE0 + u / 4096
+
+abbrev pub middle_byte : ℕ → ℕ
+middle_byte u = if nat_lt u 0x80 then 0 else if nat_lt u 0x800 then 0xC0 + u / 64 else 0x80 + u / 64 % 64
+
+abbrev pub last_byte : ℕ → ℕ
+last_byte u = if nat_lt u 0x80 then u else 0x80 + u % 64
+
+-- The first two bytes of four, which a leading surrogate gives, and the third, which a trailing one gives after the unit p.
+abbrev pub lead_byte : ℕ → ℕ
+lead_byte u = 0xF0 + (u % 1024 + 64) / 256
+
+abbrev pub second_byte : ℕ → ℕ
+second_byte u = 0x80 + (u % 1024 + 64) / 4 % 64
+
+abbrev pub third_byte : ℕ → ℕ → ℕ
+third_byte p u = 0x80 + p % 4 * 16 + u / 64 % 16
+
+-- The bytes of any unit in text, after the unit p.
+abbrev pub first_in_text : ℕ → ℕ
+first_in_text u = if is_surrogate u then 0 else first_byte u
+
+abbrev pub middle_in_text : ℕ → ℕ → ℕ
+middle_in_text p u = if is_leading_surrogate u then lead_byte u else if is_surrogate u then third_byte p u else middle_byte u
+
+abbrev pub last_in_text : ℕ → ℕ
+last_in_text u = if is_leading_surrogate u then second_byte u else last_byte u
+
+-- The bytes of a slot: the last, and those before it that are at least 0x80.
+abbrev pub kept : ℕ → List ℕ
+kept b = if nat_lt b 0x80 then [] else b ∷ []
+
+abbrev pub slot : ℕ → ℕ → ℕ → List ℕ
+slot first middle last = kept first ++ (kept middle ++ (last ∷ []))
+
+-- the bytes of the unit u in text, after the unit p
+abbrev pub unit_code : ℕ → ℕ → List ℕ
+unit_code p u = slot (first_in_text u) (middle_in_text p u) (last_in_text u)
+
+-- the bytes of the unit number k
+abbrev pub code_at : (ℕ → ℕ) → ℕ → List ℕ
+code_at unit k = unit_code (unit (k - 1)) (unit k)
+
+-- A vector has sixteen lanes, and each is what its number says.
+pub record AreLanes (v : List ℕ) (lane : ℕ → ℕ) : Type 0 where
+  pub wide : length v ≡ 16
+  pub each : (k : ℕ) → k < 16 → slice_index v k ≡ lane k
+
+-- The first n units are text: each leading surrogate has a trailing one after it, and each trailing one a leading one before it.
+pub record AreText (unit : ℕ → ℕ) (n : ℕ) : Type 0 where
+  pub first : 0 < n → is_trailing_surrogate (unit 0) ≡ false
+  pub leading : (k : ℕ) → k < n → is_leading_surrogate (unit k) ≡ true → (k + 1 < n) × (is_trailing_surrogate (unit (k + 1)) ≡ true)
+  pub trailing : (k : ℕ) → k + 1 < n → is_trailing_surrogate (unit (k + 1)) ≡ true → is_leading_surrogate (unit k) ≡ true
+
+-- The first n of sixteen units are text, and their bytes were written into room, from one place to another.
+pub record WritesUnits (low high old new : List ℕ) (at n end : ℕ) : Type 0 where
+  pub most : n ≤ 16
+  pub text : AreText (lane_unit low high) n
+  pub len : length new ≡ length old
+  pub bytes : take end new ≡ take at old ++ joined (code_at (lane_unit low high)) 0 n
+  pub short : end ≤ at + 6 * n
+  pub fits : end ≤ at + 48
+
+-- the slot in the lane k of three vectors
+abbrev pub slot_at : List ℕ → List ℕ → List ℕ → ℕ → List ℕ
+slot_at firsts middles lasts k = slot (slice_index firsts k) (slice_index middles k) (slice_index lasts k)
+
+-- the byte where the mask has its bit
+abbrev pub marked : ℕ → ℕ → ℕ → List ℕ
+marked mask i byte = if nat_eq (bit_at mask i) 1 then byte ∷ [] else []
+
+-- The slot number i of four bytes: the first, the last, the middle one and any. The mask says which of the first and middle are kept.
+-- Where they are short, a slot is a pair: the last, and the one before it where the mask has its bit.
+abbrev pub row_places : Bool → ℕ → ℕ → List ℕ
+row_places true mask i = marked mask i (2 * i) ++ ((2 * i + 1) ∷ [])
+row_places false mask i = marked mask (2 * i) (4 * i) ++ (marked mask (2 * i + 1) (4 * i + 2) ++ ((4 * i + 1) ∷ []))
+
+abbrev pub row_bytes : Bool → ℕ → List ℕ → ℕ → List ℕ
+row_bytes true mask lanes i = marked mask i (slice_index lanes (2 * i)) ++ (slice_index lanes (2 * i + 1) ∷ [])
+row_bytes false mask lanes i =
+    marked mask (2 * i) (slice_index lanes (4 * i)) ++ (marked mask (2 * i + 1) (slice_index lanes (4 * i + 2)) ++ (slice_index lanes (4 * i + 1) ∷ []))
+
+-- how many slots a vector has, and how many bytes of them are kept at most
+abbrev pub row_slots : Bool → ℕ
+row_slots short = if short then 8 else 4
+
+abbrev pub row_most : Bool → ℕ
+row_most short = if short then 16 else 12
+
+-- the slot in the lane k of two vectors
+abbrev pub lanes_at : Bool → List ℕ → List ℕ → ℕ → List ℕ
+lanes_at true middles lasts k = kept (slice_index middles k) ++ (slice_index lasts k ∷ [])
+lanes_at false fronts lasts k = slot (slice_index fronts (2 * k)) (slice_index fronts (2 * k + 1)) (slice_index lasts (2 * k))

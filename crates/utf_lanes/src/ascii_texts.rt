@@ -1,0 +1,106 @@
+//! Texts of ASCII alone, judged as a whole, and the units of sixteen bytes of them.
+ghost use Rattle.std.specs.Prelude.{◌≡◌, ℕ, ◌+◌, ◌<◌, ◌≤◌, IsTrue, length, slice_index};
+ghost use Rattle.utf_lanes.specs.AsciiTexts.{AreAscii};
+ghost use Rattle.utf_lanes.specs.GivenUnits.{joined, halves};
+
+use std::simd::prelude::*;
+
+/// Whether all bytes are ASCII.
+#[inline(always)]
+pub fn is_ascii(bytes: &[u8]) -> bool
+    ensures { IsTrue result → AreAscii bytes.now 0 (length bytes.now) }
+{
+    if bytes.len() < 16 {
+        return is_ascii_each(bytes);
+    }
+    let wide = ascii_end(bytes, 0);
+    is_ascii_from(bytes, wide)
+}
+
+// The same of a few bytes, one by one.
+#[inline(always)]
+pub(crate) fn is_ascii_each(bytes: &[u8]) -> bool
+    ensures { IsTrue result → AreAscii bytes.now 0 (length bytes.now) }
+{
+    let mut place = 0;
+    while place < bytes.len() {
+        if 0x80 <= bytes[place] {
+            return false;
+        }
+        place += 1;
+    }
+    true
+}
+
+// Whether the bytes from the start on are ASCII, judged in blocks of sixteen, of which the last ends with the bytes.
+#[inline(always)]
+fn is_ascii_from(bytes: &[u8], start: usize) -> bool
+    requires long { 16 ≤ length bytes.now }
+    requires within { start ≤ length bytes.now }
+    requires ascii { AreAscii bytes.now 0 start }
+    ensures { IsTrue result → AreAscii bytes.now 0 (length bytes.now) }
+{
+    let mut place = start;
+    while 16 <= bytes.len() - place {
+        if !is_ascii_16(bytes, place) {
+            return false;
+        }
+        place += 16;
+    }
+    is_ascii_16(bytes, bytes.len() - 16)
+}
+
+// Whether the sixteen bytes from the place on are ASCII.
+#[inline(always)]
+fn is_ascii_16(bytes: &[u8], place: usize) -> bool
+    requires { place + 16 ≤ length bytes.now }
+    ensures { IsTrue result → AreAscii bytes.now place (place + 16) }
+{
+    u8x16::from_slice(&bytes[place..])
+        .simd_ge(u8x16::splat(0x80))
+        .to_bitmask()
+        == 0
+}
+
+/// Whether the 64 bytes from the place on are ASCII.
+#[inline(always)]
+pub fn is_ascii_block(bytes: &[u8], place: usize) -> bool
+    requires { place + 64 ≤ length bytes.now }
+    ensures { IsTrue result → (k : ℕ) → k < 64 → slice_index bytes.now (place + k) < 0x80 }
+{
+    let first = u8x16::from_slice(&bytes[place..]) | u8x16::from_slice(&bytes[place + 16..]);
+    let second = u8x16::from_slice(&bytes[place + 32..]) | u8x16::from_slice(&bytes[place + 48..]);
+    (first | second).simd_ge(u8x16::splat(0x80)).to_bitmask() == 0
+}
+
+// Where the blocks of ASCII end that begin at the place.
+#[inline(always)]
+pub(crate) fn ascii_end(bytes: &[u8], start: usize) -> usize
+    requires { start ≤ length bytes.now }
+    ensures least { start ≤ result }
+    ensures within { result ≤ length bytes.now }
+    ensures ascii { AreAscii bytes.now start result }
+{
+    let mut place = start;
+    while 64 <= bytes.len() - place {
+        if !is_ascii_block(bytes, place) {
+            return place;
+        }
+        place += 64;
+    }
+    place
+}
+
+/// Each byte with a NUL: the first eight bytes, and the others.
+#[inline(always)]
+pub fn beside_nuls(high_first: bool, bytes: u8x16) -> (u8x16, u8x16)
+    ensures first { result.0 ≡ joined (λ k. halves high_first (slice_index bytes k) 0) 0 8 }
+    ensures second { result.1 ≡ joined (λ k. halves high_first (slice_index bytes k) 0) 8 8 }
+{
+    let nuls = u8x16::splat(0);
+    if high_first {
+        nuls.interleave(bytes)
+    } else {
+        bytes.interleave(nuls)
+    }
+}

@@ -1,0 +1,23 @@
+//! Bytes and units judged in lanes, and blocks of one form of text made from blocks of another.
+//!
+//! - Judged: `text_blocks` says how far bytes are text, `unit_blocks` and `paired_units` how far units are well-formed, and
+//!   `ascii_texts` whether bytes are ASCII.
+//! - Made: `text_units` makes units of text in UTF-8, `slot_blocks` text in UTF-8 of units, and `byte_pairs` units in the other
+//!   order of bytes; what stays in its form is only judged.
+//! - `text_front` gives one character at the front of bytes.
+//!
+//! It is an addition of this project, and no part of the Rust crate. Nothing here takes memory, and nothing knows of a form of
+//! text but by which byte of a unit is the high one.
+#![tactic(auto)]
+
+pub mod ascii_texts;
+pub mod byte_pairs;
+pub mod paired_units;
+mod shuffles;
+pub mod slot_blocks;
+mod slot_puts;
+pub mod text_blocks;
+pub mod text_front;
+pub mod text_units;
+pub mod unit_blocks;
+pub mod unit_bytes;

@@ -1,0 +1,78 @@
+//! How far units are well-formed, judged eight at once: each ends a pair just where the one before it begins one.
+ghost use Rattle.std.specs.Prelude.{◌≡◌, ℕ, ◌+◌, ◌<◌, ◌≤◌, IsTrue, length, take, slice_index, if◌then◌else◌, nat_eq};
+ghost use Rattle.utf_lanes.specs.UnitBlocks.{AllPaired, AreCodes};
+
+use std::simd::prelude::*;
+use utf_base::elements::is_trailing_surrogate;
+use utf_base::traits::U16UtfExt;
+
+/// How many units at the front are well-formed: nearly all that are, where there are more than a few.
+#[inline]
+pub fn paired_len(units: &[u16]) -> usize
+    ensures within { result ≤ length units.now }
+    ensures codes { AreCodes (take result units.now) }
+{
+    if units.is_empty() || is_trailing_surrogate(units[0]) {
+        return 0;
+    }
+    let end = paired_end(units);
+    if units[end - 1].is_utf16_leading_surrogate() {
+        end - 1
+    } else {
+        end
+    }
+}
+
+// How far the units after the first each pair with the one before them, in blocks of 32.
+#[inline(always)]
+fn paired_end(units: &[u16]) -> usize
+    requires { 0 < length units.now }
+    ensures least { 1 ≤ result }
+    ensures within { result ≤ length units.now }
+    ensures paired { AllPaired units.now 1 result }
+{
+    let mut place = 1;
+    while 32 <= units.len() - place {
+        if !is_paired_block(units, place) {
+            return place;
+        }
+        place += 32;
+    }
+    place
+}
+
+// Whether each of the 32 units from the place on pairs with the one before it.
+#[inline(always)]
+fn is_paired_block(units: &[u16], place: usize) -> bool
+    requires start { 1 ≤ place }
+    requires within { place + 32 ≤ length units.now }
+    ensures { IsTrue result → AllPaired units.now place (place + 32) }
+{
+    let first = unpaired(units, place) | unpaired(units, place + 8);
+    let second = unpaired(units, place + 16) | unpaired(units, place + 24);
+    (first | second).simd_ne(u16x8::splat(0)).to_bitmask() == 0
+}
+
+// The eight units from the place on, each after the one before it: 0 where they pair.
+#[inline(always)]
+fn unpaired(units: &[u16], place: usize) -> u16x8
+    requires start { 1 ≤ place }
+    requires within { place + 8 ≤ length units.now }
+    ensures len { length result ≡ 8 }
+    ensures lanes { (k : ℕ) → k < 8 → slice_index result k ≡ 0 → AllPaired units.now (place + k) (place + k + 1) }
+{
+    let here = u16x8::from_slice(&units[place..]) >> u16x8::splat(10);
+    let before = u16x8::from_slice(&units[place - 1..]) >> u16x8::splat(10);
+    where_equal(here, 0xdc00 >> 10) ^ where_equal(before, 0xd800 >> 10)
+}
+
+// All bits of each lane that is this number, and none of the others.
+#[inline(always)]
+fn where_equal(lanes: u16x8, number: u16) -> u16x8
+    ensures len { length result ≡ 8 }
+    ensures lanes { (k : ℕ) → k < 8 → slice_index result k ≡ (if nat_eq (slice_index lanes k) number then 0xFFFF else 0) }
+{
+    lanes
+        .simd_eq(u16x8::splat(number))
+        .select(u16x8::splat(0xffff), u16x8::splat(0))
+}

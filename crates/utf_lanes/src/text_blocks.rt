@@ -1,0 +1,316 @@
+//! How far bytes are text, judged sixteen at once.
+//!
+//! A byte is judged by the three before it: three look-ups tell whether it may follow the one before it, and
+//! the two before that tell whether a code of three or four bytes has to go on (Keiser and Lemire, "Validating
+//! UTF-8 in less than one instruction per byte", 2021).
+ghost use Rattle.std.specs.Prelude.{◌≡◌, ℕ, ◌+◌, ◌-◌, ◌<◌, ◌≤◌, ◌∷◌, ◌++◌, length, take, replicate, slice_index, IsTrue, IsUtf8, false};
+ghost use Rattle.utf_lanes.specs.TextBlocks.{AllFollow, AreClosed, IsPair};
+ghost use Rattle.utf_base.specs.Kinds.{is_continuation};
+
+use crate::ascii_texts::{ascii_end, is_ascii_block, is_ascii_each};
+use crate::text_front::front_of_text;
+use std::simd::prelude::*;
+use utf_base::elements::is_continuation;
+
+// What may be wrong with a byte after the one before it. A bit is left where all three tables have it.
+const MISSING: u8 = 0x01;
+
+const STRAY: u8 = 0x02;
+
+const OVERLONG_TWO: u8 = 0x04;
+
+const OVERLONG_THREE: u8 = 0x08;
+
+const SURROGATE: u8 = 0x10;
+
+const TOO_HIGH: u8 = 0x20;
+
+const OVERLONG_FOUR: u8 = 0x40;
+// Two continuation bytes, which is wrong but where a code of three or four bytes goes on.
+const SECOND: u8 = 0x80;
+
+// By the upper half of the byte before.
+const BEFORE_HIGH: [u8; 16] = [
+    STRAY,
+    STRAY,
+    STRAY,
+    STRAY,
+    STRAY,
+    STRAY,
+    STRAY,
+    STRAY,
+    SECOND,
+    SECOND,
+    SECOND,
+    SECOND,
+    MISSING | OVERLONG_TWO,
+    MISSING,
+    MISSING | OVERLONG_THREE | SURROGATE,
+    MISSING | TOO_HIGH | OVERLONG_FOUR,
+];
+
+// What the lower half of the byte before leaves open.
+const ANY: u8 = MISSING | STRAY | SECOND;
+
+// What is too high after a first byte from 0xf5 on, whatever follows it.
+const BEYOND: u8 = ANY | TOO_HIGH | OVERLONG_FOUR;
+
+// By the lower half of the byte before.
+const BEFORE_LOW: [u8; 16] = [
+    ANY | OVERLONG_TWO | OVERLONG_THREE | OVERLONG_FOUR,
+    ANY | OVERLONG_TWO,
+    ANY,
+    ANY,
+    ANY | TOO_HIGH,
+    BEYOND,
+    BEYOND,
+    BEYOND,
+    BEYOND,
+    BEYOND,
+    BEYOND,
+    BEYOND,
+    BEYOND,
+    BEYOND | SURROGATE,
+    BEYOND,
+    BEYOND,
+];
+
+// What any continuation byte may be wrong by.
+const CONTINUATION: u8 = STRAY | SECOND | OVERLONG_TWO;
+
+// By the upper half of the byte.
+const HERE_HIGH: [u8; 16] = [
+    MISSING,
+    MISSING,
+    MISSING,
+    MISSING,
+    MISSING,
+    MISSING,
+    MISSING,
+    MISSING,
+    CONTINUATION | OVERLONG_THREE | OVERLONG_FOUR,
+    CONTINUATION | OVERLONG_THREE | TOO_HIGH,
+    CONTINUATION | SURROGATE | TOO_HIGH,
+    CONTINUATION | SURROGATE | TOO_HIGH,
+    MISSING,
+    MISSING,
+    MISSING,
+    MISSING,
+];
+
+/// How many bytes at the front are text: nearly all that are, where there are more than a few.
+#[inline]
+pub fn text_len(bytes: &[u8]) -> usize
+    ensures within { result ≤ length bytes.now }
+    ensures text { IsUtf8 (take result bytes.now) }
+{
+    if bytes.len() <= 16 && are_text(bytes) {
+        return bytes.len();
+    }
+    let start = few_chars(bytes, 3);
+    if start < 3 || bytes.len() < start + 16 || is_continuation(bytes[start]) {
+        return start;
+    }
+    let end = followed(bytes, start);
+    if end == bytes.len() && is_closed(bytes, end) {
+        return end;
+    }
+    last_code(bytes, start, end)
+}
+
+// Whether sixteen bytes at most are text, judged at once.
+#[inline(always)]
+fn are_text(bytes: &[u8]) -> bool
+    requires { length bytes.now ≤ 16 }
+    ensures { IsTrue result → IsUtf8 bytes.now }
+{
+    if bytes.len() < 8 {
+        return are_chars(bytes);
+    }
+    let block = past_nuls(bytes);
+    followed_lanes(&block, 3) == 16 && is_closed(&block, 19)
+}
+
+// The same, one character after another.
+#[inline(always)]
+fn are_chars(bytes: &[u8]) -> bool
+    ensures { IsTrue result → IsUtf8 bytes.now }
+{
+    let place = few_chars(bytes, bytes.len().saturating_sub(3));
+    is_ascii_each(&bytes[place..])
+}
+
+// The bytes after so many NULs that all are nineteen.
+#[inline(always)]
+fn past_nuls(bytes: &[u8]) -> [u8; 19]
+    requires { length bytes.now ≤ 16 }
+    ensures { result ≡ 0 ∷ 0 ∷ 0 ∷ (replicate (16 - length bytes.now) 0 ++ bytes.now) }
+{
+    let mut block = [0; 19];
+    block[19 - bytes.len()..].copy_from_slice(bytes);
+    block
+}
+
+// How many bytes the first characters have, until they have `least`, and as far as no fault.
+#[inline(always)]
+fn few_chars(bytes: &[u8], least: usize) -> usize
+    ensures within { result ≤ length bytes.now }
+    ensures text { IsUtf8 (take result bytes.now) }
+{
+    let mut place = 0;
+    while place < least {
+        match front_of_text(&bytes[place..]) {
+            None => return place,
+            Some((_, len)) => place += len,
+        }
+    }
+    place
+}
+
+// How far the bytes from the start on may each follow the three before them: to the first that may not, or the end.
+#[inline(always)]
+fn followed(bytes: &[u8], start: usize) -> usize
+    requires start { 3 ≤ start }
+    requires within { start + 16 ≤ length bytes.now }
+    ensures within { result ≤ length bytes.now }
+    ensures follow { AllFollow bytes.now start result }
+{
+    let count = followed_lanes(bytes, start);
+    if count < 16 {
+        return start + count;
+    }
+    followed_lane_by_lane(bytes, followed_wide(bytes, start + 16))
+}
+
+// The same in blocks of 64, to the first in which some byte may not follow.
+#[inline(always)]
+fn followed_wide(bytes: &[u8], start: usize) -> usize
+    requires start { 3 ≤ start }
+    requires within { start ≤ length bytes.now }
+    ensures least { start ≤ result }
+    ensures within { result ≤ length bytes.now }
+    ensures follow { AllFollow bytes.now start result }
+{
+    let mut place = start;
+    while 64 <= bytes.len() - place {
+        if is_ascii_block(bytes, place) && is_closed(bytes, place) {
+            place = ascii_end(bytes, place + 64);
+        } else if follows_block(bytes, place) {
+            place += 64;
+        } else {
+            return place;
+        }
+    }
+    place
+}
+
+// The same in blocks of sixteen, of which the last ends with the bytes.
+#[inline(always)]
+fn followed_lane_by_lane(bytes: &[u8], start: usize) -> usize
+    requires enough { 19 ≤ length bytes.now }
+    requires start { 3 ≤ start }
+    requires within { start ≤ length bytes.now }
+    ensures within { result ≤ length bytes.now }
+    ensures follow { AllFollow bytes.now start result }
+{
+    let mut place = start;
+    while place < bytes.len() {
+        let block = place.min(bytes.len() - 16);
+        let count = followed_lanes(bytes, block);
+        if count < 16 {
+            return block + count;
+        }
+        place = block + 16;
+    }
+    place
+}
+
+// Whether each of the 64 bytes from the place on may follow the three before it. A place that waits for no judgement
+// lets the processor judge some blocks at once, so the loop above branches on this answer.
+#[inline(always)]
+fn follows_block(bytes: &[u8], place: usize) -> bool
+    requires start { 3 ≤ place }
+    requires within { place + 64 ≤ length bytes.now }
+    ensures { IsTrue result → AllFollow bytes.now place (place + 64) }
+{
+    let first = faults_at(bytes, place) | faults_at(bytes, place + 16);
+    let second = faults_at(bytes, place + 32) | faults_at(bytes, place + 48);
+    (first | second).simd_ne(u8x16::splat(0)).to_bitmask() == 0
+}
+
+/// Whether the three bytes before the place ask for no more.
+#[inline(always)]
+pub fn is_closed(bytes: &[u8], place: usize) -> bool
+    requires start { 3 ≤ place }
+    requires within { place ≤ length bytes.now }
+    ensures { IsTrue result → AreClosed bytes.now place }
+{
+    bytes[place - 1] < 0xc0 && bytes[place - 2] < 0xe0 && bytes[place - 3] < 0xf0
+}
+
+// How many of the sixteen bytes from the place on may follow the three before them, up to the first that may not.
+#[inline(always)]
+fn followed_lanes(bytes: &[u8], place: usize) -> usize
+    requires start { 3 ≤ place }
+    requires within { place + 16 ≤ length bytes.now }
+    ensures most { result ≤ 16 }
+    ensures follow { AllFollow bytes.now place (place + result) }
+{
+    let wrong = faults_at(bytes, place)
+        .simd_ne(u8x16::splat(0))
+        .to_bitmask();
+    if wrong == 0 {
+        16
+    } else {
+        wrong.trailing_zeros() as usize
+    }
+}
+
+// What is wrong with each of the sixteen bytes from the place on, after the three before it: 0 where nothing is.
+#[inline]
+fn faults_at(bytes: &[u8], place: usize) -> u8x16
+    requires start { 3 ≤ place }
+    requires within { place + 16 ≤ length bytes.now }
+    ensures len { length result ≡ 16 }
+    ensures lanes { (k : ℕ) → k < 16 → slice_index result k ≡ 0 → AllFollow bytes.now (place + k) (place + k + 1) }
+{
+    let here = u8x16::from_slice(&bytes[place..]);
+    let first = u8x16::from_slice(&bytes[place - 1..]);
+    let second = u8x16::from_slice(&bytes[place - 2..]);
+    let third = u8x16::from_slice(&bytes[place - 3..]);
+    let long = second.saturating_sub(u8x16::splat(0xe0 - 0x80))
+        | third.saturating_sub(u8x16::splat(0xf0 - 0x80));
+    (long & u8x16::splat(SECOND)) ^ pairs(first, here)
+}
+
+// What the tables leave of each byte after the one before it.
+#[inline(always)]
+fn pairs(before: u8x16, here: u8x16) -> u8x16
+    ensures len { length result ≡ 16 }
+    ensures lanes { (k : ℕ) → k < 16 → IsPair (slice_index before k) (slice_index here k) (slice_index result k) }
+{
+    let high = u8x16::from_array(BEFORE_HIGH).swizzle_dyn(before >> u8x16::splat(4));
+    let low = u8x16::from_array(BEFORE_LOW).swizzle_dyn(before & u8x16::splat(15));
+    high & low & u8x16::from_array(HERE_HIGH).swizzle_dyn(here >> u8x16::splat(4))
+}
+
+// The last place of some, from the start on and before the end, at which a code begins.
+#[inline(always)]
+fn last_code(bytes: &[u8], start: usize, end: usize) -> usize
+    requires start { 3 ≤ start }
+    requires within { (start ≤ length bytes.now) × (end ≤ length bytes.now) }
+    requires begins { is_continuation (slice_index bytes.now start) ≡ false }
+    requires text { IsUtf8 (take start bytes.now) }
+    requires follow { AllFollow bytes.now start end }
+    ensures within { result ≤ length bytes.now }
+    ensures text { IsUtf8 (take result bytes.now) }
+{
+    let mut place = end;
+    while start < place {
+        place -= 1;
+        if !is_continuation(bytes[place]) {
+            return place;
+        }
+    }
+    start
+}

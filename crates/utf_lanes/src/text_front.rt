@@ -1,0 +1,97 @@
+//! The character at the front of bytes that are text for the most part.
+ghost use Rattle.std.specs.Prelude.{◌≡◌, ◌+◌, ◌-◌, ◌*◌, ◌≤◌, ◌<◌, length, IfSome, IfNone, None, Ok, true};
+ghost use Rattle.utf_base.specs.Code.{utf8};
+ghost use Rattle.utf_base.specs.Decoded.{decoded};
+ghost use Rattle.utf_base.specs.Front.{as_scalar, BeginsWith, IsFrontLen, NoneBegins};
+ghost use Rattle.utf_base.specs.Kinds.{is_continuation};
+ghost use Rattle.utf_lanes.specs.TextFront.{IsBegun};
+
+use utf_base::elements::is_continuation;
+
+/// The character that begins the bytes: (character, length in bytes), the length 1 to 4. `None`
+/// where no character begins them, and where they are fewer than four.
+///
+/// It is the quicker way through bytes that are text for the most part. Why other bytes are invalid
+/// is for `CharExt::from_utf8_slice_start` to say.
+#[inline(always)]
+#[tactic(auto, using(utf_base::proofs::DecodedLemmas::decoded_code, utf_base::proofs::DecodedLemmas::front_len_utf8))]
+pub fn front_of_text(src: &[u8]) -> Option<(char, usize)>
+    ensures some { IfSome result (λ x. BeginsWith utf8 src.now (as_scalar x.0) x.1) }
+    ensures known { IfSome result (λ x. decoded src.now ≡ Ok x) }
+    ensures len { IfSome result (λ x. IsFrontLen 4 src.now x.1) }
+    ensures none { 4 ≤ length src.now → IfNone result (NoneBegins utf8 src.now) }
+    ensures few { length src.now < 4 → result ≡ None }
+{
+    if src.len() < 4 {
+        return None;
+    }
+    if src[0] < 0x80 {
+        return Some((char::from(src[0]), 1));
+    }
+    if !is_continuation(src[1]) {
+        return None;
+    }
+    match src[0] {
+        0xc2..=0xdf => Some(two(src)),
+        0xe0..=0xef => three(src),
+        0xf0..=0xf4 => four(src),
+        _ => None,
+    }
+}
+
+// The character of two bytes, of which the second continues.
+#[inline(always)]
+fn two(src: &[u8]) -> (char, usize)
+    requires { IsBegun 0xC2 0xE0 src.now }
+    ensures { BeginsWith utf8 src.now (as_scalar result.0) result.1 }
+{
+    let value = followed((src[0] & 0x1f) as u32, src[1]);
+    (unsafe { char::from_u32_unchecked(value) }, 2)
+}
+
+// The character of three.
+#[inline(always)]
+fn three(src: &[u8]) -> Option<(char, usize)>
+    requires { IsBegun 0xE0 0xF0 src.now }
+    ensures some { IfSome result (λ x. BeginsWith utf8 src.now (as_scalar x.0) x.1) }
+    ensures none { IfNone result (NoneBegins utf8 src.now) }
+{
+    if !is_continuation(src[2]) {
+        return None;
+    }
+    let front = followed((src[0] & 0x0f) as u32, src[1]);
+    let value = followed(front, src[2]);
+    // Surrogates are told by the bits that they share: comparing with both ends makes a branch hard to foresee.
+    if value < 0x800 || value >> 11 == 0xd800 >> 11 {
+        return None;
+    }
+    Some((unsafe { char::from_u32_unchecked(value) }, 3))
+}
+
+// The character of four.
+#[inline(always)]
+fn four(src: &[u8]) -> Option<(char, usize)>
+    requires { IsBegun 0xF0 0xF5 src.now }
+    ensures some { IfSome result (λ x. BeginsWith utf8 src.now (as_scalar x.0) x.1) }
+    ensures none { IfNone result (NoneBegins utf8 src.now) }
+{
+    if !is_continuation(src[2]) || !is_continuation(src[3]) {
+        return None;
+    }
+    let front = followed((src[0] & 0x07) as u32, src[1]);
+    let value = followed(followed(front, src[2]), src[3]);
+    if value < 0x1_0000 || value > 0x10_ffff {
+        return None;
+    }
+    Some((unsafe { char::from_u32_unchecked(value) }, 4))
+}
+
+// The payload of a byte that continues, after what those before it add up to.
+#[inline(always)]
+fn followed(front: u32, byte: u8) -> u32
+    requires front { front < 0x8000 }
+    requires byte { is_continuation byte ≡ true }
+    ensures { result ≡ front * 64 + (byte - 0x80) }
+{
+    front << 6 | (byte & 0x3f) as u32
+}

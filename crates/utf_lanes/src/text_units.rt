@@ -1,0 +1,216 @@
+//! Text in UTF-8 as UTF-16, sixteen bytes at once, and 64 where they are ASCII.
+ghost use Rattle.std.specs.Prelude.{◌≡◌, ℕ, ◌+◌, ◌-◌, ◌*◌, ◌<◌, ◌≤◌, ◌&&◌, ◌++◌, [], ◌∷◌, cond, nat_le, length, take, slice_index, count_ones};
+ghost use Rattle.std.specs.Int.{bit_at};
+ghost use Rattle.utf_lanes.specs.GivenUnits.{given, joined, IsRow, gives, low_half, high_half, unit_low, unit_high, halves, given_at, pair_at, places_at, leading_low, leading_high, trailing_high};
+ghost use Rattle.utf_lanes.specs.TextBlocks.{AreClosed};
+
+use crate::shuffles::KEPT_PAIRS;
+use std::simd::prelude::*;
+
+/// The bytes of the units that half a block gives: as many of these as `len` says.
+#[derive(Drop)]
+pub struct UnitBytes {
+    /// These bytes, and then any.
+    pub bytes: [u8; 16],
+    /// How many they are.
+    pub len: usize,
+}
+
+/// The units that the sixteen bytes from the place on give, but those of the first `skipped` of them.
+#[inline(always)]
+pub fn block_units(
+    high_first: bool,
+    bytes: &[u8],
+    place: usize,
+    skipped: usize,
+) -> (UnitBytes, UnitBytes)
+    requires start { 3 ≤ place }
+    requires within { place + 16 ≤ length bytes.now }
+    requires few { skipped < 16 }
+    ensures first { result.0.len ≤ 16 }
+    ensures second { result.1.len ≤ 16 }
+    ensures units { take result.0.len result.0.bytes ++ take result.1.len result.1.bytes ≡ joined (given_at high_first bytes.now) (place - 3 + skipped) (16 - skipped) }
+{
+    let here = u8x16::from_slice(&bytes[place..]);
+    let before = u8x16::from_slice(&bytes[place - 1..]);
+    let (low, high) = unit_halves(bytes, place);
+    let mask = giving(before, here, skipped);
+    let (front, back) = paired(high_first, low, high);
+    (kept_bytes(front, mask & 255), kept_bytes(back, mask >> 8))
+}
+
+// The two bytes of each unit, one beside the other: of the first eight units, and of the others.
+#[inline(always)]
+fn paired(high_first: bool, low: u8x16, high: u8x16) -> (u8x16, u8x16)
+    ensures front { (k : ℕ) → k < 8 → slice_index result.0 (2 * k) ∷ slice_index result.0 (2 * k + 1) ∷ [] ≡ halves high_first (slice_index low k) (slice_index high k) }
+    ensures back { (k : ℕ) → k < 8 → slice_index result.1 (2 * k) ∷ slice_index result.1 (2 * k + 1) ∷ [] ≡ halves high_first (slice_index low (8 + k)) (slice_index high (8 + k)) }
+{
+    if high_first {
+        high.interleave(low)
+    } else {
+        low.interleave(high)
+    }
+}
+
+// Which of the lanes from `skipped` on give a unit, each as a bit.
+#[inline(always)]
+fn giving(before: u8x16, here: u8x16, skipped: usize) -> usize
+    requires few { skipped < 16 }
+    ensures most { result < 65536 }
+    ensures bits { (k : ℕ) → k < 16 → bit_at result k ≡ cond (gives (slice_index before k) (slice_index here k) && nat_le skipped k) 1 0 }
+{
+    let later = before.saturating_sub(u8x16::splat(0x20)).simd_max(here);
+    let mask = later.simd_lt(u8x16::splat(0xc0)).to_bitmask() as usize;
+    mask & (usize::MAX << skipped)
+}
+
+// The low and high halves of the units.
+#[inline(always)]
+fn unit_halves(bytes: &[u8], place: usize) -> (u8x16, u8x16)
+    requires start { 3 ≤ place }
+    requires within { place + 16 ≤ length bytes.now }
+    ensures low_len { length result.0 ≡ 16 }
+    ensures high_len { length result.1 ≡ 16 }
+    ensures low { (k : ℕ) → k < 16 → slice_index result.0 k ≡ unit_low (slice_index bytes.now (place - 2 + k)) (slice_index bytes.now (place - 1 + k)) (slice_index bytes.now (place + k)) }
+    ensures high { (k : ℕ) → k < 16 → slice_index result.1 k ≡ unit_high (slice_index bytes.now (place - 3 + k)) (slice_index bytes.now (place - 2 + k)) (slice_index bytes.now (place - 1 + k)) (slice_index bytes.now (place + k)) }
+{
+    let here = u8x16::from_slice(&bytes[place..]);
+    let first = u8x16::from_slice(&bytes[place - 1..]);
+    let second = u8x16::from_slice(&bytes[place - 2..]);
+    let third = u8x16::from_slice(&bytes[place - 3..]);
+    if second
+        .simd_max(third)
+        .simd_ge(u8x16::splat(0xf0))
+        .to_bitmask()
+        == 0
+    {
+        short_halves(second, first, here)
+    } else {
+        long_halves(third, second, first, here)
+    }
+}
+
+// The halves of units that end codes of at most three bytes.
+#[inline(always)]
+fn short_halves(second: u8x16, first: u8x16, here: u8x16) -> (u8x16, u8x16)
+    ensures low_len { length result.0 ≡ 16 }
+    ensures high_len { length result.1 ≡ 16 }
+    ensures low { (k : ℕ) → k < 16 → slice_index result.0 k ≡ low_half (slice_index first k) (slice_index here k) }
+    ensures high { (k : ℕ) → k < 16 → slice_index result.1 k ≡ high_half (slice_index second k) (slice_index first k) (slice_index here k) }
+{
+    let none = u8x16::splat(0);
+    let continued = here.simd_lt(u8x16::splat(0x80)).select(none, first);
+    let low = (here & u8x16::splat(0x7f)) + (continued << u8x16::splat(6));
+    let upper = second.saturating_sub(u8x16::splat(0xe0)) << u8x16::splat(4);
+    let high = ((continued >> u8x16::splat(2)) & u8x16::splat(15)) + upper;
+    (low, high)
+}
+
+// The halves of units, some of which may be surrogates.
+#[inline(never)]
+fn long_halves(third: u8x16, second: u8x16, first: u8x16, here: u8x16) -> (u8x16, u8x16)
+    ensures low_len { length result.0 ≡ 16 }
+    ensures high_len { length result.1 ≡ 16 }
+    ensures low { (k : ℕ) → k < 16 → slice_index result.0 k ≡ unit_low (slice_index second k) (slice_index first k) (slice_index here k) }
+    ensures high { (k : ℕ) → k < 16 → slice_index result.1 k ≡ unit_high (slice_index third k) (slice_index second k) (slice_index first k) (slice_index here k) }
+{
+    let (low, high) = short_halves(second, first, here);
+    let (leading_low, leading_high) = leading_halves(second, first, here);
+    let trailing_high = trailing_halves(first);
+    let is_short = second.simd_lt(u8x16::splat(0xf0));
+    let shorter = third
+        .simd_lt(u8x16::splat(0xf0))
+        .select(high, trailing_high);
+    (
+        is_short.select(low, leading_low),
+        is_short.select(shorter, leading_high),
+    )
+}
+
+// The halves of leading surrogates.
+#[inline(always)]
+fn leading_halves(second: u8x16, first: u8x16, here: u8x16) -> (u8x16, u8x16)
+    ensures low_len { length result.0 ≡ 16 }
+    ensures high_len { length result.1 ≡ 16 }
+    ensures low { (k : ℕ) → k < 16 → slice_index result.0 k ≡ leading_low (slice_index first k) (slice_index here k) }
+    ensures high { (k : ℕ) → k < 16 → slice_index result.1 k ≡ leading_high (slice_index second k) (slice_index first k) (slice_index here k) }
+{
+    let bits = (first & u8x16::splat(0x3f)) << u8x16::splat(2);
+    let more = (here & u8x16::splat(0x3f)) >> u8x16::splat(4);
+    let low = bits + more + u8x16::splat(0xc0);
+    let carried = low.simd_lt(u8x16::splat(0xc0));
+    let high = (second & u8x16::splat(7)) + carried.select(u8x16::splat(0xd8), u8x16::splat(0xd7));
+    (low, high)
+}
+
+// The high halves of trailing surrogates.
+#[inline(always)]
+fn trailing_halves(first: u8x16) -> u8x16
+    ensures len { length result ≡ 16 }
+    ensures lanes { (k : ℕ) → k < 16 → slice_index result k ≡ trailing_high (slice_index first k) }
+{
+    ((first >> u8x16::splat(2)) & u8x16::splat(3)) + u8x16::splat(0xdc)
+}
+
+// The pairs of bytes whose bits the mask has, in order.
+#[inline(always)]
+fn kept_bytes(pairs: u8x16, mask: usize) -> UnitBytes
+    requires { mask < 256 }
+    ensures len { result.len ≤ 16 }
+    ensures bytes { take result.len result.bytes ≡ joined (pair_at mask pairs) 0 8 }
+{
+    let places = kept_places(mask);
+    let bytes = pairs.swizzle_dyn(u8x16::from_array(places)).to_array();
+    UnitBytes {
+        bytes,
+        len: 2 * (mask.count_ones() as usize),
+    }
+}
+
+// Where these pairs are: the places of their bytes, two for each bit that the mask has, and then any.
+#[inline(always)]
+fn kept_places(mask: usize) -> [u8; 16]
+    requires { mask < 256 }
+    ensures { IsRow result mask (2 * count_ones mask) 8 (places_at mask) }
+{
+    KEPT_PAIRS[mask]
+}
+
+/// The first sixteen bytes after three NULs.
+#[inline(always)]
+pub fn after_nuls(text: &[u8]) -> [u8; 19]
+    requires { 16 ≤ length text.now }
+    ensures { result ≡ 0 ∷ 0 ∷ 0 ∷ take 16 text.now }
+{
+    let mut front = [0; 19];
+    front[3..].copy_from_slice(&text[..16]);
+    front
+}
+
+/// The units of 64 bytes of ASCII: each byte and a NUL.
+#[inline(always)]
+pub fn ascii_units(high_first: bool, text: &[u8], place: usize) -> ([u8; 64], [u8; 64])
+    requires start { 3 ≤ place }
+    requires within { place + 64 ≤ length text.now }
+    requires closed { AreClosed text.now place }
+    requires ascii { (k : ℕ) → k < 64 → slice_index text.now (place + k) < 0x80 }
+    ensures first { result.0 ≡ given high_first text.now place 32 }
+    ensures second { result.1 ≡ given high_first text.now (place + 32) 32 }
+{
+    let (first, second) = beside_nuls(high_first, u8x64::from_slice(&text[place..]));
+    (first.to_array(), second.to_array())
+}
+
+// Each byte with a NUL, which is the high byte of its unit: of the first 32 bytes, and of the others.
+#[inline(always)]
+fn beside_nuls(high_first: bool, bytes: u8x64) -> (u8x64, u8x64)
+    ensures first { result.0 ≡ joined (λ k. halves high_first (slice_index bytes k) 0) 0 32 }
+    ensures second { result.1 ≡ joined (λ k. halves high_first (slice_index bytes k) 0) 32 32 }
+{
+    let nuls = u8x64::splat(0);
+    if high_first {
+        nuls.interleave(bytes)
+    } else {
+        bytes.interleave(nuls)
+    }
+}

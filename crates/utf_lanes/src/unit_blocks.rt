@@ -1,0 +1,176 @@
+//! How far bytes are well-formed units, judged eight at once.
+//!
+//! A unit is judged by the one before it: it ends a pair just where that begins one. Six bits of its high byte tell
+//! either.
+ghost use Rattle.std.specs.Prelude.{◌≡◌, ℕ, ◌+◌, ◌-◌, ◌*◌, ◌<◌, ◌≤◌, ◌∷◌, IsTrue, false, length, take, slice_index, if◌then◌else◌, nat_eq};
+ghost use Rattle.utf_base.specs.Units.{is_trailing_surrogate};
+ghost use Rattle.utf_lanes.specs.UnitBlocks.{AllPaired, AreCodes, PairsTo};
+ghost use Rattle.utf_lanes.specs.BytePairs.{high_place, units_of};
+
+use crate::byte_pairs::unit;
+use std::simd::prelude::*;
+use utf_base::traits::U16UtfExt;
+
+// The bits that tell a surrogate.
+const HIGH_IS_FIRST: [u8; 16] = [
+    0xfc, 0, 0xfc, 0, 0xfc, 0, 0xfc, 0, 0xfc, 0, 0xfc, 0, 0xfc, 0, 0xfc, 0,
+];
+
+const HIGH_IS_SECOND: [u8; 16] = [
+    0, 0xfc, 0, 0xfc, 0, 0xfc, 0, 0xfc, 0, 0xfc, 0, 0xfc, 0, 0xfc, 0, 0xfc,
+];
+
+/// How many units at the front of the bytes are well-formed: all that are, but for a leading surrogate at the end, where
+/// there are more than a few.
+#[inline]
+pub fn units_len(high_first: bool, bytes: &[u8]) -> usize
+    ensures within { 2 * result ≤ length bytes.now }
+    ensures codes { AreCodes (units_of high_first (take (2 * result) bytes.now)) }
+{
+    if bytes.len() < 16 {
+        return 0;
+    }
+    let end = paired_end(high_first, bytes);
+    if end == 0 {
+        return 0;
+    }
+    let last = unit(high_first, bytes[2 * end - 2], bytes[2 * end - 1]);
+    if last.is_utf16_leading_surrogate() {
+        end - 1
+    } else {
+        end
+    }
+}
+
+// How far the units each pair with the one before them: to the first that does not, or the end. Before the first stands
+// a NUL, as it were.
+#[inline(always)]
+fn paired_end(high_first: bool, bytes: &[u8]) -> usize
+    requires { 16 ≤ length bytes.now }
+    ensures within { 2 * result ≤ length bytes.now }
+    ensures first { 0 < result → is_trailing_surrogate (slice_index (units_of high_first bytes.now) 0) ≡ false }
+    ensures paired { AllPaired (units_of high_first bytes.now) 1 result }
+{
+    let count = paired_lanes(high_first, &after_a_nul(bytes), 1);
+    if count < 8 {
+        return count;
+    }
+    paired_lane_by_lane(high_first, bytes, paired_wide(high_first, bytes, 8))
+}
+
+// The first eight units after a NUL.
+#[inline(always)]
+fn after_a_nul(bytes: &[u8]) -> [u8; 18]
+    requires { 16 ≤ length bytes.now }
+    ensures { result ≡ 0 ∷ 0 ∷ take 16 bytes.now }
+{
+    let mut front = [0; 18];
+    front[2..].copy_from_slice(&bytes[..16]);
+    front
+}
+
+// The same in blocks of 32, to the first in which some unit does not pair.
+#[inline(always)]
+fn paired_wide(high_first: bool, bytes: &[u8], start: usize) -> usize
+    requires start { 1 ≤ start }
+    requires within { 2 * start ≤ length bytes.now }
+    ensures { PairsTo high_first bytes.now start result }
+{
+    let mut place = start;
+    while 64 <= bytes.len() - 2 * place {
+        if !is_paired_block(high_first, bytes, place) {
+            return place;
+        }
+        place += 32;
+    }
+    place
+}
+
+// The same in blocks of eight, of which the last ends with the last unit.
+#[inline(always)]
+fn paired_lane_by_lane(high_first: bool, bytes: &[u8], start: usize) -> usize
+    requires start { 8 ≤ start }
+    requires within { 2 * start ≤ length bytes.now }
+    ensures within { 2 * result ≤ length bytes.now }
+    ensures paired { AllPaired (units_of high_first bytes.now) start result }
+{
+    let units = bytes.len() / 2;
+    let mut place = start;
+    while place < units {
+        let block = place.min(units - 8);
+        let count = paired_lanes(high_first, bytes, block);
+        if count < 8 {
+            return block + count;
+        }
+        place = block + 8;
+    }
+    place
+}
+
+// Whether each of the 32 units from the place on pairs with the one before it.
+#[inline(always)]
+fn is_paired_block(high_first: bool, bytes: &[u8], place: usize) -> bool
+    requires start { 1 ≤ place }
+    requires within { 2 * place + 64 ≤ length bytes.now }
+    ensures { IsTrue result → AllPaired (units_of high_first bytes.now) place (place + 32) }
+{
+    let first = unpaired(high_first, bytes, place) | unpaired(high_first, bytes, place + 8);
+    let second = unpaired(high_first, bytes, place + 16) | unpaired(high_first, bytes, place + 24);
+    (first | second).simd_ne(u8x16::splat(0)).to_bitmask() == 0
+}
+
+// How many of the eight units from the place on pair with the one before them, up to the first that does not.
+#[inline(always)]
+fn paired_lanes(high_first: bool, bytes: &[u8], place: usize) -> usize
+    requires start { 1 ≤ place }
+    requires within { 2 * place + 16 ≤ length bytes.now }
+    ensures most { result ≤ 8 }
+    ensures paired { AllPaired (units_of high_first bytes.now) place (place + result) }
+{
+    let wrong = unpaired(high_first, bytes, place)
+        .simd_ne(u8x16::splat(0))
+        .to_bitmask();
+    if wrong == 0 {
+        8
+    } else {
+        wrong.trailing_zeros() as usize / 2
+    }
+}
+
+// The eight units from the place on, each after the one before it: in the lane of its high byte, 0 where they pair.
+#[inline(always)]
+fn unpaired(high_first: bool, bytes: &[u8], place: usize) -> u8x16
+    requires start { 1 ≤ place }
+    requires within { 2 * place + 16 ≤ length bytes.now }
+    ensures len { length result ≡ 16 }
+    ensures lanes { (k : ℕ) → k < 8 → slice_index result (2 * k + high_place high_first) ≡ 0 → AllPaired (units_of high_first bytes.now) (place + k) (place + k + 1) }
+{
+    let bits = upper_bits(high_first);
+    let here = u8x16::from_slice(&bytes[2 * place..]) & bits;
+    let before = u8x16::from_slice(&bytes[2 * place - 2..]) & bits;
+    where_equal(here, 0xdc) ^ where_equal(before, 0xd8)
+}
+
+// Six bits of each high byte, and none of the low bytes.
+#[inline(always)]
+fn upper_bits(high_first: bool) -> u8x16
+    ensures len { length result ≡ 16 }
+    ensures lanes { (k : ℕ) → k < 8 → slice_index result (2 * k + high_place high_first) ≡ 0xFC }
+{
+    if high_first {
+        u8x16::from_array(HIGH_IS_FIRST)
+    } else {
+        u8x16::from_array(HIGH_IS_SECOND)
+    }
+}
+
+// 255 in each lane that is this byte, and 0 in the others.
+#[inline(always)]
+fn where_equal(lanes: u8x16, byte: u8) -> u8x16
+    ensures len { length result ≡ 16 }
+    ensures lanes { (k : ℕ) → k < 16 → slice_index result k ≡ (if nat_eq (slice_index lanes k) byte then 255 else 0) }
+{
+    lanes
+        .simd_eq(u8x16::splat(byte))
+        .select(u8x16::splat(255), u8x16::splat(0))
+}

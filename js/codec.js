@@ -1,0 +1,191 @@
+// The calls of the proved module, as plain numbers. This is the one file that knows their names and what stands where.
+//
+// The module's memory has a fixed size of 16 MiB. After its own stack and constants stand, from __heap_base on: a cursor, an answer,
+// two lengths and a recoder; room for pieces; a part that is recoded and room for what it becomes; and the caller's bytes.
+
+export const OK = 0;
+export const NONE = 11;
+export const FORMS = ["utf-8", "utf-16le", "utf-16be"];
+// The most bytes that can be filled in at once.
+export const MOST = 10 * 1024 * 1024;
+// A piece depends on no more bytes than these from its first on, or up to its last.
+export const SEEN = 4;
+const PIECE = 16;
+const ROOM = 4096;
+const PART = 65536;
+const PART_ROOM = 4 * PART;
+const RECODER = 6;
+
+export class Codec {
+    constructor(calls) {
+        this.calls = calls;
+        this.memory = new Uint8Array(calls.memory.buffer);
+        this.view = new DataView(calls.memory.buffer);
+        this.cursor = Math.ceil(Number(calls.__heap_base.value) / PIECE) * PIECE;
+        this.answer = this.cursor + 16;
+        this.numbers = this.answer + 16;
+        this.recoder = this.numbers + 16;
+        this.room = this.recoder + 16;
+        this.part = this.room + ROOM * PIECE;
+        this.made = this.part + PART;
+        this.start = this.made + PART_ROOM;
+        this.len = 0;
+        this.names = Array.from({ length: NONE + 1 }, (_, kind) => this.kindName(kind));
+    }
+
+    // Takes these bytes in place of those before.
+    fill(bytes) {
+        this.memory.set(bytes, this.start);
+        this.len = bytes.length;
+    }
+
+    // The bytes where they stand.
+    get bytes() {
+        return this.memory.subarray(this.start, this.start + this.len);
+    }
+
+    // A length or an address, of which the upper half is zero in a memory of 16 MiB.
+    number(address) {
+        return this.view.getUint32(address, true);
+    }
+
+    // The bytes from one offset up to and without another are left.
+    setCursor(front, back) {
+        const { view, cursor } = this;
+        view.setUint32(cursor, this.start + front, true);
+        view.setUint32(cursor + 4, 0, true);
+        view.setUint32(cursor + 8, back - front, true);
+        view.setUint32(cursor + 12, 0, true);
+    }
+
+    // The piece that stands at an address, and begins at an offset of the bytes.
+    pieceAt(address, place) {
+        const { view } = this;
+        return { place, len: this.number(address), scalar: view.getUint32(address + 8, true), kind: view.getUint8(address + 12) };
+    }
+
+    // What the module calls a kind of error.
+    kindName(kind) {
+        this.view.setBigUint64(this.answer, BigInt(this.room), true);
+        this.calls.nody_put_kind_name(kind, BigInt(this.answer));
+        const text = this.number(this.answer);
+        return String.fromCharCode(...this.memory.subarray(text, text + 32)).replace(/\0+$/, "");
+    }
+
+    // Puts into the room the pieces that begin at `front`, so many at most; returns how many and where they end.
+    run(front, most = ROOM) {
+        this.setCursor(front, this.len);
+        const count = this.calls.nody_utf8_pieces(BigInt(this.cursor), BigInt(this.room), BigInt(Math.min(most, ROOM)));
+        return { count: Number(count), end: this.number(this.cursor) - this.start };
+    }
+
+    // How many of the pieces in the room are invalid bytes.
+    faultsInRoom(count) {
+        let faults = 0;
+        for (let at = this.room + 12, end = at + count * PIECE; at < end; at += PIECE) faults += this.memory[at] !== OK;
+        return faults;
+    }
+
+    // The piece of the room with that number, which begins at an offset.
+    inRoom(number, place) {
+        return this.pieceAt(this.room + number * PIECE, place);
+    }
+
+    // The pieces from an offset at which one begins, as far as they begin before another, and end after a third.
+    pieces(front, before, after = front) {
+        const found = [];
+        while (front < Math.min(before, this.len)) {
+            const { count, end } = this.run(front, before - front);
+            for (let at = this.room, last = at + count * PIECE, place = front; at < last; at += PIECE) {
+                if (before <= place) return found;
+                const next = place + this.number(at);
+                if (after < next) found.push(this.pieceAt(at, place));
+                place = next;
+            }
+            front = end;
+        }
+        return found;
+    }
+
+    // One piece from the front ("F") or the back ("B") of what is left, which then leaves it.
+    step(letter, left) {
+        this.setCursor(left.front, left.back);
+        const isFirst = letter === "F";
+        const [call, begin] = [isFirst ? this.calls.nody_utf8_next : this.calls.nody_utf8_next_back, left.front];
+        call(BigInt(this.answer), BigInt(this.cursor));
+        left.front = this.number(this.cursor) - this.start;
+        left.back = left.front + this.number(this.cursor + 8);
+        return this.pieceAt(this.answer, isFirst ? begin : left.back);
+    }
+
+    // The piece that begins at an offset, as a decoder that gets one byte at a time names it.
+    streamedAt(place) {
+        this.calls.nody_utf8_streamed_at(BigInt(this.answer), BigInt(this.start), BigInt(this.len), BigInt(place));
+        return this.pieceAt(this.answer, place);
+    }
+
+    // The offset of the first invalid byte from an offset on at which a piece begins, or the length where there is none.
+    validUpTo(front = 0) {
+        return front + Number(this.calls.nody_utf8_valid_up_to(BigInt(this.start + front), BigInt(this.len - front)));
+    }
+
+    // The last offset, up to `at`, that lies in no character.
+    boundary(at) {
+        return Number(this.calls.nody_shard_end(0, BigInt(this.start), BigInt(this.len), BigInt(at)));
+    }
+
+    // A recoder that holds nothing, as the bytes of its struct.
+    newRecoder(from, to) {
+        this.calls.nody_recoder(BigInt(this.recoder), from, to);
+        return this.memory.slice(this.recoder, this.recoder + RECODER);
+    }
+
+    // Feeds bytes to a recoder, and puts what comes of them into `chunks`, up to about so many bytes. Returns how many were fed.
+    feed(state, source, chunks, most = Infinity) {
+        const [recoder, numbers] = [BigInt(this.recoder), BigInt(this.numbers)];
+        const [part, made, room] = [BigInt(this.part), BigInt(this.made), BigInt(PART_ROOM)];
+        this.memory.set(state, this.recoder);
+        let at = 0;
+        for (let total = 0; at < source.length && total < most; ) {
+            const taken = source.subarray(at, at + PART);
+            this.memory.set(taken, this.part);
+            this.calls.nody_recoder_feed(recoder, part, BigInt(taken.length), made, room, numbers, numbers + 8n);
+            at += this.number(this.numbers);
+            total += this.keep(chunks, this.number(this.numbers + 8));
+        }
+        state.set(this.memory.subarray(this.recoder, this.recoder + RECODER));
+        return at;
+    }
+
+    // What a recoder still holds, as no more input follows.
+    finish(state, chunks) {
+        this.memory.set(state, this.recoder);
+        this.calls.nody_recoder_finish(BigInt(this.recoder), BigInt(this.made), BigInt(PART_ROOM), BigInt(this.numbers));
+        this.keep(chunks, this.number(this.numbers));
+        state.set(this.memory.subarray(this.recoder, this.recoder + RECODER));
+    }
+
+    keep(chunks, count) {
+        if (count) chunks.push(this.memory.slice(this.made, this.made + count));
+        return count;
+    }
+
+    // These bytes in another form, as chunks; about so many bytes of them where there are more.
+    recode(from, to, source, most = Infinity) {
+        const [chunks, state] = [[], this.newRecoder(from, to)];
+        if (this.feed(state, source, chunks, most) === source.length) this.finish(state, chunks);
+        return chunks;
+    }
+}
+
+// Chunks, one after the other.
+export function joined(chunks) {
+    if (chunks.length === 1) return chunks[0];
+    const all = new Uint8Array(chunks.reduce((sum, it) => sum + it.length, 0));
+    let at = 0;
+    for (const it of chunks) {
+        all.set(it, at);
+        at += it.length;
+    }
+    return all;
+}

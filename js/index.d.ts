@@ -1,0 +1,84 @@
+/** Any bytes. They are read, never changed and never kept. A string is a `TypeError`. */
+export type Bytes = ArrayBufferView | ArrayBufferLike;
+
+/** The encodings; case does not matter. No byte order mark is looked for, and none is added. */
+export type Encoding = "utf-8" | "utf-16le" | "utf-16be";
+
+/** Why a byte is invalid. */
+export type ErrorName =
+    /** Fewer bytes are left than the first byte asks for. */
+    | "TooFewBytes"
+    /** 0xC0, 0xC1 or above 0xF4: no UTF-8 has this byte. */
+    | "NonUtf8Byte"
+    /** 0x80 to 0xBF where a character should begin. */
+    | "UnexpectedContinuationByte"
+    /** A byte that should be a continuation byte is something else. */
+    | "InterruptedSequence"
+    /** The value fits in fewer bytes. */
+    | "OverlongEncoding"
+    /** The value is a surrogate, U+D800 to U+DFFF. */
+    | "Utf16ReservedCodepoint"
+    /** The value is above U+10FFFF. */
+    | "TooHighCodepoint";
+
+/** A character: `length` is 1 to 4 bytes. */
+export interface Character {
+    offset: number;
+    length: number;
+    char: string;
+    error: null;
+}
+
+/** A single invalid byte: `length` is 1. */
+export interface InvalidByte {
+    offset: number;
+    length: 1;
+    char: null;
+    error: ErrorName;
+}
+
+export type Piece = Character | InvalidByte;
+
+/** The pieces of UTF-8 from the front, one after the other without a gap: characters, and single invalid bytes. O(n). */
+export function pieces(data: Bytes): Generator<Piece, void, undefined>;
+
+/**
+ * The same pieces from the back, the last one first. Errors are named by the bytes that are left: the first byte of a damaged
+ * character is `TooFewBytes`, since what follows it was taken before. O(n).
+ */
+export function piecesBack(data: Bytes): Generator<Piece, void, undefined>;
+
+/** Takes pieces from both ends, in any order, until they meet; each piece comes once. Each call is O(1). */
+export class Decoder {
+    constructor(data: Bytes);
+    /** The next piece from the front, or null where nothing is left. */
+    next(): Piece | null;
+    /** The next piece from the back, or null where nothing is left. */
+    nextBack(): Piece | null;
+    /** The bytes between both ends, over the same memory. */
+    get remaining(): Uint8Array;
+}
+
+/** The first invalid byte of UTF-8, or null where there is none. O(n). */
+export function firstInvalid(data: Bytes): InvalidByte | null;
+
+/** Whether all of it is valid UTF-8. O(n). */
+export function isValid(data: Bytes): boolean;
+
+/**
+ * The text in another encoding; each invalid byte, or unit, becomes one U+FFFD, the replacement character. From an encoding
+ * to the same one it repairs. An unknown encoding is a `RangeError`. O(n).
+ */
+export function recode(data: Bytes, from: Encoding, to: Encoding): Uint8Array;
+
+/** Recodes text that comes in parts. However it is cut into parts, the joined output is that of `recode` on the whole. */
+export class Recoder {
+    constructor(from: Encoding, to: Encoding);
+    /** What the part, and bytes held from parts before, become. At most three bytes are held back. */
+    feed(part: Bytes): Uint8Array;
+    /** What the bytes that are still held become: call it once, after the last part. */
+    finish(): Uint8Array;
+}
+
+/** A `Recoder` as a stream, for `body.pipeThrough(..)`. It needs Node 18 or a browser. */
+export function recoderStream(from: Encoding, to: Encoding): TransformStream<Bytes, Uint8Array>;

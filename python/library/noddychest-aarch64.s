@@ -1,0 +1,1 @@
+../../generated/noddychest-aarch64.s

@@ -1,0 +1,1 @@
+../../generated/noddychest-x86_64.s

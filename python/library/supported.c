@@ -1,0 +1,1 @@
+../../c/supported.c

@@ -1,0 +1,51 @@
+"""Builds the extension module: assembly of the proved code, and the C that hands it to Python. pyproject.toml has the rest."""
+import sys
+import sysconfig
+
+from setuptools import Extension, setup
+from setuptools.command.build_ext import build_ext
+from setuptools.errors import PlatformError
+
+try:
+    from setuptools.command.bdist_wheel import bdist_wheel
+except ImportError:  # before setuptools 70.1
+    from wheel.bdist_wheel import bdist_wheel
+
+ASSEMBLY = {"linux-x86_64": "library/noddychest-x86_64.s", "linux-aarch64": "library/noddychest-aarch64.s"}
+
+# One wheel serves CPython 3.11 and all that follow. Older ones, whose stable ABI has no buffers, and those without the lock, that
+# have no stable ABI, get one each.
+STABLE = sys.version_info >= (3, 11) and not sysconfig.get_config_var("Py_GIL_DISABLED")
+
+
+class BuildLibrary(build_ext):
+    def build_extension(self, extension):
+        if self.plat_name not in ASSEMBLY:
+            raise PlatformError(f"noddychest is built for {' and '.join(ASSEMBLY)}, and this is {self.plat_name}")
+        self.compiler.src_extensions = [*self.compiler.src_extensions, ".s"]
+        extension.sources.append(ASSEMBLY[self.plat_name])
+        super().build_extension(extension)
+
+
+class StableWheel(bdist_wheel):
+    def finalize_options(self):
+        self.py_limited_api = "cp311" if STABLE else False
+        super().finalize_options()
+
+
+setup(
+    ext_modules=[
+        Extension(
+            "noddychest._noddychest",
+            sources=["src/_noddychest.c", "library/supported.c"],
+            depends=["src/more.h", "src/exports.map", "library/noddychest.h", *ASSEMBLY.values()],
+            include_dirs=["src", "library"],
+            define_macros=[("Py_LIMITED_API", "0x030B0000")] if STABLE else [],
+            extra_compile_args=["-O2"],
+            extra_link_args=["-Wl,--version-script=src/exports.map"],
+            libraries=["dl"],
+            py_limited_api=STABLE,
+        )
+    ],
+    cmdclass={"build_ext": BuildLibrary, "bdist_wheel": StableWheel},
+)

@@ -1,0 +1,45 @@
+"""Cuts any bytes into characters and single faulty bytes, and recodes UTF-8 and UTF-16.
+
+>>> import noddychest
+>>> for piece in noddychest.pieces(b"h\\xc3\\xa9\\xe2\\x82A"):
+...     print(piece.offset, piece.length, piece.char or piece.error.name)
+0 1 h
+1 2 é
+3 1 INTERRUPTED_SEQUENCE
+4 1 UNEXPECTED_CONTINUATION_BYTE
+5 1 A
+>>> noddychest.recode(b"f\\xcfb", "utf8", "utf16le")
+b'f\\x00\\xfd\\xffb\\x00'
+>>> b"h\\xc3\\xa9\\xe2\\x82A".decode("noddychest-utf8", "backslashreplace")
+'hé\\\\xe2\\\\x82A'
+
+Bytes are any bytes-like object: `bytes`, `bytearray`, `memoryview`, `array.array`, `mmap.mmap`. They are not copied, and count at
+their size in bytes. A `str` is a TypeError, and bytes that do not lie one after another in memory are a BufferError.
+
+Importing the package registers the codecs `noddychest-utf8`, `noddychest-utf16le` and `noddychest-utf16be`.
+"""
+from ._version import __version__
+from ._pieces import Decoder, ErrorKind, FaultError, Piece, Pieces, boundary, char_count, first_fault, is_valid, pieces
+from ._recoding import Recoder, recode
+from . import _codecs
+
+__all__ = [
+    "Decoder",
+    "ErrorKind",
+    "FaultError",
+    "Piece",
+    "Pieces",
+    "Recoder",
+    "__version__",
+    "boundary",
+    "char_count",
+    "first_fault",
+    "is_valid",
+    "pieces",
+    "recode",
+]
+
+for _it in (Decoder, ErrorKind, FaultError, Piece, Pieces, Recoder):
+    _it.__module__ = __name__  # where users find them
+
+_codecs.register()

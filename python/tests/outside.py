@@ -1,0 +1,56 @@
+"""What the tests expect, from outside of the package: the interpreter's own strict decoders, one character at a time."""
+import os
+import random
+
+TOP = os.path.dirname(os.path.dirname(os.path.dirname(os.path.abspath(__file__))))
+CODECS = {"noddychest-utf8": "utf-8", "noddychest-utf16le": "utf-16-le", "noddychest-utf16be": "utf-16-be"}
+# Bytes near which the rules change.
+EDGES = bytes.fromhex("00417f80818f909fa0bfc0c1c2dfe0e1ecedeeeff0f1f3f4f5ff")
+
+
+def cut(data, encoding="utf-8"):
+    """Pieces by the definition: a character stands where the bytes are its code, and else there is a fault of one byte or unit."""
+    unit = 1 if encoding == "utf-8" else 2
+    found, at = [], 0
+    while at < len(data):
+        for size in (1, 2, 3, 4):
+            try:
+                char = data[at:at + size].decode(encoding)
+            except UnicodeDecodeError:
+                continue
+            if len(char) == 1 and at + size <= len(data):
+                break
+        else:
+            char, size = None, min(unit, len(data) - at)
+        found.append((at, char, size))
+        at += size
+    return found
+
+
+def shown(data, encoding="utf-8"):
+    return "".join("\ufffd" if char is None else char for _, char, _ in cut(data, encoding))
+
+
+def characters(source):
+    return source.choice("a\0\x7f\x80é߿ࠀ€퟿\ue000�￿𐀀😀\U0010ffff")
+
+
+def inputs(count, longest, seed=1):
+    """Random bytes: some of them text, some of it damaged, some from the edges."""
+    source = random.Random(seed)
+    for _ in range(count):
+        size = source.randint(1, longest)
+        encoding = source.choice(list(CODECS.values()))
+        data = bytearray("".join(characters(source) for _ in range(size)).encode(encoding)[:size])
+        for _ in range(source.choice([0, 0, 1, 2, size])):
+            data[source.randrange(len(data))] = source.choice(EDGES)
+        yield bytes(data)
+
+
+def rows(name):
+    """The lines of one of the repository's lists of vectors, or None where only the package is there."""
+    path = os.path.join(TOP, "crates", "conformance", "data", name)
+    if not os.path.exists(path):
+        return None
+    with open(path, encoding="ascii") as file:
+        return [line.rstrip("\n").split("|") for line in file if not line.startswith("#")]

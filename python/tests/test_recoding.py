@@ -1,0 +1,166 @@
+"""Recoding at once and in parts, with replacement and strict."""
+import pickle
+import random
+import threading
+import unittest
+
+from noddychest import ErrorKind, FaultError, Recoder, recode
+
+import outside
+
+FORMS = {"utf8": "utf-8", "utf16le": "utf-16-le", "utf16be": "utf-16-be"}
+PAIRS = [(source, to) for source in FORMS for to in FORMS]
+
+
+def faults(data, form):
+    return [at for at, char, _ in outside.cut(data, FORMS[form]) if char is None]
+
+
+class AtOnce(unittest.TestCase):
+    def test_vectors(self):
+        rows = outside.rows("recode.txt")
+        if rows is None:
+            self.skipTest("the vectors are in the repository")
+        for forms, data, expected in rows:
+            self.assertEqual(recode(bytes.fromhex(data), *forms.split()).hex(), expected, (forms, data))
+
+    def test_random_inputs(self):
+        for data in outside.inputs(2000, 40, seed=6):
+            for source, to in PAIRS:
+                self.assertEqual(recode(data, source, to), outside.shown(data, FORMS[source]).encode(FORMS[to]), (data, source, to))
+
+    def test_every_character(self):
+        text = "".join(chr(scalar) for scalar in range(0x110000) if not 0xD800 <= scalar < 0xE000)
+        for source, to in PAIRS:
+            for errors in ("replace", "strict"):
+                self.assertEqual(recode(text.encode(FORMS[source]), source, to, errors), text.encode(FORMS[to]))
+
+    def test_strict(self):
+        for data in outside.inputs(2000, 40, seed=7):
+            for source, to in PAIRS:
+                wrong = faults(data, source)
+                if not wrong:
+                    self.assertEqual(recode(data, source, to, "strict"), data.decode(FORMS[source]).encode(FORMS[to]))
+                    continue
+                with self.assertRaises(UnicodeDecodeError) as raised:
+                    recode(data, source, to, errors="strict")
+                fault = raised.exception
+                self.assertEqual((fault.offset, fault.start, fault.object), (wrong[0], wrong[0], data))
+                self.assertEqual(fault.end, min(fault.start + (1 if source == "utf8" else 2), len(data)))
+                self.assertEqual((fault.encoding, fault.reason), (FORMS[source], fault.error.reason))
+
+    def test_faults_of_utf16(self):
+        for data, offset, error in [
+            (b"a\0\0\xdc", 2, ErrorKind.UNEXPECTED_TRAILING_SURROGATE),
+            (b"\0\xd8a\0", 0, ErrorKind.UNMATCHED_LEADING_SURROGATE),
+            (b"a\0\0\xd8", 2, ErrorKind.INCOMPLETE),
+            (b"a\0\0\xd8a", 2, ErrorKind.INCOMPLETE),
+            (b"a\0a", 2, ErrorKind.TOO_FEW_BYTES),
+        ]:
+            for form, it in (("utf16le", data), ("utf16be", swapped(data))):
+                with self.assertRaises(FaultError) as raised:
+                    recode(it, form, "utf8", "strict")
+                self.assertEqual((raised.exception.offset, raised.exception.error), (offset, error))
+
+    def test_far_faults(self):
+        for at in (0, 1, 510, 511, 512, 513, 1022, 1023, 1024, 5000):
+            for unit in (b"\0\xd8", b"\0\xdc"):
+                data = "é".encode("utf-16-le") * at + unit + "😀é".encode("utf-16-le") * 700
+                with self.assertRaises(FaultError) as raised:
+                    recode(data, "utf16le", "utf8", "strict")
+                self.assertEqual(raised.exception.offset, 2 * at)
+            pairs = "é".encode("utf-16-le") * at + "😀".encode("utf-16-le") * 2000
+            self.assertEqual(recode(pairs, "utf16le", "utf16be", "strict"), swapped(pairs))
+
+    def test_error_is_pickled(self):
+        with self.assertRaises(FaultError) as raised:
+            recode(b"ab\xff", "utf8", "utf8", "strict")
+        again = pickle.loads(pickle.dumps(raised.exception))
+        self.assertEqual((again.offset, again.start, again.error), (2, 2, ErrorKind.NON_UTF8_BYTE))
+
+    def test_names(self):
+        self.assertEqual(recode(b"a", "UTF-8", "utf_16_le"), b"a\0")
+        for wrong in ("utf7", "", "utf16", 8, None):
+            self.assertRaises(LookupError, recode, b"", wrong, "utf8")
+            self.assertRaises(LookupError, recode, b"", "utf8", wrong)
+        self.assertRaises(LookupError, recode, b"", "utf8", "utf8", "nonsense")
+        self.assertRaises(LookupError, Recoder, "utf8", "utf8", errors="ignore")
+
+    def test_in_threads(self):
+        text = "aé€😀" * 50000
+        wrong, data = [], text.encode()
+
+        def work():
+            if recode(data, "utf8", "utf16le") != text.encode("utf-16-le"):
+                wrong.append(1)
+
+        threads = [threading.Thread(target=work) for _ in range(4)]
+        for it in threads:
+            it.start()
+        for it in threads:
+            it.join()
+        self.assertFalse(wrong)
+
+
+def swapped(data):
+    units = bytearray(data)
+    units[0:len(data) // 2 * 2:2], units[1::2] = data[1::2], data[0:len(data) // 2 * 2:2]
+    return bytes(units)
+
+
+class InParts(unittest.TestCase):
+    def test_random_parts(self):
+        source = random.Random(8)
+        for data in outside.inputs(3000, 30, seed=9):
+            form, to = source.choice(PAIRS)
+            recoder, made, at = Recoder(form, to), b"", 0
+            while at < len(data):
+                size = source.choice([0, 1, 1, 2, 3, 5, 12])
+                made += recoder.feed(data[at:at + size])
+                at += size
+                self.assertLessEqual(recoder.faults, len(faults(data, form)))
+            made += recoder.finish()
+            self.assertEqual(made, outside.shown(data, FORMS[form]).encode(FORMS[to]), data)
+            self.assertEqual(recoder.faults, len(faults(data, form)), (data, form))
+            self.assertEqual(recoder.finish(), b"")
+
+    def test_strict_parts(self):
+        source = random.Random(10)
+        for data in outside.inputs(3000, 30, seed=11):
+            form, to = source.choice(PAIRS)
+            recoder, made, at, wrong = Recoder(form, to, "strict"), b"", 0, faults(data, form)
+            try:
+                while at < len(data):
+                    size = source.choice([0, 1, 1, 2, 3, 5, 12])
+                    made += recoder.feed(data[at:at + size])
+                    at += size
+                made += recoder.finish()
+            except FaultError as fault:
+                self.assertEqual(fault.offset, wrong[0], (data, form))
+                self.assertEqual(fault.object[fault.start:fault.end], data[fault.offset:fault.offset + fault.end - fault.start])
+                self.assertTrue(data[:wrong[0]].decode(FORMS[form]).encode(FORMS[to]).startswith(made))
+            else:
+                self.assertEqual((wrong, made), ([], data.decode(FORMS[form]).encode(FORMS[to])))
+            self.assertEqual(recoder.faults, 0)
+
+    def test_strict_leaves_it_as_it_was(self):
+        recoder = Recoder("utf8", "utf16be", "strict")
+        self.assertEqual(recoder.feed(b"a\xc3"), b"\0a")
+        for _ in range(2):
+            with self.assertRaises(FaultError) as raised:
+                recoder.feed(b"b")
+            self.assertEqual((raised.exception.offset, raised.exception.error), (1, ErrorKind.INTERRUPTED_SEQUENCE))
+            self.assertRaises(FaultError, recoder.finish)
+        self.assertEqual(recoder.feed(b"\xa9") + recoder.finish(), b"\0\xe9")
+
+    def test_faults_are_counted(self):
+        recoder = Recoder("utf8", "utf8")
+        self.assertEqual((recoder.feed(b"\xf0\x9f"), recoder.faults), (b"", 0))
+        self.assertEqual((recoder.feed("a\ufffd".encode()), recoder.faults), ("\ufffd\ufffda\ufffd".encode(), 2))
+        self.assertEqual((recoder.feed(b"\xe2"), recoder.faults), (b"", 2))
+        self.assertEqual((recoder.finish(), recoder.faults), ("\ufffd".encode(), 3))
+        self.assertEqual((recoder.feed(b"\xff" * 1000 + b"a" * 3000 + b"\x80"), recoder.faults)[1], 1004)
+
+
+if __name__ == "__main__":
+    unittest.main()

@@ -1,0 +1,100 @@
+//! Assembles the proved code with the C compiler that is there, and archives it.
+//!
+//! The compiler is that of `CC_<target>`, `TARGET_CC` or `CC`, as the crate `cc` reads them; else `cc`, or `<arch>-linux-gnu-gcc`
+//! where this is built for another processor.
+
+use std::env;
+use std::path::{Path, PathBuf};
+use std::process::{self, Command};
+
+/// What the archive is made of: a file with `@` for the processor.
+const SOURCES: [&str; 2] = ["generated/noddychest-@.s", "c/supported.c"];
+const READ: [&str; 4] = ["generated/noddychest-x86_64.s", "generated/noddychest-aarch64.s", "c/supported.c", "c/noddychest.h"];
+
+/// Ends the build with one sentence.
+fn stop(what: &str) -> ! {
+    eprintln!("noddychest: {what}");
+    process::exit(1);
+}
+
+fn var(name: &str) -> Option<String> {
+    println!("cargo:rerun-if-env-changed={name}");
+    env::var(name).ok().filter(|it| !it.trim().is_empty())
+}
+
+/// The tool that the environment names for this target: the program and its first words.
+fn named(tool: &str) -> Option<Vec<String>> {
+    let target = env::var("TARGET").unwrap_or_default();
+    let told = var(&format!("{tool}_{target}"))
+        .or_else(|| var(&format!("{tool}_{}", target.replace('-', "_"))))
+        .or_else(|| var(&format!("TARGET_{tool}")))
+        .or_else(|| var(tool));
+    told.map(|it| it.split_whitespace().map(str::to_string).collect())
+}
+
+fn processor() -> String {
+    let target = env::var("TARGET").unwrap_or_default();
+    let processor = env::var("CARGO_CFG_TARGET_ARCH").unwrap_or_default();
+    let system = env::var("CARGO_CFG_TARGET_OS").unwrap_or_default();
+    if system != "linux" || !["x86_64", "aarch64"].contains(&processor.as_str()) {
+        stop(&format!("there is code for Linux on x86_64 and aarch64, and none for the target {target}."));
+    }
+    processor
+}
+
+fn compiler(processor: &str) -> Vec<String> {
+    let host = env::var("HOST").unwrap_or_default();
+    named("CC").unwrap_or_else(|| match host.starts_with(processor) {
+        true => vec!["cc".to_string()],
+        false => vec![format!("{processor}-linux-gnu-gcc")],
+    })
+}
+
+/// Runs a tool, and answers what it printed.
+fn run(words: &[String], more: &[&str], needed: &str) -> String {
+    match Command::new(&words[0]).args(&words[1..]).args(more).output() {
+        Ok(ran) if ran.status.success() => String::from_utf8_lossy(&ran.stdout).trim().to_string(),
+        Ok(ran) => stop(&format!("`{} {}` failed: {}", words.join(" "), more.join(" "), String::from_utf8_lossy(&ran.stderr))),
+        Err(error) => stop(&format!("`{}`, {needed}, cannot be run: {error}.", words[0])),
+    }
+}
+
+fn main() {
+    let processor = processor();
+    let top = PathBuf::from(env::var_os("CARGO_MANIFEST_DIR").unwrap_or_default());
+    let out = PathBuf::from(env::var_os("OUT_DIR").unwrap_or_default());
+    for it in READ {
+        println!("cargo:rerun-if-changed={}", top.join(it).display());
+        if !top.join(it).is_file() {
+            stop(&format!("{it} is missing: in the repository rust/generated and rust/c are links to the folders beside rust/."));
+        }
+    }
+    let compiler = compiler(&processor);
+    let needed = "the C compiler that assembles the proved code (install gcc or clang, or name one in CC)";
+    let compiled_for = run(&compiler, &["-dumpmachine"], needed);
+    if !compiled_for.starts_with(&processor) {
+        stop(&format!(
+            "`{}` compiles for {compiled_for}, and the target is {processor}: name another compiler in CC.",
+            compiler[0]
+        ));
+    }
+    let archive = out.join("libnoddychest.a");
+    let _ = std::fs::remove_file(&archive);
+    let archiver = named("AR").unwrap_or_else(|| vec![run(&compiler, &["-print-prog-name=ar"], needed)]);
+    for (number, source) in SOURCES.iter().enumerate() {
+        let object = out.join(format!("{number}.o"));
+        let source = top.join(source.replace('@', &processor));
+        run(&compiler, &["-O2", "-fPIC", "-c", "-o", text(&object), text(&source)], needed);
+        run(
+            &archiver,
+            &["rcs", text(&archive), text(&object)],
+            "which makes the library of the assembled code (a part of binutils; or name one in AR)",
+        );
+    }
+    println!("cargo:rustc-link-search=native={}", out.display());
+    println!("cargo:rustc-link-lib=static=noddychest");
+}
+
+fn text(path: &Path) -> &str {
+    path.to_str().unwrap_or_else(|| stop("a path of the build is no UTF-8."))
+}

@@ -1,0 +1,190 @@
+//! UTF-8: bytes, split from either end.
+
+use crate::ffi;
+use crate::{Form, Piece};
+use core::iter::FusedIterator;
+
+/// All pieces of the bytes: characters, and single bytes that are invalid.
+///
+/// The cost is one call of the library for each piece. Nothing is allocated.
+///
+/// ```
+/// let text: String = noddychest::pieces(b"na\xC3\xAFve \xE2\x82").map(|piece| piece.result.unwrap_or('\u{FFFD}')).collect();
+/// assert_eq!(text, "naïve \u{FFFD}\u{FFFD}");
+/// ```
+pub fn pieces(bytes: &[u8]) -> Pieces<'_> {
+    Pieces { left: bytes, offset: 0 }
+}
+
+/// The piece at the front, or `None` where there are no bytes.
+///
+/// ```
+/// let piece = noddychest::first("€5".as_bytes()).unwrap();
+/// assert_eq!((piece.len, piece.char()), (3, Some('€')));
+/// assert_eq!(noddychest::first(b""), None);
+/// ```
+pub fn first(bytes: &[u8]) -> Option<Piece> {
+    first_of(bytes, 0)
+}
+
+/// The same, of bytes that are left from that offset on.
+fn first_of(left: &[u8], offset: usize) -> Option<Piece> {
+    // SAFETY: the bytes are valid for their length.
+    Piece::of(offset, unsafe { ffi::nody_utf8_first(left.as_ptr(), left.len()) })
+}
+
+/// The piece at the end, or `None` where there are no bytes. At most four bytes are looked at.
+///
+/// ```
+/// let piece = noddychest::last("5€".as_bytes()).unwrap();
+/// assert_eq!((piece.offset, piece.char()), (1, Some('€')));
+/// ```
+pub fn last(bytes: &[u8]) -> Option<Piece> {
+    last_of(bytes, 0)
+}
+
+/// The same, of bytes that are left from that offset on.
+fn last_of(left: &[u8], offset: usize) -> Option<Piece> {
+    // SAFETY: the bytes are valid for their length.
+    let raw = unsafe { ffi::nody_utf8_last(left.as_ptr(), left.len()) };
+    Piece::of(offset + left.len() - raw.len, raw)
+}
+
+/// The offset of the first invalid byte, or the length where all is UTF-8, as [`core::str::Utf8Error::valid_up_to`] says it.
+///
+/// ```
+/// let bytes = b"ok\xF0\x9F then";
+/// let valid = noddychest::valid_up_to(bytes);
+/// assert_eq!(std::str::from_utf8(&bytes[..valid]), Ok("ok"));
+/// ```
+pub fn valid_up_to(bytes: &[u8]) -> usize {
+    // SAFETY: the bytes are valid for their length.
+    unsafe { ffi::nody_utf8_valid_up_to(bytes.as_ptr(), bytes.len()) }
+}
+
+/// How many characters there are, where each invalid byte counts as one: as many as [`pieces`] gives, and as many as are shown where
+/// each invalid byte is one U+FFFD.
+///
+/// ```
+/// assert_eq!(noddychest::char_count("naïve".as_bytes()), 5);
+/// assert_eq!(noddychest::char_count(b"a\xFFb"), 3);
+/// ```
+pub fn char_count(bytes: &[u8]) -> usize {
+    pieces(bytes).count()
+}
+
+/// The last boundary between two pieces that is at most `at`. It is at most three bytes before it, and the length where `at` is no
+/// less. So `&bytes[..boundary_before(bytes, n)]` cuts to `n` bytes and no character in two.
+///
+/// ```
+/// let bytes = "5€".as_bytes();
+/// assert_eq!(noddychest::boundary_before(bytes, 3), 1);
+/// assert_eq!(noddychest::boundary_before(bytes, 9), 4);
+/// ```
+pub fn boundary_before(bytes: &[u8], at: usize) -> usize {
+    crate::shard_end(Form::Utf8, bytes, at)
+}
+
+/// The first boundary between two pieces that is at least `at`, or the length.
+///
+/// ```
+/// let bytes = "5€".as_bytes();
+/// assert_eq!(noddychest::boundary_after(bytes, 2), 4);
+/// assert_eq!(noddychest::boundary_after(bytes, 1), 1);
+/// ```
+pub fn boundary_after(bytes: &[u8], at: usize) -> usize {
+    let before = boundary_before(bytes, at);
+    if before >= at {
+        return before;
+    }
+    before + first(&bytes[before..]).map_or(0, |piece| piece.len)
+}
+
+/// The piece that begins at `at`, as a decoder that gets one byte at a time names it; `None` from the length on.
+///
+/// It differs from [`pieces`] in one kind: where fewer bytes are left than the first one needs, and one of those breaks the
+/// sequence, it says `InterruptedSequence` and not `TooFewBytes`. `at` should be a boundary.
+///
+/// ```
+/// use noddychest::{first, streamed_at, FaultKind};
+/// assert_eq!(first(b"\xF0\x9FA").unwrap().fault().unwrap().kind(), FaultKind::TooFewBytes);
+/// assert_eq!(streamed_at(b"\xF0\x9FA", 0).unwrap().fault().unwrap().kind(), FaultKind::InterruptedSequence);
+/// ```
+pub fn streamed_at(bytes: &[u8], at: usize) -> Option<Piece> {
+    // SAFETY: the bytes are valid for their length, and the place may be any.
+    Piece::of(at, unsafe { ffi::nody_utf8_streamed_at(bytes.as_ptr(), bytes.len(), at) })
+}
+
+/// The pieces of some bytes, from the front and from the back. [`pieces`] makes it.
+///
+/// What is wrong is judged by what is left: asked from both ends, each piece comes once, with the offset and the length that it
+/// has from the front.
+///
+/// ```
+/// let mut pieces = noddychest::pieces("a€b".as_bytes());
+/// assert_eq!(pieces.next_back().and_then(|piece| piece.char()), Some('b'));
+/// assert_eq!(pieces.next().and_then(|piece| piece.char()), Some('a'));
+/// assert_eq!(pieces.as_slice(), "€".as_bytes());
+/// assert_eq!(pieces.size_hint(), (1, Some(3)));
+/// ```
+#[derive(Clone, Debug)]
+pub struct Pieces<'a> {
+    left: &'a [u8],
+    offset: usize,
+}
+
+impl<'a> Pieces<'a> {
+    /// The bytes that no piece was given of yet.
+    ///
+    /// ```
+    /// let mut pieces = noddychest::pieces(b"key=value");
+    /// pieces.find(|piece| piece.result == Ok('='));
+    /// assert_eq!(pieces.as_slice(), b"value");
+    /// ```
+    pub fn as_slice(&self) -> &'a [u8] {
+        self.left
+    }
+
+    /// The offset of what is left.
+    ///
+    /// ```
+    /// let mut pieces = noddychest::pieces("éa".as_bytes());
+    /// pieces.next();
+    /// assert_eq!(pieces.offset(), 2);
+    /// ```
+    pub fn offset(&self) -> usize {
+        self.offset
+    }
+}
+
+impl<'a> From<&'a [u8]> for Pieces<'a> {
+    fn from(bytes: &'a [u8]) -> Pieces<'a> {
+        pieces(bytes)
+    }
+}
+
+impl Iterator for Pieces<'_> {
+    type Item = Piece;
+
+    fn next(&mut self) -> Option<Piece> {
+        let piece = first_of(self.left, self.offset)?;
+        self.left = &self.left[piece.len..];
+        self.offset += piece.len;
+        Some(piece)
+    }
+
+    /// A piece has at most four bytes.
+    fn size_hint(&self) -> (usize, Option<usize>) {
+        (self.left.len().div_ceil(4), Some(self.left.len()))
+    }
+}
+
+impl DoubleEndedIterator for Pieces<'_> {
+    fn next_back(&mut self) -> Option<Piece> {
+        let piece = last_of(self.left, self.offset)?;
+        self.left = &self.left[..self.left.len() - piece.len];
+        Some(piece)
+    }
+}
+
+impl FusedIterator for Pieces<'_> {}

@@ -1,0 +1,180 @@
+//! What is wrong with a byte or a unit.
+
+use crate::ffi;
+use core::ffi::CStr;
+use core::fmt;
+use core::ops::Range;
+
+/// Why a byte, or a unit of UTF-16, is invalid.
+///
+/// The first seven are of UTF-8 and the last three of UTF-16. Where two would be right, the first of these decides: the lead byte
+/// itself, whether enough bytes are left, whether they are continuation bytes, and the value. So `E0 80 41` is an interrupted
+/// sequence and not an overlong encoding.
+///
+/// ```
+/// use noddychest::{first, FaultKind};
+///
+/// let kind = |bytes| first(bytes).and_then(|piece| piece.fault()).map(|fault| fault.kind());
+/// assert_eq!(kind(b"\xE2\x82"), Some(FaultKind::TooFewBytes));
+/// assert_eq!(kind(b"\xC0\xAF"), Some(FaultKind::NonUtf8Byte));
+/// assert_eq!(kind(b"\x82"), Some(FaultKind::UnexpectedContinuationByte));
+/// assert_eq!(kind(b"\xE0\x80A"), Some(FaultKind::InterruptedSequence));
+/// assert_eq!(kind(b"\xE0\x80\xAF"), Some(FaultKind::OverlongEncoding));
+/// assert_eq!(kind(b"\xED\xA0\x80"), Some(FaultKind::Utf16ReservedCodepoint));
+/// assert_eq!(kind(b"\xF4\x90\x80\x80"), Some(FaultKind::TooHighCodepoint));
+/// ```
+#[derive(Clone, Copy, Debug, PartialEq, Eq, PartialOrd, Ord, Hash)]
+#[repr(u8)]
+pub enum FaultKind {
+    /// Fewer bytes are left than the first one needs.
+    TooFewBytes = ffi::KIND_TOO_FEW_BYTES,
+    /// A byte that stands nowhere in UTF-8: `C0`, `C1`, or `F5` to `FF`.
+    NonUtf8Byte = ffi::KIND_NON_UTF8_BYTE,
+    /// A continuation byte, `80` to `BF`, where a character should begin.
+    UnexpectedContinuationByte = ffi::KIND_UNEXPECTED_CONTINUATION_BYTE,
+    /// After this byte a continuation byte should follow, and another byte does.
+    InterruptedSequence = ffi::KIND_INTERRUPTED_SEQUENCE,
+    /// The sequence is longer than its value needs.
+    OverlongEncoding = ffi::KIND_OVERLONG_ENCODING,
+    /// The value is a surrogate, U+D800 to U+DFFF, which only UTF-16 uses.
+    Utf16ReservedCodepoint = ffi::KIND_UTF16_RESERVED_CODEPOINT,
+    /// The value is above U+10FFFF.
+    TooHighCodepoint = ffi::KIND_TOO_HIGH_CODEPOINT,
+    /// Of UTF-16: a trailing surrogate where a character should begin.
+    UnexpectedTrailingSurrogate = ffi::KIND_UNEXPECTED_TRAILING_SURROGATE,
+    /// Of UTF-16: a leading surrogate after which no trailing one follows.
+    UnmatchedLeadingSurrogate = ffi::KIND_UNMATCHED_LEADING_SURROGATE,
+    /// Of UTF-16: the text ends after a leading surrogate, or in the middle of a unit.
+    Incomplete = ffi::KIND_INCOMPLETE,
+}
+
+impl FaultKind {
+    /// All kinds, in the order of their numbers.
+    ///
+    /// ```
+    /// use noddychest::FaultKind;
+    /// assert!(FaultKind::ALL.contains(&FaultKind::OverlongEncoding));
+    /// ```
+    pub const ALL: [FaultKind; 10] = [
+        FaultKind::TooFewBytes,
+        FaultKind::NonUtf8Byte,
+        FaultKind::UnexpectedContinuationByte,
+        FaultKind::InterruptedSequence,
+        FaultKind::OverlongEncoding,
+        FaultKind::Utf16ReservedCodepoint,
+        FaultKind::TooHighCodepoint,
+        FaultKind::UnexpectedTrailingSurrogate,
+        FaultKind::UnmatchedLeadingSurrogate,
+        FaultKind::Incomplete,
+    ];
+
+    pub(crate) fn of_number(number: u8) -> Option<FaultKind> {
+        FaultKind::ALL.into_iter().find(|it| *it as u8 == number)
+    }
+
+    /// Whether it is one of the three kinds of UTF-16.
+    ///
+    /// ```
+    /// use noddychest::FaultKind;
+    /// assert!(FaultKind::Incomplete.is_of_utf16() && !FaultKind::TooFewBytes.is_of_utf16());
+    /// ```
+    pub fn is_of_utf16(self) -> bool {
+        use FaultKind::{Incomplete, UnexpectedTrailingSurrogate, UnmatchedLeadingSurrogate};
+        matches!(self, UnexpectedTrailingSurrogate | UnmatchedLeadingSurrogate | Incomplete)
+    }
+
+    /// The name, as the programs and the library for C write it.
+    ///
+    /// ```
+    /// assert_eq!(noddychest::FaultKind::TooFewBytes.name(), "TooFewBytes");
+    /// ```
+    pub fn name(self) -> &'static str {
+        static UNKNOWN: ffi::Name = ffi::Name { text: [0; 32] };
+        let mut name: *const ffi::Name = &UNKNOWN;
+        // SAFETY: `name` is the address of a name, and after the call it is that of one that lives for ever.
+        let name: &'static ffi::Name = unsafe {
+            ffi::nody_put_kind_name(self as u8, &mut name);
+            &*name
+        };
+        let text = CStr::from_bytes_until_nul(&name.text).ok();
+        text.and_then(|it| it.to_str().ok()).unwrap_or("?")
+    }
+}
+
+/// Writes the name.
+impl fmt::Display for FaultKind {
+    fn fmt(&self, f: &mut fmt::Formatter<'_>) -> fmt::Result {
+        f.pad(self.name())
+    }
+}
+
+/// An invalid byte, or unit of UTF-16: where it is, and why it is invalid.
+///
+/// It is an [`Error`](core::error::Error), so a function that answers a `Result` passes it on by `?`, and `collect` stops at the
+/// first one:
+///
+/// ```
+/// use noddychest::{pieces, Fault};
+///
+/// fn text(bytes: &[u8]) -> Result<String, Fault> {
+///     pieces(bytes).map(|piece| piece.result).collect()
+/// }
+///
+/// assert_eq!(text("né".as_bytes()).as_deref(), Ok("né"));
+/// let fault = text(b"caf\xE9 noir").unwrap_err();
+/// assert_eq!(fault.to_string(), "invalid UTF-8 at offset 3: InterruptedSequence");
+/// ```
+#[derive(Clone, Copy, Debug, PartialEq, Eq, Hash)]
+pub struct Fault {
+    offset: usize,
+    len: u8,
+    kind: FaultKind,
+}
+
+impl Fault {
+    pub(crate) fn new(offset: usize, len: u8, kind: FaultKind) -> Fault {
+        Fault { offset, len, kind }
+    }
+
+    /// Why it is invalid.
+    ///
+    /// ```
+    /// use noddychest::{first, FaultKind};
+    /// let fault = first(b"\xFF").unwrap().result.unwrap_err();
+    /// assert_eq!(fault.kind(), FaultKind::NonUtf8Byte);
+    /// ```
+    pub fn kind(&self) -> FaultKind {
+        self.kind
+    }
+
+    /// Where it begins: in bytes or in units, from the front of what was split, or of what a recoder was fed.
+    ///
+    /// ```
+    /// let fault = noddychest::pieces(b"ab\xFF").find_map(|piece| piece.fault());
+    /// assert_eq!(fault.unwrap().offset(), 2);
+    /// ```
+    pub fn offset(&self) -> usize {
+        self.offset
+    }
+
+    /// Its place: one byte, or one unit. Where a recoder reads UTF-16 in bytes it has two, or one where half a unit ends the text.
+    ///
+    /// ```
+    /// let bytes = b"ab\xFF";
+    /// let fault = noddychest::pieces(bytes).find_map(|piece| piece.fault()).unwrap();
+    /// assert_eq!(&bytes[fault.range()], b"\xFF");
+    /// ```
+    pub fn range(&self) -> Range<usize> {
+        self.offset..self.offset + usize::from(self.len)
+    }
+}
+
+/// Writes the offset and the kind, as `invalid UTF-8 at offset 2: NonUtf8Byte`.
+impl fmt::Display for Fault {
+    fn fmt(&self, f: &mut fmt::Formatter<'_>) -> fmt::Result {
+        let code = if self.kind.is_of_utf16() { "UTF-16" } else { "UTF-8" };
+        write!(f, "invalid {code} at offset {}: {}", self.offset, self.kind)
+    }
+}
+
+impl core::error::Error for Fault {}

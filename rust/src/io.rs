@@ -1,0 +1,275 @@
+//! Adapters that recode what is read from a reader, or written to a writer.
+//!
+//! ```
+//! use noddychest::io::RecodingReader;
+//! use noddychest::{Form, Recoder};
+//! use std::io::Read;
+//!
+//! let file = &b"n\0a\0\xEF\0v\0e\0"[..];
+//! let mut text = String::new();
+//! RecodingReader::new(file, Recoder::strict(Form::Utf16Le, Form::Utf8)).read_to_string(&mut text)?;
+//! assert_eq!(text, "naïve");
+//! # Ok::<(), std::io::Error>(())
+//! ```
+
+use crate::{Fault, Recoder, Status};
+use std::io::{Error, ErrorKind, Read, Result, Write};
+
+const BLOCK: usize = 8192;
+/// No call of a recoder needs more room than this to go on, or to finish.
+const ENOUGH: usize = 16;
+
+/// Bytes of which those from `begin` to `end` are of use.
+#[derive(Debug)]
+struct Block {
+    bytes: Box<[u8]>,
+    begin: usize,
+    end: usize,
+}
+
+impl Block {
+    fn new() -> Block {
+        Block { bytes: vec![0; BLOCK].into_boxed_slice(), begin: 0, end: 0 }
+    }
+
+    fn left(&self) -> &[u8] {
+        &self.bytes[self.begin..self.end]
+    }
+}
+
+fn refused(fault: Fault) -> Error {
+    Error::new(ErrorKind::InvalidData, fault)
+}
+
+/// Reads from a reader, and gives what that is in another form.
+///
+/// It reads in blocks of 8 KiB, so it may have read more of the inner reader than it has given. Where a strict recoder meets invalid
+/// text the error has the kind [`InvalidData`](std::io::ErrorKind::InvalidData) and a [`Fault`] in it, after all that stands before it
+/// was given. Reading on goes on after it. Errors of the inner reader are passed on, and nothing is lost by them.
+///
+/// ```
+/// use noddychest::io::RecodingReader;
+/// use noddychest::{Fault, Form, Recoder};
+/// use std::io::Read;
+///
+/// let mut reader = RecodingReader::new(&b"ok\xFF"[..], Recoder::strict(Form::Utf8, Form::Utf8));
+/// let mut text = Vec::new();
+/// let error = reader.read_to_end(&mut text).unwrap_err();
+/// assert_eq!(text, b"ok");
+/// let fault = error.get_ref().and_then(|it| it.downcast_ref::<Fault>()).unwrap();
+/// assert_eq!(fault.offset(), 2);
+/// ```
+#[derive(Debug)]
+pub struct RecodingReader<R> {
+    inner: R,
+    recoder: Recoder,
+    /// What was read, and from where on it was not fed yet.
+    part: Block,
+    /// What was recoded, and from where on it was not given yet.
+    made: Block,
+    fault: Option<Fault>,
+    is_full: bool,
+    has_ended: bool,
+    has_finished: bool,
+}
+
+impl<R> RecodingReader<R> {
+    /// Recodes what that reader gives.
+    ///
+    /// ```
+    /// use noddychest::{io::RecodingReader, Form, Recoder};
+    /// let reader = RecodingReader::new(std::io::stdin(), Recoder::new(Form::Utf16Be, Form::Utf8));
+    /// ```
+    pub fn new(inner: R, recoder: Recoder) -> RecodingReader<R> {
+        let (part, made) = (Block::new(), Block::new());
+        RecodingReader { inner, recoder, part, made, fault: None, is_full: false, has_ended: false, has_finished: false }
+    }
+
+    /// The reader. What was read of it and not given yet is lost.
+    ///
+    /// ```
+    /// use noddychest::{io::RecodingReader, Form, Recoder};
+    /// let reader = RecodingReader::new(&b"a"[..], Recoder::new(Form::Utf8, Form::Utf8));
+    /// assert_eq!(reader.into_inner(), b"a");
+    /// ```
+    pub fn into_inner(self) -> R {
+        self.inner
+    }
+}
+
+impl<R: Read> RecodingReader<R> {
+    /// Recodes what was read, after it has read more where nothing of it is left.
+    fn make(&mut self) -> Result<()> {
+        if self.part.left().is_empty() && !self.is_full && !self.has_ended {
+            let count = self.inner.read(&mut self.part.bytes)?;
+            (self.part.begin, self.part.end) = (0, count);
+            self.has_ended = count == 0;
+        }
+        let did = if self.has_ended {
+            self.recoder.finish(&mut self.made.bytes)
+        } else {
+            self.recoder.feed(self.part.left(), &mut self.made.bytes)
+        };
+        self.part.begin += did.read;
+        (self.made.begin, self.made.end) = (0, did.written);
+        self.is_full = did.status == Status::Full;
+        self.has_finished = self.has_ended && did.status == Status::Done;
+        if let Status::Fault(fault) = did.status {
+            self.fault = Some(fault);
+        }
+        Ok(())
+    }
+}
+
+impl<R: Read> Read for RecodingReader<R> {
+    fn read(&mut self, room: &mut [u8]) -> Result<usize> {
+        while !room.is_empty() {
+            let given = self.made.left().read(room)?;
+            self.made.begin += given;
+            if given > 0 {
+                return Ok(given);
+            }
+            if let Some(fault) = self.fault.take() {
+                return Err(refused(fault));
+            }
+            if self.has_finished {
+                break;
+            }
+            self.make()?;
+        }
+        Ok(0)
+    }
+}
+
+/// Writes to a writer what it is given, in another form.
+///
+/// It gathers 8 KiB before it writes. Call [`finish`](RecodingWriter::finish) at the end: it writes what is held. Where a strict
+/// recoder meets invalid text, the error has the kind [`InvalidData`](std::io::ErrorKind::InvalidData) and a [`Fault`] in it. Since a
+/// call of `write` that fails must have taken nothing, it comes from the call that follows: the next `write`, `flush` or `finish`.
+///
+/// ```
+/// use noddychest::io::RecodingWriter;
+/// use noddychest::{Form, Recoder};
+/// use std::io::Write;
+///
+/// let mut writer = RecodingWriter::new(Vec::new(), Recoder::new(Form::Utf8, Form::Utf16Le));
+/// write!(writer, "na{}ve", 'ï')?;
+/// writer.finish()?;
+/// assert_eq!(writer.into_inner(), b"n\0a\0\xEF\0v\0e\0");
+/// # Ok::<(), std::io::Error>(())
+/// ```
+#[derive(Debug)]
+pub struct RecodingWriter<W> {
+    inner: W,
+    recoder: Recoder,
+    /// What was recoded, and from where on it was not written yet.
+    made: Block,
+    fault: Option<Fault>,
+}
+
+impl<W: Write> RecodingWriter<W> {
+    /// Recodes what is written, to that writer.
+    ///
+    /// ```
+    /// use noddychest::{io::RecodingWriter, Form, Recoder};
+    /// let writer = RecodingWriter::new(std::io::stdout(), Recoder::new(Form::Utf8, Form::Utf16Be));
+    /// ```
+    pub fn new(inner: W, recoder: Recoder) -> RecodingWriter<W> {
+        RecodingWriter { inner, recoder, made: Block::new(), fault: None }
+    }
+
+    /// Writes what is held and what was gathered, and flushes the writer. After an error call it again to go on; after a fault of
+    /// a strict recoder that goes on after the fault.
+    ///
+    /// ```
+    /// use noddychest::{io::RecodingWriter, Form, Recoder};
+    /// use std::io::Write;
+    /// let mut writer = RecodingWriter::new(Vec::new(), Recoder::new(Form::Utf8, Form::Utf8));
+    /// writer.write_all(b"a\xE2\x82")?;
+    /// writer.finish()?;
+    /// assert_eq!(writer.into_inner(), "a\u{FFFD}\u{FFFD}".as_bytes());
+    /// # Ok::<(), std::io::Error>(())
+    /// ```
+    pub fn finish(&mut self) -> Result<()> {
+        loop {
+            self.tell()?;
+            self.drain()?;
+            let did = self.recoder.finish(&mut self.made.bytes);
+            self.made.end = did.written;
+            match did.status {
+                Status::Fault(fault) => self.fault = Some(fault),
+                Status::Full => {}
+                Status::Done => {
+                    self.drain()?;
+                    return self.inner.flush();
+                }
+            }
+        }
+    }
+
+    /// The writer. What is held or gathered is lost: call [`finish`](RecodingWriter::finish) before.
+    ///
+    /// ```
+    /// use noddychest::{io::RecodingWriter, Form, Recoder};
+    /// let writer = RecodingWriter::new(Vec::new(), Recoder::new(Form::Utf8, Form::Utf8));
+    /// assert!(writer.into_inner().is_empty());
+    /// ```
+    pub fn into_inner(self) -> W {
+        self.inner
+    }
+
+    /// Writes what was gathered.
+    fn drain(&mut self) -> Result<()> {
+        while !self.made.left().is_empty() {
+            match self.inner.write(self.made.left()) {
+                Ok(0) => return Err(ErrorKind::WriteZero.into()),
+                Ok(count) => self.made.begin += count,
+                Err(error) if error.kind() == ErrorKind::Interrupted => {}
+                Err(error) => return Err(error),
+            }
+        }
+        (self.made.begin, self.made.end) = (0, 0);
+        Ok(())
+    }
+
+    /// Recodes what it can of a part, and answers how much of it was read.
+    fn feed(&mut self, part: &[u8]) -> usize {
+        let did = self.recoder.feed(part, &mut self.made.bytes[self.made.end..]);
+        self.made.end += did.written;
+        if let Status::Fault(fault) = did.status {
+            self.fault = Some(fault);
+        }
+        did.read
+    }
+
+    /// Tells of the fault that the call before met.
+    fn tell(&mut self) -> Result<()> {
+        self.fault.take().map_or(Ok(()), |fault| Err(refused(fault)))
+    }
+}
+
+impl<W: Write> Write for RecodingWriter<W> {
+    fn write(&mut self, part: &[u8]) -> Result<usize> {
+        loop {
+            self.tell()?;
+            if self.made.begin > 0 || self.made.bytes.len() - self.made.end < ENOUGH {
+                self.drain()?;
+            }
+            let read = self.feed(part);
+            // (nothing is read of it where a fault, or a character, is among the bytes that are held)
+            if read > 0 || part.is_empty() {
+                return Ok(read);
+            }
+        }
+    }
+
+    /// Writes all that is decided; the front of a character waits for what follows.
+    fn flush(&mut self) -> Result<()> {
+        self.tell()?;
+        self.drain()?;
+        // (a character for which there was no room)
+        self.feed(&[]);
+        self.drain()?;
+        self.inner.flush()
+    }
+}

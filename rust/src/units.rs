@@ -1,0 +1,172 @@
+//! UTF-16: units of the machine's own byte order, split from either end.
+//!
+//! The calls are those of the crate's top, for `&[u16]`. UTF-16 in bytes, little-endian or big-endian, is for a
+//! [`Recoder`](crate::Recoder).
+//!
+//! ```
+//! let name = [0x66, 0xD83D, 0xDE00, 0xDE00];
+//! let text: String = noddychest::units::pieces(&name).map(|piece| piece.result.unwrap_or('\u{FFFD}')).collect();
+//! assert_eq!(text, "f😀\u{FFFD}");
+//! ```
+
+use crate::ffi;
+use crate::Piece;
+use core::iter::FusedIterator;
+
+/// All pieces of the units: characters, and single units that are invalid. Offsets and lengths count units.
+///
+/// ```
+/// use noddychest::{units, FaultKind};
+/// let fault = units::pieces(&[0xD83D, 0x41]).find_map(|piece| piece.fault()).unwrap();
+/// assert_eq!((fault.offset(), fault.kind()), (0, FaultKind::UnmatchedLeadingSurrogate));
+/// ```
+pub fn pieces(units: &[u16]) -> Pieces<'_> {
+    Pieces { left: units, offset: 0 }
+}
+
+/// The piece at the front, or `None` where there are no units.
+///
+/// ```
+/// let piece = noddychest::units::first(&[0xD83D, 0xDE00, 0x41]).unwrap();
+/// assert_eq!((piece.len, piece.char()), (2, Some('😀')));
+/// ```
+pub fn first(units: &[u16]) -> Option<Piece> {
+    first_of(units, 0)
+}
+
+/// The same, of units that are left from that offset on.
+fn first_of(left: &[u16], offset: usize) -> Option<Piece> {
+    // SAFETY: the units are valid for their length.
+    Piece::of(offset, unsafe { ffi::nody_utf16_first(left.as_ptr(), left.len()) })
+}
+
+/// The piece at the end, or `None` where there are no units. At most two units are looked at.
+///
+/// ```
+/// let piece = noddychest::units::last(&[0x41, 0xD83D, 0xDE00]).unwrap();
+/// assert_eq!((piece.offset, piece.char()), (1, Some('😀')));
+/// ```
+pub fn last(units: &[u16]) -> Option<Piece> {
+    last_of(units, 0)
+}
+
+/// The same, of units that are left from that offset on.
+fn last_of(left: &[u16], offset: usize) -> Option<Piece> {
+    // SAFETY: the units are valid for their length.
+    let raw = unsafe { ffi::nody_utf16_last(left.as_ptr(), left.len()) };
+    Piece::of(offset + left.len() - raw.len, raw)
+}
+
+/// The offset of the first invalid unit, or the length where all is UTF-16.
+///
+/// ```
+/// let units = [0x6F, 0x6B, 0xDE00];
+/// let valid = noddychest::units::valid_up_to(&units);
+/// assert_eq!(String::from_utf16(&units[..valid]).unwrap(), "ok");
+/// ```
+pub fn valid_up_to(units: &[u16]) -> usize {
+    // SAFETY: the units are valid for their length.
+    unsafe { ffi::nody_utf16_valid_up_to(units.as_ptr(), units.len()) }
+}
+
+/// How many characters there are, where each invalid unit counts as one.
+///
+/// ```
+/// assert_eq!(noddychest::units::char_count(&[0x41, 0xD83D, 0xDE00, 0xDE00]), 3);
+/// ```
+pub fn char_count(units: &[u16]) -> usize {
+    pieces(units).count()
+}
+
+/// The last boundary between two pieces that is at most `at`: `at` itself, or one before it where a character has two units there;
+/// the length where `at` is no less.
+///
+/// ```
+/// assert_eq!(noddychest::units::boundary_before(&[0x41, 0xD83D, 0xDE00], 2), 1);
+/// ```
+pub fn boundary_before(units: &[u16], at: usize) -> usize {
+    if at == 0 || at >= units.len() {
+        return at.min(units.len());
+    }
+    at + 1 - first(&units[at - 1..=at]).map_or(1, |piece| piece.len)
+}
+
+/// The first boundary between two pieces that is at least `at`, or the length.
+///
+/// ```
+/// assert_eq!(noddychest::units::boundary_after(&[0x41, 0xD83D, 0xDE00], 2), 3);
+/// ```
+pub fn boundary_after(units: &[u16], at: usize) -> usize {
+    let before = boundary_before(units, at);
+    before + if before < at && before < units.len() { 2 } else { 0 }
+}
+
+/// The pieces of some units, from the front and from the back. [`pieces`] makes it.
+///
+/// ```
+/// let mut pieces = noddychest::units::pieces(&[0x41, 0xD83D, 0xDE00]);
+/// assert_eq!(pieces.next_back().and_then(|piece| piece.char()), Some('😀'));
+/// assert_eq!(pieces.as_slice(), [0x41]);
+/// assert_eq!(pieces.size_hint(), (1, Some(1)));
+/// ```
+#[derive(Clone, Debug)]
+pub struct Pieces<'a> {
+    left: &'a [u16],
+    offset: usize,
+}
+
+impl<'a> Pieces<'a> {
+    /// The units that no piece was given of yet.
+    ///
+    /// ```
+    /// let mut pieces = noddychest::units::pieces(&[0x41, 0x42]);
+    /// pieces.next();
+    /// assert_eq!(pieces.as_slice(), [0x42]);
+    /// ```
+    pub fn as_slice(&self) -> &'a [u16] {
+        self.left
+    }
+
+    /// The offset of what is left, in units.
+    ///
+    /// ```
+    /// let mut pieces = noddychest::units::pieces(&[0xD83D, 0xDE00, 0x41]);
+    /// pieces.next();
+    /// assert_eq!(pieces.offset(), 2);
+    /// ```
+    pub fn offset(&self) -> usize {
+        self.offset
+    }
+}
+
+impl<'a> From<&'a [u16]> for Pieces<'a> {
+    fn from(units: &'a [u16]) -> Pieces<'a> {
+        pieces(units)
+    }
+}
+
+impl Iterator for Pieces<'_> {
+    type Item = Piece;
+
+    fn next(&mut self) -> Option<Piece> {
+        let piece = first_of(self.left, self.offset)?;
+        self.left = &self.left[piece.len..];
+        self.offset += piece.len;
+        Some(piece)
+    }
+
+    /// A piece has at most two units.
+    fn size_hint(&self) -> (usize, Option<usize>) {
+        (self.left.len().div_ceil(2), Some(self.left.len()))
+    }
+}
+
+impl DoubleEndedIterator for Pieces<'_> {
+    fn next_back(&mut self) -> Option<Piece> {
+        let piece = last_of(self.left, self.offset)?;
+        self.left = &self.left[..self.left.len() - piece.len];
+        Some(piece)
+    }
+}
+
+impl FusedIterator for Pieces<'_> {}

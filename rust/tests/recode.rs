@@ -1,0 +1,221 @@
+//! Recoding, beside what std makes of the text, in every cut and every room.
+
+mod common;
+
+use common::{of_hex, rows, Chance};
+use noddychest::{recode, recode_strict, recoded_len_max, shard_end, Fault, FaultKind, Form, Recoder, Status};
+
+/// A character or a fault, with how many bytes it has.
+type Answer = (usize, Result<char, FaultKind>);
+
+fn of_utf8(bytes: &[u8]) -> Vec<Answer> {
+    let kinds = noddychest::pieces(bytes).map(|it| noddychest::streamed_at(bytes, it.offset).expect("a piece"));
+    kinds.map(|it| (it.len, it.result.map_err(|fault| fault.kind()))).collect()
+}
+
+fn of_utf16(bytes: &[u8], unit: fn([u8; 2]) -> u16) -> Vec<Answer> {
+    let pairs = bytes.chunks_exact(2);
+    let half = pairs.remainder().len();
+    let units: Vec<u16> = pairs.map(|it| unit([it[0], it[1]])).collect();
+    let pieces = noddychest::units::pieces(&units);
+    let mut out: Vec<Answer> = pieces.map(|it| (2 * it.len, it.result.map_err(|fault| fault.kind()))).collect();
+    if half > 0 {
+        out.push((1, Err(FaultKind::Incomplete)));
+    }
+    out
+}
+
+fn decoded(form: Form, bytes: &[u8]) -> Vec<Answer> {
+    match form {
+        Form::Utf8 => of_utf8(bytes),
+        Form::Utf16Le => of_utf16(bytes, u16::from_le_bytes),
+        Form::Utf16Be => of_utf16(bytes, u16::from_be_bytes),
+    }
+}
+
+fn encoded(form: Form, text: impl Iterator<Item = char>) -> Vec<u8> {
+    let text: String = text.collect();
+    match form {
+        Form::Utf8 => text.into_bytes(),
+        Form::Utf16Le => text.encode_utf16().flat_map(u16::to_le_bytes).collect(),
+        Form::Utf16Be => text.encode_utf16().flat_map(u16::to_be_bytes).collect(),
+    }
+}
+
+/// What std makes of it, with U+FFFD for each fault.
+fn replaced(from: Form, to: Form, bytes: &[u8]) -> Vec<u8> {
+    encoded(to, decoded(from, bytes).into_iter().map(|it| it.1.unwrap_or('\u{FFFD}')))
+}
+
+fn faults(from: Form, bytes: &[u8]) -> Vec<(usize, usize, FaultKind)> {
+    let mut offset = 0;
+    let places = decoded(from, bytes).into_iter().map(|(len, answer)| {
+        offset += len;
+        (offset - len, len, answer)
+    });
+    places.filter_map(|(at, len, answer)| answer.err().map(|kind| (at, len, kind))).collect()
+}
+
+fn pairs() -> impl Iterator<Item = (Form, Form)> {
+    Form::ALL.into_iter().flat_map(|from| Form::ALL.into_iter().map(move |to| (from, to)))
+}
+
+fn text_of(form: Form, chance: &mut Chance, most: usize) -> Vec<u8> {
+    let mut out = match form {
+        Form::Utf8 => chance.bytes(most),
+        Form::Utf16Le => chance.units(most).into_iter().flat_map(u16::to_le_bytes).collect(),
+        Form::Utf16Be => chance.units(most).into_iter().flat_map(u16::to_be_bytes).collect(),
+    };
+    if chance.below(4) == 0 {
+        out.pop();
+    }
+    out
+}
+
+/// Feeds the parts into rooms of the sizes that `room` gives: what came out, and each fault.
+fn recoded_in_parts(mut recoder: Recoder, parts: &[&[u8]], mut room: impl FnMut() -> usize) -> (Vec<u8>, Vec<Fault>) {
+    let (mut out, mut told, mut turns) = (Vec::new(), Vec::new(), 0);
+    let mut note = |out: &mut Vec<u8>, room: &[u8], status: Status| {
+        turns += 1;
+        assert!(turns < 10_000, "it goes on for ever");
+        out.extend_from_slice(room);
+        if let Status::Fault(fault) = status {
+            told.push(fault);
+        }
+        status == Status::Done
+    };
+    for part in parts {
+        let mut rest = *part;
+        loop {
+            let mut place = vec![0xAA; room()];
+            let did = recoder.feed(rest, &mut place);
+            assert!(place[did.written..].iter().all(|it| *it == 0xAA), "it writes where it says nothing of");
+            rest = &rest[did.read..];
+            if note(&mut out, &place[..did.written], did.status) {
+                break;
+            }
+        }
+        assert!(rest.is_empty());
+    }
+    loop {
+        let mut place = vec![0xAA; room()];
+        let did = recoder.finish(&mut place);
+        if note(&mut out, &place[..did.written], did.status) {
+            break;
+        }
+    }
+    assert!(recoder.held().is_empty());
+    (out, told)
+}
+
+fn hold_text(from: Form, to: Form, bytes: &[u8], chance: &mut Chance) {
+    let whole = replaced(from, to, bytes);
+    let valid: Vec<u8> = encoded(to, decoded(from, bytes).into_iter().filter_map(|it| it.1.ok()));
+    let want = faults(from, bytes);
+    assert_eq!(recode(from, to, bytes), whole, "{from} {to} {bytes:x?}");
+    assert!(recoded_len_max(from, to, bytes.len()) >= Some(whole.len()));
+    let strict = recode_strict(from, to, bytes).map_err(|it| (it.offset(), it.range().len(), it.kind()));
+    assert_eq!(strict, want.first().map_or(Ok(whole.clone()), |it| Err(*it)), "{from} {to} {bytes:x?}");
+    let first = chance.below(bytes.len() + 1);
+    let second = first + chance.below(bytes.len() - first + 1);
+    let parts = [&bytes[..first], &bytes[first..second], &bytes[second..]];
+    let most = 4 + chance.below(20);
+    let rooms = |chance: &mut Chance| if most < 8 { 4 } else { chance.below(most) };
+    let (out, told) = recoded_in_parts(Recoder::new(from, to), &parts, || rooms(chance));
+    assert!(out == whole && told.is_empty(), "{from} {to} {parts:x?}");
+    let (out, told) = recoded_in_parts(Recoder::strict(from, to), &parts, || rooms(chance));
+    assert_eq!(out, valid, "{from} {to} {parts:x?}");
+    let told: Vec<_> = told.iter().map(|it| (it.offset(), it.range().len(), it.kind())).collect();
+    assert_eq!(told, want, "{from} {to} {parts:x?}");
+}
+
+#[test]
+fn random_texts_in_random_parts() {
+    let mut chance = Chance(4);
+    for _ in 0..8_000 {
+        for (from, to) in pairs() {
+            let bytes = text_of(from, &mut chance, 16);
+            hold_text(from, to, &bytes, &mut chance);
+        }
+    }
+}
+
+#[test]
+fn every_cut_of_short_texts() {
+    let mut chance = Chance(5);
+    for _ in 0..100 {
+        for (from, to) in pairs() {
+            let bytes = text_of(from, &mut chance, 8);
+            let (whole, want) = (replaced(from, to, &bytes), faults(from, &bytes));
+            for first in 0..=bytes.len() {
+                for second in first..=bytes.len() {
+                    for room in [4, 5, 9, 64] {
+                        let parts = [&bytes[..first], &bytes[first..second], &bytes[second..]];
+                        assert_eq!(recoded_in_parts(Recoder::new(from, to), &parts, || room).0, whole);
+                        let (_, told) = recoded_in_parts(Recoder::strict(from, to), &parts, || room);
+                        let told: Vec<_> = told.iter().map(|it| (it.offset(), it.range().len(), it.kind())).collect();
+                        assert_eq!(told, want, "{from} {to} {parts:x?}");
+                    }
+                }
+            }
+        }
+    }
+}
+
+#[test]
+fn long_texts() {
+    let mut chance = Chance(6);
+    for (from, to) in pairs() {
+        let mut bytes = Vec::new();
+        while bytes.len() < 200_000 {
+            let text: String = (0..chance.below(200)).map(|_| chance.char()).collect();
+            bytes.extend(encoded(from, text.chars()));
+            if chance.below(20) == 0 {
+                bytes.extend(text_of(from, &mut chance, 4));
+            }
+        }
+        hold_text(from, to, &bytes[..1000], &mut chance);
+        assert!(recode(from, to, &bytes) == replaced(from, to, &bytes), "{from} {to}");
+        let text = encoded(from, "aé€😀".repeat(10_000).chars());
+        assert!(recode_strict(from, to, &text) == Ok(replaced(from, to, &text)), "{from} {to}");
+    }
+}
+
+/// A small room and a large part: the strict recoder judges no more of it than fills the room.
+#[test]
+fn strict_recoding_is_not_quadratic() {
+    let text = "aé€😀".repeat(1_000_000);
+    let (mut recoder, mut rest, mut written) = (Recoder::strict(Form::Utf8, Form::Utf8), text.as_bytes(), 0);
+    let begun = std::time::Instant::now();
+    while !rest.is_empty() {
+        let did = recoder.feed(rest, &mut [0; 64]);
+        rest = &rest[did.read..];
+        written += did.written;
+    }
+    assert_eq!(written, text.len());
+    assert!(begun.elapsed().as_secs() < 20, "{:?}", begun.elapsed());
+}
+
+#[test]
+fn vectors_of_recodings() {
+    for row in rows("recode.txt") {
+        let forms: Vec<Form> = row[0].split(' ').map(|it| it.parse().expect("a form")).collect();
+        assert_eq!(recode(forms[0], forms[1], &of_hex(&row[1])), of_hex(&row[2]), "{row:?}");
+    }
+}
+
+#[test]
+fn shards_are_recoded_by_themselves() {
+    let mut chance = Chance(7);
+    for _ in 0..2_000 {
+        for (from, to) in pairs() {
+            let bytes = text_of(from, &mut chance, 16);
+            let at = chance.below(bytes.len() + 3);
+            let end = shard_end(from, &bytes, at);
+            assert!(end <= at.min(bytes.len()) && end + 3 >= at.min(bytes.len()));
+            let (front, rest) = bytes.split_at(end);
+            let joined = [recode(from, to, front), recode(from, to, rest)].concat();
+            assert_eq!(joined, recode(from, to, &bytes), "{from} {to} {bytes:x?} at {at}");
+        }
+    }
+}

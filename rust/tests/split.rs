@@ -1,0 +1,185 @@
+//! Pieces, beside std's decoders and beside the vectors of the repository.
+
+mod common;
+
+use common::{of_hex, rows, Chance};
+use noddychest::{units, Piece};
+
+/// What std says of UTF-8: each character, and each byte that is none of one.
+fn by_std(bytes: &[u8]) -> Vec<(usize, usize, Option<char>)> {
+    let (mut out, mut offset) = (Vec::new(), 0);
+    for chunk in bytes.utf8_chunks() {
+        for c in chunk.valid().chars() {
+            out.push((offset, c.len_utf8(), Some(c)));
+            offset += c.len_utf8();
+        }
+        for _ in chunk.invalid() {
+            out.push((offset, 1, None));
+            offset += 1;
+        }
+    }
+    out
+}
+
+fn by_std_units(units: &[u16]) -> Vec<(usize, usize, Option<char>)> {
+    let (mut out, mut offset) = (Vec::new(), 0);
+    for answer in char::decode_utf16(units.iter().copied()) {
+        let len = answer.as_ref().map_or(1, |c| c.len_utf16());
+        out.push((offset, len, answer.ok()));
+        offset += len;
+    }
+    out
+}
+
+fn seen(piece: Piece) -> (usize, usize, Option<char>) {
+    if let Err(fault) = piece.result {
+        assert_eq!(fault.range(), piece.range());
+    }
+    (piece.offset, piece.len, piece.char())
+}
+
+fn hold_bytes(bytes: &[u8], chance: &mut Chance) {
+    let want = by_std(bytes);
+    assert!(noddychest::pieces(bytes).map(seen).eq(want.iter().copied()), "{bytes:x?}");
+    assert!(noddychest::pieces(bytes).rev().map(seen).eq(want.iter().rev().copied()), "{bytes:x?} from the back");
+    let valid = std::str::from_utf8(bytes).map_or_else(|error| error.valid_up_to(), |text| text.len());
+    assert_eq!(noddychest::valid_up_to(bytes), valid, "{bytes:x?}");
+    assert_eq!(noddychest::char_count(bytes), want.len(), "{bytes:x?}");
+    assert_eq!(noddychest::first(bytes).map(seen), want.first().copied());
+    assert_eq!(noddychest::last(bytes).map(seen), want.last().copied());
+    for at in 0..bytes.len() + 2 {
+        let before = want.iter().map(|it| it.0).chain([bytes.len()]).filter(|it| *it <= at).max();
+        assert_eq!(Some(noddychest::boundary_before(bytes, at)), before, "{bytes:x?} before {at}");
+    }
+    let (mut pieces, mut front, mut back) = (noddychest::pieces(bytes), 0, want.len());
+    while front < back {
+        let (least, most) = pieces.size_hint();
+        assert!(least <= back - front && Some(back - front) <= most, "{bytes:x?}");
+        assert_eq!(pieces.as_slice(), &bytes[want[front].0..want[back - 1].0 + want[back - 1].1]);
+        assert_eq!(pieces.offset(), want[front].0);
+        if chance.below(2) == 0 {
+            assert_eq!(pieces.next().map(seen), Some(want[front]), "{bytes:x?}");
+            front += 1;
+        } else {
+            back -= 1;
+            assert_eq!(pieces.next_back().map(seen), Some(want[back]), "{bytes:x?}");
+        }
+    }
+    assert_eq!((pieces.next(), pieces.next_back(), pieces.next()), (None, None, None));
+}
+
+#[test]
+fn bytes_are_split_as_std_does() {
+    let mut chance = Chance(1);
+    for _ in 0..100_000 {
+        let bytes = chance.bytes(24);
+        hold_bytes(&bytes, &mut chance);
+    }
+}
+
+#[test]
+fn all_short_inputs_are_split_as_std_does() {
+    let mut chance = Chance(2);
+    hold_bytes(&[], &mut chance);
+    for a in 0..=255 {
+        hold_bytes(&[a], &mut chance);
+        for b in 0..=255 {
+            hold_bytes(&[a, b], &mut chance);
+        }
+    }
+    // The bytes that bound the ranges of section 4 of RFC 3629, and one to each side.
+    let bounds: [u8; 22] = [
+        0x00, 0x7F, 0x80, 0x8F, 0x90, 0x9F, 0xA0, 0xBF, 0xC0, 0xC1, 0xC2, 0xDF, 0xE0, 0xE1, 0xEC, 0xED, 0xEE, 0xEF, 0xF0, 0xF3,
+        0xF4, 0xF5,
+    ];
+    for a in bounds {
+        for b in bounds {
+            for c in bounds {
+                for d in bounds {
+                    hold_bytes(&[a, b, c, d], &mut chance);
+                }
+            }
+        }
+    }
+}
+
+#[test]
+fn all_characters_are_one_piece() {
+    for c in '\0'..=char::MAX {
+        let (mut bytes, mut units) = ([0; 4], [0; 2]);
+        let bytes = c.encode_utf8(&mut bytes).as_bytes();
+        assert_eq!(noddychest::first(bytes).map(seen), Some((0, bytes.len(), Some(c))));
+        assert_eq!(noddychest::last(bytes).map(seen), Some((0, bytes.len(), Some(c))));
+        let units = c.encode_utf16(&mut units);
+        assert_eq!(units::first(units).map(seen), Some((0, units.len(), Some(c))));
+        assert_eq!(units::last(units).map(seen), Some((0, units.len(), Some(c))));
+    }
+}
+
+#[test]
+fn units_are_split_as_std_does() {
+    let mut chance = Chance(3);
+    for _ in 0..100_000 {
+        let units = chance.units(12);
+        let want = by_std_units(&units);
+        assert!(units::pieces(&units).map(seen).eq(want.iter().copied()), "{units:x?}");
+        assert!(units::pieces(&units).rev().map(seen).eq(want.iter().rev().copied()), "{units:x?} from the back");
+        let fault = want.iter().find(|it| it.2.is_none());
+        assert_eq!(units::valid_up_to(&units), fault.map_or(units.len(), |it| it.0), "{units:x?}");
+        assert_eq!(units::char_count(&units), want.len(), "{units:x?}");
+        for at in 0..units.len() + 2 {
+            let before = want.iter().map(|it| it.0).chain([units.len()]).filter(|it| *it <= at).max();
+            assert_eq!(Some(units::boundary_before(&units, at)), before, "{units:x?} before {at}");
+            let after = want.iter().map(|it| it.0).chain([units.len()]).find(|it| *it >= at);
+            assert_eq!(units::boundary_after(&units, at), after.unwrap_or(units.len()), "{units:x?} after {at}");
+        }
+        let mut pieces = units::pieces(&units);
+        let mut offset = 0;
+        while let Some(piece) = pieces.next() {
+            offset += piece.len;
+            assert_eq!((pieces.as_slice(), pieces.offset()), (&units[offset..], offset));
+            let (least, most) = pieces.size_hint();
+            let left = pieces.clone().count();
+            assert!(least <= left && Some(left) <= most);
+        }
+    }
+}
+
+/// A piece as the vectors tell it.
+fn told(piece: Option<Piece>) -> String {
+    match piece.map(|it| (it, it.result)) {
+        None => "none".to_string(),
+        Some((it, Ok(c))) => format!("{} {} {:06x}", it.offset, it.len, u32::from(c)),
+        Some((it, Err(fault))) => format!("{} {} {}", it.offset, it.len, fault.kind().name()),
+    }
+}
+
+fn walked(pieces: &mut dyn DoubleEndedIterator<Item = Piece>, word: &str) -> String {
+    let steps = word.chars().map(|end| told(if end == 'F' { pieces.next() } else { pieces.next_back() }));
+    steps.collect::<Vec<_>>().join(";")
+}
+
+fn run(pieces: impl Iterator<Item = Piece>) -> String {
+    pieces.map(|it| told(Some(it))).collect::<Vec<_>>().join(";")
+}
+
+#[test]
+fn vectors_of_bytes() {
+    for row in rows("bytes.txt") {
+        let bytes = of_hex(&row[0]);
+        assert_eq!(run(noddychest::pieces(&bytes)), row[1], "{}", row[0]);
+        assert_eq!(walked(&mut noddychest::pieces(&bytes), &row[3]), row[4], "{} {}", row[0], row[3]);
+        let streamed = noddychest::pieces(&bytes).map(|it| noddychest::streamed_at(&bytes, it.offset));
+        let streamed = streamed.map(|it| told(it).split(' ').next_back().unwrap_or_default().to_string());
+        assert_eq!(streamed.collect::<Vec<_>>().join(";"), row[2], "{}, byte by byte", row[0]);
+    }
+}
+
+#[test]
+fn vectors_of_units() {
+    for row in rows("units.txt") {
+        let units: Vec<u16> = of_hex(&row[0]).chunks(2).map(|it| u16::from_be_bytes([it[0], it[1]])).collect();
+        assert_eq!(run(units::pieces(&units)), row[1], "{}", row[0]);
+        assert_eq!(walked(&mut units::pieces(&units), &row[2]), row[3], "{} {}", row[0], row[2]);
+    }
+}

@@ -1,0 +1,57 @@
+//! What the types are, and what they show.
+
+use noddychest::{io, units, Fault, FaultKind, Form, Piece, Pieces, Progress, Recoder, Status};
+use std::collections::HashSet;
+use std::error::Error;
+use std::fmt::Debug;
+use std::hash::Hash;
+use std::iter::FusedIterator;
+
+fn is_shared<T: Send + Sync + Clone + Debug>() {}
+fn is_value<T: Send + Sync + Copy + Debug + Eq + Hash>() {}
+fn goes_both_ways<T: DoubleEndedIterator<Item = Piece> + FusedIterator>() {}
+fn is_error<T: Error + Send + Sync + 'static>() {}
+fn is_sent<T: Send + Sync + Debug>() {}
+
+#[test]
+fn types_have_their_traits() {
+    is_shared::<Pieces<'static>>();
+    is_shared::<units::Pieces<'static>>();
+    is_shared::<Recoder>();
+    is_value::<Piece>();
+    is_value::<Fault>();
+    is_value::<FaultKind>();
+    is_value::<Form>();
+    is_value::<Status>();
+    is_value::<Progress>();
+    goes_both_ways::<Pieces<'static>>();
+    goes_both_ways::<units::Pieces<'static>>();
+    is_error::<Fault>();
+    is_error::<noddychest::UnknownForm>();
+    is_sent::<io::RecodingReader<std::io::Stdin>>();
+    is_sent::<io::RecodingWriter<Vec<u8>>>();
+}
+
+#[test]
+fn kinds_are_named_as_the_programs_name_them() {
+    let names: HashSet<&str> = FaultKind::ALL.into_iter().map(FaultKind::name).collect();
+    assert_eq!(names.len(), 10);
+    for kind in FaultKind::ALL {
+        assert_eq!(kind.name(), format!("{kind:?}"));
+    }
+}
+
+#[test]
+fn clones_go_on_by_themselves() {
+    let mut pieces = noddychest::pieces(b"ab");
+    let other = pieces.clone();
+    pieces.next();
+    assert_eq!((pieces.count(), other.count()), (1, 2));
+    let mut recoder = Recoder::new(Form::Utf8, Form::Utf8);
+    assert_eq!(recoder.feed(b"\xC3", &mut [0; 4]).written, 0);
+    let mut other = recoder.clone();
+    let mut room = [0; 4];
+    assert_eq!(recoder.feed(b"\xA9", &mut room).written, 2);
+    assert_eq!(&room[..2], "é".as_bytes());
+    assert_eq!(other.finish(&mut room).written, 3);
+}

@@ -1,0 +1,144 @@
+"""The figures that documents tell of stored output: where each stands, and what the output says. scripts/documents uses it."""
+import math
+import os
+import re
+
+TOP = os.path.dirname(os.path.dirname(os.path.abspath(__file__)))
+
+
+def lines_of(path):
+    with open(f"{TOP}/{path}", encoding="utf-8") as file:
+        return file.read().splitlines()
+
+
+def rows(name, keys):
+    """The rows of bench/stored: the words that name one, and by its sides their numbers, and how many times each ours is."""
+    head, found = [], {}
+    for words in map(str.split, lines_of(f"bench/stored/{name}")):
+        cells = words[keys : keys + 2 * len(head) - 1]
+        if not head:
+            # (up to the first ratio, which may stand right after the last side)
+            sides = re.sub(r"/.*", "", " ".join(words[keys:])).split()
+            head = sides[: 1 + len({*sides[1:]} - {"ours"})]
+        elif head and len(cells) == 2 * len(head) - 1 and all(re.fullmatch(r"[\d.]+|-", it) for it in cells):
+            names = [*head, *(f"/{it}" for it in head[1:])]
+            found[tuple(words[:keys])] = {it: float(cell) for it, cell in zip(names, cells) if cell != "-"}
+    return found
+
+
+def ratios(name, keys, side, holds=lambda *_: True):
+    """How many times that side's number ours is, in the rows whose words hold."""
+    found = [it for key, it in rows(name, keys).items() if side in it and holds(*key)]
+    # (both are rounded: the printed ratio is the nearer one where ours is small)
+    return [it["ours"] / it[side] if it["ours"] >= 0.05 else it[f"/{side}"] for it in found]
+
+
+def between(numbers, digits=2):
+    least, most = f"{min(numbers):.{digits}f}", f"{max(numbers):.{digits}f}"
+    return least if least == most else f"{least} to {most}"
+
+
+def grown(head):
+    """A part of bench/stored/growth: the first two numbers of each line after its head."""
+    lines = lines_of("bench/stored/growth")
+    start = next(k for k, it in enumerate(lines) if re.match(head, it))
+    stop = next(k for k, it in enumerate(lines[start + 1 :], start + 1) if not it[0].isdigit())
+    return [tuple(map(float, it.split()[:2])) for it in lines[start + 1 : stop]]
+
+
+def blocks():
+    return next(it[1] for line in lines_of("crates/run_rows/stdout") if (it := re.match(r"blocks recoded in parts: (\d+) rows", line)))
+
+
+def bytes_per_second(most):
+    """The nanoseconds of a byte, in inputs of up to so many bytes, and in longer ones."""
+    points = grown("bytes +ours +rust")
+    return between([ns for size, ns in points if size <= most]), between([ns for size, ns in points if size > most])
+
+
+def most_memory():
+    """The most MiB of memory that recode was seen to take, rounded up."""
+    cells = [it.split() for it in lines_of("bench/stored/recode-programs")]
+    most = max([int(it[-1]) for it in cells if len(it) == 7 and it[-1].isdigit()] + [int(it) for _, it in grown("bytes +memory")])
+    return f"{math.ceil(most / 102.4) / 10:.1f}"
+
+
+def of_peers():
+    """How many inputs other libraries were asked for, where none differed."""
+    counts = {it[1] for line in lines_of("compare/stored/peers") if (it := re.search(r": (\d+) inputs, 0 differ", line))}
+    return f"{int(min(counts, key=int)):,}"
+
+
+def kinds():
+    """How many kinds of errors there are, in words."""
+    variants = [re.findall(r"^    ([A-Z]\w+),$", re.search(rf"pub enum {name} \{{\n(.*?)\n}}", "\n".join(lines_of(path)), re.S)[1], re.M)
+                for name, path in (("Utf8ErrorKind", "crates/utf_base/src/errors.rt"), ("Utf16PairError", "crates/utf_base/src/errors/units.rt"))]
+    return {9: "nine", 10: "ten", 11: "eleven"}[sum(map(len, variants))]
+
+
+def version():
+    """The version that the header says."""
+    found = re.findall(r"#define NODY_VERSION(?:_MAJOR|_MINOR)? (\d+)", "\n".join(lines_of("c/noddychest.h")))
+    return f"{found[0]}.{found[1] if len(found) > 1 else 0}"
+
+
+def logic():
+    """The kit's logic by which generated/ was made."""
+    return next(it.split()[-1] for it in lines_of("generated/MANIFEST") if it.startswith("kit "))
+
+
+def statuses():
+    """The exit statuses for wrong arguments, and for what failed."""
+    told = dict(re.findall(r"^status_of (\w+) = (\d)$", "\n".join(lines_of("crates/cuts/specs/Endings.antt")), re.M))
+    failed = {status for stop, status in told.items() if stop != "WrongArguments"}
+    return told["WrongArguments"], ",".join(sorted(failed))
+
+
+def damage():
+    """How many bytes before a change, and after it, a piece begins that stays, in words."""
+    reach = int(re.search(r"DamageIsLocal utf8 fault_kind (\d)", "\n".join(lines_of("crates/utf_base/src/laws.rt")))[1])
+    words = ("none", "one", "two", "three", "four", "five")
+    return words[reach], words[reach - 1]
+
+
+def changes():
+    """How many kinds of changes ARCHITECTURE tells the files of, in words."""
+    lines = lines_of("docs/ARCHITECTURE.md")
+    count = next(k for k, it in enumerate(lines[lines.index("| change | files |") + 2 :]) if not it.startswith("|"))
+    return {12: "twelve", 13: "thirteen", 14: "fourteen", 15: "fifteen", 16: "sixteen"}[count]
+
+
+def is_within(numbers, bound, words):
+    """The words, where no number is above the bound, else the most."""
+    return words if max(numbers) <= bound else f"{max(numbers):.3f}"
+
+
+# Of each document: a pattern that stands there once, and what its groups have to be.
+FIGURES = {
+    "README.md": [
+        (r"in ([\d,]+) random inputs each", lambda: (of_peers(),)),
+        (r"says why \| one of (\w+) kinds", lambda: (kinds(),)),
+        (r"\| (\d) \| wrong arguments \| wrong arguments \|\n\| (\d) \| reading, writing or memory failed", statuses),
+        (r"\| ([\d.]+), not released yet", lambda: (version(),)),
+        (r"Reading mixed text takes about ([\d.]+) nanoseconds a byte", lambda: (f"{rows('run', 2)[('forward', 'mix')]['ours']:.1f}",)),
+    ],
+    "docs/GUIDE.md": [(r"in about ([\d.]+) nanoseconds a byte", lambda: (f"{rows('valid', 2)[('utf8', 'japanese')]['ours']:.2f}",))],
+    "docs/THE-CUT.md": [(r"in ([\d,]+) random inputs each", lambda: (of_peers(),)), (r"at least (\w+) bytes before them, or at least (\w+) after", damage)],
+    "CONTRIBUTING.md": [(r"`logic (\w+)`", lambda: (logic(),)), (r"has the files of (\w+) changes", lambda: (changes(),))],
+    "docs/CONFORMANCE.md": [(r"recodes (\d+) blocks", lambda: (blocks(),))],
+    "docs/BENCHMARKS.md": [
+        (r"bytes takes at most (.+?) of encode_unicode's instructions, and (.+)\.", lambda: (
+            is_within(ratios("instructions", 2, "rust", lambda it, _: it == "forward"), 1 / 3, "a third"), is_within(ratios("instructions", 2, "rust"), 1, "no work takes more"))),
+        (r"A byte takes ([\d.]+ to [\d.]+) ns in inputs of up to 4 MiB, and ([\d.]+ to [\d.]+) in", lambda: bytes_per_second(1 << 23)),
+        (r"`recode` takes less than ([\d.]+) MiB", lambda: (most_memory(),)),
+    ],
+}
+
+
+def wrong_figures(page, text):
+    """What is wrong with the figures of a document."""
+    for pattern, told in FIGURES.get(page, []):
+        found, want = re.findall(pattern, text), told()
+        found = [it if isinstance(it, tuple) else (it,) for it in found]
+        if found != [want]:
+            yield f"{page}: '{pattern}' finds {found}, and the stored output says {want}"

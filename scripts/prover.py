@@ -1,0 +1,90 @@
+"""Checks of the prover over kept work, beside one another. scripts/wrong-bodies and scripts/keep use it."""
+import contextlib
+import importlib.machinery
+import importlib.util
+import itertools
+import os
+import shutil
+import subprocess
+import sys
+import threading
+
+TOP = os.path.dirname(os.path.dirname(os.path.abspath(__file__)))
+
+
+def kit(name):
+    """The command rt, as a module: it reads edits, and checks a copy of a crate over the work of earlier checks."""
+    path = os.path.realpath(shutil.which("rt") or sys.exit(f"{name}: rt, the kit's command, is not on the path"))
+    loader = importlib.machinery.SourceFileLoader("rt_of_the_kit", path)
+    made = importlib.util.module_from_spec(importlib.util.spec_from_loader("rt_of_the_kit", loader))
+    loader.exec_module(made)
+    return made
+
+
+def lines_of(rt, crate):
+    """The lines of its sources, definitions and proofs: what its proof takes goes by these."""
+    return sum(rt.rtlib.text_of(it).count("\n") for it in rt.rtlib.files_of(crate.folder))
+
+
+def kept_by(crate):
+    """The folder in which `rt check` and `rt lib` keep what they proved of the crate."""
+    return f"{crate.folder}/out/incremental"
+
+
+def keep(crate, kept):
+    """Leaves what a check made for `rt check` and `rt lib`, where they have kept nothing."""
+    to = kept_by(crate)
+    if not os.path.isdir(to):
+        copy_kept(kept, f"{to}.new")
+        os.rename(f"{to}.new", to)
+
+
+def copy_kept(kept, to):
+    """A copy of kept work whose files are shared: the prover writes a file anew and never into one that is there."""
+    try:
+        return shutil.copytree(kept, to, copy_function=os.link)
+    except (OSError, shutil.Error):
+        # (links do not reach another disk)
+        shutil.rmtree(to, ignore_errors=True)
+        return shutil.copytree(kept, to)
+
+
+def below(crates):
+    """The libraries below the crates, each after those that it uses."""
+    return sorted({low.name: low for crate in crates for low in crate.below()}.values(), key=lambda it: len(it.below()))
+
+
+def are_of_rt_ci(libraries):
+    """Whether they are all those that `rt ci` built, which fit one another alone and which `rt lib` would build anew."""
+    return all(os.path.isdir(it.rlib) and not os.path.exists(f"{os.path.dirname(it.rlib)}/stamp") for it in libraries)
+
+
+def build(crate, jobs):
+    """Builds the library over the work that was kept, where it is not there or its sources have changed. Answers whether that went well."""
+    how = {"cwd": crate.folder, "stdin": subprocess.DEVNULL, "stdout": subprocess.DEVNULL, "stderr": subprocess.DEVNULL}
+    return subprocess.run(["rt", "lib", "--jobs", str(jobs)], **how).returncode == 0
+
+
+class Processors:
+    """The processors, of which each check takes as many as it has jobs. Of those that wait, the one with most work goes first."""
+
+    def __init__(self, count):
+        self.free, self.changed, self.waiting = count, threading.Condition(), []
+        self.turns = itertools.count()
+
+    @contextlib.contextmanager
+    def taken(self, jobs, work):
+        """Waits for processors. The work is that of the check and of what has to wait for it, in lines."""
+        mine = (-work, next(self.turns))
+        with self.changed:
+            self.waiting.append(mine)
+            self.changed.wait_for(lambda: min(self.waiting) == mine and self.free >= jobs)
+            self.waiting.remove(mine)
+            self.free -= jobs
+            self.changed.notify_all()
+        try:
+            yield
+        finally:
+            with self.changed:
+                self.free += jobs
+                self.changed.notify_all()
