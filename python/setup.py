@@ -1,10 +1,12 @@
 """Builds the extension module: assembly of the proved code, and the C that hands it to Python. pyproject.toml has the rest."""
+import os
+import shutil
 import sys
 import sysconfig
 
 from setuptools import Extension, setup
 from setuptools.command.build_ext import build_ext
-from setuptools.errors import PlatformError
+from setuptools.errors import FileError, PlatformError
 
 try:
     from setuptools.command.bdist_wheel import bdist_wheel
@@ -12,10 +14,23 @@ except ImportError:  # before setuptools 70.1
     from wheel.bdist_wheel import bdist_wheel
 
 ASSEMBLY = {"linux-x86_64": "library/noddychest-x86_64.s", "linux-aarch64": "library/noddychest-aarch64.s"}
+# What the folder library/ has. In the repository these stand beside this folder, and each build copies them; a source archive has them.
+LIBRARY = ["c/noddychest.h", "c/supported.c", "generated/noddychest-x86_64.s", "generated/noddychest-aarch64.s"]
 
 # One wheel serves CPython 3.11 and all that follow. Older ones, whose stable ABI has no buffers, and those without the lock, that
 # have no stable ABI, get one each.
 STABLE = sys.version_info >= (3, 11) and not sysconfig.get_config_var("Py_GIL_DISABLED")
+
+
+def fill_library():
+    here = os.path.dirname(os.path.abspath(__file__))
+    os.makedirs(f"{here}/library", exist_ok=True)
+    for it in LIBRARY:
+        beside, copy = f"{here}/../{it}", f"{here}/library/{os.path.basename(it)}"
+        if os.path.isfile(beside):
+            shutil.copyfile(beside, copy)
+        elif not os.path.isfile(copy):
+            raise FileError(f"{it} is missing: it is part of the source archive, and of the repository beside python/")
 
 
 class BuildLibrary(build_ext):
@@ -33,6 +48,7 @@ class StableWheel(bdist_wheel):
         super().finalize_options()
 
 
+fill_library()
 setup(
     ext_modules=[
         Extension(

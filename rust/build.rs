@@ -11,6 +11,14 @@ use std::process::{self, Command};
 const SOURCES: [&str; 2] = ["generated/noddychest-@.s", "c/supported.c"];
 const READ: [&str; 4] = ["generated/noddychest-x86_64.s", "generated/noddychest-aarch64.s", "c/supported.c", "c/noddychest.h"];
 
+/// Where a file of the library is: in the package, or in the repository, where `rust/` stands beside `generated/` and `c/`.
+fn place(it: &str) -> PathBuf {
+    let top = PathBuf::from(env::var_os("CARGO_MANIFEST_DIR").unwrap_or_default());
+    let places = [top.join(it), top.join("..").join(it)];
+    let found = places.into_iter().find(|place| place.is_file());
+    found.unwrap_or_else(|| stop(&format!("{it} is missing: it is part of the package, and of the repository beside rust/.")))
+}
+
 /// Ends the build with one sentence.
 fn stop(what: &str) -> ! {
     eprintln!("noddychest: {what}");
@@ -61,13 +69,9 @@ fn run(words: &[String], more: &[&str], needed: &str) -> String {
 
 fn main() {
     let processor = processor();
-    let top = PathBuf::from(env::var_os("CARGO_MANIFEST_DIR").unwrap_or_default());
     let out = PathBuf::from(env::var_os("OUT_DIR").unwrap_or_default());
     for it in READ {
-        println!("cargo:rerun-if-changed={}", top.join(it).display());
-        if !top.join(it).is_file() {
-            stop(&format!("{it} is missing: in the repository rust/generated and rust/c are links to the folders beside rust/."));
-        }
+        println!("cargo:rerun-if-changed={}", place(it).display());
     }
     let compiler = compiler(&processor);
     let needed = "the C compiler that assembles the proved code (install gcc or clang, or name one in CC)";
@@ -83,7 +87,7 @@ fn main() {
     let archiver = named("AR").unwrap_or_else(|| vec![run(&compiler, &["-print-prog-name=ar"], needed)]);
     for (number, source) in SOURCES.iter().enumerate() {
         let object = out.join(format!("{number}.o"));
-        let source = top.join(source.replace('@', &processor));
+        let source = place(&source.replace('@', &processor));
         run(&compiler, &["-O2", "-fPIC", "-c", "-o", text(&object), text(&source)], needed);
         run(
             &archiver,

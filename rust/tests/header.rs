@@ -2,9 +2,11 @@
 
 use std::collections::BTreeMap;
 
+/// A file of the package, which in the repository may stand beside it.
 fn read(path: &str) -> String {
-    let path = format!("{}/{path}", env!("CARGO_MANIFEST_DIR"));
-    std::fs::read_to_string(path).expect("a file of the package")
+    let places = ["", "../"].map(|at| format!("{}/{at}{path}", env!("CARGO_MANIFEST_DIR")));
+    let found = places.iter().find_map(|it| std::fs::read_to_string(it).ok());
+    found.expect("a file of the package")
 }
 
 /// The header without its comments, and with one space where any stand.

@@ -1,1 +1,0 @@
-../../generated/noddychest-aarch64.s

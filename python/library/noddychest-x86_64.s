@@ -1,1 +1,0 @@
-../../generated/noddychest-x86_64.s
