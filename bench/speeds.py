@@ -201,7 +201,7 @@ def summary():
     text, ours, theirs = max(of_c, key=lambda it: it[1] / it[2])
     lines.append(["split into pieces, from C", f"{text} (the worst)", "ICU", f"{ours:.2f} ns", f"{theirs:.2f} ns", f"**{ours / theirs:.2f}**"])
     return table(["task", "input", "compared with", "Noddychest", "theirs", "ratio"], lines) + (
-        "\n\nNanoseconds for each byte; in the row of one short part, for the part. Ours was called from Rattle, and in the last row from C.")
+        "\n\nNanoseconds for each byte; in the row of one short part, for the part. Ratios are of the times before they were rounded. Ours was called from Rattle, and in the last row from C.")
 
 
 def marked(page, name, text):

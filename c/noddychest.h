@@ -7,26 +7,26 @@
  * WORDS. A character is a Unicode scalar value, 0 to 10FFFF without D800 to DFFF. A unit is one uint16_t of UTF-16. Each
  * invalid byte (in UTF-16, each invalid unit) is a fault of its own, with a kind that says why. A piece is a character or a fault.
  *
- * INVALID INPUT IS REPLACED BYTE BY BYTE. Recoding writes one U+FFFD replacement character for each faulty byte. Browsers and
- * Python write one for several bytes in some cases: E2 82 41 is here U+FFFD U+FFFD A, and there U+FFFD A.
+ * INVALID INPUT IS REPLACED BYTE BY BYTE. Recoding writes one U+FFFD replacement character for each invalid byte (in UTF-16, for
+ * each invalid unit). Browsers and Python write one for several bytes in some cases: E2 82 41 is here U+FFFD U+FFFD A, and there
+ * U+FFFD A.
  *
  * WHICH KIND WINS. The kind of a byte is decided from it and the bytes that follow it, and is the first of these that
  * applies: UNEXPECTED_CONTINUATION_BYTE, NON_UTF8_BYTE, TOO_FEW_BYTES, INTERRUPTED_SEQUENCE, then what the value is. So E0 80 41 is
  * NODY_KIND_INTERRUPTED_SEQUENCE and not overlong, and ED A0 at the end is NODY_KIND_TOO_FEW_BYTES though no third byte could
- * make it a character. nody_utf8_streamed_at tells the kind that a reader of one byte at a time sees.
+ * make it a character. nody_utf8_streamed_at gives the kind that a reader of one byte at a time sees.
  *
  * POINTERS. Bytes and units cross as a pointer and then a length. At the length 0 the pointer may be NULL; else it has to be valid
  * for that length. What a call writes must not overlap what it reads. `written`, `read`, `left` and `recoder` must not be NULL.
- * Make structs by nody_recoder, nody_bytes and nody_units alone. A recoder that was made otherwise may be refused, or recode
- * what it happens to hold; it never writes out of bounds. A cursor that you fill yourself must hold a pointer that is not NULL
- * and valid for its length. No call fails in any other way than its comment says, and none sets errno; on x86-64 call
- * nody_supported first.
+ * Make a recoder by nody_recoder alone. One that was made otherwise may be refused, or recode what it happens to hold; it never
+ * writes out of bounds. Make a cursor by nody_bytes or nody_units, or fill it with a pointer that is not NULL and is valid for its
+ * length. No call fails in any other way than its comment says, and none sets errno; on x86-64 call nody_supported first.
  *
  * UNITS. uint16_t has the byte order of the machine. Calls on bytes take the order from the form. NODY_FORM_UTF16_NATIVE is the
  * order of the machine.
  *
- * COST. "Linear" is in the length of the input, one pass, with nothing allocated; c/README.md has the instructions for each byte.
- * "Constant" looks at a few bytes, whatever the length.
+ * COST. "Linear" is in the length of the input, one pass, with nothing allocated; c/README.md says how many machine
+ * instructions each byte costs. "Constant" looks at a few bytes, whatever the length.
  */
 #ifndef NODDYCHEST_H
 #define NODDYCHEST_H
@@ -58,13 +58,13 @@ NODY_ENUM(nody_kind_t) {
     NODY_KIND_TOO_FEW_BYTES = 1,                 /* fewer bytes are left than the first one asks for */
     NODY_KIND_NON_UTF8_BYTE = 2,                 /* C0, C1, or F5 to FF: never in UTF-8 */
     NODY_KIND_UNEXPECTED_CONTINUATION_BYTE = 3,  /* 80 to BF where a character should begin */
-    NODY_KIND_INTERRUPTED_SEQUENCE = 4,          /* a byte that should be a continuation byte is none */
+    NODY_KIND_INTERRUPTED_SEQUENCE = 4,          /* a byte that is asked for is not a continuation byte, 80 to BF */
     NODY_KIND_OVERLONG_ENCODING = 5,             /* the value fits in fewer bytes */
     NODY_KIND_UTF16_RESERVED_CODEPOINT = 6,      /* the value is a surrogate, D800 to DFFF */
     NODY_KIND_TOO_HIGH_CODEPOINT = 7,            /* the value is above 10FFFF */
-    NODY_KIND_UNEXPECTED_TRAILING_SURROGATE = 8, /* of units: DC00 to DFFF where a character should begin */
-    NODY_KIND_UNMATCHED_LEADING_SURROGATE = 9,   /* of units: D800 to DBFF, and no trailing surrogate follows */
-    NODY_KIND_INCOMPLETE = 10,                   /* of units: D800 to DBFF is the last one */
+    NODY_KIND_UNEXPECTED_TRAILING_SURROGATE = 8, /* UTF-16: DC00 to DFFF where a character should begin */
+    NODY_KIND_UNMATCHED_LEADING_SURROGATE = 9,   /* UTF-16: D800 to DBFF, and the next unit is not DC00 to DFFF */
+    NODY_KIND_INCOMPLETE = 10,                   /* UTF-16: D800 to DBFF is the last unit */
     NODY_KIND_NONE = 11                          /* no piece: nothing is left */
 };
 
@@ -82,11 +82,11 @@ NODY_ENUM(nody_form_t) {
 #define NODY_FORM_UTF16_NATIVE NODY_FORM_UTF16LE
 #endif
 
-/* How a call that writes into room ended. */
+/* The result of a call that is given room to write into. */
 NODY_ENUM(nody_status_t) {
-    NODY_STATUS_DONE = 0,   /* all was read, or put out */
+    NODY_STATUS_DONE = 0,   /* all was read, and nothing waits for room */
     NODY_STATUS_FULL = 1,   /* the next character does not fit in the room that is left */
-    NODY_STATUS_REFUSED = 2 /* a form above 2, or a struct that is no recoder. Nothing was read or written */
+    NODY_STATUS_REFUSED = 2 /* a form above 2, or a recoder that holds more than three bytes. Nothing was read or written */
 };
 
 /* A piece. */
@@ -96,8 +96,8 @@ typedef struct {
     nody_kind_t kind; /* NODY_KIND_OK, or what is wrong, or NODY_KIND_NONE */
 } nody_piece_t;
 
-/* A cursor: what is left of some bytes, or of some units, made by nody_bytes and nody_units. Of an empty input the
- * pointer is to nothing of yours, and not NULL. */
+/* A cursor: what is left of some bytes, or of some units, made by nody_bytes and nody_units. For an empty input the
+ * pointer is not NULL, and does not point into your memory. */
 typedef struct {
     const uint8_t *bytes;
     size_t len;
@@ -108,8 +108,8 @@ typedef struct {
     size_t len;
 } nody_units_t;
 
-/* A recoder. It holds at most three bytes between calls: the front of a character whose rest has not come, or bytes for whose
- * character there was no room. Read it by nody_recoder_held. */
+/* A recoder. It holds at most three bytes between calls: the front of a character whose rest has not come, or the bytes of a
+ * character that did not fit in the room. Read them by nody_recoder_held. */
 typedef struct {
     nody_form_t from;
     nody_form_t to;
@@ -131,8 +131,8 @@ typedef struct {
 /* The version of the library that is linked: major * 1000000 + minor * 1000 + patch. Constant. A program that was compiled with
  * this header needs the same major version, and a minor version that is no lower:
  *
- *     uint32_t minor = nody_version() / 1000 % 1000;
- *     if (nody_version() / 1000000 != NODY_VERSION_MAJOR || minor < NODY_VERSION_MINOR) return other_version();
+ *     uint32_t version = nody_version();
+ *     if (version / 1000000 != NODY_VERSION_MAJOR || version / 1000 < NODY_VERSION / 1000) return other_version();
  */
 uint32_t nody_version(void);
 
@@ -154,8 +154,8 @@ int nody_supported(void);
 nody_piece_t nody_utf8_first(const uint8_t *bytes, size_t len);
 nody_piece_t nody_utf16_first(const uint16_t *units, size_t len);
 
-/* The piece that ends the bytes, or the units; NODY_KIND_NONE where len is 0. A fault is judged by the last byte alone: its kind
- * may be another than the one from the front, but it is a fault from both sides. Constant.
+/* The piece that ends the bytes, or the units; NODY_KIND_NONE where len is 0. A fault is judged by the last byte alone.
+ * So where more bytes follow in your input, its kind from the front may be another; but it is a fault there too. Constant.
  *
  *     size_t shorter = len - nody_utf8_last(bytes, len).len;
  */
@@ -171,11 +171,12 @@ nody_piece_t nody_utf16_last(const uint16_t *units, size_t len);
 size_t nody_utf8_encode(uint32_t scalar, uint8_t *out, size_t room);
 size_t nody_utf16_encode(uint32_t scalar, uint16_t *out, size_t room);
 
-/* The piece that begins at `place`, with the kind that a reader of one byte at a time sees: where the input ends early,
- * but a byte that is there is not the continuation byte that is needed, NODY_KIND_INTERRUPTED_SEQUENCE and not
- * NODY_KIND_TOO_FEW_BYTES. Else it is nody_utf8_first of the bytes from there on. NODY_KIND_NONE where place is len or more. Constant.
+/* The piece that begins at `place`, with the kind that a reader of one byte at a time sees. Where the input ends early, and one of
+ * the bytes that are there is not a continuation byte (80 to BF), the kind is NODY_KIND_INTERRUPTED_SEQUENCE in place of
+ * NODY_KIND_TOO_FEW_BYTES. Else the piece is nody_utf8_first of the bytes from `place` on. NODY_KIND_NONE where place is len or
+ * more. Constant.
  *
- *     nody_utf8_streamed_at((const uint8_t *)"\xf0\x9f!", 3, 0).kind // NODY_KIND_INTERRUPTED_SEQUENCE
+ *     nody_kind_t kind = nody_utf8_streamed_at((const uint8_t *)"\xf0\x9f!", 3, 0).kind; // NODY_KIND_INTERRUPTED_SEQUENCE
  */
 nody_piece_t nody_utf8_streamed_at(const uint8_t *bytes, size_t len, size_t place);
 
@@ -197,12 +198,12 @@ size_t nody_utf16_bytes_valid_up_to(nody_form_t form, const uint8_t *bytes, size
 
 /* The number of pieces: characters, and faults, each counted as one. Linear, character by character.
  *
- *     nody_utf8_char_count((const uint8_t *)"\xe2\x82\xac!", 4) // 2
+ *     size_t count = nody_utf8_char_count((const uint8_t *)"\xe2\x82\xac!", 4); // 2
  */
 size_t nody_utf8_char_count(const uint8_t *bytes, size_t len);
 size_t nody_utf16_char_count(const uint16_t *units, size_t len);
 
-/* A cursor that leaves all of the bytes, or of the units. They have to stay valid and the same for as long as it is used. */
+/* A cursor with all of the bytes, or of the units, still to take. They have to stay valid and the same for as long as it is used. */
 static inline nody_bytes_t nody_bytes(const uint8_t *bytes, size_t len) {
     static const uint8_t nothing = 0;
     nody_bytes_t left;
@@ -221,7 +222,7 @@ static inline nody_units_t nody_units(const uint16_t *units, size_t len) {
 /* Takes the piece that begins, or ends, what is left. Only the bytes, or units, that are left decide it: so pieces taken
  * from the other end can change the kind of a fault, and never where pieces begin and end. Asked from both ends in any order, a
  * cursor gives each piece once. NODY_KIND_NONE where nothing is left: then the cursor stays. left->bytes is where the next piece
- * begins, and left->bytes + left->len where the last one ends; a piece from the back began there, once it is taken. Constant.
+ * begins, and left->bytes + left->len where the last one ends. A piece just taken from the back begins at that end. Constant.
  *
  *     nody_bytes_t left = nody_bytes(bytes, len);
  *     nody_piece_t piece;
@@ -236,7 +237,7 @@ nody_piece_t nody_utf16_next(nody_units_t *left);
 nody_piece_t nody_utf16_next_back(nody_units_t *left);
 
 /* Calls `next` until `out` is full or nothing is left. The result is how many pieces were written; the rest of `out` stays. Linear
- * in that.
+ * in the result.
  *
  *     while ((count = nody_utf8_pieces(&left, pieces, 256)) > 0) use(pieces, count);
  */
@@ -248,7 +249,7 @@ size_t nody_utf16_pieces(nody_units_t *left, nody_piece_t *out, size_t room);
 /* Before: the greatest boundary up to `at`. After: the least boundary from `at` on. A boundary is an offset that is not inside a
  * character, nor in UTF-16 inside a unit. Both sides of it have the pieces of the whole, and can be recoded by themselves and joined;
  * the kind of a fault beside it may be another. It is at most three bytes away from `at`; len where at is len or more. SIZE_MAX
- * where the form is above 2: test that first. Constant.
+ * where the form is above 2: test for that before you use the result. Constant.
  *
  *     size_t most = nody_boundary_before(NODY_FORM_UTF8, name, len, 255); // as much of a name as fits 255 bytes
  */
@@ -270,11 +271,12 @@ size_t nody_shard_end(nody_form_t from, const uint8_t *bytes, size_t len, size_t
 
 /* Recodes all of the input into the room. Each faulty byte, or unit, becomes one U+FFFD, and so does a single byte at the end
  * of UTF-16. The forms may be the same. `*written` says how many bytes were written, from the front of the room; the other
- * places stay. NODY_STATUS_DONE: the whole input was recoded. NODY_STATUS_FULL: the room is too small, and the rest is missing (to
- * go on from there use a recoder); no character is written in part. NODY_STATUS_REFUSED: a form is above 2; `*written` is 0. Linear.
+ * places stay. NODY_STATUS_DONE: the whole input was recoded. NODY_STATUS_FULL: the room is too small, and the rest is
+ * missing; no character is written in part. How far the input was read is not told: to recode part by part, use a recoder from the
+ * start. NODY_STATUS_REFUSED: a form is above 2; `*written` is 0. Linear.
  *
  *     size_t written, room = nody_recoded_len(from, to, bytes, len); // in bytes
- *     uint8_t *out = room < SIZE_MAX ? malloc(room + 1) : NULL;
+ *     uint8_t *out = room < SIZE_MAX ? (uint8_t *)malloc(room + 1) : NULL;
  *     if (!out || nody_recode(from, to, bytes, len, out, room, &written) != NODY_STATUS_DONE) return failed();
  */
 nody_status_t nody_recode(nody_form_t from, nody_form_t to, const uint8_t *in, size_t len, uint8_t *out, size_t room,
@@ -290,16 +292,17 @@ size_t nody_recoded_len(nody_form_t from, nody_form_t to, const uint8_t *in, siz
 /* A bound: the most bytes that any input of `len` bytes is recoded as, at most three for each. For a part that a recoder is fed,
  * add to `len` the bytes that it holds. SIZE_MAX where a size_t cannot count them, or a form is above 2. Constant.
  *
- *     nody_recoded_len_max(NODY_FORM_UTF8, NODY_FORM_UTF16LE, 100) // 200
+ *     size_t most = nody_recoded_len_max(NODY_FORM_UTF8, NODY_FORM_UTF16LE, 100); // 200
  */
 size_t nody_recoded_len_max(nody_form_t from, nody_form_t to, size_t len);
 
-/* nody_recode between UTF-8 and an array of uint16_t. Lengths and `*written` count units where the array has units. (Do not cast a
- * buffer of bytes to uint16_t *: for bytes use nody_recode. `len` and `room` are below SIZE_MAX / 2.)
+/* nody_recode between UTF-8 and an array of uint16_t. A length, `room` or `*written` counts units for a uint16_t pointer, and bytes
+ * for a uint8_t pointer. A count of units is below SIZE_MAX / 2. (Do not cast a buffer of bytes to uint16_t *: for bytes use
+ * nody_recode.)
  *
- *     size_t count, room = nody_recoded_len(NODY_FORM_UTF8, NODY_FORM_UTF16_NATIVE, bytes, len) / 2; // bytes, so half as many units
- *     uint16_t *units = malloc(2 * room + 2);
- *     if (!units || nody_utf8_to_utf16(bytes, len, units, room, &count) != NODY_STATUS_DONE) return failed();
+ *     size_t count, size = nody_recoded_len(NODY_FORM_UTF8, NODY_FORM_UTF16_NATIVE, bytes, len); // in bytes
+ *     uint16_t *units = size < SIZE_MAX ? (uint16_t *)malloc(size + 1) : NULL;
+ *     if (!units || nody_utf8_to_utf16(bytes, len, units, size / 2, &count) != NODY_STATUS_DONE) return failed();
  */
 static inline nody_status_t nody_utf8_to_utf16(const uint8_t *in, size_t len, uint16_t *out, size_t room, size_t *written) {
     nody_status_t status = nody_recode(NODY_FORM_UTF8, NODY_FORM_UTF16_NATIVE, in, len, (uint8_t *)out, 2 * room, written);
@@ -318,33 +321,37 @@ nody_recoder_t nody_recoder(nody_form_t from, nody_form_t to);
 
 /* Feeds a part of the input, as far as there is room: `*read` bytes of it were fed, and `*written` bytes
  * at the front of the room came of it. What comes out is the same however the input is cut into parts. Linear.
- * NODY_STATUS_DONE: the whole part was read. NODY_STATUS_FULL: call again with the rest of the part and new room, also the same
- * buffer once it is emptied. Up to three of the bytes counted in `*read` may be held in the recoder: do not feed them again.
- * NODY_STATUS_REFUSED: a form above 2, or more than three bytes held; both counts are 0. Give room for four bytes or more: then
- * each call with a part that is not empty reads or writes something. A loop that calls again with the same room of 3 bytes or
- * less may never end.
+ * NODY_STATUS_DONE: the whole part was read, and nothing waits for room. NODY_STATUS_FULL: call again with the rest of the part,
+ * even if nothing is left of it, and with new room; the same buffer will do once you have emptied it. Up to three of the bytes
+ * counted in `*read` may be held in the recoder: do not feed them again. NODY_STATUS_REFUSED: both counts are 0. Give room for four
+ * bytes or more: then each call that answers NODY_STATUS_FULL has written something. A loop that calls again with the same room of
+ * 3 bytes or less may never end.
  *
  *     do {
  *         status = nody_recoder_feed(&recoder, in + place, len - place, out, sizeof out, &read, &written);
  *         fwrite(out, 1, written, stdout);
  *         place += read;
  *     } while (status == NODY_STATUS_FULL);
+ *     if (status != NODY_STATUS_DONE) return failed();
  */
 nody_status_t nody_recoder_feed(nody_recoder_t *recoder, const uint8_t *in, size_t in_len, uint8_t *out, size_t room, size_t *read,
                                 size_t *written);
 
-/* Puts out what is held, when no more input follows: at most nine bytes. NODY_STATUS_FULL: call this, and not feed, again with more
- * room. After NODY_STATUS_DONE the recoder holds nothing, and is as a new one: it may be fed another input. Constant.
+/* Puts out what is held, when no more input follows: at most nine bytes. NODY_STATUS_FULL: call this again, and not
+ * nody_recoder_feed, with new room; what was written is not held any more. NODY_STATUS_REFUSED: `*written` is 0. Give room for four
+ * bytes or more, as for nody_recoder_feed. After NODY_STATUS_DONE the recoder holds nothing, and is as a new one: it may be fed
+ * another input. Constant.
  *
  *     do {
  *         status = nody_recoder_finish(&recoder, out, sizeof out, &written);
  *         fwrite(out, 1, written, stdout);
  *     } while (status == NODY_STATUS_FULL);
+ *     if (status != NODY_STATUS_DONE) return failed();
  */
 nody_status_t nody_recoder_finish(nody_recoder_t *recoder, uint8_t *out, size_t room, size_t *written);
 
 /* How many bytes the recoder holds, 0 to 3: those of the input that were read and not yet recoded. They are written to `out` if
- * `room` is at least that many. SIZE_MAX where the struct is no recoder. Constant.
+ * `room` is at least that many. SIZE_MAX where a form is above 2, or the struct holds more than three bytes. Constant.
  *
  *     uint8_t held[3];
  *     size_t count = nody_recoder_held(&recoder, held, sizeof held);
@@ -353,9 +360,9 @@ size_t nody_recoder_held(const nody_recoder_t *recoder, uint8_t *out, size_t roo
 
 /* ---- Kinds in words --------------------------------------------------------------------------------------------------------- */
 
-/* Writes the address of the name of a kind, or of a sentence about it, to `*name` or `*sentence`. That must point to a name or
- * a sentence already: for a number that is no kind it stays as it is. Names and sentences live as long as the program. From C
- * and C++ call the two functions below. Constant. */
+/* Writes the address of the name of a kind, or of a sentence about it, to `*name` or `*sentence`. Before the call
+ * `*name` or `*sentence` must be a valid pointer: for a number that is no kind it stays as it was. Names and sentences live as
+ * long as the program. From C and C++ call the two functions below. Constant. */
 void nody_put_kind_name(nody_kind_t kind, const nody_name_t **name);
 void nody_put_kind_sentence(nody_kind_t kind, const nody_sentence_t **sentence);
 
