@@ -16,8 +16,9 @@
  * NODY_KIND_INTERRUPTED_SEQUENCE and not overlong, and ED A0 at the end is NODY_KIND_TOO_FEW_BYTES though no third byte could
  * make it a character. nody_utf8_streamed_at gives the kind that a reader of one byte at a time sees.
  *
- * POINTERS. Bytes and units cross as a pointer and then a length. At the length 0 the pointer may be NULL; else it has to be valid
- * for that length. What a call writes must not overlap what it reads. `written`, `read`, `left` and `recoder` must not be NULL.
+ * POINTERS. Bytes and units cross as a pointer and then a length, or a room. Where that is 0 the pointer may be NULL; else it has to
+ * be valid for that length. What a call writes must not overlap what it reads. `written`, `read`, `left` and `recoder` must not be
+ * NULL.
  * Make a recoder by nody_recoder alone. One that was made otherwise may be refused, or recode what it happens to hold; it never
  * writes out of bounds. Make a cursor by nody_bytes or nody_units, or fill it with a pointer that is not NULL and is valid for its
  * length. No call fails in any other way than its comment says, and none sets errno; on x86-64 call nody_supported first.
@@ -108,8 +109,8 @@ typedef struct {
     size_t len;
 } nody_units_t;
 
-/* A recoder. It holds at most three bytes between calls: the front of a character whose rest has not come, or the bytes of a
- * character that did not fit in the room. Read them by nody_recoder_held. */
+/* A recoder. It holds at most three bytes between calls: the front of a character whose rest has not come, or bytes whose output
+ * did not fit in the room. Read them by nody_recoder_held. */
 typedef struct {
     nody_form_t from;
     nody_form_t to;
@@ -154,8 +155,9 @@ int nody_supported(void);
 nody_piece_t nody_utf8_first(const uint8_t *bytes, size_t len);
 nody_piece_t nody_utf16_first(const uint16_t *units, size_t len);
 
-/* The piece that ends the bytes, or the units; NODY_KIND_NONE where len is 0. A fault is judged by the last byte alone.
- * So where more bytes follow in your input, its kind from the front may be another; but it is a fault there too. Constant.
+/* The piece that ends the bytes, or the units; NODY_KIND_NONE where len is 0. The kind of a fault is that of its byte with nothing
+ * after it. So where more bytes follow in your input, its kind from the front may be another; it is a fault there too if len is a
+ * boundary (see nody_boundary_before). Constant.
  *
  *     size_t shorter = len - nody_utf8_last(bytes, len).len;
  */
@@ -171,10 +173,10 @@ nody_piece_t nody_utf16_last(const uint16_t *units, size_t len);
 size_t nody_utf8_encode(uint32_t scalar, uint8_t *out, size_t room);
 size_t nody_utf16_encode(uint32_t scalar, uint16_t *out, size_t room);
 
-/* The piece that begins at `place`, with the kind that a reader of one byte at a time sees. Where the input ends early, and one of
- * the bytes that are there is not a continuation byte (80 to BF), the kind is NODY_KIND_INTERRUPTED_SEQUENCE in place of
- * NODY_KIND_TOO_FEW_BYTES. Else the piece is nody_utf8_first of the bytes from `place` on. NODY_KIND_NONE where place is len or
- * more. Constant.
+/* The piece that begins at `place`, with the kind that a reader of one byte at a time sees. Where fewer
+ * bytes are left than the first one asks for, and one of those after the first is not a continuation byte (80 to BF), the kind is
+ * NODY_KIND_INTERRUPTED_SEQUENCE in place of NODY_KIND_TOO_FEW_BYTES. Else the piece is nody_utf8_first of the bytes from `place`
+ * on. NODY_KIND_NONE where place is len or more. Constant.
  *
  *     nody_kind_t kind = nody_utf8_streamed_at((const uint8_t *)"\xf0\x9f!", 3, 0).kind; // NODY_KIND_INTERRUPTED_SEQUENCE
  */
@@ -221,8 +223,8 @@ static inline nody_units_t nody_units(const uint16_t *units, size_t len) {
 
 /* Takes the piece that begins, or ends, what is left. Only the bytes, or units, that are left decide it: so pieces taken
  * from the other end can change the kind of a fault, and never where pieces begin and end. Asked from both ends in any order, a
- * cursor gives each piece once. NODY_KIND_NONE where nothing is left: then the cursor stays. left->bytes is where the next piece
- * begins, and left->bytes + left->len where the last one ends. A piece just taken from the back begins at that end. Constant.
+ * cursor gives each piece once. NODY_KIND_NONE where nothing is left: then the cursor stays. left->bytes is where the rest begins,
+ * and left->bytes + left->len where it ends. A piece just taken by next_back begins at left->bytes + left->len. Constant.
  *
  *     nody_bytes_t left = nody_bytes(bytes, len);
  *     nody_piece_t piece;
@@ -247,8 +249,8 @@ size_t nody_utf16_pieces(nody_units_t *left, nody_piece_t *out, size_t room);
 /* ---- Where text may be cut -------------------------------------------------------------------------------------------------- */
 
 /* Before: the greatest boundary up to `at`. After: the least boundary from `at` on. A boundary is an offset that is not inside a
- * character, nor in UTF-16 inside a unit. Both sides of it have the pieces of the whole, and can be recoded by themselves and joined;
- * the kind of a fault beside it may be another. It is at most three bytes away from `at`; len where at is len or more. SIZE_MAX
+ * character, nor in UTF-16 inside a unit. A cut there divides no piece: both parts can be recoded by themselves and joined; only the
+ * kind of a fault beside the cut may be another. It is at most three bytes away from `at`; len where at is len or more. SIZE_MAX
  * where the form is above 2: test for that before you use the result. Constant.
  *
  *     size_t most = nody_boundary_before(NODY_FORM_UTF8, name, len, 255); // as much of a name as fits 255 bytes
@@ -297,8 +299,8 @@ size_t nody_recoded_len(nody_form_t from, nody_form_t to, const uint8_t *in, siz
 size_t nody_recoded_len_max(nody_form_t from, nody_form_t to, size_t len);
 
 /* nody_recode between UTF-8 and an array of uint16_t. A length, `room` or `*written` counts units for a uint16_t pointer, and bytes
- * for a uint8_t pointer. A count of units is below SIZE_MAX / 2. (Do not cast a buffer of bytes to uint16_t *: for bytes use
- * nody_recode.)
+ * for a uint8_t pointer. A count of units that you pass must be below SIZE_MAX / 2, which is not checked. (Do not cast a buffer of
+ * bytes to uint16_t *: for bytes use nody_recode.)
  *
  *     size_t count, size = nody_recoded_len(NODY_FORM_UTF8, NODY_FORM_UTF16_NATIVE, bytes, len); // in bytes
  *     uint16_t *units = size < SIZE_MAX ? (uint16_t *)malloc(size + 1) : NULL;
