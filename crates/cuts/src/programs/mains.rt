@@ -153,7 +153,7 @@ pub fn words<R: Env + AllocGlobal>(rt: &R) -> io::Result<Vec<String>> {
 /// Where a word is not UTF-8, `words` is an error of the kind `InvalidData`, and the answer is one
 /// empty text in place of all arguments. Any other error says that memory was refused.
 ///
-/// Cost: O(n) in the number of words.
+/// Cost: O(n) in the number of words, allocates one place where a word is not UTF-8.
 pub fn arguments_of(alloc: Global, words: io::Result<Vec<String>>) -> Result<Vec<String>, Stop>
     ensures after_the_name { IfOk words (λ all. IsOkAnd result (λ args. args.items ≡ drop 1 all.items)) }
     ensures no_text { IfErr words (λ error. error_kind error ≡ ErrorKind.InvalidData →
