@@ -8,7 +8,8 @@ ghost use Rattle.cuts.specs.PieceBoundaries.{IsBetween, IsCodeOver, IsEndFrom, I
 
 use encode_unicode::{Utf8Char, laws};
 
-/// The last boundary that is not after this place: `floor(b"a\xe2\x82\xac", 3)` is 1.
+/// The last boundary at or before this offset: `floor(b"a\xe2\x82\xac", 3)` is 1. A boundary is an
+/// offset between two pieces, or either end of the bytes.
 ///
 /// Condition: the place is at most the length.
 pub fn floor(bytes: &[u8], place: usize) -> usize
@@ -22,7 +23,8 @@ pub fn floor(bytes: &[u8], place: usize) -> usize
     }
 }
 
-/// The first boundary that is not before this place: `ceil(b"a\xe2\x82\xac", 3)` is 4.
+/// The first boundary at or after this offset: `ceil(b"a\xe2\x82\xac", 3)` is 4. A boundary is an
+/// offset between two pieces, or either end of the bytes.
 ///
 /// Condition: the place is at most the length.
 pub fn ceil(bytes: &[u8], place: usize) -> usize
@@ -35,7 +37,8 @@ pub fn ceil(bytes: &[u8], place: usize) -> usize
     }
 }
 
-/// Where the character or invalid byte begins that has the byte before this place.
+/// The offset of the beginning of that character or invalid byte to which the byte before this
+/// offset belongs.
 ///
 /// Condition: the place is above 0 and at most the length.
 pub fn previous(bytes: &[u8], place: usize) -> usize
@@ -46,7 +49,8 @@ pub fn previous(bytes: &[u8], place: usize) -> usize
     floor(bytes, place - 1)
 }
 
-/// Where the character or invalid byte ends that has the byte at this place.
+/// The offset of the end of that character or invalid byte to which the byte at this offset
+/// belongs.
 ///
 /// Condition: the place is below the length.
 pub fn following(bytes: &[u8], place: usize) -> usize
@@ -56,7 +60,8 @@ pub fn following(bytes: &[u8], place: usize) -> usize
     ceil(bytes, place + 1)
 }
 
-/// As many of the first bytes as end at a boundary, and no more than asked for: all of them where there are no more.
+/// The longest front of the bytes that ends at a boundary and has at most `most` bytes. That is all of them,
+/// where they are no more than `most`.
 pub fn truncated(bytes: &[u8], most: usize) -> &[u8]
     ensures front { result.now ≡ take (length result.now) bytes.now }
     ensures last { IsLastBetween bytes.now (min most (length bytes.now)) (length result.now) }

@@ -69,8 +69,8 @@ impl<'a> Utf8CharDecoder<'a> {
 
     /// `next_back`, which counts in `steps` the bytes that it looks at.
     ///
-    /// It looks at the last byte, and as long as that is a continuation byte at the one before it:
-    /// at one to four bytes, and at none where none remains.
+    /// It looks at the last byte, and while it sees continuation bytes, at the one before, up to
+    /// four bytes in all. Where no byte remains it looks at none.
     #[inline(always)]
     pub fn next_back_counted(
         &mut self,

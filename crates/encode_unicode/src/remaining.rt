@@ -54,8 +54,8 @@ impl<I: Iterator<Item = u8>> Iterator for RemainingBytes<I> {
         first_byte(&mut self.held, &mut self.source)
     }
 
-    /// The source's bounds with the held bytes added, as far as a `usize` goes. Once the source has ended
-    /// its lower bound counts as 0.
+    /// The source's bounds with the held bytes added, as far as a `usize` goes. Once the source has ended, its
+    /// lower bound counts as 0.
     #[inline]
     fn size_hint(&self) -> (usize, Option<usize>)
         ensures lower { IsWithinCount result.0 (unread_count I.remaining self.now) }
@@ -77,8 +77,8 @@ impl<I: Iterator<Item = u8>> RemainingBytes<I> {
         RemainingBytes { source, held }
     }
 
-    /// The same bytes once more, where a clone of the source gives the same items. It answers as the
-    /// source's `clone` does.
+    /// The same bytes once more, where a clone of the source gives the same items. It fails exactly where the
+    /// source's `clone` fails, with that error.
     ///
     /// Cost: that of the source's `clone`.
     pub fn clone(&self) -> Result<RemainingBytes<I>, AllocError>

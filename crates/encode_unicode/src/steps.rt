@@ -4,8 +4,8 @@ ghost use Rattle.std.specs.Prelude.{◌≡◌, ◌+◌};
 use crate::tally::Tally;
 use std::marker::Model;
 
-/// How many steps a call took, or how many calls failed: a number for contracts alone. At run time
-/// it is nothing.
+/// How many steps a call took, or, in a reader or writer that is counted, how many calls failed: a
+/// number for contracts alone. At run time it is nothing.
 ///
 /// A call that takes steps, as `Utf8CharDecoder::next_back_counted` does, ticks once for each, and
 /// its contract says how many they are at most. Where you state nothing about steps, pass `&mut

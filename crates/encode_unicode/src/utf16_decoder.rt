@@ -21,9 +21,9 @@ use utf_chars::utf16_char::Utf16Char;
 ///
 /// An item is (offset, result, length): the offset in units from the front of the slice that the
 /// decoder was made from, the character or the error, and how many units it has. An error always
-/// has length 1: the next unit is judged anew. Which kind it has is decided by the units that
-/// remain: the surrogate ends no pair, or the unit after it ends none, or nothing follows (RFC
-/// 2781, section 2.2).
+/// has length 1: the next unit is judged anew. The units that remain decide which kind it has:
+/// `UnexpectedTrailingSurrogate`; `UnmatchedLeadingSurrogate` where the unit after it is not a
+/// trailing surrogate; `Incomplete` where nothing follows (RFC 2781, section 2.2).
 #[derive(Drop)]
 pub struct Utf16CharDecoder<'a> {
     slice: &'a [u16],

@@ -96,8 +96,8 @@ impl<I: Iterator<Item = u16>> Iterator for Utf16CharMerger<I> {
         Some(Ok(Utf16Char::from_array_unchecked([first as u16, second])))
     }
 
-    /// Half of the source's lower bound, rounded down, and its upper bound with the held unit added. Once
-    /// the source has ended its lower bound counts as 0.
+    /// Half of the source's lower bound, rounded down, and its upper bound with the held unit added. Once the
+    /// source has ended, its lower bound counts as 0.
     #[inline]
     fn size_hint(&self) -> (usize, Option<usize>)
         ensures lower { IsWithinCount result.0 (unread_count I.remaining self.now) }
@@ -133,8 +133,8 @@ impl<I: Iterator<Item = u16>> Utf16CharMerger<I> {
         }
     }
 
-    /// A second merger with the same units to come, where a clone of the source gives the same items. It
-    /// answers as the source's `clone` does.
+    /// A second merger with the same units to come, where a clone of the source gives the same items. It fails
+    /// exactly where the source's `clone` fails, with that error.
     ///
     /// Cost: that of the source's `clone`.
     pub fn clone(&self) -> Result<Utf16CharMerger<I>, AllocError>
@@ -275,7 +275,7 @@ impl<I: Iterator<Item = u16>> Iterator for RemainingUnits<I> {
         }
     }
 
-    /// The source's bounds with the held unit added, as far as a `usize` goes. Once the source has ended its
+    /// The source's bounds with the held unit added, as far as a `usize` goes. Once the source has ended, its
     /// lower bound counts as 0.
     #[inline]
     fn size_hint(&self) -> (usize, Option<usize>)
@@ -289,8 +289,8 @@ impl<I: Iterator<Item = u16>> Iterator for RemainingUnits<I> {
 }
 
 impl<I: Iterator<Item = u16>> RemainingUnits<I> {
-    /// The same units once more, where a clone of the source gives the same items. It answers as the
-    /// source's `clone` does.
+    /// The same units once more, where a clone of the source gives the same items. It fails exactly where the
+    /// source's `clone` fails, with that error.
     ///
     /// Cost: that of the source's `clone`.
     pub fn clone(&self) -> Result<RemainingUnits<I>, AllocError>

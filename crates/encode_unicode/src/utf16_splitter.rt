@@ -89,7 +89,7 @@ impl<I: Iterator<Item = Utf16Char>> Utf16CharSplitter<I> {
     }
 
     /// A second splitter with the same units to come, where a clone of the source gives the same items. It
-    /// answers as the source's `clone` does.
+    /// fails exactly where the source's `clone` fails, with that error.
     ///
     /// Cost: that of the source's `clone`.
     pub fn clone(&self) -> Result<Utf16CharSplitter<I>, AllocError>

@@ -100,8 +100,8 @@ impl<I: Iterator<Item = u8>> Iterator for Utf8CharMerger<I> {
         Some(Ok(Utf8Char::from_array_unchecked(code.to_array())))
     }
 
-    /// A quarter of the source's lower bound, rounded down, and its upper bound with the held bytes added.
-    /// Once the source has ended its lower bound counts as 0.
+    /// A quarter of the source's lower bound, rounded down, and its upper bound with the held bytes added. Once
+    /// the source has ended, its lower bound counts as 0.
     #[inline]
     fn size_hint(&self) -> (usize, Option<usize>)
         ensures lower { IsWithinCount result.0 (unread_count I.remaining self.now) }
@@ -135,8 +135,8 @@ impl<I: Iterator<Item = u8>> Utf8CharMerger<I> {
         RemainingBytes::new(self.source, self.held)
     }
 
-    /// A second merger with the same bytes to come, where a clone of the source gives the same items. It
-    /// answers as the source's `clone` does.
+    /// A second merger with the same bytes to come, where a clone of the source gives the same items. It fails
+    /// exactly where the source's `clone` fails, with that error.
     ///
     /// Cost: that of the source's `clone`.
     pub fn clone(&self) -> Result<Utf8CharMerger<I>, AllocError>

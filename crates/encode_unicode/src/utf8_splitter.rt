@@ -83,7 +83,7 @@ impl<I: Iterator<Item = Utf8Char>> Utf8CharSplitter<I> {
     /// Writes the next bytes to the front of the buffer, as many as fit, and gives how many they
     /// are. It never fails. The other places of the buffer stay.
     ///
-    /// Condition: the `next` of the source may be called.
+    /// Condition: if the source's `next` has a condition, it holds.
     ///
     /// Cost: O(n) in the bytes that are written.
     pub fn read(&mut self, buf: &mut [u8]) -> io::Result<usize>
@@ -118,7 +118,7 @@ impl<I: Iterator<Item = Utf8Char>> Utf8CharSplitter<I> {
     }
 
     /// A second splitter with the same bytes to come, where a clone of the source gives the same items. It
-    /// answers as the source's `clone` does.
+    /// fails exactly where the source's `clone` fails, with that error.
     ///
     /// Cost: that of the source's `clone`.
     pub fn clone(&self) -> Result<Utf8CharSplitter<I>, AllocError>

@@ -8,7 +8,8 @@ use crate::form::Form;
 /// unit of UTF-16, into UTF-16 two. An odd byte at the end counts as a unit. `None` where a `usize`
 /// cannot count them.
 ///
-/// For a part that is fed to a recoder, add the bytes that it holds.
+/// For a part that is fed to a recoder, `len` is the length of the part plus the number of bytes
+/// that the recoder holds.
 pub fn room_for(from: Form, to: Form, len: usize) -> Option<usize>
     ensures most { IfSome result (λ n. n ≡ most_bytes from to len) }
     ensures enough { IfSome result (λ n. IsRoomFor from to len n) }

@@ -6,8 +6,8 @@ use State::*;
 
 pub mod walks;
 
-/// What is known of a code of which some bytes were read: a state is running while it asks for more, and else
-/// an end.
+/// What is known of a character's bytes after some of them were read. A state that asks for more bytes is
+/// running; every other is an end.
 #[derive(Clone, Copy, Debug, PartialEq, Eq)]
 pub enum State {
     /// No byte was read.
@@ -92,7 +92,7 @@ static STEPS: [[State; 16]; 13] = [
     [Interrupted, TooHigh, TooHigh, TooHigh, Interrupted, Interrupted, Interrupted, Interrupted, Interrupted, Interrupted, Interrupted, Interrupted, Interrupted, Interrupted, Interrupted, Interrupted],
 ];
 
-/// The class of a byte: bytes of one class lead from each state to the same one.
+/// The class of a byte. From any given state, all bytes of one class lead to the same next state.
 #[inline(always)]
 pub fn class_of(b: u8) -> u8
     ensures class { result ≡ class b }

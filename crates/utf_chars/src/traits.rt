@@ -21,7 +21,8 @@ use utf_base::errors::{
 /// Methods of `char`: to UTF-8 and UTF-16, and back, with the reason where bytes or units are
 /// invalid.
 ///
-/// The calls ending in `_unchecked` make no check; their caller shows the condition.
+/// The calls ending in `_unchecked` make no check. If one has a condition, its caller has to meet
+/// it.
 pub trait CharExt: Sized {
     // The scalar that the character is.
     ghost scalar: { Self → ℕ };
@@ -126,7 +127,8 @@ pub trait CharExt: Sized {
     /// The character of two units, without a check.
     ///
     /// A first unit that is no surrogate is the character, and the second is ignored. Else the two
-    /// are taken for a surrogate pair, whatever they are: 0x10000, and the lower ten bits of each.
+    /// are taken for a surrogate pair, whatever they are: 0x10000 plus the number whose twenty bits
+    /// are the lower ten of the first unit and then those of the second.
     fn from_utf16_array_unchecked(utf16: [u16; 2]) -> Self
         ensures value { scalar result ≡ (if is_surrogate (slice_index utf16 0) then pair_value (slice_index utf16 0) (slice_index utf16 1) else slice_index utf16 0) }
         ensures known { IfOk (decoded_two utf16) (λ s. scalar result ≡ s) };

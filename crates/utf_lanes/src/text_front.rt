@@ -11,8 +11,8 @@ use utf_base::elements::is_continuation;
 /// The character that begins the bytes: (character, length in bytes), the length 1 to 4. `None`
 /// where no character begins them, and where they are fewer than four.
 ///
-/// It is the quicker way through bytes that are text for the most part. Why other bytes are invalid
-/// is for `CharExt::from_utf8_slice_start` to say.
+/// It is the quicker way through bytes that are text for the most part. Whether and why other bytes
+/// are invalid, `CharExt::from_utf8_slice_start` says.
 #[inline(always)]
 #[tactic(auto, using(utf_base::proofs::DecodedLemmas::decoded_code, utf_base::proofs::DecodedLemmas::front_len_utf8))]
 pub fn front_of_text(src: &[u8]) -> Option<(char, usize)>

@@ -20,8 +20,8 @@ use std::io::Write;
 /// Writes one line for each piece of the bytes, and gives the number of errors.
 ///
 /// A line is the offset and the length in decimal, and the code point in six hexadecimal digits or
-/// the name of the error. Lines go out as they are made. After an error of the writer it has the
-/// first of the same lines, the last of them perhaps in part.
+/// the name of the error. Lines go out as they are made. Where the writer gives an error, only the
+/// first lines were written, the last of them perhaps in part.
 ///
 /// Cost: O(n).
 pub fn write_listing<W: Write>(src: &[u8], out: &mut Counted<W>) -> io::Result<usize>

@@ -17,10 +17,11 @@ use std::env::Env;
 use std::io::{BufWriter, ErrorKind, Read, Write};
 use std::{env, io};
 
-/// The program `pieces`, over the words that it was started with and its streams, and its status.
+/// Runs the program `pieces` over the words that it was started with and over its streams, and
+/// gives its status.
 ///
-/// It is `run_pieces` on the arguments among the words, and then `finish_run`. Where the words
-/// cannot be had there is no memory for them.
+/// It is `run_pieces` on the arguments among the words, and then `finish_run`. An error in place of
+/// the words, other than `InvalidData`, is taken as refused memory.
 ///
 /// Cost: O(n), allocates for the whole input.
 pub fn pieces<R: Source, W: Write, E: Sink>(
@@ -98,10 +99,11 @@ pub fn pieces_buffered<R: Source, W: Write + Drop, E: Sink>(
     pieces(alloc, words, input, &mut Counted::new(buffer), stderr)
 }
 
-/// The program `recode`, over the words that it was started with and its streams, and its status.
+/// Runs the program `recode` over the words that it was started with and over its streams, and
+/// gives its status.
 ///
-/// It is `run_recode` on the arguments among the words. Where the words cannot be had there is no
-/// memory for them.
+/// It is `run_recode` on the arguments among the words. An error in place of the words, other than
+/// `InvalidData`, is taken as refused memory.
 ///
 /// Cost: O(n), allocates an amount that does not grow with the input.
 pub fn recode<R: Read, W: Write, E: Sink>(
@@ -148,10 +150,10 @@ pub fn words<R: Env + AllocGlobal>(rt: &R) -> io::Result<Vec<String>> {
 
 /// The arguments after the program's name, out of all its words.
 ///
-/// Where a word is not UTF-8, which is an error of the kind `InvalidData`, the empty text stands
-/// for them all. Any other error is that memory was refused.
+/// Where a word is not UTF-8, `words` is an error of the kind `InvalidData`, and the answer is one
+/// empty text in place of all arguments. Any other error says that memory was refused.
 ///
-/// Cost: O(n) in the number of words.
+/// Cost: O(n) in the number of words, allocates one place where a word is not UTF-8.
 pub fn arguments_of(alloc: Global, words: io::Result<Vec<String>>) -> Result<Vec<String>, Stop>
     ensures after_the_name { IfOk words (λ all. IsOkAnd result (λ args. args.items ≡ drop 1 all.items)) }
     ensures no_text { IfErr words (λ error. error_kind error ≡ ErrorKind.InvalidData →

@@ -15,7 +15,7 @@ use std::io::{Read, Write};
 /// The name that `recode` gives itself on standard error.
 pub const PROGRAM: &str = "recode";
 
-/// One run of `recode` on the arguments after the program's name, and its status.
+/// Runs `recode` on the arguments after the program's name, and gives its status.
 ///
 /// The arguments are the names of two forms, `utf8`, `utf16le` or `utf16be`, which may be the same:
 /// that of the input and that of the output. The status is then 0, whatever was replaced. All other

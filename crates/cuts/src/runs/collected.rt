@@ -18,9 +18,9 @@ use std::alloc::{AllocError, Allocator};
 
 /// All characters and invalid bytes of an iterator, in order.
 ///
-/// All are characters exactly where the bytes are UTF-8. The error is that memory was refused.
+/// All are characters exactly where the bytes are UTF-8. `AllocError` says that memory was refused.
 ///
-/// Condition: the source ends, and its `next` may be called.
+/// Condition: the source ends; if its `next` has a condition, it holds.
 ///
 /// Cost: O(n), allocates.
 pub fn merge_utf8<A: Allocator, I: Iterator<Item = u8>>(
@@ -43,9 +43,10 @@ pub fn merge_utf8<A: Allocator, I: Iterator<Item = u8>>(
 /// All characters and lone surrogates of an iterator, in order: those of `forward_utf16` over the
 /// same units.
 ///
-/// All are characters exactly where the units are UTF-16. The error is that memory was refused.
+/// All are characters exactly where the units are UTF-16. `AllocError` says that memory was
+/// refused.
 ///
-/// Condition: the source ends, and its `next` may be called.
+/// Condition: the source ends; if its `next` has a condition, it holds.
 ///
 /// Cost: O(n), allocates.
 pub fn merge_utf16<A: Allocator, I: Iterator<Item = u16>>(
@@ -66,7 +67,7 @@ pub fn merge_utf16<A: Allocator, I: Iterator<Item = u16>>(
     Ok(all)
 }
 
-/// All pieces of the units, in order. The error is that memory was refused.
+/// All pieces of the units, in order. `AllocError` says that memory was refused.
 ///
 /// Cost: O(n), allocates.
 pub fn forward_utf16<A: Allocator>(alloc: A, src: &[u16]) -> Result<Vec<UnitItem, A>, AllocError>

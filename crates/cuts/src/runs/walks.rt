@@ -9,10 +9,10 @@ use crate::runs::items::{End, Item, UnitItem};
 use encode_unicode::iterator::{Utf8CharDecoder, Utf16CharDecoder};
 use std::alloc::{AllocError, Allocator};
 
-/// Takes pieces of the bytes from both ends, as the word says: one for each letter, or `None` where
-/// no byte remains.
+/// Takes one piece of the bytes for each letter of `word`, from the end that the letter names, or
+/// `None` where no byte remains.
 ///
-/// Each piece is given once, whatever the word. The kind of an error from the front depends on the
+/// No piece is given twice, whatever the word. The kind of an error from the front depends on the
 /// bytes that remain then; that of one from the back on its byte alone.
 ///
 /// Where the word is empty, no memory is asked for.
@@ -37,8 +37,8 @@ pub fn walk_utf8<A: Allocator>(
     Ok(answers)
 }
 
-/// Takes pieces of units of UTF-16 from both ends, as the word says: one for each letter, or `None`
-/// where no unit remains.
+/// Takes one piece of units of UTF-16 for each letter of `word`, from the end that the letter
+/// names, or `None` where no unit remains.
 ///
 /// A lone leading surrogate from the front is `UnmatchedLeadingSurrogate` where a unit remains
 /// after it, and `Incomplete` where none does; from the back it is always `Incomplete`. Where the

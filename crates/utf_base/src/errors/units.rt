@@ -116,9 +116,9 @@ impl Error for Utf16TupleError {}
 pub enum Utf16SliceError {
     /// There are no units.
     EmptySlice,
-    /// The first unit is in 0xdc00 to 0xdfff, whatever follows it.
+    /// The unit that is judged is in 0xdc00 to 0xdfff, whatever follows it.
     FirstIsTrailingSurrogate,
-    /// The only unit is a leading surrogate.
+    /// The unit that is judged is a leading surrogate, and none follows it.
     MissingSecond,
     /// The first unit is a leading surrogate, and the second does not complete it.
     SecondIsNotTrailingSurrogate,

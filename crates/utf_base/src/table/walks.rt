@@ -7,8 +7,9 @@ ghost use Rattle.utf_base.specs.Table.{fault_of, is_first_fault, is_later_fault,
 use crate::errors::{Utf8Error, Utf8ErrorKind};
 use crate::table::State;
 
-/// The law of the table: the state after some bytes tells what is wrong with them, as a merger says it that
-/// steps with each byte. So the end `Done` is that of a code, and a running state is that of too few bytes.
+/// The law of the table: the state after some bytes tells what is wrong with them, in the words of a merger,
+/// which takes one step for each byte. So the end `Done` is that of a code, and a running state is that of too
+/// few bytes.
 pub fn walk_tells_the_kind()
     ensures { WalkTellsTheKind }
 {}
