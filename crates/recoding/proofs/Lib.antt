@@ -1,4 +1,5 @@
 pub mod Blocks
+pub mod CodeFronts
 pub mod BoundLemmas
 pub mod CopiedUnits
 pub mod EnoughRoom
