@@ -1,16 +1,15 @@
 -- Bytes that are fewer than the first asks for: the front of a code, or a fault whatever follows them.
-use Rattle.std.proofs.Common.{◌≡◌, ℕ, ◌+◌, ◌-◌, ◌*◌, ◌<◌, ◌≤◌, inl, inr, ⊎_elim, List, [], ◌∷◌, ◌++◌, length, get_or, take, arith, refl, ap, sym, ◌∙◌, Some, None, Bool, true, false, eqb, ltb, lit<, length-append}
+use Rattle.std.proofs.Common.{◌≡◌, ℕ, ◌<◌, ◌≤◌, inl, inr, ⊎_elim, List, [], ◌∷◌, ◌++◌, length, get_or, take, arith, refl, Some, true, false, lit<}
 use Rattle.std.proofs.lemmas.Grind.{common_steps}
 use Rattle.std.proofs.lemmas.Bool.{cases_lt}
 use Rattle.std.proofs.lemmas.List.{get_or_append_left}
 use Rattle.utf_base.specs.declared.errors.Utf8ErrorKind.TheVariants.{TooFewBytes}
-use Rattle.utf_base.specs.Scalar.{IsScalar}
 use Rattle.utf_base.specs.Code.{utf8}
 use Rattle.utf_base.specs.Grammar.{IsUtf8Char}
-use Rattle.utf_base.specs.Kinds.{fault_kind, asked, asked_by, value, least_value, is_continuation}
+use Rattle.utf_base.specs.Kinds.{fault_kind, asked, asked_by, value, is_continuation}
 use Rattle.utf_base.specs.Piece.{Stands}
 use Rattle.utf_base.specs.Shown.{IsDecided}
-use Rattle.utf_base.proofs.FrontLemmas.{Decodes, asked_cases, asked_le, asked-3, asked-4, value-3, value-4, least_value-3, least_value-4, decodes_from_stands, no_code_where_fault}
+use Rattle.utf_base.proofs.FrontLemmas.{Decodes, asked_cases, asked_le, asked-3, asked-4, value-3, value-4, least_value-3, least_value-4, decodes_from_stands}
 use Rattle.utf_base.proofs.GrammarLemmas.{char_encodes}
 use Rattle.utf_base.proofs.Utf8Code.{utf8-1}
 use Rattle.recoding.specs.Recoded.{IsProperFront}
