@@ -7,6 +7,7 @@ pub mod FedParts
 pub mod FrontBytes
 pub mod GivenBytes
 pub mod GivenRuns
+pub mod HeldFronts
 pub mod Growing
 pub mod JoinedShards
 pub mod Listed
