@@ -28,7 +28,7 @@ use Rattle.utf_lanes.specs.BytePairs.{units_of, unit_of}
 use Rattle.recoding.specs.ShownFronts.{Decides, Ends, Waits}
 use Rattle.recoding.proofs.CodeFronts.{front_of_nothing}
 
-replacement : IsScalar 0xFFFD
+pub replacement : IsScalar 0xFFFD
 replacement = record { below = lit< tt; no_surrogate = λ h. omega arith }
 
 -- what shows whatever follows shows where nothing does

@@ -16,7 +16,7 @@ use Rattle.utf_lanes.specs.BytePairs.{bytes_of, unit_of, units_of}
 use Rattle.recoding.specs.declared.form.Form.{Form}
 use Rattle.recoding.specs.declared.form.Form.TheVariants.{Utf8, Utf16Le, Utf16Be}
 use Rattle.recoding.specs.Recoded.{IsProperFront, Lacks, Reads, ShowsUnits, odd_end, written}
-use Rattle.recoding.specs.Undecided.{AreBytes, FrontsAreUndecided, LackingIsUndecided, LackingUnitIsUndecided}
+use Rattle.recoding.specs.Undecided.{AreBytes, FrontsAreUndecided, LackingTextIsUndecided, LackingUnitsAreUndecided, LackingUnitIsUndecided}
 use Rattle.recoding.proofs.FrontBytes.{Waits-byte, Waits-leading, first_unit}
 use Rattle.recoding.proofs.Growing.{reads_some, units_some}
 
@@ -249,14 +249,14 @@ high_first_front a b low h =
     let second : (a * 256 + b) % 256 ≡ b = omega arith in
     record { char = p.char; scalar = p.scalar; longer = rw p.code (lit< tt); front = rw p.code (ap₂ (λ x y. x ∷ y ∷ []) first second) }
 
-pub lacking_utf8 : LackingIsUndecided Utf8
-lacking_utf8 w bytes some h = fronts_are_undecided Utf8 w some h
+pub lacking_text : LackingTextIsUndecided
+lacking_text w some h = fronts_are_undecided Utf8 w some h
 
-pub lacking_low_first : LackingIsUndecided Utf16Le
-lacking_low_first w bytes some h = fronts_are_undecided Utf16Le w some (low_first_front w bytes some h)
+pub lacking_units : LackingUnitsAreUndecided
+lacking_units w bytes some h = fronts_are_undecided Utf16Le w some (low_first_front w bytes some h)
 
-pub lacking_high_first : LackingUnitIsUndecided
-lacking_high_first [] bytes two h = absurd (omega arith)
-lacking_high_first (a ∷ []) bytes two h = absurd (omega arith)
-lacking_high_first (a ∷ b ∷ []) bytes two h = fronts_are_undecided Utf16Be (a ∷ b ∷ []) (lit< tt) (high_first_front a b (bytes 1 0 (lit< tt)) h)
-lacking_high_first (a ∷ b ∷ c ∷ w) bytes two h = absurd (omega arith)
+pub lacking_unit : LackingUnitIsUndecided
+lacking_unit [] bytes two h = absurd (omega arith)
+lacking_unit (a ∷ []) bytes two h = absurd (omega arith)
+lacking_unit (a ∷ b ∷ []) bytes two h = fronts_are_undecided Utf16Be (a ∷ b ∷ []) (lit< tt) (high_first_front a b (bytes 1 0 (lit< tt)) h)
+lacking_unit (a ∷ b ∷ c ∷ w) bytes two h = absurd (omega arith)

@@ -2,6 +2,7 @@ pub mod Blocks
 pub mod CodeFronts
 pub mod BoundLemmas
 pub mod CopiedUnits
+pub mod Earliest
 pub mod EnoughRoom
 pub mod FedParts
 pub mod FrontBytes

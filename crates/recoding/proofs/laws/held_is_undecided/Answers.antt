@@ -1,5 +1,5 @@
-use Rattle.recoding.proofs.HeldFronts.{fronts_are_undecided, lacking_utf8, lacking_low_first, lacking_high_first}
+use Rattle.recoding.proofs.HeldFronts.{fronts_are_undecided, lacking_text, lacking_units, lacking_unit}
 use Rattle.recoding.proofs.laws.held_is_undecided.Goals as goal
 
 pub returns : goal.returns
-returns c = record { fronts = fronts_are_undecided; utf8 = lacking_utf8; low_first = lacking_low_first; high_first = lacking_high_first }
+returns c = record { fronts = fronts_are_undecided; text = lacking_text; units = lacking_units; unit = lacking_unit }
