@@ -3,10 +3,15 @@
 
 usage: python3 compare/recoding/rows.py
 
-It writes `blocks.txt` and `block_places.txt` to crates/run_rows/data. Blocks have up to 133 bytes, and the thing that is
-other, a fault or a code of another length, lies over the end of the first 16, 32, 48, 64, 80, 96, 112 or 128 bytes, or
+It writes `blocks.txt`, `block_places.txt` and `held.txt` to crates/run_rows/data. Blocks have up to 133 bytes, and the thing
+that is other, a fault or a code of another length, lies over the end of the first 16, 32, 48, 64, 80, 96, 112 or 128 bytes, or
 begins or ends there. Surrogates stand at each of the first 41 places of units.
+
+The rows of `held.txt` are ends of input and what a recoder holds of them: the proper front of a code, a leading surrogate, half
+a unit, or a leading surrogate and half a unit. Python's own incremental decoders have to hold the same bytes; but ED A0 to ED BF
+they hold too, for `surrogatepass`.
 """
+import codecs
 import random
 import sys
 from pathlib import Path
@@ -98,12 +103,65 @@ def place_rows(rng):
             yield f'units_valid_up_to|{data.hex()}||{first_fault(utf16, units)}'
 
 
+def fronts_of_codes():
+    """What begins the code of a scalar in UTF-8 and is not all of it."""
+    codes = (utf8(s) for s in range(0x110000) if not 0xD800 <= s < 0xE000)
+    return {bytes(code[:k]) for code in codes for k in range(1, len(code))}
+
+
+def held(source, data, fronts):
+    """What a recoder holds of the bytes: those from the first piece on with which a code may begin that is not all there."""
+    if source == 'utf8':
+        places = [p for p, _, _ in cut(utf8, list(data)) if data[p:] in fronts]
+    else:
+        order, even = ('big' if source == 'utf16be' else 'little'), len(data) // 2 * 2
+        units = [int.from_bytes(data[k:k + 2], order) for k in range(0, even, 2)]
+        places = [2 * p for p, _, s in cut(utf16, units) if s is None and p + 1 == len(units) and units[p] < 0xDC00]
+        places += [even] * (len(data) % 2)
+    left = data[places[0]:] if places else b''
+    decoder = codecs.getincrementaldecoder(FORMS[source])('replace')
+    decoder.decode(data)
+    kept = decoder.getstate()[0]
+    assert left == kept or left == b'' and 'eda0' <= kept.hex() <= 'edbf', (source, data.hex())
+    return left
+
+
+def ends():
+    """Ends of UTF-8: each first byte at an edge, with second and third ones about which a code is decided. And ends of units."""
+    firsts = [0x41, 0x80, 0xC1, 0xC2, 0xDF, 0xE0, 0xE1, 0xEC, 0xED, 0xEE, 0xEF, 0xF0, 0xF1, 0xF3, 0xF4, 0xF5]
+    seconds = [0x0A, 0x7F, 0x80, 0x8F, 0x90, 0x9F, 0xA0, 0xBF, 0xC0, 0xE9]
+    for first in firsts:
+        yield 'utf8', bytes([first])
+        for second in seconds:
+            yield 'utf8', bytes([first, second])
+            yield from (('utf8', bytes([first, second, third])) for third in (0x0A, 0x80, 0xBF, 0xC3) if first >= 0xE0)
+    for data in 'c3a9', 'e282ac', 'f09f92a3', 'f09f920a', '636166e90a', '636166e9', 'f09f9280f09f92', 'e980e9':
+        yield 'utf8', bytes.fromhex(data)
+    for source in 'utf16le', 'utf16be':
+        order = 'big' if source == 'utf16be' else 'little'
+        yield from ((source, bytes([half])) for half in (0x00, 0x41, 0xD7, 0xD8, 0xDB, 0xDC, 0xDF, 0xE0, 0xFF))
+        for unit in 0x41, 0xD7FF, 0xD800, 0xDBFF, 0xDC00, 0xDFFF, 0xE000, 0xFFFD:
+            for half in b'', b'\0', b'A', b'\xd8', b'\xdc', b'\xff':
+                yield source, unit.to_bytes(2, order) + half
+                yield source, (0xD83D).to_bytes(2, order) + unit.to_bytes(2, order) + half
+
+
+def held_rows(_):
+    yield '# FROM TO|FED|OUTPUT|HELD'
+    fronts = fronts_of_codes()
+    for number, (source, data) in enumerate(ends()):
+        left = held(source, data, fronts)
+        done = data[:len(data) - len(left)]
+        target = list(FORMS)[number % 3]
+        yield f'{source} {target}|{data.hex()}|{bytes(recoded(source, target, list(done))).hex()}|{left.hex()}'
+
+
 def main(words):
     if words:
         print(__doc__)
         return 0 if words in (['--help'], ['-h']) else 2
     rng = random.Random(130)
-    for name, rows in ('blocks', recoded_rows), ('block_places', place_rows):
+    for name, rows in ('blocks', recoded_rows), ('block_places', place_rows), ('held', held_rows):
         path = TOP / f'crates/run_rows/data/{name}.txt'
         path.write_text(''.join(f'{row}\n' for row in rows(rng)), encoding='ascii')
     return 0

@@ -21,6 +21,7 @@ pub use Rattle.recoding.specs.Bounds
 pub use Rattle.recoding.specs.Fed
 pub use Rattle.recoding.specs.Shards
 pub use Rattle.recoding.specs.ShownFronts
+pub use Rattle.recoding.specs.Undecided
 pub use Rattle.recoding.specs.Boundaries
 pub use Rattle.utf_base.specs.Scalar
 pub use Rattle.utf_base.specs.Code

@@ -1,5 +1,5 @@
 -- What the front of some bytes shows, from the answer of a decoder.
-use Rattle.std.proofs.Common.{◌≡◌, ◌≢◌, ℕ, ◌+◌, take, ◌<◌, ◌≤◌, ⊎_elim, List, [], ◌∷◌, ◌++◌, length, get_or, drop, arith, refl, ap, sym, ◌∙◌, Some, None, Bool, true, false, not, if◌then◌else◌, lit<, length-drop, length-append}
+use Rattle.std.proofs.Common.{◌≡◌, ◌≢◌, ℕ, ◌+◌, take, ◌<◌, ◌≤◌, ⊎_elim, inl, inr, List, [], ◌∷◌, ◌++◌, length, get_or, drop, arith, refl, ap, sym, ◌∙◌, Some, None, Bool, true, false, not, if◌then◌else◌, lit<, length-drop, length-append}
 use Rattle.std.proofs.lemmas.Grind.{common_steps}
 use Rattle.std.proofs.lemmas.Bool.{cases_lt}
 use Rattle.std.proofs.lemmas.List.{append-nil, take_all, drop_all}
@@ -10,7 +10,7 @@ use Rattle.utf_base.specs.Code.{utf8, utf16}
 use Rattle.utf_base.specs.Front.{BeginsWith}
 use Rattle.utf_base.specs.Kinds.{fault_kind}
 use Rattle.utf_base.specs.Piece.{Stands}
-use Rattle.utf_base.specs.Shown.{Shows}
+use Rattle.utf_base.specs.Shown.{Shows, IsDecided}
 use Rattle.utf_base.specs.declared.errors.units.Utf16TupleError.{Utf16TupleError}
 use Rattle.utf_base.specs.declared.errors.units.Utf16TupleError.TheVariants.{FirstIsTrailingSurrogate, SuperfluousSecond, MissingSecond, SecondIsNotTrailingSurrogate}
 use Rattle.utf_base.specs.declared.errors.units.Utf16PairError.TheVariants.{Incomplete}
@@ -18,7 +18,7 @@ use Rattle.recoding.specs.declared.form.Form.{Form}
 use Rattle.recoding.specs.declared.form.Form.TheVariants.{Utf8, Utf16Le, Utf16Be}
 use Rattle.utf_base.specs.Units.{is_leading_surrogate, is_trailing_surrogate, tuple_fault, unit_fault_kind}
 use Rattle.utf_base.proofs.FrontLemmas.{no_code_where_fault}
-use Rattle.utf_base.proofs.KindCases.{kind-empty}
+use Rattle.utf_base.proofs.KindCases.{begins_with-1, kind-empty}
 use Rattle.utf_base.proofs.LaterLemmas.{kind_stays, few_where_too_few, no_code_at_trailing, no_code_at_unmatched, no_code_at_last}
 use Rattle.utf_base.proofs.Rests.{code_shows_first, whole_code_shows_first, fault_shows_first, shows_none, shows_one}
 use Rattle.utf_base.proofs.Utf8Code.{utf8_is_code, utf8-4}
@@ -26,8 +26,9 @@ use Rattle.utf_base.proofs.Utf16Code.{utf16_is_code}
 use Rattle.recoding.specs.Recoded.{ShowsUnits, odd_end, Lacks}
 use Rattle.utf_lanes.specs.BytePairs.{units_of, unit_of}
 use Rattle.recoding.specs.ShownFronts.{Decides, Ends, Waits}
+use Rattle.recoding.proofs.CodeFronts.{front_of_nothing}
 
-replacement : IsScalar 0xFFFD
+pub replacement : IsScalar 0xFFFD
 replacement = record { below = lit< tt; no_surrogate = λ h. omega arith }
 
 -- what shows whatever follows shows where nothing does
@@ -79,6 +80,27 @@ Decides-utf8_fault w k e other =
   where
     same_kind : (a b : Utf8ErrorKind) → Some a ≡ Some b → a ≡ b
     same_kind a b e = cc
+
+nothing_is_undecided : IsDecided utf8 [] → ⊥
+nothing_is_undecided (inl (s, h)) = let some = utf8_is_code.some s h.scalar in let within = h.within in omega arith
+nothing_is_undecided (inr none) = none (0 ∷ []) 0 (begins_with-1 (0 ∷ []) (lit< tt) (lit< tt)).0
+
+some_where_decided : (w : List ℕ) → IsDecided utf8 w → 0 < length w
+some_where_decided [] d = absurd (nothing_is_undecided d)
+some_where_decided (a ∷ w) d = omega arith
+
+-- too few bytes with which no code begins, whatever follows
+pub Decides-utf8_few : (w : List ℕ) → fault_kind w ≡ Some TooFewBytes → IsDecided utf8 w → Decides (Shows utf8) w 0xFFFD 1
+Decides-utf8_few w e (inl (s, h)) = absurd (no_code_where_fault w TooFewBytes s e h)
+Decides-utf8_few w e (inr none) =
+    let some = some_where_decided w (inr none) in
+    record {
+      some = omega arith;
+      within = omega arith;
+      scalar = replacement;
+      wide = λ high. absurd (omega arith);
+      first = λ later ss r. fault_shows_first utf8 utf8_is_code w later ss some (λ s h. none later s h) r;
+    }
 
 pub Waits-utf8 : (w : List ℕ) → fault_kind w ≡ Some TooFewBytes → Waits (Shows utf8) 1 w
 Waits-utf8 w e = record {
@@ -219,7 +241,7 @@ lacks_second high w two few l =
 
 -- and so does nothing at all
 pub lacks_all : (from : Form) → Lacks from []
-lacks_all Utf8 = kind-empty [] refl
+lacks_all Utf8 = front_of_nothing
 lacks_all Utf16Le = lacks_byte false [] (lit< tt)
 lacks_all Utf16Be = lacks_byte true [] (lit< tt)
 

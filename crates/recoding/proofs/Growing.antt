@@ -20,7 +20,7 @@ use Rattle.recoding.specs.ShownFronts.{Decides, Ends, ShowsEach}
 
 -- Bytes show one list.
 
-units_some : (high : Bool) (bytes : List ℕ) → (ss : List ℕ) × ShowsUnits high bytes ss
+pub units_some : (high : Bool) (bytes : List ℕ) → (ss : List ℕ) × ShowsUnits high bytes ss
 units_some high bytes =
     let r = shows_some utf16 utf16_is_code utf16_finds (units_of high bytes) in
     (r.0 ++ odd_end bytes, (r.0, r.1, refl))
@@ -29,7 +29,7 @@ units_one : (high : Bool) (bytes ss ts : List ℕ) → ShowsUnits high bytes ss 
 units_one high bytes ss ts (xs, a, e) (ys, b, f) =
     e ∙ ap (λ zs. zs ++ odd_end bytes) (shows_one utf16 utf16_is_code (units_of high bytes) xs ys a b) ∙ sym f
 
-reads_some : (from : Form) (bytes : List ℕ) → (ss : List ℕ) × Reads from bytes ss
+pub reads_some : (from : Form) (bytes : List ℕ) → (ss : List ℕ) × Reads from bytes ss
 reads_some Utf8 bytes = shows_some utf8 utf8_is_code utf8_finds bytes
 reads_some Utf16Le bytes = units_some false bytes
 reads_some Utf16Be bytes = units_some true bytes

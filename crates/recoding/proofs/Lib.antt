@@ -1,11 +1,14 @@
 pub mod Blocks
+pub mod CodeFronts
 pub mod BoundLemmas
 pub mod CopiedUnits
+pub mod Earliest
 pub mod EnoughRoom
 pub mod FedParts
 pub mod FrontBytes
 pub mod GivenBytes
 pub mod GivenRuns
+pub mod HeldFronts
 pub mod Growing
 pub mod JoinedShards
 pub mod Listed

@@ -8,5 +8,6 @@ pub mod ShownFronts
 pub mod UnitRuns
 pub mod Outputs
 pub mod Recodes
+pub mod Undecided
 pub mod FilledRooms
 pub mod Boundaries

@@ -1,11 +1,10 @@
 -- Bytes of one form of text recoded as bytes of another: the codes of what they show.
-use Rattle.std.specs.Prelude.{◌≡◌, ℕ, ◌+◌, ◌≤◌, Bool, true, false, List, [], ◌∷◌, ◌++◌, length, flat_map, Some}
+use Rattle.std.specs.Prelude.{◌≡◌, ℕ, ◌<◌, ◌≤◌, Bool, true, false, List, [], ◌∷◌, ◌++◌, length, take, flat_map, Some}
 use Rattle.std.specs.List.{concat}
 use Rattle.utf_base.specs.Code.{utf8, utf16}
-use Rattle.utf_base.specs.Kinds.{fault_kind}
+use Rattle.utf_base.specs.Scalar.{IsScalar}
 use Rattle.utf_base.specs.Units.{unit_fault_kind}
 use Rattle.utf_base.specs.Shown.{Shows}
-use Rattle.utf_base.specs.declared.errors.Utf8ErrorKind.TheVariants.{TooFewBytes}
 use Rattle.utf_base.specs.declared.errors.units.Utf16PairError.TheVariants.{Incomplete}
 pub use Rattle.utf_lanes.specs.BytePairs.{unit_of, bytes_of, units_of}
 use Rattle.recoding.specs.declared.form.Form.{Form}
@@ -27,10 +26,17 @@ Reads Utf8 = Shows utf8
 Reads Utf16Le = ShowsUnits false
 Reads Utf16Be = ShowsUnits true
 
--- The bytes lack elements: there is none, or fewer than the first asks for. Of units a leading surrogate is alone, and half a
--- unit is none.
+-- the code of some scalar begins with the elements, and is longer
+pub record IsProperFront (code : ℕ → List ℕ) (w : List ℕ) : Type 0 where
+  pub char : ℕ
+  pub scalar : IsScalar char
+  pub longer : length w < length (code char)
+  pub front : take (length w) (code char) ≡ w
+
+-- The bytes lack those that make a code of them: there is none, or they are the front of a code. Of units a leading surrogate
+-- is alone, and half a unit is none.
 abbrev pub Lacks : Form → List ℕ → Type 0
-Lacks Utf8 bytes = fault_kind bytes ≡ Some TooFewBytes
+Lacks Utf8 bytes = IsProperFront utf8 bytes
 Lacks Utf16Le bytes = unit_fault_kind (units_of false bytes) ≡ Some Incomplete
 Lacks Utf16Be bytes = unit_fault_kind (units_of true bytes) ≡ Some Incomplete
 

@@ -31,6 +31,15 @@ pub record Waits (reads : List ℕ → List ℕ → Type 0) (fault : ℕ) (w : L
   pub few : length w ≤ 3
   pub last : 0 < length w → (ss : List ℕ) → reads (drop fault w) ss → reads w (0xFFFD ∷ ss)
 
+-- A code of three or four bytes that begins with the first byte may have this second one: table 3-7 of the Unicode standard.
+pub record MayBeSecond (first second : ℕ) : Type 0 where
+  pub low : 0x80 ≤ second
+  pub high : second < 0xC0
+  pub after_e0 : first ≡ 0xE0 → 0xA0 ≤ second
+  pub after_ed : first ≡ 0xED → second < 0xA0
+  pub after_f0 : first ≡ 0xF0 → 0x90 ≤ second
+  pub after_f4 : first ≡ 0xF4 → second < 0x90
+
 -- The bytes show these scalars, and then what follows them does.
 abbrev pub ShowsEach : (List ℕ → List ℕ → Type 0) → List ℕ → List ℕ → Type 0
 ShowsEach reads w ts = (later ss : List ℕ) → reads later ss → reads (w ++ later) (ts ++ ss)

@@ -4,6 +4,8 @@
 ghost use Rattle.recoding.specs.Shards.{ShardsJoin};
 ghost use Rattle.recoding.specs.Recoded.{RecodedOnce, PartsAreRecoded, PartsDoNotMatter};
 ghost use Rattle.recoding.specs.Bounds.{RecodedIsBounded, LossyIsBounded, FeedsInRoom, RoomIsLeft, FinishesInRoom};
+ghost use Rattle.recoding.specs.Undecided.{FrontsAreUndecided, LackingTextIsUndecided, LackingUnitsAreUndecided};
+ghost use Rattle.recoding.specs.Undecided.{LackingUnitIsUndecided, NothingComesEarlier};
 ghost use Rattle.recoding.specs.Fed.{NothingIsFed, PartIsFed, FedIsFront, FedIsRecoded, TwoPartsAreOne, TwoPartsAreRecoded};
 
 /// Bytes are recoded in exactly one way.
@@ -27,6 +29,22 @@ pub fn parts_are_one_part()
     ensures whole { FedIsRecoded }
     ensures two { TwoPartsAreOne }
     ensures two_recoded { TwoPartsAreRecoded }
+{}
+
+/// A recoder holds nothing that is decided. What `feed` and `feed_into` hold becomes U+FFFD where nothing follows,
+/// and another character where the rest of its code does.
+///
+/// Of UTF-16 with the high byte first, half a unit is held too where no code begins with it.
+pub fn held_is_undecided()
+    ensures fronts { FrontsAreUndecided }
+    ensures text { LackingTextIsUndecided }
+    ensures units { LackingUnitsAreUndecided }
+    ensures unit { LackingUnitIsUndecided }
+{}
+
+/// Where a recoder holds the front of a code, or nothing, none that is right for whatever follows has put out more.
+pub fn nothing_comes_earlier()
+    ensures { NothingComesEarlier }
 {}
 
 /// Bytes are recoded as no more bytes than `room_for` answers: a lossy text is at most three times as long as

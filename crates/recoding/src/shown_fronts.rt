@@ -1,18 +1,21 @@
 //! What the front of some bytes shows.
-ghost use Rattle.std.specs.Prelude.{◌≡◌, ◌<◌, length, take, flat_map, IfSome, IfNone, IsTrue, Some};
+ghost use Rattle.std.specs.Prelude.{◌≡◌, ◌<◌, length, take, flat_map, IfSome, IfNone, IsTrue, IsFalse, Some};
 ghost use Rattle.utf_base.specs.Code.{utf8};
-ghost use Rattle.utf_base.specs.Shown.{Shows};
+ghost use Rattle.utf_base.specs.Kinds.{fault_kind};
+ghost use Rattle.utf_base.specs.Shown.{Shows, IsDecided};
 ghost use Rattle.utf_base.specs.Units.{unit_fault_kind};
+ghost use Rattle.utf_base.specs.declared.errors.Utf8ErrorKind.TheVariants.{TooFewBytes};
 ghost use Rattle.utf_base.specs.declared.errors.units.Utf16PairError.TheVariants.{Incomplete};
 ghost use Rattle.utf_lanes.specs.AsciiTexts.{AreAscii};
-ghost use Rattle.recoding.specs.Recoded.{Reads, Lacks, ShowsUnits};
+ghost use Rattle.recoding.specs.Recoded.{Reads, Lacks, ShowsUnits, IsProperFront};
 ghost use Rattle.utf_lanes.specs.BytePairs.{units_of};
-ghost use Rattle.recoding.specs.ShownFronts.{IsUnits, Decides, Ends, Waits, fault_len, ShowsEach};
+ghost use Rattle.recoding.specs.ShownFronts.{IsUnits, Decides, Ends, Waits, fault_len, ShowsEach, MayBeSecond};
 
 use crate::code_puts::low;
 use crate::form::Form;
 use encode_unicode::error::Utf8ErrorKind;
 use encode_unicode::{CharExt, U16UtfExt};
+use utf_base::elements::is_continuation;
 use utf_lanes::byte_pairs::unit;
 use utf_lanes::text_front::front_of_text;
 
@@ -66,10 +69,45 @@ fn front_of_utf8(bytes: &[u8]) -> Option<(char, usize)>
     match char::from_utf8_slice_start(bytes) {
         Ok((c, len)) => Some((c, len)),
         Err(error) => match error.kind() {
-            Utf8ErrorKind::TooFewBytes => None,
+            Utf8ErrorKind::TooFewBytes => {
+                if is_front_of_code(bytes) {
+                    None
+                } else {
+                    Some((char::REPLACEMENT_CHARACTER, 1))
+                }
+            }
             _ => Some((char::REPLACEMENT_CHARACTER, 1)),
         },
     }
+}
+
+// Whether bytes that are too few are the front of a code. Else the first is a fault, whatever follows.
+#[inline(never)]
+fn is_front_of_code(bytes: &[u8]) -> bool
+    requires { fault_kind bytes.now ≡ Some TooFewBytes }
+    ensures yes { IsTrue result → IsProperFront utf8 bytes.now }
+    ensures no { IsFalse result → IsDecided utf8 bytes.now }
+{
+    if bytes.len() < 2 {
+        return true;
+    }
+    may_be_second(bytes[0], bytes[1]) && (bytes.len() < 3 || is_continuation(bytes[2]))
+}
+
+// Whether a code of three or four bytes that begins with the first byte may have this second one.
+#[inline(always)]
+fn may_be_second(first: u8, second: u8) -> bool
+    ensures yes { IsTrue result → MayBeSecond first second }
+    ensures no { MayBeSecond first second → IsTrue result }
+{
+    is_continuation(second)
+        && match first {
+            0xe0 => second >= 0xa0,
+            0xed => second < 0xa0,
+            0xf0 => second >= 0x90,
+            0xf4 => second < 0x90,
+            _ => true,
+        }
 }
 
 #[inline(always)]

@@ -1,6 +1,6 @@
 //! What is held against the rows.
 
-use crate::recodings::{parts_agree, refused_parts_agree, rooms_agree, shards_agree};
+use crate::recodings::{held_agree, parts_agree, refused_parts_agree, rooms_agree, shards_agree};
 use crate::trials::{growths_agree, interrupted_agree, reads_agree, writes_agree};
 use crate::{entries, lines, lists, places, replacements, runs};
 use std::alloc::Global;
@@ -25,6 +25,7 @@ pub(crate) enum Kind {
     LongParts,
     LongRooms,
     Shards,
+    Held,
     Places,
     Replacements,
     Blocks,
@@ -34,7 +35,7 @@ pub(crate) enum Kind {
 }
 
 impl Kind {
-    pub(crate) fn all() -> [Kind; 22] {
+    pub(crate) fn all() -> [Kind; 23] {
         [
             Kind::Runs,
             Kind::Reads,
@@ -52,6 +53,7 @@ impl Kind {
             Kind::LongParts,
             Kind::LongRooms,
             Kind::Shards,
+            Kind::Held,
             Kind::Places,
             Kind::Replacements,
             Kind::Blocks,
@@ -80,6 +82,7 @@ impl Kind {
             Kind::LongParts => "longer inputs recoded in parts",
             Kind::LongRooms => "longer inputs recoded into rooms of each size",
             Kind::Shards => "recoded in two shards",
+            Kind::Held => "held before more is fed",
             Kind::Places => "places and sizes",
             Kind::Replacements => "replacements, each growth refused",
             Kind::Blocks => "blocks recoded in parts",
@@ -100,6 +103,7 @@ impl Kind {
             Kind::LongLists => "long_lists.txt",
             Kind::Parts | Kind::RefusedParts | Kind::Rooms | Kind::Shards => "recodings.txt",
             Kind::LongParts | Kind::LongRooms => "long_recodings.txt",
+            Kind::Held => "held.txt",
             Kind::Places => "places.txt",
             Kind::Replacements => "replacements.txt",
             Kind::Blocks | Kind::BlockRooms | Kind::BlockShards => "blocks.txt",
@@ -122,6 +126,7 @@ impl Kind {
             Kind::RefusedParts => refused_parts_agree(alloc, row),
             Kind::Rooms | Kind::LongRooms | Kind::BlockRooms => rooms_agree(alloc, row),
             Kind::Shards | Kind::BlockShards => shards_agree(alloc, row),
+            Kind::Held => held_agree(alloc, row),
             Kind::Places | Kind::BlockPlaces => places::agrees(alloc, row),
             Kind::Replacements => replacements::agrees(alloc, row),
         }

@@ -1,7 +1,9 @@
 //! Rows of bytes and what they are recoded as: `FROM TO|INPUT|OUTPUT|GROWTHS`, in hexadecimal.
 //!
 //! The last column says how many growths are refused where the bytes are fed one by one: one for each of them, and
-//! one for an end that leaves some held. Bytes are held while fewer are there than the first of them asks for.
+//! one for an end that leaves some held. Bytes are held while they are the front of a code.
+//!
+//! And rows of bytes and what is held of them: `FROM TO|FED|OUTPUT|HELD`, where the output is that before the end.
 
 use crate::columns::{column, number};
 use cuts::{Form, Recoder, shard_end};
@@ -145,6 +147,46 @@ pub(crate) fn shards_agree(alloc: Global, row: &str) -> io::Result<bool> {
         recode_parts(row, front, front.len(), &mut out)?;
         recode_parts(row, rest, rest.len(), &mut out)?;
         if !is_output(alloc, row, &out)? {
+            return Ok(false);
+        }
+    }
+    Ok(true)
+}
+
+// Whether the output is that of the row, and the recoder holds what the row says.
+fn is_left(alloc: Global, row: &str, recoder: &Recoder, out: &[u8]) -> io::Result<bool> {
+    let output = bytes_of(alloc, column(row, 2))?;
+    let held = bytes_of(alloc, column(row, 3))?;
+    Ok(out == output.as_slice() && recoder.held() == held.as_slice())
+}
+
+// Whether it is so where the bytes are fed in parts of so many, to a list.
+fn is_left_of(alloc: Global, row: &str, fed: &[u8], size: usize) -> io::Result<bool> {
+    let mut out = Vec::new(alloc);
+    let mut recoder = recoder_of(row)?;
+    for part in fed.chunks(size.max(1)) {
+        recoder.feed(part, &mut out)?;
+    }
+    is_left(alloc, row, &recoder, &out)
+}
+
+// The same into an ample room.
+fn is_left_of_room(alloc: Global, row: &str, fed: &[u8], size: usize) -> io::Result<bool> {
+    let mut out = Vec::new(alloc);
+    let mut room = [0; AMPLE];
+    let mut recoder = recoder_of(row)?;
+    for part in fed.chunks(size.max(1)) {
+        let progress = recoder.feed_into(part, &mut room);
+        out.extend_from_slice(&room[..progress.written])?;
+    }
+    is_left(alloc, row, &recoder, &out)
+}
+
+/// Whether the row of held bytes holds, by `feed` and by `feed_into`, for parts of any one size.
+pub(crate) fn held_agree(alloc: Global, row: &str) -> io::Result<bool> {
+    let fed = bytes_of(alloc, column(row, 1))?;
+    for size in 1..=fed.len() {
+        if !is_left_of(alloc, row, &fed, size)? || !is_left_of_room(alloc, row, &fed, size)? {
             return Ok(false);
         }
     }

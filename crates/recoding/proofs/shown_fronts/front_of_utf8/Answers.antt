@@ -1,15 +1,19 @@
 use Rattle.std.proofs.Common.{sym, ◌∙◌, ap, Some}
-use Rattle.recoding.proofs.FrontBytes.{Decides-utf8_char, Decides-utf8_fault, Waits-utf8}
+use Rattle.recoding.proofs.FrontBytes.{Decides-utf8_char, Decides-utf8_fault, Decides-utf8_few, Waits-utf8}
 use Rattle.recoding.proofs.shown_fronts.front_of_utf8.Goals as goal
 
 pub returns-in-Ok-clause-some : goal.returns-in-Ok-clause-some
 returns-in-Ok-clause-some c = Decides-utf8_char _ _ _ c.in-Ok.ensures.decodes
 
-pub returns-in-TooFewBytes-clause-none : goal.returns-in-TooFewBytes-clause-none
-returns-in-TooFewBytes-clause-none c = Waits-utf8 _ (c.in-Err.ensures.decodes ∙ ap Some (sym c.kind.ensures ∙ c.in-TooFewBytes.is))
+pub is_front_of_code-requires : goal.is_front_of_code-requires
+is_front_of_code-requires c = c.in-Err.ensures.decodes ∙ ap Some (sym c.kind.ensures ∙ c.in-TooFewBytes.is)
 
-pub returns-in_default : goal.returns-in_default
-returns-in_default c = record { some = Decides-utf8_fault _ _ c.in-Err.ensures.decodes (λ e. c.in_default.not-TooFewBytes (c.kind.ensures ∙ e)); none = tt; lacks = tt }
+pub returns-then-is_front_of_code-clause-none : goal.returns-then-is_front_of_code-clause-none
+returns-then-is_front_of_code-clause-none c = Waits-utf8 _ (c.in-Err.ensures.decodes ∙ ap Some (sym c.kind.ensures ∙ c.in-TooFewBytes.is))
 
-pub returns-in-TooFewBytes-clause-lacks : goal.returns-in-TooFewBytes-clause-lacks
-returns-in-TooFewBytes-clause-lacks c = c.in-Err.ensures.decodes ∙ ap Some (sym c.kind.ensures ∙ c.in-TooFewBytes.is)
+pub returns-else-is_front_of_code-clause-some : goal.returns-else-is_front_of_code-clause-some
+returns-else-is_front_of_code-clause-some c =
+    Decides-utf8_few _ (c.in-Err.ensures.decodes ∙ ap Some (sym c.kind.ensures ∙ c.in-TooFewBytes.is)) (c.is_front_of_code.ensures.no c.if-is_front_of_code.false)
+
+pub returns-in_default-clause-some : goal.returns-in_default-clause-some
+returns-in_default-clause-some c = Decides-utf8_fault _ _ c.in-Err.ensures.decodes (λ e. c.in_default.not-TooFewBytes (c.kind.ensures ∙ e))
