@@ -1,8 +1,9 @@
 /* Holds the library against a decoder that is written here from the grammar of RFC 3629, section 4, and from RFC 2781, section 2.2,
  * and shares nothing with it: edges COUNT. Each buffer lies between two pages that must not be touched, once at the end of the
  * first and once at the front of the other. Every input is recoded with each room of 0 to 14 bytes and each split into two parts:
- * all inputs of up to three bytes of those that the grammar names, and then COUNT random ones. Structs of random bytes are refused,
- * or recode within bounds. Prints what failed, and then `N passed, M failed`. */
+ * all inputs of up to three bytes of those that the grammar names, and then COUNT random ones. Of each first part a recoder holds the
+ * front of a code alone. Structs of random bytes are refused, or recode within bounds. Prints what failed, and then
+ * `N passed, M failed`. */
 #define _DEFAULT_SOURCE
 #include "noddychest.h"
 #include "rows.h"
@@ -82,6 +83,26 @@ static cut_text cut(nody_form_t form, const uint8_t *b, size_t len) {
     return made;
 }
 
+/* Whether the bytes are the front of a code and not all of it: of a row of the grammar; of units half a one, a leading surrogate, or
+ * both. */
+static int is_open(nody_form_t form, const uint8_t *b, size_t len) {
+    if (form != NODY_FORM_UTF8) return len < 2 || (len < 4 && (b[form == NODY_FORM_UTF16LE] & 0xFC) == 0xD8);
+    for (size_t row = 0; row < sizeof GRAMMAR / sizeof *GRAMMAR; row++) {
+        size_t same = 0;
+        while (same < len && len < GRAMMAR[row].len && GRAMMAR[row].first[same] <= b[same] && b[same] <= GRAMMAR[row].last[same]) same++;
+        if (same == len) return 1;
+    }
+    return 0;
+}
+
+/* How many bytes at the end wait for others. */
+static size_t open_end(nody_form_t form, const uint8_t *b, size_t len) {
+    cut_text pieces = cut(form, b, len);
+    for (size_t i = 0; i < pieces.count; i++)
+        if (is_open(form, b + pieces.piece[i].start, len - pieces.piece[i].start)) return len - pieces.piece[i].start;
+    return 0;
+}
+
 static size_t put(nody_form_t form, uint32_t s, uint8_t *out) {
     uint32_t unit[2] = {s, 0};
     size_t units = 1;
@@ -154,6 +175,15 @@ static int is_recoded_in(nody_form_t from, nody_form_t to, const uint8_t *in, si
     return 0;
 }
 
+/* Where there is room, what is held of the bytes are those at the end that wait for others, and no more. */
+static int is_held(nody_form_t from, nody_form_t to, const uint8_t *in, size_t len) {
+    nody_recoder_t recoder = nody_recoder(from, to);
+    uint8_t *out = fenced_bytes(out_fence, MADE, at_end), held[3];
+    size_t read, written, wait = open_end(from, in, len);
+    if (nody_recoder_feed(&recoder, in, len, out, MADE, &read, &written) != NODY_STATUS_DONE) return 0;
+    return nody_recoder_held(&recoder, held, 3) == wait && memcmp(held, in + len - wait, wait) == 0;
+}
+
 static int is_recoded_at_once(nody_form_t from, nody_form_t to, const uint8_t *in, size_t len, size_t room, const uint8_t *want, size_t need) {
     uint8_t *out = fenced_bytes(out_fence, room, at_end);
     size_t written = MADE + 1;
@@ -174,6 +204,7 @@ static void recodings(nody_form_t from, const uint8_t *in, size_t len, const cut
             holds = holds && is_recoded_at_once(from, to, in, len, room, want, need);
             for (size_t split = 0; split <= len; split++) holds = holds && is_recoded_in(from, to, in, len, split, room, want, need);
         }
+        for (size_t split = 0; split <= len; split++) holds = holds && is_held(from, to, in, split);
         say(from, to, in, len);
         expect(holds && nody_recoded_len(from, to, in, len) == need && need <= nody_recoded_len_max(from, to, len), "recoded", shown);
     }

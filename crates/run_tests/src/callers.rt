@@ -1,5 +1,5 @@
 //! The callers in `uses`, over a damaged log, units with surrogates that stand alone, and a text of several scripts.
-use cuts::Form;
+use cuts::{Form, Recoder};
 use encode_unicode::error::{Utf8ErrorKind, Utf16PairError};
 use encode_unicode::{U16IterExt, Utf8Char};
 use std::process::Abort;
@@ -8,7 +8,7 @@ use uses::cases::are_alike;
 use uses::chains::{last_line, trimmed, units_needed};
 use uses::cursor;
 use uses::merged::split_piece;
-use uses::parts::recode_in_parts;
+use uses::parts::{feed_line, recode_in_parts};
 use uses::recoders::recode;
 use uses::records::{Ending, first_record, next_record};
 use uses::tables::{count_characters, hash_characters};
@@ -93,6 +93,19 @@ fn nothing_after_a_faulty_byte_is_lost(rt: HostRuntime) {
         .map(|error| error.kind());
     assert!(rt; kind == Some(Utf8ErrorKind::InterruptedSequence));
     assert!(rt; rest.eq([0xa1, 0xb2, 0x46, 0x53]));
+}
+
+#[test]
+fn a_line_waits_only_inside_a_character(rt: HostRuntime) -> Result<(), Fail> {
+    let mut recoder = Recoder::new(Form::Utf8, Form::Utf8);
+    let mut out = Vec::new(rt.alloc());
+    assert!(rt; !feed_line(&mut recoder, b"caf\xe9\n", &mut out)?);
+    assert!(rt; out.as_slice() == b"caf\xef\xbf\xbd\n".as_slice());
+    assert!(rt; feed_line(&mut recoder, b"\xe9\x80", &mut out)?);
+    assert!(rt; recoder.held() == b"\xe9\x80".as_slice() && out.len() == 7);
+    assert!(rt; !feed_line(&mut recoder, b"\xb1", &mut out)?);
+    assert!(rt; out.as_slice() == b"caf\xef\xbf\xbd\n\xe9\x80\xb1".as_slice());
+    Ok(())
 }
 
 #[test]

@@ -1,6 +1,7 @@
 //! Text that comes in parts, as from a socket.
-ghost use Rattle.std.specs.Prelude.{◌<◌, ◌++◌, IfOk, flat_map};
-ghost use Rattle.cuts.specs.Recoded.{IsRecoded};
+ghost use Rattle.std.specs.Prelude.{◌≡◌, ◌+◌, ◌<◌, ◌≤◌, ◌++◌, [], length, IfOk, IsTrue, IsFalse, OnOk, flat_map, ℕ, List};
+ghost use Rattle.cuts.specs.Recoded.{Continues, IsRecoded};
+ghost use Rattle.cuts.specs.Undecided.{IsUndecided};
 
 use cuts::{Form, Recoder, laws};
 use std::alloc::{AllocError, Allocator};
@@ -66,4 +67,24 @@ pub fn recode_two<A: Allocator>(
     recoder.feed(second, &mut made)?;
     recoder.finish(&mut made)?;
     Ok(made)
+}
+
+/// Feeds a line of UTF-8, and answers whether the recoder then waits for more. It does so only where the line ends inside a
+/// character, which what follows decides. No recoder that is right whatever follows has put out more by then.
+pub fn feed_line<A: Allocator>(
+    recoder: &mut Recoder,
+    line: &[u8],
+    out: &mut Vec<u8, A>,
+) -> Result<bool, AllocError>
+    requires form { recoder.old.from ≡ Form.Utf8 }
+    requires some { 0 < length line.now }
+    ensures waits { IfOk result (λ waits. IsTrue waits → IsUndecided Form.Utf8 recoder.new.held) }
+    ensures done { IfOk result (λ waits. IsFalse waits → recoder.new.held ≡ []) }
+    ensures form { recoder.new.from ≡ Form.Utf8 }
+    ensures early { OnOk result ((other rest : List ℕ) → Continues Form.Utf8 recoder.old.to (recoder.old.held ++ line.now) other rest → length out.old.items + length other ≤ length out.new.items) }
+{
+    laws::held_is_undecided();
+    laws::nothing_comes_earlier();
+    recoder.feed(line, out)?;
+    Ok(!recoder.held().is_empty())
 }
