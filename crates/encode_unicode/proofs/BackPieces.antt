@@ -29,12 +29,12 @@ module _ {E : Type 0} (answer : List ℕ → Result (ℕ × ℕ) E) (some : (w :
   abbrev taken : ℕ → ℕ → ℕ
   taken i j = (as_piece (answer (slice_range xs i j))).1
 
-  back_none : (n i j : ℕ) → j ≤ i → pieces_back_by answer n xs i j ≡ []
+  pub back_none : (n i j : ℕ) → j ≤ i → pieces_back_by answer n xs i j ≡ []
   unfolding pieces_back_by
   back_none zero i j le = refl
   back_none (suc n) i j le = let yes : nat_le j i ≡ true = grind (arith, common_steps) in rw yes refl
 
-  back_more : (n i j : ℕ) → i < j → pieces_back_by answer (suc n) xs i j ≡ ending_at j (as_piece (answer (slice_range xs i j))) ∷ pieces_back_by answer n xs i (j - taken i j)
+  pub back_more : (n i j : ℕ) → i < j → pieces_back_by answer (suc n) xs i j ≡ ending_at j (as_piece (answer (slice_range xs i j))) ∷ pieces_back_by answer n xs i (j - taken i j)
   unfolding pieces_back_by
   back_more n i j lt = let no : nat_le j i ≡ false = grind (arith, common_steps) in rw no refl
 
