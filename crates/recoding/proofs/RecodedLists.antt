@@ -12,7 +12,7 @@ use Rattle.utf_lanes.specs.BytePairs.{units_of}
 use Rattle.recoding.specs.declared.form.Form.{Form}
 use Rattle.recoding.specs.declared.form.Form.TheVariants.{Utf8, Utf16Le, Utf16Be}
 use Rattle.recoding.specs.Recoded.{IsRecoded, Reads, Recoding, Grows, Feeds, Finishes}
-use Rattle.recoding.specs.RecodedBytes.{IsRecodedApart, RecodedIsOne, outcome, recoded, shown_by}
+use Rattle.recoding.specs.RecodedBytes.{AddsLast, AddsOutcome, KeepsOutcome, IsRecodedApart, RecodedIsOne, outcome, recoded, shown_by}
 use Rattle.recoding.specs.Rooms.{FeedsInto, FinishesInto}
 use Rattle.recoding.specs.Shards.{IsShardEnd}
 use Rattle.recoding.proofs.Growing.{recoded_once, recoded_nothing}
@@ -41,7 +41,7 @@ recoded-nil from to = sym (same_list from to [] [] (recoded_nothing from to))
 
 -- What comes of a recoder.
 
-pub outcome_fed : (r : Recoding) (part old new : List ℕ) (s : Recoding) → Feeds r part old new s → (later : List ℕ) → outcome s new later ≡ outcome r old (part ++ later)
+pub outcome_fed : (r : Recoding) (part old new : List ℕ) (s : Recoding) → Feeds r part old new s → KeepsOutcome r old part new s
 unfolding outcome
 outcome_fed r part old new s f later =
     let g = f.grows in
@@ -67,11 +67,11 @@ outcome_none r old none =
 -- The same of room of a fixed size.
 
 pub outcome_fed_into : (r : Recoding) (part room new : List ℕ) (read wrote : ℕ) (s : Recoding) → FeedsInto r part room new read wrote s
-    → (out later : List ℕ) → outcome s (out ++ take wrote new) later ≡ outcome r out (take read part ++ later)
+    → AddsOutcome r (take read part) (take wrote new) s
 outcome_fed_into r part room new read wrote s f out later = outcome_fed r (take read part) out (out ++ take wrote new) s (f.feeds out) later
 
 pub outcome_finished_into : (r : Recoding) (room new : List ℕ) (wrote : ℕ) (s : Recoding) → FinishesInto r room new wrote s
-    → (out : List ℕ) → outcome s (out ++ take wrote new) [] ≡ outcome r out []
+    → AddsLast r (take wrote new) s
 unfolding outcome
 outcome_finished_into r room new wrote s f out =
     let rest : List ℕ = recoded r.from r.to s.held in

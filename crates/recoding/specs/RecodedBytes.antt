@@ -1,5 +1,5 @@
 -- What bytes of one form are recoded as in another, as one list: the word for callers that state a result.
-use Rattle.std.specs.Prelude.{◌≡◌, ◌↔◌, ℕ, false, true, List, ◌++◌, drop, flat_map, take}
+use Rattle.std.specs.Prelude.{◌≡◌, ◌↔◌, ℕ, false, true, List, [], ◌++◌, drop, flat_map, take}
 use Rattle.utf_base.specs.Code.{utf8, utf16}
 use Rattle.utf_base.proofs.FrontLemmas.{utf8_finds}
 use Rattle.utf_base.proofs.UnitLemmas.{utf16_finds}
@@ -24,6 +24,22 @@ recoded from to bytes = flat_map (written to) (shown_by from bytes)
 -- what an output that holds `out` holds at the end, where these bytes and no more are fed to the recoder and it is finished
 unfoldable pub outcome : Recoding → List ℕ → List ℕ → List ℕ
 outcome r out later = out ++ recoded r.from r.to (r.held ++ later)
+
+-- a part was fed: whatever follows it, the outcome is that of the part and then of what follows
+abbrev pub KeepsOutcome : Recoding → List ℕ → List ℕ → List ℕ → Recoding → Type 0
+KeepsOutcome r old part new s = (later : List ℕ) → outcome s new later ≡ outcome r old (part ++ later)
+
+-- the same of bytes that came of the part, to whatever they are added
+abbrev pub AddsOutcome : Recoding → List ℕ → List ℕ → Recoding → Type 0
+AddsOutcome r part made s = (out : List ℕ) → KeepsOutcome r out part (out ++ made) s
+
+-- these bytes came of the end, and the rest of the outcome still comes
+abbrev pub AddsLast : Recoding → List ℕ → Recoding → Type 0
+AddsLast r made s = (out : List ℕ) → outcome s (out ++ made) [] ≡ outcome r out []
+
+-- these bytes are all that came of the end
+abbrev pub AddsAll : Recoding → List ℕ → Type 0
+AddsAll r made = (out : List ℕ) → out ++ made ≡ outcome r out []
 
 -- bytes are recoded as that list, and as no other
 abbrev pub RecodedIsOne : Type 0

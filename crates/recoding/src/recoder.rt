@@ -1,7 +1,7 @@
 //! Recoding of text that comes in parts, which may be cut anywhere, also inside of a code or of a unit.
 ghost use Rattle.std.specs.Prelude.{◌≡◌, ◌<◌, ◌≤◌, [], ◌+◌, ◌*◌, length, OnOk, OnErr, IsOk, IfErr, vec_len, vec_capacity, ℕ, List, ◌-◌, ◌++◌, take, drop, IsTrue, IsFalse};
 ghost use Rattle.recoding.specs.Recoded.{Feeds, Finishes, Lacks};
-ghost use Rattle.recoding.specs.RecodedBytes.{outcome, recoded};
+ghost use Rattle.recoding.specs.RecodedBytes.{AddsAll, AddsLast, AddsOutcome, KeepsOutcome, outcome, recoded};
 ghost use Rattle.recoding.specs.Rooms.{ComesNearer, FeedsInto, FinishesInto, IsFull, IsLastFull, bytes_left};
 
 use crate::form::Form;
@@ -92,7 +92,7 @@ impl Recoder {
         ensures nothing { length part.now ≡ 0 → IsOk result × (out.new ≡ out.old) }
         ensures unchanged { length part.now ≡ 0 → self.new ≡ self.old }
         ensures succeeds { vec_len out.old + 3 * (length self.old.held + length part.now) ≤ vec_capacity out.old → IsOk result }
-        ensures outcome { OnOk result ((later : List ℕ) → outcome self.new out.new.items later ≡ outcome self.old out.old.items (part.now ++ later)) }
+        ensures outcome { OnOk result (KeepsOutcome self.old out.old.items part.now out.new.items self.new) }
     {
         // To read it tells a proof that few bytes are held, also where the part has none.
         let count = self.count;
@@ -254,7 +254,7 @@ impl Recoder {
         ensures waits { IsFalse result.is_full → Lacks self.old.from self.new.held }
         ensures moves { 4 ≤ length room.old → 0 < length part.now → 0 < result.read + result.written }
         ensures nearer { ComesNearer part.now room.old result.read self.old self.new }
-        ensures outcome { (out later : List ℕ) → outcome self.new (out ++ take result.written room.new) later ≡ outcome self.old out (take result.read part.now ++ later) }
+        ensures outcome { AddsOutcome self.old (take result.read part.now) (take result.written room.new) self.new }
     {
         let first = self.feed_held(part, room);
         if first.is_full || 0 < self.count {
@@ -333,8 +333,8 @@ impl Recoder {
         ensures all { IsFalse result.is_full → self.new.held ≡ [] }
         ensures done { IsFalse result.is_full → (out : List ℕ) → Finishes self.old out (out ++ take result.written room.new) }
         ensures read { result.read ≡ 0 }
-        ensures outcome { (out : List ℕ) → outcome self.new (out ++ take result.written room.new) [] ≡ outcome self.old out [] }
-        ensures outcome_done { IsFalse result.is_full → (out : List ℕ) → out ++ take result.written room.new ≡ outcome self.old out [] }
+        ensures outcome { AddsLast self.old (take result.written room.new) self.new }
+        ensures outcome_done { IsFalse result.is_full → AddsAll self.old (take result.written room.new) }
     {
         if self.count == 0 {
             return progress(0, 0, false);

@@ -1,6 +1,6 @@
 //! Recoding by way of a room of a fixed size, as for a socket that sends packets.
-ghost use Rattle.std.specs.Prelude.{◌≡◌, ◌++◌, ℕ, List, [], IfOk, IsTrue, take};
-ghost use Rattle.cuts.specs.RecodedBytes.{outcome};
+ghost use Rattle.std.specs.Prelude.{◌≡◌, [], IfOk, IsTrue, take};
+ghost use Rattle.cuts.specs.RecodedBytes.{KeepsOutcome, outcome};
 
 use cuts::Recoder;
 use std::alloc::{AllocError, Allocator};
@@ -39,9 +39,9 @@ pub fn feed_packet<A: Allocator>(
     part: &[u8],
     sent: &mut Vec<u8, A>,
 ) -> Result<usize, AllocError>
-    ensures { IfOk result (λ read. (later : List ℕ) → outcome recoder.new sent.new.items later ≡ outcome recoder.old sent.old.items (take read part.now ++ later)) }
+    ensures { IfOk result (λ read. KeepsOutcome recoder.old sent.old.items (take read part.now) sent.new.items recoder.new) }
 {
-    let mut packet = [0; 64];
+    let mut packet = [0; 32];
     let progress = recoder.feed_into(part, &mut packet);
     sent.extend_from_slice(&packet[..progress.written])?;
     Ok(progress.read)
