@@ -1,5 +1,5 @@
 -- A run of a decoder from the back gives the list of its pieces, the last first.
-use Rattle.std.proofs.Common.{◌≡◌, ℕ, zero, suc, ◌+◌, ◌-◌, ◌<◌, ◌≤◌, List, [], ◌∷◌, length, map, false, true, Bool, Option, Some, None, Ok, Err, Result, refl, ap, sym, ◌∙◌, arith, if◌then◌else◌, ⊎_elim}
+use Rattle.std.proofs.Common.{◌≡◌, ℕ, zero, suc, ◌+◌, ◌-◌, ◌<◌, ◌≤◌, List, [], ◌∷◌, false, true, Some, None, Ok, Err, Result, refl, ap, sym, ◌∙◌, arith, if◌then◌else◌, ⊎_elim}
 use Rattle.std.proofs.lemmas.Bool.{cases_lt}
 use Rattle.std.proofs.lemmas.Grind.{common_steps}
 use Rattle.std.specs.Prelude.{◌==◌, nat_le, slice_range}
@@ -9,7 +9,7 @@ use Rattle.utf_base.specs.Kinds.{back_kind, value}
 use Rattle.utf_base.specs.Units.{unit_back_kind}
 use Rattle.encode_unicode.specs.BackPieces.{ending_at, pieces_back_by, pieces_back_left, unit_pieces_back_left}
 use Rattle.encode_unicode.specs.Sources.{IsListed}
-use Rattle.encode_unicode.specs.Window.{Window, Placed, elements, without_back, as_piece, GivesNone, GivesBackOf, NextBackGives, NextBackGivesUnits}
+use Rattle.encode_unicode.specs.Window.{Window, Placed, as_piece, GivesNone, GivesBackOf, NextBackGives, NextBackGivesUnits}
 
 -- each piece has an element
 

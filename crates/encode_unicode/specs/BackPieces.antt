@@ -1,5 +1,5 @@
 -- What whole runs of decoders from the back give, as lists.
-use Rattle.std.specs.Prelude.{◌≡◌, ℕ, zero, suc, ◌-◌, List, [], ◌∷◌, if◌then◌else◌, length, map, nat_le, reverse, slice_range, Result}
+use Rattle.std.specs.Prelude.{◌≡◌, ℕ, zero, suc, ◌-◌, List, [], ◌∷◌, if◌then◌else◌, map, nat_le, reverse, slice_range, Result}
 use Rattle.utf_base.specs.Back.{decoded_end, decoded_pairs_end}
 use Rattle.utf_base.specs.Walk.{piece_of}
 use Rattle.encode_unicode.specs.Window.{Window, Placed, Item, UnitItem, whole_window, as_piece}

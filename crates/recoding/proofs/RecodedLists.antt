@@ -1,5 +1,5 @@
 -- What bytes are recoded as, as one list: parts that are fed, the end, and shards.
-use Rattle.std.proofs.Common.{◌≡◌, ℕ, ◌-◌, ◌≤◌, List, [], ◌∷◌, ◌++◌, length, take, drop, true, false, arith, refl, ap, sym, subst, ◌∙◌, append_assoc, take-append-drop}
+use Rattle.std.proofs.Common.{◌≡◌, ℕ, ◌-◌, ◌≤◌, List, [], ◌∷◌, ◌++◌, length, take, drop, true, false, arith, refl, ap, sym, subst, ◌∙◌, append_assoc}
 use Rattle.std.proofs.lemmas.List.{append-nil, drop_all}
 use Rattle.std.specs.Prelude.{slice_range}
 use Rattle.utf_base.proofs.FrontLemmas.{utf8_finds}
@@ -11,7 +11,7 @@ use Rattle.utf_base.specs.Code.{utf8, utf16}
 use Rattle.utf_lanes.specs.BytePairs.{units_of}
 use Rattle.recoding.specs.declared.form.Form.{Form}
 use Rattle.recoding.specs.declared.form.Form.TheVariants.{Utf8, Utf16Le, Utf16Be}
-use Rattle.recoding.specs.Recoded.{IsRecoded, Reads, Recoding, Grows, Feeds, Finishes}
+use Rattle.recoding.specs.Recoded.{IsRecoded, Reads, Recoding, Feeds, Finishes}
 use Rattle.recoding.specs.RecodedBytes.{AddsLast, AddsOutcome, KeepsOutcome, IsRecodedApart, RecodedIsOne, outcome, recoded, shown_by}
 use Rattle.recoding.specs.Rooms.{FeedsInto, FinishesInto}
 use Rattle.recoding.specs.Shards.{IsShardEnd}

@@ -4,10 +4,8 @@ use encode_unicode::error::{Utf8ErrorKind, Utf16PairError};
 use encode_unicode::{U16IterExt, Utf8Char};
 use std::process::Abort;
 use std::test::Fail;
-use uses::backward;
 use uses::cases::are_alike;
 use uses::chains::{last_line, trimmed, units_needed};
-use uses::cursor;
 use uses::merged::split_piece;
 use uses::parts::{append_shards, recode_in_parts, recode_ring};
 use uses::recoders::recode;
@@ -15,6 +13,7 @@ use uses::records::{Ending, first_record, next_record};
 use uses::rooms::{feed_packet, send_end};
 use uses::tables::{count_characters, hash_characters};
 use uses::tokens::tokens;
+use uses::{backward, cursor};
 
 fn log() -> &'static [u8] {
     b"12:01 caf\xc3\xa9\n12:02 \xe2\x82 7\n\n\xff\xc3\n\xf0\x9f\x82\xa0\xf0\x9f\n"
