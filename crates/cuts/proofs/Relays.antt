@@ -1,5 +1,5 @@
 -- Bytes recoded on their way from a reader to a writer, part by part.
-use Rattle.std.proofs.Common.{◌≡◌, ℕ, ◌+◌, ◌<◌, ◌≤◌, ◌⊎◌, inl, inr, ⊎_elim, List, [], ◌++◌, length, Option, Some, None, refl, ap, sym, ◌∙◌, arith, length-append}
+use Rattle.std.proofs.Common.{◌≡◌, ℕ, ◌+◌, ◌<◌, ◌≤◌, ◌⊎◌, inl, inr, ⊎_elim, List, [], ◌++◌, length, Option, Some, None, refl, ap, sym, subst, ◌∙◌, arith, length-append}
 use Rattle.std.proofs.lemmas.List.{append-nil}
 use Rattle.std.proofs.KnownBytes.{Appends-nil, Appends-trans, Consumes-nil, Consumes-trans, Consumes-kept}
 use Rattle.std.specs.Prelude.{IfSome, OnOk, Result, Ok, Err}
@@ -8,10 +8,12 @@ use Rattle.cuts.specs.declared.programs.relayed.RecodeFault.TheVariants.{Read, W
 use Rattle.std.specs.Io.KnownBytes.{Appends, Consumes, Keeps, IsAtEnd}
 use Rattle.recoding.specs.declared.form.Form.{Form}
 use Rattle.recoding.specs.Recoded.{Recoding, Continues, IsRecoded}
+use Rattle.recoding.specs.RecodedBytes.{recoded}
 use Rattle.cuts.specs.Failures.{AppendsFront}
-use Rattle.cuts.specs.Relayed.{WritesRecoded, BeginsRecoded, Passes, PassesFront, PassesLast, PassesLastFront}
+use Rattle.cuts.specs.Relayed.{AppendsRecoded, WritesRecoded, BeginsRecoded, Passes, PassesFront, PassesLast, PassesLastFront}
 use Rattle.cuts.proofs.Fronts.{AppendsFront-all, AppendsFront-first, AppendsFront-then}
 use Rattle.recoding.proofs.Growing.{Continues-none, Continues-append, Continues-trans, recoded_once}
+use Rattle.recoding.proofs.RecodedLists.{same_list}
 
 -- What was read so far was recoded and written, up to what the recoder holds. Of so many reads each gave a byte, or one
 -- failed.
@@ -223,3 +225,10 @@ pub fails_at_an_end : (fault : RecodeFault) (f g h k : ℕ) → (fault ≡ Read 
 fails_at_an_end Read f g h k reads writes refused = inl (reads refl)
 fails_at_an_end Write f g h k reads writes refused = inr (writes refl)
 fails_at_an_end Memory f g h k reads writes refused = absurd (refused refl)
+
+-- where all of a known input was recoded, its one list was written
+pub AppendsRecoded-of : (from to : Form) (input old new : Option (List ℕ)) → WritesRecoded from to input old new → AppendsRecoded from to input old new
+AppendsRecoded-of from to None old new w = tt
+AppendsRecoded-of from to (Some xs) old new w =
+    let same : w.recoded ≡ recoded from to xs = same_list from to w.bytes w.recoded w.is_recoded ∙ ap (recoded from to) w.read in
+    subst (λ ys. Appends old new ys) same w.written

@@ -3,6 +3,7 @@ use Rattle.std.specs.Prelude.{◌≡◌, ℕ, ◌≤◌, List, [], length, Optio
 use Rattle.std.specs.Io.KnownBytes.{Appends, Consumes}
 use Rattle.recoding.specs.declared.form.Form.{Form}
 use Rattle.cuts.specs.Failures.{AppendsFront}
+use Rattle.recoding.specs.RecodedBytes.{recoded}
 use Rattle.recoding.specs.Recoded.{Recoding, IsRecoded, Continues, Feeds, Finishes}
 
 -- known bytes grew by what the whole input is recoded as
@@ -12,6 +13,10 @@ pub record WritesRecoded (from to : Form) (input old new : Option (List ℕ)) : 
   pub read : IfSome input (λ xs. bytes ≡ xs)
   pub is_recoded : IsRecoded from to bytes recoded
   pub written : Appends old new recoded
+
+-- where the input is known, known bytes grew by the one list that it is recoded as
+abbrev pub AppendsRecoded : Form → Form → Option (List ℕ) → Option (List ℕ) → Option (List ℕ) → Type 0
+AppendsRecoded from to input old new = IfSome input (λ xs. Appends old new (recoded from to xs))
 
 -- so much of the input was read, and known bytes grew by a front of what that is recoded as
 pub record BeginsRecoded (from to : Form) (input_old input_new old new : Option (List ℕ)) : Type 0 where

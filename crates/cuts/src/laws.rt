@@ -1,13 +1,14 @@
 //! The laws of whole runs over bytes, and those of recoding.
 //!
 //! Each function does nothing: its contract is the law.
-ghost use Rattle.std.specs.Prelude.{◌↔◌, is_ok};
+ghost use Rattle.std.specs.Prelude.{◌≡◌, ◌↔◌, is_ok};
 ghost use Rattle.std.specs.Bool.{IsTrue};
 ghost use Rattle.std.specs.List.{list_all};
 ghost use Rattle.std.specs.Str.{IsUtf8};
+ghost use Rattle.encode_unicode.specs.BackPieces.{AreTurned, pieces_back};
 ghost use Rattle.encode_unicode.specs.Mergers.{merged};
 ghost use Rattle.encode_unicode.specs.Pieces.{pieces};
-ghost use Rattle.cuts.specs.ForwardRuns.{PiecesAreTheRun, TextHasNoFault};
+ghost use Rattle.cuts.specs.ForwardRuns.{PiecesAreTheRun, TextHasNoFault, fault_count};
 ghost use Rattle.cuts.specs.EqualRuns.{OneRun, OneMergedRun};
 ghost use Rattle.utf_base.specs.Code.{utf8, utf16};
 ghost use Rattle.utf_base.specs.Kinds.{fault_kind, merger_kind};
@@ -44,4 +45,12 @@ pub fn text_is_all_characters(bytes: &[u8])
 /// The same of a merger: bytes are UTF-8 exactly where each of its answers for them is a character.
 pub fn merged_is_all_characters(bytes: &[u8])
     ensures { IsTrue (list_all (λ r. is_ok r) (merged bytes.now)) ↔ IsUtf8 bytes.now }
+{}
+
+/// From the back a decoder gives the same pieces as from the front, in turned order: characters and invalid bytes, with their
+/// offsets and lengths. The kind of an error may be another.
+#[tactic(auto, using(crate::proofs::TurnedPieces::turned, crate::proofs::TurnedPieces::faults_turned))]
+pub fn pieces_back_are_the_pieces(bytes: &[u8])
+    ensures turned { AreTurned (pieces_back bytes.now) (pieces bytes.now) }
+    ensures faults { fault_count (pieces_back bytes.now) ≡ fault_count (pieces bytes.now) }
 {}

@@ -1,4 +1,5 @@
 pub mod PieceRuns
+pub mod BackPieces
 pub mod AsciiPieces
 pub mod SeenRuns
 pub mod ItemCodes

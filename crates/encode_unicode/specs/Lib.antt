@@ -1,4 +1,5 @@
 pub mod Pieces
+pub mod BackPieces
 pub mod AsciiBytes
 pub mod RunTests
 pub mod GivenBounds

@@ -2,6 +2,7 @@
 ghost use Rattle.std.specs.Prelude.{◌≡◌, length, List, ℕ};
 ghost use Rattle.std.specs.Iterator.Runs.{AllItems, EachRunFrom, EveryRun};
 ghost use Rattle.utf_base.specs.Code.{utf8, utf16};
+ghost use Rattle.encode_unicode.specs.BackPieces.{pieces_back_left, unit_pieces_back_left};
 ghost use Rattle.encode_unicode.specs.Pieces.{GaveAll, GiveAtMost, Gives, LiesWithin, pieces, pieces_left, unit_pieces, unit_pieces_left};
 ghost use Rattle.encode_unicode.specs.Sources.{IsListed};
 ghost use Rattle.encode_unicode.specs.Window.{whole_window, HasCode, NextGives, NextGivesUnits, NextBackGives, NextBackGivesUnits};
@@ -18,6 +19,7 @@ pub trait U8SliceExt<'a>: Sized {
     fn utf8char_indices(self) -> Utf8CharDecoder<'a>
         ensures window { result ≡ whole_window (bytes self) }
         ensures runs { EveryRun NextGives (λ p. Gives p (pieces_left p.from)) }
+        ensures runs_back { EveryRun NextBackGives (λ p. Gives p (pieces_back_left p.from)) }
         ensures listed { IsListed NextGives pieces_left }
         ensures gave { GaveAll NextGives result (pieces (bytes self)) }
         ensures few { GiveAtMost NextGives result (length (bytes self)) }
@@ -48,6 +50,7 @@ pub trait U16SliceExt<'a>: Sized {
     fn utf16char_indices(self) -> Utf16CharDecoder<'a>
         ensures window { result ≡ whole_window (units self) }
         ensures runs { EveryRun NextGivesUnits (λ p. Gives p (unit_pieces_left p.from)) }
+        ensures runs_back { EveryRun NextBackGivesUnits (λ p. Gives p (unit_pieces_back_left p.from)) }
         ensures listed { IsListed NextGivesUnits unit_pieces_left }
         ensures gave { GaveAll NextGivesUnits result (unit_pieces (units self)) }
         ensures few { GiveAtMost NextGivesUnits result (length (units self)) }

@@ -16,6 +16,7 @@ pub mod NarrowedUnits
 pub mod OutputRuns
 pub mod PartLaws
 pub mod Recodes
+pub mod RecodedLists
 pub mod RoomLemmas
 pub mod RoomRuns
 pub mod ShardEnds

@@ -1,4 +1,5 @@
 pub mod Recoded
+pub mod RecodedBytes
 pub mod Rooms
 pub mod OutputRuns
 pub mod Bounds

@@ -3,14 +3,16 @@
 //! Each function does nothing: its contract is the law.
 ghost use Rattle.recoding.specs.Shards.{ShardsJoin};
 ghost use Rattle.recoding.specs.Recoded.{RecodedOnce, PartsAreRecoded, PartsDoNotMatter};
+ghost use Rattle.recoding.specs.RecodedBytes.{RecodedIsOne};
 ghost use Rattle.recoding.specs.Bounds.{RecodedIsBounded, LossyIsBounded, FeedsInRoom, RoomIsLeft, FinishesInRoom};
 ghost use Rattle.recoding.specs.Undecided.{FrontsAreUndecided, LackingTextIsUndecided, LackingUnitsAreUndecided};
 ghost use Rattle.recoding.specs.Undecided.{LackingUnitIsUndecided, NothingComesEarlier};
 ghost use Rattle.recoding.specs.Fed.{NothingIsFed, PartIsFed, FedIsFront, FedIsRecoded, TwoPartsAreOne, TwoPartsAreRecoded};
 
-/// Bytes are recoded in exactly one way.
+/// Bytes are recoded in exactly one way: as the list `recoded`.
 pub fn recoded_once()
-    ensures { RecodedOnce }
+    ensures once { RecodedOnce }
+    ensures list { RecodedIsOne }
 {}
 
 /// What a recoder answers over the parts of an input is what the input is recoded as, however it is cut

@@ -1,6 +1,7 @@
 //! Recoding of text that comes in parts, which may be cut anywhere, also inside of a code or of a unit.
 ghost use Rattle.std.specs.Prelude.{◌≡◌, ◌<◌, ◌≤◌, [], ◌+◌, ◌*◌, length, OnOk, OnErr, IsOk, IfErr, vec_len, vec_capacity, ℕ, List, ◌-◌, ◌++◌, take, drop, IsTrue, IsFalse};
 ghost use Rattle.recoding.specs.Recoded.{Feeds, Finishes, Lacks};
+ghost use Rattle.recoding.specs.RecodedBytes.{AddsAll, AddsLast, AddsOutcome, KeepsOutcome, outcome, recoded};
 ghost use Rattle.recoding.specs.Rooms.{ComesNearer, FeedsInto, FinishesInto, IsFull, IsLastFull, bytes_left};
 
 use crate::form::Form;
@@ -57,8 +58,10 @@ impl From<Unfinished> for AllocError {
 
 impl Recoder {
     /// A recoder that holds nothing.
+    #[tactic(auto, unfolding(crate::specs::RecodedBytes::outcome))]
     pub fn new(from: Form, to: Form) -> Recoder
-        ensures { result ≡ record { from = from; to = to; held = [] } }
+        ensures nothing { result ≡ record { from = from; to = to; held = [] } }
+        ensures outcome { (out later : List ℕ) → outcome result out later ≡ out ++ recoded from to later }
     {
         Recoder {
             count: 0,
@@ -76,6 +79,7 @@ impl Recoder {
     ///
     /// Cost: O(n) in the part, allocates at most three bytes for each that is held or in the part.
     #[inline]
+    #[tactic(auto, using(crate::proofs::RecodedLists::outcome_fed))]
     pub fn feed<A: Allocator>(
         &mut self,
         part: &[u8],
@@ -88,6 +92,7 @@ impl Recoder {
         ensures nothing { length part.now ≡ 0 → IsOk result × (out.new ≡ out.old) }
         ensures unchanged { length part.now ≡ 0 → self.new ≡ self.old }
         ensures succeeds { vec_len out.old + 3 * (length self.old.held + length part.now) ≤ vec_capacity out.old → IsOk result }
+        ensures outcome { OnOk result (KeepsOutcome self.old out.old.items part.now out.new.items self.new) }
     {
         // To read it tells a proof that few bytes are held, also where the part has none.
         let count = self.count;
@@ -179,12 +184,14 @@ impl Recoder {
     ///
     /// Cost: constant, allocates at most nine bytes.
     #[inline(always)]
+    #[tactic(auto, using(crate::proofs::RecodedLists::outcome_finished))]
     pub fn finish<A: Allocator>(self, out: &mut Vec<u8, A>) -> Result<(), Unfinished>
         ensures ok { OnOk result (Finishes self out.old.items out.new.items) }
         ensures err { IfErr result (λ e. e.recoder ≡ self) }
         ensures unwritten { OnErr result (out.new.items ≡ out.old.items) }
         ensures nothing { length self.held ≡ 0 → IsOk result }
         ensures succeeds { vec_len out.old + 3 * length self.held ≤ vec_capacity out.old → IsOk result }
+        ensures outcome { OnOk result (out.new.items ≡ outcome self out.old.items []) }
     {
         if self.count == 0 {
             return Ok(());
@@ -247,6 +254,7 @@ impl Recoder {
         ensures waits { IsFalse result.is_full → Lacks self.old.from self.new.held }
         ensures moves { 4 ≤ length room.old → 0 < length part.now → 0 < result.read + result.written }
         ensures nearer { ComesNearer part.now room.old result.read self.old self.new }
+        ensures outcome { AddsOutcome self.old (take result.read part.now) (take result.written room.new) self.new }
     {
         let first = self.feed_held(part, room);
         if first.is_full || 0 < self.count {
@@ -325,6 +333,8 @@ impl Recoder {
         ensures all { IsFalse result.is_full → self.new.held ≡ [] }
         ensures done { IsFalse result.is_full → (out : List ℕ) → Finishes self.old out (out ++ take result.written room.new) }
         ensures read { result.read ≡ 0 }
+        ensures outcome { AddsLast self.old (take result.written room.new) self.new }
+        ensures outcome_done { IsFalse result.is_full → AddsAll self.old (take result.written room.new) }
     {
         if self.count == 0 {
             return progress(0, 0, false);

@@ -3,6 +3,7 @@ ghost use Rattle.std.specs.Prelude.{ℕ, ◌+◌, ◌<◌, ◌≤◌, length, mi
 ghost use Rattle.utf_base.specs.Code.{utf8, utf16};
 ghost use Rattle.utf_base.specs.Piece.{Stands};
 ghost use Rattle.utf_lanes.specs.BytePairs.{units_of};
+ghost use Rattle.recoding.specs.RecodedBytes.{IsRecodedApart};
 ghost use Rattle.recoding.specs.Shards.{IsLastShardEnd, IsLastOutside, LiesOver, IsLastUnitsEnd};
 
 use crate::form::Form;
@@ -14,9 +15,11 @@ use utf_lanes::byte_pairs::unit;
 ///
 /// What stands before it and what stands after it can be converted apart, also on several machines,
 /// and joined: the law `shards_join`. Six bytes around `at` are looked at.
+#[tactic(auto, using(crate::proofs::RecodedLists::recoded_apart))]
 pub fn shard_end(from: Form, bytes: &[u8], at: usize) -> usize
     ensures end { IsLastShardEnd from bytes.now at result }
     ensures near { min at (length bytes.now) ≤ result + 3 }
+    ensures joined { IsRecodedApart from bytes.now result }
 {
     if bytes.len() <= at {
         return bytes.len();

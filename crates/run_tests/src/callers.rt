@@ -6,13 +6,14 @@ use std::process::Abort;
 use std::test::Fail;
 use uses::cases::are_alike;
 use uses::chains::{last_line, trimmed, units_needed};
-use uses::cursor;
 use uses::merged::split_piece;
-use uses::parts::{feed_line, recode_in_parts};
+use uses::parts::{feed_line, recode_in_parts, append_shards, recode_ring};
 use uses::recoders::recode;
 use uses::records::{Ending, first_record, next_record};
+use uses::rooms::{feed_packet, send_end};
 use uses::tables::{count_characters, hash_characters};
 use uses::tokens::tokens;
+use uses::{backward, cursor};
 
 fn log() -> &'static [u8] {
     b"12:01 caf\xc3\xa9\n12:02 \xe2\x82 7\n\n\xff\xc3\n\xf0\x9f\x82\xa0\xf0\x9f\n"
@@ -175,4 +176,44 @@ fn chains_run_from_the_back(rt: HostRuntime) {
     assert!(rt; trimmed("  é 🂠  ") == "  é 🂠");
     assert!(rt; trimmed("   ").is_empty());
     assert!(rt; units_needed("é🂠a") == 4);
+}
+
+// As Python encodes "a€", U+FFFD and U+1F0A0.
+#[test]
+fn a_ring_and_shards_are_recoded_as_one_text(rt: HostRuntime) -> Result<(), Fail> {
+    let want = b"\0a\x20\xac\xff\xfd\xd8\x3c\xdc\xa0";
+    let ring = b"\x82\xac\xff\xf0\x9f\x82\xa0a\xe2";
+    let made = recode_ring(rt.alloc(), Form::Utf8, Form::Utf16Be, ring, 7)?;
+    assert!(rt; made.as_slice() == want.as_slice());
+    let whole = b"a\xe2\x82\xac\xff\xf0\x9f\x82\xa0";
+    for at in 0..=10 {
+        let mut out = Vec::new(rt.alloc());
+        append_shards(&mut out, Form::Utf8, Form::Utf16Be, whole, at)?;
+        assert!(rt; out.as_slice() == want.as_slice(), "cut at {at}");
+    }
+    Ok(())
+}
+
+#[test]
+fn a_character_that_is_cut_off_is_sent_at_the_end(rt: HostRuntime) -> Result<(), Fail> {
+    let mut recoder = Recoder::new(Form::Utf8, Form::Utf16Be);
+    let mut sent = Vec::new(rt.alloc());
+    let read = feed_packet(&mut recoder, b"a\xe2\x82\xac\xf0\x9f\x82", &mut sent)?;
+    assert!(rt; read == 7 && sent.len() == 4);
+    assert!(rt; send_end(&mut recoder, &mut sent)?);
+    assert!(rt; sent.as_slice() == b"\0a\x20\xac\xff\xfd\xff\xfd\xff\xfd".as_slice());
+    Ok(())
+}
+
+#[test]
+fn chains_from_the_back_give_the_same_pieces(rt: HostRuntime) {
+    let bytes = b"a\xff\xe2\x82\xac\xe2\x82";
+    assert!(rt; backward::fault_count(bytes) == 3);
+    let last = backward::last_fault(bytes).map(|x| x.0);
+    assert!(rt; last == Some(6));
+    assert!(rt; backward::faults_at_end(bytes) == Some(2));
+    assert!(rt; backward::has_no_fault(&bytes[2..5]) && !backward::has_no_fault(bytes));
+    let first = backward::first_piece(bytes).map(|x| (x.0, x.1.is_ok(), x.2));
+    assert!(rt; first == Some((0, true, 1)));
+    assert!(rt; backward::unit_fault_count(&[0x61, 0xd800, 0xd83d, 0xde00]) == 1);
 }

@@ -8,6 +8,7 @@ use encode_unicode::Utf8Char;
 
 pub mod alike;
 pub mod asked;
+pub mod backward;
 pub mod blocks;
 pub mod boundaries;
 pub mod bounds;

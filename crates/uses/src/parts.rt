@@ -1,9 +1,10 @@
 //! Text that comes in parts, as from a socket.
-ghost use Rattle.std.specs.Prelude.{◌≡◌, ◌+◌, ◌<◌, ◌≤◌, ◌++◌, [], length, IfOk, IsTrue, IsFalse, OnOk, flat_map, ℕ, List};
+ghost use Rattle.std.specs.Prelude.{◌≡◌, ◌+◌, ◌<◌, ◌≤◌, ◌++◌, [], length, IfOk, IsTrue, IsFalse, OnOk, flat_map, ℕ, List, drop, take};
 ghost use Rattle.cuts.specs.Recoded.{Continues, IsRecoded};
 ghost use Rattle.cuts.specs.Undecided.{IsUndecided};
+ghost use Rattle.cuts.specs.RecodedBytes.{recoded};
 
-use cuts::{Form, Recoder, laws};
+use cuts::{Form, Recoder, laws, shard_end};
 use std::alloc::{AllocError, Allocator};
 
 /// The bytes in another form of text, recoded in parts of so many bytes, which end where they end: inside of a
@@ -38,9 +39,8 @@ pub fn recode_parts<A: Allocator>(
     to: Form,
     parts: &[Vec<u8>],
 ) -> Result<Vec<u8, A>, AllocError>
-    ensures { IfOk result (λ out. IsRecoded from to (flat_map (λ part. part.items) parts.now) out.items) }
+    ensures { IfOk result (λ out. out.items ≡ recoded from to (flat_map (λ part. part.items) parts.now)) }
 {
-    laws::parts_are_one_part();
     let mut joined = Vec::new(alloc);
     let mut recoder = Recoder::new(from, to);
     for part in parts {
@@ -50,7 +50,7 @@ pub fn recode_parts<A: Allocator>(
     Ok(joined)
 }
 
-/// The same of two parts, as of a buffer that wraps.
+/// The same of two parts.
 pub fn recode_two<A: Allocator>(
     alloc: A,
     from: Form,
@@ -58,15 +58,58 @@ pub fn recode_two<A: Allocator>(
     first: &[u8],
     second: &[u8],
 ) -> Result<Vec<u8, A>, AllocError>
-    ensures { IfOk result (λ out. IsRecoded from to (first.now ++ second.now) out.items) }
+    ensures { IfOk result (λ out. out.items ≡ recoded from to (first.now ++ second.now)) }
 {
-    laws::parts_are_one_part();
     let mut made = Vec::new(alloc);
     let mut recoder = Recoder::new(from, to);
     recoder.feed(first, &mut made)?;
     recoder.feed(second, &mut made)?;
     recoder.finish(&mut made)?;
     Ok(made)
+}
+
+/// The same of a ring of bytes, which begins at a place and goes on at the front.
+pub fn recode_ring<A: Allocator>(
+    alloc: A,
+    from: Form,
+    to: Form,
+    ring: &[u8],
+    start: usize,
+) -> Result<Vec<u8, A>, AllocError>
+    requires { start ≤ length ring.now }
+    ensures { IfOk result (λ out. out.items ≡ recoded from to (drop start ring.now ++ take start ring.now)) }
+{
+    recode_two(alloc, from, to, &ring[start..], &ring[..start])
+}
+
+/// Appends the bytes in another form of text, in one part.
+pub fn append_recoded<A: Allocator>(
+    out: &mut Vec<u8, A>,
+    from: Form,
+    to: Form,
+    bytes: &[u8],
+) -> Result<(), AllocError>
+    ensures { OnOk result (out.new.items ≡ out.old.items ++ recoded from to bytes.now) }
+{
+    let mut recoder = Recoder::new(from, to);
+    recoder.feed(bytes, out)?;
+    recoder.finish(out)?;
+    Ok(())
+}
+
+/// The same in two shards, the first of which ends at this place or just before it.
+pub fn append_shards<A: Allocator>(
+    out: &mut Vec<u8, A>,
+    from: Form,
+    to: Form,
+    bytes: &[u8],
+    at: usize,
+) -> Result<(), AllocError>
+    ensures { OnOk result (out.new.items ≡ out.old.items ++ recoded from to bytes.now) }
+{
+    let end = shard_end(from, bytes, at);
+    append_recoded(out, from, to, &bytes[..end])?;
+    append_recoded(out, from, to, &bytes[end..])
 }
 
 /// Feeds a line of UTF-8, and answers whether the recoder then waits for more. It does so only where the line ends inside a

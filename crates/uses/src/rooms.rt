@@ -1,6 +1,6 @@
 //! Recoding by way of a room of a fixed size, as for a socket that sends packets.
-ghost use Rattle.std.specs.Prelude.{OnOk};
-ghost use Rattle.cuts.specs.Recoded.{Feeds};
+ghost use Rattle.std.specs.Prelude.{◌≡◌, [], IfOk, IsTrue, take};
+ghost use Rattle.cuts.specs.RecodedBytes.{KeepsOutcome, outcome};
 
 use cuts::Recoder;
 use std::alloc::{AllocError, Allocator};
@@ -31,4 +31,31 @@ pub fn count_calls(recoder: &mut Recoder, part: &[u8]) -> usize {
         calls = calls.saturating_add(1);
     }
     calls
+}
+
+/// Feeds what one packet has room for, and answers how many bytes of the part that are.
+pub fn feed_packet<A: Allocator>(
+    recoder: &mut Recoder,
+    part: &[u8],
+    sent: &mut Vec<u8, A>,
+) -> Result<usize, AllocError>
+    ensures { IfOk result (λ read. KeepsOutcome recoder.old sent.old.items (take read part.now) sent.new.items recoder.new) }
+{
+    let mut packet = [0; 32];
+    let progress = recoder.feed_into(part, &mut packet);
+    sent.extend_from_slice(&packet[..progress.written])?;
+    Ok(progress.read)
+}
+
+/// Sends what still comes after the last part, and answers whether that is all.
+pub fn send_end<A: Allocator>(
+    recoder: &mut Recoder,
+    sent: &mut Vec<u8, A>,
+) -> Result<bool, AllocError>
+    ensures { IfOk result (λ is_all. IsTrue is_all → sent.new.items ≡ outcome recoder.old sent.old.items []) }
+{
+    let mut packet = [0; 16];
+    let progress = recoder.finish_into(&mut packet);
+    sent.extend_from_slice(&packet[..progress.written])?;
+    Ok(!progress.is_full)
 }

@@ -1,7 +1,7 @@
 //! Recoding from a reader to a writer.
 ghost use Rattle.std.specs.Prelude.{◌≡◌, ◌≢◌, ◌-◌, ◌^◌, ◌<◌, [], length, false, Some, IfSome, OnOk};
 ghost use Rattle.cuts.specs.Endings.{IsDrained};
-ghost use Rattle.cuts.specs.Relayed.{WritesRecoded, BeginsRecoded, HoldsBack, Passes, PassesFront, PassesLast, PassesLastFront};
+ghost use Rattle.cuts.specs.Relayed.{AppendsRecoded, WritesRecoded, BeginsRecoded, HoldsBack, Passes, PassesFront, PassesLast, PassesLastFront};
 
 use crate::counted::Counted;
 use crate::streams::write_whole;
@@ -41,6 +41,8 @@ pub fn recode<A: Allocator, R: Read, W: Write>(
     to: Form,
 ) -> Result<(), RecodeFault>
     ensures recoded { OnOk result (WritesRecoded from to (R.remaining input.old.inner)
+        (W.contents out.old.inner) (W.contents out.new.inner)) }
+    ensures list { OnOk result (AppendsRecoded from to (R.remaining input.old.inner)
         (W.contents out.old.inner) (W.contents out.new.inner)) }
     ensures front { BeginsRecoded from to (R.remaining input.old.inner) (R.remaining input.new.inner)
         (W.contents out.old.inner) (W.contents out.new.inner) }

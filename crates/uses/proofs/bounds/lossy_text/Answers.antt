@@ -13,9 +13,9 @@ recoded_at_once r s bytes old out new empty none fed last =
     fed_is_recoded Utf8 Utf8 bytes bytes out new s whole last refl
 
 pub returns-clause-text : goal.returns-clause-text
-returns-clause-text g c = recoded_at_once _ _ _ _ _ _ c.new-recoder.ensures c.in_ok-out.ensures.items c.in_ok-feed.ensures.ok c.in_ok-finish.ensures.ok
+returns-clause-text g c = recoded_at_once _ _ _ _ _ _ c.new-recoder.ensures.nothing c.in_ok-out.ensures.items c.in_ok-feed.ensures.ok c.in_ok-finish.ensures.ok
 
 pub returns-clause-most : goal.returns-clause-most
 returns-clause-most g c =
     c.recoded_is_bounded.ensures.lossy _ _
-    (recoded_at_once _ _ _ _ _ _ c.new-recoder.ensures c.in_ok-out.ensures.items c.in_ok-feed.ensures.ok c.in_ok-finish.ensures.ok)
+    (recoded_at_once _ _ _ _ _ _ c.new-recoder.ensures.nothing c.in_ok-out.ensures.items c.in_ok-feed.ensures.ok c.in_ok-finish.ensures.ok)

@@ -1,6 +1,6 @@
 use Rattle.std.proofs.Common.{rules, arith, refl, ap, ◌∙◌, Err, length}
 use Rattle.std.proofs.lemmas.Result.{on_ok_weaker}
-use Rattle.cuts.proofs.Relays.{IsRelayed-none, IsRelayed-part, IsRelayed-idle, IsRelayed-all, IsRelayed-long, BeginsRecoded-end, BeginsRecoded-fault, BeginsRecoded-now, from_nothing, still_nothing}
+use Rattle.cuts.proofs.Relays.{AppendsRecoded-of, IsRelayed-none, IsRelayed-part, IsRelayed-idle, IsRelayed-all, IsRelayed-long, BeginsRecoded-end, BeginsRecoded-fault, BeginsRecoded-now, from_nothing, still_nothing}
 use Rattle.std.proofs.KnownBytes.{Keeps-refl}
 use Rattle.cuts.proofs.Readings.{still_false, still_early, is_end-some}
 use Rattle.cuts.proofs.programs.relayed.recode.Goals.{in-Ok+in_ok-pass-in-Ok, in-Err}
@@ -9,14 +9,14 @@ use Rattle.cuts.proofs.programs.relayed.recode.Goals as goal
 pub loop-init : goal.loop-init
 loop-init g c = record {
   empty = c.new-recoded.ensures.items;
-  relayed = IsRelayed-none _ _ _ _ _ _ c.new-recoder.ensures;
+  relayed = IsRelayed-none _ _ _ _ _ _ c.new-recoder.ensures.nothing;
   never_fewer = search rules;
   quiet = refl;
   unbroken = refl;
   unended = λ open_yet. open_yet;
   in_time = λ open_yet. refl;
   drained = λ none. none;
-  unheld = λ none. ap (λ r. r.held) c.new-recoder.ensures;
+  unheld = λ none. ap (λ r. r.held) c.new-recoder.ensures.nothing;
   extras = refl;
 }
 
@@ -64,6 +64,9 @@ pub returns-in-Ok-eq0-clause-recoded : goal.returns-in-Ok-eq0-clause-recoded
 returns-in-Ok-eq0-clause-recoded g c =
     let read = rw (c.in-Ok-eq0.is, c.in-Ok-eq0.field-0-test) at c.take.ensures.consumes in
     on_ok_weaker c.pass_last.result (IsRelayed-all _ _ _ _ _ _ _ _ _ _ _ _ c.loop.invariant.relayed read.0 (read.1 refl (search rules))) c.pass_last.ensures.passes
+
+pub returns-in-Ok-eq0-clause-list : goal.returns-in-Ok-eq0-clause-list
+returns-in-Ok-eq0-clause-list g c = on_ok_weaker c.pass_last.result (AppendsRecoded-of _ _ _ _ _) (returns-in-Ok-eq0-clause-recoded g c)
 
 pub returns-clause-cannot_read : goal.returns-clause-cannot_read
 returns-clause-cannot_read g c e = IsRelayed-long _ _ _ _ _ _ _ _ _ _ _ c.loop.invariant.relayed c.loop-test.false

@@ -2,6 +2,7 @@ use Rattle.std.proofs.Common.{◌≡◌, ◌+◌, ◌≤◌, [], length, take, d
 use Rattle.std.proofs.lemmas.List.{take_rest}
 use Rattle.recoding.specs.Recoded.{Grows}
 use Rattle.recoding.proofs.RoomLemmas.{FeedsInto-then, IsFull-then}
+use Rattle.recoding.proofs.RecodedLists.{outcome_fed_into}
 use Rattle.recoding.proofs.recoder.Recoder.feed_into.Goals as goal
 
 pub returns-clause-feeds : goal.returns-clause-feeds
@@ -34,3 +35,9 @@ returns-clause-full c is =
     rw (sym c.feed_held-first.auto.room)
     (IsFull-then c.feed_held-first.new.self c.hold.new.self c.self.inside.from c.self.inside.to c.args.part.now first.read c.recode_into-then.result.read c.min-end.result _
     (ap (λ x. x.from) c.self.view_is) (ap (λ x. x.to) c.self.view_is) (omega arith) (rw rest at c.hold.ensures) (rw rest at (c.recode_into-then.ensures.full is)))
+
+pub returns-then-first-clause-outcome : goal.returns-then-first-clause-outcome
+returns-then-first-clause-outcome c = outcome_fed_into _ _ _ _ _ _ _ c.feed_held-first.ensures.feeds
+
+pub returns-clause-outcome : goal.returns-clause-outcome
+returns-clause-outcome c = outcome_fed_into _ _ _ _ _ _ _ (returns-clause-feeds c)

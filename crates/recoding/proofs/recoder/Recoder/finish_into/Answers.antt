@@ -2,6 +2,7 @@ use Rattle.std.proofs.Common.{◌≡◌, ◌≤◌, List, ℕ, [], take, drop, a
 use Rattle.std.proofs.lemmas.List.{append-nil, drop_all}
 use Rattle.recoding.specs.Rooms.{FinishesInto}
 use Rattle.recoding.proofs.RoomLemmas.{cut_part, FinishesInto-of, Finishes-of, IsLastFull-of}
+use Rattle.recoding.proofs.RecodedLists.{outcome_finished, outcome_finished_into}
 use Rattle.recoding.proofs.recoder.Recoder.finish_into.Goals as goal
 
 pub returns-then-self-eq0-clause-done : goal.returns-then-self-eq0-clause-done
@@ -46,3 +47,12 @@ returns-clause-done c whole =
     let le : done.read ≤ c.join-len.result.1 = omega (arith, length-take c.join-len.result.1 c.join-len.result.0) in
     let none : c.hold.new.self.held ≡ [] = ap (λ x. x.held) c.hold.ensures ∙ cut_part done.read c.join-len.result.1 c.join-len.result.0 le ∙ drop_all done.read bytes (omega arith) in
     Finishes-of c.args.self.now c.hold.new.self c.args.room.now c.recode_last_into-done.new.room done.written (returns-clause-finishes c) none
+
+pub returns-then-self-eq0-clause-outcome_done : goal.returns-then-self-eq0-clause-outcome_done
+returns-then-self-eq0-clause-outcome_done c whole out = outcome_finished c.args.self.now out _ (returns-then-self-eq0-clause-done c whole out)
+
+pub returns-clause-outcome : goal.returns-clause-outcome
+returns-clause-outcome c = outcome_finished_into _ _ _ _ _ (returns-clause-finishes c)
+
+pub returns-clause-outcome_done : goal.returns-clause-outcome_done
+returns-clause-outcome_done c whole out = outcome_finished c.args.self.now out _ (returns-clause-done c whole out)

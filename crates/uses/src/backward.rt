@@ -1,0 +1,60 @@
+//! Chains over a decoder from the back: what a chain answers is said of `pieces_back`, the list of what `rev` gives.
+ghost use Rattle.std.specs.Prelude.{◌≡◌, None, count_by, is_err, is_ok, position};
+ghost use Rattle.std.specs.List.{find, last_or, list_all};
+ghost use Rattle.encode_unicode.specs.BackPieces.{pieces_back, unit_pieces_back};
+ghost use Rattle.encode_unicode.specs.Pieces.{pieces};
+
+use cuts::laws;
+use encode_unicode::error::Utf8Error;
+use encode_unicode::{U8SliceExt, U16SliceExt, Utf8Char};
+
+/// The last fault, with its place.
+pub fn last_fault(bytes: &[u8]) -> Option<(usize, Result<Utf8Char, Utf8Error>, usize)>
+    ensures { result ≡ find (λ x. is_err x.1) (pieces_back bytes.now) }
+{
+    bytes.utf8char_indices().rev().find(|x| x.1.is_err())
+}
+
+/// How many faults the bytes end with: with those of a character that was cut off. `None` where there is nothing else.
+pub fn faults_at_end(bytes: &[u8]) -> Option<usize>
+    ensures { result ≡ position (λ x. is_ok x.1) (pieces_back bytes.now) }
+{
+    bytes.utf8char_indices().rev().position(|x| x.1.is_ok())
+}
+
+/// How many pieces of the bytes are faults, which is the same from either end.
+pub fn fault_count(bytes: &[u8]) -> usize
+    ensures { result ≡ count_by (λ x. is_err x.1) (pieces bytes.now) }
+{
+    laws::pieces_back_are_the_pieces(bytes);
+    bytes
+        .utf8char_indices()
+        .rev()
+        .filter(|x| x.1.is_err())
+        .count()
+}
+
+/// Whether no piece is a fault, asked from the back.
+pub fn has_no_fault(bytes: &[u8]) -> bool
+    ensures { result ≡ list_all (λ x. is_ok x.1) (pieces_back bytes.now) }
+{
+    bytes.utf8char_indices().rev().all(|x| x.1.is_ok())
+}
+
+/// The first piece, as the last one from the back.
+pub fn first_piece(bytes: &[u8]) -> Option<(usize, Result<Utf8Char, Utf8Error>, usize)>
+    ensures { result ≡ last_or None (pieces_back bytes.now) }
+{
+    bytes.utf8char_indices().rev().last()
+}
+
+/// How many pieces of the units are faults, from the back.
+pub fn unit_fault_count(units: &[u16]) -> usize
+    ensures { result ≡ count_by (λ x. is_err x.1) (unit_pieces_back units.now) }
+{
+    units
+        .utf16char_indices()
+        .rev()
+        .filter(|x| x.1.is_err())
+        .count()
+}
