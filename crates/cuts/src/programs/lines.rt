@@ -115,14 +115,17 @@ impl Lines {
         Ok(())
     }
 
+    // Each of these reads the length before it writes, since a compiler takes it that a write may change it.
+
     /// Adds one byte.
     #[inline(always)]
     pub(crate) fn push(&mut self, byte: u8)
         requires { length self.old < ROOM }
         ensures { self.new ≡ self.old ++ byte ∷ [] }
     {
-        self.bytes[self.len] = byte;
-        self.len += 1;
+        let start = self.len;
+        self.bytes[start] = byte;
+        self.len = start + 1;
     }
 
     /// Adds these bytes.
@@ -131,8 +134,9 @@ impl Lines {
         requires { length self.old + length text.now ≤ ROOM }
         ensures { self.new ≡ self.old ++ text.now }
     {
-        let end = self.len + text.len();
-        self.bytes[self.len..end].copy_from_slice(text);
+        let start = self.len;
+        let end = start + text.len();
+        self.bytes[start..end].copy_from_slice(text);
         self.len = end;
     }
 
@@ -147,10 +151,21 @@ impl Lines {
         if n < 10 {
             self.push(b'0' + n as u8);
         } else {
-            let mut buffer = [0; 2 * DECIMAL_ROOM];
-            let start = fill_decimal(n, &mut buffer[..DECIMAL_ROOM]);
-            self.push_front(&buffer[start..start + DECIMAL_ROOM], DECIMAL_ROOM - start);
+            self.push_digits(n);
         }
+    }
+
+    // Adds them as they are divided out.
+    #[inline(never)]
+    #[tactic(auto, using(crate::proofs::Decimal::decimal_steps))]
+    fn push_digits(&mut self, n: usize)
+        requires { length self.old + DECIMAL_ROOM ≤ ROOM }
+        ensures digits { self.new ≡ self.old ++ decimal n }
+        ensures length { length self.new ≤ length self.old + DECIMAL_ROOM }
+    {
+        let mut buffer = [0; 2 * DECIMAL_ROOM];
+        let start = fill_decimal(n, &mut buffer[..DECIMAL_ROOM]);
+        self.push_front(&buffer[start..start + DECIMAL_ROOM], DECIMAL_ROOM - start);
     }
 
     /// Adds the first bytes of the source. The others are copied too, after the end of the lines, since a copy
@@ -162,8 +177,9 @@ impl Lines {
         requires room { length self.old + DECIMAL_ROOM ≤ ROOM }
         ensures { self.new ≡ self.old ++ take count source.now }
     {
-        self.bytes[self.len..self.len + DECIMAL_ROOM].copy_from_slice(source);
-        self.len += count;
+        let start = self.len;
+        self.bytes[start..start + DECIMAL_ROOM].copy_from_slice(source);
+        self.len = start + count;
     }
 
     /// Adds the number in six hexadecimal digits, leading zeros among them.
