@@ -6,7 +6,7 @@ use Rattle.std.proofs.lemmas.Grind.{common_steps}
 use Rattle.std.specs.Io.KnownBytes.{Appends}
 use Rattle.std.proofs.KnownBytes.{Appends-nil, Appends-trans}
 use Rattle.cuts.specs.Failures.{AppendsFront}
-use Rattle.cuts.specs.Written.{Sends, WritesLines}
+use Rattle.cuts.specs.Written.{WritesLines}
 use Rattle.cuts.proofs.Fronts.{AppendsFront-first, AppendsFront-then}
 
 pub flat_map-append : {X : Type 0} (line : X → List ℕ) (xs ys : List X) → flat_map line (xs ++ ys) ≡ flat_map line xs ++ flat_map line ys
@@ -21,6 +21,12 @@ count_by-one wrong x = grind (arith, common_steps)
 -- the line of one entry
 pub flat_map-one : {X : Type 0} (line : X → List ℕ) (x : X) → flat_map line (x ∷ []) ≡ line x
 flat_map-one line x = grind (arith, common_steps)
+
+-- of bytes that were held, the first were written and the others are left
+pub record Sends (old new : Option (List ℕ)) (held left : List ℕ) : Type 0 where
+  pub sent : List ℕ
+  pub written : Appends old new sent
+  pub rest : held ≡ sent ++ left
 
 -- The lines of these entries, of which so many are error lines: known bytes grew by the first of them, and the others are held.
 pub record HoldsLines {X : Type 0} (line : X → List ℕ) (wrong : X → Bool) (entries : List X) (old new : Option (List ℕ)) (held : List ℕ) (faults : ℕ) : Type 0 where

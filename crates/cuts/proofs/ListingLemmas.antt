@@ -7,10 +7,9 @@ use Rattle.cuts.specs.Lines.{item_line}
 use Rattle.cuts.specs.ForwardRuns.{is_fault}
 use Rattle.cuts.specs.Layouts.{WritesListing, WritesListingFront}
 use Rattle.cuts.specs.Listings.{listing}
-use Rattle.cuts.specs.Written.{Sends}
 use Rattle.cuts.proofs.ForwardRuns.{IsRunSoFar, IsRunSoFar-none, IsRunSoFar-push, IsForwardRun-all, item_some, GoesOn-always}
 use Rattle.cuts.proofs.Fronts.{AppendsFront-none, AppendsFront-all, AppendsFront-first}
-use Rattle.cuts.proofs.LineLemmas.{AppendsFront-held, HoldsLines, HoldsLines-none, HoldsLines-push, HoldsLines-sent, WritesLines-held, flat_map-append}
+use Rattle.cuts.proofs.LineLemmas.{AppendsFront-held, HoldsLines, HoldsLines-none, HoldsLines-push, HoldsLines-sent, Sends, WritesLines-held, flat_map-append}
 
 -- a test counts one at most
 one_at_most : (b : Bool) → (if b then 1 else 0) ≤ 1

@@ -1,5 +1,5 @@
 -- What is written of some entries, a line for each.
-use Rattle.std.specs.Prelude.{◌≡◌, ℕ, Bool, List, ◌++◌, Option, Result, flat_map, count_by, is_err}
+use Rattle.std.specs.Prelude.{◌≡◌, ℕ, Bool, List, Option, Result, flat_map, count_by, is_err}
 use Rattle.std.specs.Io.KnownBytes.{Appends}
 use Rattle.utf_base.specs.declared.errors.Utf8ErrorKind.{Utf8ErrorKind}
 use Rattle.encode_unicode.specs.Window.{Item}
@@ -9,12 +9,6 @@ use Rattle.cuts.specs.Lines.{answer_line, step_line, is_fault_step}
 pub record WritesLines {X : Type 0} (line : X → List ℕ) (wrong : X → Bool) (entries : List X) (old new : Option (List ℕ)) (faults : ℕ) : Type 0 where
   pub written : Appends old new (flat_map line entries)
   pub counted : faults ≡ count_by wrong entries
-
--- of the bytes that are held, known bytes grew by those that are left no more
-pub record Sends (old new : Option (List ℕ)) (held left : List ℕ) : Type 0 where
-  pub sent : List ℕ
-  pub written : Appends old new sent
-  pub rest : held ≡ sent ++ left
 
 -- the lines of what a merger answers
 abbrev pub merged_lines : List (Result ℕ Utf8ErrorKind) → List ℕ

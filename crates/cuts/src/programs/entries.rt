@@ -141,7 +141,9 @@ pub(crate) fn write_entries<T: Entry, W: Write>(
     let mut lines = Lines::new();
     let mut faults = 0;
     for entry in entries {
-        lines.make_room(out)?;
+        if !lines.has_room() {
+            lines.write_to(out)?;
+        }
         entry.push_to(&mut lines);
         faults += error_lines(*entry);
     }

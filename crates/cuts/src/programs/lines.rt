@@ -1,10 +1,9 @@
 //! Lines of output, gathered in one buffer and written many at a time.
-ghost use Rattle.std.specs.Prelude.{◌≡◌, ◌+◌, ◌/◌, ◌%◌, ◌<◌, ◌≤◌, [], ◌∷◌, ◌++◌, length, take, drop, IfOk, OnOk, OnErr};
+ghost use Rattle.std.specs.Prelude.{◌≡◌, ◌↔◌, IsTrue, ◌+◌, ◌/◌, ◌%◌, ◌<◌, ◌≤◌, [], ◌∷◌, ◌++◌, length, take, drop, OnOk, OnErr};
 ghost use Rattle.std.specs.Fmt.{decimal};
 ghost use Rattle.std.specs.Io.KnownBytes.{Appends};
 ghost use Rattle.cuts.specs.Failures.{AppendsFront, TellsStall};
 ghost use Rattle.cuts.specs.Line.{hex_digit, six_hex_digits};
-ghost use Rattle.cuts.specs.Written.{Sends};
 
 use crate::counted::Counted;
 use crate::streams::write_whole;
@@ -79,22 +78,12 @@ impl Lines {
         &self.bytes[..self.len]
     }
 
-    /// Writes the lines where one more might find no room.
+    /// Whether one more line finds room.
     #[inline(always)]
-    pub(crate) fn make_room<W: Write>(&mut self, out: &mut Counted<W>) -> io::Result<()>
-        ensures room { OnOk result (length self.new + LINE_ROOM ≤ ROOM) }
-        ensures sent { OnOk result (Sends (W.contents out.old.inner) (W.contents out.new.inner)
-            self.old self.new) }
-        ensures front { AppendsFront (W.contents out.old.inner) (W.contents out.new.inner) self.old }
-        ensures quiet { OnOk result (out.new.failures ≡ out.old.failures) }
-        ensures err { OnErr result (out.old.failures < out.new.failures) }
-        ensures stalls { TellsStall result out.old.stalls out.new.stalls }
-        ensures extras { out.new.extras ≡ out.old.extras }
+    pub(crate) fn has_room(&self) -> bool
+        ensures { IsTrue result ↔ (length self.now + LINE_ROOM ≤ ROOM) }
     {
-        if self.len <= ROOM - LINE_ROOM {
-            return Ok(());
-        }
-        self.write_to(out)
+        self.len <= ROOM - LINE_ROOM
     }
 
     /// Writes the lines, in one call where the writer takes them all, and none where there are none. After `Ok`

@@ -42,7 +42,9 @@ pub fn write_listing<W: Write>(src: &[u8], out: &mut Counted<W>) -> io::Result<u
     let mut offset = Offset::new();
     let mut faults = 0;
     for item in Utf8CharDecoder::from(src) {
-        lines.make_room(out)?;
+        if !lines.has_room() {
+            lines.write_to(out)?;
+        }
         faults += push_counted(item, &mut offset, &mut lines);
     }
     lines.write_to(out)?;

@@ -1,7 +1,9 @@
 use Rattle.std.proofs.Common.{rules, refl, ◌∙◌}
 use Rattle.cuts.proofs.EqualRunLemmas.{listing_of_pieces}
+use Rattle.cuts.proofs.LineLemmas.{Sends, Sends-all, Sends-none}
 use Rattle.cuts.proofs.ListingLemmas.{IsListedSoFar-none, IsListedSoFar-push, IsListedSoFar-sent, WritesListing-all, WritesListingFront-failed}
 use Rattle.cuts.proofs.TextRuns.{listing_of_text}
+use Rattle.cuts.proofs.programs.listing.write_listing.Goals.{then-not-has_room+in_ok-write_to, else-not-has_room}
 use Rattle.cuts.proofs.programs.listing.write_listing.Goals as goal
 
 pub loop-item-init : goal.loop-item-init
@@ -18,28 +20,42 @@ loop-item-init g c =
 pub loop-item-preserved : goal.loop-item-preserved
 loop-item-preserved g c =
     let steps = c.in-Some.ensures.steps in
-    let sent = IsListedSoFar-sent _ _ _ _ _ _ _ _ c.loop-item.invariant.listed c.in_ok-make_room.ensures.sent in
+    let sent : Sends (g.W.Write.contents c.loop-item.out.inner) (g.W.Write.contents c.if-not-has_room.out.inner) c.loop-item.lines c.if-not-has_room.lines
+    = elim c.if-not-has_room.branch [
+      | then-not-has_room+in_ok-write_to w ↦ rw (w.out-is, w.lines-is) (Sends-all _ _ _ _ w.in_ok-write_to.ensures.ok w.in_ok-write_to.ensures.empty)
+      | else-not-has_room w ↦ rw (w.out-is, w.lines-is) (Sends-none _ _)
+    ] in
+    let listed = IsListedSoFar-sent _ _ _ _ _ _ _ _ c.loop-item.invariant.listed sent in
     record {
-      listed = rw (c.push_counted-faults.ensures.line, c.push_counted-faults.ensures.faults) (IsListedSoFar-push _ _ _ _ _ _ _ _ sent steps);
+      listed = rw (c.push_counted-faults.ensures.line, c.push_counted-faults.ensures.faults) (IsListedSoFar-push _ _ _ _ _ _ _ _ listed steps);
       offset = rw (c.push_counted-faults.ensures.next, steps.left, steps.place) refl;
-      quiet = search rules;
-      stalls = search rules;
-      extras = search rules;
+      quiet = elim c.if-not-has_room.branch [
+        | then-not-has_room+in_ok-write_to w ↦ rw w.out-is (search rules)
+        | else-not-has_room w ↦ rw w.out-is (search rules)
+      ];
+      stalls = elim c.if-not-has_room.branch [
+        | then-not-has_room+in_ok-write_to w ↦ rw w.out-is (search rules)
+        | else-not-has_room w ↦ rw w.out-is (search rules)
+      ];
+      extras = elim c.if-not-has_room.branch [
+        | then-not-has_room+in_ok-write_to w ↦ rw w.out-is (search rules)
+        | else-not-has_room w ↦ rw w.out-is (search rules)
+      ];
     }
-
-pub returns-in_err-make_room-clause-front : goal.returns-in_err-make_room-clause-front
-returns-in_err-make_room-clause-front g c = WritesListingFront-failed _ _ _ _ _ _ _ c.loop-item.invariant.listed c.make_room.ensures.front
 
 pub returns-in_err-write_to-clause-front : goal.returns-in_err-write_to-clause-front
 returns-in_err-write_to-clause-front g c = WritesListingFront-failed _ _ _ _ _ _ _ c.loop-item.invariant.listed c.write_to.ensures.front
 
+pub returns-in_err-write_to-2-clause-front : goal.returns-in_err-write_to-2-clause-front
+returns-in_err-write_to-2-clause-front g c = WritesListingFront-failed _ _ _ _ _ _ _ c.loop-item.invariant.listed c.write_to-2.ensures.front
+
 pub returns-clause-front : goal.returns-clause-front
-returns-clause-front g c = WritesListingFront-failed _ _ _ _ _ _ _ c.loop-item.invariant.listed c.write_to.ensures.front
+returns-clause-front g c = WritesListingFront-failed _ _ _ _ _ _ _ c.loop-item.invariant.listed c.write_to-2.ensures.front
 
 pub returns-clause-text : goal.returns-clause-text
 returns-clause-text g c =
-    listing_of_text _ _ _ _ (WritesListing-all _ _ _ _ _ _ _ _ c.loop-item.invariant.listed c.in-None.ensures.steps c.in_ok-write_to.ensures.ok)
+    listing_of_text _ _ _ _ (WritesListing-all _ _ _ _ _ _ _ _ c.loop-item.invariant.listed c.in-None.ensures.steps c.in_ok-write_to-2.ensures.ok)
 
 pub returns-clause-count : goal.returns-clause-count
 returns-clause-count g c =
-    listing_of_pieces _ _ _ _ (WritesListing-all _ _ _ _ _ _ _ _ c.loop-item.invariant.listed c.in-None.ensures.steps c.in_ok-write_to.ensures.ok)
+    listing_of_pieces _ _ _ _ (WritesListing-all _ _ _ _ _ _ _ _ c.loop-item.invariant.listed c.in-None.ensures.steps c.in_ok-write_to-2.ensures.ok)
