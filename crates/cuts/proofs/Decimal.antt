@@ -1,5 +1,5 @@
 -- The decimal digits of a number, from the last to the first, and how many there are.
-use Rattle.std.proofs.Common.{◌≡◌, ℕ, ◌+◌, ◌-◌, ◌/◌, ◌%◌, ◌^◌, ◌<◌, ◌≤◌, List, ◌∷◌, ◌++◌, length, drop, slice_set, ap, refl, ◌∙◌, arith, length-append, append_assoc}
+use Rattle.std.proofs.Common.{◌≡◌, ℕ, ◌+◌, ◌-◌, ◌/◌, ◌%◌, ◌^◌, ◌<◌, ◌≤◌, List, [], ◌∷◌, ◌++◌, length, drop, slice_set, ap, refl, ◌∙◌, arith, length-append, append_assoc}
 use Rattle.std.specs.Fmt.{decimal}
 use Rattle.std.proofs.lemmas.Grind.{common_steps}
 use Rattle.std.proofs.lemmas.List.{drop-set}
@@ -35,5 +35,12 @@ pub put_first_digit : (n rest start : ℕ) (digits : List ℕ)
 put_first_digit n rest start digits small room within whole =
     let some : 1 ≤ start = omega (arith, decimal_nonempty rest (omega arith)) in
     rw (drop_set_before digits start (48 + rest) some within, ← whole, decimal_digit rest small) refl
+
+-- the last two digits of a number that has three at least
+pub decimal_hundreds : (n : ℕ) → 100 ≤ n → n < 2 ^ 64 → decimal n ≡ decimal (n / 100) ++ (48 + n / 10 % 10) ∷ (48 + n % 10) ∷ []
+decimal_hundreds n large fits =
+    let tenth : n / 10 / 10 ≡ n / 100 = omega arith in
+    let most : n / 10 < 2 ^ 64 = omega arith in
+    rw (decimal_step n (omega arith) fits, decimal_step (n / 10) (omega arith) most, tenth, append_assoc) refl
 
 pub ruleset decimal_steps = (decimal_digit, decimal_nonempty, length_decimal, length_decimal_step)

@@ -1,42 +1,62 @@
 -- The listing of a run, one line after another.
-use Rattle.std.proofs.Common.{◌≡◌, ℕ, ◌+◌, ◌≤◌, List, [], ◌∷◌, ◌++◌, arith, Option}
+use Rattle.std.proofs.Common.{◌≡◌, ℕ, ◌+◌, ◌≤◌, Bool, true, false, if◌then◌else◌, List, [], ◌∷◌, ◌++◌, arith, Option}
 use Rattle.encode_unicode.specs.Window.{Window, Item, whole_window, GivesFront, GivesNone}
+use Rattle.std.specs.Io.KnownBytes.{Appends}
 use Rattle.cuts.specs.Failures.{AppendsFront}
 use Rattle.cuts.specs.Lines.{item_line}
 use Rattle.cuts.specs.ForwardRuns.{is_fault}
 use Rattle.cuts.specs.Layouts.{WritesListing, WritesListingFront}
 use Rattle.cuts.specs.Listings.{listing}
-use Rattle.cuts.specs.Written.{WritesLines}
 use Rattle.cuts.proofs.ForwardRuns.{IsRunSoFar, IsRunSoFar-none, IsRunSoFar-push, IsForwardRun-all, item_some, GoesOn-always}
-use Rattle.cuts.proofs.Fronts.{AppendsFront-none, AppendsFront-all, AppendsFront-first, AppendsFront-then}
-use Rattle.cuts.proofs.LineLemmas.{flat_map-append, flat_map-one, WritesLines-none, WritesLines-append}
+use Rattle.cuts.proofs.Fronts.{AppendsFront-none, AppendsFront-all, AppendsFront-first}
+use Rattle.cuts.proofs.LineLemmas.{AppendsFront-held, HoldsLines, HoldsLines-none, HoldsLines-push, HoldsLines-sent, Sends, WritesLines-held, flat_map-append}
 
--- The lines of the run as far as the window's front are written, and its errors counted.
-pub record IsListedSoFar (xs : List ℕ) (old new : Option (List ℕ)) (faults : ℕ) (w : Window) : Type 0 where
+-- a test counts one at most
+one_at_most : (b : Bool) → (if b then 1 else 0) ≤ 1
+one_at_most true = omega arith
+one_at_most false = omega arith
+
+-- The lines of the run as far as the window's front, and its errors counted: the first lines are written, and the others are held.
+pub record IsListedSoFar (xs : List ℕ) (old new : Option (List ℕ)) (held : List ℕ) (faults : ℕ) (w : Window) : Type 0 where
   pub items : List Item
   pub run : IsRunSoFar xs items w
-  pub lines : WritesLines item_line is_fault items old new faults
+  pub lines : HoldsLines item_line is_fault items old new held faults
   pub few : faults ≤ w.front
 
-pub IsListedSoFar-none : (xs : List ℕ) (held : Option (List ℕ)) (w : Window) → w ≡ whole_window xs → IsListedSoFar xs held held 0 w
-IsListedSoFar-none xs held w e = rw e (record { items = []; run = IsRunSoFar-none xs; lines = WritesLines-none item_line is_fault held; few = omega arith })
+pub IsListedSoFar-none : (xs : List ℕ) (known : Option (List ℕ)) (held : List ℕ) (w : Window) → w ≡ whole_window xs → held ≡ [] → IsListedSoFar xs known known held 0 w
+IsListedSoFar-none xs known held w e none =
+    rw (e, none) (record { items = []; run = IsRunSoFar-none xs; lines = HoldsLines-none item_line is_fault known; few = omega arith })
 
 -- one line more
-pub IsListedSoFar-push : (xs : List ℕ) (old mid new : Option (List ℕ)) (faults n : ℕ) (w v : Window) (x : Item) → IsListedSoFar xs old mid faults w → GivesFront w x v
-    → WritesLines item_line is_fault (x ∷ []) mid new n → n ≤ 1 → IsListedSoFar xs old new (faults + n) v
-IsListedSoFar-push xs old mid new faults n w v x f g line one =
+pub IsListedSoFar-push : (xs : List ℕ) (old new : Option (List ℕ)) (held : List ℕ) (faults : ℕ) (w v : Window) (x : Item)
+    → IsListedSoFar xs old new held faults w → GivesFront w x v → IsListedSoFar xs old new (held ++ item_line x) (faults + (if is_fault x then 1 else 0)) v
+IsListedSoFar-push xs old new held faults w v x f g =
     let few = f.few in
     let some = item_some xs f.items w v x f.run g in
+    let one = one_at_most (is_fault x) in
     record {
       items = f.items ++ x ∷ [];
       run = IsRunSoFar-push xs f.items w v x f.run g;
-      lines = WritesLines-append item_line is_fault f.items (x ∷ []) old mid new faults n f.lines line;
+      lines = HoldsLines-push item_line is_fault f.items x old new held faults f.lines;
       few = omega arith;
     }
 
--- the window is empty, so the listing is whole
-pub WritesListing-all : (xs : List ℕ) (old new : Option (List ℕ)) (faults : ℕ) (w v : Window) → IsListedSoFar xs old new faults w → GivesNone w v → WritesListing xs old new faults
-WritesListing-all xs old new faults w v f g = record { entries = f.items; run = IsForwardRun-all xs f.items w v f.run g; lines = f.lines }
+-- lines that were held are written
+pub IsListedSoFar-sent : (xs : List ℕ) (old mid new : Option (List ℕ)) (held left : List ℕ) (faults : ℕ) (w : Window)
+    → IsListedSoFar xs old mid held faults w → Sends mid new held left → IsListedSoFar xs old new left faults w
+IsListedSoFar-sent xs old mid new held left faults w f sends =
+    record {
+      items = f.items;
+      run = f.run;
+      lines = HoldsLines-sent item_line is_fault f.items old mid new held left faults f.lines sends;
+      few = f.few;
+    }
+
+-- the window is empty and nothing is held, so the listing is whole
+pub WritesListing-all : (xs : List ℕ) (old mid new : Option (List ℕ)) (held : List ℕ) (faults : ℕ) (w v : Window)
+    → IsListedSoFar xs old mid held faults w → GivesNone w v → Appends mid new held → WritesListing xs old new faults
+WritesListing-all xs old mid new held faults w v f g written =
+    record { entries = f.items; run = IsForwardRun-all xs f.items w v f.run g; lines = WritesLines-held item_line is_fault f.items old mid new held faults f.lines written }
 
 -- what is listed so far is a front, and the lines to come are the rest
 pub WritesListingFront-so_far : (xs : List ℕ) (old new : Option (List ℕ)) (items : List Item) (w : Window)
@@ -49,12 +69,11 @@ WritesListingFront-so_far xs old new items w run front =
       written = rw (flat_map-append item_line items rest.more) (AppendsFront-first old new (listing items) (listing rest.more) front);
     }
 
--- the writer failed at the line of one more item
-pub WritesListingFront-failed : (xs : List ℕ) (old mid new : Option (List ℕ)) (faults : ℕ) (w v : Window) (x : Item) → IsListedSoFar xs old mid faults w → GivesFront w x v
-    → AppendsFront mid new (item_line x) → WritesListingFront xs old new
-WritesListingFront-failed xs old mid new faults w v x f g line =
-    WritesListingFront-so_far xs old new (f.items ++ x ∷ []) v (IsRunSoFar-push xs f.items w v x f.run g)
-    (rw (flat_map-append item_line f.items (x ∷ []), flat_map-one item_line x) (AppendsFront-then old mid new (listing f.items) (item_line x) f.lines.written line))
+-- the writer failed at the lines that were held
+pub WritesListingFront-failed : (xs : List ℕ) (old mid new : Option (List ℕ)) (held : List ℕ) (faults : ℕ) (w : Window)
+    → IsListedSoFar xs old mid held faults w → AppendsFront mid new held → WritesListingFront xs old new
+WritesListingFront-failed xs old mid new held faults w f front =
+    WritesListingFront-so_far xs old new f.items w f.run (AppendsFront-held item_line is_fault f.items old mid new held faults f.lines front)
 
 -- the whole listing is a front of it
 pub WritesListingFront-all : (xs : List ℕ) (old new : Option (List ℕ)) (faults : ℕ) → WritesListing xs old new faults → WritesListingFront xs old new

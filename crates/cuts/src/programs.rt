@@ -1,9 +1,10 @@
 //! What the programs `pieces` and `recode` do: their arguments, their lines, and how they end.
 
 pub(crate) mod entries;
-pub(crate) mod line;
+pub(crate) mod lines;
 pub mod listing;
 pub mod mains;
+pub(crate) mod offset;
 pub mod pieces_program;
 pub mod recode_program;
 pub mod relayed;

@@ -2,8 +2,7 @@
 //! missing. The rows are those of whole runs of `pieces`.
 
 use crate::columns::word_of;
-use crate::runs::{Row, parse};
-use crate::trials::writes_of;
+use crate::runs::{Row, parse, writes_of};
 use cuts::{Counted, merge_utf8, walk_utf8, write_listing, write_merged, write_walk};
 use fakes::fuse::{Failure, Fuse};
 use std::alloc::Global;

@@ -176,22 +176,39 @@ impl Ended<'_> {
     }
 }
 
+/// How many writes of so many bytes at most the lines take, where lines are gathered as long as one of 80 bytes finds
+/// room in 64 KiB.
+pub(crate) fn writes_of(lines: &[u8], most: usize) -> usize {
+    let most = most.max(1);
+    let mut writes = 0usize;
+    let mut gathered = 0usize;
+    let mut begins = true;
+    for byte in lines {
+        if begins && gathered > 65536 - 80 {
+            writes = writes.saturating_add(gathered.div_ceil(most));
+            gathered = 0;
+        }
+        gathered = gathered.saturating_add(1);
+        begins = *byte == b'\n';
+    }
+    writes.saturating_add(gathered.div_ceil(most))
+}
+
 // Whether the streams were asked no more often than it takes, where each call passes all that it is given: one read
-// for the whole of a short input and one for its end, one write for each line of `pieces`, and at most one for each
-// read of `recode`.
+// for the whole of a short input and one for its end, one write for each 64 KiB of lines of `pieces`, and at most one
+// for each read of `recode`.
 fn asks_no_more(ended: &Ended<'_>, row: &Row<'_>) -> bool {
     if row.status == 2 {
         return ended.is_idle();
     }
     let reads = if row.input.is_empty() { 1 } else { 2 };
     let writes = ended.out.given.len();
-    let lines = row.output.iter().filter(|byte| **byte == b'\n').count();
     let is_short = row.input.len() < 65536;
     (ended.reads == reads || !is_short)
         && if row.recodes {
             writes <= ended.reads
         } else {
-            writes == lines
+            writes == writes_of(&row.output, usize::MAX)
         }
 }
 

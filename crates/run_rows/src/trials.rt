@@ -1,6 +1,6 @@
 //! Each read, write and growth of a run is refused in turn, until none is.
 
-use crate::runs::{Row, Trial, parse, run};
+use crate::runs::{Row, Trial, parse, run, writes_of};
 use fakes::fuse::{Failure, Plan};
 use std::alloc::{AllocError, Global};
 use std::io;
@@ -98,7 +98,7 @@ pub(crate) fn interrupted_agree(alloc: Global, row: &str) -> io::Result<bool> {
     Ok(true)
 }
 
-/// Whether each write can be refused, once and for good, of whole lines, of parts of them, and of bytes.
+/// Whether each write can be refused, once and for good, of all that is gathered, of three bytes, and of one.
 pub(crate) fn writes_agree(alloc: Global, row: &str) -> io::Result<bool> {
     let row = parse(alloc, row)?;
     for refused in [
@@ -125,24 +125,6 @@ fn is_write_count(row: &Row<'_>, count: usize, most: usize) -> bool {
     } else {
         count == writes_of(&row.output, most)
     }
-}
-
-/// How many writes of so many bytes at most the lines take, where each line takes its own.
-pub(crate) fn writes_of(lines: &[u8], most: usize) -> usize {
-    let mut writes = 0usize;
-    let mut left = 0;
-    for byte in lines {
-        if left == 0 {
-            writes = writes.saturating_add(1);
-            left = most;
-        }
-        left = if *byte == b'\n' {
-            0
-        } else {
-            left.saturating_sub(1)
-        };
-    }
-    writes
 }
 
 /// Whether each growth can be refused.

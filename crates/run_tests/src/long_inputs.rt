@@ -131,15 +131,15 @@ fn letters_and_faults(alloc: Global) -> Result<Vec<u8>, AllocError> {
     Ok(bytes)
 }
 
-// The lines that a run of `pieces` over the bytes writes, in as many writes.
-fn listed(rt: &(impl Abort + AllocGlobal), bytes: &[u8], lines: usize) -> Vec<u8> {
+// The lines that a run of `pieces` over the bytes writes, in so many writes.
+fn listed(rt: &(impl Abort + AllocGlobal), bytes: &[u8], writes: usize) -> Vec<u8> {
     let mut input = Fuse::over(rt.alloc(), bytes);
     let mut out = Counted::new(Fuse::ample(rt.alloc()));
     let mut stderr = Fuse::ample(rt.alloc());
     let status = run_pieces(rt.alloc(), &[], &mut input, &mut out, &mut stderr);
     assert!(rt; status == 1 && stderr.written.is_empty());
     let writer = out.into_inner();
-    assert!(rt; writer.given.len() == lines);
+    assert!(rt; writer.given.len() == writes);
     writer.written
 }
 
@@ -148,9 +148,10 @@ fn a_long_input_is_listed_whole(rt: HostRuntime) -> Result<(), Fail> {
     let bytes = letters_and_faults(rt.alloc())?;
     let mut out = Counted::new(Fuse::ample(rt.alloc()));
     assert!(rt; write_listing(&bytes, &mut out).is_ok_and(|faults| faults == 1100));
-    let text = listed(&rt, &bytes, 1_100_000);
+    let text = listed(&rt, &bytes, 269);
 
-    // 6,588,890 digits of offsets; a length and four separators a line; six digits, or the name of a fault.
+    // Each write has whole lines, as many as leave fewer than 80 of 65,536 bytes. 6,588,890 digits of offsets; a
+    // length and four separators a line; six digits, or the name of a fault.
     assert!(rt; text.len() == 6_588_890 + 4 * 1_100_000 + 6 * 1_098_900 + 26 * 1100);
     assert!(rt; text.starts_with(b"0 1 000041\n1 1 000041\n"));
     assert!(rt; text.ends_with(b"\n1099998 1 000041\n1099999 1 UnexpectedContinuationByte\n"));

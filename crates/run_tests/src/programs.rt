@@ -146,7 +146,9 @@ fn a_stall_is_no_broken_pipe(rt: HostRuntime) {
         (Failure::Nothing, ErrorKind::WriteZero),
         (Failure::Error(ErrorKind::BrokenPipe), ErrorKind::BrokenPipe),
     ] {
-        let mut out = Counted::new(Fuse::failing(rt.alloc(), 1, failure));
+        let mut writer = Fuse::failing(rt.alloc(), 1, failure);
+        writer.most = 11;
+        let mut out = Counted::new(writer);
         let answer = write_listing(b"AB", &mut out);
         assert!(rt; answer.is_err_and(|error| error.kind() == kind));
         assert!(rt; out.into_inner().written.as_slice() == b"0 1 000041\n".as_slice());

@@ -54,7 +54,9 @@ fn a_counted_reader_of_pieces(rt: HostRuntime) {
 #[test]
 fn a_writer_of_pieces(rt: HostRuntime) {
     let mut input = Fuse::over(rt.alloc(), b"abc");
-    let mut out = Counted::new(Fuse::failing(rt.alloc(), 1, OUT_OF_MEMORY));
+    let mut writer = Fuse::failing(rt.alloc(), 1, OUT_OF_MEMORY);
+    writer.most = 11;
+    let mut out = Counted::new(writer);
     let mut stderr = Fuse::ample(rt.alloc());
     let status = run_pieces(rt.alloc(), &[], &mut input, &mut out, &mut stderr);
     assert_eq!(rt; status, 3);

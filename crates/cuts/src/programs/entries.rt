@@ -1,14 +1,16 @@
 //! The entries of a list that is written line by line.
-ghost use Rattle.std.specs.Prelude.{◌≡◌, ◌+◌, ◌<◌, ◌≤◌, ◌++◌, ℕ, Bool, List, [], ◌∷◌, length, flat_map, IfOk, OnOk, OnErr};
+ghost use Rattle.std.specs.Prelude.{◌≡◌, ◌+◌, ◌^◌, ◌<◌, ◌≤◌, ◌++◌, ◌∷◌, [], ℕ, Bool, if◌then◌else◌, List, length, flat_map, IfOk, OnOk, OnErr};
+ghost use Rattle.std.specs.Fmt.{decimal};
+ghost use Rattle.cuts.specs.ForwardRuns.{is_fault};
 ghost use Rattle.cuts.specs.Failures.{AppendsFront, TellsStall};
-ghost use Rattle.cuts.specs.Lines.{kind_name, answer_text};
+ghost use Rattle.cuts.specs.Lines.{kind_name, answer_text, item_line};
 ghost use Rattle.cuts.specs.Written.{WritesLines};
-ghost use Rattle.cuts.specs.declared.programs.line.TheConstants.{ROOM};
+ghost use Rattle.cuts.specs.declared.programs.lines.TheConstants.{LINE_ROOM, ROOM};
 
 use crate::counted::Counted;
-use crate::programs::line::Line;
+use crate::programs::lines::Lines;
+use crate::programs::offset::Offset;
 use crate::runs::items::Item;
-use crate::streams::write_whole;
 use encode_unicode::Utf8Char;
 use encode_unicode::error::{Utf8Error, Utf8ErrorKind};
 use std::io;
@@ -20,9 +22,10 @@ pub(crate) trait Entry: Copy {
 
     ghost wrong: { Self → Bool };
 
-    /// Its line, the end of the line too.
-    fn line(self) -> Line
-        ensures { result ≡ line self };
+    /// Adds its line, the end of the line too.
+    fn push_to(self, lines: &mut Lines)
+        requires { length lines.old + LINE_ROOM ≤ ROOM }
+        ensures { lines.new ≡ lines.old ++ line self };
 
     /// Whether that is an error line.
     fn is_wrong(self) -> bool
@@ -38,17 +41,10 @@ impl Entry for Item {
 
     ghost wrong = { is_fault };
 
-    #[inline(always)]
-    fn line(self) -> Line {
+    fn push_to(self, lines: &mut Lines) {
         let (place, answer, len) = self;
-        let mut line = Line::new();
-        line.push_decimal(place);
-        line.push(b' ');
-        line.push_decimal(len);
-        line.push(b' ');
-        push_answer(answer, &mut line);
-        line.push(b'\n');
-        line
+        lines.push_decimal(place);
+        push_piece(answer, len, lines);
     }
 
     #[inline(always)]
@@ -66,11 +62,9 @@ impl Entry for Result<Utf8Char, Utf8Error> {
 
     ghost wrong = { is_err };
 
-    fn line(self) -> Line {
-        let mut line = Line::new();
-        push_answer(self, &mut line);
-        line.push(b'\n');
-        line
+    fn push_to(self, lines: &mut Lines) {
+        push_answer(self, lines);
+        lines.push(b'\n');
     }
 
     fn is_wrong(self) -> bool {
@@ -86,14 +80,10 @@ impl Entry for Option<Item> {
 
     ghost wrong = { is_fault_step };
 
-    fn line(self) -> Line {
+    fn push_to(self, lines: &mut Lines) {
         match self {
-            Some(item) => item.line(),
-            None => {
-                let mut line = Line::new();
-                line.push_text(b"none\n");
-                line
-            }
+            Some(item) => item.push_to(lines),
+            None => lines.push_text(b"none\n"),
         }
     }
 
@@ -105,20 +95,33 @@ impl Entry for Option<Item> {
     }
 }
 
-/// Writes the line of one entry, and answers 1 where that is an error line, and 0 elsewhere.
+/// Adds the line of a piece whose offset was counted, and counts on to the next. Answers 1 where that is an error
+/// line, and 0 elsewhere.
 #[inline(always)]
-pub(crate) fn write_entry<T: Entry, W: Write>(entry: T, out: &mut Counted<W>) -> io::Result<usize>
-    ensures lines { IfOk result (WritesLines T.line T.wrong (entry ∷ []) (W.contents out.old.inner)
-        (W.contents out.new.inner)) }
-    ensures front { AppendsFront (W.contents out.old.inner) (W.contents out.new.inner) (T.line entry) }
-    ensures few { IfOk result (λ faults. faults ≤ 1) }
-    ensures quiet { OnOk result (out.new.failures ≡ out.old.failures) }
-    ensures err { OnErr result (out.old.failures < out.new.failures) }
-    ensures stalls { TellsStall result out.old.stalls out.new.stalls }
-    ensures extras { out.new.extras ≡ out.old.extras }
+pub(crate) fn push_counted(item: Item, offset: &mut Offset, lines: &mut Lines) -> usize
+    requires place { item.0 ≡ offset.old }
+    requires few { item.2 ≤ 100 }
+    requires fits { item.0 + item.2 < 2 ^ 64 }
+    requires room { length lines.old + LINE_ROOM ≤ ROOM }
+    ensures line { lines.new ≡ lines.old ++ item_line item }
+    ensures next { offset.new ≡ item.0 + item.2 }
+    ensures faults { result ≡ (if is_fault item then 1 else 0) }
+    ensures most { result ≤ 1 }
 {
-    write_whole(entry.line().as_bytes(), out)?;
-    Ok(if entry.is_wrong() { 1 } else { 0 })
+    let (_, answer, len) = item;
+    offset.push_to(lines);
+    push_piece(answer, len, lines);
+    offset.count_on(len);
+    if answer.is_err() { 1 } else { 0 }
+}
+
+// How many error lines an entry has: 1 where its line is one, and 0 elsewhere.
+#[inline(always)]
+fn error_lines<T: Entry>(entry: T) -> usize
+    ensures count { result ≡ (if T.wrong entry then 1 else 0) }
+    ensures most { result ≤ 1 }
+{
+    if entry.is_wrong() { 1 } else { 0 }
 }
 
 /// Writes the line of each entry, in order, and answers how many of them are error lines.
@@ -135,23 +138,42 @@ pub(crate) fn write_entries<T: Entry, W: Write>(
     ensures stalls { TellsStall result out.old.stalls out.new.stalls }
     ensures extras { out.new.extras ≡ out.old.extras }
 {
+    let mut lines = Lines::new();
     let mut faults = 0;
     for entry in entries {
-        faults += write_entry(*entry, out)?;
+        if !lines.has_room() {
+            lines.write_to(out)?;
+        }
+        entry.push_to(&mut lines);
+        faults += error_lines(*entry);
     }
+    lines.write_to(out)?;
     Ok(faults)
+}
+
+// Adds what follows the offset of a piece: its length and its answer, and the end of the line.
+#[inline(always)]
+fn push_piece(answer: Result<Utf8Char, Utf8Error>, len: usize, lines: &mut Lines)
+    requires { length lines.old + 49 ≤ ROOM }
+    ensures { lines.new ≡ lines.old ++ 32 ∷ [] ++ decimal len ++ 32 ∷ [] ++ answer_text answer ++ 10 ∷ [] }
+{
+    lines.push(b' ');
+    lines.push_decimal(len);
+    lines.push(b' ');
+    push_answer(answer, lines);
+    lines.push(b'\n');
 }
 
 // Adds a scalar in six hexadecimal digits, or the name of what is wrong.
 #[inline(always)]
-fn push_answer(answer: Result<Utf8Char, Utf8Error>, line: &mut Line)
-    requires { length line.old + 26 ≤ ROOM }
-    ensures answer { line.new ≡ line.old ++ answer_text answer }
-    ensures length { length line.new ≤ length line.old + 26 }
+fn push_answer(answer: Result<Utf8Char, Utf8Error>, lines: &mut Lines)
+    requires { length lines.old + 26 ≤ ROOM }
+    ensures answer { lines.new ≡ lines.old ++ answer_text answer }
+    ensures length { length lines.new ≤ length lines.old + 26 }
 {
     match answer {
-        Ok(c) => line.push_hex(c.to_char() as u32),
-        Err(error) => line.push_text(name_of(error.kind()).as_bytes()),
+        Ok(c) => lines.push_hex(c.to_char() as u32),
+        Err(error) => lines.push_text(name_of(error.kind()).as_bytes()),
     }
 }
 

@@ -9,7 +9,9 @@ ghost use Rattle.cuts.specs.ForwardRuns.{fault_count};
 ghost use Rattle.cuts.specs.Written.{merged_lines, walk_lines, WritesMerged, WritesWalk};
 
 use crate::counted::Counted;
-use crate::programs::entries::{write_entries, write_entry};
+use crate::programs::entries::{push_counted, write_entries};
+use crate::programs::lines::Lines;
+use crate::programs::offset::Offset;
 use crate::runs::items::Item;
 use encode_unicode::Utf8Char;
 use encode_unicode::error::Utf8Error;
@@ -20,8 +22,9 @@ use std::io::Write;
 /// Writes one line for each piece of the bytes, and gives the number of errors.
 ///
 /// A line is the offset and the length in decimal, and the code point in six hexadecimal digits or
-/// the name of the error. Lines go out as they are made. Where the writer gives an error, only the
-/// first lines were written, the last of them perhaps in part.
+/// the name of the error. Lines are gathered, and written 64 KiB at a time: a write has whole lines.
+/// Where the writer gives an error, only the first lines were written, the last of them perhaps in
+/// part.
 ///
 /// Cost: O(n).
 pub fn write_listing<W: Write>(src: &[u8], out: &mut Counted<W>) -> io::Result<usize>
@@ -35,10 +38,16 @@ pub fn write_listing<W: Write>(src: &[u8], out: &mut Counted<W>) -> io::Result<u
     ensures stalls { TellsStall result out.old.stalls out.new.stalls }
     ensures extras { out.new.extras ≡ out.old.extras }
 {
+    let mut lines = Lines::new();
+    let mut offset = Offset::new();
     let mut faults = 0;
     for item in Utf8CharDecoder::from(src) {
-        faults += write_entry(item, out)?;
+        if !lines.has_room() {
+            lines.write_to(out)?;
+        }
+        faults += push_counted(item, &mut offset, &mut lines);
     }
+    lines.write_to(out)?;
     Ok(faults)
 }
 

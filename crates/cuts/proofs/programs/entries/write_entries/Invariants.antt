@@ -1,10 +1,10 @@
 use Rattle.std.proofs.Common.{◌≡◌, ◌≤◌, take}
-use Rattle.cuts.specs.Written.{WritesLines}
+use Rattle.cuts.proofs.LineLemmas.{HoldsLines}
 use Rattle.cuts.proofs.programs.entries.write_entries.Given as goal
 
 abbrev pub invariant-loop-entry : goal.invariant-loop-entry
 invariant-loop-entry g l = record {
-  lines : WritesLines g.T.Entry.line g.T.Entry.wrong (take l.entry-index l.entries) (g.W.Write.contents l.fn.out.inner) (g.W.Write.contents l.out.inner) l.faults;
+  held : HoldsLines g.T.Entry.line g.T.Entry.wrong (take l.entry-index l.entries) (g.W.Write.contents l.fn.out.inner) (g.W.Write.contents l.out.inner) l.lines l.faults;
   few : l.faults ≤ l.entry-index;
   quiet : l.out.failures ≡ l.fn.out.failures;
   stalls : l.out.stalls ≡ l.fn.out.stalls;

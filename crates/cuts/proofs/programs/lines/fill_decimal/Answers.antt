@@ -1,7 +1,7 @@
 use Rattle.std.proofs.Common.{rules, arith}
 use Rattle.std.proofs.lemmas.Grind.{common_steps}
 use Rattle.cuts.proofs.Decimal.{length_decimal, length_decimal_step, put_digit, put_first_digit}
-use Rattle.cuts.proofs.programs.line.fill_decimal.Goals as goal
+use Rattle.cuts.proofs.programs.lines.fill_decimal.Goals as goal
 
 pub loop-rest-init : goal.loop-rest-init
 loop-rest-init c = record {

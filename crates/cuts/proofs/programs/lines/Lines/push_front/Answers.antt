@@ -1,6 +1,6 @@
 use Rattle.std.proofs.Common.{◌≡◌, arith, length}
 use Rattle.cuts.proofs.Parts.{take_past}
-use Rattle.cuts.proofs.programs.line.Line.push_front.Goals as goal
+use Rattle.cuts.proofs.programs.lines.Lines.push_front.Goals as goal
 
 pub returns : goal.returns
 returns c =
