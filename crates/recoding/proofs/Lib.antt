@@ -3,6 +3,7 @@ pub mod BoundLemmas
 pub mod CopiedUnits
 pub mod EnoughRoom
 pub mod FedParts
+pub mod FirstPieces
 pub mod FrontBytes
 pub mod GivenBytes
 pub mod GivenRuns
@@ -16,6 +17,8 @@ pub mod Recodes
 pub mod RoomLemmas
 pub mod RoomRuns
 pub mod ShardEnds
+pub mod StrictSteps
 pub mod SwappedRuns
+pub mod TextRuns
 pub mod WidenedTexts
 pub mod UnitEnds

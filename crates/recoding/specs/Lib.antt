@@ -10,3 +10,4 @@ pub mod Outputs
 pub mod Recodes
 pub mod FilledRooms
 pub mod Boundaries
+pub mod Strict
