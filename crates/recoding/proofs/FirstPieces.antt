@@ -1,5 +1,5 @@
 -- The piece that begins some bytes, from the answer of a decoder.
-use Rattle.std.proofs.Common.{◌≡◌, ◌≢◌, ℕ, ◌+◌, ◌-◌, ◌<◌, ◌≤◌, min, eqb, Bool, true, false, List, [], ◌∷◌, ◌++◌, length, get_or, take, drop, flat_map, arith, refl, ap, ap₂, sym, ◌∙◌, Some, None, Fits, w8}
+use Rattle.std.proofs.Common.{◌≡◌, ◌≢◌, ℕ, ◌+◌, ◌-◌, ◌<◌, ◌≤◌, eqb, Bool, true, false, List, [], ◌∷◌, ◌++◌, length, get_or, take, drop, flat_map, arith, refl, ap, ap₂, sym, ◌∙◌, Some, Fits, w8}
 use Rattle.std.proofs.lemmas.Grind.{common_steps}
 use Rattle.std.specs.Option.{option_map}
 use Rattle.std.proofs.lemmas.List.{append-nil}
@@ -15,8 +15,7 @@ use Rattle.utf_base.specs.declared.errors.units.Utf16PairError.TheVariants.{Inco
 use Rattle.utf_base.proofs.LaterLemmas.{kind_stays, few_where_too_few}
 use Rattle.utf_base.proofs.UnitLemmas.{no_both}
 use Rattle.utf_base.proofs.Utf8Code.{utf8_is_code}
-use Rattle.utf_lanes.specs.BytePairs.{unit_of, units_of, bytes_of}
-use Rattle.recoding.specs.Recoded.{written}
+use Rattle.utf_lanes.specs.BytePairs.{units_of, bytes_of}
 use Rattle.recoding.specs.ShownFronts.{IsUnits, fault_len}
 use Rattle.recoding.specs.Strict.{kind_of, lacking, BeginsChar, BeginsFault, EndsInFault, IsUndecided}
 use Rattle.recoding.specs.declared.faults.FaultKind.{FaultKind}

@@ -3,15 +3,14 @@ use Rattle.std.proofs.Common.{◌≡◌, ℕ, suc, ◌+◌, ◌-◌, ◌*◌, �
 use Rattle.std.proofs.Math.Seq.{drop-append-add}
 use Rattle.std.specs.Prelude.{All}
 use Rattle.std.proofs.lemmas.Bool.{cases_lt}
-use Rattle.std.proofs.lemmas.List.{append-nil, drop_all, drop-drop, take_all, drop-append-le, take-append-le}
+use Rattle.std.proofs.lemmas.List.{drop_all, drop-drop, take_all, drop-append-le, take-append-le}
 use Rattle.utf_base.specs.Scalar.{IsScalar}
 use Rattle.utf_base.proofs.Utf8Code.{utf8-4}
 use Rattle.utf_base.proofs.Utf16Code.{utf16-2}
 use Rattle.recoding.specs.Recoded.{Recoding, written}
-use Rattle.recoding.specs.Rooms.{Fills, ComesNearer, BeginsLonger}
+use Rattle.recoding.specs.Rooms.{Fills, ComesNearer}
 use Rattle.recoding.specs.ShownFronts.{fault_len}
-use Rattle.recoding.specs.Strict.{Transcodes, BeginsChar, BeginsFault, EndsInFault, IsUndecided, IsTooLong, RecodesText, RunsStrictly, IsLonger, EndsFeed, EndsHeld, FeedsStrictly, FinishesStrictly, PassesHeld, EndsRun}
-use Rattle.recoding.specs.declared.faults.Fault.{Fault}
+use Rattle.recoding.specs.Strict.{Transcodes, BeginsChar, BeginsFault, EndsInFault, IsTooLong, RecodesText, RunsStrictly, IsLonger, EndsFeed, EndsHeld, FeedsStrictly, FinishesStrictly, PassesHeld, EndsRun}
 use Rattle.recoding.specs.declared.faults.FaultKind.{FaultKind}
 use Rattle.recoding.specs.declared.faults.Outcome.{Outcome}
 use Rattle.recoding.specs.declared.faults.Outcome.TheVariants.{AllRead, Full, Invalid}
@@ -107,6 +106,25 @@ codes_room from to (s ∷ ss) all =
 pub text_room : {from to : Form} {text out : List ℕ} → Transcodes from to text out → length out ≤ 3 * length text
 text_room {from} {to} t = omega (arith, codes_room from to t.scalars t.all, ap length t.codes, ap length t.made)
 
+-- Three bytes of room for each byte are enough.
+pub enough_room : {from to : Form} {all left old new : List ℕ} {wrote : ℕ} → RecodesText from to all left old new wrote → length new ≡ length old → 3 * length all ≤ length old
+    → IsTooLong from to left (length old - wrote) → ⊥
+enough_room {from} {to} {all} {left} {old} {new} {wrote} text len enough long =
+    let c = long.begins in
+    absurd (omega (
+      arith,
+      ap length text.parts,
+      length-append text.text left,
+      text_room text.transcodes,
+      front_len wrote new (omega (arith, text.fits)),
+      code_room from to long.scalar c.scalar,
+      ap length c.code,
+      front_len long.len left c.within,
+      c.within,
+      long.longer,
+      text.fits,
+    ))
+
 -- What callers have of a call.
 
 module _ (r : Recoding) (part old new : List ℕ) (s : Recoding) where
@@ -128,25 +146,7 @@ module _ (r : Recoding) (part old new : List ℕ) (s : Recoding) where
   pub room_is_enough : (p : StrictProgress) → FeedsStrictly r part old new p s → length new ≡ length old → 3 * (length r.held + length part) ≤ length old → p.outcome ≡ Full → ⊥
   room_is_enough p f len enough e =
       let ends = subst (λ o. EndsFeed r.from r.to o f.fault s.held (drop p.read part) (length old - p.written)) e f.ends in
-      let left : List ℕ = s.held ++ drop p.read part in
-      let long = ends.1 in
-      let c = long.begins in
-      let code = code_room r.from r.to long.scalar c.scalar in
-      let read : length (take long.len left) ≡ long.len = front_len long.len left c.within in
-      let text = f.recodes in
-      absurd (omega (
-        arith,
-        ap length text.parts,
-        length-append r.held part,
-        length-append text.text (f.fault ++ left),
-        length-append f.fault left,
-        text_room text.transcodes,
-        front_len p.written new (omega (arith, text.fits)),
-        ap length c.code,
-        c.within,
-        long.longer,
-        text.fits,
-      ))
+      enough_room (rw ends.0 at f.recodes) len (omega (arith, length-append r.held part)) ends.1
 
   moved : (p : StrictProgress) (f : FeedsStrictly r part old new p s) → 0 < length part → 0 < length f.recodes.text + length f.fault
       → 2 * (length part - p.read) + length s.held < 2 * length part + length r.held

@@ -133,12 +133,13 @@ impl Recoder {
     /// of the kind `TooFewBytes` or `Incomplete`. To go on after it, call this again.
     ///
     /// `Outcome::AllRead`: nothing is held any more. `Outcome::Full`: the next character did not fit;
-    /// four bytes are room for any.
+    /// four bytes are room for any, and nine for all.
     pub fn finish_strict_into(&mut self, room: &mut [u8]) -> StrictProgress
         ensures finishes { FinishesStrictly self.old room.old room.new result self.new }
         ensures read { result.read ≡ 0 }
         ensures all { result.outcome ≡ Outcome.AllRead → self.new.held ≡ [] }
         ensures short { result.outcome ≡ Outcome.Full → length room.old < result.written + 4 }
+        ensures enough { 3 * length self.old.held ≤ length room.old → result.outcome ≢ Outcome.Full }
     {
         let (from, to) = self.forms();
         let mut written = 0;

@@ -1,4 +1,4 @@
-use Rattle.std.proofs.Common.{◌≡◌, ◌+◌, [], ◌++◌, length, take, drop, arith, refl, ap, sym, ◌∙◌, length-drop}
+use Rattle.std.proofs.Common.{◌≡◌, ◌+◌, ◌++◌, length, take, drop, arith, refl, ap, sym, ◌∙◌, length-drop}
 use Rattle.std.proofs.lemmas.List.{drop-drop}
 use Rattle.recoding.specs.Strict.{BeginsFault}
 use Rattle.recoding.proofs.StrictSteps.{EndsFeed-fault, fault_parts}

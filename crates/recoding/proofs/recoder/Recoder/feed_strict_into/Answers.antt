@@ -1,6 +1,6 @@
-use Rattle.std.proofs.Common.{◌∙◌, arith, sym, subst, drop, ◌-◌, length}
+use Rattle.std.proofs.Common.{◌∙◌, subst, drop, ◌-◌, length}
 use Rattle.std.proofs.lemmas.List.{take_rest}
-use Rattle.recoding.specs.Strict.{EndsHeld, PassesHeld}
+use Rattle.recoding.specs.Strict.{EndsHeld}
 use Rattle.recoding.proofs.StrictSteps.{all_is_read, room_is_short, room_is_enough, comes_nearer, FeedsStrictly-held, FeedsStrictly-run}
 use Rattle.recoding.proofs.recoder.Recoder.feed_strict_into.Goals as goal
 

@@ -1,7 +1,7 @@
-use Rattle.std.proofs.Common.{rules, ◌≡◌, ◌+◌, ◌-◌, ◌<◌, ◌≤◌, List, ℕ, [], ◌++◌, length, take, drop, arith, refl, ap, ap₂, sym, ◌∙◌}
+use Rattle.std.proofs.Common.{rules, ◌≡◌, ◌+◌, ◌-◌, ◌<◌, ◌≤◌, [], ◌++◌, length, take, drop, arith, refl, ap, ap₂, sym, ◌∙◌}
 use Rattle.std.proofs.lemmas.List.{append-nil, drop_all, take_rest}
 use Rattle.recoding.specs.Recoded.{written}
-use Rattle.recoding.specs.Strict.{BeginsChar, BeginsFault, IsUndecided}
+use Rattle.recoding.specs.Strict.{IsUndecided}
 use Rattle.recoding.proofs.StrictSteps.{char_of_joined, fault_of_joined, undecided_left, pass_left, pass_within, fault_parts, EndsFeed-fault, RecodesText-left, RecodesText-char, PassesHeld-of}
 use Rattle.recoding.proofs.recoder.Recoder.pass_held.Goals as goal
 
