@@ -8,6 +8,7 @@ pub mod WellFormed
 pub mod Tables
 pub mod Failures
 pub mod Relayed
+pub mod StrictRelayed
 pub mod Arguments
 pub mod Line
 pub mod Lines
@@ -23,6 +24,7 @@ pub use Rattle.recoding.specs.Fed
 pub use Rattle.recoding.specs.Shards
 pub use Rattle.recoding.specs.ShownFronts
 pub use Rattle.recoding.specs.Undecided
+pub use Rattle.recoding.specs.Strict
 pub use Rattle.recoding.specs.Boundaries
 pub use Rattle.utf_base.specs.Scalar
 pub use Rattle.utf_base.specs.Code

@@ -5,7 +5,7 @@
 //!   `unit_bytes_valid_up_to` that of units in bytes.
 //! - Boundaries: `boundaries` finds the character boundaries next to any byte.
 //! - Tables: `PieceTable` keeps the pieces of bytes that are edited.
-//! - Recoding: `Recoder` takes text in parts, `recode` from a reader to a writer; `room_for` says how much comes of some
+//! - Recoding: `Recoder` takes text in parts, `recode` from a reader to a writer, and `recode_strict` to the first fault; `room_for` says how much comes of some
 //!   bytes at most, `shard_end` and `boundary_after` where a large input may be cut; `front_of_text` gives one character.
 //! - Programs: `write_listing`, `write_merged` and `write_walk` write lines, and `run_pieces` and `run_recode` are one
 //!   run each. Their `main`s are in `programs::mains`.
@@ -26,7 +26,9 @@ pub use programs::listing::{write_listing, write_merged, write_walk};
 pub use programs::pieces_program::run_pieces;
 pub use programs::recode_program::run_recode;
 pub use programs::relayed::{RecodeFault, recode};
+pub use programs::strict::{InvalidAt, StrictError, recode_strict};
 pub use recoding::boundaries::{boundary_after, unit_boundary_after, unit_boundary_before};
+pub use recoding::faults::{Fault, FaultKind, Outcome, StrictProgress};
 pub use recoding::form::Form;
 pub use recoding::recoder::{Recoder, Unfinished};
 pub use recoding::rooms::{Progress, room_for};

@@ -10,3 +10,4 @@ pub mod recode_program;
 pub mod relayed;
 pub(crate) mod requests;
 pub mod stops;
+pub mod strict;

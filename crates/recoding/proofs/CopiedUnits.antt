@@ -36,18 +36,18 @@ coded_bytes_show high v k h even later ss (ts, r, f) = (
 
 -- The codes of scalars as bytes are the bytes of their units.
 
-as_written : (high : Bool) (to : Form) (s : ℕ) → IsUnits high to → written to s ≡ flat_map (bytes_of high) (utf16 s)
+pub as_written : (high : Bool) (to : Form) (s : ℕ) → IsUnits high to → written to s ≡ flat_map (bytes_of high) (utf16 s)
 as_written high Utf8 s form = absurd form
 as_written high Utf16Le s form = rw form refl
 as_written high Utf16Be s form = rw form refl
 
-all_written : (high : Bool) (to : Form) (cs : List ℕ) → IsUnits high to → flat_map (written to) cs ≡ flat_map (bytes_of high) (flat_map utf16 cs)
+pub all_written : (high : Bool) (to : Form) (cs : List ℕ) → IsUnits high to → flat_map (written to) cs ≡ flat_map (bytes_of high) (flat_map utf16 cs)
 all_written high to [] form = refl
 all_written high to (s ∷ cs) form = ap₂ (λ xs ys. xs ++ ys) (as_written high to s form) (all_written high to cs form) ∙ sym (flat_map-append (bytes_of high) (utf16 s) (flat_map utf16 cs))
 
 -- The bytes of a unit, as they stand or swapped.
 
-same_pair : (high : Bool) (a b : ℕ) → a < 256 → b < 256 → bytes_of high (unit_of high a b) ≡ a ∷ b ∷ []
+pub same_pair : (high : Bool) (a b : ℕ) → a < 256 → b < 256 → bytes_of high (unit_of high a b) ≡ a ∷ b ∷ []
 same_pair true a b A B = let first : (a * 256 + b) / 256 ≡ a = omega arith in let second : (a * 256 + b) % 256 ≡ b = omega arith in ap₂ (λ x y. x ∷ y ∷ []) first second
 same_pair false a b A B = let first : (b * 256 + a) % 256 ≡ a = omega arith in let second : (b * 256 + a) / 256 ≡ b = omega arith in ap₂ (λ x y. x ∷ y ∷ []) first second
 
@@ -59,7 +59,7 @@ other_pair false a b A B = let first : (b * 256 + a) / 256 ≡ b = omega arith i
 abbrev pub differ : Bool → Bool → Bool
 differ high other = not (beq high other)
 
-same_order : (high : Bool) (v : List ℕ) (k : ℕ) → length v ≡ 2 * k → ((j : ℕ) → Fits w8 (get_or v j 0)) → flat_map (bytes_of high) (units_of high v) ≡ v
+pub same_order : (high : Bool) (v : List ℕ) (k : ℕ) → length v ≡ 2 * k → ((j : ℕ) → Fits w8 (get_or v j 0)) → flat_map (bytes_of high) (units_of high v) ≡ v
 same_order high [] k even fits = refl
 same_order high (a ∷ []) k even fits = absurd (omega arith)
 same_order high (a ∷ b ∷ v) k even fits =
@@ -71,7 +71,7 @@ other_order high (a ∷ []) k even fits = absurd (omega arith)
 other_order high (a ∷ b ∷ v) k even fits =
     ap₂ (λ xs ys. xs ++ ys) (other_pair high a b (fits 0).fits (fits 1).fits) (other_order high v (k - 1) (omega arith) (λ j. fits (suc (suc j))))
 
-in_order : (high other : Bool) (v : List ℕ) (k : ℕ) → length v ≡ 2 * k → ((j : ℕ) → Fits w8 (get_or v j 0)) → flat_map (bytes_of other) (units_of high v) ≡ turned (differ high other) v
+pub in_order : (high other : Bool) (v : List ℕ) (k : ℕ) → length v ≡ 2 * k → ((j : ℕ) → Fits w8 (get_or v j 0)) → flat_map (bytes_of other) (units_of high v) ≡ turned (differ high other) v
 in_order true true v k even fits = same_order true v k even fits
 in_order true false v k even fits = other_order true v k even fits
 in_order false true v k even fits = other_order false v k even fits
@@ -82,6 +82,12 @@ front_fits w zero fits j = record { fits = omega arith }
 front_fits [] (suc n) fits j = record { fits = omega arith }
 front_fits (x ∷ w) (suc n) fits zero = fits 0
 front_fits (x ∷ w) (suc n) fits (suc j) = front_fits w n (λ i. fits (suc i)) j
+
+-- Codes are the bytes of their units.
+pub coded_bytes : (high : Bool) (from : Form) (v : List ℕ) (k : ℕ) → IsUnits high from → (h : AreCodes (units_of high v)) → length v ≡ 2 * k → ((j : ℕ) → Fits w8 (get_or v j 0))
+    → v ≡ flat_map (written from) h.scalars
+coded_bytes high from v k form h even fits =
+    sym (all_written high from h.scalars form ∙ ap (flat_map (bytes_of high)) (sym h.codes) ∙ same_order high v k even fits)
 
 -- So well-formed units are recoded as they are, or as those with the bytes of each swapped.
 pub Recodes-units : {O : Type 0} {appends : O → List ℕ → O → Type 0} {old new : O} {from to : Form} {bytes : List ℕ} {n : ℕ} (high other : Bool) → IsUnits high from → IsUnits other to

@@ -112,12 +112,12 @@ Waits-utf8 w e = record {
 
 -- UTF-16: bytes, two by two.
 
-units_two : (high : Bool) (w later : List ℕ) → 2 ≤ length w → units_of high (w ++ later) ≡ unit_of high (get_or w 0 0) (get_or w 1 0) ∷ units_of high (drop 2 w ++ later)
+pub units_two : (high : Bool) (w later : List ℕ) → 2 ≤ length w → units_of high (w ++ later) ≡ unit_of high (get_or w 0 0) (get_or w 1 0) ∷ units_of high (drop 2 w ++ later)
 units_two high [] later h = absurd (omega arith)
 units_two high (a ∷ []) later h = absurd (omega arith)
 units_two high (a ∷ b ∷ w) later h = refl
 
-units_next : (high : Bool) (w later : List ℕ) → 4 ≤ length w → units_of high (drop 2 w ++ later) ≡ unit_of high (get_or w 2 0) (get_or w 3 0) ∷ units_of high (drop 4 w ++ later)
+pub units_next : (high : Bool) (w later : List ℕ) → 4 ≤ length w → units_of high (drop 2 w ++ later) ≡ unit_of high (get_or w 2 0) (get_or w 3 0) ∷ units_of high (drop 4 w ++ later)
 units_next high [] later h = absurd (omega arith)
 units_next high (a ∷ []) later h = absurd (omega arith)
 units_next high (a ∷ b ∷ []) later h = absurd (omega arith)
@@ -184,7 +184,7 @@ Decides-unmatched high w four l t =
     (λ later s h. no_code_at_unmatched (first_unit high w) (second_unit high w) (units_of high (drop 4 w ++ later)) s l t (rw (units_next high w later four) at h))
 
 -- fewer than two bytes
-few_units : (high : Bool) (w : List ℕ) → length w < 2 → units_of high w ≡ []
+pub few_units : (high : Bool) (w : List ℕ) → length w < 2 → units_of high w ≡ []
 few_units high [] h = refl
 few_units high (a ∷ []) h = refl
 few_units high (a ∷ b ∷ w) h = absurd (omega arith)

@@ -30,6 +30,15 @@ as_units high Utf8 s form = absurd form
 as_units high Utf16Le s form = rw form refl
 as_units high Utf16Be s form = rw form refl
 
+same_codes : (high : Bool) (to : Form) (cs : List ℕ) → IsUnits high to → flat_map (written to) cs ≡ flat_map (λ s. flat_map (bytes_of high) (utf16 s)) cs
+same_codes high to [] form = refl
+same_codes high to (s ∷ cs) form = ap₂ (λ ys zs. ys ++ zs) (as_units high to s form) (same_codes high to cs form)
+
+-- What the places of a text give are the codes of its characters.
+pub given_codes : (high : Bool) (to : Form) → IsUnits high to → (text cs : List ℕ) → All IsScalar cs → text ≡ flat_map utf8 cs → flat_map (written to) cs ≡ given high text 0 (length text)
+given_codes high to form text cs all e =
+    same_codes high to cs form ∙ sym (text_given high cs all) ∙ ap (λ ys. given high ys 0 (length ys)) (sym e)
+
 -- So text is recoded as what it gives.
 pub Recodes-given : {O : Type 0} {appends : O → List ℕ → O → Type 0} {old new : O} {to : Form} {bytes : List ℕ} {n : ℕ} (high : Bool) → IsUnits high to → n ≤ length bytes → IsUtf8 (take n bytes)
     → appends old (given high (take n bytes) 0 (length (take n bytes))) new → Recodes appends Utf8 to bytes old new n
@@ -37,13 +46,8 @@ Recodes-given {to} {bytes} {n} high form within text put =
     let t = joined_from_text (take n bytes) text in
     let cs = t.0 in
     let units = given high (take n bytes) 0 (length (take n bytes)) in
-    let codes : flat_map (written to) cs ≡ units
-    = same_codes cs ∙ sym (text_given high cs t.1.0) ∙ ap (λ ys. given high ys 0 (length ys)) (sym t.1.1) in
+    let codes : flat_map (written to) cs ≡ units = given_codes high to form (take n bytes) cs t.1.0 t.1.1 in
     Recodes-shown cs units within (rw (sym t.1.1) at (shows_each cs t.1.0)) (sym codes) (omega (arith, length_given high (take n bytes) 0 (length (take n bytes)), length-take n bytes)) put
-  where
-    same_codes : (cs : List ℕ) → flat_map (written to) cs ≡ flat_map (λ s. flat_map (bytes_of high) (utf16 s)) cs
-    same_codes [] = refl
-    same_codes (s ∷ cs) = ap₂ (λ ys zs. ys ++ zs) (as_units high to s form) (same_codes cs)
 
 -- And as itself.
 pub Recodes-text : {O : Type 0} {appends : O → List ℕ → O → Type 0} {old new : O} {bytes : List ℕ} {n : ℕ} → n ≤ length bytes → IsUtf8 (take n bytes) → appends old (take n bytes) new

@@ -5,6 +5,7 @@ pub mod CopiedUnits
 pub mod Earliest
 pub mod EnoughRoom
 pub mod FedParts
+pub mod FirstPieces
 pub mod FrontBytes
 pub mod GivenBytes
 pub mod GivenRuns
@@ -20,6 +21,8 @@ pub mod RecodedLists
 pub mod RoomLemmas
 pub mod RoomRuns
 pub mod ShardEnds
+pub mod StrictSteps
 pub mod SwappedRuns
+pub mod TextRuns
 pub mod WidenedTexts
 pub mod UnitEnds

@@ -1,7 +1,10 @@
 -- Units of text, and what their bytes show.
 use Rattle.std.proofs.Common.{◌≡◌, ℕ, zero, suc, ◌+◌, ◌-◌, ◌*◌, ◌<◌, ◌≤◌, Bool, true, false, ◌⊎◌, List, [], ◌∷◌, ◌++◌, length, get_or, take, flat_map, arith, refl, sym, ap, ap₂, ◌∙◌, inl, inr, append_assoc, length-take, length-append, w8, Fits}
 use Rattle.std.proofs.lemmas.Grind.{common_steps}
+use Rattle.std.proofs.lemmas.List.Elements.{All-cons}
+use Rattle.std.specs.Prelude.{All}
 use Rattle.utf_base.specs.Code.{utf8, utf16}
+use Rattle.utf_base.specs.Scalar.{IsScalar}
 use Rattle.utf_base.specs.Shown.{Shows}
 use Rattle.utf_base.specs.Units.{is_leading_surrogate, is_trailing_surrogate, is_surrogate, pair_value}
 use Rattle.utf_base.proofs.Rests.{whole_code_shows_first}
@@ -13,7 +16,10 @@ use Rattle.recoding.specs.Recodes.{Recodes}
 use Rattle.utf_lanes.specs.BytePairs.{unit_of, units_of}
 use Rattle.recoding.specs.ShownFronts.{ShowsEach, IsUnits}
 use Rattle.utf_lanes.specs.GivenUnits.{joined}
+use Rattle.utf_lanes.specs.UnitBlocks.{AreCodes}
 use Rattle.utf_lanes.specs.UnitCodes.{unit_code, code_at, kept, first_in_text, middle_in_text, last_in_text, AreText}
+use Rattle.recoding.specs.Strict.{Transcodes}
+use Rattle.recoding.proofs.CopiedUnits.{coded_bytes, front_fits}
 use Rattle.recoding.proofs.Blocks.{as_read, units_append, odd_append}
 use Rattle.recoding.proofs.Recodes.{Recodes-shown}
 use Rattle.utf_lanes.proofs.UnitBytes.{no_surrogate, character_code, pair_code, not_both, not_true}
@@ -24,15 +30,17 @@ use Rattle.utf_lanes.proofs.UnitBytes.{no_surrogate, character_code, pair_code, 
 abbrev units : (ℕ → ℕ) → ℕ → ℕ → List ℕ
 units u k n = joined (λ i. u i ∷ []) k n
 
--- they show some scalars, of which their bytes are the codes
+-- they are the codes of some scalars, which they show, and their bytes are codes of those
 pub record Shown (u : ℕ → ℕ) (k n : ℕ) : Type 0 where
   ts : List ℕ
+  all : All IsScalar ts
+  made : units u k n ≡ flat_map utf16 ts
   shows : (later ss : List ℕ) → Shows utf16 later ss → Shows utf16 (units u k n ++ later) (ts ++ ss)
   codes : joined (code_at u) k n ≡ flat_map utf8 ts
 
 shown_none : (u : ℕ → ℕ) (k : ℕ) → Shown u k 0
 unfolding joined
-shown_none u k = record { ts = []; shows = λ later ss r. r; codes = refl }
+shown_none u k = record { ts = []; all = λ i d lt. absurd (omega arith); made = refl; shows = λ later ss r. r; codes = refl }
 
 shown_one : (u : ℕ → ℕ) (k n : ℕ) → u k < 0x1_0000 → is_leading_surrogate (u k) ≡ false → is_surrogate (u k) ≡ false → Shown u (suc k) n → Shown u k (suc n)
 unfolding joined
@@ -40,6 +48,8 @@ shown_one u k n fits e f rest =
     let unit = unit_is_code (u k) fits f in
     record {
       ts = u k ∷ rest.ts;
+      all = All-cons IsScalar (u k) rest.ts unit.0 rest.all;
+      made = ap₂ (λ xs ys. xs ++ ys) unit.1 rest.made;
       shows = λ later ss r. whole_code_shows_first utf16 utf16_is_code (u k ∷ []) (units u (suc k) n ++ later) (u k) (rest.ts ++ ss) unit.0 unit.1 (rest.shows later ss r);
       codes = ap₂ (λ xs ys. xs ++ ys) (character_code (u (k - 1)) (u k) fits e f) rest.codes;
     }
@@ -53,6 +63,8 @@ shown_two u k n e f rest =
     = ap (λ i. unit_code (u (k - 1)) (u k) ++ unit_code (u i) (u (suc k))) before ∙ pair_code (u (k - 1)) (u k) (u (suc k)) e f in
     record {
       ts = pair_value (u k) (u (suc k)) ∷ rest.ts;
+      all = All-cons IsScalar (pair_value (u k) (u (suc k))) rest.ts pair.0 rest.all;
+      made = ap₂ (λ xs ys. xs ++ ys) pair.1 rest.made;
       shows = λ later ss r.
           whole_code_shows_first utf16 utf16_is_code (u k ∷ u (suc k) ∷ []) (units u (suc (suc k)) n ++ later) (pair_value (u k) (u (suc k))) (rest.ts ++ ss) pair.0 pair.1 (rest.shows later ss r);
       codes =
@@ -171,3 +183,9 @@ module _ (high : Bool) (from : Form) (w : List ℕ) (u : ℕ → ℕ) (n : ℕ) 
 
   pub Recodes-narrowed : {O : Type 0} {appends : O → List ℕ → O → Type 0} {old new : O} → appends old (joined (code_at u) 0 n) new → Recodes appends from Utf8 w old new (2 * n)
   Recodes-narrowed put = Recodes-shown s.ts (joined (code_at u) 0 n) enough units_show s.codes (omega (arith, length_codes u 0 n)) put
+
+  -- and they are text
+  pub Transcodes-narrowed : Transcodes from Utf8 (take (2 * n) w) (joined (code_at u) 0 n)
+  Transcodes-narrowed =
+      let codes : AreCodes (units_of high (take (2 * n) w)) = record { scalars = s.ts; all = s.all; codes = front_units ∙ s.made } in
+      record { scalars = s.ts; all = s.all; codes = coded_bytes high from (take (2 * n) w) n form codes front_len (front_fits w (2 * n) fits); made = s.codes }

@@ -12,3 +12,4 @@ pub mod Recodes
 pub mod Undecided
 pub mod FilledRooms
 pub mod Boundaries
+pub mod Strict

@@ -8,6 +8,8 @@
 
 pub mod boundaries;
 mod code_puts;
+pub mod faults;
+mod first_pieces;
 pub mod form;
 pub mod laws;
 mod narrowed_units;
@@ -21,6 +23,8 @@ mod room_runs;
 pub mod rooms;
 pub mod shards;
 mod shown_fronts;
+pub mod strict;
+mod strict_runs;
 mod unit_copies;
 mod unit_puts;
 mod widened_texts;

@@ -45,7 +45,7 @@ fn narrow_units<O: Output>(from: Form, high_first: bool, bytes: &[u8], out: &mut
 
 // Appends the bytes of sixteen units, or of fifteen, or none. Answers of how many.
 #[inline(always)]
-fn put_block<O: Output>(low: u8x16, high: u8x16, out: &mut O) -> usize
+pub(crate) fn put_block<O: Output>(low: u8x16, high: u8x16, out: &mut O) -> usize
     requires { 64 ≤ O.room out.old }
     ensures { PutsUnits O.appends low high out.old out.new result }
 {

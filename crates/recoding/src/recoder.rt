@@ -166,7 +166,7 @@ impl Recoder {
     }
 
     // Holds these bytes in place of those that were held.
-    fn hold(&mut self, bytes: &[u8])
+    pub(crate) fn hold(&mut self, bytes: &[u8])
         requires { length bytes.now ≤ 3 }
         ensures { self.new ≡ record { from = self.old.from; to = self.old.to; held = bytes.now } }
     {
@@ -227,6 +227,15 @@ impl Recoder {
         let mut recoder = Recoder::new(from, to);
         recoder.hold(held);
         recoder
+    }
+
+    // The form of the input and that of the output.
+    #[inline(always)]
+    pub(crate) fn forms(&self) -> (Form, Form)
+        ensures from { result.0 ≡ self.now.from }
+        ensures to { result.1 ≡ self.now.to }
+    {
+        (self.from, self.to)
     }
 
     /// The bytes that were fed and are not converted yet: at most three.

@@ -1,0 +1,17 @@
+use Rattle.std.proofs.Common.{◌≡◌, ◌≤◌, false, length}
+use Rattle.cuts.proofs.StrictRelays.{IsTextRelayed}
+use Rattle.cuts.proofs.programs.strict.recode_strict.Given as goal
+
+abbrev pub invariant-loop : goal.invariant-loop
+invariant-loop g l = record {
+  relayed : IsTextRelayed l.fn.from l.fn.to (g.R.Read.remaining l.fn.input.inner) (g.R.Read.remaining l.input.inner)
+      (g.W.Write.contents l.fn.out.inner) (g.W.Write.contents l.out.inner) l.fn.input.failures l.input.failures l.counter l.recoder l.offset;
+  part : length l.part ≡ 16384;
+  room : length l.room ≡ 49161;
+  never_fewer : l.fn.input.failures ≤ l.input.failures;
+  quiet : l.out.failures ≡ l.fn.out.failures;
+  unbroken : l.input.reads.broken ≡ l.fn.input.reads.broken;
+  unended : l.fn.input.reads.ended ≡ false → l.input.reads.ended ≡ false;
+  in_time : l.fn.input.reads.ended ≡ false → l.input.reads.late ≡ l.fn.input.reads.late;
+  extras : l.out.extras ≡ l.fn.out.extras;
+}

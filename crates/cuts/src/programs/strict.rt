@@ -1,0 +1,164 @@
+//! Strict recoding from a reader to a writer: to the first invalid byte.
+ghost use Rattle.std.specs.Prelude.{◌≡◌, ◌≢◌, ◌+◌, ◌-◌, ◌*◌, ◌^◌, ◌<◌, ◌≤◌, [], length, false, Some, IfSome, IfErr, OnOk};
+ghost use Rattle.cuts.specs.Endings.{IsDrained};
+ghost use Rattle.cuts.specs.StrictRelayed.{BeginsText, EndsText, HoldsText, IfInvalid, IsFollowed, PassesText, PassesTextFront, PassesTextLast, StopsInvalid, StopsText, WritesText};
+
+use crate::counted::Counted;
+use crate::streams::write_whole;
+use recoding::faults::{Fault, FaultKind, Outcome};
+use recoding::form::Form;
+use recoding::recoder::Recoder;
+use std::io::{ErrorKind, Read, Write};
+use thiserror::Error;
+
+/// Where the first invalid bytes of an input are, and why they are invalid.
+#[derive(Clone, Copy, Debug, PartialEq, Eq, Drop)]
+pub struct InvalidAt {
+    /// Their offset in the whole input, in bytes: exact in inputs below 2^64 bytes.
+    pub offset: u64,
+    /// Why they are invalid, as a decoder names it.
+    pub kind: FaultKind,
+}
+
+/// Why `recode_strict` ended before the end of the input.
+#[derive(Clone, Copy, Debug, PartialEq, Eq, Drop, Error)]
+pub enum StrictError {
+    /// The reader gave an error, or no end in `u64::MAX` reads.
+    #[error("cannot read")]
+    Read,
+    /// The writer gave an error, or took nothing.
+    #[error("cannot write")]
+    Write,
+    /// The input is invalid.
+    #[error("invalid input")]
+    Invalid(InvalidAt),
+}
+
+// How many bytes are read at a time.
+const PART: usize = 16384;
+
+// Room for all that a part becomes, and what is held before it.
+const ROOM: usize = 3 * (PART + 3);
+
+/// Converts all that the reader gives from one form into another, part by part, and stops at the
+/// first invalid byte, or lone surrogate. `recode` replaces each by U+FFFD instead.
+///
+/// All text before it is written then, exactly, and nothing for what is invalid. The reader may
+/// have given bytes that follow it. A read that is interrupted is made again, and none is made once
+/// the reader is at its end.
+///
+/// Cost: O(n).
+pub fn recode_strict<R: Read, W: Write>(
+    input: &mut Counted<R>,
+    out: &mut Counted<W>,
+    from: Form,
+    to: Form,
+) -> Result<(), StrictError>
+    ensures text { OnOk result (WritesText from to (R.remaining input.old.inner)
+        (W.contents out.old.inner) (W.contents out.new.inner)) }
+    ensures invalid { IfErr result (λ e. IfInvalid e (λ x. StopsInvalid from to (R.remaining input.old.inner)
+        (R.remaining input.new.inner) (W.contents out.old.inner) (W.contents out.new.inner) x)) }
+    ensures front { BeginsText from to (R.remaining input.old.inner) (R.remaining input.new.inner)
+        (W.contents out.old.inner) (W.contents out.new.inner) }
+    ensures held_back { result ≡ Err StrictError.Read →
+        HoldsText from to (R.remaining input.old.inner) (R.remaining input.new.inner)
+        (W.contents out.old.inner) (W.contents out.new.inner) }
+    ensures drained { OnOk result (IsDrained (R.remaining input.old.inner) (R.remaining input.new.inner)) }
+    ensures quiet { result ≢ Err StrictError.Write → out.new.failures ≡ out.old.failures }
+    ensures unbroken { result ≢ Err StrictError.Read → input.new.reads.broken ≡ input.old.reads.broken }
+    ensures in_time { input.old.reads.ended ≡ false → input.new.reads.late ≡ input.old.reads.late }
+    ensures cannot_read { result ≡ Err StrictError.Read →
+        IfSome (R.remaining input.old.inner) (λ xs. length xs < 2 ^ 64 - 1 →
+        input.old.failures < input.new.failures) }
+    ensures cannot_write { result ≡ Err StrictError.Write → out.old.failures < out.new.failures }
+    ensures extras { out.new.extras ≡ out.old.extras }
+{
+    let mut recoder = Recoder::new(from, to);
+    let mut part = [0; PART];
+    let mut room = [0; ROOM];
+    let mut offset: u64 = 0;
+    for _ in 0..u64::MAX {
+        match input.take(&mut part) {
+            Ok(0) => return pass_end(&mut recoder, offset, &mut room, out),
+            Ok(count) => {
+                pass_part(&mut recoder, &part[..count], offset, &mut room, out)?;
+                offset = offset.saturating_add(count as u64);
+            }
+            Err(error) if error.kind() == ErrorKind::Interrupted => {}
+            Err(_) => return Err(StrictError::Read),
+        }
+    }
+    Err(StrictError::Read)
+}
+
+// Recodes a part by way of the room, and writes what comes of it. So many bytes were read before the part.
+fn pass_part<W: Write>(
+    recoder: &mut Recoder,
+    part: &[u8],
+    offset: u64,
+    room: &mut [u8],
+    out: &mut Counted<W>,
+) -> Result<(), StrictError>
+    requires room { 3 * (length recoder.old.held + length part.now) ≤ length room.old }
+    requires before { length recoder.old.held ≤ offset }
+    ensures passes { OnOk result (PassesText recoder.old part.now (W.contents out.old.inner)
+        (W.contents out.new.inner) recoder.new) }
+    ensures invalid { IfErr result (λ e. IfInvalid e (λ x. StopsText recoder.old part.now IsFollowed offset
+        (W.contents out.old.inner) (W.contents out.new.inner) x)) }
+    ensures front { PassesTextFront recoder.old part.now (W.contents out.old.inner) (W.contents out.new.inner) }
+    ensures quiet { result ≢ Err StrictError.Write → out.new.failures ≡ out.old.failures }
+    ensures can_read { result ≢ Err StrictError.Read }
+    ensures cannot_write { result ≡ Err StrictError.Write → out.old.failures < out.new.failures }
+    ensures extras { out.new.extras ≡ out.old.extras }
+{
+    let progress = recoder.feed_strict_into(part, room);
+    if write_whole(&room[..progress.written], out).is_err() {
+        return Err(StrictError::Write);
+    }
+    match progress.outcome {
+        Outcome::AllRead | Outcome::Full => Ok(()),
+        Outcome::Invalid(fault) => Err(invalid_at(
+            fault,
+            offset.saturating_add(progress.read as u64),
+        )),
+    }
+}
+
+// Recodes what is held at the end by way of the room, and writes what comes of it. So many bytes were read.
+fn pass_end<W: Write>(
+    recoder: &mut Recoder,
+    offset: u64,
+    room: &mut [u8],
+    out: &mut Counted<W>,
+) -> Result<(), StrictError>
+    requires room { 3 * length recoder.old.held ≤ length room.old }
+    requires before { length recoder.old.held ≤ offset }
+    ensures passes { OnOk result (PassesTextLast recoder.old (W.contents out.old.inner) (W.contents out.new.inner)) }
+    ensures invalid { IfErr result (λ e. IfInvalid e (λ x. StopsText recoder.old [] EndsText offset
+        (W.contents out.old.inner) (W.contents out.new.inner) x)) }
+    ensures front { PassesTextFront recoder.old [] (W.contents out.old.inner) (W.contents out.new.inner) }
+    ensures quiet { result ≢ Err StrictError.Write → out.new.failures ≡ out.old.failures }
+    ensures can_read { result ≢ Err StrictError.Read }
+    ensures cannot_write { result ≡ Err StrictError.Write → out.old.failures < out.new.failures }
+    ensures extras { out.new.extras ≡ out.old.extras }
+{
+    let progress = recoder.finish_strict_into(room);
+    if write_whole(&room[..progress.written], out).is_err() {
+        return Err(StrictError::Write);
+    }
+    match progress.outcome {
+        Outcome::AllRead | Outcome::Full => Ok(()),
+        Outcome::Invalid(fault) => Err(invalid_at(fault, offset)),
+    }
+}
+
+// The error at a fault, where so many bytes were read.
+fn invalid_at(fault: Fault, read: u64) -> StrictError
+    requires { fault.back ≤ read }
+    ensures { result ≡ StrictError.Invalid (record { offset = read - fault.back; kind = fault.kind }) }
+{
+    StrictError::Invalid(InvalidAt {
+        offset: read - fault.back as u64,
+        kind: fault.kind,
+    })
+}

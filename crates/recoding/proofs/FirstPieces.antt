@@ -1,0 +1,159 @@
+-- The piece that begins some bytes, from the answer of a decoder.
+use Rattle.std.proofs.Common.{◌≡◌, ◌≢◌, ℕ, ◌+◌, ◌-◌, ◌<◌, ◌≤◌, eqb, Bool, true, false, List, [], ◌∷◌, ◌++◌, length, get_or, take, drop, flat_map, arith, refl, ap, ap₂, sym, ◌∙◌, Some, Fits, w8}
+use Rattle.std.proofs.lemmas.Grind.{common_steps}
+use Rattle.std.specs.Option.{option_map}
+use Rattle.std.proofs.lemmas.List.{append-nil}
+use Rattle.utf_base.specs.Code.{utf8, utf16}
+use Rattle.utf_base.specs.Front.{BeginsWith}
+use Rattle.utf_base.specs.Kinds.{fault_kind}
+use Rattle.utf_base.specs.Scalar.{IsScalar}
+use Rattle.utf_base.specs.Units.{is_leading_surrogate, is_trailing_surrogate, unit_fault_kind}
+use Rattle.utf_base.specs.declared.errors.Utf8ErrorKind.{Utf8ErrorKind}
+use Rattle.utf_base.specs.declared.errors.Utf8ErrorKind.TheVariants.{TooFewBytes}
+use Rattle.utf_base.specs.declared.errors.units.Utf16PairError.{Utf16PairError}
+use Rattle.utf_base.specs.declared.errors.units.Utf16PairError.TheVariants.{Incomplete, UnexpectedTrailingSurrogate, UnmatchedLeadingSurrogate}
+use Rattle.utf_base.proofs.LaterLemmas.{kind_stays, few_where_too_few}
+use Rattle.utf_base.proofs.UnitLemmas.{no_both}
+use Rattle.utf_base.proofs.Utf8Code.{utf8_is_code}
+use Rattle.utf_lanes.specs.BytePairs.{units_of, bytes_of}
+use Rattle.recoding.specs.ShownFronts.{IsUnits, fault_len}
+use Rattle.recoding.specs.Strict.{kind_of, lacking, BeginsChar, BeginsFault, EndsInFault, IsUndecided}
+use Rattle.recoding.specs.declared.faults.FaultKind.{FaultKind}
+use Rattle.recoding.specs.declared.faults.FaultKind.TheVariants as kind
+use Rattle.recoding.specs.declared.form.Form.{Form}
+use Rattle.recoding.specs.declared.form.Form.TheVariants.{Utf8, Utf16Le, Utf16Be}
+use Rattle.recoding.proofs.CopiedUnits.{as_written, same_pair}
+use Rattle.recoding.proofs.FrontBytes.{Decides-utf8_fault, first_unit, second_unit, units_two, units_next, lacks_byte, lacks_second}
+
+-- UTF-8.
+
+pub BeginsChar-utf8 : (w : List ℕ) (s n : ℕ) → BeginsWith utf8 w s n → BeginsChar Utf8 w s n
+BeginsChar-utf8 w s n (h, e) =
+    let some = utf8_is_code.some s h.scalar in
+    let within = h.within in
+    let span : 0 + length (utf8 s) - 0 ≡ length (utf8 s) = omega arith in
+    record { scalar = h.scalar; some = omega arith; within = omega arith; code = rw e (rw span at h.equal) }
+
+pub BeginsFault-utf8 : (w : List ℕ) (k : Utf8ErrorKind) → fault_kind w ≡ Some k → k ≢ TooFewBytes → BeginsFault Utf8 w (kind.Utf8 k) 1
+BeginsFault-utf8 w k e other = record {
+  within = (Decides-utf8_fault w k e other).within;
+  len = refl;
+  kind = λ later. ap (option_map kind.Utf8) (kind_stays w later (λ few. other (same_kind k TooFewBytes (sym e ∙ few))) ∙ e);
+}
+  where
+    same_kind : (a b : Utf8ErrorKind) → Some a ≡ Some b → a ≡ b
+    same_kind a b e = cc
+
+pub IsUndecided-utf8 : (w : List ℕ) → fault_kind w ≡ Some TooFewBytes → IsUndecided Utf8 w
+IsUndecided-utf8 w e = record { kind = ap (option_map kind.Utf8) e; few = few_where_too_few w e }
+
+-- UTF-16: bytes, two by two.
+
+pub kind_of_units : (high : Bool) (from : Form) (w : List ℕ) → IsUnits high from → kind_of from w ≡ option_map kind.Utf16 (unit_fault_kind (units_of high w))
+kind_of_units high Utf8 w form = absurd form
+kind_of_units high Utf16Le w form = rw form refl
+kind_of_units high Utf16Be w form = rw form refl
+
+lacking_units : (high : Bool) (from : Form) → IsUnits high from → lacking from ≡ kind.Utf16 Incomplete
+lacking_units high Utf8 form = absurd form
+lacking_units high Utf16Le form = refl
+lacking_units high Utf16Be form = refl
+
+fault_of_unit : (high : Bool) (from : Form) → IsUnits high from → 2 ≡ fault_len from
+fault_of_unit high Utf8 form = absurd form
+fault_of_unit high Utf16Le form = refl
+fault_of_unit high Utf16Be form = refl
+
+trailing_units : (us : List ℕ) → 0 < length us → is_trailing_surrogate (get_or us 0 0) ≡ true → unit_fault_kind us ≡ Some UnexpectedTrailingSurrogate
+unfolding unit_fault_kind
+trailing_units us some t =
+    let not_empty : eqb (length us) 0 ≡ false = grind (arith, common_steps) in
+    rw (not_empty, t) refl
+
+unmatched_units : (us : List ℕ) → 2 ≤ length us → is_leading_surrogate (get_or us 0 0) ≡ true → is_trailing_surrogate (get_or us 1 0) ≡ false
+    → unit_fault_kind us ≡ Some UnmatchedLeadingSurrogate
+unfolding unit_fault_kind
+unmatched_units us two l t =
+    let not_empty : eqb (length us) 0 ≡ false = grind (arith, common_steps) in
+    let not_alone : eqb (length us) 1 ≡ false = grind (arith, common_steps) in
+    rw (not_empty, no_both (get_or us 0 0) l, l, not_alone, t) refl
+
+front_two : (w : List ℕ) → 2 ≤ length w → take 2 w ≡ get_or w 0 0 ∷ get_or w 1 0 ∷ []
+front_two [] h = absurd (omega arith)
+front_two (a ∷ []) h = absurd (omega arith)
+front_two (a ∷ b ∷ w) h = refl
+
+front_four : (w : List ℕ) → 4 ≤ length w → take 4 w ≡ (get_or w 0 0 ∷ get_or w 1 0 ∷ []) ++ (get_or w 2 0 ∷ get_or w 3 0 ∷ [])
+front_four [] h = absurd (omega arith)
+front_four (a ∷ []) h = absurd (omega arith)
+front_four (a ∷ b ∷ []) h = absurd (omega arith)
+front_four (a ∷ b ∷ c ∷ []) h = absurd (omega arith)
+front_four (a ∷ b ∷ c ∷ d ∷ w) h = refl
+
+pub fault_is_some : (from : Form) → 0 < fault_len from
+fault_is_some Utf8 = omega arith
+fault_is_some Utf16Le = omega arith
+fault_is_some Utf16Be = omega arith
+
+module _ (high : Bool) (from : Form) (w : List ℕ) (form : IsUnits high from) where
+  units_undecided : length w ≤ 3 → unit_fault_kind (units_of high w) ≡ Some Incomplete → IsUndecided from w
+  units_undecided few e = record {
+    kind = kind_of_units high from w form ∙ ap (option_map kind.Utf16) e ∙ ap Some (sym (lacking_units high from form));
+    few = few;
+  }
+
+  pub IsUndecided-byte : length w < 2 → IsUndecided from w
+  IsUndecided-byte few = units_undecided (omega arith) (lacks_byte high w few)
+
+  pub IsUndecided-leading : 2 ≤ length w → length w < 4 → is_leading_surrogate (first_unit high w) ≡ true → IsUndecided from w
+  IsUndecided-leading two few l = units_undecided (omega arith) (lacks_second high w two few l)
+
+  unit_fault : (k : Utf16PairError) → 2 ≤ length w → ((later : List ℕ) → unit_fault_kind (units_of high (w ++ later)) ≡ Some k) → BeginsFault from w (kind.Utf16 k) 2
+  unit_fault k two e = record {
+    within = two;
+    len = fault_of_unit high from form;
+    kind = λ later. kind_of_units high from (w ++ later) form ∙ ap (option_map kind.Utf16) (e later);
+  }
+
+  pub BeginsFault-trailing : 2 ≤ length w → is_trailing_surrogate (first_unit high w) ≡ true → BeginsFault from w (kind.Utf16 UnexpectedTrailingSurrogate) 2
+  BeginsFault-trailing two t = unit_fault UnexpectedTrailingSurrogate two (λ later. rw (units_two high w later two) (trailing_units (first_unit high w ∷ units_of high (drop 2 w ++ later)) (omega arith) t))
+
+  pub BeginsFault-unmatched : 4 ≤ length w → is_leading_surrogate (first_unit high w) ≡ true → is_trailing_surrogate (second_unit high w) ≡ false
+      → BeginsFault from w (kind.Utf16 UnmatchedLeadingSurrogate) 2
+  BeginsFault-unmatched four l t =
+      unit_fault UnmatchedLeadingSurrogate (omega arith)
+      (λ later. let two : 2 ≤ length w = omega arith in rw (units_two high w later two, units_next high w later four) (unmatched_units (first_unit high w ∷ second_unit high w ∷ units_of high (drop 4 w ++ later)) (omega arith) l t))
+
+  -- the characters
+
+  pub BeginsChar-unit : (s : ℕ) → 2 ≤ length w → ((j : ℕ) → Fits w8 (get_or w j 0)) → IsScalar s → first_unit high w ∷ [] ≡ utf16 s → BeginsChar from w s 2
+  BeginsChar-unit s two fits scalar e = record {
+    scalar = scalar;
+    some = omega arith;
+    within = two;
+    code =
+        front_two w two ∙ sym (same_pair high (get_or w 0 0) (get_or w 1 0) (fits 0).fits (fits 1).fits) ∙ sym (append-nil (bytes_of high (first_unit high w)))
+        ∙ ap (flat_map (bytes_of high)) e ∙ sym (as_written high from s form);
+  }
+
+  pub BeginsChar-pair : (s : ℕ) → 4 ≤ length w → ((j : ℕ) → Fits w8 (get_or w j 0)) → IsScalar s → first_unit high w ∷ second_unit high w ∷ [] ≡ utf16 s → BeginsChar from w s 4
+  BeginsChar-pair s four fits scalar e =
+      let first = same_pair high (get_or w 0 0) (get_or w 1 0) (fits 0).fits (fits 1).fits in
+      let second = same_pair high (get_or w 2 0) (get_or w 3 0) (fits 2).fits (fits 3).fits in
+      record {
+        scalar = scalar;
+        some = omega arith;
+        within = four;
+        code =
+            front_four w four ∙ ap₂ (λ xs ys. xs ++ ys) (sym first) (sym second ∙ sym (append-nil (bytes_of high (second_unit high w))))
+            ∙ ap (flat_map (bytes_of high)) e ∙ sym (as_written high from s form);
+      }
+
+-- Where nothing follows, a fault is one too, and so are too few bytes.
+
+pub EndsInFault-begun : (from : Form) (w : List ℕ) (k : FaultKind) (n : ℕ) → BeginsFault from w k n → EndsInFault from w k n
+EndsInFault-begun from w k n f =
+    let within = f.within in
+    let len = f.len in
+    let least = fault_is_some from in
+    record { some = omega arith; len = omega arith; kind = rw (append-nil w) at (f.kind []) }

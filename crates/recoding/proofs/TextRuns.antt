@@ -1,0 +1,171 @@
+-- Text recoded, and no fault: step by step.
+use Rattle.std.proofs.Common.{◌≡◌, ℕ, ◌+◌, ◌-◌, ◌*◌, ◌/◌, ◌≤◌, Bool, List, [], ◌∷◌, ◌++◌, length, get_or, take, drop, flat_map, arith, refl, ap, ap₂, sym, ◌∙◌, append_assoc, length-drop, length-take, take-append-drop, Fits, w8, IsUtf8}
+use Rattle.std.proofs.lemmas.List.{append-nil, take_rest, take-take}
+use Rattle.std.proofs.lemmas.List.Concat.{flat_map-append}
+use Rattle.std.proofs.lemmas.List.Elements.{All-append, All-nil, All-cons}
+use Rattle.encode_unicode.proofs.TextScalars.{joined_from_text}
+use Rattle.utf_base.specs.Scalar.{IsScalar}
+use Rattle.utf_lanes.specs.BytePairs.{units_of, bytes_of, turned}
+use Rattle.utf_lanes.specs.GivenUnits.{given}
+use Rattle.utf_lanes.specs.UnitBlocks.{AreCodes}
+use Rattle.recoding.specs.FilledRooms.{FillsRoom}
+use Rattle.recoding.specs.Recoded.{written}
+use Rattle.recoding.specs.Recodes.{CopiesUnits}
+use Rattle.recoding.specs.Rooms.{Fills}
+use Rattle.recoding.specs.ShownFronts.{IsUnits}
+use Rattle.recoding.specs.Strict.{Transcodes, BeginsChar, PutsText, RunsStrictly, RecodesText}
+use Rattle.recoding.specs.declared.form.Form.{Form}
+use Rattle.recoding.specs.declared.form.Form.TheVariants.{Utf8}
+use Rattle.recoding.specs.declared.room.Room.{Room}
+use Rattle.recoding.proofs.CopiedUnits.{all_written, coded_bytes, front_fits, in_order, differ}
+use Rattle.recoding.proofs.GivenRuns.{given_codes}
+use Rattle.recoding.proofs.RoomLemmas.{drop_later, take_more}
+use Rattle.recoding.proofs.RoomRuns.{Fills-then}
+
+-- The same text in two forms.
+
+pub Transcodes-none : (from to : Form) → Transcodes from to [] []
+Transcodes-none from to = record { scalars = []; all = All-nil IsScalar; codes = refl; made = refl }
+
+pub Transcodes-one : (from to : Form) (s : ℕ) → IsScalar s → Transcodes from to (written from s) (written to s)
+Transcodes-one from to s scalar = record {
+  scalars = s ∷ [];
+  all = All-cons IsScalar s [] scalar (All-nil IsScalar);
+  codes = sym (append-nil (written from s));
+  made = sym (append-nil (written to s));
+}
+
+pub Transcodes-then : {from to : Form} {xs ys out more : List ℕ} → Transcodes from to xs out → Transcodes from to ys more → Transcodes from to (xs ++ ys) (out ++ more)
+Transcodes-then {from} {to} f g = record {
+  scalars = f.scalars ++ g.scalars;
+  all = All-append IsScalar f.scalars g.scalars f.all g.all;
+  codes = ap₂ (λ cs ds. cs ++ ds) f.codes g.codes ∙ sym (flat_map-append (written from) f.scalars g.scalars);
+  made = ap₂ (λ cs ds. cs ++ ds) f.made g.made ∙ sym (flat_map-append (written to) f.scalars g.scalars);
+}
+
+-- Appended to any output.
+
+module _ {O : Type 0} {appends : O → List ℕ → O → Type 0} {from to : Form} {bytes : List ℕ} where
+  pub PutsText-none : ((a : O) → appends a [] a) → {out : O} → PutsText appends from to bytes out out 0
+  PutsText-none none {out} = record { within = omega arith; grown = []; appended = none out; transcodes = Transcodes-none from to }
+
+  pub PutsText-then : ((a b c : O) (xs ys : List ℕ) → appends a xs b → appends b ys c → appends a (xs ++ ys) c) → {old mid new : O} {p n : ℕ}
+      → PutsText appends from to bytes old mid p → PutsText appends from to (take (length bytes - p) (drop p bytes)) mid new n → PutsText appends from to bytes old new (p + n)
+  PutsText-then more {old} {mid} {new} {p} {n} f rest =
+      let g : PutsText appends from to (drop p bytes) mid new n = rw (take_rest bytes p) at rest in
+      record {
+        within = omega (arith, f.within, g.within, length-drop p bytes);
+        grown = f.grown ++ g.grown;
+        appended = more old mid new f.grown g.grown f.appended g.appended;
+        transcodes = rw (take_more p n bytes) at (Transcodes-then f.transcodes g.transcodes);
+      }
+
+-- Text in UTF-8 as it is, and as units.
+
+pub PutsText-text : {O : Type 0} {appends : O → List ℕ → O → Type 0} {old new : O} {bytes : List ℕ} {n : ℕ} → n ≤ length bytes → IsUtf8 (take n bytes) → appends old (take n bytes) new
+    → PutsText appends Utf8 Utf8 bytes old new n
+PutsText-text {bytes} {n} within text put =
+    let t = joined_from_text (take n bytes) text in
+    record { within = within; grown = take n bytes; appended = put; transcodes = record { scalars = t.0; all = t.1.0; codes = t.1.1; made = t.1.1 } }
+
+pub PutsText-given : {O : Type 0} {appends : O → List ℕ → O → Type 0} {old new : O} {to : Form} {bytes : List ℕ} {n : ℕ} (high : Bool) → IsUnits high to → n ≤ length bytes → IsUtf8 (take n bytes)
+    → appends old (given high (take n bytes) 0 (length (take n bytes))) new → PutsText appends Utf8 to bytes old new n
+PutsText-given {to} {bytes} {n} high form within text put =
+    let t = joined_from_text (take n bytes) text in
+    record {
+      within = within;
+      grown = given high (take n bytes) 0 (length (take n bytes));
+      appended = put;
+      transcodes = record { scalars = t.0; all = t.1.0; codes = t.1.1; made = sym (given_codes high to form (take n bytes) t.0 t.1.0 t.1.1) };
+    }
+
+-- Units, in bytes.
+
+pub PutsText-units : {O : Type 0} {appends : O → List ℕ → O → Type 0} {old new : O} {from to : Form} {bytes : List ℕ} {n : ℕ} (high other : Bool) (count : ℕ) → IsUnits high from → IsUnits other to
+    → ((j : ℕ) → Fits w8 (get_or bytes j 0)) → CopiesUnits appends high (differ high other) (take count bytes) old new n → PutsText appends from to bytes old new n
+PutsText-units {appends} {old} {new} {from} {to} {bytes} {n} high other count reads writes fits copied =
+    let even = copied.even in
+    let within = copied.within in
+    let le : n ≤ count = omega (arith, length-take count bytes) in
+    let all : n ≤ length bytes = omega (arith, length-take count bytes) in
+    let h : AreCodes (units_of high (take n bytes)) = rw (take-take n count bytes le) at copied.codes in
+    let put : appends old (turned (differ high other) (take n bytes)) new = rw (take-take n count bytes le) at copied.appended in
+    let half : length (take n bytes) ≡ 2 * (n / 2) = omega (arith, length-take n bytes) in
+    record {
+      within = all;
+      grown = turned (differ high other) (take n bytes);
+      appended = put;
+      transcodes = record {
+        scalars = h.scalars;
+        all = h.all;
+        codes = coded_bytes high from (take n bytes) (n / 2) reads h half (front_fits bytes n fits);
+        made =
+            sym (all_written other to h.scalars writes ∙ ap (flat_map (bytes_of other)) (sym h.codes) ∙ in_order high other (take n bytes) (n / 2) half (front_fits bytes n fits));
+      };
+    }
+
+-- Into room of a fixed size.
+
+pub RunsStrictly-of : {from to : Form} {bytes old new : List ℕ} {place n : ℕ} (a b : Room) → a.bytes.now ≡ old → a.len ≡ place → b.bytes.now ≡ new → PutsText FillsRoom from to bytes a b n
+    → RunsStrictly from to bytes old new place n b.len
+RunsStrictly-of {old} {new} {place} a b e f h run =
+    let fills = run.appended in
+    let within = b.within in
+    record {
+      within = run.within;
+      grown = run.grown;
+      fills = record {
+        ordered = omega (arith, fills.len);
+        fits = omega (arith, fills.whole, ap length e);
+        front = ap (take b.len) (sym h) ∙ fills.front ∙ ap₂ (λ k ys. take k ys ++ run.grown) f e;
+        rest = ap (drop b.len) (sym h) ∙ fills.rest ∙ ap (drop b.len) e;
+      };
+      transcodes = run.transcodes;
+    }
+
+pub RunsStrictly-none : {from to : Form} {bytes old : List ℕ} {place : ℕ} → place ≤ length old → RunsStrictly from to bytes old old place 0 place
+RunsStrictly-none {from} {to} {bytes} {old} {place} fits = record {
+  within = omega arith;
+  grown = [];
+  fills = record { ordered = omega arith; fits = fits; front = sym (append-nil (take place old)); rest = refl };
+  transcodes = Transcodes-none from to;
+}
+
+-- one character
+pub RunsStrictly-char : {from to : Form} {bytes old new : List ℕ} {place s n end : ℕ} → BeginsChar from bytes s n → Fills old new place end (written to s)
+    → RunsStrictly from to bytes old new place n end
+RunsStrictly-char {from} {to} {s} d fills = record {
+  within = d.within;
+  grown = written to s;
+  fills = fills;
+  transcodes = rw d.code (Transcodes-one from to s d.scalar);
+}
+
+-- one run after another
+pub RunsStrictly-then : {from to : Form} {bytes old mid new : List ℕ} {place read wrote more end : ℕ} → RunsStrictly from to bytes old mid place read wrote → length mid ≡ length old
+    → RunsStrictly from to (drop read bytes) mid new wrote more end → RunsStrictly from to bytes old new place (read + more) end
+RunsStrictly-then {bytes} {old} {mid} {new} {place} {read} {wrote} {more} {end} f len g =
+    let within = f.within in
+    record {
+      within = omega (arith, g.within, length-drop read bytes);
+      grown = f.grown ++ g.grown;
+      fills = Fills-then old mid new f.grown g.grown place wrote end f.fills len g.fills;
+      transcodes = rw (take_more read more bytes) at (Transcodes-then f.transcodes g.transcodes);
+    }
+
+-- The text of a call so far, and what is left.
+
+pub RecodesText-none : (from to : Form) (all old : List ℕ) → RecodesText from to all all old old 0
+RecodesText-none from to all old = record { text = []; parts = refl; transcodes = Transcodes-none from to; fits = omega arith; rest = refl }
+
+pub RecodesText-run : {from to : Form} {all left old mid new : List ℕ} {wrote read end : ℕ} → RecodesText from to all left old mid wrote → length mid ≡ length old
+    → RunsStrictly from to left mid new wrote read end → RecodesText from to all (drop read left) old new end
+RecodesText-run {all} {left} {old} {mid} {wrote} {read} {end} f len g =
+    let fills = g.fills in
+    record {
+      text = f.text ++ take read left;
+      parts = f.parts ∙ ap (λ xs. f.text ++ xs) (sym (take-append-drop read left)) ∙ sym (append_assoc f.text (take read left) (drop read left));
+      transcodes = rw fills.front (Transcodes-then f.transcodes g.transcodes);
+      fits = omega (arith, fills.fits);
+      rest = fills.rest ∙ drop_later mid old wrote end fills.ordered f.rest;
+    }

@@ -1,0 +1,15 @@
+use Rattle.std.proofs.Common.{◌≡◌, ◌≤◌, length}
+use Rattle.recoding.specs.Strict.{RecodesText}
+use Rattle.recoding.proofs.recoder.Recoder.finish_strict_into.Given as goal
+
+abbrev pub invariant-loop-from : goal.invariant-loop-from
+invariant-loop-from l = record {
+  recodes : RecodesText l.from l.to l.fn.self.held l.self.held l.fn.room l.room l.written;
+  from : l.self.from ≡ l.fn.self.from;
+  to : l.self.to ≡ l.fn.self.to;
+  few : length l.self.held ≤ length l.fn.self.held;
+  len : length l.room ≡ length l.fn.room;
+}
+
+abbrev pub decreases-loop-from : goal.decreases-loop-from
+decreases-loop-from l = length l.self.held

@@ -1,0 +1,176 @@
+-- Strict recoding: of text alone, up to the first fault.
+use Rattle.std.specs.Prelude.{◌≡◌, ℕ, ◌+◌, ◌-◌, ◌<◌, ◌≤◌, List, [], ◌++◌, length, take, drop, flat_map, All, Option, Some, None, min, false, true}
+use Rattle.std.specs.Option.{option_map}
+use Rattle.utf_base.specs.Kinds.{fault_kind}
+use Rattle.utf_base.specs.Scalar.{IsScalar}
+use Rattle.utf_base.specs.Units.{unit_fault_kind}
+use Rattle.utf_base.specs.declared.errors.Utf8ErrorKind.TheVariants.{TooFewBytes}
+use Rattle.utf_base.specs.declared.errors.units.Utf16PairError.TheVariants.{Incomplete}
+use Rattle.utf_lanes.specs.BytePairs.{units_of}
+use Rattle.recoding.specs.Recoded.{Recoding, written}
+use Rattle.recoding.specs.Rooms.{BeginsLonger, Fills}
+use Rattle.recoding.specs.ShownFronts.{fault_len}
+use Rattle.recoding.specs.declared.first_pieces.FirstPiece.{FirstPiece}
+use Rattle.recoding.specs.declared.first_pieces.FirstPiece.TheVariants as piece
+use Rattle.recoding.specs.declared.form.Form.{Form}
+use Rattle.recoding.specs.declared.form.Form.TheVariants.{Utf8, Utf16Le, Utf16Be}
+use Rattle.recoding.specs.declared.faults.FaultKind.{FaultKind}
+use Rattle.recoding.specs.declared.faults.FaultKind.TheVariants as kind
+use Rattle.recoding.specs.declared.faults.Fault.{Fault}
+use Rattle.recoding.specs.declared.faults.Outcome.{Outcome}
+use Rattle.recoding.specs.declared.faults.Outcome.TheVariants.{AllRead, Full, Invalid}
+use Rattle.recoding.specs.declared.faults.StrictProgress.{StrictProgress}
+use Rattle.recoding.specs.declared.strict.HeldRun.{HeldRun}
+use Rattle.recoding.specs.declared.strict_runs.StrictRun.{StrictRun}
+
+-- Both are the codes of the same scalars, each in its form: the bytes are text, and `out` is that text.
+pub record Transcodes (from to : Form) (bytes out : List ℕ) : Type 0 where
+  pub scalars : List ℕ
+  pub all : All IsScalar scalars
+  pub codes : bytes ≡ flat_map (written from) scalars
+  pub made : out ≡ flat_map (written to) scalars
+
+-- what a decoder says is wrong with bytes that no code begins; half a unit is none
+abbrev pub kind_of : Form → List ℕ → Option FaultKind
+kind_of Utf8 bytes = option_map kind.Utf8 (fault_kind bytes)
+kind_of Utf16Le bytes = option_map kind.Utf16 (unit_fault_kind (units_of false bytes))
+kind_of Utf16Be bytes = option_map kind.Utf16 (unit_fault_kind (units_of true bytes))
+
+-- the kind where elements lack
+abbrev pub lacking : Form → FaultKind
+lacking Utf8 = kind.Utf8 TooFewBytes
+lacking Utf16Le = kind.Utf16 Incomplete
+lacking Utf16Be = kind.Utf16 Incomplete
+
+-- There is no byte, or what follows the bytes decides of what kind they are.
+pub record IsUndecided (from : Form) (bytes : List ℕ) : Type 0 where
+  pub kind : kind_of from bytes ≡ Some (lacking from)
+  pub few : length bytes ≤ 3
+
+-- the code of the scalar s begins the bytes, and has n of them
+pub record BeginsChar (from : Form) (bytes : List ℕ) (s n : ℕ) : Type 0 where
+  pub scalar : IsScalar s
+  pub some : 0 < n
+  pub within : n ≤ length bytes
+  pub code : take n bytes ≡ written from s
+
+-- a fault of n bytes begins the bytes, of the kind that a decoder names, whatever follows them
+pub record BeginsFault (from : Form) (bytes : List ℕ) (k : FaultKind) (n : ℕ) : Type 0 where
+  pub within : n ≤ length bytes
+  pub len : n ≡ fault_len from
+  pub kind : (later : List ℕ) → kind_of from (bytes ++ later) ≡ Some k
+
+-- the same where nothing follows them, of which half a unit may be all
+pub record EndsInFault (from : Form) (bytes : List ℕ) (k : FaultKind) (n : ℕ) : Type 0 where
+  pub some : 0 < length bytes
+  pub len : n ≡ min (fault_len from) (length bytes)
+  pub kind : kind_of from bytes ≡ Some k
+
+-- The piece that begins the bytes, whatever follows them.
+abbrev pub IsFirstPiece : Form → List ℕ → FirstPiece → Type 0
+IsFirstPiece from bytes (piece.Char s n) = BeginsChar from bytes s n
+IsFirstPiece from bytes (piece.Fault k n) = BeginsFault from bytes k n
+IsFirstPiece from bytes piece.Undecided = IsUndecided from bytes
+
+-- So many bytes, which are text, were recoded, and what came of them was appended.
+pub record PutsText {O : Type 0} (appends : O → List ℕ → O → Type 0) (from to : Form) (bytes : List ℕ) (old new : O) (read : ℕ) : Type 0 where
+  pub within : read ≤ length bytes
+  pub grown : List ℕ
+  pub appended : appends old grown new
+  pub transcodes : Transcodes from to (take read bytes) grown
+
+-- The same into room from a place on.
+pub record RunsStrictly (from to : Form) (bytes old new : List ℕ) (place read wrote : ℕ) : Type 0 where
+  pub within : read ≤ length bytes
+  pub grown : List ℕ
+  pub fills : Fills old new place wrote grown
+  pub transcodes : Transcodes from to (take read bytes) grown
+
+-- of a character, that its code is longer than the room
+abbrev pub IsLonger : Form → ℕ → FirstPiece → Type 0
+IsLonger to room (piece.Char s n) = room < length (written to s)
+IsLonger to room (piece.Fault k n) = Unit {0}
+IsLonger to room piece.Undecided = Unit {0}
+
+-- A run ends at what begins the bytes: at a character only where its code is longer than the room.
+pub record StopsAt (from to : Form) (bytes : List ℕ) (room : ℕ) (first : FirstPiece) : Type 0 where
+  pub begins : IsFirstPiece from bytes first
+  pub longer : IsLonger to room first
+
+-- All that there was is text, which is recoded at the front of the room now, and then what is left. The other places of the
+-- room stay.
+pub record RecodesText (from to : Form) (all left old new : List ℕ) (wrote : ℕ) : Type 0 where
+  pub text : List ℕ
+  pub parts : all ≡ text ++ left
+  pub transcodes : Transcodes from to text (take wrote new)
+  pub fits : wrote ≤ length old
+  pub rest : drop wrote new ≡ drop wrote old
+
+-- A call ended before a character whose code is longer than the room.
+abbrev pub IsTooLong : Form → Form → List ℕ → ℕ → Type 0
+IsTooLong from to left room = BeginsLonger (BeginsChar from left) to room
+
+-- what the caller is told of a fault of so many bytes, after which so many are held
+pub record Tells (f : Fault) (count held : ℕ) : Type 0 where
+  pub len : f.len ≡ count
+  pub back : f.back ≡ count + held
+
+-- Why a call of `feed_strict_into` ended, by the bytes of the fault, those that are held, those that were not read, and the room
+-- that is left: all was read, and what follows decides of the held ones; or there is no room; or a fault begins there,
+-- whatever follows the part.
+abbrev pub EndsFeed : Form → Form → Outcome → List ℕ → List ℕ → List ℕ → ℕ → Type 0
+EndsFeed from to AllRead fault held rest room = (fault ≡ []) × (rest ≡ []) × IsUndecided from held
+EndsFeed from to Full fault held rest room = (fault ≡ []) × IsTooLong from to (held ++ rest) room
+EndsFeed from to (Invalid f) fault held rest room =
+    BeginsFault from (fault ++ (held ++ rest)) f.kind (length fault) × Tells f (length fault) (length held)
+
+-- One call of `feed_strict_into`: what was held and the part are text, which was recoded, then a fault, if the call ended at one,
+-- then what is held now, and what was not read.
+pub record FeedsStrictly (r : Recoding) (part old new : List ℕ) (p : StrictProgress) (s : Recoding) : Type 0 where
+  pub fault : List ℕ
+  pub recodes : RecodesText r.from r.to (r.held ++ part) (fault ++ (s.held ++ drop p.read part)) old new p.written
+  pub ends : EndsFeed r.from r.to p.outcome fault s.held (drop p.read part) (length old - p.written)
+  pub within : p.read ≤ length part
+  pub from : s.from ≡ r.from
+  pub to : s.to ≡ r.to
+  pub few : length s.held ≤ 3
+
+-- The same of what was held alone: it is gone, or the call ended.
+abbrev pub EndsHeld : Form → Form → Option Outcome → List ℕ → List ℕ → List ℕ → ℕ → Type 0
+EndsHeld from to None fault held rest room = (fault ≡ []) × (held ≡ [])
+EndsHeld from to (Some outcome) fault held rest room = EndsFeed from to outcome fault held rest room
+
+pub record PassesHeld (r : Recoding) (part old new : List ℕ) (run : HeldRun) (s : Recoding) : Type 0 where
+  pub fault : List ℕ
+  pub recodes : RecodesText r.from r.to (r.held ++ part) (fault ++ (s.held ++ drop run.read part)) old new run.written
+  pub ends : EndsHeld r.from r.to run.outcome fault s.held (drop run.read part) (length old - run.written)
+  pub within : run.read ≤ length part
+  pub from : s.from ≡ r.from
+  pub to : s.to ≡ r.to
+  pub few : length s.held ≤ 3
+
+-- What a run left of some bytes, of which so many are read then: a fault, and what is held.
+pub record EndsRun (r : Recoding) (bytes : List ℕ) (run : StrictRun) (ended : ℕ × Outcome) (s : Recoding) : Type 0 where
+  pub fault : List ℕ
+  pub left : drop run.read bytes ≡ fault ++ (s.held ++ drop ended.0 bytes)
+  pub ends : (room : ℕ) → IsLonger r.to room run.first → EndsFeed r.from r.to ended.1 fault s.held (drop ended.0 bytes) room
+  pub within : ended.0 ≤ length bytes
+  pub from : s.from ≡ r.from
+  pub to : s.to ≡ r.to
+  pub few : length s.held ≤ 3
+
+-- The same of `finish_strict_into`: what was held ends the input, and too few bytes are a fault.
+abbrev pub EndsFinish : Form → Form → Outcome → List ℕ → List ℕ → ℕ → Type 0
+EndsFinish from to AllRead fault held room = (fault ≡ []) × (held ≡ [])
+EndsFinish from to Full fault held room = (fault ≡ []) × IsTooLong from to held room
+EndsFinish from to (Invalid f) fault held room = EndsInFault from (fault ++ held) f.kind (length fault) × Tells f (length fault) (length held)
+
+-- One call of `finish_strict_into`: what was held is text, which was recoded, then a fault, if the call ended at one, then what is
+-- held now.
+pub record FinishesStrictly (r : Recoding) (old new : List ℕ) (p : StrictProgress) (s : Recoding) : Type 0 where
+  pub fault : List ℕ
+  pub recodes : RecodesText r.from r.to r.held (fault ++ s.held) old new p.written
+  pub ends : EndsFinish r.from r.to p.outcome fault s.held (length old - p.written)
+  pub from : s.from ≡ r.from
+  pub to : s.to ≡ r.to
+  pub few : length s.held ≤ length r.held

@@ -1,0 +1,198 @@
+//! Strict recoding of text that comes in parts: to the first invalid byte, and on from there.
+ghost use Rattle.std.specs.Prelude.{◌≡◌, ◌≢◌, ◌+◌, ◌-◌, ◌*◌, ◌<◌, ◌≤◌, [], length, drop, Some};
+ghost use Rattle.recoding.specs.Rooms.{ComesNearer};
+ghost use Rattle.recoding.specs.Strict.{EndsRun, FeedsStrictly, FinishesStrictly, IsFirstPiece, PassesHeld};
+
+use crate::faults::{Fault, FaultKind, Outcome, StrictProgress};
+use crate::first_pieces::{FirstPiece, first_piece, last_piece};
+use crate::recoder::Recoder;
+use crate::recoder_rooms::put_at;
+use crate::recoder_runs::join;
+use crate::strict_runs::{StrictRun, run_strictly};
+
+// How far a call came with what was held; `None` where nothing is held any more.
+#[derive(Clone, Copy, Drop)]
+pub(crate) struct HeldRun {
+    pub(crate) read: usize,
+    pub(crate) written: usize,
+    pub(crate) outcome: Option<Outcome>,
+}
+
+impl Recoder {
+    /// `feed_into` that stops at the first invalid byte, and says where it is and why it is invalid.
+    ///
+    /// What was written is exactly the text before it. Nothing is written for the invalid bytes, and
+    /// they count as read: to go on after them, call again with the bytes of the part that follow
+    /// those that were read; to refuse the input, do not. Each invalid byte of UTF-8 stops a call of
+    /// its own, and so does each lone surrogate.
+    ///
+    /// Where what is invalid, or why, depends on bytes that have not come yet, the first bytes are
+    /// held, at most three: after `E9 0A` a third byte decides between `InterruptedSequence` and
+    /// `TooFewBytes`. `feed_into` and this call may take turns: each goes on from what the other
+    /// holds.
+    ///
+    /// `Outcome::AllRead`: the whole part was read. `Outcome::Full`: the next character did not fit.
+    /// With room for four bytes, each call with some bytes reads or writes something, or passes an
+    /// invalid byte that was held. With three bytes of room for each byte that is held or in the
+    /// part, none is full.
+    ///
+    /// Cost: O(n) in what is read and written.
+    pub fn feed_strict_into(&mut self, part: &[u8], room: &mut [u8]) -> StrictProgress
+        ensures feeds { FeedsStrictly self.old part.now room.old room.new result self.new }
+        ensures read { result.outcome ≡ Outcome.AllRead → result.read ≡ length part.now }
+        ensures short { result.outcome ≡ Outcome.Full → length room.old < result.written + 4 }
+        ensures enough { 3 * (length self.old.held + length part.now) ≤ length room.old → result.outcome ≢ Outcome.Full }
+        ensures nearer { ComesNearer part.now room.old result.read self.old self.new }
+    {
+        let passed = self.pass_held(part, room);
+        if let Some(outcome) = passed.outcome {
+            return StrictProgress {
+                read: passed.read,
+                written: passed.written,
+                outcome,
+            };
+        }
+        let (from, to) = self.forms();
+        let rest = &part[passed.read..];
+        let run = run_strictly(from, to, rest, room, passed.written);
+        let (end, outcome) = self.end_run(rest, run);
+        StrictProgress {
+            read: passed.read + end,
+            written: run.written,
+            outcome,
+        }
+    }
+
+    // Holds what a run left undecided of these bytes. Answers how many of them are read, and why the run ended.
+    fn end_run(&mut self, rest: &[u8], run: StrictRun) -> (usize, Outcome)
+        requires within { run.read ≤ length rest.now }
+        requires first { IsFirstPiece self.old.from (drop run.read rest.now) run.first }
+        requires none { self.old.held ≡ [] }
+        ensures { EndsRun self.old rest.now run result self.new }
+    {
+        match run.first {
+            FirstPiece::Char(_, _) => (run.read, Outcome::Full),
+            FirstPiece::Fault(kind, len) => (run.read + len, invalid(kind, len, 0)),
+            FirstPiece::Undecided => {
+                self.hold(&rest[run.read..]);
+                (rest.len(), Outcome::AllRead)
+            }
+        }
+    }
+
+    // `feed_strict_into` of what is held, with as many bytes of the part as it takes, until nothing is held.
+    fn pass_held(&mut self, part: &[u8], room: &mut [u8]) -> HeldRun
+        ensures { PassesHeld self.old part.now room.old room.new result self.new }
+    {
+        let (from, to) = self.forms();
+        let mut read = 0;
+        let mut written = 0;
+        while !self.held().is_empty() {
+            let (joined, len) = join(self.held(), &part[read..]);
+            match first_piece(from, &joined[..len]) {
+                FirstPiece::Char(c, count) => {
+                    let Some(end) = put_at(to, c, room, written) else {
+                        return held_run(read, written, Outcome::Full);
+                    };
+                    read += self.pass(count);
+                    written = end;
+                }
+                FirstPiece::Fault(kind, count) => {
+                    read += self.pass(count);
+                    return held_run(read, written, invalid(kind, count, self.held().len()));
+                }
+                FirstPiece::Undecided => {
+                    self.hold(&joined[..len]);
+                    return held_run(part.len(), written, Outcome::AllRead);
+                }
+            }
+        }
+        HeldRun {
+            read,
+            written,
+            outcome: None,
+        }
+    }
+
+    // Holds no longer so many of the bytes at the front. Answers how many more those were than the held ones.
+    fn pass(&mut self, count: usize) -> usize
+        ensures held { self.new ≡ record { from = self.old.from; to = self.old.to; held = drop count self.old.held } }
+        ensures more { result ≡ count - length self.old.held }
+    {
+        let (from, to) = self.forms();
+        let held = self.held();
+        let gone = count.min(held.len());
+        let more = count - gone;
+        *self = Recoder::holding(from, to, &held[gone..]);
+        more
+    }
+
+    /// `finish_into` that stops at the first invalid byte. `read` is 0.
+    ///
+    /// What is held ends the input: where it is the front of a character, its first byte is invalid,
+    /// of the kind `TooFewBytes` or `Incomplete`. To go on after it, call this again.
+    ///
+    /// `Outcome::AllRead`: nothing is held any more. `Outcome::Full`: the next character did not fit;
+    /// four bytes are room for any, and nine for all.
+    pub fn finish_strict_into(&mut self, room: &mut [u8]) -> StrictProgress
+        ensures finishes { FinishesStrictly self.old room.old room.new result self.new }
+        ensures read { result.read ≡ 0 }
+        ensures all { result.outcome ≡ Outcome.AllRead → self.new.held ≡ [] }
+        ensures short { result.outcome ≡ Outcome.Full → length room.old < result.written + 4 }
+        ensures enough { 3 * length self.old.held ≤ length room.old → result.outcome ≢ Outcome.Full }
+    {
+        let (from, to) = self.forms();
+        let mut written = 0;
+        while !self.held().is_empty() {
+            match last_piece(from, self.held()) {
+                Ok((c, count)) => {
+                    let Some(end) = put_at(to, c, room, written) else {
+                        return finished(written, Outcome::Full);
+                    };
+                    self.pass(count);
+                    written = end;
+                }
+                Err((kind, count)) => {
+                    self.pass(count);
+                    return finished(written, invalid(kind, count, self.held().len()));
+                }
+            }
+        }
+        finished(written, Outcome::AllRead)
+    }
+}
+
+// How far a call came that reads nothing.
+fn finished(written: usize, outcome: Outcome) -> StrictProgress
+    ensures { result ≡ record { read = 0; written = written; outcome = outcome } }
+{
+    StrictProgress {
+        read: 0,
+        written,
+        outcome,
+    }
+}
+
+// How far a call came that ended among the held bytes.
+fn held_run(read: usize, written: usize, outcome: Outcome) -> HeldRun
+    ensures { result ≡ record { read = read; written = written; outcome = Some outcome } }
+{
+    HeldRun {
+        read,
+        written,
+        outcome: Some(outcome),
+    }
+}
+
+// A fault of so many bytes, after which so many are held.
+fn invalid(kind: FaultKind, len: usize, held: usize) -> Outcome
+    requires len { len ≤ 2 }
+    requires held { held ≤ 3 }
+    ensures { result ≡ Outcome.Invalid (record { kind = kind; len = len; back = len + held }) }
+{
+    Outcome::Invalid(Fault {
+        kind,
+        len,
+        back: len + held,
+    })
+}
