@@ -82,6 +82,7 @@ fn front_of_utf8(bytes: &[u8]) -> Option<(char, usize)>
 }
 
 // Whether bytes that are too few are the front of a code. Else the first is a fault, whatever follows.
+#[cold]
 #[inline(never)]
 fn is_front_of_code(bytes: &[u8]) -> bool
     requires { fault_kind bytes.now ≡ Some TooFewBytes }
