@@ -20,7 +20,7 @@ use Rattle.recoding.proofs.Recodes.{Recodes-shown}
 use Rattle.recoding.proofs.SwappedRuns.{length_turned}
 
 -- Codes show their scalars.
-codes_show : (cs later ss : List ℕ) → All IsScalar cs → Shows utf16 later ss → Shows utf16 (flat_map utf16 cs ++ later) (cs ++ ss)
+pub codes_show : (cs later ss : List ℕ) → All IsScalar cs → Shows utf16 later ss → Shows utf16 (flat_map utf16 cs ++ later) (cs ++ ss)
 codes_show [] later ss all r = r
 codes_show (s ∷ cs) later ss all r =
     rw (append_assoc (utf16 s) (flat_map utf16 cs) later)

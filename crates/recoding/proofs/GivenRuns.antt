@@ -19,7 +19,7 @@ use Rattle.encode_unicode.proofs.TextScalars.{joined_from_text}
 use Rattle.utf_lanes.proofs.TextUnits.{text_given}
 
 -- A text shows its characters, whatever follows.
-shows_each : (cs : List ℕ) → All IsScalar cs → ShowsEach (Shows utf8) (flat_map utf8 cs) cs
+pub shows_each : (cs : List ℕ) → All IsScalar cs → ShowsEach (Shows utf8) (flat_map utf8 cs) cs
 shows_each [] all later ss h = h
 shows_each (s ∷ cs) all later ss h =
     rw (append_assoc (utf8 s) (flat_map utf8 cs) later)

@@ -23,6 +23,7 @@ pub mod RoomRuns
 pub mod ShardEnds
 pub mod StrictSteps
 pub mod SwappedRuns
+pub mod TextLaws
 pub mod TextRuns
 pub mod WidenedTexts
 pub mod UnitEnds

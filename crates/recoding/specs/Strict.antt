@@ -7,7 +7,7 @@ use Rattle.utf_base.specs.Units.{unit_fault_kind}
 use Rattle.utf_base.specs.declared.errors.Utf8ErrorKind.TheVariants.{TooFewBytes}
 use Rattle.utf_base.specs.declared.errors.units.Utf16PairError.TheVariants.{Incomplete}
 use Rattle.utf_lanes.specs.BytePairs.{units_of}
-use Rattle.recoding.specs.Recoded.{Recoding, written}
+use Rattle.recoding.specs.Recoded.{Recoding, IsRecoded, written}
 use Rattle.recoding.specs.Rooms.{BeginsLonger, Fills}
 use Rattle.recoding.specs.ShownFronts.{fault_len}
 use Rattle.recoding.specs.declared.first_pieces.FirstPiece.{FirstPiece}
@@ -29,6 +29,11 @@ pub record Transcodes (from to : Form) (bytes out : List ℕ) : Type 0 where
   pub all : All IsScalar scalars
   pub codes : bytes ≡ flat_map (written from) scalars
   pub made : out ≡ flat_map (written to) scalars
+
+-- Text is recoded as itself, whatever follows it: where a strict call writes something, `feed` writes the same.
+abbrev pub TextIsRecoded : Type 0
+TextIsRecoded =
+    (from to : Form) (text out later rest : List ℕ) → Transcodes from to text out → IsRecoded from to later rest → IsRecoded from to (text ++ later) (out ++ rest)
 
 -- what a decoder says is wrong with bytes that no code begins; half a unit is none
 abbrev pub kind_of : Form → List ℕ → Option FaultKind

@@ -4,6 +4,7 @@
 ghost use Rattle.recoding.specs.Shards.{ShardsJoin};
 ghost use Rattle.recoding.specs.Recoded.{RecodedOnce, PartsAreRecoded, PartsDoNotMatter};
 ghost use Rattle.recoding.specs.RecodedBytes.{RecodedIsOne};
+ghost use Rattle.recoding.specs.Strict.{TextIsRecoded};
 ghost use Rattle.recoding.specs.Bounds.{RecodedIsBounded, LossyIsBounded, FeedsInRoom, RoomIsLeft, FinishesInRoom};
 ghost use Rattle.recoding.specs.Undecided.{FrontsAreUndecided, LackingTextIsUndecided, LackingUnitsAreUndecided};
 ghost use Rattle.recoding.specs.Undecided.{LackingUnitIsUndecided, NothingComesEarlier};
@@ -68,4 +69,10 @@ pub fn room_is_enough()
 /// each.
 pub fn shards_join()
     ensures { ShardsJoin }
+{}
+
+/// Text is recoded as itself, whatever follows it: where a call that stops at an invalid byte writes something, one that
+/// replaces it writes the same.
+pub fn text_is_recoded()
+    ensures { TextIsRecoded }
 {}

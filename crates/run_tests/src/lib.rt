@@ -27,6 +27,8 @@ mod streams;
 #[cfg(test)]
 mod streams_out_of_memory;
 #[cfg(test)]
+mod strict;
+#[cfg(test)]
 mod tables;
 #[cfg(test)]
 mod words;

@@ -34,6 +34,7 @@ pub mod rooms;
 pub mod runs;
 pub mod shown;
 pub mod sources;
+pub mod strict;
 pub mod strings;
 pub mod tables;
 pub mod texts;
