@@ -36,7 +36,7 @@ ended (Some xs) h = h
 
 pub loop-init : goal.loop-init
 loop-init g c = record {
-  relayed = IsTextRelayed-none _ _ _ _ _ _ c.new-recoder.ensures;
+  relayed = IsTextRelayed-none _ _ _ _ _ _ c.new-recoder.ensures.nothing;
   part = search rules;
   room = search rules;
   never_fewer = search rules;
