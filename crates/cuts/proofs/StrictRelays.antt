@@ -5,21 +5,21 @@ use Rattle.std.proofs.KnownBytes.{Appends-nil, Appends-trans, Consumes-nil, Cons
 use Rattle.std.specs.Prelude.{IfSome}
 use Rattle.std.specs.Io.KnownBytes.{Appends, Consumes, Keeps, IsAtEnd}
 use Rattle.recoding.specs.declared.faults.Fault.{Fault}
-use Rattle.recoding.specs.declared.faults.Outcome.TheVariants.{Invalid}
+use Rattle.recoding.specs.declared.faults.Outcome.TheVariants.{Faulty}
 use Rattle.recoding.specs.declared.faults.StrictProgress.{StrictProgress}
 use Rattle.recoding.specs.declared.form.Form.{Form}
 use Rattle.recoding.specs.Recoded.{Recoding}
 use Rattle.recoding.specs.Strict.{Transcodes, FeedsStrictly, EndsFeed, kind_of}
 use Rattle.recoding.proofs.StrictSteps.{fault_few}
 use Rattle.recoding.proofs.TextRuns.{Transcodes-none, Transcodes-then}
-use Rattle.cuts.specs.StrictRelayed.{BeginsText, HoldsText, StopsInvalid, WritesText, PassesText, PassesTextFront, PassesTextLast, StopsText, IsFollowed}
-use Rattle.cuts.specs.declared.programs.strict.InvalidAt.{InvalidAt}
+use Rattle.cuts.specs.StrictRelayed.{BeginsText, HoldsText, StopsFaulty, WritesText, PassesText, PassesTextFront, PassesTextLast, StopsText, IsFollowed}
+use Rattle.cuts.specs.declared.programs.strict.FaultAt.{FaultAt}
 use Rattle.cuts.proofs.Fronts.{AppendsFront-all, AppendsFront-then}
 
 -- A call of the recoder that ended at a fault.
-module _ (r s : Recoding) (part room new : List ℕ) (p : StrictProgress) (x : Fault) (f : FeedsStrictly r part room new p s) (e : p.outcome ≡ Invalid x) where
-  ends_invalid : EndsFeed r.from r.to (Invalid x) f.fault s.held (drop p.read part) (length room - p.written)
-  ends_invalid = subst (λ o. EndsFeed r.from r.to o f.fault s.held (drop p.read part) (length room - p.written)) e f.ends
+module _ (r s : Recoding) (part room new : List ℕ) (p : StrictProgress) (x : Fault) (f : FeedsStrictly r part room new p s) (e : p.outcome ≡ Faulty x) where
+  ends_faulty : EndsFeed r.from r.to (Faulty x) f.fault s.held (drop p.read part) (length room - p.written)
+  ends_faulty = subst (λ o. EndsFeed r.from r.to o f.fault s.held (drop p.read part) (length room - p.written)) e f.ends
 
   lengths : length r.held + length part ≡ length f.recodes.text + (length f.fault + (length s.held + (length part - p.read)))
   lengths =
@@ -36,7 +36,7 @@ module _ (r s : Recoding) (part room new : List ℕ) (p : StrictProgress) (x : F
   -- it lies within what was read
   pub back_within : (before read : ℕ) → length r.held ≤ before → read ≡ min (before + p.read) (2 ^ 64 - 1) → x.back ≤ read
   back_within before read held sum =
-      omega (arith, lengths, ends_invalid.1.back, ends_invalid.0.len, fault_few r.from, f.few, f.within)
+      omega (arith, lengths, ends_faulty.1.back, ends_faulty.0.len, fault_few r.from, f.few, f.within)
 
   pub StopsText-of : (before read : ℕ) (out_old out_new : Option (List ℕ)) → length r.held ≤ before → read ≡ min (before + p.read) (2 ^ 64 - 1) → Appends out_old out_new (take p.written new)
       → StopsText r part IsFollowed before out_old out_new (record { offset = read - x.back; kind = x.kind })
@@ -47,8 +47,8 @@ module _ (r s : Recoding) (part room new : List ℕ) (p : StrictProgress) (x : F
     parts = f.recodes.parts;
     transcodes = f.recodes.transcodes;
     written = put;
-    offset = λ fits. omega (arith, lengths, ends_invalid.1.back, f.within);
-    kind = λ later following. ends_invalid.0.kind later;
+    offset = λ fits. omega (arith, lengths, ends_faulty.1.back, f.within);
+    kind = λ later following. ends_faulty.0.kind later;
   }
 
 -- What was read so far is text, which was recoded and written, and then what the recoder holds. Of so many reads each gave a
@@ -197,9 +197,9 @@ module _ {from to : Form} {in_old in_mid out_old out_mid : Option (List ℕ)} {f
   }
 
   -- a fault was met in a part, or at the end
-  pub StopsInvalid-of : (in_new out_new : Option (List ℕ)) (part : List ℕ) (Follows : List ℕ → Type 0) (x : InvalidAt) → Consumes in_mid in_new part
-      → IfSome in_new Follows → StopsText r part Follows o out_mid out_new x → StopsInvalid from to in_old in_new out_old out_new x
-  StopsInvalid-of in_new out_new part Follows x taken follows p =
+  pub StopsFaulty-of : (in_new out_new : Option (List ℕ)) (part : List ℕ) (Follows : List ℕ → Type 0) (x : FaultAt) → Consumes in_mid in_new part
+      → IfSome in_new Follows → StopsText r part Follows o out_mid out_new x → StopsFaulty from to in_old in_new out_old out_new x
+  StopsFaulty-of in_new out_new part Follows x taken follows p =
       let read = consumes_more in_new part p.text p.rest p.parts taken in
       let all = ap length (read_more part p.text p.rest p.parts) in
       record {

@@ -5,9 +5,9 @@ use Rattle.recoding.specs.declared.form.Form.{Form}
 use Rattle.recoding.specs.Recoded.{Recoding}
 use Rattle.recoding.specs.Strict.{Transcodes, kind_of}
 use Rattle.cuts.specs.Failures.{AppendsFront}
-use Rattle.cuts.specs.declared.programs.strict.InvalidAt.{InvalidAt}
+use Rattle.cuts.specs.declared.programs.strict.FaultAt.{FaultAt}
 use Rattle.cuts.specs.declared.programs.strict.StrictError.{StrictError}
-use Rattle.cuts.specs.declared.programs.strict.StrictError.TheVariants.{Read, Write, Invalid}
+use Rattle.cuts.specs.declared.programs.strict.StrictError.TheVariants.{Read, Write, Faulty}
 
 -- the whole input is text, and known bytes grew by it in the other form
 pub record WritesText (from to : Form) (input old new : Option (List ℕ)) : Type 0 where
@@ -38,7 +38,7 @@ pub record HoldsText (from to : Form) (input_old input_new old new : Option (Lis
 
 -- The input is text up to that offset, and known bytes grew by it in the other form. There a fault begins, of the kind that a
 -- decoder names with all that follows in the input.
-pub record StopsInvalid (from to : Form) (input_old input_new old new : Option (List ℕ)) (x : InvalidAt) : Type 0 where
+pub record StopsFaulty (from to : Form) (input_old input_new old new : Option (List ℕ)) (x : FaultAt) : Type 0 where
   pub text : List ℕ
   pub rest : List ℕ
   pub grown : List ℕ
@@ -48,11 +48,11 @@ pub record StopsInvalid (from to : Form) (input_old input_new old new : Option (
   pub offset : length (text ++ rest) < 2 ^ 64 → x.offset ≡ length text
   pub kind : IfSome input_old (λ xs. kind_of from (drop (length text) xs) ≡ Some x.kind)
 
--- what is said of an invalid input
-abbrev pub IfInvalid : StrictError → (InvalidAt → Type 0) → Type 0
-IfInvalid Read P = Unit {0}
-IfInvalid Write P = Unit {0}
-IfInvalid (Invalid x) P = P x
+-- what is said of a faulty input
+abbrev pub IfFaulty : StrictError → (FaultAt → Type 0) → Type 0
+IfFaulty Read P = Unit {0}
+IfFaulty Write P = Unit {0}
+IfFaulty (Faulty x) P = P x
 
 -- a part was fed: what was held and the part are text, by which known bytes grew in the other form, and what is held now
 pub record PassesText (r : Recoding) (part : List ℕ) (old new : Option (List ℕ)) (s : Recoding) : Type 0 where
@@ -89,7 +89,7 @@ EndsText later = later ≡ []
 
 -- What was held and the part are text, by which known bytes grew in the other form, and then a fault begins. Of so many bytes
 -- before the part the last ones were held.
-pub record StopsText (r : Recoding) (part : List ℕ) (Follows : List ℕ → Type 0) (before : ℕ) (old new : Option (List ℕ)) (x : InvalidAt) : Type 0 where
+pub record StopsText (r : Recoding) (part : List ℕ) (Follows : List ℕ → Type 0) (before : ℕ) (old new : Option (List ℕ)) (x : FaultAt) : Type 0 where
   pub text : List ℕ
   pub rest : List ℕ
   pub grown : List ℕ

@@ -26,7 +26,7 @@ pub use programs::listing::{write_listing, write_merged, write_walk};
 pub use programs::pieces_program::run_pieces;
 pub use programs::recode_program::run_recode;
 pub use programs::relayed::{RecodeFault, recode};
-pub use programs::strict::{InvalidAt, StrictError, recode_strict};
+pub use programs::strict::{FaultAt, StrictError, recode_strict};
 pub use recoding::boundaries::{boundary_after, unit_boundary_after, unit_boundary_before};
 pub use recoding::faults::{Fault, FaultKind, Outcome, StrictProgress};
 pub use recoding::form::Form;

@@ -13,7 +13,7 @@ use Rattle.recoding.specs.ShownFronts.{fault_len}
 use Rattle.recoding.specs.Strict.{Transcodes, BeginsChar, BeginsFault, EndsInFault, IsTooLong, RecodesText, RunsStrictly, IsLonger, EndsFeed, EndsHeld, FeedsStrictly, FinishesStrictly, PassesHeld, EndsRun}
 use Rattle.recoding.specs.declared.faults.FaultKind.{FaultKind}
 use Rattle.recoding.specs.declared.faults.Outcome.{Outcome}
-use Rattle.recoding.specs.declared.faults.Outcome.TheVariants.{AllRead, Full, Invalid}
+use Rattle.recoding.specs.declared.faults.Outcome.TheVariants.{AllRead, Full, Faulty}
 use Rattle.recoding.specs.declared.faults.StrictProgress.{StrictProgress}
 use Rattle.recoding.specs.declared.form.Form.{Form}
 use Rattle.recoding.specs.declared.form.Form.TheVariants.{Utf8, Utf16Le, Utf16Be}
@@ -64,7 +64,7 @@ front_len n w le = omega (arith, length-take n w)
 -- A fault that begins what is left.
 
 pub EndsFeed-fault : (from to : Form) (w held rest : List ℕ) (k : FaultKind) (n room : ℕ) → BeginsFault from w k n → drop n w ≡ held ++ rest
-    → EndsFeed from to (Invalid (record { kind = k; len = n; back = n + length held })) (take n w) held rest room
+    → EndsFeed from to (Faulty (record { kind = k; len = n; back = n + length held })) (take n w) held rest room
 EndsFeed-fault from to w held rest k n room f e =
     let len = front_len n w f.within in
     let all : w ≡ take n w ++ (held ++ rest) = sym (take-append-drop n w) ∙ ap (λ zs. take n w ++ zs) e in
@@ -178,7 +178,7 @@ module _ (r : Recoding) (part old new : List ℕ) (s : Recoding) where
       )
   nearer_by p Full f ends e len room some =
       moved p f some (omega (arith, room_is_short p f e, text_room f.recodes.transcodes, front_len p.written new (omega (arith, f.recodes.fits))))
-  nearer_by p (Invalid x) f ends e len room some =
+  nearer_by p (Faulty x) f ends e len room some =
       moved p f some (omega (arith, ends.0.len, fault_is_some r.from))
 
   pub comes_nearer : (p : StrictProgress) → FeedsStrictly r part old new p s → length new ≡ length old → ComesNearer part old p.read r s
@@ -270,7 +270,7 @@ FeedsStrictly-run r s v from to part old mid new read wrote run ended e f h len 
 
 pub FinishesStrictly-fault : (r s v : Recoding) (from to : Form) (old new : List ℕ) (wrote n : ℕ) (k : FaultKind) → from ≡ r.from → to ≡ r.to → s.from ≡ r.from → s.to ≡ r.to
     → length s.held ≤ length r.held → RecodesText from to r.held s.held old new wrote → EndsInFault from s.held k n → v ≡ record { from = s.from; to = s.to; held = drop n s.held }
-    → FinishesStrictly r old new (record { read = 0; written = wrote; outcome = Invalid (record { kind = k; len = n; back = n + length v.held }) }) v
+    → FinishesStrictly r old new (record { read = 0; written = wrote; outcome = Faulty (record { kind = k; len = n; back = n + length v.held }) }) v
 FinishesStrictly-fault r s v from to old new wrote n k e f i j few recodes ends now =
     let held = ap (λ x. x.held) now in
     let all : s.held ≡ take n s.held ++ v.held = sym (take-append-drop n s.held) ∙ ap (λ xs. take n s.held ++ xs) (sym held) in

@@ -18,7 +18,7 @@ use Rattle.recoding.specs.declared.faults.FaultKind.{FaultKind}
 use Rattle.recoding.specs.declared.faults.FaultKind.TheVariants as kind
 use Rattle.recoding.specs.declared.faults.Fault.{Fault}
 use Rattle.recoding.specs.declared.faults.Outcome.{Outcome}
-use Rattle.recoding.specs.declared.faults.Outcome.TheVariants.{AllRead, Full, Invalid}
+use Rattle.recoding.specs.declared.faults.Outcome.TheVariants.{AllRead, Full, Faulty}
 use Rattle.recoding.specs.declared.faults.StrictProgress.{StrictProgress}
 use Rattle.recoding.specs.declared.strict.HeldRun.{HeldRun}
 use Rattle.recoding.specs.declared.strict_runs.StrictRun.{StrictRun}
@@ -126,7 +126,7 @@ pub record Tells (f : Fault) (count held : ℕ) : Type 0 where
 abbrev pub EndsFeed : Form → Form → Outcome → List ℕ → List ℕ → List ℕ → ℕ → Type 0
 EndsFeed from to AllRead fault held rest room = (fault ≡ []) × (rest ≡ []) × IsUndecided from held
 EndsFeed from to Full fault held rest room = (fault ≡ []) × IsTooLong from to (held ++ rest) room
-EndsFeed from to (Invalid f) fault held rest room =
+EndsFeed from to (Faulty f) fault held rest room =
     BeginsFault from (fault ++ (held ++ rest)) f.kind (length fault) × Tells f (length fault) (length held)
 
 -- One call of `feed_strict_into`: what was held and the part are text, which was recoded, then a fault, if the call ended at one,
@@ -168,7 +168,7 @@ pub record EndsRun (r : Recoding) (bytes : List ℕ) (run : StrictRun) (ended : 
 abbrev pub EndsFinish : Form → Form → Outcome → List ℕ → List ℕ → ℕ → Type 0
 EndsFinish from to AllRead fault held room = (fault ≡ []) × (held ≡ [])
 EndsFinish from to Full fault held room = (fault ≡ []) × IsTooLong from to held room
-EndsFinish from to (Invalid f) fault held room = EndsInFault from (fault ++ held) f.kind (length fault) × Tells f (length fault) (length held)
+EndsFinish from to (Faulty f) fault held room = EndsInFault from (fault ++ held) f.kind (length fault) × Tells f (length fault) (length held)
 
 -- One call of `finish_strict_into`: what was held is text, which was recoded, then a fault, if the call ended at one, then what is
 -- held now.

@@ -1,4 +1,4 @@
-//! Where strict recoding stops: what is invalid there, and where it is.
+//! Where strict recoding stops: what is faulty there, and where it is.
 
 use encode_unicode::error::{Utf8ErrorKind, Utf16PairError};
 
@@ -37,7 +37,7 @@ pub enum Outcome {
     /// The next character does not fit into the room that remains.
     Full,
     /// What comes next is invalid.
-    Invalid(Fault),
+    Faulty(Fault),
 }
 
 /// How far a call of strict recoding went.

@@ -1,4 +1,4 @@
-//! Strict recoding of text that comes in parts: to the first invalid byte, and on from there.
+//! Strict recoding of text that comes in parts: to the first faulty byte, and on from there.
 ghost use Rattle.std.specs.Prelude.{◌≡◌, ◌≢◌, ◌+◌, ◌-◌, ◌*◌, ◌<◌, ◌≤◌, [], length, drop, Some};
 ghost use Rattle.recoding.specs.Rooms.{ComesNearer};
 ghost use Rattle.recoding.specs.Strict.{EndsRun, FeedsStrictly, FinishesStrictly, IsFirstPiece, PassesHeld};
@@ -72,7 +72,7 @@ impl Recoder {
     {
         match run.first {
             FirstPiece::Char(_, _) => (run.read, Outcome::Full),
-            FirstPiece::Fault(kind, len) => (run.read + len, invalid(kind, len, 0)),
+            FirstPiece::Fault(kind, len) => (run.read + len, faulty(kind, len, 0)),
             FirstPiece::Undecided => {
                 self.hold(&rest[run.read..]);
                 (rest.len(), Outcome::AllRead)
@@ -99,7 +99,7 @@ impl Recoder {
                 }
                 FirstPiece::Fault(kind, count) => {
                     read += self.pass(count);
-                    return held_run(read, written, invalid(kind, count, self.held().len()));
+                    return held_run(read, written, faulty(kind, count, self.held().len()));
                 }
                 FirstPiece::Undecided => {
                     self.hold(&joined[..len]);
@@ -154,7 +154,7 @@ impl Recoder {
                 }
                 Err((kind, count)) => {
                     self.pass(count);
-                    return finished(written, invalid(kind, count, self.held().len()));
+                    return finished(written, faulty(kind, count, self.held().len()));
                 }
             }
         }
@@ -185,12 +185,12 @@ fn held_run(read: usize, written: usize, outcome: Outcome) -> HeldRun
 }
 
 // A fault of so many bytes, after which so many are held.
-fn invalid(kind: FaultKind, len: usize, held: usize) -> Outcome
+fn faulty(kind: FaultKind, len: usize, held: usize) -> Outcome
     requires len { len ≤ 2 }
     requires held { held ≤ 3 }
-    ensures { result ≡ Outcome.Invalid (record { kind = kind; len = len; back = len + held }) }
+    ensures { result ≡ Outcome.Faulty (record { kind = kind; len = len; back = len + held }) }
 {
-    Outcome::Invalid(Fault {
+    Outcome::Faulty(Fault {
         kind,
         len,
         back: len + held,

@@ -1,6 +1,6 @@
 //! Strict recoding: each input cut everywhere, with small rooms and large ones, and from a reader. Where the first fault is, and
 //! the text before it, as Python's decoders say; kinds as the README's table has them.
-use cuts::{Counted, FaultKind, Form, InvalidAt, Outcome, Recoder, StrictError, recode_strict};
+use cuts::{Counted, FaultAt, FaultKind, Form, Outcome, Recoder, StrictError, recode_strict};
 use encode_unicode::error::{Utf8ErrorKind, Utf16PairError};
 use fakes::fuse::{Failure, Fuse, Plan};
 use std::alloc::{AllocError, Global};
@@ -8,7 +8,7 @@ use std::io::ErrorKind;
 use std::test::Fail;
 use uses::strict::feed_strictly;
 
-// An input, where it is invalid and why, and the text before that in the other form.
+// An input, where it is faulty and why, and the text before that in the other form.
 type Row = (
     Form,
     Form,
@@ -175,7 +175,7 @@ fn feed(
         match did.outcome {
             Outcome::AllRead => return Ok(None),
             Outcome::Full => {}
-            Outcome::Invalid(fault) => {
+            Outcome::Faulty(fault) => {
                 return Ok(Some((read.saturating_sub(fault.back as u64), fault.kind)));
             }
         }
@@ -196,7 +196,7 @@ fn finish(
         match did.outcome {
             Outcome::AllRead => return Ok(None),
             Outcome::Full => {}
-            Outcome::Invalid(fault) => {
+            Outcome::Faulty(fault) => {
                 return Ok(Some((read.saturating_sub(fault.back as u64), fault.kind)));
             }
         }
@@ -249,7 +249,7 @@ fn each_input_stops_a_run_from_a_reader(rt: HostRuntime) {
         let answer = recode_strict(&mut reader, &mut out, from, to);
         let expected = match stop {
             None => Ok(()),
-            Some((offset, kind)) => Err(StrictError::Invalid(InvalidAt { offset, kind })),
+            Some((offset, kind)) => Err(StrictError::Faulty(FaultAt { offset, kind })),
         };
         assert!(rt; answer == expected);
         assert!(rt; out.into_inner().written.as_slice() == text);
@@ -301,13 +301,13 @@ fn calls_go_on_after_a_fault(rt: HostRuntime) {
     let kind = FaultKind::Utf8(Utf8ErrorKind::InterruptedSequence);
     assert!(rt; did.read == 0 && did.written == 0 && recoder.held() == b"\x82".as_slice());
     assert!(rt;
-        matches!(did.outcome, Outcome::Invalid(fault) if fault.kind == kind && fault.len == 1 && fault.back == 2)
+        matches!(did.outcome, Outcome::Faulty(fault) if fault.kind == kind && fault.len == 1 && fault.back == 2)
     );
     let did = recoder.feed_strict_into(b"bc", &mut room);
     let kind = FaultKind::Utf8(Utf8ErrorKind::UnexpectedContinuationByte);
     assert!(rt; did.read == 0 && did.written == 0 && recoder.held().is_empty());
     assert!(rt;
-        matches!(did.outcome, Outcome::Invalid(fault) if fault.kind == kind && fault.len == 1 && fault.back == 1)
+        matches!(did.outcome, Outcome::Faulty(fault) if fault.kind == kind && fault.len == 1 && fault.back == 1)
     );
     let did = recoder.feed_strict_into(b"bc\xe9\n", &mut room);
     assert!(rt;

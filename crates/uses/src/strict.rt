@@ -19,7 +19,7 @@ pub fn feed_strictly<A: Allocator>(
         sent.extend_from_slice(&packet[..progress.written])?;
         *total = total.saturating_add(progress.read as u64);
         rest = &rest[progress.read..];
-        if let Outcome::Invalid(fault) = progress.outcome {
+        if let Outcome::Faulty(fault) = progress.outcome {
             return Ok(Some((total.saturating_sub(fault.back as u64), fault.kind)));
         }
     }

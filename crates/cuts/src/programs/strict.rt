@@ -1,7 +1,7 @@
-//! Strict recoding from a reader to a writer: to the first invalid byte.
+//! Strict recoding from a reader to a writer: to the first faulty byte.
 ghost use Rattle.std.specs.Prelude.{◌≡◌, ◌≢◌, ◌+◌, ◌-◌, ◌*◌, ◌^◌, ◌<◌, ◌≤◌, [], length, false, Some, IfSome, IfErr, OnOk};
 ghost use Rattle.cuts.specs.Endings.{IsDrained};
-ghost use Rattle.cuts.specs.StrictRelayed.{BeginsText, EndsText, HoldsText, IfInvalid, IsFollowed, PassesText, PassesTextFront, PassesTextLast, StopsInvalid, StopsText, WritesText};
+ghost use Rattle.cuts.specs.StrictRelayed.{BeginsText, EndsText, HoldsText, IfFaulty, IsFollowed, PassesText, PassesTextFront, PassesTextLast, StopsFaulty, StopsText, WritesText};
 
 use crate::counted::Counted;
 use crate::streams::write_whole;
@@ -13,7 +13,7 @@ use thiserror::Error;
 
 /// Where the first invalid bytes of an input are, and why they are invalid.
 #[derive(Clone, Copy, Debug, PartialEq, Eq, Drop)]
-pub struct InvalidAt {
+pub struct FaultAt {
     /// Their offset in the whole input, in bytes: exact in inputs below 2^64 bytes.
     pub offset: u64,
     /// Why they are invalid, as a decoder names it.
@@ -30,8 +30,8 @@ pub enum StrictError {
     #[error("cannot write")]
     Write,
     /// The input is invalid.
-    #[error("invalid input")]
-    Invalid(InvalidAt),
+    #[error("faulty input")]
+    Faulty(FaultAt),
 }
 
 // How many bytes are read at a time.
@@ -56,7 +56,7 @@ pub fn recode_strict<R: Read, W: Write>(
 ) -> Result<(), StrictError>
     ensures text { OnOk result (WritesText from to (R.remaining input.old.inner)
         (W.contents out.old.inner) (W.contents out.new.inner)) }
-    ensures invalid { IfErr result (λ e. IfInvalid e (λ x. StopsInvalid from to (R.remaining input.old.inner)
+    ensures faulty { IfErr result (λ e. IfFaulty e (λ x. StopsFaulty from to (R.remaining input.old.inner)
         (R.remaining input.new.inner) (W.contents out.old.inner) (W.contents out.new.inner) x)) }
     ensures front { BeginsText from to (R.remaining input.old.inner) (R.remaining input.new.inner)
         (W.contents out.old.inner) (W.contents out.new.inner) }
@@ -103,7 +103,7 @@ fn pass_part<W: Write>(
     requires before { length recoder.old.held ≤ offset }
     ensures passes { OnOk result (PassesText recoder.old part.now (W.contents out.old.inner)
         (W.contents out.new.inner) recoder.new) }
-    ensures invalid { IfErr result (λ e. IfInvalid e (λ x. StopsText recoder.old part.now IsFollowed offset
+    ensures faulty { IfErr result (λ e. IfFaulty e (λ x. StopsText recoder.old part.now IsFollowed offset
         (W.contents out.old.inner) (W.contents out.new.inner) x)) }
     ensures front { PassesTextFront recoder.old part.now (W.contents out.old.inner) (W.contents out.new.inner) }
     ensures quiet { result ≢ Err StrictError.Write → out.new.failures ≡ out.old.failures }
@@ -117,10 +117,7 @@ fn pass_part<W: Write>(
     }
     match progress.outcome {
         Outcome::AllRead | Outcome::Full => Ok(()),
-        Outcome::Invalid(fault) => Err(invalid_at(
-            fault,
-            offset.saturating_add(progress.read as u64),
-        )),
+        Outcome::Faulty(fault) => Err(fault_at(fault, offset.saturating_add(progress.read as u64))),
     }
 }
 
@@ -134,7 +131,7 @@ fn pass_end<W: Write>(
     requires room { 3 * length recoder.old.held ≤ length room.old }
     requires before { length recoder.old.held ≤ offset }
     ensures passes { OnOk result (PassesTextLast recoder.old (W.contents out.old.inner) (W.contents out.new.inner)) }
-    ensures invalid { IfErr result (λ e. IfInvalid e (λ x. StopsText recoder.old [] EndsText offset
+    ensures faulty { IfErr result (λ e. IfFaulty e (λ x. StopsText recoder.old [] EndsText offset
         (W.contents out.old.inner) (W.contents out.new.inner) x)) }
     ensures front { PassesTextFront recoder.old [] (W.contents out.old.inner) (W.contents out.new.inner) }
     ensures quiet { result ≢ Err StrictError.Write → out.new.failures ≡ out.old.failures }
@@ -148,16 +145,16 @@ fn pass_end<W: Write>(
     }
     match progress.outcome {
         Outcome::AllRead | Outcome::Full => Ok(()),
-        Outcome::Invalid(fault) => Err(invalid_at(fault, offset)),
+        Outcome::Faulty(fault) => Err(fault_at(fault, offset)),
     }
 }
 
 // The error at a fault, where so many bytes were read.
-fn invalid_at(fault: Fault, read: u64) -> StrictError
+fn fault_at(fault: Fault, read: u64) -> StrictError
     requires { fault.back ≤ read }
-    ensures { result ≡ StrictError.Invalid (record { offset = read - fault.back; kind = fault.kind }) }
+    ensures { result ≡ StrictError.Faulty (record { offset = read - fault.back; kind = fault.kind }) }
 {
-    StrictError::Invalid(InvalidAt {
+    StrictError::Faulty(FaultAt {
         offset: read - fault.back as u64,
         kind: fault.kind,
     })

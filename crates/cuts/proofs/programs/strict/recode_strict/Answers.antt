@@ -3,26 +3,26 @@ use Rattle.std.specs.Prelude.{IfSome, IfErr, Result, Ok}
 use Rattle.std.specs.Io.KnownBytes.{IsAtEnd}
 use Rattle.std.proofs.lemmas.Result.{err_from_is_err_and, on_ok_weaker}
 use Rattle.std.proofs.KnownBytes.{Keeps-refl}
-use Rattle.cuts.specs.StrictRelayed.{IfInvalid, IsFollowed, EndsText}
-use Rattle.cuts.specs.declared.programs.strict.InvalidAt.{InvalidAt}
+use Rattle.cuts.specs.StrictRelayed.{IfFaulty, IsFollowed, EndsText}
+use Rattle.cuts.specs.declared.programs.strict.FaultAt.{FaultAt}
 use Rattle.cuts.specs.declared.programs.strict.StrictError.{StrictError}
-use Rattle.cuts.specs.declared.programs.strict.StrictError.TheVariants.{Read, Write, Invalid}
+use Rattle.cuts.specs.declared.programs.strict.StrictError.TheVariants.{Read, Write, Faulty}
 use Rattle.cuts.proofs.Readings.{still_false, still_early, is_end-some}
-use Rattle.cuts.proofs.StrictRelays.{IsTextRelayed-none, IsTextRelayed-part, IsTextRelayed-idle, IsTextRelayed-all, BeginsText-now, BeginsText-part, StopsInvalid-of}
+use Rattle.cuts.proofs.StrictRelays.{IsTextRelayed-none, IsTextRelayed-part, IsTextRelayed-idle, IsTextRelayed-all, BeginsText-now, BeginsText-part, StopsFaulty-of}
 use Rattle.cuts.proofs.programs.strict.recode_strict.Goals.{in-Ok+in_ok-pass_part-in-Ok, in-Err}
 use Rattle.cuts.proofs.programs.strict.recode_strict.Goals as goal
 
--- what is said of an invalid part is said of the whole
-invalid_then : {U : Type 0} (result : Result U StrictError) (P Q : InvalidAt → Type 0) → ((x : InvalidAt) → P x → Q x) → IfErr result (λ e. IfInvalid e P) → IfErr result (λ e. IfInvalid e Q)
-invalid_then (Ok done) P Q more h = tt
-invalid_then (Err Read) P Q more h = tt
-invalid_then (Err Write) P Q more h = tt
-invalid_then (Err (Invalid x)) P Q more h = more x h
+-- what is said of a faulty part is said of the whole
+faulty_then : {U : Type 0} (result : Result U StrictError) (P Q : FaultAt → Type 0) → ((x : FaultAt) → P x → Q x) → IfErr result (λ e. IfFaulty e P) → IfErr result (λ e. IfFaulty e Q)
+faulty_then (Ok done) P Q more h = tt
+faulty_then (Err Read) P Q more h = tt
+faulty_then (Err Write) P Q more h = tt
+faulty_then (Err (Faulty x)) P Q more h = more x h
 
-invalid_error : (e : StrictError) (P Q : InvalidAt → Type 0) → ((x : InvalidAt) → P x → Q x) → IfInvalid e P → IfInvalid e Q
-invalid_error Read P Q more h = tt
-invalid_error Write P Q more h = tt
-invalid_error (Invalid x) P Q more h = more x h
+faulty_error : (e : StrictError) (P Q : FaultAt → Type 0) → ((x : FaultAt) → P x → Q x) → IfFaulty e P → IfFaulty e Q
+faulty_error Read P Q more h = tt
+faulty_error Write P Q more h = tt
+faulty_error (Faulty x) P Q more h = more x h
 
 -- whatever is left of a reader may follow
 followed : (a : Option (List ℕ)) → IfSome a IsFollowed
@@ -90,24 +90,24 @@ returns-in-Ok-eq0-clause-text g c =
     let read = rw (c.in-Ok-eq0.is, c.in-Ok-eq0.field-0-test) at c.take.ensures.consumes in
     on_ok_weaker c.pass_end.result (IsTextRelayed-all c.loop.invariant.relayed _ _ read.0 (read.1 refl (search rules))) c.pass_end.ensures.passes
 
-pub returns-in-Ok-eq0-clause-invalid : goal.returns-in-Ok-eq0-clause-invalid
-returns-in-Ok-eq0-clause-invalid g c =
+pub returns-in-Ok-eq0-clause-faulty : goal.returns-in-Ok-eq0-clause-faulty
+returns-in-Ok-eq0-clause-faulty g c =
     let read = rw (c.in-Ok-eq0.is, c.in-Ok-eq0.field-0-test) at c.take.ensures.consumes in
-    invalid_then c.pass_end.result _ _
-    (λ x h. StopsInvalid-of c.loop.invariant.relayed _ _ _ EndsText x read.0 (ended _ (read.1 refl (search rules))) h) c.pass_end.ensures.invalid
+    faulty_then c.pass_end.result _ _
+    (λ x h. StopsFaulty-of c.loop.invariant.relayed _ _ _ EndsText x read.0 (ended _ (read.1 refl (search rules))) h) c.pass_end.ensures.faulty
 
 pub returns-in-Ok-eq0-clause-front : goal.returns-in-Ok-eq0-clause-front
 returns-in-Ok-eq0-clause-front g c =
     let read = rw (c.in-Ok-eq0.is, c.in-Ok-eq0.field-0-test) at c.take.ensures.consumes in
     BeginsText-part c.loop.invariant.relayed _ _ _ read.0 c.pass_end.ensures.front
 
-pub returns-in_err-pass_part-in-Ok-clause-invalid : goal.returns-in_err-pass_part-in-Ok-clause-invalid
-returns-in_err-pass_part-in-Ok-clause-invalid g c =
+pub returns-in_err-pass_part-in-Ok-clause-faulty : goal.returns-in_err-pass_part-in-Ok-clause-faulty
+returns-in_err-pass_part-in-Ok-clause-faulty g c =
     let taken = c.in-Ok.ensures in
     let from = err_from_is_err_and c.from_residual.result c.from_residual.ensures.1 in
     rw (from.1, from.2)
-    (invalid_error _ _ _
-    (λ x h. StopsInvalid-of c.loop.invariant.relayed _ _ _ IsFollowed x taken.consumes.0 (followed _) h) c.in_err-pass_part-in-Ok.ensures.invalid)
+    (faulty_error _ _ _
+    (λ x h. StopsFaulty-of c.loop.invariant.relayed _ _ _ IsFollowed x taken.consumes.0 (followed _) h) c.in_err-pass_part-in-Ok.ensures.faulty)
 
 pub returns-in_err-pass_part-in-Ok-clause-front : goal.returns-in_err-pass_part-in-Ok-clause-front
 returns-in_err-pass_part-in-Ok-clause-front g c =

@@ -16,7 +16,7 @@ returns-in-Fault c =
     record {
       fault = take n (drop read rest);
       left = fault_parts n (drop read rest) s.held (drop (read + n) rest) left;
-      ends = λ room longer. rw (c.invalid.ensures, sym none) (EndsFeed-fault s.from s.to (drop read rest) s.held (drop (read + n) rest) c.in-Fault.kind n room f left);
+      ends = λ room longer. rw (c.faulty.ensures, sym none) (EndsFeed-fault s.from s.to (drop read rest) s.held (drop (read + n) rest) c.in-Fault.kind n room f left);
       within = omega (arith, f.within, length-drop read rest, c.requires.within);
       from = refl;
       to = refl;

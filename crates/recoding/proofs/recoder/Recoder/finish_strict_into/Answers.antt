@@ -23,7 +23,7 @@ pub returns-in-Err-clause-finishes : goal.returns-in-Err-clause-finishes
 returns-in-Err-clause-finishes c =
     let v = c.loop-from.invariant in
     let f = rw c.held-in-loop-from.ensures.bytes at c.in-Err.ensures in
-    rw (c.finished-in-Err.ensures, c.invalid.ensures, c.held-in-Err.ensures.bytes)
+    rw (c.finished-in-Err.ensures, c.faulty.ensures, c.held-in-Err.ensures.bytes)
     (FinishesStrictly-fault c.args.self.now c.loop-from.self c.pass-in-Err.new.self c.forms-from.result.0 c.forms-from.result.1 c.args.room.now c.loop-from.room c.loop-from.written c.in-Err.count c.in-Err.kind
     c.forms-from.ensures.from c.forms-from.ensures.to v.from v.to v.few v.recodes f c.pass-in-Err.ensures.held)
 

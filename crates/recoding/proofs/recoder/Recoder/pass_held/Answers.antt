@@ -60,7 +60,7 @@ returns-in-Fault c =
     let f = fault_of_joined _ _ s.held part read c.in-Fault.kind n joined c.in-Fault.ensures in
     let passed = c.pass-read-in-Fault.ensures in
     let left = pass_left n read c.pass-read-in-Fault.result s.held t.held part (ap (λ x. x.held) passed.held) passed.more in
-    rw (c.held_run-in-Fault.ensures, c.invalid.ensures, after)
+    rw (c.held_run-in-Fault.ensures, c.faulty.ensures, after)
     (PassesHeld-of r t c.forms-from.result.0 c.forms-from.result.1 part c.args.room.now c.loop-from.room _ (take n (s.held ++ drop read part)) (s.held ++ drop read part) c.forms-from.ensures.from c.forms-from.ensures.to
     (ap (λ x. x.from) passed.held ∙ v.from) (ap (λ x. x.to) passed.held ∙ v.to) few (pass_within n read c.pass-read-in-Fault.result s.held part f.within v.within passed.more) v.recodes
     (fault_parts n (s.held ++ drop read part) t.held (drop (read + c.pass-read-in-Fault.result) part) left)
