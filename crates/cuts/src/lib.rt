@@ -12,6 +12,7 @@
 //! - `Counted` counts the failures of a reader or writer, and `laws` has what holds of all runs.
 #![tactic(auto)]
 
+pub(crate) mod block_moves;
 pub mod boundaries;
 pub mod counted;
 pub mod laws;

@@ -9,6 +9,7 @@ ghost use Rattle.encode_unicode.specs.Window.{Item as AnItem, IsFrontPiece};
 ghost use Rattle.cuts.specs.ForwardRuns.{IsForwardRun, IsForwardRunBetween};
 ghost use Rattle.cuts.specs.Tables.{StayAround, StepForEach, WereReplaced, IsSpot, IsRenewed, IsSplitAt, EndsAt, IsRestMoved, moved_item};
 
+use crate::block_moves::move_items;
 use crate::runs::items::Item;
 use encode_unicode::{Steps, Utf8Char};
 use std::alloc::{AllocError, Allocator};
@@ -243,12 +244,12 @@ fn move_rest<T: Copy + Drop, A: Allocator>(
         return Ok(());
     }
     if to < from {
-        items.copy_within(from..len, to);
+        move_items(items.as_mut_slice(), from, len, to);
         items.truncate(to + (len - from));
         return Ok(());
     }
     items.extend_from_slice(&filler[..to - from])?;
-    items.copy_within(from..len, to);
+    move_items(items.as_mut_slice(), from, len, to);
     Ok(())
 }
 
