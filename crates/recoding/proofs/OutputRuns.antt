@@ -1,11 +1,12 @@
 -- Runs to the end of an output that has room, step by step.
-use Rattle.std.proofs.Common.{◌≡◌, ℕ, ◌+◌, ◌-◌, ◌*◌, ◌<◌, ◌≤◌, List, ◌++◌, length, take, drop, arith, length-drop, length-append}
+use Rattle.std.proofs.Common.{ℕ, ◌+◌, ◌-◌, ◌<◌, ◌≤◌, List, ◌++◌, length, take, drop, arith, ap, length-drop, length-append}
 use Rattle.std.proofs.lemmas.List.{drop-drop, take_rest}
 use Rattle.std.specs.Prelude.{Vec, vec_len, vec_capacity}
 use Rattle.recoding.specs.declared.form.Form.{Form}
 use Rattle.recoding.specs.Recoded.{Reads, written, Lacks}
 use Rattle.recoding.specs.ShownFronts.{Decides, Waits}
-use Rattle.recoding.specs.OutputRuns.{RunsOnto, RunsUntil}
+use Rattle.recoding.specs.Outputs.{Extends}
+use Rattle.recoding.specs.OutputRuns.{HasRoomFor, RunsOnto, RunsUntil}
 use Rattle.recoding.proofs.Growing.{Grows-none, Grows-code, Grows-next, Grows-more, length_written}
 
 -- nothing is recoded yet
@@ -44,20 +45,19 @@ RunsOnto-more {from} {to} {w} x {old} {new} {p} f = record {
 }
 
 -- one code
-pub RunsOnto-code : {Z : Type 0} {from to : Form} {w : List ℕ} {old new : Vec ℕ Z} {s n : ℕ} → Decides (Reads from) w s n → new.items ≡ old.items ++ written to s
-    → vec_len new ≡ vec_len old + length (written to s) → vec_capacity old ≤ vec_capacity new → RunsOnto from to w old new n
-RunsOnto-code {from} {to} {w} {old} {new} {s} {n} d items len capacity =
+pub RunsOnto-code : {Z : Type 0} {from to : Form} {w : List ℕ} {old new : Vec ℕ Z} {s n : ℕ} → Decides (Reads from) w s n → Extends old (written to s) new → RunsOnto from to w old new n
+RunsOnto-code {from} {to} {w} {old} {new} {s} {n} d put =
     let few = length_written to s n d.some d.wide in
     record {
       within = d.within;
-      grows = Grows-code from to w _ _ s n d items;
-      short = omega arith;
-      capacity = capacity;
+      grows = Grows-code from to w _ _ s n d put.items;
+      short = omega (arith, ap length put.items, length-append old.items (written to s));
+      capacity = put.capacity;
     }
 
 -- room for all bytes is room for a code that begins the ones left
 pub room_for_code : {Z : Type 0} {from to : Form} {bytes : List ℕ} {old mid : Vec ℕ Z} {p s n : ℕ} → RunsOnto from to bytes old mid p → Decides (Reads from) (drop p bytes) s n
-    → vec_len old + 3 * length bytes ≤ vec_capacity old → vec_len mid + length (written to s) ≤ vec_capacity mid
+    → HasRoomFor old (length bytes) → length (written to s) ≤ vec_capacity mid - vec_len mid
 room_for_code {from} {to} {bytes} {old} {mid} {p} {s} {n} f d room =
     let few = length_written to s n d.some d.wide in
     omega (arith, length-drop p bytes)

@@ -1,5 +1,5 @@
 -- Runs into room of a fixed size, step by step.
-use Rattle.std.proofs.Common.{◌≡◌, ℕ, Bool, true, false, ◌+◌, ◌-◌, ◌<◌, ◌≤◌, List, [], ◌∷◌, ◌++◌, length, get_or, take, drop, flat_map, arith, refl, ap, sym, ⊎_elim, subst, ◌∙◌, append_assoc, length-drop, length-take}
+use Rattle.std.proofs.Common.{◌≡◌, ℕ, Bool, true, false, ◌+◌, ◌-◌, ◌<◌, ◌≤◌, List, [], ◌++◌, length, take, drop, flat_map, arith, refl, ap, ap₂, sym, ⊎_elim, subst, ◌∙◌, append_assoc, length-drop, length-take}
 use Rattle.std.proofs.lemmas.List.{drop-drop, take-take, take_all, take_rest}
 use Rattle.std.proofs.lemmas.List.Concat.{flat_map-append}
 use Rattle.std.proofs.lemmas.Bool.{cases_lt}
@@ -8,13 +8,14 @@ use Rattle.utf_base.specs.Scalar.{IsScalar}
 use Rattle.utf_base.proofs.Utf8Code.{length_utf8, utf8_is_code}
 use Rattle.utf_base.proofs.Utf16Code.{utf16-1, utf16-2}
 use Rattle.recoding.specs.declared.form.Form.{Form}
+use Rattle.recoding.specs.declared.room.Room.{Room}
 use Rattle.recoding.specs.declared.form.Form.TheVariants.{Utf8, Utf16Le, Utf16Be}
 use Rattle.recoding.specs.Recoded.{Reads, written, Grows}
 use Rattle.utf_lanes.specs.BytePairs.{bytes_of}
 use Rattle.recoding.specs.ShownFronts.{Decides, ShowsEach}
+use Rattle.recoding.specs.FilledRooms.{FillsRoom}
 use Rattle.recoding.specs.Rooms.{Fills, RunsInto}
 use Rattle.recoding.proofs.Growing.{Grows-none, Grows-trans, length_written}
-use Rattle.recoding.proofs.Listed.{listed}
 use Rattle.recoding.proofs.RoomLemmas.{drop_later, cut_part, take_more, Grows-ahead, Grows-more-read}
 
 -- what a loop keeps that writes into a room: what it has done is such a run, and the room is as long as before
@@ -177,18 +178,13 @@ pub KeepsRun-two : {from to : Form} {bytes old mid more new : List ℕ} {place r
 KeepsRun-two f g kept h same =
     KeepsRun-then (KeepsRun-then f g kept) h same
 
--- Bytes written after others.
-
-pub Fills-then : (old mid new xs ys : List ℕ) (from to end : ℕ) → Fills old mid from to xs → length mid ≡ length old → Fills mid new to end ys → Fills old new from end (xs ++ ys)
-Fills-then old mid new xs ys from to end f len g =
+-- What was put into a slice at a place.
+pub Fills-of : {old new xs : List ℕ} {place : ℕ} (a b : Room) → a.bytes.now ≡ old → a.len ≡ place → b.bytes.now ≡ new → FillsRoom a xs b → Fills old new place b.len xs
+Fills-of {old} {new} {xs} {place} a b e f h fills =
+    let within = b.within in
     record {
-      ordered = omega (arith, f.ordered, g.ordered);
-      fits = omega (arith, g.fits);
-      front = g.front ∙ ap (λ zs. zs ++ ys) f.front ∙ append_assoc (take from old) xs ys;
-      rest = g.rest ∙ drop_later mid old to end g.ordered f.rest;
+      ordered = omega (arith, fills.len);
+      fits = omega (arith, fills.whole, ap length e);
+      front = ap (take b.len) (sym h) ∙ fills.front ∙ ap₂ (λ k ys. take k ys ++ xs) f e;
+      rest = ap (drop b.len) (sym h) ∙ fills.rest ∙ ap (drop b.len) e;
     }
-
--- two and then two
-pub Fills-four : (old mid new w : List ℕ) (from to end : ℕ) → length w ≡ 4 → Fills old mid from to (get_or w 0 0 ∷ get_or w 1 0 ∷ []) → length mid ≡ length old
-    → Fills mid new to end (get_or w 2 0 ∷ get_or w 3 0 ∷ []) → Fills old new from end w
-Fills-four old mid new w from to end h f len g = subst (λ xs. Fills old new from end xs) (listed 4 w h) (Fills-then old mid new _ _ from to end f len g)

@@ -7,7 +7,7 @@
 #![tactic(auto)]
 
 pub mod boundaries;
-mod code_puts;
+mod codes;
 pub mod form;
 pub mod laws;
 mod narrowed_units;
@@ -16,7 +16,6 @@ pub mod recoder;
 mod recoder_rooms;
 mod recoder_runs;
 mod room;
-mod room_puts;
 mod room_runs;
 pub mod rooms;
 pub mod shards;

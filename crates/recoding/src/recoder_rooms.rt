@@ -1,19 +1,17 @@
 //! Runs over bytes, into room of a fixed size.
-ghost use Rattle.std.specs.Prelude.{◌≡◌, [], ◌+◌, ◌-◌, ◌<◌, ◌≤◌, length, take, drop, ◌++◌, flat_map, IfSome, IfNone, IsTrue, IsFalse};
-ghost use Rattle.utf_base.specs.Code.{utf16};
+ghost use Rattle.std.specs.Prelude.{◌≡◌, [], ◌+◌, ◌-◌, ◌<◌, ◌≤◌, length, take, drop, ◌++◌, IfSome, IfNone, IsTrue, IsFalse};
 ghost use Rattle.recoding.specs.Recoded.{Reads, written, Grows, Lacks};
-ghost use Rattle.utf_lanes.specs.BytePairs.{bytes_of};
 ghost use Rattle.recoding.specs.ShownFronts.{Decides};
 ghost use Rattle.recoding.specs.Rooms.{Fills, IsFull, IsLastFull, Leaves, RunsInto};
 
+use crate::codes::code_of;
 use crate::form::Form;
+use crate::output::Output;
 use crate::recoder_runs::join;
-use crate::room_puts::{put_all, put_code_at};
+use crate::room::{Room, put_code_at};
 use crate::room_runs::recode_ahead;
 use crate::rooms::Progress;
 use crate::shown_fronts::{four, front, last_front};
-use encode_unicode::CharExt;
-use utf_lanes::byte_pairs::two_bytes;
 
 // How many bytes go code by code, with care, before runs look for text again.
 const STRIDE: usize = 16;
@@ -50,42 +48,9 @@ fn put_at_end(to: Form, c: char, room: &mut [u8], place: usize) -> Option<usize>
     if room.len() - place < len {
         return None;
     }
-    Some(put_all(&code[..len], room, place))
-}
-
-// The code of the character, and how many bytes it has.
-#[inline(always)]
-fn code_of(to: Form, c: char) -> ([u8; 4], usize)
-    ensures code { take result.1 result.0 ≡ written to c }
-    ensures len { result.1 ≡ length (written to c) }
-    ensures some { 0 < result.1 }
-    ensures few { result.1 ≤ 4 }
-{
-    match to {
-        Form::Utf8 => c.to_utf8_array(),
-        Form::Utf16Le => units_of_char(false, c),
-        Form::Utf16Be => units_of_char(true, c),
-    }
-}
-
-#[inline(always)]
-fn units_of_char(high_first: bool, c: char) -> ([u8; 4], usize)
-    ensures code { take result.1 result.0 ≡ flat_map (bytes_of high_first) (utf16 c) }
-    ensures len { result.1 ≡ length (flat_map (bytes_of high_first) (utf16 c)) }
-    ensures some { 0 < result.1 }
-    ensures few { result.1 ≤ 4 }
-{
-    match c.to_utf16_tuple() {
-        (unit, None) => {
-            let [a, b] = two_bytes(high_first, unit);
-            ([a, b, 0, 0], 2)
-        }
-        (first, Some(second)) => {
-            let [a, b] = two_bytes(high_first, first);
-            let [c, d] = two_bytes(high_first, second);
-            ([a, b, c, d], 4)
-        }
-    }
+    let mut out = Room::new(room, place);
+    out.put(&code[..len]);
+    Some(out.len)
 }
 
 // Recodes the bytes as far as no later byte can change what they show and there is room from the place on. `read` counts

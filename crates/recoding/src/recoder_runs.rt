@@ -4,7 +4,7 @@ ghost use Rattle.recoding.specs.Recoded.{Finishes};
 ghost use Rattle.recoding.specs.OutputRuns.{HasRoomFor, RunsOnto, RunsUntil};
 ghost use Rattle.recoding.specs.ShownFronts.{HaveUnits, IsUnits};
 
-use crate::code_puts::put_code;
+use crate::codes::put_code;
 use crate::form::Form::{self, Utf8, Utf16Be, Utf16Le};
 use crate::narrowed_units::narrow_text;
 use crate::output::Output;

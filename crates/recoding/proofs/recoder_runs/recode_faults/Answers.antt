@@ -17,13 +17,13 @@ pub loop-place-preserved-then-is_fault : goal.loop-place-preserved-then-is_fault
 loop-place-preserved-then-is_fault g c =
     let d = rw (take_rest c.args.bytes.now c.loop-place.place) at c.in-Some.ensures.some in
     let put = c.put_code.ensures in
-    (λ some. omega arith, RunsOnto-next c.loop-place.invariant.1 (RunsOnto-code d put.items put.len put.capacity))
+    (λ some. omega arith, RunsOnto-next c.loop-place.invariant.1 (RunsOnto-code d put))
 
 pub loop-place-preserved : goal.loop-place-preserved
 loop-place-preserved g c =
     let d = rw (take_rest c.args.bytes.now c.loop-place.place) at c.in-Some.ensures.some in
     let put = c.put_code-else-is_fault.ensures in
-    (c.loop-place.invariant.0, RunsOnto-next c.loop-place.invariant.1 (RunsOnto-code d put.items put.len put.capacity))
+    (c.loop-place.invariant.0, RunsOnto-next c.loop-place.invariant.1 (RunsOnto-code d put))
 
 pub returns-in-None-clause-runs : goal.returns-in-None-clause-runs
 returns-in-None-clause-runs g c =

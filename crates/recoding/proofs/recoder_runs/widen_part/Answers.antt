@@ -1,6 +1,6 @@
 use Rattle.std.proofs.Common.{◌≡◌, ◌≤◌, length, take, arith, IsUtf8, length-take}
 use Rattle.std.proofs.lemmas.List.{take-take}
-use Rattle.recoding.proofs.WidenedTexts.{RunsOnto-widened}
+use Rattle.recoding.proofs.WidenedTexts.{Recodes-widened}
 use Rattle.recoding.proofs.OutputRuns.{RunsOnto-none}
 use Rattle.recoding.proofs.GivenRuns.{Recodes-given}
 use Rattle.recoding.proofs.Recodes.{RunsOnto-of}
@@ -14,7 +14,7 @@ returns-then-is_ascii g c =
     let bytes = c.args.bytes.now in
     let n = c.min.result in
     let all : length (take n bytes) ≡ n = omega (arith, length-take n bytes) in
-    rw all (RunsOnto-widened c.args.high_first _ bytes _ _ n c.requires.form (omega arith) (c.is_ascii.ensures c.if-is_ascii.true) c.put_widened.ensures)
+    rw all (RunsOnto-of (Recodes-widened c.args.high_first c.requires.form (omega arith) (c.is_ascii.ensures c.if-is_ascii.true) c.put_widened.ensures))
 
 pub returns : goal.returns
 returns g c =
