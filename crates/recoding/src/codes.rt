@@ -15,42 +15,35 @@ pub(crate) fn put_code<O: Output>(to: Form, c: char, out: &mut O)
     requires { length (written to c) ≤ O.room out.old }
     ensures { O.appends out.old (written to c) out.new }
 {
-    let (code, len) = code_of(to, c);
-    put_short(code, len, out);
+    match to {
+        Form::Utf8 => {
+            let (code, len) = c.to_utf8_array();
+            put_short(code, len, out);
+        }
+        Form::Utf16Le => put_units(false, c, out),
+        Form::Utf16Be => put_units(true, c, out),
+    }
 }
 
-// The code of the character, and how many bytes it has.
+// How many bytes it has.
 #[inline(always)]
-pub(crate) fn code_of(to: Form, c: char) -> ([u8; 4], usize)
-    ensures code { take result.1 result.0 ≡ written to c }
-    ensures len { result.1 ≡ length (written to c) }
-    ensures some { 0 < result.1 }
-    ensures few { result.1 ≤ 4 }
+pub(crate) fn code_len(to: Form, c: char) -> usize
+    ensures { result ≡ length (written to c) }
 {
     match to {
-        Form::Utf8 => c.to_utf8_array(),
-        Form::Utf16Le => units_of_char(false, c),
-        Form::Utf16Be => units_of_char(true, c),
+        Form::Utf8 => c.to_utf8_array().1,
+        Form::Utf16Le => len_of_units(false, c),
+        Form::Utf16Be => len_of_units(true, c),
     }
 }
 
 #[inline(always)]
-fn units_of_char(high_first: bool, c: char) -> ([u8; 4], usize)
-    ensures code { take result.1 result.0 ≡ flat_map (bytes_of high_first) (utf16 c) }
-    ensures len { result.1 ≡ length (flat_map (bytes_of high_first) (utf16 c)) }
-    ensures some { 0 < result.1 }
-    ensures few { result.1 ≤ 4 }
+fn len_of_units(high_first: bool, c: char) -> usize
+    ensures { result ≡ length (flat_map (bytes_of high_first) (utf16 c)) }
 {
     match c.to_utf16_tuple() {
-        (unit, None) => {
-            let [a, b] = two_bytes(high_first, unit);
-            ([a, b, 0, 0], 2)
-        }
-        (first, Some(second)) => {
-            let [a, b] = two_bytes(high_first, first);
-            let [c, d] = two_bytes(high_first, second);
-            ([a, b, c, d], 4)
-        }
+        (_, None) => 2,
+        (_, Some(_)) => 4,
     }
 }
 
@@ -78,6 +71,25 @@ fn put_short<O: Output>(code: [u8; 4], len: usize, out: &mut O)
     }
     put_pair(a, b, out);
     put_pair(c, d, out);
+}
+
+#[inline(always)]
+fn put_units<O: Output>(high_first: bool, c: char, out: &mut O)
+    requires { length (flat_map (bytes_of high_first) (utf16 c)) ≤ O.room out.old }
+    ensures { O.appends out.old (flat_map (bytes_of high_first) (utf16 c)) out.new }
+{
+    match c.to_utf16_tuple() {
+        (unit, None) => {
+            let [a, b] = two_bytes(high_first, unit);
+            put_pair(a, b, out);
+        }
+        (first, Some(second)) => {
+            let [a, b] = two_bytes(high_first, first);
+            let [c, d] = two_bytes(high_first, second);
+            put_pair(a, b, out);
+            put_pair(c, d, out);
+        }
+    }
 }
 
 // Appends two bytes.

@@ -8,7 +8,9 @@
 
 pub mod boundaries;
 mod codes;
+mod engine;
 pub mod form;
+mod form_blocks;
 pub mod laws;
 mod narrowed_units;
 mod output;
@@ -16,7 +18,6 @@ pub mod recoder;
 mod recoder_rooms;
 mod recoder_runs;
 mod room;
-mod room_runs;
 pub mod rooms;
 pub mod shards;
 mod shown_fronts;

@@ -1,10 +1,7 @@
 //! The free part of a slice.
 ghost use Rattle.std.specs.Prelude.{◌≡◌, ◌+◌, ◌<◌, ◌≤◌, [], ◌∷◌, length};
-ghost use Rattle.recoding.specs.Recoded.{written};
 ghost use Rattle.recoding.specs.Rooms.{Fills};
 
-use crate::codes::put_code;
-use crate::form::Form;
 use crate::output::Output;
 use std::simd::prelude::*;
 use utf_lanes::slot_blocks::write_others;
@@ -78,18 +75,6 @@ impl Output for Room<'_> {
         self.put(&made[..len]);
         units
     }
-}
-
-// Appends the code of the character at a place of a slice, and answers the place after it.
-#[inline(always)]
-pub(crate) fn put_code_at(to: Form, c: char, room: &mut [u8], place: usize) -> usize
-    requires { place + length (written to c) ≤ length room.old }
-    ensures fills { Fills room.old room.new place result (written to c) }
-    ensures end { result ≡ place + length (written to c) }
-{
-    let mut out = Room::new(room, place);
-    put_code(to, c, &mut out);
-    out.len
 }
 
 // Writes the bytes at the place, and answers the place after them.
