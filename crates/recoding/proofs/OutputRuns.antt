@@ -1,11 +1,11 @@
 -- Runs to the end of an output that has room, step by step.
-use Rattle.std.proofs.Common.{◌≡◌, ℕ, ◌+◌, ◌-◌, ◌*◌, ◌<◌, ◌≤◌, List, ◌++◌, length, take, drop, arith, length-drop, length-append}
-use Rattle.std.proofs.lemmas.List.{drop-drop, take_rest}
+use Rattle.std.proofs.Common.{ℕ, ◌+◌, ◌-◌, ◌≤◌, List, ◌++◌, length, drop, arith, ap, length-drop, length-append}
 use Rattle.std.specs.Prelude.{Vec, vec_len, vec_capacity}
 use Rattle.recoding.specs.declared.form.Form.{Form}
 use Rattle.recoding.specs.Recoded.{Reads, written, Lacks}
 use Rattle.recoding.specs.ShownFronts.{Decides, Waits}
-use Rattle.recoding.specs.OutputRuns.{RunsOnto, RunsUntil}
+use Rattle.recoding.specs.Outputs.{Extends}
+use Rattle.recoding.specs.OutputRuns.{HasRoomFor, RunsOnto, RunsUntil}
 use Rattle.recoding.proofs.Growing.{Grows-none, Grows-code, Grows-next, Grows-more, length_written}
 
 -- nothing is recoded yet
@@ -27,13 +27,6 @@ RunsOnto-next {from} {to} {bytes} {old} {mid} {new} {p} {n} f g = record {
   capacity = omega arith;
 }
 
--- two runs after another one, over what is left of the bytes
-pub RunsOnto-two : {Z : Type 0} {from to : Form} {bytes : List ℕ} {old mid more new : Vec ℕ Z} {p n m : ℕ} → RunsOnto from to bytes old mid p
-    → RunsOnto from to (take (length bytes - p) (drop p bytes)) mid more n → RunsOnto from to (take (length bytes - (p + n)) (drop (p + n) bytes)) more new m
-    → RunsOnto from to bytes old new (p + n + m)
-RunsOnto-two {bytes} {p} {n} f g h =
-    RunsOnto-next (RunsOnto-next f (rw (take_rest bytes p) at g)) (rw (take_rest bytes (p + n)) at h)
-
 -- the same with more bytes after them
 pub RunsOnto-more : {Z : Type 0} {from to : Form} {w : List ℕ} (x : List ℕ) {old new : Vec ℕ Z} {p : ℕ} → RunsOnto from to w old new p → RunsOnto from to (w ++ x) old new p
 RunsOnto-more {from} {to} {w} x {old} {new} {p} f = record {
@@ -44,20 +37,19 @@ RunsOnto-more {from} {to} {w} x {old} {new} {p} f = record {
 }
 
 -- one code
-pub RunsOnto-code : {Z : Type 0} {from to : Form} {w : List ℕ} {old new : Vec ℕ Z} {s n : ℕ} → Decides (Reads from) w s n → new.items ≡ old.items ++ written to s
-    → vec_len new ≡ vec_len old + length (written to s) → vec_capacity old ≤ vec_capacity new → RunsOnto from to w old new n
-RunsOnto-code {from} {to} {w} {old} {new} {s} {n} d items len capacity =
+pub RunsOnto-code : {Z : Type 0} {from to : Form} {w : List ℕ} {old new : Vec ℕ Z} {s n : ℕ} → Decides (Reads from) w s n → Extends old (written to s) new → RunsOnto from to w old new n
+RunsOnto-code {from} {to} {w} {old} {new} {s} {n} d put =
     let few = length_written to s n d.some d.wide in
     record {
       within = d.within;
-      grows = Grows-code from to w _ _ s n d items;
-      short = omega arith;
-      capacity = capacity;
+      grows = Grows-code from to w _ _ s n d put.items;
+      short = omega (arith, ap length put.items, length-append old.items (written to s));
+      capacity = put.capacity;
     }
 
 -- room for all bytes is room for a code that begins the ones left
 pub room_for_code : {Z : Type 0} {from to : Form} {bytes : List ℕ} {old mid : Vec ℕ Z} {p s n : ℕ} → RunsOnto from to bytes old mid p → Decides (Reads from) (drop p bytes) s n
-    → vec_len old + 3 * length bytes ≤ vec_capacity old → vec_len mid + length (written to s) ≤ vec_capacity mid
+    → HasRoomFor old (length bytes) → length (written to s) ≤ vec_capacity mid - vec_len mid
 room_for_code {from} {to} {bytes} {old} {mid} {p} {s} {n} f d room =
     let few = length_written to s n d.some d.wide in
     omega (arith, length-drop p bytes)
@@ -71,14 +63,3 @@ RunsUntil-waits {from} {to} {bytes} {old} {new} {stop} {p} {fault} f waits lacks
 pub RunsUntil-all : {Z : Type 0} {from to : Form} {bytes : List ℕ} {old new : Vec ℕ Z} {stop p : ℕ} → RunsOnto from to bytes old new p → stop ≤ p
     → RunsUntil from to bytes old new stop p
 RunsUntil-all {from} {to} {bytes} {old} {new} {stop} {p} f le = record { runs = f; waits = λ lt. omega arith; lacks = λ lt. absurd (omega arith) }
-
--- a run that ends early over the bytes that another left
-pub RunsUntil-next : {Z : Type 0} {from to : Form} {bytes : List ℕ} {old mid new : Vec ℕ Z} {stop near p n : ℕ} → RunsOnto from to bytes old mid p
-    → RunsUntil from to (drop p bytes) mid new near n → n < near → RunsUntil from to bytes old new stop (p + n)
-RunsUntil-next {from} {to} {bytes} {old} {mid} {new} {stop} {near} {p} {n} f g lt =
-    let few = g.waits lt in
-    record {
-      runs = RunsOnto-next f g.runs;
-      waits = λ more. omega (arith, length-drop p bytes);
-      lacks = λ more. rw (drop-drop n p bytes) at (g.lacks lt);
-    }

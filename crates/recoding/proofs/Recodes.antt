@@ -1,17 +1,18 @@
 -- Recoding to the end of an output, step by step, and what its callers have of it.
-use Rattle.std.proofs.Common.{◌≡◌, ℕ, ◌+◌, ◌-◌, ◌*◌, ◌≤◌, List, [], ◌++◌, length, take, drop, flat_map, arith, ap, ap₂, sym, ◌∙◌, length-append, length-drop, length-take, take-append-drop}
+use Rattle.std.proofs.Common.{◌≡◌, ℕ, ◌+◌, ◌-◌, ◌*◌, ◌≤◌, Bool, true, false, List, [], ◌++◌, length, take, drop, flat_map, arith, rules, refl, ap, ap₂, sym, ◌∙◌, length-append, length-drop, length-take, take-append-drop}
 use Rattle.std.proofs.lemmas.List.{take_rest, drop-drop, append-nil}
-use Rattle.std.specs.Prelude.{Vec}
+use Rattle.std.specs.Prelude.{IsTrue, IsFalse, Vec, vec_len, vec_capacity}
 use Rattle.recoding.specs.declared.form.Form.{Form}
 use Rattle.recoding.specs.declared.room.Room.{Room}
-use Rattle.recoding.specs.Recoded.{Reads, written, Grows}
+use Rattle.recoding.specs.Recoded.{Reads, written, Grows, Lacks}
 use Rattle.recoding.specs.Recodes.{Recodes}
 use Rattle.recoding.specs.Outputs.{Extends}
-use Rattle.recoding.specs.OutputRuns.{RunsOnto}
+use Rattle.recoding.specs.OutputRuns.{HasRoomFor, RunsOnto, RunsUntil}
 use Rattle.recoding.specs.FilledRooms.{FillsRoom}
-use Rattle.recoding.specs.Rooms.{RunsInto}
-use Rattle.recoding.specs.ShownFronts.{ShowsEach}
-use Rattle.recoding.proofs.Growing.{Grows-append, Grows-none}
+use Rattle.recoding.specs.Rooms.{IsFull}
+use Rattle.recoding.specs.ShownFronts.{Decides, ShowsEach}
+use Rattle.recoding.proofs.Growing.{Grows-append, Grows-none, length_written}
+use Rattle.recoding.proofs.RoomLemmas.{Grows-ahead}
 use Rattle.recoding.proofs.RoomRuns.{Grows-after, Grows-part, Grows-shown}
 
 -- what a list grew by, after other bytes
@@ -58,6 +59,31 @@ module _ {O : Type 0} {appends : O → List ℕ → O → Type 0} {from to : For
         grows = Grows-after from to bytes [] f.grown (f.grown ++ g.grown) p n f.grows (Grows-onto f.grown g.grows);
       }
 
+  -- one code, told by four bytes
+  pub Recodes-code : ((a b c : O) (xs ys : List ℕ) → appends a xs b → appends b ys c → appends a (xs ++ ys) c) → {old mid new : O} {p s n : ℕ}
+      → Recodes appends from to bytes old mid p → Decides (Reads from) (take 4 (drop p bytes)) s n → appends mid (written to s) new → Recodes appends from to bytes old new (p + n)
+  Recodes-code more {old} {mid} {new} {p} {s} {n} f d put =
+      let few = length_written to s n d.some d.wide in
+      record {
+        grown = f.grown ++ written to s;
+        appended = more old mid new f.grown (written to s) f.appended put;
+        within = omega (arith, f.within, d.within, length-drop p bytes, length-take 4 (drop p bytes));
+        short = omega (arith, f.short, few, length-append f.grown (written to s));
+        grows = Grows-ahead from to bytes [] f.grown (f.grown ++ written to s) p s n f.grows d refl;
+      }
+
+  -- room for all bytes is room for a code that begins the ones left
+  pub room_for_next : {room : O → ℕ} → ((a b : O) (xs : List ℕ) → appends a xs b → room a ≤ room b + length xs) → {old mid : O} {p s n : ℕ}
+      → Recodes appends from to bytes old mid p → Decides (Reads from) (take 4 (drop p bytes)) s n → 3 * length bytes ≤ room old → length (written to s) ≤ room mid
+  room_for_next law {old} {mid} {p} {s} {n} f d all =
+      omega (arith, all, law old mid f.grown f.appended, f.short, f.within, length_written to s n d.some d.wide, d.within, length-drop p bytes, length-take 4 (drop p bytes))
+
+  -- and for the ones left
+  pub room_for_rest : {room : O → ℕ} → ((a b : O) (xs : List ℕ) → appends a xs b → room a ≤ room b + length xs) → {old mid : O} {p : ℕ}
+      → Recodes appends from to bytes old mid p → 3 * length bytes ≤ room old → 3 * length (take (length bytes - p) (drop p bytes)) ≤ room mid
+  room_for_rest law {old} {mid} {p} f all =
+      omega (arith, all, law old mid f.grown f.appended, f.short, f.within, length-drop p bytes, length-take (length bytes - p) (drop p bytes))
+
   -- the first bytes of some
   pub Recodes-part : {old new : O} {n : ℕ} (count : ℕ) → Recodes appends from to (take count bytes) old new n → Recodes appends from to bytes old new n
   Recodes-part {n} count f =
@@ -71,8 +97,16 @@ module _ {O : Type 0} {appends : O → List ℕ → O → Type 0} {from to : For
         grows = Grows-part from to bytes [] f.grown count n le f.grows;
       }
 
+-- What the front of a slice grew by.
+pub Grows-room : {from to : Form} {bytes old new : List ℕ} {place n : ℕ} (a b : Room) → a.bytes.now ≡ old → a.len ≡ place → b.bytes.now ≡ new → Recodes FillsRoom from to bytes a b n
+    → Grows from to (take (n + 3) bytes) (take place old) (take b.len new) (take 3 (drop n bytes))
+Grows-room {new} {place} a b e f h run =
+    let fills = run.appended in
+    let front : take b.len new ≡ take place _ ++ run.grown = ap (take b.len) (sym h) ∙ fills.front ∙ ap₂ (λ k ys. take k ys ++ run.grown) f e in
+    rw front (Grows-onto (take place _) run.grows)
+
 -- What a list grew by.
-pub RunsOnto-of : {Z : Type 0} {from to : Form} {bytes : List ℕ} {old new : Vec ℕ Z} {n : ℕ} → Recodes Extends from to bytes old new n → RunsOnto from to bytes old new n
+RunsOnto-of : {Z : Type 0} {from to : Form} {bytes : List ℕ} {old new : Vec ℕ Z} {n : ℕ} → Recodes Extends from to bytes old new n → RunsOnto from to bytes old new n
 RunsOnto-of {bytes} {old} {new} {n} f =
     let put = f.appended in
     let all : take (n + 3) bytes ++ drop (n + 3) bytes ≡ bytes = take-append-drop (n + 3) bytes in
@@ -85,18 +119,26 @@ RunsOnto-of {bytes} {old} {new} {n} f =
       capacity = put.capacity;
     }
 
--- What the front of a slice grew by.
-pub RunsInto-of : {from to : Form} {bytes old new : List ℕ} {place n : ℕ} (a b : Room) → a.bytes.now ≡ old → a.len ≡ place → b.bytes.now ≡ new → Recodes FillsRoom from to bytes a b n
-    → RunsInto from to bytes old new place n b.len
-RunsInto-of {old} {new} {place} a b e f h run =
-    let fills = run.appended in
-    let within = b.within in
-    let front : take b.len new ≡ take place old ++ run.grown = ap (take b.len) (sym h) ∙ fills.front ∙ ap₂ (λ k ys. take k ys ++ run.grown) f e in
+-- where the room is enough for all, no code is longer than it
+never_full : {Z : Type 0} {from to : Form} {bytes : List ℕ} {old new : Vec ℕ Z} {read : ℕ} → HasRoomFor old (length bytes) → Recodes Extends from to bytes old new read
+    → IsFull (record { from = from; to = to; held = [] }) (drop read bytes) (vec_capacity new - vec_len new) → ⊥
+never_full {from} {to} {bytes} {old} {new} {read} room runs full =
+    let d = full.begins in
+    let put = runs.appended in
+    omega (arith, room, put.capacity, ap length put.items, length-append old.items runs.grown, runs.short, runs.within, full.longer, d.within, length_written to full.scalar full.len d.some d.wide, length-drop read bytes)
+
+unless_full : (P : Type 0) (b : Bool) → (IsTrue b → ⊥) → (IsFalse b → P) → P
+unless_full P true never waits = absurd (never (search rules))
+unless_full P false never waits = waits (search rules)
+
+-- What a list grew by that had room for all.
+pub RunsUntil-of : {Z : Type 0} {from to : Form} {bytes : List ℕ} {old new : Vec ℕ Z} {read : ℕ} (full : Bool) → HasRoomFor old (length bytes)
+    → Recodes Extends from to bytes old new read → (IsTrue full → IsFull (record { from = from; to = to; held = [] }) (drop read bytes) (vec_capacity new - vec_len new))
+    → (IsFalse full → length bytes ≤ read + 3) → (IsFalse full → Lacks from (drop read bytes)) → RunsUntil from to bytes old new (length bytes) read
+RunsUntil-of {from} {bytes} {read} full room runs if_full waits lacks =
+    let never = λ (is : IsTrue full). never_full room runs (if_full is) in
     record {
-      within = run.within;
-      ordered = omega (arith, fills.len);
-      short = omega (arith, fills.len, run.short);
-      fits = omega (arith, fills.whole, ap length e);
-      grows = rw front (Grows-onto (take place old) run.grows);
-      rest = ap (drop b.len) (sym h) ∙ fills.rest ∙ ap (drop b.len) e;
+      runs = RunsOnto-of runs;
+      waits = λ _. unless_full (length bytes ≤ read + 3) full never waits;
+      lacks = λ _. unless_full (Lacks from (drop read bytes)) full never lacks;
     }

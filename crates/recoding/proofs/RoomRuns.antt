@@ -1,6 +1,6 @@
--- Runs into room of a fixed size, step by step.
-use Rattle.std.proofs.Common.{◌≡◌, ℕ, Bool, true, false, ◌+◌, ◌-◌, ◌<◌, ◌≤◌, List, [], ◌∷◌, ◌++◌, length, get_or, take, drop, flat_map, arith, refl, ap, sym, ⊎_elim, subst, ◌∙◌, append_assoc, length-drop, length-take}
-use Rattle.std.proofs.lemmas.List.{drop-drop, take-take, take_all, take_rest}
+-- What grows by the three bytes that follow, step by step, and how long codes are.
+use Rattle.std.proofs.Common.{◌≡◌, ℕ, Bool, true, false, ◌+◌, ◌-◌, ◌<◌, ◌≤◌, List, [], ◌++◌, length, take, drop, flat_map, arith, ap, ap₂, sym, ⊎_elim, subst, ◌∙◌, append_assoc, length-take}
+use Rattle.std.proofs.lemmas.List.{drop-drop, take-take, take_all}
 use Rattle.std.proofs.lemmas.List.Concat.{flat_map-append}
 use Rattle.std.proofs.lemmas.Bool.{cases_lt}
 use Rattle.utf_base.specs.Code.{utf16}
@@ -8,19 +8,15 @@ use Rattle.utf_base.specs.Scalar.{IsScalar}
 use Rattle.utf_base.proofs.Utf8Code.{length_utf8, utf8_is_code}
 use Rattle.utf_base.proofs.Utf16Code.{utf16-1, utf16-2}
 use Rattle.recoding.specs.declared.form.Form.{Form}
+use Rattle.recoding.specs.declared.room.Room.{Room}
 use Rattle.recoding.specs.declared.form.Form.TheVariants.{Utf8, Utf16Le, Utf16Be}
 use Rattle.recoding.specs.Recoded.{Reads, written, Grows}
 use Rattle.utf_lanes.specs.BytePairs.{bytes_of}
-use Rattle.recoding.specs.ShownFronts.{Decides, ShowsEach}
-use Rattle.recoding.specs.Rooms.{Fills, RunsInto}
-use Rattle.recoding.proofs.Growing.{Grows-none, Grows-trans, length_written}
-use Rattle.recoding.proofs.Listed.{listed}
-use Rattle.recoding.proofs.RoomLemmas.{drop_later, cut_part, take_more, Grows-ahead, Grows-more-read}
-
--- what a loop keeps that writes into a room: what it has done is such a run, and the room is as long as before
-pub record KeepsRun (from to : Form) (bytes old new : List ℕ) (place read wrote : ℕ) : Type 0 where
-  pub runs : RunsInto from to bytes old new place read wrote
-  pub len : length new ≡ length old
+use Rattle.recoding.specs.ShownFronts.{ShowsEach}
+use Rattle.recoding.specs.FilledRooms.{FillsRoom}
+use Rattle.recoding.specs.Rooms.{Fills}
+use Rattle.recoding.proofs.Growing.{Grows-trans}
+use Rattle.recoding.proofs.RoomLemmas.{cut_part, take_more, Grows-more-read}
 
 -- one run after another, each by the three bytes that follow it
 pub Grows-after : (from to : Form) (bytes old mid new : List ℕ) (p n : ℕ) → Grows from to (take (p + 3) bytes) old mid (take 3 (drop p bytes))
@@ -36,22 +32,6 @@ Grows-after from to bytes old mid new p n g h =
     subst (λ k. Grows from to (take k bytes) old mid (take (n + 3) xs)) end (subst (λ ys. Grows from to (take (p + 3 + n) bytes) old mid ys) looked first) in
     let left : Grows from to (take (n + 3) xs) mid new (take 3 (drop (p + n) bytes)) = subst (λ ys. Grows from to (take (n + 3) xs) mid new (take 3 ys)) (drop-drop n p bytes) h in
     Grows-trans from to (take (p + n + 3) bytes) (take (n + 3) xs) (take 3 (drop (p + n) bytes)) old mid new begun left
-
-pub RunsInto-then : {from to : Form} {bytes old mid new : List ℕ} {place read wrote more end : ℕ} → RunsInto from to bytes old mid place read wrote → length mid ≡ length old
-    → RunsInto from to (drop read bytes) mid new wrote more end → RunsInto from to bytes old new place (read + more) end
-RunsInto-then {from} {to} {bytes} {old} {mid} {new} {place} {read} {wrote} {more} {end} f len g =
-    let within = f.within in
-    let ordered = f.ordered in
-    let short = f.short in
-    let then_ordered = g.ordered in
-    record {
-      within = omega (arith, length-drop read bytes);
-      ordered = omega arith;
-      short = omega arith;
-      fits = omega arith;
-      grows = Grows-after from to bytes _ _ _ read more f.grows g.grows;
-      rest = g.rest ∙ drop_later mid old wrote end then_ordered f.rest;
-    }
 
 few_units : (high : Bool) (s : ℕ) → length (flat_map (bytes_of high) (utf16 s)) ≤ 4
 few_units true s = ⊎_elim (λ (low : s < 0x1_0000). rw (utf16-1 s low) (omega arith)) (λ (high : 0x1_0000 ≤ s). rw (utf16-2 s high) (omega arith)) (cases_lt s 0x1_0000)
@@ -72,37 +52,6 @@ pub some_written : (to : Form) (s : ℕ) → IsScalar s → 0 < length (written 
 some_written Utf8 s scalar = utf8_is_code.some s scalar
 some_written Utf16Le s scalar = some_units false s
 some_written Utf16Be s scalar = some_units true s
-
--- nothing is read or written
-pub RunsInto-none : {from to : Form} {bytes old : List ℕ} {place : ℕ} → place ≤ length old → RunsInto from to bytes old old place 0 place
-RunsInto-none {from} {to} {bytes} {old} {place} fits = record {
-  within = omega arith;
-  ordered = omega arith;
-  short = omega arith;
-  fits = fits;
-  grows = Grows-none from to (take 3 bytes) (take place old);
-  rest = refl;
-}
-
--- a scalar more, told by four bytes
-pub RunsInto-step : {from to : Form} {bytes old mid new : List ℕ} {place read wrote s n end : ℕ} → RunsInto from to bytes old mid place read wrote → length mid ≡ length old
-    → Decides (Reads from) (take 4 (drop read bytes)) s n → Fills mid new wrote end (written to s) → end ≡ wrote + length (written to s) → RunsInto from to bytes old new place (read + n) end
-RunsInto-step {from} {to} {bytes} {old} {mid} {new} {place} {read} {wrote} {s} {n} {end} f len d fills e =
-    let within = f.within in
-    let ordered = f.ordered in
-    let short = f.short in
-    let some = d.some in
-    let few = length_written to s n d.some d.wide in
-    let later = fills.ordered in
-    let fits = fills.fits in
-    record {
-      within = omega (arith, length-drop read bytes, length-take 4 (drop read bytes));
-      ordered = omega arith;
-      short = omega arith;
-      fits = omega arith;
-      grows = Grows-ahead from to bytes _ _ _ read s n f.grows d fills.front;
-      rest = fills.rest ∙ drop_later mid old wrote end later f.rest;
-    }
 
 -- bytes that show several scalars
 pub Grows-shown : (from to : Form) (xs old new ts : List ℕ) (n : ℕ) → ShowsEach (Reads from) (take n xs) ts → new ≡ old ++ flat_map (written to) ts
@@ -150,45 +99,13 @@ Grows-part from to bytes old new count read le g =
     subst (λ ys. Grows from to (take (read + 3) bytes) old new ys) left (subst (λ ys. Grows from to ys old new (take 3 (drop read (take count bytes)))) whole g))
     (cases_lt count (read + 3))
 
-pub RunsInto-part : {from to : Form} {bytes old new : List ℕ} (count : ℕ) {place read wrote : ℕ} → RunsInto from to (take count bytes) old new place read wrote
-    → RunsInto from to bytes old new place read wrote
-RunsInto-part {from} {to} {bytes} {old} {new} count {place} {read} {wrote} f =
-    let within = f.within in
-    let le : read ≤ count = omega (arith, length-take count bytes) in
+-- What was put into a slice at a place.
+pub Fills-of : {old new xs : List ℕ} {place : ℕ} (a b : Room) → a.bytes.now ≡ old → a.len ≡ place → b.bytes.now ≡ new → FillsRoom a xs b → Fills old new place b.len xs
+Fills-of {old} {new} {xs} {place} a b e f h fills =
+    let within = b.within in
     record {
-      within = omega (arith, length-take count bytes);
-      ordered = f.ordered;
-      short = f.short;
-      fits = f.fits;
-      grows = Grows-part from to bytes _ _ count read le f.grows;
-      rest = f.rest;
+      ordered = omega (arith, fills.len);
+      fits = omega (arith, fills.whole, ap length e);
+      front = ap (take b.len) (sym h) ∙ fills.front ∙ ap₂ (λ k ys. take k ys ++ xs) f e;
+      rest = ap (drop b.len) (sym h) ∙ fills.rest ∙ ap (drop b.len) e;
     }
-
--- a run after another one, over what is left of the bytes
-pub KeepsRun-then : {from to : Form} {bytes old mid new : List ℕ} {place read wrote n end : ℕ} → KeepsRun from to bytes old mid place read wrote
-    → RunsInto from to (take (length bytes - read) (drop read bytes)) mid new wrote n end → length new ≡ length mid → KeepsRun from to bytes old new place (read + n) end
-KeepsRun-then {bytes} {read} f g kept =
-    record { runs = RunsInto-then f.runs f.len (rw (take_rest bytes read) at g); len = kept ∙ f.len }
-
--- and two
-pub KeepsRun-two : {from to : Form} {bytes old mid more new : List ℕ} {place read wrote n end m last : ℕ} → KeepsRun from to bytes old mid place read wrote
-    → RunsInto from to (take (length bytes - read) (drop read bytes)) mid more wrote n end → length more ≡ length mid
-    → RunsInto from to (take (length bytes - (read + n)) (drop (read + n) bytes)) more new end m last → length new ≡ length more → KeepsRun from to bytes old new place (read + n + m) last
-KeepsRun-two f g kept h same =
-    KeepsRun-then (KeepsRun-then f g kept) h same
-
--- Bytes written after others.
-
-pub Fills-then : (old mid new xs ys : List ℕ) (from to end : ℕ) → Fills old mid from to xs → length mid ≡ length old → Fills mid new to end ys → Fills old new from end (xs ++ ys)
-Fills-then old mid new xs ys from to end f len g =
-    record {
-      ordered = omega (arith, f.ordered, g.ordered);
-      fits = omega (arith, g.fits);
-      front = g.front ∙ ap (λ zs. zs ++ ys) f.front ∙ append_assoc (take from old) xs ys;
-      rest = g.rest ∙ drop_later mid old to end g.ordered f.rest;
-    }
-
--- two and then two
-pub Fills-four : (old mid new w : List ℕ) (from to end : ℕ) → length w ≡ 4 → Fills old mid from to (get_or w 0 0 ∷ get_or w 1 0 ∷ []) → length mid ≡ length old
-    → Fills mid new to end (get_or w 2 0 ∷ get_or w 3 0 ∷ []) → Fills old new from end w
-Fills-four old mid new w from to end h f len g = subst (λ xs. Fills old new from end xs) (listed 4 w h) (Fills-then old mid new _ _ from to end f len g)

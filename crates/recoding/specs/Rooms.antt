@@ -1,6 +1,6 @@
 -- Recoding into room of a fixed size.
 use Rattle.std.specs.Prelude.{◌≡◌, ℕ, ◌+◌, ◌-◌, ◌*◌, ◌/◌, ◌<◌, ◌≤◌, List, ◌++◌, length, take, drop}
-use Rattle.recoding.specs.Recoded.{Reads, written, IsRecoded, Recoding, Feeds, Grows}
+use Rattle.recoding.specs.Recoded.{Reads, written, IsRecoded, Recoding, Feeds}
 use Rattle.recoding.specs.ShownFronts.{Decides, Ends}
 use Rattle.recoding.specs.declared.form.Form.{Form}
 use Rattle.recoding.specs.declared.form.Form.TheVariants.{Utf8, Utf16Le, Utf16Be}
@@ -11,16 +11,6 @@ pub record Fills (old new : List ℕ) (from to : ℕ) (bytes : List ℕ) : Type 
   pub fits : to ≤ length old
   pub front : take to new ≡ take from old ++ bytes
   pub rest : drop to new ≡ drop to old
-
--- A run has recoded so many bytes, by the three that follow them and no others, into the room from a place on. No more
--- than three bytes came of each, and the other places of the room stay.
-pub record RunsInto (from to : Form) (bytes old new : List ℕ) (place read wrote : ℕ) : Type 0 where
-  pub within : read ≤ length bytes
-  pub ordered : place ≤ wrote
-  pub short : wrote ≤ place + 3 * read
-  pub fits : wrote ≤ length old
-  pub grows : Grows from to (take (read + 3) bytes) (take place old) (take wrote new) (take 3 (drop read bytes))
-  pub rest : drop wrote new ≡ drop wrote old
 
 -- One call of `feed_into`: the bytes of the part that were read were fed, whatever had been put out before. What came of
 -- them begins the room, whose other places stay.

@@ -7,10 +7,12 @@
 #![tactic(auto)]
 
 pub mod boundaries;
-mod code_puts;
+mod codes;
+mod engine;
 pub mod faults;
 mod first_pieces;
 pub mod form;
+mod form_blocks;
 pub mod laws;
 mod narrowed_units;
 mod output;
@@ -18,8 +20,6 @@ pub mod recoder;
 mod recoder_rooms;
 mod recoder_runs;
 mod room;
-mod room_puts;
-mod room_runs;
 pub mod rooms;
 pub mod shards;
 mod shown_fronts;

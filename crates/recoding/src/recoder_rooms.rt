@@ -1,22 +1,15 @@
 //! Runs over bytes, into room of a fixed size.
-ghost use Rattle.std.specs.Prelude.{◌≡◌, [], ◌+◌, ◌-◌, ◌<◌, ◌≤◌, length, take, drop, ◌++◌, flat_map, IfSome, IfNone, IsTrue, IsFalse};
-ghost use Rattle.utf_base.specs.Code.{utf16};
+ghost use Rattle.std.specs.Prelude.{◌≡◌, [], ◌+◌, ◌-◌, ◌<◌, ◌≤◌, length, take, drop, ◌++◌, IfSome, IfNone, IsTrue, IsFalse};
 ghost use Rattle.recoding.specs.Recoded.{Reads, written, Grows, Lacks};
-ghost use Rattle.utf_lanes.specs.BytePairs.{bytes_of};
 ghost use Rattle.recoding.specs.ShownFronts.{Decides};
-ghost use Rattle.recoding.specs.Rooms.{Fills, IsFull, IsLastFull, Leaves, RunsInto};
+ghost use Rattle.recoding.specs.Rooms.{Fills, IsFull, IsLastFull, Leaves};
 
+use crate::engine::{has_room_for_all, put_fitting, recode};
 use crate::form::Form;
 use crate::recoder_runs::join;
-use crate::room_puts::{put_all, put_code_at};
-use crate::room_runs::recode_ahead;
+use crate::room::Room;
 use crate::rooms::Progress;
-use crate::shown_fronts::{four, front, last_front};
-use encode_unicode::CharExt;
-use utf_lanes::byte_pairs::two_bytes;
-
-// How many bytes go code by code, with care, before runs look for text again.
-const STRIDE: usize = 16;
+use crate::shown_fronts::{front, last_front};
 
 // Writes the code of the character into the room from the place on, where it fits, and answers the place after it.
 #[inline(always)]
@@ -29,63 +22,11 @@ pub(crate) fn put_at(to: Form, c: char, room: &mut [u8], place: usize) -> Option
     ensures more { IfSome result (λ end. place < end) }
     ensures end { IfSome result (λ end. end ≡ place + length (written to c)) }
 {
-    if 4 <= room.len() - place {
-        return Some(put_code_at(to, c, room, place));
+    let mut out = Room::new(room, place);
+    if put_fitting(to, c, &mut out) {
+        return Some(out.len);
     }
-    put_at_end(to, c, room, place)
-}
-
-// The same where the room is less than any code may have.
-#[inline(never)]
-fn put_at_end(to: Form, c: char, room: &mut [u8], place: usize) -> Option<usize>
-    requires place { place ≤ length room.old }
-    requires few { length room.old < place + 4 }
-    ensures some { IfSome result (λ end. Fills room.old room.new place end (written to c)) }
-    ensures long { IfNone result (length room.old - place < length (written to c)) }
-    ensures none { IfNone result (room.new ≡ room.old) }
-    ensures more { IfSome result (λ end. place < end) }
-    ensures end { IfSome result (λ end. end ≡ place + length (written to c)) }
-{
-    let (code, len) = code_of(to, c);
-    if room.len() - place < len {
-        return None;
-    }
-    Some(put_all(&code[..len], room, place))
-}
-
-// The code of the character, and how many bytes it has.
-#[inline(always)]
-fn code_of(to: Form, c: char) -> ([u8; 4], usize)
-    ensures code { take result.1 result.0 ≡ written to c }
-    ensures len { result.1 ≡ length (written to c) }
-    ensures some { 0 < result.1 }
-    ensures few { result.1 ≤ 4 }
-{
-    match to {
-        Form::Utf8 => c.to_utf8_array(),
-        Form::Utf16Le => units_of_char(false, c),
-        Form::Utf16Be => units_of_char(true, c),
-    }
-}
-
-#[inline(always)]
-fn units_of_char(high_first: bool, c: char) -> ([u8; 4], usize)
-    ensures code { take result.1 result.0 ≡ flat_map (bytes_of high_first) (utf16 c) }
-    ensures len { result.1 ≡ length (flat_map (bytes_of high_first) (utf16 c)) }
-    ensures some { 0 < result.1 }
-    ensures few { result.1 ≤ 4 }
-{
-    match c.to_utf16_tuple() {
-        (unit, None) => {
-            let [a, b] = two_bytes(high_first, unit);
-            ([a, b, 0, 0], 2)
-        }
-        (first, Some(second)) => {
-            let [a, b] = two_bytes(high_first, first);
-            let [c, d] = two_bytes(high_first, second);
-            ([a, b, c, d], 4)
-        }
-    }
+    None
 }
 
 // Recodes the bytes as far as no later byte can change what they show and there is room from the place on. `read` counts
@@ -109,46 +50,10 @@ pub(crate) fn recode_into(
     ensures waits { IsFalse result.is_full → length bytes.now ≤ result.read + 3 }
     ensures lacks { IsFalse result.is_full → Lacks from (drop result.read bytes.now) }
 {
-    let mut read = 0;
-    let mut written = place;
-    loop {
-        let (ahead, end) = recode_ahead(from, to, &bytes[read..], room, written);
-        read += ahead;
-        if read == bytes.len() {
-            return progress(read, end, false);
-        }
-        let few = recode_few(from, to, &bytes[read..], room, end);
-        read += few.read;
-        written = few.written;
-        if few.is_full || few.read < STRIDE {
-            return Progress { read, ..few };
-        }
-    }
-}
-
-// `recode_into` code by code, of at least so many bytes as a stride has where there are as many, and hardly more.
-#[inline(never)]
-fn recode_few(from: Form, to: Form, bytes: &[u8], room: &mut [u8], place: usize) -> Progress
-    requires { place ≤ length room.old }
-    ensures runs { RunsInto from to bytes.now room.old room.new place result.read result.written }
-    ensures full { IsTrue result.is_full → IsFull (record { from = from; to = to; held = [] }) (drop result.read bytes.now) (length room.old - result.written) }
-    ensures short { IsTrue result.is_full → length room.old < result.written + 4 }
-    ensures waits { IsFalse result.is_full → result.read < 16 → length bytes.now ≤ result.read + 3 }
-    ensures lacks { IsFalse result.is_full → result.read < 16 → Lacks from (drop result.read bytes.now) }
-{
-    let mut read = 0;
-    let mut written = place;
-    while read < STRIDE {
-        let Some((c, len)) = front(from, four(&bytes[read..])) else {
-            break;
-        };
-        let Some(end) = put_at(to, c, room, written) else {
-            return progress(read, written, true);
-        };
-        read += len;
-        written = end;
-    }
-    progress(read, written, false)
+    let mut out = Room::new(room, place);
+    let is_ample = has_room_for_all(bytes, &out);
+    let done = recode(is_ample, from, to, bytes, &mut out);
+    progress(done.read, out.len, done.is_full)
 }
 
 // How far a call came.

@@ -1,9 +1,8 @@
 //! The free part of a slice.
-ghost use Rattle.std.specs.Prelude.{◌≡◌, ◌+◌, ◌≤◌, length};
+ghost use Rattle.std.specs.Prelude.{◌≡◌, ◌+◌, ◌<◌, ◌≤◌, [], ◌∷◌, length};
 ghost use Rattle.recoding.specs.Rooms.{Fills};
 
 use crate::output::Output;
-use crate::room_puts::{lay_byte, put_all};
 use std::simd::prelude::*;
 use utf_lanes::slot_blocks::write_others;
 
@@ -78,7 +77,30 @@ impl Output for Room<'_> {
     }
 }
 
-// Writes 64 bytes at the place, and answers the place after them.
+// Writes the bytes at the place, and answers the place after them.
+#[inline(always)]
+fn put_all(bytes: &[u8], room: &mut [u8], place: usize) -> usize
+    requires { place + length bytes.now ≤ length room.old }
+    ensures fills { Fills room.old room.new place result bytes.now }
+    ensures end { result ≡ place + length bytes.now }
+{
+    let end = place + bytes.len();
+    room[place..end].copy_from_slice(bytes);
+    end
+}
+
+// Writes one byte.
+#[inline(always)]
+fn lay_byte(byte: u8, room: &mut [u8], place: usize) -> usize
+    requires { place < length room.old }
+    ensures fills { Fills room.old room.new place result (byte ∷ []) }
+    ensures end { result ≡ place + 1 }
+{
+    room[place] = byte;
+    place + 1
+}
+
+// Writes 64 bytes.
 #[inline(always)]
 fn lay_wide(block: u8x64, room: &mut [u8], place: usize) -> usize
     requires { place + 64 ≤ length room.old }

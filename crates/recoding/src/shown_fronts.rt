@@ -1,5 +1,5 @@
 //! What the front of some bytes shows.
-ghost use Rattle.std.specs.Prelude.{◌≡◌, ◌<◌, length, take, flat_map, IfSome, IfNone, IsTrue, IsFalse, Some};
+ghost use Rattle.std.specs.Prelude.{◌≡◌, ◌<◌, length, take, flat_map, IfSome, IfNone, IsTrue, IsFalse, Some, ◌%◌};
 ghost use Rattle.utf_base.specs.Code.{utf8};
 ghost use Rattle.utf_base.specs.Kinds.{fault_kind};
 ghost use Rattle.utf_base.specs.Shown.{Shows, IsDecided};
@@ -11,7 +11,6 @@ ghost use Rattle.recoding.specs.Recoded.{Reads, Lacks, ShowsUnits, IsProperFront
 ghost use Rattle.utf_lanes.specs.BytePairs.{units_of};
 ghost use Rattle.recoding.specs.ShownFronts.{IsUnits, Decides, Ends, Waits, fault_len, ShowsEach, MayBeSecond};
 
-use crate::code_puts::low;
 use crate::form::Form;
 use encode_unicode::error::Utf8ErrorKind;
 use encode_unicode::{CharExt, U16UtfExt};
@@ -251,6 +250,13 @@ fn eight_bytes(units: [u16; 8]) -> [u8; 8]
         low(g),
         low(h),
     ]
+}
+
+#[inline(always)]
+fn low(unit: u16) -> u8
+    ensures { result ≡ unit % 256 }
+{
+    (unit % 256) as u8
 }
 
 // Whether the high byte of each unit is the first, in a form that has units.

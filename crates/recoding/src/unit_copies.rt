@@ -3,6 +3,7 @@ ghost use Rattle.std.specs.Prelude.{◌≡◌, ◌⊎◌, ◌-◌, ◌+◌, ◌%
 ghost use Rattle.recoding.specs.Recodes.{CopiesUnits, Recodes};
 ghost use Rattle.utf_lanes.specs.BytePairs.{swapped, turned};
 
+use crate::codes::put_pair;
 use crate::form::Form;
 use crate::output::Output;
 use std::simd::prelude::*;
@@ -98,16 +99,6 @@ fn put_pairs<O: Output>(bytes: &[u8], out: &mut O)
         put_pair(bytes[place + 1], bytes[place], out);
         place += 2;
     }
-}
-
-// Appends two bytes.
-#[inline(always)]
-pub(crate) fn put_pair<O: Output>(first: u8, second: u8, out: &mut O)
-    requires { 2 ≤ O.room out.old }
-    ensures { O.appends out.old (first ∷ second ∷ []) out.new }
-{
-    out.put_byte(first);
-    out.put_byte(second);
 }
 
 // The same in blocks of so many bytes. Answers where the last block ends.

@@ -1,28 +1,32 @@
 //! Texts of ASCII alone, written as units.
-ghost use Rattle.std.specs.Prelude.{◌≡◌, ◌+◌, ◌*◌, ◌≤◌, ◌++◌, length, take, drop, vec_len, vec_capacity};
-ghost use Rattle.recoding.specs.UnitRuns.{WidensOnto, widened};
+ghost use Rattle.std.specs.Prelude.{◌+◌, ◌*◌, ◌≤◌, length, take, drop};
+ghost use Rattle.utf_lanes.specs.GivenUnits.{halves};
+ghost use Rattle.recoding.specs.UnitRuns.{widened};
 
-use crate::code_puts::put_unit;
+use crate::codes::put_pair;
 use crate::output::Output;
-use std::alloc::Allocator;
 use std::simd::prelude::*;
 use utf_lanes::ascii_texts::beside_nuls;
 
 // Appends the bytes, each with a NUL, which is the high byte of its unit.
 #[inline(always)]
-pub(crate) fn put_widened<A: Allocator>(high_first: bool, bytes: &[u8], out: &mut Vec<u8, A>)
-    requires { vec_len out.old + 2 * length bytes.now ≤ vec_capacity out.old }
-    ensures { WidensOnto high_first bytes.now out.old out.new (length bytes.now) }
+#[tactic(auto, using(crate::proofs::WidenedTexts::few_widened))]
+pub(crate) fn put_widened<O: Output>(high_first: bool, bytes: &[u8], out: &mut O)
+    requires { 2 * length bytes.now ≤ O.room out.old }
+    ensures { O.appends out.old (widened high_first bytes.now) out.new }
 {
-    let last = &bytes[put_lanes(high_first, bytes, out)..];
+    let place = put_lanes(high_first, bytes, out);
+    let last = &bytes[place..];
     put_each(high_first, last, out);
 }
 
 // The same of blocks of sixteen. Answers where the last one ends.
 #[inline(always)]
-fn put_lanes<A: Allocator>(high_first: bool, bytes: &[u8], out: &mut Vec<u8, A>) -> usize
-    requires { vec_len out.old + 2 * length bytes.now ≤ vec_capacity out.old }
-    ensures { WidensOnto high_first bytes.now out.old out.new result }
+#[tactic(auto, using(crate::proofs::WidenedTexts::few_widened))]
+fn put_lanes<O: Output>(high_first: bool, bytes: &[u8], out: &mut O) -> usize
+    requires { 2 * length bytes.now ≤ O.room out.old }
+    ensures within { result ≤ length bytes.now }
+    ensures appends { O.appends out.old (widened high_first (take result bytes.now)) out.new }
 {
     let mut place = 0;
     while 16 <= bytes.len() - place {
@@ -34,12 +38,10 @@ fn put_lanes<A: Allocator>(high_first: bool, bytes: &[u8], out: &mut Vec<u8, A>)
 
 // One of them.
 #[inline(always)]
-fn put_16<A: Allocator>(high_first: bool, bytes: &[u8], place: usize, out: &mut Vec<u8, A>)
+fn put_16<O: Output>(high_first: bool, bytes: &[u8], place: usize, out: &mut O)
     requires within { place + 16 ≤ length bytes.now }
-    requires room { vec_len out.old + 32 ≤ vec_capacity out.old }
-    ensures items { out.new.items ≡ out.old.items ++ widened high_first (take 16 (drop place bytes.now)) }
-    ensures len { vec_len out.new ≡ vec_len out.old + 32 }
-    ensures capacity { vec_capacity out.old ≤ vec_capacity out.new }
+    requires room { 32 ≤ O.room out.old }
+    ensures { O.appends out.old (widened high_first (take 16 (drop place bytes.now))) out.new }
 {
     let (first, second) = beside_nuls(high_first, u8x16::from_slice(&bytes[place..]));
     out.put(&first.to_array());
@@ -48,13 +50,26 @@ fn put_16<A: Allocator>(high_first: bool, bytes: &[u8], place: usize, out: &mut 
 
 // The same of a few bytes, one by one.
 #[inline(always)]
-fn put_each<A: Allocator>(high_first: bool, bytes: &[u8], out: &mut Vec<u8, A>)
-    requires { vec_len out.old + 2 * length bytes.now ≤ vec_capacity out.old }
-    ensures { WidensOnto high_first bytes.now out.old out.new (length bytes.now) }
+#[tactic(auto, using(crate::proofs::WidenedTexts::few_widened))]
+fn put_each<O: Output>(high_first: bool, bytes: &[u8], out: &mut O)
+    requires { 2 * length bytes.now ≤ O.room out.old }
+    ensures { O.appends out.old (widened high_first bytes.now) out.new }
 {
     let mut place = 0;
     while place < bytes.len() {
-        put_unit(high_first, bytes[place] as u16, out);
+        put_one(high_first, bytes[place], out);
         place += 1;
+    }
+}
+
+#[inline(always)]
+fn put_one<O: Output>(high_first: bool, byte: u8, out: &mut O)
+    requires { 2 ≤ O.room out.old }
+    ensures { O.appends out.old (halves high_first byte 0) out.new }
+{
+    if high_first {
+        put_pair(0, byte, out);
+    } else {
+        put_pair(byte, 0, out);
     }
 }

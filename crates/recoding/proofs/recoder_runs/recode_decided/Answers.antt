@@ -11,7 +11,7 @@ pub loop-place-preserved : goal.loop-place-preserved
 loop-place-preserved g c =
     let d = rw (take_rest c.args.bytes.now c.loop-place.place) at c.in-Some.ensures.some in
     let put = c.put_code.ensures in
-    RunsOnto-next c.loop-place.invariant (RunsOnto-code d put.items put.len put.capacity)
+    RunsOnto-next c.loop-place.invariant (RunsOnto-code d put)
 
 pub returns-in-None : goal.returns-in-None
 returns-in-None g c =

@@ -1,6 +1,6 @@
-use Rattle.std.proofs.Common.{◌≡◌, [], drop, arith, length-drop}
+use Rattle.std.proofs.Common.{◌≡◌, [], length, drop, arith, ap, length-drop, length-append}
 use Rattle.std.proofs.lemmas.List.{take_rest, drop_all}
-use Rattle.recoding.specs.Recoded.{Reads}
+use Rattle.recoding.specs.Recoded.{Reads, written}
 use Rattle.recoding.specs.ShownFronts.{Ends}
 use Rattle.recoding.proofs.Growing.{Remains-step, Remains-all, length_written}
 use Rattle.recoding.proofs.recoder_runs.recode_last.Goals as goal
@@ -18,10 +18,11 @@ loop-place-preserved g c =
     let some = d.some in
     let le = length_written c.args.to c.last_front-c.result.0 c.last_front-c.result.1 d.some d.wide in
     let room = c.loop-place.invariant.room in
+    let put = c.put_code.ensures in
     record {
       within = omega (arith, length-drop c.loop-place.place c.args.bytes.now);
       grows = Remains-step _ _ _ _ _ _ _ _ _ c.loop-place.invariant.grows d c.put_code.ensures.items;
-      room = omega (arith, length-drop c.loop-place.place c.args.bytes.now);
+      room = omega (arith, length-drop c.loop-place.place c.args.bytes.now, ap length put.items, length-append c.loop-place.out.items (written c.args.to c.last_front-c.result.0), put.capacity);
     }
 
 pub returns : goal.returns

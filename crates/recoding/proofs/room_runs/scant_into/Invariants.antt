@@ -1,9 +1,0 @@
-use Rattle.std.proofs.Common.{◌-◌, length}
-use Rattle.recoding.proofs.RoomRuns.{KeepsRun}
-use Rattle.recoding.proofs.room_runs.scant_into.Given as goal
-
-abbrev pub invariant-loop-read : goal.invariant-loop-read
-invariant-loop-read g l = KeepsRun l.from l.to l.bytes l.fn.room l.room l.place l.read l.written
-
-abbrev pub decreases-loop-read : goal.decreases-loop-read
-decreases-loop-read g l = length l.bytes - l.read
