@@ -16,7 +16,7 @@ use Rattle.recoding.specs.ShownFronts.{ShowsEach}
 use Rattle.recoding.specs.FilledRooms.{FillsRoom}
 use Rattle.recoding.specs.Rooms.{Fills}
 use Rattle.recoding.proofs.Growing.{Grows-trans}
-use Rattle.recoding.proofs.RoomLemmas.{cut_part, take_more, Grows-more-read}
+use Rattle.recoding.proofs.RoomLemmas.{cut_part, drop_later, take_more, Grows-more-read}
 
 -- one run after another, each by the three bytes that follow it
 pub Grows-after : (from to : Form) (bytes old mid new : List ℕ) (p n : ℕ) → Grows from to (take (p + 3) bytes) old mid (take 3 (drop p bytes))
@@ -108,4 +108,15 @@ Fills-of {old} {new} {xs} {place} a b e f h fills =
       fits = omega (arith, fills.whole, ap length e);
       front = ap (take b.len) (sym h) ∙ fills.front ∙ ap₂ (λ k ys. take k ys ++ xs) f e;
       rest = ap (drop b.len) (sym h) ∙ fills.rest ∙ ap (drop b.len) e;
+    }
+
+-- Bytes written after others.
+
+pub Fills-then : (old mid new xs ys : List ℕ) (from to end : ℕ) → Fills old mid from to xs → length mid ≡ length old → Fills mid new to end ys → Fills old new from end (xs ++ ys)
+Fills-then old mid new xs ys from to end f len g =
+    record {
+      ordered = omega (arith, f.ordered, g.ordered);
+      fits = omega (arith, g.fits);
+      front = g.front ∙ ap (λ zs. zs ++ ys) f.front ∙ append_assoc (take from old) xs ys;
+      rest = g.rest ∙ drop_later mid old to end g.ordered f.rest;
     }

@@ -1,4 +1,4 @@
-use Rattle.recoding.proofs.Recodes.{Recodes-none, Recodes-part}
+use Rattle.recoding.proofs.Recodes.{Recodes-part}
 use Rattle.recoding.proofs.engine.recode_stretch.Goals as goal
 
 pub returns : goal.returns
