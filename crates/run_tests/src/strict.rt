@@ -286,7 +286,8 @@ fn packets_carry_text_to_the_first_fault(rt: HostRuntime) -> Result<(), Fail> {
     assert!(rt; feed_strictly(&mut recoder, &part, &mut total, &mut sent)?.is_none());
     let stop = feed_strictly(&mut recoder, b"ab", &mut total, &mut sent)?;
     assert!(rt; stop == of_bytes(120, Utf8ErrorKind::InterruptedSequence));
-    assert!(rt; sent.len() == 120 && sent[..4] == *b"\0a\x20\xac");
+    assert!(rt; sent.len() == 120);
+    assert!(rt; &sent[..4] == b"\0a\x20\xac".as_slice());
     Ok(())
 }
 
