@@ -17,7 +17,7 @@ use Rattle.utf_base.proofs.UnitLemmas.{no_both}
 use Rattle.utf_base.proofs.Utf8Code.{utf8_is_code}
 use Rattle.utf_lanes.specs.BytePairs.{units_of, bytes_of}
 use Rattle.recoding.specs.ShownFronts.{IsUnits, fault_len}
-use Rattle.recoding.specs.Strict.{kind_of, lacking, BeginsChar, BeginsFault, EndsInFault, IsUndecided}
+use Rattle.recoding.specs.Strict.{kind_of, lacking, BeginsChar, BeginsFault, EndsInFault, AwaitsKind}
 use Rattle.recoding.specs.declared.faults.FaultKind.{FaultKind}
 use Rattle.recoding.specs.declared.faults.FaultKind.TheVariants as kind
 use Rattle.recoding.specs.declared.form.Form.{Form}
@@ -44,8 +44,8 @@ BeginsFault-utf8 w k e other = record {
     same_kind : (a b : Utf8ErrorKind) → Some a ≡ Some b → a ≡ b
     same_kind a b e = cc
 
-pub IsUndecided-utf8 : (w : List ℕ) → fault_kind w ≡ Some TooFewBytes → IsUndecided Utf8 w
-IsUndecided-utf8 w e = record { kind = ap (option_map kind.Utf8) e; few = few_where_too_few w e }
+pub AwaitsKind-utf8 : (w : List ℕ) → fault_kind w ≡ Some TooFewBytes → AwaitsKind Utf8 w
+AwaitsKind-utf8 w e = record { kind = ap (option_map kind.Utf8) e; few = few_where_too_few w e }
 
 -- UTF-16: bytes, two by two.
 
@@ -96,17 +96,17 @@ fault_is_some Utf16Le = omega arith
 fault_is_some Utf16Be = omega arith
 
 module _ (high : Bool) (from : Form) (w : List ℕ) (form : IsUnits high from) where
-  units_undecided : length w ≤ 3 → unit_fault_kind (units_of high w) ≡ Some Incomplete → IsUndecided from w
+  units_undecided : length w ≤ 3 → unit_fault_kind (units_of high w) ≡ Some Incomplete → AwaitsKind from w
   units_undecided few e = record {
     kind = kind_of_units high from w form ∙ ap (option_map kind.Utf16) e ∙ ap Some (sym (lacking_units high from form));
     few = few;
   }
 
-  pub IsUndecided-byte : length w < 2 → IsUndecided from w
-  IsUndecided-byte few = units_undecided (omega arith) (lacks_byte high w few)
+  pub AwaitsKind-byte : length w < 2 → AwaitsKind from w
+  AwaitsKind-byte few = units_undecided (omega arith) (lacks_byte high w few)
 
-  pub IsUndecided-leading : 2 ≤ length w → length w < 4 → is_leading_surrogate (first_unit high w) ≡ true → IsUndecided from w
-  IsUndecided-leading two few l = units_undecided (omega arith) (lacks_second high w two few l)
+  pub AwaitsKind-leading : 2 ≤ length w → length w < 4 → is_leading_surrogate (first_unit high w) ≡ true → AwaitsKind from w
+  AwaitsKind-leading two few l = units_undecided (omega arith) (lacks_second high w two few l)
 
   unit_fault : (k : Utf16PairError) → 2 ≤ length w → ((later : List ℕ) → unit_fault_kind (units_of high (w ++ later)) ≡ Some k) → BeginsFault from w (kind.Utf16 k) 2
   unit_fault k two e = record {

@@ -47,8 +47,8 @@ lacking Utf8 = kind.Utf8 TooFewBytes
 lacking Utf16Le = kind.Utf16 Incomplete
 lacking Utf16Be = kind.Utf16 Incomplete
 
--- There is no byte, or what follows the bytes decides of what kind they are.
-pub record IsUndecided (from : Form) (bytes : List ℕ) : Type 0 where
+-- There is no byte, or what follows the bytes decides which kind they have.
+pub record AwaitsKind (from : Form) (bytes : List ℕ) : Type 0 where
   pub kind : kind_of from bytes ≡ Some (lacking from)
   pub few : length bytes ≤ 3
 
@@ -75,7 +75,7 @@ pub record EndsInFault (from : Form) (bytes : List ℕ) (k : FaultKind) (n : ℕ
 abbrev pub IsFirstPiece : Form → List ℕ → FirstPiece → Type 0
 IsFirstPiece from bytes (piece.Char s n) = BeginsChar from bytes s n
 IsFirstPiece from bytes (piece.Fault k n) = BeginsFault from bytes k n
-IsFirstPiece from bytes piece.Undecided = IsUndecided from bytes
+IsFirstPiece from bytes piece.Undecided = AwaitsKind from bytes
 
 -- So many bytes, which are text, were recoded, and what came of them was appended.
 pub record PutsText {O : Type 0} (appends : O → List ℕ → O → Type 0) (from to : Form) (bytes : List ℕ) (old new : O) (read : ℕ) : Type 0 where
@@ -124,7 +124,7 @@ pub record Tells (f : Fault) (count held : ℕ) : Type 0 where
 -- that is left: all was read, and what follows decides of the held ones; or there is no room; or a fault begins there,
 -- whatever follows the part.
 abbrev pub EndsFeed : Form → Form → Outcome → List ℕ → List ℕ → List ℕ → ℕ → Type 0
-EndsFeed from to AllRead fault held rest room = (fault ≡ []) × (rest ≡ []) × IsUndecided from held
+EndsFeed from to AllRead fault held rest room = (fault ≡ []) × (rest ≡ []) × AwaitsKind from held
 EndsFeed from to Full fault held rest room = (fault ≡ []) × IsTooLong from to (held ++ rest) room
 EndsFeed from to (Faulty f) fault held rest room =
     BeginsFault from (fault ++ (held ++ rest)) f.kind (length fault) × Tells f (length fault) (length held)

@@ -1,10 +1,10 @@
 use Rattle.std.proofs.Common.{sym, ◌∙◌}
-use Rattle.recoding.proofs.FirstPieces.{BeginsChar-unit, BeginsChar-pair, BeginsFault-trailing, BeginsFault-unmatched, IsUndecided-byte, IsUndecided-leading}
+use Rattle.recoding.proofs.FirstPieces.{BeginsChar-unit, BeginsChar-pair, BeginsFault-trailing, BeginsFault-unmatched, AwaitsKind-byte, AwaitsKind-leading}
 use Rattle.recoding.proofs.FrontBytes.{trailing_where_fault, unmatched_where_fault}
 use Rattle.recoding.proofs.first_pieces.first_of_utf16.Goals as goal
 
 pub returns-then-bytes-lt2 : goal.returns-then-bytes-lt2
-returns-then-bytes-lt2 c = IsUndecided-byte _ _ _ c.requires c.if-bytes-lt2.true
+returns-then-bytes-lt2 c = AwaitsKind-byte _ _ _ c.requires c.if-bytes-lt2.true
 
 pub returns-in-Ok : goal.returns-in-Ok
 returns-in-Ok c =
@@ -20,7 +20,7 @@ returns-in-Err c =
 pub returns-then-bytes-lt4 : goal.returns-then-bytes-lt4
 returns-then-bytes-lt4 c =
     let leading = sym c.is_utf16_leading_surrogate.ensures ∙ c.if-not-is_utf16_leading_surrogate.false in
-    IsUndecided-leading _ _ _ c.requires c.if-bytes-lt2.false c.if-bytes-lt4.true (rw c.unit-first.ensures at leading)
+    AwaitsKind-leading _ _ _ c.requires c.if-bytes-lt2.false c.if-bytes-lt4.true (rw c.unit-first.ensures at leading)
 
 pub returns-in-Ok-from_utf16_tuple : goal.returns-in-Ok-from_utf16_tuple
 returns-in-Ok-from_utf16_tuple c =

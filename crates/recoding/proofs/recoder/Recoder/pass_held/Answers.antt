@@ -1,7 +1,7 @@
 use Rattle.std.proofs.Common.{rules, ◌≡◌, ◌+◌, ◌-◌, ◌<◌, ◌≤◌, [], ◌++◌, length, take, drop, arith, refl, ap, ap₂, sym, ◌∙◌}
 use Rattle.std.proofs.lemmas.List.{append-nil, drop_all, take_rest}
 use Rattle.recoding.specs.Recoded.{written}
-use Rattle.recoding.specs.Strict.{IsUndecided}
+use Rattle.recoding.specs.Strict.{AwaitsKind}
 use Rattle.recoding.proofs.StrictSteps.{char_of_joined, fault_of_joined, undecided_left, pass_left, pass_within, fault_parts, EndsFeed-fault, RecodesText-left, RecodesText-char, PassesHeld-of}
 use Rattle.recoding.proofs.recoder.Recoder.pass_held.Goals as goal
 
@@ -75,7 +75,7 @@ returns-in-Undecided c =
     let v = c.loop-from.invariant in
     let bytes = c.held-in-loop-from.ensures.bytes in
     let joined = c.join-len.ensures.bytes ∙ ap₂ (λ xs ys. xs ++ take 3 ys) bytes (take_rest part c.loop-from.read) in
-    let u : IsUndecided c.forms-from.result.0 (take c.join-len.result.1 c.join-len.result.0) = c.in-Undecided.ensures in
+    let u : AwaitsKind c.forms-from.result.0 (take c.join-len.result.1 c.join-len.result.0) = c.in-Undecided.ensures in
     let held = ap (λ x. x.held) c.hold.ensures in
     let count = u.few in
     let some : 0 < length s.held = search rules in
