@@ -1,4 +1,4 @@
-use Rattle.std.proofs.Common.{◌-◌, ◌≤◌, ◌∙◌, length, refl, arith}
+use Rattle.std.proofs.Common.{◌≤◌, ◌∙◌, length, refl, arith}
 use Rattle.std.specs.Prelude.{slice_range}
 use Rattle.c_api.specs.Api.{form_of, recoder_of}
 use Rattle.c_api.proofs.WholeRuns.{counts_none, counts_more, counts_all, longer_front, length_part, part_has_room, end_has_room, finished, is_zero, none_held}
