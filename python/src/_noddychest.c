@@ -397,6 +397,24 @@ static Faults faults_of(const nody_recoder_t *before, const uint8_t *part, size_
     return found;
 }
 
+/* Feeds the part up to a fault whose kind depends on what follows the part, and holds the rest: at most three bytes. */
+static PyObject *fed_before(nody_recoder_t *recoder, const Py_buffer *view, size_t place) {
+    size_t taken = place < recoder->count ? 0 : place - recoder->count, rest = (size_t)view->len - taken;
+    PyObject *made;
+    if (place >= recoder->count) {
+        Py_buffer front = *view;
+        front.len = (Py_ssize_t)taken;
+        made = fed(recoder, &front, 0);
+    } else {
+        made = PyBytes_FromStringAndSize(NULL, 0);
+    }
+    if (made != NULL && rest) {
+        memcpy(recoder->held + recoder->count, (const uint8_t *)view->buf + taken, rest);
+        recoder->count += (uint8_t)rest;
+    }
+    return made;
+}
+
 /* step(data, finish, strict): the bytes that come of it; where faults are refused and there is one, its offset, length and kind, what
  * was held before, and its place counted from there; nothing changes then. */
 static PyObject *recoder_step(PyObject *object, PyObject *args) {
@@ -415,6 +433,16 @@ static PyObject *recoder_step(PyObject *object, PyObject *args) {
         return NULL;
     }
     found = faults_of(&before, view.buf, (size_t)view.len, before.count + (size_t)view.len - after.count);
+    if (strict && !finish && found.count && found.kind == NODY_KIND_TOO_FEW_BYTES) { /* more may decide another kind */
+        Py_DECREF(made);
+        after = before;
+        found.count = 0;
+        made = fed_before(&after, &view, found.first);
+        if (made == NULL) {
+            PyBuffer_Release(&view);
+            return NULL;
+        }
+    }
     if (strict && found.count) {
         Py_DECREF(made);
         made = Py_BuildValue("nnIy#n", begun + (Py_ssize_t)found.first, (Py_ssize_t)found.len, (unsigned)found.kind,

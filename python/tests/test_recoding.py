@@ -143,6 +143,22 @@ class InParts(unittest.TestCase):
                 self.assertEqual((wrong, made), ([], data.decode(FORMS[form]).encode(FORMS[to])))
             self.assertEqual(recoder.faults, 0)
 
+    def test_strict_waits_for_the_kind(self):
+        """The kind is the same wherever the input is cut, and at the end too few bytes are too few."""
+        kinds = [(b"\xe0\x80\x80", ErrorKind.OVERLONG_ENCODING), (b"\xe0\x80A", ErrorKind.INTERRUPTED_SEQUENCE),
+                 (b"\xed\xa0\x80", ErrorKind.UTF16_RESERVED_CODEPOINT), (b"\xf4\x90\x80\x80", ErrorKind.TOO_HIGH_CODEPOINT),
+                 (b"\xf0\x80\x80A", ErrorKind.INTERRUPTED_SEQUENCE), (b"\xe9A\n", ErrorKind.INTERRUPTED_SEQUENCE),
+                 (b"\xe0\x80", ErrorKind.TOO_FEW_BYTES), (b"\xf4\x90\x80", ErrorKind.TOO_FEW_BYTES)]
+        for data, kind in kinds:
+            for cut in range(len(data)):
+                recoder, made = Recoder("utf8", "utf16be", "strict"), b""
+                with self.assertRaises(FaultError) as raised:
+                    for part in [b"\xc3", b"\xa9" + data[:cut], data[cut:]]:
+                        made += recoder.feed(part)
+                    recoder.finish()
+                self.assertEqual((raised.exception.offset, raised.exception.error), (2, kind), (data, cut))
+                self.assertIn(made, [b"", b"\0\xe9"])
+
     def test_strict_leaves_it_as_it_was(self):
         recoder = Recoder("utf8", "utf16be", "strict")
         self.assertEqual(recoder.feed(b"a\xc3"), b"\0a")

@@ -49,7 +49,7 @@ def recode(data: ReadableBuffer, from_: str, to: str, errors: str = "replace") -
 
 class Recoder:
     """Recodes text that comes in parts. What comes out is the same however it was cut into parts. With `strict` a part that has a
-    fault raises FaultError, and the recoder is as it was before.
+    fault raises FaultError, once its kind is known, and the recoder is as it was before.
 
     >>> recoder = Recoder("utf8", "utf16be")
     >>> recoder.feed(b"n\\xc3"), recoder.feed(b"\\xa9\\xff"), recoder.feed(b"\\xe2"), recoder.finish(), recoder.faults
