@@ -77,8 +77,8 @@ impl<A: Allocator + Copy> PieceTable<A> {
     /// decodes.
     ///
     /// The error says that memory was refused, or that there would be more bytes than a `usize`
-    /// counts. The table is then as it was. Where nothing is put in the place of nothing, no memory
-    /// is asked for.
+    /// counts. The table is then as it was. Where `start` is `end` and `new` is empty, no memory is
+    /// asked for.
     ///
     /// Condition: `start` is at most `end`, and `end` at most the length.
     ///

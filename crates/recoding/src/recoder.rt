@@ -71,13 +71,15 @@ impl Recoder {
         }
     }
 
-    /// Takes the next part, and appends to `out` what it becomes. Where the part may end inside a
-    /// character or a unit, the first bytes of that are held for the next call.
+    /// Takes the next part, and appends to `out` what it becomes. Where the last bytes of the part
+    /// may be the beginning of a character, or are half a unit, they are held for the next call;
+    /// everything before them comes out.
     ///
     /// All memory is asked for before the first byte is put out. Where it is refused, nothing has
-    /// changed, and the same part can be fed again. A part without bytes asks for none.
+    /// changed, and the same part can be fed again. An empty part asks for no memory.
     ///
-    /// Cost: O(n) in the part, allocates at most three bytes for each that is held or in the part.
+    /// Cost: O(n) in the part, allocates at most three bytes for each byte that is held or in the
+    /// part.
     #[inline]
     #[tactic(auto, using(crate::proofs::RecodedLists::outcome_fed))]
     pub fn feed<A: Allocator>(
@@ -180,7 +182,7 @@ impl Recoder {
     /// each byte of UTF-8; of UTF-16 one for a leading surrogate, and one for an odd byte.
     ///
     /// Where memory is refused, the error has the recoder as it was, which can be finished again.
-    /// Where nothing is held, none is asked for.
+    /// Where nothing is held, no memory is asked for.
     ///
     /// Cost: constant, allocates at most nine bytes.
     #[inline(always)]
@@ -217,7 +219,8 @@ impl Recoder {
         Ok(())
     }
 
-    /// A recoder that holds these bytes: one that goes on where another was, whose `held` they are.
+    /// A recoder that holds these bytes. With the `held` of another recoder it goes on where that
+    /// one was.
     ///
     /// Condition: there are at most three bytes.
     pub fn holding(from: Form, to: Form, held: &[u8]) -> Recoder

@@ -7,7 +7,7 @@ use std::test::Fail;
 use uses::cases::are_alike;
 use uses::chains::{last_line, trimmed, units_needed};
 use uses::merged::split_piece;
-use uses::parts::{feed_line, recode_in_parts, append_shards, recode_ring};
+use uses::parts::{append_shards, feed_line, recode_in_parts, recode_ring};
 use uses::recoders::recode;
 use uses::records::{Ending, first_record, next_record};
 use uses::rooms::{feed_packet, send_end};

@@ -28,15 +28,15 @@ pub const PROGRAM: &str = "pieces";
 // How many bytes are read at a time.
 const PART: usize = 65536;
 
-/// One run of `pieces` on the arguments after the program's name, and its status.
+/// Runs `pieces` on the arguments after the program's name, and gives its status.
 ///
 /// With no argument it writes the listing of all that the reader gives; with `--merge` the lines of
 /// what a merger answers over it; with `--ends` and a word, of letters `F` and `B`, those of what
 /// the word's walk answers. The status 0 says that no line is an error line, 1 that one is. All
 /// other arguments are wrong, and then nothing is read or written, and the status is 2. Where
-/// reading or writing fails, or memory is refused, it is 3, and before all is read, merged or
-/// walked, nothing is written. `stderr` takes the line for standard error, and nothing where the
-/// status is 0 or 1.
+/// reading or writing fails, or memory is refused, it is 3. Nothing is written before all is read,
+/// merged or walked. `stderr` takes the line for standard error, and nothing where the status is 0
+/// or 1.
 ///
 /// Cost: O(n), allocates for the whole input.
 pub fn run_pieces<A: Allocator + Copy, R: Source, W: Write, E: Sink>(
@@ -75,10 +75,10 @@ pub fn run_pieces<A: Allocator + Copy, R: Source, W: Write, E: Sink>(
     }
 }
 
-/// The status of `pieces` after `run_pieces`, which gave this one.
+/// The status with which `pieces` ends, where `run_pieces` gave `status`.
 ///
-/// Where the input was listed the output is flushed, once, and where that fails the status is 3 and
-/// `stderr` takes the line for standard error. Any other status stays, and nothing is done.
+/// Where `status` is 0 or 1 the output is flushed, once, and where that fails the answer is 3 and
+/// `stderr` takes the line for standard error. Any other status is the answer, and nothing is done.
 ///
 /// Cost: one flush.
 pub fn finish_run<W: Write, E: Sink>(status: u8, out: &mut Counted<W>, stderr: &mut E) -> u8
