@@ -1,5 +1,5 @@
-//! Strict recoding: each input cut everywhere, with small rooms and large ones, and from a reader. Where the first fault is, and
-//! the text before it, as Python's decoders say; kinds as the README's table has them.
+//! Strict recoding: each input cut everywhere, with small rooms and large ones, and from a reader. Where the first fault is in nine
+//! of them, as Python's decoders say, and in the others by the same rules; kinds as the README's table has them.
 use cuts::{Counted, FaultAt, FaultKind, Form, Outcome, Recoder, StrictError, recode_strict};
 use encode_unicode::error::{Utf8ErrorKind, Utf16PairError};
 use fakes::fuse::{Failure, Fuse, Plan};
