@@ -11,17 +11,18 @@
  * each invalid unit). Browsers and Python write one for several bytes in some cases: E2 82 41 is here U+FFFD U+FFFD A, and there
  * U+FFFD A.
  *
- * WHICH KIND WINS. The kind of a byte is decided from it and the bytes that follow it, and is the first of these that
- * applies: UNEXPECTED_CONTINUATION_BYTE, NON_UTF8_BYTE, TOO_FEW_BYTES, INTERRUPTED_SEQUENCE, then what the value is. So E0 80 41 is
- * NODY_KIND_INTERRUPTED_SEQUENCE and not overlong, and ED A0 at the end is NODY_KIND_TOO_FEW_BYTES though no third byte could
- * make it a character. nody_utf8_streamed_at gives the kind that a reader of one byte at a time sees.
+ * WHICH KIND WINS. The kind of a byte is decided from it and the bytes that follow it, and is the first of these that applies:
+ * UNEXPECTED_CONTINUATION_BYTE, NON_UTF8_BYTE, TOO_FEW_BYTES, INTERRUPTED_SEQUENCE, and then, by the value, OVERLONG_ENCODING,
+ * UTF16_RESERVED_CODEPOINT or TOO_HIGH_CODEPOINT. So E0 80 41 is NODY_KIND_INTERRUPTED_SEQUENCE and not overlong, and ED A0 at the
+ * end is NODY_KIND_TOO_FEW_BYTES though no third byte could make it a character. nody_utf8_streamed_at gives the kind that a
+ * reader of one byte at a time sees.
  *
- * POINTERS. Bytes and units cross as a pointer and then a length, or a room. Where that is 0 the pointer may be NULL; else it has to
- * be valid for that length. What a call writes must not overlap what it reads. `written`, `read`, `left` and `recoder` must not be
- * NULL.
- * Make a recoder by nody_recoder alone. One that was made otherwise may be refused, or recode what it happens to hold; it never
- * writes out of bounds. Make a cursor by nody_bytes or nody_units, or fill it with a pointer that is not NULL and is valid for its
- * length. No call fails in any other way than its comment says, and none sets errno; on x86-64 call nody_supported first.
+ * POINTERS. Bytes and units are passed as a pointer and then a number: a length to read, or a `room` to write into. Where the
+ * number is 0 the pointer may be NULL; else it has to be valid for so many. What a call writes must not overlap what it reads.
+ * `written`, `read`, `left` and `recoder` must not be NULL. Make a recoder by nody_recoder alone. One that was made otherwise may
+ * be refused, or recode what it happens to hold; it never writes out of bounds. Make a cursor by nody_bytes or nody_units, or fill
+ * it with a pointer that is not NULL and is valid for its length. No call fails in any other way than its comment says, and none
+ * sets errno; on x86-64 call nody_supported first.
  *
  * UNITS. uint16_t has the byte order of the machine. Calls on bytes take the order from the form. NODY_FORM_UTF16_NATIVE is the
  * order of the machine.
@@ -155,9 +156,9 @@ int nody_supported(void);
 nody_piece_t nody_utf8_first(const uint8_t *bytes, size_t len);
 nody_piece_t nody_utf16_first(const uint16_t *units, size_t len);
 
-/* The piece that ends the bytes, or the units; NODY_KIND_NONE where len is 0. The kind of a fault is that of its byte with nothing
- * after it. So where more bytes follow in your input, its kind from the front may be another; it is a fault there too if len is a
- * boundary (see nody_boundary_before). Constant.
+/* The piece that ends the bytes, or the units; NODY_KIND_NONE where len is 0. A fault gets the kind that it has where nothing
+ * follows it. If your input goes on after len, reading it from the front may give another kind. If len is a boundary of that input
+ * (see nody_boundary_before), it is a fault there too; else it may be part of a character. Constant.
  *
  *     size_t shorter = len - nody_utf8_last(bytes, len).len;
  */
@@ -221,10 +222,11 @@ static inline nody_units_t nody_units(const uint16_t *units, size_t len) {
     return left;
 }
 
-/* Takes the piece that begins, or ends, what is left. Only the bytes, or units, that are left decide it: so pieces taken
- * from the other end can change the kind of a fault, and never where pieces begin and end. Asked from both ends in any order, a
- * cursor gives each piece once. NODY_KIND_NONE where nothing is left: then the cursor stays. left->bytes is where the rest begins,
- * and left->bytes + left->len where it ends. A piece just taken by next_back begins at left->bytes + left->len. Constant.
+/* Takes the piece that begins, or ends, what is left. Only the bytes, or units, that are left decide it: so pieces taken from the
+ * other end can change the kind of a fault, and never where pieces begin and end. Asked from both ends in any order, a cursor
+ * gives each piece once. NODY_KIND_NONE where nothing is left: then the cursor stays. Where something is left, left->bytes is
+ * where it begins, and left->bytes + left->len where it ends. A piece just taken by next_back begins at left->bytes + left->len.
+ * Constant.
  *
  *     nody_bytes_t left = nody_bytes(bytes, len);
  *     nody_piece_t piece;
