@@ -44,14 +44,17 @@ class Function:
         """Whether the prover's path for a function names this one."""
         parts = path.split("::")
         module = [self.crate, *self.module()]
-        if self.is_declared() or parts[: len(module)] != module or parts[-1] != self.name:
+        if self.is_declared() or parts[-1] != self.name:
+            return False
+        if self.owner and not self.owner_trait():
+            # (that path has the module of the type, wherever its impl stands)
+            return len(parts) > 2 and parts[0] == self.crate and parts[-2].partition("+")[0].rstrip("0123456789") == self.owner_type()
+        if parts[: len(module)] != module:
             return False
         between = parts[len(module) : -1]
         if not between or not self.owner:
             return not between and not self.owner
         trait, brackets, of = self.owner_words()
-        if not trait:
-            return between[0].partition("+")[0].rstrip("0123456789") == self.owner_type()
         # (the prover's path leaves out a constant that the type takes)
         of = re.sub(r"<[A-Z]{2,}>$", "", of)
         of_what = camel(brackets) if brackets else ""
