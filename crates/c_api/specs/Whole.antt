@@ -25,6 +25,18 @@ EndsWhole from to AllRead left room = left ≡ []
 EndsWhole from to Full left room = IsTooLong from to left room
 EndsWhole from to (Faulty f) left room = EndsInFault from left f.kind f.len × (f.back ≡ 0)
 
+-- how many of the bytes that a strict call read were not recoded: the fault, if it ended at one, and so many that it holds
+abbrev pub unrecoded : Outcome → ℕ → ℕ
+unrecoded AllRead held = held
+unrecoded Full held = held
+unrecoded (Faulty f) held = f.back
+
+-- why a strict call ended, where what was not recoded is not read
+abbrev pub unread : Outcome → Outcome
+unread AllRead = AllRead
+unread Full = Full
+unread (Faulty f) = Faulty (record { kind = f.kind; len = f.len; back = 0 })
+
 -- What was read of a whole input is text, which was recoded. A fault is not read.
 pub record RecodesStrictly (from to : Form) (bytes old new : List ℕ) (p : StrictProgress) : Type 0 where
   pub within : p.read ≤ length bytes

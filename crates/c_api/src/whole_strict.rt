@@ -1,7 +1,7 @@
 //! Recoding of a whole input in one call, up to its first fault.
-ghost use Rattle.std.specs.Prelude.{◌≡◌, ◌≢◌, ◌+◌, ◌*◌, ◌<◌, ◌≤◌, length};
+ghost use Rattle.std.specs.Prelude.{◌≡◌, ◌≢◌, ◌+◌, ◌-◌, ◌*◌, ◌<◌, ◌≤◌, length};
 ghost use Rattle.c_api.specs.Api.{form_of, no_fault, Tells};
-ghost use Rattle.c_api.specs.Whole.{RecodesStrictly};
+ghost use Rattle.c_api.specs.Whole.{RecodesStrictly, unread, unrecoded};
 
 use crate::recodings::{REFUSED, form_of};
 use crate::strict::{NO_FAULT, NodyFault, told_of};
@@ -46,6 +46,9 @@ pub extern "C" fn nody_recode_strict(
 // Recodes all of the bytes up to the first fault, as far as there is room.
 fn recode_strictly(from: Form, to: Form, bytes: &[u8], room: &mut [u8]) -> StrictProgress
     ensures recodes { RecodesStrictly from to bytes.now room.old room.new result }
+    ensures all { result.outcome ≡ Outcome.AllRead → result.read ≡ length bytes.now }
+    ensures short { result.outcome ≡ Outcome.Full → length room.old < result.written + 4 }
+    ensures enough { 3 * length bytes.now ≤ length room.old → result.outcome ≢ Outcome.Full }
 {
     let mut recoder = Recoder::new(from, to);
     let fed = recoder.feed_strict_into(bytes, room);
@@ -61,16 +64,20 @@ fn recode_strictly(from: Form, to: Form, bytes: &[u8], room: &mut [u8]) -> Stric
     up_to_fault(both, recoder.held().len())
 }
 
-// The same without the fault at which it ended, and without the bytes that are held.
+// The same where the fault at which it ended is not read, nor are so many bytes that are held.
 fn up_to_fault(progress: StrictProgress, held: usize) -> StrictProgress
-    requires { ungiven progress.now.outcome held ≤ progress.read }
-    ensures { result ≡ up_to_fault progress held }
+    requires { unrecoded progress.outcome held ≤ progress.read }
+    ensures { result ≡ record { read = progress.read - unrecoded progress.outcome held; written = progress.written; outcome = unread progress.outcome } }
 {
     match progress.outcome {
         Outcome::Faulty(fault) => StrictProgress {
             read: progress.read - fault.back,
             written: progress.written,
-            outcome: Outcome::Faulty(Fault { back: 0, ..fault }),
+            outcome: Outcome::Faulty(Fault {
+                kind: fault.kind,
+                len: fault.len,
+                back: 0,
+            }),
         },
         outcome => StrictProgress {
             read: progress.read - held,
