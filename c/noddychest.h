@@ -89,7 +89,7 @@ NODY_ENUM(nody_status_t) {
     NODY_STATUS_DONE = 0,    /* all was read, and nothing waits for room */
     NODY_STATUS_FULL = 1,    /* the next character does not fit in the room that is left */
     NODY_STATUS_REFUSED = 2, /* a form above 2, or a recoder that holds more than three bytes. Nothing was read or written */
-    NODY_STATUS_INVALID = 3  /* of a strict call: what comes next is an invalid byte, or unit. All before it was written */
+    NODY_STATUS_FAULT = 3    /* of a strict call: what comes next is an invalid byte, or unit. All before it was written */
 };
 
 /* A piece. */
@@ -297,13 +297,13 @@ nody_status_t nody_recode(nody_form_t from, nody_form_t to, const uint8_t *in, s
 
 /* nody_recode that stops at the first fault. `*read` bytes at the front of the input are valid and were recoded, and `*written`
  * bytes came of them; the other places of the room stay. NODY_STATUS_DONE: the whole input is valid and was recoded.
- * NODY_STATUS_INVALID: `*read` is the offset of the fault, which `*fault` describes (its `back` is 0). NODY_STATUS_FULL: the next
+ * NODY_STATUS_FAULT: `*read` is the offset of the fault, which `*fault` describes (its `back` is 0). NODY_STATUS_FULL: the next
  * character does not fit; what follows `*read` was not judged. With three bytes of room for each byte of input this does not
  * happen. NODY_STATUS_REFUSED: a form is above 2; both counts are 0. Linear.
  *
  *     switch (nody_recode_strict(from, to, in, len, out, room, &read, &written, &fault)) {
  *     case NODY_STATUS_DONE: return use(out, written);
- *     case NODY_STATUS_INVALID: return report(read, nody_kind_sentence(fault.kind)); // (offset and reason)
+ *     case NODY_STATUS_FAULT: return report(read, nody_kind_sentence(fault.kind)); // (offset and reason)
  *     default: return failed();
  *     }
  */
@@ -381,7 +381,7 @@ nody_status_t nody_recoder_finish(nody_recoder_t *recoder, uint8_t *out, size_t 
 /* nody_recoder_feed that stops at the first fault. Its bytes count as read, and nothing is written for them: what was written is
  * all before it. `*fault` says what it is, and where: add up `*read` of all calls, this one too, and subtract `fault.back`. So it
  * may begin in an earlier part. What comes out, and the faults, are the same however the input is cut into parts.
- * NODY_STATUS_INVALID: to go on after the fault, call again with the rest of the part, even if nothing is left of it; to refuse
+ * NODY_STATUS_FAULT: to go on after the fault, call again with the rest of the part, even if nothing is left of it; to refuse
  * the input, do not. NODY_STATUS_DONE: the whole part was read. The last bytes, three at most, are held where it depends on bytes
  * that have not come whether they are a fault, or of which kind: after E9 0A a third byte decides between
  * NODY_KIND_INTERRUPTED_SEQUENCE and NODY_KIND_TOO_FEW_BYTES. NODY_STATUS_FULL and NODY_STATUS_REFUSED are as for
@@ -393,12 +393,12 @@ nody_status_t nody_recoder_finish(nody_recoder_t *recoder, uint8_t *out, size_t 
  *         fwrite(out, 1, written, stdout);
  *         place += read, total += read;
  *     } while (status == NODY_STATUS_FULL);
- *     if (status == NODY_STATUS_INVALID) return report(total - fault.back, nody_kind_sentence(fault.kind));
+ *     if (status == NODY_STATUS_FAULT) return report(total - fault.back, nody_kind_sentence(fault.kind));
  */
 nody_status_t nody_recoder_feed_strict(nody_recoder_t *recoder, const uint8_t *in, size_t in_len, uint8_t *out, size_t room,
                                        size_t *read, size_t *written, nody_fault_t *fault);
 
-/* nody_recoder_finish that stops at the first fault: what is held is the end of the input. NODY_STATUS_INVALID: all before the
+/* nody_recoder_finish that stops at the first fault: what is held is the end of the input. NODY_STATUS_FAULT: all before the
  * fault was written, and the fault is not held any more; its offset is the number of bytes that were read in all, minus
  * `fault.back`. To go on after it, call this again. Nothing is read; the other statuses are as for nody_recoder_finish. Constant.
  *
@@ -406,7 +406,7 @@ nody_status_t nody_recoder_feed_strict(nody_recoder_t *recoder, const uint8_t *i
  *         status = nody_recoder_finish_strict(&recoder, out, sizeof out, &written, &fault);
  *         fwrite(out, 1, written, stdout);
  *     } while (status == NODY_STATUS_FULL);
- *     if (status == NODY_STATUS_INVALID) return report(total - fault.back, nody_kind_sentence(fault.kind));
+ *     if (status == NODY_STATUS_FAULT) return report(total - fault.back, nody_kind_sentence(fault.kind));
  */
 nody_status_t nody_recoder_finish_strict(nody_recoder_t *recoder, uint8_t *out, size_t room, size_t *written, nody_fault_t *fault);
 

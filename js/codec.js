@@ -6,7 +6,7 @@
 export const OK = 0;
 export const NONE = 11;
 // The status of a strict call that stopped at an invalid byte, or unit.
-const INVALID = 3;
+const FAULT = 3;
 export const FORMS = ["utf-8", "utf-16le", "utf-16be"];
 // The most bytes that can be filled in at once.
 export const MOST = 10 * 1024 * 1024;
@@ -152,7 +152,7 @@ export class Codec {
         const [part, made, room] = [BigInt(this.part), BigInt(this.made), BigInt(PART_ROOM)];
         this.memory.set(state, this.recoder);
         let [at, status] = [0, 0];
-        for (let total = 0; at < source.length && total < most && status !== INVALID; ) {
+        for (let total = 0; at < source.length && total < most && status !== FAULT; ) {
             const taken = source.subarray(at, at + PART);
             this.memory.set(taken, this.part);
             status = call(recoder, part, BigInt(taken.length), made, room, numbers, numbers + 8n, fault);
@@ -177,7 +177,7 @@ export class Codec {
     // The fault at which a strict call stopped, after so many bytes were read; null where it met none.
     faultBefore(status, read) {
         const { fault } = this;
-        if (status !== INVALID) return null;
+        if (status !== FAULT) return null;
         return { place: read - this.number(fault + 8), len: this.number(fault), kind: this.view.getUint8(fault + 16) };
     }
 

@@ -255,7 +255,7 @@ static int is_strict_in(nody_form_t from, nody_form_t to, const uint8_t *in, siz
         if (memcmp(out, want->bytes + made, written) != 0) return 0;
         made += written;
         place += read;
-        if (status == NODY_STATUS_INVALID) {
+        if (status == NODY_STATUS_FAULT) {
             const cut_piece *it = &pieces->piece[next];
             if (next == pieces->count || made != want->at[next]) return 0;
             if (fault.len != it->len || fault.kind != it->kind || place - fault.back != it->start) return 0;
@@ -287,7 +287,7 @@ static int is_held_strictly(nody_form_t from, nody_form_t to, const uint8_t *in,
         nody_status_t status = nody_recoder_feed_strict(&recoder, in + place, len - place, out, MADE, &read, &written, &fault);
         place += read;
         if (status == NODY_STATUS_DONE) return nody_recoder_held(&recoder, held, 3) == wait && memcmp(held, in + len - wait, wait) == 0;
-        if (status != NODY_STATUS_INVALID) return 0;
+        if (status != NODY_STATUS_FAULT) return 0;
     }
     return 0;
 }
@@ -303,7 +303,7 @@ static int is_strict_at_once(nody_form_t from, nody_form_t to, const uint8_t *in
     if (written != want->at[count] || memcmp(out, want->bytes, written) != 0) return 0;
     if (count < first) return status == NODY_STATUS_FULL && is_no_fault(&fault);
     if (first == pieces->count) return status == NODY_STATUS_DONE && is_no_fault(&fault);
-    return status == NODY_STATUS_INVALID && fault.len == pieces->piece[first].len && fault.kind == pieces->piece[first].kind && fault.back == 0;
+    return status == NODY_STATUS_FAULT && fault.len == pieces->piece[first].len && fault.kind == pieces->piece[first].kind && fault.back == 0;
 }
 
 static int are_strict(nody_form_t from, nody_form_t to, const uint8_t *in, size_t len, const cut_text *pieces) {
@@ -425,11 +425,11 @@ static void random_strict(nody_recoder_t recoder, int is_one, uint8_t *out, size
     nody_fault_t fault = {99, 99, NODY_KIND_OK};
     nody_status_t status = nody_recoder_feed_strict(&recoder, RANDOM_IN, sizeof RANDOM_IN, out, room, &read, &written, &fault);
     expect((status == NODY_STATUS_REFUSED) == !is_one && written <= room && read <= sizeof RANDOM_IN, "a random struct", "feed strictly");
-    expect(fault.len <= 2 && fault.back <= 5 && (fault.kind == NODY_KIND_NONE) == (status != NODY_STATUS_INVALID), "its fault", "feed strictly");
+    expect(fault.len <= 2 && fault.back <= 5 && (fault.kind == NODY_KIND_NONE) == (status != NODY_STATUS_FAULT), "its fault", "feed strictly");
     expect(is_one || (memcmp(&recoder, &before, sizeof before) == 0 && read + written == 0 && is_no_fault(&fault)), "a struct that is refused", "feed strictly");
     status = nody_recoder_finish_strict(&recoder, out, room, &written, &fault);
     expect((status == NODY_STATUS_REFUSED) == !is_one && written <= room, "a random struct", "finish strictly");
-    expect(fault.len <= 2 && fault.back <= 3 && (fault.kind == NODY_KIND_NONE) == (status != NODY_STATUS_INVALID), "its fault", "finish strictly");
+    expect(fault.len <= 2 && fault.back <= 3 && (fault.kind == NODY_KIND_NONE) == (status != NODY_STATUS_FAULT), "its fault", "finish strictly");
 }
 
 /* A struct of random bytes is a recoder, or is refused and stays. No call leaves the room. */

@@ -316,7 +316,7 @@ static PyObject *fed(nody_recoder_t *recoder, const Py_buffer *view, int is_last
     }
     if (is_last && status == NODY_STATUS_DONE)
         status = finish(recoder, out + written, room - written, &more, fault);
-    if (status != NODY_STATUS_DONE && status != NODY_STATUS_INVALID) {
+    if (status != NODY_STATUS_DONE && status != NODY_STATUS_FAULT) {
         Py_DECREF(made);
         PyErr_SetString(PyExc_SystemError, "the room for recoded bytes was too small");
         return NULL;

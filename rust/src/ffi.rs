@@ -50,7 +50,7 @@ pub(crate) const FORM_UTF16BE: u8 = 2;
 
 pub(crate) const STATUS_DONE: u8 = 0;
 pub(crate) const STATUS_FULL: u8 = 1;
-pub(crate) const STATUS_INVALID: u8 = 3;
+pub(crate) const STATUS_FAULT: u8 = 3;
 
 extern "C" {
     pub(crate) fn nody_supported() -> i32;

@@ -244,7 +244,16 @@ impl Recoder {
         // SAFETY: part and room are valid for their lengths, and neither they nor the recoder, the counts and the fault overlap.
         let status = unsafe {
             if self.is_strict {
-                ffi::nody_recoder_feed_strict(&mut self.raw, part.as_ptr(), part.len(), out, out_len, &mut read, &mut written, &mut fault)
+                ffi::nody_recoder_feed_strict(
+                    &mut self.raw,
+                    part.as_ptr(),
+                    part.len(),
+                    out,
+                    out_len,
+                    &mut read,
+                    &mut written,
+                    &mut fault,
+                )
             } else {
                 ffi::nody_recoder_feed(&mut self.raw, part.as_ptr(), part.len(), out, out_len, &mut read, &mut written)
             }
@@ -289,7 +298,7 @@ impl Recoder {
         match (number, FaultKind::of_number(fault.kind)) {
             (ffi::STATUS_DONE, _) => Status::Done,
             (ffi::STATUS_FULL, _) => Status::Full,
-            (ffi::STATUS_INVALID, Some(kind)) => Status::Fault(Fault::new(self.offset - fault.back, fault.len as u8, kind)),
+            (ffi::STATUS_FAULT, Some(kind)) => Status::Fault(Fault::new(self.offset - fault.back, fault.len as u8, kind)),
             _ => unreachable!("a recoder has one of three forms, and holds at most three bytes"),
         }
     }

@@ -21,7 +21,7 @@ pub struct NodyFault {
 }
 
 // What a strict call answers where it stopped at a fault.
-const INVALID: u8 = 3;
+const FAULT: u8 = 3;
 
 pub(crate) const NO_FAULT: NodyFault = NodyFault {
     len: 0,
@@ -47,7 +47,7 @@ pub(crate) fn told_of(outcome: Outcome) -> (u8, NodyFault)
     match outcome {
         Outcome::AllRead => (DONE, NO_FAULT),
         Outcome::Full => (FULL, NO_FAULT),
-        Outcome::Faulty(fault) => (INVALID, fault_of(fault)),
+        Outcome::Faulty(fault) => (FAULT, fault_of(fault)),
     }
 }
 
