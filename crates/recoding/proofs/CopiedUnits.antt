@@ -1,5 +1,5 @@
 -- Well-formed units recoded as they stand, or with the bytes of each swapped.
-use Rattle.std.proofs.Common.{◌≡◌, ℕ, zero, suc, ◌+◌, ◌-◌, ◌*◌, ◌/◌, ◌%◌, ◌<◌, Bool, true, false, not, List, [], ◌∷◌, ◌++◌, length, get_or, take, flat_map, refl, sym, ap, ap₂, ◌∙◌, arith, append_assoc, length-take, w8, Fits}
+use Rattle.std.proofs.Common.{◌≡◌, ℕ, zero, suc, ◌+◌, ◌-◌, ◌*◌, ◌/◌, ◌%◌, ◌<◌, Bool, true, false, not, List, [], ◌∷◌, ◌++◌, length, get_or, take, flat_map, refl, sym, ap, ap₂, ◌∙◌, arith, append_assoc, w8, Fits}
 use Rattle.std.proofs.Math.Bool.{beq}
 use Rattle.std.proofs.lemmas.List.Concat.{flat_map-append}
 use Rattle.std.specs.Prelude.{All}
@@ -10,9 +10,9 @@ use Rattle.utf_base.proofs.Rests.{whole_code_shows_first}
 use Rattle.utf_base.proofs.Utf16Code.{utf16_is_code}
 use Rattle.recoding.specs.declared.form.Form.{Form}
 use Rattle.recoding.specs.declared.form.Form.TheVariants.{Utf8, Utf16Le, Utf16Be}
-use Rattle.recoding.specs.Recoded.{ShowsUnits, odd_end, written}
+use Rattle.recoding.specs.Recoded.{written}
 use Rattle.utf_lanes.specs.BytePairs.{unit_of, units_of, bytes_of, swapped, turned}
-use Rattle.recoding.specs.ShownFronts.{ShowsEach, IsUnits}
+use Rattle.recoding.specs.ShownFronts.{IsUnits}
 use Rattle.utf_lanes.specs.UnitBlocks.{AreCodes}
 
 -- Codes show their scalars.

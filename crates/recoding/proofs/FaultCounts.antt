@@ -1,5 +1,5 @@
 -- How many faults bytes have, piece by piece.
-use Rattle.std.proofs.Common.{◌≡◌, ℕ, suc, ◌+◌, ◌<◌, ◌≤◌, Bool, true, false, cond, List, [], ◌∷◌, ◌++◌, length, drop, map, flat_map, arith, refl, ap, sym, ◌∙◌, subst, append_assoc, Some, None, Option}
+use Rattle.std.proofs.Common.{◌≡◌, ℕ, suc, ◌+◌, ◌<◌, Bool, true, false, cond, List, [], ◌∷◌, ◌++◌, length, drop, map, flat_map, arith, refl, ap, sym, ◌∙◌, subst, append_assoc, Some, None, Option}
 use Rattle.std.proofs.lemmas.List.{append-nil, drop_all, drop-append-le}
 use Rattle.std.proofs.lemmas.List.Sums.{sum_by-cons}
 use Rattle.std.specs.Prelude.{All, is_none}

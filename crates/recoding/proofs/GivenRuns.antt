@@ -1,5 +1,5 @@
 -- Text recoded: as itself, or as what its places give, the codes in UTF-16 of what it shows.
-use Rattle.std.proofs.Common.{◌≡◌, ℕ, suc, Bool, List, [], ◌∷◌, ◌++◌, length, take, flat_map, arith, refl, sym, ap, ap₂, ◌∙◌, append_assoc, length-take, ◌≤◌, IsUtf8}
+use Rattle.std.proofs.Common.{◌≡◌, ℕ, suc, Bool, List, [], ◌∷◌, ◌++◌, length, flat_map, arith, refl, sym, ap, ap₂, ◌∙◌, append_assoc}
 use Rattle.std.specs.Prelude.{All}
 use Rattle.utf_base.specs.Code.{utf8, utf16}
 use Rattle.utf_base.specs.Scalar.{IsScalar}

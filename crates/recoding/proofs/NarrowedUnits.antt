@@ -1,6 +1,5 @@
 -- Units of text, and the same text as bytes.
-use Rattle.std.proofs.Common.{◌≡◌, ℕ, zero, suc, ◌+◌, ◌-◌, ◌*◌, ◌<◌, ◌≤◌, Bool, true, false, ◌⊎◌, List, [], ◌∷◌, ◌++◌, length, get_or, take, flat_map, arith, refl, sym, ap, ap₂, ◌∙◌, inl, inr, append_assoc, length-take, length-append, w8, Fits}
-use Rattle.std.proofs.lemmas.Grind.{common_steps}
+use Rattle.std.proofs.Common.{◌≡◌, ℕ, zero, suc, ◌+◌, ◌-◌, ◌*◌, ◌<◌, ◌≤◌, Bool, true, false, ◌⊎◌, List, [], ◌∷◌, ◌++◌, length, get_or, take, flat_map, arith, refl, sym, ap, ap₂, ◌∙◌, inl, inr, append_assoc, length-take, w8, Fits}
 use Rattle.std.proofs.lemmas.List.Elements.{All-cons}
 use Rattle.std.specs.Prelude.{All}
 use Rattle.utf_base.specs.Code.{utf8, utf16}
@@ -13,7 +12,7 @@ use Rattle.utf_lanes.specs.BytePairs.{unit_of, units_of}
 use Rattle.recoding.specs.ShownFronts.{IsUnits}
 use Rattle.utf_lanes.specs.GivenUnits.{joined}
 use Rattle.utf_lanes.specs.UnitBlocks.{AreCodes}
-use Rattle.utf_lanes.specs.UnitCodes.{unit_code, code_at, kept, first_in_text, middle_in_text, last_in_text, AreText}
+use Rattle.utf_lanes.specs.UnitCodes.{unit_code, code_at, AreText}
 use Rattle.recoding.specs.Strict.{PutsText, Transcodes}
 use Rattle.utf_lanes.specs.AsciiTexts.{AreAscii}
 use Rattle.recoding.proofs.CopiedUnits.{coded_bytes, front_fits}

@@ -105,6 +105,9 @@ FeedsInto-counted r s t part old new read wrote f e = rw e (record {
   rest = f.rest;
 })
 
+pub FinishesInto-counted : (r s t : Recoding) (old new : List ℕ) (wrote : ℕ) {n : ℕ} → FinishesInto r old new wrote s → t ≡ record s { replaced = n } → FinishesInto r old new wrote t
+FinishesInto-counted r s t old new wrote f e = rw e (record { leaves = f.leaves; from = f.from; to = f.to; few = f.few; fits = f.fits; rest = f.rest })
+
 -- what is decided of some bytes is so whatever follows them
 Decides-more : (from : Form) (w x : List ℕ) (s n : ℕ) → Decides (Reads from) w s n → Decides (Reads from) (w ++ x) s n
 Decides-more from w x s n d =

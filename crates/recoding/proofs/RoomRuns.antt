@@ -1,7 +1,6 @@
 -- What grows by the three bytes that follow, step by step, and how long codes are.
-use Rattle.std.proofs.Common.{◌≡◌, ℕ, Bool, true, false, ◌+◌, ◌-◌, ◌<◌, ◌≤◌, List, [], ◌++◌, length, take, drop, flat_map, arith, ap, ap₂, sym, ⊎_elim, subst, ◌∙◌, append_assoc, length-take}
-use Rattle.std.proofs.lemmas.List.{drop-drop, take-take, take_all}
-use Rattle.std.proofs.lemmas.List.Concat.{flat_map-append}
+use Rattle.std.proofs.Common.{◌≡◌, ℕ, Bool, true, false, ◌+◌, ◌<◌, ◌≤◌, List, [], ◌++◌, length, take, drop, flat_map, arith, ap, ap₂, sym, ⊎_elim, subst, ◌∙◌, append_assoc}
+use Rattle.std.proofs.lemmas.List.{drop-drop}
 use Rattle.std.proofs.lemmas.Bool.{cases_lt}
 use Rattle.utf_base.specs.Code.{utf16}
 use Rattle.utf_base.specs.Scalar.{IsScalar}
@@ -16,7 +15,7 @@ use Rattle.recoding.specs.FilledRooms.{FillsRoom}
 use Rattle.recoding.specs.Rooms.{Fills}
 use Rattle.recoding.specs.Faults.{Advances}
 use Rattle.recoding.proofs.Advancing.{Advances-trans}
-use Rattle.recoding.proofs.RoomLemmas.{cut_part, drop_later, take_more, Advances-more-read}
+use Rattle.recoding.proofs.RoomLemmas.{drop_later, take_more, Advances-more-read}
 
 -- one run after another, each by the three bytes that follow it
 pub Advances-after : (from to : Form) (bytes old mid new : List ℕ) (p n : ℕ) {j k : ℕ} → Advances from to (take (p + 3) bytes) old mid (take 3 (drop p bytes)) j

@@ -1,14 +1,12 @@
 -- Calls of strict recoding, step by step.
-use Rattle.std.proofs.Common.{◌≡◌, ℕ, suc, ◌+◌, ◌-◌, ◌*◌, ◌<◌, ◌≤◌, ⊎_elim, lit<, Some, None, List, [], ◌∷◌, ◌++◌, length, take, drop, flat_map, arith, refl, ap, ap₂, sym, subst, ◌∙◌, append_assoc, length-append, length-drop, length-take, take-append-drop}
+use Rattle.std.proofs.Common.{◌≡◌, ℕ, ◌+◌, ◌-◌, ◌*◌, ◌<◌, ◌≤◌, ⊎_elim, Some, None, List, ◌++◌, length, take, drop, arith, refl, ap, ap₂, sym, subst, ◌∙◌, append_assoc, length-append, length-drop, length-take, take-append-drop}
 use Rattle.std.proofs.Math.Seq.{drop-append-add}
-use Rattle.std.specs.Prelude.{All}
 use Rattle.std.proofs.lemmas.Bool.{cases_lt}
 use Rattle.std.proofs.lemmas.List.{drop_all, drop-drop, take_all, drop-append-le, take-append-le}
-use Rattle.utf_base.specs.Scalar.{IsScalar}
 use Rattle.recoding.specs.Recoded.{Recoding, written}
 use Rattle.recoding.specs.Rooms.{Fills, ComesNearer}
 use Rattle.recoding.specs.ShownFronts.{fault_len}
-use Rattle.recoding.specs.Strict.{Transcodes, BeginsChar, BeginsFault, EndsInFault, IsTooLong, RecodesText, RunsStrictly, IsLonger, EndsFeed, EndsHeld, FeedsStrictly, FinishesStrictly, PassesHeld, EndsRun}
+use Rattle.recoding.specs.Strict.{BeginsChar, BeginsFault, EndsInFault, IsTooLong, RecodesText, RunsStrictly, IsLonger, EndsFeed, EndsHeld, FeedsStrictly, FinishesStrictly, PassesHeld, EndsRun}
 use Rattle.recoding.specs.declared.faults.FaultKind.{FaultKind}
 use Rattle.recoding.specs.declared.faults.Outcome.{Outcome}
 use Rattle.recoding.specs.declared.faults.Outcome.TheVariants.{AllRead, Full, Faulty}

@@ -1,5 +1,5 @@
 -- How many faults some bytes have, and how many of them a recoder has replaced by U+FFFD.
-use Rattle.std.specs.Prelude.{◌≡◌, ◌↔◌, ℕ, ◌+◌, ◌-◌, ◌^◌, Bool, List, [], ◌++◌, length, min, is_none, count_by, true, false}
+use Rattle.std.specs.Prelude.{◌≡◌, ◌↔◌, ℕ, ◌+◌, ◌-◌, ◌^◌, Bool, List, ◌++◌, length, min, is_none, count_by, true, false}
 use Rattle.utf_base.specs.Code.{utf8, utf16}
 use Rattle.utf_base.specs.Piece.{Piece, IsCut}
 use Rattle.utf_base.proofs.Cuts.{cut_exists}

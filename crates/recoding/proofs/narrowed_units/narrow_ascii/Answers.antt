@@ -1,4 +1,4 @@
-use Rattle.std.proofs.Common.{◌≡◌, ◌+◌, ◌-◌, length, take, drop, arith, length-drop}
+use Rattle.std.proofs.Common.{◌≡◌, ◌+◌, ◌-◌, drop, arith, length-drop}
 use Rattle.std.proofs.lemmas.List.{take_rest}
 use Rattle.recoding.specs.declared.form.Form.TheVariants.{Utf8}
 use Rattle.recoding.specs.Strict.{PutsText}

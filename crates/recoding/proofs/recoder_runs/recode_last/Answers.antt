@@ -1,4 +1,4 @@
-use Rattle.std.proofs.Common.{◌≡◌, ◌+◌, [], length, drop, arith, ap, length-drop, length-append}
+use Rattle.std.proofs.Common.{◌≡◌, [], length, drop, arith, ap, length-drop, length-append}
 use Rattle.std.proofs.lemmas.List.{take_rest, drop_all, drop-drop}
 use Rattle.recoding.specs.Recoded.{written}
 use Rattle.recoding.specs.ShownFronts.{SettlesLast}

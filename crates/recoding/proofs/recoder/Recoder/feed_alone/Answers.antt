@@ -48,7 +48,7 @@ returns-clause-replaces g c =
     let none : r.held ≡ [] = drop_all 0 r.held (omega arith) in (
       run.result.replaced,
       Replaces-of r s c.self.inside.from part part (drop run.result.read part) run.result.replaced (ap (λ x. x.from) c.self.view_is)
-      (ap (λ x. x.from) hold ∙ ap (λ x. x.from) c.count_faults.ensures) (ap (λ xs. xs ++ part) (sym none)) (ap (λ x. x.held) hold) run.ensures.runs.advances.counts,
+          (ap (λ x. x.from) hold ∙ ap (λ x. x.from) c.count_faults.ensures) (ap (λ xs. xs ++ part) (sym none)) (ap (λ x. x.held) hold) run.ensures.runs.advances.counts,
       ap (λ x. x.replaced) hold ∙ ap (λ x. x.replaced) c.count_faults.ensures,
     )
 
@@ -62,6 +62,6 @@ returns-then-run-part-clause-replaces g c =
     let held : r.held ≡ drop run.result.read part = none ∙ sym (drop_all run.result.read part (omega arith)) in (
       run.result.replaced,
       Replaces-of r s c.self.inside.from part part (drop run.result.read part) run.result.replaced (ap (λ x. x.from) c.self.view_is)
-      (ap (λ x. x.from) c.count_faults.ensures) (ap (λ xs. xs ++ part) (sym none)) (ap (λ x. x.held) c.count_faults.ensures ∙ held) run.ensures.runs.advances.counts,
+          (ap (λ x. x.from) c.count_faults.ensures) (ap (λ xs. xs ++ part) (sym none)) (ap (λ x. x.held) c.count_faults.ensures ∙ held) run.ensures.runs.advances.counts,
       ap (λ x. x.replaced) c.count_faults.ensures,
     )

@@ -1,4 +1,4 @@
-use Rattle.std.proofs.Common.{◌≡◌, ◌+◌, ◌-◌, ◌++◌, ℕ, List, length, take, drop, arith, refl, ap, sym, ◌∙◌, length-drop}
+use Rattle.std.proofs.Common.{◌≡◌, ◌+◌, ◌-◌, ◌++◌, ℕ, List, length, take, drop, arith, refl, ap, ◌∙◌, length-drop}
 use Rattle.std.proofs.lemmas.List.{take_rest}
 use Rattle.recoding.specs.Faults.{CountsTo}
 use Rattle.recoding.proofs.Advancing.{CountsTo-trans, Replaces-of}
@@ -58,6 +58,6 @@ returns-clause-replaces g c =
     let counts = CountsTo-trans from (held ++ part) rest (drop then.result.read rest) first.result.replaced then.result.replaced begun run.runs.advances.counts in (
       first.result.replaced + then.result.replaced,
       Replaces-of r s from part (held ++ part) (drop then.result.read rest) (first.result.replaced + then.result.replaced) (ap (λ x. x.from) c.self.view_is)
-      (ap (λ x. x.from) hold ∙ ap (λ x. x.from) c.count_faults-2.ensures) (ap (λ xs. xs ++ part) c.held_bytes-held.ensures.bytes) (ap (λ x. x.held) hold) counts,
+          (ap (λ x. x.from) hold ∙ ap (λ x. x.from) c.count_faults-2.ensures) (ap (λ xs. xs ++ part) c.held_bytes-held.ensures.bytes) (ap (λ x. x.held) hold) counts,
       ap (λ x. x.replaced) hold ∙ ap (λ x. x.replaced) c.count_faults-2.ensures,
     )
