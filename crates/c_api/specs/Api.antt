@@ -114,7 +114,7 @@ pub record IsRecoder (r : NodyRecoder) : Type 0 where
 
 -- the recoder that it is
 abbrev pub recoder_of : NodyRecoder → Recoding
-recoder_of r = record { from = form_of r.from; to = form_of r.to; held = take r.count r.held }
+recoder_of r = record { from = form_of r.from; to = form_of r.to; held = take r.count r.held; replaced = 0 }
 
 -- a name in ASCII, with zeros after it up to 32 bytes
 abbrev pub named : List ℕ → List ℕ
