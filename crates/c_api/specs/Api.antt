@@ -125,7 +125,7 @@ pub record IsRecoder (r : NodyRecoder) : Type 0 where
 
 -- the recoder that it is
 abbrev pub recoder_of : NodyRecoder → Recoding
-recoder_of r = record { from = form_of r.from; to = form_of r.to; held = take r.count r.held }
+recoder_of r = record { from = form_of r.from; to = form_of r.to; held = take r.count r.held; replaced = 0 }
 
 -- what C sees of how a strict call ended: a status, and the fault, if it ended at one
 abbrev pub no_fault : NodyFault

@@ -76,7 +76,7 @@ pub(crate) fn opened(recoder: &NodyRecoder) -> Recoder
 pub(crate) fn keep(recoder: &mut NodyRecoder, inner: &Recoder)
     requires from { inner.now.from ≡ form_of recoder.old.from }
     requires to { inner.now.to ≡ form_of recoder.old.to }
-    ensures kept { recoder_of recoder.new ≡ inner.now }
+    ensures kept { recoder_of recoder.new ≡ record (inner.now) { replaced = 0 } }
     ensures count { recoder.new.count ≡ length inner.now.held }
     ensures is_recoder { IsRecoder recoder.old → IsRecoder recoder.new }
 {

@@ -1,5 +1,6 @@
 -- Text recoded, and no fault: step by step.
-use Rattle.std.proofs.Common.{◌≡◌, ℕ, ◌+◌, ◌-◌, ◌*◌, ◌/◌, ◌≤◌, Bool, List, [], ◌∷◌, ◌++◌, length, get_or, take, drop, flat_map, arith, refl, ap, ap₂, sym, ◌∙◌, append_assoc, length-drop, length-take, take-append-drop, Fits, w8, IsUtf8}
+use Rattle.std.proofs.Common.{◌≡◌, ℕ, suc, lit<, ◌∷◌, length-append, ◌+◌, ◌-◌, ◌*◌, ◌/◌, ◌≤◌, Bool, List, [], ◌++◌, length, get_or, take, drop, flat_map, arith, refl, ap, ap₂, sym, ◌∙◌, append_assoc, length-drop, length-take, take-append-drop, Fits, w8, IsUtf8}
+use Rattle.std.specs.Prelude.{All}
 use Rattle.std.proofs.lemmas.List.{append-nil, take_rest, take-take}
 use Rattle.std.proofs.lemmas.List.Concat.{flat_map-append}
 use Rattle.std.proofs.lemmas.List.Elements.{All-append, All-nil, All-cons}
@@ -15,12 +16,15 @@ use Rattle.recoding.specs.Rooms.{Fills}
 use Rattle.recoding.specs.ShownFronts.{IsUnits}
 use Rattle.recoding.specs.Strict.{Transcodes, BeginsChar, PutsText, RunsStrictly, RecodesText}
 use Rattle.recoding.specs.declared.form.Form.{Form}
-use Rattle.recoding.specs.declared.form.Form.TheVariants.{Utf8}
+use Rattle.recoding.specs.declared.form.Form.TheVariants.{Utf8, Utf16Le, Utf16Be}
 use Rattle.recoding.specs.declared.room.Room.{Room}
 use Rattle.recoding.proofs.CopiedUnits.{all_written, coded_bytes, front_fits, in_order, differ}
 use Rattle.recoding.proofs.GivenRuns.{given_codes}
 use Rattle.recoding.proofs.RoomLemmas.{drop_later, take_more}
-use Rattle.recoding.proofs.RoomRuns.{Fills-then}
+use Rattle.recoding.proofs.Growing.{length_written}
+use Rattle.recoding.proofs.RoomRuns.{Fills-then, some_written}
+use Rattle.utf_base.proofs.Utf8Code.{utf8-4}
+use Rattle.utf_base.proofs.Utf16Code.{utf16-2}
 
 -- The same text in two forms.
 
@@ -43,6 +47,30 @@ Transcodes-then {from} {to} f g = record {
   made = ap₂ (λ cs ds. cs ++ ds) f.made g.made ∙ sym (flat_map-append (written to) f.scalars g.scalars);
 }
 
+-- How much room a text takes.
+
+pub wide_written : (from : Form) (s : ℕ) → 0x1_0000 ≤ s → 2 ≤ length (written from s)
+wide_written Utf8 s high = let len : length (written Utf8 s) ≡ 4 = ap length (utf8-4 s high) in omega arith
+wide_written Utf16Le s high = rw (utf16-2 s high) (lit< tt)
+wide_written Utf16Be s high = rw (utf16-2 s high) (lit< tt)
+
+pub code_room : (from to : Form) (s : ℕ) → IsScalar s → length (written to s) ≤ 3 * length (written from s)
+code_room from to s scalar = length_written to s (length (written from s)) (some_written from s scalar) (wide_written from s)
+
+codes_room : (from to : Form) (ss : List ℕ) → All IsScalar ss → length (flat_map (written to) ss) ≤ 3 * length (flat_map (written from) ss)
+codes_room from to [] all = omega arith
+codes_room from to (s ∷ ss) all =
+    omega (
+      arith,
+      code_room from to s (all 0 s (omega arith)),
+      codes_room from to ss (λ k d lt. all (suc k) d (omega arith)),
+      length-append (written to s) (flat_map (written to) ss),
+      length-append (written from s) (flat_map (written from) ss),
+    )
+
+pub text_room : {from to : Form} {text out : List ℕ} → Transcodes from to text out → length out ≤ 3 * length text
+text_room {from} {to} t = omega (arith, codes_room from to t.scalars t.all, ap length t.codes, ap length t.made)
+
 -- Appended to any output.
 
 module _ {O : Type 0} {appends : O → List ℕ → O → Type 0} {from to : Form} {bytes : List ℕ} where
@@ -59,6 +87,37 @@ module _ {O : Type 0} {appends : O → List ℕ → O → Type 0} {from to : For
         appended = more old mid new f.grown g.grown f.appended g.appended;
         transcodes = rw (take_more p n bytes) at (Transcodes-then f.transcodes g.transcodes);
       }
+
+  -- a character, told by four bytes
+  pub PutsText-char : ((a b c : O) (xs ys : List ℕ) → appends a xs b → appends b ys c → appends a (xs ++ ys) c) → {old mid new : O} {p s n : ℕ}
+      → PutsText appends from to bytes old mid p → BeginsChar from (take 4 (drop p bytes)) s n → appends mid (written to s) new → PutsText appends from to bytes old new (p + n)
+  PutsText-char more {old} {mid} {new} {p} {s} {n} f d put =
+      let within = d.within in
+      let le : n ≤ 4 = omega (arith, length-take 4 (drop p bytes)) in
+      let code : take n (drop p bytes) ≡ written from s = sym (take-take n 4 (drop p bytes) le) ∙ d.code in
+      let one : PutsText appends from to (drop p bytes) mid new n = record {
+        within = omega (arith, length-take 4 (drop p bytes));
+        grown = written to s;
+        appended = put;
+        transcodes = rw code (Transcodes-one from to s d.scalar);
+      } in
+      PutsText-then more f (rw (take_rest bytes p) one)
+
+  -- the first bytes of some
+  pub PutsText-part : {old new : O} {n : ℕ} (count : ℕ) → PutsText appends from to (take count bytes) old new n → PutsText appends from to bytes old new n
+  PutsText-part {n} count f =
+      let within = f.within in
+      let le : n ≤ count = omega (arith, length-take count bytes) in
+      record { within = omega (arith, length-take count bytes); grown = f.grown; appended = f.appended; transcodes = rw (take-take n count bytes le) at f.transcodes }
+
+  -- room for all bytes is room for a character that begins the ones left
+  pub room_for_char : {room : O → ℕ} → ((a b : O) (xs : List ℕ) → appends a xs b → room a ≤ room b + length xs) → {old mid : O} {p s n : ℕ}
+      → PutsText appends from to bytes old mid p → BeginsChar from (take 4 (drop p bytes)) s n → 3 * length bytes ≤ room old → length (written to s) ≤ room mid
+  room_for_char law {old} {mid} {p} {s} {n} f d all =
+      let within = d.within in
+      let start = f.within in
+      let here : length (written from s) ≡ n = ap length (sym d.code) ∙ omega (arith, length-take n (take 4 (drop p bytes))) in
+      omega (arith, all, law old mid f.grown f.appended, text_room f.transcodes, length-take p bytes, code_room from to s d.scalar, here, length-drop p bytes, length-take 4 (drop p bytes))
 
 -- Text in UTF-8 as it is, and as units.
 

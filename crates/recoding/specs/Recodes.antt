@@ -1,20 +1,21 @@
 -- Recoding to the end of an output.
 use Rattle.std.specs.Prelude.{◌≡◌, ℕ, ◌+◌, ◌*◌, ◌%◌, ◌≤◌, Bool, List, [], length, take, drop}
-use Rattle.recoding.specs.Recoded.{Grows}
+use Rattle.recoding.specs.Faults.{Advances}
 use Rattle.recoding.specs.declared.form.Form.{Form}
 use Rattle.utf_lanes.specs.BytePairs.{units_of, turned}
 use Rattle.utf_lanes.specs.GivenUnits.{joined}
 use Rattle.utf_lanes.specs.UnitBlocks.{AreCodes}
 use Rattle.utf_lanes.specs.UnitCodes.{lane_unit, code_at, AreText}
 
--- So many bytes were recoded, by the three that follow them and no others, and what came of them was appended. No more than
--- three bytes came of each.
-pub record Recodes {O : Type 0} (appends : O → List ℕ → O → Type 0) (from to : Form) (bytes : List ℕ) (old new : O) (read : ℕ) : Type 0 where
+-- So many bytes were recoded, by the three that follow them and no others, so many faults were replaced, and what came of both
+-- was appended. No more than three bytes came of each, and no more than one fault.
+pub record Recodes {O : Type 0} (appends : O → List ℕ → O → Type 0) (from to : Form) (bytes : List ℕ) (old new : O) (read faults : ℕ) : Type 0 where
   pub grown : List ℕ
   pub appended : appends old grown new
   pub within : read ≤ length bytes
   pub short : length grown ≤ 3 * read
-  pub grows : Grows from to (take (read + 3) bytes) [] grown (take 3 (drop read bytes))
+  pub few : faults ≤ read
+  pub advances : Advances from to (take (read + 3) bytes) [] grown (take 3 (drop read bytes)) faults
 
 -- The first n of sixteen units are text, and their bytes were appended.
 pub record PutsUnits {O : Type 0} (appends : O → List ℕ → O → Type 0) (low high : List ℕ) (old new : O) (n : ℕ) : Type 0 where

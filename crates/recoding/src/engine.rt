@@ -1,15 +1,16 @@
 //! One run over bytes, from any form into any other and to any output.
 ghost use Rattle.std.specs.Prelude.{◌≡◌, ◌+◌, ◌*◌, ◌<◌, ◌≤◌, [], length, take, drop, IfSome, IfNone, IsTrue, IsFalse};
-ghost use Rattle.recoding.specs.Recoded.{Lacks, Reads, written};
+ghost use Rattle.recoding.specs.Recoded.{Lacks, written};
 ghost use Rattle.recoding.specs.Recodes.{Recodes};
-ghost use Rattle.recoding.specs.Rooms.{IsFull};
-ghost use Rattle.recoding.specs.ShownFronts.{Decides};
+ghost use Rattle.recoding.specs.Rooms.{NextIsTooLong};
+ghost use Rattle.recoding.specs.ShownFronts.{Settles};
+ghost use Rattle.recoding.specs.Strict.{PutsText};
 
 use crate::codes::{code_len, put_code};
 use crate::form::Form::{self, Utf8, Utf16Be, Utf16Le};
 use crate::form_blocks::{PART, recode_blocks};
 use crate::output::Output;
-use crate::shown_fronts::{four, front, least_front, text_front};
+use crate::shown_fronts::{ShownFront, four, front, least_front, text_front};
 
 // How many bytes go with care before a run looks for text again, where no fault is among them.
 const STRIDE: usize = 16;
@@ -28,6 +29,8 @@ const MANY: usize = PART - 4;
 pub(crate) struct Reached {
     // How many bytes were recoded.
     pub(crate) read: usize,
+    // How many of their faults became U+FFFD.
+    pub(crate) replaced: usize,
     // Whether it ended since the next code is longer than the room.
     pub(crate) is_full: bool,
     // Whether it ended since what follows the bytes decides what the last of them show.
@@ -45,8 +48,8 @@ pub(crate) fn recode<O: Output>(
     out: &mut O,
 ) -> Reached
     requires { IsTrue is_ample → 3 * length bytes.now ≤ O.room out.old }
-    ensures runs { Recodes O.appends from to bytes.now out.old out.new result.read }
-    ensures full { IsTrue result.is_full → IsFull (record { from = from; to = to; held = [] }) (drop result.read bytes.now) (O.room out.new) }
+    ensures runs { Recodes O.appends from to bytes.now out.old out.new result.read result.replaced }
+    ensures full { IsTrue result.is_full → NextIsTooLong from to (drop result.read bytes.now) (O.room out.new) }
     ensures short { IsTrue result.is_full → O.room out.new < 4 }
     ensures waits { IsFalse result.is_full → length bytes.now ≤ result.read + 3 }
     ensures lacks { IsFalse result.is_full → Lacks from (drop result.read bytes.now) }
@@ -75,8 +78,8 @@ fn run_apart<O: Output, const PAIR: usize>(
     out: &mut O,
 ) -> Reached
     requires { IsTrue is_ample → 3 * length bytes.now ≤ O.room out.old }
-    ensures runs { Recodes O.appends from to bytes.now out.old out.new result.read }
-    ensures full { IsTrue result.is_full → IsFull (record { from = from; to = to; held = [] }) (drop result.read bytes.now) (O.room out.new) }
+    ensures runs { Recodes O.appends from to bytes.now out.old out.new result.read result.replaced }
+    ensures full { IsTrue result.is_full → NextIsTooLong from to (drop result.read bytes.now) (O.room out.new) }
     ensures short { IsTrue result.is_full → O.room out.new < 4 }
     ensures waits { IsFalse result.is_full → length bytes.now ≤ result.read + 3 }
     ensures lacks { IsFalse result.is_full → Lacks from (drop result.read bytes.now) }
@@ -95,13 +98,14 @@ fn run<O: Output, const PAIR: usize>(
     out: &mut O,
 ) -> Reached
     requires { IsTrue is_ample → 3 * length bytes.now ≤ O.room out.old }
-    ensures runs { Recodes O.appends from to bytes.now out.old out.new result.read }
-    ensures full { IsTrue result.is_full → IsFull (record { from = from; to = to; held = [] }) (drop result.read bytes.now) (O.room out.new) }
+    ensures runs { Recodes O.appends from to bytes.now out.old out.new result.read result.replaced }
+    ensures full { IsTrue result.is_full → NextIsTooLong from to (drop result.read bytes.now) (O.room out.new) }
     ensures short { IsTrue result.is_full → O.room out.new < 4 }
     ensures waits { IsFalse result.is_full → length bytes.now ≤ result.read + 3 }
     ensures lacks { IsFalse result.is_full → Lacks from (drop result.read bytes.now) }
 {
     let mut read = 0;
+    let mut replaced = 0;
     'parts: loop {
         let blocks = recode_blocks::<O, PAIR>(is_ample, from, to, &bytes[read..], out);
         read += blocks;
@@ -109,30 +113,36 @@ fn run<O: Output, const PAIR: usize>(
             continue;
         }
         if read == bytes.len() {
-            return ended(read, false, true);
+            return ended(read, replaced, false, true);
         }
         let count = recode_stretch::<O, PAIR>(is_ample, from, to, &bytes[read..], out);
         read += count;
         // A stretch with no fault in it goes to its last code.
         if count < STRETCH - 3 {
             if read == bytes.len() {
-                return ended(read, false, true);
+                return ended(read, replaced, false, true);
             }
             let few = recode_few::<O, PAIR>(is_ample, from, to, &bytes[read..], out);
             read += few.read;
+            replaced += few.replaced;
             if few.is_full || few.is_waiting {
-                return Reached { read, ..few };
+                return Reached {
+                    read,
+                    replaced,
+                    ..few
+                };
             }
         }
     }
 }
 
 #[inline(always)]
-fn ended(read: usize, is_full: bool, is_waiting: bool) -> Reached
-    ensures { result ≡ record { read = read; is_full = is_full; is_waiting = is_waiting } }
+fn ended(read: usize, replaced: usize, is_full: bool, is_waiting: bool) -> Reached
+    ensures { result ≡ record { read = read; replaced = replaced; is_full = is_full; is_waiting = is_waiting } }
 {
     Reached {
         read,
+        replaced,
         is_full,
         is_waiting,
     }
@@ -169,7 +179,7 @@ fn recode_stretch<O: Output, const PAIR: usize>(
     out: &mut O,
 ) -> usize
     requires { IsTrue is_ample → 3 * length bytes.now ≤ O.room out.old }
-    ensures { Recodes O.appends from to bytes.now out.old out.new result }
+    ensures { PutsText O.appends from to bytes.now out.old out.new result }
 {
     if let (Utf8, Utf8) = (from, to) {
         return 0;
@@ -185,7 +195,7 @@ fn recode_stretch<O: Output, const PAIR: usize>(
 #[inline(always)]
 fn recode_text<O: Output>(from: Form, to: Form, bytes: &[u8], out: &mut O) -> usize
     requires { 3 * length bytes.now ≤ O.room out.old }
-    ensures { Recodes O.appends from to bytes.now out.old out.new result }
+    ensures { PutsText O.appends from to bytes.now out.old out.new result }
 {
     let least = least_front(from);
     let mut read = 0;
@@ -209,7 +219,7 @@ fn recode_scant_text<O: Output, const PAIR: usize>(
     bytes: &[u8],
     out: &mut O,
 ) -> usize
-    ensures { Recodes O.appends from to bytes.now out.old out.new result }
+    ensures { PutsText O.appends from to bytes.now out.old out.new result }
 {
     let least = least_front(from);
     let mut read = 0;
@@ -235,8 +245,8 @@ fn recode_few<O: Output, const PAIR: usize>(
     out: &mut O,
 ) -> Reached
     requires { IsTrue is_ample → 3 * length bytes.now ≤ O.room out.old }
-    ensures runs { Recodes O.appends from to bytes.now out.old out.new result.read }
-    ensures full { IsTrue result.is_full → IsFull (record { from = from; to = to; held = [] }) (drop result.read bytes.now) (O.room out.new) }
+    ensures runs { Recodes O.appends from to bytes.now out.old out.new result.read result.replaced }
+    ensures full { IsTrue result.is_full → NextIsTooLong from to (drop result.read bytes.now) (O.room out.new) }
     ensures short { IsTrue result.is_full → O.room out.new < 4 }
     ensures waits { IsTrue result.is_waiting → length bytes.now ≤ result.read + 3 }
     ensures lacks { IsTrue result.is_waiting → Lacks from (drop result.read bytes.now) }
@@ -257,7 +267,7 @@ fn recode_faults<O: Output, const PAIR: usize>(
     out: &mut O,
 ) -> Reached
     requires { 3 * length bytes.now ≤ O.room out.old }
-    ensures runs { Recodes O.appends from to bytes.now out.old out.new result.read }
+    ensures runs { Recodes O.appends from to bytes.now out.old out.new result.read result.replaced }
     ensures full { IsFalse result.is_full }
     ensures waits { IsTrue result.is_waiting → length bytes.now ≤ result.read + 3 }
     ensures lacks { IsTrue result.is_waiting → Lacks from (drop result.read bytes.now) }
@@ -265,22 +275,25 @@ fn recode_faults<O: Output, const PAIR: usize>(
 {
     let mut stop = STRIDE;
     let mut read = 0;
+    let mut replaced = 0;
     while read < stop {
-        let Some((c, len)) = front_at(from, bytes, read) else {
-            return ended(read, false, true);
+        let Some(first) = front_at(from, bytes, read) else {
+            return ended(read, replaced, false, true);
         };
         // A compiler knows the code of a fault where nothing else is written.
-        let is_fault = c == char::REPLACEMENT_CHARACTER;
+        let is_fault = first.c == char::REPLACEMENT_CHARACTER;
         if is_fault {
             stop = read + AFTER_FAULT;
-            put_code(to, c, out);
-            read += len;
+            put_code(to, first.c, out);
+            read += first.len;
+            replaced += first.faults;
         } else {
-            put_code(to, c, out);
-            read += len;
+            put_code(to, first.c, out);
+            read += first.len;
+            replaced += first.faults;
         }
     }
-    ended(read, false, false)
+    ended(read, replaced, false, false)
 }
 
 // The same as far as there is room.
@@ -291,33 +304,34 @@ fn recode_scant_faults<O: Output, const PAIR: usize>(
     bytes: &[u8],
     out: &mut O,
 ) -> Reached
-    ensures runs { Recodes O.appends from to bytes.now out.old out.new result.read }
-    ensures full { IsTrue result.is_full → IsFull (record { from = from; to = to; held = [] }) (drop result.read bytes.now) (O.room out.new) }
+    ensures runs { Recodes O.appends from to bytes.now out.old out.new result.read result.replaced }
+    ensures full { IsTrue result.is_full → NextIsTooLong from to (drop result.read bytes.now) (O.room out.new) }
     ensures short { IsTrue result.is_full → O.room out.new < 4 }
     ensures waits { IsTrue result.is_waiting → length bytes.now ≤ result.read + 3 }
     ensures lacks { IsTrue result.is_waiting → Lacks from (drop result.read bytes.now) }
     ensures moves { IsFalse result.is_full → IsFalse result.is_waiting → 0 < result.read }
 {
     let mut read = 0;
+    let mut replaced = 0;
     while read < STRIDE {
-        let Some((c, len)) = front_at(from, bytes, read) else {
-            return ended(read, false, true);
+        let Some(first) = front_at(from, bytes, read) else {
+            return ended(read, replaced, false, true);
         };
-        let is_put = put_fitting(to, c, out);
+        let is_put = put_fitting(to, first.c, out);
         if !is_put {
-            return ended(read, true, false);
+            return ended(read, replaced, true, false);
         }
-        read += len;
+        read += first.len;
+        replaced += first.faults;
     }
-    ended(read, false, false)
+    ended(read, replaced, false, false)
 }
 
-// The scalar at a place of the bytes, or U+FFFD for a fault, and how many bytes it has, by no more than four of them; `None`
-// where that depends on what follows all of them.
+// What begins at a place of the bytes, by no more than four of them; `None` where that depends on what follows all of them.
 #[inline(always)]
-fn front_at(from: Form, bytes: &[u8], place: usize) -> Option<(char, usize)>
+fn front_at(from: Form, bytes: &[u8], place: usize) -> Option<ShownFront>
     requires { place ≤ length bytes.now }
-    ensures some { IfSome result (λ x. Decides (Reads from) (take 4 (drop place bytes.now)) x.0 x.1) }
+    ensures some { IfSome result (λ x. Settles from (take 4 (drop place bytes.now)) x.c x.len x.faults) }
     ensures few { IfNone result (length bytes.now ≤ place + 3) }
     ensures lacks { IfNone result (Lacks from (drop place bytes.now)) }
 {

@@ -1,6 +1,6 @@
 //! What goes in blocks from one form into another, to any output: copied, widened or narrowed.
 ghost use Rattle.std.specs.Prelude.{◌≡◌, ◌*◌, ◌≤◌, length, IsTrue};
-ghost use Rattle.recoding.specs.Recodes.{Recodes};
+ghost use Rattle.recoding.specs.Strict.{PutsText};
 ghost use Rattle.recoding.specs.ShownFronts.{IsUnits};
 
 use crate::form::Form;
@@ -30,7 +30,7 @@ pub(crate) fn recode_blocks<O: Output, const PAIR: usize>(
     out: &mut O,
 ) -> usize
     requires { IsTrue is_ample → 3 * length bytes.now ≤ O.room out.old }
-    ensures { Recodes O.appends from to bytes.now out.old out.new result }
+    ensures { PutsText O.appends from to bytes.now out.old out.new result }
 {
     match (high_is_first(from), high_is_first(to)) {
         (None, None) => copy_part(is_ample, bytes, out),
@@ -73,7 +73,7 @@ fn most_widened<O: Output>(is_ample: bool, bytes: &[u8], out: &O) -> usize
 #[inline(always)]
 fn copy_part<O: Output>(is_ample: bool, bytes: &[u8], out: &mut O) -> usize
     requires { IsTrue is_ample → 3 * length bytes.now ≤ O.room out.old }
-    ensures { Recodes O.appends Form.Utf8 Form.Utf8 bytes.now out.old out.new result }
+    ensures { PutsText O.appends Form.Utf8 Form.Utf8 bytes.now out.old out.new result }
 {
     let most = PART.min(most_copied(is_ample, bytes, out));
     let part = &bytes[..most];
@@ -95,7 +95,7 @@ fn widen_part<O: Output, const ORDER: usize>(
 ) -> usize
     requires form { IsUnits high_first to }
     requires room { IsTrue is_ample → 3 * length bytes.now ≤ O.room out.old }
-    ensures { Recodes O.appends Form.Utf8 to bytes.now out.old out.new result }
+    ensures { PutsText O.appends Form.Utf8 to bytes.now out.old out.new result }
 {
     let most = PART.min(most_widened(is_ample, bytes, out));
     // Fewer are never taken in lanes, and in scant room not judged either.
@@ -132,7 +132,7 @@ fn copy_part_of_units<O: Output>(
     requires from { IsUnits high_first from }
     requires to { IsUnits wanted to }
     requires room { IsTrue is_ample → 3 * length bytes.now ≤ O.room out.old }
-    ensures { Recodes O.appends from to bytes.now out.old out.new result }
+    ensures { PutsText O.appends from to bytes.now out.old out.new result }
 {
     let most = most_copied(is_ample, bytes, out);
     if most < 16 {

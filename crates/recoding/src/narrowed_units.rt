@@ -1,7 +1,8 @@
 //! Text in UTF-16 recoded as UTF-8, sixteen units at once, or eight of ASCII.
 ghost use Rattle.std.specs.Prelude.{◌≤◌};
 ghost use Rattle.recoding.specs.ShownFronts.{IsUnits};
-ghost use Rattle.recoding.specs.Recodes.{Recodes, PutsUnits};
+ghost use Rattle.recoding.specs.Recodes.{PutsUnits};
+ghost use Rattle.recoding.specs.Strict.{PutsText};
 
 use crate::form::Form;
 use crate::output::Output;
@@ -19,7 +20,7 @@ pub(crate) fn narrow_text<O: Output>(
     out: &mut O,
 ) -> usize
     requires { IsUnits high_first from }
-    ensures { Recodes O.appends from Form.Utf8 bytes.now out.old out.new result }
+    ensures { PutsText O.appends from Form.Utf8 bytes.now out.old out.new result }
 {
     let len = narrow_units(from, high_first, bytes, out);
     len + narrow_ascii(from, high_first, &bytes[len..], out)
@@ -29,7 +30,7 @@ pub(crate) fn narrow_text<O: Output>(
 #[inline(always)]
 fn narrow_units<O: Output>(from: Form, high_first: bool, bytes: &[u8], out: &mut O) -> usize
     requires { IsUnits high_first from }
-    ensures { Recodes O.appends from Form.Utf8 bytes.now out.old out.new result }
+    ensures { PutsText O.appends from Form.Utf8 bytes.now out.old out.new result }
 {
     let mut place = 0;
     while 32 <= bytes.len() - place && 64 <= out.room() {
@@ -60,11 +61,11 @@ pub(crate) fn put_block<O: Output>(low: u8x16, high: u8x16, out: &mut O) -> usiz
 #[inline(always)]
 fn narrow_ascii<O: Output>(from: Form, high_first: bool, bytes: &[u8], out: &mut O) -> usize
     requires { IsUnits high_first from }
-    ensures { Recodes O.appends from Form.Utf8 bytes.now out.old out.new result }
+    ensures { PutsText O.appends from Form.Utf8 bytes.now out.old out.new result }
 {
     let mut place = 0;
     while 16 <= bytes.len() - place && 8 <= out.room() {
-        match ascii_of_units(high_first, &bytes[place..place + 16]) {
+        match ascii_of_units(from, high_first, &bytes[place..place + 16]) {
             None => return place,
             Some(ascii) => {
                 out.put(&ascii);

@@ -1,15 +1,14 @@
 //! What the front of some bytes shows.
-ghost use Rattle.std.specs.Prelude.{◌≡◌, ◌<◌, length, take, flat_map, IfSome, IfNone, IsTrue, IsFalse, Some, ◌%◌};
+ghost use Rattle.std.specs.Prelude.{◌≡◌, ◌<◌, length, take, IfSome, IfNone, IsTrue, IsFalse, Some, ◌%◌};
 ghost use Rattle.utf_base.specs.Code.{utf8};
 ghost use Rattle.utf_base.specs.Kinds.{fault_kind};
-ghost use Rattle.utf_base.specs.Shown.{Shows, IsDecided};
-ghost use Rattle.utf_base.specs.Units.{unit_fault_kind};
+ghost use Rattle.utf_base.specs.Shown.{IsDecided};
 ghost use Rattle.utf_base.specs.declared.errors.Utf8ErrorKind.TheVariants.{TooFewBytes};
-ghost use Rattle.utf_base.specs.declared.errors.units.Utf16PairError.TheVariants.{Incomplete};
 ghost use Rattle.utf_lanes.specs.AsciiTexts.{AreAscii};
-ghost use Rattle.recoding.specs.Recoded.{Reads, Lacks, ShowsUnits, IsProperFront};
+ghost use Rattle.recoding.specs.Recoded.{Lacks, IsProperFront};
 ghost use Rattle.utf_lanes.specs.BytePairs.{units_of};
-ghost use Rattle.recoding.specs.ShownFronts.{IsUnits, Decides, Ends, Waits, fault_len, ShowsEach, MayBeSecond};
+ghost use Rattle.recoding.specs.ShownFronts.{IsUnits, Settles, SettlesLast, Waits, fault_len, MayBeSecond};
+ghost use Rattle.recoding.specs.Strict.{BeginsChar, Transcodes};
 
 use crate::form::Form;
 use encode_unicode::error::Utf8ErrorKind;
@@ -18,33 +17,57 @@ use utf_base::elements::is_continuation;
 use utf_lanes::byte_pairs::unit;
 use utf_lanes::text_front::front_of_text;
 
-// The scalar that begins the bytes, or U+FFFD for a fault, and how many bytes it has; `None` where that
-// depends on what follows them.
+// What begins some bytes: the scalar, or U+FFFD for a fault, how many bytes it has, and how many faults it is: one, or none.
+#[derive(Clone, Copy, Drop)]
+pub(crate) struct ShownFront {
+    pub(crate) c: char,
+    pub(crate) len: usize,
+    pub(crate) faults: usize,
+}
+
+// A character of so many bytes.
 #[inline(always)]
-pub(crate) fn front(from: Form, bytes: &[u8]) -> Option<(char, usize)>
-    ensures some { IfSome result (λ x. Decides (Reads from) bytes.now x.0 x.1) }
-    ensures none { IfNone result (Waits (Reads from) (fault_len from) bytes.now) }
+fn character(c: char, len: usize) -> ShownFront
+    ensures { result ≡ record { c = c; len = len; faults = 0 } }
+{
+    ShownFront { c, len, faults: 0 }
+}
+
+// A fault of so many bytes.
+#[inline(always)]
+fn fault(len: usize) -> ShownFront
+    ensures { result ≡ record { c = 0xFFFD; len = len; faults = 1 } }
+{
+    ShownFront {
+        c: char::REPLACEMENT_CHARACTER,
+        len,
+        faults: 1,
+    }
+}
+
+// What begins the bytes; `None` where that depends on what follows them.
+#[inline(always)]
+pub(crate) fn front(from: Form, bytes: &[u8]) -> Option<ShownFront>
+    ensures some { IfSome result (λ x. Settles from bytes.now x.c x.len x.faults) }
+    ensures none { IfNone result (Waits from bytes.now) }
     ensures lacks { IfNone result (Lacks from bytes.now) }
 {
     match from {
         Form::Utf8 => front_of_utf8(bytes),
-        Form::Utf16Le => front_of_utf16(false, bytes),
-        Form::Utf16Be => front_of_utf16(true, bytes),
+        Form::Utf16Le => front_of_utf16(from, false, bytes),
+        Form::Utf16Be => front_of_utf16(from, true, bytes),
     }
 }
 
 // The same where nothing follows the bytes.
 #[inline(always)]
-pub(crate) fn last_front(from: Form, bytes: &[u8]) -> (char, usize)
+pub(crate) fn last_front(from: Form, bytes: &[u8]) -> ShownFront
     requires { 0 < length bytes.now }
-    ensures { Ends (Reads from) bytes.now result.0 result.1 }
+    ensures { SettlesLast from bytes.now result.c result.len result.faults }
 {
     match front(from, bytes) {
         Some(first) => first,
-        None => (
-            char::REPLACEMENT_CHARACTER,
-            fault_bytes(from).min(bytes.len()),
-        ),
+        None => fault(fault_bytes(from).min(bytes.len())),
     }
 }
 
@@ -60,22 +83,22 @@ fn fault_bytes(from: Form) -> usize
 }
 
 #[inline(always)]
-fn front_of_utf8(bytes: &[u8]) -> Option<(char, usize)>
-    ensures some { IfSome result (λ x. Decides (Shows utf8) bytes.now x.0 x.1) }
-    ensures none { IfNone result (Waits (Shows utf8) 1 bytes.now) }
+fn front_of_utf8(bytes: &[u8]) -> Option<ShownFront>
+    ensures some { IfSome result (λ x. Settles Form.Utf8 bytes.now x.c x.len x.faults) }
+    ensures none { IfNone result (Waits Form.Utf8 bytes.now) }
     ensures lacks { IfNone result (Lacks Form.Utf8 bytes.now) }
 {
     match char::from_utf8_slice_start(bytes) {
-        Ok((c, len)) => Some((c, len)),
+        Ok((c, len)) => Some(character(c, len)),
         Err(error) => match error.kind() {
             Utf8ErrorKind::TooFewBytes => {
                 if is_front_of_code(bytes) {
                     None
                 } else {
-                    Some((char::REPLACEMENT_CHARACTER, 1))
+                    Some(fault(1))
                 }
             }
-            _ => Some((char::REPLACEMENT_CHARACTER, 1)),
+            _ => Some(fault(1)),
         },
     }
 }
@@ -111,10 +134,11 @@ fn may_be_second(first: u8, second: u8) -> bool
 }
 
 #[inline(always)]
-fn front_of_utf16(high_first: bool, bytes: &[u8]) -> Option<(char, usize)>
-    ensures some { IfSome result (λ x. Decides (ShowsUnits high_first) bytes.now x.0 x.1) }
-    ensures none { IfNone result (Waits (ShowsUnits high_first) 2 bytes.now) }
-    ensures lacks { IfNone result (unit_fault_kind (units_of high_first bytes.now) ≡ Some Incomplete) }
+fn front_of_utf16(from: Form, high_first: bool, bytes: &[u8]) -> Option<ShownFront>
+    requires { IsUnits high_first from }
+    ensures some { IfSome result (λ x. Settles from bytes.now x.c x.len x.faults) }
+    ensures none { IfNone result (Waits from bytes.now) }
+    ensures lacks { IfNone result (Lacks from bytes.now) }
 {
     if bytes.len() < 2 {
         return None;
@@ -122,8 +146,8 @@ fn front_of_utf16(high_first: bool, bytes: &[u8]) -> Option<(char, usize)>
     let first = unit(high_first, bytes[0], bytes[1]);
     if !first.is_utf16_leading_surrogate() {
         return match char::from_utf16_tuple((first, None)) {
-            Ok(c) => Some((c, 2)),
-            Err(_) => Some((char::REPLACEMENT_CHARACTER, 2)),
+            Ok(c) => Some(character(c, 2)),
+            Err(_) => Some(fault(2)),
         };
     }
     if bytes.len() < 4 {
@@ -131,20 +155,20 @@ fn front_of_utf16(high_first: bool, bytes: &[u8]) -> Option<(char, usize)>
     }
     let second = unit(high_first, bytes[2], bytes[3]);
     match char::from_utf16_tuple((first, Some(second))) {
-        Ok(c) => Some((c, 4)),
-        Err(_) => Some((char::REPLACEMENT_CHARACTER, 2)),
+        Ok(c) => Some(character(c, 4)),
+        Err(_) => Some(fault(2)),
     }
 }
 
 // The character that begins the bytes, and how many bytes it has; `None` at a fault, and near the end.
 #[inline(always)]
 pub(crate) fn text_front(from: Form, bytes: &[u8]) -> Option<(char, usize)>
-    ensures { IfSome result (λ x. Decides (Reads from) bytes.now x.0 x.1) }
+    ensures { IfSome result (λ x. BeginsChar from bytes.now x.0 x.1) }
 {
     match from {
         Form::Utf8 => front_of_text(bytes),
-        Form::Utf16Le => char_of_utf16(false, bytes),
-        Form::Utf16Be => char_of_utf16(true, bytes),
+        Form::Utf16Le => char_of_utf16(from, false, bytes),
+        Form::Utf16Be => char_of_utf16(from, true, bytes),
     }
 }
 
@@ -160,8 +184,9 @@ pub(crate) fn least_front(from: Form) -> usize
 }
 
 #[inline(always)]
-fn char_of_utf16(high_first: bool, bytes: &[u8]) -> Option<(char, usize)>
-    ensures { IfSome result (λ x. Decides (ShowsUnits high_first) bytes.now x.0 x.1) }
+fn char_of_utf16(from: Form, high_first: bool, bytes: &[u8]) -> Option<(char, usize)>
+    requires { IsUnits high_first from }
+    ensures { IfSome result (λ x. BeginsChar from bytes.now x.0 x.1) }
 {
     if bytes.len() < 2 {
         return None;
@@ -185,11 +210,10 @@ fn char_of_utf16(high_first: bool, bytes: &[u8]) -> Option<(char, usize)>
 
 // The eight characters of ASCII that sixteen bytes are as units. `None` where a unit is anything else.
 #[inline(always)]
-#[tactic(auto, using(crate::proofs::Blocks::block_codes))]
-pub(crate) fn ascii_of_units(high_first: bool, bytes: &[u8]) -> Option<[u8; 8]>
-    requires { length bytes.now ≡ 16 }
-    ensures shows { IfSome result (λ ascii. ShowsEach (ShowsUnits high_first) bytes.now ascii) }
-    ensures codes { IfSome result (λ ascii. flat_map utf8 ascii ≡ ascii) }
+pub(crate) fn ascii_of_units(from: Form, high_first: bool, bytes: &[u8]) -> Option<[u8; 8]>
+    requires form { IsUnits high_first from }
+    requires len { length bytes.now ≡ 16 }
+    ensures { IfSome result (λ ascii. Transcodes from Form.Utf8 bytes.now ascii) }
 {
     let units = eight_units(high_first, bytes);
     if eight_are_ascii(units) {

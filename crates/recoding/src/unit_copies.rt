@@ -1,6 +1,7 @@
 //! Text copied: as it is, or well-formed units with the bytes of each swapped.
 ghost use Rattle.std.specs.Prelude.{◌≡◌, ◌⊎◌, ◌-◌, ◌+◌, ◌%◌, ◌<◌, ◌≤◌, [], ◌∷◌, length, take, drop};
-ghost use Rattle.recoding.specs.Recodes.{CopiesUnits, Recodes};
+ghost use Rattle.recoding.specs.Recodes.{CopiesUnits};
+ghost use Rattle.recoding.specs.Strict.{PutsText};
 ghost use Rattle.utf_lanes.specs.BytePairs.{swapped, turned};
 
 use crate::codes::put_pair;
@@ -15,7 +16,7 @@ use utf_lanes::unit_blocks::units_len;
 #[inline(always)]
 pub(crate) fn copy_judged<O: Output>(bytes: &[u8], out: &mut O) -> usize
     requires { length bytes.now ≤ O.room out.old }
-    ensures { Recodes O.appends Form.Utf8 Form.Utf8 bytes.now out.old out.new result }
+    ensures { PutsText O.appends Form.Utf8 Form.Utf8 bytes.now out.old out.new result }
 {
     let len = text_len(bytes);
     out.put(&bytes[..len]);

@@ -1,5 +1,5 @@
-use Rattle.std.proofs.Common.{◌<◌, [], length, take, drop, rules, refl, sym, subst, take-append-drop}
-use Rattle.recoding.specs.Recoded.{written}
+use Rattle.std.proofs.Common.{◌<◌, length, take, drop, rules, refl, sym, subst, take-append-drop}
+use Rattle.recoding.specs.Recoded.{fresh, written}
 use Rattle.recoding.proofs.Recodes.{Recodes-code}
 use Rattle.recoding.proofs.RoomLemmas.{IsFull-of}
 use Rattle.recoding.proofs.engine.recode_scant_faults.Goals as goal
@@ -11,9 +11,9 @@ loop-read-preserved g c =
 pub returns-then-not-is_put-clause-full : goal.returns-then-not-is_put-clause-full
 returns-then-not-is_put-clause-full g c =
     let xs = drop c.loop-read.read c.args.bytes.now in
-    let d = c.in-Some.ensures.some in
+    let d = c.in-Some.ensures.some.decides in
     let kept = c.if-not-is_put.ensures.kept (search rules) in
-    let full : g.O.Output.room c.loop-read.out < length (written c.args.to c.in-Some.c) = c.if-not-is_put.ensures.full (search rules) in
-    let longer = subst (λ o. g.O.Output.room o < length (written c.args.to c.in-Some.c)) (sym kept) full in
+    let full : g.O.Output.room c.loop-read.out < length (written c.args.to c.in-Some.first.c) = c.if-not-is_put.ensures.full (search rules) in
+    let longer = subst (λ o. g.O.Output.room o < length (written c.args.to c.in-Some.first.c)) (sym kept) full in
     rw c.ended-then-not-is_put.ensures
-    (λ _. rw (take-append-drop 4 xs) at (IsFull-of (record { from = c.args.from; to = c.args.to; held = [] }) c.args.from c.args.to (take 4 xs) (drop 4 xs) c.in-Some.c c.in-Some.len _ refl refl d longer))
+    (λ _. rw (take-append-drop 4 xs) at (IsFull-of (fresh c.args.from c.args.to) c.args.from c.args.to (take 4 xs) (drop 4 xs) c.in-Some.first.c c.in-Some.first.len _ refl refl d longer))

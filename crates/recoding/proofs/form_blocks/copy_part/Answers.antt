@@ -1,15 +1,14 @@
 use Rattle.std.proofs.Common.{take, arith, IsUtf8}
 use Rattle.utf_lanes.proofs.AsciiTexts.{ascii_text}
-use Rattle.recoding.proofs.GivenRuns.{Recodes-text}
-use Rattle.recoding.proofs.Recodes.{Recodes-part}
+use Rattle.recoding.proofs.TextRuns.{PutsText-part, PutsText-text}
 use Rattle.recoding.proofs.form_blocks.copy_part.Goals as goal
 
 pub returns : goal.returns
-returns g c = Recodes-part c.min-most.result c.copy_judged.ensures
+returns g c = PutsText-part c.min-most.result c.copy_judged.ensures
 
 pub returns-then-is_ascii : goal.returns-then-is_ascii
 returns-then-is_ascii g c =
     let bytes = c.args.bytes.now in
     let n = c.min-most.result in
     let text : IsUtf8 (take n bytes) = ascii_text (take n bytes) (c.is_ascii.ensures c.if-is_ascii.true) in
-    Recodes-text (omega arith) text c.put.ensures
+    PutsText-text (omega arith) text c.put.ensures

@@ -1,22 +1,21 @@
 use Rattle.std.proofs.Common.{◌≤◌, take, arith, IsUtf8, length-take}
 use Rattle.std.proofs.lemmas.List.{take-take}
-use Rattle.recoding.proofs.GivenRuns.{Recodes-given}
-use Rattle.recoding.proofs.Recodes.{Recodes-none}
-use Rattle.recoding.proofs.WidenedTexts.{Recodes-widened}
+use Rattle.recoding.proofs.TextRuns.{PutsText-given, PutsText-none}
+use Rattle.recoding.proofs.WidenedTexts.{PutsText-widened}
 use Rattle.recoding.proofs.form_blocks.widen_part.Goals as goal
 
 pub returns-then-not-is_ample : goal.returns-then-not-is_ample
-returns-then-not-is_ample g c = Recodes-none g.met.O.Output.appends_none
+returns-then-not-is_ample g c = PutsText-none g.met.O.Output.appends_none
 
 pub returns-then-most-lt32-2 : goal.returns-then-most-lt32-2
-returns-then-most-lt32-2 g c = Recodes-none g.met.O.Output.appends_none
+returns-then-most-lt32-2 g c = PutsText-none g.met.O.Output.appends_none
 
 pub returns-then-len-lt32 : goal.returns-then-len-lt32
-returns-then-len-lt32 g c = Recodes-none g.met.O.Output.appends_none
+returns-then-len-lt32 g c = PutsText-none g.met.O.Output.appends_none
 
 pub returns-then-is_ascii : goal.returns-then-is_ascii
 returns-then-is_ascii g c =
-    Recodes-widened c.args.high_first c.requires.form (omega arith) (c.is_ascii.ensures c.if-is_ascii.true) c.put_widened.ensures
+    PutsText-widened c.args.high_first c.requires.form (omega arith) (c.is_ascii.ensures c.if-is_ascii.true) c.put_widened.ensures
 
 pub returns : goal.returns
 returns g c =
@@ -25,4 +24,4 @@ returns g c =
     let most = c.min-most.result in
     let few : len ≤ most = omega (arith, length-take most bytes, c.text_len-len.ensures.within) in
     let text : IsUtf8 (take len bytes) = rw (take-take len most bytes few) at c.text_len-len.ensures.text in
-    Recodes-given c.args.high_first c.requires.form (omega (arith, length-take most bytes)) text c.put_units.ensures
+    PutsText-given c.args.high_first c.requires.form (omega (arith, length-take most bytes)) text c.put_units.ensures
