@@ -96,9 +96,9 @@ fn nothing_after_a_faulty_byte_is_lost(rt: HostRuntime) {
     assert!(rt; rest.eq([0xa1, 0xb2, 0x46, 0x53]));
 }
 
-// FF and the two bytes of E2 82 are invalid by RFC 3629, section 4; EF BF BD is U+FFFD itself.
+// FF and the two bytes of E2 82 are faults by RFC 3629, section 4; EF BF BD is U+FFFD itself.
 #[test]
-fn invalid_bytes_are_counted(rt: HostRuntime) -> Result<(), Fail> {
+fn faults_are_counted(rt: HostRuntime) -> Result<(), Fail> {
     let mut recoder = Recoder::new(Form::Utf8, Form::Utf16Le);
     let mut room = [0; 16];
     let first = recoder.feed_into(b"\xff\xef\xbf", &mut room);
