@@ -19,6 +19,7 @@ pub mod laws;
 pub mod piece_table;
 pub mod programs;
 pub mod runs;
+pub mod splits;
 pub mod streams;
 
 pub use counted::Counted;
@@ -39,4 +40,5 @@ pub use runs::items::{End, Item, UnitItem};
 pub use runs::unit_bytes::unit_bytes_valid_up_to;
 pub use runs::walks::{walk_utf8, walk_utf16};
 pub use runs::well_formed::{units_valid_up_to, valid_up_to};
+pub use splits::{Span, SplitAscii, split_ascii};
 pub use utf_lanes::text_front::front_of_text;
