@@ -1,6 +1,9 @@
--- The parts of some bytes between separators, and their lines.
-use Rattle.std.specs.Prelude.{◌≡◌, ℕ, ◌+◌, ◌<◌, ◌≤◌, Bool, true, false, List, [], ◌∷◌, ◌++◌, length, count_by, map, nat_eq, slice_range, if◌then◌else◌}
-use Rattle.std.specs.List.{All}
+-- The parts of some bytes between separators, and their lines, with their places.
+use Rattle.std.specs.Prelude.{◌≡◌, ℕ, ◌+◌, ◌<◌, ◌≤◌, Bool, true, false, List, [], ◌∷◌, length, map, nat_eq, slice_range, Option, if◌then◌else◌}
+use Rattle.std.specs.Iterator.{YieldsFirst, YieldsLast}
+use Rattle.std.specs.Iterator.Runs.{AllItems, EachRunFrom}
+use Rattle.std.specs.List.{All, join_with_byte, slice_split}
+use Rattle.std.specs.Str.Lines.{strip_carriage_return}
 use Rattle.cuts.specs.PieceBoundaries.{IsBetween}
 
 -- some bytes, and where the first of them stands in the whole
@@ -8,21 +11,9 @@ pub record PlacedBytes : Type 0 where
   pub start : ℕ
   pub bytes : List ℕ
 
--- an element more, at the front of the first part
-abbrev pub in_first : ℕ → List (List ℕ) → List (List ℕ)
-in_first x [] = (x ∷ []) ∷ []
-in_first x (part ∷ parts) = (x ∷ part) ∷ parts
-
--- the parts of a list between the elements that are the separator: one more than there are such elements
-unfoldable pub parts_by : ℕ → List ℕ → List (List ℕ)
-parts_by separator [] = [] ∷ []
-parts_by separator (x ∷ xs) = if nat_eq x separator then [] ∷ parts_by separator xs else in_first x (parts_by separator xs)
-
--- parts joined, with the separator between each two
-abbrev pub joined_by : ℕ → List (List ℕ) → List ℕ
-joined_by separator [] = []
-joined_by separator (part ∷ []) = part
-joined_by separator (part ∷ next ∷ parts) = part ++ separator ∷ joined_by separator (next ∷ parts)
+-- the parts of a list between the elements that are the separator, as `slice::split` of std has them
+abbrev pub parts_by : ℕ → List ℕ → List (List ℕ)
+parts_by separator xs = slice_split (λ x. nat_eq x separator) xs
 
 -- parts with their places: the first begins at this one, and one element stands between two
 abbrev pub placed_from : ℕ → List (List ℕ) → List PlacedBytes
@@ -38,27 +29,50 @@ abbrev pub split_left : ℕ → List ℕ → ℕ → Bool → List PlacedBytes
 split_left place xs separator true = []
 split_left place xs separator false = placed_from place (parts_by separator xs)
 
--- no element is the separator
-abbrev pub HasNone : ℕ → List ℕ → Type 0
-HasNone separator xs = count_by (λ x. nat_eq x separator) xs ≡ 0
-
 -- The parts are those of the list: there is one, none has the separator in it, and joined by it they are the list.
 pub record IsSplit (separator : ℕ) (xs : List ℕ) (parts : List (List ℕ)) : Type 0 where
   pub some : 0 < length parts
-  pub clean : All (HasNone separator) parts
-  pub joined : joined_by separator parts ≡ xs
+  pub clean : All (All (λ x. nat_eq x separator ≡ false)) parts
+  pub joined : join_with_byte separator parts ≡ xs
 
--- the parts by the separator are such parts, and no others are
+-- no other parts are those of the list
 abbrev pub OneSplit : Type 0
 OneSplit = (separator : ℕ) (xs : List ℕ) (parts : List (List ℕ)) → IsSplit separator xs parts → parts ≡ parts_by separator xs
 
--- the bytes stand in the list at their place
-pub record StandsThere (xs : List ℕ) (x : PlacedBytes) : Type 0 where
+-- the bytes stand in the list at their place, and no code lies over either end
+pub record LiesBetween (xs : List ℕ) (x : PlacedBytes) : Type 0 where
   pub within : x.start + length x.bytes ≤ length xs
   pub there : x.bytes ≡ slice_range xs x.start (x.start + length x.bytes)
-
--- and no code lies over either end
-pub record LiesBetween (xs : List ℕ) (x : PlacedBytes) : Type 0 where
-  pub stands : StandsThere xs x
   pub begins : IsBetween xs x.start
   pub ends : IsBetween xs (x.start + length x.bytes)
+
+-- one call from the front, and one from the back: the state is the list of what is left
+abbrev pub NextSpan : List PlacedBytes → Option PlacedBytes → List PlacedBytes → Type 0
+NextSpan = YieldsFirst (λ left. left)
+
+abbrev pub BackSpan : List PlacedBytes → Option PlacedBytes → List PlacedBytes → Type 0
+BackSpan = YieldsLast (λ left. left)
+
+-- each item that calls from s give lies so
+abbrev pub EachLies : (List PlacedBytes → Option PlacedBytes → List PlacedBytes → Type 0) → List ℕ → List PlacedBytes → Type 0
+EachLies steps xs s = EachRunFrom steps s (λ p. AllItems p (LiesBetween xs))
+
+-- a part that a line feed ends, as a line
+abbrev pub ended_line : PlacedBytes → PlacedBytes
+ended_line x = record { start = x.start; bytes = strip_carriage_return x.bytes }
+
+-- the lines that parts between line feeds are, as std's `lines_of_parts` has them: no line feed ends the last, which is a
+-- line where it has a byte
+abbrev pub lines_of : List PlacedBytes → List PlacedBytes
+lines_of [] = []
+lines_of (x ∷ []) = if nat_eq (length x.bytes) 0 then [] else x ∷ []
+lines_of (x ∷ y ∷ parts) = ended_line x ∷ lines_of (y ∷ parts)
+
+-- the lines of some bytes with their places
+abbrev pub lines_by : List ℕ → List PlacedBytes
+lines_by xs = lines_of (split_by 10 xs)
+
+-- the lines that are left of some parts; `ended` says that a line feed ended the last of them too
+abbrev pub lines_left : Bool → List PlacedBytes → List PlacedBytes
+lines_left true parts = map ended_line parts
+lines_left false parts = lines_of parts

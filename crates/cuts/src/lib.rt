@@ -14,6 +14,7 @@
 
 pub(crate) mod block_moves;
 pub mod boundaries;
+pub mod byte_lines;
 pub mod counted;
 pub mod laws;
 pub mod piece_table;
@@ -22,6 +23,7 @@ pub mod runs;
 pub mod splits;
 pub mod streams;
 
+pub use byte_lines::{SplitLines, lines};
 pub use counted::Counted;
 pub use piece_table::PieceTable;
 pub use programs::listing::{write_listing, write_merged, write_walk};

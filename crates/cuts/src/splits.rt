@@ -1,10 +1,12 @@
 //! The parts of bytes between ASCII separators, from both ends, with their offsets.
 //!
 //! The bytes may be damaged: a byte below 0x80 is always a character of its own, so no part begins or ends inside of one.
-ghost use Rattle.std.specs.Prelude.{◌≡◌, ◌+◌, ◌<◌, ◌≤◌, ◌^◌, ◌∷◌, ◌++◌, [], false, length, nat_eq};
+ghost use Rattle.std.specs.Prelude.{◌≡◌, ◌+◌, ◌<◌, ◌≤◌, ◌^◌, ◌∷◌, ◌++◌, [], count_by, false, length, map, nat_eq};
 ghost use Rattle.std.specs.Iterator.{YieldsFirst, YieldsLast, item_count};
-ghost use Rattle.std.specs.List.{IsAfterLastMatch, IsFirstMatchOrLen};
-ghost use Rattle.cuts.specs.Splits.{split_by, split_left};
+ghost use Rattle.std.specs.Iterator.Runs.{EveryRun};
+ghost use Rattle.std.specs.List.{All, IsAfterLastMatch, IsFirstMatchOrLen};
+ghost use Rattle.encode_unicode.specs.Pieces.{Gives, GivesReversed};
+ghost use Rattle.cuts.specs.Splits.{BackSpan, EachLies, IsSplit, LiesBetween, NextSpan, ended_line, parts_by, split_by, split_left};
 
 use std::alloc::AllocError;
 use std::marker::Model;
@@ -50,6 +52,22 @@ impl<'a> Span<'a> {
         self.bytes
     }
 
+    // Without a carriage return at the end.
+    pub(crate) fn without_return(&self) -> Span<'a>
+        ensures { result ≡ ended_line self.now }
+    {
+        let len = self.bytes.len();
+        let has_return = len > 0 && self.bytes[len - 1] == b'\r';
+        Span {
+            start: self.start,
+            bytes: if has_return {
+                &self.bytes[..len - 1]
+            } else {
+                self.bytes
+            },
+        }
+    }
+
     /// How many bytes they are.
     pub fn len(&self) -> usize
         ensures { result ≡ length self.now.bytes }
@@ -89,9 +107,18 @@ impl<'a> Model for SplitAscii<'a> {
 /// parts, and empty bytes one empty part. No character lies over an end of a part.
 ///
 /// Condition: the separator is below 0x80.
+#[tactic(auto, using(crate::proofs::SplitLemmas::split_bytes, crate::proofs::SplitLemmas::split_length, crate::proofs::SplitPlaces::parts_lie, crate::proofs::SplitPlaces::each_lies, crate::proofs::SplitPlaces::each_lies_back, crate::proofs::SplitPlaces::spans_run, crate::proofs::SplitPlaces::spans_run_back))]
 pub fn split_ascii(bytes: &[u8], separator: u8) -> SplitAscii<'_>
     requires ascii { separator < 128 }
     ensures list { result ≡ split_by separator bytes.now }
+    ensures parts { map (λ x. x.bytes) result ≡ parts_by separator bytes.now }
+    ensures split { IsSplit separator bytes.now (parts_by separator bytes.now) }
+    ensures count { length result ≡ count_by (λ x. nat_eq x separator) bytes.now + 1 }
+    ensures places { All (LiesBetween bytes.now) result }
+    ensures items { EachLies NextSpan bytes.now result }
+    ensures items_back { EachLies BackSpan bytes.now result }
+    ensures runs { EveryRun NextSpan (λ p. Gives p p.from) }
+    ensures runs_back { EveryRun BackSpan (λ p. GivesReversed p p.from) }
 {
     SplitAscii {
         start: 0,
@@ -102,6 +129,14 @@ pub fn split_ascii(bytes: &[u8], separator: u8) -> SplitAscii<'_>
 }
 
 impl<'a> SplitAscii<'a> {
+    // Whether all parts were given.
+    #[tactic(auto, using(crate::proofs::SplitLemmas::done_left))]
+    pub(crate) fn is_done(&self) -> bool
+        ensures { result ≡ nat_eq (length self.now) 0 }
+    {
+        self.done
+    }
+
     // No parts.
     pub(crate) fn no_parts() -> SplitAscii<'a>
         ensures { result ≡ [] }
