@@ -1,7 +1,8 @@
 -- The parts of a list: taken from the front and from the back, and what they are together.
-use Rattle.std.proofs.Common.{◌≡◌, ℕ, zero, suc, ◌+◌, ◌-◌, ◌<◌, ◌≤◌, Bool, true, false, nat_eq, count_by, List, [], ◌∷◌, ◌++◌, length, take, drop, map, slice_index_or, refl, ap, sym, subst, ◌∙◌, arith, length-append, length-drop}
+use Rattle.std.proofs.Common.{◌≡◌, ℕ, zero, suc, ◌+◌, ◌-◌, ◌<◌, ◌≤◌, Bool, true, false, nat_eq, count_by, List, [], ◌∷◌, ◌++◌, length, take, drop, map, slice_index_or, refl, ap, sym, subst, ◌∙◌, arith, ne_eqb, length-append, length-drop}
 use Rattle.std.proofs.lemmas.Bool.{eq-eqb}
 use Rattle.std.proofs.lemmas.List.{get_or-drop, length-take-le, take_all, take_rest}
+use Rattle.std.proofs.lemmas.List.Sums.{count_by-le-length}
 use Rattle.std.proofs.lemmas.List.Splits.{join_with_byte-slice_split, length-slice_split, slice_split_at, slice_split_none}
 use Rattle.std.specs.Prelude.{slice_range}
 use Rattle.std.specs.List.{All, IsAfterLastMatch, IsFirstMatchOrLen, join_with_byte, onto_first}
@@ -196,3 +197,17 @@ done_left place xs separator false =
     let some = some_part separator xs in
     let long = placed_length place (parts_by separator xs) in
     sym (ne_eqb (length (placed_from place (parts_by separator xs))) 0 (λ e. absurd (omega arith)))
+
+-- one part at least is left until all were given, and one more than there are bytes at most
+pub some_left : (place : ℕ) (xs : List ℕ) (separator : ℕ) → 1 ≤ length (split_left place xs separator false)
+some_left place xs separator =
+    let some = some_part separator xs in
+    let long = placed_length place (parts_by separator xs) in
+    omega arith
+
+pub few_left : (place : ℕ) (xs : List ℕ) (separator : ℕ) → length (split_left place xs separator false) ≤ length xs + 1
+few_left place xs separator =
+    let long = placed_length place (parts_by separator xs) in
+    let count = length-slice_split (λ x. nat_eq x separator) xs in
+    let most = count_by-le-length (λ x. nat_eq x separator) xs in
+    omega arith

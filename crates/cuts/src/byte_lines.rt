@@ -1,5 +1,5 @@
 //! The lines of bytes that may be damaged, from both ends, with their offsets.
-ghost use Rattle.std.specs.Prelude.{◌≡◌, ◌+◌, ◌≤◌, count_by, length, map, nat_eq};
+ghost use Rattle.std.specs.Prelude.{◌≡◌, ◌+◌, ◌≤◌, ⊤, count_by, length, map, nat_eq};
 ghost use Rattle.std.specs.Iterator.{YieldsFirst, YieldsLast, item_count};
 ghost use Rattle.std.specs.Iterator.Runs.{EveryRun};
 ghost use Rattle.std.specs.List.{All};
@@ -8,6 +8,7 @@ ghost use Rattle.encode_unicode.specs.Pieces.{Gives, GivesReversed};
 ghost use Rattle.cuts.specs.Splits.{BackSpan, EachLies, LiesBetween, NextSpan, ended_line, lines_by};
 
 use crate::splits::{Span, SplitAscii, split_ascii};
+use std::alloc::AllocError;
 use std::marker::Model;
 
 /// The lines of bytes, from both ends: what `lines` makes.
@@ -86,5 +87,19 @@ impl<'a> DoubleEndedIterator for SplitLines<'a> {
         }
         let line = self.parts.next_back()?;
         Some(line.without_return())
+    }
+}
+
+impl<'a> Clone for SplitLines<'a> {
+    ghost is_clone = { λ left copy. copy ≡ left };
+
+    ghost is_infallible = { λ _. ⊤ };
+
+    /// A second iterator over the lines that remain. It never fails.
+    fn clone(&self) -> Result<SplitLines<'a>, AllocError> {
+        Ok(SplitLines {
+            parts: self.parts.clone()?,
+            ended: self.ended,
+        })
     }
 }

@@ -1,8 +1,9 @@
 //! The parts of bytes between ASCII separators, from both ends, with their offsets.
 //!
 //! The bytes may be damaged: a byte below 0x80 is always a character of its own, so no part begins or ends inside of one.
-ghost use Rattle.std.specs.Prelude.{◌≡◌, ◌+◌, ◌<◌, ◌≤◌, ◌^◌, ◌∷◌, ◌++◌, [], count_by, false, length, map, nat_eq};
-ghost use Rattle.std.specs.Iterator.{YieldsFirst, YieldsLast, item_count};
+ghost use Rattle.std.specs.Prelude.{◌≡◌, ◌+◌, ◌<◌, ◌≤◌, ◌^◌, ◌∷◌, ◌++◌, IfSome, [], ⊤, count_by, false, length, map, nat_eq};
+ghost use Rattle.std.specs.Iterator.{UpTo, YieldsFirst, YieldsLast, item_count};
+ghost use Rattle.std.specs.Iterator.SizeHint.{IsWithinCount};
 ghost use Rattle.std.specs.Iterator.Runs.{EveryRun};
 ghost use Rattle.std.specs.List.{All, IsAfterLastMatch, IsFirstMatchOrLen};
 ghost use Rattle.encode_unicode.specs.Pieces.{Gives, GivesReversed};
@@ -80,6 +81,20 @@ impl<'a> Span<'a> {
         ensures { result ≡ nat_eq (length self.now.bytes) 0 }
     {
         self.bytes.is_empty()
+    }
+}
+
+impl<'a> Clone for Span<'a> {
+    ghost is_clone = { λ span copy. copy ≡ span };
+
+    ghost is_infallible = { λ _. ⊤ };
+
+    /// The same span once more. It never fails.
+    fn clone(&self) -> Result<Span<'a>, AllocError> {
+        Ok(Span {
+            start: self.start,
+            bytes: self.bytes,
+        })
     }
 }
 
@@ -166,6 +181,18 @@ impl<'a> Iterator for SplitAscii<'a> {
         *self = others;
         Some(part)
     }
+
+    /// Bounds of how many parts remain: (one until all were given; one more than there are bytes).
+    #[tactic(auto, using(crate::proofs::SplitLemmas::some_left, crate::proofs::SplitLemmas::few_left))]
+    fn size_hint(&self) -> (usize, Option<usize>)
+        ensures lower { IsWithinCount result.0 (item_count (λ left. left) self.now) }
+        ensures upper { IfSome result.1 (UpTo (item_count (λ left. left) self.now)) }
+    {
+        if self.done {
+            return (0, Some(0));
+        }
+        (1, Some(self.rest.len() + 1))
+    }
 }
 
 impl<'a> DoubleEndedIterator for SplitAscii<'a> {
@@ -179,6 +206,22 @@ impl<'a> DoubleEndedIterator for SplitAscii<'a> {
         let (part, others) = last_part(self.start, self.rest, self.separator);
         *self = others;
         Some(part)
+    }
+}
+
+impl<'a> Clone for SplitAscii<'a> {
+    ghost is_clone = { λ left copy. copy ≡ left };
+
+    ghost is_infallible = { λ _. ⊤ };
+
+    /// A second iterator over the parts that remain. It never fails.
+    fn clone(&self) -> Result<SplitAscii<'a>, AllocError> {
+        Ok(SplitAscii {
+            start: self.start,
+            rest: self.rest,
+            separator: self.separator,
+            done: self.done,
+        })
     }
 }
 
