@@ -1,5 +1,5 @@
 -- The lines of some parts: taken from the front and from the back, and that they are std's lines.
-use Rattle.std.proofs.Common.{◌≡◌, ℕ, ◌+◌, ◌<◌, ◌≤◌, Bool, true, false, nat_eq, List, [], ◌∷◌, ◌++◌, length, map, refl, ap, sym, ◌∙◌, arith, append-nil}
+use Rattle.std.proofs.Common.{◌≡◌, ℕ, ◌+◌, ◌<◌, ◌≤◌, Bool, true, false, nat_eq, List, [], ◌∷◌, ◌++◌, length, map, refl, ap, sym, ◌∙◌, arith, append-nil, length-append}
 use Rattle.std.specs.Prelude.{if◌then◌else◌}
 use Rattle.std.specs.Str.Lines.{lines, lines_of_parts}
 use Rattle.cuts.proofs.SplitLemmas.{split_bytes}
@@ -47,3 +47,21 @@ few_lines (x ∷ []) = by_len (nat_eq (length x.bytes) 0)
     by_len true = omega arith
     by_len false = omega arith
 few_lines (x ∷ y ∷ parts) = let rest = few_lines (y ∷ parts) in omega arith
+
+-- how many are left before the last
+all_lines : {s parts : List PlacedBytes} {ended : Bool} (rest : List PlacedBytes) (x : PlacedBytes) → lines_left ended parts ≡ s → ended ≡ false → parts ≡ rest ++ x ∷ [] → lines_of (rest ++ x ∷ []) ≡ s
+all_lines {s} {parts} {ended} rest x view open_end taken = ap lines_of (sym taken) ∙ ap (λ b. lines_left b parts) (sym open_end) ∙ view
+
+pub fewer_before : {s parts : List PlacedBytes} {ended empty : Bool} (rest : List PlacedBytes) (x : PlacedBytes) → lines_left ended parts ≡ s → ended ≡ false → parts ≡ rest ++ x ∷ []
+    → empty ≡ nat_eq (length x.bytes) 0 → empty ≡ false → length (map ended_line rest) < length s
+fewer_before rest x view open_end taken is some =
+    let long = ap length (sym (last_line rest x (sym is ∙ some)) ∙ all_lines rest x view open_end taken) in
+    let both = length-append (map ended_line rest) (x ∷ []) in
+    omega arith
+
+pub fewer_before_empty : {s parts : List PlacedBytes} {ended empty : Bool} (rest others : List PlacedBytes) (x y : PlacedBytes) → lines_left ended parts ≡ s → ended ≡ false → parts ≡ rest ++ x ∷ []
+    → empty ≡ nat_eq (length x.bytes) 0 → empty ≡ true → rest ≡ others ++ y ∷ [] → length (map ended_line others) < length s
+fewer_before_empty rest others x y view open_end taken is none line =
+    let long = ap length (sym (ended_push others y) ∙ ap (map ended_line) (sym line) ∙ sym (no_last_line rest x (sym is ∙ none)) ∙ all_lines rest x view open_end taken) in
+    let both = length-append (map ended_line others) (ended_line y ∷ []) in
+    omega arith

@@ -82,11 +82,11 @@ impl<'a> DoubleEndedIterator for SplitLines<'a> {
             return Some(part.without_return());
         }
         self.ended = true;
-        if !part.is_empty() {
-            return Some(part);
+        if part.is_empty() {
+            let line = self.parts.next_back()?;
+            return Some(line.without_return());
         }
-        let line = self.parts.next_back()?;
-        Some(line.without_return())
+        Some(part)
     }
 }
 
