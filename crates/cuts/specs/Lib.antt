@@ -1,5 +1,6 @@
 pub mod Items
 pub mod PieceBoundaries
+pub mod Splits
 pub mod Collected
 pub mod EqualRuns
 pub mod ForwardRuns

@@ -10,6 +10,7 @@ ghost use Rattle.encode_unicode.specs.Mergers.{merged};
 ghost use Rattle.encode_unicode.specs.Pieces.{pieces};
 ghost use Rattle.cuts.specs.ForwardRuns.{PiecesAreTheRun, TextHasNoFault, fault_count};
 ghost use Rattle.cuts.specs.EqualRuns.{OneRun, OneMergedRun};
+ghost use Rattle.cuts.specs.Splits.{OneSplit};
 ghost use Rattle.utf_base.specs.Code.{utf8, utf16};
 ghost use Rattle.utf_base.specs.Kinds.{fault_kind, merger_kind};
 ghost use Rattle.utf_base.specs.Units.{unit_fault_kind};
@@ -53,4 +54,10 @@ pub fn merged_is_all_characters(bytes: &[u8])
 pub fn pieces_back_are_the_pieces(bytes: &[u8])
     ensures turned { AreTurned (pieces_back bytes.now) (pieces bytes.now) }
     ensures faults { fault_count (pieces_back bytes.now) ≡ fault_count (pieces bytes.now) }
+{}
+
+/// Parts without the separator that are the bytes, joined by it, are those that `split_ascii` gives.
+#[tactic(auto, using(crate::proofs::SplitLemmas::one_split))]
+pub fn split_is_unique()
+    ensures { OneSplit }
 {}
