@@ -184,6 +184,9 @@ module _ (room rest : List ℕ) (place wrote : ℕ) (le : place ≤ length room)
   front_len : length (take place room) ≡ place
   front_len = length-take place room ∙ omega arith
 
+  pub length_both : length (put_mid place (length room - place) room rest) ≡ length room
+  length_both = omega (arith, ap length put_rest, length-append (take place room) rest, front_len)
+
   pub written_both : take (place + wrote) (put_mid place (length room - place) room rest) ≡ take place room ++ take wrote rest
   written_both = ap (take (place + wrote)) put_rest ∙ take_more (take place room) rest place wrote front_len
 
