@@ -91,7 +91,7 @@ byte_alone can_next remaining steps first old s e (Err k) can few alone j = reco
 
 completes_ok : {S : Type 0} (can_next : S → Type 0) (remaining : S → Count) (steps : S → Option ℕ → S → Type 0) (first : ℕ) (old bytes : List ℕ) (c : ℕ) (s t : S) (e f : Bool) (new : List ℕ)
     → IsScalar c → bytes ≡ padded 4 (utf8 c) → Answers utf8 merger_kind can_next remaining steps first old s e (Ok c) new t f
-    → Completes can_next remaining steps first old s e (Ok bytes) new t f
+    → Completes can_next remaining steps first (record { held = old; ended = e }) s (Ok bytes) (record { held = new; ended = f }) t
 completes_ok can_next remaining steps first old bytes c s t e f new scalar same a = record {
   answers = (IsPadded_padded bytes c scalar same, rw (value_padded bytes c scalar same) a);
   held = rw a.clear held_none;
@@ -99,7 +99,7 @@ completes_ok can_next remaining steps first old bytes c s t e f new scalar same 
 
 pub alone_completes : {S : Type 0} (can_next : S → Type 0) (remaining : S → Count) (steps : S → Option ℕ → S → Type 0) (first c : ℕ) (old : List ℕ) (s : S) (e : Bool)
     → (e ≡ false → can_next s) → asked first ≤ 1 → (is_continuation first ≡ false → old ≡ []) → JudgesBytes (first ∷ []) (Ok c)
-    → Completes can_next remaining steps first old s e (Ok (first ∷ 0 ∷ 0 ∷ 0 ∷ [])) old s e
+    → Completes can_next remaining steps first (record { held = old; ended = e }) s (Ok (first ∷ 0 ∷ 0 ∷ 0 ∷ [])) (record { held = old; ended = e }) s
 unfolding padded
 alone_completes can_next remaining steps first c old s e can few alone j =
     let same : first ∷ 0 ∷ 0 ∷ 0 ∷ [] ≡ padded 4 (utf8 c) = rw (← j.1) refl in
@@ -107,7 +107,7 @@ alone_completes can_next remaining steps first c old s e can few alone j =
 
 pub alone_fails : {S : Type 0} (can_next : S → Type 0) (remaining : S → Count) (steps : S → Option ℕ → S → Type 0) (first : ℕ) (k : Utf8ErrorKind) (old : List ℕ) (s : S) (e : Bool)
     → (e ≡ false → can_next s) → asked first ≤ 1 → (is_continuation first ≡ false → old ≡ []) → IsHeldBytes old → JudgesBytes (first ∷ []) (Err k)
-    → Completes can_next remaining steps first old s e (Err k) old s e
+    → Completes can_next remaining steps first (record { held = old; ended = e }) s (Err k) (record { held = old; ended = e }) s
 alone_fails can_next remaining steps first k old s e can few alone held j = record { answers = byte_alone can_next remaining steps first old s e (Err k) can few alone j; held = held }
 
 pub begins_alone : (b : ℕ) → 0xC2 ≤ b → is_continuation b ≡ false
@@ -118,7 +118,7 @@ begins_alone b h = grind (arith, common_steps)
 -- a code, whose last byte is b
 pub code_after : {S : Type 0} (can_next : S → Type 0) (remaining : S → Count) (steps : S → Option ℕ → S → Type 0) (first : ℕ) (before : List ℕ) (b c : ℕ) (bytes : List ℕ) (u t : S) (new : List ℕ) (f : Bool)
     → Reads can_next remaining steps u false (b ∷ []) t false → IsScalar c → first ∷ before ++ b ∷ [] ≡ utf8 c → bytes ≡ padded 4 (utf8 c) → new ≡ [] → f ≡ false
-    → CompletesAfter can_next remaining steps first before u (Ok bytes) new t f
+    → CompletesAfter can_next remaining steps first before u (Ok bytes) (record { held = new; ended = f }) t
 code_after can_next remaining steps first before b c bytes u t new f reads scalar code same none going s so_far =
     completes_ok can_next remaining steps first [] bytes c s t false f new scalar same
     (record {
@@ -132,7 +132,7 @@ code_after can_next remaining steps first before b c bytes u t new f reads scala
 -- no code, as the byte b shows, which is held after the others
 pub fault_after : {S : Type 0} (can_next : S → Type 0) (remaining : S → Count) (steps : S → Option ℕ → S → Type 0) (first : ℕ) (before : List ℕ) (b : ℕ) (k : Utf8ErrorKind) (u t : S) (new : List ℕ) (f : Bool)
     → Reads can_next remaining steps u false (b ∷ []) t false → ((later : List ℕ) → merger_kind (first ∷ (before ++ b ∷ []) ++ later) ≡ Some k) → IsHeldBytes (before ++ b ∷ []) → new ≡ before ++ b ∷ [] → f ≡ false
-    → CompletesAfter can_next remaining steps first before u (Err k) new t f
+    → CompletesAfter can_next remaining steps first before u (Err k) (record { held = new; ended = f }) t
 fault_after can_next remaining steps first before b k u t new f reads kind held same going s so_far =
     let len : length new ≡ length (before ++ b ∷ []) = ap length same in
     record {
@@ -149,7 +149,7 @@ fault_after can_next remaining steps first before b k u t new f reads kind held 
 -- no code, since the source has ended
 pub end_after : {S : Type 0} (can_next : S → Type 0) (remaining : S → Count) (steps : S → Option ℕ → S → Type 0) (first : ℕ) (before : List ℕ) (k : Utf8ErrorKind) (u t : S) (new : List ℕ) (f : Bool)
     → Reads can_next remaining steps u false [] t true → merger_kind (first ∷ before) ≡ Some k → IsHeldBytes before → new ≡ before → f ≡ true
-    → CompletesAfter can_next remaining steps first before u (Err k) new t f
+    → CompletesAfter can_next remaining steps first before u (Err k) (record { held = new; ended = f }) t
 end_after can_next remaining steps first before k u t new f reads kind held same mark s so_far =
     let len : length new ≡ length before = ap length same in
     record {
@@ -169,7 +169,7 @@ end_after can_next remaining steps first before k u t new f reads kind held same
 -- of a first byte that is after the end itself
 pub end_at_once : {S : Type 0} (can_next : S → Type 0) (remaining : S → Count) (steps : S → Option ℕ → S → Type 0) (first : ℕ) (old : List ℕ) (s : S) (e : Bool)
     → e ≡ true → 1 < asked first → old ≡ []
-    → Completes can_next remaining steps first old s e (Err TooFewBytes) old s e
+    → Completes can_next remaining steps first (record { held = old; ended = e }) s (Err TooFewBytes) (record { held = old; ended = e }) s
 end_at_once can_next remaining steps first old s e mark asks none = record {
   answers = record {
     more = [];
@@ -200,7 +200,7 @@ four_padded a b d g c e = rw (← e) refl
 -- The character of four bytes that are its own.
 
 pub known_bytes : {S : Type 0} (can_next : S → Type 0) (remaining : S → Count) (steps : S → Option ℕ → S → Type 0) (first : ℕ) (bytes old : List ℕ) (c : ℕ) (s t : S) (e f : Bool) (new : List ℕ)
-    → Completes can_next remaining steps first old s e (Ok bytes) new t f → decoded_bytes bytes ≡ Ok c
+    → Completes can_next remaining steps first (record { held = old; ended = e }) s (Ok bytes) (record { held = new; ended = f }) t → decoded_bytes bytes ≡ Ok c
     → Answers utf8 merger_kind can_next remaining steps first old s e (Ok c) new t f
 unfolding decoded_bytes
 known_bytes can_next remaining steps first bytes old c s t e f new h known =

@@ -3,6 +3,7 @@ use Rattle.std.proofs.Common.{◌≡◌, ℕ, suc, subst, List, [], ◌∷◌, �
 use Rattle.std.specs.Iterator.{Count, MakesProgress, Yields}
 use Rattle.std.specs.Prelude.{Option, Result, MatchOption}
 use Rattle.utf_base.specs.Decoded.{unless_fault}
+use Rattle.encode_unicode.specs.HeldWord.{Kept}
 use Rattle.encode_unicode.specs.Mergers.{Gave, Merging, MergerNext, TakesFront, still, unread_count}
 use Rattle.encode_unicode.specs.Reading.{Answers, Reads, TakesFirst}
 
@@ -101,7 +102,7 @@ merger_nearer code kind can_next remaining steps held xs s u t e d f first old r
 
 pub takes_held : {S : Type 0} (Held : List ℕ → Type 0) (can_next : S → Type 0) (remaining : S → Count) (steps : S → Option ℕ → S → Type 0) (old : List ℕ) (s : S) (e : Bool) (r : Option ℕ) (new : List ℕ) (f : Bool)
     → (e ≡ false → can_next s) → (old ≡ [] → e ≡ true) → f ≡ e → MatchOption r ((old ≡ []) × (new ≡ [])) (λ x. old ≡ x ∷ new) → Held new
-    → TakesFirst Held can_next remaining steps old s e r new s f
+    → TakesFirst Held can_next remaining steps (record { held = old; ended = e }) s r (record { held = new; ended = f }) s
 takes_held Held can_next remaining steps old s e None new f can busy same h keeps = (rw same (reads_none can_next remaining steps s e can), h.0, h.1, same ∙ busy h.0)
 takes_held Held can_next remaining steps old s e (Some x) new f can busy same h keeps = record {
   more = [];
@@ -111,19 +112,19 @@ takes_held Held can_next remaining steps old s e (Some x) new f can busy same h 
 }
 
 -- once it has left, there is less to come
-pub first_nearer : {S : Type 0} (Held : List ℕ → Type 0) (can_next : S → Type 0) (remaining : S → Count) (steps : S → Option ℕ → S → Type 0) (old : List ℕ) (s : S) (e : Bool) (r : Option ℕ) (new : List ℕ) (t : S) (f : Bool)
-    → TakesFirst Held can_next remaining steps old s e r new t f
-    → MakesProgress (λ (m : Merging S). m.ended ≡ false → can_next m.source) (unread_count remaining) (record { held = old; source = s; ended = e }) r (record { held = new; source = t; ended = f })
-first_nearer Held can_next remaining steps old s e None new t f h = record {
+pub first_nearer : {S : Type 0} (Held : List ℕ → Type 0) (can_next : S → Type 0) (remaining : S → Count) (steps : S → Option ℕ → S → Type 0) (k : Kept) (s : S) (r : Option ℕ) (l : Kept) (t : S)
+    → TakesFirst Held can_next remaining steps k s r l t
+    → MakesProgress (λ (m : Merging S). m.ended ≡ false → can_next m.source) (unread_count remaining) (record { held = k.held; source = s; ended = k.ended }) r (record { held = l.held; source = t; ended = l.ended })
+first_nearer Held can_next remaining steps k s None l t h = record {
   on = λ finite. tt;
   keeps = tt;
   rests = λ finite. (h.0.fewer finite).0;
 }
-first_nearer Held can_next remaining steps old s e (Some x) new t f h = record {
+first_nearer Held can_next remaining steps k s (Some x) l t h = record {
   on = λ finite.
       let read = h.reads.fewer finite in
-      let len : length (old ++ h.more) ≡ suc (length new) = ap length h.begins in
-      let both = length-append old h.more in
+      let len : length (k.held ++ h.more) ≡ suc (length l.held) = ap length h.begins in
+      let both = length-append k.held h.more in
       (h.reads.can, read.0, omega arith);
   keeps = h.reads.can;
   rests = λ finite. tt;
