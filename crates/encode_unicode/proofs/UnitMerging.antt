@@ -52,7 +52,7 @@ unit_stands can_next remaining steps first s new f can none going fits plain =
     units_answer can_next remaining steps first 0 first s s new f (own first plain) (unit_value-unit (first ∷ 0 ∷ []) lead)
     (record {
       more = [];
-      reads = rw going (reads_none can_next remaining steps s false (λ _. can));
+      reads = rw going (reads_none (λ _. can));
       settles = λ later ends. (char.0, rw none (ap (λ xs. xs ++ later) (sym char.1)));
       few = rw none (omega arith);
       clear = none;
@@ -69,7 +69,7 @@ pub unit_trails : {S : Type 0} (can_next : S → Type 0) (remaining : S → Coun
     → CompletesUnits can_next remaining steps first s (Err UnexpectedTrailingSurrogate) (record { held = new; ended = f }) s
 unit_trails can_next remaining steps first s new f can none going trail = record {
   more = [];
-  reads = rw going (reads_none can_next remaining steps s false (λ _. can));
+  reads = rw going (reads_none (λ _. can));
   settles = λ later ends. (kind_of_trailing first later trail, rw none refl);
   few = rw none (omega arith);
   clear = tt;
@@ -121,10 +121,10 @@ unit_unmatched can_next remaining steps first second s t new f lead trail reads 
 
 -- The character of two units that are its own.
 
-pub known_units : {S : Type 0} (can_next : S → Type 0) (remaining : S → Count) (steps : S → Option ℕ → S → Type 0) (first second c : ℕ) (s t : S) (new : List ℕ) (f : Bool)
+pub known_units : {S : Type 0} {can_next : S → Type 0} {remaining : S → Count} {steps : S → Option ℕ → S → Type 0} {first : ℕ} (second : ℕ) {c : ℕ} {s t : S} {new : List ℕ} {f : Bool}
     → CompletesUnits can_next remaining steps first s (Ok second) (record { held = new; ended = f }) t → decoded_two (first ∷ second ∷ []) ≡ Ok c
     → Answers utf16 unit_fault_kind can_next remaining steps first [] s false (Ok c) new t f
 unfolding decoded_two
-known_units can_next remaining steps first second c s t new f h known =
+known_units {S} {can_next} {remaining} {steps} {first} second {c} h known =
     let is : unit_value (first ∷ second ∷ []) ≡ c = value_of_answer (array_fault first second) _ c known in
     rw (← is) h.1
