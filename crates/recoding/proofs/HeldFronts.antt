@@ -54,7 +54,7 @@ reads_code Utf16Be s h = units_of_code true s h
 
 -- A front of a code shows U+FFFD first.
 
-no_code_in_front : (code : ℕ → List ℕ) → IsCode code → (w : List ℕ) (t s : ℕ) → IsScalar t → length w < length (code t) → take (length w) (code t) ≡ w → Stands code w 0 s → ⊥
+pub no_code_in_front : (code : ℕ → List ℕ) → IsCode code → (w : List ℕ) (t s : ℕ) → IsScalar t → length w < length (code t) → take (length w) (code t) ≡ w → Stands code w 0 s → ⊥
 no_code_in_front code c w t s scalar longer front h =
     let some = c.some s h.scalar in
     let within = h.within in

@@ -16,12 +16,14 @@ pub mod Listed
 pub mod NarrowedUnits
 pub mod OutputRuns
 pub mod PartLaws
+pub mod PartLists
 pub mod Recodes
 pub mod RecodedLists
 pub mod RoomLemmas
 pub mod RoomRuns
 pub mod ShardEnds
 pub mod StrictSteps
+pub mod SubpartLengths
 pub mod SwappedRuns
 pub mod TextLaws
 pub mod TextRuns

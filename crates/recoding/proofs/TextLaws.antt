@@ -38,7 +38,7 @@ units_show high cs all later ss (ts, r, f) = (
 written_show : (high : Bool) (from : Form) (cs : List ℕ) → IsUnits high from → All IsScalar cs → ShowsEach (Reads from) (flat_map (written from) cs) cs
 written_show high from cs form all = rw (all_written high from cs form) (as_read high from (flat_map (bytes_of high) (flat_map utf16 cs)) cs form (units_show high cs all))
 
-text_shows : (from : Form) (cs : List ℕ) → All IsScalar cs → ShowsEach (Reads from) (flat_map (written from) cs) cs
+pub text_shows : (from : Form) (cs : List ℕ) → All IsScalar cs → ShowsEach (Reads from) (flat_map (written from) cs) cs
 text_shows Utf8 cs all = shows_each cs all
 text_shows Utf16Le cs all = written_show false Utf16Le cs refl all
 text_shows Utf16Be cs all = written_show true Utf16Be cs refl all

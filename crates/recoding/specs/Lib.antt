@@ -13,3 +13,4 @@ pub mod Undecided
 pub mod FilledRooms
 pub mod Boundaries
 pub mod Strict
+pub mod Lossy
