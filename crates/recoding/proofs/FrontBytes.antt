@@ -167,7 +167,7 @@ Decides-pair high w s four scalar e =
     (whole_code_shows_first utf16 utf16_is_code (first_unit high w ∷ second_unit high w ∷ []) (units_of high (drop 4 w ++ later)) s ts scalar e r))
 
 -- a unit that begins no code, whatever follows the bytes
-fault_of_unit : (high : Bool) (w : List ℕ) → 2 ≤ length w
+pub fault_of_unit : (high : Bool) (w : List ℕ) → 2 ≤ length w
     → ((later : List ℕ) (s : ℕ) → Stands utf16 (first_unit high w ∷ units_of high (drop 2 w ++ later)) 0 s → ⊥) → Decides (ShowsUnits high) w 0xFFFD 2
 fault_of_unit high w two none =
     decides_units high w 0xFFFD 2 (lit< tt) two replacement (λ later. odd_two w later two)

@@ -187,11 +187,11 @@ leading_where_alone true l h = cc
 leading_where_alone false true h = refl
 leading_where_alone false false h = cc
 
-leading_by_itself : (u : ℕ) → unit_fault_kind (u ∷ []) ≡ Some Incomplete → is_leading_surrogate u ≡ true
+pub leading_by_itself : (u : ℕ) → unit_fault_kind (u ∷ []) ≡ Some Incomplete → is_leading_surrogate u ≡ true
 unfolding unit_fault_kind
 leading_by_itself u h = leading_where_alone (is_trailing_surrogate u) (is_leading_surrogate u) h
 
-two_do_not_lack : (u v : ℕ) (us : List ℕ) → unit_fault_kind (u ∷ v ∷ us) ≡ Some Incomplete → ⊥
+pub two_do_not_lack : (u v : ℕ) (us : List ℕ) → unit_fault_kind (u ∷ v ∷ us) ≡ Some Incomplete → ⊥
 unfolding unit_fault_kind
 two_do_not_lack u v us h = grind (arith, common_steps)
 

@@ -5,6 +5,7 @@ pub mod CopiedUnits
 pub mod Earliest
 pub mod EnoughRoom
 pub mod FedParts
+pub mod FirstParts
 pub mod FirstPieces
 pub mod FrontBytes
 pub mod GivenBytes
@@ -13,10 +14,10 @@ pub mod HeldFronts
 pub mod Growing
 pub mod JoinedShards
 pub mod Listed
+pub mod LossyLists
 pub mod NarrowedUnits
 pub mod OutputRuns
 pub mod PartLaws
-pub mod PartLists
 pub mod Recodes
 pub mod RecodedLists
 pub mod RoomLemmas

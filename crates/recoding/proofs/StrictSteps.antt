@@ -84,7 +84,7 @@ RecodesText-char f len d fills = RecodesText-run f len (RunsStrictly-char d fill
 
 -- How much room a text takes.
 
-wide_written : (from : Form) (s : ℕ) → 0x1_0000 ≤ s → 2 ≤ length (written from s)
+pub wide_written : (from : Form) (s : ℕ) → 0x1_0000 ≤ s → 2 ≤ length (written from s)
 wide_written Utf8 s high = let len : length (written Utf8 s) ≡ 4 = ap length (utf8-4 s high) in omega arith
 wide_written Utf16Le s high = rw (utf16-2 s high) (lit< tt)
 wide_written Utf16Be s high = rw (utf16-2 s high) (lit< tt)

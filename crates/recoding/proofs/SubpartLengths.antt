@@ -12,7 +12,7 @@ use Rattle.utf_base.proofs.FrontLemmas.{asked_cases, asked-3, asked-4, code_wher
 use Rattle.utf_base.proofs.GrammarLemmas.{char_encodes}
 use Rattle.utf_base.proofs.Standing.{stands_alone, stands_first}
 use Rattle.utf_base.proofs.Utf8Code.{length_utf8}
-use Rattle.recoding.specs.Lossy.{BeginsLongCode, BeginsNoCode, BeginsSubpart}
+use Rattle.recoding.specs.Lossy.{BeginsLongCode, BeginsNoCode, BeginsSubpart, ThirdContinues}
 use Rattle.recoding.specs.Recoded.{IsProperFront}
 use Rattle.recoding.specs.ShownFronts.{MayBeSecond}
 use Rattle.recoding.proofs.CodeFronts.{Followed, followed_in_three, followed_in_four, front_of_two, front_of_three, three_are_char}
@@ -118,7 +118,7 @@ front_two [] later b = let two = b.two in absurd (omega arith)
 front_two (a ∷ []) later b = let two = b.two in absurd (omega arith)
 front_two (a ∷ b ∷ w) later l = front_from (a ∷ b ∷ []) (front_of_two a b (asks_for_three a l.low l.high) l.second)
 
-pub subpart_of_two : (w : List ℕ) → BeginsNoCode w → BeginsLongCode w → (2 < length w → (0x80 ≤ get_or w 2 0) × (get_or w 2 0 < 0xC0) → ⊥) → BeginsSubpart w 2
+pub subpart_of_two : (w : List ℕ) → BeginsNoCode w → BeginsLongCode w → (ThirdContinues w → ⊥) → BeginsSubpart w 2
 subpart_of_two w none long short later =
     let two = long.two in
     record {
@@ -129,7 +129,7 @@ subpart_of_two w none long short later =
       longest = λ k fits f.
           let g = fronted w later k none fits f in
           let within = g.within in
-          ⊎_elim (λ (lt : 2 < k). absurd (short (omega arith) (third_of_front w k g lt))) (λ (le : k ≤ 2). le) (cases_lt 2 k);
+          ⊎_elim (λ (lt : 2 < k). let third = third_of_front w k g lt in absurd (short (omega arith, third.0, third.1))) (λ (le : k ≤ 2). le) (cases_lt 2 k);
     }
 
 front_three : (w later : List ℕ) → BeginsNoCode w → 2 < length w → BeginsLongCode w → 0x80 ≤ get_or w 2 0 → get_or w 2 0 < 0xC0 → IsFrontOfCode utf8 (slice_range (w ++ later) 0 3)
@@ -144,11 +144,11 @@ front_three (a ∷ b ∷ c ∷ w) later none three l low high =
     (λ (ge : 0xF0 ≤ a). front_from (a ∷ b ∷ c ∷ []) (front_of_three a b c (omega (arith, asked-4 a ge l.high)) l.second low high))
     (cases_lt a 0xF0)
 
-pub subpart_of_three : (w : List ℕ) → BeginsNoCode w → BeginsLongCode w → 2 < length w → (0x80 ≤ get_or w 2 0) × (get_or w 2 0 < 0xC0) → BeginsSubpart w 3
-subpart_of_three w none long three third later = record {
-  offset = record { within = omega (arith, length-append w later); none = none later };
+pub subpart_of_three : (w : List ℕ) → BeginsNoCode w → BeginsLongCode w → ThirdContinues w → BeginsSubpart w 3
+subpart_of_three w none long third later = record {
+  offset = record { within = omega (arith, third.0, length-append w later); none = none later };
   some = omega arith;
-  within = omega (arith, length-append w later);
-  front = λ more. front_three w later none three long third.0 third.1;
+  within = omega (arith, third.0, length-append w later);
+  front = λ more. front_three w later none third.0 long third.1 third.2;
   longest = λ k fits f. few_in_front w k (fronted w later k none fits f);
 }

@@ -1,21 +1,16 @@
 -- Lossy recoding: each character as it is, and U+FFFD for each maximal subpart of what is none, as the Unicode standard
 -- recommends (chapter 3, D93b and "U+FFFD Substitution of Maximal Subparts") and the decoder of the WHATWG Encoding Standard does.
-use Rattle.std.specs.Prelude.{◌≡◌, ℕ, ◌<◌, ◌≤◌, Bool, true, false, List, ◌++◌, length, flat_map, map, get_or}
+use Rattle.std.specs.Prelude.{◌≡◌, ℕ, ◌<◌, ◌≤◌, Bool, true, false, List, ◌++◌, length, flat_map, get_or}
 use Rattle.utf_base.specs.Code.{utf8, utf16}
-use Rattle.utf_base.specs.Piece.{Piece, Stands}
-use Rattle.utf_base.specs.Shown.{shown}
-use Rattle.utf_base.specs.Subparts.{IsInParts, IsMaximalSubpart}
+use Rattle.utf_base.specs.Piece.{Stands}
+use Rattle.utf_base.specs.Subparts.{IsMaximalSubpart, ShowsParts}
 use Rattle.utf_lanes.specs.BytePairs.{units_of}
 use Rattle.recoding.specs.Recoded.{odd_end, written}
 use Rattle.recoding.specs.ShownFronts.{MayBeSecond}
 use Rattle.recoding.specs.declared.form.Form.{Form}
 use Rattle.recoding.specs.declared.form.Form.TheVariants.{Utf8, Utf16Le, Utf16Be}
 
--- ss are the scalars that the parts of xs show, in order: characters, and U+FFFD for each maximal subpart
-abbrev pub ShowsParts : (ℕ → List ℕ) → List ℕ → List ℕ → Type 0
-ShowsParts code xs ss = (parts : List Piece) × IsInParts code xs parts × (ss ≡ map shown parts)
-
--- the same of the units that bytes make, and U+FFFD for an odd last byte
+-- ss is what the parts of the units that the bytes make show, and U+FFFD for an odd last byte
 abbrev pub ShowsUnitParts : Bool → List ℕ → List ℕ → Type 0
 ShowsUnitParts high_first bytes ss = (ts : List ℕ) × ShowsParts utf16 (units_of high_first bytes) ts × (ss ≡ ts ++ odd_end bytes)
 
@@ -43,3 +38,7 @@ pub record BeginsLongCode (w : List ℕ) : Type 0 where
   pub low : 0xE0 ≤ get_or w 0 0
   pub high : get_or w 0 0 < 0xF5
   pub second : MayBeSecond (get_or w 0 0) (get_or w 1 0)
+
+-- The third byte is a continuation byte.
+abbrev pub ThirdContinues : List ℕ → Type 0
+ThirdContinues w = (2 < length w) × (0x80 ≤ get_or w 2 0) × (get_or w 2 0 < 0xC0)

@@ -323,7 +323,7 @@ impl Recoder {
     }
 
     // Holds what the held bytes and these are together, without so many at the front.
-    fn take_more(&mut self, bytes: &[u8], gone: usize)
+    pub(crate) fn take_more(&mut self, bytes: &[u8], gone: usize)
         requires more { length bytes.now ≤ 3 }
         requires gone { gone ≤ length self.old.held + length bytes.now }
         requires few { length self.old.held + length bytes.now ≤ gone + 3 }

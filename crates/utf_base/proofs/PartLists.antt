@@ -1,29 +1,21 @@
 -- A list in parts: characters and maximal subparts, of which there is one list. All of it is generic in the code.
-use Rattle.std.proofs.Common.{◌≡◌, ◌⊎◌, ℕ, zero, suc, ◌+◌, ◌-◌, ◌<◌, ◌≤◌, inl, inr, ⊎_elim, List, [], ◌∷◌, ◌++◌, length, take, drop, map, arith, refl, ap, ap₂, sym, ◌∙◌, subst, Some, None, Option, length-append, length-drop, length-take}
+use Rattle.std.proofs.Common.{◌≡◌, ◌⊎◌, ℕ, zero, suc, ◌+◌, ◌-◌, ◌<◌, ◌≤◌, inl, inr, ⊎_elim, List, [], ◌∷◌, length, take, drop, map, arith, refl, ap, ap₂, sym, ◌∙◌, subst, Some, None, Option, length-drop}
 use Rattle.std.specs.Prelude.{All, slice_range, unwrap_or}
 use Rattle.std.proofs.lemmas.Bool.{cases_lt}
-use Rattle.std.proofs.lemmas.List.{drop-drop, take_rest}
+use Rattle.std.proofs.lemmas.List.{drop-drop}
 use Rattle.std.proofs.lemmas.List.Elements.{All-nil, All-cons}
 use Rattle.utf_base.specs.Code.{IsCode}
 use Rattle.utf_base.specs.CutLaws.{Follow}
 use Rattle.utf_base.specs.Piece.{Piece, Stands, end_of}
 use Rattle.utf_base.specs.Scalar.{IsScalar}
 use Rattle.utf_base.specs.Shown.{shown}
-use Rattle.utf_base.specs.Subparts.{IsFrontOfCode, IsInParts, IsMaximalSubpart, IsPart, IsUnconvertible}
+use Rattle.utf_base.specs.Subparts.{IsFrontOfCode, IsInParts, IsMaximalSubpart, IsPart, IsUnconvertible, ShowsParts}
 use Rattle.utf_base.proofs.CutChanges.{moved}
 use Rattle.utf_base.proofs.Cuts.{Finds}
-use Rattle.utf_base.proofs.Standing.{same_char, stands_in_part, stands_in_whole}
-use Rattle.recoding.specs.Lossy.{ShowsParts}
+use Rattle.utf_base.proofs.Rests.{shown_of_moved, stands_in_list, stands_in_rest}
+use Rattle.utf_base.proofs.Standing.{same_char}
 
 -- What is a part in what is left of a list is one in the list.
-
-stands_in_list : (code : ℕ → List ℕ) (xs : List ℕ) (n p s : ℕ) → n ≤ length xs → Stands code (drop n xs) p s → Stands code xs (n + p) s
-stands_in_list code xs n p s le h = (stands_in_whole code xs n (length xs) p (n + p) s refl le (omega arith) (rw (take_rest xs n) h)).0
-
-stands_in_rest : (code : ℕ → List ℕ) (xs : List ℕ) (n p s : ℕ) → Stands code xs (n + p) s → Stands code (drop n xs) p s
-stands_in_rest code xs n p s h =
-    let within = h.within in
-    rw (take_rest xs n) at (stands_in_part code xs n (length xs) p (n + p) s refl (omega arith) h within)
 
 same_range : (xs : List ℕ) (n p m : ℕ) → slice_range (drop n xs) p (p + m) ≡ slice_range xs (n + p) (n + p + m)
 same_range xs n p m =
@@ -36,7 +28,7 @@ subpart_in_list code xs n p m le h =
     let inside = h.offset.within in
     let within = h.within in
     record {
-      offset = record { within = omega (arith, length-drop n xs); none = λ s stands. h.offset.none s (stands_in_rest code xs n p s stands) };
+      offset = record { within = omega (arith, length-drop n xs); none = λ s stands. h.offset.none s (stands_in_rest code xs n p (n + p) s refl stands) };
       some = h.some;
       within = omega (arith, length-drop n xs);
       front = λ more. subst (λ w. IsFrontOfCode code w) (same_range xs n p m) (h.front more);
@@ -44,7 +36,7 @@ subpart_in_list code xs n p m le h =
     }
 
 part_in_list : (code : ℕ → List ℕ) (xs : List ℕ) (n p m : ℕ) (a : Option ℕ) → n ≤ length xs → IsPart code (drop n xs) p m a → IsPart code xs (n + p) m a
-part_in_list code xs n p m (Some s) le h = (stands_in_list code xs n p s le h.0, h.1)
+part_in_list code xs n p m (Some s) le h = (stands_in_list code xs n p (n + p) s refl le h.0, h.1)
 part_in_list code xs n p m None le h = subpart_in_list code xs n p m le h
 
 parts_in_list : (code : ℕ → List ℕ) (xs : List ℕ) (n : ℕ) (parts : List Piece) → n ≤ length xs → All (λ x. IsPart code (drop n xs) x.start x.len x.char) parts
@@ -62,10 +54,6 @@ moved_follow n i j (x ∷ parts) f =
     let end : n + (x.start - 0) + x.len ≡ n + (x.start + x.len) = omega arith in
     (start, rw end (moved_follow n (end_of x) j parts f.1))
 
-shown_of_moved : (n : ℕ) (parts : List Piece) → map shown (map (moved 0 n) parts) ≡ map shown parts
-shown_of_moved n [] = refl
-shown_of_moved n (x ∷ parts) = ap (λ ss. unwrap_or x.char 0xFFFD ∷ ss) (shown_of_moved n parts)
-
 -- A part at the front, and what the rest shows.
 pub part_shows_first : (code : ℕ → List ℕ) (xs : List ℕ) (n : ℕ) (a : Option ℕ) (ss : List ℕ) → n ≤ length xs → IsPart code xs 0 n a → ShowsParts code (drop n xs) ss
     → ShowsParts code xs (unwrap_or a 0xFFFD ∷ ss)
@@ -74,8 +62,7 @@ part_shows_first code xs n a ss le h (parts, inside, e) =
     let none : n + 0 ≡ n = omega arith in
     let len : n + length (drop n xs) ≡ length xs = omega (arith, length-drop n xs) in
     let first : 0 + n ≡ n = omega arith in
-    let follow : Follow n (map (moved 0 n) parts) (length xs) = rw (none, len) at (moved_follow n 0 (length (drop n xs)) parts inside.follow) in
-    (
+    let follow : Follow n (map (moved 0 n) parts) (length xs) = rw (none, len) at (moved_follow n 0 (length (drop n xs)) parts inside.follow) in (
       x ∷ map (moved 0 n) parts,
       record {
         each = All-cons (λ y. IsPart code xs y.start y.len y.char) x (map (moved 0 n) parts) h (parts_in_list code xs n parts le inside.each);
@@ -212,8 +199,7 @@ largest P decide (suc n) =
     (λ (none : P (suc (suc n)) → ⊥).
     let rest = largest P decide n in
     let l = rest.1 in
-    let within = l.within in
-    (
+    let within = l.within in (
       rest.0,
       record {
         some = l.some;
@@ -243,9 +229,9 @@ part_begins : (code : ℕ → List ℕ) → Finds code → (xs : List ℕ) (i : 
 part_begins code find xs i lt =
     let none : i + 0 ≡ i = omega arith in
     ⊎_elim
-    (λ (h : (s : ℕ) × Stands code (drop i xs) 0 s). (length (code h.0), Some h.0, (rw none at (stands_in_list code xs i 0 h.0 (omega arith) h.1), refl)))
+    (λ (h : (s : ℕ) × Stands code (drop i xs) 0 s). (length (code h.0), Some h.0, (rw none at (stands_in_list code xs i 0 (i + 0) h.0 refl (omega arith) h.1), refl)))
     (λ (h : (s : ℕ) → Stands code (drop i xs) 0 s → ⊥).
-    let m = some_subpart code xs i (record { within = lt; none = λ s stands. h s (stands_in_rest code xs i 0 s (rw none stands)) }) in
+    let m = some_subpart code xs i (record { within = lt; none = λ s stands. h s (stands_in_rest code xs i 0 (i + 0) s refl (rw none stands)) }) in
     (m.0, None, m.1))
     (find (drop i xs))
 
