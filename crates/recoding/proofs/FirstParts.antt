@@ -1,12 +1,11 @@
 -- The part that begins some bytes, from the piece that does.
-use Rattle.std.proofs.Common.{◌≡◌, ℕ, ◌+◌, ◌<◌, ◌≤◌, ⊎_elim, inl, inr, Bool, true, false, Some, None, Option, List, [], ◌∷◌, ◌++◌, length, min, take, drop, flat_map, arith, refl, ap, sym, ◌∙◌, subst, append_assoc, take-append-drop, length-take, lit<}
+use Rattle.std.proofs.Common.{◌≡◌, ℕ, ◌<◌, ◌≤◌, ⊎_elim, inl, inr, Bool, true, false, Some, None, Option, List, [], ◌∷◌, ◌++◌, length, min, take, drop, arith, refl, ap, sym, ◌∙◌, subst, append_assoc, take-append-drop, length-take, lit<}
 use Rattle.std.specs.Option.{option_map}
 use Rattle.std.proofs.lemmas.Bool.{cases_lt}
 use Rattle.std.proofs.lemmas.List.{append-nil, drop_all}
 use Rattle.std.proofs.lemmas.List.Elements.{All-cons, All-nil}
-use Rattle.utf_base.specs.Code.{utf8, utf16}
+use Rattle.utf_base.specs.Code.{utf8}
 use Rattle.utf_base.specs.Kinds.{fault_kind}
-use Rattle.utf_base.specs.Piece.{Stands}
 use Rattle.utf_base.specs.Scalar.{IsScalar}
 use Rattle.utf_base.specs.Shown.{IsDecided}
 use Rattle.utf_base.specs.Units.{unit_fault_kind}
@@ -23,12 +22,12 @@ use Rattle.recoding.specs.declared.faults.FaultKind.TheVariants as kind
 use Rattle.recoding.specs.declared.form.Form.{Form}
 use Rattle.recoding.specs.declared.form.Form.TheVariants.{Utf8, Utf16Le, Utf16Be}
 use Rattle.recoding.specs.Lossy.{BeginsNoCode, ReadsParts}
-use Rattle.recoding.specs.Recoded.{Lacks, Reads, ShowsUnits, written}
-use Rattle.recoding.specs.ShownFronts.{Decides, Ends, IsUnits, Waits}
+use Rattle.recoding.specs.Recoded.{Lacks, ShowsUnits, written}
+use Rattle.recoding.specs.ShownFronts.{Decides, Ends, Waits}
 use Rattle.recoding.specs.Strict.{AwaitsKind, BeginsChar, BeginsFault}
 use Rattle.recoding.proofs.FrontBytes.{Waits-byte, Waits-leading, fault_of_unit, replacement, units_two}
 use Rattle.recoding.proofs.HeldFronts.{leading_by_itself, two_do_not_lack}
-use Rattle.recoding.proofs.LossyLists.{Decides-alike, Ends-alike, ReadsAlike, alike_be, alike_le, text_shows_parts}
+use Rattle.recoding.proofs.LossyLists.{Decides-alike, Ends-alike, alike_be, alike_le, text_shows_parts}
 use Rattle.recoding.proofs.StrictSteps.{wide_written}
 
 -- A character.

@@ -15,6 +15,7 @@ pub mod Growing
 pub mod JoinedShards
 pub mod Listed
 pub mod LossyLists
+pub mod LossySteps
 pub mod NarrowedUnits
 pub mod OutputRuns
 pub mod PartLaws

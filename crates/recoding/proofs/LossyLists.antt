@@ -1,15 +1,15 @@
 -- What bytes become with one U+FFFD for each maximal subpart: there is one list, and each step gives its front.
-use Rattle.std.proofs.Common.{◌≡◌, ℕ, zero, suc, ◌+◌, ◌-◌, ◌<◌, ◌≤◌, ⊎_elim, Bool, true, false, Some, None, Option, List, [], ◌∷◌, ◌++◌, length, take, drop, map, flat_map, arith, refl, ap, ap₂, sym, ◌∙◌, subst, append_assoc, length-append, length-drop, length-take}
+use Rattle.std.proofs.Common.{◌≡◌, ℕ, suc, ◌+◌, ◌-◌, ◌<◌, ◌≤◌, ⊎_elim, Bool, true, false, Some, None, Option, List, [], ◌∷◌, ◌++◌, length, drop, map, flat_map, arith, refl, ap, ap₂, sym, ◌∙◌, subst, append_assoc, length-append, length-drop, length-take}
 use Rattle.std.specs.Prelude.{All, slice_range}
 use Rattle.std.specs.List.{concat}
 use Rattle.std.proofs.lemmas.Bool.{cases_lt}
-use Rattle.std.proofs.lemmas.List.{append-nil, drop_all, drop-append-le, drop_at, take_all}
+use Rattle.std.proofs.lemmas.List.{drop-append-le, drop_at, take_all}
 use Rattle.std.proofs.lemmas.List.Concat.{flat_map-append}
 use Rattle.utf_base.specs.Code.{utf8, utf16}
 use Rattle.utf_base.specs.Piece.{Piece, Stands}
 use Rattle.utf_base.specs.Scalar.{IsScalar}
 use Rattle.utf_base.specs.Shown.{Shows, shown}
-use Rattle.utf_base.specs.Subparts.{IsFrontOfCode, IsInParts, IsMaximalSubpart, IsPart, ShowsParts, pieces_of}
+use Rattle.utf_base.specs.Subparts.{IsMaximalSubpart, IsPart, ShowsParts, pieces_of}
 use Rattle.utf_base.proofs.FrontLemmas.{utf8_finds}
 use Rattle.utf_base.proofs.Rests.{shows_one}
 use Rattle.utf_base.proofs.Standing.{stands_first}
@@ -22,10 +22,9 @@ use Rattle.recoding.specs.declared.form.Form.{Form}
 use Rattle.recoding.specs.declared.form.Form.TheVariants.{Utf8, Utf16Le, Utf16Be}
 use Rattle.recoding.specs.Lossy.{BeginsSubpart, IsLossy, ReadsParts, ShowsUnitParts}
 use Rattle.recoding.specs.LossyBytes.{AddsEach, LossyIsOne, LossyJoinsFaults, LossyPartsAreOne, LossyUnitsAreRecoded, TextIsLossy, lossy, lossy_outcome, shown_by_parts}
-use Rattle.recoding.specs.Recoded.{IsProperFront, IsRecoded, Reads, Recoding, ShowsUnits, odd_end, written}
+use Rattle.recoding.specs.Recoded.{IsProperFront, Reads, Recoding, ShowsUnits, odd_end, written}
 use Rattle.recoding.specs.RecodedBytes.{recoded}
 use Rattle.recoding.specs.ShownFronts.{Decides, Ends, ShowsEach}
-use Rattle.recoding.specs.Strict.{Transcodes}
 use Rattle.recoding.proofs.FrontBytes.{replacement}
 use Rattle.recoding.proofs.HeldFronts.{no_code_in_front}
 use Rattle.utf_base.proofs.PartLists.{part_shows_first, parts_show_none, parts_show_one, parts_show_some}
@@ -169,8 +168,10 @@ Ends-front w some f = record {
   where
     span : 0 + length w - 0 ≡ length w
     span = omega arith
+
     all : slice_range w 0 (0 + length w) ≡ w
     all = rw span (take_all (length w) w (omega arith))
+
     whole : IsMaximalSubpart utf8 w 0 (length w)
     whole = record {
       offset = record { within = some; none = λ s h. no_code_in_front utf8 utf8_is_code w f.char s f.scalar f.longer f.front h };
@@ -222,8 +223,7 @@ lossy_joins_faults to bytes =
     let r = lossy_is Utf8 to bytes in
     let parts : List Piece = r.1.0 in
     let pieces : List Piece = flat_map (λ x. pieces_of x.start x.len x.char) parts in
-    let cut = parts_become_the_cut utf8 utf8_is_code bytes parts r.1.1 in
-    (
+    let cut = parts_become_the_cut utf8 utf8_is_code bytes parts r.1.1 in (
       parts,
       r.1.1,
       r.2 ∙ ap (flat_map (written to)) r.1.2,

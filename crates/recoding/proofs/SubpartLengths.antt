@@ -7,14 +7,13 @@ use Rattle.utf_base.specs.Code.{utf8}
 use Rattle.utf_base.specs.Kinds.{asked_by}
 use Rattle.utf_base.specs.Piece.{Stands}
 use Rattle.utf_base.specs.Scalar.{IsScalar}
-use Rattle.utf_base.specs.Subparts.{IsFrontOfCode, IsMaximalSubpart}
+use Rattle.utf_base.specs.Subparts.{IsFrontOfCode}
 use Rattle.utf_base.proofs.FrontLemmas.{asked_cases, asked-3, asked-4, code_where_no_fault, decodes_from_stands, no_fault_where_code}
 use Rattle.utf_base.proofs.GrammarLemmas.{char_encodes}
 use Rattle.utf_base.proofs.Standing.{stands_alone, stands_first}
 use Rattle.utf_base.proofs.Utf8Code.{length_utf8}
 use Rattle.recoding.specs.Lossy.{BeginsLongCode, BeginsNoCode, BeginsSubpart, ThirdContinues}
 use Rattle.recoding.specs.Recoded.{IsProperFront}
-use Rattle.recoding.specs.ShownFronts.{MayBeSecond}
 use Rattle.recoding.proofs.CodeFronts.{Followed, followed_in_three, followed_in_four, front_of_two, front_of_three, three_are_char}
 
 -- A front of a code among bytes with which no code begins.

@@ -35,8 +35,8 @@ abbrev pub LossyIsOne : Type 0
 LossyIsOne = (from to : Form) (bytes out : List ℕ) → IsLossy from to bytes out ↔ (out ≡ lossy from to bytes)
 
 -- Whatever follows the bytes, they become `grown`, and then what the held ones do before what follows.
-abbrev pub Becomes : Form → Form → List ℕ → List ℕ → List ℕ → Type 0
-Becomes from to bytes grown held = (later : List ℕ) → lossy from to (bytes ++ later) ≡ grown ++ lossy from to (held ++ later)
+pub record Becomes (from to : Form) (bytes grown held : List ℕ) : Type 0 where
+  pub same : (later : List ℕ) → lossy from to (bytes ++ later) ≡ grown ++ lossy from to (held ++ later)
 
 -- What comes of a recoder.
 

@@ -88,10 +88,7 @@ fn begins_long_code(bytes: &[u8]) -> bool
     ensures yes { IsTrue result → BeginsLongCode bytes.now }
     ensures no { BeginsLongCode bytes.now → IsTrue result }
 {
-    bytes.len() >= 2
-        && bytes[0] >= 0xe0
-        && bytes[0] < 0xf5
-        && may_be_second(bytes[0], bytes[1])
+    bytes.len() >= 2 && bytes[0] >= 0xe0 && bytes[0] < 0xf5 && may_be_second(bytes[0], bytes[1])
 }
 
 // Whether there is a third byte, and it is a continuation byte.

@@ -2,7 +2,7 @@
 ghost use Rattle.std.specs.Prelude.{◌≡◌, [], ◌+◌, ◌-◌, ◌*◌, ◌<◌, ◌≤◌, ◌++◌, length, take, drop, IsTrue, IsFalse};
 ghost use Rattle.recoding.specs.LossyBytes.{AddsAllLossy, AddsLastLossy, AddsLossy, EndsParts, FeedsLossy, FinishesLossy, IsFullLossy, IsLastFullLossy, TakesParts};
 ghost use Rattle.recoding.specs.Recoded.{Lacks};
-ghost use Rattle.recoding.specs.Rooms.{ComesNearer, bytes_left};
+ghost use Rattle.recoding.specs.Rooms.{ComesNearer};
 
 use crate::engine::{Reached, ended, put_fitting};
 use crate::first_parts::last_part;
@@ -51,7 +51,6 @@ impl Recoder {
         ensures short { IsTrue result.is_full → O.room out.new < 4 }
         ensures read { IsFalse result.is_full → result.read ≡ length part.now }
         ensures waits { IsFalse result.is_full → Lacks self.old.from self.new.held }
-        ensures nearer { 0 < length part.now → IsFalse result.is_full → bytes_left part.now result.read self.new < bytes_left part.now 0 self.old }
     {
         let first = self.take_held(part, out);
         if first.is_full || first.is_waiting {

@@ -64,7 +64,8 @@ fn recode_parts<O: Output>(from: Form, to: Form, bytes: &[u8], out: &mut O) -> R
 // The part that begins the held bytes with those that follow them, and how many of those were looked at: no more than tell it.
 // `None` where all of them together are too few.
 pub(crate) fn first_of_both(from: Form, held: &[u8], rest: &[u8]) -> Option<(Part, usize)>
-    requires { length held.now ≤ 3 }
+    requires some { 0 < length held.now }
+    requires few { length held.now ≤ 3 }
     ensures within { IfSome result (λ x. x.1 ≤ length rest.now) }
     ensures decides { IfSome result (λ x. Decides (ReadsParts from) (held.now ++ take x.1 rest.now) (scalar_of x.0) (len_of x.0)) }
     ensures near { IfSome result (λ x. length held.now + x.1 ≤ 4) }

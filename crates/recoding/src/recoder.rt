@@ -1,6 +1,7 @@
 //! Recoding of text that comes in parts, which may be cut anywhere, also inside of a code or of a unit.
 ghost use Rattle.std.specs.Prelude.{◌≡◌, ◌<◌, ◌≤◌, [], ◌+◌, ◌*◌, length, OnOk, OnErr, IsOk, IfErr, vec_len, vec_capacity, ℕ, List, ◌-◌, ◌++◌, take, drop, IsTrue, IsFalse};
 ghost use Rattle.recoding.specs.Recoded.{Feeds, Finishes, Lacks};
+ghost use Rattle.recoding.specs.LossyBytes.{lossy, lossy_outcome};
 ghost use Rattle.recoding.specs.RecodedBytes.{AddsAll, AddsLast, AddsOutcome, KeepsOutcome, outcome, recoded};
 ghost use Rattle.recoding.specs.Rooms.{ComesNearer, FeedsInto, FinishesInto, IsFull, IsLastFull, bytes_left};
 
@@ -58,10 +59,11 @@ impl From<Unfinished> for AllocError {
 
 impl Recoder {
     /// A recoder that holds nothing.
-    #[tactic(auto, unfolding(crate::specs::RecodedBytes::outcome))]
+    #[tactic(auto, unfolding(crate::specs::RecodedBytes::outcome, crate::specs::LossyBytes::lossy_outcome))]
     pub fn new(from: Form, to: Form) -> Recoder
         ensures nothing { result ≡ record { from = from; to = to; held = [] } }
         ensures outcome { (out later : List ℕ) → outcome result out later ≡ out ++ recoded from to later }
+        ensures lossy { (out later : List ℕ) → lossy_outcome result out later ≡ out ++ lossy from to later }
     {
         Recoder {
             count: 0,
@@ -237,7 +239,10 @@ impl Recoder {
     pub(crate) fn forms(&self) -> (Form, Form)
         ensures from { result.0 ≡ self.now.from }
         ensures to { result.1 ≡ self.now.to }
+        ensures few { length self.now.held ≤ 3 }
     {
+        // To read it tells a proof that few bytes are held.
+        let _ = self.count;
         (self.from, self.to)
     }
 

@@ -1,4 +1,4 @@
-use Rattle.recoding.proofs.FirstParts.{Decides-char, Decides-units, lacks_units, no_code_where_begun}
+use Rattle.recoding.proofs.FirstParts.{Decides-char, Decides-units, no_code_where_begun}
 use Rattle.recoding.proofs.LossyLists.{Decides-subpart}
 use Rattle.recoding.proofs.first_parts.first_part.Goals as goal
 

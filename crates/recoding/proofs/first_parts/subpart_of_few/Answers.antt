@@ -1,4 +1,3 @@
-use Rattle.std.proofs.Common.{sym, ◌∙◌, rules}
 use Rattle.recoding.proofs.FirstParts.{no_code_where_decided, some_where_no_code}
 use Rattle.recoding.proofs.LossyLists.{Decides-subpart}
 use Rattle.recoding.proofs.first_parts.subpart_of_few.Goals as goal
