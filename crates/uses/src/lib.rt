@@ -22,6 +22,7 @@ pub mod equals;
 pub mod lengths;
 pub mod listed;
 pub mod loops;
+pub mod lossy;
 pub mod merged;
 pub mod merges;
 pub mod names;
