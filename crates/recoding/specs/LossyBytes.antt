@@ -131,7 +131,7 @@ abbrev pub LossyPartsAreOne : Type 0
 LossyPartsAreOne =
     (from to : Form) (parts : List (List ℕ)) (out : List ℕ) → AddsEach (record { from = from; to = to; held = [] }) parts [] out → out ≡ lossy from to (concat parts)
 
--- of UTF-16 each maximal subpart is one unit, or an odd byte: so it is the same as where each invalid one is replaced
+-- of UTF-16 each maximal subpart is one unit, or an odd byte: so it is the same as where each fault is replaced
 abbrev pub LossyUnitsAreRecoded : Type 0
 LossyUnitsAreRecoded = (to : Form) (bytes : List ℕ) → (lossy Utf16Le to bytes ≡ recoded Utf16Le to bytes) × (lossy Utf16Be to bytes ≡ recoded Utf16Be to bytes)
 
