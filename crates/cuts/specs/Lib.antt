@@ -20,6 +20,8 @@ pub mod Endings
 pub use Rattle.recoding.specs.Recoded
 pub use Rattle.recoding.specs.RecodedBytes
 pub use Rattle.recoding.specs.Faults
+pub use Rattle.recoding.specs.Lossy
+pub use Rattle.recoding.specs.LossyBytes
 pub use Rattle.recoding.specs.Rooms
 pub use Rattle.recoding.specs.Bounds
 pub use Rattle.recoding.specs.Fed

@@ -1,7 +1,8 @@
 //! Recoding of text that comes in parts, which may be cut anywhere, also inside of a code or of a unit.
-ghost use Rattle.std.specs.Prelude.{◌≡◌, ◌<◌, ◌≤◌, [], ◌+◌, ◌*◌, ◌^◌, min, length, OnOk, OnErr, IsOk, IfErr, IfOk, vec_len, vec_capacity, ℕ, List, ◌-◌, ◌++◌, take, drop, IsTrue, IsFalse};
+ghost use Rattle.std.specs.Prelude.{◌≡◌, ◌<◌, ◌≤◌, [], ◌+◌, ◌*◌, ◌^◌, min, length, OnOk, OnErr, IsOk, IfErr, vec_len, vec_capacity, ℕ, List, ◌-◌, ◌++◌, take, drop, IsTrue, IsFalse};
 ghost use Rattle.recoding.specs.Recoded.{Feeds, Finishes, Lacks, fresh};
 ghost use Rattle.recoding.specs.Faults.{AddsUp, CountsFed, KeepsCount, Replaces, ReplacesLast, fault_count, replaced_in_all};
+ghost use Rattle.recoding.specs.LossyBytes.{lossy, lossy_outcome};
 ghost use Rattle.recoding.specs.RecodedBytes.{AddsAll, AddsLast, AddsOutcome, KeepsOutcome, outcome, recoded};
 ghost use Rattle.recoding.specs.Rooms.{ComesNearer, FeedsInto, FinishesInto, IsFull, IsLastFull, bytes_left};
 
@@ -60,11 +61,12 @@ impl From<Unfinished> for AllocError {
 
 impl Recoder {
     /// A recoder that holds nothing and has replaced nothing.
-    #[tactic(auto, unfolding(crate::specs::RecodedBytes::outcome, crate::specs::Faults::replaced_in_all))]
+    #[tactic(auto, unfolding(crate::specs::RecodedBytes::outcome, crate::specs::Faults::replaced_in_all, crate::specs::LossyBytes::lossy_outcome))]
     pub fn new(from: Form, to: Form) -> Recoder
         ensures nothing { result ≡ fresh from to }
         ensures outcome { (out later : List ℕ) → outcome result out later ≡ out ++ recoded from to later }
         ensures counts { (later : List ℕ) → replaced_in_all result later ≡ min (2 ^ 64 - 1) (fault_count from later) }
+        ensures lossy { (out later : List ℕ) → lossy_outcome result out later ≡ out ++ lossy from to later }
     {
         Recoder {
             count: 0,
@@ -257,7 +259,10 @@ impl Recoder {
     pub(crate) fn forms(&self) -> (Form, Form)
         ensures from { result.0 ≡ self.now.from }
         ensures to { result.1 ≡ self.now.to }
+        ensures few { length self.now.held ≤ 3 }
     {
+        // To read it tells a proof that few bytes are held.
+        let _ = self.count;
         (self.from, self.to)
     }
 
@@ -273,8 +278,8 @@ impl Recoder {
     /// surrogates and odd last bytes of UTF-16. A U+FFFD that stood in the input does not count. At
     /// 2^64 - 1 the count stays as it is.
     ///
-    /// `feed`, `feed_into` and `finish_into` count, and `finish` returns the count; the calls that stop at the first invalid byte
-    /// replace nothing.
+    /// `feed`, `feed_into` and `finish_into` count. The calls that stop at the first invalid byte
+    /// replace nothing, and the lossy ones do not count.
     pub fn replaced(&self) -> u64
         ensures { result ≡ self.now.replaced }
     {

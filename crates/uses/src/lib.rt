@@ -23,6 +23,7 @@ pub mod fields;
 pub mod lengths;
 pub mod listed;
 pub mod loops;
+pub mod lossy;
 pub mod merged;
 pub mod merges;
 pub mod names;
