@@ -26,6 +26,16 @@ extern "C" {
         answers: *mut u8,
         room: usize,
     ) -> usize;
+    fn compare_c_recode_lossy(
+        from: u32,
+        to: u32,
+        src: *const u8,
+        len: usize,
+        calls: *const u32,
+        count: usize,
+        answers: *mut u8,
+        room: usize,
+    ) -> usize;
     fn compare_c_valid_up_to(src: *const u8, len: usize) -> usize;
     fn compare_c_units_valid_up_to(src: *const u16, len: usize) -> usize;
     fn compare_c_shard_end(from: u32, src: *const u8, len: usize, at: usize) -> usize;
@@ -64,6 +74,16 @@ pub fn recode_into(from: usize, to: usize, src: &[u8], calls: &[[u32; 2]], last:
     filled(src, |answers, room| unsafe {
         let (at, count) = (numbers.as_ptr(), numbers.len());
         compare_c_recode_into(from as u32, to as u32, src.as_ptr(), src.len(), at, count, last, answers, room)
+    })
+}
+
+/// What `Recoder::feed_lossy_into` makes by calls with a part of some length and room of some size each, and then one with
+/// the rest and ample room, which the end has too.
+pub fn recode_lossy(from: usize, to: usize, src: &[u8], calls: &[[u32; 2]]) -> Option<Vec<u8>> {
+    let numbers = calls.as_flattened();
+    filled(src, |answers, room| unsafe {
+        let (at, count) = (numbers.as_ptr(), numbers.len());
+        compare_c_recode_lossy(from as u32, to as u32, src.as_ptr(), src.len(), at, count, answers, room)
     })
 }
 

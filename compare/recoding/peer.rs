@@ -35,6 +35,17 @@ fn faults_of(from: usize, bytes: usize) -> usize {
     }
 }
 
+/// The bytes as UTF-8 with its own marks.
+#[cfg(encoding_rs)]
+pub fn lossy(src: &[u8]) -> Option<String> {
+    Some(UTF_8.decode_without_bom_handling(src).0.into_owned())
+}
+
+#[cfg(not(encoding_rs))]
+pub fn lossy(_src: &[u8]) -> Option<String> {
+    None
+}
+
 #[cfg(not(encoding_rs))]
 pub fn shown(_from: usize, _src: &[u8]) -> Option<String> {
     None

@@ -4,6 +4,8 @@
 //! whole, byte by byte, and in every way of cutting it into two parts.
 //! `recode texts SEED BYTES`: random texts of that many bytes in all, fed in random parts, for all pairs of forms,
 //! beside iconv(3), and each also damaged, beside std.
+//! `recode lossy SEED COUNT SAMPLE`: so many damaged inputs with one U+FFFD for each maximal subpart, beside std; a line of
+//! each goes into the file.
 //! `recode blocks SAMPLE`: blocks with one thing in them that is other, beside std; lines of some go into the file.
 //!
 //! Where the script found `encoding_rs`, that is asked as well.
@@ -12,6 +14,7 @@
 
 mod blocks;
 mod judge;
+mod lossy;
 mod ours;
 mod peer;
 mod tally;
@@ -33,6 +36,7 @@ fn main() -> ExitCode {
     let differing = match words.as_slice() {
         ["cases", file] => cases(file),
         ["blocks", sample] => blocks(sample),
+        ["lossy", seed, count, sample] => seed.parse().ok().zip(count.parse().ok()).and_then(|(seed, count)| lossy(seed, count, sample)),
         ["texts", seed, bytes] => seed.parse().ok().zip(bytes.parse().ok()).map(|(seed, bytes)| texts(seed, bytes)),
         _ => None,
     };
@@ -40,7 +44,7 @@ fn main() -> ExitCode {
         Some(0) => ExitCode::SUCCESS,
         Some(_) => ExitCode::FAILURE,
         None => {
-            eprintln!("usage: recode cases FILE | texts SEED BYTES | blocks SAMPLE");
+            eprintln!("usage: recode cases FILE | texts SEED BYTES | lossy SEED COUNT SAMPLE | blocks SAMPLE");
             ExitCode::from(2)
         }
     }
@@ -48,6 +52,12 @@ fn main() -> ExitCode {
 
 fn blocks(sample: &str) -> Option<usize> {
     let (differing, lines) = blocks::all();
+    std::fs::write(sample, lines).ok()?;
+    Some(differing)
+}
+
+fn lossy(seed: u64, count: usize, sample: &str) -> Option<usize> {
+    let (differing, lines) = lossy::all(seed, count);
     std::fs::write(sample, lines).ok()?;
     Some(differing)
 }

@@ -16,6 +16,7 @@ mod codes;
 mod collections;
 mod ends;
 mod errors;
+mod lossy;
 mod mergers;
 mod numbers;
 mod pairs;

@@ -37,7 +37,7 @@ pub extern "C" fn compare_c_recode_into(
 }
 
 // The room from the place on.
-fn room_from(answers: &mut [u8], place: usize) -> &mut [u8] {
+pub(crate) fn room_from(answers: &mut [u8], place: usize) -> &mut [u8] {
     let start = place.min(answers.len());
     &mut answers[start..]
 }

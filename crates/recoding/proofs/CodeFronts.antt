@@ -40,7 +40,7 @@ proper_front w v h longer front =
 two_are_char : (a b : ℕ) → 0xC2 ≤ a → a < 0xE0 → 0x80 ≤ b → b < 0xC0 → IsUtf8Char (a ∷ b ∷ [])
 two_are_char a b a1 a2 b1 b2 = inr (inl (a1, omega arith, (b1, omega arith, refl)))
 
-three_are_char : (a b c : ℕ) → 0xE0 ≤ a → a < 0xF0 → MayBeSecond a b → 0x80 ≤ c → c < 0xC0 → IsUtf8Char (a ∷ b ∷ c ∷ [])
+pub three_are_char : (a b c : ℕ) → 0xE0 ≤ a → a < 0xF0 → MayBeSecond a b → 0x80 ≤ c → c < 0xC0 → IsUtf8Char (a ∷ b ∷ c ∷ [])
 three_are_char a b c a1 a2 m c1 c2 =
     let b1 = m.low in
     let b2 = m.high in
@@ -92,7 +92,7 @@ front_of_one a asks =
     (λ h. proper_front (a ∷ []) (a ∷ b ∷ 0x80 ∷ 0x80 ∷ []) (four_are_char a b 0x80 0x80 h.0 h.1 m.1 (lit< tt) (lit< tt) (lit< tt) (lit< tt)) (lit< tt) refl)))
     (asked_cases a (omega arith))
 
-front_of_two : (a b : ℕ) → 2 < asked a → MayBeSecond a b → IsProperFront utf8 (a ∷ b ∷ [])
+pub front_of_two : (a b : ℕ) → 2 < asked a → MayBeSecond a b → IsProperFront utf8 (a ∷ b ∷ [])
 front_of_two a b asks m =
     ⊎_elim (λ h. absurd (omega (arith, h.1)))
     (⊎_elim (λ h. absurd (omega (arith, h.2)))
@@ -100,7 +100,7 @@ front_of_two a b asks m =
     (λ h. proper_front (a ∷ b ∷ []) (a ∷ b ∷ 0x80 ∷ 0x80 ∷ []) (four_are_char a b 0x80 0x80 h.0 h.1 m (lit< tt) (lit< tt) (lit< tt) (lit< tt)) (lit< tt) refl)))
     (asked_cases a (omega arith))
 
-front_of_three : (a b c : ℕ) → 3 < asked a → MayBeSecond a b → 0x80 ≤ c → c < 0xC0 → IsProperFront utf8 (a ∷ b ∷ c ∷ [])
+pub front_of_three : (a b c : ℕ) → 3 < asked a → MayBeSecond a b → 0x80 ≤ c → c < 0xC0 → IsProperFront utf8 (a ∷ b ∷ c ∷ [])
 front_of_three a b c asks m c1 c2 =
     ⊎_elim (λ h. absurd (omega (arith, h.1)))
     (⊎_elim (λ h. absurd (omega (arith, h.2)))
@@ -124,12 +124,12 @@ front_of_few (a ∷ b ∷ c ∷ d ∷ w) e second third =
 -- No code.
 
 -- the second byte of a code of three or four, and the third
-record Followed (w : List ℕ) : Type 0 where
+pub record Followed (w : List ℕ) : Type 0 where
   pub second : MayBeSecond (get_or w 0 0) (get_or w 1 0)
   pub low : 0x80 ≤ get_or w 2 0
   pub high : get_or w 2 0 < 0xC0
 
-followed_in_three : (w : List ℕ) → Decodes w → 0xE0 ≤ get_or w 0 0 → get_or w 0 0 < 0xF0 → Followed w
+pub followed_in_three : (w : List ℕ) → Decodes w → 0xE0 ≤ get_or w 0 0 → get_or w 0 0 < 0xF0 → Followed w
 followed_in_three w d a1 a2 =
     let asks = asked-3 (get_or w 0 0) a1 a2 in
     let sum = value-3 w asks in
@@ -154,7 +154,7 @@ followed_in_three w d a1 a2 =
       high = c2;
     }
 
-followed_in_four : (w : List ℕ) → Decodes w → 0xF0 ≤ get_or w 0 0 → get_or w 0 0 < 0xF5 → Followed w
+pub followed_in_four : (w : List ℕ) → Decodes w → 0xF0 ≤ get_or w 0 0 → get_or w 0 0 < 0xF5 → Followed w
 followed_in_four w d a1 a2 =
     let asks = asked-4 (get_or w 0 0) a1 a2 in
     let sum = value-4 w asks in

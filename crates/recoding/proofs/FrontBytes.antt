@@ -164,7 +164,7 @@ abbrev pub second_unit : Bool → List ℕ → ℕ
 second_unit high w = unit_of high (get_or w 2 0) (get_or w 3 0)
 
 -- a unit that begins no code, whatever follows the bytes
-fault_shows_units : (high : Bool) (w : List ℕ) → 2 ≤ length w → ((later : List ℕ) (s : ℕ) → Stands utf16 (first_unit high w ∷ units_of high (drop 2 w ++ later)) 0 s → ⊥)
+pub fault_shows_units : (high : Bool) (w : List ℕ) → 2 ≤ length w → ((later : List ℕ) (s : ℕ) → Stands utf16 (first_unit high w ∷ units_of high (drop 2 w ++ later)) 0 s → ⊥)
     → Decides (ShowsUnits high) w 0xFFFD 2
 fault_shows_units high w two none = record {
   some = omega arith;

@@ -54,7 +54,7 @@ reads_code Utf16Be s h = units_of_code true s h
 
 -- A front of a code shows U+FFFD first.
 
-no_code_in_front : (code : ℕ → List ℕ) → IsCode code → (w : List ℕ) (t s : ℕ) → IsScalar t → length w < length (code t) → take (length w) (code t) ≡ w → Stands code w 0 s → ⊥
+pub no_code_in_front : (code : ℕ → List ℕ) → IsCode code → (w : List ℕ) (t s : ℕ) → IsScalar t → length w < length (code t) → take (length w) (code t) ≡ w → Stands code w 0 s → ⊥
 no_code_in_front code c w t s scalar longer front h =
     let some = c.some s h.scalar in
     let within = h.within in
@@ -187,11 +187,11 @@ leading_where_alone true l h = cc
 leading_where_alone false true h = refl
 leading_where_alone false false h = cc
 
-leading_by_itself : (u : ℕ) → unit_fault_kind (u ∷ []) ≡ Some Incomplete → is_leading_surrogate u ≡ true
+pub leading_by_itself : (u : ℕ) → unit_fault_kind (u ∷ []) ≡ Some Incomplete → is_leading_surrogate u ≡ true
 unfolding unit_fault_kind
 leading_by_itself u h = leading_where_alone (is_trailing_surrogate u) (is_leading_surrogate u) h
 
-two_do_not_lack : (u v : ℕ) (us : List ℕ) → unit_fault_kind (u ∷ v ∷ us) ≡ Some Incomplete → ⊥
+pub two_do_not_lack : (u v : ℕ) (us : List ℕ) → unit_fault_kind (u ∷ v ∷ us) ≡ Some Incomplete → ⊥
 unfolding unit_fault_kind
 two_do_not_lack u v us h = grind (arith, common_steps)
 

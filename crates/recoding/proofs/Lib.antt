@@ -5,6 +5,7 @@ pub mod CopiedUnits
 pub mod Earliest
 pub mod EnoughRoom
 pub mod FedParts
+pub mod FirstParts
 pub mod FirstPieces
 pub mod FrontBytes
 pub mod GivenBytes
@@ -13,6 +14,8 @@ pub mod HeldFronts
 pub mod Growing
 pub mod JoinedShards
 pub mod Listed
+pub mod LossyLists
+pub mod LossySteps
 pub mod NarrowedUnits
 pub mod OutputRuns
 pub mod PartLaws
@@ -25,6 +28,7 @@ pub mod RoomLemmas
 pub mod RoomRuns
 pub mod ShardEnds
 pub mod StrictSteps
+pub mod SubpartLengths
 pub mod SwappedRuns
 pub mod TextLaws
 pub mod TextRuns

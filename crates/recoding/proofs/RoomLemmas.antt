@@ -109,8 +109,8 @@ pub FinishesInto-counted : (r s t : Recoding) (old new : List ℕ) (wrote : ℕ)
 FinishesInto-counted r s t old new wrote f e = rw e (record { leaves = f.leaves; from = f.from; to = f.to; few = f.few; fits = f.fits; rest = f.rest })
 
 -- what is decided of some bytes is so whatever follows them
-Decides-more : (from : Form) (w x : List ℕ) (s n : ℕ) → Decides (Reads from) w s n → Decides (Reads from) (w ++ x) s n
-Decides-more from w x s n d =
+pub Decides-more : (reads : List ℕ → List ℕ → Type 0) (w x : List ℕ) (s n : ℕ) → Decides reads w s n → Decides reads (w ++ x) s n
+Decides-more reads w x s n d =
     let within = d.within in
     record {
       some = d.some;
@@ -127,7 +127,7 @@ pub IsFull-of : (s : Recoding) (from to : Form) (w x : List ℕ) (c n room : ℕ
 IsFull-of s from to w x c n room e f d long = record {
   scalar = c;
   len = n;
-  begins = subst (λ y. Decides (Reads y) (w ++ x) c n) e (Decides-more from w x c n d);
+  begins = subst (λ y. Decides (Reads y) (w ++ x) c n) e (Decides-more (Reads from) w x c n d);
   longer = subst (λ y. room < length (written y c)) f long;
 }
 

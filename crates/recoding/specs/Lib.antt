@@ -14,3 +14,6 @@ pub mod Undecided
 pub mod FilledRooms
 pub mod Boundaries
 pub mod Strict
+pub mod Lossy
+pub mod LossyBytes
+pub mod LossyParts

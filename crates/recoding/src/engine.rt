@@ -13,10 +13,10 @@ use crate::output::Output;
 use crate::shown_fronts::{ShownFront, four, front, least_front, text_front};
 
 // How many bytes go with care before a run looks for text again, where no fault is among them.
-const STRIDE: usize = 16;
+pub(crate) const STRIDE: usize = 16;
 
 // How many bytes go with care from a fault on.
-const AFTER_FAULT: usize = 8;
+pub(crate) const AFTER_FAULT: usize = 8;
 
 // How many bytes of text go character by character before a run looks for a block again.
 const STRETCH: usize = 128;
@@ -137,7 +137,7 @@ fn run<O: Output, const PAIR: usize>(
 }
 
 #[inline(always)]
-fn ended(read: usize, replaced: usize, is_full: bool, is_waiting: bool) -> Reached
+pub(crate) fn ended(read: usize, replaced: usize, is_full: bool, is_waiting: bool) -> Reached
     ensures { result ≡ record { read = read; replaced = replaced; is_full = is_full; is_waiting = is_waiting } }
 {
     Reached {

@@ -4,6 +4,7 @@
 ghost use Rattle.recoding.specs.Shards.{ShardsJoin};
 ghost use Rattle.recoding.specs.Recoded.{RecodedOnce, PartsAreRecoded, PartsDoNotMatter};
 ghost use Rattle.recoding.specs.Faults.{FaultCountIsOne};
+ghost use Rattle.recoding.specs.LossyBytes.{LossyIsOne, LossyJoinsFaults, LossyPartsAreOne, LossyUnitsAreRecoded, TextIsLossy};
 ghost use Rattle.recoding.specs.RecodedBytes.{RecodedIsOne};
 ghost use Rattle.recoding.specs.Strict.{TextIsRecoded};
 ghost use Rattle.recoding.specs.Bounds.{RecodedIsBounded, LossyIsBounded, FeedsInRoom, RoomIsLeft, FinishesInRoom};
@@ -81,4 +82,23 @@ pub fn shards_join()
 /// replaces it writes the same.
 pub fn text_is_recoded()
     ensures { TextIsRecoded }
+{}
+
+/// With one U+FFFD for each maximal subpart, bytes become exactly one list: `lossy`.
+pub fn lossy_once()
+    ensures { LossyIsOne }
+{}
+
+/// What comes of the parts of an input that are fed by `feed_lossy_into`, and of its end, is what the whole input becomes,
+/// however it is cut.
+pub fn lossy_parts_are_one_part()
+    ensures { LossyPartsAreOne }
+{}
+
+/// One U+FFFD for each maximal subpart, or one for each of its bytes: the same characters and maximal subparts show both.
+/// Of UTF-16 both are the same, and so they are over text, whatever follows it.
+pub fn lossy_joins_faults()
+    ensures joins { LossyJoinsFaults }
+    ensures units { LossyUnitsAreRecoded }
+    ensures text { TextIsLossy }
 {}

@@ -1,13 +1,14 @@
 //! Recoding of text that comes in parts, which may be cut anywhere, also inside of a code or of a unit.
-ghost use Rattle.std.specs.Prelude.{◌≡◌, ◌<◌, ◌≤◌, [], ◌+◌, ◌*◌, ◌^◌, min, length, OnOk, OnErr, IsOk, IfErr, IfOk, vec_len, vec_capacity, ℕ, List, ◌-◌, ◌++◌, take, drop, IsTrue, IsFalse};
+ghost use Rattle.std.specs.Prelude.{◌≡◌, ◌<◌, ◌≤◌, [], ◌+◌, ◌*◌, ◌^◌, min, length, OnOk, OnErr, IsOk, IfErr, vec_len, vec_capacity, ℕ, List, ◌-◌, ◌++◌, take, drop, IsTrue, IsFalse};
 ghost use Rattle.recoding.specs.Recoded.{Feeds, Finishes, Lacks, fresh};
 ghost use Rattle.recoding.specs.Faults.{AddsUp, CountsFed, KeepsCount, Replaces, ReplacesLast, fault_count, replaced_in_all};
+ghost use Rattle.recoding.specs.LossyBytes.{lossy, lossy_outcome};
 ghost use Rattle.recoding.specs.RecodedBytes.{AddsAll, AddsLast, AddsOutcome, KeepsOutcome, outcome, recoded};
 ghost use Rattle.recoding.specs.Rooms.{ComesNearer, FeedsInto, FinishesInto, IsFull, IsLastFull, bytes_left};
 
 use crate::form::Form;
 use crate::recoder_rooms::{first_of, progress, put_at, recode_into, recode_last_into};
-use crate::recoder_runs::{join, recode_joined, recode_last, recode_whole};
+use crate::recoder_runs::{faults_at_end, join, recode_joined, recode_last, recode_whole};
 use crate::rooms::Progress;
 use std::alloc::{AllocError, Allocator};
 use std::marker::Model;
@@ -60,11 +61,12 @@ impl From<Unfinished> for AllocError {
 
 impl Recoder {
     /// A recoder that holds nothing and has replaced nothing.
-    #[tactic(auto, unfolding(crate::specs::RecodedBytes::outcome, crate::specs::Faults::replaced_in_all))]
+    #[tactic(auto, unfolding(crate::specs::RecodedBytes::outcome, crate::specs::Faults::replaced_in_all, crate::specs::LossyBytes::lossy_outcome))]
     pub fn new(from: Form, to: Form) -> Recoder
         ensures nothing { result ≡ fresh from to }
         ensures outcome { (out later : List ℕ) → outcome result out later ≡ out ++ recoded from to later }
         ensures counts { (later : List ℕ) → replaced_in_all result later ≡ min (2 ^ 64 - 1) (fault_count from later) }
+        ensures lossy { (out later : List ℕ) → lossy_outcome result out later ≡ out ++ lossy from to later }
     {
         Recoder {
             count: 0,
@@ -201,37 +203,33 @@ impl Recoder {
     /// each byte of UTF-8; of UTF-16 one for a leading surrogate, and one for an odd byte.
     ///
     /// Where memory is refused, the error has the recoder as it was, which can be finished again.
-    /// Where nothing is held, no memory is asked for.
-    ///
-    /// Returns what `replaced` would then be: how many invalid bytes became U+FFFD in all.
+    /// Where nothing is held, no memory is asked for. How many invalid bytes became U+FFFD in all,
+    /// `replaced_at_end` tells before this call.
     ///
     /// Cost: constant, allocates at most nine bytes.
     #[inline(always)]
-    #[tactic(auto, using(crate::proofs::RecodedLists::outcome_finished, crate::proofs::Advancing::counts_all))]
-    pub fn finish<A: Allocator>(self, out: &mut Vec<u8, A>) -> Result<u64, Unfinished>
+    #[tactic(auto, using(crate::proofs::RecodedLists::outcome_finished))]
+    pub fn finish<A: Allocator>(self, out: &mut Vec<u8, A>) -> Result<(), Unfinished>
         ensures ok { OnOk result (Finishes self out.old.items out.new.items) }
         ensures err { IfErr result (λ e. e.recoder ≡ self) }
         ensures unwritten { OnErr result (out.new.items ≡ out.old.items) }
         ensures nothing { length self.held ≡ 0 → IsOk result }
         ensures succeeds { vec_len out.old + 3 * length self.held ≤ vec_capacity out.old → IsOk result }
         ensures outcome { OnOk result (out.new.items ≡ outcome self out.old.items []) }
-        ensures replaces { IfOk result (λ n. n ≡ min (2 ^ 64 - 1) (self.replaced + fault_count self.from self.held)) }
-        ensures counts { IfOk result (λ n. n ≡ replaced_in_all self []) }
     {
         if self.count == 0 {
-            return Ok(self.replaced);
+            return Ok(());
         }
         self.finish_held(out)
     }
 
     // `finish` where something is held, kept apart so that the test is inlined.
     #[inline(never)]
-    fn finish_held<A: Allocator>(self, out: &mut Vec<u8, A>) -> Result<u64, Unfinished>
+    fn finish_held<A: Allocator>(self, out: &mut Vec<u8, A>) -> Result<(), Unfinished>
         ensures ok { OnOk result (Finishes self out.old.items out.new.items) }
         ensures err { IfErr result (λ e. e.recoder ≡ self) }
         ensures unwritten { OnErr result (out.new.items ≡ out.old.items) }
         ensures succeeds { vec_len out.old + 3 * length self.held ≤ vec_capacity out.old → IsOk result }
-        ensures replaces { IfOk result (λ n. n ≡ min (2 ^ 64 - 1) (self.replaced + fault_count self.from self.held)) }
     {
         if let Err(cause) = out.reserve(3 * self.count) {
             return Err(Unfinished {
@@ -239,8 +237,8 @@ impl Recoder {
                 cause,
             });
         }
-        let count = recode_last(self.from, self.to, &self.held[..self.count], out);
-        Ok(self.replaced.saturating_add(count as u64))
+        recode_last(self.from, self.to, &self.held[..self.count], out);
+        Ok(())
     }
 
     /// A recoder that holds these bytes and has replaced nothing. With the `held` of another recoder
@@ -261,7 +259,10 @@ impl Recoder {
     pub(crate) fn forms(&self) -> (Form, Form)
         ensures from { result.0 ≡ self.now.from }
         ensures to { result.1 ≡ self.now.to }
+        ensures few { length self.now.held ≤ 3 }
     {
+        // To read it tells a proof that few bytes are held.
+        let _ = self.count;
         (self.from, self.to)
     }
 
@@ -277,12 +278,23 @@ impl Recoder {
     /// surrogates and odd last bytes of UTF-16. A U+FFFD that stood in the input does not count. At
     /// 2^64 - 1 the count stays as it is.
     ///
-    /// `feed`, `feed_into` and `finish_into` count, and `finish` returns the count; the calls that stop at the first invalid byte
-    /// replace nothing.
+    /// `feed`, `feed_into` and `finish_into` count. The calls that stop at the first invalid byte
+    /// replace nothing, and the lossy ones do not count.
     pub fn replaced(&self) -> u64
         ensures { result ≡ self.now.replaced }
     {
         self.replaced
+    }
+
+    /// What `replaced` comes to where the input ends here: the bytes that are held are invalid then,
+    /// and become U+FFFD too.
+    #[tactic(auto, using(crate::proofs::Advancing::counts_all))]
+    pub fn replaced_at_end(&self) -> u64
+        ensures replaces { result ≡ min (2 ^ 64 - 1) (self.now.replaced + fault_count self.now.from self.now.held) }
+        ensures counts { result ≡ replaced_in_all self.now [] }
+    {
+        let count = faults_at_end(self.from, self.held_bytes());
+        self.replaced.saturating_add(count as u64)
     }
 
     /// `feed` into room of a fixed size, in the manner of iconv(3): reads and writes as far as

@@ -46,27 +46,32 @@ pub(crate) fn recode_decided<A: Allocator>(
     Run { read, replaced }
 }
 
-// Recodes the bytes, which nothing follows. Answers how many of their faults became U+FFFD.
+// Recodes the bytes, which nothing follows.
 #[inline(always)]
-pub(crate) fn recode_last<A: Allocator>(
-    from: Form,
-    to: Form,
-    bytes: &[u8],
-    out: &mut Vec<u8, A>,
-) -> usize
+pub(crate) fn recode_last<A: Allocator>(from: Form, to: Form, bytes: &[u8], out: &mut Vec<u8, A>)
     requires { HasRoomFor out.old (length bytes.now) }
-    ensures finishes { Finishes (record (fresh from to) { held = bytes.now }) out.old.items out.new.items }
-    ensures faults { result ≡ fault_count from bytes.now }
+    ensures { Finishes (record (fresh from to) { held = bytes.now }) out.old.items out.new.items }
 {
     let mut place = 0;
-    let mut replaced = 0;
     while place < bytes.len() {
         let first = last_front(from, &bytes[place..]);
         put_code(to, first.c, out);
         place += first.len;
-        replaced += first.faults;
     }
-    replaced
+}
+
+// How many faults the bytes have, which nothing follows.
+pub(crate) fn faults_at_end(from: Form, bytes: &[u8]) -> usize
+    ensures { result ≡ fault_count from bytes.now }
+{
+    let mut place = 0;
+    let mut count = 0;
+    while place < bytes.len() {
+        let first = last_front(from, &bytes[place..]);
+        place += first.len;
+        count += first.faults;
+    }
+    count
 }
 
 // Recodes the held bytes with those that follow them, as far as a code that begins among the held ones

@@ -106,7 +106,7 @@ fn front_of_utf8(bytes: &[u8]) -> Option<ShownFront>
 // Whether bytes that are too few are the front of a code. Else the first is a fault, whatever follows.
 #[cold]
 #[inline(never)]
-fn is_front_of_code(bytes: &[u8]) -> bool
+pub(crate) fn is_front_of_code(bytes: &[u8]) -> bool
     requires { fault_kind bytes.now ≡ Some TooFewBytes }
     ensures yes { IsTrue result → IsProperFront utf8 bytes.now }
     ensures no { IsFalse result → IsDecided utf8 bytes.now }
@@ -119,7 +119,7 @@ fn is_front_of_code(bytes: &[u8]) -> bool
 
 // Whether a code of three or four bytes that begins with the first byte may have this second one.
 #[inline(always)]
-fn may_be_second(first: u8, second: u8) -> bool
+pub(crate) fn may_be_second(first: u8, second: u8) -> bool
     ensures yes { IsTrue result → MayBeSecond first second }
     ensures no { MayBeSecond first second → IsTrue result }
 {

@@ -115,7 +115,7 @@ impl Recoder {
     }
 
     // Holds no longer so many of the bytes at the front. Answers how many more those were than the held ones.
-    fn pass(&mut self, count: usize) -> usize
+    pub(crate) fn pass(&mut self, count: usize) -> usize
         ensures held { self.new ≡ record (self.old) { held = drop count self.old.held } }
         ensures more { result ≡ count - length self.old.held }
     {

@@ -98,7 +98,7 @@ fn run_in_blocks(
 }
 
 // The same to any output.
-fn put_text<O: Output>(from: Form, to: Form, bytes: &[u8], out: &mut O) -> usize
+pub(crate) fn put_text<O: Output>(from: Form, to: Form, bytes: &[u8], out: &mut O) -> usize
     ensures { PutsText O.appends from to bytes.now out.old out.new result }
 {
     let mut read = 0;

@@ -30,3 +30,4 @@ pub mod GrammarLemmas
 pub mod GrammarTexts
 pub mod SurrogateLemmas
 pub mod SubpartLemmas
+pub mod PartLists

@@ -1,6 +1,6 @@
 -- What RFC 3629, RFC 2781 and the Unicode standard say of the codes, in their own forms, is what this project's
 -- definitions say.
-use Rattle.std.specs.Prelude.{◌≡◌, ℕ, ◌<◌, ◌≤◌, List, length, All, Contains, Some, None}
+use Rattle.std.specs.Prelude.{◌≡◌, ℕ, ◌<◌, ◌≤◌, List, length, All, Contains, Some}
 use Rattle.std.specs.Str.{IsUtf8}
 use Rattle.utf_base.specs.Scalar.{IsScalar, IsUnits}
 use Rattle.utf_base.specs.Code.{utf8, utf16}

@@ -1,10 +1,11 @@
 -- Maximal subparts, by which the Unicode standard and the WHATWG's decoder group faults: chapter 3 of the standard, D93a and
 -- D93b. All of it is generic in the code.
-use Rattle.std.specs.Prelude.{◌≡◌, ℕ, suc, zero, ◌+◌, ◌<◌, ◌≤◌, List, [], ◌∷◌, length, take, slice_range, Option, Some, None, All}
+use Rattle.std.specs.Prelude.{◌≡◌, ℕ, suc, zero, ◌+◌, ◌<◌, ◌≤◌, List, [], ◌∷◌, length, map, take, slice_range, Option, Some, None, All}
 use Rattle.std.specs.List.{flat_map}
 use Rattle.utf_base.specs.CutLaws.{Follow}
 use Rattle.utf_base.specs.Piece.{Stands, Piece, IsCut, IsPieceAt}
 use Rattle.utf_base.specs.Scalar.{IsScalar}
+use Rattle.utf_base.specs.Shown.{shown}
 
 -- D93a, an unconvertible offset: no code stands at the place p
 pub record IsUnconvertible (code : ℕ → List ℕ) (xs : List ℕ) (p : ℕ) : Type 0 where
@@ -35,6 +36,10 @@ IsPart code xs p n None = IsMaximalSubpart code xs p n
 pub record IsInParts (code : ℕ → List ℕ) (xs : List ℕ) (parts : List Piece) : Type 0 where
   pub each : All (λ x. IsPart code xs x.start x.len x.char) parts
   pub follow : Follow 0 parts (length xs)
+
+-- ss are the scalars that the parts of xs show, in order: characters, and U+FFFD for each maximal subpart
+abbrev pub ShowsParts : (ℕ → List ℕ) → List ℕ → List ℕ → Type 0
+ShowsParts code xs ss = (parts : List Piece) × IsInParts code xs parts × (ss ≡ map shown parts)
 
 -- so many faults of one element each, from the place p on
 abbrev pub faults_from : ℕ → ℕ → List Piece

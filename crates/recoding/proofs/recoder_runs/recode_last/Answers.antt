@@ -1,8 +1,7 @@
 use Rattle.std.proofs.Common.{◌≡◌, [], length, drop, arith, ap, length-drop, length-append}
-use Rattle.std.proofs.lemmas.List.{take_rest, drop_all, drop-drop}
+use Rattle.std.proofs.lemmas.List.{take_rest, drop_all}
 use Rattle.recoding.specs.Recoded.{written}
 use Rattle.recoding.specs.ShownFronts.{SettlesLast}
-use Rattle.recoding.proofs.FaultCounts.{none_in_nothing}
 use Rattle.recoding.proofs.Growing.{Remains-step, Remains-all, length_written}
 use Rattle.recoding.proofs.recoder_runs.recode_last.Goals as goal
 
@@ -18,10 +17,9 @@ put_code-requires g c =
 
 pub loop-place-preserved : goal.loop-place-preserved
 loop-place-preserved g c =
-    let bytes = c.args.bytes.now in
     let place = c.loop-place.place in
     let first = c.last_front-first.result in
-    let d : SettlesLast c.args.from (drop place bytes) first.c first.len first.faults = rw (take_rest bytes place) at c.last_front-first.ensures in
+    let d : SettlesLast c.args.from (drop place c.args.bytes.now) first.c first.len first.faults = rw (take_rest c.args.bytes.now place) at c.last_front-first.ensures in
     let ends = d.ends in
     let within = ends.within in
     let some = ends.some in
@@ -29,22 +27,13 @@ loop-place-preserved g c =
     let v = c.loop-place.invariant in
     let room = v.room in
     let put = c.put_code.ensures in
-    let few = d.few in
-    let counted = v.faults in
     record {
-      within = omega (arith, length-drop place bytes);
+      within = omega (arith, length-drop place c.args.bytes.now);
       grows = Remains-step _ _ _ _ _ _ _ _ _ v.grows ends put.items;
-      room = omega (arith, length-drop place bytes, ap length put.items, length-append c.loop-place.out.items (written c.args.to first.c), put.capacity);
-      few = omega (arith, v.few);
-      faults = omega (arith, counted, rw (drop-drop first.len place bytes) at d.counts);
+      room = omega (arith, length-drop place c.args.bytes.now, ap length put.items, length-append c.loop-place.out.items (written c.args.to first.c), put.capacity);
     }
 
-pub returns-clause-finishes : goal.returns-clause-finishes
-returns-clause-finishes g c =
+pub returns : goal.returns
+returns g c =
     let rest : drop c.loop-place.place c.args.bytes.now ≡ [] = drop_all c.loop-place.place c.args.bytes.now (omega arith) in
     Remains-all _ _ _ _ _ (rw rest at c.loop-place.invariant.grows)
-
-pub returns-clause-faults : goal.returns-clause-faults
-returns-clause-faults g c =
-    let rest : drop c.loop-place.place c.args.bytes.now ≡ [] = drop_all c.loop-place.place c.args.bytes.now (omega arith) in
-    omega (arith, rw rest at c.loop-place.invariant.faults, none_in_nothing c.args.from)

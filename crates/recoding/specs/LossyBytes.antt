@@ -1,0 +1,156 @@
+-- What bytes of one form are recoded as in another with one U+FFFD for each maximal subpart, as one list, and what calls make of it.
+use Rattle.std.specs.Prelude.{◌≡◌, ◌↔◌, ℕ, ◌+◌, ◌*◌, ◌≤◌, false, true, List, [], ◌∷◌, ◌++◌, length, take, drop, flat_map, map}
+use Rattle.std.specs.List.{concat}
+use Rattle.utf_base.specs.Code.{utf8, utf16}
+use Rattle.utf_base.specs.Piece.{Piece}
+use Rattle.utf_base.specs.Shown.{shown}
+use Rattle.utf_base.specs.Subparts.{IsInParts, pieces_of}
+use Rattle.utf_base.proofs.FrontLemmas.{utf8_finds}
+use Rattle.utf_base.proofs.UnitLemmas.{utf16_finds}
+use Rattle.utf_base.proofs.Utf8Code.{utf8_is_code}
+use Rattle.utf_base.proofs.Utf16Code.{utf16_is_code}
+use Rattle.utf_lanes.specs.BytePairs.{units_of}
+use Rattle.recoding.specs.declared.form.Form.{Form}
+use Rattle.recoding.specs.declared.form.Form.TheVariants.{Utf8, Utf16Le, Utf16Be}
+use Rattle.recoding.specs.Lossy.{IsLossy, ReadsParts}
+use Rattle.recoding.specs.Recoded.{Recoding, fresh, odd_end, written}
+use Rattle.recoding.specs.RecodedBytes.{recoded}
+use Rattle.recoding.specs.Rooms.{BeginsLonger}
+use Rattle.recoding.specs.ShownFronts.{Decides, Ends}
+use Rattle.recoding.specs.Strict.{Transcodes}
+use Rattle.utf_base.proofs.PartLists.{parts_show_some}
+
+-- the list that the parts of bytes show as text of that form: `parts_show_some` says that there is one
+unfoldable pub shown_by_parts : Form → List ℕ → List ℕ
+shown_by_parts Utf8 bytes = (parts_show_some utf8 utf8_is_code utf8_finds bytes).0
+shown_by_parts Utf16Le bytes = (parts_show_some utf16 utf16_is_code utf16_finds (units_of false bytes)).0 ++ odd_end bytes
+shown_by_parts Utf16Be bytes = (parts_show_some utf16 utf16_is_code utf16_finds (units_of true bytes)).0 ++ odd_end bytes
+
+-- the codes of these scalars: what the bytes become, with one U+FFFD for each maximal subpart
+unfoldable pub lossy : Form → Form → List ℕ → List ℕ
+lossy from to bytes = flat_map (written to) (shown_by_parts from bytes)
+
+-- bytes become that list, and no other
+abbrev pub LossyIsOne : Type 0
+LossyIsOne = (from to : Form) (bytes out : List ℕ) → IsLossy from to bytes out ↔ (out ≡ lossy from to bytes)
+
+-- Whatever follows the bytes, they become `grown`, and then what the held ones do before what follows.
+pub record Becomes (from to : Form) (bytes grown held : List ℕ) : Type 0 where
+  pub same : (later : List ℕ) → lossy from to (bytes ++ later) ≡ grown ++ lossy from to (held ++ later)
+
+-- What comes of a recoder.
+
+-- what an output that holds `out` holds at the end, where these bytes and no more are fed and the recoder is finished, both lossily
+unfoldable pub lossy_outcome : Recoding → List ℕ → List ℕ → List ℕ
+lossy_outcome r out later = out ++ lossy r.from r.to (r.held ++ later)
+
+-- a part was fed: whatever follows it, the outcome is that of the part and then of what follows
+abbrev pub KeepsLossy : Recoding → List ℕ → List ℕ → List ℕ → Recoding → Type 0
+KeepsLossy r old part new s = (later : List ℕ) → lossy_outcome s new later ≡ lossy_outcome r old (part ++ later)
+
+-- the same of bytes that came of the part, to whatever they are added
+abbrev pub AddsLossy : Recoding → List ℕ → List ℕ → Recoding → Type 0
+AddsLossy r part made s = (out : List ℕ) → KeepsLossy r out part (out ++ made) s
+
+-- these bytes came of the end, and the rest of the outcome still comes
+abbrev pub AddsLastLossy : Recoding → List ℕ → Recoding → Type 0
+AddsLastLossy r made s = (out : List ℕ) → lossy_outcome s (out ++ made) [] ≡ lossy_outcome r out []
+
+-- these bytes are all that came of the end
+abbrev pub AddsAllLossy : Recoding → List ℕ → Type 0
+AddsAllLossy r made = (out : List ℕ) → out ++ made ≡ lossy_outcome r out []
+
+-- One call of `feed_lossy_into`: so many bytes of the part were read, and some are held. What came of them begins the room, whose
+-- other places stay.
+pub record FeedsLossy (r : Recoding) (part old new : List ℕ) (read wrote : ℕ) (s : Recoding) : Type 0 where
+  pub within : read ≤ length part
+  pub adds : AddsLossy r (take read part) (take wrote new) s
+  pub from : s.from ≡ r.from
+  pub to : s.to ≡ r.to
+  pub replaced : s.replaced ≡ r.replaced
+  pub few : length s.held ≤ 3
+  pub fits : wrote ≤ length old
+  pub rest : drop wrote new ≡ drop wrote old
+
+-- One call of `finish_lossy_into`.
+pub record FinishesLossy (r : Recoding) (old new : List ℕ) (wrote : ℕ) (s : Recoding) : Type 0 where
+  pub adds : AddsLastLossy r (take wrote new) s
+  pub from : s.from ≡ r.from
+  pub to : s.to ≡ r.to
+  pub replaced : s.replaced ≡ r.replaced
+  pub few : length s.held ≤ length r.held
+  pub fits : wrote ≤ length old
+  pub rest : drop wrote new ≡ drop wrote old
+
+-- The bytes that are left begin with a part, whatever follows them, and the code of what it shows is longer than the room.
+abbrev pub IsFullLossy : Recoding → List ℕ → ℕ → Type 0
+IsFullLossy r left room = BeginsLonger (Decides (ReadsParts r.from) left) r.to room
+
+-- The same of bytes that nothing follows.
+abbrev pub IsLastFullLossy : Recoding → List ℕ → ℕ → Type 0
+IsLastFullLossy r left room = BeginsLonger (Ends (ReadsParts r.from) left) r.to room
+
+-- Any output.
+
+-- So many bytes were recoded, by the three that follow them and no others, and what came of them was appended. No more than
+-- three bytes came of each.
+pub record RecodesParts {O : Type 0} (appends : O → List ℕ → O → Type 0) (from to : Form) (bytes : List ℕ) (old new : O) (read : ℕ) : Type 0 where
+  pub grown : List ℕ
+  pub appended : appends old grown new
+  pub within : read ≤ length bytes
+  pub short : length grown ≤ 3 * read
+  pub becomes : Becomes from to (take (read + 3) bytes) grown (take 3 (drop read bytes))
+
+-- So many bytes of a part were read, after those that were held, and some are held.
+pub record TakesParts {O : Type 0} (appends : O → List ℕ → O → Type 0) (r : Recoding) (part : List ℕ) (old new : O) (read : ℕ) (s : Recoding) : Type 0 where
+  pub grown : List ℕ
+  pub appended : appends old grown new
+  pub within : read ≤ length part
+  pub short : length grown + 3 * length s.held ≤ 3 * (length r.held + read)
+  pub becomes : Becomes r.from r.to (r.held ++ take read part) grown s.held
+  pub from : s.from ≡ r.from
+  pub to : s.to ≡ r.to
+  pub replaced : s.replaced ≡ r.replaced
+  pub few : length s.held ≤ 3
+
+-- The same of the bytes that are held at the end.
+pub record EndsParts {O : Type 0} (appends : O → List ℕ → O → Type 0) (r : Recoding) (old new : O) (s : Recoding) : Type 0 where
+  pub grown : List ℕ
+  pub appended : appends old grown new
+  pub short : length grown + 3 * length s.held ≤ 3 * length r.held
+  pub becomes : lossy r.from r.to r.held ≡ grown ++ lossy r.from r.to s.held
+  pub from : s.from ≡ r.from
+  pub to : s.to ≡ r.to
+  pub replaced : s.replaced ≡ r.replaced
+
+-- The laws.
+
+-- The parts of an input are fed one after another, and then the recoder is finished: the outcome is kept at each step.
+abbrev pub AddsEach : Recoding → List (List ℕ) → List ℕ → List ℕ → Type 0
+AddsEach r [] old new = new ≡ lossy_outcome r old []
+AddsEach r (part ∷ parts) old new = (s : Recoding) × (mid : List ℕ) × KeepsLossy r old part mid s × AddsEach s parts mid new
+
+-- what comes of some parts is what they become, joined, however they are cut
+abbrev pub LossyPartsAreOne : Type 0
+LossyPartsAreOne =
+    (from to : Form) (parts : List (List ℕ)) (out : List ℕ) → AddsEach (fresh from to) parts [] out → out ≡ lossy from to (concat parts)
+
+-- of UTF-16 each maximal subpart is one unit, or an odd byte: so it is the same as where each fault is replaced
+abbrev pub LossyUnitsAreRecoded : Type 0
+LossyUnitsAreRecoded = (to : Form) (bytes : List ℕ) → (lossy Utf16Le to bytes ≡ recoded Utf16Le to bytes) × (lossy Utf16Be to bytes ≡ recoded Utf16Be to bytes)
+
+-- and so is that of text, which has none, whatever follows it
+abbrev pub TextIsLossy : Type 0
+TextIsLossy = (from to : Form) (text out later : List ℕ) → Transcodes from to text out → lossy from to (text ++ later) ≡ out ++ lossy from to later
+
+-- what some pieces or parts show, in a form
+abbrev pub shown_as : Form → List Piece → List ℕ
+shown_as to ps = flat_map (written to) (map shown ps)
+
+-- Of UTF-8 there are parts that show the one, and their single pieces show the other: each U+FFFD of a maximal subpart stands for as
+-- many as it has bytes.
+abbrev pub LossyJoinsFaults : Type 0
+LossyJoinsFaults =
+    (to : Form) (bytes : List ℕ)
+    → (parts : List Piece) × IsInParts utf8 bytes parts × (lossy Utf8 to bytes ≡ shown_as to parts)
+    × (recoded Utf8 to bytes ≡ shown_as to (flat_map (λ x. pieces_of x.start x.len x.char) parts))
