@@ -7,12 +7,12 @@ use Rattle.cuts.specs.declared.FaultKind.{FaultKind}
 use Rattle.cuts.specs.declared.Outcome.{Outcome}
 use Rattle.cuts.specs.declared.Outcome.TheVariants.{AllRead, Full, Faulty}
 use Rattle.cuts.specs.declared.StrictProgress.{StrictProgress}
-use Rattle.cuts.specs.Recoded.{Recoding}
+use Rattle.cuts.specs.Recoded.{Recoding, fresh}
 use Rattle.cuts.specs.Strict.{RecodesText, BeginsFault, EndsInFault, EndsFeed, EndsFinish, FeedsStrictly, FinishesStrictly}
 use Rattle.c_api.specs.Whole.{EndsWhole, RecodesStrictly, unread, unrecoded}
-use Rattle.c_api.proofs.WholeRuns.{fresh, length_both, written_both, kept_both}
+use Rattle.c_api.proofs.WholeRuns.{length_both, written_both, kept_both}
 use borrow.Rule.Slice.PartMut.{put_mid}
-use Rattle.recoding.proofs.FirstPieces.{fault_is_some}
+use Rattle.recoding.proofs.FrontBytes.{fault_is_some}
 use Rattle.recoding.proofs.StrictSteps.{RecodesText-left, enough_room}
 use Rattle.recoding.proofs.RoomRuns.{few_written}
 use Rattle.recoding.proofs.TextRuns.{Transcodes-then}

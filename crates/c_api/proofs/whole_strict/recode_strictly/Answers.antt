@@ -3,7 +3,7 @@ use Rattle.std.proofs.lemmas.List.{take_rest}
 use borrow.Rule.Slice.PartMut.{put_mid}
 use Rattle.cuts.specs.Strict.{FeedsStrictly, FinishesStrictly}
 use Rattle.c_api.specs.Whole.{RecodesStrictly}
-use Rattle.c_api.proofs.WholeRuns.{fresh}
+use Rattle.cuts.specs.Recoded.{fresh}
 use Rattle.c_api.proofs.WholeStrict.{fed_whole, finished_whole, both_same, all_is_read, room_is_short, room_is_enough}
 use Rattle.c_api.proofs.whole_strict.recode_strictly.Goals as goal
 
