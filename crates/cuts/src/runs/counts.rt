@@ -1,4 +1,4 @@
-//! How many characters and how many invalid bytes some bytes have.
+//! How many characters and how many faults some bytes have.
 ghost use Rattle.std.specs.Prelude.{◌≡◌, length};
 ghost use Rattle.encode_unicode.specs.Pieces.{pieces};
 ghost use Rattle.cuts.specs.ForwardRuns.{fault_count};
