@@ -26,7 +26,7 @@ use Rattle.utf_base.proofs.Utf16Code.{utf16_is_code}
 use Rattle.recoding.specs.Recoded.{Reads, ShowsUnits, odd_end, Lacks}
 use Rattle.recoding.specs.Faults.{fault_count}
 use Rattle.utf_lanes.specs.BytePairs.{units_of, unit_of}
-use Rattle.recoding.specs.ShownFronts.{Decides, IsUnits, Settles, SettlesLast, Waits, fault_len}
+use Rattle.recoding.specs.ShownFronts.{Decides, Ends, IsUnits, Settles, SettlesLast, Waits, fault_len}
 use Rattle.recoding.proofs.FaultCounts.{counts_more, fault_counts, units_count_more}
 use Rattle.recoding.proofs.CodeFronts.{front_of_nothing}
 
