@@ -1,10 +1,11 @@
 -- Blocks of eight units of ASCII, and what bytes of units show.
-use Rattle.std.proofs.Common.{◌≡◌, ℕ, zero, suc, ◌-◌, ◌*◌, ◌%◌, ◌<◌, Bool, List, [], ◌∷◌, ◌++◌, map, length, get_or, flat_map, arith, refl, ap, ap₂, sym, ◌∙◌, append_assoc}
+use Rattle.std.proofs.Common.{◌≡◌, ℕ, zero, suc, ◌-◌, ◌*◌, ◌%◌, ◌<◌, Bool, List, [], ◌∷◌, ◌++◌, map, length, get_or, flat_map, arith, refl, ap, ap₂, sym, ◌∙◌}
+use Rattle.std.specs.Prelude.{All}
+use Rattle.std.proofs.lemmas.List.Elements.{All-nil, All-cons}
 use Rattle.utf_base.specs.Code.{utf8, utf16}
-use Rattle.utf_base.specs.Shown.{Shows}
-use Rattle.utf_base.proofs.Rests.{whole_code_shows_first}
+use Rattle.utf_base.specs.Scalar.{IsScalar}
 use Rattle.utf_base.proofs.Utf8Code.{utf8-1, ascii_is_scalar}
-use Rattle.utf_base.proofs.Utf16Code.{utf16_is_code, utf16-1}
+use Rattle.utf_base.proofs.Utf16Code.{utf16-1}
 use Rattle.recoding.specs.declared.form.Form.{Form}
 use Rattle.recoding.specs.declared.form.Form.TheVariants.{Utf8, Utf16Le, Utf16Be}
 use Rattle.utf_lanes.specs.AsciiTexts.{AreAscii}
@@ -31,32 +32,23 @@ as_read high Utf8 v ts form h = absurd form
 as_read high Utf16Le v ts form h = rw form at h
 as_read high Utf16Be v ts form h = rw form at h
 
-ascii_shows : (us later ss : List ℕ) → AreAscii us 0 (length us) → Shows utf16 later ss → Shows utf16 (us ++ later) (us ++ ss)
-ascii_shows [] later ss low r = r
-ascii_shows (u ∷ us) later ss low r =
-    let first : u < 0x80 = low 0 (omega arith) (omega arith) in
-    whole_code_shows_first utf16 utf16_is_code (u ∷ []) (us ++ later) u (us ++ ss) (ascii_is_scalar u first) (sym (utf16-1 u (omega arith)))
-    (ascii_shows us later ss (λ k ge lt. low (suc k) (omega arith) (omega arith)) r)
+-- ASCII, in each form.
 
--- Eight units of ASCII.
-
-pub block_shows : (high : Bool) (v us ascii : List ℕ) → length v ≡ 16 → length us ≡ 8 → us ≡ units_of high v → AreAscii us 0 8 → ascii ≡ us → ShowsEach (ShowsUnits high) v ascii
-block_shows high v us ascii even eight e low same =
-    let each : AreAscii us 0 (length us) = λ k ge lt. low k ge (omega arith) in
-    let shows : ShowsEach (ShowsUnits high) v us = λ later ss (ts, r, f). (
-      us ++ ts,
-      rw (units_append high v later 8 even, ← e) (ascii_shows us (units_of high later) ts each r),
-      ap (λ xs. us ++ xs) f ∙ sym (append_assoc us ts (odd_end later)) ∙ ap (λ o. (us ++ ts) ++ o) (sym (odd_append v later 8 even)),
-    ) in
-    rw same shows
-
-ascii_codes : (us : List ℕ) → AreAscii us 0 (length us) → flat_map utf8 us ≡ us
+pub ascii_codes : (us : List ℕ) → AreAscii us 0 (length us) → flat_map utf8 us ≡ us
 ascii_codes [] low = refl
 ascii_codes (u ∷ us) low =
     ap₂ (λ xs ys. xs ++ ys) (utf8-1 u (low 0 (omega arith) (omega arith))) (ascii_codes us (λ k ge lt. low (suc k) (omega arith) (omega arith)))
 
-pub block_codes : (us : List ℕ) → length us ≡ 8 → AreAscii us 0 8 → flat_map utf8 us ≡ us
-block_codes us eight low = ascii_codes us (λ k ge lt. low k ge (omega arith))
+pub ascii_units : (us : List ℕ) → AreAscii us 0 (length us) → us ≡ flat_map utf16 us
+ascii_units [] low = refl
+ascii_units (u ∷ us) low =
+    let first : u < 0x80 = low 0 (omega arith) (omega arith) in
+    ap₂ (λ xs ys. xs ++ ys) (sym (utf16-1 u (omega arith))) (ascii_units us (λ k ge lt. low (suc k) (omega arith) (omega arith)))
+
+pub ascii_scalars : (us : List ℕ) → AreAscii us 0 (length us) → All IsScalar us
+ascii_scalars [] low = All-nil IsScalar
+ascii_scalars (u ∷ us) low =
+    All-cons IsScalar u us (ascii_is_scalar u (low 0 (omega arith) (omega arith))) (ascii_scalars us (λ k ge lt. low (suc k) (omega arith) (omega arith)))
 
 -- the eight units of sixteen bytes
 pub eight_units : (high : Bool) (w : List ℕ) → length w ≡ 16

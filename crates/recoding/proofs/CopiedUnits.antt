@@ -1,6 +1,6 @@
 -- Well-formed units recoded as they stand, or with the bytes of each swapped.
-use Rattle.std.proofs.Common.{◌≡◌, ℕ, zero, suc, ◌+◌, ◌-◌, ◌*◌, ◌/◌, ◌%◌, ◌<◌, Bool, true, false, not, List, [], ◌∷◌, ◌++◌, length, get_or, take, flat_map, refl, sym, ap, ap₂, ◌∙◌, arith, append_assoc, length-take, w8, Fits}
-use Rattle.std.proofs.Math.Bool.{beq}
+use Rattle.std.proofs.Common.{drop, subst, ◌≡◌, ℕ, zero, suc, ◌+◌, ◌-◌, ◌*◌, ◌/◌, ◌%◌, ◌<◌, Bool, true, false, not, List, [], ◌∷◌, ◌++◌, length, get_or, take, flat_map, refl, sym, ap, ap₂, ◌∙◌, arith, append_assoc, w8, Fits}
+use Rattle.std.proofs.lemmas.List.{get_or-drop}
 use Rattle.std.proofs.lemmas.List.Concat.{flat_map-append}
 use Rattle.std.specs.Prelude.{All}
 use Rattle.utf_base.specs.Code.{utf16}
@@ -10,14 +10,11 @@ use Rattle.utf_base.proofs.Rests.{whole_code_shows_first}
 use Rattle.utf_base.proofs.Utf16Code.{utf16_is_code}
 use Rattle.recoding.specs.declared.form.Form.{Form}
 use Rattle.recoding.specs.declared.form.Form.TheVariants.{Utf8, Utf16Le, Utf16Be}
-use Rattle.recoding.specs.Recoded.{ShowsUnits, odd_end, written}
-use Rattle.recoding.specs.Recodes.{CopiesUnits, Recodes}
+use Rattle.recoding.specs.Recoded.{written}
+use Rattle.recoding.specs.Recodes.{differ}
 use Rattle.utf_lanes.specs.BytePairs.{unit_of, units_of, bytes_of, swapped, turned}
-use Rattle.recoding.specs.ShownFronts.{ShowsEach, IsUnits}
+use Rattle.recoding.specs.ShownFronts.{IsUnits}
 use Rattle.utf_lanes.specs.UnitBlocks.{AreCodes}
-use Rattle.recoding.proofs.Blocks.{as_read, units_append, odd_append}
-use Rattle.recoding.proofs.Recodes.{Recodes-shown}
-use Rattle.recoding.proofs.SwappedRuns.{length_turned}
 
 -- Codes show their scalars.
 pub codes_show : (cs later ss : List ℕ) → All IsScalar cs → Shows utf16 later ss → Shows utf16 (flat_map utf16 cs ++ later) (cs ++ ss)
@@ -26,13 +23,6 @@ codes_show (s ∷ cs) later ss all r =
     rw (append_assoc (utf16 s) (flat_map utf16 cs) later)
     (whole_code_shows_first utf16 utf16_is_code (utf16 s) (flat_map utf16 cs ++ later) s (cs ++ ss) (all 0 s (omega arith)) refl
     (codes_show cs later ss (λ k d lt. all (suc k) d (omega arith)) r))
-
-coded_bytes_show : (high : Bool) (v : List ℕ) (k : ℕ) (h : AreCodes (units_of high v)) → length v ≡ 2 * k → ShowsEach (ShowsUnits high) v h.scalars
-coded_bytes_show high v k h even later ss (ts, r, f) = (
-  h.scalars ++ ts,
-  rw (units_append high v later k even, h.codes) (codes_show h.scalars (units_of high later) ts h.all r),
-  ap (λ xs. h.scalars ++ xs) f ∙ sym (append_assoc h.scalars ts (odd_end later)) ∙ ap (λ o. (h.scalars ++ ts) ++ o) (sym (odd_append v later k even)),
-)
 
 -- The codes of scalars as bytes are the bytes of their units.
 
@@ -54,10 +44,6 @@ same_pair false a b A B = let first : (b * 256 + a) % 256 ≡ a = omega arith in
 other_pair : (high : Bool) (a b : ℕ) → a < 256 → b < 256 → bytes_of (not high) (unit_of high a b) ≡ b ∷ a ∷ []
 other_pair true a b A B = let first : (a * 256 + b) % 256 ≡ b = omega arith in let second : (a * 256 + b) / 256 ≡ a = omega arith in ap₂ (λ x y. x ∷ y ∷ []) first second
 other_pair false a b A B = let first : (b * 256 + a) / 256 ≡ b = omega arith in let second : (b * 256 + a) % 256 ≡ a = omega arith in ap₂ (λ x y. x ∷ y ∷ []) first second
-
--- whether the bytes of a unit are swapped from one order to another
-abbrev pub differ : Bool → Bool → Bool
-differ high other = not (beq high other)
 
 pub same_order : (high : Bool) (v : List ℕ) (k : ℕ) → length v ≡ 2 * k → ((j : ℕ) → Fits w8 (get_or v j 0)) → flat_map (bytes_of high) (units_of high v) ≡ v
 same_order high [] k even fits = refl
@@ -89,15 +75,5 @@ pub coded_bytes : (high : Bool) (from : Form) (v : List ℕ) (k : ℕ) → IsUni
 coded_bytes high from v k form h even fits =
     sym (all_written high from h.scalars form ∙ ap (flat_map (bytes_of high)) (sym h.codes) ∙ same_order high v k even fits)
 
--- So well-formed units are recoded as they are, or as those with the bytes of each swapped.
-pub Recodes-units : {O : Type 0} {appends : O → List ℕ → O → Type 0} {old new : O} {from to : Form} {bytes : List ℕ} {n : ℕ} (high other : Bool) → IsUnits high from → IsUnits other to
-    → ((j : ℕ) → Fits w8 (get_or bytes j 0)) → CopiesUnits appends high (differ high other) bytes old new n → Recodes appends from to bytes old new n
-Recodes-units {from} {to} {bytes} {n} high other reads writes fits copied =
-    let h = copied.codes in
-    let even = copied.even in
-    let within = copied.within in
-    let half : length (take n bytes) ≡ 2 * (n / 2) = omega (arith, length-take n bytes) in
-    let codes : flat_map (written to) h.scalars ≡ turned (differ high other) (take n bytes)
-    = all_written other to h.scalars writes ∙ ap (flat_map (bytes_of other)) (sym h.codes) ∙ in_order high other (take n bytes) (n / 2) half (front_fits bytes n fits) in
-    Recodes-shown h.scalars (turned (differ high other) (take n bytes)) within (as_read high from (take n bytes) h.scalars reads (coded_bytes_show high (take n bytes) (n / 2) h half)) (sym codes)
-    (omega (arith, length_turned (differ high other) (take n bytes) (n / 2) half, length-take n bytes)) copied.appended
+pub rest_fits : (w : List ℕ) (n : ℕ) → ((j : ℕ) → Fits w8 (get_or w j 0)) → (j : ℕ) → Fits w8 (get_or (drop n w) j 0)
+rest_fits w n fits j = subst (Fits w8) (sym (get_or-drop n w j 0)) (fits (n + j))

@@ -1,5 +1,5 @@
 -- Text recoded: as itself, or as what its places give, the codes in UTF-16 of what it shows.
-use Rattle.std.proofs.Common.{◌≡◌, ℕ, suc, Bool, List, [], ◌∷◌, ◌++◌, length, take, flat_map, arith, refl, sym, ap, ap₂, ◌∙◌, append_assoc, length-take, ◌≤◌, IsUtf8}
+use Rattle.std.proofs.Common.{◌≡◌, ℕ, suc, Bool, List, [], ◌∷◌, ◌++◌, length, flat_map, arith, refl, sym, ap, ap₂, ◌∙◌, append_assoc}
 use Rattle.std.specs.Prelude.{All}
 use Rattle.utf_base.specs.Code.{utf8, utf16}
 use Rattle.utf_base.specs.Scalar.{IsScalar}
@@ -9,13 +9,9 @@ use Rattle.utf_base.proofs.Utf8Code.{utf8_is_code}
 use Rattle.recoding.specs.declared.form.Form.{Form}
 use Rattle.recoding.specs.declared.form.Form.TheVariants.{Utf8, Utf16Le, Utf16Be}
 use Rattle.recoding.specs.Recoded.{written}
-use Rattle.recoding.specs.Recodes.{Recodes}
 use Rattle.utf_lanes.specs.BytePairs.{bytes_of}
 use Rattle.recoding.specs.ShownFronts.{ShowsEach, IsUnits}
 use Rattle.utf_lanes.specs.GivenUnits.{given}
-use Rattle.recoding.proofs.GivenBytes.{length_given}
-use Rattle.recoding.proofs.Recodes.{Recodes-shown}
-use Rattle.encode_unicode.proofs.TextScalars.{joined_from_text}
 use Rattle.utf_lanes.proofs.TextUnits.{text_given}
 
 -- A text shows its characters, whatever follows.
@@ -38,20 +34,3 @@ same_codes high to (s ∷ cs) form = ap₂ (λ ys zs. ys ++ zs) (as_units high t
 pub given_codes : (high : Bool) (to : Form) → IsUnits high to → (text cs : List ℕ) → All IsScalar cs → text ≡ flat_map utf8 cs → flat_map (written to) cs ≡ given high text 0 (length text)
 given_codes high to form text cs all e =
     same_codes high to cs form ∙ sym (text_given high cs all) ∙ ap (λ ys. given high ys 0 (length ys)) (sym e)
-
--- So text is recoded as what it gives.
-pub Recodes-given : {O : Type 0} {appends : O → List ℕ → O → Type 0} {old new : O} {to : Form} {bytes : List ℕ} {n : ℕ} (high : Bool) → IsUnits high to → n ≤ length bytes → IsUtf8 (take n bytes)
-    → appends old (given high (take n bytes) 0 (length (take n bytes))) new → Recodes appends Utf8 to bytes old new n
-Recodes-given {to} {bytes} {n} high form within text put =
-    let t = joined_from_text (take n bytes) text in
-    let cs = t.0 in
-    let units = given high (take n bytes) 0 (length (take n bytes)) in
-    let codes : flat_map (written to) cs ≡ units = given_codes high to form (take n bytes) cs t.1.0 t.1.1 in
-    Recodes-shown cs units within (rw (sym t.1.1) at (shows_each cs t.1.0)) (sym codes) (omega (arith, length_given high (take n bytes) 0 (length (take n bytes)), length-take n bytes)) put
-
--- And as itself.
-pub Recodes-text : {O : Type 0} {appends : O → List ℕ → O → Type 0} {old new : O} {bytes : List ℕ} {n : ℕ} → n ≤ length bytes → IsUtf8 (take n bytes) → appends old (take n bytes) new
-    → Recodes appends Utf8 Utf8 bytes old new n
-Recodes-text {bytes} {n} within text put =
-    let t = joined_from_text (take n bytes) text in
-    Recodes-shown t.0 (take n bytes) within (rw (sym t.1.1) at (shows_each t.0 t.1.0)) t.1.1 (omega (arith, length-take n bytes)) put

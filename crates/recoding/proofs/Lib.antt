@@ -6,6 +6,7 @@ pub mod Earliest
 pub mod EnoughRoom
 pub mod FedParts
 pub mod FirstPieces
+pub mod Forms
 pub mod FrontBytes
 pub mod GivenBytes
 pub mod GivenRuns

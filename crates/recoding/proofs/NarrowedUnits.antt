@@ -1,27 +1,20 @@
 -- Units of text, and what their bytes show.
-use Rattle.std.proofs.Common.{◌≡◌, ℕ, zero, suc, ◌+◌, ◌-◌, ◌*◌, ◌<◌, ◌≤◌, Bool, true, false, ◌⊎◌, List, [], ◌∷◌, ◌++◌, length, get_or, take, flat_map, arith, refl, sym, ap, ap₂, ◌∙◌, inl, inr, append_assoc, length-take, length-append, w8, Fits}
-use Rattle.std.proofs.lemmas.Grind.{common_steps}
+use Rattle.std.proofs.Common.{◌≡◌, ℕ, zero, suc, ◌+◌, ◌-◌, ◌*◌, ◌<◌, ◌≤◌, Bool, true, false, ◌⊎◌, List, [], ◌∷◌, ◌++◌, length, get_or, take, flat_map, arith, refl, sym, ap, ap₂, ◌∙◌, inl, inr, append_assoc, length-take, w8, Fits}
 use Rattle.std.proofs.lemmas.List.Elements.{All-cons}
 use Rattle.std.specs.Prelude.{All}
 use Rattle.utf_base.specs.Code.{utf8, utf16}
 use Rattle.utf_base.specs.Scalar.{IsScalar}
-use Rattle.utf_base.specs.Shown.{Shows}
 use Rattle.utf_base.specs.Units.{is_leading_surrogate, is_trailing_surrogate, is_surrogate, pair_value}
-use Rattle.utf_base.proofs.Rests.{whole_code_shows_first}
-use Rattle.utf_base.proofs.Utf16Code.{utf16_is_code, unit_is_code, pair_is_code}
+use Rattle.utf_base.proofs.Utf16Code.{unit_is_code, pair_is_code}
 use Rattle.recoding.specs.declared.form.Form.{Form}
 use Rattle.recoding.specs.declared.form.Form.TheVariants.{Utf8}
-use Rattle.recoding.specs.Recoded.{Reads, ShowsUnits, odd_end}
-use Rattle.recoding.specs.Recodes.{Recodes}
 use Rattle.utf_lanes.specs.BytePairs.{unit_of, units_of}
-use Rattle.recoding.specs.ShownFronts.{ShowsEach, IsUnits}
+use Rattle.recoding.specs.ShownFronts.{IsUnits}
 use Rattle.utf_lanes.specs.GivenUnits.{joined}
 use Rattle.utf_lanes.specs.UnitBlocks.{AreCodes}
-use Rattle.utf_lanes.specs.UnitCodes.{unit_code, code_at, kept, first_in_text, middle_in_text, last_in_text, AreText}
+use Rattle.utf_lanes.specs.UnitCodes.{unit_code, code_at, AreText}
 use Rattle.recoding.specs.Strict.{Transcodes}
 use Rattle.recoding.proofs.CopiedUnits.{coded_bytes, front_fits}
-use Rattle.recoding.proofs.Blocks.{as_read, units_append, odd_append}
-use Rattle.recoding.proofs.Recodes.{Recodes-shown}
 use Rattle.utf_lanes.proofs.UnitBytes.{no_surrogate, character_code, pair_code, not_both, not_true}
 
 -- The bytes of units of text show what they do.
@@ -30,17 +23,16 @@ use Rattle.utf_lanes.proofs.UnitBytes.{no_surrogate, character_code, pair_code, 
 abbrev units : (ℕ → ℕ) → ℕ → ℕ → List ℕ
 units u k n = joined (λ i. u i ∷ []) k n
 
--- they are the codes of some scalars, which they show, and their bytes are codes of those
+-- they are the codes of some scalars, and their bytes are codes of those
 pub record Shown (u : ℕ → ℕ) (k n : ℕ) : Type 0 where
   ts : List ℕ
   all : All IsScalar ts
   made : units u k n ≡ flat_map utf16 ts
-  shows : (later ss : List ℕ) → Shows utf16 later ss → Shows utf16 (units u k n ++ later) (ts ++ ss)
   codes : joined (code_at u) k n ≡ flat_map utf8 ts
 
 shown_none : (u : ℕ → ℕ) (k : ℕ) → Shown u k 0
 unfolding joined
-shown_none u k = record { ts = []; all = λ i d lt. absurd (omega arith); made = refl; shows = λ later ss r. r; codes = refl }
+shown_none u k = record { ts = []; all = λ i d lt. absurd (omega arith); made = refl; codes = refl }
 
 shown_one : (u : ℕ → ℕ) (k n : ℕ) → u k < 0x1_0000 → is_leading_surrogate (u k) ≡ false → is_surrogate (u k) ≡ false → Shown u (suc k) n → Shown u k (suc n)
 unfolding joined
@@ -50,7 +42,6 @@ shown_one u k n fits e f rest =
       ts = u k ∷ rest.ts;
       all = All-cons IsScalar (u k) rest.ts unit.0 rest.all;
       made = ap₂ (λ xs ys. xs ++ ys) unit.1 rest.made;
-      shows = λ later ss r. whole_code_shows_first utf16 utf16_is_code (u k ∷ []) (units u (suc k) n ++ later) (u k) (rest.ts ++ ss) unit.0 unit.1 (rest.shows later ss r);
       codes = ap₂ (λ xs ys. xs ++ ys) (character_code (u (k - 1)) (u k) fits e f) rest.codes;
     }
 
@@ -65,8 +56,6 @@ shown_two u k n e f rest =
       ts = pair_value (u k) (u (suc k)) ∷ rest.ts;
       all = All-cons IsScalar (pair_value (u k) (u (suc k))) rest.ts pair.0 rest.all;
       made = ap₂ (λ xs ys. xs ++ ys) pair.1 rest.made;
-      shows = λ later ss r.
-          whole_code_shows_first utf16 utf16_is_code (u k ∷ u (suc k) ∷ []) (units u (suc (suc k)) n ++ later) (pair_value (u k) (u (suc k))) (rest.ts ++ ss) pair.0 pair.1 (rest.shows later ss r);
       codes =
           sym (append_assoc (unit_code (u (k - 1)) (u k)) (unit_code (u (suc k - 1)) (u (suc k))) (joined (code_at u) (suc (suc k)) n))
           ∙ ap₂ (λ xs ys. xs ++ ys) code rest.codes;
@@ -134,28 +123,7 @@ unit_fits : (high : Bool) (a b : ℕ) → a < 256 → b < 256 → unit_of high a
 unit_fits true a b A B = omega arith
 unit_fits false a b A B = omega arith
 
--- Each gives three bytes at most.
-
-length_kept : (b : ℕ) → length (kept b) ≤ 1
-length_kept b = grind (arith, common_steps)
-
-length_code : (u : ℕ → ℕ) (k : ℕ) → length (code_at u k) ≤ 3
-length_code u k =
-    let p = u (k - 1) in
-    let front = kept (middle_in_text p (u k)) in
-    let last = last_in_text (u k) ∷ [] in
-    omega (arith, length-append (kept (first_in_text (u k))) (front ++ last), length-append front last, length_kept (first_in_text (u k)), length_kept (middle_in_text p (u k)))
-
-length_codes : (u : ℕ → ℕ) (k n : ℕ) → length (joined (code_at u) k n) ≤ 3 * n
-unfolding joined
-length_codes u k zero = omega arith
-length_codes u k (suc n) = omega (arith, length-append (code_at u k) (joined (code_at u) (suc k) n), length_code u k, length_codes u (suc k) n)
-
-pub no_codes : (u : ℕ → ℕ) (n : ℕ) → n ≡ 0 → joined (code_at u) 0 n ≡ []
-unfolding joined
-no_codes u n none = rw none refl
-
--- So units that are text are recoded as their bytes.
+-- So units that are text are that in their bytes.
 module _ (high : Bool) (from : Form) (w : List ℕ) (u : ℕ → ℕ) (n : ℕ) (form : IsUnits high from) (fits : (i : ℕ) → Fits w8 (get_or w i 0)) (enough : 2 * n ≤ length w)
     (same : (k : ℕ) → k < n → u k ≡ unit_of high (get_or w (2 * k) 0) (get_or w (2 * k + 1) 0)) (text : AreText u n) where
   unit_below : (k : ℕ) → k < n → u k < 0x1_0000
@@ -167,24 +135,9 @@ module _ (high : Bool) (from : Form) (w : List ℕ) (u : ℕ → ℕ) (n : ℕ) 
   front_len : length (take (2 * n) w) ≡ 2 * n
   front_len = omega (arith, length-take (2 * n) w)
 
-  front_shows : ShowsEach (ShowsUnits high) (take (2 * n) w) (all_shown u n unit_below text).ts
-  front_shows later ss (ts, r, f) =
-      let s = all_shown u n unit_below text in (
-        s.ts ++ ts,
-        rw (units_append high (take (2 * n) w) later n front_len, front_units) (s.shows (units_of high later) ts r),
-        ap (λ xs. s.ts ++ xs) f ∙ sym (append_assoc s.ts ts (odd_end later)) ∙ ap (λ o. (s.ts ++ ts) ++ o) (sym (odd_append (take (2 * n) w) later n front_len)),
-      )
-
   abbrev s : Shown u 0 n
   s = all_shown u n unit_below text
 
-  units_show : ShowsEach (Reads from) (take (2 * n) w) s.ts
-  units_show = as_read high from (take (2 * n) w) s.ts form front_shows
-
-  pub Recodes-narrowed : {O : Type 0} {appends : O → List ℕ → O → Type 0} {old new : O} → appends old (joined (code_at u) 0 n) new → Recodes appends from Utf8 w old new (2 * n)
-  Recodes-narrowed put = Recodes-shown s.ts (joined (code_at u) 0 n) enough units_show s.codes (omega (arith, length_codes u 0 n)) put
-
-  -- and they are text
   pub Transcodes-narrowed : Transcodes from Utf8 (take (2 * n) w) (joined (code_at u) 0 n)
   Transcodes-narrowed =
       let codes : AreCodes (units_of high (take (2 * n) w)) = record { scalars = s.ts; all = s.all; codes = front_units ∙ s.made } in

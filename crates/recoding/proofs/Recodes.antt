@@ -1,19 +1,24 @@
 -- Recoding to the end of an output, step by step, and what its callers have of it.
-use Rattle.std.proofs.Common.{◌≡◌, ℕ, ◌+◌, ◌-◌, ◌*◌, ◌≤◌, Bool, true, false, List, [], ◌++◌, length, take, drop, flat_map, arith, rules, refl, ap, ap₂, sym, ◌∙◌, length-append, length-drop, length-take, take-append-drop}
-use Rattle.std.proofs.lemmas.List.{take_rest, drop-drop, append-nil}
+use Rattle.std.proofs.Common.{◌≡◌, ℕ, ◌+◌, ◌-◌, ◌*◌, ◌<◌, ◌≤◌, Bool, true, false, List, [], ◌++◌, length, take, drop, arith, rules, refl, ap, ap₂, sym, ◌∙◌, length-append, length-drop, length-take, take-append-drop}
+use Rattle.std.proofs.lemmas.List.{take_rest, drop-drop, drop_all}
 use Rattle.std.specs.Prelude.{IsTrue, IsFalse, Vec, vec_len, vec_capacity}
 use Rattle.recoding.specs.declared.form.Form.{Form}
 use Rattle.recoding.specs.declared.room.Room.{Room}
 use Rattle.recoding.specs.Recoded.{Reads, written, Grows, Lacks}
-use Rattle.recoding.specs.Recodes.{Recodes}
+use Rattle.recoding.specs.Recodes.{Reaches, Recodes}
+use Rattle.recoding.specs.declared.engine.Reached.{Reached}
 use Rattle.recoding.specs.Outputs.{Extends}
 use Rattle.recoding.specs.OutputRuns.{HasRoomFor, RunsOnto, RunsUntil}
 use Rattle.recoding.specs.FilledRooms.{FillsRoom}
 use Rattle.recoding.specs.Rooms.{IsFull}
-use Rattle.recoding.specs.ShownFronts.{Decides, ShowsEach}
+use Rattle.recoding.specs.ShownFronts.{Decides}
+use Rattle.recoding.proofs.FrontBytes.{lacks_all}
 use Rattle.recoding.proofs.Growing.{Grows-append, Grows-none, length_written}
-use Rattle.recoding.proofs.RoomLemmas.{Grows-ahead}
-use Rattle.recoding.proofs.RoomRuns.{Grows-after, Grows-part, Grows-shown}
+use Rattle.recoding.proofs.RoomLemmas.{Grows-ahead, IsFull-of}
+use Rattle.recoding.proofs.RoomRuns.{Grows-after, Grows-part}
+
+no_truth : IsTrue false → ⊥
+no_truth is = absurd cc
 
 -- what a list grew by, after other bytes
 Grows-onto : {from to : Form} {bytes grown held : List ℕ} (old : List ℕ) → Grows from to bytes [] grown held → Grows from to bytes old (old ++ grown) held
@@ -23,28 +28,6 @@ module _ {O : Type 0} {appends : O → List ℕ → O → Type 0} {from to : For
   -- nothing is recoded yet
   pub Recodes-none : ((a : O) → appends a [] a) → {out : O} → Recodes appends from to bytes out out 0
   Recodes-none none {out} = record { grown = []; appended = none out; within = omega arith; short = omega arith; grows = Grows-none from to (take 3 bytes) [] }
-
-  -- nothing more is appended
-  pub Recodes-same : ((a b c : O) (xs ys : List ℕ) → appends a xs b → appends b ys c → appends a (xs ++ ys) c) → {old mid new : O} {n : ℕ} (more : List ℕ) → more ≡ [] → appends mid more new
-      → Recodes appends from to bytes old mid n → Recodes appends from to bytes old new n
-  Recodes-same law {old} {mid} {new} more none put f = record {
-    grown = f.grown;
-    appended = rw (none, append-nil f.grown) at (law old mid new f.grown more f.appended put);
-    within = f.within;
-    short = f.short;
-    grows = f.grows;
-  }
-
-  -- bytes that show some scalars
-  pub Recodes-shown : {old new : O} {n : ℕ} (ts grown : List ℕ) → n ≤ length bytes → ShowsEach (Reads from) (take n bytes) ts → grown ≡ flat_map (written to) ts → length grown ≤ 3 * n
-      → appends old grown new → Recodes appends from to bytes old new n
-  Recodes-shown {n} ts grown within shows codes short put = record {
-    grown = grown;
-    appended = put;
-    within = within;
-    short = short;
-    grows = Grows-shown from to bytes [] grown ts n shows codes;
-  }
 
   -- the bytes that another left
   pub Recodes-then : ((a b c : O) (xs ys : List ℕ) → appends a xs b → appends b ys c → appends a (xs ++ ys) c) → {old mid new : O} {p n : ℕ}
@@ -97,6 +80,44 @@ module _ {O : Type 0} {appends : O → List ℕ → O → Type 0} {from to : For
         grows = Grows-part from to bytes [] f.grown count n le f.grows;
       }
 
+module _ {O : Type 0} {appends : O → List ℕ → O → Type 0} {room : O → ℕ} {from to : Form} {bytes : List ℕ} {old new : O} where
+  -- what follows decides
+  pub Reaches-waiting : {n : ℕ} → Recodes appends from to bytes old new n → length bytes ≤ n + 3 → Lacks from (drop n bytes)
+      → Reaches appends room from to bytes old new (record { read = n; is_full = false; is_waiting = true })
+  Reaches-waiting f waits lacks = record { runs = f; full = λ is. absurd (no_truth is); short = λ is. absurd (no_truth is); waits = λ is. waits; lacks = λ is. lacks }
+
+  -- all the bytes were recoded
+  pub Reaches-end : {n : ℕ} → Recodes appends from to bytes old new n → n ≡ length bytes → Reaches appends room from to bytes old new (record { read = n; is_full = false; is_waiting = true })
+  Reaches-end {n} f e = Reaches-waiting f (omega arith) (rw (drop_all n bytes (omega arith)) (lacks_all from))
+
+  -- there is no room for the code that begins the bytes left, and nothing more was put
+  pub Reaches-full : {mid : O} {n s len : ℕ} → Recodes appends from to bytes old mid n → new ≡ mid → Decides (Reads from) (take 4 (drop n bytes)) s len → room mid < length (written to s) → room mid < 4
+      → Reaches appends room from to bytes old new (record { read = n; is_full = true; is_waiting = false })
+  Reaches-full {mid} {n} {s} {len} f kept d longer short =
+      let xs = drop n bytes in
+      let full : IsFull (record { from = from; to = to; held = [] }) xs (room mid)
+      = rw (take-append-drop 4 xs) at (IsFull-of (record { from = from; to = to; held = [] }) from to (take 4 xs) (drop 4 xs) s len (room mid) refl refl d longer) in
+      rw kept (record { runs = f; full = λ is. full; short = λ is. short; waits = λ is. absurd (no_truth is); lacks = λ is. absurd (no_truth is) })
+
+  -- neither
+  pub Reaches-on : {n : ℕ} → Recodes appends from to bytes old new n → Reaches appends room from to bytes old new (record { read = n; is_full = false; is_waiting = false })
+  Reaches-on f = record { runs = f; full = λ is. absurd (no_truth is); short = λ is. absurd (no_truth is); waits = λ is. absurd (no_truth is); lacks = λ is. absurd (no_truth is) }
+
+  -- a run over the bytes that another left
+  pub Reaches-then : {mid : O} {p : ℕ} {reached : Reached} → ((a b c : O) (xs ys : List ℕ) → appends a xs b → appends b ys c → appends a (xs ++ ys) c)
+      → Recodes appends from to bytes old mid p → Reaches appends room from to (take (length bytes - p) (drop p bytes)) mid new reached
+      → Reaches appends room from to bytes old new (record { read = p + reached.read; is_full = reached.is_full; is_waiting = reached.is_waiting })
+  Reaches-then {mid} {p} {reached} more f r =
+      let g : Reaches appends room from to (drop p bytes) mid new reached = rw (take_rest bytes p) at r in
+      let left : drop reached.read (drop p bytes) ≡ drop (p + reached.read) bytes = drop-drop reached.read p bytes in
+      record {
+        runs = Recodes-then more f r.runs;
+        full = rw left at g.full;
+        short = g.short;
+        waits = λ is. let few = g.waits is in omega (arith, length-drop p bytes);
+        lacks = rw left at g.lacks;
+      }
+
 -- What the front of a slice grew by.
 pub Grows-room : {from to : Form} {bytes old new : List ℕ} {place n : ℕ} (a b : Room) → a.bytes.now ≡ old → a.len ≡ place → b.bytes.now ≡ new → Recodes FillsRoom from to bytes a b n
     → Grows from to (take (n + 3) bytes) (take place old) (take b.len new) (take 3 (drop n bytes))
@@ -132,13 +153,8 @@ unless_full P true never waits = absurd (never (search rules))
 unless_full P false never waits = waits (search rules)
 
 -- What a list grew by that had room for all.
-pub RunsUntil-of : {Z : Type 0} {from to : Form} {bytes : List ℕ} {old new : Vec ℕ Z} {read : ℕ} (full : Bool) → HasRoomFor old (length bytes)
-    → Recodes Extends from to bytes old new read → (IsTrue full → IsFull (record { from = from; to = to; held = [] }) (drop read bytes) (vec_capacity new - vec_len new))
-    → (IsFalse full → length bytes ≤ read + 3) → (IsFalse full → Lacks from (drop read bytes)) → RunsUntil from to bytes old new (length bytes) read
-RunsUntil-of {from} {bytes} {read} full room runs if_full waits lacks =
-    let never = λ (is : IsTrue full). never_full room runs (if_full is) in
-    record {
-      runs = RunsOnto-of runs;
-      waits = λ _. unless_full (length bytes ≤ read + 3) full never waits;
-      lacks = λ _. unless_full (Lacks from (drop read bytes)) full never lacks;
-    }
+pub RunsUntil-of : {Z : Type 0} {from to : Form} {bytes : List ℕ} {old new : Vec ℕ Z} {reached : Reached} → HasRoomFor old (length bytes)
+    → Reaches Extends (λ v. vec_capacity v - vec_len v) from to bytes old new reached → (IsFalse reached.is_full → IsTrue reached.is_waiting) → RunsUntil from to bytes old new (length bytes) reached.read
+RunsUntil-of {from} {bytes} {reached} room f ends =
+    let waiting : IsTrue reached.is_waiting = unless_full (IsTrue reached.is_waiting) reached.is_full (λ is. never_full room f.runs (f.full is)) ends in
+    record { runs = RunsOnto-of f.runs; waits = λ lt. f.waits waiting; lacks = λ lt. f.lacks waiting }

@@ -1,7 +1,6 @@
 -- What grows by the three bytes that follow, step by step, and how long codes are.
 use Rattle.std.proofs.Common.{◌≡◌, ℕ, Bool, true, false, ◌+◌, ◌-◌, ◌<◌, ◌≤◌, List, [], ◌++◌, length, take, drop, flat_map, arith, ap, ap₂, sym, ⊎_elim, subst, ◌∙◌, append_assoc, length-take}
 use Rattle.std.proofs.lemmas.List.{drop-drop, take-take, take_all}
-use Rattle.std.proofs.lemmas.List.Concat.{flat_map-append}
 use Rattle.std.proofs.lemmas.Bool.{cases_lt}
 use Rattle.utf_base.specs.Code.{utf16}
 use Rattle.utf_base.specs.Scalar.{IsScalar}
@@ -10,9 +9,8 @@ use Rattle.utf_base.proofs.Utf16Code.{utf16-1, utf16-2}
 use Rattle.recoding.specs.declared.form.Form.{Form}
 use Rattle.recoding.specs.declared.room.Room.{Room}
 use Rattle.recoding.specs.declared.form.Form.TheVariants.{Utf8, Utf16Le, Utf16Be}
-use Rattle.recoding.specs.Recoded.{Reads, written, Grows}
+use Rattle.recoding.specs.Recoded.{written, Grows}
 use Rattle.utf_lanes.specs.BytePairs.{bytes_of}
-use Rattle.recoding.specs.ShownFronts.{ShowsEach}
 use Rattle.recoding.specs.FilledRooms.{FillsRoom}
 use Rattle.recoding.specs.Rooms.{Fills}
 use Rattle.recoding.proofs.Growing.{Grows-trans}
@@ -52,19 +50,6 @@ pub some_written : (to : Form) (s : ℕ) → IsScalar s → 0 < length (written 
 some_written Utf8 s scalar = utf8_is_code.some s scalar
 some_written Utf16Le s scalar = some_units false s
 some_written Utf16Be s scalar = some_units true s
-
--- bytes that show several scalars
-pub Grows-shown : (from to : Form) (xs old new ts : List ℕ) (n : ℕ) → ShowsEach (Reads from) (take n xs) ts → new ≡ old ++ flat_map (written to) ts
-    → Grows from to (take (n + 3) xs) old new (take 3 (drop n xs))
-Grows-shown from to xs old new ts n shows e = record {
-  grown = flat_map (written to) ts;
-  appended = e;
-  continues = λ later rest (ss, r, f).
-      let whole : take n xs ++ (take 3 (drop n xs) ++ later) ≡ take (n + 3) xs ++ later
-      = sym (append_assoc (take n xs) (take 3 (drop n xs)) later) ∙ ap (λ ys. ys ++ later) (take_more n 3 xs) in
-      let codes : flat_map (written to) ts ++ rest ≡ flat_map (written to) (ts ++ ss) = ap (λ ys. flat_map (written to) ts ++ ys) f ∙ sym (flat_map-append (written to) ts ss) in
-      (ts ++ ss, rw whole at (shows (take 3 (drop n xs) ++ later) ss r), codes);
-}
 
 -- A run over the first bytes of some is one over all of them.
 

@@ -1,16 +1,12 @@
 -- Calls of strict recoding, step by step.
-use Rattle.std.proofs.Common.{◌≡◌, ℕ, suc, ◌+◌, ◌-◌, ◌*◌, ◌<◌, ◌≤◌, ⊎_elim, lit<, Some, None, List, [], ◌∷◌, ◌++◌, length, take, drop, flat_map, arith, refl, ap, ap₂, sym, subst, ◌∙◌, append_assoc, length-append, length-drop, length-take, take-append-drop}
+use Rattle.std.proofs.Common.{◌≡◌, ℕ, ◌+◌, ◌-◌, ◌*◌, ◌<◌, ◌≤◌, ⊎_elim, Some, None, List, ◌++◌, length, take, drop, arith, refl, ap, ap₂, sym, subst, ◌∙◌, append_assoc, length-append, length-drop, length-take, take-append-drop}
 use Rattle.std.proofs.Math.Seq.{drop-append-add}
-use Rattle.std.specs.Prelude.{All}
 use Rattle.std.proofs.lemmas.Bool.{cases_lt}
 use Rattle.std.proofs.lemmas.List.{drop_all, drop-drop, take_all, drop-append-le, take-append-le}
-use Rattle.utf_base.specs.Scalar.{IsScalar}
-use Rattle.utf_base.proofs.Utf8Code.{utf8-4}
-use Rattle.utf_base.proofs.Utf16Code.{utf16-2}
 use Rattle.recoding.specs.Recoded.{Recoding, written}
 use Rattle.recoding.specs.Rooms.{Fills, ComesNearer}
 use Rattle.recoding.specs.ShownFronts.{fault_len}
-use Rattle.recoding.specs.Strict.{Transcodes, BeginsChar, BeginsFault, EndsInFault, IsTooLong, RecodesText, RunsStrictly, IsLonger, EndsFeed, EndsHeld, FeedsStrictly, FinishesStrictly, PassesHeld, EndsRun}
+use Rattle.recoding.specs.Strict.{BeginsChar, BeginsFault, EndsInFault, IsTooLong, RecodesText, RunsStrictly, IsLonger, EndsFeed, EndsHeld, FeedsStrictly, FinishesStrictly, PassesHeld, EndsRun}
 use Rattle.recoding.specs.declared.faults.FaultKind.{FaultKind}
 use Rattle.recoding.specs.declared.faults.Outcome.{Outcome}
 use Rattle.recoding.specs.declared.faults.Outcome.TheVariants.{AllRead, Full, Faulty}
@@ -20,9 +16,8 @@ use Rattle.recoding.specs.declared.form.Form.TheVariants.{Utf8, Utf16Le, Utf16Be
 use Rattle.recoding.specs.declared.strict.HeldRun.{HeldRun}
 use Rattle.recoding.specs.declared.strict_runs.StrictRun.{StrictRun}
 use Rattle.recoding.proofs.FirstPieces.{fault_is_some}
-use Rattle.recoding.proofs.Growing.{length_written}
-use Rattle.recoding.proofs.RoomRuns.{few_written, some_written}
-use Rattle.recoding.proofs.TextRuns.{RecodesText-run, RunsStrictly-char}
+use Rattle.recoding.proofs.RoomRuns.{few_written}
+use Rattle.recoding.proofs.TextRuns.{RecodesText-run, RunsStrictly-char, code_room, text_room}
 
 -- A front of two lists, one after the other.
 pub drop_both : (n : ℕ) (xs ys : List ℕ) → drop n (xs ++ ys) ≡ drop n xs ++ drop (n - length xs) ys
@@ -81,30 +76,6 @@ fault_parts n w held rest e = sym (take-append-drop n w) ∙ ap (λ zs. take n w
 pub RecodesText-char : {from to : Form} {all left old mid new : List ℕ} {wrote s n end : ℕ} → RecodesText from to all left old mid wrote → length mid ≡ length old
     → BeginsChar from left s n → Fills mid new wrote end (written to s) → RecodesText from to all (drop n left) old new end
 RecodesText-char f len d fills = RecodesText-run f len (RunsStrictly-char d fills)
-
--- How much room a text takes.
-
-wide_written : (from : Form) (s : ℕ) → 0x1_0000 ≤ s → 2 ≤ length (written from s)
-wide_written Utf8 s high = let len : length (written Utf8 s) ≡ 4 = ap length (utf8-4 s high) in omega arith
-wide_written Utf16Le s high = rw (utf16-2 s high) (lit< tt)
-wide_written Utf16Be s high = rw (utf16-2 s high) (lit< tt)
-
-pub code_room : (from to : Form) (s : ℕ) → IsScalar s → length (written to s) ≤ 3 * length (written from s)
-code_room from to s scalar = length_written to s (length (written from s)) (some_written from s scalar) (wide_written from s)
-
-codes_room : (from to : Form) (ss : List ℕ) → All IsScalar ss → length (flat_map (written to) ss) ≤ 3 * length (flat_map (written from) ss)
-codes_room from to [] all = omega arith
-codes_room from to (s ∷ ss) all =
-    omega (
-      arith,
-      code_room from to s (all 0 s (omega arith)),
-      codes_room from to ss (λ k d lt. all (suc k) d (omega arith)),
-      length-append (written to s) (flat_map (written to) ss),
-      length-append (written from s) (flat_map (written from) ss),
-    )
-
-pub text_room : {from to : Form} {text out : List ℕ} → Transcodes from to text out → length out ≤ 3 * length text
-text_room {from} {to} t = omega (arith, codes_room from to t.scalars t.all, ap length t.codes, ap length t.made)
 
 -- Three bytes of room for each byte are enough.
 pub enough_room : {from to : Form} {all left old new : List ℕ} {wrote : ℕ} → RecodesText from to all left old new wrote → length new ≡ length old → 3 * length all ≤ length old

@@ -2,21 +2,14 @@
 use Rattle.std.proofs.Common.{◌≡◌, ℕ, zero, suc, ◌+◌, ◌*◌, ◌/◌, ◌%◌, ◌<◌, ◌≤◌, Bool, true, false, List, [], ◌∷◌, ◌++◌, length, get_or, take, drop, flat_map, arith, refl, sym, ap, ap₂, ◌∙◌, drop-cons, take-add, take-append-drop, length-append, length-take}
 use Rattle.std.proofs.lemmas.Grind.{flat_map-append}
 use Rattle.std.proofs.lemmas.List.{append-nil, take_all}
-use Rattle.utf_base.specs.Code.{utf8}
-use Rattle.utf_base.specs.Scalar.{IsScalar}
-use Rattle.utf_base.specs.Shown.{Shows}
-use Rattle.utf_base.proofs.Rests.{whole_code_shows_first}
-use Rattle.utf_base.proofs.Utf8Code.{utf8_is_code, utf8-1}
 use Rattle.utf_base.proofs.Utf16Code.{utf16-1}
 use Rattle.recoding.specs.declared.form.Form.{Form}
 use Rattle.recoding.specs.declared.form.Form.TheVariants.{Utf8, Utf16Le, Utf16Be}
 use Rattle.recoding.specs.Recoded.{written}
-use Rattle.recoding.specs.ShownFronts.{ShowsEach, IsUnits}
+use Rattle.recoding.specs.ShownFronts.{IsUnits}
 use Rattle.utf_lanes.specs.GivenUnits.{joined, halves}
-use Rattle.recoding.specs.Recodes.{Recodes}
 use Rattle.utf_lanes.specs.AsciiTexts.{AreAscii}
 use Rattle.recoding.specs.UnitRuns.{widened}
-use Rattle.recoding.proofs.Recodes.{Recodes-shown}
 use Rattle.utf_lanes.proofs.Joined.{joined_add}
 
 -- What was written.
@@ -61,15 +54,7 @@ block_widened high v first second n long e f =
     let at : 0 + n ≡ n = omega arith in
     ap₂ (λ xs ys. xs ++ ys) e f ∙ sym (rw at at whole) ∙ joined_widened high v 0 (n + n) (omega (arith, long)) ∙ ap (widened high) all
 
--- What it shows.
-
-ascii_shows : (xs : List ℕ) → AreAscii xs 0 (length xs) → ShowsEach (Shows utf8) xs xs
-ascii_shows [] low later ss h = h
-ascii_shows (b ∷ bs) low later ss h =
-    let first : b < 0x80 = low 0 (omega arith) (omega arith) in
-    let scalar : IsScalar b = record { below = omega arith; no_surrogate = λ g. omega arith } in
-    whole_code_shows_first utf8 utf8_is_code (b ∷ []) (bs ++ later) b (bs ++ ss) scalar (sym (utf8-1 b first))
-    (ascii_shows bs (λ k ge lt. low (suc k) (omega arith) (omega arith)) later ss h)
+-- The codes of ASCII.
 
 unit_written : (high : Bool) (to : Form) (b : ℕ) → IsUnits high to → b < 0x80 → written to b ≡ halves high b 0
 unit_written high Utf8 b form lt = absurd form
@@ -82,14 +67,7 @@ unit_written high Utf16Be b form lt =
     let low_byte : b % 256 ≡ b = omega arith in
     rw (form, utf16-1 b (omega arith), high_byte, low_byte) refl
 
-units_written : (high : Bool) (to : Form) (xs : List ℕ) → IsUnits high to → AreAscii xs 0 (length xs) → flat_map (written to) xs ≡ widened high xs
+pub units_written : (high : Bool) (to : Form) (xs : List ℕ) → IsUnits high to → AreAscii xs 0 (length xs) → flat_map (written to) xs ≡ widened high xs
 units_written high to [] form low = refl
 units_written high to (b ∷ bs) form low =
     ap₂ (λ ys zs. ys ++ zs) (unit_written high to b form (low 0 (omega arith) (omega arith))) (units_written high to bs form (λ k ge lt. low (suc k) (omega arith) (omega arith)))
-
--- So a text of ASCII is recoded as its units.
-pub Recodes-widened : {O : Type 0} {appends : O → List ℕ → O → Type 0} {old new : O} {to : Form} {bytes : List ℕ} {n : ℕ} (high : Bool) → IsUnits high to → n ≤ length bytes
-    → AreAscii (take n bytes) 0 (length (take n bytes)) → appends old (widened high (take n bytes)) new → Recodes appends Utf8 to bytes old new n
-Recodes-widened {to} {bytes} {n} high form within low put =
-    Recodes-shown (take n bytes) (widened high (take n bytes)) within (ascii_shows (take n bytes) low) (sym (units_written high to (take n bytes) form low))
-    (omega (arith, length_widened high (take n bytes), length-take n bytes)) put

@@ -4,12 +4,12 @@ ghost use Rattle.recoding.specs.Recoded.{Reads, written, Grows, Lacks};
 ghost use Rattle.recoding.specs.ShownFronts.{Decides};
 ghost use Rattle.recoding.specs.Rooms.{Fills, IsFull, IsLastFull, Leaves};
 
-use crate::engine::{has_room_for_all, put_fitting, recode};
+use crate::engine::{has_room_for_all, recode};
 use crate::form::Form;
+use crate::form_calls::{front, last_front, put_fitting};
 use crate::recoder_runs::join;
 use crate::room::Room;
 use crate::rooms::Progress;
-use crate::shown_fronts::{front, last_front};
 
 // Writes the code of the character into the room from the place on, where it fits, and answers the place after it.
 #[inline(always)]

@@ -3,10 +3,9 @@ ghost use Rattle.std.specs.Prelude.{◌≡◌, ◌+◌, ◌≤◌, length, take,
 ghost use Rattle.recoding.specs.Recoded.{Finishes};
 ghost use Rattle.recoding.specs.OutputRuns.{HasRoomFor, RunsUntil};
 
-use crate::codes::put_code;
 use crate::engine::recode;
 use crate::form::Form;
-use crate::shown_fronts::{front, last_front};
+use crate::form_calls::{front, last_front, put_code};
 use std::alloc::Allocator;
 
 // Recodes the bytes as far as no later byte can change what they show, and not past the place `stop`

@@ -16,51 +16,11 @@ use encode_unicode::error::Utf8ErrorKind;
 use encode_unicode::{CharExt, U16UtfExt};
 use utf_base::elements::is_continuation;
 use utf_lanes::byte_pairs::unit;
-use utf_lanes::text_front::front_of_text;
 
 // The scalar that begins the bytes, or U+FFFD for a fault, and how many bytes it has; `None` where that
 // depends on what follows them.
 #[inline(always)]
-pub(crate) fn front(from: Form, bytes: &[u8]) -> Option<(char, usize)>
-    ensures some { IfSome result (λ x. Decides (Reads from) bytes.now x.0 x.1) }
-    ensures none { IfNone result (Waits (Reads from) (fault_len from) bytes.now) }
-    ensures lacks { IfNone result (Lacks from bytes.now) }
-{
-    match from {
-        Form::Utf8 => front_of_utf8(bytes),
-        Form::Utf16Le => front_of_utf16(false, bytes),
-        Form::Utf16Be => front_of_utf16(true, bytes),
-    }
-}
-
-// The same where nothing follows the bytes.
-#[inline(always)]
-pub(crate) fn last_front(from: Form, bytes: &[u8]) -> (char, usize)
-    requires { 0 < length bytes.now }
-    ensures { Ends (Reads from) bytes.now result.0 result.1 }
-{
-    match front(from, bytes) {
-        Some(first) => first,
-        None => (
-            char::REPLACEMENT_CHARACTER,
-            fault_bytes(from).min(bytes.len()),
-        ),
-    }
-}
-
-// How many bytes a fault has.
-#[inline(always)]
-fn fault_bytes(from: Form) -> usize
-    ensures { result ≡ fault_len from }
-{
-    match from {
-        Form::Utf8 => 1,
-        Form::Utf16Le | Form::Utf16Be => 2,
-    }
-}
-
-#[inline(always)]
-fn front_of_utf8(bytes: &[u8]) -> Option<(char, usize)>
+pub(crate) fn front_of_utf8(bytes: &[u8]) -> Option<(char, usize)>
     ensures some { IfSome result (λ x. Decides (Shows utf8) bytes.now x.0 x.1) }
     ensures none { IfNone result (Waits (Shows utf8) 1 bytes.now) }
     ensures lacks { IfNone result (Lacks Form.Utf8 bytes.now) }
@@ -110,16 +70,17 @@ fn may_be_second(first: u8, second: u8) -> bool
         }
 }
 
+// The same of UTF-16.
 #[inline(always)]
-fn front_of_utf16(high_first: bool, bytes: &[u8]) -> Option<(char, usize)>
-    ensures some { IfSome result (λ x. Decides (ShowsUnits high_first) bytes.now x.0 x.1) }
-    ensures none { IfNone result (Waits (ShowsUnits high_first) 2 bytes.now) }
-    ensures lacks { IfNone result (unit_fault_kind (units_of high_first bytes.now) ≡ Some Incomplete) }
+pub(crate) fn front_of_utf16<const BIG_ENDIAN: bool>(bytes: &[u8]) -> Option<(char, usize)>
+    ensures some { IfSome result (λ x. Decides (ShowsUnits BIG_ENDIAN) bytes.now x.0 x.1) }
+    ensures none { IfNone result (Waits (ShowsUnits BIG_ENDIAN) 2 bytes.now) }
+    ensures lacks { IfNone result (unit_fault_kind (units_of BIG_ENDIAN bytes.now) ≡ Some Incomplete) }
 {
     if bytes.len() < 2 {
         return None;
     }
-    let first = unit(high_first, bytes[0], bytes[1]);
+    let first = unit(BIG_ENDIAN, bytes[0], bytes[1]);
     if !first.is_utf16_leading_surrogate() {
         return match char::from_utf16_tuple((first, None)) {
             Ok(c) => Some((c, 2)),
@@ -129,7 +90,7 @@ fn front_of_utf16(high_first: bool, bytes: &[u8]) -> Option<(char, usize)>
     if bytes.len() < 4 {
         return None;
     }
-    let second = unit(high_first, bytes[2], bytes[3]);
+    let second = unit(BIG_ENDIAN, bytes[2], bytes[3]);
     match char::from_utf16_tuple((first, Some(second))) {
         Ok(c) => Some((c, 4)),
         Err(_) => Some((char::REPLACEMENT_CHARACTER, 2)),
@@ -138,35 +99,13 @@ fn front_of_utf16(high_first: bool, bytes: &[u8]) -> Option<(char, usize)>
 
 // The character that begins the bytes, and how many bytes it has; `None` at a fault, and near the end.
 #[inline(always)]
-pub(crate) fn text_front(from: Form, bytes: &[u8]) -> Option<(char, usize)>
-    ensures { IfSome result (λ x. Decides (Reads from) bytes.now x.0 x.1) }
-{
-    match from {
-        Form::Utf8 => front_of_text(bytes),
-        Form::Utf16Le => char_of_utf16(false, bytes),
-        Form::Utf16Be => char_of_utf16(true, bytes),
-    }
-}
-
-// How many bytes there have to be for `text_front` to answer a character.
-#[inline(always)]
-pub(crate) fn least_front(from: Form) -> usize
-    ensures { 0 < result }
-{
-    match from {
-        Form::Utf8 => 4,
-        Form::Utf16Le | Form::Utf16Be => 2,
-    }
-}
-
-#[inline(always)]
-fn char_of_utf16(high_first: bool, bytes: &[u8]) -> Option<(char, usize)>
-    ensures { IfSome result (λ x. Decides (ShowsUnits high_first) bytes.now x.0 x.1) }
+pub(crate) fn char_of_utf16<const BIG_ENDIAN: bool>(bytes: &[u8]) -> Option<(char, usize)>
+    ensures { IfSome result (λ x. Decides (ShowsUnits BIG_ENDIAN) bytes.now x.0 x.1) }
 {
     if bytes.len() < 2 {
         return None;
     }
-    let first = unit(high_first, bytes[0], bytes[1]);
+    let first = unit(BIG_ENDIAN, bytes[0], bytes[1]);
     if !first.is_utf16_leading_surrogate() {
         return match char::from_utf16_tuple((first, None)) {
             Ok(c) => Some((c, 2)),
@@ -176,7 +115,7 @@ fn char_of_utf16(high_first: bool, bytes: &[u8]) -> Option<(char, usize)>
     if bytes.len() < 4 {
         return None;
     }
-    let second = unit(high_first, bytes[2], bytes[3]);
+    let second = unit(BIG_ENDIAN, bytes[2], bytes[3]);
     match char::from_utf16_tuple((first, Some(second))) {
         Ok(c) => Some((c, 4)),
         Err(_) => None,
@@ -185,13 +124,12 @@ fn char_of_utf16(high_first: bool, bytes: &[u8]) -> Option<(char, usize)>
 
 // The eight characters of ASCII that sixteen bytes are as units. `None` where a unit is anything else.
 #[inline(always)]
-#[tactic(auto, using(crate::proofs::Blocks::block_codes))]
-pub(crate) fn ascii_of_units(high_first: bool, bytes: &[u8]) -> Option<[u8; 8]>
+pub(crate) fn ascii_of_units<const BIG_ENDIAN: bool>(bytes: &[u8]) -> Option<[u8; 8]>
     requires { length bytes.now ≡ 16 }
-    ensures shows { IfSome result (λ ascii. ShowsEach (ShowsUnits high_first) bytes.now ascii) }
-    ensures codes { IfSome result (λ ascii. flat_map utf8 ascii ≡ ascii) }
+    ensures units { IfSome result (λ ascii. units_of BIG_ENDIAN bytes.now ≡ ascii) }
+    ensures ascii { IfSome result (λ ascii. AreAscii ascii 0 8) }
 {
-    let units = eight_units(high_first, bytes);
+    let units = eight_units::<BIG_ENDIAN>(bytes);
     if eight_are_ascii(units) {
         Some(eight_bytes(units))
     } else {
@@ -201,19 +139,19 @@ pub(crate) fn ascii_of_units(high_first: bool, bytes: &[u8]) -> Option<[u8; 8]>
 
 #[inline(always)]
 #[tactic(auto, using(crate::proofs::Blocks::eight_units))]
-fn eight_units(high_first: bool, bytes: &[u8]) -> [u16; 8]
+fn eight_units<const BIG_ENDIAN: bool>(bytes: &[u8]) -> [u16; 8]
     requires { length bytes.now ≡ 16 }
-    ensures { result ≡ units_of high_first bytes.now }
+    ensures { result ≡ units_of BIG_ENDIAN bytes.now }
 {
     [
-        unit(high_first, bytes[0], bytes[1]),
-        unit(high_first, bytes[2], bytes[3]),
-        unit(high_first, bytes[4], bytes[5]),
-        unit(high_first, bytes[6], bytes[7]),
-        unit(high_first, bytes[8], bytes[9]),
-        unit(high_first, bytes[10], bytes[11]),
-        unit(high_first, bytes[12], bytes[13]),
-        unit(high_first, bytes[14], bytes[15]),
+        unit(BIG_ENDIAN, bytes[0], bytes[1]),
+        unit(BIG_ENDIAN, bytes[2], bytes[3]),
+        unit(BIG_ENDIAN, bytes[4], bytes[5]),
+        unit(BIG_ENDIAN, bytes[6], bytes[7]),
+        unit(BIG_ENDIAN, bytes[8], bytes[9]),
+        unit(BIG_ENDIAN, bytes[10], bytes[11]),
+        unit(BIG_ENDIAN, bytes[12], bytes[13]),
+        unit(BIG_ENDIAN, bytes[14], bytes[15]),
     ]
 }
 
@@ -257,19 +195,6 @@ fn low(unit: u16) -> u8
     ensures { result ≡ unit % 256 }
 {
     (unit % 256) as u8
-}
-
-// Whether the high byte of each unit is the first, in a form that has units.
-#[inline(always)]
-pub(crate) fn high_is_first(form: Form) -> Option<bool>
-    ensures some { IfSome result (λ high_first. IsUnits high_first form) }
-    ensures none { IfNone result (form ≡ Form.Utf8) }
-{
-    match form {
-        Form::Utf8 => None,
-        Form::Utf16Le => Some(false),
-        Form::Utf16Be => Some(true),
-    }
 }
 
 // The first four bytes, or all where they are fewer.

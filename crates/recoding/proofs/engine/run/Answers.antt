@@ -1,7 +1,4 @@
-use Rattle.std.proofs.Common.{◌+◌, arith}
-use Rattle.std.proofs.lemmas.List.{drop_all}
-use Rattle.recoding.proofs.FrontBytes.{lacks_all}
-use Rattle.recoding.proofs.Recodes.{Recodes-then}
+use Rattle.recoding.proofs.Recodes.{Reaches-end, Reaches-then, Recodes-then}
 use Rattle.recoding.proofs.engine.run.Goals as goal
 
 pub parts-preserved-then-blocks-ge-MANY : goal.parts-preserved-then-blocks-ge-MANY
@@ -15,28 +12,19 @@ parts-preserved g c =
 pub parts-preserved-then-count : goal.parts-preserved-then-count
 parts-preserved-then-count g c =
     let law = g.met.O.Output.appends_more in
-    Recodes-then law (Recodes-then law (Recodes-then law c.parts.invariant c.recode_blocks-blocks.ensures) c.recode_stretch-count.ensures) c.recode_few-few.ensures.runs
+    Recodes-then law (Recodes-then law (Recodes-then law c.parts.invariant c.recode_blocks-blocks.ensures) c.recode_stretch-count.ensures) c.recode_few-few.ensures.reaches.runs
 
-pub returns-then-few-clause-runs : goal.returns-then-few-clause-runs
-returns-then-few-clause-runs g c =
+pub returns-then-few-clause-reaches : goal.returns-then-few-clause-reaches
+returns-then-few-clause-reaches g c =
     let law = g.met.O.Output.appends_more in
-    Recodes-then law (Recodes-then law (Recodes-then law c.parts.invariant c.recode_blocks-blocks.ensures) c.recode_stretch-count.ensures) c.recode_few-few.ensures.runs
+    Reaches-then law (Recodes-then law (Recodes-then law c.parts.invariant c.recode_blocks-blocks.ensures) c.recode_stretch-count.ensures) c.recode_few-few.ensures.reaches
 
-pub returns-then-read-bytes-clause-runs : goal.returns-then-read-bytes-clause-runs
-returns-then-read-bytes-clause-runs g c =
-    rw c.ended.ensures (Recodes-then g.met.O.Output.appends_more c.parts.invariant c.recode_blocks-blocks.ensures)
+pub returns-then-read-bytes-clause-reaches : goal.returns-then-read-bytes-clause-reaches
+returns-then-read-bytes-clause-reaches g c =
+    rw c.ended.ensures (Reaches-end (Recodes-then g.met.O.Output.appends_more c.parts.invariant c.recode_blocks-blocks.ensures) c.if-read-bytes.true)
 
-pub returns-then-read-bytes-clause-lacks : goal.returns-then-read-bytes-clause-lacks
-returns-then-read-bytes-clause-lacks g c =
-    let end = c.parts.read + c.recode_blocks-blocks.result in
-    rw c.ended.ensures (λ _. rw (drop_all end c.args.bytes.now (omega arith)) (lacks_all c.args.from))
-
-pub returns-then-read-bytes-2-clause-runs : goal.returns-then-read-bytes-2-clause-runs
-returns-then-read-bytes-2-clause-runs g c =
+pub returns-then-read-bytes-2-clause-reaches : goal.returns-then-read-bytes-2-clause-reaches
+returns-then-read-bytes-2-clause-reaches g c =
     let law = g.met.O.Output.appends_more in
-    rw c.ended-then-read-bytes-2.ensures (Recodes-then law (Recodes-then law c.parts.invariant c.recode_blocks-blocks.ensures) c.recode_stretch-count.ensures)
-
-pub returns-then-read-bytes-2-clause-lacks : goal.returns-then-read-bytes-2-clause-lacks
-returns-then-read-bytes-2-clause-lacks g c =
-    let end = c.parts.read + c.recode_blocks-blocks.result + c.recode_stretch-count.result in
-    rw c.ended-then-read-bytes-2.ensures (λ _. rw (drop_all end c.args.bytes.now (omega arith)) (lacks_all c.args.from))
+    rw c.ended-then-read-bytes-2.ensures
+    (Reaches-end (Recodes-then law (Recodes-then law c.parts.invariant c.recode_blocks-blocks.ensures) c.recode_stretch-count.ensures) c.if-read-bytes-2.true)
