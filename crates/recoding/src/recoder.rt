@@ -4,7 +4,7 @@ ghost use Rattle.recoding.specs.Recoded.{Feeds, Finishes, Lacks};
 ghost use Rattle.recoding.specs.RecodedBytes.{AddsAll, AddsLast, AddsOutcome, KeepsOutcome, outcome, recoded};
 ghost use Rattle.recoding.specs.Rooms.{ComesNearer, FeedsInto, FinishesInto, IsFull, IsLastFull, bytes_left};
 
-use crate::form::Form;
+use crate::form::{Form, WIDEST};
 use crate::recoder_rooms::{first_of, progress, put_at, recode_into, recode_last_into};
 use crate::recoder_runs::{join, recode_joined, recode_last, recode_whole};
 use crate::rooms::Progress;
@@ -121,7 +121,7 @@ impl Recoder {
         ensures waits { OnOk result (Lacks self.old.from self.new.held) }
         ensures succeeds { vec_len out.old + 3 * length part.now ≤ vec_capacity out.old → IsOk result }
     {
-        out.reserve(part.len().saturating_mul(3))?;
+        out.reserve(part.len().saturating_mul(WIDEST))?;
         let place = recode_whole(self.from, self.to, part, out);
         if place == part.len() {
             return Ok(());
@@ -145,7 +145,7 @@ impl Recoder {
         ensures succeeds { vec_len out.old + 3 * (length self.old.held + length part.now) ≤ vec_capacity out.old → IsOk result }
     {
         let held = self.held_bytes();
-        out.reserve((held.len() + part.len()).saturating_mul(3))?;
+        out.reserve((held.len() + part.len()).saturating_mul(WIDEST))?;
         let place = recode_joined(self.from, self.to, held, part, out);
         if place < held.len() {
             let (rest, len) = join(&held[place..], part);
@@ -209,7 +209,7 @@ impl Recoder {
         ensures unwritten { OnErr result (out.new.items ≡ out.old.items) }
         ensures succeeds { vec_len out.old + 3 * length self.held ≤ vec_capacity out.old → IsOk result }
     {
-        if let Err(cause) = out.reserve(3 * self.count) {
+        if let Err(cause) = out.reserve(WIDEST * self.count) {
             return Err(Unfinished {
                 recoder: self,
                 cause,

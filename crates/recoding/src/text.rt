@@ -150,6 +150,7 @@ impl<const BIG_ENDIAN: bool> Text for Utf16<BIG_ENDIAN> {
     }
 
     #[inline(always)]
+    #[tactic(auto, using(crate::proofs::Forms::reads_utf16))]
     fn text_front(bytes: &[u8]) -> Option<(char, usize)> {
         char_of_utf16::<BIG_ENDIAN>(bytes)
     }
@@ -165,21 +166,25 @@ impl<const BIG_ENDIAN: bool> Text for Utf16<BIG_ENDIAN> {
     }
 
     #[inline(always)]
+    #[tactic(auto, using(crate::proofs::Forms::fault_of_utf16))]
     fn fault_bytes() -> usize {
         2
     }
 
     #[inline(always)]
+    #[tactic(auto, using(crate::proofs::Forms::lacking_utf16))]
     fn lacking_kind() -> FaultKind {
         FaultKind::Utf16(Utf16PairError::Incomplete)
     }
 
     #[inline(always)]
+    #[tactic(auto, using(crate::proofs::Forms::written_utf16))]
     fn put_code<O: Output>(c: char, out: &mut O) {
         put_units::<O, BIG_ENDIAN>(c, out);
     }
 
     #[inline(always)]
+    #[tactic(auto, using(crate::proofs::Forms::written_utf16))]
     fn code_len(c: char) -> usize {
         len_of_units::<BIG_ENDIAN>(c)
     }
