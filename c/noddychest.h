@@ -9,7 +9,7 @@
  *
  * INVALID INPUT IS REPLACED BYTE BY BYTE. Recoding writes one U+FFFD replacement character for each invalid byte (in UTF-16, for
  * each invalid unit). Browsers and Python write one for several bytes in some cases: E2 82 41 is here U+FFFD U+FFFD A, and there
- * U+FFFD A.
+ * U+FFFD A. Calls whose names end in _strict stop at the first fault instead, and say where it is and why.
  *
  * WHICH KIND WINS. The kind of a byte is decided from it and the bytes that follow it, and is the first of these that applies:
  * UNEXPECTED_CONTINUATION_BYTE, NON_UTF8_BYTE, TOO_FEW_BYTES, INTERRUPTED_SEQUENCE, and then, by the value, OVERLONG_ENCODING,
@@ -19,7 +19,7 @@
  *
  * POINTERS. Bytes and units are passed as a pointer and then a number: a length to read, or a `room` to write into. Where the
  * number is 0 the pointer may be NULL; else it has to be valid for so many. What a call writes must not overlap what it reads.
- * `written`, `read`, `left` and `recoder` must not be NULL. Make a recoder by nody_recoder alone. One that was made otherwise may
+ * `written`, `read`, `fault`, `left` and `recoder` must not be NULL. Make a recoder by nody_recoder alone. One that was made otherwise may
  * be refused, or recode what it happens to hold; it never writes out of bounds. Make a cursor by nody_bytes or nody_units, or fill
  * it with a pointer that is not NULL and is valid for its length. No call fails in any other way than its comment says, and none
  * sets errno; on x86-64 call nody_supported first.
@@ -66,7 +66,7 @@ NODY_ENUM(nody_kind_t) {
     NODY_KIND_TOO_HIGH_CODEPOINT = 7,            /* the value is above 10FFFF */
     NODY_KIND_UNEXPECTED_TRAILING_SURROGATE = 8, /* UTF-16: DC00 to DFFF where a character should begin */
     NODY_KIND_UNMATCHED_LEADING_SURROGATE = 9,   /* UTF-16: D800 to DBFF, and the next unit is not DC00 to DFFF */
-    NODY_KIND_INCOMPLETE = 10,                   /* UTF-16: D800 to DBFF is the last unit */
+    NODY_KIND_INCOMPLETE = 10,                   /* UTF-16: D800 to DBFF is the last unit; or a single byte is left of a unit */
     NODY_KIND_NONE = 11                          /* no piece: nothing is left */
 };
 
@@ -86,9 +86,10 @@ NODY_ENUM(nody_form_t) {
 
 /* The result of a call that is given room to write into. */
 NODY_ENUM(nody_status_t) {
-    NODY_STATUS_DONE = 0,   /* all was read, and nothing waits for room */
-    NODY_STATUS_FULL = 1,   /* the next character does not fit in the room that is left */
-    NODY_STATUS_REFUSED = 2 /* a form above 2, or a recoder that holds more than three bytes. Nothing was read or written */
+    NODY_STATUS_DONE = 0,    /* all was read, and nothing waits for room */
+    NODY_STATUS_FULL = 1,    /* the next character does not fit in the room that is left */
+    NODY_STATUS_REFUSED = 2, /* a form above 2, or a recoder that holds more than three bytes. Nothing was read or written */
+    NODY_STATUS_FAULT = 3    /* of a strict call: what comes next is an invalid byte, or unit. All before it was written */
 };
 
 /* A piece. */
@@ -110,14 +111,22 @@ typedef struct {
     size_t len;
 } nody_units_t;
 
-/* A recoder. It holds at most three bytes between calls: the front of a character whose rest has not come, or bytes whose output
- * did not fit in the room. Read them by nody_recoder_held. */
+/* A recoder. It holds at most three bytes between calls: the front of a character whose rest has not come, bytes whose output did
+ * not fit in the room, or, of a strict call, bytes that may be a fault. Read them by nody_recoder_held. */
 typedef struct {
     nody_form_t from;
     nody_form_t to;
     uint8_t count;
     uint8_t held[3];
 } nody_recoder_t;
+
+/* The fault at which a strict call stopped. Where it met none, the kind is NODY_KIND_NONE, and len and back are 0. Its offset in the
+ * whole input is the number of bytes that were read so far, by this call too, minus `back`. */
+typedef struct {
+    size_t len;       /* in bytes: 1 in UTF-8. In UTF-16 2, a lone surrogate, and 1 where a single byte ends the input */
+    size_t back;      /* from its first byte to the end of what was read: it, and the bytes that are held after it */
+    nody_kind_t kind; /* why it is invalid, or NODY_KIND_NONE */
+} nody_fault_t;
 
 /* The name of a kind, and a sentence about it, in ASCII with zeros after it. */
 typedef struct {
@@ -286,6 +295,21 @@ size_t nody_shard_end(nody_form_t from, const uint8_t *bytes, size_t len, size_t
 nody_status_t nody_recode(nody_form_t from, nody_form_t to, const uint8_t *in, size_t len, uint8_t *out, size_t room,
                           size_t *written);
 
+/* nody_recode that stops at the first fault. `*read` bytes at the front of the input are valid and were recoded, and `*written`
+ * bytes came of them; the other places of the room stay. NODY_STATUS_DONE: the whole input is valid and was recoded.
+ * NODY_STATUS_FAULT: `*read` is the offset of the fault, which `*fault` describes (its `back` is 0). NODY_STATUS_FULL: the next
+ * character does not fit; what follows `*read` was not judged. With three bytes of room for each byte of input this does not
+ * happen. NODY_STATUS_REFUSED: a form is above 2; both counts are 0. Linear.
+ *
+ *     switch (nody_recode_strict(from, to, in, len, out, room, &read, &written, &fault)) {
+ *     case NODY_STATUS_DONE: return use(out, written);
+ *     case NODY_STATUS_FAULT: return report(read, nody_kind_sentence(fault.kind)); // (offset and reason)
+ *     default: return failed();
+ *     }
+ */
+nody_status_t nody_recode_strict(nody_form_t from, nody_form_t to, const uint8_t *in, size_t len, uint8_t *out, size_t room,
+                                 size_t *read, size_t *written, nody_fault_t *fault);
+
 /* How many bytes nody_recode writes of this input, given enough room. SIZE_MAX where a size_t cannot count them, or a form is above
  * 2. Linear: it recodes, in parts, into a kilobyte of the stack.
  *
@@ -353,6 +377,38 @@ nody_status_t nody_recoder_feed(nody_recoder_t *recoder, const uint8_t *in, size
  *     if (status != NODY_STATUS_DONE) return failed();
  */
 nody_status_t nody_recoder_finish(nody_recoder_t *recoder, uint8_t *out, size_t room, size_t *written);
+
+/* nody_recoder_feed that stops at the first fault. Its bytes count as read, and nothing is written for them: what was written is
+ * all before it. `*fault` says what it is, and where: add up `*read` of all calls, this one too, and subtract `fault.back`. So it
+ * may begin in an earlier part. What comes out, and the faults, are the same however the input is cut into parts.
+ * NODY_STATUS_FAULT: to go on after the fault, call again with the rest of the part, even if nothing is left of it; to refuse
+ * the input, do not. NODY_STATUS_DONE: the whole part was read. The last bytes, three at most, are held where it depends on bytes
+ * that have not come whether they are a fault, or of which kind: after E9 0A a third byte decides between
+ * NODY_KIND_INTERRUPTED_SEQUENCE and NODY_KIND_TOO_FEW_BYTES. NODY_STATUS_FULL and NODY_STATUS_REFUSED are as for
+ * nody_recoder_feed; in room for four bytes or more a loop as below ends. This call and nody_recoder_feed may take turns: each
+ * goes on from what the recoder holds. Linear.
+ *
+ *     do {
+ *         status = nody_recoder_feed_strict(&recoder, in + place, len - place, out, sizeof out, &read, &written, &fault);
+ *         fwrite(out, 1, written, stdout);
+ *         place += read, total += read;
+ *     } while (status == NODY_STATUS_FULL);
+ *     if (status == NODY_STATUS_FAULT) return report(total - fault.back, nody_kind_sentence(fault.kind));
+ */
+nody_status_t nody_recoder_feed_strict(nody_recoder_t *recoder, const uint8_t *in, size_t in_len, uint8_t *out, size_t room,
+                                       size_t *read, size_t *written, nody_fault_t *fault);
+
+/* nody_recoder_finish that stops at the first fault: what is held is the end of the input. NODY_STATUS_FAULT: all before the
+ * fault was written, and the fault is not held any more; its offset is the number of bytes that were read in all, minus
+ * `fault.back`. To go on after it, call this again. Nothing is read; the other statuses are as for nody_recoder_finish. Constant.
+ *
+ *     do {
+ *         status = nody_recoder_finish_strict(&recoder, out, sizeof out, &written, &fault);
+ *         fwrite(out, 1, written, stdout);
+ *     } while (status == NODY_STATUS_FULL);
+ *     if (status == NODY_STATUS_FAULT) return report(total - fault.back, nody_kind_sentence(fault.kind));
+ */
+nody_status_t nody_recoder_finish_strict(nody_recoder_t *recoder, uint8_t *out, size_t room, size_t *written, nody_fault_t *fault);
 
 /* How many bytes the recoder holds, 0 to 3: those of the input that were read and not yet recoded. They are written to `out` if
  * `room` is at least that many. SIZE_MAX where a form is above 2, or the struct holds more than three bytes. Constant.

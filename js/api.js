@@ -109,32 +109,55 @@ export function firstInvalid(data) {
 
 export const isValid = (data) => firstInvalid(data) === null;
 
-export function recode(data, from, to) {
-    return joined(codec.recode(formOf(from), formOf(to), bytesOf(data)));
+// That text which had to be valid is not. A TypeError, as TextDecoder throws.
+export class InvalidInputError extends TypeError {
+    constructor({ place, len, kind }, form, base) {
+        super(`noddychest: invalid ${FORMS[form].toUpperCase()} at offset ${base + place}: ${codec.names[kind]}`);
+        this.name = "InvalidInputError";
+        [this.offset, this.length, this.error] = [base + place, len, codec.names[kind]];
+    }
+}
+
+export function recode(data, from, to, options) {
+    const recoder = new Recoder(from, to, options);
+    const [fed, last] = [recoder.feed(data), recoder.finish()];
+    return last.length ? joined([fed, last]) : fed;
 }
 
 export class Recoder {
+    #from;
+    #isFatal;
     #state;
+    #count = 0;
 
-    constructor(from, to) {
-        this.#state = codec.newRecoder(formOf(from), formOf(to));
+    constructor(from, to, { fatal = false } = {}) {
+        this.#from = formOf(from);
+        this.#isFatal = Boolean(fatal);
+        this.#state = codec.newRecoder(this.#from, formOf(to));
+    }
+
+    // Keeps the state after a call, or throws where that met an invalid byte, and then nothing has changed.
+    #keep(state, fault) {
+        if (fault) throw new InvalidInputError(fault, this.#from, this.#count);
+        this.#state = state;
     }
 
     feed(data) {
-        const chunks = [];
-        codec.feed(this.#state, bytesOf(data), chunks);
+        const [bytes, chunks, state] = [bytesOf(data), [], this.#state.slice()];
+        this.#keep(state, codec.feed(state, bytes, chunks, { isFatal: this.#isFatal }).fault);
+        this.#count += bytes.length;
         return joined(chunks);
     }
 
     finish() {
-        const chunks = [];
-        codec.finish(this.#state, chunks);
+        const [chunks, state] = [[], this.#state.slice()];
+        this.#keep(state, codec.finish(state, chunks, this.#isFatal));
         return joined(chunks);
     }
 }
 
-export function recoderStream(from, to) {
-    const recoder = new Recoder(from, to);
+export function recoderStream(from, to, options) {
+    const recoder = new Recoder(from, to, options);
     const put = (bytes, controller) => bytes.length && controller.enqueue(bytes);
     return new TransformStream({
         transform: (part, controller) => void put(recoder.feed(part), controller),

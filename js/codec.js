@@ -1,10 +1,12 @@
 // The calls of the proved module, as plain numbers. This is the one file that knows their names and what stands where.
 //
 // The module's memory has a fixed size of 16 MiB. After its own stack and constants stand, from __heap_base on: a cursor, an answer,
-// two lengths and a recoder; room for pieces; a part that is recoded and room for what it becomes; and the caller's bytes.
+// two lengths, a recoder and a fault; room for pieces; a part that is recoded and room for what it becomes; and the caller's bytes.
 
 export const OK = 0;
 export const NONE = 11;
+// The status of a strict call that stopped at an invalid byte, or unit.
+const FAULT = 3;
 export const FORMS = ["utf-8", "utf-16le", "utf-16be"];
 // The most bytes that can be filled in at once.
 export const MOST = 10 * 1024 * 1024;
@@ -25,7 +27,8 @@ export class Codec {
         this.answer = this.cursor + 16;
         this.numbers = this.answer + 16;
         this.recoder = this.numbers + 16;
-        this.room = this.recoder + 16;
+        this.fault = this.recoder + 16;
+        this.room = this.fault + 32;
         this.part = this.room + ROOM * PIECE;
         this.made = this.part + PART;
         this.start = this.made + PART_ROOM;
@@ -140,29 +143,42 @@ export class Codec {
         return this.memory.slice(this.recoder, this.recoder + RECODER);
     }
 
-    // Feeds bytes to a recoder, and puts what comes of them into `chunks`, up to about so many bytes. Returns how many were fed.
-    feed(state, source, chunks, most = Infinity) {
-        const [recoder, numbers] = [BigInt(this.recoder), BigInt(this.numbers)];
+    // Feeds bytes to a recoder, and puts what comes of them into `chunks`, up to about so many bytes, or, where it is fatal, up to the
+    // first invalid byte. Returns how many were fed, and that byte or null. (The call that replaces takes one argument less: the last
+    // is passed over.)
+    feed(state, source, chunks, { most = Infinity, isFatal = false } = {}) {
+        const call = isFatal ? this.calls.nody_recoder_feed_strict : this.calls.nody_recoder_feed;
+        const [recoder, numbers, fault] = [BigInt(this.recoder), BigInt(this.numbers), BigInt(this.fault)];
         const [part, made, room] = [BigInt(this.part), BigInt(this.made), BigInt(PART_ROOM)];
         this.memory.set(state, this.recoder);
-        let at = 0;
-        for (let total = 0; at < source.length && total < most; ) {
+        let [at, status] = [0, 0];
+        for (let total = 0; at < source.length && total < most && status !== FAULT; ) {
             const taken = source.subarray(at, at + PART);
             this.memory.set(taken, this.part);
-            this.calls.nody_recoder_feed(recoder, part, BigInt(taken.length), made, room, numbers, numbers + 8n);
+            status = call(recoder, part, BigInt(taken.length), made, room, numbers, numbers + 8n, fault);
             at += this.number(this.numbers);
             total += this.keep(chunks, this.number(this.numbers + 8));
         }
         state.set(this.memory.subarray(this.recoder, this.recoder + RECODER));
-        return at;
+        return { at, fault: this.faultBefore(status, at) };
     }
 
-    // What a recoder still holds, as no more input follows.
-    finish(state, chunks) {
+    // What a recoder still holds, as no more input follows. Returns the first invalid byte, where it is fatal, or null; its place counts
+    // from the end of the input.
+    finish(state, chunks, isFatal = false) {
+        const call = isFatal ? this.calls.nody_recoder_finish_strict : this.calls.nody_recoder_finish;
         this.memory.set(state, this.recoder);
-        this.calls.nody_recoder_finish(BigInt(this.recoder), BigInt(this.made), BigInt(PART_ROOM), BigInt(this.numbers));
+        const status = call(BigInt(this.recoder), BigInt(this.made), BigInt(PART_ROOM), BigInt(this.numbers), BigInt(this.fault));
         this.keep(chunks, this.number(this.numbers));
         state.set(this.memory.subarray(this.recoder, this.recoder + RECODER));
+        return this.faultBefore(status, 0);
+    }
+
+    // The fault at which a strict call stopped, after so many bytes were read; null where it met none.
+    faultBefore(status, read) {
+        const { fault } = this;
+        if (status !== FAULT) return null;
+        return { place: read - this.number(fault + 8), len: this.number(fault), kind: this.view.getUint8(fault + 16) };
     }
 
     keep(chunks, count) {
@@ -173,7 +189,7 @@ export class Codec {
     // These bytes in another form, as chunks; about so many bytes of them where there are more.
     recode(from, to, source, most = Infinity) {
         const [chunks, state] = [[], this.newRecoder(from, to)];
-        if (this.feed(state, source, chunks, most) === source.length) this.finish(state, chunks);
+        if (this.feed(state, source, chunks, { most }).at === source.length) this.finish(state, chunks);
         return chunks;
     }
 }

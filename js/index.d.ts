@@ -65,15 +65,41 @@ export function firstInvalid(data: Bytes): InvalidByte | null;
 /** Whether all of it is valid UTF-8. O(n). */
 export function isValid(data: Bytes): boolean;
 
-/**
- * The text in another encoding; each invalid byte, or unit, becomes one U+FFFD, the replacement character. From an encoding
- * to the same one it repairs. An unknown encoding is a `RangeError`. O(n).
- */
-export function recode(data: Bytes, from: Encoding, to: Encoding): Uint8Array;
+/** Why a unit of UTF-16 is invalid. */
+export type UnitErrorName =
+    /** 0xDC00 to 0xDFFF where a character should begin. */
+    | "UnexpectedTrailingSurrogate"
+    /** 0xD800 to 0xDBFF, and the next unit is not 0xDC00 to 0xDFFF. */
+    | "UnmatchedLeadingSurrogate"
+    /** 0xD800 to 0xDBFF is the last unit, or the text ends inside a unit. */
+    | "Incomplete";
 
-/** Recodes text that comes in parts. However it is cut into parts, the joined output is that of `recode` on the whole. */
+export interface RecodeOptions {
+    /** Throw an `InvalidInputError` at the first invalid byte, or unit, and replace none; false by default. */
+    fatal?: boolean;
+}
+
+/** That text which had to be valid is not. */
+export class InvalidInputError extends TypeError {
+    /** Where it begins, in bytes from the front of all that was given. */
+    readonly offset: number;
+    /** How many bytes are invalid: 1 in UTF-8; in UTF-16 2, or 1 where the text ends inside a unit. */
+    readonly length: number;
+    readonly error: ErrorName | UnitErrorName;
+}
+
+/**
+ * The text in another encoding; each invalid byte, or unit, becomes one U+FFFD, the replacement character, or with `fatal` throws an
+ * `InvalidInputError`. From an encoding to the same one it repairs. An unknown encoding is a `RangeError`. O(n).
+ */
+export function recode(data: Bytes, from: Encoding, to: Encoding, options?: RecodeOptions): Uint8Array;
+
+/**
+ * Recodes text that comes in parts. However it is cut into parts, the joined output is that of `recode` on the whole. With `fatal` a
+ * call throws once it is decided that a byte is invalid, and why; the recoder is then as it was before that call.
+ */
 export class Recoder {
-    constructor(from: Encoding, to: Encoding);
+    constructor(from: Encoding, to: Encoding, options?: RecodeOptions);
     /** What the part, and bytes held from parts before, become. At most three bytes are held back. */
     feed(part: Bytes): Uint8Array;
     /** What the bytes that are still held become: call it once, after the last part. */
@@ -81,4 +107,4 @@ export class Recoder {
 }
 
 /** A `Recoder` as a stream, for `body.pipeThrough(..)`. It needs Node 18 or a browser. */
-export function recoderStream(from: Encoding, to: Encoding): TransformStream<Bytes, Uint8Array>;
+export function recoderStream(from: Encoding, to: Encoding, options?: RecodeOptions): TransformStream<Bytes, Uint8Array>;

@@ -5,4 +5,4 @@ import { use } from "./api.js";
 const { instance } = await WebAssembly.instantiate(readFileSync(new URL("noddychest.wasm", import.meta.url)));
 use(instance);
 
-export { Decoder, Recoder, firstInvalid, isValid, pieces, piecesBack, recode, recoderStream } from "./api.js";
+export { Decoder, InvalidInputError, Recoder, firstInvalid, isValid, pieces, piecesBack, recode, recoderStream } from "./api.js";

@@ -6,4 +6,4 @@ if (!answer.ok) throw new Error(`noddychest: noddychest.wasm did not load (${ans
 const { instance } = await WebAssembly.instantiate(await answer.arrayBuffer());
 use(instance);
 
-export { Decoder, Recoder, firstInvalid, isValid, pieces, piecesBack, recode, recoderStream } from "./api.js";
+export { Decoder, InvalidInputError, Recoder, firstInvalid, isValid, pieces, piecesBack, recode, recoderStream } from "./api.js";

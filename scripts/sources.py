@@ -168,6 +168,7 @@ def read_rest(function, lines, number):
                 at += 1
                 clause.append(lines[at].strip())
             function.clauses.append(" ".join(clause).rstrip(";"))
+            text = clause[-1]
         elif not text.startswith("//") and text:
             signature.append(text)
         if text.endswith((";", " {")) or text in ("{", "{}") or text.endswith("}") and not function.clauses:

@@ -259,6 +259,37 @@ static void words(void) {
     expect(nody_recoder_feed(&recoder, overlong + 2, 1, out, 8, &read, &written) == NODY_STATUS_DONE && written == 1 && out[0] == 0x41, "a recoder that is used again");
 }
 
+/* Strict calls stop at the first fault, and say where it is and why; the values are from the standards. */
+static void strictly(void) {
+    static const uint8_t in[] = {0x63, 0xe9, 0x0a, 0x41, 0xff, 0xe2, 0x82}, le[] = {0x41, 0, 0x3c, 0xd8, 0x21};
+    nody_recoder_t recoder = nody_recoder(NODY_FORM_UTF8, NODY_FORM_UTF16BE), none = nody_recoder(3, 0), same;
+    uint8_t out[32];
+    size_t read, written;
+    nody_fault_t fault;
+    expect(nody_recode_strict(NODY_FORM_UTF8, NODY_FORM_UTF16BE, in, 1, out, 2, &read, &written, &fault) == NODY_STATUS_DONE && read == 1 && written == 2, "a valid input");
+    expect(fault.kind == NODY_KIND_NONE && fault.len == 0 && fault.back == 0 && out[0] == 0 && out[1] == 0x63, "no fault");
+    expect(nody_recode_strict(NODY_FORM_UTF8, NODY_FORM_UTF16BE, in, 7, out, 32, &read, &written, &fault) == NODY_STATUS_FAULT && read == 1 && written == 2, "a fault in an input");
+    expect(fault.kind == NODY_KIND_INTERRUPTED_SEQUENCE && fault.len == 1 && fault.back == 0, "its fault");
+    expect(nody_recode_strict(NODY_FORM_UTF8, NODY_FORM_UTF8, in, 2, out, 32, &read, &written, &fault) == NODY_STATUS_FAULT && read == 1 && fault.kind == NODY_KIND_TOO_FEW_BYTES, "an input that ends early");
+    expect(nody_recode_strict(NODY_FORM_UTF16LE, NODY_FORM_UTF8, le, 5, out, 32, &read, &written, &fault) == NODY_STATUS_FAULT && read == 2 && fault.len == 2 && fault.kind == NODY_KIND_INCOMPLETE, "a leading surrogate");
+    expect(nody_recode_strict(NODY_FORM_UTF16LE, NODY_FORM_UTF8, le, 1, out, 32, &read, &written, &fault) == NODY_STATUS_FAULT && read == 0 && fault.len == 1, "half a unit");
+    expect(nody_recode_strict(NODY_FORM_UTF8, NODY_FORM_UTF16LE, in, 1, out, 1, &read, &written, &fault) == NODY_STATUS_FULL && read == 0 && written == 0 && fault.kind == NODY_KIND_NONE, "no room");
+    expect(nody_recode_strict(NODY_FORM_UTF8, 3, in, 1, out, 32, &read, &written, &fault) == NODY_STATUS_REFUSED && read == 0 && written == 0 && fault.kind == NODY_KIND_NONE, "no form");
+    expect(nody_recode_strict(NODY_FORM_UTF8, NODY_FORM_UTF8, NULL, 0, NULL, 0, &read, &written, &fault) == NODY_STATUS_DONE && read == 0 && written == 0, "no input");
+    expect(nody_recoder_feed_strict(&recoder, in, 3, out, 32, &read, &written, &fault) == NODY_STATUS_DONE && read == 3 && written == 2 && nody_recoder_held(&recoder, NULL, 0) == 2, "what follows decides of E9 0A");
+    expect(nody_recoder_feed_strict(&recoder, in + 3, 4, out, 32, &read, &written, &fault) == NODY_STATUS_FAULT && read == 0 && written == 0, "a fault that began in a part before");
+    expect(fault.kind == NODY_KIND_INTERRUPTED_SEQUENCE && fault.len == 1 && 3 - fault.back == 1, "where it began");
+    expect(nody_recoder_feed_strict(&recoder, in + 3, 4, out, 32, &read, &written, &fault) == NODY_STATUS_FAULT && read == 2 && written == 4 && 5 - fault.back == 4, "on after it");
+    expect(fault.kind == NODY_KIND_NON_UTF8_BYTE && out[1] == 0x0a && out[3] == 0x41, "what lay between");
+    expect(nody_recoder_feed_strict(&recoder, in + 5, 2, out, 32, &read, &written, &fault) == NODY_STATUS_DONE && fault.kind == NODY_KIND_NONE, "the rest");
+    expect(nody_recoder_finish_strict(&recoder, out, 32, &written, &fault) == NODY_STATUS_FAULT && written == 0 && fault.kind == NODY_KIND_TOO_FEW_BYTES && 7 - fault.back == 5, "the end");
+    expect(nody_recoder_finish_strict(&recoder, out, 32, &written, &fault) == NODY_STATUS_FAULT && fault.kind == NODY_KIND_UNEXPECTED_CONTINUATION_BYTE && 7 - fault.back == 6, "the last byte");
+    expect(nody_recoder_finish_strict(&recoder, out, 32, &written, &fault) == NODY_STATUS_DONE && fault.kind == NODY_KIND_NONE, "nothing is left");
+    same = none;
+    expect(nody_recoder_feed_strict(&none, in, 1, out, 32, &read, &written, &fault) == NODY_STATUS_REFUSED && read == 0 && written == 0 && fault.kind == NODY_KIND_NONE, "no recoder");
+    expect(nody_recoder_finish_strict(&none, out, 32, &written, &fault) == NODY_STATUS_REFUSED && memcmp(&none, &same, sizeof same) == 0, "it stays");
+}
+
 /* Recodes the same bytes again and again, and answers how often the output was wrong. */
 static void *of_a_thread(void *wrong) {
     static const uint8_t in[] = {0x41, 0xf0, 0x9f, 0x82, 0xa0, 0xe0, 0x80}, want[] = {0, 0x41, 0xd8, 0x3c, 0xdc, 0xa0, 0xff, 0xfd, 0xff, 0xfd};
@@ -283,6 +314,7 @@ int main(int argc, char **argv) {
     whole_inputs();
     boundaries();
     words();
+    strictly();
     vectors();
     random_cases(argc > 1 ? strtoul(argv[1], NULL, 10) : 1000);
     if (argc == 2) {

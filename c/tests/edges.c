@@ -1,7 +1,7 @@
 /* Holds the library against a decoder that is written here from the grammar of RFC 3629, section 4, and from RFC 2781, section 2.2,
  * and shares nothing with it: edges COUNT. Each buffer lies between two pages that must not be touched, once at the end of the
- * first and once at the front of the other. Every input is recoded with each room of 0 to 14 bytes and each split into two parts:
- * all inputs of up to three bytes of those that the grammar names, and then COUNT random ones. Of each first part a recoder holds the
+ * first and once at the front of the other. Every input is recoded with each room of 0 to 14 bytes and each split into two parts,
+ * with U+FFFD for faults, and strictly, where each fault has to come at its place and with its kind: all inputs of up to three bytes of those that the grammar names, and then COUNT random ones. Of each first part a recoder holds the
  * front of a code alone. Structs of random bytes are refused, or recode within bounds. Prints what failed, and then
  * `N passed, M failed`. */
 #define _DEFAULT_SOURCE
@@ -38,6 +38,7 @@ typedef struct {
     size_t start, len;
     uint32_t scalar; /* U+FFFD for a fault */
     int is_fault;
+    nody_kind_t kind;
 } cut_piece;
 
 typedef struct {
@@ -52,27 +53,51 @@ static size_t matched(const uint8_t *b, size_t len, size_t row) {
     return GRAMMAR[row].len;
 }
 
+/* How many bytes the first one asks for, by the grammar: those of a row that begins with it. */
+static size_t asked_by(uint8_t first) {
+    for (size_t row = 0; row < sizeof GRAMMAR / sizeof *GRAMMAR; row++)
+        if (GRAMMAR[row].first[0] <= first && first <= GRAMMAR[row].last[0]) return GRAMMAR[row].len;
+    return 0;
+}
+
+/* Why no code begins the bytes, by the list of c/noddychest.h. */
+static nody_kind_t fault_of_utf8(const uint8_t *b, size_t len) {
+    size_t asked = asked_by(b[0]);
+    if (0x80 <= b[0] && b[0] <= 0xBF) return NODY_KIND_UNEXPECTED_CONTINUATION_BYTE;
+    if (asked == 0) return NODY_KIND_NON_UTF8_BYTE;
+    if (len < asked) return NODY_KIND_TOO_FEW_BYTES;
+    for (size_t i = 1; i < asked; i++)
+        if (b[i] < 0x80 || 0xBF < b[i]) return NODY_KIND_INTERRUPTED_SEQUENCE;
+    return b[0] == 0xED ? NODY_KIND_UTF16_RESERVED_CODEPOINT : b[0] == 0xF4 ? NODY_KIND_TOO_HIGH_CODEPOINT : NODY_KIND_OVERLONG_ENCODING;
+}
+
+static nody_kind_t fault_of_utf16(uint32_t unit, size_t len) {
+    if (len < 2) return NODY_KIND_INCOMPLETE;
+    if (0xDC00 <= unit) return NODY_KIND_UNEXPECTED_TRAILING_SURROGATE;
+    return len < 4 ? NODY_KIND_INCOMPLETE : NODY_KIND_UNMATCHED_LEADING_SURROGATE;
+}
+
 static cut_piece first_of_utf8(const uint8_t *b, size_t len) {
     static const uint32_t lead[5] = {0, 0x7F, 0x1F, 0x0F, 0x07};
     for (size_t row = 0; row < sizeof GRAMMAR / sizeof *GRAMMAR; row++) {
         size_t n = matched(b, len, row);
         uint32_t scalar = n ? b[0] & lead[n] : 0;
         for (size_t i = 1; i < n; i++) scalar = 64 * scalar + (b[i] - 0x80u);
-        if (n) return (cut_piece){0, n, scalar, 0};
+        if (n) return (cut_piece){0, n, scalar, 0, NODY_KIND_OK};
     }
-    return (cut_piece){0, 1, 0xFFFD, 1};
+    return (cut_piece){0, 1, 0xFFFD, 1, fault_of_utf8(b, len)};
 }
 
 static cut_piece first_of_utf16(const uint8_t *b, size_t len, int is_big) {
     uint32_t u = len < 2 ? 0xDC00 : b[!is_big] * 256u + b[is_big];
     uint32_t v = len < 4 ? 0 : b[2 + !is_big] * 256u + b[2 + is_big];
-    if (u < 0xD800 || u > 0xDFFF) return (cut_piece){0, 2, u, 0};
-    if (u < 0xDC00 && 0xDC00 <= v && v <= 0xDFFF) return (cut_piece){0, 4, 0x10000 + (u - 0xD800) * 0x400 + (v - 0xDC00), 0};
-    return (cut_piece){0, len < 2 ? 1 : 2, 0xFFFD, 1};
+    if (u < 0xD800 || u > 0xDFFF) return (cut_piece){0, 2, u, 0, NODY_KIND_OK};
+    if (u < 0xDC00 && 0xDC00 <= v && v <= 0xDFFF) return (cut_piece){0, 4, 0x10000 + (u - 0xD800) * 0x400 + (v - 0xDC00), 0, NODY_KIND_OK};
+    return (cut_piece){0, len < 2 ? 1 : 2, 0xFFFD, 1, fault_of_utf16(u, len)};
 }
 
 static cut_text cut(nody_form_t form, const uint8_t *b, size_t len) {
-    cut_text made = {0, len, {{0, 0, 0, 0}}};
+    cut_text made = {0, len, {{0, 0, 0, 0, NODY_KIND_OK}}};
     for (size_t at = 0; at < len;) {
         cut_piece it = form == NODY_FORM_UTF8 ? first_of_utf8(b + at, len - at) : first_of_utf16(b + at, len - at, form == NODY_FORM_UTF16BE);
         it.start = at;
@@ -193,6 +218,106 @@ static int is_recoded_at_once(nody_form_t from, nody_form_t to, const uint8_t *i
     return status == NODY_STATUS_FULL && (need - written <= 4 || room - written < 4);
 }
 
+/* What the characters are in another form, faults left out: `at` says where that of each piece begins. */
+typedef struct {
+    uint8_t bytes[MADE];
+    size_t at[MOST + 1];
+} cut_output;
+
+static cut_output text_of(nody_form_t to, const cut_text *pieces) {
+    cut_output made;
+    made.at[0] = 0;
+    for (size_t i = 0; i < pieces->count; i++)
+        made.at[i + 1] = made.at[i] + (pieces->piece[i].is_fault ? 0 : put(to, pieces->piece[i].scalar, made.bytes + made.at[i]));
+    return made;
+}
+
+/* The number of the first fault from a piece on, or how many pieces there are. */
+static size_t next_fault(const cut_text *pieces, size_t i) {
+    while (i < pieces->count && !pieces->piece[i].is_fault) i++;
+    return i;
+}
+
+static int is_no_fault(const nody_fault_t *fault) { return fault->kind == NODY_KIND_NONE && fault->len == 0 && fault->back == 0; }
+
+/* The same strictly: each fault comes at its place, with its length and kind, after all that is before it and nothing else. */
+static int is_strict_in(nody_form_t from, nody_form_t to, const uint8_t *in, size_t len, size_t split, size_t room, const cut_text *pieces, const cut_output *want) {
+    nody_recoder_t recoder = nody_recoder(from, to);
+    size_t place = 0, made = 0, end = split, next = next_fault(pieces, 0);
+    for (int calls = 0; calls < 200; calls++) {
+        uint8_t *out = fenced_bytes(out_fence, room, at_end);
+        size_t read = 0, written = 99;
+        nody_fault_t fault = {99, 99, NODY_KIND_OK};
+        int is_last = place == len && end == len;
+        nody_status_t status = is_last ? nody_recoder_finish_strict(&recoder, out, room, &written, &fault)
+                                       : nody_recoder_feed_strict(&recoder, in + place, end - place, out, room, &read, &written, &fault);
+        if (status == NODY_STATUS_REFUSED || written > room || read > end - place || made + written > want->at[next]) return 0;
+        if (memcmp(out, want->bytes + made, written) != 0) return 0;
+        made += written;
+        place += read;
+        if (status == NODY_STATUS_FAULT) {
+            const cut_piece *it = &pieces->piece[next];
+            if (next == pieces->count || made != want->at[next]) return 0;
+            if (fault.len != it->len || fault.kind != it->kind || place - fault.back != it->start) return 0;
+            next = next_fault(pieces, next + 1);
+            continue;
+        }
+        if (!is_no_fault(&fault)) return 0;
+        if (status == NODY_STATUS_DONE && is_last) return next == pieces->count && made == want->at[next] && nody_recoder_held(&recoder, NULL, 0) == 0;
+        if (status == NODY_STATUS_DONE && place != end) return 0;
+        if (status == NODY_STATUS_DONE) end = len;
+        if (status == NODY_STATUS_FULL && written == 0) {
+            if (room >= 4) return 0;
+            room = ROOMS - 1;
+        }
+    }
+    return 0;
+}
+
+/* Where there is room, a strict recoder holds what follows decides: from the first fault on whose kind says that something lacks. */
+static int is_held_strictly(nody_form_t from, nody_form_t to, const uint8_t *in, size_t len) {
+    nody_recoder_t recoder = nody_recoder(from, to);
+    cut_text pieces = cut(from, in, len);
+    uint8_t *out = fenced_bytes(out_fence, MADE, at_end), held[3];
+    size_t place = 0, read, written, wait = 0;
+    nody_fault_t fault;
+    for (size_t i = pieces.count; i-- > 0;)
+        if (pieces.piece[i].kind == NODY_KIND_TOO_FEW_BYTES || pieces.piece[i].kind == NODY_KIND_INCOMPLETE) wait = len - pieces.piece[i].start;
+    for (int calls = 0; calls <= MOST; calls++) {
+        nody_status_t status = nody_recoder_feed_strict(&recoder, in + place, len - place, out, MADE, &read, &written, &fault);
+        place += read;
+        if (status == NODY_STATUS_DONE) return nody_recoder_held(&recoder, held, 3) == wait && memcmp(held, in + len - wait, wait) == 0;
+        if (status != NODY_STATUS_FAULT) return 0;
+    }
+    return 0;
+}
+
+/* In one call all up to the first fault is recoded, or as many characters as fit. */
+static int is_strict_at_once(nody_form_t from, nody_form_t to, const uint8_t *in, size_t len, size_t room, const cut_text *pieces, const cut_output *want) {
+    uint8_t *out = fenced_bytes(out_fence, room, at_end);
+    size_t first = next_fault(pieces, 0), count = 0, read = 99, written = 99;
+    nody_fault_t fault = {99, 99, NODY_KIND_OK};
+    nody_status_t status = nody_recode_strict(from, to, in, len, out, room, &read, &written, &fault);
+    while (count < first && want->at[count + 1] <= room) count++;
+    if (read != (count < pieces->count ? pieces->piece[count].start : len)) return 0;
+    if (written != want->at[count] || memcmp(out, want->bytes, written) != 0) return 0;
+    if (count < first) return status == NODY_STATUS_FULL && is_no_fault(&fault);
+    if (first == pieces->count) return status == NODY_STATUS_DONE && is_no_fault(&fault);
+    return status == NODY_STATUS_FAULT && fault.len == pieces->piece[first].len && fault.kind == pieces->piece[first].kind && fault.back == 0;
+}
+
+static int are_strict(nody_form_t from, nody_form_t to, const uint8_t *in, size_t len, const cut_text *pieces) {
+    cut_output want = text_of(to, pieces);
+    for (size_t room = 0; room < ROOMS; room++) {
+        if (!is_strict_at_once(from, to, in, len, room, pieces, &want)) return 0;
+        for (size_t split = 0; split <= len; split++)
+            if (!is_strict_in(from, to, in, len, split, room, pieces, &want)) return 0;
+    }
+    for (size_t split = 0; split <= len; split++)
+        if (!is_held_strictly(from, to, in, split)) return 0;
+    return 1;
+}
+
 static void recodings(nody_form_t from, const uint8_t *in, size_t len, const cut_text *pieces) {
     for (int other = 0; other < 3; other++) {
         nody_form_t to = (nody_form_t)other;
@@ -207,6 +332,7 @@ static void recodings(nody_form_t from, const uint8_t *in, size_t len, const cut
         for (size_t split = 0; split <= len; split++) holds = holds && is_held(from, to, in, split);
         say(from, to, in, len);
         expect(holds && nody_recoded_len(from, to, in, len) == need && need <= nody_recoded_len_max(from, to, len), "recoded", shown);
+        expect(are_strict(from, to, in, len, pieces), "recoded strictly", shown);
     }
 }
 
@@ -291,9 +417,23 @@ static void random_inputs(unsigned long count) {
     }
 }
 
+static const uint8_t RANDOM_IN[] = {0x41, 0xE2, 0x82, 0xAC, 0xF0, 0x9F, 0x82, 0xD8, 0x3C};
+
+static void random_strict(nody_recoder_t recoder, int is_one, uint8_t *out, size_t room) {
+    nody_recoder_t before = recoder;
+    size_t read = 99, written = 99;
+    nody_fault_t fault = {99, 99, NODY_KIND_OK};
+    nody_status_t status = nody_recoder_feed_strict(&recoder, RANDOM_IN, sizeof RANDOM_IN, out, room, &read, &written, &fault);
+    expect((status == NODY_STATUS_REFUSED) == !is_one && written <= room && read <= sizeof RANDOM_IN, "a random struct", "feed strictly");
+    expect(fault.len <= 2 && fault.back <= 5 && (fault.kind == NODY_KIND_NONE) == (status != NODY_STATUS_FAULT), "its fault", "feed strictly");
+    expect(is_one || (memcmp(&recoder, &before, sizeof before) == 0 && read + written == 0 && is_no_fault(&fault)), "a struct that is refused", "feed strictly");
+    status = nody_recoder_finish_strict(&recoder, out, room, &written, &fault);
+    expect((status == NODY_STATUS_REFUSED) == !is_one && written <= room, "a random struct", "finish strictly");
+    expect(fault.len <= 2 && fault.back <= 3 && (fault.kind == NODY_KIND_NONE) == (status != NODY_STATUS_FAULT), "its fault", "finish strictly");
+}
+
 /* A struct of random bytes is a recoder, or is refused and stays. No call leaves the room. */
 static void random_structs(unsigned long count) {
-    static const uint8_t in[] = {0x41, 0xE2, 0x82, 0xAC, 0xF0, 0x9F, 0x82, 0xD8, 0x3C};
     while (count-- > 0) {
         nody_recoder_t recoder, before;
         uint8_t *bytes = (uint8_t *)&recoder, held[3];
@@ -302,12 +442,13 @@ static void random_structs(unsigned long count) {
         before = recoder;
         int is_one = bytes[0] < 3 && bytes[1] < 3 && bytes[2] < 4;
         uint8_t *out = fenced_bytes(out_fence, room, (int)(count % 2));
-        nody_status_t status = nody_recoder_feed(&recoder, in, sizeof in, out, room, &read, &written);
-        expect((status == NODY_STATUS_REFUSED) == !is_one && written <= room && read <= sizeof in, "a random struct", "feed");
+        nody_status_t status = nody_recoder_feed(&recoder, RANDOM_IN, sizeof RANDOM_IN, out, room, &read, &written);
+        expect((status == NODY_STATUS_REFUSED) == !is_one && written <= room && read <= sizeof RANDOM_IN, "a random struct", "feed");
         expect(is_one || (memcmp(&recoder, &before, sizeof before) == 0 && read + written == 0), "a struct that is refused", "feed");
         expect((nody_recoder_held(&recoder, held, 3) > 3) == !is_one, "a random struct", "held");
         status = nody_recoder_finish(&recoder, out, room, &written);
         expect((status == NODY_STATUS_REFUSED) == !is_one && written <= room, "a random struct", "finish");
+        random_strict(before, is_one, out, room);
     }
 }
 

@@ -1,6 +1,6 @@
 import assert from "node:assert/strict";
 import test from "node:test";
-import { Recoder, isValid, recode, recoderStream } from "noddychest";
+import { InvalidInputError, Recoder, firstInvalid, isValid, pieces, recode, recoderStream } from "noddychest";
 import { chances, damaged, hexOf, ofHex, rows } from "./help.js";
 
 const NAMES = { utf8: "utf-8", utf16le: "utf-16le", utf16be: "utf-16be" };
@@ -65,6 +65,72 @@ test("a stream", { skip: typeof TransformStream === "undefined" && "this node ha
     const made = [];
     for await (const part of from.pipeThrough(recoderStream("utf-8", "utf-16be"))) made.push(...part);
     assert.equal(hexOf(made), "004120ac0042fffd");
+});
+
+// What a call throws, or gives.
+function told(call) {
+    try {
+        return hexOf(call());
+    } catch (error) {
+        assert.ok(error instanceof InvalidInputError && error instanceof TypeError, String(error));
+        return [error.offset, error.length, error.error];
+    }
+}
+
+test("fatal: the first invalid byte throws, however the text is cut", () => {
+    const chance = chances(6);
+    for (let i = 0; i < 1500; i++) {
+        const bytes = damaged(chance, chance(14));
+        const to = FORMS[chance(3)];
+        const found = firstInvalid(bytes);
+        const want = found ? [found.offset, 1, found.error] : hexOf(recode(bytes, "utf-8", to));
+        assert.deepEqual(told(() => recode(bytes, "utf-8", to, { fatal: true })), want);
+        for (let cut = 0; cut <= bytes.length; cut++) {
+            const recoder = new Recoder("utf-8", to, { fatal: true });
+            const have = told(() => Buffer.concat([recoder.feed(bytes.subarray(0, cut)), recoder.feed(bytes.subarray(cut)), recoder.finish()]));
+            assert.deepEqual(have, want, `${hexOf(bytes)} cut at ${cut}`);
+        }
+    }
+});
+
+test("fatal: as TextDecoder refuses and takes it", () => {
+    const chance = chances(7);
+    for (let i = 0; i < 3000; i++) {
+        const [label, bytes] = [["utf-8", "utf-16le"][chance(2)], damaged(chance, chance(9))];
+        const decoder = new TextDecoder(label, { fatal: true, ignoreBOM: true });
+        const want = (() => {
+            try {
+                return decoder.decode(bytes);
+            } catch {
+                return null;
+            }
+        })();
+        const have = told(() => recode(bytes, label, "utf-8", { fatal: true }));
+        assert.equal(typeof have === "string" ? Buffer.from(have, "hex").toString() : null, want, `${label} ${hexOf(bytes)}`);
+    }
+});
+
+test("fatal: UTF-16, and far into a long text", () => {
+    const fatal = { fatal: true };
+    for (const [given, want] of [
+        ["410000dc", [2, 2, "UnexpectedTrailingSurrogate"]],
+        ["00d84100", [0, 2, "UnmatchedLeadingSurrogate"]],
+        ["410000d8", [2, 2, "Incomplete"]],
+        ["410041", [2, 1, "Incomplete"]],
+    ]) assert.deepEqual(told(() => recode(ofHex(given), "utf-16le", "utf-8", fatal)), want);
+    const text = new TextEncoder().encode("é".repeat(100000) + "!");
+    const bytes = Uint8Array.from([...text, 0xff, 0x41]);
+    assert.deepEqual(told(() => recode(bytes, "utf-8", "utf-16be", fatal)), [text.length, 1, "NonUtf8Byte"]);
+    assert.equal([...pieces(bytes.subarray(text.length))][0].error, "NonUtf8Byte");
+});
+
+test("fatal: a recoder that threw is as it was before", () => {
+    const recoder = new Recoder("utf-8", "utf-16be", { fatal: true });
+    assert.equal(hexOf(recoder.feed(ofHex("61c3"))), "0061");
+    for (let i = 0; i < 2; i++) assert.deepEqual(told(() => recoder.feed(ofHex("62"))), [1, 1, "InterruptedSequence"]);
+    assert.deepEqual(told(() => recoder.finish()), [1, 1, "TooFewBytes"]);
+    assert.equal(hexOf(recoder.feed(ofHex("a9"))) + hexOf(recoder.finish()), "00e9");
+    assert.throws(() => recode(ofHex("61ff"), "utf-8", "utf-8", { fatal: true }), { name: "InvalidInputError", message: "noddychest: invalid UTF-8 at offset 1: NonUtf8Byte" });
 });
 
 test("unknown encodings and strings", () => {

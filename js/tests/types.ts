@@ -1,5 +1,5 @@
 // Read by tsc alone: each call as a caller with types writes it, and what has to be refused.
-import { Decoder, Recoder, firstInvalid, isValid, pieces, piecesBack, recode, recoderStream } from "noddychest";
+import { Decoder, InvalidInputError, Recoder, firstInvalid, isValid, pieces, piecesBack, recode, recoderStream } from "noddychest";
 import type { Encoding, ErrorName, Piece } from "noddychest";
 
 const bytes = new Uint8Array([0xe2]);
@@ -17,6 +17,14 @@ const parts: Uint8Array[] = [recoder.feed(made), recoder.finish()];
 const decoder = new Decoder(bytes);
 const left: [Piece | null, Piece | null, Uint8Array] = [decoder.next(), decoder.nextBack(), decoder.remaining];
 console.log(back, name, parts, left, isValid(bytes), recoderStream("utf-8", "utf-8").readable);
+const strict = new Recoder("utf-8", "utf-16le", { fatal: true });
+try {
+    console.log(strict.feed(bytes), recode(bytes, "utf-8", "utf-8", { fatal: true }), recoderStream("utf-8", "utf-8", { fatal: true }));
+} catch (error) {
+    if (error instanceof InvalidInputError) console.log(error.offset + error.length, error.error === "Incomplete", error.message);
+}
+// @ts-expect-error: no such option
+recode(bytes, "utf-8", "utf-8", { strict: true });
 // @ts-expect-error: a string is no bytes
 isValid("text");
 // @ts-expect-error: no such encoding

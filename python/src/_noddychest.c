@@ -102,7 +102,7 @@ static nody_kind_t fault_kind(enum Reader reader, nody_form_t form, const uint8_
         return reader == WHOLE ? nody_utf8_first(bytes, len).kind : nody_utf8_streamed_at(bytes, len, 0).kind;
     for (size_t i = 0; i < count; i++)
         units[i] = unit_at(form, bytes + 2 * i);
-    return count == 0 ? NODY_KIND_TOO_FEW_BYTES : nody_utf16_first(units, count).kind;
+    return count == 0 ? NODY_KIND_INCOMPLETE : nody_utf16_first(units, count).kind;
 }
 
 /* How many bytes at the end, fewer than a code has, begin one. A surrogate in three bytes counts as a code: the error handler
@@ -284,25 +284,39 @@ static PyObject *room_for(nody_form_t from, nody_form_t to, size_t len) {
     return PyBytes_FromStringAndSize(NULL, (Py_ssize_t)room);
 }
 
-/* Feeds all of the view, and finishes where that is asked for; answers the bytes that come of it. */
-static PyObject *fed(nody_recoder_t *recoder, const Py_buffer *view, int finish) {
-    size_t len = (size_t)view->len, read = 0, written = 0, more = 0, room;
+/* Feeds a part, strictly where there is room for a fault. */
+static nody_status_t feed(nody_recoder_t *recoder, const uint8_t *in, size_t len, uint8_t *out, size_t room, size_t *read, size_t *written,
+                          nody_fault_t *fault) {
+    return fault ? nody_recoder_feed_strict(recoder, in, len, out, room, read, written, fault)
+                 : nody_recoder_feed(recoder, in, len, out, room, read, written);
+}
+
+static nody_status_t finish(nody_recoder_t *recoder, uint8_t *out, size_t room, size_t *written, nody_fault_t *fault) {
+    return fault ? nody_recoder_finish_strict(recoder, out, room, written, fault) : nody_recoder_finish(recoder, out, room, written);
+}
+
+/* Feeds all of the view, and finishes where that is asked for; answers the bytes that come of it. With room for a fault it goes up to
+ * the first one, and `*read` says how many bytes were read then. */
+static PyObject *fed(nody_recoder_t *recoder, const Py_buffer *view, int is_last, size_t *read, nody_fault_t *fault) {
+    size_t len = (size_t)view->len, written = 0, more = 0, room;
+    nody_status_t status = NODY_STATUS_DONE;
     PyObject *made = room_for(recoder->from, recoder->to, len + recoder->count);
     uint8_t *out;
+    *read = 0;
     if (made == NULL)
         return NULL;
     out = (uint8_t *)PyBytes_AsString(made);
     room = (size_t)PyBytes_Size(made);
     if (len >= LARGE && view->obj != NULL && PyBytes_CheckExact(view->obj)) {
         Py_BEGIN_ALLOW_THREADS
-        nody_recoder_feed(recoder, view->buf, len, out, room, &read, &written);
+        status = feed(recoder, view->buf, len, out, room, read, &written, fault);
         Py_END_ALLOW_THREADS
     } else if (len) {
-        nody_recoder_feed(recoder, view->buf, len, out, room, &read, &written);
+        status = feed(recoder, view->buf, len, out, room, read, &written, fault);
     }
-    if (finish)
-        nody_recoder_finish(recoder, out + written, room - written, &more);
-    if (read != len || (finish && recoder->count)) {
+    if (is_last && status == NODY_STATUS_DONE)
+        status = finish(recoder, out + written, room - written, &more, fault);
+    if (status != NODY_STATUS_DONE && status != NODY_STATUS_FAULT) {
         Py_DECREF(made);
         PyErr_SetString(PyExc_SystemError, "the room for recoded bytes was too small");
         return NULL;
@@ -310,19 +324,25 @@ static PyObject *fed(nody_recoder_t *recoder, const Py_buffer *view, int finish)
     return shortened(made, (Py_ssize_t)(written + more));
 }
 
-/* recode(from, to, data) */
+/* recode(from, to, data, strict): the bytes that come of it, or the offset, the length and the kind of the first fault. */
 static PyObject *recode(PyObject *module, PyObject *args) {
     Py_buffer view;
     nody_form_t from, to;
     nody_recoder_t recoder;
+    nody_fault_t fault = {0, 0, NODY_KIND_NONE};
+    size_t read;
+    int strict;
     PyObject *made;
     (void)module;
-    if (!PyArg_ParseTuple(args, "O&O&O&:recode", take_form, &from, take_form, &to, take_bytes, &view))
+    if (!PyArg_ParseTuple(args, "O&O&O&p:recode", take_form, &from, take_form, &to, take_bytes, &view, &strict))
         return NULL;
     recoder = nody_recoder(from, to);
-    made = fed(&recoder, &view, 1);
+    made = fed(&recoder, &view, 1, &read, strict ? &fault : NULL);
     PyBuffer_Release(&view);
-    return made;
+    if (made == NULL || fault.kind == NODY_KIND_NONE)
+        return made;
+    Py_DECREF(made);
+    return Py_BuildValue("nnI", (Py_ssize_t)(read - fault.back), (Py_ssize_t)fault.len, (unsigned)fault.kind);
 }
 
 typedef struct {
@@ -351,21 +371,10 @@ static void plain_dealloc(PyObject *self) {
     Py_DECREF(type);
 }
 
-typedef struct {
-    Py_ssize_t count;
-    size_t first, len; /* the place, which counts from what was held on, and the length of the first */
-    nody_kind_t kind;
-} Faults;
-
-static void count_fault(Faults *found, size_t place, size_t len, nody_kind_t kind) {
-    if (found->count++ == 0)
-        found->first = place, found->len = len, found->kind = kind;
-}
-
-/* The faults among those bytes that a recoder has decided: those that it held and the part, without those that it holds now. What
- * was held is judged with the few bytes of the part after it, and the rest where it lies. */
-static Faults faults_of(const nody_recoder_t *before, const uint8_t *part, size_t len, size_t decided) {
-    Faults found = {0, 0, 0, 0};
+/* How many faults are among those bytes that a recoder has decided: those that it held and the part, without those that it holds now.
+ * What was held is judged with the few bytes of the part after it, and the rest where it lies. */
+static Py_ssize_t faults_of(const nody_recoder_t *before, const uint8_t *part, size_t len, size_t decided) {
+    Py_ssize_t found = 0;
     uint8_t joint[3 + 8];
     nody_form_t form = before->from;
     size_t count = before->count, near = len < 8 ? len : 8, at = 0;
@@ -375,9 +384,8 @@ static Faults faults_of(const nody_recoder_t *before, const uint8_t *part, size_
     while (at < count && at < decided) {
         size_t left = count + near - at, valid = valid_up_to(form, joint + at, left);
         if (valid == 0) {
-            size_t bytes = fault_len(form, left);
-            count_fault(&found, at, bytes, fault_kind(STREAMED, form, joint + at, left));
-            at += bytes;
+            found++;
+            at += fault_len(form, left);
         } else { /* a character: it ends what is held */
             size_t code = 1;
             while (code < valid && held(form, joint + at, code))
@@ -386,33 +394,13 @@ static Faults faults_of(const nody_recoder_t *before, const uint8_t *part, size_
         }
     }
     while (at < decided) {
-        size_t left = count + len - at;
-        at += valid_up_to(form, part + (at - count), left);
+        at += valid_up_to(form, part + (at - count), count + len - at);
         if (at < decided) {
-            left = count + len - at;
-            count_fault(&found, at, fault_len(form, left), fault_kind(STREAMED, form, part + (at - count), left));
-            at += fault_len(form, left);
+            found++;
+            at += fault_len(form, count + len - at);
         }
     }
     return found;
-}
-
-/* Feeds the part up to a fault whose kind depends on what follows the part, and holds the rest: at most three bytes. */
-static PyObject *fed_before(nody_recoder_t *recoder, const Py_buffer *view, size_t place) {
-    size_t taken = place < recoder->count ? 0 : place - recoder->count, rest = (size_t)view->len - taken;
-    PyObject *made;
-    if (place >= recoder->count) {
-        Py_buffer front = *view;
-        front.len = (Py_ssize_t)taken;
-        made = fed(recoder, &front, 0);
-    } else {
-        made = PyBytes_FromStringAndSize(NULL, 0);
-    }
-    if (made != NULL && rest) {
-        memcpy(recoder->held + recoder->count, (const uint8_t *)view->buf + taken, rest);
-        recoder->count += (uint8_t)rest;
-    }
-    return made;
 }
 
 /* step(data, finish, strict): the bytes that come of it; where faults are refused and there is one, its offset, length and kind, what
@@ -420,37 +408,24 @@ static PyObject *fed_before(nody_recoder_t *recoder, const Py_buffer *view, size
 static PyObject *recoder_step(PyObject *object, PyObject *args) {
     Recoder *self = (Recoder *)object;
     nody_recoder_t before = self->recoder, after = self->recoder;
+    nody_fault_t fault = {0, 0, NODY_KIND_NONE};
     Py_buffer view;
-    Py_ssize_t begun = self->fed - before.count;
+    size_t read;
     int finish, strict;
-    Faults found;
     PyObject *made;
     if (!PyArg_ParseTuple(args, "O&pp:step", take_bytes, &view, &finish, &strict))
         return NULL;
-    made = fed(&after, &view, finish);
-    if (made == NULL) {
-        PyBuffer_Release(&view);
-        return NULL;
-    }
-    found = faults_of(&before, view.buf, (size_t)view.len, before.count + (size_t)view.len - after.count);
-    if (strict && !finish && found.count && found.kind == NODY_KIND_TOO_FEW_BYTES) { /* more may decide another kind */
+    made = fed(&after, &view, finish, &read, strict ? &fault : NULL);
+    if (made != NULL && fault.kind != NODY_KIND_NONE) {
+        size_t place = before.count + read - fault.back;
         Py_DECREF(made);
-        after = before;
-        found.count = 0;
-        made = fed_before(&after, &view, found.first);
-        if (made == NULL) {
-            PyBuffer_Release(&view);
-            return NULL;
-        }
-    }
-    if (strict && found.count) {
-        Py_DECREF(made);
-        made = Py_BuildValue("nnIy#n", begun + (Py_ssize_t)found.first, (Py_ssize_t)found.len, (unsigned)found.kind,
-                             (const char *)before.held, (Py_ssize_t)before.count, (Py_ssize_t)found.first);
-    } else {
+        made = Py_BuildValue("nnIy#n", self->fed - before.count + (Py_ssize_t)place, (Py_ssize_t)fault.len, (unsigned)fault.kind,
+                             (const char *)before.held, (Py_ssize_t)before.count, (Py_ssize_t)place);
+    } else if (made != NULL) {
+        if (!strict)
+            self->faults += faults_of(&before, view.buf, (size_t)view.len, before.count + (size_t)view.len - after.count);
         self->recoder = after;
         self->fed += view.len;
-        self->faults += found.count;
     }
     PyBuffer_Release(&view);
     return made;

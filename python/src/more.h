@@ -34,7 +34,7 @@ static const char *sentence_of(nody_kind_t kind) {
         "the value is above U+10FFFF",
         "a trailing surrogate where a character should begin",
         "a leading surrogate that what follows does not complete",
-        "a leading surrogate at the end",
+        "the input ends after a leading surrogate, or inside a unit",
         "nothing is left",
     };
     return sentences[kind < 12 ? kind : 11];

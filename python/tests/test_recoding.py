@@ -55,7 +55,7 @@ class AtOnce(unittest.TestCase):
             (b"\0\xd8a\0", 0, ErrorKind.UNMATCHED_LEADING_SURROGATE),
             (b"a\0\0\xd8", 2, ErrorKind.INCOMPLETE),
             (b"a\0\0\xd8a", 2, ErrorKind.INCOMPLETE),
-            (b"a\0a", 2, ErrorKind.TOO_FEW_BYTES),
+            (b"a\0a", 2, ErrorKind.INCOMPLETE),
         ]:
             for form, it in (("utf16le", data), ("utf16be", swapped(data))):
                 with self.assertRaises(FaultError) as raised:
@@ -148,7 +148,8 @@ class InParts(unittest.TestCase):
         kinds = [(b"\xe0\x80\x80", ErrorKind.OVERLONG_ENCODING), (b"\xe0\x80A", ErrorKind.INTERRUPTED_SEQUENCE),
                  (b"\xed\xa0\x80", ErrorKind.UTF16_RESERVED_CODEPOINT), (b"\xf4\x90\x80\x80", ErrorKind.TOO_HIGH_CODEPOINT),
                  (b"\xf0\x80\x80A", ErrorKind.INTERRUPTED_SEQUENCE), (b"\xe9A\n", ErrorKind.INTERRUPTED_SEQUENCE),
-                 (b"\xe0\x80", ErrorKind.TOO_FEW_BYTES), (b"\xf4\x90\x80", ErrorKind.TOO_FEW_BYTES)]
+                 (b"\xe0\x80", ErrorKind.TOO_FEW_BYTES), (b"\xf4\x90\x80", ErrorKind.TOO_FEW_BYTES),
+                 (b"\xe9A", ErrorKind.TOO_FEW_BYTES), (b"\xf0\x80A", ErrorKind.TOO_FEW_BYTES)]
         for data, kind in kinds:
             for cut in range(len(data)):
                 recoder, made = Recoder("utf8", "utf16be", "strict"), b""
@@ -158,6 +159,22 @@ class InParts(unittest.TestCase):
                     recoder.finish()
                 self.assertEqual((raised.exception.offset, raised.exception.error), (2, kind), (data, cut))
                 self.assertIn(made, [b"", b"\0\xe9"])
+
+    def test_strict_does_not_depend_on_the_cut(self):
+        """Fed in any two parts, a recoder raises as `recode` of all does: the same offset, length and error."""
+        def told(recoded):
+            try:
+                return recoded()
+            except FaultError as fault:
+                return fault.offset, fault.end - fault.start, fault.error
+
+        for data in outside.inputs(2000, 12, seed=12):
+            for form in FORMS:
+                want = told(lambda: recode(data, form, "utf8", "strict"))
+                for cut in range(len(data) + 1):
+                    recoder = Recoder(form, "utf8", "strict")
+                    have = told(lambda: recoder.feed(data[:cut]) + recoder.feed(data[cut:]) + recoder.finish())
+                    self.assertEqual(have, want, (data, form, cut))
 
     def test_strict_leaves_it_as_it_was(self):
         recoder = Recoder("utf8", "utf16be", "strict")

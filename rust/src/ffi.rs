@@ -20,6 +20,13 @@ pub(crate) struct Recoder {
 }
 
 #[repr(C)]
+pub(crate) struct Fault {
+    pub len: usize,
+    pub back: usize,
+    pub kind: u8,
+}
+
+#[repr(C)]
 pub(crate) struct Name {
     pub text: [u8; 32],
 }
@@ -43,6 +50,7 @@ pub(crate) const FORM_UTF16BE: u8 = 2;
 
 pub(crate) const STATUS_DONE: u8 = 0;
 pub(crate) const STATUS_FULL: u8 = 1;
+pub(crate) const STATUS_FAULT: u8 = 3;
 
 extern "C" {
     pub(crate) fn nody_supported() -> i32;
@@ -67,6 +75,23 @@ extern "C" {
         written: *mut usize,
     ) -> u8;
     pub(crate) fn nody_recoder_finish(recoder: *mut Recoder, out: *mut u8, room: usize, written: *mut usize) -> u8;
+    pub(crate) fn nody_recoder_feed_strict(
+        recoder: *mut Recoder,
+        input: *const u8,
+        input_len: usize,
+        out: *mut u8,
+        room: usize,
+        read: *mut usize,
+        written: *mut usize,
+        fault: *mut Fault,
+    ) -> u8;
+    pub(crate) fn nody_recoder_finish_strict(
+        recoder: *mut Recoder,
+        out: *mut u8,
+        room: usize,
+        written: *mut usize,
+        fault: *mut Fault,
+    ) -> u8;
     pub(crate) fn nody_recoded_len_max(from: u8, to: u8, len: usize) -> usize;
     pub(crate) fn nody_shard_end(from: u8, bytes: *const u8, len: usize, at: usize) -> usize;
 

@@ -164,8 +164,8 @@ impl Recoder {
         Recoder { raw, is_strict: false, offset: 0 }
     }
 
-    /// A recoder that stops at what is invalid, and says where it is and why. What a decoder of the whole text would find is found,
-    /// in the same places; kinds are those of [`streamed_at`](crate::streamed_at), so that they do not depend on how the text is cut.
+    /// A recoder that stops at what is invalid, and says where it is and why: in the places and with the kinds that a decoder of the
+    /// whole text finds, however the text is cut. After `E9 0A` it waits for a third byte, which decides the kind.
     ///
     /// ```
     /// use noddychest::{FaultKind, Form, Recoder, Status};
@@ -239,9 +239,27 @@ impl Recoder {
 
     /// The same, into room in which nothing was written yet. So many bytes as the answer says are then.
     pub(crate) fn feed_uninit(&mut self, part: &[u8], room: &mut [MaybeUninit<u8>]) -> Progress {
-        let did = if self.is_strict { self.feed_strict(part, room) } else { feed_raw(&mut self.raw, part, room) };
-        self.offset += did.read;
-        did
+        let (mut read, mut written, mut fault) = (0, 0, NO_FAULT);
+        let (out, out_len) = (room.as_mut_ptr().cast(), room.len());
+        // SAFETY: part and room are valid for their lengths, and neither they nor the recoder, the counts and the fault overlap.
+        let status = unsafe {
+            if self.is_strict {
+                ffi::nody_recoder_feed_strict(
+                    &mut self.raw,
+                    part.as_ptr(),
+                    part.len(),
+                    out,
+                    out_len,
+                    &mut read,
+                    &mut written,
+                    &mut fault,
+                )
+            } else {
+                ffi::nody_recoder_feed(&mut self.raw, part.as_ptr(), part.len(), out, out_len, &mut read, &mut written)
+            }
+        };
+        self.offset += read;
+        Progress { read, written, status: self.status_of(status, &fault) }
     }
 
     /// Writes what is held, at most nine bytes, when no more follows. [`Status::Full`]: call this again with more room.
@@ -262,192 +280,36 @@ impl Recoder {
 
     /// The same, into room in which nothing was written yet.
     pub(crate) fn finish_uninit(&mut self, room: &mut [MaybeUninit<u8>]) -> Progress {
-        if self.is_strict {
-            self.finish_strict(room)
-        } else {
-            finish_raw(&mut self.raw, room)
-        }
-    }
-
-    /// A strict recoder judges what it is fed, by `valid_up_to` and by the piece that begins where that ends, and recodes what is
-    /// valid, which leaves nothing held. What it holds itself is the front of a character, or bytes after a fault that was told.
-    fn feed_strict(&mut self, part: &[u8], room: &mut [MaybeUninit<u8>]) -> Progress {
-        let mut did = Progress { read: 0, written: 0, status: Status::Done };
-        loop {
-            let (rest, left) = (&part[did.read..], &mut room[did.written..]);
-            if self.held().is_empty() {
-                // (no more than fills the room is judged in one turn: two bytes read give one at least)
-                let front = &rest[..rest.len().min(left.len().saturating_mul(2).saturating_add(8))];
-                let valid = valid_up_to(self.from(), front);
-                let (read, written) = self.put(&front[..valid], left);
-                did.read += read;
-                did.written += written;
-                if read < valid {
-                    return Progress { status: Status::Full, ..did };
-                }
+        let (mut written, mut fault) = (0, NO_FAULT);
+        let (out, out_len) = (room.as_mut_ptr().cast(), room.len());
+        // SAFETY: the room is valid for its length, and neither it nor the recoder, the count and the fault overlap.
+        let status = unsafe {
+            if self.is_strict {
+                ffi::nody_recoder_finish_strict(&mut self.raw, out, out_len, &mut written, &mut fault)
+            } else {
+                ffi::nody_recoder_finish(&mut self.raw, out, out_len, &mut written)
             }
-            let rest = &part[did.read..];
-            let mut window = [0; 4];
-            let held = self.held().len();
-            let fresh = rest.len().min(4 - held);
-            window[..held].copy_from_slice(self.held());
-            window[held..held + fresh].copy_from_slice(&rest[..fresh]);
-            let window = &window[..held + fresh];
-            match judge(self.from(), window) {
-                Judged::Waits => {
-                    self.hold(window);
-                    did.read += fresh;
-                    return did;
-                }
-                Judged::Char(len) => {
-                    let (read, written) = self.put(&window[..len], &mut room[did.written..]);
-                    if read < len {
-                        return Progress { status: Status::Full, ..did };
-                    }
-                    did.written += written;
-                    did.read += self.take(len);
-                }
-                Judged::Fault(len, kind) => {
-                    let fault = Fault::new(self.offset + did.read - held, len, kind);
-                    did.read += self.take(usize::from(len));
-                    return Progress { status: Status::Fault(fault), ..did };
-                }
-            }
-        }
+        };
+        Progress { read: 0, written, status: self.status_of(status, &fault) }
     }
 
-    fn finish_strict(&mut self, room: &mut [MaybeUninit<u8>]) -> Progress {
-        let did = self.feed_strict(&[], room);
-        let held = self.held().len();
-        if did.status != Status::Done || held == 0 {
-            return did;
-        }
-        let (len, kind) = judge_at_end(self.from(), self.held());
-        let fault = Fault::new(self.offset - held, len, kind);
-        self.take(usize::from(len));
-        Progress { status: Status::Fault(fault), ..did }
-    }
-
-    /// Recodes whole characters, as far as there is room: how many bytes of them were read, and how many written.
-    fn put(&self, text: &[u8], room: &mut [MaybeUninit<u8>]) -> (usize, usize) {
-        let mut raw = ffi::Recoder { count: 0, ..self.raw };
-        let did = feed_raw(&mut raw, text, room);
-        // (those of which nothing was written are the last that were read, and stay with the caller)
-        (did.read - usize::from(raw.count), did.written)
-    }
-
-    /// Takes so many bytes of those that are held and then of the part: how many of the part.
-    fn take(&mut self, len: usize) -> usize {
-        let held = self.held().len();
-        let of_held = len.min(held);
-        self.raw.held.copy_within(of_held..held, 0);
-        self.raw.count = (held - of_held) as u8;
-        len - of_held
-    }
-
-    /// Holds these bytes, at most three, and no others.
-    fn hold(&mut self, bytes: &[u8]) {
-        self.raw.held[..bytes.len()].copy_from_slice(bytes);
-        self.raw.count = bytes.len() as u8;
-    }
-}
-
-/// What stands at the front of at most four bytes.
-enum Judged {
-    /// A character of so many bytes.
-    Char(usize),
-    /// So many bytes that are invalid, whatever follows.
-    Fault(u8, FaultKind),
-    /// Nothing, or the front of what may become a character, or a fault of another kind.
-    Waits,
-}
-
-/// Of UTF-8 four bytes decide, and of UTF-16 two units.
-fn judge(form: Form, window: &[u8]) -> Judged {
-    let (piece, width) = match form {
-        Form::Utf8 => (crate::streamed_at(window, 0), 1),
-        _ => (first_unit_piece(form, window), 2),
-    };
-    match piece.map(|it| (it.len, it.result.map_err(|fault| fault.kind()))) {
-        None | Some((_, Err(FaultKind::TooFewBytes | FaultKind::Incomplete))) => Judged::Waits,
-        Some((len, Ok(_))) => Judged::Char(len * width),
-        Some((_, Err(kind))) => Judged::Fault(width as u8, kind),
-    }
-}
-
-/// What waits, where nothing follows.
-fn judge_at_end(form: Form, held: &[u8]) -> (u8, FaultKind) {
-    match form {
-        Form::Utf8 => (1, FaultKind::TooFewBytes),
-        _ => (held.len().min(2) as u8, FaultKind::Incomplete),
-    }
-}
-
-fn unit_of(form: Form, pair: &[u8]) -> u16 {
-    match form {
-        Form::Utf16Be => u16::from_be_bytes([pair[0], pair[1]]),
-        _ => u16::from_le_bytes([pair[0], pair[1]]),
-    }
-}
-
-fn first_unit_piece(form: Form, window: &[u8]) -> Option<crate::Piece> {
-    let mut units = [0; 2];
-    let pairs = window.chunks_exact(2);
-    let count = pairs.len();
-    for (unit, pair) in units.iter_mut().zip(pairs) {
-        *unit = unit_of(form, pair);
-    }
-    crate::units::first(&units[..count])
-}
-
-/// The offset of the first fault, in bytes.
-fn valid_up_to(form: Form, bytes: &[u8]) -> usize {
-    if form == Form::Utf8 {
-        return crate::valid_up_to(bytes);
-    }
-    let (mut offset, mut units) = (0, [0; 128]);
-    loop {
-        let pairs = bytes[offset..].chunks_exact(2).take(units.len());
-        let count = pairs.len();
-        for (unit, pair) in units.iter_mut().zip(pairs) {
-            *unit = unit_of(form, pair);
-        }
-        let valid = crate::units::valid_up_to(&units[..count]);
-        offset += 2 * valid;
-        // (a leading surrogate may end the block: the next one begins with it, and goes on where what follows completes it)
-        if valid == 0 || valid + 1 < count {
-            return offset;
+    /// A recoder of this crate is never refused.
+    fn status_of(&self, number: u8, fault: &ffi::Fault) -> Status {
+        match (number, FaultKind::of_number(fault.kind)) {
+            (ffi::STATUS_DONE, _) => Status::Done,
+            (ffi::STATUS_FULL, _) => Status::Full,
+            (ffi::STATUS_FAULT, Some(kind)) => Status::Fault(Fault::new(self.offset - fault.back, fault.len as u8, kind)),
+            _ => unreachable!("a recoder has one of three forms, and holds at most three bytes"),
         }
     }
 }
+
+/// What a call is given to write a fault into.
+const NO_FAULT: ffi::Fault = ffi::Fault { len: 0, back: 0, kind: ffi::KIND_NONE };
 
 fn as_uninit(room: &mut [u8]) -> &mut [MaybeUninit<u8>] {
     // SAFETY: both have the same layout, and what is done with the room here only writes bytes to it.
     unsafe { &mut *(room as *mut [u8] as *mut [MaybeUninit<u8>]) }
-}
-
-fn feed_raw(raw: &mut ffi::Recoder, part: &[u8], room: &mut [MaybeUninit<u8>]) -> Progress {
-    let (mut read, mut written) = (0, 0);
-    let (out, out_len) = (room.as_mut_ptr().cast(), room.len());
-    // SAFETY: part and room are valid for their lengths, and neither they nor the recoder nor the counts overlap.
-    let status = unsafe { ffi::nody_recoder_feed(raw, part.as_ptr(), part.len(), out, out_len, &mut read, &mut written) };
-    Progress { read, written, status: status_of(status) }
-}
-
-fn finish_raw(raw: &mut ffi::Recoder, room: &mut [MaybeUninit<u8>]) -> Progress {
-    let mut written = 0;
-    // SAFETY: the room is valid for its length, and neither it nor the recoder nor the count overlap.
-    let status = unsafe { ffi::nody_recoder_finish(raw, room.as_mut_ptr().cast(), room.len(), &mut written) };
-    Progress { read: 0, written, status: status_of(status) }
-}
-
-/// A recoder of this crate is never refused.
-fn status_of(number: u8) -> Status {
-    match number {
-        ffi::STATUS_DONE => Status::Done,
-        ffi::STATUS_FULL => Status::Full,
-        _ => unreachable!("a recoder has one of three forms, and holds at most three bytes"),
-    }
 }
 
 /// The most bytes that so many bytes are recoded as, with what `finish` writes; `None` where a `usize` cannot count them. Add to

@@ -9,8 +9,7 @@ use noddychest::{recode, recode_strict, recoded_len_max, shard_end, Fault, Fault
 type Answer = (usize, Result<char, FaultKind>);
 
 fn of_utf8(bytes: &[u8]) -> Vec<Answer> {
-    let kinds = noddychest::pieces(bytes).map(|it| noddychest::streamed_at(bytes, it.offset).expect("a piece"));
-    kinds.map(|it| (it.len, it.result.map_err(|fault| fault.kind()))).collect()
+    noddychest::pieces(bytes).map(|it| (it.len, it.result.map_err(|fault| fault.kind()))).collect()
 }
 
 fn of_utf16(bytes: &[u8], unit: fn([u8; 2]) -> u16) -> Vec<Answer> {
@@ -179,6 +178,21 @@ fn long_texts() {
         let text = encoded(from, "aé€😀".repeat(10_000).chars());
         assert!(recode_strict(from, to, &text) == Ok(replaced(from, to, &text)), "{from} {to}");
     }
+}
+
+/// A strict recoder waits only where what follows decides whether a byte is invalid, or why.
+#[test]
+fn strict_recoding_waits_for_the_kind() {
+    for (part, held) in [(&b"a\xE9"[..], 1), (b"a\xE9\n", 2), (b"a\xF0\x80A", 3), (b"a\xE9\x80", 2)] {
+        let (mut recoder, mut room) = (Recoder::strict(Form::Utf8, Form::Utf8), [0; 9]);
+        let did = recoder.feed(part, &mut room);
+        assert_eq!((did.read, did.written, did.status), (part.len(), 1, Status::Done), "{part:x?}");
+        assert_eq!(recoder.held(), &part[part.len() - held..]);
+    }
+    let mut recoder = Recoder::strict(Form::Utf8, Form::Utf8);
+    assert_eq!(recoder.feed(b"\xE9\n", &mut [0; 9]).status, Status::Done);
+    let Status::Fault(fault) = recoder.feed(b"A", &mut [0; 9]).status else { panic!("a third byte decides") };
+    assert_eq!((fault.offset(), fault.kind()), (0, FaultKind::InterruptedSequence));
 }
 
 /// A small room and a large part: the strict recoder judges no more of it than fills the room.

@@ -1,3 +1,4 @@
 pub mod Each
 pub mod Merged
 pub mod WholeRuns
+pub mod WholeStrict

@@ -9,7 +9,7 @@ use borrow.Rule.Slice.PartMut.{put_mid}
 use Rattle.std.specs.Prelude.{slice_range}
 use Rattle.cuts.specs.declared.Form.{Form}
 use Rattle.cuts.specs.declared.Form.TheVariants.{Utf8, Utf16Le, Utf16Be}
-use Rattle.cuts.specs.Recoded.{Recoding, IsRecoded, Finishes}
+use Rattle.cuts.specs.Recoded.{Recoding, IsRecoded, Finishes, fresh}
 use Rattle.cuts.specs.Rooms.{FeedsInto, FinishesInto, IsFull, IsLastFull, most_bytes}
 use Rattle.cuts.specs.Bounds.{HasRoom}
 use Rattle.cuts.specs.Fed.{IsFed}
@@ -19,10 +19,6 @@ use Rattle.recoding.proofs.BoundLemmas.{recoded_bound}
 use Rattle.recoding.proofs.EnoughRoom.{feeds_in_room, room_is_left, finishes_in_room}
 use Rattle.recoding.proofs.FedParts.{nothing_is_fed, part_is_fed, fed_is_front, fed_is_recoded}
 use Rattle.recoding.proofs.Growing.{recoded_once, recoded_nothing}
-
--- a recoder that holds nothing
-abbrev pub fresh : Form → Form → Recoding
-fresh from to = record { from = from; to = to; held = [] }
 
 -- room for one output is room for all, since there is no other
 room_for_one : (from to : Form) (bytes out : List ℕ) (room : ℕ) → IsRecoded from to bytes out → length out ≤ room → HasRoom from to bytes room
@@ -187,6 +183,9 @@ module _ (room rest : List ℕ) (place wrote : ℕ) (le : place ≤ length room)
 
   front_len : length (take place room) ≡ place
   front_len = length-take place room ∙ omega arith
+
+  pub length_both : length (put_mid place (length room - place) room rest) ≡ length room
+  length_both = omega (arith, ap length put_rest, length-append (take place room) rest, front_len)
 
   pub written_both : take (place + wrote) (put_mid place (length room - place) room rest) ≡ take place room ++ take wrote rest
   written_both = ap (take (place + wrote)) put_rest ∙ take_more (take place room) rest place wrote front_len

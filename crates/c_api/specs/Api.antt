@@ -12,10 +12,17 @@ use Rattle.encode_unicode.specs.Window.{Item, as_piece}
 use Rattle.cuts.specs.Items.{IsRun}
 use Rattle.cuts.specs.declared.Form.{Form}
 use Rattle.cuts.specs.declared.Form.TheVariants.{Utf8, Utf16Le, Utf16Be}
+use Rattle.cuts.specs.declared.Fault.{Fault}
+use Rattle.cuts.specs.declared.FaultKind.{FaultKind}
+use Rattle.cuts.specs.declared.FaultKind.TheVariants as kind
+use Rattle.cuts.specs.declared.Outcome.{Outcome}
+use Rattle.cuts.specs.declared.Outcome.TheVariants.{AllRead, Full, Faulty}
+use Rattle.cuts.specs.declared.StrictProgress.{StrictProgress}
 use Rattle.cuts.specs.Recoded.{Recoding}
 use Rattle.cuts.specs.WellFormed.{IsFirstFault, IsFirstUnitFault}
 use Rattle.c_api.specs.declared.cursors.NodyPiece.{NodyPiece}
 use Rattle.c_api.specs.declared.recodings.NodyRecoder.{NodyRecoder}
+use Rattle.c_api.specs.declared.strict.NodyFault.{NodyFault}
 
 -- the number of an error
 abbrev pub kind_number : Utf8ErrorKind → ℕ
@@ -31,6 +38,10 @@ abbrev pub pair_number : Utf16PairError → ℕ
 pair_number UnexpectedTrailingSurrogate = 8
 pair_number UnmatchedLeadingSurrogate = 9
 pair_number Incomplete = 10
+
+abbrev pub fault_number : FaultKind → ℕ
+fault_number (kind.Utf8 k) = kind_number k
+fault_number (kind.Utf16 e) = pair_number e
 
 -- what C sees of a piece: a scalar has the kind 0, and a fault its number and no scalar
 abbrev pub shown_as : {E : Type 0} → (E → ℕ) → Result ℕ E × ℕ → NodyPiece
@@ -114,7 +125,25 @@ pub record IsRecoder (r : NodyRecoder) : Type 0 where
 
 -- the recoder that it is
 abbrev pub recoder_of : NodyRecoder → Recoding
-recoder_of r = record { from = form_of r.from; to = form_of r.to; held = take r.count r.held }
+recoder_of r = record { from = form_of r.from; to = form_of r.to; held = take r.count r.held; replaced = 0 }
+
+-- what C sees of how a strict call ended: a status, and the fault, if it ended at one
+abbrev pub no_fault : NodyFault
+no_fault = record { len = 0; back = 0; kind = 11 }
+
+abbrev pub fault_as : Fault → NodyFault
+fault_as f = record { len = f.len; back = f.back; kind = fault_number f.kind }
+
+abbrev pub told : Outcome → ℕ × NodyFault
+told AllRead = (0, no_fault)
+told Full = (1, no_fault)
+told (Faulty f) = (3, fault_as f)
+
+-- A strict call, as C sees it: what the call did, with the outcome that is told so.
+pub record Tells (run : StrictProgress → Type 0) (read wrote status : ℕ) (fault : NodyFault) : Type 0 where
+  pub outcome : Outcome
+  pub ran : run (record { read = read; written = wrote; outcome = outcome })
+  pub answer : (status, fault) ≡ told outcome
 
 -- a name in ASCII, with zeros after it up to 32 bytes
 abbrev pub named : List ℕ → List ℕ
@@ -133,23 +162,23 @@ abbrev pub name_of : ℕ → List ℕ
 name_of kind = get_or name_at kind []
 
 -- what the kinds mean, by their numbers: each in ASCII, with zeros after it up to 64 bytes
-abbrev pub told : List ℕ → List ℕ
-told sentence = sentence ++ replicate (64 - length sentence) 0
+abbrev pub spelled : List ℕ → List ℕ
+spelled sentence = sentence ++ replicate (64 - length sentence) 0
 
 abbrev pub sentence_at : List (List ℕ)
 sentence_at =
-    told (codes "a character") ∷
-    told (codes "too few bytes: the input ends inside a character") ∷
-    told (codes "invalid byte: C0, C1 and F5 to FF never occur in UTF-8") ∷
-    told (codes "unexpected continuation byte: no character begins with it") ∷
-    told (codes "interrupted sequence: a continuation byte is missing") ∷
-    told (codes "overlong encoding: the value has a shorter code") ∷
-    told (codes "surrogate: the value is one of D800 to DFFF") ∷
-    told (codes "too high: the value is above 10FFFF") ∷
-    told (codes "unexpected trailing surrogate: no leading one stands before it") ∷
-    told (codes "unmatched leading surrogate: no trailing one follows it") ∷
-    told (codes "incomplete: the input ends after a leading surrogate") ∷
-    told (codes "nothing is left") ∷ []
+    spelled (codes "a character") ∷
+    spelled (codes "too few bytes: the input ends inside a character") ∷
+    spelled (codes "invalid byte: C0, C1 and F5 to FF never occur in UTF-8") ∷
+    spelled (codes "unexpected continuation byte: no character begins with it") ∷
+    spelled (codes "interrupted sequence: a continuation byte is missing") ∷
+    spelled (codes "overlong encoding: the value has a shorter code") ∷
+    spelled (codes "surrogate: the value is one of D800 to DFFF") ∷
+    spelled (codes "too high: the value is above 10FFFF") ∷
+    spelled (codes "unexpected trailing surrogate: no leading one stands before it") ∷
+    spelled (codes "unmatched leading surrogate: no trailing one follows it") ∷
+    spelled (codes "incomplete: the input ends after a leading surrogate") ∷
+    spelled (codes "nothing is left") ∷ []
 
 abbrev pub sentence_of : ℕ → List ℕ
 sentence_of kind = get_or sentence_at kind []

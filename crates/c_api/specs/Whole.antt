@@ -1,7 +1,11 @@
 -- What a whole input is recoded as, for calls that are given all of it.
-use Rattle.std.specs.Prelude.{◌≡◌, ℕ, ◌-◌, ◌<◌, ◌^◌, List, ◌++◌, length, min}
+use Rattle.std.specs.Prelude.{◌≡◌, ℕ, ◌-◌, ◌<◌, ◌≤◌, ◌^◌, List, [], ◌++◌, length, drop, min}
 use Rattle.cuts.specs.declared.Form.{Form}
+use Rattle.cuts.specs.declared.Outcome.{Outcome}
+use Rattle.cuts.specs.declared.Outcome.TheVariants.{AllRead, Full, Faulty}
+use Rattle.cuts.specs.declared.StrictProgress.{StrictProgress}
 use Rattle.cuts.specs.Recoded.{IsRecoded}
+use Rattle.cuts.specs.Strict.{RecodesText, IsTooLong, EndsInFault}
 
 -- what the bytes are recoded as has more bytes than that
 abbrev pub IsLongerThan : Form → Form → List ℕ → ℕ → Type 0
@@ -14,3 +18,27 @@ BeginsRecoded from to bytes front = (out : List ℕ) → IsRecoded from to bytes
 -- what the bytes are recoded as has so many bytes, or more than a `usize` can count, all whose bits are then set
 abbrev pub IsRecodedLen : Form → Form → List ℕ → ℕ → Type 0
 IsRecodedLen from to bytes len = (out : List ℕ) → IsRecoded from to bytes out → len ≡ min (length out) (2 ^ 64 - 1)
+
+-- Why a whole input was recoded no further than to what is left: nothing is; or there is no room; or a fault begins there.
+abbrev pub EndsWhole : Form → Form → Outcome → List ℕ → ℕ → Type 0
+EndsWhole from to AllRead left room = left ≡ []
+EndsWhole from to Full left room = IsTooLong from to left room
+EndsWhole from to (Faulty f) left room = EndsInFault from left f.kind f.len × (f.back ≡ 0)
+
+-- how many of the bytes that a strict call read were not recoded: the fault, if it ended at one, and so many that it holds
+abbrev pub unrecoded : Outcome → ℕ → ℕ
+unrecoded AllRead held = held
+unrecoded Full held = held
+unrecoded (Faulty f) held = f.back
+
+-- why a strict call ended, where what was not recoded is not read
+abbrev pub unread : Outcome → Outcome
+unread AllRead = AllRead
+unread Full = Full
+unread (Faulty f) = Faulty (record { kind = f.kind; len = f.len; back = 0 })
+
+-- What was read of a whole input is text, which was recoded. A fault is not read.
+pub record RecodesStrictly (from to : Form) (bytes old new : List ℕ) (p : StrictProgress) : Type 0 where
+  pub within : p.read ≤ length bytes
+  pub recodes : RecodesText from to bytes (drop p.read bytes) old new p.written
+  pub ends : EndsWhole from to p.outcome (drop p.read bytes) (length old - p.written)

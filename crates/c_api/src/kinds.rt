@@ -1,7 +1,8 @@
 //! Numbers, names and sentences of errors.
 ghost use Rattle.std.specs.Prelude.{◌≡◌, ◌<◌, ◌≤◌};
-ghost use Rattle.c_api.specs.Api.{kind_number, pair_number, name_of, sentence_of};
+ghost use Rattle.c_api.specs.Api.{kind_number, pair_number, fault_number, name_of, sentence_of};
 
+use cuts::FaultKind;
 use encode_unicode::error::{Utf8ErrorKind, Utf16PairError};
 
 pub(crate) fn number_of(kind: Utf8ErrorKind) -> u8
@@ -25,6 +26,15 @@ pub(crate) fn pair_number_of(error: Utf16PairError) -> u8
         Utf16PairError::UnexpectedTrailingSurrogate => 8,
         Utf16PairError::UnmatchedLeadingSurrogate => 9,
         Utf16PairError::Incomplete => 10,
+    }
+}
+
+pub(crate) fn fault_number_of(kind: FaultKind) -> u8
+    ensures { result ≡ fault_number kind }
+{
+    match kind {
+        FaultKind::Utf8(kind) => number_of(kind),
+        FaultKind::Utf16(error) => pair_number_of(error),
     }
 }
 

@@ -11,6 +11,8 @@ mod cursors;
 mod kinds;
 mod recodings;
 mod shards;
+mod strict;
 mod version;
 mod well_formed;
 mod whole;
+mod whole_strict;

@@ -21,7 +21,7 @@ pub struct NodyRecoder {
 }
 
 // What calls answer: all was done, there was no room for the next code, or the arguments are wrong.
-const DONE: u8 = 0;
+pub(crate) const DONE: u8 = 0;
 
 pub(crate) const FULL: u8 = 1;
 
@@ -40,7 +40,7 @@ pub(crate) fn form_of(number: u8) -> Form
 }
 
 // Whether the struct is a recoder.
-fn is_recoder(recoder: &NodyRecoder) -> bool
+pub(crate) fn is_recoder(recoder: &NodyRecoder) -> bool
     ensures yes { result ≡ true → IsRecoder recoder.now }
     ensures no { IsRecoder recoder.now → result ≡ true }
 {
@@ -61,7 +61,7 @@ pub extern "C" fn nody_recoder(from: u8, to: u8) -> NodyRecoder
 }
 
 // The recoder that the struct is.
-fn opened(recoder: &NodyRecoder) -> Recoder
+pub(crate) fn opened(recoder: &NodyRecoder) -> Recoder
     requires { IsRecoder recoder.now }
     ensures { result ≡ recoder_of recoder.now }
 {
@@ -73,10 +73,10 @@ fn opened(recoder: &NodyRecoder) -> Recoder
 }
 
 // Puts into the struct what the recoder holds.
-fn keep(recoder: &mut NodyRecoder, inner: &Recoder)
+pub(crate) fn keep(recoder: &mut NodyRecoder, inner: &Recoder)
     requires from { inner.now.from ≡ form_of recoder.old.from }
     requires to { inner.now.to ≡ form_of recoder.old.to }
-    ensures kept { recoder_of recoder.new ≡ inner.now }
+    ensures kept { recoder_of recoder.new ≡ record (inner.now) { replaced = 0 } }
     ensures count { recoder.new.count ≡ length inner.now.held }
     ensures is_recoder { IsRecoder recoder.old → IsRecoder recoder.new }
 {

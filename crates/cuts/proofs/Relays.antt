@@ -7,7 +7,7 @@ use Rattle.cuts.specs.declared.programs.relayed.RecodeFault.{RecodeFault}
 use Rattle.cuts.specs.declared.programs.relayed.RecodeFault.TheVariants.{Read, Write, Memory}
 use Rattle.std.specs.Io.KnownBytes.{Appends, Consumes, Keeps, IsAtEnd}
 use Rattle.recoding.specs.declared.form.Form.{Form}
-use Rattle.recoding.specs.Recoded.{Recoding, Continues, IsRecoded}
+use Rattle.recoding.specs.Recoded.{Recoding, Continues, IsRecoded, fresh}
 use Rattle.recoding.specs.RecodedBytes.{recoded}
 use Rattle.cuts.specs.Failures.{AppendsFront}
 use Rattle.cuts.specs.Relayed.{AppendsRecoded, WritesRecoded, BeginsRecoded, Passes, PassesFront, PassesLast, PassesLastFront}
@@ -28,7 +28,7 @@ pub record IsRelayed (from to : Form) (in_old in_now out_old out_now : Option (L
   pub few : length r.held ≤ 3
   pub paced : (failures_old < failures_now) ⊎ (turns ≤ length bytes)
 
-pub IsRelayed-none : (from to : Form) (input out : Option (List ℕ)) (failures : ℕ) (r : Recoding) → r ≡ record { from = from; to = to; held = [] }
+pub IsRelayed-none : (from to : Form) (input out : Option (List ℕ)) (failures : ℕ) (r : Recoding) → r ≡ fresh from to
     → IsRelayed from to input input out out failures failures 0 r
 IsRelayed-none from to input out failures r e =
     rw e (record {

@@ -8,7 +8,7 @@ use Rattle.recoding.specs.declared.faults.Fault.{Fault}
 use Rattle.recoding.specs.declared.faults.Outcome.TheVariants.{Faulty}
 use Rattle.recoding.specs.declared.faults.StrictProgress.{StrictProgress}
 use Rattle.recoding.specs.declared.form.Form.{Form}
-use Rattle.recoding.specs.Recoded.{Recoding}
+use Rattle.recoding.specs.Recoded.{Recoding, fresh}
 use Rattle.recoding.specs.Strict.{Transcodes, FeedsStrictly, EndsFeed, kind_of}
 use Rattle.recoding.proofs.StrictSteps.{fault_few}
 use Rattle.recoding.proofs.TextRuns.{Transcodes-none, Transcodes-then}
@@ -66,7 +66,7 @@ pub record IsTextRelayed (from to : Form) (in_old in_now out_old out_now : Optio
   pub counted : length (text ++ r.held) < 2 ^ 64 → offset ≡ length (text ++ r.held)
   pub before : length r.held ≤ offset
 
-pub IsTextRelayed-none : (from to : Form) (input out : Option (List ℕ)) (failures : ℕ) (r : Recoding) → r ≡ record { from = from; to = to; held = [] }
+pub IsTextRelayed-none : (from to : Form) (input out : Option (List ℕ)) (failures : ℕ) (r : Recoding) → r ≡ fresh from to
     → IsTextRelayed from to input input out out failures failures 0 r 0
 IsTextRelayed-none from to input out failures r e =
     rw e (record {

@@ -1,5 +1,6 @@
 pub mod Items
 pub mod PieceBoundaries
+pub mod Splits
 pub mod Collected
 pub mod EqualRuns
 pub mod ForwardRuns
@@ -18,6 +19,7 @@ pub mod Listings
 pub mod Endings
 pub use Rattle.recoding.specs.Recoded
 pub use Rattle.recoding.specs.RecodedBytes
+pub use Rattle.recoding.specs.Faults
 pub use Rattle.recoding.specs.Rooms
 pub use Rattle.recoding.specs.Bounds
 pub use Rattle.recoding.specs.Fed

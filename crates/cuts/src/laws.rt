@@ -10,13 +10,14 @@ ghost use Rattle.encode_unicode.specs.Mergers.{merged};
 ghost use Rattle.encode_unicode.specs.Pieces.{pieces};
 ghost use Rattle.cuts.specs.ForwardRuns.{PiecesAreTheRun, TextHasNoFault, fault_count};
 ghost use Rattle.cuts.specs.EqualRuns.{OneRun, OneMergedRun};
+ghost use Rattle.cuts.specs.Splits.{OneSplit};
 ghost use Rattle.utf_base.specs.Code.{utf8, utf16};
 ghost use Rattle.utf_base.specs.Kinds.{fault_kind, merger_kind};
 ghost use Rattle.utf_base.specs.Units.{unit_fault_kind};
 
 pub use recoding::laws::{
-    held_is_undecided, nothing_comes_earlier, parts_are_one_part, parts_do_not_matter,
-    recoded_is_bounded, recoded_once, room_is_enough, shards_join, text_is_recoded,
+    faults_are_counted, held_is_undecided, nothing_comes_earlier, parts_are_one_part,
+    parts_do_not_matter, recoded_is_bounded, recoded_once, room_is_enough, shards_join, text_is_recoded,
 };
 
 /// Equal bytes or units have equal runs, of decoders and of mergers.
@@ -53,4 +54,10 @@ pub fn merged_is_all_characters(bytes: &[u8])
 pub fn pieces_back_are_the_pieces(bytes: &[u8])
     ensures turned { AreTurned (pieces_back bytes.now) (pieces bytes.now) }
     ensures faults { fault_count (pieces_back bytes.now) ≡ fault_count (pieces bytes.now) }
+{}
+
+/// Parts without the separator that are the bytes, joined by it, are those that `split_ascii` gives.
+#[tactic(auto, using(crate::proofs::SplitLemmas::one_split))]
+pub fn split_is_unique()
+    ensures { OneSplit }
 {}

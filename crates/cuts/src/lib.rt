@@ -4,6 +4,8 @@
 //!   `merge_utf16` collect what a merger answers; `valid_up_to` and `units_valid_up_to` find the first fault, and
 //!   `unit_bytes_valid_up_to` that of units in bytes.
 //! - Boundaries: `boundaries` finds the character boundaries next to any byte.
+//! - Parts: `split_ascii` gives the parts between ASCII separators, `lines` the lines, each with its offset; `fault_count` and
+//!   `char_count` count.
 //! - Tables: `PieceTable` keeps the pieces of bytes that are edited.
 //! - Recoding: `Recoder` takes text in parts, `recode` from a reader to a writer, and `recode_strict` to the first fault; `room_for` says how much comes of some
 //!   bytes at most, `shard_end` and `boundary_after` where a large input may be cut; `front_of_text` gives one character.
@@ -14,13 +16,16 @@
 
 pub(crate) mod block_moves;
 pub mod boundaries;
+pub mod byte_lines;
 pub mod counted;
 pub mod laws;
 pub mod piece_table;
 pub mod programs;
 pub mod runs;
+pub mod splits;
 pub mod streams;
 
+pub use byte_lines::{SplitLines, lines};
 pub use counted::Counted;
 pub use piece_table::PieceTable;
 pub use programs::listing::{write_listing, write_merged, write_walk};
@@ -35,8 +40,10 @@ pub use recoding::recoder::{Recoder, Unfinished};
 pub use recoding::rooms::{Progress, room_for};
 pub use recoding::shards::shard_end;
 pub use runs::collected::{forward_utf16, merge_utf8, merge_utf16};
+pub use runs::counts::{char_count, fault_count};
 pub use runs::items::{End, Item, UnitItem};
 pub use runs::unit_bytes::unit_bytes_valid_up_to;
 pub use runs::walks::{walk_utf8, walk_utf16};
 pub use runs::well_formed::{units_valid_up_to, valid_up_to};
+pub use splits::{Span, SplitAscii, split_ascii};
 pub use utf_lanes::text_front::front_of_text;

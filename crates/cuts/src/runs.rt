@@ -1,6 +1,7 @@
 //! Whole runs over bytes and units: every piece, from the front, from both ends, or as a merger answers.
 
 pub mod collected;
+pub mod counts;
 pub mod items;
 pub mod unit_bytes;
 pub mod walks;

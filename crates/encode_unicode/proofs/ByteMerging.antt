@@ -74,14 +74,14 @@ byte_alone can_next remaining steps first old s e (Ok c) can few alone j =
     let none : old ≡ [] = alone (no_continuation first c j.0 j.1) in
     record {
       more = [];
-      reads = reads_none can_next remaining steps s e can;
+      reads = reads_none can;
       settles = λ later ends. (j.0, rw none (ap (λ xs. xs ++ later) j.1));
       few = omega arith;
       clear = none;
     }
 byte_alone can_next remaining steps first old s e (Err k) can few alone j = record {
   more = [];
-  reads = reads_none can_next remaining steps s e can;
+  reads = reads_none can;
   settles = λ later ends. (kind_of_front (first ∷ []) ((old ++ []) ++ later) (lit< tt) few ∙ j, ap (λ xs. first ∷ xs ++ later) (append-nil old));
   few = omega arith;
   clear = tt;
@@ -91,24 +91,24 @@ byte_alone can_next remaining steps first old s e (Err k) can few alone j = reco
 
 completes_ok : {S : Type 0} (can_next : S → Type 0) (remaining : S → Count) (steps : S → Option ℕ → S → Type 0) (first : ℕ) (old bytes : List ℕ) (c : ℕ) (s t : S) (e f : Bool) (new : List ℕ)
     → IsScalar c → bytes ≡ padded 4 (utf8 c) → Answers utf8 merger_kind can_next remaining steps first old s e (Ok c) new t f
-    → Completes can_next remaining steps first old s e (Ok bytes) new t f
+    → Completes can_next remaining steps first (record { held = old; ended = e }) s (Ok bytes) (record { held = new; ended = f }) t
 completes_ok can_next remaining steps first old bytes c s t e f new scalar same a = record {
   answers = (IsPadded_padded bytes c scalar same, rw (value_padded bytes c scalar same) a);
   held = rw a.clear held_none;
 }
 
-pub alone_completes : {S : Type 0} (can_next : S → Type 0) (remaining : S → Count) (steps : S → Option ℕ → S → Type 0) (first c : ℕ) (old : List ℕ) (s : S) (e : Bool)
+pub alone_completes : {S : Type 0} {can_next : S → Type 0} {remaining : S → Count} {steps : S → Option ℕ → S → Type 0} (first : ℕ) {c : ℕ} {old : List ℕ} {s : S} {e : Bool}
     → (e ≡ false → can_next s) → asked first ≤ 1 → (is_continuation first ≡ false → old ≡ []) → JudgesBytes (first ∷ []) (Ok c)
-    → Completes can_next remaining steps first old s e (Ok (first ∷ 0 ∷ 0 ∷ 0 ∷ [])) old s e
+    → Completes can_next remaining steps first (record { held = old; ended = e }) s (Ok (first ∷ 0 ∷ 0 ∷ 0 ∷ [])) (record { held = old; ended = e }) s
 unfolding padded
-alone_completes can_next remaining steps first c old s e can few alone j =
+alone_completes {S} {can_next} {remaining} {steps} first {c} {old} {s} {e} can few alone j =
     let same : first ∷ 0 ∷ 0 ∷ 0 ∷ [] ≡ padded 4 (utf8 c) = rw (← j.1) refl in
     completes_ok can_next remaining steps first old (first ∷ 0 ∷ 0 ∷ 0 ∷ []) c s s e e old j.0 same (byte_alone can_next remaining steps first old s e (Ok c) can few alone j)
 
-pub alone_fails : {S : Type 0} (can_next : S → Type 0) (remaining : S → Count) (steps : S → Option ℕ → S → Type 0) (first : ℕ) (k : Utf8ErrorKind) (old : List ℕ) (s : S) (e : Bool)
+pub alone_fails : {S : Type 0} {can_next : S → Type 0} {remaining : S → Count} {steps : S → Option ℕ → S → Type 0} {first : ℕ} {k : Utf8ErrorKind} {old : List ℕ} {s : S} {e : Bool}
     → (e ≡ false → can_next s) → asked first ≤ 1 → (is_continuation first ≡ false → old ≡ []) → IsHeldBytes old → JudgesBytes (first ∷ []) (Err k)
-    → Completes can_next remaining steps first old s e (Err k) old s e
-alone_fails can_next remaining steps first k old s e can few alone held j = record { answers = byte_alone can_next remaining steps first old s e (Err k) can few alone j; held = held }
+    → Completes can_next remaining steps first (record { held = old; ended = e }) s (Err k) (record { held = old; ended = e }) s
+alone_fails {S} {can_next} {remaining} {steps} {first} {k} {old} {s} {e} can few alone held j = record { answers = byte_alone can_next remaining steps first old s e (Err k) can few alone j; held = held }
 
 pub begins_alone : (b : ℕ) → 0xC2 ≤ b → is_continuation b ≡ false
 begins_alone b h = grind (arith, common_steps)
@@ -116,29 +116,29 @@ begins_alone b h = grind (arith, common_steps)
 -- After what was read before.
 
 -- a code, whose last byte is b
-pub code_after : {S : Type 0} (can_next : S → Type 0) (remaining : S → Count) (steps : S → Option ℕ → S → Type 0) (first : ℕ) (before : List ℕ) (b c : ℕ) (bytes : List ℕ) (u t : S) (new : List ℕ) (f : Bool)
+pub code_after : {S : Type 0} {can_next : S → Type 0} {remaining : S → Count} {steps : S → Option ℕ → S → Type 0} (first : ℕ) (before : List ℕ) (b c : ℕ) {bytes : List ℕ} {u t : S} {new : List ℕ} {f : Bool}
     → Reads can_next remaining steps u false (b ∷ []) t false → IsScalar c → first ∷ before ++ b ∷ [] ≡ utf8 c → bytes ≡ padded 4 (utf8 c) → new ≡ [] → f ≡ false
-    → CompletesAfter can_next remaining steps first before u (Ok bytes) new t f
-code_after can_next remaining steps first before b c bytes u t new f reads scalar code same none going s so_far =
+    → CompletesAfter can_next remaining steps first before u (Ok bytes) (record { held = new; ended = f }) t
+code_after {S} {can_next} {remaining} {steps} first before b c {bytes} {u} {t} {new} {f} reads scalar code same none going s so_far =
     completes_ok can_next remaining steps first [] bytes c s t false f new scalar same
     (record {
       more = before ++ b ∷ [];
-      reads = rw going (reads_more can_next remaining steps s u t false false false before (b ∷ []) so_far reads);
+      reads = rw going (reads_more so_far reads);
       settles = λ later ends. (scalar, rw none (ap (λ xs. xs ++ later) code));
       few = rw none (omega arith);
       clear = none;
     })
 
 -- no code, as the byte b shows, which is held after the others
-pub fault_after : {S : Type 0} (can_next : S → Type 0) (remaining : S → Count) (steps : S → Option ℕ → S → Type 0) (first : ℕ) (before : List ℕ) (b : ℕ) (k : Utf8ErrorKind) (u t : S) (new : List ℕ) (f : Bool)
+pub fault_after : {S : Type 0} {can_next : S → Type 0} {remaining : S → Count} {steps : S → Option ℕ → S → Type 0} (first : ℕ) (before : List ℕ) (b : ℕ) {k : Utf8ErrorKind} {u t : S} {new : List ℕ} {f : Bool}
     → Reads can_next remaining steps u false (b ∷ []) t false → ((later : List ℕ) → merger_kind (first ∷ (before ++ b ∷ []) ++ later) ≡ Some k) → IsHeldBytes (before ++ b ∷ []) → new ≡ before ++ b ∷ [] → f ≡ false
-    → CompletesAfter can_next remaining steps first before u (Err k) new t f
-fault_after can_next remaining steps first before b k u t new f reads kind held same going s so_far =
+    → CompletesAfter can_next remaining steps first before u (Err k) (record { held = new; ended = f }) t
+fault_after first before b {k} {u} {t} {new} reads kind held same going s so_far =
     let len : length new ≡ length (before ++ b ∷ []) = ap length same in
     record {
       answers = record {
         more = before ++ b ∷ [];
-        reads = rw going (reads_more can_next remaining steps s u t false false false before (b ∷ []) so_far reads);
+        reads = rw going (reads_more so_far reads);
         settles = λ later ends. (kind later, ap (λ xs. first ∷ xs ++ later) (sym same));
         few = omega arith;
         clear = tt;
@@ -147,15 +147,15 @@ fault_after can_next remaining steps first before b k u t new f reads kind held 
     }
 
 -- no code, since the source has ended
-pub end_after : {S : Type 0} (can_next : S → Type 0) (remaining : S → Count) (steps : S → Option ℕ → S → Type 0) (first : ℕ) (before : List ℕ) (k : Utf8ErrorKind) (u t : S) (new : List ℕ) (f : Bool)
+pub end_after : {S : Type 0} {can_next : S → Type 0} {remaining : S → Count} {steps : S → Option ℕ → S → Type 0} (first : ℕ) (before : List ℕ) {k : Utf8ErrorKind} {u t : S} {new : List ℕ} {f : Bool}
     → Reads can_next remaining steps u false [] t true → merger_kind (first ∷ before) ≡ Some k → IsHeldBytes before → new ≡ before → f ≡ true
-    → CompletesAfter can_next remaining steps first before u (Err k) new t f
-end_after can_next remaining steps first before k u t new f reads kind held same mark s so_far =
+    → CompletesAfter can_next remaining steps first before u (Err k) (record { held = new; ended = f }) t
+end_after first before {k} {u} {t} {new} reads kind held same mark s so_far =
     let len : length new ≡ length before = ap length same in
     record {
       answers = record {
         more = before ++ [];
-        reads = rw mark (reads_more can_next remaining steps s u t false false true before [] so_far reads);
+        reads = rw mark (reads_more so_far reads);
         settles = λ later ends. (
           rw (ends mark) (ap (λ xs. merger_kind (first ∷ xs)) (append-nil (before ++ []) ∙ append-nil before) ∙ kind),
           ap (λ xs. first ∷ xs ++ later) (append-nil before ∙ sym same),
@@ -167,13 +167,13 @@ end_after can_next remaining steps first before k u t new f reads kind held same
     }
 
 -- of a first byte that is after the end itself
-pub end_at_once : {S : Type 0} (can_next : S → Type 0) (remaining : S → Count) (steps : S → Option ℕ → S → Type 0) (first : ℕ) (old : List ℕ) (s : S) (e : Bool)
+pub end_at_once : {S : Type 0} {can_next : S → Type 0} {remaining : S → Count} {steps : S → Option ℕ → S → Type 0} {first : ℕ} {old : List ℕ} {s : S} {e : Bool}
     → e ≡ true → 1 < asked first → old ≡ []
-    → Completes can_next remaining steps first old s e (Err TooFewBytes) old s e
-end_at_once can_next remaining steps first old s e mark asks none = record {
+    → Completes can_next remaining steps first (record { held = old; ended = e }) s (Err TooFewBytes) (record { held = old; ended = e }) s
+end_at_once {S} {can_next} {remaining} {steps} {first} mark asks none = record {
   answers = record {
     more = [];
-    reads = reads_none can_next remaining steps s e (λ going. absurd (no mark going));
+    reads = reads_none (λ going. absurd (no mark going));
     settles = λ later ends. (rw (none, ends mark) (few-1 first asks), rw none refl);
     few = rw none (omega arith);
     clear = tt;
@@ -199,10 +199,10 @@ four_padded a b d g c e = rw (← e) refl
 
 -- The character of four bytes that are its own.
 
-pub known_bytes : {S : Type 0} (can_next : S → Type 0) (remaining : S → Count) (steps : S → Option ℕ → S → Type 0) (first : ℕ) (bytes old : List ℕ) (c : ℕ) (s t : S) (e f : Bool) (new : List ℕ)
-    → Completes can_next remaining steps first old s e (Ok bytes) new t f → decoded_bytes bytes ≡ Ok c
+pub known_bytes : {S : Type 0} {can_next : S → Type 0} {remaining : S → Count} {steps : S → Option ℕ → S → Type 0} {first : ℕ} {bytes old : List ℕ} {c : ℕ} {s t : S} {e f : Bool} {new : List ℕ}
+    → Completes can_next remaining steps first (record { held = old; ended = e }) s (Ok bytes) (record { held = new; ended = f }) t → decoded_bytes bytes ≡ Ok c
     → Answers utf8 merger_kind can_next remaining steps first old s e (Ok c) new t f
 unfolding decoded_bytes
-known_bytes can_next remaining steps first bytes old c s t e f new h known =
+known_bytes {S} {can_next} {remaining} {steps} {first} {bytes} {old} {c} h known =
     let is : value bytes ≡ c = value_of_answer (fault_kind bytes) _ c known in
     rw (← is) h.answers.1

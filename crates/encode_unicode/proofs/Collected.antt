@@ -6,8 +6,8 @@ use Rattle.std.specs.List.{flat_map}
 use Rattle.encode_unicode.specs.Collections.{AddsFewer}
 
 -- one item more is taken
-pub one_more : {A : Type 0} (all taken left later : List A) (x : A) → all ≡ taken ++ left → left ≡ x ∷ later → all ≡ (taken ++ x ∷ []) ++ later
-one_more all taken left later x is first = is ∙ ap (λ ys. taken ++ ys) first ∙ sym (append_assoc taken (x ∷ []) later)
+pub one_more : {A : Type 0} {all : List A} (taken : List A) {left later : List A} {x : A} → all ≡ taken ++ left → left ≡ x ∷ later → all ≡ (taken ++ x ∷ []) ++ later
+one_more taken {left} {later} {x} is first = is ∙ ap (λ ys. taken ++ ys) first ∙ sym (append_assoc taken (x ∷ []) later)
 
 -- none is left
 pub none_left : {A : Type 0} (all taken left : List A) → all ≡ taken ++ left → left ≡ [] → all ≡ taken
@@ -21,17 +21,17 @@ fewer all taken left later x is first =
     omega arith
 
 -- then there are some
-pub not_none : {A : Type 0} (all taken left later : List A) (x : A) → all ≡ taken ++ left → left ≡ x ∷ later → all ≡ [] → ⊥
-not_none all taken left later x is first none =
+pub not_none : {A : Type 0} {all : List A} (taken : List A) {left later : List A} {x : A} → all ≡ taken ++ left → left ≡ x ∷ later → all ≡ [] → ⊥
+not_none {A} {all} taken {left} {later} {x} is first none =
     let some = fewer all taken left later x is first in
     let zero : length all ≡ 0 = ap length none in
     absurd (omega arith)
 
 -- the codes of the taken ones have been added, and for that of the next there was no room
-pub first_added : {A B : Type 0} (code : A → List B) (all taken left later : List A) (x : A) (room : ℕ) (old new : List B) → all ≡ taken ++ left → left ≡ x ∷ later
+pub first_added : {A B : Type 0} (code : A → List B) {all : List A} (taken : List A) {left later : List A} {x : A} {room : ℕ} {old new : List B} → all ≡ taken ++ left → left ≡ x ∷ later
     → new ≡ old ++ flat_map code taken → room < length ((old ++ flat_map code taken) ++ code x) → AddsFewer code all room old new
-first_added code all taken left later x room old new is first added full =
-    let whole : all ≡ (taken ++ x ∷ []) ++ later = one_more all taken left later x is first in
+first_added code {all} taken {left} {later} {x} {room} {old} is first added full =
+    let whole : all ≡ (taken ++ x ∷ []) ++ later = one_more taken is first in
     let len : length (taken ++ x ∷ []) ≡ length taken + 1 = length-append taken (x ∷ []) in
     let next : take (length taken + 1) all ≡ taken ++ x ∷ [] = sym (ap (λ n. take n all) len) ∙ ap (take (length (taken ++ x ∷ []))) whole ∙ take-append_seam (taken ++ x ∷ []) later in
     record {

@@ -38,10 +38,10 @@ module _ (code : ℕ → List ℕ) where
         ap (λ k. slice_range whole (j - n) k) to ∙ ap (λ k. slice_range whole k j) (sym from) ∙ after ∙ ends_taken (slice_range whole i j) s n h
 
 -- the item that a call from the back answers
-pub back_item : {E : Type 0} (code : ℕ → List ℕ) (most : ℕ) (kind : ℕ → E) (answer : List ℕ → Result (ℕ × ℕ) E) (whole : List ℕ) (i j : ℕ) (r : Result ℕ E) (n : ℕ) → i < j → j ≤ length whole
+pub back_item : {E : Type 0} (code : ℕ → List ℕ) (most : ℕ) (kind : ℕ → E) (answer : List ℕ → Result (ℕ × ℕ) E) {whole : List ℕ} {i j : ℕ} (r : Result ℕ E) {n : ℕ} → i < j → j ≤ length whole
     → IsBackOf code kind (slice_range whole i j) r n → (r, n) ≡ as_piece (answer (slice_range whole i j)) → IsFrontLen most (slice_range whole i j) n
     → GivesBackOf code most kind answer (record { whole = whole; front = i; back = j }) (j - n, r, n) (record { whole = whole; front = i; back = j - n })
-back_item code most kind answer whole i j (Ok s) n some fits piece known len =
+back_item code most kind answer {whole} {i} {j} (Ok s) {n} some fits piece known len =
     let elements : length (slice_range whole i j) ≡ j - i = grind (arith, common_steps) in
     record {
       some = some;
@@ -53,6 +53,6 @@ back_item code most kind answer whole i j (Ok s) n some fits piece known len =
       taken = ends_taken code (slice_range whole i j) s n piece;
       there = ends_there code whole i j s n some fits len.2 piece;
     }
-back_item code most kind answer whole i j (Err k) n some fits piece known len =
+back_item code most kind answer {whole} {i} {j} (Err k) some fits piece known len =
     let elements : length (slice_range whole i j) ≡ j - i = grind (arith, common_steps) in
     record { some = some; place = omega arith; piece = piece; known = known; len = len; left = refl; taken = tt; there = tt }

@@ -3,6 +3,7 @@ use Rattle.std.proofs.Common.{◌≡◌, ℕ, suc, subst, List, [], ◌∷◌, �
 use Rattle.std.specs.Iterator.{Count, MakesProgress, Yields}
 use Rattle.std.specs.Prelude.{Option, Result, MatchOption}
 use Rattle.utf_base.specs.Decoded.{unless_fault}
+use Rattle.encode_unicode.specs.HeldWord.{Kept}
 use Rattle.encode_unicode.specs.Mergers.{Gave, Merging, MergerNext, TakesFront, still, unread_count}
 use Rattle.encode_unicode.specs.Reading.{Answers, Reads, TakesFirst}
 
@@ -23,8 +24,8 @@ gave_more steps s t u false true false xs ys one two = absurd (cc two.2)
 gave_more steps s t u false false true xs ys one two = (two.0, yields_joined steps s t two.0 xs ys one two.1, two.2)
 gave_more steps s t u false false false xs ys one two = yields_joined steps s t u xs ys one two
 
-pub reads_none : {S A : Type 0} (can_next : S → Type 0) (remaining : S → Count) (steps : S → Option A → S → Type 0) (s : S) (e : Bool) → (e ≡ false → can_next s) → Reads can_next remaining steps s e [] s e
-reads_none can_next remaining steps s e can = record {
+pub reads_none : {S A : Type 0} {can_next : S → Type 0} {remaining : S → Count} {steps : S → Option A → S → Type 0} {s : S} {e : Bool} → (e ≡ false → can_next s) → Reads can_next remaining steps s e [] s e
+reads_none {S} {A} {can_next} {remaining} {steps} {s} {e} can = record {
   gives = λ rest listed. refl;
   gave = gave_none steps s e;
   can = can;
@@ -33,9 +34,9 @@ reads_none can_next remaining steps s e can = record {
   fewer = λ finite. (finite, omega arith);
 }
 
-pub reads_more : {S A : Type 0} (can_next : S → Type 0) (remaining : S → Count) (steps : S → Option A → S → Type 0) (s t u : S) (e f g : Bool) (xs ys : List A)
+pub reads_more : {S A : Type 0} {can_next : S → Type 0} {remaining : S → Count} {steps : S → Option A → S → Type 0} {s t u : S} {e f g : Bool} {xs ys : List A}
     → Reads can_next remaining steps s e xs t f → Reads can_next remaining steps t f ys u g → Reads can_next remaining steps s e (xs ++ ys) u g
-reads_more can_next remaining steps s t u e f g xs ys one two = record {
+reads_more {S} {A} {can_next} {remaining} {steps} {s} {t} {u} {e} {f} {g} {xs} {ys} one two = record {
   gives = λ rest listed. one.gives rest listed ∙ ap (λ zs. xs ++ zs) (two.gives rest listed) ∙ sym (append_assoc xs ys (still rest u g));
   gave = gave_more steps s t u e f g xs ys one.gave two.gave;
   can = two.can;
@@ -53,11 +54,11 @@ nothing_still : {S A : Type 0} (rest : S → List A) (s : S) (e : Bool) → e �
 nothing_still rest s e ends = rw ends refl
 
 -- One call of `next`: the elements `held` and then those that are read at first, xs, begin with the one that is answered for.
-pub merger_next : {S E : Type 0} (code : ℕ → List ℕ) (kind : List ℕ → Option E) (Held : List ℕ → Type 0) (can_next : S → Type 0) (remaining : S → Count) (steps : S → Option ℕ → S → Type 0)
-    (held xs : List ℕ) (s u t : S) (e d f : Bool) (first : ℕ) (old : List ℕ) (r : Result ℕ E) (new : List ℕ)
+pub merger_next : {S E : Type 0} (code : ℕ → List ℕ) (kind : List ℕ → Option E) (Held : List ℕ → Type 0) {can_next : S → Type 0} {remaining : S → Count} {steps : S → Option ℕ → S → Type 0}
+    {held xs : List ℕ} {s u t : S} {e d f : Bool} {first : ℕ} {old : List ℕ} {r : Result ℕ E} {new : List ℕ}
     → Reads can_next remaining steps s e xs u d → held ++ xs ≡ first ∷ old → Answers code kind can_next remaining steps first old u d r new t f → Held new
     → MergerNext code kind Held steps (record { held = held; source = s; ended = e }) (Some r) (record { held = new; source = t; ended = f })
-merger_next code kind Held can_next remaining steps held xs s u t e d f first old r new reads begins a keeps = record {
+merger_next code kind Held {can_next} {remaining} {steps} {held} {xs} {s} {u} {t} {e} {d} {f} {first} {old} {r} {new} reads begins a keeps = record {
   takes = λ rest listed.
       let all : held ++ still rest s e ≡ (first ∷ old ++ a.more) ++ still rest t f
       = ap (λ zs. held ++ zs) (reads.gives rest listed)
@@ -82,11 +83,11 @@ merger_next code kind Held can_next remaining steps held xs s u t e d f first ol
 }
 
 -- the merger comes nearer to its end
-pub merger_nearer : {S E : Type 0} (code : ℕ → List ℕ) (kind : List ℕ → Option E) (can_next : S → Type 0) (remaining : S → Count) (steps : S → Option ℕ → S → Type 0)
-    (held xs : List ℕ) (s u t : S) (e d f : Bool) (first : ℕ) (old : List ℕ) (r : Result ℕ E) (new : List ℕ)
+pub merger_nearer : {S E : Type 0} (code : ℕ → List ℕ) (kind : List ℕ → Option E) {can_next : S → Type 0} {remaining : S → Count} {steps : S → Option ℕ → S → Type 0}
+    {held xs : List ℕ} {s u t : S} {e d f : Bool} {first : ℕ} {old : List ℕ} {r : Result ℕ E} {new : List ℕ}
     → Reads can_next remaining steps s e xs u d → held ++ xs ≡ first ∷ old → Answers code kind can_next remaining steps first old u d r new t f
     → MakesProgress (λ (m : Merging S). m.ended ≡ false → can_next m.source) (unread_count remaining) (record { held = held; source = s; ended = e }) (Some r) (record { held = new; source = t; ended = f })
-merger_nearer code kind can_next remaining steps held xs s u t e d f first old r new reads begins a = record {
+merger_nearer code kind {can_next} {remaining} {steps} {held} {xs} {s} {u} {t} {e} {d} {f} {first} {old} reads begins a = record {
   on = λ finite.
       let one = reads.fewer finite in
       let two = a.reads.fewer one.0 in
@@ -99,31 +100,31 @@ merger_nearer code kind can_next remaining steps held xs s u t e d f first old r
 
 -- the first of the unread elements is one that is held
 
-pub takes_held : {S : Type 0} (Held : List ℕ → Type 0) (can_next : S → Type 0) (remaining : S → Count) (steps : S → Option ℕ → S → Type 0) (old : List ℕ) (s : S) (e : Bool) (r : Option ℕ) (new : List ℕ) (f : Bool)
+pub takes_held : {S : Type 0} (Held : List ℕ → Type 0) (can_next : S → Type 0) (remaining : S → Count) (steps : S → Option ℕ → S → Type 0) {old : List ℕ} {s : S} {e : Bool} (r : Option ℕ) {new : List ℕ} {f : Bool}
     → (e ≡ false → can_next s) → (old ≡ [] → e ≡ true) → f ≡ e → MatchOption r ((old ≡ []) × (new ≡ [])) (λ x. old ≡ x ∷ new) → Held new
-    → TakesFirst Held can_next remaining steps old s e r new s f
-takes_held Held can_next remaining steps old s e None new f can busy same h keeps = (rw same (reads_none can_next remaining steps s e can), h.0, h.1, same ∙ busy h.0)
-takes_held Held can_next remaining steps old s e (Some x) new f can busy same h keeps = record {
+    → TakesFirst Held can_next remaining steps (record { held = old; ended = e }) s r (record { held = new; ended = f }) s
+takes_held Held can_next remaining steps None can busy same h keeps = (rw same (reads_none can), h.0, h.1, same ∙ busy h.0)
+takes_held Held can_next remaining steps {old} (Some x) can busy same h keeps = record {
   more = [];
-  reads = rw same (reads_none can_next remaining steps s e can);
+  reads = rw same (reads_none can);
   begins = append-nil old ∙ h;
   held = keeps;
 }
 
 -- once it has left, there is less to come
-pub first_nearer : {S : Type 0} (Held : List ℕ → Type 0) (can_next : S → Type 0) (remaining : S → Count) (steps : S → Option ℕ → S → Type 0) (old : List ℕ) (s : S) (e : Bool) (r : Option ℕ) (new : List ℕ) (t : S) (f : Bool)
-    → TakesFirst Held can_next remaining steps old s e r new t f
-    → MakesProgress (λ (m : Merging S). m.ended ≡ false → can_next m.source) (unread_count remaining) (record { held = old; source = s; ended = e }) r (record { held = new; source = t; ended = f })
-first_nearer Held can_next remaining steps old s e None new t f h = record {
+pub first_nearer : {S : Type 0} (Held : List ℕ → Type 0) (can_next : S → Type 0) (remaining : S → Count) (steps : S → Option ℕ → S → Type 0) (k : Kept) (s : S) (r : Option ℕ) (l : Kept) (t : S)
+    → TakesFirst Held can_next remaining steps k s r l t
+    → MakesProgress (λ (m : Merging S). m.ended ≡ false → can_next m.source) (unread_count remaining) (record { held = k.held; source = s; ended = k.ended }) r (record { held = l.held; source = t; ended = l.ended })
+first_nearer Held can_next remaining steps k s None l t h = record {
   on = λ finite. tt;
   keeps = tt;
   rests = λ finite. (h.0.fewer finite).0;
 }
-first_nearer Held can_next remaining steps old s e (Some x) new t f h = record {
+first_nearer Held can_next remaining steps k s (Some x) l t h = record {
   on = λ finite.
       let read = h.reads.fewer finite in
-      let len : length (old ++ h.more) ≡ suc (length new) = ap length h.begins in
-      let both = length-append old h.more in
+      let len : length (k.held ++ h.more) ≡ suc (length l.held) = ap length h.begins in
+      let both = length-append k.held h.more in
       (h.reads.can, read.0, omega arith);
   keeps = h.reads.can;
   rests = λ finite. tt;

@@ -16,8 +16,8 @@ pub record Refilled (old new xs left : List ℕ) (k : ℕ) : Type 0 where
   pub after : drop k new ≡ drop k old
   pub front : take k new ++ left ≡ xs
 
-pub refilled : (old new xs left : List ℕ) (k : ℕ) → k ≡ fitting old xs → new ≡ filled old xs → left ≡ drop (length old) xs → Refilled old new xs left k
-refilled old new xs left k count written rest =
+pub refilled : {old new xs left : List ℕ} {k : ℕ} → k ≡ fitting old xs → new ≡ filled old xs → left ≡ drop (length old) xs → Refilled old new xs left k
+refilled {old} {new} {xs} {left} {k} count written rest =
     let taken : length (take (length old) xs) ≡ k = length-take (length old) xs ∙ sym count in
     let following = length-drop (length xs) old in
     let both = length-append (take (length old) xs) (drop (length xs) old) in

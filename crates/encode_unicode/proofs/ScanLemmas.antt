@@ -206,9 +206,9 @@ last_four_scanned w old new le s =
 
 -- One call of a decoder, from the answer of the scan.
 
-pub gives_back_char : (whole : List ℕ) (i j s n : ℕ) → i < j → j ≤ length whole → EndsWith utf8 (slice_range whole i j) s n
+pub gives_back_char : {whole : List ℕ} {i j s n : ℕ} → i < j → j ≤ length whole → EndsWith utf8 (slice_range whole i j) s n
     → GivesBack (record { whole = whole; front = i; back = j }) (j - n, Ok s, n) (record { whole = whole; front = i; back = j - n })
-gives_back_char whole i j s n some fits h =
+gives_back_char {whole} {i} {j} {s} {n} some fits h =
     let len = end_len_utf8 (slice_range whole i j) s n h in
     let elements : length (slice_range whole i j) ≡ j - i = grind (arith, common_steps) in
     record {

@@ -36,9 +36,9 @@ boundary_before xs p s h =
     let first = Stands-at utf8 xs p s 0 p (omega arith) h (utf8_is_code.some s h.scalar) in
     (omega arith, λ lt high. ⊎_elim (λ (low : get_or (utf8 s) 0 0 < 0x80). absurd (omega arith)) (λ (high : 0xC2 ≤ get_or (utf8 s) 0 0). omega arith) (utf8-first s h.scalar))
 
-pub first_taken : (xs : List ℕ) (i j s n : ℕ) → IsKeptWindow xs i j → BeginsWith utf8 (slice_range xs i j) s n
+pub first_taken : {xs : List ℕ} {i j s n : ℕ} → IsKeptWindow xs i j → BeginsWith utf8 (slice_range xs i j) s n
     → GivesFirst (record { whole = xs; front = i; back = j }) i s (record { whole = xs; front = i + n; back = j }) × IsKeptWindow xs (i + n) j × (j - (i + n) < j - i)
-first_taken xs i j s n kept begins =
+first_taken {xs} {i} {j} {s} {n} kept begins =
     let ordered = kept.ordered in
     let back = kept.between.back.0 in
     let whole = stands_in_whole utf8 xs i j 0 i s (omega arith) ordered back begins.0 in
@@ -89,9 +89,9 @@ last_taken xs i j s n m kept ends e =
     )
 
 -- the same where the character was made of the code that the text ends with
-pub last_char_taken : (xs text code : List ℕ) (i j t n : ℕ) → IsKeptWindow xs i j → text ≡ slice_range xs i j → IsLastCode text code n → decoded_bytes code ≡ Ok t
+pub last_char_taken : {xs text code : List ℕ} {i j t n : ℕ} → IsKeptWindow xs i j → text ≡ slice_range xs i j → IsLastCode text code n → decoded_bytes code ≡ Ok t
     → GivesLast (record { whole = xs; front = i; back = j }) (j - n) t (record { whole = xs; front = i; back = j - n }) × IsKeptWindow xs i (j - n) × (j - n - i < j - i)
-last_char_taken xs text code i j t n kept e last known =
+last_char_taken {xs} {text} {code} {i} {j} {t} {n} kept e last known =
     let same = last_is_read text code t n last known in
     let ends : EndsWith utf8 (slice_range xs i j) t n = rw (← e, ← same) last.ends in
     last_taken xs i j t n (j - n) kept ends refl

@@ -40,19 +40,19 @@ char_of_unit u fits plain = let code = unit_is_code u fits plain in (code.0, sym
 -- the value of the units is known
 units_answer : {S : Type 0} (can_next : S → Type 0) (remaining : S → Count) (steps : S → Option ℕ → S → Type 0) (first second c : ℕ) (s t : S) (new : List ℕ) (f : Bool)
     → is_padded_units first second ≡ true → unit_value (first ∷ second ∷ []) ≡ c → Answers utf16 unit_fault_kind can_next remaining steps first [] s false (Ok c) new t f
-    → CompletesUnits can_next remaining steps first s (Ok second) new t f
+    → CompletesUnits can_next remaining steps first s (Ok second) (record { held = new; ended = f }) t
 units_answer can_next remaining steps first second c s t new f own value a = (own, rw value a)
 
 pub unit_stands : {S : Type 0} (can_next : S → Type 0) (remaining : S → Count) (steps : S → Option ℕ → S → Type 0) (first : ℕ) (s : S) (new : List ℕ) (f : Bool)
     → can_next s → new ≡ [] → f ≡ false → first < 0x1_0000 → is_surrogate first ≡ false
-    → CompletesUnits can_next remaining steps first s (Ok 0) new s f
+    → CompletesUnits can_next remaining steps first s (Ok 0) (record { held = new; ended = f }) s
 unit_stands can_next remaining steps first s new f can none going fits plain =
     let char = char_of_unit first fits plain in
     let lead = no_lead first plain in
     units_answer can_next remaining steps first 0 first s s new f (own first plain) (unit_value-unit (first ∷ 0 ∷ []) lead)
     (record {
       more = [];
-      reads = rw going (reads_none can_next remaining steps s false (λ _. can));
+      reads = rw going (reads_none (λ _. can));
       settles = λ later ends. (char.0, rw none (ap (λ xs. xs ++ later) (sym char.1)));
       few = rw none (omega arith);
       clear = none;
@@ -66,10 +66,10 @@ unit_stands can_next remaining steps first s new f can none going fits plain =
 
 pub unit_trails : {S : Type 0} (can_next : S → Type 0) (remaining : S → Count) (steps : S → Option ℕ → S → Type 0) (first : ℕ) (s : S) (new : List ℕ) (f : Bool)
     → can_next s → new ≡ [] → f ≡ false → is_trailing_surrogate first ≡ true
-    → CompletesUnits can_next remaining steps first s (Err UnexpectedTrailingSurrogate) new s f
+    → CompletesUnits can_next remaining steps first s (Err UnexpectedTrailingSurrogate) (record { held = new; ended = f }) s
 unit_trails can_next remaining steps first s new f can none going trail = record {
   more = [];
-  reads = rw going (reads_none can_next remaining steps s false (λ _. can));
+  reads = rw going (reads_none (λ _. can));
   settles = λ later ends. (kind_of_trailing first later trail, rw none refl);
   few = rw none (omega arith);
   clear = tt;
@@ -86,7 +86,7 @@ trails_from u h high = grind (arith, common_steps)
 
 pub unit_last : {S : Type 0} (can_next : S → Type 0) (remaining : S → Count) (steps : S → Option ℕ → S → Type 0) (first : ℕ) (s t : S) (new : List ℕ) (f : Bool)
     → is_leading_surrogate first ≡ true → Reads can_next remaining steps s false [] t true → new ≡ [] → f ≡ true
-    → CompletesUnits can_next remaining steps first s (Err Incomplete) new t f
+    → CompletesUnits can_next remaining steps first s (Err Incomplete) (record { held = new; ended = f }) t
 unit_last can_next remaining steps first s t new f lead reads none mark = record {
   more = [];
   reads = rw mark reads;
@@ -97,7 +97,7 @@ unit_last can_next remaining steps first s t new f lead reads none mark = record
 
 pub unit_pair : {S : Type 0} (can_next : S → Type 0) (remaining : S → Count) (steps : S → Option ℕ → S → Type 0) (first second : ℕ) (s t : S) (new : List ℕ) (f : Bool)
     → is_leading_surrogate first ≡ true → is_trailing_surrogate second ≡ true → Reads can_next remaining steps s false (second ∷ []) t false → new ≡ [] → f ≡ false
-    → CompletesUnits can_next remaining steps first s (Ok second) new t f
+    → CompletesUnits can_next remaining steps first s (Ok second) (record { held = new; ended = f }) t
 unit_pair can_next remaining steps first second s t new f lead trail reads none going =
     units_answer can_next remaining steps first second (pair_value first second) s t new f (rw lead trail) (unit_value-pair (first ∷ second ∷ []) lead)
     (record {
@@ -110,7 +110,7 @@ unit_pair can_next remaining steps first second s t new f lead trail reads none 
 
 pub unit_unmatched : {S : Type 0} (can_next : S → Type 0) (remaining : S → Count) (steps : S → Option ℕ → S → Type 0) (first second : ℕ) (s t : S) (new : List ℕ) (f : Bool)
     → is_leading_surrogate first ≡ true → is_trailing_surrogate second ≡ false → Reads can_next remaining steps s false (second ∷ []) t false → new ≡ second ∷ [] → f ≡ false
-    → CompletesUnits can_next remaining steps first s (Err UnmatchedLeadingSurrogate) new t f
+    → CompletesUnits can_next remaining steps first s (Err UnmatchedLeadingSurrogate) (record { held = new; ended = f }) t
 unit_unmatched can_next remaining steps first second s t new f lead trail reads one going = record {
   more = second ∷ [];
   reads = rw going reads;
@@ -121,10 +121,10 @@ unit_unmatched can_next remaining steps first second s t new f lead trail reads 
 
 -- The character of two units that are its own.
 
-pub known_units : {S : Type 0} (can_next : S → Type 0) (remaining : S → Count) (steps : S → Option ℕ → S → Type 0) (first second c : ℕ) (s t : S) (new : List ℕ) (f : Bool)
-    → CompletesUnits can_next remaining steps first s (Ok second) new t f → decoded_two (first ∷ second ∷ []) ≡ Ok c
+pub known_units : {S : Type 0} {can_next : S → Type 0} {remaining : S → Count} {steps : S → Option ℕ → S → Type 0} {first : ℕ} (second : ℕ) {c : ℕ} {s t : S} {new : List ℕ} {f : Bool}
+    → CompletesUnits can_next remaining steps first s (Ok second) (record { held = new; ended = f }) t → decoded_two (first ∷ second ∷ []) ≡ Ok c
     → Answers utf16 unit_fault_kind can_next remaining steps first [] s false (Ok c) new t f
 unfolding decoded_two
-known_units can_next remaining steps first second c s t new f h known =
+known_units {S} {can_next} {remaining} {steps} {first} second {c} h known =
     let is : unit_value (first ∷ second ∷ []) ≡ c = value_of_answer (array_fault first second) _ c known in
     rw (← is) h.1

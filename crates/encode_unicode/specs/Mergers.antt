@@ -6,13 +6,15 @@ use Rattle.std.specs.Iterator.{Count, Yields, YieldsFirst, YieldsThen, count_map
 use Rattle.std.specs.Iterator.Runs.{Run}
 use Rattle.utf_base.specs.declared.errors.Utf8ErrorKind.{Utf8ErrorKind}
 use Rattle.utf_base.specs.declared.errors.units.Utf16PairError.{Utf16PairError}
+use Rattle.utf_base.specs.Code.{utf8, utf16}
 use Rattle.utf_base.specs.Decoded.{decoded_pairs, unless_fault}
 use Rattle.utf_base.specs.Kinds.{asked_by, is_continuation, merger_kind, value}
 use Rattle.utf_base.specs.Scalar.{IsScalar}
+use Rattle.utf_base.specs.Units.{unit_fault_kind}
 use Rattle.utf_chars.specs.Taking.{BoundsLength}
 use Rattle.encode_unicode.specs.Hints.{BoundsCut}
 use Rattle.encode_unicode.specs.Pieces.{Gives, pieces_by}
-use Rattle.encode_unicode.specs.Sources.{IsListed, IsHintOf, split_hint, split_upper}
+use Rattle.encode_unicode.specs.Sources.{GivesTheSame, IsListed, IsHintOf, split_hint, split_upper}
 
 -- a merger: the elements that it has read and not answered for, in order, its source, and whether that has answered `None`
 pub record Merging (S : Type 0) : Type 0 where
@@ -76,6 +78,21 @@ pub record MergerNext {S E : Type 0} (code : ℕ → List ℕ) (kind : List ℕ 
   pub ends : IfNone r (t.ended ≡ true)
   pub stays : s.ended ≡ true → (t.ended ≡ true) × (t.source ≡ s.source)
   pub spent : (rest : S → List ℕ) → IsListed steps rest → IsSpent rest s.source s.ended → IsSpent rest t.source t.ended
+
+-- one call of `next` of a merger of bytes, and of one of units, over the calls of its source
+abbrev pub MergesBytes : {S : Type 0} → (S → Option ℕ → S → Type 0) → Merging S → Option (Result ℕ Utf8ErrorKind) → Merging S → Type 0
+MergesBytes = MergerNext utf8 merger_kind IsHeldBytes
+
+abbrev pub MergesUnits : {S : Type 0} → (S → Option ℕ → S → Type 0) → Merging S → Option (Result ℕ Utf16PairError) → Merging S → Type 0
+MergesUnits = MergerNext utf16 unit_fault_kind IsHeldUnits
+
+-- where each clone of the source still gives what the source does, the merger n has as much unread as m
+abbrev pub HasSameUnread : {S : Type 0} → (S → S → Type 0) → Merging S → Merging S → Type 0
+HasSameUnread {S} is_clone m n = (rest : S → List ℕ) → GivesTheSame is_clone rest m.source → unread rest n ≡ unread rest m
+
+-- where the merger holds nothing, the source s still gives all that is unread
+abbrev pub GivesAllUnread : {S : Type 0} → Merging S → S → Type 0
+GivesAllUnread {S} m s = (rest : S → List ℕ) → IsSpent rest m.source m.ended → m.held ≡ [] → rest s ≡ unread rest m
 
 -- the scalar whose code begins the bytes, with the code's length, else the kind that a merger gives
 unfoldable pub decoded_by_merger : List ℕ → Result (ℕ × ℕ) Utf8ErrorKind

@@ -2,12 +2,13 @@
 use Rattle.std.specs.Prelude.{◌≡◌, ℕ, zero, suc, ◌+◌, ◌<◌, ◌≤◌, List, [], ◌∷◌, length, take, drop, reverse, true, Result, Option, None}
 use Rattle.std.specs.List.{filter_map, flat_map, fold}
 use Rattle.std.specs.Iterator.{Yields}
-use Rattle.std.specs.Iterator.Runs.{Run, ItemsAre, ItemsMapTo, ItemsAreReversed, ItemsMapToReversed}
+use Rattle.std.specs.Iterator.Runs.{AllItems, Run, ItemsAre, ItemsMapTo, ItemsAreReversed, ItemsMapToReversed}
 use Rattle.std.specs.Result.{result_ok}
 use Rattle.std.specs.Str.{chars, IsCharBoundary, IsUtf8}
 use Rattle.utf_base.specs.Code.{utf8}
 use Rattle.utf_base.specs.Decoded.{decoded, decoded_pairs}
 use Rattle.encode_unicode.specs.RunTests.{Tells}
+use Rattle.encode_unicode.specs.TextWindow.{IsTextWindow}
 use Rattle.encode_unicode.specs.Window.{Window, Placed, Item, UnitItem, elements, whole_window, as_piece}
 
 -- the pieces of a list whose first element stands at a place, one after another, by what is decoded at the front of what is
@@ -77,6 +78,10 @@ LiesWithin most n x = (x.0 < n) × (1 ≤ x.2) × (x.2 ≤ most) × (x.0 + x.2 �
 -- a character with its offset lies in the text, between two places at which the text can be cut
 abbrev pub LiesInText : List ℕ → ℕ × ℕ → Type 0
 LiesInText text x = (x.0 < length text) × IsCharBoundary text x.0 × (x.0 + length (utf8 x.1) ≤ length text) × IsCharBoundary text (x.0 + length (utf8 x.1))
+
+-- so do all that a run gives from a window of a text
+abbrev pub AllLieInText : {steps : Window → Option (ℕ × ℕ) → Window → Type 0} → Run steps → Type 0
+AllLieInText p = IsTextWindow p.from → AllItems p (LiesInText p.from.whole)
 
 -- the characters among the pieces of some bytes
 abbrev pub characters : List ℕ → List ℕ

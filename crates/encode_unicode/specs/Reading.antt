@@ -1,4 +1,5 @@
--- What the private functions of the mergers say. A source is seen as its state, and whether it has ended.
+-- What the private functions of the mergers say. A source is seen as its state; what a merger keeps beside it is what it holds,
+-- and whether the source has ended.
 use Rattle.std.specs.Prelude.{◌≡◌, ℕ, ◌+◌, ◌≤◌, Bool, true, false, List, [], ◌∷◌, ◌++◌, length, Option, Some, None, Result, Ok, Err, IfOk, MatchOption, MatchResult}
 use Rattle.std.specs.Iterator.{Count, IsFinite, size, count_unless}
 use Rattle.utf_base.specs.declared.errors.Utf8ErrorKind.{Utf8ErrorKind}
@@ -8,6 +9,7 @@ use Rattle.utf_base.specs.Kinds.{fault_kind, merger_kind, value}
 use Rattle.utf_base.specs.Scalar.{IsScalar}
 use Rattle.utf_base.specs.Units.{is_padded_units, unit_fault_kind, unit_value}
 use Rattle.utf_chars.specs.Padded.{IsPadded}
+use Rattle.encode_unicode.specs.HeldWord.{Kept}
 use Rattle.encode_unicode.specs.Sources.{IsListed}
 use Rattle.encode_unicode.specs.Mergers.{Gave, IsHeldBytes, IsSpent, TakesFront, still}
 
@@ -39,11 +41,11 @@ pub record FirstOf {S : Type 0} (Held : List ℕ → Type 0) (can_next : S → T
   pub held : Held new
 
 -- it has, or there is none
-abbrev pub TakesFirst : {S : Type 0} → (List ℕ → Type 0) → (S → Type 0) → (S → Count) → (S → Option ℕ → S → Type 0) → List ℕ → S → Bool → Option ℕ → List ℕ → S → Bool → Type 0
-TakesFirst Held can_next remaining steps old s e r new t f =
+abbrev pub TakesFirst : {S : Type 0} → (List ℕ → Type 0) → (S → Type 0) → (S → Count) → (S → Option ℕ → S → Type 0) → Kept → S → Option ℕ → Kept → S → Type 0
+TakesFirst Held can_next remaining steps k s r l t =
     MatchOption r
-    (Reads can_next remaining steps s e [] t f × (old ≡ []) × (new ≡ []) × (f ≡ true))
-    (λ x. FirstOf Held can_next remaining steps old s e x new t f)
+    (Reads can_next remaining steps s k.ended [] t l.ended × (k.held ≡ []) × (l.held ≡ []) × (l.ended ≡ true))
+    (λ x. FirstOf Held can_next remaining steps k.held s k.ended x l.held t l.ended)
 
 -- of elements that are followed by others, or by none where the source has ended, the answer takes the front
 abbrev pub Settles : {E : Type 0} → (ℕ → List ℕ) → (List ℕ → Option E) → List ℕ → Bool → Result ℕ E → List ℕ → Type 0
@@ -63,23 +65,23 @@ abbrev pub JudgesBytes : List ℕ → Result ℕ Utf8ErrorKind → Type 0
 JudgesBytes bytes r = MatchResult r (λ s. IsScalar s × (bytes ≡ utf8 s)) (λ k. fault_kind bytes ≡ Some k)
 
 -- the bytes of the code that the first begins, with zeros after them, and the answer that the character is; or the
--- answer that is an error. The source was at s when the first byte had left the merger, which held `old` then
+-- answer that is an error. The source was at s when the first byte had left the merger, which kept k then, and it keeps l
 pub record Completes {S : Type 0} (can_next : S → Type 0) (remaining : S → Count) (steps : S → Option ℕ → S → Type 0)
-    (first : ℕ) (old : List ℕ) (s : S) (e : Bool) (r : Result (List ℕ) Utf8ErrorKind) (new : List ℕ) (t : S) (f : Bool) : Type 0 where
+    (first : ℕ) (k : Kept) (s : S) (r : Result (List ℕ) Utf8ErrorKind) (l : Kept) (t : S) : Type 0 where
   pub answers : MatchResult r
-      (λ bytes. IsPadded utf8 4 value bytes × Answers utf8 merger_kind can_next remaining steps first old s e (Ok (value bytes)) new t f)
-      (λ k. Answers utf8 merger_kind can_next remaining steps first old s e (Err k) new t f)
-  pub held : IsHeldBytes new
+      (λ bytes. IsPadded utf8 4 value bytes × Answers utf8 merger_kind can_next remaining steps first k.held s k.ended (Ok (value bytes)) l.held t l.ended)
+      (λ kind. Answers utf8 merger_kind can_next remaining steps first k.held s k.ended (Err kind) l.held t l.ended)
+  pub held : IsHeldBytes l.held
 
 -- the same, of a first byte after which nothing was held, where `before` have been read since
-abbrev pub CompletesAfter : {S : Type 0} → (S → Type 0) → (S → Count) → (S → Option ℕ → S → Type 0) → ℕ → List ℕ → S → Result (List ℕ) Utf8ErrorKind → List ℕ → S → Bool → Type 0
-CompletesAfter {S} can_next remaining steps first before u r new t f =
-    (s : S) → Reads can_next remaining steps s false before u false → Completes can_next remaining steps first [] s false r new t f
+abbrev pub CompletesAfter : {S : Type 0} → (S → Type 0) → (S → Count) → (S → Option ℕ → S → Type 0) → ℕ → List ℕ → S → Result (List ℕ) Utf8ErrorKind → Kept → S → Type 0
+CompletesAfter {S} can_next remaining steps first before u r l t =
+    (s : S) → Reads can_next remaining steps s false before u false → Completes can_next remaining steps first (record { held = []; ended = false }) s r l t
 
 -- the second unit of the code of a first one, 0 where that has one unit, and the answer that the character is; or the answer
 -- that is an error. Nothing was held
-abbrev pub CompletesUnits : {S : Type 0} → (S → Type 0) → (S → Count) → (S → Option ℕ → S → Type 0) → ℕ → S → Result ℕ Utf16PairError → List ℕ → S → Bool → Type 0
-CompletesUnits can_next remaining steps first s r new t f =
+abbrev pub CompletesUnits : {S : Type 0} → (S → Type 0) → (S → Count) → (S → Option ℕ → S → Type 0) → ℕ → S → Result ℕ Utf16PairError → Kept → S → Type 0
+CompletesUnits can_next remaining steps first s r l t =
     MatchResult r
-    (λ second. (is_padded_units first second ≡ true) × Answers utf16 unit_fault_kind can_next remaining steps first [] s false (Ok (unit_value (first ∷ second ∷ []))) new t f)
-    (λ k. Answers utf16 unit_fault_kind can_next remaining steps first [] s false (Err k) new t f)
+    (λ second. (is_padded_units first second ≡ true) × Answers utf16 unit_fault_kind can_next remaining steps first [] s false (Ok (unit_value (first ∷ second ∷ []))) l.held t l.ended)
+    (λ kind. Answers utf16 unit_fault_kind can_next remaining steps first [] s false (Err kind) l.held t l.ended)

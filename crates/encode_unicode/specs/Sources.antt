@@ -1,6 +1,6 @@
 -- What a source of items still gives, and what a splitter of characters makes of it.
 use Rattle.std.specs.Prelude.{◌≡◌, ℕ, ◌+◌, ◌*◌, ◌^◌, ◌-◌, List, ◌++◌, [], ◌∷◌, length, min, Option, IfSome, MatchOption, nat_lt, if◌then◌else◌, Some, None}
-use Rattle.std.specs.Iterator.{Count, Yields, YieldsFirst, YieldsLast, UpTo}
+use Rattle.std.specs.Iterator.{Count, Yields, YieldsFirst, YieldsLast, UpTo, count_map}
 use Rattle.std.specs.Iterator.SizeHint.{IsWithinCount}
 use Rattle.std.specs.List.{flat_map, last_or}
 use Rattle.utf_chars.specs.Taking.{BoundsLength}
@@ -18,6 +18,10 @@ IsListedBack {S} {A} back rest = (s : S) (r : Option A) (t : S) → back s r t �
 abbrev pub GivesTheSame : {S A : Type 0} → (S → S → Type 0) → (S → List A) → S → Type 0
 GivesTheSame {S} is_clone rest s = (copy : S) → is_clone s copy → rest copy ≡ rest s
 
+-- P holds where the source s gives nothing
+abbrev pub WhereEmpty : {S A : Type 0} → (S → Option A → S → Type 0) → S → Type 0 → Type 0
+WhereEmpty {S} {A} steps s P = (rest : S → List A) → IsListed steps rest → rest s ≡ [] → P
+
 -- a splitter: the elements that are left of the begun code, and its source
 pub record Splitting (S : Type 0) : Type 0 where
   pub begun : List ℕ
@@ -30,6 +34,14 @@ unbegun s = record { begun = []; source = s }
 -- what is left of the begun code, and then the codes of what the source still gives
 abbrev pub unsent : {S : Type 0} → (ℕ → List ℕ) → (S → List ℕ) → Splitting S → List ℕ
 unsent code rest s = s.begun ++ flat_map code (rest s.source)
+
+-- where each clone of the source still gives what the source does, the splitter t has as much unsent as s
+abbrev pub HasSameUnsent : {S : Type 0} → (ℕ → List ℕ) → (S → S → Type 0) → Splitting S → Splitting S → Type 0
+HasSameUnsent {S} code is_clone s t = (rest : S → List ℕ) → GivesTheSame is_clone rest s.source → unsent code rest t ≡ unsent code rest s
+
+-- no more elements than these are unsent, where a code has at most so many
+abbrev pub unsent_count : {S : Type 0} → ℕ → (S → Count) → Splitting S → Count
+unsent_count most remaining s = count_map (λ n. length s.begun + most * n) (remaining s.source)
 
 -- One call of `next`: it takes the first of the unsent elements, whatever list the source gives. `given` is what the source gave
 -- to that call: an item where no code was begun. Its code follows the begun one, and the answer is the first element of both.

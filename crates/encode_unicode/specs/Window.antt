@@ -25,6 +25,10 @@ whole_window xs = record { whole = xs; front = 0; back = length xs }
 abbrev pub elements : Window → List ℕ
 elements w = slice_range w.whole w.front w.back
 
+-- how many these are, where the window lies in the slice
+abbrev pub window_len : Window → ℕ
+window_len w = w.back - w.front
+
 -- the window without its first n elements
 abbrev pub without_front : Window → ℕ → Window
 without_front w n = record w { front = w.front + n }

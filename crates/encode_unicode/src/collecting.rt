@@ -8,7 +8,7 @@ ghost use Rattle.std.specs.Iterator.{IsFinite};
 ghost use Rattle.std.specs.Iterator.Runs.{WholeRun};
 ghost use Rattle.std.specs.List.{flat_map};
 ghost use Rattle.utf_base.specs.Code.{utf8, utf16};
-ghost use Rattle.encode_unicode.specs.Sources.{IsListed};
+ghost use Rattle.encode_unicode.specs.Sources.{WhereEmpty};
 ghost use Rattle.encode_unicode.specs.Collections.{AddsCodes, AddsFirstCodes};
 
 use std::alloc::{AllocError, Allocator};
@@ -114,9 +114,11 @@ pub(crate) fn extend<C, I: Iterator<Item = C>, T: HoldsCodes<C>>(
     requires can { I.can_next source }
     requires ends { IsFinite (I.remaining source) }
     ensures ok { OnOk result (AddsCodes T.code I.next_gives source (T.held out.old) (T.held out.new)) }
-    ensures err { OnErr result (AddsFirstCodes T.code I.next_gives source (T.room out.old) (T.held out.old) (T.held out.new)) }
-    ensures runs { OnOk result (WholeRun I.next_gives source (λ p. T.held out.new ≡ T.held out.old ++ flat_map T.code p.items)) }
-    ensures nothing { (rest : I → List C) → IsListed I.next_gives rest → rest source ≡ [] → IsOk result }
+    ensures err { OnErr result (AddsFirstCodes T.code I.next_gives source
+        (T.room out.old) (T.held out.old) (T.held out.new)) }
+    ensures runs { OnOk result (WholeRun I.next_gives source
+        (λ p. T.held out.new ≡ T.held out.old ++ flat_map T.code p.items)) }
+    ensures nothing { WhereEmpty I.next_gives source (IsOk result) }
 {
     for c in source {
         out.add(c)?;

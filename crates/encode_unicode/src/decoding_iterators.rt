@@ -5,7 +5,7 @@ ghost use Rattle.std.specs.Iterator.SizeHint.{IsWithinCount};
 ghost use Rattle.encode_unicode.specs.DebugTexts.{debug_decoder};
 ghost use Rattle.encode_unicode.specs.Hints.{BoundsPieces};
 ghost use Rattle.encode_unicode.specs.Scan.{BackSteps};
-ghost use Rattle.encode_unicode.specs.Window.{whole_window, elements, NextGives, NextBackGives};
+ghost use Rattle.encode_unicode.specs.Window.{whole_window, elements, NextGives, NextBackGives, window_len};
 
 use crate::steps::Steps;
 use back_scan::decode_end;
@@ -62,7 +62,8 @@ impl<'a> Utf8CharDecoder<'a> {
     #[inline(always)]
     pub fn as_slice(&self) -> &'a [u8]
         ensures left { result.now ≡ elements self.now }
-        ensures end { self.now.back ≡ length self.now.whole → result.now ≡ drop self.now.front self.now.whole }
+        ensures end { self.now.back ≡ length self.now.whole →
+            result.now ≡ drop self.now.front self.now.whole }
     {
         &self.slice[self.front..self.back]
     }
@@ -131,7 +132,7 @@ impl<'a> Iterator for Utf8CharDecoder<'a> {
     fn size_hint(&self) -> (usize, Option<usize>)
         ensures lower { IsWithinCount result.0 (at_most (self.now.back - self.now.front)) }
         ensures upper { IfSome result.1 (UpTo (at_most (self.now.back - self.now.front))) }
-        ensures exact { result ≡ ((self.now.back - self.now.front) / 4, Some (self.now.back - self.now.front)) }
+        ensures exact { result ≡ ((window_len self.now) / 4, Some (window_len self.now)) }
         ensures bounds { BoundsPieces (elements self.now) result }
     {
         let left = self.back - self.front;

@@ -5,11 +5,9 @@ ghost use Rattle.std.specs.Iterator.Runs.{EachRunFrom, SomeRun, WholeRun};
 ghost use Rattle.std.specs.List.{flat_map};
 ghost use Rattle.utf_base.specs.Code.{utf8, utf16};
 ghost use Rattle.encode_unicode.specs.Collections.{AddsCodes, AddsFirstCodes};
-ghost use Rattle.utf_base.specs.Kinds.{merger_kind};
-ghost use Rattle.utf_base.specs.Units.{unit_fault_kind};
-ghost use Rattle.encode_unicode.specs.Mergers.{IsHeldBytes, IsHeldUnits, IsMergerRun, MergerNext, merged, merged_units, unasked};
+ghost use Rattle.encode_unicode.specs.Mergers.{IsMergerRun, MergesBytes, MergesUnits, merged, merged_units, unasked};
 ghost use Rattle.encode_unicode.specs.Pieces.{Gives, IsSplitterRun};
-ghost use Rattle.encode_unicode.specs.Sources.{IsListed, SplitterNext, unbegun};
+ghost use Rattle.encode_unicode.specs.Sources.{IsListed, SplitterNext, WhereEmpty, unbegun};
 
 use crate::collecting::extend;
 use crate::utf8_merger::Utf8CharMerger;
@@ -25,8 +23,10 @@ pub trait U8IterExt: Iterator<Item = u8> + Sized {
     /// The characters and the invalid bytes, decoded one after another.
     fn to_utf8chars(self) -> Utf8CharMerger<Self>
         ensures merger { result ≡ unasked self }
-        ensures runs { EachRunFrom (MergerNext utf8 merger_kind IsHeldBytes Self.next_gives) result (λ p. SomeRun Self.next_gives self (λ q. IsMergerRun merged p q)) }
-        ensures listed { (rest : Self → List ℕ) → IsListed Self.next_gives rest → EachRunFrom (MergerNext utf8 merger_kind IsHeldBytes Self.next_gives) result (λ p. Gives p (merged (rest self))) };
+        ensures runs { EachRunFrom (MergesBytes Self.next_gives) result
+            (λ p. SomeRun Self.next_gives self (λ q. IsMergerRun merged p q)) }
+        ensures listed { (rest : Self → List ℕ) → IsListed Self.next_gives rest →
+            EachRunFrom (MergesBytes Self.next_gives) result (λ p. Gives p (merged (rest self))) };
 }
 
 impl<I: Iterator<Item = u8>> U8IterExt for I {
@@ -41,8 +41,10 @@ pub trait U16IterExt: Iterator<Item = u16> + Sized {
     /// The characters and the lone surrogates, decoded one after another.
     fn to_utf16chars(self) -> Utf16CharMerger<Self>
         ensures merger { result ≡ unasked self }
-        ensures runs { EachRunFrom (MergerNext utf16 unit_fault_kind IsHeldUnits Self.next_gives) result (λ p. SomeRun Self.next_gives self (λ q. IsMergerRun merged_units p q)) }
-        ensures listed { (rest : Self → List ℕ) → IsListed Self.next_gives rest → EachRunFrom (MergerNext utf16 unit_fault_kind IsHeldUnits Self.next_gives) result (λ p. Gives p (merged_units (rest self))) };
+        ensures runs { EachRunFrom (MergesUnits Self.next_gives) result
+            (λ p. SomeRun Self.next_gives self (λ q. IsMergerRun merged_units p q)) }
+        ensures listed { (rest : Self → List ℕ) → IsListed Self.next_gives rest →
+            EachRunFrom (MergesUnits Self.next_gives) result (λ p. Gives p (merged_units (rest self))) };
 }
 
 impl<I: Iterator<Item = u16>> U16IterExt for I {
@@ -60,7 +62,8 @@ pub trait Utf8CharIterExt: Iterator<Item = Utf8Char> + Sized {
     /// The bytes of the characters, one character after another.
     fn to_bytes(self) -> Utf8CharSplitter<Self>
         ensures splitter { result ≡ unbegun self }
-        ensures runs { EachRunFrom (SplitterNext utf8 Self.next_gives) result (λ p. SomeRun Self.next_gives self (λ q. IsSplitterRun utf8 p q)) };
+        ensures runs { EachRunFrom (SplitterNext utf8 Self.next_gives) result
+            (λ p. SomeRun Self.next_gives self (λ q. IsSplitterRun utf8 p q)) };
 
     /// The bytes of all characters. The error is that memory was refused.
     ///
@@ -71,8 +74,9 @@ pub trait Utf8CharIterExt: Iterator<Item = Utf8Char> + Sized {
         requires can { Self.can_next self }
         requires ends { IsFinite (Self.remaining self) }
         ensures ok { IfOk result (λ bytes. AddsCodes utf8 Self.next_gives self [] bytes.items) }
-        ensures runs { IfOk result (λ bytes. WholeRun Self.next_gives self (λ p. bytes.items ≡ flat_map utf8 p.items)) }
-        ensures nothing { (rest : Self → List ℕ) → IsListed Self.next_gives rest → rest self ≡ [] → IsOk result };
+        ensures runs { IfOk result (λ bytes. WholeRun Self.next_gives self
+            (λ p. bytes.items ≡ flat_map utf8 p.items)) }
+        ensures nothing { WhereEmpty Self.next_gives self (IsOk result) };
 
     /// The text of all characters. The error is that memory was refused.
     ///
@@ -83,8 +87,9 @@ pub trait Utf8CharIterExt: Iterator<Item = Utf8Char> + Sized {
         requires can { Self.can_next self }
         requires ends { IsFinite (Self.remaining self) }
         ensures ok { IfOk result (λ text. AddsCodes utf8 Self.next_gives self [] (string_bytes text)) }
-        ensures runs { IfOk result (λ text. WholeRun Self.next_gives self (λ p. string_bytes text ≡ flat_map utf8 p.items)) }
-        ensures nothing { (rest : Self → List ℕ) → IsListed Self.next_gives rest → rest self ≡ [] → IsOk result };
+        ensures runs { IfOk result (λ text. WholeRun Self.next_gives self
+            (λ p. string_bytes text ≡ flat_map utf8 p.items)) }
+        ensures nothing { WhereEmpty Self.next_gives self (IsOk result) };
 
     /// Adds the bytes of all characters to the end. Where memory is refused, the characters before
     /// it have been added, and the source is gone.
@@ -96,9 +101,11 @@ pub trait Utf8CharIterExt: Iterator<Item = Utf8Char> + Sized {
         requires can { Self.can_next self }
         requires ends { IsFinite (Self.remaining self) }
         ensures ok { OnOk result (AddsCodes utf8 Self.next_gives self bytes.old.items bytes.new.items) }
-        ensures err { OnErr result (AddsFirstCodes utf8 Self.next_gives self (vec_capacity bytes.old) bytes.old.items bytes.new.items) }
-        ensures runs { OnOk result (WholeRun Self.next_gives self (λ p. bytes.new.items ≡ bytes.old.items ++ flat_map utf8 p.items)) }
-        ensures nothing { (rest : Self → List ℕ) → IsListed Self.next_gives rest → rest self ≡ [] → IsOk result };
+        ensures err { OnErr result (AddsFirstCodes utf8 Self.next_gives self
+            (vec_capacity bytes.old) bytes.old.items bytes.new.items) }
+        ensures runs { OnOk result (WholeRun Self.next_gives self
+            (λ p. bytes.new.items ≡ bytes.old.items ++ flat_map utf8 p.items)) }
+        ensures nothing { WhereEmpty Self.next_gives self (IsOk result) };
 
     /// Adds all characters to the end of the text. Where memory is refused, those before it have
     /// been added, and the source is gone.
@@ -109,10 +116,13 @@ pub trait Utf8CharIterExt: Iterator<Item = Utf8Char> + Sized {
     fn extend_string<A: Allocator>(self, text: &mut String<A>) -> Result<(), AllocError>
         requires can { Self.can_next self }
         requires ends { IsFinite (Self.remaining self) }
-        ensures ok { OnOk result (AddsCodes utf8 Self.next_gives self (string_bytes text.old) (string_bytes text.new)) }
-        ensures err { OnErr result (AddsFirstCodes utf8 Self.next_gives self (string_capacity text.old) (string_bytes text.old) (string_bytes text.new)) }
-        ensures runs { OnOk result (WholeRun Self.next_gives self (λ p. string_bytes text.new ≡ string_bytes text.old ++ flat_map utf8 p.items)) }
-        ensures nothing { (rest : Self → List ℕ) → IsListed Self.next_gives rest → rest self ≡ [] → IsOk result };
+        ensures ok { OnOk result (AddsCodes utf8 Self.next_gives self
+            (string_bytes text.old) (string_bytes text.new)) }
+        ensures err { OnErr result (AddsFirstCodes utf8 Self.next_gives self
+            (string_capacity text.old) (string_bytes text.old) (string_bytes text.new)) }
+        ensures runs { OnOk result (WholeRun Self.next_gives self
+            (λ p. string_bytes text.new ≡ string_bytes text.old ++ flat_map utf8 p.items)) }
+        ensures nothing { WhereEmpty Self.next_gives self (IsOk result) };
 }
 
 impl<I: Iterator<Item = Utf8Char>> Utf8CharIterExt for I {
@@ -154,7 +164,8 @@ pub trait Utf16CharIterExt: Iterator<Item = Utf16Char> + Sized {
     /// The units of the characters, one character after another.
     fn to_units(self) -> Utf16CharSplitter<Self>
         ensures splitter { result ≡ unbegun self }
-        ensures runs { EachRunFrom (SplitterNext utf16 Self.next_gives) result (λ p. SomeRun Self.next_gives self (λ q. IsSplitterRun utf16 p q)) };
+        ensures runs { EachRunFrom (SplitterNext utf16 Self.next_gives) result
+            (λ p. SomeRun Self.next_gives self (λ q. IsSplitterRun utf16 p q)) };
 
     /// The units of all characters. The error is that memory was refused.
     ///
@@ -165,8 +176,9 @@ pub trait Utf16CharIterExt: Iterator<Item = Utf16Char> + Sized {
         requires can { Self.can_next self }
         requires ends { IsFinite (Self.remaining self) }
         ensures ok { IfOk result (λ units. AddsCodes utf16 Self.next_gives self [] units.items) }
-        ensures runs { IfOk result (λ units. WholeRun Self.next_gives self (λ p. units.items ≡ flat_map utf16 p.items)) }
-        ensures nothing { (rest : Self → List ℕ) → IsListed Self.next_gives rest → rest self ≡ [] → IsOk result };
+        ensures runs { IfOk result (λ units. WholeRun Self.next_gives self
+            (λ p. units.items ≡ flat_map utf16 p.items)) }
+        ensures nothing { WhereEmpty Self.next_gives self (IsOk result) };
 
     /// The text of all characters. The error is that memory was refused.
     ///
@@ -177,8 +189,9 @@ pub trait Utf16CharIterExt: Iterator<Item = Utf16Char> + Sized {
         requires can { Self.can_next self }
         requires ends { IsFinite (Self.remaining self) }
         ensures ok { IfOk result (λ string. AddsCodes utf8 Self.next_gives self [] (string_bytes string)) }
-        ensures runs { IfOk result (λ string. WholeRun Self.next_gives self (λ p. string_bytes string ≡ flat_map utf8 p.items)) }
-        ensures nothing { (rest : Self → List ℕ) → IsListed Self.next_gives rest → rest self ≡ [] → IsOk result };
+        ensures runs { IfOk result (λ string. WholeRun Self.next_gives self
+            (λ p. string_bytes string ≡ flat_map utf8 p.items)) }
+        ensures nothing { WhereEmpty Self.next_gives self (IsOk result) };
 
     /// Adds the units of all characters to the end. Where memory is refused, the characters before
     /// it have been added, and the source is gone.
@@ -190,9 +203,11 @@ pub trait Utf16CharIterExt: Iterator<Item = Utf16Char> + Sized {
         requires can { Self.can_next self }
         requires ends { IsFinite (Self.remaining self) }
         ensures ok { OnOk result (AddsCodes utf16 Self.next_gives self units.old.items units.new.items) }
-        ensures err { OnErr result (AddsFirstCodes utf16 Self.next_gives self (vec_capacity units.old) units.old.items units.new.items) }
-        ensures runs { OnOk result (WholeRun Self.next_gives self (λ p. units.new.items ≡ units.old.items ++ flat_map utf16 p.items)) }
-        ensures nothing { (rest : Self → List ℕ) → IsListed Self.next_gives rest → rest self ≡ [] → IsOk result };
+        ensures err { OnErr result (AddsFirstCodes utf16 Self.next_gives self
+            (vec_capacity units.old) units.old.items units.new.items) }
+        ensures runs { OnOk result (WholeRun Self.next_gives self
+            (λ p. units.new.items ≡ units.old.items ++ flat_map utf16 p.items)) }
+        ensures nothing { WhereEmpty Self.next_gives self (IsOk result) };
 
     /// Adds all characters to the end of the text. Where memory is refused, those before it have
     /// been added, and the source is gone.
@@ -203,10 +218,13 @@ pub trait Utf16CharIterExt: Iterator<Item = Utf16Char> + Sized {
     fn extend_string<A: Allocator>(self, string: &mut String<A>) -> Result<(), AllocError>
         requires can { Self.can_next self }
         requires ends { IsFinite (Self.remaining self) }
-        ensures ok { OnOk result (AddsCodes utf8 Self.next_gives self (string_bytes string.old) (string_bytes string.new)) }
-        ensures err { OnErr result (AddsFirstCodes utf8 Self.next_gives self (string_capacity string.old) (string_bytes string.old) (string_bytes string.new)) }
-        ensures runs { OnOk result (WholeRun Self.next_gives self (λ p. string_bytes string.new ≡ string_bytes string.old ++ flat_map utf8 p.items)) }
-        ensures nothing { (rest : Self → List ℕ) → IsListed Self.next_gives rest → rest self ≡ [] → IsOk result };
+        ensures ok { OnOk result (AddsCodes utf8 Self.next_gives self
+            (string_bytes string.old) (string_bytes string.new)) }
+        ensures err { OnErr result (AddsFirstCodes utf8 Self.next_gives self
+            (string_capacity string.old) (string_bytes string.old) (string_bytes string.new)) }
+        ensures runs { OnOk result (WholeRun Self.next_gives self
+            (λ p. string_bytes string.new ≡ string_bytes string.old ++ flat_map utf8 p.items)) }
+        ensures nothing { WhereEmpty Self.next_gives self (IsOk result) };
 }
 
 impl<I: Iterator<Item = Utf16Char>> Utf16CharIterExt for I {

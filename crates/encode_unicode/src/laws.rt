@@ -38,7 +38,8 @@ pub fn lengths_are_bounded()
 
 /// An ASCII byte stands as often in some bytes as its character among their pieces, since no error hides it.
 pub fn ascii_is_counted(bytes: &[u8], byte: u8)
-    ensures { byte < 128 → count_by (λ c. nat_eq c byte) (characters bytes.now) ≡ count_by (λ b. nat_eq b byte) bytes.now }
+    ensures { byte < 128 →
+        count_by (λ c. nat_eq c byte) (characters bytes.now) ≡ count_by (λ b. nat_eq b byte) bytes.now }
 {}
 
 /// Where a byte is ASCII a decoder gives its character, and a piece begins and ends there, whatever stands around it.

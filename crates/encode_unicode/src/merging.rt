@@ -9,7 +9,8 @@ use crate::splitting::hint_of;
 #[inline(always)]
 pub(crate) fn read<T, I: Iterator<Item = T>>(source: &mut I) -> Option<T>
     requires { I.can_next source.old }
-    ensures { Reads I.can_next I.remaining I.next_gives source.old false (as_list result) source.new (ends result) }
+    ensures { Reads I.can_next I.remaining I.next_gives
+        source.old false (as_list result) source.new (ends result) }
 {
     source.next()
 }

@@ -4,9 +4,8 @@ ghost use Rattle.std.specs.Iterator.{UpTo};
 ghost use Rattle.std.specs.Iterator.SizeHint.{IsWithinCount};
 ghost use Rattle.utf_chars.specs.DebugTexts.{debug_numbers};
 ghost use Rattle.encode_unicode.specs.DebugTexts.{debug_merger};
-ghost use Rattle.encode_unicode.specs.Mergers.{unread, unread_count, IsHeldBytes, RemainingNext, RemainsHint};
+ghost use Rattle.encode_unicode.specs.Mergers.{unread_count, HasSameUnread, IsHeldBytes, RemainingNext, RemainsHint};
 ghost use Rattle.encode_unicode.specs.Reading.{TakesFirst};
-ghost use Rattle.encode_unicode.specs.Sources.{GivesTheSame};
 ghost use Rattle.utf_base.specs.Kinds.{is_continuation};
 
 use crate::debugging::write_fields;
@@ -87,7 +86,7 @@ impl<I: Iterator<Item = u8>> RemainingBytes<I> {
         ensures source { IfOk result (λ m. I.is_clone self.now.source m.source) }
         ensures held { IfOk result (λ m. m.held ≡ self.now.held) }
         ensures ended { IfOk result (λ m. m.ended ≡ self.now.ended) }
-        ensures same { IfOk result (λ m. (rest : I → List ℕ) → GivesTheSame I.is_clone rest self.now.source → unread rest m ≡ unread rest self.now) }
+        ensures same { IfOk result (HasSameUnread I.is_clone self.now) }
         ensures succeeds { I.is_infallible self.now.source → IsOk result }
     {
         Ok(RemainingBytes {
@@ -117,7 +116,8 @@ impl<I: Iterator<Item = u8> + fmt::Debug> fmt::Debug for RemainingBytes<I> {
 pub(crate) fn first_byte<I: Iterator<Item = u8>>(held: &mut HeldBytes, source: &mut I) -> Option<u8>
     requires can { held.old.ended ≡ false → I.can_next source.old }
     requires held { IsHeldBytes held.old.held }
-    ensures first { TakesFirst IsHeldBytes I.can_next I.remaining I.next_gives held.old.held source.old held.old.ended result held.new.held source.new held.new.ended }
+    ensures first { TakesFirst IsHeldBytes I.can_next I.remaining I.next_gives
+        held.old source.old result held.new source.new }
     ensures alone { IfSome result (λ b. is_continuation b ≡ false → held.new.held ≡ []) }
 {
     if !held.is_idle() {

@@ -3,9 +3,9 @@ ghost use Rattle.std.specs.Prelude.{◌≡◌, length, List, ℕ};
 ghost use Rattle.std.specs.Str.{chars};
 ghost use Rattle.std.specs.Iterator.Runs.{AllItems, EachRunFrom, EveryRun};
 ghost use Rattle.utf_base.specs.Code.{utf8, utf16};
-ghost use Rattle.encode_unicode.specs.Pieces.{GaveAll, GiveAtMost, Gives, GivesReversed, LengthsFit, LiesInText, chars_left, placed_chars, placed_chars_left};
+ghost use Rattle.encode_unicode.specs.Pieces.{GaveAll, GiveAtMost, Gives, GivesReversed, AllLieInText, LengthsFit, LiesInText, chars_left, placed_chars, placed_chars_left};
 ghost use Rattle.encode_unicode.specs.Sources.{IsListed, IsListedBack};
-ghost use Rattle.encode_unicode.specs.TextWindow.{BackPlaced, BackScalar, IsTextWindow, NextPlaced, NextScalar};
+ghost use Rattle.encode_unicode.specs.TextWindow.{BackPlaced, BackScalar, NextPlaced, NextScalar};
 ghost use Rattle.encode_unicode.specs.Window.{whole_window};
 
 use crate::utf8_iterators::{Utf8CharIndices, Utf8Chars};
@@ -53,7 +53,7 @@ pub trait StrExt<'a>: Sized {
         ensures places { EachRunFrom NextPlaced result (λ p. AllItems p (LiesInText (text self))) }
         ensures places_on { EveryRun NextPlaced (λ p. AllItems p (LiesInText p.from.whole)) }
         ensures places_back { EachRunFrom BackPlaced result (λ p. AllItems p (LiesInText (text self))) }
-        ensures places_back_on { EveryRun BackPlaced (λ p. IsTextWindow p.from → AllItems p (LiesInText p.from.whole)) };
+        ensures places_back_on { EveryRun BackPlaced AllLieInText };
 
     /// The characters, kept as UTF-16, each with its offset: (offset in bytes, character).
     fn utf16char_indices(self) -> Utf16CharIndices<'a>
@@ -68,7 +68,7 @@ pub trait StrExt<'a>: Sized {
         ensures places { EachRunFrom NextPlaced result (λ p. AllItems p (LiesInText (text self))) }
         ensures places_on { EveryRun NextPlaced (λ p. AllItems p (LiesInText p.from.whole)) }
         ensures places_back { EachRunFrom BackPlaced result (λ p. AllItems p (LiesInText (text self))) }
-        ensures places_back_on { EveryRun BackPlaced (λ p. IsTextWindow p.from → AllItems p (LiesInText p.from.whole)) };
+        ensures places_back_on { EveryRun BackPlaced AllLieInText };
 }
 
 impl<'a> StrExt<'a> for &'a str {

@@ -5,7 +5,7 @@ ghost use Rattle.std.specs.Int.{div_ceil};
 ghost use Rattle.std.specs.Str.{IsUtf8};
 ghost use Rattle.encode_unicode.specs.DebugTexts.{debug_indices};
 ghost use Rattle.encode_unicode.specs.TextWindow.{IsLastCode, IsTextWindow, NextPlaced, BackPlaced, BoundsScalars};
-ghost use Rattle.encode_unicode.specs.Window.{whole_window, elements};
+ghost use Rattle.encode_unicode.specs.Window.{whole_window, elements, window_len};
 
 use std::fmt;
 use std::marker::Model;
@@ -84,7 +84,7 @@ impl<'a> TextWindow<'a> {
     #[inline(always)]
     #[tactic(auto, using(crate::proofs::TextLemmas::bounds_quarter))]
     pub(crate) fn bounds(&self) -> (usize, Option<usize>)
-        ensures exact { result ≡ (div_ceil (self.now.back - self.now.front) 4, Some (self.now.back - self.now.front)) }
+        ensures exact { result ≡ (div_ceil (window_len self.now) 4, Some (window_len self.now)) }
         ensures bounds { BoundsScalars (elements self.now) result }
     {
         let left = self.back - self.front;

@@ -23,12 +23,15 @@ pub trait U8SliceExt<'a>: Sized {
         ensures listed { IsListed NextGives pieces_left }
         ensures gave { GaveAll NextGives result (pieces (bytes self)) }
         ensures few { GiveAtMost NextGives result (length (bytes self)) }
-        ensures places { EachRunFrom NextGives result (λ p. AllItems p (LiesWithin 4 (length (bytes self)))) }
+        ensures places { EachRunFrom NextGives result
+            (λ p. AllItems p (LiesWithin 4 (length (bytes self)))) }
         ensures places_on { EveryRun NextGives (λ p. AllItems p (LiesWithin 4 p.from.back)) }
-        ensures places_back { EachRunFrom NextBackGives result (λ p. AllItems p (LiesWithin 4 (length (bytes self)))) }
+        ensures places_back { EachRunFrom NextBackGives result
+            (λ p. AllItems p (LiesWithin 4 (length (bytes self)))) }
         ensures places_back_on { EveryRun NextBackGives (λ p. AllItems p (LiesWithin 4 p.from.back)) }
         ensures codes { EachRunFrom NextGives result (λ p. AllItems p (HasCode utf8 (bytes self))) }
-        ensures codes_back { EachRunFrom NextBackGives result (λ p. AllItems p (HasCode utf8 (bytes self))) };
+        ensures codes_back { EachRunFrom NextBackGives result
+            (λ p. AllItems p (HasCode utf8 (bytes self))) };
 }
 
 impl<'a> U8SliceExt<'a> for &'a [u8] {
@@ -54,12 +57,15 @@ pub trait U16SliceExt<'a>: Sized {
         ensures listed { IsListed NextGivesUnits unit_pieces_left }
         ensures gave { GaveAll NextGivesUnits result (unit_pieces (units self)) }
         ensures few { GiveAtMost NextGivesUnits result (length (units self)) }
-        ensures places { EachRunFrom NextGivesUnits result (λ p. AllItems p (LiesWithin 2 (length (units self)))) }
+        ensures places { EachRunFrom NextGivesUnits result
+            (λ p. AllItems p (LiesWithin 2 (length (units self)))) }
         ensures places_on { EveryRun NextGivesUnits (λ p. AllItems p (LiesWithin 2 p.from.back)) }
-        ensures places_back { EachRunFrom NextBackGivesUnits result (λ p. AllItems p (LiesWithin 2 (length (units self)))) }
+        ensures places_back { EachRunFrom NextBackGivesUnits result
+            (λ p. AllItems p (LiesWithin 2 (length (units self)))) }
         ensures places_back_on { EveryRun NextBackGivesUnits (λ p. AllItems p (LiesWithin 2 p.from.back)) }
         ensures codes { EachRunFrom NextGivesUnits result (λ p. AllItems p (HasCode utf16 (units self))) }
-        ensures codes_back { EachRunFrom NextBackGivesUnits result (λ p. AllItems p (HasCode utf16 (units self))) };
+        ensures codes_back { EachRunFrom NextBackGivesUnits result
+            (λ p. AllItems p (HasCode utf16 (units self))) };
 }
 
 impl<'a> U16SliceExt<'a> for &'a [u16] {

@@ -7,7 +7,7 @@ ghost use Rattle.utf_base.specs.Ends.{last_of};
 ghost use Rattle.utf_base.specs.Front.{IsFrontLen};
 ghost use Rattle.encode_unicode.specs.DebugTexts.{debug_decoder};
 ghost use Rattle.encode_unicode.specs.Hints.{BoundsUnitPieces};
-ghost use Rattle.encode_unicode.specs.Window.{whole_window, elements, as_piece, IsBackOf, IsFrontOf};
+ghost use Rattle.encode_unicode.specs.Window.{whole_window, elements, as_piece, IsBackOf, IsFrontOf, window_len};
 ghost use Rattle.encode_unicode.specs.Window.{NextGivesUnits, NextBackGivesUnits};
 ghost use Rattle.encode_unicode.specs.Words.{decoded_pairs, decoded_pairs_end, slice_fault, unit_back_kind, unit_fault_kind, utf16};
 
@@ -71,7 +71,8 @@ impl<'a> Utf16CharDecoder<'a> {
     #[inline(always)]
     pub fn as_slice(&self) -> &'a [u16]
         ensures left { result.now ≡ elements self.now }
-        ensures end { self.now.back ≡ length self.now.whole → result.now ≡ drop self.now.front self.now.whole }
+        ensures end { self.now.back ≡ length self.now.whole →
+            result.now ≡ drop self.now.front self.now.whole }
     {
         &self.slice[self.front..self.back]
     }
@@ -104,7 +105,7 @@ impl<'a> Iterator for Utf16CharDecoder<'a> {
     fn size_hint(&self) -> (usize, Option<usize>)
         ensures lower { IsWithinCount result.0 (at_most (self.now.back - self.now.front)) }
         ensures upper { IfSome result.1 (UpTo (at_most (self.now.back - self.now.front))) }
-        ensures exact { result ≡ ((self.now.back - self.now.front) / 2, Some (self.now.back - self.now.front)) }
+        ensures exact { result ≡ ((window_len self.now) / 2, Some (window_len self.now)) }
         ensures bounds { BoundsUnitPieces (elements self.now) result }
     {
         let left = self.back - self.front;
@@ -193,7 +194,8 @@ fn last_piece(units: &[u16]) -> (Result<Utf16Char, Utf16PairError>, usize)
 #[tactic(auto, using(utf_base::proofs::UnitEnds::back_kind_of_fault, utf_base::proofs::UnitLemmas::kind_from_fault, utf_base::proofs::UnitLemmas::pair_error))]
 fn pair_error(error: Utf16SliceError) -> Utf16PairError
     ensures first { (w : List ℕ) → slice_fault w ≡ Some error → unit_fault_kind w ≡ Some result }
-    ensures last { (w : List ℕ) → 0 < length w → error ≡ unit_end_fault w → result ≡ unit_back_kind (last_of w) }
+    ensures last { (w : List ℕ) → 0 < length w → error ≡ unit_end_fault w →
+        result ≡ unit_back_kind (last_of w) }
 {
     match error {
         Utf16SliceError::FirstIsTrailingSurrogate => Utf16PairError::UnexpectedTrailingSurrogate,

@@ -5,7 +5,7 @@ ghost use Rattle.std.specs.Iterator.{at_most, UpTo};
 ghost use Rattle.std.specs.Iterator.SizeHint.{IsWithinCount};
 ghost use Rattle.encode_unicode.specs.DebugTexts.{debug_chars, debug_indices};
 ghost use Rattle.encode_unicode.specs.TextWindow.{IsTextWindow, NextPlaced, BackPlaced, NextScalar, BackScalar, BoundsScalars};
-ghost use Rattle.encode_unicode.specs.Window.{whole_window, elements};
+ghost use Rattle.encode_unicode.specs.Window.{whole_window, elements, window_len};
 
 use crate::debugging::write_variant;
 use crate::text_window::TextWindow;
@@ -72,7 +72,7 @@ impl<'a> Iterator for Utf16CharIndices<'a> {
     fn size_hint(&self) -> (usize, Option<usize>)
         ensures lower { IsWithinCount result.0 (at_most (self.now.back - self.now.front)) }
         ensures upper { IfSome result.1 (UpTo (at_most (self.now.back - self.now.front))) }
-        ensures exact { result ≡ (div_ceil (self.now.back - self.now.front) 4, Some (self.now.back - self.now.front)) }
+        ensures exact { result ≡ (div_ceil (window_len self.now) 4, Some (window_len self.now)) }
         ensures bounds { BoundsScalars (elements self.now) result }
     {
         self.window.bounds()
@@ -173,7 +173,7 @@ impl<'a> Iterator for Utf16Chars<'a> {
     fn size_hint(&self) -> (usize, Option<usize>)
         ensures lower { IsWithinCount result.0 (at_most (self.now.back - self.now.front)) }
         ensures upper { IfSome result.1 (UpTo (at_most (self.now.back - self.now.front))) }
-        ensures exact { result ≡ (div_ceil (self.now.back - self.now.front) 4, Some (self.now.back - self.now.front)) }
+        ensures exact { result ≡ (div_ceil (window_len self.now) 4, Some (window_len self.now)) }
         ensures bounds { BoundsScalars (elements self.now) result }
     {
         self.indices.size_hint()

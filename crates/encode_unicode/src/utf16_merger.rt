@@ -5,10 +5,9 @@ ghost use Rattle.std.specs.Iterator.SizeHint.{IsWithinCount};
 ghost use Rattle.utf_base.specs.Code.{utf16};
 ghost use Rattle.utf_base.specs.Units.{is_surrogate, unit_fault_kind};
 ghost use Rattle.encode_unicode.specs.DebugTexts.{debug_merger, debug_unit};
-ghost use Rattle.encode_unicode.specs.Mergers.{unasked, unread, unread_count, IsHeldUnits, IsSpent, MergerNext, MergesHint};
+ghost use Rattle.encode_unicode.specs.Mergers.{unasked, unread_count, GivesAllUnread, HasSameUnread, IsHeldUnits, MergesHint, MergesUnits};
 ghost use Rattle.encode_unicode.specs.Mergers.{RemainingNext, RemainsHint};
 ghost use Rattle.encode_unicode.specs.Reading.{CompletesUnits, TakesFirst};
-ghost use Rattle.encode_unicode.specs.Sources.{GivesTheSame};
 
 use crate::debugging::write_fields;
 use crate::held_unit::HeldUnit;
@@ -75,7 +74,7 @@ impl<I: Iterator<Item = u16>> Iterator for Utf16CharMerger<I> {
 
     ghost can_next = { λ m. m.ended ≡ false → I.can_next m.source };
 
-    ghost next_gives = { MergerNext utf16 unit_fault_kind IsHeldUnits I.next_gives };
+    ghost next_gives = { MergesUnits I.next_gives };
 
     ghost remaining = { unread_count I.remaining };
 
@@ -116,7 +115,7 @@ impl<I: Iterator<Item = u16>> Utf16CharMerger<I> {
     pub fn into_inner(self) -> I
         ensures source { result ≡ self.source }
         ensures held { IsHeldUnits self.held }
-        ensures whole { (rest : I → List ℕ) → IsSpent rest self.source self.ended → self.held ≡ [] → rest result ≡ unread rest self }
+        ensures whole { GivesAllUnread self result }
     {
         let Utf16CharMerger { source, held: _ } = self;
         source
@@ -143,7 +142,7 @@ impl<I: Iterator<Item = u16>> Utf16CharMerger<I> {
         ensures source { IfOk result (λ m. I.is_clone self.now.source m.source) }
         ensures held { IfOk result (λ m. m.held ≡ self.now.held) }
         ensures ended { IfOk result (λ m. m.ended ≡ self.now.ended) }
-        ensures same { IfOk result (λ m. (rest : I → List ℕ) → GivesTheSame I.is_clone rest self.now.source → unread rest m ≡ unread rest self.now) }
+        ensures same { IfOk result (HasSameUnread I.is_clone self.now) }
         ensures succeeds { I.is_infallible self.now.source → IsOk result }
     {
         Ok(Utf16CharMerger {
@@ -173,7 +172,8 @@ impl<I: Iterator<Item = u16> + fmt::Debug> fmt::Debug for Utf16CharMerger<I> {
 #[inline(always)]
 fn first_unit<I: Iterator<Item = u16>>(held: &mut HeldUnit, source: &mut I) -> Option<u64>
     requires can { held.old.ended ≡ false → I.can_next source.old }
-    ensures first { TakesFirst IsHeldUnits I.can_next I.remaining I.next_gives held.old.held source.old held.old.ended result held.new.held source.new held.new.ended }
+    ensures first { TakesFirst IsHeldUnits I.can_next I.remaining I.next_gives
+        held.old source.old result held.new source.new }
     ensures unit { IfSome result (λ unit. unit < 0x1_0000) }
     ensures none { held.new.held ≡ [] }
     ensures going { IfSome result (λ _. held.new.ended ≡ false) }
@@ -204,7 +204,8 @@ fn second_unit<I: Iterator<Item = u16>>(
     requires can { I.can_next source.old }
     requires none { held.old.held ≡ [] }
     requires going { held.old.ended ≡ false }
-    ensures answers { CompletesUnits I.can_next I.remaining I.next_gives first source.old result held.new.held source.new held.new.ended }
+    ensures answers { CompletesUnits I.can_next I.remaining I.next_gives first
+        source.old result held.new source.new }
     ensures held { IsHeldUnits held.new.held }
 {
     if stands_alone(first) {
@@ -299,7 +300,7 @@ impl<I: Iterator<Item = u16>> RemainingUnits<I> {
         ensures source { IfOk result (λ m. I.is_clone self.now.source m.source) }
         ensures held { IfOk result (λ m. m.held ≡ self.now.held) }
         ensures ended { IfOk result (λ m. m.ended ≡ self.now.ended) }
-        ensures same { IfOk result (λ m. (rest : I → List ℕ) → GivesTheSame I.is_clone rest self.now.source → unread rest m ≡ unread rest self.now) }
+        ensures same { IfOk result (HasSameUnread I.is_clone self.now) }
         ensures succeeds { I.is_infallible self.now.source → IsOk result }
     {
         Ok(RemainingUnits {

@@ -4,7 +4,7 @@ ghost use Rattle.std.specs.Iterator.{count_map, UpTo};
 ghost use Rattle.std.specs.Iterator.SizeHint.{IsWithinCount};
 ghost use Rattle.utf_base.specs.Code.{utf16};
 ghost use Rattle.encode_unicode.specs.DebugTexts.{debug_splitter};
-ghost use Rattle.encode_unicode.specs.Sources.{GivesTheSame, unbegun, unsent, SplitterNext, SplitsHint};
+ghost use Rattle.encode_unicode.specs.Sources.{HasSameUnsent, unsent_count, unbegun, unsent, SplitterNext, SplitsHint};
 
 use crate::debugging::write_fields;
 use crate::second_unit::SecondUnit;
@@ -51,7 +51,7 @@ impl<I: Iterator<Item = Utf16Char>> Iterator for Utf16CharSplitter<I> {
 
     ghost next_gives = { SplitterNext utf16 I.next_gives };
 
-    ghost remaining = { λ s. count_map (λ n. length s.begun + 2 * n) (I.remaining s.source) };
+    ghost remaining = { unsent_count 2 I.remaining };
 
     /// Takes the next unit. `None` once the source has ended.
     #[inline(always)]
@@ -70,8 +70,8 @@ impl<I: Iterator<Item = Utf16Char>> Iterator for Utf16CharSplitter<I> {
     /// one unit and at most two for each character of the source.
     #[inline]
     fn size_hint(&self) -> (usize, Option<usize>)
-        ensures lower { IsWithinCount result.0 (count_map (λ n. length self.now.begun + 2 * n) (I.remaining self.now.source)) }
-        ensures upper { IfSome result.1 (UpTo (count_map (λ n. length self.now.begun + 2 * n) (I.remaining self.now.source))) }
+        ensures lower { IsWithinCount result.0 (unsent_count 2 I.remaining self.now) }
+        ensures upper { IfSome result.1 (UpTo (unsent_count 2 I.remaining self.now)) }
         ensures split { SplitsHint utf16 2 I.remaining self.now result }
     {
         hint_of(self.source.size_hint(), 2, self.begun.len())
@@ -97,7 +97,7 @@ impl<I: Iterator<Item = Utf16Char>> Utf16CharSplitter<I> {
         I: Clone,
         ensures source { IfOk result (λ s. I.is_clone self.now.source s.source) }
         ensures begun { IfOk result (λ s. s.begun ≡ self.now.begun) }
-        ensures same { IfOk result (λ s. (rest : I → List ℕ) → GivesTheSame I.is_clone rest self.now.source → unsent utf16 rest s ≡ unsent utf16 rest self.now) }
+        ensures same { IfOk result (HasSameUnsent utf16 I.is_clone self.now) }
         ensures succeeds { I.is_infallible self.now.source → IsOk result }
     {
         Ok(Utf16CharSplitter {

@@ -7,9 +7,8 @@ ghost use Rattle.utf_base.specs.Kinds.{is_continuation, merger_kind};
 ghost use Rattle.utf_base.specs.Table.{is_running as running, state_after};
 ghost use Rattle.utf_chars.specs.DebugTexts.{debug_numbers};
 ghost use Rattle.encode_unicode.specs.DebugTexts.{debug_merger};
-ghost use Rattle.encode_unicode.specs.Mergers.{unasked, unread, unread_count, IsHeldBytes, IsSpent, MergerNext, MergesHint};
+ghost use Rattle.encode_unicode.specs.Mergers.{unasked, unread_count, GivesAllUnread, HasSameUnread, IsHeldBytes, MergesBytes, MergesHint};
 ghost use Rattle.encode_unicode.specs.Reading.{Completes, CompletesAfter};
-ghost use Rattle.encode_unicode.specs.Sources.{GivesTheSame};
 
 use crate::code_bytes::CodeBytes;
 use crate::debugging::write_fields;
@@ -79,7 +78,7 @@ impl<I: Iterator<Item = u8>> Iterator for Utf8CharMerger<I> {
 
     ghost can_next = { λ m. m.ended ≡ false → I.can_next m.source };
 
-    ghost next_gives = { MergerNext utf8 merger_kind IsHeldBytes I.next_gives };
+    ghost next_gives = { MergesBytes I.next_gives };
 
     ghost remaining = { unread_count I.remaining };
 
@@ -120,7 +119,7 @@ impl<I: Iterator<Item = u8>> Utf8CharMerger<I> {
     pub fn into_inner(self) -> I
         ensures source { result ≡ self.source }
         ensures held { IsHeldBytes self.held }
-        ensures whole { (rest : I → List ℕ) → IsSpent rest self.source self.ended → self.held ≡ [] → rest result ≡ unread rest self }
+        ensures whole { GivesAllUnread self result }
     {
         let Utf8CharMerger { source, held: _ } = self;
         source
@@ -145,7 +144,7 @@ impl<I: Iterator<Item = u8>> Utf8CharMerger<I> {
         ensures source { IfOk result (λ m. I.is_clone self.now.source m.source) }
         ensures held { IfOk result (λ m. m.held ≡ self.now.held) }
         ensures ended { IfOk result (λ m. m.ended ≡ self.now.ended) }
-        ensures same { IfOk result (λ m. (rest : I → List ℕ) → GivesTheSame I.is_clone rest self.now.source → unread rest m ≡ unread rest self.now) }
+        ensures same { IfOk result (HasSameUnread I.is_clone self.now) }
         ensures succeeds { I.is_infallible self.now.source → IsOk result }
     {
         Ok(Utf8CharMerger {
@@ -181,7 +180,8 @@ fn code_of<I: Iterator<Item = u8>>(
     requires can { held.old.ended ≡ false → I.can_next source.old }
     requires alone { is_continuation first ≡ false → held.old.held ≡ [] }
     requires held { IsHeldBytes held.old.held }
-    ensures { Completes I.can_next I.remaining I.next_gives first held.old.held source.old held.old.ended result held.new.held source.new held.new.ended }
+    ensures { Completes I.can_next I.remaining I.next_gives first
+        held.old source.old result held.new source.new }
 {
     let state = step(State::Start, class_of(first));
     if state == State::Done {
@@ -211,7 +211,8 @@ fn second<I: Iterator<Item = u8>>(
     requires can { I.can_next source.old }
     requires none { held.old.held ≡ [] }
     requires going { held.old.ended ≡ false }
-    ensures { CompletesAfter I.can_next I.remaining I.next_gives first [] source.old result held.new.held source.new held.new.ended }
+    ensures { CompletesAfter I.can_next I.remaining I.next_gives first []
+        source.old result held.new source.new }
 {
     match read(source) {
         None => {
@@ -246,7 +247,8 @@ fn third<I: Iterator<Item = u8>>(
     requires can { I.can_next source.old }
     requires none { held.old.held ≡ [] }
     requires going { held.old.ended ≡ false }
-    ensures { CompletesAfter I.can_next I.remaining I.next_gives first (second ∷ []) source.old result held.new.held source.new held.new.ended }
+    ensures { CompletesAfter I.can_next I.remaining I.next_gives first (second ∷ [])
+        source.old result held.new source.new }
 {
     match read(source) {
         None => {
@@ -282,7 +284,8 @@ fn fourth<I: Iterator<Item = u8>>(
     requires can { I.can_next source.old }
     requires none { held.old.held ≡ [] }
     requires going { held.old.ended ≡ false }
-    ensures { CompletesAfter I.can_next I.remaining I.next_gives first (second ∷ third ∷ []) source.old result held.new.held source.new held.new.ended }
+    ensures { CompletesAfter I.can_next I.remaining I.next_gives first (second ∷ third ∷ [])
+        source.old result held.new source.new }
 {
     match read(source) {
         None => {

@@ -5,7 +5,7 @@ ghost use Rattle.std.specs.Iterator.SizeHint.{IsWithinCount};
 ghost use Rattle.utf_base.specs.Code.{utf8};
 ghost use Rattle.utf_chars.specs.Taking.{fitting, filled};
 ghost use Rattle.encode_unicode.specs.DebugTexts.{debug_splitter};
-ghost use Rattle.encode_unicode.specs.Sources.{GivesTheSame, IsListed, unbegun, unsent, SplitterNext, SplitsHint};
+ghost use Rattle.encode_unicode.specs.Sources.{HasSameUnsent, IsListed, unbegun, unsent, unsent_count, SplitterNext, SplitsHint};
 
 use crate::debugging::write_fields;
 use crate::splitting::hint_of;
@@ -53,7 +53,7 @@ impl<I: Iterator<Item = Utf8Char>> Iterator for Utf8CharSplitter<I> {
 
     ghost next_gives = { SplitterNext utf8 I.next_gives };
 
-    ghost remaining = { λ s. count_map (λ n. length s.begun + 4 * n) (I.remaining s.source) };
+    ghost remaining = { unsent_count 4 I.remaining };
 
     /// Takes the next byte. `None` once the source has ended.
     #[inline(always)]
@@ -71,8 +71,8 @@ impl<I: Iterator<Item = Utf8Char>> Iterator for Utf8CharSplitter<I> {
     /// one byte and at most four for each character of the source.
     #[inline]
     fn size_hint(&self) -> (usize, Option<usize>)
-        ensures lower { IsWithinCount result.0 (count_map (λ n. length self.now.begun + 4 * n) (I.remaining self.now.source)) }
-        ensures upper { IfSome result.1 (UpTo (count_map (λ n. length self.now.begun + 4 * n) (I.remaining self.now.source))) }
+        ensures lower { IsWithinCount result.0 (unsent_count 4 I.remaining self.now) }
+        ensures upper { IfSome result.1 (UpTo (unsent_count 4 I.remaining self.now)) }
         ensures split { SplitsHint utf8 4 I.remaining self.now result }
     {
         hint_of(self.source.size_hint(), 4, self.begun.len())
@@ -89,9 +89,12 @@ impl<I: Iterator<Item = Utf8Char>> Utf8CharSplitter<I> {
     pub fn read(&mut self, buf: &mut [u8]) -> io::Result<usize>
         requires { I.can_next self.old.source }
         ensures always { IsOk result }
-        ensures count { (rest : I → List ℕ) → IsListed I.next_gives rest → result ≡ Ok (fitting buf.old (unsent utf8 rest self.old)) }
-        ensures written { (rest : I → List ℕ) → IsListed I.next_gives rest → buf.new ≡ filled buf.old (unsent utf8 rest self.old) }
-        ensures left { (rest : I → List ℕ) → IsListed I.next_gives rest → unsent utf8 rest self.new ≡ drop (length buf.old) (unsent utf8 rest self.old) }
+        ensures count { (rest : I → List ℕ) → IsListed I.next_gives rest →
+            result ≡ Ok (fitting buf.old (unsent utf8 rest self.old)) }
+        ensures written { (rest : I → List ℕ) → IsListed I.next_gives rest →
+            buf.new ≡ filled buf.old (unsent utf8 rest self.old) }
+        ensures left { (rest : I → List ℕ) → IsListed I.next_gives rest →
+            unsent utf8 rest self.new ≡ drop (length buf.old) (unsent utf8 rest self.old) }
         ensures full { result ≡ Ok (length buf.old) → I.can_next self.new.source }
     {
         let mut count = self.begun.take(buf);
@@ -126,7 +129,7 @@ impl<I: Iterator<Item = Utf8Char>> Utf8CharSplitter<I> {
         I: Clone,
         ensures source { IfOk result (λ s. I.is_clone self.now.source s.source) }
         ensures begun { IfOk result (λ s. s.begun ≡ self.now.begun) }
-        ensures same { IfOk result (λ s. (rest : I → List ℕ) → GivesTheSame I.is_clone rest self.now.source → unsent utf8 rest s ≡ unsent utf8 rest self.now) }
+        ensures same { IfOk result (HasSameUnsent utf8 I.is_clone self.now) }
         ensures succeeds { I.is_infallible self.now.source → IsOk result }
     {
         Ok(Utf8CharSplitter {

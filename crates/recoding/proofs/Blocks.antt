@@ -1,11 +1,5 @@
 -- Blocks of eight units of ASCII, and what bytes of units show.
-use Rattle.std.proofs.Common.{◌≡◌, ℕ, zero, suc, ◌-◌, ◌*◌, ◌%◌, ◌<◌, Bool, List, [], ◌∷◌, ◌++◌, map, length, get_or, flat_map, arith, refl, ap, ap₂, sym, ◌∙◌}
-use Rattle.std.specs.Prelude.{All}
-use Rattle.std.proofs.lemmas.List.Elements.{All-nil, All-cons}
-use Rattle.utf_base.specs.Code.{utf8, utf16}
-use Rattle.utf_base.specs.Scalar.{IsScalar}
-use Rattle.utf_base.proofs.Utf8Code.{utf8-1, ascii_is_scalar}
-use Rattle.utf_base.proofs.Utf16Code.{utf16-1}
+use Rattle.std.proofs.Common.{◌≡◌, ℕ, zero, suc, ◌-◌, ◌*◌, ◌%◌, ◌<◌, Bool, List, [], ◌∷◌, ◌++◌, map, length, get_or, arith, refl, ap, ap₂, ◌∙◌}
 use Rattle.recoding.specs.declared.form.Form.{Form}
 use Rattle.recoding.specs.declared.form.Form.TheVariants.{Utf8, Utf16Le, Utf16Be}
 use Rattle.utf_lanes.specs.AsciiTexts.{AreAscii}
@@ -32,23 +26,7 @@ as_read high Utf8 v ts form h = absurd form
 as_read high Utf16Le v ts form h = rw form at h
 as_read high Utf16Be v ts form h = rw form at h
 
--- ASCII, in each form.
-
-pub ascii_codes : (us : List ℕ) → AreAscii us 0 (length us) → flat_map utf8 us ≡ us
-ascii_codes [] low = refl
-ascii_codes (u ∷ us) low =
-    ap₂ (λ xs ys. xs ++ ys) (utf8-1 u (low 0 (omega arith) (omega arith))) (ascii_codes us (λ k ge lt. low (suc k) (omega arith) (omega arith)))
-
-pub ascii_units : (us : List ℕ) → AreAscii us 0 (length us) → us ≡ flat_map utf16 us
-ascii_units [] low = refl
-ascii_units (u ∷ us) low =
-    let first : u < 0x80 = low 0 (omega arith) (omega arith) in
-    ap₂ (λ xs ys. xs ++ ys) (sym (utf16-1 u (omega arith))) (ascii_units us (λ k ge lt. low (suc k) (omega arith) (omega arith)))
-
-pub ascii_scalars : (us : List ℕ) → AreAscii us 0 (length us) → All IsScalar us
-ascii_scalars [] low = All-nil IsScalar
-ascii_scalars (u ∷ us) low =
-    All-cons IsScalar u us (ascii_is_scalar u (low 0 (omega arith) (omega arith))) (ascii_scalars us (λ k ge lt. low (suc k) (omega arith) (omega arith)))
+-- Eight units of ASCII.
 
 -- the eight units of sixteen bytes
 pub eight_units : (high : Bool) (w : List ℕ) → length w ≡ 16

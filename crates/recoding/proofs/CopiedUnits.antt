@@ -10,8 +10,8 @@ use Rattle.utf_base.proofs.Rests.{whole_code_shows_first}
 use Rattle.utf_base.proofs.Utf16Code.{utf16_is_code}
 use Rattle.recoding.specs.declared.form.Form.{Form}
 use Rattle.recoding.specs.declared.form.Form.TheVariants.{Utf8, Utf16Le, Utf16Be}
-use Rattle.recoding.specs.Recoded.{written}
 use Rattle.recoding.specs.Recodes.{differ}
+use Rattle.recoding.specs.Recoded.{written}
 use Rattle.utf_lanes.specs.BytePairs.{unit_of, units_of, bytes_of, swapped, turned}
 use Rattle.recoding.specs.ShownFronts.{IsUnits}
 use Rattle.utf_lanes.specs.UnitBlocks.{AreCodes}

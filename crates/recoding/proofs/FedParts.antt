@@ -1,7 +1,7 @@
 -- Parts that are fed one after another are one part.
 use Rattle.std.proofs.Common.{◌≡◌, ℕ, List, [], ◌++◌, refl, ap, sym, subst, ◌∙◌, append_assoc, arith}
 use Rattle.std.proofs.lemmas.List.{append-nil}
-use Rattle.recoding.specs.Recoded.{Recoding, IsRecoded, Grows, Feeds}
+use Rattle.recoding.specs.Recoded.{Recoding, IsRecoded, Grows, Feeds, fresh}
 use Rattle.recoding.specs.Fed.{NothingIsFed, PartIsFed, FedIsFront, FedIsRecoded, TwoPartsAreOne, TwoPartsAreRecoded}
 use Rattle.recoding.proofs.Growing.{recoded_once, Continues-none, Grows-append, Grows-trans}
 
@@ -31,7 +31,7 @@ nothing_is_fed from to = record {
 
 pub part_is_fed : PartIsFed
 part_is_fed from to bytes part more out new r s fed f e = record {
-  once = rw e (parts_join (record { from = from; to = to; held = [] }) r s bytes part [] out new fed.once f);
+  once = rw e (parts_join (fresh from to) r s bytes part [] out new fed.once f);
 }
 
 pub fed_is_front : FedIsFront
@@ -58,5 +58,5 @@ two_parts_are_one part next old mid new r s t f g = parts_join r s t part next o
 pub two_parts_are_recoded : TwoPartsAreRecoded
 two_parts_are_recoded from to part next old mid out new r s t is none f g last =
     let both = parts_join r s t part next old mid out f g in
-    let once : Feeds (record { from = from; to = to; held = [] }) (part ++ next) [] out t = subst (λ u. Feeds u (part ++ next) [] out t) is (subst (λ xs. Feeds r (part ++ next) xs out t) none both) in
+    let once : Feeds (fresh from to) (part ++ next) [] out t = subst (λ u. Feeds u (part ++ next) [] out t) is (subst (λ xs. Feeds r (part ++ next) xs out t) none both) in
     fed_is_recoded from to (part ++ next) (part ++ next) out new t (record { once = once }) last refl

@@ -23,7 +23,7 @@ use Rattle.recoding.specs.declared.faults.FaultKind.TheVariants as kind
 use Rattle.recoding.specs.declared.form.Form.{Form}
 use Rattle.recoding.specs.declared.form.Form.TheVariants.{Utf8, Utf16Le, Utf16Be}
 use Rattle.recoding.proofs.CopiedUnits.{as_written, same_pair}
-use Rattle.recoding.proofs.FrontBytes.{Decides-utf8_fault, first_unit, second_unit, units_two, units_next, lacks_byte, lacks_second}
+use Rattle.recoding.proofs.FrontBytes.{fault_is_some, not_empty, first_unit, second_unit, units_two, units_next, lacks_byte, lacks_second}
 
 -- UTF-8.
 
@@ -36,7 +36,7 @@ BeginsChar-utf8 w s n (h, e) =
 
 pub BeginsFault-utf8 : (w : List ℕ) (k : Utf8ErrorKind) → fault_kind w ≡ Some k → k ≢ TooFewBytes → BeginsFault Utf8 w (kind.Utf8 k) 1
 BeginsFault-utf8 w k e other = record {
-  within = (Decides-utf8_fault w k e other).within;
+  within = (let some = not_empty w k e other in omega arith);
   len = refl;
   kind = λ later. ap (option_map kind.Utf8) (kind_stays w later (λ few. other (same_kind k TooFewBytes (sym e ∙ few))) ∙ e);
 }
@@ -89,11 +89,6 @@ front_four (a ∷ []) h = absurd (omega arith)
 front_four (a ∷ b ∷ []) h = absurd (omega arith)
 front_four (a ∷ b ∷ c ∷ []) h = absurd (omega arith)
 front_four (a ∷ b ∷ c ∷ d ∷ w) h = refl
-
-pub fault_is_some : (from : Form) → 0 < fault_len from
-fault_is_some Utf8 = omega arith
-fault_is_some Utf16Le = omega arith
-fault_is_some Utf16Be = omega arith
 
 module _ (high : Bool) (from : Form) (w : List ℕ) (form : IsUnits high from) where
   units_undecided : length w ≤ 3 → unit_fault_kind (units_of high w) ≡ Some Incomplete → AwaitsKind from w

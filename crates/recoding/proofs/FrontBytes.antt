@@ -1,5 +1,6 @@
 -- What the front of some bytes shows, from the answer of a decoder.
 use Rattle.std.proofs.Common.{◌≡◌, ◌≢◌, ℕ, ◌+◌, take, ◌<◌, ◌≤◌, ⊎_elim, inl, inr, List, [], ◌∷◌, ◌++◌, length, get_or, drop, arith, refl, ap, sym, ◌∙◌, Some, None, Bool, true, false, not, if◌then◌else◌, lit<, length-drop, length-append}
+use Rattle.std.specs.Prelude.{min}
 use Rattle.std.proofs.lemmas.Grind.{common_steps}
 use Rattle.std.proofs.lemmas.Bool.{cases_lt}
 use Rattle.std.proofs.lemmas.List.{append-nil, take_all, drop_all}
@@ -7,7 +8,6 @@ use Rattle.utf_base.specs.declared.errors.Utf8ErrorKind.{Utf8ErrorKind}
 use Rattle.utf_base.specs.declared.errors.Utf8ErrorKind.TheVariants.{TooFewBytes}
 use Rattle.utf_base.specs.Scalar.{IsScalar}
 use Rattle.utf_base.specs.Code.{utf8, utf16}
-use Rattle.utf_base.specs.Front.{BeginsWith}
 use Rattle.utf_base.specs.Kinds.{fault_kind}
 use Rattle.utf_base.specs.Piece.{Stands}
 use Rattle.utf_base.specs.Shown.{Shows, IsDecided}
@@ -20,42 +20,67 @@ use Rattle.utf_base.specs.Units.{is_leading_surrogate, is_trailing_surrogate, tu
 use Rattle.utf_base.proofs.FrontLemmas.{no_code_where_fault}
 use Rattle.utf_base.proofs.KindCases.{begins_with-1, kind-empty}
 use Rattle.utf_base.proofs.LaterLemmas.{kind_stays, few_where_too_few, no_code_at_trailing, no_code_at_unmatched, no_code_at_last}
-use Rattle.utf_base.proofs.Rests.{code_shows_first, whole_code_shows_first, fault_shows_first, shows_none, shows_one}
-use Rattle.utf_base.proofs.Utf8Code.{utf8_is_code, utf8-4}
+use Rattle.utf_base.proofs.Rests.{fault_shows_first, shows_none, shows_one}
+use Rattle.utf_base.proofs.Utf8Code.{utf8_is_code}
 use Rattle.utf_base.proofs.Utf16Code.{utf16_is_code}
-use Rattle.recoding.specs.Recoded.{ShowsUnits, odd_end, Lacks}
+use Rattle.recoding.specs.Recoded.{Reads, ShowsUnits, odd_end, Lacks}
+use Rattle.recoding.specs.Faults.{fault_count}
 use Rattle.utf_lanes.specs.BytePairs.{units_of, unit_of}
-use Rattle.recoding.specs.ShownFronts.{Decides, Ends, Waits}
+use Rattle.recoding.specs.ShownFronts.{Decides, IsUnits, Settles, SettlesLast, Waits, fault_len}
+use Rattle.recoding.proofs.FaultCounts.{counts_more, fault_counts, units_count_more}
 use Rattle.recoding.proofs.CodeFronts.{front_of_nothing}
 
 pub replacement : IsScalar 0xFFFD
 replacement = record { below = lit< tt; no_surrogate = λ h. omega arith }
 
--- what shows whatever follows shows where nothing does
-pub Ends-from_decides : (reads : List ℕ → List ℕ → Type 0) (w : List ℕ) (s n : ℕ) → Decides reads w s n → Ends reads w s n
-Ends-from_decides reads w s n d = record {
-  some = d.some;
-  within = d.within;
-  scalar = d.scalar;
-  wide = d.wide;
-  first = λ ss r. rw (append-nil w) at (d.first [] ss (rw (append-nil (drop n w)) r));
-}
+pub fault_is_some : (from : Form) → 0 < fault_len from
+fault_is_some Utf8 = omega arith
+fault_is_some Utf16Le = omega arith
+fault_is_some Utf16Be = omega arith
+
+-- what is settled whatever follows is where nothing does
+pub SettlesLast-of : (from : Form) (w : List ℕ) (s n k : ℕ) → Settles from w s n k → SettlesLast from w s n k
+SettlesLast-of from w s n k settles =
+    let d = settles.decides in
+    record {
+      ends = record {
+        some = d.some;
+        within = d.within;
+        scalar = d.scalar;
+        wide = d.wide;
+        first = λ ss r. rw (append-nil w) at (d.first [] ss (rw (append-nil (drop n w)) r));
+      };
+      few = settles.few;
+      counts = rw (append-nil w, append-nil (drop n w)) at (settles.counts []);
+    }
+
+-- and so is a fault that nothing follows
+pub SettlesLast-waits : (from : Form) (w : List ℕ) (n : ℕ) → Waits from w → 0 < length w → n ≡ min (fault_len from) (length w) → SettlesLast from w 0xFFFD n 1
+SettlesLast-waits from w n waits some e =
+    let least = fault_is_some from in
+    let rest = fault_end from w n e in
+    record {
+      ends = record {
+        some = omega arith;
+        within = omega arith;
+        scalar = replacement;
+        wide = λ h. absurd (omega arith);
+        first = λ ss r. waits.last some ss (rw rest at r);
+      };
+      few = omega arith;
+      counts = rw rest (waits.counts some);
+    }
+  where
+    fault_end : (from : Form) (w : List ℕ) (n : ℕ) → n ≡ min (fault_len from) (length w) → drop n w ≡ drop (fault_len from) w
+    fault_end from w n e =
+        ⊎_elim
+        (λ (lt : length w < fault_len from). drop_all n w (omega arith) ∙ sym (drop_all (fault_len from) w (omega arith)))
+        (λ (ge : fault_len from ≤ length w). let same : n ≡ fault_len from = omega arith in ap (λ k. drop k w) same)
+        (cases_lt (length w) (fault_len from))
 
 -- UTF-8.
 
-pub Decides-utf8_char : (w : List ℕ) (s n : ℕ) → BeginsWith utf8 w s n → Decides (Shows utf8) w s n
-Decides-utf8_char w s n (h, e) =
-    let some = utf8_is_code.some s h.scalar in
-    let within = h.within in
-    record {
-      some = omega arith;
-      within = omega arith;
-      scalar = h.scalar;
-      wide = λ high. let len : length (utf8 s) ≡ 4 = ap length (utf8-4 s high) in omega arith;
-      first = λ later ss r. code_shows_first utf8 utf8_is_code w s later ss h (rw e at r);
-    }
-
-not_empty : (w : List ℕ) (k : Utf8ErrorKind) → fault_kind w ≡ Some k → k ≢ TooFewBytes → 0 < length w
+pub not_empty : (w : List ℕ) (k : Utf8ErrorKind) → fault_kind w ≡ Some k → k ≢ TooFewBytes → 0 < length w
 not_empty w k e other =
     ⊎_elim
     (λ (some : 0 < length w). some)
@@ -65,18 +90,25 @@ not_empty w k e other =
     same_kind : (a b : Utf8ErrorKind) → Some a ≡ Some b → a ≡ b
     same_kind a b e = cc
 
-pub Decides-utf8_fault : (w : List ℕ) (k : Utf8ErrorKind) → fault_kind w ≡ Some k → k ≢ TooFewBytes → Decides (Shows utf8) w 0xFFFD 1
-Decides-utf8_fault w k e other =
-    let some = not_empty w k e other in
+-- a first byte that begins no code, whatever follows
+fault_of_byte : (w : List ℕ) → 0 < length w → ((later : List ℕ) (s : ℕ) → Stands utf8 (w ++ later) 0 s → ⊥) → Settles Utf8 w 0xFFFD 1 1
+fault_of_byte w some none = record {
+  decides = record {
+    some = omega arith;
+    within = omega arith;
+    scalar = replacement;
+    wide = λ high. absurd (omega arith);
+    first = λ later ss r. fault_shows_first utf8 utf8_is_code w later ss some (none later) r;
+  };
+  few = omega arith;
+  counts = λ later. counts_more (w ++ later) (drop 1 w ++ later) 1 (λ m r. fault_counts utf8 utf8_is_code w later m some (none later) r);
+}
+
+pub Settles-utf8_fault : (w : List ℕ) (k : Utf8ErrorKind) → fault_kind w ≡ Some k → k ≢ TooFewBytes → Settles Utf8 w 0xFFFD 1 1
+Settles-utf8_fault w k e other =
     let stays : (later : List ℕ) → fault_kind (w ++ later) ≡ Some k
     = λ later. kind_stays w later (λ few. other (same_kind k TooFewBytes (sym e ∙ few))) ∙ e in
-    record {
-      some = omega arith;
-      within = omega arith;
-      scalar = replacement;
-      wide = λ high. absurd (omega arith);
-      first = λ later ss r. fault_shows_first utf8 utf8_is_code w later ss some (λ s h. no_code_where_fault (w ++ later) k s (stays later) h) r;
-    }
+    fault_of_byte w (not_empty w k e other) (λ later s h. no_code_where_fault (w ++ later) k s (stays later) h)
   where
     same_kind : (a b : Utf8ErrorKind) → Some a ≡ Some b → a ≡ b
     same_kind a b e = cc
@@ -90,25 +122,19 @@ some_where_decided [] d = absurd (nothing_is_undecided d)
 some_where_decided (a ∷ w) d = omega arith
 
 -- too few bytes with which no code begins, whatever follows
-pub Decides-utf8_few : (w : List ℕ) → fault_kind w ≡ Some TooFewBytes → IsDecided utf8 w → Decides (Shows utf8) w 0xFFFD 1
-Decides-utf8_few w e (inl (s, h)) = absurd (no_code_where_fault w TooFewBytes s e h)
-Decides-utf8_few w e (inr none) =
-    let some = some_where_decided w (inr none) in
-    record {
-      some = omega arith;
-      within = omega arith;
-      scalar = replacement;
-      wide = λ high. absurd (omega arith);
-      first = λ later ss r. fault_shows_first utf8 utf8_is_code w later ss some (λ s h. none later s h) r;
-    }
+pub Settles-utf8_few : (w : List ℕ) → fault_kind w ≡ Some TooFewBytes → IsDecided utf8 w → Settles Utf8 w 0xFFFD 1 1
+Settles-utf8_few w e (inl (s, h)) = absurd (no_code_where_fault w TooFewBytes s e h)
+Settles-utf8_few w e (inr none) = fault_of_byte w (some_where_decided w (inr none)) none
 
-pub Waits-utf8 : (w : List ℕ) → fault_kind w ≡ Some TooFewBytes → Waits (Shows utf8) 1 w
-Waits-utf8 w e = record {
-  few = few_where_too_few w e;
-  last = λ some ss r.
-      let none : (s : ℕ) → Stands utf8 (w ++ []) 0 s → ⊥ = λ s h. no_code_where_fault w TooFewBytes s e (rw (append-nil w) at h) in
-      rw (append-nil w) at (fault_shows_first utf8 utf8_is_code w [] ss some none (rw (append-nil (drop 1 w)) r));
-}
+pub Waits-utf8 : (w : List ℕ) → fault_kind w ≡ Some TooFewBytes → Waits Utf8 w
+Waits-utf8 w e =
+    let none : (s : ℕ) → Stands utf8 (w ++ []) 0 s → ⊥ = λ s h. no_code_where_fault w TooFewBytes s e (rw (append-nil w) at h) in
+    record {
+      few = few_where_too_few w e;
+      last = λ some ss r. rw (append-nil w) at (fault_shows_first utf8 utf8_is_code w [] ss some none (rw (append-nil (drop 1 w)) r));
+      counts = λ some.
+          rw (append-nil w, append-nil (drop 1 w)) at (counts_more (w ++ []) (drop 1 w ++ []) 1 (λ m r. fault_counts utf8 utf8_is_code w [] m some none r));
+    }
 
 -- UTF-16: bytes, two by two.
 
@@ -129,13 +155,6 @@ odd_two [] later h = absurd (omega arith)
 odd_two (a ∷ []) later h = absurd (omega arith)
 odd_two (a ∷ b ∷ w) later h = refl
 
-odd_four : (w later : List ℕ) → 4 ≤ length w → odd_end (w ++ later) ≡ odd_end (drop 4 w ++ later)
-odd_four [] later h = absurd (omega arith)
-odd_four (a ∷ []) later h = absurd (omega arith)
-odd_four (a ∷ b ∷ []) later h = absurd (omega arith)
-odd_four (a ∷ b ∷ c ∷ []) later h = absurd (omega arith)
-odd_four (a ∷ b ∷ c ∷ d ∷ w) later h = refl
-
 -- the first two bytes of some
 abbrev pub first_unit : Bool → List ℕ → ℕ
 first_unit high w = unit_of high (get_or w 0 0) (get_or w 1 0)
@@ -144,43 +163,44 @@ first_unit high w = unit_of high (get_or w 0 0) (get_or w 1 0)
 abbrev pub second_unit : Bool → List ℕ → ℕ
 second_unit high w = unit_of high (get_or w 2 0) (get_or w 3 0)
 
--- what the units show is what the bytes do, where half a unit at the end stays
-decides_units : (high : Bool) (w : List ℕ) (s n : ℕ) → 2 ≤ n → n ≤ length w → IsScalar s → ((later : List ℕ) → odd_end (w ++ later) ≡ odd_end (drop n w ++ later))
-    → ((later ts : List ℕ) → Shows utf16 (units_of high (drop n w ++ later)) ts → Shows utf16 (units_of high (w ++ later)) (s ∷ ts)) → Decides (ShowsUnits high) w s n
-decides_units high w s n two within scalar odd shows = record {
+-- a unit that begins no code, whatever follows the bytes
+fault_shows_units : (high : Bool) (w : List ℕ) → 2 ≤ length w → ((later : List ℕ) (s : ℕ) → Stands utf16 (first_unit high w ∷ units_of high (drop 2 w ++ later)) 0 s → ⊥)
+    → Decides (ShowsUnits high) w 0xFFFD 2
+fault_shows_units high w two none = record {
   some = omega arith;
-  within = within;
-  scalar = scalar;
-  wide = λ h. two;
-  first = λ later ss (ts, r, f). (s ∷ ts, shows later ts r, ap (λ xs. s ∷ xs) (f ∙ ap (λ o. ts ++ o) (sym (odd later))));
+  within = two;
+  scalar = replacement;
+  wide = λ h. omega arith;
+  first = λ later ss (ts, r, f). (
+    0xFFFD ∷ ts,
+    rw (units_two high w later two) (fault_shows_first utf16 utf16_is_code (first_unit high w ∷ []) (units_of high (drop 2 w ++ later)) ts (lit< tt) (none later) r),
+    ap (λ xs. 0xFFFD ∷ xs) (f ∙ ap (λ o. ts ++ o) (sym (odd_two w later two))),
+  );
 }
 
-pub Decides-unit : (high : Bool) (w : List ℕ) (s : ℕ) → 2 ≤ length w → IsScalar s → first_unit high w ∷ [] ≡ utf16 s → Decides (ShowsUnits high) w s 2
-Decides-unit high w s two scalar e =
-    decides_units high w s 2 (lit< tt) two scalar (λ later. odd_two w later two)
-    (λ later ts r. rw (units_two high w later two) (whole_code_shows_first utf16 utf16_is_code (first_unit high w ∷ []) (units_of high (drop 2 w ++ later)) s ts scalar e r))
+as_form : (high : Bool) (from : Form) (w : List ℕ) (s n : ℕ) → IsUnits high from → Decides (ShowsUnits high) w s n → Decides (Reads from) w s n
+as_form high Utf8 w s n form d = absurd form
+as_form high Utf16Le w s n form d = rw form at d
+as_form high Utf16Be w s n form d = rw form at d
 
-pub Decides-pair : (high : Bool) (w : List ℕ) (s : ℕ) → 4 ≤ length w → IsScalar s → first_unit high w ∷ second_unit high w ∷ [] ≡ utf16 s → Decides (ShowsUnits high) w s 4
-Decides-pair high w s four scalar e =
-    decides_units high w s 4 (lit< tt) four scalar (λ later. odd_four w later four)
-    (λ later ts r. rw (units_two high w later (omega arith), units_next high w later four)
-    (whole_code_shows_first utf16 utf16_is_code (first_unit high w ∷ second_unit high w ∷ []) (units_of high (drop 4 w ++ later)) s ts scalar e r))
+fault_of_unit : (high : Bool) (from : Form) (w : List ℕ) → IsUnits high from → 2 ≤ length w
+    → ((later : List ℕ) (s : ℕ) → Stands utf16 (first_unit high w ∷ units_of high (drop 2 w ++ later)) 0 s → ⊥) → Settles from w 0xFFFD 2 1
+fault_of_unit high from w form two none = record {
+  decides = as_form high from w 0xFFFD 2 form (fault_shows_units high w two none);
+  few = omega arith;
+  counts = λ later.
+      units_count_more high from (w ++ later) (drop 2 w ++ later) 1 0 form
+      (λ m r. rw (units_two high w later two) (fault_counts utf16 utf16_is_code (first_unit high w ∷ []) (units_of high (drop 2 w ++ later)) m (lit< tt) (none later) r))
+      (ap length (odd_two w later two) ∙ omega arith);
+}
 
--- a unit that begins no code, whatever follows the bytes
-fault_of_unit : (high : Bool) (w : List ℕ) → 2 ≤ length w
-    → ((later : List ℕ) (s : ℕ) → Stands utf16 (first_unit high w ∷ units_of high (drop 2 w ++ later)) 0 s → ⊥) → Decides (ShowsUnits high) w 0xFFFD 2
-fault_of_unit high w two none =
-    decides_units high w 0xFFFD 2 (lit< tt) two replacement (λ later. odd_two w later two)
-    (λ later ts r. rw (units_two high w later two)
-    (fault_shows_first utf16 utf16_is_code (first_unit high w ∷ []) (units_of high (drop 2 w ++ later)) ts (lit< tt) (none later) r))
+pub Settles-trailing : (high : Bool) (from : Form) (w : List ℕ) → IsUnits high from → 2 ≤ length w → is_trailing_surrogate (first_unit high w) ≡ true → Settles from w 0xFFFD 2 1
+Settles-trailing high from w form two t = fault_of_unit high from w form two (λ later s h. no_code_at_trailing (first_unit high w) (units_of high (drop 2 w ++ later)) s t h)
 
-pub Decides-trailing : (high : Bool) (w : List ℕ) → 2 ≤ length w → is_trailing_surrogate (first_unit high w) ≡ true → Decides (ShowsUnits high) w 0xFFFD 2
-Decides-trailing high w two t = fault_of_unit high w two (λ later s h. no_code_at_trailing (first_unit high w) (units_of high (drop 2 w ++ later)) s t h)
-
-pub Decides-unmatched : (high : Bool) (w : List ℕ) → 4 ≤ length w → is_leading_surrogate (first_unit high w) ≡ true → is_trailing_surrogate (second_unit high w) ≡ false
-    → Decides (ShowsUnits high) w 0xFFFD 2
-Decides-unmatched high w four l t =
-    fault_of_unit high w (omega arith)
+pub Settles-unmatched : (high : Bool) (from : Form) (w : List ℕ) → IsUnits high from → 4 ≤ length w → is_leading_surrogate (first_unit high w) ≡ true
+    → is_trailing_surrogate (second_unit high w) ≡ false → Settles from w 0xFFFD 2 1
+Settles-unmatched high from w form four l t =
+    fault_of_unit high from w form (omega arith)
     (λ later s h. no_code_at_unmatched (first_unit high w) (second_unit high w) (units_of high (drop 4 w ++ later)) s l t (rw (units_next high w later four) at h))
 
 -- fewer than two bytes
@@ -192,31 +212,61 @@ few_units high (a ∷ b ∷ w) h = absurd (omega arith)
 shows_nothing : (ts : List ℕ) → Shows utf16 [] ts → ts ≡ []
 shows_nothing ts h = shows_one utf16 utf16_is_code [] ts [] h (shows_none utf16)
 
-pub Waits-byte : (high : Bool) (w : List ℕ) → length w < 2 → Waits (ShowsUnits high) 2 w
-Waits-byte high [] h = record { few = omega arith; last = λ some ss r. absurd (omega arith) }
-Waits-byte high (a ∷ []) h = record {
-  few = omega arith;
-  last = λ some ss (ts, r, f).
-      let none = shows_nothing ts r in
-      ([], shows_none utf16, ap (λ xs. 0xFFFD ∷ xs) (f ∙ append-nil ts ∙ none));
-}
-Waits-byte high (a ∷ b ∷ w) h = absurd (omega arith)
+-- half a unit is a fault
+pub byte_shows : (high : Bool) (w : List ℕ) → length w < 2 → 0 < length w → (ss : List ℕ) → ShowsUnits high (drop 2 w) ss → ShowsUnits high w (0xFFFD ∷ ss)
+byte_shows high [] h some ss r = absurd (omega arith)
+byte_shows high (a ∷ []) h some ss (ts, r, f) =
+    let none = shows_nothing ts r in
+    ([], shows_none utf16, ap (λ xs. 0xFFFD ∷ xs) (f ∙ append-nil ts ∙ none))
+byte_shows high (a ∷ b ∷ w) h some ss r = absurd (omega arith)
+
+byte_counts : (high : Bool) (from : Form) (w : List ℕ) → IsUnits high from → length w < 2 → 0 < length w → fault_count from w ≡ 1 + fault_count from (drop 2 w)
+byte_counts high from [] form h some = absurd (omega arith)
+byte_counts high from (a ∷ []) form h some = units_count_more high from (a ∷ []) [] 0 1 form (λ m r. let none : 0 + m ≡ m = omega arith in rw none r) refl
+byte_counts high from (a ∷ b ∷ w) form h some = absurd (omega arith)
 
 -- a leading surrogate, and at most one byte after it
-pub Waits-leading : (high : Bool) (w : List ℕ) → 2 ≤ length w → length w < 4 → is_leading_surrogate (first_unit high w) ≡ true → Waits (ShowsUnits high) 2 w
-Waits-leading high w two few l = record {
-  few = omega arith;
-  last = λ some ss (ts, r, f).
-      let units : units_of high w ≡ first_unit high w ∷ units_of high (drop 2 w) = rw (append-nil w, append-nil (drop 2 w)) at (units_two high w [] two) in
-      let rest : units_of high (drop 2 w) ≡ [] = few_units high (drop 2 w) (omega (arith, length-drop 2 w)) in
-      let odd : odd_end w ≡ odd_end (drop 2 w) = rw (append-nil w, append-nil (drop 2 w)) at (odd_two w [] two) in
-      let none : (s : ℕ) → Stands utf16 ((first_unit high w ∷ []) ++ units_of high (drop 2 w)) 0 s → ⊥
-      = λ s h. no_code_at_last (first_unit high w) s l (rw rest at h) in (
-        0xFFFD ∷ ts,
-        rw units (fault_shows_first utf16 utf16_is_code (first_unit high w ∷ []) (units_of high (drop 2 w)) ts (lit< tt) none r),
-        ap (λ xs. 0xFFFD ∷ xs) (f ∙ ap (λ o. ts ++ o) (sym odd)),
-      );
-}
+record IsLast (high : Bool) (w : List ℕ) : Type 0 where
+  pub units : units_of high w ≡ first_unit high w ∷ units_of high (drop 2 w)
+  pub odd : odd_end w ≡ odd_end (drop 2 w)
+  pub none : (s : ℕ) → Stands utf16 ((first_unit high w ∷ []) ++ units_of high (drop 2 w)) 0 s → ⊥
+
+leading_is_last : (high : Bool) (w : List ℕ) → 2 ≤ length w → length w < 4 → is_leading_surrogate (first_unit high w) ≡ true → IsLast high w
+leading_is_last high w two few l =
+    let rest : units_of high (drop 2 w) ≡ [] = few_units high (drop 2 w) (omega (arith, length-drop 2 w)) in
+    record {
+      units = rw (append-nil w, append-nil (drop 2 w)) at (units_two high w [] two);
+      odd = rw (append-nil w, append-nil (drop 2 w)) at (odd_two w [] two);
+      none = λ s h. no_code_at_last (first_unit high w) s l (rw rest at h);
+    }
+
+pub leading_shows : (high : Bool) (w : List ℕ) → 2 ≤ length w → length w < 4 → is_leading_surrogate (first_unit high w) ≡ true → (ss : List ℕ)
+    → ShowsUnits high (drop 2 w) ss → ShowsUnits high w (0xFFFD ∷ ss)
+leading_shows high w two few l ss (ts, r, f) =
+    let last = leading_is_last high w two few l in (
+      0xFFFD ∷ ts,
+      rw last.units (fault_shows_first utf16 utf16_is_code (first_unit high w ∷ []) (units_of high (drop 2 w)) ts (lit< tt) last.none r),
+      ap (λ xs. 0xFFFD ∷ xs) (f ∙ ap (λ o. ts ++ o) (sym last.odd)),
+    )
+
+leading_counts : (high : Bool) (from : Form) (w : List ℕ) → IsUnits high from → 2 ≤ length w → length w < 4 → is_leading_surrogate (first_unit high w) ≡ true
+    → fault_count from w ≡ 1 + fault_count from (drop 2 w)
+leading_counts high from w form two few l =
+    let last = leading_is_last high w two few l in
+    units_count_more high from w (drop 2 w) 1 0 form
+    (λ m r. rw last.units (fault_counts utf16 utf16_is_code (first_unit high w ∷ []) (units_of high (drop 2 w)) m (lit< tt) last.none r)) (ap length last.odd ∙ omega arith)
+
+waits_of : (high : Bool) (from : Form) (w : List ℕ) → IsUnits high from → length w ≤ 3 → (0 < length w → (ss : List ℕ) → ShowsUnits high (drop 2 w) ss → ShowsUnits high w (0xFFFD ∷ ss))
+    → (0 < length w → fault_count from w ≡ 1 + fault_count from (drop 2 w)) → Waits from w
+waits_of high Utf8 w form few shows counts = absurd form
+waits_of high Utf16Le w form few shows counts = record { few = few; last = rw form at shows; counts = counts }
+waits_of high Utf16Be w form few shows counts = record { few = few; last = rw form at shows; counts = counts }
+
+pub Waits-byte : (high : Bool) (from : Form) (w : List ℕ) → IsUnits high from → length w < 2 → Waits from w
+Waits-byte high from w form h = waits_of high from w form (omega arith) (byte_shows high w h) (byte_counts high from w form h)
+
+pub Waits-leading : (high : Bool) (from : Form) (w : List ℕ) → IsUnits high from → 2 ≤ length w → length w < 4 → is_leading_surrogate (first_unit high w) ≡ true → Waits from w
+Waits-leading high from w form two few l = waits_of high from w form (omega arith) (λ some. leading_shows high w two few l) (λ some. leading_counts high from w form two few l)
 
 -- Such bytes lack elements.
 
@@ -238,6 +288,17 @@ lacks_second high w two few l =
     let units : units_of high w ≡ first_unit high w ∷ units_of high (drop 2 w) = rw (append-nil w, append-nil (drop 2 w)) at (units_two high w [] two) in
     let rest : units_of high (drop 2 w) ≡ [] = few_units high (drop 2 w) (omega (arith, length-drop 2 w)) in
     rw (units, rest) (alone (first_unit high w) l)
+
+lacks_of : (high : Bool) (from : Form) (w : List ℕ) → IsUnits high from → unit_fault_kind (units_of high w) ≡ Some Incomplete → Lacks from w
+lacks_of high Utf8 w form h = absurd form
+lacks_of high Utf16Le w form h = rw form at h
+lacks_of high Utf16Be w form h = rw form at h
+
+pub Lacks-byte : (high : Bool) (from : Form) (w : List ℕ) → IsUnits high from → length w < 2 → Lacks from w
+Lacks-byte high from w form few = lacks_of high from w form (lacks_byte high w few)
+
+pub Lacks-second : (high : Bool) (from : Form) (w : List ℕ) → IsUnits high from → 2 ≤ length w → length w < 4 → is_leading_surrogate (first_unit high w) ≡ true → Lacks from w
+Lacks-second high from w form two few l = lacks_of high from w form (lacks_second high w two few l)
 
 -- and so does nothing at all
 pub lacks_all : (from : Form) → Lacks from []

@@ -1,11 +1,8 @@
 -- An output that grows by what bytes are recoded as, step by step.
-use Rattle.std.proofs.Common.{◌≡◌, ℕ, ◌+◌, ◌-◌, ◌*◌, ◌<◌, ◌≤◌, ⊎_elim, Bool, true, false, List, [], ◌∷◌, ◌++◌, length, take, drop, flat_map, arith, refl, ap, ap₂, sym, take-append-drop, ◌∙◌, append_assoc, length-drop}
+use Rattle.std.proofs.Common.{◌≡◌, ℕ, ◌+◌, ◌-◌, ◌*◌, ◌<◌, ◌≤◌, ⊎_elim, Bool, true, false, List, [], ◌∷◌, ◌++◌, length, take, drop, flat_map, arith, refl, ap, sym, ◌∙◌, append_assoc, length-append, length-drop}
 use Rattle.std.proofs.lemmas.Grind.{common_steps}
 use Rattle.std.proofs.lemmas.Bool.{cases_lt}
-use Rattle.std.specs.Str.{IsUtf8}
-use Rattle.std.proofs.lemmas.List.Concat.{flat_map-append}
-use Rattle.utf_base.proofs.ShownTexts.{text_shows_first}
-use Rattle.std.proofs.lemmas.List.{append-nil, drop-drop, drop_at, drop_all, drop-append-le}
+use Rattle.std.proofs.lemmas.List.{append-nil, drop-drop, drop_at, drop_all, drop-append-le, take_all}
 use Rattle.utf_base.specs.Code.{utf8, utf16}
 use Rattle.utf_base.proofs.FrontLemmas.{utf8_finds}
 use Rattle.utf_base.proofs.UnitLemmas.{utf16_finds}
@@ -14,9 +11,9 @@ use Rattle.utf_base.proofs.Utf8Code.{utf8_is_code, length_utf8}
 use Rattle.utf_base.proofs.Utf16Code.{utf16_is_code, utf16-1, utf16-2}
 use Rattle.recoding.specs.declared.form.Form.{Form}
 use Rattle.recoding.specs.declared.form.Form.TheVariants.{Utf8, Utf16Le, Utf16Be}
-use Rattle.recoding.specs.Recoded.{Reads, ShowsUnits, odd_end, written, IsRecoded, Continues, RecodedOnce, Recoding, Grows, Feeds, Finishes}
+use Rattle.recoding.specs.Recoded.{Reads, ShowsUnits, odd_end, written, IsRecoded, Continues, RecodedOnce, Recoding, Grows, Feeds, Finishes, fresh}
 use Rattle.utf_lanes.specs.BytePairs.{units_of, bytes_of}
-use Rattle.recoding.specs.ShownFronts.{Decides, Ends, ShowsEach}
+use Rattle.recoding.specs.ShownFronts.{Decides, Ends}
 
 -- Bytes show one list.
 
@@ -73,10 +70,6 @@ Continues-trans from to a g b k c h i later rest r = rw (append_assoc g k rest) 
 pub Continues-append : (from to : Form) (a g b x : List ℕ) → Continues from to a g b → Continues from to (a ++ x) g (b ++ x)
 Continues-append from to a g b x h later rest r = rw (append_assoc a x later) (h (x ++ later) rest (rw (append_assoc b x later) at r))
 
--- one code
-pub Grows-code : (from to : Form) (w old new : List ℕ) (s n : ℕ) → Decides (Reads from) w s n → new ≡ old ++ written to s → Grows from to w old new (drop n w)
-Grows-code from to w old new s n d e = record { grown = written to s; appended = e; continues = Continues-step from to w [] w s n (Continues-none from to w) d }
-
 pub Grows-none : (from to : Form) (bytes old : List ℕ) → Grows from to bytes old old bytes
 Grows-none from to bytes old = record { grown = []; appended = sym (append-nil old); continues = Continues-none from to bytes }
 
@@ -87,19 +80,10 @@ Grows-trans from to a b c old mid new g h = record {
   continues = Continues-trans from to a g.grown b h.grown c g.continues h.continues;
 }
 
--- a run over the bytes that another left
-pub Grows-next : (from to : Form) (bytes old mid new : List ℕ) (p n : ℕ) → Grows from to bytes old mid (drop p bytes) → Grows from to (drop p bytes) mid new (drop n (drop p bytes))
-    → Grows from to bytes old new (drop (p + n) bytes)
-Grows-next from to bytes old mid new p n g h = rw (drop-drop n p bytes) at (Grows-trans from to bytes (drop p bytes) (drop n (drop p bytes)) old mid new g h)
-
 pub Grows-append : (from to : Form) (a b x old new : List ℕ) → Grows from to a old new b → Grows from to (a ++ x) old new (b ++ x)
 Grows-append from to a b x old new g = record { grown = g.grown; appended = g.appended; continues = Continues-append from to a g.grown b x g.continues }
 
--- the same with more bytes after them
-pub Grows-more : (from to : Form) (w x old new : List ℕ) (p : ℕ) → p ≤ length w → Grows from to w old new (drop p w) → Grows from to (w ++ x) old new (drop p (w ++ x))
-Grows-more from to w x old new p le g = rw (drop-append-le p w x le) (Grows-append from to w (drop p w) x old new g)
-
-drop_past : (xs ys : List ℕ) (p : ℕ) → length xs ≤ p → drop p (xs ++ ys) ≡ drop (p - length xs) ys
+pub drop_past : (xs ys : List ℕ) (p : ℕ) → length xs ≤ p → drop p (xs ++ ys) ≡ drop (p - length xs) ys
 drop_past xs ys p le =
     let e : p ≡ length xs + (p - length xs) = omega arith in
     ap (λ k. drop k (xs ++ ys)) e ∙ sym (drop-drop (p - length xs) (length xs) (xs ++ ys)) ∙ ap (drop (p - length xs)) (drop_at xs ys (length xs) refl)
@@ -109,49 +93,40 @@ pub few_left : (rest : List ℕ) (q : ℕ) → (q < length rest → length rest 
 few_left rest q waits =
     ⊎_elim (λ (lt : q < length rest). let le = waits lt in omega (arith, length-drop q rest)) (λ (ge : length rest ≤ q). omega (arith, length-drop q rest)) (cases_lt q (length rest))
 
+-- a recoder that has counted so many faults, and then holds other bytes
+pub held_after : (r s t : Recoding) (held : List ℕ) (n : ℕ) → s ≡ record r { replaced = n } → t ≡ record s { held = held } → t ≡ record r { held = held; replaced = n }
+held_after r s t held n e f = f ∙ ap (λ (x : Recoding). record x { held = held }) e
+
+-- or the same
+pub held_still : (r s : Recoding) (held : List ℕ) (n : ℕ) → s ≡ record r { replaced = n } → r.held ≡ held → s ≡ record r { held = held; replaced = n }
+held_still r s held n e f = e ∙ ap (λ xs. record r { held = xs; replaced = n }) f
+
+pub Feeds-of : (r s : Recoding) (from to : Form) (part bytes held old new : List ℕ) {n : ℕ} → from ≡ r.from → to ≡ r.to → bytes ≡ r.held ++ part → Grows from to bytes old new held → length held ≤ 3
+    → s ≡ record r { held = held; replaced = n } → Feeds r part old new s
+Feeds-of r s from to part bytes held old new e f b g few k = rw k (record { grows = rw (e, f, b) at g; from = refl; to = refl; few = few })
+
+-- a part and what was held before it are few
+pub few_joined : (held part joined : List ℕ) (p : ℕ) → joined ≡ drop p held ++ take 3 part → p < length held → length (held ++ part) ≤ p + 3 → joined ≡ drop p (held ++ part)
+few_joined held part joined p e lt few =
+    let short : length part ≤ 3 = omega (arith, length-append held part) in
+    e ∙ ap (λ xs. drop p held ++ xs) (take_all 3 part short) ∙ sym (drop-append-le p held part (omega arith))
+
 -- the held bytes are gone, and so are the first of the next part
-pub Feeds-whole : (r s : Recoding) (from to : Form) (held part rest old mid new : List ℕ) (p q : ℕ) → from ≡ r.from → to ≡ r.to → held ≡ r.held
+pub Feeds-whole : (r s : Recoding) (from to : Form) (held part rest old mid new : List ℕ) (p q : ℕ) {n : ℕ} → from ≡ r.from → to ≡ r.to → held ≡ r.held
     → Grows from to (held ++ part) old mid (drop p (held ++ part)) → length held ≤ p
     → rest ≡ drop (p - length held) part → Grows from to rest mid new (drop q rest)
-    → length (drop q rest) ≤ 3 → s ≡ record { from = r.from; to = r.to; held = drop q rest } → Feeds r part old new s
+    → length (drop q rest) ≤ 3 → s ≡ record r { held = drop q rest; replaced = n } → Feeds r part old new s
 Feeds-whole r s from to held part rest old mid new p q e f i g le j h few k =
     let first : Grows from to (held ++ part) old mid rest = rw (drop_past held part p le ∙ sym j) at g in
     let whole : Grows from to (held ++ part) old new (drop q rest) = Grows-trans from to (held ++ part) rest (drop q rest) old mid new first h in
-    rw k (record { grows = rw (e, f, i) at whole; from = refl; to = refl; few = few })
+    Feeds-of r s from to part (held ++ part) (drop q rest) old new e f (ap (λ xs. xs ++ part) i) whole few k
 
 -- where nothing is held, the part is all that there is
-pub Feeds-alone : (r s : Recoding) (from to : Form) (part old new : List ℕ) (q : ℕ) → from ≡ r.from → to ≡ r.to → length r.held ≡ 0 → Grows from to part old new (drop q part)
-    → length (drop q part) ≤ 3 → s ≡ record { from = r.from; to = r.to; held = drop q part } → Feeds r part old new s
+pub Feeds-alone : (r s : Recoding) (from to : Form) (part old new : List ℕ) (q : ℕ) {n : ℕ} → from ≡ r.from → to ≡ r.to → length r.held ≡ 0 → Grows from to part old new (drop q part)
+    → length (drop q part) ≤ 3 → s ≡ record r { held = drop q part; replaced = n } → Feeds r part old new s
 Feeds-alone r s from to part old new q e f none g few k =
     let nothing : r.held ≡ [] = drop_all 0 r.held (omega arith) in
-    let alone : r.held ++ part ≡ part = ap (λ xs. xs ++ part) nothing in
-    let whole : Grows from to (r.held ++ part) old new (drop q part) = rw alone g in
-    rw k (record { grows = rw (e, f) at whole; from = refl; to = refl; few = few })
-
-all_of : (w : List ℕ) (n : ℕ) (later : List ℕ) → take n w ++ (drop n w ++ later) ≡ w ++ later
-all_of w n later = sym (append_assoc (take n w) (drop n w) later) ∙ ap (λ xs. xs ++ later) (take-append-drop n w)
-
--- Bytes that show several scalars.
-pub Grows-each : (from to : Form) (w old new ts : List ℕ) (n : ℕ) → ShowsEach (Reads from) (take n w) ts → new ≡ old ++ flat_map (written to) ts → Grows from to w old new (drop n w)
-Grows-each from to w old new ts n shows e = record {
-  grown = flat_map (written to) ts;
-  appended = e;
-  continues = λ later rest (ss, r, f). (
-    ts ++ ss,
-    rw (all_of w n later) at (shows (drop n w ++ later) ss r),
-    ap (λ xs. flat_map (written to) ts ++ xs) f ∙ sym (flat_map-append (written to) ts ss),
-  );
-}
-
--- Text in UTF-8 stays as it is.
-pub Grows-text : (w old new : List ℕ) (n : ℕ) → IsUtf8 (take n w) → new ≡ old ++ take n w → Grows Utf8 Utf8 w old new (drop n w)
-Grows-text w old new n text e = record {
-  grown = take n w;
-  appended = e;
-  continues = λ later rest (ss, r, f).
-      let first = text_shows_first (take n w) (drop n w ++ later) ss text r in
-      (first.0 ++ ss, rw (all_of w n later) at first.1, ap₂ (λ xs ys. xs ++ ys) (sym first.2) f ∙ sym (flat_map-append utf8 first.0 ss));
-}
+    Feeds-of r s from to part part (drop q part) old new e f (ap (λ xs. xs ++ part) (sym nothing)) g few k
 
 -- Where nothing follows: what is recoded of the bytes is `grown`, and then what the held ones are recoded as.
 pub record Remains (from to : Form) (bytes old new held : List ℕ) : Type 0 where
@@ -169,7 +144,7 @@ Remains-step from to bytes old mid new p s n g d e = record {
       (g.continues (written to s ++ rest) (s ∷ ss, d.first ss (rw (drop-drop n p bytes) r), ap (λ x. written to s ++ x) f));
 }
 
-pub Remains-all : (from to : Form) (bytes old new : List ℕ) → Remains from to bytes old new [] → Finishes (record { from = from; to = to; held = bytes }) old new
+pub Remains-all : (from to : Form) (bytes old new : List ℕ) → Remains from to bytes old new [] → Finishes (record (fresh from to) { held = bytes }) old new
 Remains-all from to bytes old new g = record {
   grown = g.grown;
   appended = g.appended;

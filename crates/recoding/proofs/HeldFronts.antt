@@ -17,7 +17,7 @@ use Rattle.recoding.specs.declared.form.Form.{Form}
 use Rattle.recoding.specs.declared.form.Form.TheVariants.{Utf8, Utf16Le, Utf16Be}
 use Rattle.recoding.specs.Recoded.{IsProperFront, Lacks, Reads, ShowsUnits, odd_end, written}
 use Rattle.recoding.specs.Undecided.{AreBytes, FrontsAreUndecided, LackingTextIsUndecided, LackingUnitsAreUndecided, LackingUnitIsUndecided}
-use Rattle.recoding.proofs.FrontBytes.{Waits-byte, Waits-leading, first_unit}
+use Rattle.recoding.proofs.FrontBytes.{byte_shows, leading_shows, first_unit}
 use Rattle.recoding.proofs.Growing.{reads_some, units_some}
 
 -- A whole code shows its scalar.
@@ -106,8 +106,8 @@ units_alone : (high : Bool) (w : List ℕ) → 0 < length w → (t : ℕ) → Is
 units_alone high w some t scalar longer front =
     let rest = units_some high (drop 2 w) in
     ⊎_elim
-    (λ (one : length w < 2). (rest.0, (Waits-byte high w one).last some rest.0 rest.1))
-    (λ (two : 2 ≤ length w). let h = leads high w t scalar two longer front in (rest.0, (Waits-leading high w two h.few h.leading).last some rest.0 rest.1))
+    (λ (one : length w < 2). (rest.0, byte_shows high w one some rest.0 rest.1))
+    (λ (two : 2 ≤ length w). let h = leads high w t scalar two longer front in (rest.0, leading_shows high w two h.few h.leading rest.0 rest.1))
     (cases_lt (length w) 2)
 
 front_alone : (from : Form) (w : List ℕ) → 0 < length w → IsProperFront (written from) w → (ss : List ℕ) × Reads from w (0xFFFD ∷ ss)

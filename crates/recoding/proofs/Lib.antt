@@ -18,6 +18,9 @@ pub mod NarrowedUnits
 pub mod OutputRuns
 pub mod PartLaws
 pub mod Recodes
+pub mod FaultCounts
+pub mod Advancing
+pub mod Settled
 pub mod RecodedLists
 pub mod RoomLemmas
 pub mod RoomRuns

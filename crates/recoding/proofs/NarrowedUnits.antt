@@ -1,11 +1,11 @@
--- Units of text, and what their bytes show.
+-- Units of text, and the same text as bytes.
 use Rattle.std.proofs.Common.{◌≡◌, ℕ, zero, suc, ◌+◌, ◌-◌, ◌*◌, ◌<◌, ◌≤◌, Bool, true, false, ◌⊎◌, List, [], ◌∷◌, ◌++◌, length, get_or, take, flat_map, arith, refl, sym, ap, ap₂, ◌∙◌, inl, inr, append_assoc, length-take, w8, Fits}
 use Rattle.std.proofs.lemmas.List.Elements.{All-cons}
 use Rattle.std.specs.Prelude.{All}
 use Rattle.utf_base.specs.Code.{utf8, utf16}
 use Rattle.utf_base.specs.Scalar.{IsScalar}
 use Rattle.utf_base.specs.Units.{is_leading_surrogate, is_trailing_surrogate, is_surrogate, pair_value}
-use Rattle.utf_base.proofs.Utf16Code.{unit_is_code, pair_is_code}
+use Rattle.utf_base.proofs.Utf16Code.{unit_is_code, pair_is_code, utf16-1}
 use Rattle.recoding.specs.declared.form.Form.{Form}
 use Rattle.recoding.specs.declared.form.Form.TheVariants.{Utf8}
 use Rattle.utf_lanes.specs.BytePairs.{unit_of, units_of}
@@ -13,11 +13,13 @@ use Rattle.recoding.specs.ShownFronts.{IsUnits}
 use Rattle.utf_lanes.specs.GivenUnits.{joined}
 use Rattle.utf_lanes.specs.UnitBlocks.{AreCodes}
 use Rattle.utf_lanes.specs.UnitCodes.{unit_code, code_at, AreText}
-use Rattle.recoding.specs.Strict.{Transcodes}
+use Rattle.recoding.specs.Strict.{PutsText, Transcodes}
+use Rattle.utf_lanes.specs.AsciiTexts.{AreAscii}
 use Rattle.recoding.proofs.CopiedUnits.{coded_bytes, front_fits}
+use Rattle.recoding.proofs.WidenedTexts.{ascii_codes, ascii_scalars}
 use Rattle.utf_lanes.proofs.UnitBytes.{no_surrogate, character_code, pair_code, not_both, not_true}
 
--- The bytes of units of text show what they do.
+-- Units of text are codes.
 
 -- the units from the number k on and n of them
 abbrev units : (ℕ → ℕ) → ℕ → ℕ → List ℕ
@@ -97,6 +99,12 @@ module _ (u : ℕ → ℕ) (count : ℕ) (fits : (k : ℕ) → k < count → u k
   all_shown : Shown u 0 count
   all_shown = shown count 0 (omega arith) text.first
 
+ascii_units : (us : List ℕ) → AreAscii us 0 (length us) → us ≡ flat_map utf16 us
+ascii_units [] low = refl
+ascii_units (u ∷ us) low =
+    let first : u < 0x80 = low 0 (omega arith) (omega arith) in
+    ap₂ (λ xs ys. xs ++ ys) (sym (utf16-1 u (omega arith))) (ascii_units us (λ k ge lt. low (suc k) (omega arith) (omega arith)))
+
 -- The units that bytes make, one by one.
 
 abbrev ByBytes : Bool → List ℕ → (ℕ → ℕ) → ℕ → ℕ → Type 0
@@ -123,7 +131,7 @@ unit_fits : (high : Bool) (a b : ℕ) → a < 256 → b < 256 → unit_of high a
 unit_fits true a b A B = omega arith
 unit_fits false a b A B = omega arith
 
--- So units that are text are that in their bytes.
+-- So units that are text are the same text as their bytes.
 module _ (high : Bool) (from : Form) (w : List ℕ) (u : ℕ → ℕ) (n : ℕ) (form : IsUnits high from) (fits : (i : ℕ) → Fits w8 (get_or w i 0)) (enough : 2 * n ≤ length w)
     (same : (k : ℕ) → k < n → u k ≡ unit_of high (get_or w (2 * k) 0) (get_or w (2 * k + 1) 0)) (text : AreText u n) where
   unit_below : (k : ℕ) → k < n → u k < 0x1_0000
@@ -142,3 +150,14 @@ module _ (high : Bool) (from : Form) (w : List ℕ) (u : ℕ → ℕ) (n : ℕ) 
   Transcodes-narrowed =
       let codes : AreCodes (units_of high (take (2 * n) w)) = record { scalars = s.ts; all = s.all; codes = front_units ∙ s.made } in
       record { scalars = s.ts; all = s.all; codes = coded_bytes high from (take (2 * n) w) n form codes front_len (front_fits w (2 * n) fits); made = s.codes }
+
+  pub PutsText-narrowed : {O : Type 0} {appends : O → List ℕ → O → Type 0} {old new : O} → appends old (joined (code_at u) 0 n) new → PutsText appends from Utf8 w old new (2 * n)
+  PutsText-narrowed put = record { within = enough; grown = joined (code_at u) 0 n; appended = put; transcodes = Transcodes-narrowed }
+
+-- Sixteen bytes that are eight units of ASCII are text.
+pub Transcodes-ascii : (high : Bool) (from : Form) (v us ascii : List ℕ) → IsUnits high from → ((i : ℕ) → Fits w8 (get_or v i 0)) → length v ≡ 16 → length us ≡ 8 → us ≡ units_of high v → AreAscii us 0 8
+    → ascii ≡ us → Transcodes from Utf8 v ascii
+Transcodes-ascii high from v us ascii form fits even eight e low same =
+    let each : AreAscii us 0 (length us) = λ k ge lt. low k ge (omega arith) in
+    let codes : AreCodes (units_of high v) = record { scalars = us; all = ascii_scalars us each; codes = sym e ∙ ascii_units us each } in
+    record { scalars = us; all = ascii_scalars us each; codes = coded_bytes high from v 8 form codes even fits; made = same ∙ sym (ascii_codes us each) }

@@ -2,7 +2,7 @@
 use Rattle.std.proofs.Common.{◌≡◌, ℕ, List, [], ◌∷◌, ◌++◌, ap, sym, ◌∙◌, subst, append_assoc}
 use Rattle.std.proofs.lemmas.List.{append-nil}
 use Rattle.std.specs.List.{concat}
-use Rattle.recoding.specs.Recoded.{Recoding, IsRecoded, FeedsEach, PartsAreRecoded, PartsDoNotMatter}
+use Rattle.recoding.specs.Recoded.{Recoding, IsRecoded, FeedsEach, PartsAreRecoded, PartsDoNotMatter, fresh}
 use Rattle.recoding.proofs.Growing.{recoded_once}
 
 -- what comes of the rest of the parts, whatever was held
@@ -22,7 +22,7 @@ rest_is_recoded r (part ∷ parts) old new (s, mid, fed, rest) =
 
 pub parts_are_recoded : PartsAreRecoded
 parts_are_recoded from to parts out f =
-    let all = rest_is_recoded (record { from = from; to = to; held = [] }) parts [] out f in
+    let all = rest_is_recoded (fresh from to) parts [] out f in
     subst (λ xs. IsRecoded from to (concat parts) xs) (sym all.1) all.2
 
 pub parts_do_not_matter : PartsDoNotMatter

@@ -1,113 +1,143 @@
 -- Recoding to the end of an output, step by step, and what its callers have of it.
-use Rattle.std.proofs.Common.{◌≡◌, ℕ, ◌+◌, ◌-◌, ◌*◌, ◌<◌, ◌≤◌, Bool, true, false, List, [], ◌++◌, length, take, drop, arith, rules, refl, ap, ap₂, sym, ◌∙◌, length-append, length-drop, length-take, take-append-drop}
+use Rattle.std.proofs.Common.{◌≡◌, ℕ, ◌+◌, ◌-◌, ◌*◌, ◌<◌, ◌≤◌, Bool, true, false, List, [], ◌++◌, length, take, drop, arith, rules, refl, ap, ap₂, sym, subst, ◌∙◌, append_assoc, length-append, length-drop, length-take, take-append-drop}
 use Rattle.std.proofs.lemmas.List.{take_rest, drop-drop, drop_all}
 use Rattle.std.specs.Prelude.{IsTrue, IsFalse, Vec, vec_len, vec_capacity}
 use Rattle.recoding.specs.declared.form.Form.{Form}
 use Rattle.recoding.specs.declared.room.Room.{Room}
-use Rattle.recoding.specs.Recoded.{Reads, written, Grows, Lacks}
+use Rattle.recoding.specs.Recoded.{Reads, written, Lacks, fresh}
+use Rattle.recoding.specs.Faults.{Advances}
 use Rattle.recoding.specs.Recodes.{Reaches, Recodes}
 use Rattle.recoding.specs.declared.engine.Reached.{Reached}
 use Rattle.recoding.specs.Outputs.{Extends}
 use Rattle.recoding.specs.OutputRuns.{HasRoomFor, RunsOnto, RunsUntil}
 use Rattle.recoding.specs.FilledRooms.{FillsRoom}
-use Rattle.recoding.specs.Rooms.{IsFull}
-use Rattle.recoding.specs.ShownFronts.{Decides}
+use Rattle.recoding.specs.Rooms.{NextIsTooLong}
+use Rattle.recoding.specs.ShownFronts.{Decides, Settles}
+use Rattle.recoding.specs.Strict.{PutsText, Transcodes}
+use Rattle.recoding.proofs.Advancing.{Advances-append, Advances-none, Advances-onto}
 use Rattle.recoding.proofs.FrontBytes.{lacks_all}
-use Rattle.recoding.proofs.Growing.{Grows-append, Grows-none, length_written}
-use Rattle.recoding.proofs.RoomLemmas.{Grows-ahead, IsFull-of}
-use Rattle.recoding.proofs.RoomRuns.{Grows-after, Grows-part}
+use Rattle.recoding.proofs.Growing.{length_written}
+use Rattle.recoding.proofs.RoomLemmas.{Advances-ahead, IsFull-of, take_more}
+use Rattle.recoding.proofs.RoomRuns.{Advances-after}
+use Rattle.recoding.proofs.TextLaws.{text_counts, text_is_recoded}
+use Rattle.recoding.proofs.TextRuns.{text_room}
 
-no_truth : IsTrue false → ⊥
-no_truth is = absurd cc
-
--- what a list grew by, after other bytes
-Grows-onto : {from to : Form} {bytes grown held : List ℕ} (old : List ℕ) → Grows from to bytes [] grown held → Grows from to bytes old (old ++ grown) held
-Grows-onto old g = record { grown = g.grown; appended = ap (λ xs. old ++ xs) g.appended; continues = g.continues }
+-- text, whatever follows
+Advances-text : {from to : Form} {grown : List ℕ} (bytes : List ℕ) (n : ℕ) → Transcodes from to (take n bytes) grown → Advances from to (take (n + 3) bytes) [] grown (take 3 (drop n bytes)) 0
+Advances-text {from} {to} {grown} bytes n t =
+    let whole : (later : List ℕ) → take n bytes ++ (take 3 (drop n bytes) ++ later) ≡ take (n + 3) bytes ++ later
+    = λ later. sym (append_assoc (take n bytes) (take 3 (drop n bytes)) later) ∙ ap (λ ys. ys ++ later) (take_more n 3 bytes) in
+    record {
+      grows = record {
+        grown = grown;
+        appended = refl;
+        continues = λ later rest h. rw (whole later) at (text_is_recoded from to (take n bytes) grown (take 3 (drop n bytes) ++ later) rest t h);
+      };
+      counts = λ later. rw (whole later) at (rw (sym t.codes) at (text_counts from t.scalars (take 3 (drop n bytes) ++ later) t.all)) ∙ omega arith;
+    }
 
 module _ {O : Type 0} {appends : O → List ℕ → O → Type 0} {from to : Form} {bytes : List ℕ} where
   -- nothing is recoded yet
-  pub Recodes-none : ((a : O) → appends a [] a) → {out : O} → Recodes appends from to bytes out out 0
-  Recodes-none none {out} = record { grown = []; appended = none out; within = omega arith; short = omega arith; grows = Grows-none from to (take 3 bytes) [] }
+  pub Recodes-none : ((a : O) → appends a [] a) → {out : O} → Recodes appends from to bytes out out 0 0
+  Recodes-none none {out} = record {
+    grown = [];
+    appended = none out;
+    within = omega arith;
+    short = omega arith;
+    few = omega arith;
+    advances = Advances-none from to (take 3 bytes) [];
+  }
 
   -- the bytes that another left
-  pub Recodes-then : ((a b c : O) (xs ys : List ℕ) → appends a xs b → appends b ys c → appends a (xs ++ ys) c) → {old mid new : O} {p n : ℕ}
-      → Recodes appends from to bytes old mid p → Recodes appends from to (take (length bytes - p) (drop p bytes)) mid new n → Recodes appends from to bytes old new (p + n)
+  pub Recodes-then : ((a b c : O) (xs ys : List ℕ) → appends a xs b → appends b ys c → appends a (xs ++ ys) c) → {old mid new : O} {p n j k : ℕ}
+      → Recodes appends from to bytes old mid p j → Recodes appends from to (take (length bytes - p) (drop p bytes)) mid new n k → Recodes appends from to bytes old new (p + n) (j + k)
   Recodes-then more {old} {mid} {new} {p} {n} f rest =
-      let g : Recodes appends from to (drop p bytes) mid new n = rw (take_rest bytes p) at rest in
+      let g = rw (take_rest bytes p) at rest in
       record {
         grown = f.grown ++ g.grown;
         appended = more old mid new f.grown g.grown f.appended g.appended;
         within = omega (arith, f.within, g.within, length-drop p bytes);
         short = omega (arith, f.short, g.short, length-append f.grown g.grown);
-        grows = Grows-after from to bytes [] f.grown (f.grown ++ g.grown) p n f.grows (Grows-onto f.grown g.grows);
+        few = omega (arith, f.few, g.few);
+        advances = Advances-after from to bytes [] f.grown (f.grown ++ g.grown) p n f.advances (Advances-onto from to _ g.grown _ f.grown g.advances);
       }
 
-  -- one code, told by four bytes
-  pub Recodes-code : ((a b c : O) (xs ys : List ℕ) → appends a xs b → appends b ys c → appends a (xs ++ ys) c) → {old mid new : O} {p s n : ℕ}
-      → Recodes appends from to bytes old mid p → Decides (Reads from) (take 4 (drop p bytes)) s n → appends mid (written to s) new → Recodes appends from to bytes old new (p + n)
-  Recodes-code more {old} {mid} {new} {p} {s} {n} f d put =
+  -- text that another left
+  pub Recodes-text : ((a b c : O) (xs ys : List ℕ) → appends a xs b → appends b ys c → appends a (xs ++ ys) c) → {old mid new : O} {p n k : ℕ}
+      → Recodes appends from to bytes old mid p k → PutsText appends from to (take (length bytes - p) (drop p bytes)) mid new n → Recodes appends from to bytes old new (p + n) k
+  Recodes-text more {old} {mid} {new} {p} {n} {k} f rest =
+      let within = rest.within in
+      let run : Recodes appends from to (take (length bytes - p) (drop p bytes)) mid new n 0 = record {
+        grown = rest.grown;
+        appended = rest.appended;
+        within = rest.within;
+        short = omega (arith, text_room rest.transcodes, length-take n (take (length bytes - p) (drop p bytes)));
+        few = omega arith;
+        advances = Advances-text (take (length bytes - p) (drop p bytes)) n rest.transcodes;
+      } in
+      let same : k + 0 ≡ k = omega arith in
+      subst (λ m. Recodes appends from to bytes old new (p + n) m) same (Recodes-then more f run)
+
+  -- one piece, told by four bytes
+  pub Recodes-code : ((a b c : O) (xs ys : List ℕ) → appends a xs b → appends b ys c → appends a (xs ++ ys) c) → {old mid new : O} {p s n j k : ℕ}
+      → Recodes appends from to bytes old mid p j → Settles from (take 4 (drop p bytes)) s n k → appends mid (written to s) new → Recodes appends from to bytes old new (p + n) (j + k)
+  Recodes-code more {old} {mid} {new} {p} {s} {n} f settles put =
+      let d = settles.decides in
       let few = length_written to s n d.some d.wide in
       record {
         grown = f.grown ++ written to s;
         appended = more old mid new f.grown (written to s) f.appended put;
         within = omega (arith, f.within, d.within, length-drop p bytes, length-take 4 (drop p bytes));
         short = omega (arith, f.short, few, length-append f.grown (written to s));
-        grows = Grows-ahead from to bytes [] f.grown (f.grown ++ written to s) p s n f.grows d refl;
+        few = omega (arith, f.few, settles.few, d.some);
+        advances = Advances-ahead from to bytes [] f.grown (f.grown ++ written to s) p s n f.advances settles refl;
       }
 
   -- room for all bytes is room for a code that begins the ones left
-  pub room_for_next : {room : O → ℕ} → ((a b : O) (xs : List ℕ) → appends a xs b → room a ≤ room b + length xs) → {old mid : O} {p s n : ℕ}
-      → Recodes appends from to bytes old mid p → Decides (Reads from) (take 4 (drop p bytes)) s n → 3 * length bytes ≤ room old → length (written to s) ≤ room mid
+  pub room_for_next : {room : O → ℕ} → ((a b : O) (xs : List ℕ) → appends a xs b → room a ≤ room b + length xs) → {old mid : O} {p s n k : ℕ}
+      → Recodes appends from to bytes old mid p k → Decides (Reads from) (take 4 (drop p bytes)) s n → 3 * length bytes ≤ room old → length (written to s) ≤ room mid
   room_for_next law {old} {mid} {p} {s} {n} f d all =
       omega (arith, all, law old mid f.grown f.appended, f.short, f.within, length_written to s n d.some d.wide, d.within, length-drop p bytes, length-take 4 (drop p bytes))
 
   -- and for the ones left
-  pub room_for_rest : {room : O → ℕ} → ((a b : O) (xs : List ℕ) → appends a xs b → room a ≤ room b + length xs) → {old mid : O} {p : ℕ}
-      → Recodes appends from to bytes old mid p → 3 * length bytes ≤ room old → 3 * length (take (length bytes - p) (drop p bytes)) ≤ room mid
+  pub room_for_rest : {room : O → ℕ} → ((a b : O) (xs : List ℕ) → appends a xs b → room a ≤ room b + length xs) → {old mid : O} {p k : ℕ}
+      → Recodes appends from to bytes old mid p k → 3 * length bytes ≤ room old → 3 * length (take (length bytes - p) (drop p bytes)) ≤ room mid
   room_for_rest law {old} {mid} {p} f all =
       omega (arith, all, law old mid f.grown f.appended, f.short, f.within, length-drop p bytes, length-take (length bytes - p) (drop p bytes))
 
-  -- the first bytes of some
-  pub Recodes-part : {old new : O} {n : ℕ} (count : ℕ) → Recodes appends from to (take count bytes) old new n → Recodes appends from to bytes old new n
-  Recodes-part {n} count f =
-      let within = f.within in
-      let le : n ≤ count = omega (arith, length-take count bytes) in
-      record {
-        grown = f.grown;
-        appended = f.appended;
-        within = omega (arith, length-take count bytes);
-        short = f.short;
-        grows = Grows-part from to bytes [] f.grown count n le f.grows;
-      }
+-- How far a run went.
+
+no_truth : IsTrue false → ⊥
+no_truth is = absurd cc
 
 module _ {O : Type 0} {appends : O → List ℕ → O → Type 0} {room : O → ℕ} {from to : Form} {bytes : List ℕ} {old new : O} where
   -- what follows decides
-  pub Reaches-waiting : {n : ℕ} → Recodes appends from to bytes old new n → length bytes ≤ n + 3 → Lacks from (drop n bytes)
-      → Reaches appends room from to bytes old new (record { read = n; is_full = false; is_waiting = true })
+  pub Reaches-waiting : {n k : ℕ} → Recodes appends from to bytes old new n k → length bytes ≤ n + 3 → Lacks from (drop n bytes)
+      → Reaches appends room from to bytes old new (record { read = n; replaced = k; is_full = false; is_waiting = true })
   Reaches-waiting f waits lacks = record { runs = f; full = λ is. absurd (no_truth is); short = λ is. absurd (no_truth is); waits = λ is. waits; lacks = λ is. lacks }
 
   -- all the bytes were recoded
-  pub Reaches-end : {n : ℕ} → Recodes appends from to bytes old new n → n ≡ length bytes → Reaches appends room from to bytes old new (record { read = n; is_full = false; is_waiting = true })
+  pub Reaches-end : {n k : ℕ} → Recodes appends from to bytes old new n k → n ≡ length bytes
+      → Reaches appends room from to bytes old new (record { read = n; replaced = k; is_full = false; is_waiting = true })
   Reaches-end {n} f e = Reaches-waiting f (omega arith) (rw (drop_all n bytes (omega arith)) (lacks_all from))
 
   -- there is no room for the code that begins the bytes left, and nothing more was put
-  pub Reaches-full : {mid : O} {n s len : ℕ} → Recodes appends from to bytes old mid n → new ≡ mid → Decides (Reads from) (take 4 (drop n bytes)) s len → room mid < length (written to s) → room mid < 4
-      → Reaches appends room from to bytes old new (record { read = n; is_full = true; is_waiting = false })
-  Reaches-full {mid} {n} {s} {len} f kept d longer short =
+  pub Reaches-full : {mid : O} {n k s len faults : ℕ} → Recodes appends from to bytes old mid n k → new ≡ mid → Settles from (take 4 (drop n bytes)) s len faults → room mid < length (written to s)
+      → room mid < 4 → Reaches appends room from to bytes old new (record { read = n; replaced = k; is_full = true; is_waiting = false })
+  Reaches-full {mid} {n} {k} {s} {len} f kept settles longer short =
       let xs = drop n bytes in
-      let full : IsFull (record { from = from; to = to; held = [] }) xs (room mid)
-      = rw (take-append-drop 4 xs) at (IsFull-of (record { from = from; to = to; held = [] }) from to (take 4 xs) (drop 4 xs) s len (room mid) refl refl d longer) in
+      let full : NextIsTooLong from to xs (room mid) = rw (take-append-drop 4 xs) at (IsFull-of (fresh from to) from to (take 4 xs) (drop 4 xs) s len (room mid) refl refl settles.decides longer) in
       rw kept (record { runs = f; full = λ is. full; short = λ is. short; waits = λ is. absurd (no_truth is); lacks = λ is. absurd (no_truth is) })
 
   -- neither
-  pub Reaches-on : {n : ℕ} → Recodes appends from to bytes old new n → Reaches appends room from to bytes old new (record { read = n; is_full = false; is_waiting = false })
+  pub Reaches-on : {n k : ℕ} → Recodes appends from to bytes old new n k → Reaches appends room from to bytes old new (record { read = n; replaced = k; is_full = false; is_waiting = false })
   Reaches-on f = record { runs = f; full = λ is. absurd (no_truth is); short = λ is. absurd (no_truth is); waits = λ is. absurd (no_truth is); lacks = λ is. absurd (no_truth is) }
 
   -- a run over the bytes that another left
-  pub Reaches-then : {mid : O} {p : ℕ} {reached : Reached} → ((a b c : O) (xs ys : List ℕ) → appends a xs b → appends b ys c → appends a (xs ++ ys) c)
-      → Recodes appends from to bytes old mid p → Reaches appends room from to (take (length bytes - p) (drop p bytes)) mid new reached
-      → Reaches appends room from to bytes old new (record { read = p + reached.read; is_full = reached.is_full; is_waiting = reached.is_waiting })
-  Reaches-then {mid} {p} {reached} more f r =
+  pub Reaches-then : {mid : O} {p k : ℕ} {reached : Reached} → ((a b c : O) (xs ys : List ℕ) → appends a xs b → appends b ys c → appends a (xs ++ ys) c)
+      → Recodes appends from to bytes old mid p k → Reaches appends room from to (take (length bytes - p) (drop p bytes)) mid new reached
+      → Reaches appends room from to bytes old new (record { read = p + reached.read; replaced = k + reached.replaced; is_full = reached.is_full; is_waiting = reached.is_waiting })
+  Reaches-then {mid} {p} {k} {reached} more f r =
       let g : Reaches appends room from to (drop p bytes) mid new reached = rw (take_rest bytes p) at r in
       let left : drop reached.read (drop p bytes) ≡ drop (p + reached.read) bytes = drop-drop reached.read p bytes in
       record {
@@ -119,30 +149,31 @@ module _ {O : Type 0} {appends : O → List ℕ → O → Type 0} {room : O → 
       }
 
 -- What the front of a slice grew by.
-pub Grows-room : {from to : Form} {bytes old new : List ℕ} {place n : ℕ} (a b : Room) → a.bytes.now ≡ old → a.len ≡ place → b.bytes.now ≡ new → Recodes FillsRoom from to bytes a b n
-    → Grows from to (take (n + 3) bytes) (take place old) (take b.len new) (take 3 (drop n bytes))
-Grows-room {new} {place} a b e f h run =
+pub Advances-room : {from to : Form} {bytes old new : List ℕ} {place n k : ℕ} (a b : Room) → a.bytes.now ≡ old → a.len ≡ place → b.bytes.now ≡ new → Recodes FillsRoom from to bytes a b n k
+    → Advances from to (take (n + 3) bytes) (take place old) (take b.len new) (take 3 (drop n bytes)) k
+Advances-room {new} {place} a b e f h run =
     let fills = run.appended in
     let front : take b.len new ≡ take place _ ++ run.grown = ap (take b.len) (sym h) ∙ fills.front ∙ ap₂ (λ k ys. take k ys ++ run.grown) f e in
-    rw front (Grows-onto (take place _) run.grows)
+    rw front (Advances-onto _ _ _ run.grown _ (take place _) run.advances)
 
 -- What a list grew by.
-RunsOnto-of : {Z : Type 0} {from to : Form} {bytes : List ℕ} {old new : Vec ℕ Z} {n : ℕ} → Recodes Extends from to bytes old new n → RunsOnto from to bytes old new n
-RunsOnto-of {bytes} {old} {new} {n} f =
+RunsOnto-of : {Z : Type 0} {from to : Form} {bytes : List ℕ} {old new : Vec ℕ Z} {n k : ℕ} → Recodes Extends from to bytes old new n k → RunsOnto from to bytes old new n k
+RunsOnto-of {bytes} {old} {new} {n} {k} f =
     let put = f.appended in
     let all : take (n + 3) bytes ++ drop (n + 3) bytes ≡ bytes = take-append-drop (n + 3) bytes in
     let left : take 3 (drop n bytes) ++ drop (n + 3) bytes ≡ drop n bytes = ap (λ ys. take 3 (drop n bytes) ++ ys) (sym (drop-drop 3 n bytes)) ∙ take-append-drop 3 (drop n bytes) in
-    let whole : Grows _ _ bytes [] f.grown (drop n bytes) = rw (all, left) at (Grows-append _ _ _ _ (drop (n + 3) bytes) [] f.grown f.grows) in
+    let whole : Advances _ _ bytes [] f.grown (drop n bytes) k = rw (all, left) at (Advances-append _ _ _ _ (drop (n + 3) bytes) [] f.grown f.advances) in
     record {
       within = f.within;
-      grows = rw put.items (Grows-onto old.items whole);
+      advances = rw put.items (Advances-onto _ _ _ f.grown _ old.items whole);
       short = omega (arith, ap length put.items, length-append old.items f.grown, f.short);
+      few = f.few;
       capacity = put.capacity;
     }
 
 -- where the room is enough for all, no code is longer than it
-never_full : {Z : Type 0} {from to : Form} {bytes : List ℕ} {old new : Vec ℕ Z} {read : ℕ} → HasRoomFor old (length bytes) → Recodes Extends from to bytes old new read
-    → IsFull (record { from = from; to = to; held = [] }) (drop read bytes) (vec_capacity new - vec_len new) → ⊥
+never_full : {Z : Type 0} {from to : Form} {bytes : List ℕ} {old new : Vec ℕ Z} {read k : ℕ} → HasRoomFor old (length bytes) → Recodes Extends from to bytes old new read k
+    → NextIsTooLong from to (drop read bytes) (vec_capacity new - vec_len new) → ⊥
 never_full {from} {to} {bytes} {old} {new} {read} room runs full =
     let d = full.begins in
     let put = runs.appended in
@@ -154,7 +185,8 @@ unless_full P false never waits = waits (search rules)
 
 -- What a list grew by that had room for all.
 pub RunsUntil-of : {Z : Type 0} {from to : Form} {bytes : List ℕ} {old new : Vec ℕ Z} {reached : Reached} → HasRoomFor old (length bytes)
-    → Reaches Extends (λ v. vec_capacity v - vec_len v) from to bytes old new reached → (IsFalse reached.is_full → IsTrue reached.is_waiting) → RunsUntil from to bytes old new (length bytes) reached.read
+    → Reaches Extends (λ v. vec_capacity v - vec_len v) from to bytes old new reached → (IsFalse reached.is_full → IsTrue reached.is_waiting)
+    → RunsUntil from to bytes old new (length bytes) reached.read reached.replaced
 RunsUntil-of {from} {bytes} {reached} room f ends =
     let waiting : IsTrue reached.is_waiting = unless_full (IsTrue reached.is_waiting) reached.is_full (λ is. never_full room f.runs (f.full is)) ends in
     record { runs = RunsOnto-of f.runs; waits = λ lt. f.waits waiting; lacks = λ lt. f.lacks waiting }

@@ -4,9 +4,11 @@ use Rattle.std.proofs.lemmas.List.{drop-drop, drop-take, take-take, drop-append-
 use Rattle.std.proofs.lemmas.Bool.{cases_lt}
 use Rattle.recoding.specs.declared.form.Form.{Form}
 use Rattle.recoding.specs.Recoded.{Reads, written, IsRecoded, Recoding, Grows, Finishes}
-use Rattle.recoding.specs.ShownFronts.{Decides, Ends}
-use Rattle.recoding.specs.Rooms.{FeedsInto, FinishesInto, IsFull, IsLastFull, Leaves}
-use Rattle.recoding.proofs.Growing.{recoded_nothing, Continues-step, Grows-append, Grows-trans}
+use Rattle.recoding.specs.ShownFronts.{Decides, Ends, Settles}
+use Rattle.recoding.specs.Rooms.{FeedsInto, FinishesInto, IsFull, IsLastFull, LastIsTooLong, Leaves, NextIsTooLong}
+use Rattle.recoding.specs.Faults.{Advances, Replaces}
+use Rattle.recoding.proofs.Advancing.{Advances-append, Advances-front, Advances-none, Advances-trans, counts_of}
+use Rattle.recoding.proofs.Growing.{recoded_nothing}
 
 -- Parts of lists.
 
@@ -40,9 +42,9 @@ Leaves-step from to bytes grown new p s n h d e rest (ss, r, f) =
     h (written to s ++ rest) (s ∷ ss, d.first ss (rw (drop-drop n p bytes) r), ap (λ x. written to s ++ x) f) in
     subst (λ xs. IsRecoded from to bytes xs) (sym (ap (λ x. x ++ rest) e ∙ append_assoc grown (written to s) rest)) all
 
-pub FinishesInto-of : (r s : Recoding) (from to : Form) (bytes old new : List ℕ) (read wrote : ℕ) → from ≡ r.from → to ≡ r.to → bytes ≡ r.held
+pub FinishesInto-of : (r s : Recoding) (from to : Form) (bytes old new : List ℕ) (read wrote : ℕ) {n : ℕ} → from ≡ r.from → to ≡ r.to → bytes ≡ r.held
     → Leaves from to bytes (take wrote new) (drop read bytes) → wrote ≤ length old → drop wrote new ≡ drop wrote old
-    → s ≡ record { from = r.from; to = r.to; held = drop read bytes } → FinishesInto r old new wrote s
+    → s ≡ record r { held = drop read bytes; replaced = n } → FinishesInto r old new wrote s
 FinishesInto-of r s from to bytes old new read wrote e f i h fits rest k =
     let leaves : Leaves r.from r.to r.held (take wrote new) (drop read bytes) =
     subst (λ x. Leaves x r.to r.held (take wrote new) (drop read bytes)) e
@@ -59,8 +61,8 @@ Finishes-of r s old new wrote f none out = record {
   recoded = rw (append-nil (take wrote new)) at (f.leaves [] (subst (λ xs. IsRecoded r.from r.to xs []) (sym none) (recoded_nothing r.from r.to)));
 }
 
-pub IsLastFull-of : (r s : Recoding) (from to : Form) (left : List ℕ) (room : ℕ) → from ≡ r.from → to ≡ r.to
-    → s ≡ record { from = r.from; to = r.to; held = left } → IsLastFull (record { from = from; to = to; held = [] }) left room → IsLastFull s s.held room
+pub IsLastFull-of : (r s : Recoding) (from to : Form) (left : List ℕ) (room : ℕ) {n : ℕ} → from ≡ r.from → to ≡ r.to
+    → s ≡ record r { held = left; replaced = n } → LastIsTooLong from to left room → IsLastFull s s.held room
 IsLastFull-of r s from to left room e f k full =
     rw k (record {
       scalar = full.scalar;
@@ -72,22 +74,13 @@ IsLastFull-of r s from to left room e f k full =
 -- Parts that are fed.
 
 -- more bytes of the part after those that were read, as far as they were looked at
-pub Grows-more-read : (from to : Form) (first part held old new : List ℕ) (read taken : ℕ) → Grows from to (first ++ take read part) old new held
-    → Grows from to (first ++ take (read + taken) part) old new (held ++ take taken (drop read part))
-Grows-more-read from to first part held old new read taken g =
+pub Advances-more-read : (from to : Form) (first part held old new : List ℕ) (read taken : ℕ) {n : ℕ} → Advances from to (first ++ take read part) old new held n
+    → Advances from to (first ++ take (read + taken) part) old new (held ++ take taken (drop read part)) n
+Advances-more-read from to first part held old new read taken g =
     let more = take taken (drop read part) in
     let joined : take read part ++ more ≡ take (read + taken) part = take_more read taken part in
     let whole : (first ++ take read part) ++ more ≡ first ++ take (read + taken) part = append_assoc first (take read part) more ∙ ap (λ xs. first ++ xs) joined in
-    rw whole at (Grows-append from to (first ++ take read part) held more old new g)
-
--- the scalar that begins what is held then
-pub Grows-first : (from to : Form) (bytes old mid new held : List ℕ) (s n : ℕ) → Grows from to bytes old mid held → Decides (Reads from) held s n
-    → new ≡ mid ++ written to s → Grows from to bytes old new (drop n held)
-Grows-first from to bytes old mid new held s n g d e = record {
-  grown = g.grown ++ written to s;
-  appended = e ∙ ap (λ x. x ++ written to s) g.appended ∙ append_assoc old g.grown (written to s);
-  continues = Continues-step from to bytes g.grown held s n g.continues d;
-}
+    rw whole at (Advances-append from to (first ++ take read part) held more old new g)
 
 pub FeedsInto-of : (r s : Recoding) (part old new : List ℕ) (read wrote : ℕ) → s.from ≡ r.from → s.to ≡ r.to → length s.held ≤ 3 → read ≤ length part → wrote ≤ length old
     → Grows r.from r.to (r.held ++ take read part) [] (take wrote new) s.held → drop wrote new ≡ drop wrote old → FeedsInto r part old new read wrote s
@@ -102,6 +95,18 @@ FeedsInto-of r s part old new read wrote e f few within fits g rest = record {
   fits = fits;
   rest = rest;
 }
+
+-- the same after the recoder has counted faults
+pub FeedsInto-counted : (r s t : Recoding) (part old new : List ℕ) (read wrote : ℕ) {n : ℕ} → FeedsInto r part old new read wrote s → t ≡ record s { replaced = n } → FeedsInto r part old new read wrote t
+FeedsInto-counted r s t part old new read wrote f e = rw e (record {
+  within = f.within;
+  feeds = λ out. let g = f.feeds out in record { grows = g.grows; from = g.from; to = g.to; few = g.few };
+  fits = f.fits;
+  rest = f.rest;
+})
+
+pub FinishesInto-counted : (r s t : Recoding) (old new : List ℕ) (wrote : ℕ) {n : ℕ} → FinishesInto r old new wrote s → t ≡ record s { replaced = n } → FinishesInto r old new wrote t
+FinishesInto-counted r s t old new wrote f e = rw e (record { leaves = f.leaves; from = f.from; to = f.to; few = f.few; fits = f.fits; rest = f.rest })
 
 -- what is decided of some bytes is so whatever follows them
 Decides-more : (from : Form) (w x : List ℕ) (s n : ℕ) → Decides (Reads from) w s n → Decides (Reads from) (w ++ x) s n
@@ -126,17 +131,21 @@ IsFull-of s from to w x c n room e f d long = record {
   longer = subst (λ y. room < length (written y c)) f long;
 }
 
--- a scalar more, told by four bytes, where three were looked at before
-pub Grows-ahead : (from to : Form) (bytes old mid new : List ℕ) (p s n : ℕ) → Grows from to (take (p + 3) bytes) old mid (take 3 (drop p bytes))
-    → Decides (Reads from) (take 4 (drop p bytes)) s n → new ≡ mid ++ written to s → Grows from to (take (p + n + 3) bytes) old new (take 3 (drop (p + n) bytes))
-Grows-ahead from to bytes old mid new p s n g d e =
+-- a piece more, told by four bytes, where three were looked at before
+pub Advances-ahead : (from to : Form) (bytes old mid new : List ℕ) (p s n : ℕ) {j k : ℕ} → Advances from to (take (p + 3) bytes) old mid (take 3 (drop p bytes)) j
+    → Settles from (take 4 (drop p bytes)) s n k → new ≡ mid ++ written to s → Advances from to (take (p + n + 3) bytes) old new (take 3 (drop (p + n) bytes)) (j + k)
+Advances-ahead from to bytes old mid new p s n {j} {k} g settles e =
+    let d = settles.decides in
+    let some = d.some in
+    let within = d.within in
     let xs : List ℕ = drop p bytes in
     let le : n ≤ 4 = omega (arith, length-take 4 xs) in
-    let first : Grows from to (take (p + 3 + 1) bytes) old mid (take 3 xs ++ take 1 (drop (p + 3) bytes)) = Grows-more-read from to [] bytes (take 3 xs) old mid (p + 3) 1 g in
+    let first : Advances from to (take (p + 3 + 1) bytes) old mid (take 3 xs ++ take 1 (drop (p + 3) bytes)) j = Advances-more-read from to [] bytes (take 3 xs) old mid (p + 3) 1 g in
     let looked : take 3 xs ++ take 1 (drop (p + 3) bytes) ≡ take 4 xs = ap (λ ys. take 3 xs ++ take 1 ys) (sym (drop-drop 3 p bytes)) ∙ take_more 3 1 xs in
-    let second : Grows from to (take (p + 3 + 1) bytes) old new (drop n (take 4 xs)) = Grows-first from to (take (p + 3 + 1) bytes) old mid new (take 4 xs) s n (rw looked at first) d e in
-    let third : Grows from to (take (p + 3 + 1 + (n - 1)) bytes) old new (drop n (take 4 xs) ++ take (n - 1) (drop (p + 3 + 1) bytes)) =
-    Grows-more-read from to [] bytes (drop n (take 4 xs)) old new (p + 3 + 1) (n - 1) second in
+    let second : Advances from to (take (p + 3 + 1) bytes) old new (drop n (take 4 xs)) (j + k) =
+    Advances-front from to (take (p + 3 + 1) bytes) old mid new (take 4 xs) s n (rw looked at first) settles e in
+    let third : Advances from to (take (p + 3 + 1 + (n - 1)) bytes) old new (drop n (take 4 xs) ++ take (n - 1) (drop (p + 3 + 1) bytes)) (j + k) =
+    Advances-more-read from to [] bytes (drop n (take 4 xs)) old new (p + 3 + 1) (n - 1) second in
     let end : p + 3 + 1 + (n - 1) ≡ p + n + 3 = omega arith in
     let four : p + 3 + 1 ≡ p + n + (4 - n) = omega arith in
     let three : 4 - n + (n - 1) ≡ 3 = omega arith in
@@ -144,47 +153,53 @@ Grows-ahead from to bytes old mid new p s n g d e =
     let more : drop (p + 3 + 1) bytes ≡ drop (4 - n) (drop (p + n) bytes) = ap (λ k. drop k bytes) four ∙ sym (drop-drop (4 - n) (p + n) bytes) in
     let held : drop n (take 4 xs) ++ take (n - 1) (drop (p + 3 + 1) bytes) ≡ take 3 (drop (p + n) bytes) =
     ap₂ (λ ys zs. ys ++ take (n - 1) zs) left more ∙ take_more (4 - n) (n - 1) (drop (p + n) bytes) ∙ ap (λ k. take k (drop (p + n) bytes)) three in
-    subst (λ ys. Grows from to (take (p + n + 3) bytes) old new ys) held
-    (subst (λ k. Grows from to (take k bytes) old new (drop n (take 4 xs) ++ take (n - 1) (drop (p + 3 + 1) bytes))) end third)
+    subst (λ ys. Advances from to (take (p + n + 3) bytes) old new ys (j + k)) held
+    (subst (λ m. Advances from to (take m bytes) old new (drop n (take 4 xs) ++ take (n - 1) (drop (p + 3 + 1) bytes)) (j + k)) end third)
 
 -- nothing is read yet
-pub Grows-start : (from to : Form) (held : List ℕ) → Grows from to (held ++ []) [] [] held
-Grows-start from to held = record { grown = []; appended = refl; continues = λ later rest h. rw (append-nil held) h }
+pub Advances-start : (from to : Form) (held : List ℕ) → Advances from to (held ++ []) [] [] held 0
+Advances-start from to held = rw (append-nil held) (Advances-none from to held [])
 
 -- One call after another, where the first left nothing held and the second read to the place `end`, up to three bytes past
 -- those that it recoded.
 
-pub FeedsInto-then : (r s v : Recoding) (part old mid new : List ℕ) (read more wrote all end : ℕ) → FeedsInto r part old mid read wrote s → s.held ≡ []
-    → Grows s.from s.to (take (more + 3) (drop read part)) (take wrote mid) (take all new) (take 3 (drop more (drop read part)))
+pub Advances-then : (r s v : Recoding) (part old mid new : List ℕ) (read more wrote all end j k : ℕ) → FeedsInto r part old mid read wrote s → Replaces r (take read part) j s → s.held ≡ []
+    → Advances s.from s.to (take (more + 3) (drop read part)) (take wrote mid) (take all new) (take 3 (drop more (drop read part))) k
     → more ≤ end → end ≤ more + 3 → end ≤ length (drop read part) → (end < more + 3 → length (drop read part) ≤ end)
-    → wrote ≤ all → all ≤ length old → drop all new ≡ drop all mid
-    → v ≡ record { from = s.from; to = s.to; held = take (end - more) (drop more (drop read part)) } → FeedsInto r part old new (read + end) all v
-FeedsInto-then r s v part old mid new read more wrote all end f none g over near within short ordered fits rest k =
+    → v.held ≡ take (end - more) (drop more (drop read part)) → Advances r.from r.to (r.held ++ take (read + end) part) [] (take all new) v.held (j + k)
+Advances-then r s v part old mid new read more wrote all end j k f c none g over near within short held =
     let xs : List ℕ = drop read part in
     let fed = f.feeds [] in
-    let one : Grows r.from r.to (r.held ++ take (read + end) part) [] (take wrote mid) (s.held ++ take end xs) =
-    Grows-more-read r.from r.to r.held part s.held [] (take wrote mid) read end fed.grows in
-    let first : Grows r.from r.to (r.held ++ take (read + end) part) [] (take wrote mid) (take end xs) =
-    subst (λ ys. Grows r.from r.to (r.held ++ take (read + end) part) [] (take wrote mid) (ys ++ take end xs)) none one in
+    let begun : Advances r.from r.to (r.held ++ take read part) [] (take wrote mid) s.held j = record { grows = fed.grows; counts = counts_of r s (take read part) j fed.from c } in
+    let one : Advances r.from r.to (r.held ++ take (read + end) part) [] (take wrote mid) (s.held ++ take end xs) j =
+    Advances-more-read r.from r.to r.held part s.held [] (take wrote mid) read end begun in
+    let first : Advances r.from r.to (r.held ++ take (read + end) part) [] (take wrote mid) (take end xs) j =
+    subst (λ ys. Advances r.from r.to (r.held ++ take (read + end) part) [] (take wrote mid) (ys ++ take end xs) j) none one in
     let clip : take end xs ≡ take (more + 3) xs = take_clip end (more + 3) xs near short in
     let clip_held : take (end - more) (drop more xs) ≡ take 3 (drop more xs) =
     take_clip (end - more) 3 (drop more xs) (omega arith)
     (λ (lt : end - more < 3). let earlier : end < more + 3 = omega arith in let few = short earlier in omega (arith, length-drop more xs)) in
-    let second : Grows r.from r.to (take end xs) (take wrote mid) (take all new) (take (end - more) (drop more xs)) =
-    subst (λ x. Grows x r.to (take end xs) (take wrote mid) (take all new) (take (end - more) (drop more xs))) fed.from
-    (subst (λ x. Grows s.from x (take end xs) (take wrote mid) (take all new) (take (end - more) (drop more xs))) fed.to
-    (subst (λ ys. Grows s.from s.to ys (take wrote mid) (take all new) (take (end - more) (drop more xs))) (sym clip)
-    (subst (λ ys. Grows s.from s.to (take (more + 3) xs) (take wrote mid) (take all new) ys) (sym clip_held) g))) in
-    let whole : Grows r.from r.to (r.held ++ take (read + end) part) [] (take all new) (take (end - more) (drop more xs)) =
-    Grows-trans r.from r.to (r.held ++ take (read + end) part) (take end xs) (take (end - more) (drop more xs)) [] (take wrote mid) (take all new) first second in
-    let held = ap (λ x. x.held) k in
-    let few : length v.held ≤ 3 = omega (arith, ap length held, length-take (end - more) (drop more xs)) in
-    FeedsInto-of r v part old new (read + end) all (ap (λ x. x.from) k ∙ fed.from) (ap (λ x. x.to) k ∙ fed.to) few (omega (arith, length-drop read part)) fits
-    (subst (λ ys. Grows r.from r.to (r.held ++ take (read + end) part) [] (take all new) ys) (sym held) whole) (rest ∙ drop_later mid old wrote all ordered f.rest)
+    let second : Advances r.from r.to (take end xs) (take wrote mid) (take all new) (take (end - more) (drop more xs)) k =
+    subst (λ x. Advances x r.to (take end xs) (take wrote mid) (take all new) (take (end - more) (drop more xs)) k) fed.from
+    (subst (λ x. Advances s.from x (take end xs) (take wrote mid) (take all new) (take (end - more) (drop more xs)) k) fed.to
+    (subst (λ ys. Advances s.from s.to ys (take wrote mid) (take all new) (take (end - more) (drop more xs)) k) (sym clip)
+    (subst (λ ys. Advances s.from s.to (take (more + 3) xs) (take wrote mid) (take all new) ys k) (sym clip_held) g))) in
+    subst (λ ys. Advances r.from r.to (r.held ++ take (read + end) part) [] (take all new) ys (j + k)) (sym held)
+    (Advances-trans r.from r.to (r.held ++ take (read + end) part) (take end xs) (take (end - more) (drop more xs)) [] (take wrote mid) (take all new) first second)
 
-pub IsFull-then : (s v : Recoding) (from to : Form) (part : List ℕ) (read more end room : ℕ) → from ≡ s.from → to ≡ s.to → more ≤ end
-    → v ≡ record { from = s.from; to = s.to; held = take (end - more) (drop more (drop read part)) }
-    → IsFull (record { from = from; to = to; held = [] }) (drop more (drop read part)) room → IsFull v (v.held ++ drop (read + end) part) room
+pub FeedsInto-then : (r s v : Recoding) (part old mid new : List ℕ) (read more wrote all end n : ℕ) → FeedsInto r part old mid read wrote s → end ≤ more + 3 → end ≤ length (drop read part)
+    → wrote ≤ all → all ≤ length old → drop all new ≡ drop all mid
+    → v ≡ record s { held = take (end - more) (drop more (drop read part)); replaced = n } → Grows r.from r.to (r.held ++ take (read + end) part) [] (take all new) v.held
+    → FeedsInto r part old new (read + end) all v
+FeedsInto-then r s v part old mid new read more wrote all end n f near within ordered fits rest k grows =
+    let fed = f.feeds [] in
+    let few : length v.held ≤ 3 = omega (arith, ap (λ x. length x.held) k, length-take (end - more) (drop more (drop read part))) in
+    FeedsInto-of r v part old new (read + end) all (ap (λ x. x.from) k ∙ fed.from) (ap (λ x. x.to) k ∙ fed.to) few (omega (arith, length-drop read part, f.within)) fits
+    grows (rest ∙ drop_later mid old wrote all ordered f.rest)
+
+pub IsFull-then : (s v : Recoding) (from to : Form) (part : List ℕ) (read more end room : ℕ) {n : ℕ} → from ≡ s.from → to ≡ s.to → more ≤ end
+    → v ≡ record s { held = take (end - more) (drop more (drop read part)); replaced = n }
+    → NextIsTooLong from to (drop more (drop read part)) room → IsFull v (v.held ++ drop (read + end) part) room
 IsFull-then s v from to part read more end room e f le k full =
     let xs : List ℕ = drop read part in
     let place : more + (end - more) ≡ end = omega arith in

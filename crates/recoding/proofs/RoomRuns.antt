@@ -1,6 +1,6 @@
 -- What grows by the three bytes that follow, step by step, and how long codes are.
-use Rattle.std.proofs.Common.{◌≡◌, ℕ, Bool, true, false, ◌+◌, ◌-◌, ◌<◌, ◌≤◌, List, [], ◌++◌, length, take, drop, flat_map, arith, ap, ap₂, sym, ⊎_elim, subst, ◌∙◌, append_assoc, length-take}
-use Rattle.std.proofs.lemmas.List.{drop-drop, take-take, take_all}
+use Rattle.std.proofs.Common.{◌≡◌, ℕ, Bool, true, false, ◌+◌, ◌<◌, ◌≤◌, List, [], ◌++◌, length, take, drop, flat_map, arith, ap, ap₂, sym, ⊎_elim, subst, ◌∙◌, append_assoc}
+use Rattle.std.proofs.lemmas.List.{drop-drop}
 use Rattle.std.proofs.lemmas.Bool.{cases_lt}
 use Rattle.utf_base.specs.Code.{utf16}
 use Rattle.utf_base.specs.Scalar.{IsScalar}
@@ -9,27 +9,28 @@ use Rattle.utf_base.proofs.Utf16Code.{utf16-1, utf16-2}
 use Rattle.recoding.specs.declared.form.Form.{Form}
 use Rattle.recoding.specs.declared.room.Room.{Room}
 use Rattle.recoding.specs.declared.form.Form.TheVariants.{Utf8, Utf16Le, Utf16Be}
-use Rattle.recoding.specs.Recoded.{written, Grows}
+use Rattle.recoding.specs.Recoded.{written}
 use Rattle.utf_lanes.specs.BytePairs.{bytes_of}
 use Rattle.recoding.specs.FilledRooms.{FillsRoom}
 use Rattle.recoding.specs.Rooms.{Fills}
-use Rattle.recoding.proofs.Growing.{Grows-trans}
-use Rattle.recoding.proofs.RoomLemmas.{cut_part, drop_later, take_more, Grows-more-read}
+use Rattle.recoding.specs.Faults.{Advances}
+use Rattle.recoding.proofs.Advancing.{Advances-trans}
+use Rattle.recoding.proofs.RoomLemmas.{drop_later, take_more, Advances-more-read}
 
 -- one run after another, each by the three bytes that follow it
-pub Grows-after : (from to : Form) (bytes old mid new : List ℕ) (p n : ℕ) → Grows from to (take (p + 3) bytes) old mid (take 3 (drop p bytes))
-    → Grows from to (take (n + 3) (drop p bytes)) mid new (take 3 (drop n (drop p bytes))) → Grows from to (take (p + n + 3) bytes) old new (take 3 (drop (p + n) bytes))
-Grows-after from to bytes old mid new p n g h =
+pub Advances-after : (from to : Form) (bytes old mid new : List ℕ) (p n : ℕ) {j k : ℕ} → Advances from to (take (p + 3) bytes) old mid (take 3 (drop p bytes)) j
+    → Advances from to (take (n + 3) (drop p bytes)) mid new (take 3 (drop n (drop p bytes))) k → Advances from to (take (p + n + 3) bytes) old new (take 3 (drop (p + n) bytes)) (j + k)
+Advances-after from to bytes old mid new p n {j} {k} g h =
     let xs : List ℕ = drop p bytes in
-    let first : Grows from to (take (p + 3 + n) bytes) old mid (take 3 xs ++ take n (drop (p + 3) bytes)) = Grows-more-read from to [] bytes (take 3 xs) old mid (p + 3) n g in
+    let first : Advances from to (take (p + 3 + n) bytes) old mid (take 3 xs ++ take n (drop (p + 3) bytes)) j = Advances-more-read from to [] bytes (take 3 xs) old mid (p + 3) n g in
     let turned : 3 + n ≡ n + 3 = omega arith in
     let looked : take 3 xs ++ take n (drop (p + 3) bytes) ≡ take (n + 3) xs =
     ap (λ ys. take 3 xs ++ take n ys) (sym (drop-drop 3 p bytes)) ∙ take_more 3 n xs ∙ ap (λ k. take k xs) turned in
     let end : p + 3 + n ≡ p + n + 3 = omega arith in
-    let begun : Grows from to (take (p + n + 3) bytes) old mid (take (n + 3) xs) =
-    subst (λ k. Grows from to (take k bytes) old mid (take (n + 3) xs)) end (subst (λ ys. Grows from to (take (p + 3 + n) bytes) old mid ys) looked first) in
-    let left : Grows from to (take (n + 3) xs) mid new (take 3 (drop (p + n) bytes)) = subst (λ ys. Grows from to (take (n + 3) xs) mid new (take 3 ys)) (drop-drop n p bytes) h in
-    Grows-trans from to (take (p + n + 3) bytes) (take (n + 3) xs) (take 3 (drop (p + n) bytes)) old mid new begun left
+    let begun : Advances from to (take (p + n + 3) bytes) old mid (take (n + 3) xs) j =
+    subst (λ m. Advances from to (take m bytes) old mid (take (n + 3) xs) j) end (subst (λ ys. Advances from to (take (p + 3 + n) bytes) old mid ys j) looked first) in
+    let left : Advances from to (take (n + 3) xs) mid new (take 3 (drop (p + n) bytes)) k = subst (λ ys. Advances from to (take (n + 3) xs) mid new (take 3 ys) k) (drop-drop n p bytes) h in
+    Advances-trans from to (take (p + n + 3) bytes) (take (n + 3) xs) (take 3 (drop (p + n) bytes)) old mid new begun left
 
 few_units : (high : Bool) (s : ℕ) → length (flat_map (bytes_of high) (utf16 s)) ≤ 4
 few_units true s = ⊎_elim (λ (low : s < 0x1_0000). rw (utf16-1 s low) (omega arith)) (λ (high : 0x1_0000 ≤ s). rw (utf16-2 s high) (omega arith)) (cases_lt s 0x1_0000)
@@ -50,39 +51,6 @@ pub some_written : (to : Form) (s : ℕ) → IsScalar s → 0 < length (written 
 some_written Utf8 s scalar = utf8_is_code.some s scalar
 some_written Utf16Le s scalar = some_units false s
 some_written Utf16Be s scalar = some_units true s
-
--- A run over the first bytes of some is one over all of them.
-
-Grows-clipped : (from to : Form) (bytes old new : List ℕ) (count read : ℕ) → read ≤ count → count ≤ read + 3 → Grows from to (take count bytes) old new (take (count - read) (drop read bytes))
-    → Grows from to (take (read + 3) bytes) old new (take 3 (drop read bytes))
-Grows-clipped from to bytes old new count read le few g =
-    let more : Grows from to (take (count + (read + 3 - count)) bytes) old new (take (count - read) (drop read bytes) ++ take (read + 3 - count) (drop count bytes)) =
-    Grows-more-read from to [] bytes (take (count - read) (drop read bytes)) old new count (read + 3 - count) g in
-    let all : count + (read + 3 - count) ≡ read + 3 = omega arith in
-    let place : read + (count - read) ≡ count = omega arith in
-    let three : count - read + (read + 3 - count) ≡ 3 = omega arith in
-    let left : drop count bytes ≡ drop (count - read) (drop read bytes) = ap (λ k. drop k bytes) (sym place) ∙ sym (drop-drop (count - read) read bytes) in
-    let held : take (count - read) (drop read bytes) ++ take (read + 3 - count) (drop count bytes) ≡ take 3 (drop read bytes) =
-    ap (λ ys. take (count - read) (drop read bytes) ++ take (read + 3 - count) ys) left ∙ take_more (count - read) (read + 3 - count) (drop read bytes) ∙ ap (λ k. take k (drop read bytes)) three in
-    subst (λ ys. Grows from to (take (read + 3) bytes) old new ys) held
-    (subst (λ k. Grows from to (take k bytes) old new (take (count - read) (drop read bytes) ++ take (read + 3 - count) (drop count bytes))) all more)
-
-pub Grows-part : (from to : Form) (bytes old new : List ℕ) (count read : ℕ) → read ≤ count → Grows from to (take (read + 3) (take count bytes)) old new (take 3 (drop read (take count bytes)))
-    → Grows from to (take (read + 3) bytes) old new (take 3 (drop read bytes))
-Grows-part from to bytes old new count read le g =
-    let cut : drop read (take count bytes) ≡ take (count - read) (drop read bytes) = sym (cut_part read count bytes le) in
-    ⊎_elim
-    (λ (lt : count < read + 3).
-    let whole : take (read + 3) (take count bytes) ≡ take count bytes = take_all (read + 3) (take count bytes) (omega (arith, length-take count bytes)) in
-    let left : take 3 (drop read (take count bytes)) ≡ take (count - read) (drop read bytes)
-    = ap (take 3) cut ∙ take_all 3 (take (count - read) (drop read bytes)) (omega (arith, length-take (count - read) (drop read bytes))) in
-    Grows-clipped from to bytes old new count read le (omega arith)
-    (subst (λ ys. Grows from to (take count bytes) old new ys) left (subst (λ ys. Grows from to ys old new (take 3 (drop read (take count bytes)))) whole g)))
-    (λ (ge : read + 3 ≤ count).
-    let whole : take (read + 3) (take count bytes) ≡ take (read + 3) bytes = take-take (read + 3) count bytes ge in
-    let left : take 3 (drop read (take count bytes)) ≡ take 3 (drop read bytes) = ap (take 3) cut ∙ take-take 3 (count - read) (drop read bytes) (omega arith) in
-    subst (λ ys. Grows from to (take (read + 3) bytes) old new ys) left (subst (λ ys. Grows from to ys old new (take 3 (drop read (take count bytes)))) whole g))
-    (cases_lt count (read + 3))
 
 -- What was put into a slice at a place.
 pub Fills-of : {old new xs : List ℕ} {place : ℕ} (a b : Room) → a.bytes.now ≡ old → a.len ≡ place → b.bytes.now ≡ new → FillsRoom a xs b → Fills old new place b.len xs

@@ -15,7 +15,7 @@ use Rattle.recoding.specs.declared.form.Form.{Form}
 use Rattle.recoding.specs.declared.form.Form.TheVariants.{Utf8, Utf16Le, Utf16Be}
 use Rattle.recoding.specs.declared.strict.HeldRun.{HeldRun}
 use Rattle.recoding.specs.declared.strict_runs.StrictRun.{StrictRun}
-use Rattle.recoding.proofs.FirstPieces.{fault_is_some}
+use Rattle.recoding.proofs.FrontBytes.{fault_is_some}
 use Rattle.recoding.proofs.RoomRuns.{few_written}
 use Rattle.recoding.proofs.TextRuns.{RecodesText-run, RunsStrictly-char, code_room, text_room}
 
@@ -76,6 +76,8 @@ fault_parts n w held rest e = sym (take-append-drop n w) ∙ ap (λ zs. take n w
 pub RecodesText-char : {from to : Form} {all left old mid new : List ℕ} {wrote s n end : ℕ} → RecodesText from to all left old mid wrote → length mid ≡ length old
     → BeginsChar from left s n → Fills mid new wrote end (written to s) → RecodesText from to all (drop n left) old new end
 RecodesText-char f len d fills = RecodesText-run f len (RunsStrictly-char d fills)
+
+-- How much room a call takes.
 
 -- Three bytes of room for each byte are enough.
 pub enough_room : {from to : Form} {all left old new : List ℕ} {wrote : ℕ} → RecodesText from to all left old new wrote → length new ≡ length old → 3 * length all ≤ length old
@@ -189,16 +191,17 @@ pass_left n read more held now part e f = drop_left n read held part ∙ ap₂ (
 pub pass_within : (n read more : ℕ) (held part : List ℕ) → n ≤ length (held ++ drop read part) → read ≤ length part → more ≡ n - length held → read + more ≤ length part
 pass_within n read more held part within le e = omega (arith, length-append held (drop read part), length-drop read part)
 
-pub PassesHeld-of : (r s : Recoding) (from to : Form) (part old new : List ℕ) (run : HeldRun) (fault w : List ℕ) → from ≡ r.from → to ≡ r.to → s.from ≡ r.from → s.to ≡ r.to → length s.held ≤ 3
+pub PassesHeld-of : (r s : Recoding) (from to : Form) (part old new : List ℕ) (run : HeldRun) (fault w : List ℕ) → from ≡ r.from → to ≡ r.to → s.from ≡ r.from → s.to ≡ r.to → s.replaced ≡ r.replaced → length s.held ≤ 3
     → run.read ≤ length part → RecodesText from to (r.held ++ part) w old new run.written → w ≡ fault ++ (s.held ++ drop run.read part)
     → EndsHeld from to run.outcome fault s.held (drop run.read part) (length old - run.written) → PassesHeld r part old new run s
-PassesHeld-of r s from to part old new run fault w e f i j few within recodes left ends = record {
+PassesHeld-of r s from to part old new run fault w e f i j same few within recodes left ends = record {
   fault = fault;
   recodes = rw (e, f, left) at recodes;
   ends = rw (e, f) at ends;
   within = within;
   from = i;
   to = j;
+  replaced = same;
   few = few;
 }
 
@@ -212,6 +215,7 @@ FeedsStrictly-held r s part old new run o f e = record {
   within = f.within;
   from = f.from;
   to = f.to;
+  replaced = f.replaced;
   few = f.few;
 }
 
@@ -234,15 +238,16 @@ FeedsStrictly-run r s v from to part old mid new read wrote run ended e f h len 
       within = omega (arith, ends.within, length-drop read part, h.within);
       from = ends.from ∙ i;
       to = ends.to ∙ j;
+      replaced = ends.replaced ∙ h.replaced;
       few = ends.few;
     }
 
 -- What was held, which nothing follows.
 
-pub FinishesStrictly-fault : (r s v : Recoding) (from to : Form) (old new : List ℕ) (wrote n : ℕ) (k : FaultKind) → from ≡ r.from → to ≡ r.to → s.from ≡ r.from → s.to ≡ r.to
-    → length s.held ≤ length r.held → RecodesText from to r.held s.held old new wrote → EndsInFault from s.held k n → v ≡ record { from = s.from; to = s.to; held = drop n s.held }
+pub FinishesStrictly-fault : (r s v : Recoding) (from to : Form) (old new : List ℕ) (wrote n : ℕ) (k : FaultKind) → from ≡ r.from → to ≡ r.to → s.from ≡ r.from → s.to ≡ r.to → s.replaced ≡ r.replaced
+    → length s.held ≤ length r.held → RecodesText from to r.held s.held old new wrote → EndsInFault from s.held k n → v ≡ record s { held = drop n s.held }
     → FinishesStrictly r old new (record { read = 0; written = wrote; outcome = Faulty (record { kind = k; len = n; back = n + length v.held }) }) v
-FinishesStrictly-fault r s v from to old new wrote n k e f i j few recodes ends now =
+FinishesStrictly-fault r s v from to old new wrote n k e f i j same few recodes ends now =
     let held = ap (λ x. x.held) now in
     let all : s.held ≡ take n s.held ++ v.held = sym (take-append-drop n s.held) ∙ ap (λ xs. take n s.held ++ xs) (sym held) in
     let len : length (take n s.held) ≡ n = omega (arith, length-take n s.held, ends.len) in
@@ -252,5 +257,6 @@ FinishesStrictly-fault r s v from to old new wrote n k e f i j few recodes ends 
       ends = (rw len (subst (λ xs. EndsInFault r.from xs k n) all (rw e at ends)), record { len = sym len; back = ap (λ m. m + length v.held) (sym len) });
       from = ap (λ x. x.from) now ∙ i;
       to = ap (λ x. x.to) now ∙ j;
+      replaced = ap (λ x. x.replaced) now ∙ same;
       few = omega (arith, ap length held, length-drop n s.held);
     }

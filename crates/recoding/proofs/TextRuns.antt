@@ -1,37 +1,30 @@
 -- Text recoded, and no fault: step by step.
-use Rattle.std.proofs.Common.{suc, ◌<◌, lit<, take-add, ◌≡◌, ℕ, ◌+◌, ◌-◌, ◌*◌, ◌/◌, ◌≤◌, Bool, List, [], ◌∷◌, ◌++◌, length, get_or, take, drop, flat_map, arith, refl, ap, ap₂, sym, ◌∙◌, append_assoc, length-append, length-drop, length-take, take-append-drop, Fits, w8, IsUtf8}
+use Rattle.std.proofs.Common.{◌≡◌, ℕ, suc, lit<, ◌∷◌, length-append, ◌+◌, ◌-◌, ◌*◌, ◌/◌, ◌≤◌, Bool, List, [], ◌++◌, length, get_or, take, drop, flat_map, arith, refl, ap, ap₂, sym, ◌∙◌, append_assoc, length-drop, length-take, take-append-drop, Fits, w8, IsUtf8}
+use Rattle.std.specs.Prelude.{All}
 use Rattle.std.proofs.lemmas.List.{append-nil, take_rest, take-take}
 use Rattle.std.proofs.lemmas.List.Concat.{flat_map-append}
 use Rattle.std.proofs.lemmas.List.Elements.{All-append, All-nil, All-cons}
 use Rattle.encode_unicode.proofs.TextScalars.{joined_from_text}
-use Rattle.std.specs.Prelude.{All}
-use Rattle.utf_base.proofs.Utf8Code.{utf8-4}
-use Rattle.utf_base.proofs.Utf16Code.{utf16-2}
 use Rattle.utf_base.specs.Scalar.{IsScalar}
-use Rattle.utf_lanes.specs.AsciiTexts.{AreAscii}
-use Rattle.utf_lanes.specs.BytePairs.{unit_of, units_of, bytes_of, turned}
-use Rattle.utf_lanes.specs.GivenUnits.{given, joined}
+use Rattle.utf_lanes.specs.BytePairs.{units_of, bytes_of, turned}
+use Rattle.utf_lanes.specs.GivenUnits.{given}
 use Rattle.utf_lanes.specs.UnitBlocks.{AreCodes}
-use Rattle.utf_lanes.specs.UnitCodes.{lane_unit, code_at}
 use Rattle.recoding.specs.FilledRooms.{FillsRoom}
-use Rattle.recoding.specs.Recoded.{written, IsRecoded}
-use Rattle.recoding.specs.Recodes.{CopiesUnits, PutsUnits, Recodes, differ}
-use Rattle.recoding.specs.UnitRuns.{widened}
+use Rattle.recoding.specs.Recoded.{written}
+use Rattle.recoding.specs.Recodes.{CopiesUnits, differ}
 use Rattle.recoding.specs.Rooms.{Fills}
 use Rattle.recoding.specs.ShownFronts.{IsUnits}
 use Rattle.recoding.specs.Strict.{Transcodes, BeginsChar, PutsText, RunsStrictly, RecodesText}
 use Rattle.recoding.specs.declared.form.Form.{Form}
 use Rattle.recoding.specs.declared.form.Form.TheVariants.{Utf8, Utf16Le, Utf16Be}
 use Rattle.recoding.specs.declared.room.Room.{Room}
-use Rattle.recoding.proofs.Blocks.{ascii_codes, ascii_units, ascii_scalars}
 use Rattle.recoding.proofs.CopiedUnits.{all_written, coded_bytes, front_fits, in_order}
 use Rattle.recoding.proofs.GivenRuns.{given_codes}
-use Rattle.recoding.proofs.Growing.{length_written}
-use Rattle.recoding.proofs.NarrowedUnits.{Transcodes-narrowed}
 use Rattle.recoding.proofs.RoomLemmas.{drop_later, take_more}
+use Rattle.recoding.proofs.Growing.{length_written}
 use Rattle.recoding.proofs.RoomRuns.{Fills-then, some_written}
-use Rattle.recoding.proofs.TextLaws.{text_is_recoded}
-use Rattle.recoding.proofs.WidenedTexts.{units_written}
+use Rattle.utf_base.proofs.Utf8Code.{utf8-4}
+use Rattle.utf_base.proofs.Utf16Code.{utf16-2}
 
 -- The same text in two forms.
 
@@ -56,7 +49,7 @@ Transcodes-then {from} {to} f g = record {
 
 -- How much room a text takes.
 
-wide_written : (from : Form) (s : ℕ) → 0x1_0000 ≤ s → 2 ≤ length (written from s)
+pub wide_written : (from : Form) (s : ℕ) → 0x1_0000 ≤ s → 2 ≤ length (written from s)
 wide_written Utf8 s high = let len : length (written Utf8 s) ≡ 4 = ap length (utf8-4 s high) in omega arith
 wide_written Utf16Le s high = rw (utf16-2 s high) (lit< tt)
 wide_written Utf16Be s high = rw (utf16-2 s high) (lit< tt)
@@ -100,34 +93,36 @@ module _ {O : Type 0} {appends : O → List ℕ → O → Type 0} {from to : For
       → PutsText appends from to bytes old mid p → PutsText appends from to (take (length bytes - p) (drop p bytes)) mid new n → n ≡ 0 → PutsText appends from to bytes old new p
   PutsText-done more {p} {n} f rest none = let same : p + n ≡ p = omega arith in rw same at (PutsText-then more f rest)
 
+  -- a character, told by four bytes
+  pub PutsText-char : ((a b c : O) (xs ys : List ℕ) → appends a xs b → appends b ys c → appends a (xs ++ ys) c) → {old mid new : O} {p s n : ℕ}
+      → PutsText appends from to bytes old mid p → BeginsChar from (take 4 (drop p bytes)) s n → appends mid (written to s) new → PutsText appends from to bytes old new (p + n)
+  PutsText-char more {old} {mid} {new} {p} {s} {n} f d put =
+      let within = d.within in
+      let le : n ≤ 4 = omega (arith, length-take 4 (drop p bytes)) in
+      let code : take n (drop p bytes) ≡ written from s = sym (take-take n 4 (drop p bytes) le) ∙ d.code in
+      let one : PutsText appends from to (drop p bytes) mid new n = record {
+        within = omega (arith, length-take 4 (drop p bytes));
+        grown = written to s;
+        appended = put;
+        transcodes = rw code (Transcodes-one from to s d.scalar);
+      } in
+      PutsText-then more f (rw (take_rest bytes p) one)
+
   -- the first bytes of some
   pub PutsText-part : {old new : O} {n : ℕ} (count : ℕ) → PutsText appends from to (take count bytes) old new n → PutsText appends from to bytes old new n
   PutsText-part {n} count f =
       let within = f.within in
       let le : n ≤ count = omega (arith, length-take count bytes) in
-      record {
-        within = omega (arith, length-take count bytes);
-        grown = f.grown;
-        appended = f.appended;
-        transcodes = rw (take-take n count bytes le) at f.transcodes;
-      }
+      record { within = omega (arith, length-take count bytes); grown = f.grown; appended = f.appended; transcodes = rw (take-take n count bytes le) at f.transcodes }
 
-  -- It is recoded, whatever follows it.
-  pub Recodes-text : {old new : O} {n : ℕ} → PutsText appends from to bytes old new n → Recodes appends from to bytes old new n
-  Recodes-text {n} f =
-      let within = f.within in
-      let parts : take (n + 3) bytes ≡ take n bytes ++ take 3 (drop n bytes) = take-add n 3 bytes in
-      let recoded : (later rest : List ℕ) → IsRecoded from to (take 3 (drop n bytes) ++ later) rest → IsRecoded from to (take (n + 3) bytes ++ later) (f.grown ++ rest)
-      = λ later rest r.
-      rw (parts, append_assoc (take n bytes) (take 3 (drop n bytes)) later)
-      (text_is_recoded from to (take n bytes) f.grown (take 3 (drop n bytes) ++ later) rest f.transcodes r) in
-      record {
-        grown = f.grown;
-        appended = f.appended;
-        within = within;
-        short = omega (arith, text_room f.transcodes, length-take n bytes);
-        grows = record { grown = f.grown; appended = refl; continues = recoded };
-      }
+  -- room for all bytes is room for a character that begins the ones left
+  pub room_for_char : {room : O → ℕ} → ((a b : O) (xs : List ℕ) → appends a xs b → room a ≤ room b + length xs) → {old mid : O} {p s n : ℕ}
+      → PutsText appends from to bytes old mid p → BeginsChar from (take 4 (drop p bytes)) s n → 3 * length bytes ≤ room old → length (written to s) ≤ room mid
+  room_for_char law {old} {mid} {p} {s} {n} f d all =
+      let within = d.within in
+      let start = f.within in
+      let here : length (written from s) ≡ n = ap length (sym d.code) ∙ omega (arith, length-take n (take 4 (drop p bytes))) in
+      omega (arith, all, law old mid f.grown f.appended, text_room f.transcodes, length-take p bytes, code_room from to s d.scalar, here, length-drop p bytes, length-take 4 (drop p bytes))
 
 -- Text in UTF-8 as it is, and as units.
 
@@ -148,57 +143,8 @@ PutsText-given {to} {bytes} {n} high form within text put =
       transcodes = record { scalars = t.0; all = t.1.0; codes = t.1.1; made = sym (given_codes high to form (take n bytes) t.0 t.1.0 t.1.1) };
     }
 
-pub PutsText-widened : {O : Type 0} {appends : O → List ℕ → O → Type 0} {old new : O} {to : Form} {bytes : List ℕ} {n : ℕ} (high : Bool) → IsUnits high to → n ≤ length bytes
-    → AreAscii (take n bytes) 0 (length (take n bytes)) → appends old (widened high (take n bytes)) new → PutsText appends Utf8 to bytes old new n
-PutsText-widened {to} {bytes} {n} high form within low put = record {
-  within = within;
-  grown = widened high (take n bytes);
-  appended = put;
-  transcodes = record {
-    scalars = take n bytes;
-    all = ascii_scalars (take n bytes) low;
-    codes = sym (ascii_codes (take n bytes) low);
-    made = sym (units_written high to (take n bytes) form low);
-  };
-}
-
 -- Units, in bytes.
 
--- eight of ASCII
-pub PutsText-ascii : {O : Type 0} {appends : O → List ℕ → O → Type 0} {old new : O} {from : Form} {bytes : List ℕ} (high : Bool) (ascii : List ℕ) → IsUnits high from
-    → ((j : ℕ) → Fits w8 (get_or bytes j 0)) → 16 ≤ length bytes → units_of high (take 16 bytes) ≡ ascii → length ascii ≡ 8 → AreAscii ascii 0 8 → appends old ascii new
-    → PutsText appends from Utf8 bytes old new 16
-PutsText-ascii {from} {bytes} high ascii form fits within e eight low put =
-    let each : AreAscii ascii 0 (length ascii) = λ k ge lt. low k ge (omega arith) in
-    let codes : AreCodes (units_of high (take 16 bytes)) = record { scalars = ascii; all = ascii_scalars ascii each; codes = e ∙ ascii_units ascii each } in
-    record {
-      within = within;
-      grown = ascii;
-      appended = put;
-      transcodes = record {
-        scalars = ascii;
-        all = ascii_scalars ascii each;
-        codes = coded_bytes high from (take 16 bytes) 8 form codes (omega (arith, length-take 16 bytes)) (front_fits bytes 16 fits);
-        made = sym (ascii_codes ascii each);
-      };
-    }
-
--- sixteen of any text, or fifteen, or none
-pub PutsText-narrowed : {O : Type 0} {appends : O → List ℕ → O → Type 0} {old new : O} {from : Form} {bytes low more : List ℕ} {n : ℕ} (high : Bool) → IsUnits high from
-    → ((j : ℕ) → Fits w8 (get_or bytes j 0)) → 32 ≤ length bytes
-    → ((k : ℕ) → k < 16 → lane_unit low more k ≡ unit_of high (get_or bytes (2 * k) 0) (get_or bytes (2 * k + 1) 0)) → PutsUnits appends low more old new n
-    → PutsText appends from Utf8 bytes old new (2 * n)
-PutsText-narrowed {from} {bytes} {low} {more} {n} high form fits long same put =
-    let most = put.most in
-    let enough : 2 * n ≤ length bytes = omega arith in
-    record {
-      within = enough;
-      grown = joined (code_at (lane_unit low more)) 0 n;
-      appended = put.appended;
-      transcodes = Transcodes-narrowed high from bytes (lane_unit low more) n form fits enough (λ k lt. same k (omega arith)) put.text;
-    }
-
--- all, where the room is for so many bytes
 pub PutsText-units : {O : Type 0} {appends : O → List ℕ → O → Type 0} {old new : O} {from to : Form} {bytes : List ℕ} {n : ℕ} (high other : Bool) (count : ℕ) → IsUnits high from → IsUnits other to
     → ((j : ℕ) → Fits w8 (get_or bytes j 0)) → CopiesUnits appends high (differ high other) (take count bytes) old new n → PutsText appends from to bytes old new n
 PutsText-units {appends} {old} {new} {from} {to} {bytes} {n} high other count reads writes fits copied =

@@ -2,12 +2,17 @@
 use Rattle.std.proofs.Common.{◌≡◌, ℕ, zero, suc, ◌+◌, ◌*◌, ◌/◌, ◌%◌, ◌<◌, ◌≤◌, Bool, true, false, List, [], ◌∷◌, ◌++◌, length, get_or, take, drop, flat_map, arith, refl, sym, ap, ap₂, ◌∙◌, drop-cons, take-add, take-append-drop, length-append, length-take}
 use Rattle.std.proofs.lemmas.Grind.{flat_map-append}
 use Rattle.std.proofs.lemmas.List.{append-nil, take_all}
+use Rattle.std.specs.Prelude.{All}
+use Rattle.utf_base.specs.Code.{utf8}
+use Rattle.utf_base.specs.Scalar.{IsScalar}
+use Rattle.utf_base.proofs.Utf8Code.{utf8-1, ascii_is_scalar}
 use Rattle.utf_base.proofs.Utf16Code.{utf16-1}
 use Rattle.recoding.specs.declared.form.Form.{Form}
 use Rattle.recoding.specs.declared.form.Form.TheVariants.{Utf8, Utf16Le, Utf16Be}
 use Rattle.recoding.specs.Recoded.{written}
 use Rattle.recoding.specs.ShownFronts.{IsUnits}
 use Rattle.utf_lanes.specs.GivenUnits.{joined, halves}
+use Rattle.recoding.specs.Strict.{PutsText}
 use Rattle.utf_lanes.specs.AsciiTexts.{AreAscii}
 use Rattle.recoding.specs.UnitRuns.{widened}
 use Rattle.utf_lanes.proofs.Joined.{joined_add}
@@ -54,7 +59,7 @@ block_widened high v first second n long e f =
     let at : 0 + n ≡ n = omega arith in
     ap₂ (λ xs ys. xs ++ ys) e f ∙ sym (rw at at whole) ∙ joined_widened high v 0 (n + n) (omega (arith, long)) ∙ ap (widened high) all
 
--- The codes of ASCII.
+-- Its codes.
 
 unit_written : (high : Bool) (to : Form) (b : ℕ) → IsUnits high to → b < 0x80 → written to b ≡ halves high b 0
 unit_written high Utf8 b form lt = absurd form
@@ -67,7 +72,32 @@ unit_written high Utf16Be b form lt =
     let low_byte : b % 256 ≡ b = omega arith in
     rw (form, utf16-1 b (omega arith), high_byte, low_byte) refl
 
-pub units_written : (high : Bool) (to : Form) (xs : List ℕ) → IsUnits high to → AreAscii xs 0 (length xs) → flat_map (written to) xs ≡ widened high xs
+units_written : (high : Bool) (to : Form) (xs : List ℕ) → IsUnits high to → AreAscii xs 0 (length xs) → flat_map (written to) xs ≡ widened high xs
 units_written high to [] form low = refl
 units_written high to (b ∷ bs) form low =
     ap₂ (λ ys zs. ys ++ zs) (unit_written high to b form (low 0 (omega arith) (omega arith))) (units_written high to bs form (λ k ge lt. low (suc k) (omega arith) (omega arith)))
+
+pub ascii_codes : (xs : List ℕ) → AreAscii xs 0 (length xs) → flat_map utf8 xs ≡ xs
+ascii_codes [] low = refl
+ascii_codes (b ∷ bs) low =
+    ap₂ (λ ys zs. ys ++ zs) (utf8-1 b (low 0 (omega arith) (omega arith))) (ascii_codes bs (λ k ge lt. low (suc k) (omega arith) (omega arith)))
+
+pub ascii_scalars : (xs : List ℕ) → AreAscii xs 0 (length xs) → All IsScalar xs
+ascii_scalars [] low k d lt = absurd (omega arith)
+ascii_scalars (x ∷ xs) low zero d lt = ascii_is_scalar x (low 0 (omega arith) (omega arith))
+ascii_scalars (x ∷ xs) low (suc k) d lt = ascii_scalars xs (λ j ge le. low (suc j) (omega arith) (omega arith)) k d (omega arith)
+
+-- So a text of ASCII is recoded as its units.
+pub PutsText-widened : {O : Type 0} {appends : O → List ℕ → O → Type 0} {old new : O} {to : Form} {bytes : List ℕ} {n : ℕ} (high : Bool) → IsUnits high to → n ≤ length bytes
+    → AreAscii (take n bytes) 0 (length (take n bytes)) → appends old (widened high (take n bytes)) new → PutsText appends Utf8 to bytes old new n
+PutsText-widened {to} {bytes} {n} high form within low put = record {
+  within = within;
+  grown = widened high (take n bytes);
+  appended = put;
+  transcodes = record {
+    scalars = take n bytes;
+    all = ascii_scalars (take n bytes) low;
+    codes = sym (ascii_codes (take n bytes) low);
+    made = sym (units_written high to (take n bytes) form low);
+  };
+}

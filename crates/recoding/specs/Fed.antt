@@ -1,15 +1,15 @@
 -- Parts that are fed one after another: they are one part.
 use Rattle.std.specs.Prelude.{◌≡◌, ℕ, List, [], ◌++◌}
 use Rattle.recoding.specs.declared.form.Form.{Form}
-use Rattle.recoding.specs.Recoded.{Recoding, IsRecoded, Feeds, Finishes}
+use Rattle.recoding.specs.Recoded.{Recoding, IsRecoded, Feeds, Finishes, fresh}
 
 -- A new recoder was fed these bytes, in any parts, and `out` came of them: as where they are one part.
 pub record IsFed (from to : Form) (bytes out : List ℕ) (r : Recoding) : Type 0 where
-  pub once : Feeds (record { from = from; to = to; held = [] }) bytes [] out r
+  pub once : Feeds (fresh from to) bytes [] out r
 
 -- a new recoder was fed nothing
 abbrev pub NothingIsFed : Type 0
-NothingIsFed = (from to : Form) → IsFed from to [] [] (record { from = from; to = to; held = [] })
+NothingIsFed = (from to : Form) → IsFed from to [] [] (fresh from to)
 
 -- and what was fed grows by each part
 abbrev pub PartIsFed : Type 0
@@ -27,7 +27,7 @@ TwoPartsAreOne =
 abbrev pub TwoPartsAreRecoded : Type 0
 TwoPartsAreRecoded =
     (from to : Form) (part next old mid out new : List ℕ) (r s t : Recoding)
-    → r ≡ record { from = from; to = to; held = [] } → old ≡ []
+    → r ≡ fresh from to → old ≡ []
     → Feeds r part old mid s → Feeds s next mid out t → Finishes t out new → IsRecoded from to (part ++ next) new
 
 -- what came so far begins what all is recoded as, whatever follows

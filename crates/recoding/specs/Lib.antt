@@ -9,6 +9,7 @@ pub mod ShownFronts
 pub mod UnitRuns
 pub mod Outputs
 pub mod Recodes
+pub mod Faults
 pub mod Undecided
 pub mod FilledRooms
 pub mod Boundaries

@@ -60,11 +60,16 @@ RecodedOnce =
     (from to : Form) (bytes : List ℕ)
     → (out : List ℕ) × IsRecoded from to bytes out × ((other : List ℕ) → IsRecoded from to bytes other → other ≡ out)
 
--- What contracts see of a recoder: the forms, and the bytes that it holds.
+-- What contracts see of a recoder: the forms, the bytes that it holds, and how many faults it has replaced.
 pub record Recoding : Type 0 where
   pub from : Form
   pub to : Form
   pub held : List ℕ
+  pub replaced : ℕ
+
+-- one that holds nothing and has replaced nothing
+abbrev pub fresh : Form → Form → Recoding
+fresh from to = record { from = from; to = to; held = []; replaced = 0 }
 
 -- what an output holds has grown by what the bytes are recoded as, up to the held ones
 pub record Grows (from to : Form) (bytes old new held : List ℕ) : Type 0 where
@@ -94,11 +99,11 @@ FeedsEach r (part ∷ parts) old new = (s : Recoding) × (mid : List ℕ) × Fee
 abbrev pub PartsAreRecoded : Type 0
 PartsAreRecoded =
     (from to : Form) (parts : List (List ℕ)) (out : List ℕ)
-    → FeedsEach (record { from = from; to = to; held = [] }) parts [] out → IsRecoded from to (concat parts) out
+    → FeedsEach (fresh from to) parts [] out → IsRecoded from to (concat parts) out
 
 -- so it is the same however they are cut
 abbrev pub PartsDoNotMatter : Type 0
 PartsDoNotMatter =
     (from to : Form) (parts others : List (List ℕ)) (out other : List ℕ) → concat parts ≡ concat others
-    → FeedsEach (record { from = from; to = to; held = [] }) parts [] out
-    → FeedsEach (record { from = from; to = to; held = [] }) others [] other → out ≡ other
+    → FeedsEach (fresh from to) parts [] out
+    → FeedsEach (fresh from to) others [] other → out ≡ other

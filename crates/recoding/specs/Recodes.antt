@@ -1,10 +1,11 @@
 -- Recoding to the end of an output.
 use Rattle.std.specs.Prelude.{◌≡◌, ℕ, ◌+◌, ◌*◌, ◌%◌, ◌<◌, ◌≤◌, Bool, not, List, [], length, take, drop, IsTrue}
 use Rattle.std.proofs.Math.Bool.{beq}
-use Rattle.recoding.specs.Recoded.{Grows, Lacks}
-use Rattle.recoding.specs.Rooms.{IsFull}
+use Rattle.recoding.specs.Recoded.{Lacks}
+use Rattle.recoding.specs.Rooms.{NextIsTooLong}
 use Rattle.recoding.specs.declared.form.TheConstants.{WIDEST}
 use Rattle.recoding.specs.declared.engine.Reached.{Reached}
+use Rattle.recoding.specs.Faults.{Advances}
 use Rattle.recoding.specs.declared.form.Form.{Form}
 use Rattle.utf_lanes.specs.BytePairs.{units_of, turned}
 use Rattle.utf_lanes.specs.GivenUnits.{joined}
@@ -15,19 +16,21 @@ use Rattle.utf_lanes.specs.UnitCodes.{lane_unit, code_at, AreText}
 abbrev pub FitsAll : List ℕ → ℕ → Type 0
 FitsAll bytes room = WIDEST * length bytes ≤ room
 
--- So many bytes were recoded, by the three that follow them and no others, and what came of them was appended.
-pub record Recodes {O : Type 0} (appends : O → List ℕ → O → Type 0) (from to : Form) (bytes : List ℕ) (old new : O) (read : ℕ) : Type 0 where
+-- So many bytes were recoded, by the three that follow them and no others, so many faults were replaced, and what came of both
+-- was appended. No more than one fault came of each.
+pub record Recodes {O : Type 0} (appends : O → List ℕ → O → Type 0) (from to : Form) (bytes : List ℕ) (old new : O) (read faults : ℕ) : Type 0 where
   pub grown : List ℕ
   pub appended : appends old grown new
   pub within : read ≤ length bytes
   pub short : length grown ≤ WIDEST * read
-  pub grows : Grows from to (take (read + 3) bytes) [] grown (take 3 (drop read bytes))
+  pub few : faults ≤ read
+  pub advances : Advances from to (take (read + 3) bytes) [] grown (take 3 (drop read bytes)) faults
 
--- How far a run went: as many bytes were recoded as it says, and it ended before a code for which there is no room, or since
+-- How far a run went: so many bytes were recoded and so many faults replaced as it says, and it ended before a code for which there is no room, or since
 -- what follows decides, or neither.
 pub record Reaches {O : Type 0} (appends : O → List ℕ → O → Type 0) (room : O → ℕ) (from to : Form) (bytes : List ℕ) (old new : O) (reached : Reached) : Type 0 where
-  pub runs : Recodes appends from to bytes old new reached.read
-  pub full : IsTrue reached.is_full → IsFull (record { from = from; to = to; held = [] }) (drop reached.read bytes) (room new)
+  pub runs : Recodes appends from to bytes old new reached.read reached.replaced
+  pub full : IsTrue reached.is_full → NextIsTooLong from to (drop reached.read bytes) (room new)
   pub short : IsTrue reached.is_full → room new < 4
   pub waits : IsTrue reached.is_waiting → length bytes ≤ reached.read + 3
   pub lacks : IsTrue reached.is_waiting → Lacks from (drop reached.read bytes)

@@ -36,8 +36,12 @@ pub record BeginsLonger (shows : ℕ → ℕ → Type 0) (to : Form) (room : ℕ
   pub longer : room < length (written to scalar)
 
 -- The bytes that are left begin with a scalar, whatever follows them, whose code is longer than the room.
+abbrev pub NextIsTooLong : Form → Form → List ℕ → ℕ → Type 0
+NextIsTooLong from to left room = BeginsLonger (Decides (Reads from) left) to room
+
+-- so a recoder can go no further
 abbrev pub IsFull : Recoding → List ℕ → ℕ → Type 0
-IsFull r left room = BeginsLonger (Decides (Reads r.from) left) r.to room
+IsFull r left room = NextIsTooLong r.from r.to left room
 
 -- Where nothing follows the bytes, they are recoded as `grown`, and then as the held ones are.
 abbrev pub Leaves : Form → Form → List ℕ → List ℕ → List ℕ → Type 0
@@ -54,8 +58,11 @@ pub record FinishesInto (r : Recoding) (old new : List ℕ) (wrote : ℕ) (s : R
   pub rest : drop wrote new ≡ drop wrote old
 
 -- The bytes that are left, which nothing follows, begin with a scalar whose code is longer than the room.
+abbrev pub LastIsTooLong : Form → Form → List ℕ → ℕ → Type 0
+LastIsTooLong from to left room = BeginsLonger (Ends (Reads from) left) to room
+
 abbrev pub IsLastFull : Recoding → List ℕ → ℕ → Type 0
-IsLastFull r left room = BeginsLonger (Ends (Reads r.from) left) r.to room
+IsLastFull r left room = LastIsTooLong r.from r.to left room
 
 -- How much room recoding takes.
 

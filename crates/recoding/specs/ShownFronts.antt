@@ -1,6 +1,8 @@
 -- What the front of some bytes shows.
-use Rattle.std.specs.Prelude.{◌≡◌, ℕ, ◌<◌, ◌≤◌, ◌++◌, ◌∷◌, List, length, drop, Bool, true, false, if◌then◌else◌}
+use Rattle.std.specs.Prelude.{◌≡◌, ℕ, ◌+◌, ◌<◌, ◌≤◌, ◌++◌, ◌∷◌, List, length, drop, Bool, true, false, if◌then◌else◌}
 use Rattle.utf_base.specs.Scalar.{IsScalar}
+use Rattle.recoding.specs.Recoded.{Reads}
+use Rattle.recoding.specs.Faults.{CountsTo, fault_count}
 use Rattle.recoding.specs.declared.form.Form.{Form}
 use Rattle.recoding.specs.declared.form.Form.TheVariants.{Utf8, Utf16Le, Utf16Be}
 
@@ -20,16 +22,29 @@ pub record Ends (reads : List ℕ → List ℕ → Type 0) (w : List ℕ) (s n :
   pub wide : 0x1_0000 ≤ s → 2 ≤ n
   pub first : (ss : List ℕ) → reads (drop n w) ss → reads w (s ∷ ss)
 
+-- The same, and with so many faults.
+pub record Settles (from : Form) (w : List ℕ) (s n faults : ℕ) : Type 0 where
+  pub decides : Decides (Reads from) w s n
+  pub few : faults ≤ 1
+  pub counts : CountsTo from w faults (drop n w)
+
+-- and where nothing follows
+pub record SettlesLast (from : Form) (w : List ℕ) (s n faults : ℕ) : Type 0 where
+  pub ends : Ends (Reads from) w s n
+  pub few : faults ≤ 1
+  pub counts : fault_count from w ≡ faults + fault_count from (drop n w)
+
 -- how many bytes a fault has, where there are so many
 abbrev pub fault_len : Form → ℕ
 fault_len Utf8 = 1
 fault_len Utf16Le = 2
 fault_len Utf16Be = 2
 
--- There are few bytes, and what follows decides; where nothing does, a fault of so many bytes begins them.
-pub record Waits (reads : List ℕ → List ℕ → Type 0) (fault : ℕ) (w : List ℕ) : Type 0 where
+-- There are few bytes, and what follows decides; where nothing does, a fault begins them.
+pub record Waits (from : Form) (w : List ℕ) : Type 0 where
   pub few : length w ≤ 3
-  pub last : 0 < length w → (ss : List ℕ) → reads (drop fault w) ss → reads w (0xFFFD ∷ ss)
+  pub last : 0 < length w → (ss : List ℕ) → Reads from (drop (fault_len from) w) ss → Reads from w (0xFFFD ∷ ss)
+  pub counts : 0 < length w → fault_count from w ≡ 1 + fault_count from (drop (fault_len from) w)
 
 -- A code of three or four bytes that begins with the first byte may have this second one: table 3-7 of the Unicode standard.
 pub record MayBeSecond (first second : ℕ) : Type 0 where

@@ -138,6 +138,7 @@ pub record FeedsStrictly (r : Recoding) (part old new : List ℕ) (p : StrictPro
   pub within : p.read ≤ length part
   pub from : s.from ≡ r.from
   pub to : s.to ≡ r.to
+  pub replaced : s.replaced ≡ r.replaced
   pub few : length s.held ≤ 3
 
 -- The same of what was held alone: it is gone, or the call ended.
@@ -152,6 +153,7 @@ pub record PassesHeld (r : Recoding) (part old new : List ℕ) (run : HeldRun) (
   pub within : run.read ≤ length part
   pub from : s.from ≡ r.from
   pub to : s.to ≡ r.to
+  pub replaced : s.replaced ≡ r.replaced
   pub few : length s.held ≤ 3
 
 -- What a run left of some bytes, of which so many are read then: a fault, and what is held.
@@ -162,6 +164,7 @@ pub record EndsRun (r : Recoding) (bytes : List ℕ) (run : StrictRun) (ended : 
   pub within : ended.0 ≤ length bytes
   pub from : s.from ≡ r.from
   pub to : s.to ≡ r.to
+  pub replaced : s.replaced ≡ r.replaced
   pub few : length s.held ≤ 3
 
 -- The same of `finish_strict_into`: what was held ends the input, and too few bytes are a fault.
@@ -178,4 +181,5 @@ pub record FinishesStrictly (r : Recoding) (old new : List ℕ) (p : StrictProgr
   pub ends : EndsFinish r.from r.to p.outcome fault s.held (length old - p.written)
   pub from : s.from ≡ r.from
   pub to : s.to ≡ r.to
+  pub replaced : s.replaced ≡ r.replaced
   pub few : length s.held ≤ length r.held

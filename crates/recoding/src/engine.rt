@@ -1,13 +1,14 @@
 //! One run over bytes, from any form into any other and to any output.
 ghost use Rattle.std.specs.Prelude.{◌≡◌, ◌+◌, ◌<◌, ◌≤◌, length, take, drop, IfSome, IfNone, IsTrue, IsFalse};
-ghost use Rattle.recoding.specs.Recoded.{Lacks, Reads};
-ghost use Rattle.recoding.specs.Recodes.{FitsAll, Reaches, Recodes};
-ghost use Rattle.recoding.specs.ShownFronts.{Decides};
+ghost use Rattle.recoding.specs.Recoded.{Lacks};
+ghost use Rattle.recoding.specs.Recodes.{FitsAll, Reaches};
+ghost use Rattle.recoding.specs.ShownFronts.{Settles};
+ghost use Rattle.recoding.specs.Strict.{PutsText};
 
 use crate::form::{Form, WIDEST};
 use crate::form_blocks::{Copied, Kernel, Narrowed, PART, Turned, Widened, by_forms};
 use crate::output::Output;
-use crate::shown_fronts::four;
+use crate::shown_fronts::{ShownFront, four};
 use crate::text::{Text, Utf8, Utf16};
 
 // How many bytes go with care before a run looks for text again, where no fault is among them.
@@ -27,6 +28,8 @@ const MANY: usize = PART - 4;
 pub(crate) struct Reached {
     // How many bytes were recoded.
     pub(crate) read: usize,
+    // How many of their faults became U+FFFD.
+    pub(crate) replaced: usize,
     // Whether it ended since the next code is longer than the room.
     pub(crate) is_full: bool,
     // Whether it ended since what follows the bytes decides what the last of them show.
@@ -81,53 +84,47 @@ fn run<S: Text, T: Text, K: Kernel<S, T>, O: Output>(
     ensures ends { IsFalse result.is_full → IsTrue result.is_waiting }
 {
     let mut read = 0;
+    let mut replaced = 0;
     'parts: loop {
-        let blocks = recode_blocks::<S, T, K, O>(is_ample, &bytes[read..], out);
+        let blocks = K::put_text(is_ample, &bytes[read..], out);
         read += blocks;
         if MANY <= blocks {
             continue;
         }
         if read == bytes.len() {
-            return ended(read, false, true);
+            return ended(read, replaced, false, true);
         }
         let count = recode_stretch::<S, T, K, O>(is_ample, &bytes[read..], out);
         read += count;
         // A stretch with no fault in it goes to its last code.
         if count < STRETCH - 3 {
             if read == bytes.len() {
-                return ended(read, false, true);
+                return ended(read, replaced, false, true);
             }
             let few = recode_few::<S, T, O>(is_ample, &bytes[read..], out);
             read += few.read;
+            replaced += few.replaced;
             if few.is_full || few.is_waiting {
-                return Reached { read, ..few };
+                return Reached {
+                    read,
+                    replaced,
+                    ..few
+                };
             }
         }
     }
 }
 
 #[inline(always)]
-fn ended(read: usize, is_full: bool, is_waiting: bool) -> Reached
-    ensures { result ≡ record { read = read; is_full = is_full; is_waiting = is_waiting } }
+fn ended(read: usize, replaced: usize, is_full: bool, is_waiting: bool) -> Reached
+    ensures { result ≡ record { read = read; replaced = replaced; is_full = is_full; is_waiting = is_waiting } }
 {
     Reached {
         read,
+        replaced,
         is_full,
         is_waiting,
     }
-}
-
-// Recodes what goes in blocks at the front of the bytes. Answers how many bytes it has.
-#[inline(always)]
-fn recode_blocks<S: Text, T: Text, K: Kernel<S, T>, O: Output>(
-    is_ample: bool,
-    bytes: &[u8],
-    out: &mut O,
-) -> usize
-    requires { IsTrue is_ample → FitsAll bytes.now (O.room out.old) }
-    ensures { Recodes O.appends S.form T.form bytes.now out.old out.new result }
-{
-    K::put_text(is_ample, bytes, out)
 }
 
 // Whether there is surely room for all that comes of the bytes.
@@ -159,7 +156,7 @@ fn recode_stretch<S: Text, T: Text, K: Kernel<S, T>, O: Output>(
     out: &mut O,
 ) -> usize
     requires { IsTrue is_ample → FitsAll bytes.now (O.room out.old) }
-    ensures { Recodes O.appends S.form T.form bytes.now out.old out.new result }
+    ensures { PutsText O.appends S.form T.form bytes.now out.old out.new result }
 {
     if K::TAKES_ALL {
         return 0;
@@ -175,7 +172,7 @@ fn recode_stretch<S: Text, T: Text, K: Kernel<S, T>, O: Output>(
 #[inline(always)]
 fn recode_text<S: Text, T: Text, O: Output>(bytes: &[u8], out: &mut O) -> usize
     requires { FitsAll bytes.now (O.room out.old) }
-    ensures { Recodes O.appends S.form T.form bytes.now out.old out.new result }
+    ensures { PutsText O.appends S.form T.form bytes.now out.old out.new result }
 {
     let least = S::least_front();
     let mut read = 0;
@@ -194,7 +191,7 @@ fn recode_text<S: Text, T: Text, O: Output>(bytes: &[u8], out: &mut O) -> usize
 // The same as long as there is room for any code.
 #[inline(never)]
 fn recode_scant_text<S: Text, T: Text, O: Output>(bytes: &[u8], out: &mut O) -> usize
-    ensures { Recodes O.appends S.form T.form bytes.now out.old out.new result }
+    ensures { PutsText O.appends S.form T.form bytes.now out.old out.new result }
 {
     let least = S::least_front();
     let mut read = 0;
@@ -232,22 +229,25 @@ fn recode_faults<S: Text, T: Text, O: Output>(bytes: &[u8], out: &mut O) -> Reac
 {
     let mut stop = STRIDE;
     let mut read = 0;
+    let mut replaced = 0;
     while read < stop {
-        let Some((c, len)) = front_at::<S>(bytes, read) else {
-            return ended(read, false, true);
+        let Some(first) = front_at::<S>(bytes, read) else {
+            return ended(read, replaced, false, true);
         };
         // A compiler knows the code of a fault where nothing else is written.
-        let is_fault = c == char::REPLACEMENT_CHARACTER;
+        let is_fault = first.c == char::REPLACEMENT_CHARACTER;
         if is_fault {
             stop = read + AFTER_FAULT;
-            T::put_code(c, out);
-            read += len;
+            T::put_code(first.c, out);
+            read += first.len;
+            replaced += first.faults;
         } else {
-            T::put_code(c, out);
-            read += len;
+            T::put_code(first.c, out);
+            read += first.len;
+            replaced += first.faults;
         }
     }
-    ended(read, false, false)
+    ended(read, replaced, false, false)
 }
 
 // The same as far as there is room.
@@ -257,25 +257,26 @@ fn recode_scant_faults<S: Text, T: Text, O: Output>(bytes: &[u8], out: &mut O) -
     ensures moves { IsFalse result.is_full → IsFalse result.is_waiting → 0 < result.read }
 {
     let mut read = 0;
+    let mut replaced = 0;
     while read < STRIDE {
-        let Some((c, len)) = front_at::<S>(bytes, read) else {
-            return ended(read, false, true);
+        let Some(first) = front_at::<S>(bytes, read) else {
+            return ended(read, replaced, false, true);
         };
-        let is_put = T::put_fitting(c, out);
+        let is_put = T::put_fitting(first.c, out);
         if !is_put {
-            return ended(read, true, false);
+            return ended(read, replaced, true, false);
         }
-        read += len;
+        read += first.len;
+        replaced += first.faults;
     }
-    ended(read, false, false)
+    ended(read, replaced, false, false)
 }
 
-// The scalar at a place of the bytes, or U+FFFD for a fault, and how many bytes it has, by no more than four of them; `None`
-// where that depends on what follows all of them.
+// What begins at a place of the bytes, by no more than four of them; `None` where that depends on what follows all of them.
 #[inline(always)]
-fn front_at<S: Text>(bytes: &[u8], place: usize) -> Option<(char, usize)>
+fn front_at<S: Text>(bytes: &[u8], place: usize) -> Option<ShownFront>
     requires { place ≤ length bytes.now }
-    ensures some { IfSome result (λ x. Decides (Reads S.form) (take 4 (drop place bytes.now)) x.0 x.1) }
+    ensures some { IfSome result (λ x. Settles S.form (take 4 (drop place bytes.now)) x.c x.len x.faults) }
     ensures few { IfNone result (length bytes.now ≤ place + 3) }
     ensures lacks { IfNone result (Lacks S.form (drop place bytes.now)) }
 {

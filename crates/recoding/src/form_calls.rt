@@ -1,13 +1,14 @@
 //! What a form is asked that is known only when it runs: a function of its type.
 ghost use Rattle.std.specs.Prelude.{◌≡◌, ◌<◌, ◌≤◌, length, min, IfSome, IfNone, IsTrue, IsFalse, MatchResult};
-ghost use Rattle.recoding.specs.Recoded.{Reads, Lacks, written};
-ghost use Rattle.recoding.specs.ShownFronts.{Decides, Ends, Waits, fault_len};
+ghost use Rattle.recoding.specs.Recoded.{Lacks, written};
+ghost use Rattle.recoding.specs.ShownFronts.{Settles, SettlesLast, Waits, fault_len};
 ghost use Rattle.recoding.specs.Strict.{BeginsChar, EndsInFault, IsFirstPiece, lacking};
 
 use crate::faults::FaultKind;
 use crate::first_pieces::FirstPiece;
 use crate::form::Form;
 use crate::output::Output;
+use crate::shown_fronts::{ShownFront, fault};
 use crate::text::{Text, Utf8, Utf16};
 
 // Calls a function of the type of a form.
@@ -21,12 +22,11 @@ macro_rules! by_form {
     };
 }
 
-// The scalar that begins the bytes, or U+FFFD for a fault, and how many bytes it has; `None` where that
-// depends on what follows them.
+// What begins the bytes; `None` where that depends on what follows them.
 #[inline(always)]
-pub(crate) fn front(from: Form, bytes: &[u8]) -> Option<(char, usize)>
-    ensures some { IfSome result (λ x. Decides (Reads from) bytes.now x.0 x.1) }
-    ensures none { IfNone result (Waits (Reads from) (fault_len from) bytes.now) }
+pub(crate) fn front(from: Form, bytes: &[u8]) -> Option<ShownFront>
+    ensures some { IfSome result (λ x. Settles from bytes.now x.c x.len x.faults) }
+    ensures none { IfNone result (Waits from bytes.now) }
     ensures lacks { IfNone result (Lacks from bytes.now) }
 {
     by_form!(from, front(bytes))
@@ -34,16 +34,13 @@ pub(crate) fn front(from: Form, bytes: &[u8]) -> Option<(char, usize)>
 
 // The same where nothing follows the bytes.
 #[inline(always)]
-pub(crate) fn last_front(from: Form, bytes: &[u8]) -> (char, usize)
+pub(crate) fn last_front(from: Form, bytes: &[u8]) -> ShownFront
     requires { 0 < length bytes.now }
-    ensures { Ends (Reads from) bytes.now result.0 result.1 }
+    ensures { SettlesLast from bytes.now result.c result.len result.faults }
 {
     match front(from, bytes) {
         Some(first) => first,
-        None => (
-            char::REPLACEMENT_CHARACTER,
-            fault_bytes(from).min(bytes.len()),
-        ),
+        None => fault(fault_bytes(from).min(bytes.len())),
     }
 }
 

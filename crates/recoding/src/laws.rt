@@ -3,6 +3,7 @@
 //! Each function does nothing: its contract is the law.
 ghost use Rattle.recoding.specs.Shards.{ShardsJoin};
 ghost use Rattle.recoding.specs.Recoded.{RecodedOnce, PartsAreRecoded, PartsDoNotMatter};
+ghost use Rattle.recoding.specs.Faults.{FaultCountIsOne};
 ghost use Rattle.recoding.specs.RecodedBytes.{RecodedIsOne};
 ghost use Rattle.recoding.specs.Strict.{TextIsRecoded};
 ghost use Rattle.recoding.specs.Bounds.{RecodedIsBounded, LossyIsBounded, FeedsInRoom, RoomIsLeft, FinishesInRoom};
@@ -14,6 +15,11 @@ ghost use Rattle.recoding.specs.Fed.{NothingIsFed, PartIsFed, FedIsFront, FedIsR
 pub fn recoded_once()
     ensures once { RecodedOnce }
     ensures list { RecodedIsOne }
+{}
+
+/// Bytes have one number of faults, `fault_count`: those of the one cut, and an odd last byte of UTF-16.
+pub fn faults_are_counted()
+    ensures { FaultCountIsOne }
 {}
 
 /// What a recoder answers over the parts of an input is what the input is recoded as, however it is cut

@@ -1,12 +1,13 @@
 //! Recoding of text that comes in parts, which may be cut anywhere, also inside of a code or of a unit.
-ghost use Rattle.std.specs.Prelude.{◌≡◌, ◌<◌, ◌≤◌, [], ◌+◌, ◌*◌, length, OnOk, OnErr, IsOk, IfErr, vec_len, vec_capacity, ℕ, List, ◌-◌, ◌++◌, take, drop, IsTrue, IsFalse};
-ghost use Rattle.recoding.specs.Recoded.{Feeds, Finishes, Lacks};
+ghost use Rattle.std.specs.Prelude.{◌≡◌, ◌<◌, ◌≤◌, [], ◌+◌, ◌*◌, ◌^◌, min, length, OnOk, OnErr, IsOk, IfErr, IfOk, vec_len, vec_capacity, ℕ, List, ◌-◌, ◌++◌, take, drop, IsTrue, IsFalse};
+ghost use Rattle.recoding.specs.Recoded.{Feeds, Finishes, Lacks, fresh};
+ghost use Rattle.recoding.specs.Faults.{AddsUp, CountsFed, KeepsCount, Replaces, ReplacesLast, fault_count, replaced_in_all};
 ghost use Rattle.recoding.specs.RecodedBytes.{AddsAll, AddsLast, AddsOutcome, KeepsOutcome, outcome, recoded};
 ghost use Rattle.recoding.specs.Rooms.{ComesNearer, FeedsInto, FinishesInto, IsFull, IsLastFull, bytes_left};
 
 use crate::form::{Form, WIDEST};
 use crate::recoder_rooms::{first_of, progress, put_at, recode_into, recode_last_into};
-use crate::recoder_runs::{join, recode_joined, recode_last, recode_whole};
+use crate::recoder_runs::{faults_at_end, join, recode_joined, recode_last, recode_whole};
 use crate::rooms::Progress;
 use std::alloc::{AllocError, Allocator};
 use std::marker::Model;
@@ -24,6 +25,7 @@ pub struct Recoder {
     from: Form,
     to: Form,
     held: [u8; 3],
+    replaced: u64,
 }
 
 impl Model for Recoder {
@@ -32,7 +34,7 @@ impl Model for Recoder {
 
     ghost Value = { Recoding };
 
-    ghost view = { λ r. record { from = r.from; to = r.to; held = take r.count r.held } };
+    ghost view = { λ r. record { from = r.from; to = r.to; held = take r.count r.held; replaced = r.replaced } };
 
     ghost invariant = { λ r. r.count ≤ 3 };
 }
@@ -57,17 +59,19 @@ impl From<Unfinished> for AllocError {
 }
 
 impl Recoder {
-    /// A recoder that holds nothing.
-    #[tactic(auto, unfolding(crate::specs::RecodedBytes::outcome))]
+    /// A recoder that holds nothing and has replaced nothing.
+    #[tactic(auto, unfolding(crate::specs::RecodedBytes::outcome, crate::specs::Faults::replaced_in_all))]
     pub fn new(from: Form, to: Form) -> Recoder
-        ensures nothing { result ≡ record { from = from; to = to; held = [] } }
+        ensures nothing { result ≡ fresh from to }
         ensures outcome { (out later : List ℕ) → outcome result out later ≡ out ++ recoded from to later }
+        ensures counts { (later : List ℕ) → replaced_in_all result later ≡ min (2 ^ 64 - 1) (fault_count from later) }
     {
         Recoder {
             count: 0,
             from,
             to,
             held: [0; 3],
+            replaced: 0,
         }
     }
 
@@ -81,7 +85,7 @@ impl Recoder {
     /// Cost: O(n) in the part, allocates at most three bytes for each byte that is held or in the
     /// part.
     #[inline]
-    #[tactic(auto, using(crate::proofs::RecodedLists::outcome_fed))]
+    #[tactic(auto, using(crate::proofs::RecodedLists::outcome_fed, crate::proofs::Advancing::fed_counts))]
     pub fn feed<A: Allocator>(
         &mut self,
         part: &[u8],
@@ -95,6 +99,8 @@ impl Recoder {
         ensures unchanged { length part.now ≡ 0 → self.new ≡ self.old }
         ensures succeeds { vec_len out.old + 3 * (length self.old.held + length part.now) ≤ vec_capacity out.old → IsOk result }
         ensures outcome { OnOk result (KeepsOutcome self.old out.old.items part.now out.new.items self.new) }
+        ensures replaces { OnOk result (CountsFed self.old part.now self.new) }
+        ensures counts { OnOk result (KeepsCount self.old part.now self.new) }
     {
         // To read it tells a proof that few bytes are held, also where the part has none.
         let count = self.count;
@@ -119,14 +125,16 @@ impl Recoder {
         ensures err { OnErr result (self.new ≡ self.old) }
         ensures unwritten { OnErr result (out.new.items ≡ out.old.items) }
         ensures waits { OnOk result (Lacks self.old.from self.new.held) }
+        ensures replaces { OnOk result (CountsFed self.old part.now self.new) }
         ensures succeeds { vec_len out.old + 3 * length part.now ≤ vec_capacity out.old → IsOk result }
     {
         out.reserve(part.len().saturating_mul(WIDEST))?;
-        let place = recode_whole(self.from, self.to, part, out);
-        if place == part.len() {
+        let run = recode_whole(self.from, self.to, part, out);
+        self.count_faults(run.replaced);
+        if run.read == part.len() {
             return Ok(());
         }
-        self.hold(&part[place..]);
+        self.hold(&part[run.read..]);
         Ok(())
     }
 
@@ -142,19 +150,22 @@ impl Recoder {
         ensures err { OnErr result (self.new ≡ self.old) }
         ensures unwritten { OnErr result (out.new.items ≡ out.old.items) }
         ensures waits { OnOk result (Lacks self.old.from self.new.held) }
+        ensures replaces { OnOk result (CountsFed self.old part.now self.new) }
         ensures succeeds { vec_len out.old + 3 * (length self.old.held + length part.now) ≤ vec_capacity out.old → IsOk result }
     {
         let held = self.held_bytes();
         out.reserve((held.len() + part.len()).saturating_mul(WIDEST))?;
-        let place = recode_joined(self.from, self.to, held, part, out);
-        if place < held.len() {
-            let (rest, len) = join(&held[place..], part);
+        let first = recode_joined(self.from, self.to, held, part, out);
+        if first.read < held.len() {
+            let (rest, len) = join(&held[first.read..], part);
+            self.count_faults(first.replaced);
             self.hold(&rest[..len]);
             return Ok(());
         }
-        let rest = &part[place - held.len()..];
-        let place = recode_whole(self.from, self.to, rest, out);
-        self.hold(&rest[place..]);
+        let rest = &part[first.read - held.len()..];
+        let then = recode_whole(self.from, self.to, rest, out);
+        self.count_faults(first.replaced + then.replaced);
+        self.hold(&rest[then.read..]);
         Ok(())
     }
 
@@ -170,7 +181,7 @@ impl Recoder {
     // Holds these bytes in place of those that were held.
     pub(crate) fn hold(&mut self, bytes: &[u8])
         requires { length bytes.now ≤ 3 }
-        ensures { self.new ≡ record { from = self.old.from; to = self.old.to; held = bytes.now } }
+        ensures { self.new ≡ record (self.old) { held = bytes.now } }
     {
         self.count = bytes.len();
         if !bytes.is_empty() {
@@ -178,11 +189,20 @@ impl Recoder {
         }
     }
 
+    // Counts so many more faults, as far as 64 bits do.
+    #[inline(always)]
+    fn count_faults(&mut self, count: usize)
+        ensures { self.new ≡ record (self.old) { replaced = min (2 ^ 64 - 1) (self.old.replaced + count) } }
+    {
+        self.replaced = self.replaced.saturating_add(count as u64);
+    }
+
     /// Appends to `out` what the held bytes become, now that nothing follows them: one U+FFFD for
     /// each byte of UTF-8; of UTF-16 one for a leading surrogate, and one for an odd byte.
     ///
     /// Where memory is refused, the error has the recoder as it was, which can be finished again.
-    /// Where nothing is held, no memory is asked for.
+    /// Where nothing is held, no memory is asked for. How many invalid bytes became U+FFFD in all,
+    /// `replaced_at_end` tells before this call.
     ///
     /// Cost: constant, allocates at most nine bytes.
     #[inline(always)]
@@ -219,13 +239,13 @@ impl Recoder {
         Ok(())
     }
 
-    /// A recoder that holds these bytes. With the `held` of another recoder it goes on where that
-    /// one was.
+    /// A recoder that holds these bytes and has replaced nothing. With the `held` of another recoder
+    /// it goes on where that one was.
     ///
     /// Condition: there are at most three bytes.
     pub fn holding(from: Form, to: Form, held: &[u8]) -> Recoder
         requires { length held.now ≤ 3 }
-        ensures { result ≡ record { from = from; to = to; held = held.now } }
+        ensures { result ≡ record (fresh from to) { held = held.now } }
     {
         let mut recoder = Recoder::new(from, to);
         recoder.hold(held);
@@ -249,6 +269,29 @@ impl Recoder {
         self.held_bytes()
     }
 
+    /// How many invalid bytes the recoder has replaced by U+FFFD since it was made; so many lone
+    /// surrogates and odd last bytes of UTF-16. A U+FFFD that stood in the input does not count. At
+    /// 2^64 - 1 the count stays as it is.
+    ///
+    /// `feed`, `feed_into` and `finish_into` count, and `finish` returns the count; the calls that stop at the first invalid byte
+    /// replace nothing.
+    pub fn replaced(&self) -> u64
+        ensures { result ≡ self.now.replaced }
+    {
+        self.replaced
+    }
+
+    /// What `replaced` comes to where the input ends here: the bytes that are held are invalid then,
+    /// and become U+FFFD too.
+    #[tactic(auto, using(crate::proofs::Advancing::counts_all))]
+    pub fn replaced_at_end(&self) -> u64
+        ensures replaces { result ≡ min (2 ^ 64 - 1) (self.now.replaced + fault_count self.now.from self.now.held) }
+        ensures counts { result ≡ replaced_in_all self.now [] }
+    {
+        let count = faults_at_end(self.from, self.held_bytes());
+        self.replaced.saturating_add(count as u64)
+    }
+
     /// `feed` into room of a fixed size, in the manner of iconv(3): reads and writes as far as
     /// there is room. `read` bytes of the part were fed. Call again with those that follow them,
     /// and more room.
@@ -267,22 +310,29 @@ impl Recoder {
         ensures moves { 4 ≤ length room.old → 0 < length part.now → 0 < result.read + result.written }
         ensures nearer { ComesNearer part.now room.old result.read self.old self.new }
         ensures outcome { AddsOutcome self.old (take result.read part.now) (take result.written room.new) self.new }
+        ensures replaces { Replaces self.old (take result.read part.now) result.replaced self.new }
+        ensures total { AddsUp self.old result.replaced self.new }
+        ensures counts { KeepsCount self.old (take result.read part.now) self.new }
     {
         let first = self.feed_held(part, room);
         if first.is_full || 0 < self.count {
+            self.count_faults(first.replaced);
             return first;
         }
         let rest = &part[first.read..];
         let then = recode_into(self.from, self.to, rest, room, first.written);
         let end = rest.len().min(then.read + 3);
+        let replaced = first.replaced + then.replaced;
+        self.count_faults(replaced);
         self.hold(&rest[then.read..end]);
         Progress {
             read: first.read + end,
+            replaced,
             ..then
         }
     }
 
-    // `feed_into` of what is held, with as many bytes of the part as it takes, until nothing is held.
+    // `feed_into` of what is held, with as many bytes of the part as it takes, until nothing is held. Faults are not counted yet.
     fn feed_held(&mut self, part: &[u8], room: &mut [u8]) -> Progress
         ensures feeds { FeedsInto self.old part.now room.old room.new result.read result.written self.new }
         ensures full { IsTrue result.is_full → IsFull self.new (self.new.held ++ drop result.read part.now) (length room.old - result.written) }
@@ -291,43 +341,38 @@ impl Recoder {
         ensures waits { IsFalse result.is_full → 0 < length self.new.held → Lacks self.old.from self.new.held }
         ensures near { bytes_left part.now result.read self.new ≤ bytes_left part.now 0 self.old }
         ensures nearer { 0 < result.read + result.written → bytes_left part.now result.read self.new < bytes_left part.now 0 self.old }
+        ensures replaces { Replaces self.old (take result.read part.now) result.replaced self.new }
+        ensures uncounted { self.new.replaced ≡ self.old.replaced }
+        ensures few { result.replaced ≤ result.read + 3 }
     {
+        // To read it tells a proof that few bytes are held.
+        let _held = self.count;
         let mut read = 0;
         let mut written = 0;
+        let mut replaced = 0;
         while 0 < self.count {
             let rest = &part[read..];
-            let Some((c, len, taken)) = first_of(self.from, self.held_bytes(), rest) else {
+            let Some((first, taken)) = first_of(self.from, self.held_bytes(), rest) else {
                 self.take_more(rest, 0);
-                return Progress {
-                    read: part.len(),
-                    written,
-                    is_full: false,
-                };
+                return progress(part.len(), written, replaced, false);
             };
-            let Some(end) = put_at(self.to, c, room, written) else {
-                return Progress {
-                    read,
-                    written,
-                    is_full: true,
-                };
+            let Some(end) = put_at(self.to, first.c, room, written) else {
+                return progress(read, written, replaced, true);
             };
-            self.take_more(&rest[..taken], len);
+            self.take_more(&rest[..taken], first.len);
             read += taken;
             written = end;
+            replaced += first.faults;
         }
-        Progress {
-            read,
-            written,
-            is_full: false,
-        }
+        progress(read, written, replaced, false)
     }
 
     // Holds what the held bytes and these are together, without so many at the front.
-    fn take_more(&mut self, bytes: &[u8], gone: usize)
+    pub(crate) fn take_more(&mut self, bytes: &[u8], gone: usize)
         requires more { length bytes.now ≤ 3 }
         requires gone { gone ≤ length self.old.held + length bytes.now }
         requires few { length self.old.held + length bytes.now ≤ gone + 3 }
-        ensures { self.new ≡ record { from = self.old.from; to = self.old.to; held = drop gone (self.old.held ++ bytes.now) } }
+        ensures { self.new ≡ record (self.old) { held = drop gone (self.old.held ++ bytes.now) } }
     {
         let (joined, len) = join(self.held_bytes(), bytes);
         self.hold(&joined[gone..len]);
@@ -347,12 +392,17 @@ impl Recoder {
         ensures read { result.read ≡ 0 }
         ensures outcome { AddsLast self.old (take result.written room.new) self.new }
         ensures outcome_done { IsFalse result.is_full → AddsAll self.old (take result.written room.new) }
+        ensures replaces { ReplacesLast self.old result.replaced self.new }
+        ensures total { AddsUp self.old result.replaced self.new }
+        ensures counts { replaced_in_all self.new [] ≡ replaced_in_all self.old [] }
+        ensures counted { IsFalse result.is_full → self.new.replaced ≡ replaced_in_all self.old [] }
     {
         if self.count == 0 {
-            return progress(0, 0, false);
+            return progress(0, 0, 0, false);
         }
         let (held, len) = join(self.held_bytes(), &[]);
         let done = recode_last_into(self.from, self.to, &held[..len], room);
+        self.count_faults(done.replaced);
         self.hold(&held[done.read..len]);
         Progress { read: 0, ..done }
     }

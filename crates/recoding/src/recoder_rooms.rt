@@ -1,8 +1,9 @@
 //! Runs over bytes, into room of a fixed size.
 ghost use Rattle.std.specs.Prelude.{◌≡◌, [], ◌+◌, ◌-◌, ◌<◌, ◌≤◌, length, take, drop, ◌++◌, IfSome, IfNone, IsTrue, IsFalse};
-ghost use Rattle.recoding.specs.Recoded.{Reads, written, Grows, Lacks};
-ghost use Rattle.recoding.specs.ShownFronts.{Decides};
-ghost use Rattle.recoding.specs.Rooms.{Fills, IsFull, IsLastFull, Leaves};
+ghost use Rattle.recoding.specs.Recoded.{written, Lacks};
+ghost use Rattle.recoding.specs.Faults.{Advances, fault_count};
+ghost use Rattle.recoding.specs.ShownFronts.{Settles};
+ghost use Rattle.recoding.specs.Rooms.{Fills, LastIsTooLong, Leaves, NextIsTooLong};
 
 use crate::engine::{has_room_for_all, recode};
 use crate::form::Form;
@@ -10,6 +11,7 @@ use crate::form_calls::{front, last_front, put_fitting};
 use crate::recoder_runs::join;
 use crate::room::Room;
 use crate::rooms::Progress;
+use crate::shown_fronts::ShownFront;
 
 // Writes the code of the character into the room from the place on, where it fits, and answers the place after it.
 #[inline(always)]
@@ -43,9 +45,10 @@ pub(crate) fn recode_into(
     ensures within { result.read ≤ length bytes.now }
     ensures ordered { place ≤ result.written }
     ensures fits { result.written ≤ length room.old }
-    ensures grows { Grows from to (take (result.read + 3) bytes.now) (take place room.old) (take result.written room.new) (take 3 (drop result.read bytes.now)) }
+    ensures advances { Advances from to (take (result.read + 3) bytes.now) (take place room.old) (take result.written room.new) (take 3 (drop result.read bytes.now)) result.replaced }
+    ensures few { result.replaced ≤ result.read }
     ensures rest { drop result.written room.new ≡ drop result.written room.old }
-    ensures full { IsTrue result.is_full → IsFull (record { from = from; to = to; held = [] }) (drop result.read bytes.now) (length room.old - result.written) }
+    ensures full { IsTrue result.is_full → NextIsTooLong from to (drop result.read bytes.now) (length room.old - result.written) }
     ensures short { IsTrue result.is_full → length room.old < result.written + 4 }
     ensures waits { IsFalse result.is_full → length bytes.now ≤ result.read + 3 }
     ensures lacks { IsFalse result.is_full → Lacks from (drop result.read bytes.now) }
@@ -53,17 +56,18 @@ pub(crate) fn recode_into(
     let mut out = Room::new(room, place);
     let is_ample = has_room_for_all(bytes, &out);
     let done = recode(is_ample, from, to, bytes, &mut out);
-    progress(done.read, out.len, done.is_full)
+    progress(done.read, out.len, done.replaced, done.is_full)
 }
 
 // How far a call came.
 #[inline(always)]
-pub(crate) fn progress(read: usize, written: usize, is_full: bool) -> Progress
-    ensures { result ≡ record { read = read; written = written; is_full = is_full } }
+pub(crate) fn progress(read: usize, written: usize, replaced: usize, is_full: bool) -> Progress
+    ensures { result ≡ record { read = read; written = written; replaced = replaced; is_full = is_full } }
 {
     Progress {
         read,
         written,
+        replaced,
         is_full,
     }
 }
@@ -73,40 +77,43 @@ pub(crate) fn recode_last_into(from: Form, to: Form, bytes: &[u8], room: &mut [u
     ensures within { result.read ≤ length bytes.now }
     ensures fits { result.written ≤ length room.old }
     ensures leaves { Leaves from to bytes.now (take result.written room.new) (drop result.read bytes.now) }
+    ensures faults { fault_count from bytes.now ≡ result.replaced + fault_count from (drop result.read bytes.now) }
     ensures rest { drop result.written room.new ≡ drop result.written room.old }
-    ensures full { IsTrue result.is_full → IsLastFull (record { from = from; to = to; held = [] }) (drop result.read bytes.now) (length room.old - result.written) }
+    ensures full { IsTrue result.is_full → LastIsTooLong from to (drop result.read bytes.now) (length room.old - result.written) }
     ensures short { IsTrue result.is_full → length room.old < result.written + 4 }
     ensures all { IsFalse result.is_full → result.read ≡ length bytes.now }
 {
     let mut read = 0;
     let mut written = 0;
+    let mut replaced = 0;
     while read < bytes.len() {
-        let (c, len) = last_front(from, &bytes[read..]);
-        let Some(end) = put_at(to, c, room, written) else {
-            return progress(read, written, true);
+        let first = last_front(from, &bytes[read..]);
+        let Some(end) = put_at(to, first.c, room, written) else {
+            return progress(read, written, replaced, true);
         };
-        read += len;
+        read += first.len;
         written = end;
+        replaced += first.faults;
     }
-    progress(read, written, false)
+    progress(read, written, replaced, false)
 }
 
-// The scalar that begins the held bytes with those that follow them, how many bytes it has, and how many of those
-// that follow were looked at: no more than tell it. `None` where all of them together are too few.
-pub(crate) fn first_of(from: Form, held: &[u8], rest: &[u8]) -> Option<(char, usize, usize)>
+// What begins the held bytes with those that follow them, and how many of those that follow were looked at: no more than
+// tell it. `None` where all of them together are too few.
+pub(crate) fn first_of(from: Form, held: &[u8], rest: &[u8]) -> Option<(ShownFront, usize)>
     requires some { 0 < length held.now }
     requires few { length held.now ≤ 3 }
-    ensures within { IfSome result (λ x. x.2 ≤ length rest.now) }
-    ensures decides { IfSome result (λ x. Decides (Reads from) (held.now ++ take x.2 rest.now) x.0 x.1) }
-    ensures near { IfSome result (λ x. length held.now + x.2 ≤ 4) }
+    ensures within { IfSome result (λ x. x.1 ≤ length rest.now) }
+    ensures settles { IfSome result (λ x. Settles from (held.now ++ take x.1 rest.now) x.0.c x.0.len x.0.faults) }
+    ensures near { IfSome result (λ x. length held.now + x.1 ≤ 4) }
     ensures none { IfNone result (length held.now + length rest.now ≤ 3) }
     ensures lacks { IfNone result (Lacks from (held.now ++ rest.now)) }
 {
     let mut taken = 0;
     loop {
         let (joined, len) = join(held, &rest[..taken]);
-        if let Some((c, count)) = front(from, &joined[..len]) {
-            return Some((c, count, taken));
+        if let Some(first) = front(from, &joined[..len]) {
+            return Some((first, taken));
         }
         if taken == rest.len() {
             return None;

@@ -1,6 +1,7 @@
 //! Runs over bytes, into an output that has room for what comes of them.
 ghost use Rattle.std.specs.Prelude.{◌≡◌, ◌+◌, ◌≤◌, length, take, ◌++◌, min};
-ghost use Rattle.recoding.specs.Recoded.{Finishes};
+ghost use Rattle.recoding.specs.Recoded.{Finishes, fresh};
+ghost use Rattle.recoding.specs.Faults.{fault_count};
 ghost use Rattle.recoding.specs.OutputRuns.{HasRoomFor, RunsUntil};
 
 use crate::engine::recode;
@@ -8,8 +9,15 @@ use crate::form::Form;
 use crate::form_calls::{front, last_front, put_code};
 use std::alloc::Allocator;
 
+// How many bytes a run recoded, and how many of their faults became U+FFFD.
+#[derive(Clone, Copy, Drop)]
+pub(crate) struct Run {
+    pub(crate) read: usize,
+    pub(crate) replaced: usize,
+}
+
 // Recodes the bytes as far as no later byte can change what they show, and not past the place `stop`
-// but by the rest of a code that begins before it. Answers how many bytes were recoded.
+// but by the rest of a code that begins before it.
 #[inline(always)]
 pub(crate) fn recode_decided<A: Allocator>(
     from: Form,
@@ -17,40 +25,56 @@ pub(crate) fn recode_decided<A: Allocator>(
     bytes: &[u8],
     stop: usize,
     out: &mut Vec<u8, A>,
-) -> usize
+) -> Run
     requires stop { stop ≤ length bytes.now }
     requires room { HasRoomFor out.old (length bytes.now) }
-    ensures { RunsUntil from to bytes.now out.old out.new stop result }
+    ensures { RunsUntil from to bytes.now out.old out.new stop result.read result.replaced }
 {
-    let mut place = 0;
-    while place < stop {
-        match front(from, &bytes[place..]) {
-            None => return place,
-            Some((c, len)) => {
-                put_code(to, c, out);
-                place += len;
+    let mut read = 0;
+    let mut replaced = 0;
+    while read < stop {
+        match front(from, &bytes[read..]) {
+            None => return Run { read, replaced },
+            Some(first) => {
+                put_code(to, first.c, out);
+                read += first.len;
+                replaced += first.faults;
             }
         }
     }
-    place
+    Run { read, replaced }
 }
 
 // Recodes the bytes, which nothing follows.
 #[inline(always)]
 pub(crate) fn recode_last<A: Allocator>(from: Form, to: Form, bytes: &[u8], out: &mut Vec<u8, A>)
     requires { HasRoomFor out.old (length bytes.now) }
-    ensures { Finishes (record { from = from; to = to; held = bytes.now }) out.old.items out.new.items }
+    ensures { Finishes (record (fresh from to) { held = bytes.now }) out.old.items out.new.items }
 {
     let mut place = 0;
     while place < bytes.len() {
-        let (c, len) = last_front(from, &bytes[place..]);
-        put_code(to, c, out);
-        place += len;
+        let first = last_front(from, &bytes[place..]);
+        put_code(to, first.c, out);
+        place += first.len;
     }
 }
 
+// How many faults the bytes have, which nothing follows.
+pub(crate) fn faults_at_end(from: Form, bytes: &[u8]) -> usize
+    ensures { result ≡ fault_count from bytes.now }
+{
+    let mut place = 0;
+    let mut count = 0;
+    while place < bytes.len() {
+        let first = last_front(from, &bytes[place..]);
+        place += first.len;
+        count += first.faults;
+    }
+    count
+}
+
 // Recodes the held bytes with those that follow them, as far as a code that begins among the held ones
-// reaches. Answers how many bytes of both were recoded.
+// reaches.
 #[inline]
 pub(crate) fn recode_joined<A: Allocator>(
     from: Form,
@@ -58,14 +82,17 @@ pub(crate) fn recode_joined<A: Allocator>(
     held: &[u8],
     part: &[u8],
     out: &mut Vec<u8, A>,
-) -> usize
+) -> Run
     requires few { length held.now ≤ 3 }
     requires room { HasRoomFor out.old (length held.now + length part.now) }
-    ensures within { result ≤ length held.now + length part.now }
-    ensures runs { RunsUntil from to (held.now ++ part.now) out.old out.new (length held.now) result }
+    ensures within { result.read ≤ length held.now + length part.now }
+    ensures runs { RunsUntil from to (held.now ++ part.now) out.old out.new (length held.now) result.read result.replaced }
 {
     if held.is_empty() {
-        return 0;
+        return Run {
+            read: 0,
+            replaced: 0,
+        };
     }
     let (joined, len) = join(held, part);
     recode_decided(from, to, &joined[..len], held.len(), out)
@@ -92,9 +119,13 @@ pub(crate) fn recode_whole<A: Allocator>(
     to: Form,
     bytes: &[u8],
     out: &mut Vec<u8, A>,
-) -> usize
+) -> Run
     requires { HasRoomFor out.old (length bytes.now) }
-    ensures { RunsUntil from to bytes.now out.old out.new (length bytes.now) result }
+    ensures { RunsUntil from to bytes.now out.old out.new (length bytes.now) result.read result.replaced }
 {
-    recode(true, from, to, bytes, out).read
+    let reached = recode(true, from, to, bytes, out);
+    Run {
+        read: reached.read,
+        replaced: reached.replaced,
+    }
 }

@@ -43,6 +43,8 @@ pub struct Progress {
     pub read: usize,
     /// How many bytes of the room were written, from its front.
     pub written: usize,
+    /// How many invalid bytes, lone surrogates and odd last bytes this call replaced by U+FFFD.
+    pub replaced: usize,
     /// Whether the call ended because the next character does not fit into the room that remained.
     pub is_full: bool,
 }

@@ -1,15 +1,14 @@
 //! What the front of some bytes shows.
-ghost use Rattle.std.specs.Prelude.{◌≡◌, ◌<◌, length, take, flat_map, IfSome, IfNone, IsTrue, IsFalse, Some, ◌%◌};
+ghost use Rattle.std.specs.Prelude.{◌≡◌, ◌<◌, length, take, IfSome, IfNone, IsTrue, IsFalse, Some, ◌%◌};
 ghost use Rattle.utf_base.specs.Code.{utf8};
 ghost use Rattle.utf_base.specs.Kinds.{fault_kind};
-ghost use Rattle.utf_base.specs.Shown.{Shows, IsDecided};
-ghost use Rattle.utf_base.specs.Units.{unit_fault_kind};
+ghost use Rattle.utf_base.specs.Shown.{IsDecided};
 ghost use Rattle.utf_base.specs.declared.errors.Utf8ErrorKind.TheVariants.{TooFewBytes};
-ghost use Rattle.utf_base.specs.declared.errors.units.Utf16PairError.TheVariants.{Incomplete};
 ghost use Rattle.utf_lanes.specs.AsciiTexts.{AreAscii};
-ghost use Rattle.recoding.specs.Recoded.{Reads, Lacks, ShowsUnits, IsProperFront};
+ghost use Rattle.recoding.specs.Recoded.{Lacks, IsProperFront};
 ghost use Rattle.utf_lanes.specs.BytePairs.{units_of};
-ghost use Rattle.recoding.specs.ShownFronts.{IsUnits, Decides, Ends, Waits, fault_len, ShowsEach, MayBeSecond};
+ghost use Rattle.recoding.specs.ShownFronts.{Settles, Waits, MayBeSecond, utf16_form};
+ghost use Rattle.recoding.specs.Strict.{BeginsChar, Transcodes};
 
 use crate::form::Form;
 use encode_unicode::error::Utf8ErrorKind;
@@ -17,25 +16,52 @@ use encode_unicode::{CharExt, U16UtfExt};
 use utf_base::elements::is_continuation;
 use utf_lanes::byte_pairs::unit;
 
-// The scalar that begins the bytes, or U+FFFD for a fault, and how many bytes it has; `None` where that
-// depends on what follows them.
+// What begins some bytes: the scalar, or U+FFFD for a fault, how many bytes it has, and how many faults it is: one, or none.
+#[derive(Clone, Copy, Drop)]
+pub(crate) struct ShownFront {
+    pub(crate) c: char,
+    pub(crate) len: usize,
+    pub(crate) faults: usize,
+}
+
+// A character of so many bytes.
 #[inline(always)]
-pub(crate) fn front_of_utf8(bytes: &[u8]) -> Option<(char, usize)>
-    ensures some { IfSome result (λ x. Decides (Shows utf8) bytes.now x.0 x.1) }
-    ensures none { IfNone result (Waits (Shows utf8) 1 bytes.now) }
+fn character(c: char, len: usize) -> ShownFront
+    ensures { result ≡ record { c = c; len = len; faults = 0 } }
+{
+    ShownFront { c, len, faults: 0 }
+}
+
+// A fault of so many bytes.
+#[inline(always)]
+pub(crate) fn fault(len: usize) -> ShownFront
+    ensures { result ≡ record { c = 0xFFFD; len = len; faults = 1 } }
+{
+    ShownFront {
+        c: char::REPLACEMENT_CHARACTER,
+        len,
+        faults: 1,
+    }
+}
+
+// What begins the bytes; `None` where that depends on what follows them.
+#[inline(always)]
+pub(crate) fn front_of_utf8(bytes: &[u8]) -> Option<ShownFront>
+    ensures some { IfSome result (λ x. Settles Form.Utf8 bytes.now x.c x.len x.faults) }
+    ensures none { IfNone result (Waits Form.Utf8 bytes.now) }
     ensures lacks { IfNone result (Lacks Form.Utf8 bytes.now) }
 {
     match char::from_utf8_slice_start(bytes) {
-        Ok((c, len)) => Some((c, len)),
+        Ok((c, len)) => Some(character(c, len)),
         Err(error) => match error.kind() {
             Utf8ErrorKind::TooFewBytes => {
                 if is_front_of_code(bytes) {
                     None
                 } else {
-                    Some((char::REPLACEMENT_CHARACTER, 1))
+                    Some(fault(1))
                 }
             }
-            _ => Some((char::REPLACEMENT_CHARACTER, 1)),
+            _ => Some(fault(1)),
         },
     }
 }
@@ -72,10 +98,10 @@ fn may_be_second(first: u8, second: u8) -> bool
 
 // The same of UTF-16.
 #[inline(always)]
-pub(crate) fn front_of_utf16<const BIG_ENDIAN: bool>(bytes: &[u8]) -> Option<(char, usize)>
-    ensures some { IfSome result (λ x. Decides (ShowsUnits BIG_ENDIAN) bytes.now x.0 x.1) }
-    ensures none { IfNone result (Waits (ShowsUnits BIG_ENDIAN) 2 bytes.now) }
-    ensures lacks { IfNone result (unit_fault_kind (units_of BIG_ENDIAN bytes.now) ≡ Some Incomplete) }
+pub(crate) fn front_of_utf16<const BIG_ENDIAN: bool>(bytes: &[u8]) -> Option<ShownFront>
+    ensures some { IfSome result (λ x. Settles (utf16_form BIG_ENDIAN) bytes.now x.c x.len x.faults) }
+    ensures none { IfNone result (Waits (utf16_form BIG_ENDIAN) bytes.now) }
+    ensures lacks { IfNone result (Lacks (utf16_form BIG_ENDIAN) bytes.now) }
 {
     if bytes.len() < 2 {
         return None;
@@ -83,8 +109,8 @@ pub(crate) fn front_of_utf16<const BIG_ENDIAN: bool>(bytes: &[u8]) -> Option<(ch
     let first = unit(BIG_ENDIAN, bytes[0], bytes[1]);
     if !first.is_utf16_leading_surrogate() {
         return match char::from_utf16_tuple((first, None)) {
-            Ok(c) => Some((c, 2)),
-            Err(_) => Some((char::REPLACEMENT_CHARACTER, 2)),
+            Ok(c) => Some(character(c, 2)),
+            Err(_) => Some(fault(2)),
         };
     }
     if bytes.len() < 4 {
@@ -92,15 +118,15 @@ pub(crate) fn front_of_utf16<const BIG_ENDIAN: bool>(bytes: &[u8]) -> Option<(ch
     }
     let second = unit(BIG_ENDIAN, bytes[2], bytes[3]);
     match char::from_utf16_tuple((first, Some(second))) {
-        Ok(c) => Some((c, 4)),
-        Err(_) => Some((char::REPLACEMENT_CHARACTER, 2)),
+        Ok(c) => Some(character(c, 4)),
+        Err(_) => Some(fault(2)),
     }
 }
 
 // The character that begins the bytes, and how many bytes it has; `None` at a fault, and near the end.
 #[inline(always)]
 pub(crate) fn char_of_utf16<const BIG_ENDIAN: bool>(bytes: &[u8]) -> Option<(char, usize)>
-    ensures { IfSome result (λ x. Decides (ShowsUnits BIG_ENDIAN) bytes.now x.0 x.1) }
+    ensures { IfSome result (λ x. BeginsChar (utf16_form BIG_ENDIAN) bytes.now x.0 x.1) }
 {
     if bytes.len() < 2 {
         return None;
@@ -126,8 +152,7 @@ pub(crate) fn char_of_utf16<const BIG_ENDIAN: bool>(bytes: &[u8]) -> Option<(cha
 #[inline(always)]
 pub(crate) fn ascii_of_units<const BIG_ENDIAN: bool>(bytes: &[u8]) -> Option<[u8; 8]>
     requires { length bytes.now ≡ 16 }
-    ensures units { IfSome result (λ ascii. units_of BIG_ENDIAN bytes.now ≡ ascii) }
-    ensures ascii { IfSome result (λ ascii. AreAscii ascii 0 8) }
+    ensures { IfSome result (λ ascii. Transcodes (utf16_form BIG_ENDIAN) Form.Utf8 bytes.now ascii) }
 {
     let units = eight_units::<BIG_ENDIAN>(bytes);
     if eight_are_ascii(units) {

@@ -117,14 +117,13 @@ impl Recoder {
 
     // Holds no longer so many of the bytes at the front. Answers how many more those were than the held ones.
     fn pass(&mut self, count: usize) -> usize
-        ensures held { self.new ≡ record { from = self.old.from; to = self.old.to; held = drop count self.old.held } }
+        ensures held { self.new ≡ record (self.old) { held = drop count self.old.held } }
         ensures more { result ≡ count - length self.old.held }
     {
-        let (from, to) = self.forms();
         let held = self.held();
         let gone = count.min(held.len());
         let more = count - gone;
-        *self = Recoder::holding(from, to, &held[gone..]);
+        self.take_more(&[], gone);
         more
     }
 

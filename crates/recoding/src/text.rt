@@ -1,14 +1,14 @@
 //! The forms as types, so that each pair of them has a copy of the loops.
 ghost use Rattle.std.specs.Prelude.{◌≡◌, ◌<◌, ◌≤◌, length, IfSome, IfNone, IsTrue, IsFalse};
-ghost use Rattle.recoding.specs.Recoded.{Reads, Lacks, written};
-ghost use Rattle.recoding.specs.ShownFronts.{Decides, Waits, fault_len};
-ghost use Rattle.recoding.specs.Strict.{IsFirstPiece, lacking};
+ghost use Rattle.recoding.specs.Recoded.{Lacks, written};
+ghost use Rattle.recoding.specs.ShownFronts.{Settles, Waits, fault_len};
+ghost use Rattle.recoding.specs.Strict.{BeginsChar, IsFirstPiece, lacking};
 
 use crate::codes::{len_of_units, put_short, put_units};
 use crate::faults::FaultKind;
 use crate::first_pieces::{FirstPiece, first_of_utf8, first_of_utf16};
 use crate::output::Output;
-use crate::shown_fronts::{char_of_utf16, front_of_utf8, front_of_utf16};
+use crate::shown_fronts::{ShownFront, char_of_utf16, front_of_utf8, front_of_utf16};
 use encode_unicode::CharExt;
 use encode_unicode::error::{Utf8ErrorKind, Utf16PairError};
 use utf_lanes::text_front::front_of_text;
@@ -20,16 +20,15 @@ pub(crate) trait Text {
     // Which form it is.
     ghost form: { Form };
 
-    // The scalar that begins the bytes, or U+FFFD for a fault, and how many bytes it has; `None` where that
-    // depends on what follows them.
-    fn front(bytes: &[u8]) -> Option<(char, usize)>
-        ensures some { IfSome result (λ x. Decides (Reads form) bytes.now x.0 x.1) }
-        ensures none { IfNone result (Waits (Reads form) (fault_len form) bytes.now) }
+    // What begins the bytes; `None` where that depends on what follows them.
+    fn front(bytes: &[u8]) -> Option<ShownFront>
+        ensures some { IfSome result (λ x. Settles form bytes.now x.c x.len x.faults) }
+        ensures none { IfNone result (Waits form bytes.now) }
         ensures lacks { IfNone result (Lacks form bytes.now) };
 
     // The character that begins the bytes, and how many bytes it has; `None` at a fault, and near the end.
     fn text_front(bytes: &[u8]) -> Option<(char, usize)>
-        ensures { IfSome result (λ x. Decides (Reads form) bytes.now x.0 x.1) };
+        ensures { IfSome result (λ x. BeginsChar form bytes.now x.0 x.1) };
 
     // How many bytes there have to be for `text_front` to answer a character.
     fn least_front() -> usize
@@ -98,7 +97,7 @@ impl Text for Utf8 {
     ghost form = { form.Utf8 };
 
     #[inline(always)]
-    fn front(bytes: &[u8]) -> Option<(char, usize)> {
+    fn front(bytes: &[u8]) -> Option<ShownFront> {
         front_of_utf8(bytes)
     }
 
@@ -145,12 +144,11 @@ impl<const BIG_ENDIAN: bool> Text for Utf16<BIG_ENDIAN> {
     ghost form = { utf16_form BIG_ENDIAN };
 
     #[inline(always)]
-    fn front(bytes: &[u8]) -> Option<(char, usize)> {
+    fn front(bytes: &[u8]) -> Option<ShownFront> {
         front_of_utf16::<BIG_ENDIAN>(bytes)
     }
 
     #[inline(always)]
-    #[tactic(auto, using(crate::proofs::Forms::reads_utf16))]
     fn text_front(bytes: &[u8]) -> Option<(char, usize)> {
         char_of_utf16::<BIG_ENDIAN>(bytes)
     }

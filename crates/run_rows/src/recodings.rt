@@ -219,7 +219,7 @@ fn finish_refused(
 ) -> Result<bool, AllocError> {
     budget.allow(0);
     match recoder.finish(out) {
-        Ok(()) => Ok(false),
+        Ok(_) => Ok(false),
         Err(unfinished) => {
             let is_unchanged = out.is_empty();
             budget.allow(1);

@@ -7,7 +7,7 @@ use std::test::Fail;
 use uses::cases::are_alike;
 use uses::chains::{last_line, trimmed, units_needed};
 use uses::merged::split_piece;
-use uses::parts::{append_shards, feed_line, recode_in_parts, recode_ring};
+use uses::parts::{append_shards, count_two, feed_line, recode_in_parts, recode_ring};
 use uses::recoders::recode;
 use uses::records::{Ending, first_record, next_record};
 use uses::rooms::{feed_packet, send_end};
@@ -94,6 +94,23 @@ fn nothing_after_a_faulty_byte_is_lost(rt: HostRuntime) {
         .map(|error| error.kind());
     assert!(rt; kind == Some(Utf8ErrorKind::InterruptedSequence));
     assert!(rt; rest.eq([0xa1, 0xb2, 0x46, 0x53]));
+}
+
+// FF and the two bytes of E2 82 are faults by RFC 3629, section 4; EF BF BD is U+FFFD itself.
+#[test]
+fn faults_are_counted(rt: HostRuntime) -> Result<(), Fail> {
+    let mut recoder = Recoder::new(Form::Utf8, Form::Utf16Le);
+    let mut room = [0; 16];
+    let first = recoder.feed_into(b"\xff\xef\xbf", &mut room);
+    assert!(rt; first.replaced == 1 && recoder.replaced() == 1);
+    let second = recoder.feed_into(b"\xbda\xe2\x82", &mut room);
+    assert!(rt; second.replaced == 0 && recoder.replaced() == 1);
+    let last = recoder.finish_into(&mut room);
+    assert!(rt; last.replaced == 2 && recoder.replaced() == 3);
+    assert!(rt; count_two(rt.alloc(), Form::Utf8, b"\xff\xef\xbf", b"\xbda\xe2\x82")? == 3);
+    // D800 is alone, and half a unit follows it.
+    assert!(rt; count_two(rt.alloc(), Form::Utf16Be, b"\xd8", b"\x00\x41")? == 2);
+    Ok(())
 }
 
 #[test]

@@ -5,7 +5,7 @@ use Rattle.std.proofs.Math.Seq.{take-append-add}
 use Rattle.std.specs.Prelude.{IsTrue, IsFalse}
 use Rattle.cuts.specs.declared.Form.{Form}
 use Rattle.cuts.specs.Bounds.{FeedsInRoom, RoomIsLeft, FinishesInRoom, HasRoom}
-use Rattle.cuts.specs.Recoded.{Recoding, Feeds, Finishes, IsRecoded}
+use Rattle.cuts.specs.Recoded.{Recoding, Feeds, Finishes, IsRecoded, fresh}
 use Rattle.cuts.specs.Rooms.{FeedsInto, FinishesInto, IsFull, IsLastFull}
 use Rattle.cuts.proofs.FedParts.{fed_is_recoded}
 
@@ -21,7 +21,7 @@ joined_fronts xs ys post n m a b =
 
 -- one part into the room, and then the end into what is left of it
 pub in_room : FeedsInRoom → RoomIsLeft → FinishesInRoom → (from to : Form) (r s t : Recoding) (bytes old mid old2 new2 post : List ℕ) (read wrote more : ℕ) (full last : Bool)
-    → r ≡ record { from = from; to = to; held = [] } → FeedsInto r bytes old mid read wrote s → (IsTrue full → IsFull s (s.held ++ drop read bytes) (length old - wrote))
+    → r ≡ fresh from to → FeedsInto r bytes old mid read wrote s → (IsTrue full → IsFull s (s.held ++ drop read bytes) (length old - wrote))
     → (IsFalse full → read ≡ length bytes) → FinishesInto s old2 new2 more t → (IsTrue last → IsLastFull t t.held (length old2 - more))
     → (IsFalse last → (out : List ℕ) → Finishes s out (out ++ take more new2)) → length mid ≡ length old → length old2 ≡ length old - wrote → length new2 ≡ length old2
     → HasRoom from to bytes (length old) → IsRecoded from to bytes (take (wrote + more) (take wrote mid ++ (new2 ++ post)))
@@ -32,7 +32,7 @@ in_room feeds left ends from to r s t bytes old mid old2 new2 post read wrote mo
     let room_after : HasRoom s.from s.to s.held (length old2)
     = subst (λ n. HasRoom s.from s.to s.held n) (sym len2) (left r s bytes old mid read wrote f same_mid (subst (λ xs. HasRoom r.from r.to (r.held ++ xs) (length old)) (sym taken) room_before)) in
     let finished : Finishes s (take wrote mid) (take wrote mid ++ take more new2) = where_not last is_last (ends s t old2 new2 more g same2 room_after) done (take wrote mid) in
-    let fed : Feeds (record { from = from; to = to; held = [] }) bytes [] (take wrote mid) s
+    let fed : Feeds (fresh from to) bytes [] (take wrote mid) s
     = subst (λ (x : Recoding). Feeds x bytes [] (take wrote mid) s) e (subst (λ xs. Feeds r xs [] (take wrote mid) s) taken (f.feeds [])) in
     let fits = f.fits in
     subst (IsRecoded from to bytes) (sym (joined_fronts mid new2 post wrote more (omega arith) (omega arith)))

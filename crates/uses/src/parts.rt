@@ -1,7 +1,8 @@
 //! Text that comes in parts, as from a socket.
-ghost use Rattle.std.specs.Prelude.{◌≡◌, ◌+◌, ◌<◌, ◌≤◌, ◌++◌, [], length, IfOk, IsTrue, IsFalse, OnOk, flat_map, ℕ, List, drop, take};
+ghost use Rattle.std.specs.Prelude.{◌≡◌, ◌+◌, ◌-◌, ◌^◌, min, ◌<◌, ◌≤◌, ◌++◌, [], length, IfOk, IsTrue, IsFalse, OnOk, flat_map, ℕ, List, drop, take};
 ghost use Rattle.cuts.specs.Recoded.{Continues, IsRecoded};
 ghost use Rattle.cuts.specs.Undecided.{IsUndecided};
+ghost use Rattle.cuts.specs.Faults.{fault_count};
 ghost use Rattle.cuts.specs.RecodedBytes.{recoded};
 
 use cuts::{Form, Recoder, laws, shard_end};
@@ -66,6 +67,22 @@ pub fn recode_two<A: Allocator>(
     recoder.feed(second, &mut made)?;
     recoder.finish(&mut made)?;
     Ok(made)
+}
+
+/// How many faults of two parts became U+FFFD: those of both together, wherever they were cut.
+pub fn count_two<A: Allocator>(
+    alloc: A,
+    from: Form,
+    first: &[u8],
+    second: &[u8],
+) -> Result<u64, AllocError>
+    ensures { IfOk result (λ n. n ≡ min (2 ^ 64 - 1) (fault_count from (first.now ++ second.now))) }
+{
+    let mut made = Vec::new(alloc);
+    let mut recoder = Recoder::new(from, Form::Utf8);
+    recoder.feed(first, &mut made)?;
+    recoder.feed(second, &mut made)?;
+    Ok(recoder.finish(&mut made)?)
 }
 
 /// The same of a ring of bytes, which begins at a place and goes on at the front.

@@ -1,5 +1,5 @@
 -- What the character types say alike, of the scalar.
-use Rattle.std.specs.Prelude.{◌≡◌, ℕ, ◌+◌, ◌-◌, ◌<◌, ◌&&◌, nat_le, if◌then◌else◌, List, [], length, ◌==◌, Result, Ok, Err, MatchResult}
+use Rattle.std.specs.Prelude.{◌≡◌, ℕ, ◌+◌, ◌-◌, ◌<◌, ◌&&◌, nat_le, if◌then◌else◌, List, [], length, slice_index, ◌==◌, Result, Ok, Err, MatchResult}
 use Rattle.utf_base.specs.declared.errors.scalars.EmptyStrError.{EmptyStrError}
 use Rattle.utf_base.specs.declared.errors.scalars.FromStrError.{FromStrError}
 use Rattle.utf_base.specs.declared.errors.scalars.FromStrError.TheVariants.{MultipleCodepoints, Empty}
@@ -8,6 +8,11 @@ use Rattle.utf_base.specs.Code.{utf8}
 use Rattle.utf_base.specs.Front.{BeginsWith}
 use Rattle.utf_base.specs.Kinds.{asked_by, value}
 use Rattle.utf_base.specs.Piece.{Stands}
+use Rattle.utf_base.specs.Units.{is_surrogate, pair_value}
+
+-- the scalar of two units: the first where it is no surrogate, else that of the two as a pair, whatever they are
+abbrev pub array_value : List ℕ → ℕ
+array_value units = if is_surrogate (slice_index units 0) then pair_value (slice_index units 0) (slice_index units 1) else slice_index units 0
 
 -- the lower case of A to Z, and every other scalar as it is
 abbrev pub ascii_lowercase : ℕ → ℕ

@@ -1,12 +1,13 @@
 //! Methods of `char`.
-ghost use Rattle.std.specs.Prelude.{◌≡◌, ℕ, true, false, length, take, slice_index, unwrap_or, if◌then◌else◌, IfNone, IfOk, IfErr, Some, ◌≤◌};
+ghost use Rattle.std.specs.Prelude.{◌≡◌, ℕ, true, false, length, take, slice_index, unwrap_or, IfNone, IfOk, IfErr, Some, ◌≤◌};
 ghost use Rattle.utf_base.specs.Code.{utf8, utf16};
 ghost use Rattle.utf_base.specs.Decoded.{decoded, decoded_bytes, decoded_units, decoded_two, decoded_tuple};
 ghost use Rattle.utf_base.specs.Decoded.{decoded_number, GivesChar, GivesFirst, DecodesWhole};
 ghost use Rattle.utf_base.specs.Front.{as_scalar, DecodesFront, DecodesBytes, DecodesNumber, IsFrontLen};
 ghost use Rattle.utf_base.specs.Front.{DecodesUnits, DecodesTwoUnits, DecodesTuple};
 ghost use Rattle.utf_base.specs.Kinds.{value, fault_kind};
-ghost use Rattle.utf_base.specs.Units.{is_padded_units, is_surrogate, pair_value, tuple_value, units_of};
+ghost use Rattle.utf_chars.specs.Chars.{array_value};
+ghost use Rattle.utf_base.specs.Units.{is_padded_units, is_surrogate, tuple_value, units_of};
 ghost use Rattle.utf_chars.specs.Padded.{padded, IsPadded};
 
 use crate::codes::{number, utf8, utf16};
@@ -130,7 +131,7 @@ pub trait CharExt: Sized {
     /// are taken for a surrogate pair, whatever they are: 0x10000 plus the number whose twenty bits
     /// are the lower ten of the first unit and then those of the second.
     fn from_utf16_array_unchecked(utf16: [u16; 2]) -> Self
-        ensures value { scalar result ≡ (if is_surrogate (slice_index utf16 0) then pair_value (slice_index utf16 0) (slice_index utf16 1) else slice_index utf16 0) }
+        ensures value { scalar result ≡ array_value utf16 }
         ensures known { IfOk (decoded_two utf16) (λ s. scalar result ≡ s) };
 
     /// The character of one unit, or of two, without a check. Two units are taken for a surrogate

@@ -125,7 +125,8 @@ impl Utf16Char {
         ensures known { result ≡ decoded_units_end src.now }
         ensures len { IfOk result (λ x. IsFrontLen 2 src.now x.1) }
         ensures exact { IfOk result (λ x. decoded_units (drop (length src.now - x.1) src.now) ≡ Ok x) }
-        ensures exact_end { IfOk result (λ x. decoded_units_end (drop (length src.now - x.1) src.now) ≡ Ok x) }
+        ensures exact_end { IfOk result
+            (λ x. decoded_units_end (drop (length src.now - x.1) src.now) ≡ Ok x) }
     {
         let (last, len) = utf16::decode_end(src)?;
         Ok((Utf16Char::new(last), len))

@@ -51,7 +51,7 @@ def _decode(form: int, data: ReadableBuffer, errors: Optional[str], final: bool)
         return part, end
     source = bytes(data)
     if errors == "replace":
-        return _noddychest.recode(form, 0, source[:end]).decode(), end
+        return _noddychest.recode(form, 0, source[:end], False).decode(), end
     fault = fault_error(NAMES[form], source, at, length, kind, offset=at)
     parts = [part]
     while True:

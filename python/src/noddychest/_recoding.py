@@ -38,13 +38,14 @@ def recode(data: ReadableBuffer, from_: str, to: str, errors: str = "replace") -
     b'a\\xef\\xbf\\xbdb'
     >>> recode(b"a\\0\\0", "utf16le", "utf8", "strict")
     Traceback (most recent call last):
-    noddychest.FaultError: 'utf-16-le' codec can't decode byte 0x00 in position 2: fewer bytes are left than the first asks for
+    noddychest.FaultError: 'utf-16-le' codec can't decode byte 0x00 in position 2: the input ends after a leading surrogate, or inside a unit
     """
     source, target = _form(from_), _form(to)
-    found = _noddychest.fault(source, data) if _is_strict(errors) else None
-    if found is not None:
-        raise fault_error(STANDARD[source], data, *found, offset=found[0])
-    return _noddychest.recode(source, target, data)
+    made = _noddychest.recode(source, target, data, _is_strict(errors))
+    if isinstance(made, bytes):
+        return made
+    offset, length, kind = made
+    raise fault_error(STANDARD[source], data, offset, length, kind, offset=offset)
 
 
 class Recoder:

@@ -1,9 +1,10 @@
 //! The code of a scalar in UTF-16 (RFC 2781).
-ghost use Rattle.std.specs.Prelude.{◌≡◌, ◌↔◌, IsTrue, ◌+◌, ◌-◌, ◌/◌, ◌%◌, ◌≤◌, ◌<◌, ◌&&◌, nat_lt, true, false, slice_index, if◌then◌else◌, IfNone};
+ghost use Rattle.std.specs.Prelude.{◌≡◌, ◌↔◌, IsTrue, ◌+◌, ◌-◌, ◌/◌, ◌%◌, ◌≤◌, ◌<◌, ◌&&◌, nat_lt, true, false, if◌then◌else◌, IfNone};
 ghost use Rattle.utf_base.specs.declared.errors.units.Utf16SliceError.TheVariants.{FirstIsTrailingSurrogate};
 ghost use Rattle.utf_base.specs.Back.{DecodesUnitsEnd};
 ghost use Rattle.utf_base.specs.Code.{utf16};
 ghost use Rattle.utf_base.specs.Front.{as_scalar, DecodesUnits, DecodesTwoUnits, DecodesTuple};
+ghost use Rattle.utf_chars.specs.Chars.{array_value};
 ghost use Rattle.utf_base.specs.Units.{is_surrogate, is_leading_surrogate, is_trailing_surrogate, pair_value, tuple_value, units_of};
 ghost use Rattle.utf_chars.specs.Padded.{padded};
 
@@ -166,7 +167,7 @@ pub(crate) fn decode_tuple(units: (u16, Option<u16>)) -> Result<char, Utf16Tuple
 /// the second for a trailing one: ten bits of each, above 0x10000.
 #[inline(always)]
 pub(crate) fn decode_array_unchecked(units: [u16; 2]) -> char
-    ensures { result ≡ (if is_surrogate (slice_index units 0) then pair_value (slice_index units 0) (slice_index units 1) else slice_index units 0) }
+    ensures { result ≡ array_value units }
 {
     let [first, second] = units;
     if is_surrogate(first) {

@@ -101,8 +101,10 @@ pub(crate) fn value_of_three(first: u8, second: u8, third: u8) -> u32
 #[inline(always)]
 pub(crate) fn value_of_four(first: u8, second: u8, third: u8, fourth: u8) -> u32
     requires first { (0xF0 ≤ first) × (first < 0xF8) }
-    requires continuation_bytes { (is_continuation second && is_continuation third && is_continuation fourth) ≡ true }
-    ensures { result ≡ (first - 0xF0) * 262144 + (second - 0x80) * 4096 + (third - 0x80) * 64 + (fourth - 0x80) }
+    requires continuation_bytes { (is_continuation second && is_continuation third &&
+        is_continuation fourth) ≡ true }
+    ensures { result ≡
+        (first - 0xF0) * 262144 + (second - 0x80) * 4096 + (third - 0x80) * 64 + (fourth - 0x80) }
 {
     let high = (((first & 0x07) as u32) << 6 | (second & 0x3f) as u32) << 6 | (third & 0x3f) as u32;
     high << 6 | (fourth & 0x3f) as u32

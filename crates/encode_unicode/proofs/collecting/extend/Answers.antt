@@ -9,7 +9,7 @@ use Rattle.encode_unicode.proofs.collecting.extend.Goals as goal
 pub loop-c-preserved : goal.loop-c-preserved
 loop-c-preserved g c = record {
   added = c.in_ok-add.ensures.ok ∙ ap (λ ys. ys ++ g.T.HoldsCodes.code c.in-Some.c) c.loop-c.invariant.added ∙ flat_map_more g.T.HoldsCodes.code (g.T.HoldsCodes.held c.args.out.now) c.loop-c.yielded c.in-Some.c;
-  left = λ rest listed. one_more _ _ _ _ _ (c.loop-c.invariant.left rest listed) (listed _ _ _ c.in-Some.ensures.steps);
+  left = λ rest listed. one_more _ (c.loop-c.invariant.left rest listed) (listed _ _ _ c.in-Some.ensures.steps);
   room = let before = c.loop-c.invariant.room in let grown = c.in_ok-add.ensures.room in omega arith;
 }
 
@@ -17,10 +17,10 @@ pub returns-in_err-add-clause-err : goal.returns-in_err-add-clause-err
 returns-in_err-add-clause-err g c =
     let from = err_from_is_err_and c.from_residual.result c.from_residual.ensures.1 in
     let full = rw c.loop-c.invariant.added at c.in_err-add.ensures.full in
-    rw from.1 (λ rest listed. first_added g.T.HoldsCodes.code _ _ _ _ _ _ _ _ (c.loop-c.invariant.left rest listed) (listed _ _ _ c.in-Some.ensures.steps) (c.in_err-add.ensures.err ∙ c.loop-c.invariant.added) (omega arith))
+    rw from.1 (λ rest listed. first_added g.T.HoldsCodes.code _ (c.loop-c.invariant.left rest listed) (listed _ _ _ c.in-Some.ensures.steps) (c.in_err-add.ensures.err ∙ c.loop-c.invariant.added) (omega arith))
 
 pub returns-in_err-add-clause-nothing : goal.returns-in_err-add-clause-nothing
-returns-in_err-add-clause-nothing g c rest listed none = absurd (not_none _ _ _ _ _ (c.loop-c.invariant.left rest listed) (listed _ _ _ c.in-Some.ensures.steps) none)
+returns-in_err-add-clause-nothing g c rest listed none = absurd (not_none _ (c.loop-c.invariant.left rest listed) (listed _ _ _ c.in-Some.ensures.steps) none)
 
 pub returns-clause-ok : goal.returns-clause-ok
 returns-clause-ok g c rest listed = c.loop-c.invariant.added ∙ ap (λ ys. g.T.HoldsCodes.held c.args.out.now ++ flat_map g.T.HoldsCodes.code ys) (sym (none_left _ _ _ (c.loop-c.invariant.left rest listed) (listed _ _ _ c.in-None.ensures.steps).0))

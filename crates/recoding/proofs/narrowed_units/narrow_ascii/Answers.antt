@@ -1,8 +1,10 @@
-use Rattle.std.proofs.Common.{◌≡◌, ◌+◌, ◌-◌, arith, length-drop}
+use Rattle.std.proofs.Common.{◌≡◌, ◌+◌, ◌-◌, drop, not, arith, length-drop}
 use Rattle.std.proofs.lemmas.List.{take_rest}
-use Rattle.recoding.proofs.CopiedUnits.{rest_fits}
-use Rattle.recoding.proofs.Forms.{is_utf16}
-use Rattle.recoding.proofs.TextRuns.{PutsText-ascii, PutsText-none, PutsText-then}
+use Rattle.std.specs.Prelude.{eqb}
+use Rattle.recoding.specs.ShownFronts.{utf16_form}
+use Rattle.recoding.specs.declared.form.Form.TheVariants.{Utf8}
+use Rattle.recoding.specs.Strict.{PutsText}
+use Rattle.recoding.proofs.TextRuns.{PutsText-none, PutsText-then}
 use Rattle.recoding.proofs.narrowed_units.narrow_ascii.Goals as goal
 
 pub loop-place-init : goal.loop-place-init
@@ -12,8 +14,11 @@ pub loop-place-preserved : goal.loop-place-preserved
 loop-place-preserved g c =
     let bytes = c.args.bytes.now in
     let place = c.loop-place.place in
-    let block = c.in-Some.ensures in
     let span : place + 16 - place ≡ 16 = omega arith in
-    PutsText-then g.met.O.Output.appends_more c.loop-place.invariant
-    (rw (take_rest bytes place)
-    (PutsText-ascii _ c.in-Some.ascii (is_utf16 _) (rest_fits bytes place c.type_inv.bytes) (omega (arith, length-drop place bytes)) (rw span at block.units) (omega arith) block.ascii c.put.ensures))
+    let block : PutsText g.O.Output.appends (utf16_form (not (eqb g.row.BIG_ENDIAN 0))) Utf8 (drop place bytes) _ _ 16 = record {
+      within = omega (arith, length-drop place bytes);
+      grown = c.in-Some.ascii;
+      appended = c.put.ensures;
+      transcodes = rw span at c.in-Some.ensures;
+    } in
+    PutsText-then g.met.O.Output.appends_more c.loop-place.invariant (rw (take_rest bytes place) block)

@@ -1,7 +1,6 @@
 use Rattle.std.proofs.Common.{◌∙◌, drop, arith, length-drop}
-use Rattle.std.proofs.lemmas.List.{take_rest}
-use Rattle.recoding.specs.Recoded.{Reads}
-use Rattle.recoding.specs.ShownFronts.{Ends}
+use Rattle.std.proofs.lemmas.List.{drop-drop, take_rest}
+use Rattle.recoding.specs.ShownFronts.{SettlesLast}
 use Rattle.recoding.proofs.RoomLemmas.{drop_later, Leaves-step}
 use Rattle.recoding.proofs.recoder_rooms.recode_last_into.Goals as goal
 
@@ -18,8 +17,10 @@ loop-read-preserved c =
     let before = c.loop-read.invariant in
     let at = before.within in
     let len = before.len in
-    let d : Ends (Reads c.args.from) (drop read bytes) c.last_front-c.result.0 c.last_front-c.result.1 = rw (take_rest bytes read) at c.last_front-c.ensures in
-    let within = d.within in
+    let first = c.last_front-first.result in
+    let d : SettlesLast c.args.from (drop read bytes) first.c first.len first.faults = rw (take_rest bytes read) at c.last_front-first.ensures in
+    let within = d.ends.within in
+    let some = d.ends.some in
     let fills = c.in-Some.ensures.some in
     let later = fills.ordered in
     let fits = fills.fits in
@@ -27,6 +28,8 @@ loop-read-preserved c =
       within = omega (arith, length-drop read bytes);
       fits = omega arith;
       len = omega (arith, c.put_at.auto.room);
-      leaves = Leaves-step _ _ _ _ _ read _ _ before.leaves d fills.front;
+      leaves = Leaves-step _ _ _ _ _ read _ _ before.leaves d.ends fills.front;
       rest = fills.rest ∙ drop_later _ _ _ _ later before.rest;
+      few = omega (arith, before.few, d.few);
+      faults = omega (arith, before.faults, rw (drop-drop first.len read bytes) at d.counts);
     }

@@ -1,4 +1,5 @@
-use Rattle.std.proofs.Common.{◌≡◌, ◌-◌, ◌≤◌, length, take, drop}
+use Rattle.std.proofs.Common.{◌≡◌, ◌+◌, ◌-◌, ◌≤◌, length, take, drop}
+use Rattle.recoding.specs.Faults.{fault_count}
 use Rattle.recoding.specs.Rooms.{Leaves}
 use Rattle.recoding.proofs.recoder_rooms.recode_last_into.Given as goal
 
@@ -8,6 +9,8 @@ invariant-loop-read l = record {
   fits : l.written ≤ length l.fn.room;
   len : length l.room ≡ length l.fn.room;
   leaves : Leaves l.from l.to l.bytes (take l.written l.room) (drop l.read l.bytes);
+  few : l.replaced ≤ l.read;
+  faults : fault_count l.from l.bytes ≡ l.replaced + fault_count l.from (drop l.read l.bytes);
   rest : drop l.written l.room ≡ drop l.written l.fn.room;
 }
 

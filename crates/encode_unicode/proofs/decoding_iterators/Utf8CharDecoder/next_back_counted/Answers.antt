@@ -8,7 +8,7 @@ pub returns-in-Ok-clause-gives : goal.returns-in-Ok-clause-gives
 returns-in-Ok-clause-gives c =
     let bytes : c.as_slice.result.now ≡ slice_range c.self.inside.slice.now c.self.inside.front c.self.inside.back = c.as_slice.ensures.left ∙ ap elements (sym c.self.view_is) in
     let some : c.self.inside.front < c.self.inside.back = omega arith in
-    rw (← c.self.view_is) (gives_back_char _ _ _ _ _ some c.self.invariant.1 (rw bytes at c.in-Ok.ensures.decodes))
+    rw (← c.self.view_is) (gives_back_char some c.self.invariant.1 (rw bytes at c.in-Ok.ensures.decodes))
 
 pub returns-in-Err-clause-gives : goal.returns-in-Err-clause-gives
 returns-in-Err-clause-gives c =

@@ -13,9 +13,9 @@ text_is : (c : goal.After-from_array_unchecked) → c.as_bytes.result.now ≡ sl
 text_is c = c.as_bytes.ensures.value ∙ c.as_str-text.ensures.text ∙ sym (ap elements c.self.view_is)
 
 pub invariant_of-self : goal.invariant_of-self
-invariant_of-self c = (last_char_taken _ _ _ _ _ _ _ c.self.invariant (text_is c) c.last_code-len.ensures c.from_array_unchecked.ensures.known).1
+invariant_of-self c = (last_char_taken c.self.invariant (text_is c) c.last_code-len.ensures c.from_array_unchecked.ensures.known).1
 
 pub returns : goal.returns
 returns c =
-    let taken = last_char_taken _ _ _ _ _ _ _ c.self.invariant (text_is c) c.last_code-len.ensures c.from_array_unchecked.ensures.known in
+    let taken = last_char_taken c.self.invariant (text_is c) c.last_code-len.ensures c.from_array_unchecked.ensures.known in
     rw (← c.self.view_is) (record { gives = taken.0; shorter = taken.2 })

@@ -11,5 +11,5 @@ pub returns-clause-steps : goal.returns-clause-steps
 returns-clause-steps c =
     let units : c.as_slice.result.now ≡ slice_range c.self.inside.slice.now c.self.inside.front c.self.inside.back = c.as_slice.ensures.left ∙ ap elements (sym c.self.view_is) in
     let some : c.self.inside.front < c.self.inside.back = omega arith in
-    rw (← c.self.view_is) (back_item utf16 2 unit_back_kind decoded_pairs_end _ _ _ _ _ some c.self.invariant.1
+    rw (← c.self.view_is) (back_item utf16 2 unit_back_kind decoded_pairs_end _ some c.self.invariant.1
     (rw units at c.last_piece-answer.ensures.piece) (rw units at c.last_piece-answer.ensures.known) (rw units at c.last_piece-answer.ensures.len))

@@ -12,17 +12,17 @@ returns-in-Err g c =
     let begins = c.in-Some.ensures.first.begins ∙ ap (λ held. c.in-Some.first ∷ held) c.in-Some.ensures.none in
     rw (← c.self.view_is)
     (record {
-      steps = merger_next utf16 unit_fault_kind IsHeldUnits _ _ _ _ _ _ _ _ _ _ _ _ _ _ _ reads begins c.in-Err.ensures.answers c.in-Err.ensures.held;
-      goes = merger_nearer utf16 unit_fault_kind _ _ _ _ _ _ _ _ _ _ _ _ _ _ _ reads begins c.in-Err.ensures.answers;
+      steps = merger_next utf16 unit_fault_kind IsHeldUnits reads begins c.in-Err.ensures.answers c.in-Err.ensures.held;
+      goes = merger_nearer utf16 unit_fault_kind reads begins c.in-Err.ensures.answers;
     })
 
 pub returns : goal.returns
 returns g c =
     let reads = rw c.in-Some.ensures.going at c.in-Some.ensures.first.reads in
     let begins = c.in-Some.ensures.first.begins ∙ ap (λ held. c.in-Some.first ∷ held) c.in-Some.ensures.none in
-    let answers = known_units _ _ _ _ _ _ _ _ _ _ c.in-Ok.ensures.answers c.from_array_unchecked.ensures.known in
+    let answers = known_units _ c.in-Ok.ensures.answers c.from_array_unchecked.ensures.known in
     rw (← c.self.view_is)
     (record {
-      steps = merger_next utf16 unit_fault_kind IsHeldUnits _ _ _ _ _ _ _ _ _ _ _ _ _ _ _ reads begins answers c.in-Ok.ensures.held;
-      goes = merger_nearer utf16 unit_fault_kind _ _ _ _ _ _ _ _ _ _ _ _ _ _ _ reads begins answers;
+      steps = merger_next utf16 unit_fault_kind IsHeldUnits reads begins answers c.in-Ok.ensures.held;
+      goes = merger_nearer utf16 unit_fault_kind reads begins answers;
     })

@@ -10,16 +10,16 @@ returns-in-Err g c =
     let begun = c.in-Some.ensures.first in
     rw (← c.self.view_is)
     (record {
-      steps = merger_next utf8 merger_kind IsHeldBytes _ _ _ _ _ _ _ _ _ _ _ _ _ _ _ begun.reads begun.begins c.in-Err.ensures.answers c.in-Err.ensures.held;
-      goes = merger_nearer utf8 merger_kind _ _ _ _ _ _ _ _ _ _ _ _ _ _ _ begun.reads begun.begins c.in-Err.ensures.answers;
+      steps = merger_next utf8 merger_kind IsHeldBytes begun.reads begun.begins c.in-Err.ensures.answers c.in-Err.ensures.held;
+      goes = merger_nearer utf8 merger_kind begun.reads begun.begins c.in-Err.ensures.answers;
     })
 
 pub returns : goal.returns
 returns g c =
     let begun = c.in-Some.ensures.first in
-    let answers = known_bytes _ _ _ _ _ _ _ _ _ _ _ _ c.in-Ok.ensures (rw c.to_array.ensures at c.from_array_unchecked.ensures.known) in
+    let answers = known_bytes c.in-Ok.ensures (rw c.to_array.ensures at c.from_array_unchecked.ensures.known) in
     rw (← c.self.view_is)
     (record {
-      steps = merger_next utf8 merger_kind IsHeldBytes _ _ _ _ _ _ _ _ _ _ _ _ _ _ _ begun.reads begun.begins answers c.in-Ok.ensures.held;
-      goes = merger_nearer utf8 merger_kind _ _ _ _ _ _ _ _ _ _ _ _ _ _ _ begun.reads begun.begins answers;
+      steps = merger_next utf8 merger_kind IsHeldBytes begun.reads begun.begins answers c.in-Ok.ensures.held;
+      goes = merger_nearer utf8 merger_kind begun.reads begun.begins answers;
     })

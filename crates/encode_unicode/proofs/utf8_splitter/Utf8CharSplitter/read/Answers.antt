@@ -10,7 +10,7 @@ use Rattle.encode_unicode.proofs.utf8_splitter.Utf8CharSplitter.read.Goals as go
 
 pub loop-count-init : goal.loop-count-init
 loop-count-init g c =
-    let first = refilled c.args.buf.now c.take-count.new.buf c.self.inside.begun c.take-count.new.self c.take-count.result c.take-count.ensures.count c.take-count.ensures.written c.take-count.ensures.left in
+    let first = refilled c.take-count.ensures.count c.take-count.ensures.written c.take-count.ensures.left in
     record {
       within = first.within;
       can = rw (← c.self.view_is) at c.requires;
@@ -28,7 +28,7 @@ loop-count-preserved g c =
     let k = c.send-begun.result.1 in
     let put = put_mid n (length c.loop-count.buf - n) c.loop-count.buf c.send-begun.new.buf in
     let more = refilled_from c.loop-count.buf c.send-begun.new.buf (utf8 c.in-Some.c) c.send-begun.result.0 c.loop-count.count c.send-begun.result.1 c.loop-count.invariant.within
-    (refilled _ _ _ _ _ c.send-begun.ensures.count c.send-begun.ensures.written c.send-begun.ensures.left) in
+    (refilled c.send-begun.ensures.count c.send-begun.ensures.written c.send-begun.ensures.left) in
     record {
       within = more.within;
       can = c.in-Some.ensures.goes.keeps;
@@ -49,6 +49,6 @@ pub loop-count-smaller : goal.loop-count-smaller
 loop-count-smaller g c =
     let n = c.loop-count.count in
     let k = c.send-begun.result.1 in
-    let part = refilled _ _ _ _ _ c.send-begun.ensures.count c.send-begun.ensures.written c.send-begun.ensures.left in
+    let part = refilled c.send-begun.ensures.count c.send-begun.ensures.written c.send-begun.ensures.left in
     let some = some_utf8 c.in-Some.c in
     less_left c.loop-count.buf c.send-begun.new.buf (utf8 c.in-Some.c) n k c.loop-count-test.true some c.send-begun.ensures.count part.len

@@ -1,7 +1,8 @@
 use Rattle.std.proofs.Common.{◌≤◌, take, arith, IsUtf8, length-take}
 use Rattle.std.proofs.lemmas.List.{take-take}
 use Rattle.recoding.proofs.Forms.{is_utf16}
-use Rattle.recoding.proofs.TextRuns.{PutsText-given, PutsText-none, PutsText-widened}
+use Rattle.recoding.proofs.TextRuns.{PutsText-given, PutsText-none}
+use Rattle.recoding.proofs.WidenedTexts.{PutsText-widened}
 use Rattle.recoding.proofs.form_blocks.WidenedKernelUtf8Utf16.put_text.Goals as goal
 
 pub returns-then-not-is_ample : goal.returns-then-not-is_ample

@@ -20,5 +20,6 @@ returns-in-Fault c =
       within = omega (arith, f.within, length-drop read rest, c.requires.within);
       from = refl;
       to = refl;
+      replaced = refl;
       few = omega arith;
     }

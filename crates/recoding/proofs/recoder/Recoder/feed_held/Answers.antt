@@ -1,9 +1,10 @@
 use Rattle.std.proofs.Common.{◌≡◌, ℕ, ◌+◌, ◌-◌, ◌<◌, ◌≤◌, List, [], ◌++◌, length, take, drop, arith, refl, ap, ap₂, sym, subst, ◌∙◌, append_assoc, length-append, length-drop, length-take, take-append-drop}
 use Rattle.std.proofs.lemmas.List.{take_rest}
-use Rattle.recoding.specs.Recoded.{Reads, written, Grows}
-use Rattle.recoding.specs.ShownFronts.{Decides}
+use Rattle.recoding.specs.Recoded.{written, Grows}
+use Rattle.recoding.specs.ShownFronts.{Settles}
+use Rattle.recoding.proofs.Advancing.{Advances-front, Replaces-of}
 use Rattle.recoding.specs.Rooms.{IsFull}
-use Rattle.recoding.proofs.RoomLemmas.{drop_later, Grows-start, Grows-more-read, Grows-first, FeedsInto-of, IsFull-of}
+use Rattle.recoding.proofs.RoomLemmas.{drop_later, Advances-start, Advances-more-read, FeedsInto-of, IsFull-of}
 use Rattle.recoding.proofs.recoder.Recoder.feed_held.Goals as goal
 
 pub loop-self-init : goal.loop-self-init
@@ -13,7 +14,9 @@ loop-self-init c = record {
   within = omega arith;
   fits = omega arith;
   len = refl;
-  grows = Grows-start c.args.self.now.from c.args.self.now.to c.args.self.now.held;
+  advances = Advances-start c.args.self.now.from c.args.self.now.to c.args.self.now.held;
+  uncounted = refl;
+  few = omega (arith, ap (λ x. length x.held) c.self.view_is, length-take c.self.inside.count c.self.inside.held, c.self.invariant);
   rest = refl;
   near = omega arith;
   nearer = λ moved. absurd (omega arith);
@@ -36,22 +39,22 @@ returns-in_default-clause-feeds c =
     let short = c.in_default.ensures.none in
     let few : length s.held ≤ 3 = omega (arith, ap length now, length-append held more, ap length c.held_bytes.ensures.bytes) in
     let grown : Grows r.from r.to (r.held ++ take (read + (length part - read)) part) [] out (held ++ more) =
-    Grows-more-read r.from r.to r.held part held [] out read (length part - read) v.grows in
+    (Advances-more-read r.from r.to r.held part held [] out read (length part - read) v.advances).grows in
     let whole : Grows r.from r.to (r.held ++ take (length part) part) [] out s.held =
     subst (λ xs. Grows r.from r.to (r.held ++ take (length part) part) [] out xs) (sym now)
     (subst (λ n. Grows r.from r.to (r.held ++ take n part) [] out (held ++ more)) all grown) in
-    FeedsInto-of r s part c.args.room.now c.loop-self.room (length part) c.loop-self.written (ap (λ x. x.from) e ∙ v.from) (ap (λ x. x.to) e ∙ v.to) few (omega arith) v.fits whole v.rest
+    rw c.progress.ensures (FeedsInto-of r s part c.args.room.now c.loop-self.room (length part) c.loop-self.written (ap (λ x. x.from) e ∙ v.from) (ap (λ x. x.to) e ∙ v.to) few (omega arith) v.fits whole v.rest)
 
 pub returns-in_default-put_at-clause-feeds : goal.returns-in_default-put_at-clause-feeds
 returns-in_default-put_at-clause-feeds c =
     let v = c.loop-self.invariant in
     let held = c.held_bytes.ensures.few in
     let few : length c.loop-self.self.held ≤ 3 = omega (arith, ap length c.held_bytes.ensures.bytes) in
-    rw c.in_default-put_at.ensures.none
-    (FeedsInto-of c.args.self.now c.loop-self.self c.args.part.now c.args.room.now c.loop-self.room c.loop-self.read c.loop-self.written v.from v.to few v.within v.fits v.grows v.rest)
+    rw (c.progress-in_default-put_at.ensures, c.in_default-put_at.ensures.none)
+    (FeedsInto-of c.args.self.now c.loop-self.self c.args.part.now c.args.room.now c.loop-self.room c.loop-self.read c.loop-self.written v.from v.to few v.within v.fits v.advances.grows v.rest)
 
 pub returns-in_default-put_at-clause-full : goal.returns-in_default-put_at-clause-full
-returns-in_default-put_at-clause-full c is =
+returns-in_default-put_at-clause-full c =
     let part = c.args.part.now in
     let read = c.loop-self.read in
     let s = c.loop-self.self in
@@ -60,12 +63,13 @@ returns-in_default-put_at-clause-full c is =
     let taken = c.in-Some.taken in
     let len = c.loop-self.invariant.len in
     let long = c.in_default-put_at.ensures.long in
-    let longer : length c.args.room.now - c.loop-self.written < length (written c.self.inside.to c.in-Some.c) = omega arith in
+    let longer : length c.args.room.now - c.loop-self.written < length (written c.self-in-loop-self.inside.to c.in-Some.first.c) = omega arith in
     let left : (held ++ take taken more) ++ drop taken more ≡ s.held ++ drop read part =
     append_assoc held (take taken more) (drop taken more) ∙ ap₂ (λ xs ys. xs ++ ys) c.held_bytes.ensures.bytes (take-append-drop taken more ∙ take_rest part read) in
-    subst (λ xs. IsFull s xs (length c.args.room.now - c.loop-self.written)) left
-    (IsFull-of s c.self.inside.from c.self.inside.to (held ++ take taken more) (drop taken more) c.in-Some.c c.in-Some.len _
-    (ap (λ x. x.from) c.self.view_is) (ap (λ x. x.to) c.self.view_is) c.in-Some.ensures.decides longer)
+    rw c.progress-in_default-put_at.ensures
+    (λ is. subst (λ xs. IsFull s xs (length c.args.room.now - c.loop-self.written)) left
+    (IsFull-of s c.self-in-loop-self.inside.from c.self-in-loop-self.inside.to (held ++ take taken more) (drop taken more) c.in-Some.first.c c.in-Some.first.len _
+    (ap (λ x. x.from) c.self-in-loop-self.view_is) (ap (λ x. x.to) c.self-in-loop-self.view_is) c.in-Some.ensures.settles.decides longer))
 
 pub loop-self-preserved : goal.loop-self-preserved
 loop-self-preserved c =
@@ -78,34 +82,38 @@ loop-self-preserved c =
     let within = v.within in
     let fits = v.fits in
     let near = v.near in
-    let some = c.in-Some.ensures.decides.some in
-    let gone = c.in-Some.ensures.decides.within in
+    let first = c.in-Some.first in
+    let some = c.in-Some.ensures.settles.decides.some in
+    let gone = c.in-Some.ensures.settles.decides.within in
     let len = v.len in
     let out : List ℕ = take c.loop-self.written c.loop-self.room in
-    let from : c.self.inside.from ≡ r.from = ap (λ x. x.from) c.self.view_is ∙ v.from in
-    let to : c.self.inside.to ≡ r.to = ap (λ x. x.to) c.self.view_is ∙ v.to in
+    let from : c.self-in-loop-self.inside.from ≡ r.from = ap (λ x. x.from) c.self-in-loop-self.view_is ∙ v.from in
+    let to : c.self-in-loop-self.inside.to ≡ r.to = ap (λ x. x.to) c.self-in-loop-self.view_is ∙ v.to in
     let looked = ap₂ (λ xs ys. xs ++ take taken ys) c.held_bytes.ensures.bytes (take_rest part read) in
     let near : taken ≤ length part - read = omega (arith, c.in-Some.ensures.within, ap length (take_rest part read), length-drop read part) in
-    let d : Decides (Reads r.from) (held ++ take taken (drop read part)) c.in-Some.c c.in-Some.len =
-    subst (λ x. Decides (Reads x) (held ++ take taken (drop read part)) c.in-Some.c c.in-Some.len) from (rw looked at c.in-Some.ensures.decides) in
+    let d : Settles r.from (held ++ take taken (drop read part)) first.c first.len first.faults =
+    subst (λ x. Settles x (held ++ take taken (drop read part)) first.c first.len first.faults) from (rw looked at c.in-Some.ensures.settles) in
     let fills = c.in-Some-put_at.ensures.some in
     let later = fills.ordered in
     let e = c.take_more-in-loop-self.ensures in
-    let now = ap (λ x. x.held) e ∙ ap (λ xs. drop c.in-Some.len (held ++ take taken xs)) (take_rest part read) in
-    let fewer : length c.take_more-in-loop-self.new.self.held + c.in-Some.len ≡ length held + taken =
-    omega (arith, ap length now, length-drop c.in-Some.len (held ++ take taken (drop read part)), length-append held (take taken (drop read part)), length-take taken (drop read part), length-drop read part, d.within) in
-    let front : take c.in-Some-put_at.end c.put_at.new.room ≡ out ++ written r.to c.in-Some.c =
-    subst (λ x. take c.in-Some-put_at.end c.put_at.new.room ≡ out ++ written x c.in-Some.c) to fills.front in
+    let now : c.take_more-in-loop-self.new.self.held ≡ drop first.len (held ++ take taken (drop read part)) =
+    ap (λ x. x.held) e ∙ ap (λ xs. drop first.len (held ++ take taken xs)) (take_rest part read) in
+    let fewer : length c.take_more-in-loop-self.new.self.held + c.in-Some.first.len ≡ length held + taken =
+    omega (arith, ap length now, length-drop c.in-Some.first.len (held ++ take taken (drop read part)), length-append held (take taken (drop read part)), length-take taken (drop read part), length-drop read part, d.decides.within) in
+    let front : take c.in-Some-put_at.end c.put_at.new.room ≡ out ++ written r.to c.in-Some.first.c =
+    subst (λ x. take c.in-Some-put_at.end c.put_at.new.room ≡ out ++ written x c.in-Some.first.c) to fills.front in
     record {
       from = ap (λ x. x.from) e ∙ v.from;
       to = ap (λ x. x.to) e ∙ v.to;
       within = omega arith;
       fits = omega arith;
       len = omega (arith, c.put_at.auto.room);
-      grows =
+      advances =
           rw now
-          (Grows-first r.from r.to (r.held ++ take (read + taken) part) [] out (take c.in-Some-put_at.end c.put_at.new.room) (held ++ take taken (drop read part)) c.in-Some.c c.in-Some.len
-          (Grows-more-read r.from r.to r.held part held [] out read taken v.grows) d front);
+          (Advances-front r.from r.to (r.held ++ take (read + taken) part) [] out (take c.in-Some-put_at.end c.put_at.new.room) (held ++ take taken (drop read part)) first.c first.len
+          (Advances-more-read r.from r.to r.held part held [] out read taken v.advances) d front);
+      uncounted = ap (λ x. x.replaced) e ∙ v.uncounted;
+      few = omega (arith, v.few, d.few, fewer, d.decides.some);
       rest = fills.rest ∙ drop_later _ _ _ _ later v.rest;
       near = omega arith;
       nearer = λ moved. omega arith;
@@ -114,6 +122,38 @@ loop-self-preserved c =
 pub returns-clause-feeds : goal.returns-clause-feeds
 returns-clause-feeds c =
     let v = c.loop-self.invariant in
-    let held = c.self.invariant in
-    let few : length c.loop-self.self.held ≤ 3 = omega (arith, ap (λ x. length x.held) c.self.view_is, length-take c.self.inside.count c.self.inside.held) in
-    FeedsInto-of c.args.self.now c.loop-self.self c.args.part.now c.args.room.now c.loop-self.room c.loop-self.read c.loop-self.written v.from v.to few v.within v.fits v.grows v.rest
+    let held = c.self-in-loop-self.invariant in
+    let few : length c.loop-self.self.held ≤ 3 = omega (arith, ap (λ x. length x.held) c.self-in-loop-self.view_is, length-take c.self-in-loop-self.inside.count c.self-in-loop-self.inside.held) in
+    rw c.progress-2.ensures
+    (FeedsInto-of c.args.self.now c.loop-self.self c.args.part.now c.args.room.now c.loop-self.room c.loop-self.read c.loop-self.written v.from v.to few v.within v.fits v.advances.grows v.rest)
+
+-- What was replaced.
+
+pub returns-in_default-clause-replaces : goal.returns-in_default-clause-replaces
+returns-in_default-clause-replaces c =
+    let r = c.args.self.now in
+    let s = c.take_more.new.self in
+    let part = c.args.part.now in
+    let read = c.loop-self.read in
+    let held = c.loop-self.self.held in
+    let v = c.loop-self.invariant in
+    let within = v.within in
+    let all : read + (length part - read) ≡ length part = omega arith in
+    let more : List ℕ = take (length part - read) (drop read part) in
+    let counts = (Advances-more-read r.from r.to r.held part held [] (take c.loop-self.written c.loop-self.room) read (length part - read) v.advances).counts in
+    let e = c.take_more.ensures in
+    rw c.progress.ensures
+    (Replaces-of r s r.from (take (length part) part) (r.held ++ take (read + (length part - read)) part) (held ++ more) c.loop-self.replaced refl (ap (λ x. x.from) e ∙ v.from)
+    (ap (λ n. r.held ++ take n part) all) (ap (λ x. x.held) e) counts)
+
+pub returns-in_default-put_at-clause-replaces : goal.returns-in_default-put_at-clause-replaces
+returns-in_default-put_at-clause-replaces c =
+    let r = c.args.self.now in
+    let v = c.loop-self.invariant in
+    rw c.progress-in_default-put_at.ensures (Replaces-of r c.loop-self.self r.from _ _ _ c.loop-self.replaced refl v.from refl refl v.advances.counts)
+
+pub returns-clause-replaces : goal.returns-clause-replaces
+returns-clause-replaces c =
+    let r = c.args.self.now in
+    let v = c.loop-self.invariant in
+    rw c.progress-2.ensures (Replaces-of r c.loop-self.self r.from _ _ _ c.loop-self.replaced refl v.from refl refl v.advances.counts)

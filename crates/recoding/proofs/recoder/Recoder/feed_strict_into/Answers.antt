@@ -33,6 +33,7 @@ returns-clause-feeds c =
       within = held.within;
       from = held.from;
       to = held.to;
+      replaced = held.replaced;
       few = held.few;
     })
     c.pass_held-passed.auto.room runs c.run_strictly-run.ensures.stops.longer ends

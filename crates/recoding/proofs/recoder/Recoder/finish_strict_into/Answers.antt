@@ -15,6 +15,7 @@ loop-from-preserved c =
       recodes = rw held (RecodesText-char v.recodes v.len d c.in-Some.ensures.some);
       from = ap (λ x. x.from) passed ∙ v.from;
       to = ap (λ x. x.to) passed ∙ v.to;
+      replaced = ap (λ x. x.replaced) passed ∙ v.replaced;
       few = omega (arith, ap length held, length-drop c.in-Ok.count c.loop-from.self.held);
       len = omega (arith, c.put_at.auto.room);
     }
@@ -25,7 +26,7 @@ returns-in-Err-clause-finishes c =
     let f = rw c.held-in-loop-from.ensures.bytes at c.in-Err.ensures in
     rw (c.finished-in-Err.ensures, c.faulty.ensures, c.held-in-Err.ensures.bytes)
     (FinishesStrictly-fault c.args.self.now c.loop-from.self c.pass-in-Err.new.self c.forms-from.result.0 c.forms-from.result.1 c.args.room.now c.loop-from.room c.loop-from.written c.in-Err.count c.in-Err.kind
-    c.forms-from.ensures.from c.forms-from.ensures.to v.from v.to v.few v.recodes f c.pass-in-Err.ensures.held)
+    c.forms-from.ensures.from c.forms-from.ensures.to v.from v.to v.replaced v.few v.recodes f c.pass-in-Err.ensures.held)
 
 pub returns-in_default-clause-enough : goal.returns-in_default-clause-enough
 returns-in_default-clause-enough c fits full =

@@ -7,6 +7,7 @@ invariant-loop-from l = record {
   recodes : RecodesText l.from l.to l.fn.self.held l.self.held l.fn.room l.room l.written;
   from : l.self.from ≡ l.fn.self.from;
   to : l.self.to ≡ l.fn.self.to;
+  replaced : l.self.replaced ≡ l.fn.self.replaced;
   few : length l.self.held ≤ length l.fn.self.held;
   len : length l.room ≡ length l.fn.room;
 }

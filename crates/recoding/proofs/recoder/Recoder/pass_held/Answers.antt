@@ -20,7 +20,7 @@ returns-in_default c =
     let long = c.in_default.ensures.long in
     let longer : length c.args.room.now - c.loop-from.written < length (written c.forms-from.result.1 c.in-Char.c) = omega arith in
     rw (c.held_run.ensures, c.in_default.ensures.none)
-    (PassesHeld-of r s c.forms-from.result.0 c.forms-from.result.1 part c.args.room.now c.loop-from.room _ [] (s.held ++ drop c.loop-from.read part) c.forms-from.ensures.from c.forms-from.ensures.to v.from v.to few
+    (PassesHeld-of r s c.forms-from.result.0 c.forms-from.result.1 part c.args.room.now c.loop-from.room _ [] (s.held ++ drop c.loop-from.read part) c.forms-from.ensures.from c.forms-from.ensures.to v.from v.to v.replaced few
     v.within v.recodes refl (refl, record { scalar = c.in-Char.c; len = c.in-Char.count; begins = d; longer = longer }))
 
 pub loop-from-preserved : goal.loop-from-preserved
@@ -39,6 +39,7 @@ loop-from-preserved c =
       recodes = RecodesText-left _ left (RecodesText-char v.recodes v.len d c.in-Some.ensures.some);
       from = ap (λ x. x.from) passed.held ∙ v.from;
       to = ap (λ x. x.to) passed.held ∙ v.to;
+      replaced = ap (λ x. x.replaced) passed.held ∙ v.replaced;
       within = pass_within c.in-Char.count read c.pass-read.result s.held part d.within v.within passed.more;
       len = omega (arith, c.put_at.auto.room);
     }
@@ -62,7 +63,7 @@ returns-in-Fault c =
     let left = pass_left n read c.pass-read-in-Fault.result s.held t.held part (ap (λ x. x.held) passed.held) passed.more in
     rw (c.held_run-in-Fault.ensures, c.faulty.ensures, after)
     (PassesHeld-of r t c.forms-from.result.0 c.forms-from.result.1 part c.args.room.now c.loop-from.room _ (take n (s.held ++ drop read part)) (s.held ++ drop read part) c.forms-from.ensures.from c.forms-from.ensures.to
-    (ap (λ x. x.from) passed.held ∙ v.from) (ap (λ x. x.to) passed.held ∙ v.to) few (pass_within n read c.pass-read-in-Fault.result s.held part f.within v.within passed.more) v.recodes
+    (ap (λ x. x.from) passed.held ∙ v.from) (ap (λ x. x.to) passed.held ∙ v.to) (ap (λ x. x.replaced) passed.held ∙ v.replaced) few (pass_within n read c.pass-read-in-Fault.result s.held part f.within v.within passed.more) v.recodes
     (fault_parts n (s.held ++ drop read part) t.held (drop (read + c.pass-read-in-Fault.result) part) left)
     (EndsFeed-fault c.forms-from.result.0 c.forms-from.result.1 (s.held ++ drop read part) t.held (drop (read + c.pass-read-in-Fault.result) part) c.in-Fault.kind n (length c.args.room.now - c.loop-from.written) f left))
 
@@ -83,5 +84,5 @@ returns-in-Undecided c =
     let none : drop (length part) part ≡ [] = drop_all (length part) part (omega arith) in
     rw c.held_run-in-Undecided.ensures
     (PassesHeld-of r t c.forms-from.result.0 c.forms-from.result.1 part c.args.room.now c.loop-from.room _ [] (s.held ++ drop c.loop-from.read part) c.forms-from.ensures.from c.forms-from.ensures.to
-    (ap (λ x. x.from) c.hold.ensures ∙ v.from) (ap (λ x. x.to) c.hold.ensures ∙ v.to) (omega (arith, ap length held)) (omega arith) v.recodes
+    (ap (λ x. x.from) c.hold.ensures ∙ v.from) (ap (λ x. x.to) c.hold.ensures ∙ v.to) (ap (λ x. x.replaced) c.hold.ensures ∙ v.replaced) (omega (arith, ap length held)) (omega arith) v.recodes
     (sym left ∙ sym held ∙ sym (append-nil t.held) ∙ ap (λ xs. t.held ++ xs) (sym none)) (refl, none, rw held u))

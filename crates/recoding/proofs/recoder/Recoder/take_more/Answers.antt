@@ -12,4 +12,4 @@ returns c =
     let le : gone ≤ c.join-len.result.1 = omega (arith, ap length bytes) in
     let all : take c.join-len.result.1 c.join-len.result.0 ≡ r.held ++ c.args.bytes.now =
     c.join-len.ensures.bytes ∙ ap₂ (λ xs ys. xs ++ ys) bytes (take_all 3 c.args.bytes.now more) in
-    c.hold.ensures ∙ ap (λ xs. record { from = r.from; to = r.to; held = xs }) (cut_part gone c.join-len.result.1 c.join-len.result.0 le ∙ ap (drop gone) all)
+    c.hold.ensures ∙ ap (λ xs. record r { held = xs }) (cut_part gone c.join-len.result.1 c.join-len.result.0 le ∙ ap (drop gone) all)
