@@ -94,11 +94,11 @@ fn run_in_blocks(
 fn put_text<O: Output>(from: Form, to: Form, bytes: &[u8], out: &mut O) -> usize
     ensures { PutsText O.appends from to bytes.now out.old out.new result }
 {
-    by_forms!(from, to, put_blocks::<O>(bytes, out))
+    by_forms!(from, to, put_all_text::<O>(bytes, out))
 }
 
 // The same under the types of the forms.
-fn put_blocks<S: Text, T: Text, K: Kernel<S, T>, O: Output>(bytes: &[u8], out: &mut O) -> usize
+fn put_all_text<S: Text, T: Text, K: Kernel<S, T>, O: Output>(bytes: &[u8], out: &mut O) -> usize
     ensures { PutsText O.appends S.form T.form bytes.now out.old out.new result }
 {
     let mut read = 0;
