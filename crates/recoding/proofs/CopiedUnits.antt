@@ -1,6 +1,6 @@
 -- Well-formed units recoded as they stand, or with the bytes of each swapped.
-use Rattle.std.proofs.Common.{◌≡◌, ℕ, zero, suc, ◌+◌, ◌-◌, ◌*◌, ◌/◌, ◌%◌, ◌<◌, Bool, true, false, not, List, [], ◌∷◌, ◌++◌, length, get_or, take, flat_map, refl, sym, ap, ap₂, ◌∙◌, arith, append_assoc, w8, Fits}
-use Rattle.std.proofs.Math.Bool.{beq}
+use Rattle.std.proofs.Common.{drop, subst, ◌≡◌, ℕ, zero, suc, ◌+◌, ◌-◌, ◌*◌, ◌/◌, ◌%◌, ◌<◌, Bool, true, false, not, List, [], ◌∷◌, ◌++◌, length, get_or, take, flat_map, refl, sym, ap, ap₂, ◌∙◌, arith, append_assoc, w8, Fits}
+use Rattle.std.proofs.lemmas.List.{get_or-drop}
 use Rattle.std.proofs.lemmas.List.Concat.{flat_map-append}
 use Rattle.std.specs.Prelude.{All}
 use Rattle.utf_base.specs.Code.{utf16}
@@ -10,6 +10,7 @@ use Rattle.utf_base.proofs.Rests.{whole_code_shows_first}
 use Rattle.utf_base.proofs.Utf16Code.{utf16_is_code}
 use Rattle.recoding.specs.declared.form.Form.{Form}
 use Rattle.recoding.specs.declared.form.Form.TheVariants.{Utf8, Utf16Le, Utf16Be}
+use Rattle.recoding.specs.Recodes.{differ}
 use Rattle.recoding.specs.Recoded.{written}
 use Rattle.utf_lanes.specs.BytePairs.{unit_of, units_of, bytes_of, swapped, turned}
 use Rattle.recoding.specs.ShownFronts.{IsUnits}
@@ -44,10 +45,6 @@ other_pair : (high : Bool) (a b : ℕ) → a < 256 → b < 256 → bytes_of (not
 other_pair true a b A B = let first : (a * 256 + b) % 256 ≡ b = omega arith in let second : (a * 256 + b) / 256 ≡ a = omega arith in ap₂ (λ x y. x ∷ y ∷ []) first second
 other_pair false a b A B = let first : (b * 256 + a) / 256 ≡ b = omega arith in let second : (b * 256 + a) % 256 ≡ a = omega arith in ap₂ (λ x y. x ∷ y ∷ []) first second
 
--- whether the bytes of a unit are swapped from one order to another
-abbrev pub differ : Bool → Bool → Bool
-differ high other = not (beq high other)
-
 pub same_order : (high : Bool) (v : List ℕ) (k : ℕ) → length v ≡ 2 * k → ((j : ℕ) → Fits w8 (get_or v j 0)) → flat_map (bytes_of high) (units_of high v) ≡ v
 same_order high [] k even fits = refl
 same_order high (a ∷ []) k even fits = absurd (omega arith)
@@ -77,3 +74,6 @@ pub coded_bytes : (high : Bool) (from : Form) (v : List ℕ) (k : ℕ) → IsUni
     → v ≡ flat_map (written from) h.scalars
 coded_bytes high from v k form h even fits =
     sym (all_written high from h.scalars form ∙ ap (flat_map (bytes_of high)) (sym h.codes) ∙ same_order high v k even fits)
+
+pub rest_fits : (w : List ℕ) (n : ℕ) → ((j : ℕ) → Fits w8 (get_or w j 0)) → (j : ℕ) → Fits w8 (get_or (drop n w) j 0)
+rest_fits w n fits j = subst (Fits w8) (sym (get_or-drop n w j 0)) (fits (n + j))

@@ -7,6 +7,7 @@ pub mod EnoughRoom
 pub mod FedParts
 pub mod FirstParts
 pub mod FirstPieces
+pub mod Forms
 pub mod FrontBytes
 pub mod GivenBytes
 pub mod GivenRuns

@@ -1,12 +1,13 @@
 -- Recoding to the end of an output, step by step, and what its callers have of it.
-use Rattle.std.proofs.Common.{◌≡◌, ℕ, ◌+◌, ◌-◌, ◌*◌, ◌≤◌, Bool, true, false, List, [], ◌++◌, length, take, drop, arith, rules, refl, ap, ap₂, sym, subst, ◌∙◌, append_assoc, length-append, length-drop, length-take, take-append-drop}
-use Rattle.std.proofs.lemmas.List.{take_rest, drop-drop}
+use Rattle.std.proofs.Common.{◌≡◌, ℕ, ◌+◌, ◌-◌, ◌*◌, ◌<◌, ◌≤◌, Bool, true, false, List, [], ◌++◌, length, take, drop, arith, rules, refl, ap, ap₂, sym, subst, ◌∙◌, append_assoc, length-append, length-drop, length-take, take-append-drop}
+use Rattle.std.proofs.lemmas.List.{take_rest, drop-drop, drop_all}
 use Rattle.std.specs.Prelude.{IsTrue, IsFalse, Vec, vec_len, vec_capacity}
 use Rattle.recoding.specs.declared.form.Form.{Form}
 use Rattle.recoding.specs.declared.room.Room.{Room}
-use Rattle.recoding.specs.Recoded.{Reads, written, Lacks}
+use Rattle.recoding.specs.Recoded.{Reads, written, Lacks, fresh}
 use Rattle.recoding.specs.Faults.{Advances}
-use Rattle.recoding.specs.Recodes.{Recodes}
+use Rattle.recoding.specs.Recodes.{Reaches, Recodes}
+use Rattle.recoding.specs.declared.engine.Reached.{Reached}
 use Rattle.recoding.specs.Outputs.{Extends}
 use Rattle.recoding.specs.OutputRuns.{HasRoomFor, RunsOnto, RunsUntil}
 use Rattle.recoding.specs.FilledRooms.{FillsRoom}
@@ -14,8 +15,9 @@ use Rattle.recoding.specs.Rooms.{NextIsTooLong}
 use Rattle.recoding.specs.ShownFronts.{Decides, Settles}
 use Rattle.recoding.specs.Strict.{PutsText, Transcodes}
 use Rattle.recoding.proofs.Advancing.{Advances-append, Advances-none, Advances-onto}
+use Rattle.recoding.proofs.FrontBytes.{lacks_all}
 use Rattle.recoding.proofs.Growing.{length_written}
-use Rattle.recoding.proofs.RoomLemmas.{Advances-ahead, take_more}
+use Rattle.recoding.proofs.RoomLemmas.{Advances-ahead, IsFull-of, take_more}
 use Rattle.recoding.proofs.RoomRuns.{Advances-after}
 use Rattle.recoding.proofs.TextLaws.{text_counts, text_is_recoded}
 use Rattle.recoding.proofs.TextRuns.{text_room}
@@ -103,6 +105,49 @@ module _ {O : Type 0} {appends : O → List ℕ → O → Type 0} {from to : For
   room_for_rest law {old} {mid} {p} f all =
       omega (arith, all, law old mid f.grown f.appended, f.short, f.within, length-drop p bytes, length-take (length bytes - p) (drop p bytes))
 
+-- How far a run went.
+
+no_truth : IsTrue false → ⊥
+no_truth is = absurd cc
+
+module _ {O : Type 0} {appends : O → List ℕ → O → Type 0} {room : O → ℕ} {from to : Form} {bytes : List ℕ} {old new : O} where
+  -- what follows decides
+  pub Reaches-waiting : {n k : ℕ} → Recodes appends from to bytes old new n k → length bytes ≤ n + 3 → Lacks from (drop n bytes)
+      → Reaches appends room from to bytes old new (record { read = n; replaced = k; is_full = false; is_waiting = true })
+  Reaches-waiting f waits lacks = record { runs = f; full = λ is. absurd (no_truth is); short = λ is. absurd (no_truth is); waits = λ is. waits; lacks = λ is. lacks }
+
+  -- all the bytes were recoded
+  pub Reaches-end : {n k : ℕ} → Recodes appends from to bytes old new n k → n ≡ length bytes
+      → Reaches appends room from to bytes old new (record { read = n; replaced = k; is_full = false; is_waiting = true })
+  Reaches-end {n} f e = Reaches-waiting f (omega arith) (rw (drop_all n bytes (omega arith)) (lacks_all from))
+
+  -- there is no room for the code that begins the bytes left, and nothing more was put
+  pub Reaches-full : {mid : O} {n k s len faults : ℕ} → Recodes appends from to bytes old mid n k → new ≡ mid → Settles from (take 4 (drop n bytes)) s len faults → room mid < length (written to s)
+      → room mid < 4 → Reaches appends room from to bytes old new (record { read = n; replaced = k; is_full = true; is_waiting = false })
+  Reaches-full {mid} {n} {k} {s} {len} f kept settles longer short =
+      let xs = drop n bytes in
+      let full : NextIsTooLong from to xs (room mid) = rw (take-append-drop 4 xs) at (IsFull-of (fresh from to) from to (take 4 xs) (drop 4 xs) s len (room mid) refl refl settles.decides longer) in
+      rw kept (record { runs = f; full = λ is. full; short = λ is. short; waits = λ is. absurd (no_truth is); lacks = λ is. absurd (no_truth is) })
+
+  -- neither
+  pub Reaches-on : {n k : ℕ} → Recodes appends from to bytes old new n k → Reaches appends room from to bytes old new (record { read = n; replaced = k; is_full = false; is_waiting = false })
+  Reaches-on f = record { runs = f; full = λ is. absurd (no_truth is); short = λ is. absurd (no_truth is); waits = λ is. absurd (no_truth is); lacks = λ is. absurd (no_truth is) }
+
+  -- a run over the bytes that another left
+  pub Reaches-then : {mid : O} {p k : ℕ} {reached : Reached} → ((a b c : O) (xs ys : List ℕ) → appends a xs b → appends b ys c → appends a (xs ++ ys) c)
+      → Recodes appends from to bytes old mid p k → Reaches appends room from to (take (length bytes - p) (drop p bytes)) mid new reached
+      → Reaches appends room from to bytes old new (record { read = p + reached.read; replaced = k + reached.replaced; is_full = reached.is_full; is_waiting = reached.is_waiting })
+  Reaches-then {mid} {p} {k} {reached} more f r =
+      let g : Reaches appends room from to (drop p bytes) mid new reached = rw (take_rest bytes p) at r in
+      let left : drop reached.read (drop p bytes) ≡ drop (p + reached.read) bytes = drop-drop reached.read p bytes in
+      record {
+        runs = Recodes-then more f r.runs;
+        full = rw left at g.full;
+        short = g.short;
+        waits = λ is. let few = g.waits is in omega (arith, length-drop p bytes);
+        lacks = rw left at g.lacks;
+      }
+
 -- What the front of a slice grew by.
 pub Advances-room : {from to : Form} {bytes old new : List ℕ} {place n k : ℕ} (a b : Room) → a.bytes.now ≡ old → a.len ≡ place → b.bytes.now ≡ new → Recodes FillsRoom from to bytes a b n k
     → Advances from to (take (n + 3) bytes) (take place old) (take b.len new) (take 3 (drop n bytes)) k
@@ -139,13 +184,9 @@ unless_full P true never waits = absurd (never (search rules))
 unless_full P false never waits = waits (search rules)
 
 -- What a list grew by that had room for all.
-pub RunsUntil-of : {Z : Type 0} {from to : Form} {bytes : List ℕ} {old new : Vec ℕ Z} {read k : ℕ} (full : Bool) → HasRoomFor old (length bytes)
-    → Recodes Extends from to bytes old new read k → (IsTrue full → NextIsTooLong from to (drop read bytes) (vec_capacity new - vec_len new))
-    → (IsFalse full → length bytes ≤ read + 3) → (IsFalse full → Lacks from (drop read bytes)) → RunsUntil from to bytes old new (length bytes) read k
-RunsUntil-of {from} {bytes} {read} full room runs if_full waits lacks =
-    let never = λ (is : IsTrue full). never_full room runs (if_full is) in
-    record {
-      runs = RunsOnto-of runs;
-      waits = λ _. unless_full (length bytes ≤ read + 3) full never waits;
-      lacks = λ _. unless_full (Lacks from (drop read bytes)) full never lacks;
-    }
+pub RunsUntil-of : {Z : Type 0} {from to : Form} {bytes : List ℕ} {old new : Vec ℕ Z} {reached : Reached} → HasRoomFor old (length bytes)
+    → Reaches Extends (λ v. vec_capacity v - vec_len v) from to bytes old new reached → (IsFalse reached.is_full → IsTrue reached.is_waiting)
+    → RunsUntil from to bytes old new (length bytes) reached.read reached.replaced
+RunsUntil-of {from} {bytes} {reached} room f ends =
+    let waiting : IsTrue reached.is_waiting = unless_full (IsTrue reached.is_waiting) reached.is_full (λ is. never_full room f.runs (f.full is)) ends in
+    record { runs = RunsOnto-of f.runs; waits = λ lt. f.waits waiting; lacks = λ lt. f.lacks waiting }

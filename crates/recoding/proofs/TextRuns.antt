@@ -11,14 +11,14 @@ use Rattle.utf_lanes.specs.GivenUnits.{given}
 use Rattle.utf_lanes.specs.UnitBlocks.{AreCodes}
 use Rattle.recoding.specs.FilledRooms.{FillsRoom}
 use Rattle.recoding.specs.Recoded.{written}
-use Rattle.recoding.specs.Recodes.{CopiesUnits}
+use Rattle.recoding.specs.Recodes.{CopiesUnits, differ}
 use Rattle.recoding.specs.Rooms.{Fills}
 use Rattle.recoding.specs.ShownFronts.{IsUnits}
 use Rattle.recoding.specs.Strict.{Transcodes, BeginsChar, PutsText, RunsStrictly, RecodesText}
 use Rattle.recoding.specs.declared.form.Form.{Form}
 use Rattle.recoding.specs.declared.form.Form.TheVariants.{Utf8, Utf16Le, Utf16Be}
 use Rattle.recoding.specs.declared.room.Room.{Room}
-use Rattle.recoding.proofs.CopiedUnits.{all_written, coded_bytes, front_fits, in_order, differ}
+use Rattle.recoding.proofs.CopiedUnits.{all_written, coded_bytes, front_fits, in_order}
 use Rattle.recoding.proofs.GivenRuns.{given_codes}
 use Rattle.recoding.proofs.RoomLemmas.{drop_later, take_more}
 use Rattle.recoding.proofs.Growing.{length_written}
@@ -87,6 +87,11 @@ module _ {O : Type 0} {appends : O → List ℕ → O → Type 0} {from to : For
         appended = more old mid new f.grown g.grown f.appended g.appended;
         transcodes = rw (take_more p n bytes) at (Transcodes-then f.transcodes g.transcodes);
       }
+
+  -- nothing more
+  pub PutsText-done : ((a b c : O) (xs ys : List ℕ) → appends a xs b → appends b ys c → appends a (xs ++ ys) c) → {old mid new : O} {p n : ℕ}
+      → PutsText appends from to bytes old mid p → PutsText appends from to (take (length bytes - p) (drop p bytes)) mid new n → n ≡ 0 → PutsText appends from to bytes old new p
+  PutsText-done more {p} {n} f rest none = let same : p + n ≡ p = omega arith in rw same at (PutsText-then more f rest)
 
   -- a character, told by four bytes
   pub PutsText-char : ((a b c : O) (xs ys : List ℕ) → appends a xs b → appends b ys c → appends a (xs ++ ys) c) → {old mid new : O} {p s n : ℕ}

@@ -3,17 +3,18 @@ use Rattle.std.specs.Prelude.{ℕ, ◌+◌, ◌*◌, ◌<◌, ◌≤◌, List, l
 use Rattle.recoding.specs.Recoded.{Lacks}
 use Rattle.recoding.specs.Faults.{Advances}
 use Rattle.recoding.specs.declared.form.Form.{Form}
+use Rattle.recoding.specs.declared.form.TheConstants.{WIDEST}
 
 -- There is room for all that so many bytes may be recoded as.
 abbrev pub HasRoomFor : {Z : Type 0} → Vec ℕ Z → ℕ → Type 0
-HasRoomFor out count = vec_len out + 3 * count ≤ vec_capacity out
+HasRoomFor out count = vec_len out + WIDEST * count ≤ vec_capacity out
 
 -- A run has recoded so many bytes, whatever follows them, and replaced so many faults. No more than three bytes came of each, and
 -- no more than one fault, and the output lost no room.
 pub record RunsOnto {Z : Type 0} (from to : Form) (bytes : List ℕ) (old new : Vec ℕ Z) (read faults : ℕ) : Type 0 where
   pub within : read ≤ length bytes
   pub advances : Advances from to bytes old.items new.items (drop read bytes) faults
-  pub short : vec_len new ≤ vec_len old + 3 * read
+  pub short : vec_len new ≤ vec_len old + WIDEST * read
   pub few : faults ≤ read
   pub capacity : vec_capacity old ≤ vec_capacity new
 

@@ -1,5 +1,5 @@
 -- What the front of some bytes shows.
-use Rattle.std.specs.Prelude.{◌≡◌, ℕ, ◌+◌, ◌<◌, ◌≤◌, ◌++◌, ◌∷◌, List, length, drop, Bool, true, false}
+use Rattle.std.specs.Prelude.{◌≡◌, ℕ, ◌+◌, ◌<◌, ◌≤◌, ◌++◌, ◌∷◌, List, length, drop, Bool, true, false, if◌then◌else◌}
 use Rattle.utf_base.specs.Scalar.{IsScalar}
 use Rattle.recoding.specs.Recoded.{Reads}
 use Rattle.recoding.specs.Faults.{CountsTo, fault_count}
@@ -64,6 +64,10 @@ abbrev pub IsUnits : Bool → Form → Type 0
 IsUnits high_first Utf8 = ⊥
 IsUnits high_first Utf16Le = high_first ≡ false
 IsUnits high_first Utf16Be = high_first ≡ true
+
+-- the form that has units in that order
+abbrev pub utf16_form : Bool → Form
+utf16_form big_endian = if big_endian then Utf16Be else Utf16Le
 
 -- One of the two forms has units, or both have.
 abbrev pub HaveUnits : Form → Form → Type 0

@@ -4,42 +4,14 @@ ghost use Rattle.utf_base.specs.Code.{utf16};
 ghost use Rattle.recoding.specs.Recoded.{written};
 ghost use Rattle.utf_lanes.specs.BytePairs.{bytes_of};
 
-use crate::form::Form;
 use crate::output::Output;
 use encode_unicode::CharExt;
 use utf_lanes::byte_pairs::two_bytes;
 
-// Appends the code of the character.
+// How many bytes the code of the character has.
 #[inline(always)]
-pub(crate) fn put_code<O: Output>(to: Form, c: char, out: &mut O)
-    requires { length (written to c) ≤ O.room out.old }
-    ensures { O.appends out.old (written to c) out.new }
-{
-    match to {
-        Form::Utf8 => {
-            let (code, len) = c.to_utf8_array();
-            put_short(code, len, out);
-        }
-        Form::Utf16Le => put_units(false, c, out),
-        Form::Utf16Be => put_units(true, c, out),
-    }
-}
-
-// How many bytes it has.
-#[inline(always)]
-pub(crate) fn code_len(to: Form, c: char) -> usize
-    ensures { result ≡ length (written to c) }
-{
-    match to {
-        Form::Utf8 => c.to_utf8_array().1,
-        Form::Utf16Le => len_of_units(false, c),
-        Form::Utf16Be => len_of_units(true, c),
-    }
-}
-
-#[inline(always)]
-fn len_of_units(high_first: bool, c: char) -> usize
-    ensures { result ≡ length (flat_map (bytes_of high_first) (utf16 c)) }
+pub(crate) fn len_of_units<const BIG_ENDIAN: bool>(c: char) -> usize
+    ensures { result ≡ length (flat_map (bytes_of BIG_ENDIAN) (utf16 c)) }
 {
     match c.to_utf16_tuple() {
         (_, None) => 2,
@@ -49,7 +21,7 @@ fn len_of_units(high_first: bool, c: char) -> usize
 
 // Appends the first bytes of a code. Each length has writes of its own, so that between them nothing is tested.
 #[inline(always)]
-fn put_short<O: Output>(code: [u8; 4], len: usize, out: &mut O)
+pub(crate) fn put_short<O: Output>(code: [u8; 4], len: usize, out: &mut O)
     requires some { 0 < len }
     requires few { len ≤ 4 }
     requires room { len ≤ O.room out.old }
@@ -73,19 +45,20 @@ fn put_short<O: Output>(code: [u8; 4], len: usize, out: &mut O)
     put_pair(c, d, out);
 }
 
+// Appends the code of the character.
 #[inline(always)]
-fn put_units<O: Output>(high_first: bool, c: char, out: &mut O)
-    requires { length (flat_map (bytes_of high_first) (utf16 c)) ≤ O.room out.old }
-    ensures { O.appends out.old (flat_map (bytes_of high_first) (utf16 c)) out.new }
+pub(crate) fn put_units<O: Output, const BIG_ENDIAN: bool>(c: char, out: &mut O)
+    requires { length (flat_map (bytes_of BIG_ENDIAN) (utf16 c)) ≤ O.room out.old }
+    ensures { O.appends out.old (flat_map (bytes_of BIG_ENDIAN) (utf16 c)) out.new }
 {
     match c.to_utf16_tuple() {
         (unit, None) => {
-            let [a, b] = two_bytes(high_first, unit);
+            let [a, b] = two_bytes(BIG_ENDIAN, unit);
             put_pair(a, b, out);
         }
         (first, Some(second)) => {
-            let [a, b] = two_bytes(high_first, first);
-            let [c, d] = two_bytes(high_first, second);
+            let [a, b] = two_bytes(BIG_ENDIAN, first);
+            let [c, d] = two_bytes(BIG_ENDIAN, second);
             put_pair(a, b, out);
             put_pair(c, d, out);
         }

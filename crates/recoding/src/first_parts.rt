@@ -8,8 +8,9 @@ ghost use Rattle.recoding.specs.Recoded.{Lacks};
 ghost use Rattle.recoding.specs.ShownFronts.{Decides, Ends};
 ghost use Rattle.recoding.specs.Strict.{AwaitsKind};
 
-use crate::first_pieces::{FirstPiece, first_piece};
+use crate::first_pieces::FirstPiece;
 use crate::form::Form;
+use crate::form_calls::first_piece;
 use crate::shown_fronts::{is_front_of_code, may_be_second};
 use utf_base::elements::is_continuation;
 

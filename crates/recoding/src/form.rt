@@ -13,3 +13,6 @@ pub enum Form {
     /// UTF-16, big-endian: of each unit the high byte first.
     Utf16Be,
 }
+
+// The most bytes that come of one byte, whatever the forms.
+pub(crate) const WIDEST: usize = 3;

@@ -1,13 +1,13 @@
 //! What goes in blocks from one form into another, to any output: copied, widened or narrowed.
-ghost use Rattle.std.specs.Prelude.{◌≡◌, ◌*◌, ◌≤◌, length, IsTrue};
+ghost use Rattle.std.specs.Prelude.{◌*◌, ◌≤◌, length, IsTrue};
+ghost use Rattle.recoding.specs.Recodes.{FitsAll};
 ghost use Rattle.recoding.specs.Strict.{PutsText};
-ghost use Rattle.recoding.specs.ShownFronts.{IsUnits};
 
-use crate::form::Form;
+use crate::form::WIDEST;
 use crate::narrowed_units::narrow_text;
 use crate::output::Output;
-use crate::shown_fronts::high_is_first;
-use crate::unit_copies::{copy_judged, copy_units_apart};
+use crate::text::{Text, Utf8, Utf16};
+use crate::unit_copies::copy_units;
 use crate::unit_puts::put_units;
 use crate::widened_texts::put_widened;
 use utf_lanes::ascii_texts::is_ascii;
@@ -19,34 +19,101 @@ pub(crate) const PART: usize = 8192;
 // The most bytes that are first asked whether they are ASCII. Of more, faults among them would have the same bytes asked again.
 const SHORT: usize = 1024;
 
-// Recodes what goes in blocks at the front of the bytes, as far as the room is surely enough. Answers how many bytes it has. Each
-// pair of forms has a copy of this too.
-#[inline(always)]
-pub(crate) fn recode_blocks<O: Output, const PAIR: usize>(
-    is_ample: bool,
-    from: Form,
-    to: Form,
-    bytes: &[u8],
-    out: &mut O,
-) -> usize
-    requires { IsTrue is_ample → 3 * length bytes.now ≤ O.room out.old }
-    ensures { PutsText O.appends from to bytes.now out.old out.new result }
-{
-    match (high_is_first(from), high_is_first(to)) {
-        (None, None) => copy_part(is_ample, bytes, out),
-        (None, Some(false)) => widen_part::<O, 0>(is_ample, to, false, bytes, out),
-        (None, Some(true)) => widen_part::<O, 1>(is_ample, to, true, bytes, out),
-        (Some(high_first), None) => narrow_text(from, high_first, bytes, out),
-        (Some(high_first), Some(wanted)) => {
-            copy_part_of_units(is_ample, from, to, high_first, wanted, bytes, out)
+// Blocks of text in one form, made of blocks in another.
+pub(crate) trait Kernel<S: Text, T: Text> {
+    // Whether they take all text, so that what they leave is at a fault, near the end, or needs more room.
+    const TAKES_ALL: bool;
+
+    // Recodes text at the front of the bytes, as far as it goes in blocks and the room is surely enough, of which a caller may
+    // know that it is enough for all. Answers how many bytes it has.
+    fn put_text<O: Output>(is_ample: bool, bytes: &[u8], out: &mut O) -> usize
+        requires { IsTrue is_ample → FitsAll bytes.now (O.room out.old) }
+        ensures { PutsText O.appends S.form T.form bytes.now out.old out.new result };
+}
+
+// UTF-8 as it is.
+pub(crate) struct Copied;
+
+// UTF-8 as UTF-16.
+pub(crate) struct Widened;
+
+// UTF-16 as UTF-8.
+pub(crate) struct Narrowed;
+
+// UTF-16 as it is, or with the bytes of each unit swapped.
+pub(crate) struct Turned;
+
+impl Kernel<Utf8, Utf8> for Copied {
+    const TAKES_ALL: bool = true;
+
+    #[inline(always)]
+    fn put_text<O: Output>(is_ample: bool, bytes: &[u8], out: &mut O) -> usize {
+        let most = PART.min(most_copied(is_ample, bytes, out));
+        let part = &bytes[..most];
+        if most <= SHORT && is_ascii(part) {
+            out.put(part);
+            return most;
         }
+        let len = text_len(part);
+        out.put(&part[..len]);
+        len
+    }
+}
+
+impl<const BIG_ENDIAN: bool> Kernel<Utf8, Utf16<BIG_ENDIAN>> for Widened {
+    const TAKES_ALL: bool = false;
+
+    #[inline(always)]
+    fn put_text<O: Output>(is_ample: bool, bytes: &[u8], out: &mut O) -> usize {
+        let most = PART.min(most_widened(is_ample, bytes, out));
+        // Fewer are never taken in lanes, and in scant room not judged either.
+        if most < 32 && !is_ample {
+            return 0;
+        }
+        let part = &bytes[..most];
+        if most <= SHORT && is_ascii(part) {
+            put_widened(BIG_ENDIAN, part, out);
+            return most;
+        }
+        if most < 32 {
+            return 0;
+        }
+        let len = text_len(part);
+        if len < 32 {
+            return 0;
+        }
+        put_units::<O, BIG_ENDIAN>(&bytes[..len], out);
+        len
+    }
+}
+
+impl<const BIG_ENDIAN: bool> Kernel<Utf16<BIG_ENDIAN>, Utf8> for Narrowed {
+    const TAKES_ALL: bool = false;
+
+    #[inline(always)]
+    fn put_text<O: Output>(is_ample: bool, bytes: &[u8], out: &mut O) -> usize {
+        narrow_text::<O, BIG_ENDIAN>(bytes, out)
+    }
+}
+
+impl<const BIG_ENDIAN: bool, const WANTED: bool> Kernel<Utf16<BIG_ENDIAN>, Utf16<WANTED>>
+    for Turned {
+    const TAKES_ALL: bool = false;
+
+    #[inline(always)]
+    fn put_text<O: Output>(is_ample: bool, bytes: &[u8], out: &mut O) -> usize {
+        let most = most_copied(is_ample, bytes, out);
+        if most < 16 {
+            return 0;
+        }
+        copy_units::<O, BIG_ENDIAN, WANTED>(&bytes[..most], out)
     }
 }
 
 // How many of the bytes there is room for where they are copied.
 #[inline(always)]
 fn most_copied<O: Output>(is_ample: bool, bytes: &[u8], out: &O) -> usize
-    requires { IsTrue is_ample → 3 * length bytes.now ≤ O.room out.now }
+    requires { IsTrue is_ample → FitsAll bytes.now (O.room out.now) }
     ensures within { result ≤ length bytes.now }
     ensures room { result ≤ O.room out.now }
 {
@@ -59,90 +126,31 @@ fn most_copied<O: Output>(is_ample: bool, bytes: &[u8], out: &O) -> usize
 // And for what comes of them, whatever it is.
 #[inline(always)]
 fn most_widened<O: Output>(is_ample: bool, bytes: &[u8], out: &O) -> usize
-    requires { IsTrue is_ample → 3 * length bytes.now ≤ O.room out.now }
+    requires { IsTrue is_ample → FitsAll bytes.now (O.room out.now) }
     ensures within { result ≤ length bytes.now }
-    ensures room { 3 * result ≤ O.room out.now }
+    ensures room { WIDEST * result ≤ O.room out.now }
 {
     if is_ample {
         return bytes.len();
     }
-    bytes.len().min(out.room() / 3)
+    bytes.len().min(out.room() / WIDEST)
 }
 
-// Appends the text at the front of a part of the bytes.
-#[inline(always)]
-fn copy_part<O: Output>(is_ample: bool, bytes: &[u8], out: &mut O) -> usize
-    requires { IsTrue is_ample → 3 * length bytes.now ≤ O.room out.old }
-    ensures { PutsText O.appends Form.Utf8 Form.Utf8 bytes.now out.old out.new result }
-{
-    let most = PART.min(most_copied(is_ample, bytes, out));
-    let part = &bytes[..most];
-    if most <= SHORT && is_ascii(part) {
-        out.put(part);
-        return most;
-    }
-    copy_judged(part, out)
+// Calls a function under the types of two forms and of the blocks between them.
+macro_rules! by_forms {
+    ($from:expr, $to:expr, $call:ident::<$output:ty>($($given:expr),*)) => {
+        match ($from, $to) {
+            (Form::Utf8, Form::Utf8) => $call::<Utf8, Utf8, Copied, $output>($($given),*),
+            (Form::Utf8, Form::Utf16Le) => $call::<Utf8, Utf16<false>, Widened, $output>($($given),*),
+            (Form::Utf8, Form::Utf16Be) => $call::<Utf8, Utf16<true>, Widened, $output>($($given),*),
+            (Form::Utf16Le, Form::Utf8) => $call::<Utf16<false>, Utf8, Narrowed, $output>($($given),*),
+            (Form::Utf16Le, Form::Utf16Le) => $call::<Utf16<false>, Utf16<false>, Turned, $output>($($given),*),
+            (Form::Utf16Le, Form::Utf16Be) => $call::<Utf16<false>, Utf16<true>, Turned, $output>($($given),*),
+            (Form::Utf16Be, Form::Utf8) => $call::<Utf16<true>, Utf8, Narrowed, $output>($($given),*),
+            (Form::Utf16Be, Form::Utf16Le) => $call::<Utf16<true>, Utf16<false>, Turned, $output>($($given),*),
+            (Form::Utf16Be, Form::Utf16Be) => $call::<Utf16<true>, Utf16<true>, Turned, $output>($($given),*),
+        }
+    };
 }
 
-// The same as units, of which the high byte may be the first.
-#[inline(always)]
-fn widen_part<O: Output, const ORDER: usize>(
-    is_ample: bool,
-    to: Form,
-    high_first: bool,
-    bytes: &[u8],
-    out: &mut O,
-) -> usize
-    requires form { IsUnits high_first to }
-    requires room { IsTrue is_ample → 3 * length bytes.now ≤ O.room out.old }
-    ensures { PutsText O.appends Form.Utf8 to bytes.now out.old out.new result }
-{
-    let most = PART.min(most_widened(is_ample, bytes, out));
-    // Fewer are never taken in lanes, and in scant room not judged either.
-    if most < 32 && !is_ample {
-        return 0;
-    }
-    let part = &bytes[..most];
-    if most <= SHORT && is_ascii(part) {
-        put_widened(high_first, part, out);
-        return most;
-    }
-    if most < 32 {
-        return 0;
-    }
-    let len = text_len(part);
-    if len < 32 {
-        return 0;
-    }
-    put_units::<O, ORDER>(high_first, &bytes[..len], out);
-    len
-}
-
-// Copies the well-formed units at the front of the bytes that the room is enough for, in the order that is wanted.
-#[inline(always)]
-fn copy_part_of_units<O: Output>(
-    is_ample: bool,
-    from: Form,
-    to: Form,
-    high_first: bool,
-    wanted: bool,
-    bytes: &[u8],
-    out: &mut O,
-) -> usize
-    requires from { IsUnits high_first from }
-    requires to { IsUnits wanted to }
-    requires room { IsTrue is_ample → 3 * length bytes.now ≤ O.room out.old }
-    ensures { PutsText O.appends from to bytes.now out.old out.new result }
-{
-    let most = most_copied(is_ample, bytes, out);
-    if most < 16 {
-        return 0;
-    }
-    let part = &bytes[..most];
-    match (high_first, wanted) {
-        (false, false) => copy_units_apart::<O, 0>(false, false, part, out),
-        (false, true) => copy_units_apart::<O, 1>(false, true, part, out),
-        (true, false) => copy_units_apart::<O, 2>(true, true, part, out),
-        (true, true) => copy_units_apart::<O, 3>(true, false, part, out),
-    }
-}
+pub(crate) use by_forms;

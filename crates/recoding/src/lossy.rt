@@ -4,8 +4,9 @@ ghost use Rattle.recoding.specs.LossyBytes.{AddsAllLossy, AddsLastLossy, AddsLos
 ghost use Rattle.recoding.specs.Recoded.{Lacks};
 ghost use Rattle.recoding.specs.Rooms.{ComesNearer};
 
-use crate::engine::{Reached, ended, put_fitting};
+use crate::engine::{Reached, ended};
 use crate::first_parts::last_part;
+use crate::form_calls::put_fitting;
 use crate::lossy_runs::{first_of_both, run_lossily};
 use crate::output::Output;
 use crate::recoder::Recoder;

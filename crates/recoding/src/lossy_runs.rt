@@ -6,9 +6,10 @@ ghost use Rattle.recoding.specs.LossyParts.{len_of, scalar_of};
 ghost use Rattle.recoding.specs.Recoded.{Lacks, fresh};
 ghost use Rattle.recoding.specs.ShownFronts.{Decides};
 
-use crate::engine::{AFTER_FAULT, Reached, STRIDE, ended, put_fitting};
+use crate::engine::{AFTER_FAULT, Reached, STRIDE, ended};
 use crate::first_parts::{Part, first_part};
 use crate::form::Form;
+use crate::form_calls::put_fitting;
 use crate::output::Output;
 use crate::recoder_runs::join;
 use crate::shown_fronts::four;

@@ -6,7 +6,7 @@ ghost use Rattle.recoding.specs.LossyBytes.{lossy, lossy_outcome};
 ghost use Rattle.recoding.specs.RecodedBytes.{AddsAll, AddsLast, AddsOutcome, KeepsOutcome, outcome, recoded};
 ghost use Rattle.recoding.specs.Rooms.{ComesNearer, FeedsInto, FinishesInto, IsFull, IsLastFull, bytes_left};
 
-use crate::form::Form;
+use crate::form::{Form, WIDEST};
 use crate::recoder_rooms::{first_of, progress, put_at, recode_into, recode_last_into};
 use crate::recoder_runs::{faults_at_end, join, recode_joined, recode_last, recode_whole};
 use crate::rooms::Progress;
@@ -130,7 +130,7 @@ impl Recoder {
         ensures replaces { OnOk result (CountsFed self.old part.now self.new) }
         ensures succeeds { vec_len out.old + 3 * length part.now ≤ vec_capacity out.old → IsOk result }
     {
-        out.reserve(part.len().saturating_mul(3))?;
+        out.reserve(part.len().saturating_mul(WIDEST))?;
         let run = recode_whole(self.from, self.to, part, out);
         self.count_faults(run.replaced);
         if run.read == part.len() {
@@ -156,7 +156,7 @@ impl Recoder {
         ensures succeeds { vec_len out.old + 3 * (length self.old.held + length part.now) ≤ vec_capacity out.old → IsOk result }
     {
         let held = self.held_bytes();
-        out.reserve((held.len() + part.len()).saturating_mul(3))?;
+        out.reserve((held.len() + part.len()).saturating_mul(WIDEST))?;
         let first = recode_joined(self.from, self.to, held, part, out);
         if first.read < held.len() {
             let (rest, len) = join(&held[first.read..], part);
@@ -231,7 +231,7 @@ impl Recoder {
         ensures unwritten { OnErr result (out.new.items ≡ out.old.items) }
         ensures succeeds { vec_len out.old + 3 * length self.held ≤ vec_capacity out.old → IsOk result }
     {
-        if let Err(cause) = out.reserve(3 * self.count) {
+        if let Err(cause) = out.reserve(WIDEST * self.count) {
             return Err(Unfinished {
                 recoder: self,
                 cause,

@@ -5,12 +5,13 @@ ghost use Rattle.recoding.specs.Faults.{Advances, fault_count};
 ghost use Rattle.recoding.specs.ShownFronts.{Settles};
 ghost use Rattle.recoding.specs.Rooms.{Fills, LastIsTooLong, Leaves, NextIsTooLong};
 
-use crate::engine::{has_room_for_all, put_fitting, recode};
+use crate::engine::{has_room_for_all, recode};
 use crate::form::Form;
+use crate::form_calls::{front, last_front, put_fitting};
 use crate::recoder_runs::join;
 use crate::room::Room;
 use crate::rooms::Progress;
-use crate::shown_fronts::{ShownFront, front, last_front};
+use crate::shown_fronts::ShownFront;
 
 // Writes the code of the character into the room from the place on, where it fits, and answers the place after it.
 #[inline(always)]

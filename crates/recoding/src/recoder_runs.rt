@@ -4,10 +4,9 @@ ghost use Rattle.recoding.specs.Recoded.{Finishes, fresh};
 ghost use Rattle.recoding.specs.Faults.{fault_count};
 ghost use Rattle.recoding.specs.OutputRuns.{HasRoomFor, RunsUntil};
 
-use crate::codes::put_code;
 use crate::engine::recode;
 use crate::form::Form;
-use crate::shown_fronts::{front, last_front};
+use crate::form_calls::{front, last_front, put_code};
 use std::alloc::Allocator;
 
 // How many bytes a run recoded, and how many of their faults became U+FFFD.

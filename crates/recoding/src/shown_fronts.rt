@@ -7,7 +7,7 @@ ghost use Rattle.utf_base.specs.declared.errors.Utf8ErrorKind.TheVariants.{TooFe
 ghost use Rattle.utf_lanes.specs.AsciiTexts.{AreAscii};
 ghost use Rattle.recoding.specs.Recoded.{Lacks, IsProperFront};
 ghost use Rattle.utf_lanes.specs.BytePairs.{units_of};
-ghost use Rattle.recoding.specs.ShownFronts.{IsUnits, Settles, SettlesLast, Waits, fault_len, MayBeSecond};
+ghost use Rattle.recoding.specs.ShownFronts.{Settles, Waits, MayBeSecond, utf16_form};
 ghost use Rattle.recoding.specs.Strict.{BeginsChar, Transcodes};
 
 use crate::form::Form;
@@ -15,7 +15,6 @@ use encode_unicode::error::Utf8ErrorKind;
 use encode_unicode::{CharExt, U16UtfExt};
 use utf_base::elements::is_continuation;
 use utf_lanes::byte_pairs::unit;
-use utf_lanes::text_front::front_of_text;
 
 // What begins some bytes: the scalar, or U+FFFD for a fault, how many bytes it has, and how many faults it is: one, or none.
 #[derive(Clone, Copy, Drop)]
@@ -35,7 +34,7 @@ fn character(c: char, len: usize) -> ShownFront
 
 // A fault of so many bytes.
 #[inline(always)]
-fn fault(len: usize) -> ShownFront
+pub(crate) fn fault(len: usize) -> ShownFront
     ensures { result ≡ record { c = 0xFFFD; len = len; faults = 1 } }
 {
     ShownFront {
@@ -47,43 +46,7 @@ fn fault(len: usize) -> ShownFront
 
 // What begins the bytes; `None` where that depends on what follows them.
 #[inline(always)]
-pub(crate) fn front(from: Form, bytes: &[u8]) -> Option<ShownFront>
-    ensures some { IfSome result (λ x. Settles from bytes.now x.c x.len x.faults) }
-    ensures none { IfNone result (Waits from bytes.now) }
-    ensures lacks { IfNone result (Lacks from bytes.now) }
-{
-    match from {
-        Form::Utf8 => front_of_utf8(bytes),
-        Form::Utf16Le => front_of_utf16(from, false, bytes),
-        Form::Utf16Be => front_of_utf16(from, true, bytes),
-    }
-}
-
-// The same where nothing follows the bytes.
-#[inline(always)]
-pub(crate) fn last_front(from: Form, bytes: &[u8]) -> ShownFront
-    requires { 0 < length bytes.now }
-    ensures { SettlesLast from bytes.now result.c result.len result.faults }
-{
-    match front(from, bytes) {
-        Some(first) => first,
-        None => fault(fault_bytes(from).min(bytes.len())),
-    }
-}
-
-// How many bytes a fault has.
-#[inline(always)]
-fn fault_bytes(from: Form) -> usize
-    ensures { result ≡ fault_len from }
-{
-    match from {
-        Form::Utf8 => 1,
-        Form::Utf16Le | Form::Utf16Be => 2,
-    }
-}
-
-#[inline(always)]
-fn front_of_utf8(bytes: &[u8]) -> Option<ShownFront>
+pub(crate) fn front_of_utf8(bytes: &[u8]) -> Option<ShownFront>
     ensures some { IfSome result (λ x. Settles Form.Utf8 bytes.now x.c x.len x.faults) }
     ensures none { IfNone result (Waits Form.Utf8 bytes.now) }
     ensures lacks { IfNone result (Lacks Form.Utf8 bytes.now) }
@@ -133,17 +96,17 @@ pub(crate) fn may_be_second(first: u8, second: u8) -> bool
         }
 }
 
+// The same of UTF-16.
 #[inline(always)]
-fn front_of_utf16(from: Form, high_first: bool, bytes: &[u8]) -> Option<ShownFront>
-    requires { IsUnits high_first from }
-    ensures some { IfSome result (λ x. Settles from bytes.now x.c x.len x.faults) }
-    ensures none { IfNone result (Waits from bytes.now) }
-    ensures lacks { IfNone result (Lacks from bytes.now) }
+pub(crate) fn front_of_utf16<const BIG_ENDIAN: bool>(bytes: &[u8]) -> Option<ShownFront>
+    ensures some { IfSome result (λ x. Settles (utf16_form BIG_ENDIAN) bytes.now x.c x.len x.faults) }
+    ensures none { IfNone result (Waits (utf16_form BIG_ENDIAN) bytes.now) }
+    ensures lacks { IfNone result (Lacks (utf16_form BIG_ENDIAN) bytes.now) }
 {
     if bytes.len() < 2 {
         return None;
     }
-    let first = unit(high_first, bytes[0], bytes[1]);
+    let first = unit(BIG_ENDIAN, bytes[0], bytes[1]);
     if !first.is_utf16_leading_surrogate() {
         return match char::from_utf16_tuple((first, None)) {
             Ok(c) => Some(character(c, 2)),
@@ -153,7 +116,7 @@ fn front_of_utf16(from: Form, high_first: bool, bytes: &[u8]) -> Option<ShownFro
     if bytes.len() < 4 {
         return None;
     }
-    let second = unit(high_first, bytes[2], bytes[3]);
+    let second = unit(BIG_ENDIAN, bytes[2], bytes[3]);
     match char::from_utf16_tuple((first, Some(second))) {
         Ok(c) => Some(character(c, 4)),
         Err(_) => Some(fault(2)),
@@ -162,36 +125,13 @@ fn front_of_utf16(from: Form, high_first: bool, bytes: &[u8]) -> Option<ShownFro
 
 // The character that begins the bytes, and how many bytes it has; `None` at a fault, and near the end.
 #[inline(always)]
-pub(crate) fn text_front(from: Form, bytes: &[u8]) -> Option<(char, usize)>
-    ensures { IfSome result (λ x. BeginsChar from bytes.now x.0 x.1) }
-{
-    match from {
-        Form::Utf8 => front_of_text(bytes),
-        Form::Utf16Le => char_of_utf16(from, false, bytes),
-        Form::Utf16Be => char_of_utf16(from, true, bytes),
-    }
-}
-
-// How many bytes there have to be for `text_front` to answer a character.
-#[inline(always)]
-pub(crate) fn least_front(from: Form) -> usize
-    ensures { 0 < result }
-{
-    match from {
-        Form::Utf8 => 4,
-        Form::Utf16Le | Form::Utf16Be => 2,
-    }
-}
-
-#[inline(always)]
-fn char_of_utf16(from: Form, high_first: bool, bytes: &[u8]) -> Option<(char, usize)>
-    requires { IsUnits high_first from }
-    ensures { IfSome result (λ x. BeginsChar from bytes.now x.0 x.1) }
+pub(crate) fn char_of_utf16<const BIG_ENDIAN: bool>(bytes: &[u8]) -> Option<(char, usize)>
+    ensures { IfSome result (λ x. BeginsChar (utf16_form BIG_ENDIAN) bytes.now x.0 x.1) }
 {
     if bytes.len() < 2 {
         return None;
     }
-    let first = unit(high_first, bytes[0], bytes[1]);
+    let first = unit(BIG_ENDIAN, bytes[0], bytes[1]);
     if !first.is_utf16_leading_surrogate() {
         return match char::from_utf16_tuple((first, None)) {
             Ok(c) => Some((c, 2)),
@@ -201,7 +141,7 @@ fn char_of_utf16(from: Form, high_first: bool, bytes: &[u8]) -> Option<(char, us
     if bytes.len() < 4 {
         return None;
     }
-    let second = unit(high_first, bytes[2], bytes[3]);
+    let second = unit(BIG_ENDIAN, bytes[2], bytes[3]);
     match char::from_utf16_tuple((first, Some(second))) {
         Ok(c) => Some((c, 4)),
         Err(_) => None,
@@ -210,12 +150,11 @@ fn char_of_utf16(from: Form, high_first: bool, bytes: &[u8]) -> Option<(char, us
 
 // The eight characters of ASCII that sixteen bytes are as units. `None` where a unit is anything else.
 #[inline(always)]
-pub(crate) fn ascii_of_units(from: Form, high_first: bool, bytes: &[u8]) -> Option<[u8; 8]>
-    requires form { IsUnits high_first from }
-    requires len { length bytes.now ≡ 16 }
-    ensures { IfSome result (λ ascii. Transcodes from Form.Utf8 bytes.now ascii) }
+pub(crate) fn ascii_of_units<const BIG_ENDIAN: bool>(bytes: &[u8]) -> Option<[u8; 8]>
+    requires { length bytes.now ≡ 16 }
+    ensures { IfSome result (λ ascii. Transcodes (utf16_form BIG_ENDIAN) Form.Utf8 bytes.now ascii) }
 {
-    let units = eight_units(high_first, bytes);
+    let units = eight_units::<BIG_ENDIAN>(bytes);
     if eight_are_ascii(units) {
         Some(eight_bytes(units))
     } else {
@@ -225,19 +164,19 @@ pub(crate) fn ascii_of_units(from: Form, high_first: bool, bytes: &[u8]) -> Opti
 
 #[inline(always)]
 #[tactic(auto, using(crate::proofs::Blocks::eight_units))]
-fn eight_units(high_first: bool, bytes: &[u8]) -> [u16; 8]
+fn eight_units<const BIG_ENDIAN: bool>(bytes: &[u8]) -> [u16; 8]
     requires { length bytes.now ≡ 16 }
-    ensures { result ≡ units_of high_first bytes.now }
+    ensures { result ≡ units_of BIG_ENDIAN bytes.now }
 {
     [
-        unit(high_first, bytes[0], bytes[1]),
-        unit(high_first, bytes[2], bytes[3]),
-        unit(high_first, bytes[4], bytes[5]),
-        unit(high_first, bytes[6], bytes[7]),
-        unit(high_first, bytes[8], bytes[9]),
-        unit(high_first, bytes[10], bytes[11]),
-        unit(high_first, bytes[12], bytes[13]),
-        unit(high_first, bytes[14], bytes[15]),
+        unit(BIG_ENDIAN, bytes[0], bytes[1]),
+        unit(BIG_ENDIAN, bytes[2], bytes[3]),
+        unit(BIG_ENDIAN, bytes[4], bytes[5]),
+        unit(BIG_ENDIAN, bytes[6], bytes[7]),
+        unit(BIG_ENDIAN, bytes[8], bytes[9]),
+        unit(BIG_ENDIAN, bytes[10], bytes[11]),
+        unit(BIG_ENDIAN, bytes[12], bytes[13]),
+        unit(BIG_ENDIAN, bytes[14], bytes[15]),
     ]
 }
 
@@ -281,19 +220,6 @@ fn low(unit: u16) -> u8
     ensures { result ≡ unit % 256 }
 {
     (unit % 256) as u8
-}
-
-// Whether the high byte of each unit is the first, in a form that has units.
-#[inline(always)]
-pub(crate) fn high_is_first(form: Form) -> Option<bool>
-    ensures some { IfSome result (λ high_first. IsUnits high_first form) }
-    ensures none { IfNone result (form ≡ Form.Utf8) }
-{
-    match form {
-        Form::Utf8 => None,
-        Form::Utf16Le => Some(false),
-        Form::Utf16Be => Some(true),
-    }
 }
 
 // The first four bytes, or all where they are fewer.

@@ -4,7 +4,8 @@ ghost use Rattle.recoding.specs.Rooms.{ComesNearer};
 ghost use Rattle.recoding.specs.Strict.{EndsRun, FeedsStrictly, FinishesStrictly, IsFirstPiece, PassesHeld};
 
 use crate::faults::{Fault, FaultKind, Outcome, StrictProgress};
-use crate::first_pieces::{FirstPiece, first_piece, last_piece};
+use crate::first_pieces::FirstPiece;
+use crate::form_calls::{first_piece, last_piece};
 use crate::recoder::Recoder;
 use crate::recoder_rooms::put_at;
 use crate::recoder_runs::join;

@@ -1,22 +1,15 @@
 //! Strict runs over bytes, into room of a fixed size: to the first fault.
 ghost use Rattle.std.specs.Prelude.{◌≡◌, ◌-◌, ◌≤◌, length, drop};
-ghost use Rattle.recoding.specs.ShownFronts.{IsUnits};
 ghost use Rattle.recoding.specs.Strict.{PutsText, RunsStrictly, StopsAt};
 
-use crate::first_pieces::{FirstPiece, first_piece};
-use crate::form::Form::{self, Utf8};
-use crate::narrowed_units::put_block;
+use crate::first_pieces::FirstPiece;
+use crate::form::Form;
+use crate::form_blocks::{Copied, Kernel, Narrowed, Turned, Widened, by_forms};
+use crate::form_calls::first_piece;
 use crate::output::Output;
 use crate::recoder_rooms::put_at;
 use crate::room::Room;
-use crate::shown_fronts::high_is_first;
-use crate::unit_copies::copy_units;
-use crate::unit_puts::put_units;
-use utf_lanes::text_blocks::text_len;
-use utf_lanes::unit_bytes::sixteen_halves;
-
-// How many bytes of text are judged at once, so that they are near when they are recoded.
-const PART: usize = 8192;
+use crate::text::{Text, Utf8, Utf16};
 
 // How far a run came: how many bytes it recoded, the place after what it wrote, and what it stopped at.
 #[derive(Clone, Copy, Drop)]
@@ -101,97 +94,19 @@ fn run_in_blocks(
 pub(crate) fn put_text<O: Output>(from: Form, to: Form, bytes: &[u8], out: &mut O) -> usize
     ensures { PutsText O.appends from to bytes.now out.old out.new result }
 {
+    by_forms!(from, to, put_all_text::<O>(bytes, out))
+}
+
+// The same under the types of the forms.
+fn put_all_text<S: Text, T: Text, K: Kernel<S, T>, O: Output>(bytes: &[u8], out: &mut O) -> usize
+    ensures { PutsText O.appends S.form T.form bytes.now out.old out.new result }
+{
     let mut read = 0;
     loop {
-        let len = put_part(from, to, &bytes[read..], out);
+        let len = K::put_text(false, &bytes[read..], out);
         if len == 0 {
             return read;
         }
         read += len;
     }
-}
-
-// One part of it: nothing where the bytes or the room are too few for a block.
-#[inline(always)]
-fn put_part<O: Output>(from: Form, to: Form, bytes: &[u8], out: &mut O) -> usize
-    ensures { PutsText O.appends from to bytes.now out.old out.new result }
-{
-    match (high_is_first(from), high_is_first(to)) {
-        (None, None) => copy_text(bytes, out),
-        (None, Some(false)) => widen_text::<O, 0>(to, false, bytes, out),
-        (None, Some(true)) => widen_text::<O, 1>(to, true, bytes, out),
-        (Some(high_first), None) => narrow_units(from, high_first, bytes, out),
-        (Some(high_first), Some(wanted)) => copy_part(from, to, high_first, wanted, bytes, out),
-    }
-}
-
-// Text in UTF-8 as it is.
-#[inline(always)]
-fn copy_text<O: Output>(bytes: &[u8], out: &mut O) -> usize
-    ensures { PutsText O.appends Form.Utf8 Form.Utf8 bytes.now out.old out.new result }
-{
-    let most = bytes.len().min(out.room());
-    let len = text_len(&bytes[..PART.min(most)]);
-    out.put(&bytes[..len]);
-    len
-}
-
-// Text in UTF-8 as units. Each order of bytes is called under a number of its own.
-#[inline(always)]
-fn widen_text<O: Output, const ORDER: usize>(
-    to: Form,
-    high_first: bool,
-    bytes: &[u8],
-    out: &mut O,
-) -> usize
-    requires { IsUnits high_first to }
-    ensures { PutsText O.appends Form.Utf8 to bytes.now out.old out.new result }
-{
-    let most = bytes.len().min(out.room() / 3);
-    // Fewer are never taken in lanes, and so not judged either.
-    if most < 32 {
-        return 0;
-    }
-    let len = text_len(&bytes[..PART.min(most)]);
-    if len < 32 {
-        return 0;
-    }
-    put_units::<O, ORDER>(high_first, &bytes[..len], out);
-    len
-}
-
-// Units as UTF-8, sixteen at once.
-#[inline(always)]
-fn narrow_units<O: Output>(from: Form, high_first: bool, bytes: &[u8], out: &mut O) -> usize
-    requires { IsUnits high_first from }
-    ensures { PutsText O.appends from Form.Utf8 bytes.now out.old out.new result }
-{
-    if bytes.len() < 32 || out.room() < 64 {
-        return 0;
-    }
-    let (low, high) = sixteen_halves(high_first, bytes);
-    2 * put_block(low, high, out)
-}
-
-// Units as they are, or with the bytes of each swapped.
-#[inline(always)]
-fn copy_part<O: Output>(
-    from: Form,
-    to: Form,
-    high_first: bool,
-    wanted: bool,
-    bytes: &[u8],
-    out: &mut O,
-) -> usize
-    requires from { IsUnits high_first from }
-    requires to { IsUnits wanted to }
-    ensures { PutsText O.appends from to bytes.now out.old out.new result }
-{
-    let most = bytes.len().min(out.room());
-    copy_units(
-        high_first,
-        high_first != wanted,
-        &bytes[..PART.min(most)],
-        out,
-    )
 }

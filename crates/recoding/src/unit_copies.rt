@@ -1,60 +1,30 @@
-//! Text copied: as it is, or well-formed units with the bytes of each swapped.
+//! Well-formed units copied: as they are, or with the bytes of each swapped.
 ghost use Rattle.std.specs.Prelude.{◌≡◌, ◌⊎◌, ◌-◌, ◌+◌, ◌%◌, ◌<◌, ◌≤◌, [], ◌∷◌, length, take, drop};
-ghost use Rattle.recoding.specs.Recodes.{CopiesUnits};
-ghost use Rattle.recoding.specs.Strict.{PutsText};
+ghost use Rattle.recoding.specs.Recodes.{CopiesUnits, differ};
 ghost use Rattle.utf_lanes.specs.BytePairs.{swapped, turned};
 
 use crate::codes::put_pair;
-use crate::form::Form;
 use crate::output::Output;
 use std::simd::prelude::*;
 use utf_lanes::byte_pairs::{swapped_16, swapped_64};
-use utf_lanes::text_blocks::text_len;
 use utf_lanes::unit_blocks::units_len;
 
-// Appends the text at the front of the bytes, and answers how many bytes it has.
-#[inline(always)]
-pub(crate) fn copy_judged<O: Output>(bytes: &[u8], out: &mut O) -> usize
-    requires { length bytes.now ≤ O.room out.old }
-    ensures { PutsText O.appends Form.Utf8 Form.Utf8 bytes.now out.old out.new result }
-{
-    let len = text_len(bytes);
-    out.put(&bytes[..len]);
-    len
-}
-
-// Appends the well-formed units at the front of the bytes, the two bytes of each swapped or as they are, and answers
-// how many bytes they have.
-#[inline(always)]
-pub(crate) fn copy_units<O: Output>(
-    high_first: bool,
-    swaps: bool,
+// Appends the well-formed units at the front of the bytes, the two bytes of each swapped where the order that is wanted is
+// another, and answers how many bytes they have.
+#[inline(never)]
+pub(crate) fn copy_units<O: Output, const BIG_ENDIAN: bool, const WANTED: bool>(
     bytes: &[u8],
     out: &mut O,
 ) -> usize
     requires { length bytes.now ≤ O.room out.old }
-    ensures { CopiesUnits O.appends high_first swaps bytes.now out.old out.new result }
+    ensures { CopiesUnits O.appends BIG_ENDIAN (differ BIG_ENDIAN WANTED) bytes.now out.old out.new result }
 {
-    let len = 2 * units_len(high_first, bytes);
+    let len = 2 * units_len(BIG_ENDIAN, bytes);
     if len == 0 {
         return 0;
     }
-    put_turned(swaps, &bytes[..len], out);
+    put_turned(BIG_ENDIAN != WANTED, &bytes[..len], out);
     len
-}
-
-// The same, kept out of line. Each pair of orders is called under a number of its own, so that it has a copy of the code.
-#[inline(never)]
-pub(crate) fn copy_units_apart<O: Output, const PAIR: usize>(
-    high_first: bool,
-    swaps: bool,
-    bytes: &[u8],
-    out: &mut O,
-) -> usize
-    requires { length bytes.now ≤ O.room out.old }
-    ensures { CopiesUnits O.appends high_first swaps bytes.now out.old out.new result }
-{
-    copy_units(high_first, swaps, bytes, out)
 }
 
 // Appends the bytes, those of each pair swapped or as they are.

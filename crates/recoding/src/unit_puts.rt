@@ -9,18 +9,17 @@ use utf_lanes::ascii_texts::is_ascii_block;
 use utf_lanes::text_blocks::is_closed;
 use utf_lanes::text_units::{UnitBytes, after_nuls, ascii_units, block_units};
 
-// Appends the units that the places of some text give. Each order of bytes is called under a number of its own, so that
-// it has a copy of the code.
+// Appends the units that the places of some text give.
 #[inline(never)]
 #[tactic(auto, using(crate::proofs::GivenBytes::length_given))]
-pub(crate) fn put_units<O: Output, const ORDER: usize>(high_first: bool, text: &[u8], out: &mut O)
+pub(crate) fn put_units<O: Output, const BIG_ENDIAN: bool>(text: &[u8], out: &mut O)
     requires long { 32 ≤ length text.now }
     requires room { 3 * length text.now ≤ O.room out.old }
-    ensures { O.appends out.old (given high_first text.now 0 (length text.now)) out.new }
+    ensures { O.appends out.old (given BIG_ENDIAN text.now 0 (length text.now)) out.new }
 {
-    put_first(high_first, text, out);
-    let place = put_wide(high_first, text, out);
-    put_rest(high_first, text, place, out);
+    put_first(BIG_ENDIAN, text, out);
+    let place = put_wide(BIG_ENDIAN, text, out);
+    put_rest(BIG_ENDIAN, text, place, out);
 }
 
 // Appends the units of the first sixteen places.

@@ -82,7 +82,7 @@ pub fn count_two<A: Allocator>(
     let mut recoder = Recoder::new(from, Form::Utf8);
     recoder.feed(first, &mut made)?;
     recoder.feed(second, &mut made)?;
-    Ok(recoder.finish(&mut made)?)
+    Ok(recoder.replaced_at_end())
 }
 
 /// The same of a ring of bytes, which begins at a place and goes on at the front.

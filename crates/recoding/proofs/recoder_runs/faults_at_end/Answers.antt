@@ -1,4 +1,4 @@
-use Rattle.std.proofs.Common.{◌≡◌, [], length, drop, arith, length-drop}
+use Rattle.std.proofs.Common.{◌≡◌, [], drop, arith, length-drop}
 use Rattle.std.proofs.lemmas.List.{take_rest, drop_all, drop-drop}
 use Rattle.recoding.specs.ShownFronts.{SettlesLast}
 use Rattle.recoding.proofs.FaultCounts.{none_in_nothing}

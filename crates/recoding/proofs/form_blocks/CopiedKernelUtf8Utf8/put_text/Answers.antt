@@ -1,10 +1,10 @@
 use Rattle.std.proofs.Common.{take, arith, IsUtf8}
 use Rattle.utf_lanes.proofs.AsciiTexts.{ascii_text}
 use Rattle.recoding.proofs.TextRuns.{PutsText-part, PutsText-text}
-use Rattle.recoding.proofs.form_blocks.copy_part.Goals as goal
+use Rattle.recoding.proofs.form_blocks.CopiedKernelUtf8Utf8.put_text.Goals as goal
 
 pub returns : goal.returns
-returns g c = PutsText-part c.min-most.result c.copy_judged.ensures
+returns g c = PutsText-part c.min-most.result (PutsText-text c.text_len-len.ensures.within c.text_len-len.ensures.text c.put-2.ensures)
 
 pub returns-then-is_ascii : goal.returns-then-is_ascii
 returns-then-is_ascii g c =

@@ -1,5 +1,5 @@
 use Rattle.recoding.proofs.FrontBytes.{SettlesLast-of, SettlesLast-waits}
-use Rattle.recoding.proofs.shown_fronts.last_front.Goals as goal
+use Rattle.recoding.proofs.form_calls.last_front.Goals as goal
 
 pub returns-in-Some : goal.returns-in-Some
 returns-in-Some c = SettlesLast-of _ _ _ _ _ c.in-Some.ensures.some

@@ -1,8 +1,9 @@
 use Rattle.std.proofs.Common.{◌≤◌, take, arith, IsUtf8, length-take}
 use Rattle.std.proofs.lemmas.List.{take-take}
+use Rattle.recoding.proofs.Forms.{is_utf16}
 use Rattle.recoding.proofs.TextRuns.{PutsText-given, PutsText-none}
 use Rattle.recoding.proofs.WidenedTexts.{PutsText-widened}
-use Rattle.recoding.proofs.form_blocks.widen_part.Goals as goal
+use Rattle.recoding.proofs.form_blocks.WidenedKernelUtf8Utf16.put_text.Goals as goal
 
 pub returns-then-not-is_ample : goal.returns-then-not-is_ample
 returns-then-not-is_ample g c = PutsText-none g.met.O.Output.appends_none
@@ -14,8 +15,7 @@ pub returns-then-len-lt32 : goal.returns-then-len-lt32
 returns-then-len-lt32 g c = PutsText-none g.met.O.Output.appends_none
 
 pub returns-then-is_ascii : goal.returns-then-is_ascii
-returns-then-is_ascii g c =
-    PutsText-widened c.args.high_first c.requires.form (omega arith) (c.is_ascii.ensures c.if-is_ascii.true) c.put_widened.ensures
+returns-then-is_ascii g c = PutsText-widened _ (is_utf16 _) (omega arith) (c.is_ascii.ensures c.if-is_ascii.true) c.put_widened.ensures
 
 pub returns : goal.returns
 returns g c =
@@ -24,4 +24,4 @@ returns g c =
     let most = c.min-most.result in
     let few : len ≤ most = omega (arith, length-take most bytes, c.text_len-len.ensures.within) in
     let text : IsUtf8 (take len bytes) = rw (take-take len most bytes few) at c.text_len-len.ensures.text in
-    PutsText-given c.args.high_first c.requires.form (omega (arith, length-take most bytes)) text c.put_units.ensures
+    PutsText-given _ (is_utf16 _) (omega (arith, length-take most bytes)) text c.put_units.ensures

@@ -1,0 +1,103 @@
+//! What a form is asked that is known only when it runs: a function of its type.
+ghost use Rattle.std.specs.Prelude.{◌≡◌, ◌<◌, ◌≤◌, length, min, IfSome, IfNone, IsTrue, IsFalse, MatchResult};
+ghost use Rattle.recoding.specs.Recoded.{Lacks, written};
+ghost use Rattle.recoding.specs.ShownFronts.{Settles, SettlesLast, Waits, fault_len};
+ghost use Rattle.recoding.specs.Strict.{BeginsChar, EndsInFault, IsFirstPiece, lacking};
+
+use crate::faults::FaultKind;
+use crate::first_pieces::FirstPiece;
+use crate::form::Form;
+use crate::output::Output;
+use crate::shown_fronts::{ShownFront, fault};
+use crate::text::{Text, Utf8, Utf16};
+
+// Calls a function of the type of a form.
+macro_rules! by_form {
+    ($form:expr, $call:ident($($given:expr),*)) => {
+        match $form {
+            Form::Utf8 => Utf8::$call($($given),*),
+            Form::Utf16Le => Utf16::<false>::$call($($given),*),
+            Form::Utf16Be => Utf16::<true>::$call($($given),*),
+        }
+    };
+}
+
+// What begins the bytes; `None` where that depends on what follows them.
+#[inline(always)]
+pub(crate) fn front(from: Form, bytes: &[u8]) -> Option<ShownFront>
+    ensures some { IfSome result (λ x. Settles from bytes.now x.c x.len x.faults) }
+    ensures none { IfNone result (Waits from bytes.now) }
+    ensures lacks { IfNone result (Lacks from bytes.now) }
+{
+    by_form!(from, front(bytes))
+}
+
+// The same where nothing follows the bytes.
+#[inline(always)]
+pub(crate) fn last_front(from: Form, bytes: &[u8]) -> ShownFront
+    requires { 0 < length bytes.now }
+    ensures { SettlesLast from bytes.now result.c result.len result.faults }
+{
+    match front(from, bytes) {
+        Some(first) => first,
+        None => fault(fault_bytes(from).min(bytes.len())),
+    }
+}
+
+// How many bytes a fault has.
+#[inline(always)]
+pub(crate) fn fault_bytes(from: Form) -> usize
+    ensures { result ≡ fault_len from }
+{
+    by_form!(from, fault_bytes())
+}
+
+// Appends the code of the character.
+#[inline(always)]
+pub(crate) fn put_code<O: Output>(to: Form, c: char, out: &mut O)
+    requires { length (written to c) ≤ O.room out.old }
+    ensures { O.appends out.old (written to c) out.new }
+{
+    by_form!(to, put_code(c, out))
+}
+
+// Appends the code of the character, where it fits, and answers whether it does.
+#[inline(always)]
+pub(crate) fn put_fitting<O: Output>(to: Form, c: char, out: &mut O) -> bool
+    ensures put { IsTrue result → O.appends out.old (written to c) out.new }
+    ensures full { IsFalse result → O.room out.old < length (written to c) }
+    ensures short { IsFalse result → O.room out.old < 4 }
+    ensures kept { IsFalse result → out.new ≡ out.old }
+{
+    by_form!(to, put_fitting(c, out))
+}
+
+// The piece that begins the bytes, whatever follows them.
+#[inline(always)]
+pub(crate) fn first_piece(from: Form, bytes: &[u8]) -> FirstPiece
+    ensures { IsFirstPiece from bytes.now result }
+{
+    by_form!(from, first_piece(bytes))
+}
+
+// The same of some bytes that nothing follows: a character, or a fault.
+#[inline(always)]
+pub(crate) fn last_piece(from: Form, bytes: &[u8]) -> Result<(char, usize), (FaultKind, usize)>
+    requires { 0 < length bytes.now }
+    ensures { MatchResult result (λ x. BeginsChar from bytes.now x.0 x.1) (λ x. EndsInFault from bytes.now x.0 x.1) }
+{
+    match first_piece(from, bytes) {
+        FirstPiece::Char(c, len) => Ok((c, len)),
+        FirstPiece::Fault(kind, len) => Err((kind, len)),
+        FirstPiece::Undecided => Err(lacking_fault(from, bytes.len())),
+    }
+}
+
+// The fault that too few bytes are.
+#[inline(always)]
+fn lacking_fault(from: Form, count: usize) -> (FaultKind, usize)
+    ensures kind { result.0 ≡ lacking from }
+    ensures len { result.1 ≡ min (fault_len from) count }
+{
+    (by_form!(from, lacking_kind()), fault_bytes(from).min(count))
+}

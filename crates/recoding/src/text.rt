@@ -1,0 +1,189 @@
+//! The forms as types, so that each pair of them has a copy of the loops.
+ghost use Rattle.std.specs.Prelude.{◌≡◌, ◌<◌, ◌≤◌, length, IfSome, IfNone, IsTrue, IsFalse};
+ghost use Rattle.recoding.specs.Recoded.{Lacks, written};
+ghost use Rattle.recoding.specs.ShownFronts.{Settles, Waits, fault_len};
+ghost use Rattle.recoding.specs.Strict.{BeginsChar, IsFirstPiece, lacking};
+
+use crate::codes::{len_of_units, put_short, put_units};
+use crate::faults::FaultKind;
+use crate::first_pieces::{FirstPiece, first_of_utf8, first_of_utf16};
+use crate::output::Output;
+use crate::shown_fronts::{ShownFront, char_of_utf16, front_of_utf8, front_of_utf16};
+use encode_unicode::CharExt;
+use encode_unicode::error::{Utf8ErrorKind, Utf16PairError};
+use utf_lanes::text_front::front_of_text;
+
+// A form of text.
+pub(crate) trait Text {
+    ghost use Rattle.recoding.specs.declared.form.Form.{Form};
+
+    // Which form it is.
+    ghost form: { Form };
+
+    // What begins the bytes; `None` where that depends on what follows them.
+    fn front(bytes: &[u8]) -> Option<ShownFront>
+        ensures some { IfSome result (λ x. Settles form bytes.now x.c x.len x.faults) }
+        ensures none { IfNone result (Waits form bytes.now) }
+        ensures lacks { IfNone result (Lacks form bytes.now) };
+
+    // The character that begins the bytes, and how many bytes it has; `None` at a fault, and near the end.
+    fn text_front(bytes: &[u8]) -> Option<(char, usize)>
+        ensures { IfSome result (λ x. BeginsChar form bytes.now x.0 x.1) };
+
+    // How many bytes there have to be for `text_front` to answer a character.
+    fn least_front() -> usize
+        ensures { 0 < result };
+
+    // The piece that begins the bytes, whatever follows them.
+    fn first_piece(bytes: &[u8]) -> FirstPiece
+        ensures { IsFirstPiece form bytes.now result };
+
+    // How many bytes a fault has.
+    fn fault_bytes() -> usize
+        ensures { result ≡ fault_len form };
+
+    // The kind of a fault that too few bytes are.
+    fn lacking_kind() -> FaultKind
+        ensures { result ≡ lacking form };
+
+    // Appends the code of the character.
+    fn put_code<O: Output>(c: char, out: &mut O)
+        requires { length (written form c) ≤ O.room out.old }
+        ensures { O.appends out.old (written form c) out.new };
+
+    // How many bytes it has.
+    fn code_len(c: char) -> usize
+        ensures { result ≡ length (written form c) };
+
+    // Appends the code of the character, where it fits, and answers whether it does.
+    #[inline(always)]
+    fn put_fitting<O: Output>(c: char, out: &mut O) -> bool
+        ensures put { IsTrue result → O.appends out.old (written form c) out.new }
+        ensures full { IsFalse result → O.room out.old < length (written form c) }
+        ensures short { IsFalse result → O.room out.old < 4 }
+        ensures kept { IsFalse result → out.new ≡ out.old }
+    {
+        if 4 <= out.room() {
+            Self::put_code(c, out);
+            return true;
+        }
+        Self::put_at_end(c, out)
+    }
+
+    // The same where the room is less than any code may have.
+    #[inline(never)]
+    fn put_at_end<O: Output>(c: char, out: &mut O) -> bool
+        ensures put { IsTrue result → O.appends out.old (written form c) out.new }
+        ensures full { IsFalse result → O.room out.old < length (written form c) }
+        ensures kept { IsFalse result → out.new ≡ out.old }
+    {
+        if out.room() < Self::code_len(c) {
+            return false;
+        }
+        Self::put_code(c, out);
+        true
+    }
+}
+
+// UTF-8.
+pub(crate) struct Utf8;
+
+// UTF-16, big-endian or little-endian.
+pub(crate) struct Utf16<const BIG_ENDIAN: bool>;
+
+impl Text for Utf8 {
+    ghost use Rattle.recoding.specs.declared.form.Form.TheVariants as form;
+
+    ghost form = { form.Utf8 };
+
+    #[inline(always)]
+    fn front(bytes: &[u8]) -> Option<ShownFront> {
+        front_of_utf8(bytes)
+    }
+
+    #[inline(always)]
+    fn text_front(bytes: &[u8]) -> Option<(char, usize)> {
+        front_of_text(bytes)
+    }
+
+    #[inline(always)]
+    fn least_front() -> usize {
+        4
+    }
+
+    #[inline(always)]
+    fn first_piece(bytes: &[u8]) -> FirstPiece {
+        first_of_utf8(bytes)
+    }
+
+    #[inline(always)]
+    fn fault_bytes() -> usize {
+        1
+    }
+
+    #[inline(always)]
+    fn lacking_kind() -> FaultKind {
+        FaultKind::Utf8(Utf8ErrorKind::TooFewBytes)
+    }
+
+    #[inline(always)]
+    fn put_code<O: Output>(c: char, out: &mut O) {
+        let (code, len) = c.to_utf8_array();
+        put_short(code, len, out);
+    }
+
+    #[inline(always)]
+    fn code_len(c: char) -> usize {
+        c.to_utf8_array().1
+    }
+}
+
+impl<const BIG_ENDIAN: bool> Text for Utf16<BIG_ENDIAN> {
+    ghost use Rattle.recoding.specs.ShownFronts.{utf16_form};
+
+    ghost form = { utf16_form BIG_ENDIAN };
+
+    #[inline(always)]
+    fn front(bytes: &[u8]) -> Option<ShownFront> {
+        front_of_utf16::<BIG_ENDIAN>(bytes)
+    }
+
+    #[inline(always)]
+    fn text_front(bytes: &[u8]) -> Option<(char, usize)> {
+        char_of_utf16::<BIG_ENDIAN>(bytes)
+    }
+
+    #[inline(always)]
+    fn least_front() -> usize {
+        2
+    }
+
+    #[inline(always)]
+    fn first_piece(bytes: &[u8]) -> FirstPiece {
+        first_of_utf16::<BIG_ENDIAN>(bytes)
+    }
+
+    #[inline(always)]
+    #[tactic(auto, using(crate::proofs::Forms::fault_of_utf16))]
+    fn fault_bytes() -> usize {
+        2
+    }
+
+    #[inline(always)]
+    #[tactic(auto, using(crate::proofs::Forms::lacking_utf16))]
+    fn lacking_kind() -> FaultKind {
+        FaultKind::Utf16(Utf16PairError::Incomplete)
+    }
+
+    #[inline(always)]
+    #[tactic(auto, using(crate::proofs::Forms::written_utf16))]
+    fn put_code<O: Output>(c: char, out: &mut O) {
+        put_units::<O, BIG_ENDIAN>(c, out);
+    }
+
+    #[inline(always)]
+    #[tactic(auto, using(crate::proofs::Forms::written_utf16))]
+    fn code_len(c: char) -> usize {
+        len_of_units::<BIG_ENDIAN>(c)
+    }
+}
