@@ -166,7 +166,7 @@ impl<const BIG_ENDIAN: bool> Text for Utf16<BIG_ENDIAN> {
     #[inline(always)]
     #[tactic(auto, using(crate::proofs::Forms::fault_of_utf16))]
     fn fault_bytes() -> usize {
-        2
+        2usize
     }
 
     #[inline(always)]

@@ -78,10 +78,10 @@ pub fn count_two<A: Allocator>(
 ) -> Result<u64, AllocError>
     ensures { IfOk result (λ n. n ≡ min (2 ^ 64 - 1) (fault_count from (first.now ++ second.now))) }
 {
-    let mut made = Vec::new(alloc);
+    let mut out = Vec::new(alloc);
     let mut recoder = Recoder::new(from, Form::Utf8);
-    recoder.feed(first, &mut made)?;
-    recoder.feed(second, &mut made)?;
+    recoder.feed(first, &mut out)?;
+    recoder.feed(second, &mut out)?;
     Ok(recoder.replaced_at_end())
 }
 
