@@ -112,12 +112,14 @@ typedef struct {
 } nody_units_t;
 
 /* A recoder. It holds at most three bytes between calls: the front of a character whose rest has not come, bytes whose output did
- * not fit in the room, or, of a strict call, bytes that may be a fault. Read them by nody_recoder_held. */
+ * not fit in the room, or, of a strict call, bytes that may be a fault. Read them by nody_recoder_held. `replaced` counts from
+ * nody_recoder on, over all calls and inputs, and stays at UINT64_MAX. You may read it, and set it to 0. */
 typedef struct {
     nody_form_t from;
     nody_form_t to;
     uint8_t count;
     uint8_t held[3];
+    uint64_t replaced; /* how many invalid bytes, or units, nody_recoder_feed and nody_recoder_finish replaced by U+FFFD so far */
 } nody_recoder_t;
 
 /* The fault at which a strict call stopped. Where it met none, the kind is NODY_KIND_NONE, and len and back are 0. Its offset in the
@@ -343,7 +345,7 @@ static inline nody_status_t nody_utf16_to_utf8(const uint16_t *in, size_t len, u
 
 /* ---- Input that comes in parts ---------------------------------------------------------------------------------------------- */
 
-/* A recoder that holds nothing. The forms may be the same: then valid text is copied, and each fault becomes U+FFFD. A form above 2
+/* A recoder that holds nothing and has replaced nothing. The forms may be the same: then valid text is copied, and each fault becomes U+FFFD. A form above 2
  * makes a recoder that the calls refuse. Constant. */
 nody_recoder_t nody_recoder(nody_form_t from, nody_form_t to);
 
@@ -353,7 +355,8 @@ nody_recoder_t nody_recoder(nody_form_t from, nody_form_t to);
  * even if nothing is left of it, and with new room; the same buffer will do once you have emptied it. Up to three of the bytes
  * counted in `*read` may be held in the recoder: do not feed them again. NODY_STATUS_REFUSED: both counts are 0. Give room for four
  * bytes or more: then each call that answers NODY_STATUS_FULL has written something. A loop that calls again with the same room of
- * 3 bytes or less may never end.
+ * 3 bytes or less may never end. `recoder->replaced` grows by the number of invalid bytes, or units, for which this call wrote
+ * U+FFFD; a U+FFFD in the input does not count.
  *
  *     do {
  *         status = nody_recoder_feed(&recoder, in + place, len - place, out, sizeof out, &read, &written);
@@ -367,8 +370,8 @@ nody_status_t nody_recoder_feed(nody_recoder_t *recoder, const uint8_t *in, size
 
 /* Puts out what is held, when no more input follows: at most nine bytes. NODY_STATUS_FULL: call this again, and not
  * nody_recoder_feed, with new room; what was written is not held any more. NODY_STATUS_REFUSED: `*written` is 0. Give room for four
- * bytes or more, as for nody_recoder_feed. After NODY_STATUS_DONE the recoder holds nothing, and is as a new one: it may be fed
- * another input. Constant.
+ * bytes or more, as for nody_recoder_feed. `recoder->replaced` grows as there: after NODY_STATUS_DONE it is the number for the whole
+ * input. The recoder then holds nothing and may be fed another input, on which it goes on counting. Constant.
  *
  *     do {
  *         status = nody_recoder_finish(&recoder, out, sizeof out, &written);
@@ -385,8 +388,8 @@ nody_status_t nody_recoder_finish(nody_recoder_t *recoder, uint8_t *out, size_t 
  * the input, do not. NODY_STATUS_DONE: the whole part was read. The last bytes, three at most, are held where it depends on bytes
  * that have not come whether they are a fault, or of which kind: after E9 0A a third byte decides between
  * NODY_KIND_INTERRUPTED_SEQUENCE and NODY_KIND_TOO_FEW_BYTES. NODY_STATUS_FULL and NODY_STATUS_REFUSED are as for
- * nody_recoder_feed; in room for four bytes or more a loop as below ends. This call and nody_recoder_feed may take turns: each
- * goes on from what the recoder holds. Linear.
+ * nody_recoder_feed; in room for four bytes or more a loop as below ends. Nothing is replaced, and `recoder->replaced` stays. This
+ * call and nody_recoder_feed may take turns: each goes on from what the recoder holds. Linear.
  *
  *     do {
  *         status = nody_recoder_feed_strict(&recoder, in + place, len - place, out, sizeof out, &read, &written, &fault);

@@ -1,7 +1,8 @@
 /* Holds the library against a decoder that is written here from the grammar of RFC 3629, section 4, and from RFC 2781, section 2.2,
  * and shares nothing with it: edges COUNT. Each buffer lies between two pages that must not be touched, once at the end of the
  * first and once at the front of the other. Every input is recoded with each room of 0 to 14 bytes and each split into two parts,
- * with U+FFFD for faults, and strictly, where each fault has to come at its place and with its kind: all inputs of up to three bytes of those that the grammar names, and then COUNT random ones. Of each first part a recoder holds the
+ * with U+FFFD for faults, which are counted, and strictly, where each fault has to come at its place and with its kind: all inputs
+ * of up to three bytes of those that the grammar names, and then COUNT random ones. Of each first part a recoder holds the
  * front of a code alone. Structs of random bytes are refused, or recode within bounds. Prints what failed, and then
  * `N passed, M failed`. */
 #define _DEFAULT_SOURCE
@@ -175,8 +176,20 @@ static void say(nody_form_t from, nody_form_t to, const uint8_t *in, size_t len)
     for (size_t i = 0; i < len; i++) n += sprintf(shown + n, " %02x", in[i]);
 }
 
-/* Feeds the two parts into room after room. A room of less than four bytes that cannot make progress is made one of fourteen. */
-static int is_recoded_in(nody_form_t from, nody_form_t to, const uint8_t *in, size_t len, size_t split, size_t room, const uint8_t *want, size_t need) {
+/* How many of the pieces that became so many bytes are faults, or SIZE_MAX where no pieces did. */
+static size_t replaced_in(nody_form_t to, const cut_text *pieces, size_t made) {
+    size_t len = 0, count = 0;
+    for (size_t i = 0; i < pieces->count && len < made; i++) {
+        uint8_t code[4];
+        len += put(to, pieces->piece[i].scalar, code);
+        count += (size_t)pieces->piece[i].is_fault;
+    }
+    return len == made ? count : SIZE_MAX;
+}
+
+/* Feeds the two parts into room after room. A room of less than four bytes that cannot make progress is made one of fourteen. After
+ * each call the recoder has counted the faults of which something was written. */
+static int is_recoded_in(nody_form_t from, nody_form_t to, const uint8_t *in, size_t len, size_t split, size_t room, const cut_text *pieces, const uint8_t *want, size_t need) {
     nody_recoder_t recoder = nody_recoder(from, to);
     size_t place = 0, made = 0, end = split;
     for (int calls = 0; calls < 200; calls++) {
@@ -189,6 +202,7 @@ static int is_recoded_in(nody_form_t from, nody_form_t to, const uint8_t *in, si
         if (memcmp(out, want + made, written) != 0) return 0;
         made += written;
         place += read;
+        if (recoder.replaced != replaced_in(to, pieces, made)) return 0;
         if (status == NODY_STATUS_DONE && is_last) return made == need && nody_recoder_held(&recoder, NULL, 0) == 0;
         if (status == NODY_STATUS_DONE && place != end) return 0;
         if (status == NODY_STATUS_DONE) end = len;
@@ -262,7 +276,7 @@ static int is_strict_in(nody_form_t from, nody_form_t to, const uint8_t *in, siz
             next = next_fault(pieces, next + 1);
             continue;
         }
-        if (!is_no_fault(&fault)) return 0;
+        if (!is_no_fault(&fault) || recoder.replaced != 0) return 0;
         if (status == NODY_STATUS_DONE && is_last) return next == pieces->count && made == want->at[next] && nody_recoder_held(&recoder, NULL, 0) == 0;
         if (status == NODY_STATUS_DONE && place != end) return 0;
         if (status == NODY_STATUS_DONE) end = len;
@@ -327,7 +341,7 @@ static void recodings(nody_form_t from, const uint8_t *in, size_t len, const cut
         for (size_t i = 0; i < pieces->count; i++) need += put(to, pieces->piece[i].scalar, want + need);
         for (size_t room = 0; room < ROOMS; room++) {
             holds = holds && is_recoded_at_once(from, to, in, len, room, want, need);
-            for (size_t split = 0; split <= len; split++) holds = holds && is_recoded_in(from, to, in, len, split, room, want, need);
+            for (size_t split = 0; split <= len; split++) holds = holds && is_recoded_in(from, to, in, len, split, room, pieces, want, need);
         }
         for (size_t split = 0; split <= len; split++) holds = holds && is_held(from, to, in, split);
         say(from, to, in, len);
