@@ -23,7 +23,7 @@ use Rattle.recoding.specs.declared.form.Form.{Form}
 use Rattle.recoding.specs.declared.form.Form.TheVariants.{Utf8, Utf16Le, Utf16Be}
 use Rattle.recoding.specs.Lossy.{BeginsNoCode, ReadsParts}
 use Rattle.recoding.specs.Recoded.{Lacks, ShowsUnits, written}
-use Rattle.recoding.specs.ShownFronts.{Decides, Ends, Waits}
+use Rattle.recoding.specs.ShownFronts.{Decides, Ends, IsUnits, Waits}
 use Rattle.recoding.specs.Strict.{AwaitsKind, BeginsChar, BeginsFault}
 use Rattle.recoding.proofs.FrontBytes.{Waits-byte, Waits-leading, fault_shows_units, replacement, units_two}
 use Rattle.recoding.proofs.HeldFronts.{leading_by_itself, two_do_not_lack}
@@ -100,12 +100,12 @@ lacks_units Utf16Be w other a = lacks_where_awaited _ a.kind
 
 -- And so are too few bytes of it at the end.
 
-waits_for_units : (high : Bool) (w : List ℕ) → unit_fault_kind (units_of high w) ≡ Some Incomplete → Waits (ShowsUnits high) 2 w
-waits_for_units high [] h = Waits-byte high [] (lit< tt)
-waits_for_units high (a ∷ []) h = Waits-byte high (a ∷ []) (lit< tt)
-waits_for_units high (a ∷ b ∷ []) h = Waits-leading high (a ∷ b ∷ []) (lit< tt) (lit< tt) (leading_by_itself (unit_of high a b) h)
-waits_for_units high (a ∷ b ∷ c ∷ []) h = Waits-leading high (a ∷ b ∷ c ∷ []) (lit< tt) (lit< tt) (leading_by_itself (unit_of high a b) h)
-waits_for_units high (a ∷ b ∷ c ∷ d ∷ w) h = absurd (two_do_not_lack _ _ _ h)
+waits_for_units : (high : Bool) (from : Form) (w : List ℕ) → IsUnits high from → unit_fault_kind (units_of high w) ≡ Some Incomplete → Waits from w
+waits_for_units high from [] form h = Waits-byte high from [] form (lit< tt)
+waits_for_units high from (a ∷ []) form h = Waits-byte high from (a ∷ []) form (lit< tt)
+waits_for_units high from (a ∷ b ∷ []) form h = Waits-leading high from (a ∷ b ∷ []) form (lit< tt) (lit< tt) (leading_by_itself (unit_of high a b) h)
+waits_for_units high from (a ∷ b ∷ c ∷ []) form h = Waits-leading high from (a ∷ b ∷ c ∷ []) form (lit< tt) (lit< tt) (leading_by_itself (unit_of high a b) h)
+waits_for_units high from (a ∷ b ∷ c ∷ d ∷ w) form h = absurd (two_do_not_lack _ _ _ h)
 
 same_drop : (w : List ℕ) → drop (min 2 (length w)) w ≡ drop 2 w
 same_drop w =
@@ -114,16 +114,16 @@ same_drop w =
     (λ (ge : 2 ≤ length w). let two : min 2 (length w) ≡ 2 = omega arith in ap (λ k. drop k w) two)
     (cases_lt (length w) 2)
 
-ends_in_unit : (high : Bool) (w : List ℕ) → 0 < length w → unit_fault_kind (units_of high w) ≡ Some Incomplete → Ends (ShowsUnits high) w 0xFFFD (min 2 (length w))
-ends_in_unit high w some h = record {
+ends_in_unit : (high : Bool) (w : List ℕ) → 0 < length w → ((ss : List ℕ) → ShowsUnits high (drop 2 w) ss → ShowsUnits high w (0xFFFD ∷ ss)) → Ends (ShowsUnits high) w 0xFFFD (min 2 (length w))
+ends_in_unit high w some last = record {
   some = omega arith;
   within = omega arith;
   scalar = replacement;
   wide = λ high. absurd (omega arith);
-  first = λ ss r. (waits_for_units high w h).last some ss (rw (same_drop w) at r);
+  first = λ ss r. last ss (rw (same_drop w) at r);
 }
 
 pub Ends-units : (from : Form) (w : List ℕ) → (from ≡ Utf8 → ⊥) → 0 < length w → Lacks from w → Ends (ReadsParts from) w 0xFFFD (min 2 (length w))
 Ends-units Utf8 w other some h = absurd (other refl)
-Ends-units Utf16Le w other some h = Ends-alike Utf16Le w 0xFFFD (min 2 (length w)) alike_le (ends_in_unit false w some h)
-Ends-units Utf16Be w other some h = Ends-alike Utf16Be w 0xFFFD (min 2 (length w)) alike_be (ends_in_unit true w some h)
+Ends-units Utf16Le w other some h = Ends-alike Utf16Le w 0xFFFD (min 2 (length w)) alike_le (ends_in_unit false w some ((waits_for_units false Utf16Le w refl h).last some))
+Ends-units Utf16Be w other some h = Ends-alike Utf16Be w 0xFFFD (min 2 (length w)) alike_be (ends_in_unit true w some ((waits_for_units true Utf16Be w refl h).last some))

@@ -26,7 +26,7 @@ use Rattle.utf_base.proofs.Utf16Code.{utf16_is_code}
 use Rattle.recoding.specs.Recoded.{Reads, ShowsUnits, odd_end, Lacks}
 use Rattle.recoding.specs.Faults.{fault_count}
 use Rattle.utf_lanes.specs.BytePairs.{units_of, unit_of}
-use Rattle.recoding.specs.ShownFronts.{Decides, IsUnits, Settles, SettlesLast, Waits, fault_len}
+use Rattle.recoding.specs.ShownFronts.{Decides, Ends, IsUnits, Settles, SettlesLast, Waits, fault_len}
 use Rattle.recoding.proofs.FaultCounts.{counts_more, fault_counts, units_count_more}
 use Rattle.recoding.proofs.CodeFronts.{front_of_nothing}
 
@@ -38,21 +38,23 @@ fault_is_some Utf8 = omega arith
 fault_is_some Utf16Le = omega arith
 fault_is_some Utf16Be = omega arith
 
+-- what the bytes show whatever follows, they show where nothing does
+pub Ends-from_decides : {reads : List ℕ → List ℕ → Type 0} {w : List ℕ} {s n : ℕ} → Decides reads w s n → Ends reads w s n
+Ends-from_decides {reads} {w} {s} {n} d = record {
+  some = d.some;
+  within = d.within;
+  scalar = d.scalar;
+  wide = d.wide;
+  first = λ ss r. rw (append-nil w) at (d.first [] ss (rw (append-nil (drop n w)) r));
+}
+
 -- what is settled whatever follows is where nothing does
 pub SettlesLast-of : (from : Form) (w : List ℕ) (s n k : ℕ) → Settles from w s n k → SettlesLast from w s n k
-SettlesLast-of from w s n k settles =
-    let d = settles.decides in
-    record {
-      ends = record {
-        some = d.some;
-        within = d.within;
-        scalar = d.scalar;
-        wide = d.wide;
-        first = λ ss r. rw (append-nil w) at (d.first [] ss (rw (append-nil (drop n w)) r));
-      };
-      few = settles.few;
-      counts = rw (append-nil w, append-nil (drop n w)) at (settles.counts []);
-    }
+SettlesLast-of from w s n k settles = record {
+  ends = Ends-from_decides settles.decides;
+  few = settles.few;
+  counts = rw (append-nil w, append-nil (drop n w)) at (settles.counts []);
+}
 
 -- and so is a fault that nothing follows
 pub SettlesLast-waits : (from : Form) (w : List ℕ) (n : ℕ) → Waits from w → 0 < length w → n ≡ min (fault_len from) (length w) → SettlesLast from w 0xFFFD n 1

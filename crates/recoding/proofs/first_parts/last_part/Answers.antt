@@ -4,7 +4,7 @@ use Rattle.recoding.proofs.LossyLists.{Ends-front}
 use Rattle.recoding.proofs.first_parts.last_part.Goals as goal
 
 pub returns-in-Some : goal.returns-in-Some
-returns-in-Some c = Ends-from_decides _ _ _ _ c.in-Some.ensures.some
+returns-in-Some c = Ends-from_decides c.in-Some.ensures.some
 
 pub returns-in-Utf8 : goal.returns-in-Utf8
 returns-in-Utf8 c = rw c.in-Utf8.is (Ends-front _ c.requires (rw c.in-Utf8.is at c.in-None.ensures.lacks))

@@ -5,7 +5,7 @@ use Rattle.recoding.proofs.FaultCounts.{none_in_nothing}
 use Rattle.recoding.proofs.recoder_runs.faults_at_end.Goals as goal
 
 pub loop-place-preserved : goal.loop-place-preserved
-loop-place-preserved g c =
+loop-place-preserved c =
     let bytes = c.args.bytes.now in
     let place = c.loop-place.place in
     let first = c.last_front-first.result in
@@ -23,6 +23,6 @@ loop-place-preserved g c =
     }
 
 pub returns : goal.returns
-returns g c =
+returns c =
     let rest : drop c.loop-place.place c.args.bytes.now ≡ [] = drop_all c.loop-place.place c.args.bytes.now (omega arith) in
     omega (arith, rw rest at c.loop-place.invariant.faults, none_in_nothing c.args.from)
