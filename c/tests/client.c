@@ -310,8 +310,8 @@ static void replaced(void) {
     recoder.replaced = UINT64_MAX - 1;
     expect(nody_recoder_feed(&recoder, in + 4, 1, out, 32, &read, &written) == NODY_STATUS_DONE && recoder.replaced == UINT64_MAX, "the greatest count");
     expect(nody_recoder_feed(&recoder, in + 4, 1, out, 32, &read, &written) == NODY_STATUS_DONE && written == 3 && recoder.replaced == UINT64_MAX, "which stays");
-    expect(nody_recoder_feed(&units, le, 7, out, 32, &read, &written) == NODY_STATUS_DONE && written == 4 && units.replaced == 1, "a lone surrogate");
-    expect(nody_recoder_finish(&units, out, 32, &written) == NODY_STATUS_DONE && written == 6 && units.replaced == 3, "a lone surrogate at the end, and half a unit");
+    expect(nody_recoder_feed(&units, le, 7, out, 32, &read, &written) == NODY_STATUS_DONE && written == 4 && units.replaced == 1, "a trailing surrogate alone");
+    expect(nody_recoder_finish(&units, out, 32, &written) == NODY_STATUS_DONE && written == 6 && units.replaced == 3, "a leading surrogate alone at the end, and half a unit");
     none.replaced = 7;
     expect(nody_recoder_feed(&none, in, 7, out, 32, &read, &written) == NODY_STATUS_REFUSED && nody_recoder_finish(&none, out, 32, &written) == NODY_STATUS_REFUSED && none.replaced == 7, "no recoder counts nothing");
 }
