@@ -345,8 +345,8 @@ static inline nody_status_t nody_utf16_to_utf8(const uint16_t *in, size_t len, u
 
 /* ---- Input that comes in parts ---------------------------------------------------------------------------------------------- */
 
-/* A recoder that holds nothing and has replaced nothing. The forms may be the same: then valid text is copied, and each fault becomes U+FFFD. A form above 2
- * makes a recoder that the calls refuse. Constant. */
+/* A recoder that holds nothing and has replaced nothing. The forms may be the same: then valid text is copied, and each fault
+ * becomes U+FFFD. A form above 2 makes a recoder that the calls refuse. Constant. */
 nody_recoder_t nody_recoder(nody_form_t from, nody_form_t to);
 
 /* Feeds a part of the input, as far as there is room: `*read` bytes of it were fed, and `*written` bytes
@@ -370,8 +370,8 @@ nody_status_t nody_recoder_feed(nody_recoder_t *recoder, const uint8_t *in, size
 
 /* Puts out what is held, when no more input follows: at most nine bytes. NODY_STATUS_FULL: call this again, and not
  * nody_recoder_feed, with new room; what was written is not held any more. NODY_STATUS_REFUSED: `*written` is 0. Give room for four
- * bytes or more, as for nody_recoder_feed. `recoder->replaced` grows as there: after NODY_STATUS_DONE it is the number for the whole
- * input. The recoder then holds nothing and may be fed another input, on which it goes on counting. Constant.
+ * bytes or more, as for nody_recoder_feed. `recoder->replaced` grows as there: after NODY_STATUS_DONE it is the number for the
+ * whole input. The recoder then holds nothing and may be fed another input, on which it goes on counting. Constant.
  *
  *     do {
  *         status = nody_recoder_finish(&recoder, out, sizeof out, &written);
