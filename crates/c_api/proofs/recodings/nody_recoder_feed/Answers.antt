@@ -13,10 +13,10 @@ pub returns-then-progress-clause-counts : goal.returns-then-progress-clause-coun
 returns-then-progress-clause-counts c is =
     let run = c.feed_into-progress in
     part_counted c.args.recoder.now c.keep.new.recoder c.opened-inner.result run.new.self run.result.replaced _ c.opened-inner.ensures c.keep.ensures.kept
-    (omega (arith, c.with_more.ensures, c.keep.ensures.uncounted)) (take run.result.read c.args.part.now) run.ensures.replaces
+    (omega (arith, c.with_more-recoder.ensures, c.keep.ensures.uncounted)) (take run.result.read c.args.part.now) run.ensures.replaces
 
 pub returns-else-progress-clause-counts : goal.returns-else-progress-clause-counts
 returns-else-progress-clause-counts c is =
     let run = c.feed_into-progress in
     part_counted c.args.recoder.now c.keep.new.recoder c.opened-inner.result run.new.self run.result.replaced _ c.opened-inner.ensures c.keep.ensures.kept
-    (omega (arith, c.with_more.ensures, c.keep.ensures.uncounted)) (take run.result.read c.args.part.now) run.ensures.replaces
+    (omega (arith, c.with_more-recoder.ensures, c.keep.ensures.uncounted)) (take run.result.read c.args.part.now) run.ensures.replaces

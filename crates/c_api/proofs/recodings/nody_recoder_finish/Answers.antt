@@ -21,10 +21,10 @@ pub returns-then-progress-clause-counts : goal.returns-then-progress-clause-coun
 returns-then-progress-clause-counts c is =
     let run = c.finish_into-progress in
     end_counted c.args.recoder.now c.keep.new.recoder c.opened-inner.result run.new.self run.result.replaced _ c.opened-inner.ensures c.keep.ensures.kept
-    (omega (arith, c.with_more.ensures, c.keep.ensures.uncounted)) run.ensures.replaces
+    (omega (arith, c.with_more-recoder.ensures, c.keep.ensures.uncounted)) run.ensures.replaces
 
 pub returns-else-progress-clause-counts : goal.returns-else-progress-clause-counts
 returns-else-progress-clause-counts c is =
     let run = c.finish_into-progress in
     end_counted c.args.recoder.now c.keep.new.recoder c.opened-inner.result run.new.self run.result.replaced _ c.opened-inner.ensures c.keep.ensures.kept
-    (omega (arith, c.with_more.ensures, c.keep.ensures.uncounted)) run.ensures.replaces
+    (omega (arith, c.with_more-recoder.ensures, c.keep.ensures.uncounted)) run.ensures.replaces
