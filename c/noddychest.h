@@ -9,7 +9,8 @@
  *
  * INVALID INPUT IS REPLACED BYTE BY BYTE. Recoding writes one U+FFFD replacement character for each invalid byte (in UTF-16, for
  * each invalid unit). Browsers and Python write one for several bytes in some cases: E2 82 41 is here U+FFFD U+FFFD A, and there
- * U+FFFD A. Calls whose names end in _strict stop at the first fault instead, and say where it is and why.
+ * U+FFFD A. nody_recoder_feed_lossy and nody_recoder_finish_lossy write what browsers and Python do. Calls whose names end in
+ * _strict stop at the first fault instead, and say where it is and why.
  *
  * WHICH KIND WINS. The kind of a byte is decided from it and the bytes that follow it, and is the first of these that applies:
  * UNEXPECTED_CONTINUATION_BYTE, NON_UTF8_BYTE, TOO_FEW_BYTES, INTERRUPTED_SEQUENCE, and then, by the value, OVERLONG_ENCODING,
@@ -412,6 +413,27 @@ nody_status_t nody_recoder_feed_strict(nody_recoder_t *recoder, const uint8_t *i
  *     if (status == NODY_STATUS_FAULT) return report(total - fault.back, nody_kind_sentence(fault.kind));
  */
 nody_status_t nody_recoder_finish_strict(nody_recoder_t *recoder, uint8_t *out, size_t room, size_t *written, nody_fault_t *fault);
+
+/* nody_recoder_feed that writes one U+FFFD for each maximal subpart, as the Unicode standard recommends (chapter 3, "U+FFFD
+ * Substitution of Maximal Subparts"), and as browsers, Python's errors="replace" and Rust's from_utf8_lossy do. A maximal subpart
+ * is the longest start of a valid character where none stands, one to three bytes: E2 82 41 becomes U+FFFD A. Where there is no
+ * such start, it is one byte: E0 80 becomes U+FFFD U+FFFD. Of UTF-16 it is an invalid unit, or a single byte at the end, so both
+ * calls write the same; they also do where the input is valid. `*read`, `*written` and the statuses are as for nody_recoder_feed,
+ * and so is the loop. `recoder->replaced` stays. End the input by nody_recoder_finish_lossy. Linear.
+ *
+ *     nody_recoder_t recoder = nody_recoder(NODY_FORM_UTF8, NODY_FORM_UTF8);
+ *     nody_recoder_feed_lossy(&recoder, (const uint8_t *)"\xe2\x82" "A", 3, out, sizeof out, &read, &written); // 4: EF BF BD 41
+ */
+nody_status_t nody_recoder_feed_lossy(nody_recoder_t *recoder, const uint8_t *in, size_t in_len, uint8_t *out, size_t room,
+                                      size_t *read, size_t *written);
+
+/* nody_recoder_finish after nody_recoder_feed_lossy: bytes of UTF-8 that are held, which are the front of a character, become one
+ * U+FFFD. `*written` and the statuses are as for nody_recoder_finish. `recoder->replaced` stays. Constant.
+ *
+ *     nody_recoder_feed_lossy(&recoder, (const uint8_t *)"\xf0\x9f\x98", 3, out, sizeof out, &read, &written); // 0: they are held
+ *     nody_recoder_finish_lossy(&recoder, out, sizeof out, &written);                                         // 3: EF BF BD
+ */
+nody_status_t nody_recoder_finish_lossy(nody_recoder_t *recoder, uint8_t *out, size_t room, size_t *written);
 
 /* How many bytes the recoder holds, 0 to 3: those of the input that were read and not yet recoded. They are written to `out` if
  * `room` is at least that many. SIZE_MAX where a form is above 2, or the struct holds more than three bytes. Constant.

@@ -316,6 +316,40 @@ static void replaced(void) {
     expect(nody_recoder_feed(&none, in, 7, out, 32, &read, &written) == NODY_STATUS_REFUSED && nody_recoder_finish(&none, out, 32, &written) == NODY_STATUS_REFUSED && none.replaced == 7, "no recoder counts nothing");
 }
 
+/* One U+FFFD for each maximal subpart: what Python's bytes.decode("utf-8", "replace") gives for the same bytes, cut at each place. */
+static void lossy(void) {
+    static const struct {
+        const char *in, *want;
+    } cases[] = {
+        {"A\xe2\x82" "A", "A\xef\xbf\xbd" "A"},
+        {"\xe0\x80", "\xef\xbf\xbd\xef\xbf\xbd"},
+        {"\xf0\x9f\x98", "\xef\xbf\xbd"},
+        {"\xed\xa0\x80\xff\xf4\x90", "\xef\xbf\xbd\xef\xbf\xbd\xef\xbf\xbd\xef\xbf\xbd\xef\xbf\xbd\xef\xbf\xbd"},
+        {"a\xf1\x80\x80" "b\xc0\xaf" "c", "a\xef\xbf\xbd" "b\xef\xbf\xbd\xef\xbf\xbd" "c"},
+        {"\xe2\x82\xac\xf0\x9f\x82\xa0", "\xe2\x82\xac\xf0\x9f\x82\xa0"},
+    };
+    nody_recoder_t none = nody_recoder(3, 0), small = nody_recoder(NODY_FORM_UTF8, NODY_FORM_UTF8), units = nody_recoder(NODY_FORM_UTF16LE, NODY_FORM_UTF8);
+    static const uint8_t le[] = {0x00, 0xdc, 0x41, 0x00, 0x3c, 0xd8, 0x21};
+    uint8_t out[32];
+    size_t read, written, more, last;
+    for (size_t i = 0; i < sizeof cases / sizeof *cases; i++) {
+        const uint8_t *in = (const uint8_t *)cases[i].in;
+        size_t len = strlen(cases[i].in), need = strlen(cases[i].want);
+        for (size_t at = 0; at <= len; at++) {
+            nody_recoder_t recoder = nody_recoder(NODY_FORM_UTF8, NODY_FORM_UTF8);
+            expect(nody_recoder_feed_lossy(&recoder, in, at, out, 32, &read, &written) == NODY_STATUS_DONE && read == at, "a part, lossily");
+            expect(nody_recoder_feed_lossy(&recoder, in + at, len - at, out + written, 32 - written, &read, &more) == NODY_STATUS_DONE && read == len - at, "the rest, lossily");
+            expect(nody_recoder_finish_lossy(&recoder, out + written + more, 32 - written - more, &last) == NODY_STATUS_DONE, "the end, lossily");
+            expect(written + more + last == need && memcmp(out, cases[i].want, need) == 0 && recoder.replaced == 0 && recoder.count == 0, "one U+FFFD for each maximal subpart");
+        }
+    }
+    expect(nody_recoder_feed_lossy(&small, (const uint8_t *)"\xe2\x82" "A", 3, out, 3, &read, &written) == NODY_STATUS_FULL && written == 3, "no room for the A");
+    expect(nody_recoder_feed_lossy(&small, (const uint8_t *)"\xe2\x82" "A" + read, 3 - read, out, 1, &read, &written) == NODY_STATUS_DONE && written == 1 && out[0] == 'A', "room for it");
+    expect(nody_recoder_feed_lossy(&small, (const uint8_t *)"\xe2\x82", 2, out, 0, &read, &written) == NODY_STATUS_DONE && read == 2 && nody_recoder_finish_lossy(&small, out, 2, &written) == NODY_STATUS_FULL && written == 0 && small.count == 2, "no room for the end");
+    expect(nody_recoder_feed_lossy(&units, le, 7, out, 32, &read, &written) == NODY_STATUS_DONE && written == 4 && nody_recoder_finish_lossy(&units, out, 32, &written) == NODY_STATUS_DONE && written == 6 && units.replaced == 0, "of UTF-16 as nody_recoder_feed");
+    expect(nody_recoder_feed_lossy(&none, le, 7, out, 32, &read, &written) == NODY_STATUS_REFUSED && read == 0 && written == 0 && nody_recoder_finish_lossy(&none, out, 32, &written) == NODY_STATUS_REFUSED, "no recoder, lossily");
+}
+
 /* Recodes the same bytes again and again, and answers how often the output was wrong. */
 static void *of_a_thread(void *wrong) {
     static const uint8_t in[] = {0x41, 0xf0, 0x9f, 0x82, 0xa0, 0xe0, 0x80}, want[] = {0, 0x41, 0xd8, 0x3c, 0xdc, 0xa0, 0xff, 0xfd, 0xff, 0xfd};
@@ -342,6 +376,7 @@ int main(int argc, char **argv) {
     words();
     strictly();
     replaced();
+    lossy();
     vectors();
     random_cases(argc > 1 ? strtoul(argv[1], NULL, 10) : 1000);
     if (argc == 2) {
