@@ -9,7 +9,8 @@
  *
  * INVALID INPUT IS REPLACED BYTE BY BYTE. Recoding writes one U+FFFD replacement character for each invalid byte (in UTF-16, for
  * each invalid unit). Browsers and Python write one for several bytes in some cases: E2 82 41 is here U+FFFD U+FFFD A, and there
- * U+FFFD A. Calls whose names end in _strict stop at the first fault instead, and say where it is and why.
+ * U+FFFD A. nody_recoder_feed_lossy and nody_recoder_finish_lossy write what browsers and Python do. Calls whose names end in
+ * _strict stop at the first fault instead, and say where it is and why.
  *
  * WHICH KIND WINS. The kind of a byte is decided from it and the bytes that follow it, and is the first of these that applies:
  * UNEXPECTED_CONTINUATION_BYTE, NON_UTF8_BYTE, TOO_FEW_BYTES, INTERRUPTED_SEQUENCE, and then, by the value, OVERLONG_ENCODING,
@@ -112,12 +113,14 @@ typedef struct {
 } nody_units_t;
 
 /* A recoder. It holds at most three bytes between calls: the front of a character whose rest has not come, bytes whose output did
- * not fit in the room, or, of a strict call, bytes that may be a fault. Read them by nody_recoder_held. */
+ * not fit in the room, or, of a strict call, bytes that may be a fault. Read them by nody_recoder_held. `replaced` counts from
+ * nody_recoder on, over all calls and inputs, and stays at UINT64_MAX. You may read it, and set it to 0. */
 typedef struct {
     nody_form_t from;
     nody_form_t to;
     uint8_t count;
     uint8_t held[3];
+    uint64_t replaced; /* how many invalid bytes, or units, nody_recoder_feed and nody_recoder_finish replaced by U+FFFD so far */
 } nody_recoder_t;
 
 /* The fault at which a strict call stopped. Where it met none, the kind is NODY_KIND_NONE, and len and back are 0. Its offset in the
@@ -343,8 +346,8 @@ static inline nody_status_t nody_utf16_to_utf8(const uint16_t *in, size_t len, u
 
 /* ---- Input that comes in parts ---------------------------------------------------------------------------------------------- */
 
-/* A recoder that holds nothing. The forms may be the same: then valid text is copied, and each fault becomes U+FFFD. A form above 2
- * makes a recoder that the calls refuse. Constant. */
+/* A recoder that holds nothing and has replaced nothing. The forms may be the same: then valid text is copied, and each fault
+ * becomes U+FFFD. A form above 2 makes a recoder that the calls refuse. Constant. */
 nody_recoder_t nody_recoder(nody_form_t from, nody_form_t to);
 
 /* Feeds a part of the input, as far as there is room: `*read` bytes of it were fed, and `*written` bytes
@@ -353,7 +356,8 @@ nody_recoder_t nody_recoder(nody_form_t from, nody_form_t to);
  * even if nothing is left of it, and with new room; the same buffer will do once you have emptied it. Up to three of the bytes
  * counted in `*read` may be held in the recoder: do not feed them again. NODY_STATUS_REFUSED: both counts are 0. Give room for four
  * bytes or more: then each call that answers NODY_STATUS_FULL has written something. A loop that calls again with the same room of
- * 3 bytes or less may never end.
+ * 3 bytes or less may never end. `recoder->replaced` grows by the number of invalid bytes, or units, for which this call wrote
+ * U+FFFD; a U+FFFD in the input does not count.
  *
  *     do {
  *         status = nody_recoder_feed(&recoder, in + place, len - place, out, sizeof out, &read, &written);
@@ -367,8 +371,8 @@ nody_status_t nody_recoder_feed(nody_recoder_t *recoder, const uint8_t *in, size
 
 /* Puts out what is held, when no more input follows: at most nine bytes. NODY_STATUS_FULL: call this again, and not
  * nody_recoder_feed, with new room; what was written is not held any more. NODY_STATUS_REFUSED: `*written` is 0. Give room for four
- * bytes or more, as for nody_recoder_feed. After NODY_STATUS_DONE the recoder holds nothing, and is as a new one: it may be fed
- * another input. Constant.
+ * bytes or more, as for nody_recoder_feed. `recoder->replaced` grows as there: after NODY_STATUS_DONE it is the number for the
+ * whole input. The recoder then holds nothing and may be fed another input, on which it goes on counting. Constant.
  *
  *     do {
  *         status = nody_recoder_finish(&recoder, out, sizeof out, &written);
@@ -385,8 +389,8 @@ nody_status_t nody_recoder_finish(nody_recoder_t *recoder, uint8_t *out, size_t 
  * the input, do not. NODY_STATUS_DONE: the whole part was read. The last bytes, three at most, are held where it depends on bytes
  * that have not come whether they are a fault, or of which kind: after E9 0A a third byte decides between
  * NODY_KIND_INTERRUPTED_SEQUENCE and NODY_KIND_TOO_FEW_BYTES. NODY_STATUS_FULL and NODY_STATUS_REFUSED are as for
- * nody_recoder_feed; in room for four bytes or more a loop as below ends. This call and nody_recoder_feed may take turns: each
- * goes on from what the recoder holds. Linear.
+ * nody_recoder_feed; in room for four bytes or more a loop as below ends. Nothing is replaced, and `recoder->replaced` stays. This
+ * call and nody_recoder_feed may take turns: each goes on from what the recoder holds. Linear.
  *
  *     do {
  *         status = nody_recoder_feed_strict(&recoder, in + place, len - place, out, sizeof out, &read, &written, &fault);
@@ -409,6 +413,27 @@ nody_status_t nody_recoder_feed_strict(nody_recoder_t *recoder, const uint8_t *i
  *     if (status == NODY_STATUS_FAULT) return report(total - fault.back, nody_kind_sentence(fault.kind));
  */
 nody_status_t nody_recoder_finish_strict(nody_recoder_t *recoder, uint8_t *out, size_t room, size_t *written, nody_fault_t *fault);
+
+/* nody_recoder_feed that writes one U+FFFD for each maximal subpart, as the Unicode standard recommends (chapter 3, "U+FFFD
+ * Substitution of Maximal Subparts"), and as browsers, Python's errors="replace" and Rust's from_utf8_lossy do. A maximal subpart
+ * is the longest start of a valid character where none stands, one to three bytes: E2 82 41 becomes U+FFFD A. Where there is no
+ * such start, it is one byte: E0 80 becomes U+FFFD U+FFFD. Of UTF-16 it is an invalid unit, or a single byte at the end, so both
+ * calls write the same; they also do where the input is valid. `*read`, `*written` and the statuses are as for nody_recoder_feed,
+ * and so is the loop. `recoder->replaced` stays. End the input by nody_recoder_finish_lossy. Linear.
+ *
+ *     nody_recoder_t recoder = nody_recoder(NODY_FORM_UTF8, NODY_FORM_UTF8);
+ *     nody_recoder_feed_lossy(&recoder, (const uint8_t *)"\xe2\x82" "A", 3, out, sizeof out, &read, &written); // 4: EF BF BD 41
+ */
+nody_status_t nody_recoder_feed_lossy(nody_recoder_t *recoder, const uint8_t *in, size_t in_len, uint8_t *out, size_t room,
+                                      size_t *read, size_t *written);
+
+/* nody_recoder_finish after nody_recoder_feed_lossy: bytes of UTF-8 that are held, which are the front of a character, become one
+ * U+FFFD. `*written` and the statuses are as for nody_recoder_finish. `recoder->replaced` stays. Constant.
+ *
+ *     nody_recoder_feed_lossy(&recoder, (const uint8_t *)"\xf0\x9f\x98", 3, out, sizeof out, &read, &written); // 0: they are held
+ *     nody_recoder_finish_lossy(&recoder, out, sizeof out, &written);                                         // 3: EF BF BD
+ */
+nody_status_t nody_recoder_finish_lossy(nody_recoder_t *recoder, uint8_t *out, size_t room, size_t *written);
 
 /* How many bytes the recoder holds, 0 to 3: those of the input that were read and not yet recoded. They are written to `out` if
  * `room` is at least that many. SIZE_MAX where a form is above 2, or the struct holds more than three bytes. Constant.

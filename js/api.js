@@ -136,6 +136,10 @@ export class Recoder {
         this.#state = codec.newRecoder(this.#from, formOf(to));
     }
 
+    get replaced() {
+        return codec.replacedBy(this.#state);
+    }
+
     // Keeps the state after a call, or throws where that met an invalid byte, and then nothing has changed.
     #keep(state, fault) {
         if (fault) throw new InvalidInputError(fault, this.#from, this.#count);

@@ -16,7 +16,9 @@ const PIECE = 16;
 const ROOM = 4096;
 const PART = 65536;
 const PART_ROOM = 4 * PART;
-const RECODER = 6;
+const RECODER = 16;
+// Where its count of replaced bytes stands.
+const REPLACED = 8;
 
 export class Codec {
     constructor(calls) {
@@ -141,6 +143,11 @@ export class Codec {
     newRecoder(from, to) {
         this.calls.nody_recoder(BigInt(this.recoder), from, to);
         return this.memory.slice(this.recoder, this.recoder + RECODER);
+    }
+
+    // How many invalid bytes, or units, a recoder has replaced.
+    replacedBy(state) {
+        return Number(new DataView(state.buffer).getBigUint64(REPLACED, true));
     }
 
     // Feeds bytes to a recoder, and puts what comes of them into `chunks`, up to about so many bytes, or, where it is fatal, up to the

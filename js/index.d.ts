@@ -104,6 +104,11 @@ export class Recoder {
     feed(part: Bytes): Uint8Array;
     /** What the bytes that are still held become: call it once, after the last part. */
     finish(): Uint8Array;
+    /**
+     * How many invalid bytes, or units, were replaced by U+FFFD so far: 0 where `fatal` is true. A U+FFFD in the input does not count.
+     * A number, not a BigInt: exact up to `Number.MAX_SAFE_INTEGER`.
+     */
+    readonly replaced: number;
 }
 
 /** A `Recoder` as a stream, for `body.pipeThrough(..)`. It needs Node 18 or a browser. */

@@ -2,7 +2,7 @@
 import ctypes
 import os
 import sys
-from ctypes import POINTER, byref, c_char, c_char_p, c_size_t, c_uint8, c_uint32, c_void_p
+from ctypes import POINTER, byref, c_char, c_char_p, c_size_t, c_uint8, c_uint32, c_uint64, c_void_p
 
 
 class Piece(ctypes.Structure):
@@ -14,7 +14,7 @@ class Bytes(ctypes.Structure):  # what is left
 
 
 class Recoder(ctypes.Structure):
-    _fields_ = [("source", c_uint8), ("to", c_uint8), ("count", c_uint8), ("held", c_uint8 * 3)]
+    _fields_ = [("source", c_uint8), ("to", c_uint8), ("count", c_uint8), ("held", c_uint8 * 3), ("replaced", c_uint64)]
 
 
 LIBRARY = ctypes.CDLL(os.environ["NODDYCHEST"])

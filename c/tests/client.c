@@ -250,7 +250,7 @@ static void words(void) {
     expect(strcmp(nody_kind_sentence(NODY_KIND_OVERLONG_ENCODING), "overlong encoding: the value has a shorter code") == 0, "a sentence");
     expect(strcmp(nody_kind_sentence(NODY_KIND_NONE), "nothing is left") == 0 && strcmp(nody_kind_sentence(12), "?") == 0, "the last sentence, and none");
     expect(nody_version() == NODY_VERSION && nody_version() == 1000000, "the version");
-    expect(sizeof(nody_piece_t) == 16 && sizeof(nody_recoder_t) == 6 && sizeof(nody_kind_t) == 1 && sizeof(nody_form_t) == 1, "sizes");
+    expect(sizeof(nody_piece_t) == 16 && sizeof(nody_recoder_t) == 16 && sizeof(nody_kind_t) == 1 && sizeof(nody_form_t) == 1, "sizes");
     expect(nody_recoder_feed(&recoder, euro, 2, out, 8, &read, &written) == NODY_STATUS_DONE && read == 2 && written == 0, "a part that waits");
     expect(nody_recoder_held(&recoder, held, 1) == 2 && held[0] == 1, "no room for what is held");
     expect(nody_recoder_held(&recoder, held, 3) == 2 && held[0] == 0xe2 && held[1] == 0x82 && held[2] == 3, "what is held");
@@ -290,6 +290,66 @@ static void strictly(void) {
     expect(nody_recoder_finish_strict(&none, out, 32, &written, &fault) == NODY_STATUS_REFUSED && memcmp(&none, &same, sizeof same) == 0, "it stays");
 }
 
+/* A recoder counts the faults that it replaced, over all calls that replace; by hand, from RFC 3629 and RFC 2781. */
+static void replaced(void) {
+    /* two: E9, which no continuation byte follows, and FF; and then the front of a character */
+    static const uint8_t in[] = {0x63, 0xe9, 0x0a, 0x41, 0xff, 0xe2, 0x82}, mark[] = {0xef, 0xbf, 0xbd}, le[] = {0x00, 0xdc, 0x41, 0x00, 0x3c, 0xd8, 0x21};
+    nody_recoder_t recoder = nody_recoder(NODY_FORM_UTF8, NODY_FORM_UTF8), units = nody_recoder(NODY_FORM_UTF16LE, NODY_FORM_UTF8), none = nody_recoder(3, 0);
+    nody_fault_t fault;
+    uint8_t out[32];
+    size_t read, written;
+    expect(recoder.replaced == 0 && none.replaced == 0, "a new recoder has replaced nothing");
+    expect(nody_recoder_feed(&recoder, in, 2, out, 32, &read, &written) == NODY_STATUS_DONE && written == 1 && recoder.replaced == 0, "what is held is not replaced");
+    expect(nody_recoder_feed(&recoder, in + 2, 5, out, 4, &read, &written) == NODY_STATUS_FULL && written == 4 && recoder.replaced == 1, "E9, and no room");
+    expect(nody_recoder_feed(&recoder, in + 2 + read, 5 - read, out, 32, &read, &written) == NODY_STATUS_DONE && written == 4 && recoder.replaced == 2, "FF too");
+    expect(nody_recoder_finish(&recoder, out, 3, &written) == NODY_STATUS_FULL && written == 3 && recoder.replaced == 3, "one byte of the end");
+    expect(nody_recoder_finish(&recoder, out, 3, &written) == NODY_STATUS_DONE && written == 3 && recoder.replaced == 4, "all of it");
+    expect(nody_recoder_feed(&recoder, mark, 3, out, 32, &read, &written) == NODY_STATUS_DONE && written == 3 && recoder.replaced == 4, "U+FFFD in the input");
+    expect(nody_recoder_feed_strict(&recoder, in + 4, 1, out, 32, &read, &written, &fault) == NODY_STATUS_FAULT && recoder.replaced == 4, "a strict call replaces nothing");
+    expect(nody_recoder_feed_strict(&recoder, in + 5, 1, out, 32, &read, &written, &fault) == NODY_STATUS_DONE && nody_recoder_finish_strict(&recoder, out, 32, &written, &fault) == NODY_STATUS_FAULT && recoder.replaced == 4, "nor at the end");
+    recoder.replaced = UINT64_MAX - 1;
+    expect(nody_recoder_feed(&recoder, in + 4, 1, out, 32, &read, &written) == NODY_STATUS_DONE && recoder.replaced == UINT64_MAX, "the greatest count");
+    expect(nody_recoder_feed(&recoder, in + 4, 1, out, 32, &read, &written) == NODY_STATUS_DONE && written == 3 && recoder.replaced == UINT64_MAX, "which stays");
+    expect(nody_recoder_feed(&units, le, 7, out, 32, &read, &written) == NODY_STATUS_DONE && written == 4 && units.replaced == 1, "a trailing surrogate alone");
+    expect(nody_recoder_finish(&units, out, 32, &written) == NODY_STATUS_DONE && written == 6 && units.replaced == 3, "a leading surrogate alone at the end, and half a unit");
+    none.replaced = 7;
+    expect(nody_recoder_feed(&none, in, 7, out, 32, &read, &written) == NODY_STATUS_REFUSED && nody_recoder_finish(&none, out, 32, &written) == NODY_STATUS_REFUSED && none.replaced == 7, "no recoder counts nothing");
+}
+
+/* One U+FFFD for each maximal subpart: what Python's bytes.decode("utf-8", "replace") gives for the same bytes, cut at each place. */
+static void lossy(void) {
+    static const struct {
+        const char *in, *want;
+    } cases[] = {
+        {"A\xe2\x82" "A", "A\xef\xbf\xbd" "A"},
+        {"\xe0\x80", "\xef\xbf\xbd\xef\xbf\xbd"},
+        {"\xf0\x9f\x98", "\xef\xbf\xbd"},
+        {"\xed\xa0\x80\xff\xf4\x90", "\xef\xbf\xbd\xef\xbf\xbd\xef\xbf\xbd\xef\xbf\xbd\xef\xbf\xbd\xef\xbf\xbd"},
+        {"a\xf1\x80\x80" "b\xc0\xaf" "c", "a\xef\xbf\xbd" "b\xef\xbf\xbd\xef\xbf\xbd" "c"},
+        {"\xe2\x82\xac\xf0\x9f\x82\xa0", "\xe2\x82\xac\xf0\x9f\x82\xa0"},
+    };
+    nody_recoder_t none = nody_recoder(3, 0), small = nody_recoder(NODY_FORM_UTF8, NODY_FORM_UTF8), units = nody_recoder(NODY_FORM_UTF16LE, NODY_FORM_UTF8);
+    static const uint8_t le[] = {0x00, 0xdc, 0x41, 0x00, 0x3c, 0xd8, 0x21};
+    uint8_t out[32];
+    size_t read, written, more, last;
+    for (size_t i = 0; i < sizeof cases / sizeof *cases; i++) {
+        const uint8_t *in = (const uint8_t *)cases[i].in;
+        size_t len = strlen(cases[i].in), need = strlen(cases[i].want);
+        for (size_t at = 0; at <= len; at++) {
+            nody_recoder_t recoder = nody_recoder(NODY_FORM_UTF8, NODY_FORM_UTF8);
+            expect(nody_recoder_feed_lossy(&recoder, in, at, out, 32, &read, &written) == NODY_STATUS_DONE && read == at, "a part, lossily");
+            expect(nody_recoder_feed_lossy(&recoder, in + at, len - at, out + written, 32 - written, &read, &more) == NODY_STATUS_DONE && read == len - at, "the rest, lossily");
+            expect(nody_recoder_finish_lossy(&recoder, out + written + more, 32 - written - more, &last) == NODY_STATUS_DONE, "the end, lossily");
+            expect(written + more + last == need && memcmp(out, cases[i].want, need) == 0 && recoder.replaced == 0 && recoder.count == 0, "one U+FFFD for each maximal subpart");
+        }
+    }
+    expect(nody_recoder_feed_lossy(&small, (const uint8_t *)"\xe2\x82" "A", 3, out, 3, &read, &written) == NODY_STATUS_FULL && written == 3, "no room for the A");
+    expect(nody_recoder_feed_lossy(&small, (const uint8_t *)"\xe2\x82" "A" + read, 3 - read, out, 1, &read, &written) == NODY_STATUS_DONE && written == 1 && out[0] == 'A', "room for it");
+    expect(nody_recoder_feed_lossy(&small, (const uint8_t *)"\xe2\x82", 2, out, 0, &read, &written) == NODY_STATUS_DONE && read == 2 && nody_recoder_finish_lossy(&small, out, 2, &written) == NODY_STATUS_FULL && written == 0 && small.count == 2, "no room for the end");
+    expect(nody_recoder_feed_lossy(&units, le, 7, out, 32, &read, &written) == NODY_STATUS_DONE && written == 4 && nody_recoder_finish_lossy(&units, out, 32, &written) == NODY_STATUS_DONE && written == 6 && units.replaced == 0, "of UTF-16 as nody_recoder_feed");
+    expect(nody_recoder_feed_lossy(&none, le, 7, out, 32, &read, &written) == NODY_STATUS_REFUSED && read == 0 && written == 0 && nody_recoder_finish_lossy(&none, out, 32, &written) == NODY_STATUS_REFUSED, "no recoder, lossily");
+}
+
 /* Recodes the same bytes again and again, and answers how often the output was wrong. */
 static void *of_a_thread(void *wrong) {
     static const uint8_t in[] = {0x41, 0xf0, 0x9f, 0x82, 0xa0, 0xe0, 0x80}, want[] = {0, 0x41, 0xd8, 0x3c, 0xdc, 0xa0, 0xff, 0xfd, 0xff, 0xfd};
@@ -315,6 +375,8 @@ int main(int argc, char **argv) {
     boundaries();
     words();
     strictly();
+    replaced();
+    lossy();
     vectors();
     random_cases(argc > 1 ? strtoul(argv[1], NULL, 10) : 1000);
     if (argc == 2) {

@@ -1,8 +1,9 @@
 /* Holds the library against a decoder that is written here from the grammar of RFC 3629, section 4, and from RFC 2781, section 2.2,
  * and shares nothing with it: edges COUNT. Each buffer lies between two pages that must not be touched, once at the end of the
  * first and once at the front of the other. Every input is recoded with each room of 0 to 14 bytes and each split into two parts,
- * with U+FFFD for faults, and strictly, where each fault has to come at its place and with its kind: all inputs of up to three bytes of those that the grammar names, and then COUNT random ones. Of each first part a recoder holds the
- * front of a code alone. Structs of random bytes are refused, or recode within bounds. Prints what failed, and then
+ * with U+FFFD for faults, which are counted, with one for each maximal subpart (the Unicode standard, D93b), and strictly, where
+ * each fault has to come at its place and with its kind: all inputs of up to three bytes of those that the grammar names, and then
+ * COUNT random ones. Of each first part a recoder holds the front of a code alone. Structs of random bytes are refused, or recode within bounds. Prints what failed, and then
  * `N passed, M failed`. */
 #define _DEFAULT_SOURCE
 #include "noddychest.h"
@@ -175,8 +176,20 @@ static void say(nody_form_t from, nody_form_t to, const uint8_t *in, size_t len)
     for (size_t i = 0; i < len; i++) n += sprintf(shown + n, " %02x", in[i]);
 }
 
-/* Feeds the two parts into room after room. A room of less than four bytes that cannot make progress is made one of fourteen. */
-static int is_recoded_in(nody_form_t from, nody_form_t to, const uint8_t *in, size_t len, size_t split, size_t room, const uint8_t *want, size_t need) {
+/* How many of the pieces that became so many bytes are faults, or SIZE_MAX where no pieces did. */
+static size_t replaced_in(nody_form_t to, const cut_text *pieces, size_t made) {
+    size_t len = 0, count = 0;
+    for (size_t i = 0; i < pieces->count && len < made; i++) {
+        uint8_t code[4];
+        len += put(to, pieces->piece[i].scalar, code);
+        count += (size_t)pieces->piece[i].is_fault;
+    }
+    return len == made ? count : SIZE_MAX;
+}
+
+/* Feeds the two parts into room after room. A room of less than four bytes that cannot make progress is made one of fourteen. After
+ * each call the recoder has counted the faults of which something was written. */
+static int is_recoded_in(nody_form_t from, nody_form_t to, const uint8_t *in, size_t len, size_t split, size_t room, const cut_text *pieces, const uint8_t *want, size_t need) {
     nody_recoder_t recoder = nody_recoder(from, to);
     size_t place = 0, made = 0, end = split;
     for (int calls = 0; calls < 200; calls++) {
@@ -189,6 +202,7 @@ static int is_recoded_in(nody_form_t from, nody_form_t to, const uint8_t *in, si
         if (memcmp(out, want + made, written) != 0) return 0;
         made += written;
         place += read;
+        if (recoder.replaced != replaced_in(to, pieces, made)) return 0;
         if (status == NODY_STATUS_DONE && is_last) return made == need && nody_recoder_held(&recoder, NULL, 0) == 0;
         if (status == NODY_STATUS_DONE && place != end) return 0;
         if (status == NODY_STATUS_DONE) end = len;
@@ -198,6 +212,60 @@ static int is_recoded_in(nody_form_t from, nody_form_t to, const uint8_t *in, si
         }
     }
     return 0;
+}
+
+/* How many bytes the maximal subpart has that begins the bytes, where no character does: the longest front of a code, or one. */
+static size_t subpart_len(nody_form_t form, const uint8_t *b, size_t len) {
+    if (form != NODY_FORM_UTF8) return len < 2 ? 1 : 2;
+    for (size_t n = len < 3 ? len : 3; n > 1; n--)
+        if (is_open(form, b, n)) return n;
+    return 1;
+}
+
+/* What the bytes become in another form with one U+FFFD for each maximal subpart; answers how many bytes that is. */
+static size_t lossy_of(nody_form_t from, nody_form_t to, const uint8_t *in, size_t len, const cut_text *pieces, uint8_t *out) {
+    size_t made = 0, at = 0;
+    for (size_t i = 0; i < pieces->count; i++) {
+        const cut_piece *it = &pieces->piece[i];
+        if (it->start < at) continue;
+        made += put(to, it->scalar, out + made);
+        at = it->start + (it->is_fault ? subpart_len(from, in + it->start, len - it->start) : it->len);
+    }
+    return made;
+}
+
+/* The same as is_recoded_in, by the lossy calls, which count nothing. */
+static int is_lossy_in(nody_form_t from, nody_form_t to, const uint8_t *in, size_t len, size_t split, size_t room, const uint8_t *want, size_t need) {
+    nody_recoder_t recoder = nody_recoder(from, to);
+    size_t place = 0, made = 0, end = split;
+    for (int calls = 0; calls < 200; calls++) {
+        uint8_t *out = fenced_bytes(out_fence, room, at_end);
+        size_t read = 0, written = 0;
+        int is_last = place == len && end == len;
+        nody_status_t status = is_last ? nody_recoder_finish_lossy(&recoder, out, room, &written)
+                                       : nody_recoder_feed_lossy(&recoder, in + place, end - place, out, room, &read, &written);
+        if (status == NODY_STATUS_REFUSED || written > room || read > end - place || made + written > need) return 0;
+        if (memcmp(out, want + made, written) != 0 || recoder.replaced != 0) return 0;
+        made += written;
+        place += read;
+        if (status == NODY_STATUS_DONE && is_last) return made == need && nody_recoder_held(&recoder, NULL, 0) == 0;
+        if (status == NODY_STATUS_DONE && place != end) return 0;
+        if (status == NODY_STATUS_DONE) end = len;
+        if (status == NODY_STATUS_FULL && read + written == 0) {
+            if (room >= 4) return 0;
+            room = ROOMS - 1;
+        }
+    }
+    return 0;
+}
+
+static int are_lossy(nody_form_t from, nody_form_t to, const uint8_t *in, size_t len, const cut_text *pieces) {
+    uint8_t want[MADE];
+    size_t need = lossy_of(from, to, in, len, pieces, want);
+    for (size_t room = 0; room < ROOMS; room++)
+        for (size_t split = 0; split <= len; split++)
+            if (!is_lossy_in(from, to, in, len, split, room, want, need)) return 0;
+    return 1;
 }
 
 /* Where there is room, what is held of the bytes are those at the end that wait for others, and no more. */
@@ -262,7 +330,7 @@ static int is_strict_in(nody_form_t from, nody_form_t to, const uint8_t *in, siz
             next = next_fault(pieces, next + 1);
             continue;
         }
-        if (!is_no_fault(&fault)) return 0;
+        if (!is_no_fault(&fault) || recoder.replaced != 0) return 0;
         if (status == NODY_STATUS_DONE && is_last) return next == pieces->count && made == want->at[next] && nody_recoder_held(&recoder, NULL, 0) == 0;
         if (status == NODY_STATUS_DONE && place != end) return 0;
         if (status == NODY_STATUS_DONE) end = len;
@@ -327,12 +395,13 @@ static void recodings(nody_form_t from, const uint8_t *in, size_t len, const cut
         for (size_t i = 0; i < pieces->count; i++) need += put(to, pieces->piece[i].scalar, want + need);
         for (size_t room = 0; room < ROOMS; room++) {
             holds = holds && is_recoded_at_once(from, to, in, len, room, want, need);
-            for (size_t split = 0; split <= len; split++) holds = holds && is_recoded_in(from, to, in, len, split, room, want, need);
+            for (size_t split = 0; split <= len; split++) holds = holds && is_recoded_in(from, to, in, len, split, room, pieces, want, need);
         }
         for (size_t split = 0; split <= len; split++) holds = holds && is_held(from, to, in, split);
         say(from, to, in, len);
         expect(holds && nody_recoded_len(from, to, in, len) == need && need <= nody_recoded_len_max(from, to, len), "recoded", shown);
         expect(are_strict(from, to, in, len, pieces), "recoded strictly", shown);
+        expect(are_lossy(from, to, in, len, pieces), "recoded lossily", shown);
     }
 }
 

@@ -19,6 +19,7 @@ struct Recoder {
     to: u8,
     count: u8,
     held: [u8; 3],
+    replaced: u64,
 }
 
 // `c/noddychest.h` has them.

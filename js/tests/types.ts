@@ -14,9 +14,10 @@ const encoding: Encoding = "utf-16le";
 const made: Uint8Array = recode(bytes, "utf-8", encoding);
 const recoder = new Recoder("utf-16be", "utf-8");
 const parts: Uint8Array[] = [recoder.feed(made), recoder.finish()];
+const replaced: number = recoder.replaced;
 const decoder = new Decoder(bytes);
 const left: [Piece | null, Piece | null, Uint8Array] = [decoder.next(), decoder.nextBack(), decoder.remaining];
-console.log(back, name, parts, left, isValid(bytes), recoderStream("utf-8", "utf-8").readable);
+console.log(back, name, parts, replaced, left, isValid(bytes), recoderStream("utf-8", "utf-8").readable);
 const strict = new Recoder("utf-8", "utf-16le", { fatal: true });
 try {
     console.log(strict.feed(bytes), recode(bytes, "utf-8", "utf-8", { fatal: true }), recoderStream("utf-8", "utf-8", { fatal: true }));

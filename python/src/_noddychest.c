@@ -348,8 +348,7 @@ static PyObject *recode(PyObject *module, PyObject *args) {
 typedef struct {
     PyObject_HEAD
     nody_recoder_t recoder;
-    Py_ssize_t fed;    /* bytes that were fed */
-    Py_ssize_t faults; /* that were replaced */
+    Py_ssize_t fed; /* bytes that were fed */
 } Recoder;
 
 static PyObject *recoder_new(PyTypeObject *type, PyObject *args, PyObject *names) {
@@ -371,38 +370,6 @@ static void plain_dealloc(PyObject *self) {
     Py_DECREF(type);
 }
 
-/* How many faults are among those bytes that a recoder has decided: those that it held and the part, without those that it holds now.
- * What was held is judged with the few bytes of the part after it, and the rest where it lies. */
-static Py_ssize_t faults_of(const nody_recoder_t *before, const uint8_t *part, size_t len, size_t decided) {
-    Py_ssize_t found = 0;
-    uint8_t joint[3 + 8];
-    nody_form_t form = before->from;
-    size_t count = before->count, near = len < 8 ? len : 8, at = 0;
-    memcpy(joint, before->held, count);
-    if (near)
-        memcpy(joint + count, part, near);
-    while (at < count && at < decided) {
-        size_t left = count + near - at, valid = valid_up_to(form, joint + at, left);
-        if (valid == 0) {
-            found++;
-            at += fault_len(form, left);
-        } else { /* a character: it ends what is held */
-            size_t code = 1;
-            while (code < valid && held(form, joint + at, code))
-                code++;
-            at += code;
-        }
-    }
-    while (at < decided) {
-        at += valid_up_to(form, part + (at - count), count + len - at);
-        if (at < decided) {
-            found++;
-            at += fault_len(form, count + len - at);
-        }
-    }
-    return found;
-}
-
 /* step(data, finish, strict): the bytes that come of it; where faults are refused and there is one, its offset, length and kind, what
  * was held before, and its place counted from there; nothing changes then. */
 static PyObject *recoder_step(PyObject *object, PyObject *args) {
@@ -422,8 +389,6 @@ static PyObject *recoder_step(PyObject *object, PyObject *args) {
         made = Py_BuildValue("nnIy#n", self->fed - before.count + (Py_ssize_t)place, (Py_ssize_t)fault.len, (unsigned)fault.kind,
                              (const char *)before.held, (Py_ssize_t)before.count, (Py_ssize_t)place);
     } else if (made != NULL) {
-        if (!strict)
-            self->faults += faults_of(&before, view.buf, (size_t)view.len, before.count + (size_t)view.len - after.count);
         self->recoder = after;
         self->fed += view.len;
     }
@@ -433,7 +398,7 @@ static PyObject *recoder_step(PyObject *object, PyObject *args) {
 
 static PyObject *recoder_faults(PyObject *self, void *closure) {
     (void)closure;
-    return PyLong_FromSsize_t(((Recoder *)self)->faults);
+    return PyLong_FromUnsignedLongLong(((Recoder *)self)->recoder.replaced);
 }
 
 static PyObject *recoder_held(PyObject *self, void *closure) {

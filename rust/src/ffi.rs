@@ -17,6 +17,7 @@ pub(crate) struct Recoder {
     pub to: u8,
     pub count: u8,
     pub held: [u8; 3],
+    pub replaced: u64,
 }
 
 #[repr(C)]

@@ -216,6 +216,23 @@ impl Recoder {
         &self.raw.held[..usize::from(self.raw.count)]
     }
 
+    /// How many invalid bytes (of UTF-16 units) it has replaced by U+FFFD so far. A U+FFFD in the text does not count, and a strict
+    /// recoder replaces none. After [`finish`](Recoder::finish) is done, it is the number for the whole text.
+    ///
+    /// ```
+    /// use noddychest::{Form, Recoder};
+    /// let (mut recoder, mut room) = (Recoder::new(Form::Utf8, Form::Utf8), [0; 16]);
+    /// let _ = recoder.feed("a\u{FFFD}".as_bytes(), &mut room);
+    /// assert_eq!(recoder.replaced(), 0);
+    /// let _ = recoder.feed(b"\xFF\xE2\x82", &mut room);
+    /// assert_eq!(recoder.replaced(), 1);
+    /// let _ = recoder.finish(&mut room);
+    /// assert_eq!(recoder.replaced(), 3);
+    /// ```
+    pub fn replaced(&self) -> u64 {
+        self.raw.replaced
+    }
+
     /// Feeds a part of the text, as far as there is room. In room for four bytes each call with a part that is not empty reads or
     /// writes something; an empty part is [`Status::Done`] or writes what is held.
     ///

@@ -68,7 +68,7 @@ fn structs_are_those_of_the_header() {
     let header = header();
     for it in [
         "typedef struct { size_t len; uint32_t scalar; nody_kind_t kind; } nody_piece_t;",
-        "typedef struct { nody_form_t from; nody_form_t to; uint8_t count; uint8_t held[3]; } nody_recoder_t;",
+        "typedef struct { nody_form_t from; nody_form_t to; uint8_t count; uint8_t held[3]; uint64_t replaced; } nody_recoder_t;",
         "typedef struct { size_t len; size_t back; nody_kind_t kind; } nody_fault_t;",
         "typedef struct { char text[32]; } nody_name_t;",
     ] {

@@ -1,3 +1,4 @@
+pub mod Counted
 pub mod Each
 pub mod Merged
 pub mod WholeRuns

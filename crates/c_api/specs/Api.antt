@@ -1,5 +1,5 @@
 -- What C sees: numbers of kinds and forms, pieces, what is left, and recoders.
-use Rattle.std.specs.Prelude.{◌≡◌, ℕ, true, false, zero, suc, ◌-◌, ◌<◌, ◌≤◌, List, [], ◌∷◌, length, take, drop, set, get_or, All, Result, Ok, Err, ◌++◌, codes, replicate}
+use Rattle.std.specs.Prelude.{◌≡◌, ℕ, true, false, zero, suc, ◌+◌, ◌-◌, ◌^◌, ◌<◌, ◌≤◌, min, List, [], ◌∷◌, length, take, drop, set, get_or, All, Result, Ok, Err, ◌++◌, codes, replicate}
 use Rattle.utf_base.specs.declared.errors.Utf8ErrorKind.{Utf8ErrorKind}
 use Rattle.utf_base.specs.declared.errors.Utf8ErrorKind.TheVariants.{TooFewBytes, NonUtf8Byte, UnexpectedContinuationByte, InterruptedSequence, OverlongEncoding, Utf16ReservedCodepoint, TooHighCodepoint}
 use Rattle.utf_base.specs.declared.errors.units.Utf16PairError.{Utf16PairError}
@@ -19,6 +19,7 @@ use Rattle.cuts.specs.declared.Outcome.{Outcome}
 use Rattle.cuts.specs.declared.Outcome.TheVariants.{AllRead, Full, Faulty}
 use Rattle.cuts.specs.declared.StrictProgress.{StrictProgress}
 use Rattle.cuts.specs.Recoded.{Recoding}
+use Rattle.cuts.specs.Faults.{Replaces, ReplacesLast}
 use Rattle.cuts.specs.WellFormed.{IsFirstFault, IsFirstUnitFault}
 use Rattle.c_api.specs.declared.cursors.NodyPiece.{NodyPiece}
 use Rattle.c_api.specs.declared.recodings.NodyRecoder.{NodyRecoder}
@@ -123,9 +124,17 @@ pub record IsRecoder (r : NodyRecoder) : Type 0 where
   pub to : r.to < 3
   pub few : r.count ≤ 3
 
--- the recoder that it is
+-- the recoder that it is; what it has replaced is counted in the struct alone
 abbrev pub recoder_of : NodyRecoder → Recoding
 recoder_of r = record { from = form_of r.from; to = form_of r.to; held = take r.count r.held; replaced = 0 }
+
+-- A part was fed and so many faults were replaced, which are added to those before, as far as 64 bits count.
+abbrev pub CountsPart : NodyRecoder → List ℕ → NodyRecoder → Type 0
+CountsPart r part s = (n : ℕ) × Replaces (recoder_of r) part n (recoder_of s) × (s.replaced ≡ min (2 ^ 64 - 1) (r.replaced + n))
+
+-- The same of the end.
+abbrev pub CountsEnd : NodyRecoder → NodyRecoder → Type 0
+CountsEnd r s = (n : ℕ) × ReplacesLast (recoder_of r) n (recoder_of s) × (s.replaced ≡ min (2 ^ 64 - 1) (r.replaced + n))
 
 -- what C sees of how a strict call ended: a status, and the fault, if it ended at one
 abbrev pub no_fault : NodyFault

@@ -9,6 +9,7 @@ mod characters;
 mod counts;
 mod cursors;
 mod kinds;
+mod lossy;
 mod recodings;
 mod shards;
 mod strict;

@@ -1,8 +1,8 @@
 //! Recoding into room of the caller's.
-ghost use Rattle.std.specs.Prelude.{◌≡◌, true, [], ◌∷◌, ◌+◌, ◌-◌, ◌<◌, ◌≤◌, ◌^◌, ◌++◌, length, take, drop, IfSome};
+ghost use Rattle.std.specs.Prelude.{◌≡◌, true, [], ◌∷◌, ◌+◌, ◌-◌, ◌<◌, ◌≤◌, ◌^◌, ◌++◌, length, take, drop, min, IfSome};
 ghost use Rattle.cuts.specs.Recoded.{Lacks};
 ghost use Rattle.cuts.specs.Rooms.{FeedsInto, FinishesInto, IsFull, IsLastFull, most_bytes};
-ghost use Rattle.c_api.specs.Api.{form_of, IsRecoder, recoder_of};
+ghost use Rattle.c_api.specs.Api.{form_of, IsRecoder, recoder_of, CountsPart, CountsEnd};
 
 use cuts::{Form, Recoder, room_for};
 
@@ -18,6 +18,8 @@ pub struct NodyRecoder {
     pub count: u8,
     /// The bytes that are held, and others after them.
     pub held: [u8; 3],
+    /// How many faults the calls that replace them have replaced.
+    pub replaced: u64,
 }
 
 // What calls answer: all was done, there was no room for the next code, or the arguments are wrong.
@@ -47,16 +49,17 @@ pub(crate) fn is_recoder(recoder: &NodyRecoder) -> bool
     recoder.from < 3 && recoder.to < 3 && recoder.count <= 3
 }
 
-/// A recoder that holds nothing.
+/// A recoder that holds nothing and has replaced nothing.
 #[unsafe(no_mangle)]
 pub extern "C" fn nody_recoder(from: u8, to: u8) -> NodyRecoder
-    ensures { result ≡ record { from = from; to = to; count = 0; held = 0 ∷ 0 ∷ 0 ∷ [] } }
+    ensures { result ≡ record { from = from; to = to; count = 0; held = 0 ∷ 0 ∷ 0 ∷ []; replaced = 0 } }
 {
     NodyRecoder {
         from,
         to,
         count: 0,
         held: [0; 3],
+        replaced: 0,
     }
 }
 
@@ -72,12 +75,13 @@ pub(crate) fn opened(recoder: &NodyRecoder) -> Recoder
     )
 }
 
-// Puts into the struct what the recoder holds.
+// Puts into the struct what the recoder holds. What it has replaced is not added.
 pub(crate) fn keep(recoder: &mut NodyRecoder, inner: &Recoder)
     requires from { inner.now.from ≡ form_of recoder.old.from }
     requires to { inner.now.to ≡ form_of recoder.old.to }
     ensures kept { recoder_of recoder.new ≡ record (inner.now) { replaced = 0 } }
     ensures count { recoder.new.count ≡ length inner.now.held }
+    ensures uncounted { recoder.new.replaced ≡ recoder.old.replaced }
     ensures is_recoder { IsRecoder recoder.old → IsRecoder recoder.new }
 {
     let held = inner.held();
@@ -85,7 +89,14 @@ pub(crate) fn keep(recoder: &mut NodyRecoder, inner: &Recoder)
     recoder.held[..held.len()].copy_from_slice(held);
 }
 
-/// Feeds a part, as far as there is room, and answers 0 where all of it was read, 1 where the next code does not fit,
+// The count with so many more, as far as 64 bits count.
+fn with_more(count: u64, more: usize) -> u64
+    ensures { result ≡ min (2 ^ 64 - 1) (count + more) }
+{
+    count.saturating_add(more as u64)
+}
+
+/// Feeds a part, as far as there is room, adds how many faults it replaced, and answers 0 where all of it was read, 1 where the next code does not fit,
 /// and 2, with nothing changed, where the struct is no recoder.
 #[unsafe(no_mangle)]
 pub extern "C" fn nody_recoder_feed(
@@ -102,6 +113,7 @@ pub extern "C" fn nody_recoder_feed(
     ensures full { IsRecoder recoder.old → result ≡ 1 → IsFull (recoder_of recoder.new) (take recoder.new.count recoder.new.held ++ drop read.new part.now) (length room.old - written.new) }
     ensures short { IsRecoder recoder.old → result ≡ 1 → length room.old < written.new + 4 }
     ensures status { IsRecoder recoder.old → result < 2 }
+    ensures counts { IsRecoder recoder.old → CountsPart recoder.old (take read.new part.now) recoder.new }
     ensures refused { result ≡ 2 → (recoder.new ≡ recoder.old) × (room.new ≡ room.old) }
     ensures none { result ≡ 2 → (read.new ≡ 0) × (written.new ≡ 0) }
     ensures wrong { ¬ IsRecoder recoder.old → result ≡ 2 }
@@ -114,12 +126,13 @@ pub extern "C" fn nody_recoder_feed(
     let mut inner = opened(recoder);
     let progress = inner.feed_into(part, room);
     keep(recoder, &inner);
+    recoder.replaced = with_more(recoder.replaced, progress.replaced);
     *read = progress.read;
     *written = progress.written;
     if progress.is_full { FULL } else { DONE }
 }
 
-/// Puts out what is held, which nothing follows, as far as there is room, and answers 0 where nothing is held any more,
+/// Puts out what is held, which nothing follows, as far as there is room, adds how many faults it replaced, and answers 0 where nothing is held any more,
 /// 1 where the next code does not fit, and 2, with nothing changed, where the struct is no recoder.
 #[unsafe(no_mangle)]
 pub extern "C" fn nody_recoder_finish(
@@ -133,6 +146,7 @@ pub extern "C" fn nody_recoder_finish(
     ensures full { IsRecoder recoder.old → result ≡ 1 → IsLastFull (recoder_of recoder.new) (take recoder.new.count recoder.new.held) (length room.old - written.new) }
     ensures short { IsRecoder recoder.old → result ≡ 1 → length room.old < written.new + 4 }
     ensures status { IsRecoder recoder.old → result < 2 }
+    ensures counts { IsRecoder recoder.old → CountsEnd recoder.old recoder.new }
     ensures refused { result ≡ 2 → (recoder.new ≡ recoder.old) × (room.new ≡ room.old) }
     ensures none { result ≡ 2 → written.new ≡ 0 }
     ensures wrong { ¬ IsRecoder recoder.old → result ≡ 2 }
@@ -144,6 +158,7 @@ pub extern "C" fn nody_recoder_finish(
     let mut inner = opened(recoder);
     let progress = inner.finish_into(room);
     keep(recoder, &inner);
+    recoder.replaced = with_more(recoder.replaced, progress.replaced);
     *written = progress.written;
     if progress.is_full { FULL } else { DONE }
 }

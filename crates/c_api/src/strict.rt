@@ -69,6 +69,7 @@ pub extern "C" fn nody_recoder_feed_strict(
     ensures short { IsRecoder recoder.old → result ≡ 1 → length room.old < written.new + 4 }
     ensures enough { IsRecoder recoder.old → 3 * (recoder.old.count + length part.now) ≤ length room.old → result ≢ 1 }
     ensures nearer { IsRecoder recoder.old → ComesNearer part.now room.old read.new (recoder_of recoder.old) (recoder_of recoder.new) }
+    ensures uncounted { recoder.new.replaced ≡ recoder.old.replaced }
     ensures refused { result ≡ 2 → (recoder.new ≡ recoder.old) × (room.new ≡ room.old) }
     ensures none { result ≡ 2 → (read.new ≡ 0) × (written.new ≡ 0) × (fault.new ≡ no_fault) }
     ensures is_one { IsRecoder recoder.old → result ≢ 2 }
@@ -105,6 +106,7 @@ pub extern "C" fn nody_recoder_finish_strict(
     ensures all { IsRecoder recoder.old → result ≡ 0 → recoder.new.count ≡ 0 }
     ensures short { IsRecoder recoder.old → result ≡ 1 → length room.old < written.new + 4 }
     ensures enough { IsRecoder recoder.old → 3 * recoder.old.count ≤ length room.old → result ≢ 1 }
+    ensures uncounted { recoder.new.replaced ≡ recoder.old.replaced }
     ensures refused { result ≡ 2 → (recoder.new ≡ recoder.old) × (room.new ≡ room.old) }
     ensures none { result ≡ 2 → (written.new ≡ 0) × (fault.new ≡ no_fault) }
     ensures is_one { IsRecoder recoder.old → result ≢ 2 }

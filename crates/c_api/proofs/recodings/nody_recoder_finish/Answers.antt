@@ -1,6 +1,7 @@
-use Rattle.std.proofs.Common.{subst}
+use Rattle.std.proofs.Common.{arith, subst}
 use Rattle.cuts.specs.Rooms.{FinishesInto}
 use Rattle.recoding.proofs.RoomLemmas.{FinishesInto-counted}
+use Rattle.c_api.proofs.Counted.{end_counted}
 use Rattle.c_api.specs.Api.{recoder_of}
 use Rattle.c_api.proofs.recodings.nody_recoder_finish.Goals as goal
 
@@ -15,3 +16,15 @@ returns-else-progress-clause-finishes c is =
     let run = c.finish_into-progress in
     FinishesInto-counted (recoder_of c.args.recoder.now) run.new.self _ c.args.room.now run.new.room run.result.written
     (subst (λ r. FinishesInto r c.args.room.now run.new.room run.result.written run.new.self) c.opened-inner.ensures run.ensures.finishes) c.keep.ensures.kept
+
+pub returns-then-progress-clause-counts : goal.returns-then-progress-clause-counts
+returns-then-progress-clause-counts c is =
+    let run = c.finish_into-progress in
+    end_counted c.args.recoder.now c.keep.new.recoder c.opened-inner.result run.new.self run.result.replaced _ c.opened-inner.ensures c.keep.ensures.kept
+    (omega (arith, c.with_more-recoder.ensures, c.keep.ensures.uncounted)) run.ensures.replaces
+
+pub returns-else-progress-clause-counts : goal.returns-else-progress-clause-counts
+returns-else-progress-clause-counts c is =
+    let run = c.finish_into-progress in
+    end_counted c.args.recoder.now c.keep.new.recoder c.opened-inner.result run.new.self run.result.replaced _ c.opened-inner.ensures c.keep.ensures.kept
+    (omega (arith, c.with_more-recoder.ensures, c.keep.ensures.uncounted)) run.ensures.replaces

@@ -1,0 +1,70 @@
+//! Recoding into room of the caller's, with one U+FFFD for each maximal subpart.
+ghost use Rattle.std.specs.Prelude.{◌≡◌, ◌+◌, ◌-◌, ◌<◌, ◌++◌, length, take, drop};
+ghost use Rattle.cuts.specs.Recoded.{Lacks};
+ghost use Rattle.cuts.specs.LossyBytes.{FeedsLossy, FinishesLossy, IsFullLossy, IsLastFullLossy};
+ghost use Rattle.c_api.specs.Api.{form_of, IsRecoder, recoder_of};
+
+use crate::recodings::{DONE, FULL, NodyRecoder, REFUSED, is_recoder, keep, opened};
+
+/// `nody_recoder_feed` that writes one U+FFFD for each maximal subpart, and counts none.
+#[unsafe(no_mangle)]
+pub extern "C" fn nody_recoder_feed_lossy(
+    recoder: &mut NodyRecoder,
+    part: &[u8],
+    room: &mut [u8],
+    read: &mut usize,
+    written: &mut usize,
+) -> u8
+    ensures recoder { IsRecoder recoder.old → IsRecoder recoder.new }
+    ensures feeds { IsRecoder recoder.old → FeedsLossy (recoder_of recoder.old) part.now room.old room.new read.new written.new (recoder_of recoder.new) }
+    ensures all { IsRecoder recoder.old → result ≡ 0 → read.new ≡ length part.now }
+    ensures waits { IsRecoder recoder.old → result ≡ 0 → Lacks (form_of recoder.old.from) (take recoder.new.count recoder.new.held) }
+    ensures full { IsRecoder recoder.old → result ≡ 1 → IsFullLossy (recoder_of recoder.new) (take recoder.new.count recoder.new.held ++ drop read.new part.now) (length room.old - written.new) }
+    ensures short { IsRecoder recoder.old → result ≡ 1 → length room.old < written.new + 4 }
+    ensures status { IsRecoder recoder.old → result < 2 }
+    ensures uncounted { recoder.new.replaced ≡ recoder.old.replaced }
+    ensures refused { result ≡ 2 → (recoder.new ≡ recoder.old) × (room.new ≡ room.old) }
+    ensures none { result ≡ 2 → (read.new ≡ 0) × (written.new ≡ 0) }
+    ensures wrong { ¬ IsRecoder recoder.old → result ≡ 2 }
+{
+    *read = 0;
+    *written = 0;
+    if !is_recoder(recoder) {
+        return REFUSED;
+    }
+    let mut inner = opened(recoder);
+    let progress = inner.feed_lossy_into(part, room);
+    keep(recoder, &inner);
+    *read = progress.read;
+    *written = progress.written;
+    if progress.is_full { FULL } else { DONE }
+}
+
+/// `nody_recoder_finish` of a recoder that was fed lossily: the front of a character that is held becomes one U+FFFD.
+#[unsafe(no_mangle)]
+pub extern "C" fn nody_recoder_finish_lossy(
+    recoder: &mut NodyRecoder,
+    room: &mut [u8],
+    written: &mut usize,
+) -> u8
+    ensures recoder { IsRecoder recoder.old → IsRecoder recoder.new }
+    ensures finishes { IsRecoder recoder.old → FinishesLossy (recoder_of recoder.old) room.old room.new written.new (recoder_of recoder.new) }
+    ensures all { IsRecoder recoder.old → result ≡ 0 → recoder.new.count ≡ 0 }
+    ensures full { IsRecoder recoder.old → result ≡ 1 → IsLastFullLossy (recoder_of recoder.new) (take recoder.new.count recoder.new.held) (length room.old - written.new) }
+    ensures short { IsRecoder recoder.old → result ≡ 1 → length room.old < written.new + 4 }
+    ensures status { IsRecoder recoder.old → result < 2 }
+    ensures uncounted { recoder.new.replaced ≡ recoder.old.replaced }
+    ensures refused { result ≡ 2 → (recoder.new ≡ recoder.old) × (room.new ≡ room.old) }
+    ensures none { result ≡ 2 → written.new ≡ 0 }
+    ensures wrong { ¬ IsRecoder recoder.old → result ≡ 2 }
+{
+    *written = 0;
+    if !is_recoder(recoder) {
+        return REFUSED;
+    }
+    let mut inner = opened(recoder);
+    let progress = inner.finish_lossy_into(room);
+    keep(recoder, &inner);
+    *written = progress.written;
+    if progress.is_full { FULL } else { DONE }
+}
