@@ -12,7 +12,7 @@ use std::alloc::AllocError;
 use std::marker::Model;
 
 /// The lines of bytes, from both ends: what `lines` makes.
-#[derive(Drop)]
+#[derive(Debug, Drop)]
 pub struct SplitLines<'a> {
     parts: SplitAscii<'a>,
     // whether a line feed ended the last of the parts that are left

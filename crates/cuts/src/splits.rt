@@ -13,7 +13,7 @@ use std::alloc::AllocError;
 use std::marker::Model;
 
 /// Some bytes of a slice, with their offset in it: what `split_ascii` and `lines` give.
-#[derive(Drop)]
+#[derive(Debug, Drop)]
 pub struct Span<'a> {
     start: usize,
     bytes: &'a [u8],
@@ -99,7 +99,7 @@ impl<'a> Clone for Span<'a> {
 }
 
 /// The parts of bytes between separators, from both ends: what `split_ascii` makes.
-#[derive(Drop)]
+#[derive(Debug, Drop)]
 pub struct SplitAscii<'a> {
     start: usize,
     rest: &'a [u8],
