@@ -173,6 +173,8 @@ impl<'a> Iterator for SplitAscii<'a> {
     ghost remaining = { item_count (λ left. left) };
 
     /// The part at the front, and `None` once all were given.
+    ///
+    /// Cost: O(n) in the part.
     fn next(&mut self) -> Option<Span<'a>> {
         if self.done {
             return None;
@@ -199,6 +201,8 @@ impl<'a> DoubleEndedIterator for SplitAscii<'a> {
     ghost next_back_gives = { YieldsLast (λ left. left) };
 
     /// The part at the back, and `None` once all were given.
+    ///
+    /// Cost: O(n) in the part.
     fn next_back(&mut self) -> Option<Span<'a>> {
         if self.done {
             return None;
