@@ -1,6 +1,6 @@
 //! Lines and fields of bytes that may be damaged, by `cuts::lines` and `cuts::split_ascii`.
-ghost use Rattle.std.specs.Prelude.{◌≡◌, ◌<◌, IfOk, IfSome, None, count_by, length, max, nat_eq, not, slice_get};
-ghost use Rattle.std.specs.List.{fold, last_or};
+ghost use Rattle.std.specs.Prelude.{◌≡◌, IfOk, IfSome, None, count_by, length, max, nat_eq, not, slice_get};
+ghost use Rattle.std.specs.List.{find, fold, last_or};
 ghost use Rattle.encode_unicode.specs.Pieces.{pieces};
 ghost use Rattle.cuts.specs.ForwardRuns.{fault_count};
 ghost use Rattle.cuts.specs.Splits.{LiesBetween, lines_by, split_by};
@@ -56,18 +56,18 @@ pub fn longest_line(bytes: &[u8]) -> usize
     lines(bytes).fold(0, |most, line| most.max(line.len()))
 }
 
-/// An empty line, with its offset, where one is found: the search begins at the front.
+/// The first line that is empty, with its offset.
 pub fn first_empty_line(bytes: &[u8]) -> Option<Span<'_>>
     ensures lies { IfSome result (LiesBetween bytes.now) }
-    ensures empty { IfSome result (λ x. length x.bytes ≡ 0) }
+    ensures first { result ≡ find (λ x. nat_eq (length x.bytes) 0) (lines_by bytes.now) }
 {
     lines(bytes).find(|line| line.is_empty())
 }
 
-/// A line that has an invalid byte, with its offset, where one is found: the search begins at the front.
+/// The first line that has an invalid byte, with its offset.
 pub fn first_damaged_line(bytes: &[u8]) -> Option<Span<'_>>
     ensures lies { IfSome result (LiesBetween bytes.now) }
-    ensures damaged { IfSome result (λ x. 0 < fault_count (pieces x.bytes)) }
+    ensures first { result ≡ find (λ x. not (nat_eq (fault_count (pieces x.bytes)) 0)) (lines_by bytes.now) }
 {
     lines(bytes).find(|line| fault_count(line.as_bytes()) != 0)
 }
