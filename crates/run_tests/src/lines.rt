@@ -48,6 +48,7 @@ fn parts_come_from_both_ends(rt: HostRuntime) -> Result<(), Fail> {
 fn lines_are_those_of_str(rt: HostRuntime) -> Result<(), Fail> {
     let mut front = lines(b"a\r\nb\n\n\xe2\x82\r");
     let mut back = front.clone()?;
+    assert!(rt; front.size_hint() == (0, Some(10)));
     assert!(rt; is_at(front.next(), 0, b"a") && is_at(front.next(), 3, b"b"));
     assert!(rt; is_at(front.next(), 5, b"") && is_at(front.next(), 6, b"\xe2\x82\r"));
     assert!(rt; front.next().is_none());
@@ -92,14 +93,22 @@ fn callers_count_and_find(rt: HostRuntime) -> Result<(), Fail> {
     assert!(rt; fields::line_count(b"a\r\nb\n\xff") == 3 && fields::line_count(b"a\n") == 1);
     assert!(rt; fields::field_count(b"a,\xff,b\xe2\x82,") == 4 && fields::field_count(b"") == 1);
     assert!(rt; fields::word_count(b"one two  \xc3\xa9t\xc3\xa9 ") == 3);
-    assert!(rt; fields::longest_line(b"ab\n\xe2\x82\xac\r\n\n") == 3 && fields::longest_line(b"") == 0);
+    assert!(rt;
+        fields::longest_line(b"ab\n\xe2\x82\xac\r\n\n") == 3 && fields::longest_line(b"") == 0
+    );
     assert!(rt; is_at(fields::first_field(b"\xff,b"), 0, b"\xff"));
     assert!(rt; is_at(fields::field(b"a,\xff,b", 1), 2, b"\xff"));
     assert!(rt; fields::field(b"a,b", 2).is_none());
     assert!(rt; is_at(fields::last_field(b"a,\xff,"), 4, b""));
     assert!(rt; is_at(fields::first_empty_line(b"a\n\r\nb"), 2, b""));
     assert!(rt; fields::first_empty_line(b"a\nb\n").is_none());
-    assert!(rt; is_at(fields::first_damaged_line(b"a\n\xc3\xa9\nb\xc3\n"), 5, b"b\xc3"));
+    assert!(rt;
+        is_at(
+            fields::first_damaged_line(b"a\n\xc3\xa9\nb\xc3\n"),
+            5,
+            b"b\xc3"
+        )
+    );
     assert!(rt; fields::first_damaged_line(b"a\n\xc3\xa9").is_none());
     let fields = fields::fields(rt.alloc(), b"a,\xff,b\xe2\x82,")?;
     assert_eq!(rt; fields.len(), 4);
