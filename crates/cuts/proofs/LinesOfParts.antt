@@ -1,6 +1,8 @@
 -- The lines of some parts: taken from the front and from the back, and that they are std's lines.
-use Rattle.std.proofs.Common.{◌≡◌, ℕ, ◌+◌, ◌<◌, ◌≤◌, Bool, true, false, nat_eq, List, [], ◌∷◌, ◌++◌, length, map, refl, ap, sym, ◌∙◌, arith, append-nil, length-append}
-use Rattle.std.specs.Prelude.{if◌then◌else◌}
+use Rattle.std.proofs.Common.{◌≡◌, ℕ, ◌<◌, ◌≤◌, Bool, true, false, nat_eq, List, [], ◌∷◌, ◌++◌, length, map, refl, ap, sym, ◌∙◌, arith, append-nil, length-append}
+use Rattle.std.proofs.lemmas.List.{length-map}
+use Rattle.std.specs.Prelude.{IfSome, None, Option, Some, if◌then◌else◌}
+use Rattle.std.specs.Iterator.{UpTo, item_count}
 use Rattle.std.specs.Str.Lines.{lines, lines_of_parts}
 use Rattle.cuts.proofs.SplitLemmas.{split_bytes}
 use Rattle.cuts.specs.Splits.{PlacedBytes, ended_line, lines_by, lines_left, lines_of, split_by}
@@ -47,6 +49,15 @@ few_lines (x ∷ []) = by_len (nat_eq (length x.bytes) 0)
     by_len true = omega arith
     by_len false = omega arith
 few_lines (x ∷ y ∷ parts) = let rest = few_lines (y ∷ parts) in omega arith
+
+-- no more lines than parts are left, so what bounds the parts bounds the lines
+fewer_left : (ended : Bool) (parts : List PlacedBytes) → length (lines_left ended parts) ≤ length parts
+fewer_left true parts = let same = length-map parts ended_line in omega arith
+fewer_left false parts = few_lines parts
+
+pub few_left : {s : List PlacedBytes} (ended : Bool) (parts : List PlacedBytes) (most : Option ℕ) → lines_left ended parts ≡ s → IfSome most (UpTo (item_count (λ left. left) parts)) → IfSome most (UpTo (item_count (λ left. left) s))
+few_left ended parts None view h = h
+few_left ended parts (Some n) view h = let fewer = fewer_left ended parts in let same = ap length view in omega arith
 
 -- how many are left before the last
 all_lines : {s parts : List PlacedBytes} {ended : Bool} (rest : List PlacedBytes) (x : PlacedBytes) → lines_left ended parts ≡ s → ended ≡ false → parts ≡ rest ++ x ∷ [] → lines_of (rest ++ x ∷ []) ≡ s

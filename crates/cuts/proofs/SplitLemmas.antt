@@ -6,7 +6,7 @@ use Rattle.std.proofs.lemmas.List.Sums.{count_by-le-length}
 use Rattle.std.proofs.lemmas.List.Splits.{join_with_byte-slice_split, length-slice_split, slice_split_at, slice_split_none}
 use Rattle.std.specs.Prelude.{slice_range}
 use Rattle.std.specs.List.{All, IsAfterLastMatch, IsFirstMatchOrLen, join_with_byte, onto_first}
-use Rattle.cuts.specs.Splits.{IsSplit, OneSplit, PlacedBytes, parts_by, placed_from, split_by, split_left}
+use Rattle.cuts.specs.Splits.{IsSplit, OneSplit, parts_by, placed_from, split_by, split_left}
 
 -- the first of the parts has n elements
 record EndsFirst (separator : ℕ) (xs : List ℕ) (n : ℕ) : Type 0 where

@@ -1,14 +1,12 @@
 -- Where parts and lines lie: each between two places that no code lies over. So do the items of runs that give them.
-use Rattle.std.proofs.Common.{◌≡◌, ℕ, zero, suc, ◌+◌, ◌-◌, ◌<◌, ◌≤◌, Bool, true, false, nat_eq, List, [], ◌∷◌, ◌++◌, length, take, drop, map, reverse, slice_index, slice_index_or, Option, Some, None, refl, ap, sym, subst, ◌∙◌, arith, length-append, length-drop}
+use Rattle.std.proofs.Common.{◌≡◌, ℕ, zero, suc, ◌+◌, ◌-◌, ◌<◌, ◌≤◌, Bool, true, false, nat_eq, List, [], ◌∷◌, ◌++◌, length, take, drop, reverse, slice_index, slice_index_or, Option, Some, None, refl, ap, sym, subst, ◌∙◌, arith, length-append, length-drop}
 use Rattle.std.proofs.iter.runs.Lists.{slice_get_within}
 use Rattle.std.proofs.lemmas.Bool.{eqb-true, false≢true}
-use Rattle.std.proofs.lemmas.List.{drop-drop, get_or-append-add, get_or-drop, get_or-take, length-reverse, length-take-le, take_all, take_at, take_rest, take-take}
-use Rattle.std.specs.Prelude.{IfSome, slice_range, slice_get, if◌then◌else◌}
+use Rattle.std.proofs.lemmas.List.{drop-drop, get_or-append-add, get_or-drop, get_or-take, length-reverse, length-take-le, take_at, take_rest, take-take}
+use Rattle.std.specs.Prelude.{IfSome, if◌then◌else◌}
 use Rattle.std.specs.Iterator.{YieldsLast}
-use Rattle.std.specs.Iterator.Runs.{AllItems, EachRunFrom, EveryRun, Run}
+use Rattle.std.specs.Iterator.Runs.{EveryRun}
 use Rattle.std.specs.List.{All, join_with_byte}
-use Rattle.std.specs.Str.Lines.{strip_carriage_return}
-use Rattle.utf_base.specs.Code.{utf8}
 use Rattle.encode_unicode.proofs.AsciiPieces.{ascii_before, ascii_after}
 use Rattle.encode_unicode.proofs.PieceRuns.{listed_run, listed_run_back}
 use Rattle.encode_unicode.specs.AsciiBytes.{IsAsciiAt}

@@ -1,7 +1,8 @@
 //! The lines of bytes that may be damaged, from both ends, with their offsets.
-ghost use Rattle.std.specs.Prelude.{◌≡◌, ◌+◌, ◌≤◌, ⊤, count_by, length, map, nat_eq};
-ghost use Rattle.std.specs.Iterator.{YieldsFirst, YieldsLast, item_count};
+ghost use Rattle.std.specs.Prelude.{◌≡◌, ◌+◌, ◌≤◌, IfSome, ⊤, count_by, length, map, nat_eq};
+ghost use Rattle.std.specs.Iterator.{UpTo, YieldsFirst, YieldsLast, item_count};
 ghost use Rattle.std.specs.Iterator.Runs.{EveryRun};
+ghost use Rattle.std.specs.Iterator.SizeHint.{IsWithinCount};
 ghost use Rattle.std.specs.List.{All};
 ghost use Rattle.std.specs.Str.Lines.{lines};
 ghost use Rattle.encode_unicode.specs.Pieces.{Gives, GivesReversed};
@@ -12,7 +13,7 @@ use std::alloc::AllocError;
 use std::marker::Model;
 
 /// The lines of bytes, from both ends: what `lines` makes.
-#[derive(Drop)]
+#[derive(Debug, Drop)]
 pub struct SplitLines<'a> {
     parts: SplitAscii<'a>,
     // whether a line feed ended the last of the parts that are left
@@ -58,6 +59,8 @@ impl<'a> Iterator for SplitLines<'a> {
     ghost remaining = { item_count (λ left. left) };
 
     /// The line at the front, and `None` once all were given.
+    ///
+    /// Cost: O(n) in the line.
     #[tactic(auto, using(crate::proofs::LinesOfParts::first_line))]
     fn next(&mut self) -> Option<Span<'a>> {
         let part = self.parts.next()?;
@@ -69,12 +72,23 @@ impl<'a> Iterator for SplitLines<'a> {
         }
         Some(part)
     }
+
+    /// Bounds of how many lines remain: (none; as many as there may be parts between line feeds).
+    fn size_hint(&self) -> (usize, Option<usize>)
+        ensures lower { IsWithinCount result.0 (item_count (λ left. left) self.now) }
+        ensures upper { IfSome result.1 (UpTo (item_count (λ left. left) self.now)) }
+    {
+        let (_, most) = self.parts.size_hint();
+        (0, most)
+    }
 }
 
 impl<'a> DoubleEndedIterator for SplitLines<'a> {
     ghost next_back_gives = { YieldsLast (λ left. left) };
 
     /// The line at the back, and `None` once all were given.
+    ///
+    /// Cost: O(n) in the line.
     #[tactic(auto, using(crate::proofs::LinesOfParts::last_line, crate::proofs::LinesOfParts::no_last_line, crate::proofs::LinesOfParts::ended_push))]
     fn next_back(&mut self) -> Option<Span<'a>> {
         let part = self.parts.next_back()?;

@@ -16,9 +16,9 @@ ghost use Rattle.utf_base.specs.Kinds.{fault_kind, merger_kind};
 ghost use Rattle.utf_base.specs.Units.{unit_fault_kind};
 
 pub use recoding::laws::{
-    faults_are_counted, held_is_undecided, lossy_joins_faults, lossy_once, lossy_parts_are_one_part,
-    nothing_comes_earlier, parts_are_one_part, parts_do_not_matter, recoded_is_bounded,
-    recoded_once, room_is_enough, shards_join, text_is_recoded,
+    faults_are_counted, held_is_undecided, lossy_joins_faults, lossy_once,
+    lossy_parts_are_one_part, nothing_comes_earlier, parts_are_one_part, parts_do_not_matter,
+    recoded_is_bounded, recoded_once, room_is_enough, shards_join, text_is_recoded,
 };
 
 /// Equal bytes or units have equal runs, of decoders and of mergers.

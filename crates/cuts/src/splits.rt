@@ -13,7 +13,7 @@ use std::alloc::AllocError;
 use std::marker::Model;
 
 /// Some bytes of a slice, with their offset in it: what `split_ascii` and `lines` give.
-#[derive(Drop)]
+#[derive(Debug, Drop)]
 pub struct Span<'a> {
     start: usize,
     bytes: &'a [u8],
@@ -99,7 +99,7 @@ impl<'a> Clone for Span<'a> {
 }
 
 /// The parts of bytes between separators, from both ends: what `split_ascii` makes.
-#[derive(Drop)]
+#[derive(Debug, Drop)]
 pub struct SplitAscii<'a> {
     start: usize,
     rest: &'a [u8],
@@ -173,6 +173,8 @@ impl<'a> Iterator for SplitAscii<'a> {
     ghost remaining = { item_count (λ left. left) };
 
     /// The part at the front, and `None` once all were given.
+    ///
+    /// Cost: O(n) in the part.
     fn next(&mut self) -> Option<Span<'a>> {
         if self.done {
             return None;
@@ -199,6 +201,8 @@ impl<'a> DoubleEndedIterator for SplitAscii<'a> {
     ghost next_back_gives = { YieldsLast (λ left. left) };
 
     /// The part at the back, and `None` once all were given.
+    ///
+    /// Cost: O(n) in the part.
     fn next_back(&mut self) -> Option<Span<'a>> {
         if self.done {
             return None;

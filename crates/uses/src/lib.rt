@@ -19,6 +19,7 @@ pub mod cursor;
 pub mod damage;
 pub mod editor;
 pub mod equals;
+pub mod fields;
 pub mod lengths;
 pub mod listed;
 pub mod loops;
