@@ -55,8 +55,8 @@ class Function:
         if not between or not self.owner:
             return not between and not self.owner
         trait, brackets, of = self.owner_words()
-        # (the prover's path leaves out a constant that the type takes)
-        of = re.sub(r"<[A-Z]{2,}>$", "", of)
+        # (the prover's path leaves out constants that the types take)
+        of, brackets = (re.sub(r"<[A-Z_]{2,}>", "", it) for it in (of, brackets))
         of_what = camel(brackets) if brackets else ""
         return re.sub(r"0x10000|256", "", between[0]) == f"{camel(of)}{trait}{'' if of_what == 'Any' else of_what}"
 
