@@ -20,10 +20,10 @@
  *
  * POINTERS. Bytes and units are passed as a pointer and then a number: a length to read, or a `room` to write into. Where the
  * number is 0 the pointer may be NULL; else it has to be valid for so many. What a call writes must not overlap what it reads.
- * `written`, `read`, `fault`, `left` and `recoder` must not be NULL. Make a recoder by nody_recoder alone. One that was made otherwise may
- * be refused, or recode what it happens to hold; it never writes out of bounds. Make a cursor by nody_bytes or nody_units, or fill
- * it with a pointer that is not NULL and is valid for its length. No call fails in any other way than its comment says, and none
- * sets errno; on x86-64 call nody_supported first.
+ * `written`, `read`, `fault`, `left` and `recoder` must not be NULL. Make a recoder by nody_recoder alone. One that was made
+ * otherwise may be refused, or recode what it happens to hold; it never writes out of bounds. Make a cursor by nody_bytes or
+ * nody_units, or fill it with a pointer that is not NULL and is valid for its length. No call fails in any other way than its
+ * comment says, and none sets errno; on x86-64 call nody_supported first.
  *
  * UNITS. uint16_t has the byte order of the machine. Calls on bytes take the order from the form. NODY_FORM_UTF16_NATIVE is the
  * order of the machine.
@@ -90,7 +90,7 @@ NODY_ENUM(nody_status_t) {
     NODY_STATUS_DONE = 0,    /* all was read, and nothing waits for room */
     NODY_STATUS_FULL = 1,    /* the next character does not fit in the room that is left */
     NODY_STATUS_REFUSED = 2, /* a form above 2, or a recoder that holds more than three bytes. Nothing was read or written */
-    NODY_STATUS_FAULT = 3    /* of a strict call: what comes next is an invalid byte, or unit. All before it was written */
+    NODY_STATUS_FAULT = 3    /* a strict call stopped at an invalid byte, or unit. All before it was written */
 };
 
 /* A piece. */
@@ -114,7 +114,7 @@ typedef struct {
 
 /* A recoder. It holds at most three bytes between calls: the front of a character whose rest has not come, bytes whose output did
  * not fit in the room, or, of a strict call, bytes that may be a fault. Read them by nody_recoder_held. `replaced` counts from
- * nody_recoder on, over all calls and inputs, and stays at UINT64_MAX. You may read it, and set it to 0. */
+ * nody_recoder on, over all calls and inputs, and stops at UINT64_MAX. You may read it, and set it to 0. */
 typedef struct {
     nody_form_t from;
     nody_form_t to;
@@ -123,11 +123,11 @@ typedef struct {
     uint64_t replaced; /* how many invalid bytes, or units, nody_recoder_feed and nody_recoder_finish replaced by U+FFFD so far */
 } nody_recoder_t;
 
-/* The fault at which a strict call stopped. Where it met none, the kind is NODY_KIND_NONE, and len and back are 0. Its offset in the
- * whole input is the number of bytes that were read so far, by this call too, minus `back`. */
+/* The fault at which a strict call stopped. Where it met none, the kind is NODY_KIND_NONE, and len and back are 0. Its offset
+ * in the whole input is the number of bytes that were read so far, by this call too, minus `back`. */
 typedef struct {
-    size_t len;       /* in bytes: 1 in UTF-8. In UTF-16 2, a lone surrogate, and 1 where a single byte ends the input */
-    size_t back;      /* from its first byte to the end of what was read: it, and the bytes that are held after it */
+    size_t len;       /* in bytes. UTF-8: 1. UTF-16: 2, a lone surrogate, or 1, a single byte at the end */
+    size_t back;      /* how many bytes before the end of what was read it begins; 0 from nody_recode_strict */
     nody_kind_t kind; /* why it is invalid, or NODY_KIND_NONE */
 } nody_fault_t;
 
@@ -169,8 +169,8 @@ nody_piece_t nody_utf8_first(const uint8_t *bytes, size_t len);
 nody_piece_t nody_utf16_first(const uint16_t *units, size_t len);
 
 /* The piece that ends the bytes, or the units; NODY_KIND_NONE where len is 0. A fault gets the kind that it has where nothing
- * follows it. If your input goes on after len, reading it from the front may give another kind. If len is a boundary of that input
- * (see nody_boundary_before), it is a fault there too; else it may be part of a character. Constant.
+ * follows it. If your input goes on after len, reading it from the front may give another kind. If len is a boundary of that
+ * input (see nody_boundary_before), the fault is one there too; else its byte may be part of a character. Constant.
  *
  *     size_t shorter = len - nody_utf8_last(bytes, len).len;
  */
@@ -218,7 +218,8 @@ size_t nody_utf16_bytes_valid_up_to(nody_form_t form, const uint8_t *bytes, size
 size_t nody_utf8_char_count(const uint8_t *bytes, size_t len);
 size_t nody_utf16_char_count(const uint16_t *units, size_t len);
 
-/* A cursor with all of the bytes, or of the units, still to take. They have to stay valid and the same for as long as it is used. */
+/* A cursor with all of the bytes, or of the units, still to take. They have to stay valid and the same for as long as it is
+ * used. */
 static inline nody_bytes_t nody_bytes(const uint8_t *bytes, size_t len) {
     static const uint8_t nothing = 0;
     nody_bytes_t left;
@@ -234,11 +235,11 @@ static inline nody_units_t nody_units(const uint16_t *units, size_t len) {
     return left;
 }
 
-/* Takes the piece that begins, or ends, what is left. Only the bytes, or units, that are left decide it: so pieces taken from the
- * other end can change the kind of a fault, and never where pieces begin and end. Asked from both ends in any order, a cursor
+/* Takes the piece that begins, or ends, what is left. What is left decides the piece alone. So taking pieces from the other
+ * end can change the kind of a fault, but never where a piece begins or ends. Asked from both ends in any order, a cursor
  * gives each piece once. NODY_KIND_NONE where nothing is left: then the cursor stays. Where something is left, left->bytes is
- * where it begins, and left->bytes + left->len where it ends. A piece just taken by next_back begins at left->bytes + left->len.
- * Constant.
+ * where it begins, and left->bytes + left->len where it ends. A piece just taken by next_back begins at left->bytes +
+ * left->len. Constant.
  *
  *     nody_bytes_t left = nody_bytes(bytes, len);
  *     nody_piece_t piece;
@@ -263,9 +264,9 @@ size_t nody_utf16_pieces(nody_units_t *left, nody_piece_t *out, size_t room);
 /* ---- Where text may be cut -------------------------------------------------------------------------------------------------- */
 
 /* Before: the greatest boundary up to `at`. After: the least boundary from `at` on. A boundary is an offset that is not inside a
- * character, nor in UTF-16 inside a unit. A cut there divides no piece: both parts can be recoded by themselves and joined; only the
- * kind of a fault beside the cut may be another. It is at most three bytes away from `at`; len where at is len or more. SIZE_MAX
- * where the form is above 2: test for that before you use the result. Constant.
+ * character, nor in UTF-16 inside a unit. A cut there divides no piece: both parts can be recoded by themselves and joined;
+ * only the kind of a fault beside the cut may be another. It is at most three bytes away from `at`; len where at is len or
+ * more. SIZE_MAX where the form is above 2: test for that before you use the result. Constant.
  *
  *     size_t most = nody_boundary_before(NODY_FORM_UTF8, name, len, 255); // as much of a name as fits 255 bytes
  */
@@ -313,8 +314,8 @@ nody_status_t nody_recode(nody_form_t from, nody_form_t to, const uint8_t *in, s
 nody_status_t nody_recode_strict(nody_form_t from, nody_form_t to, const uint8_t *in, size_t len, uint8_t *out, size_t room,
                                  size_t *read, size_t *written, nody_fault_t *fault);
 
-/* How many bytes nody_recode writes of this input, given enough room. SIZE_MAX where a size_t cannot count them, or a form is above
- * 2. Linear: it recodes, in parts, into a kilobyte of the stack.
+/* How many bytes nody_recode writes of this input, given enough room. SIZE_MAX where a size_t cannot count them, or a form is
+ * above 2. Linear: it recodes, in parts, into a kilobyte of the stack.
  *
  *     size_t room = nody_recoded_len(NODY_FORM_UTF8, NODY_FORM_UTF16LE, bytes, len);
  */
@@ -327,9 +328,9 @@ size_t nody_recoded_len(nody_form_t from, nody_form_t to, const uint8_t *in, siz
  */
 size_t nody_recoded_len_max(nody_form_t from, nody_form_t to, size_t len);
 
-/* nody_recode between UTF-8 and an array of uint16_t. A length, `room` or `*written` counts units for a uint16_t pointer, and bytes
- * for a uint8_t pointer. A count of units that you pass must be below SIZE_MAX / 2, which is not checked. (Do not cast a buffer of
- * bytes to uint16_t *: for bytes use nody_recode.)
+/* nody_recode between UTF-8 and an array of uint16_t. A length, `room` or `*written` counts units for a uint16_t pointer, and
+ * bytes for a uint8_t pointer. A count of units that you pass must be below SIZE_MAX / 2, which is not checked. (Do not cast a
+ * buffer of bytes to uint16_t *: for bytes use nody_recode.)
  *
  *     size_t count, size = nody_recoded_len(NODY_FORM_UTF8, NODY_FORM_UTF16_NATIVE, bytes, len); // in bytes
  *     uint16_t *units = size < SIZE_MAX ? (uint16_t *)malloc(size + 1) : NULL;
@@ -354,10 +355,10 @@ nody_recoder_t nody_recoder(nody_form_t from, nody_form_t to);
  * at the front of the room came of it. What comes out is the same however the input is cut into parts. Linear.
  * NODY_STATUS_DONE: the whole part was read, and nothing waits for room. NODY_STATUS_FULL: call again with the rest of the part,
  * even if nothing is left of it, and with new room; the same buffer will do once you have emptied it. Up to three of the bytes
- * counted in `*read` may be held in the recoder: do not feed them again. NODY_STATUS_REFUSED: both counts are 0. Give room for four
- * bytes or more: then each call that answers NODY_STATUS_FULL has written something. A loop that calls again with the same room of
- * 3 bytes or less may never end. `recoder->replaced` grows by the number of invalid bytes, or units, for which this call wrote
- * U+FFFD; a U+FFFD in the input does not count.
+ * counted in `*read` may be held in the recoder: do not feed them again. NODY_STATUS_REFUSED: both counts are 0. Give room for
+ * four bytes or more: then each call that answers NODY_STATUS_FULL has written something. A loop that calls again with the
+ * same room of 3 bytes or less may never end. `recoder->replaced` grows by the number of invalid bytes, or units, for which
+ * this call wrote U+FFFD; a U+FFFD in the input does not count.
  *
  *     do {
  *         status = nody_recoder_feed(&recoder, in + place, len - place, out, sizeof out, &read, &written);
@@ -370,9 +371,9 @@ nody_status_t nody_recoder_feed(nody_recoder_t *recoder, const uint8_t *in, size
                                 size_t *written);
 
 /* Puts out what is held, when no more input follows: at most nine bytes. NODY_STATUS_FULL: call this again, and not
- * nody_recoder_feed, with new room; what was written is not held any more. NODY_STATUS_REFUSED: `*written` is 0. Give room for four
- * bytes or more, as for nody_recoder_feed. `recoder->replaced` grows as there: after NODY_STATUS_DONE it is the number for the
- * whole input. The recoder then holds nothing and may be fed another input, on which it goes on counting. Constant.
+ * nody_recoder_feed, with new room; what was written is not held any more. NODY_STATUS_REFUSED: `*written` is 0. Give room for
+ * four bytes or more, as for nody_recoder_feed. `recoder->replaced` grows as there: after NODY_STATUS_DONE it is the number
+ * for the whole input. The recoder then holds nothing and may be fed another input, on which it goes on counting. Constant.
  *
  *     do {
  *         status = nody_recoder_finish(&recoder, out, sizeof out, &written);
@@ -415,11 +416,14 @@ nody_status_t nody_recoder_feed_strict(nody_recoder_t *recoder, const uint8_t *i
 nody_status_t nody_recoder_finish_strict(nody_recoder_t *recoder, uint8_t *out, size_t room, size_t *written, nody_fault_t *fault);
 
 /* nody_recoder_feed that writes one U+FFFD for each maximal subpart, as the Unicode standard recommends (chapter 3, "U+FFFD
- * Substitution of Maximal Subparts"), and as browsers, Python's errors="replace" and Rust's from_utf8_lossy do. A maximal subpart
- * is the longest start of a valid character where none stands, one to three bytes: E2 82 41 becomes U+FFFD A. Where there is no
- * such start, it is one byte: E0 80 becomes U+FFFD U+FFFD. Of UTF-16 it is an invalid unit, or a single byte at the end, so both
- * calls write the same; they also do where the input is valid. `*read`, `*written` and the statuses are as for nody_recoder_feed,
- * and so is the loop. `recoder->replaced` stays. End the input by nody_recoder_finish_lossy. Linear.
+ * Substitution of Maximal Subparts"), and as browsers, Python's errors="replace" and Rust's from_utf8_lossy do. A maximal
+ * subpart is the longest run of one to three bytes that begins like a valid character and does not complete it: E2 82 41
+ * becomes U+FFFD A. Where there is no such start, it is one byte: E0 80 becomes U+FFFD U+FFFD. Of UTF-16 it is an invalid
+ * unit, or a single byte at the end. So for UTF-16, and for valid input, this call and nody_recoder_feed write the same.
+ * `*read`, `*written` and the statuses are as for nody_recoder_feed, and so is the loop. `recoder->replaced` does not change.
+ * This call, nody_recoder_feed and nody_recoder_feed_strict may take turns: each goes on from what the recoder holds. End the
+ * input by nody_recoder_finish_lossy. Do not cut an input for it at a boundary of nody_boundary_before: such a place may lie
+ * inside a maximal subpart. Linear.
  *
  *     nody_recoder_t recoder = nody_recoder(NODY_FORM_UTF8, NODY_FORM_UTF8);
  *     nody_recoder_feed_lossy(&recoder, (const uint8_t *)"\xe2\x82" "A", 3, out, sizeof out, &read, &written); // 4: EF BF BD 41
@@ -428,7 +432,7 @@ nody_status_t nody_recoder_feed_lossy(nody_recoder_t *recoder, const uint8_t *in
                                       size_t *read, size_t *written);
 
 /* nody_recoder_finish after nody_recoder_feed_lossy: bytes of UTF-8 that are held, which are the front of a character, become one
- * U+FFFD. `*written` and the statuses are as for nody_recoder_finish. `recoder->replaced` stays. Constant.
+ * U+FFFD. `*written` and the statuses are as for nody_recoder_finish. `recoder->replaced` does not change. Constant.
  *
  *     nody_recoder_feed_lossy(&recoder, (const uint8_t *)"\xf0\x9f\x98", 3, out, sizeof out, &read, &written); // 0: they are held
  *     nody_recoder_finish_lossy(&recoder, out, sizeof out, &written);                                         // 3: EF BF BD
