@@ -31,8 +31,8 @@ use utf_chars::utf8_char::Utf8Char;
 /// first call, after a character and after `None` it holds nothing. Once the source has given
 /// `None`, it is not called again.
 ///
-/// The errors are those of `CharExt::from_utf8_slice_start`, with one difference. If the source
-/// ends inside a sequence that one of its bytes has already broken, the error is
+/// The errors are those of `CharExt::from_utf8_slice_start`, with one difference. If fewer bytes are
+/// left in the source than the first byte needs, and one of them breaks the sequence, the error is
 /// `InterruptedSequence` and not `TooFewBytes`. Contracts see what is held, the source, and whether
 /// it has ended.
 #[derive(Drop)]
