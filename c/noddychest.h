@@ -12,7 +12,7 @@
  *     boundary     an offset that is not inside a character, and in UTF-16 not inside a unit
  *     form         an encoding of text in bytes: UTF-8, little-endian UTF-16 or big-endian UTF-16
  *     to recode    to convert from one form to another, or to the same
- *     room         how many bytes, or units, a call may write
+ *     room         how many bytes, units or pieces a call may write
  *
  * INVALID INPUT. Recoding writes one U+FFFD, the replacement character, for each fault: E2 82 41 becomes U+FFFD U+FFFD A. In some
  * cases browsers and Python write one U+FFFD for several bytes, here U+FFFD A. The calls whose names end in _lossy write what
@@ -69,12 +69,12 @@ NODY_ENUM(nody_kind_t) {
     NODY_KIND_NON_UTF8_BYTE = 2,                 /* C0, C1, or F5 to FF: never in UTF-8 */
     NODY_KIND_UNEXPECTED_CONTINUATION_BYTE = 3,  /* 80 to BF where a character should begin */
     NODY_KIND_INTERRUPTED_SEQUENCE = 4,          /* a byte that the first byte needs is not 80 to BF */
-    NODY_KIND_OVERLONG_ENCODING = 5,             /* the value has a shorter encoding */
-    NODY_KIND_UTF16_RESERVED_CODEPOINT = 6,      /* the value is a surrogate, D800 to DFFF */
-    NODY_KIND_TOO_HIGH_CODEPOINT = 7,            /* the value is above 10FFFF */
+    NODY_KIND_OVERLONG_ENCODING = 5,             /* the bytes encode a character that has a shorter encoding */
+    NODY_KIND_UTF16_RESERVED_CODEPOINT = 6,      /* the bytes encode a surrogate, D800 to DFFF */
+    NODY_KIND_TOO_HIGH_CODEPOINT = 7,            /* the bytes encode a number above 10FFFF */
     NODY_KIND_UNEXPECTED_TRAILING_SURROGATE = 8, /* UTF-16: DC00 to DFFF where a character should begin */
-    NODY_KIND_UNMATCHED_LEADING_SURROGATE = 9,   /* UTF-16: D800 to DBFF, and the next unit is not DC00 to DFFF */
-    NODY_KIND_INCOMPLETE = 10,                   /* UTF-16: D800 to DBFF is the last unit; or a single byte is left of a unit */
+    NODY_KIND_UNMATCHED_LEADING_SURROGATE = 9,   /* UTF-16: D800 to DBFF, where the next unit is not DC00 to DFFF */
+    NODY_KIND_INCOMPLETE = 10,                   /* UTF-16: D800 to DBFF as the last unit; or a single byte at the end */
     NODY_KIND_NONE = 11                          /* no piece: nothing is left */
 };
 
