@@ -25,18 +25,19 @@
  * character. A reader of one byte at a time sees other kinds in some cases: see nody_utf8_streamed_at.
  *
  * POINTERS. A pointer and the number after it belong together: the number is a length to read, or a room to write into. If the
- * number is 0, the pointer may be NULL. Else the pointer must be valid for that many. What a call writes must not overlap what it
- * reads. `written`, `read`, `fault`, `left` and `recoder` must not be NULL. Make a recoder only by nody_recoder: a call may refuse
- * any other struct, or recode the bytes that it happens to hold, but never writes out of bounds. Make a cursor by nody_bytes or
- * nody_units, or fill it with a pointer that is not NULL and is valid for its length.
+ * number is 0, the pointer may be NULL. Else it must be valid for that many bytes, units or pieces. What a call writes must not
+ * overlap what it reads. `written`, `read`, `fault`, `left` and `recoder` must not be NULL. Make a recoder only by
+ * nody_recoder. If you fill the struct in another way, a call may refuse it, or recode whatever bytes are in it. No call writes
+ * out of bounds. Make a cursor by nody_bytes or nody_units, or fill it with a pointer that is not NULL and is valid for its
+ * length.
  *
  * ERRORS. A call fails only as its comment says. None sets errno. On x86-64 call nody_supported first.
  *
- * UNITS. A uint16_t has the byte order of the machine, which is NODY_FORM_UTF16_NATIVE. For UTF-16 in bytes, the form has the
- * byte order.
+ * UNITS. A uint16_t is in the byte order of the machine: seen as bytes, an array of them has the form NODY_FORM_UTF16_NATIVE. For
+ * UTF-16 in bytes, the form tells the byte order.
  *
  * COST. "Constant": the call looks at a few bytes, whatever the length. "Linear": the time grows with the length of the input,
- * which is read once. c/README.md has the machine instructions for each byte.
+ * which is read once. c/README.md says how many machine instructions a byte takes.
  */
 #ifndef NODDYCHEST_H
 #define NODDYCHEST_H
@@ -151,8 +152,8 @@ typedef struct {
 
 /* The version of the library.
  *
- * Result: major * 1000000 + minor * 1000 + patch. A program needs the major version of the header that it was compiled with, and
- * at least its minor version.
+ * Result: major * 1000000 + minor * 1000 + patch. A program needs a library of the same major version as its header, and of the
+ * same or a higher minor version.
  * Errors: none. Cost: constant.
  *
  *     uint32_t version = nody_version();
@@ -187,9 +188,9 @@ nody_piece_t nody_utf16_first(const uint16_t *units, size_t len);
 /* The last piece of some bytes, or units.
  *
  * bytes or units, len: the input. At most its last four bytes, or two units, matter.
- * Result: the piece, or NODY_KIND_NONE if len is 0. A fault has the kind of input that ends there. If your input goes on after
- * len, a reader from the front may find another kind. If len is not a boundary of that input, the byte may even belong to a
- * character.
+ * Result: the piece, or NODY_KIND_NONE if len is 0. The kind of a fault is judged as if the input
+ * ended there. If your input goes on after len, a reader from the front may find another kind. If len is not a boundary of your
+ * input, the byte may even belong to a character.
  * Errors: none. Cost: constant.
  *
  *     size_t shorter = len - nody_utf8_last(bytes, len).len;
@@ -313,9 +314,9 @@ size_t nody_utf16_pieces(nody_units_t *left, nody_piece_t *out, size_t room);
 
 /* ---- Where text may be divided ---------------------------------------------------------------------------------------------- */
 
-/* The boundary near an offset: `before` gives the greatest one up to `at`, `after` the least one from `at` on. If you divide the
- * input at a boundary and recode each side by itself, the outputs, joined, are the output of the whole. Only the kind of a fault
- * beside the boundary may differ.
+/* The boundary near an offset: nody_boundary_before gives the last one up to `at`, nody_boundary_after the first one from `at` on.
+ * If you divide the input at a boundary and recode each side by itself, the outputs, joined, are the output of the whole. Only the
+ * kind of a fault beside the boundary may differ.
  *
  * form: the form of the input. bytes, len: the input. at: the offset.
  * Result: the boundary, at most three bytes from `at`. If `at` is len or more, it is len.
