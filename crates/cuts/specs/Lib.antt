@@ -8,7 +8,7 @@ pub mod Walks
 pub mod WellFormed
 pub mod Tables
 pub mod Failures
-pub mod Relayed
+pub mod RecodeStream
 pub mod StrictRelayed
 pub mod Arguments
 pub mod Line

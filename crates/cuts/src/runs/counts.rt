@@ -1,15 +1,15 @@
 //! How many characters and how many faults some bytes have.
 ghost use Rattle.std.specs.Prelude.{◌≡◌, length};
 ghost use Rattle.encode_unicode.specs.Pieces.{pieces};
-ghost use Rattle.cuts.specs.ForwardRuns.{fault_count};
+ghost use Rattle.cuts.specs.ForwardRuns.{faulty_item_count};
 
 use encode_unicode::U8SliceExt;
 
 /// How many bytes are invalid: 0 if all are valid UTF-8, and only then.
 ///
 /// Cost: O(n).
-pub fn fault_count(bytes: &[u8]) -> usize
-    ensures { result ≡ fault_count (pieces bytes.now) }
+pub fn faulty_item_count(bytes: &[u8]) -> usize
+    ensures { result ≡ faulty_item_count (pieces bytes.now) }
 {
     bytes.utf8char_indices().filter(|x| x.1.is_err()).count()
 }
