@@ -194,14 +194,17 @@ def summary():
     lost = [("validate UTF-8", "valid", 2, "simdutf8", lambda key: True), ("read valid text backward", "run", 2, "std", lambda key: key[0] == "text_backward"),
             ("decode from an iterator", "run", 2, "rust", lambda key: key[0] in ("merger", "unit_merger")),
             ("recode one short part into a buffer", "short", 5, "encoding_rs", lambda key: key[4] == "feed_into")]
+    short = ""
     for task, name, keys, side, holds in lost:
         row = max((it for it in stored(name, keys) if side in it.numbers and holds(it.key)), key=lambda it: it.ratio(side))
+        short = row.key[3] if name == "short" else short
         text = f"{row.key[2]}, {row.key[3]} bytes, {FORMS[row.key[0]]} to {FORMS[row.key[1]]}" if name == "short" else row.key[-1]
-        lines.append([task, f"{text} (the worst)", NAMES[side], f"{row.numbers['ours']:.2f} ns", f"{row.numbers[side]:.2f} ns", f"**{row.ratio(side):.2f}**"])
+        lines.append([task, f"{text} (our worst)", NAMES[side], f"{row.numbers['ours']:.2f} ns", f"{row.numbers[side]:.2f} ns", f"**{row.ratio(side):.2f}**"])
     text, ours, theirs = max(of_c, key=lambda it: it[1] / it[2])
-    lines.append(["split into pieces, from C", f"{text} (the worst)", "ICU", f"{ours:.2f} ns", f"{theirs:.2f} ns", f"**{ours / theirs:.2f}**"])
+    lines.append(["split into pieces, from C", f"{text} (our worst)", "ICU", f"{ours:.2f} ns", f"{theirs:.2f} ns", f"**{ours / theirs:.2f}**"])
     return table(["task", "input", "compared with", "Noddychest", "theirs", "ratio"], lines) + (
-        "\n\nNanoseconds for each byte; in the row of one short part, for the part. Ratios are of the times before they were rounded. Ours was called from Rattle, and in the last row from C.")
+        f"\n\nTimes are nanoseconds per byte. The row of one short part is different: its times are for all {short} bytes. \"Our worst\" is, of all inputs, the one with the highest ratio. "
+        "Ratios were computed before the times were rounded. Noddychest was called from Rattle, and in the last row from C.")
 
 
 def marked(page, name, text):

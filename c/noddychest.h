@@ -1,35 +1,43 @@
-/* Noddychest: UTF-8 and UTF-16 decoded, validated, cut and recoded, over proved code. For C and C++.
+/* Noddychest: decodes, validates, divides and converts UTF-8 and UTF-16, with proved code. For C and C++.
  *
- * LANGUAGES AND PLATFORMS. C99 and later, C++98 and later. Linux on x86-64 (with x86-64-v2) and on ARM with 64 bits, with glibc
- * or musl. Nothing is allocated, no locale is read, and no call keeps anything: what lasts from call to call is in the caller's
- * structs, which may be copied. Calls on different structs may run in different threads at the same time.
+ * LANGUAGES AND PLATFORMS. C99 and later, C++98 and later. Linux on x86-64 (with x86-64-v2) and on 64-bit ARM, with glibc or
+ * musl. No call allocates memory, reads a locale, or keeps anything. What lasts from call to call is in structs of yours, which
+ * you may copy. Calls on different structs may run in different threads at the same time.
  *
- * WORDS. A character is a Unicode scalar value, 0 to 10FFFF without D800 to DFFF. A unit is one uint16_t of UTF-16. Each
- * invalid byte (in UTF-16, each invalid unit) is a fault of its own, with a kind that says why. A piece is a character or a fault.
+ * WORDS.
+ *     character    a Unicode scalar value: 0 to 10FFFF, without D800 to DFFF
+ *     unit         one uint16_t of UTF-16
+ *     fault        one invalid byte; in UTF-16, one invalid unit. Its kind is the reason why it is invalid
+ *     piece        a character or a fault. Every input is a row of pieces
+ *     boundary     an offset that is not inside a character, and in UTF-16 not inside a unit
+ *     form         an encoding of text in bytes: UTF-8, little-endian UTF-16 or big-endian UTF-16
+ *     to recode    to convert from one form to another, or to the same
+ *     room         how many bytes, units or pieces a call may write
  *
- * INVALID INPUT IS REPLACED BYTE BY BYTE. Recoding writes one U+FFFD replacement character for each invalid byte (in UTF-16, for
- * each invalid unit). Browsers and Python write one for several bytes in some cases: E2 82 41 is here U+FFFD U+FFFD A, and there
- * U+FFFD A. nody_recoder_feed_lossy and nody_recoder_finish_lossy write what browsers and Python do. Calls whose names end in
- * _strict stop at the first fault instead, and say where it is and why.
+ * INVALID INPUT. Recoding writes one U+FFFD, the replacement character, for each fault: E2 82 41 becomes U+FFFD U+FFFD A. In some
+ * cases browsers and Python write one U+FFFD for several bytes, here U+FFFD A. The calls whose names end in _lossy write what
+ * browsers and Python do. The calls whose names end in _strict stop at the first fault, and report its offset and its kind.
  *
- * WHICH KIND WINS. The kind of a byte is decided from it and the bytes that follow it, and is the first of these that applies:
- * UNEXPECTED_CONTINUATION_BYTE, NON_UTF8_BYTE, TOO_FEW_BYTES, INTERRUPTED_SEQUENCE, and then, by the value, OVERLONG_ENCODING,
- * UTF16_RESERVED_CODEPOINT or TOO_HIGH_CODEPOINT. So E0 80 41 is NODY_KIND_INTERRUPTED_SEQUENCE and not overlong, and ED A0 at the
- * end is NODY_KIND_TOO_FEW_BYTES though no third byte could make it a character. nody_utf8_streamed_at gives the kind that a
- * reader of one byte at a time sees.
+ * WHICH KIND. The kind of a byte depends on that byte and on the bytes after it. If several kinds apply, it is the first in this
+ * list: UNEXPECTED_CONTINUATION_BYTE, NON_UTF8_BYTE, TOO_FEW_BYTES, INTERRUPTED_SEQUENCE, and then one of OVERLONG_ENCODING,
+ * UTF16_RESERVED_CODEPOINT and TOO_HIGH_CODEPOINT, by the value that the bytes encode. Two examples: E0 80 41 is
+ * INTERRUPTED_SEQUENCE, and not OVERLONG_ENCODING. ED A0 at the end is TOO_FEW_BYTES, although no third byte would make it a
+ * character. A reader of one byte at a time sees other kinds in some cases: see nody_utf8_streamed_at.
  *
- * POINTERS. Bytes and units are passed as a pointer and then a number: a length to read, or a `room` to write into. Where the
- * number is 0 the pointer may be NULL; else it has to be valid for so many. What a call writes must not overlap what it reads.
- * `written`, `read`, `fault`, `left` and `recoder` must not be NULL. Make a recoder by nody_recoder alone. One that was made
- * otherwise may be refused, or recode what it happens to hold; it never writes out of bounds. Make a cursor by nody_bytes or
- * nody_units, or fill it with a pointer that is not NULL and is valid for its length. No call fails in any other way than its
- * comment says, and none sets errno; on x86-64 call nody_supported first.
+ * POINTERS. A pointer and the number after it belong together: the number is a length to read, or a room to write into. If the
+ * number is 0, the pointer may be NULL. Else it must be valid for that many bytes, units or pieces. What a call writes must not
+ * overlap what it reads. `written`, `read`, `fault`, `left` and `recoder` must not be NULL. Make a recoder only by
+ * nody_recoder. If you fill the struct in another way, a call may refuse it, or recode whatever bytes are in it. No call writes
+ * out of bounds. Make a cursor by nody_bytes or nody_units, or fill it with a pointer that is not NULL and is valid for its
+ * length.
  *
- * UNITS. uint16_t has the byte order of the machine. Calls on bytes take the order from the form. NODY_FORM_UTF16_NATIVE is the
- * order of the machine.
+ * ERRORS. A call fails only as its comment says. None sets errno. On x86-64 call nody_supported first.
  *
- * COST. "Linear" is in the length of the input, one pass, with nothing allocated; c/README.md says how many machine
- * instructions each byte costs. "Constant" looks at a few bytes, whatever the length.
+ * UNITS. A uint16_t is in the byte order of the machine: seen as bytes, an array of them has the form NODY_FORM_UTF16_NATIVE. For
+ * UTF-16 in bytes, the form tells the byte order.
+ *
+ * COST. "Constant": the call looks at a few bytes, whatever the length. "Linear": the time grows with the length of the input,
+ * which is read once. c/README.md says how many machine instructions a byte takes.
  */
 #ifndef NODDYCHEST_H
 #define NODDYCHEST_H
@@ -37,7 +45,7 @@
 #include <stddef.h>
 #include <stdint.h>
 
-/* The version of this header. nody_version() is that of the library. */
+/* The version of this header. nody_version() gives the version of the library. */
 #define NODY_VERSION_MAJOR 1
 #define NODY_VERSION_MINOR 0
 #define NODY_VERSION_PATCH 0
@@ -47,35 +55,35 @@
 extern "C" {
 #endif
 
-/* The enums have one byte, so that calls and structs are the same whoever compiles. A compiler of C++11 or C23 knows them as
- * types of their own; before that nody_kind_t, nody_form_t and nody_status_t are other names of uint8_t. */
+/* Each enum has one byte, with every compiler. In C++11, C23 and later it is a type of its own. In older versions it is another
+ * name of uint8_t. */
 #if (defined(__cplusplus) && __cplusplus >= 201103L) || (defined(__STDC_VERSION__) && __STDC_VERSION__ >= 202311L)
 #define NODY_ENUM(name) enum name : uint8_t; typedef enum name name; enum name : uint8_t
 #else
 #define NODY_ENUM(name) typedef uint8_t name; enum
 #endif
 
-/* What a piece is: a character, or what is wrong with a byte or a unit. */
+/* What a piece is: a character, or the reason why a byte or a unit is invalid. */
 NODY_ENUM(nody_kind_t) {
     NODY_KIND_OK = 0,                            /* a character */
-    NODY_KIND_TOO_FEW_BYTES = 1,                 /* fewer bytes are left than the first one asks for */
+    NODY_KIND_TOO_FEW_BYTES = 1,                 /* fewer bytes are left than the first byte needs */
     NODY_KIND_NON_UTF8_BYTE = 2,                 /* C0, C1, or F5 to FF: never in UTF-8 */
     NODY_KIND_UNEXPECTED_CONTINUATION_BYTE = 3,  /* 80 to BF where a character should begin */
-    NODY_KIND_INTERRUPTED_SEQUENCE = 4,          /* a byte that is asked for is not a continuation byte, 80 to BF */
-    NODY_KIND_OVERLONG_ENCODING = 5,             /* the value fits in fewer bytes */
-    NODY_KIND_UTF16_RESERVED_CODEPOINT = 6,      /* the value is a surrogate, D800 to DFFF */
-    NODY_KIND_TOO_HIGH_CODEPOINT = 7,            /* the value is above 10FFFF */
+    NODY_KIND_INTERRUPTED_SEQUENCE = 4,          /* a byte that the first byte needs is not 80 to BF */
+    NODY_KIND_OVERLONG_ENCODING = 5,             /* the bytes encode a character that has a shorter encoding */
+    NODY_KIND_UTF16_RESERVED_CODEPOINT = 6,      /* the bytes encode a surrogate, D800 to DFFF */
+    NODY_KIND_TOO_HIGH_CODEPOINT = 7,            /* the bytes encode a number above 10FFFF */
     NODY_KIND_UNEXPECTED_TRAILING_SURROGATE = 8, /* UTF-16: DC00 to DFFF where a character should begin */
-    NODY_KIND_UNMATCHED_LEADING_SURROGATE = 9,   /* UTF-16: D800 to DBFF, and the next unit is not DC00 to DFFF */
-    NODY_KIND_INCOMPLETE = 10,                   /* UTF-16: D800 to DBFF is the last unit; or a single byte is left of a unit */
+    NODY_KIND_UNMATCHED_LEADING_SURROGATE = 9,   /* UTF-16: D800 to DBFF, where the next unit is not DC00 to DFFF */
+    NODY_KIND_INCOMPLETE = 10,                   /* UTF-16: D800 to DBFF as the last unit; or a single byte at the end */
     NODY_KIND_NONE = 11                          /* no piece: nothing is left */
 };
 
-/* How text stands in bytes. No form has a byte order mark: one in the input is the character U+FEFF, and stays. */
+/* The encoding of text in bytes. A byte order mark is the character U+FEFF. No call looks for one, adds one or takes one away. */
 NODY_ENUM(nody_form_t) {
     NODY_FORM_UTF8 = 0,
-    NODY_FORM_UTF16LE = 1, /* little-endian: of each unit the low byte first */
-    NODY_FORM_UTF16BE = 2  /* big-endian */
+    NODY_FORM_UTF16LE = 1, /* little-endian: the low byte of each unit comes first */
+    NODY_FORM_UTF16BE = 2  /* big-endian: the high byte of each unit comes first */
 };
 
 /* The form of an array of uint16_t on this machine. */
@@ -85,23 +93,23 @@ NODY_ENUM(nody_form_t) {
 #define NODY_FORM_UTF16_NATIVE NODY_FORM_UTF16LE
 #endif
 
-/* The result of a call that is given room to write into. */
+/* The result of a call that writes into a room. */
 NODY_ENUM(nody_status_t) {
-    NODY_STATUS_DONE = 0,    /* all was read, and nothing waits for room */
-    NODY_STATUS_FULL = 1,    /* the next character does not fit in the room that is left */
-    NODY_STATUS_REFUSED = 2, /* a form above 2, or a recoder that holds more than three bytes. Nothing was read or written */
-    NODY_STATUS_FAULT = 3    /* a strict call stopped at an invalid byte, or unit. All before it was written */
+    NODY_STATUS_DONE = 0,    /* the call read all of the input, and wrote all that it had to write */
+    NODY_STATUS_FULL = 1,    /* the next character does not fit into the room that is left */
+    NODY_STATUS_REFUSED = 2, /* a form is above 2, or a recoder holds more than three bytes. Nothing was read or written */
+    NODY_STATUS_FAULT = 3    /* a strict call stopped at a fault. All before the fault was written */
 };
 
 /* A piece. */
 typedef struct {
-    size_t len;       /* in bytes or units: 1 to 4, or 1 to 2; 1 for a fault; 0 for NODY_KIND_NONE */
-    uint32_t scalar;  /* the character's number, or 0 for a fault */
-    nody_kind_t kind; /* NODY_KIND_OK, or what is wrong, or NODY_KIND_NONE */
+    size_t len;       /* of a character 1 to 4 bytes, or 1 to 2 units; of a fault 1; 0 for NODY_KIND_NONE */
+    uint32_t scalar;  /* the number of the character; 0 for all else */
+    nody_kind_t kind; /* NODY_KIND_OK, the reason of the fault, or NODY_KIND_NONE */
 } nody_piece_t;
 
-/* A cursor: what is left of some bytes, or of some units, made by nody_bytes and nody_units. For an empty input the
- * pointer is not NULL, and does not point into your memory. */
+/* A cursor: the bytes, or units, that are still to be taken. nody_bytes and nody_units make it. For an empty input its pointer
+ * points to something else than your memory, and is not NULL. */
 typedef struct {
     const uint8_t *bytes;
     size_t len;
@@ -112,26 +120,26 @@ typedef struct {
     size_t len;
 } nody_units_t;
 
-/* A recoder. It holds at most three bytes between calls: the front of a character whose rest has not come, bytes whose output did
- * not fit in the room, or, of a strict call, bytes that may be a fault. Read them by nody_recoder_held. `replaced` counts from
- * nody_recoder on, over all calls and inputs, and stops at UINT64_MAX. You may read it, and set it to 0. */
+/* A recoder. Between calls it holds at most three bytes of input: the front of a character whose rest has not come, bytes whose
+ * output did not fit into the room, or, after a strict call, bytes that may be a fault. nody_recoder_held gives them. `replaced`
+ * counts over all inputs, and stops at UINT64_MAX. You may read it, and set it to 0. Leave the other fields alone. */
 typedef struct {
     nody_form_t from;
     nody_form_t to;
     uint8_t count;
     uint8_t held[3];
-    uint64_t replaced; /* how many invalid bytes, or units, nody_recoder_feed and nody_recoder_finish replaced by U+FFFD so far */
+    uint64_t replaced; /* how many faults nody_recoder_feed and nody_recoder_finish replaced since nody_recoder */
 } nody_recoder_t;
 
-/* The fault at which a strict call stopped. Where it met none, the kind is NODY_KIND_NONE, and len and back are 0. Its offset
- * in the whole input is the number of bytes that were read so far, by this call too, minus `back`. */
+/* The fault at which a strict call stopped. If the call met no fault, the kind is NODY_KIND_NONE, and len and back are 0. The
+ * offset of the fault in the whole input is the sum of `*read` of all calls, minus `back`. */
 typedef struct {
-    size_t len;       /* in bytes. UTF-8: 1. UTF-16: 2, a lone surrogate, or 1, a single byte at the end */
-    size_t back;      /* how many bytes before the end of what was read it begins; 0 from nody_recode_strict */
-    nody_kind_t kind; /* why it is invalid, or NODY_KIND_NONE */
+    size_t len;       /* in bytes: 1 in UTF-8, 2 for a lone surrogate, 1 for a single byte at the end of UTF-16 */
+    size_t back;      /* the distance from where it begins to the end of what was read; 0 from nody_recode_strict */
+    nody_kind_t kind; /* the reason, or NODY_KIND_NONE */
 } nody_fault_t;
 
-/* The name of a kind, and a sentence about it, in ASCII with zeros after it. */
+/* The name of a kind, and a sentence about a kind. Both are ASCII, with zeros after the last letter. */
 typedef struct {
     char text[32];
 } nody_name_t;
@@ -142,16 +150,22 @@ typedef struct {
 
 /* ---- The library ------------------------------------------------------------------------------------------------------------ */
 
-/* The version of the library that is linked: major * 1000000 + minor * 1000 + patch. Constant. A program that was compiled with
- * this header needs the same major version, and a minor version that is no lower:
+/* The version of the library.
+ *
+ * Result: major * 1000000 + minor * 1000 + patch. A program needs a library of the same major version as its header, and of the
+ * same or a higher minor version.
+ * Errors: none. Cost: constant.
  *
  *     uint32_t version = nody_version();
  *     if (version / 1000000 != NODY_VERSION_MAJOR || version / 1000 < NODY_VERSION / 1000) return other_version();
  */
 uint32_t nody_version(void);
 
-/* Whether this processor has what the library was compiled for, which on x86-64 is x86-64-v2: not 0 where it has. Constant. No
- * other call asks: on a processor without, a call may be stopped by SIGILL.
+/* Whether the library runs on this processor. On x86-64 it needs x86-64-v2.
+ *
+ * Result: 0 if it does not, another number if it does. No other call tests this: on a processor without x86-64-v2 the signal
+ * SIGILL may end your program.
+ * Errors: none. Cost: constant.
  *
  *     if (!nody_supported()) return use_another_library();
  */
@@ -159,8 +173,11 @@ int nody_supported(void);
 
 /* ---- One character ---------------------------------------------------------------------------------------------------------- */
 
-/* The piece that begins the bytes, or the units; NODY_KIND_NONE where len is 0. At most the first four bytes, or two
- * units, decide it; those after them change nothing. Constant.
+/* The first piece of some bytes, or units.
+ *
+ * bytes or units, len: the input. At most its first four bytes, or two units, matter.
+ * Result: the piece, or NODY_KIND_NONE if len is 0.
+ * Errors: none. Cost: constant.
  *
  *     nody_piece_t piece = nody_utf8_first(bytes, len);
  *     if (piece.kind == NODY_KIND_OK) use(piece.scalar);
@@ -168,17 +185,25 @@ int nody_supported(void);
 nody_piece_t nody_utf8_first(const uint8_t *bytes, size_t len);
 nody_piece_t nody_utf16_first(const uint16_t *units, size_t len);
 
-/* The piece that ends the bytes, or the units; NODY_KIND_NONE where len is 0. A fault gets the kind that it has where nothing
- * follows it. If your input goes on after len, reading it from the front may give another kind. If len is a boundary of that
- * input (see nody_boundary_before), the fault is one there too; else its byte may be part of a character. Constant.
+/* The last piece of some bytes, or units.
+ *
+ * bytes or units, len: the input. At most its last four bytes, or two units, matter.
+ * Result: the piece, or NODY_KIND_NONE if len is 0. The kind of a fault is judged as if the input
+ * ended there. If your input goes on after len, a reader from the front may find another kind. If len is not a boundary of your
+ * input, the byte may even belong to a character.
+ * Errors: none. Cost: constant.
  *
  *     size_t shorter = len - nody_utf8_last(bytes, len).len;
  */
 nody_piece_t nody_utf8_last(const uint8_t *bytes, size_t len);
 nody_piece_t nody_utf16_last(const uint16_t *units, size_t len);
 
-/* Writes the bytes, or the units, of a character. The result is how many they are, 1 to 4 or 1 to 2; where it is greater than
- * `room`, nothing was written. 0 where the number is no character: a surrogate or above 10FFFF. The rest of `out` stays. Constant.
+/* Writes one character as UTF-8, or as UTF-16.
+ *
+ * scalar: the number of the character.
+ * out, room: where to write. If the room is too small, nothing is written. Places after the character keep what they had.
+ * Result: the length of the character, 1 to 4 bytes or 1 to 2 units. A result above `room` means that nothing was written.
+ * Errors: 0 if the number is not a character: it is a surrogate, or above 10FFFF. Cost: constant.
  *
  *     uint8_t euro[4];
  *     size_t len = nody_utf8_encode(0x20AC, euro, sizeof euro); // 3: E2 82 AC
@@ -186,10 +211,13 @@ nody_piece_t nody_utf16_last(const uint16_t *units, size_t len);
 size_t nody_utf8_encode(uint32_t scalar, uint8_t *out, size_t room);
 size_t nody_utf16_encode(uint32_t scalar, uint16_t *out, size_t room);
 
-/* The piece that begins at `place`, with the kind that a reader of one byte at a time sees. Where fewer
- * bytes are left than the first one asks for, and one of those after the first is not a continuation byte (80 to BF), the kind is
- * NODY_KIND_INTERRUPTED_SEQUENCE in place of NODY_KIND_TOO_FEW_BYTES. Else the piece is nody_utf8_first of the bytes from `place`
- * on. NODY_KIND_NONE where place is len or more. Constant.
+/* The piece that begins at an offset, with the kind that a reader of one byte at a time sees.
+ *
+ * bytes, len: the input. place: the offset.
+ * Result: what nody_utf8_first gives for the bytes from `place` on, but for one case. If fewer bytes are left than the first byte
+ * needs, and one of them after the first is not 80 to BF, then the kind is NODY_KIND_INTERRUPTED_SEQUENCE, and not
+ * NODY_KIND_TOO_FEW_BYTES. If `place` is len or more, the kind is NODY_KIND_NONE.
+ * Errors: none. Cost: constant.
  *
  *     nody_kind_t kind = nody_utf8_streamed_at((const uint8_t *)"\xf0\x9f!", 3, 0).kind; // NODY_KIND_INTERRUPTED_SEQUENCE
  */
@@ -197,29 +225,47 @@ nody_piece_t nody_utf8_streamed_at(const uint8_t *bytes, size_t len, size_t plac
 
 /* ---- All characters --------------------------------------------------------------------------------------------------------- */
 
-/* The offset of the first fault, or len where there is none: all is then valid UTF-8, or UTF-16. Linear, in blocks.
+/* How far some bytes are valid UTF-8, or some units valid UTF-16.
+ *
+ * bytes or units, len: the input.
+ * Result: the offset of the first fault, or len if all of the input is valid.
+ * Errors: none. Cost: linear, in blocks.
  *
  *     if (nody_utf8_valid_up_to(bytes, len) != len) return invalid();
  */
 size_t nody_utf8_valid_up_to(const uint8_t *bytes, size_t len);
 size_t nody_utf16_valid_up_to(const uint16_t *units, size_t len);
 
-/* The same for bytes in the given form, UTF-8 included. The answer is an offset in bytes. A single byte at the end of UTF-16
- * is a fault. SIZE_MAX where the form is above 2, so compare with `!=`. Linear; of UTF-16 unit by unit.
+/* How far some bytes are valid in a form.
+ *
+ * form: the form, which may also be UTF-8. bytes, len: the input.
+ * Result: the offset in bytes of the first fault, or len if all of the input is valid. A single byte at the end of UTF-16 is a
+ * fault.
+ * Errors: SIZE_MAX if the form is above 2. So compare the result with len by `!=`. Cost: linear; UTF-16 is read unit by unit.
  *
  *     if (nody_utf16_bytes_valid_up_to(NODY_FORM_UTF16BE, bytes, len) != len) return invalid();
  */
 size_t nody_utf16_bytes_valid_up_to(nody_form_t form, const uint8_t *bytes, size_t len);
 
-/* The number of pieces: characters, and faults, each counted as one. Linear, character by character.
+/* The number of pieces: a character counts as one, and so does a fault.
+ *
+ * bytes or units, len: the input.
+ * Result: the number.
+ * Errors: none. Cost: linear, character by character.
  *
  *     size_t count = nody_utf8_char_count((const uint8_t *)"\xe2\x82\xac!", 4); // 2
  */
 size_t nody_utf8_char_count(const uint8_t *bytes, size_t len);
 size_t nody_utf16_char_count(const uint16_t *units, size_t len);
 
-/* A cursor with all of the bytes, or of the units, still to take. They have to stay valid and the same for as long as it is
- * used. */
+/* Makes a cursor over some bytes, or units.
+ *
+ * bytes or units, len: the input. It must stay valid and unchanged for as long as you use the cursor.
+ * Result: the cursor.
+ * Errors: none. Cost: constant.
+ *
+ *     nody_bytes_t left = nody_bytes(bytes, len);
+ */
 static inline nody_bytes_t nody_bytes(const uint8_t *bytes, size_t len) {
     static const uint8_t nothing = 0;
     nody_bytes_t left;
@@ -235,17 +281,19 @@ static inline nody_units_t nody_units(const uint16_t *units, size_t len) {
     return left;
 }
 
-/* Takes the piece that begins, or ends, what is left. What is left decides the piece alone. So taking pieces from the other
- * end can change the kind of a fault, but never where a piece begins or ends. Asked from both ends in any order, a cursor
- * gives each piece once. NODY_KIND_NONE where nothing is left: then the cursor stays. Where something is left, left->bytes is
- * where it begins, and left->bytes + left->len where it ends. A piece just taken by next_back begins at left->bytes +
- * left->len. Constant.
+/* Takes the first piece off a cursor (`next`), or the last piece (`next_back`). You may mix both: each piece comes once.
+ *
+ * left: the cursor. After the call it has what is left. After `next` the piece ended at left->bytes; after `next_back` it began at
+ * left->bytes + left->len.
+ * Result: the piece. If nothing was left, NODY_KIND_NONE, and the cursor does not change. Only what was left decides the piece. So
+ * taking pieces from one end may change the kind of a fault at the other end, but not where it is.
+ * Errors: none. Cost: constant.
  *
  *     nody_bytes_t left = nody_bytes(bytes, len);
  *     nody_piece_t piece;
  *     while ((piece = nody_utf8_next(&left)).kind != NODY_KIND_NONE) {
  *         if (piece.kind == NODY_KIND_OK) use(piece.scalar);
- *         else report(left.bytes - piece.len - bytes, nody_kind_sentence(piece.kind));
+ *         else report(left.bytes - piece.len - bytes, nody_kind_sentence(piece.kind)); // (offset and reason)
  *     }
  */
 nody_piece_t nody_utf8_next(nody_bytes_t *left);
@@ -253,32 +301,49 @@ nody_piece_t nody_utf8_next_back(nody_bytes_t *left);
 nody_piece_t nody_utf16_next(nody_units_t *left);
 nody_piece_t nody_utf16_next_back(nody_units_t *left);
 
-/* Calls `next` until `out` is full or nothing is left. The result is how many pieces were written; the rest of `out` stays. Linear
- * in the result.
+/* Takes many pieces off the front of a cursor.
+ *
+ * left: the cursor, as for `next`. out, room: where to write pieces, and how many. Places after them keep what they had.
+ * Result: how many pieces were written: `room`, or fewer if nothing is left after them.
+ * Errors: none. Cost: linear in the result.
  *
  *     while ((count = nody_utf8_pieces(&left, pieces, 256)) > 0) use(pieces, count);
  */
 size_t nody_utf8_pieces(nody_bytes_t *left, nody_piece_t *out, size_t room);
 size_t nody_utf16_pieces(nody_units_t *left, nody_piece_t *out, size_t room);
 
-/* ---- Where text may be cut -------------------------------------------------------------------------------------------------- */
+/* ---- Where text may be divided ---------------------------------------------------------------------------------------------- */
 
-/* Before: the greatest boundary up to `at`. After: the least boundary from `at` on. A boundary is an offset that is not inside a
- * character, nor in UTF-16 inside a unit. A cut there divides no piece: both parts can be recoded by themselves and joined;
- * only the kind of a fault beside the cut may be another. It is at most three bytes away from `at`; len where at is len or
- * more. SIZE_MAX where the form is above 2: test for that before you use the result. Constant.
+/* The boundary near an offset: nody_boundary_before gives the last one up to `at`, nody_boundary_after the first one from `at` on.
+ * If you divide the input at a boundary and recode each side by itself, the outputs, joined, are the output of the whole. Only the
+ * kind of a fault beside the boundary may differ.
  *
- *     size_t most = nody_boundary_before(NODY_FORM_UTF8, name, len, 255); // as much of a name as fits 255 bytes
+ * form: the form of the input. bytes, len: the input. at: the offset.
+ * Result: the boundary, at most three bytes from `at`. If `at` is len or more, it is len.
+ * Errors: SIZE_MAX if the form is above 2: test for it before you use the result. Cost: constant.
+ *
+ *     size_t most = nody_boundary_before(NODY_FORM_UTF8, name, len, 255); // as much of a name as fits into 255 bytes
  */
 size_t nody_boundary_before(nody_form_t form, const uint8_t *bytes, size_t len, size_t at);
 size_t nody_boundary_after(nody_form_t form, const uint8_t *bytes, size_t len, size_t at);
 
-/* The same of units: at most one unit away. Constant. */
+/* The boundary near an offset, for units.
+ *
+ * units, len: the input. at: the offset, in units.
+ * Result: the boundary, at most one unit from `at`. If `at` is len or more, it is len.
+ * Errors: none. Cost: constant.
+ *
+ *     size_t most = nody_utf16_boundary_before(units, len, 100); // as much as fits into 100 units
+ */
 size_t nody_utf16_boundary_before(const uint16_t *units, size_t len, size_t at);
 size_t nody_utf16_boundary_after(const uint16_t *units, size_t len, size_t at);
 
-/* Where a shard of a large input may end: nody_boundary_before under another name. Shards that end at such places are recoded by
- * themselves, also on several machines, and joined. The last shard ends at `len`. Constant: six bytes around `at` are looked at.
+/* Where a shard of a large input may end. This is nody_boundary_before under another name. If each shard ends where this call
+ * says, and the last one at len, you may recode each by itself, also on several machines, and join the outputs.
+ *
+ * from: the form of the input. bytes, len: the input. at: about where the shard should end.
+ * Result: where it ends, at most three bytes before `at`. If `at` is len or more, it is len.
+ * Errors: SIZE_MAX if the form is above 2. Cost: constant: it looks at six bytes around `at`.
  *
  *     size_t end = i + 1 < count ? nody_shard_end(NODY_FORM_UTF8, bytes, len, (i + 1) * (len / count)) : len;
  */
@@ -286,11 +351,16 @@ size_t nody_shard_end(nody_form_t from, const uint8_t *bytes, size_t len, size_t
 
 /* ---- A whole input recoded -------------------------------------------------------------------------------------------------- */
 
-/* Recodes all of the input into the room. Each faulty byte, or unit, becomes one U+FFFD, and so does a single byte at the end
- * of UTF-16. The forms may be the same. `*written` says how many bytes were written, from the front of the room; the other
- * places stay. NODY_STATUS_DONE: the whole input was recoded. NODY_STATUS_FULL: the room is too small, and the rest is
- * missing; no character is written in part. How far the input was read is not told: to recode part by part, use a recoder from the
- * start. NODY_STATUS_REFUSED: a form is above 2; `*written` is 0. Linear.
+/* Recodes a whole input. Each fault becomes one U+FFFD, and so does a single byte at the end of UTF-16.
+ *
+ * from, to: the forms, which may be the same. in, len: the input.
+ * out, room: where to write, and how many bytes. nody_recoded_len gives a room that is enough.
+ * written: receives how many bytes were written. The places after them keep what they had.
+ * Result:
+ *   NODY_STATUS_DONE: the whole input was recoded.
+ *   NODY_STATUS_FULL: the room is too small. What was written ends after a whole character. You cannot go on from there: to recode
+ *   part by part, use a recoder.
+ * Errors: NODY_STATUS_REFUSED, with 0 in `*written`, if a form is above 2. Cost: linear.
  *
  *     size_t written, room = nody_recoded_len(from, to, bytes, len); // in bytes
  *     uint8_t *out = room < SIZE_MAX ? (uint8_t *)malloc(room + 1) : NULL;
@@ -299,11 +369,17 @@ size_t nody_shard_end(nody_form_t from, const uint8_t *bytes, size_t len, size_t
 nody_status_t nody_recode(nody_form_t from, nody_form_t to, const uint8_t *in, size_t len, uint8_t *out, size_t room,
                           size_t *written);
 
-/* nody_recode that stops at the first fault. `*read` bytes at the front of the input are valid and were recoded, and `*written`
- * bytes came of them; the other places of the room stay. NODY_STATUS_DONE: the whole input is valid and was recoded.
- * NODY_STATUS_FAULT: `*read` is the offset of the fault, which `*fault` describes (its `back` is 0). NODY_STATUS_FULL: the next
- * character does not fit; what follows `*read` was not judged. With three bytes of room for each byte of input this does not
- * happen. NODY_STATUS_REFUSED: a form is above 2; both counts are 0. Linear.
+/* Recodes a whole input, but stops at the first fault.
+ *
+ * from, to, in, len, out, room: as for nody_recode. With three bytes of room for each byte of input the room is always enough.
+ * read: receives how many bytes of the input were recoded. These are valid.
+ * written: receives how many bytes were written. The places after them keep what they had.
+ * fault: receives the fault. Its `back` is 0.
+ * Result:
+ *   NODY_STATUS_DONE: the whole input is valid, and was recoded.
+ *   NODY_STATUS_FAULT: there is a fault. `*read` is its offset.
+ *   NODY_STATUS_FULL: the next character does not fit into the room. The input after `*read` was not judged.
+ * Errors: NODY_STATUS_REFUSED, with 0 in `*read` and `*written`, if a form is above 2. Cost: linear.
  *
  *     switch (nody_recode_strict(from, to, in, len, out, room, &read, &written, &fault)) {
  *     case NODY_STATUS_DONE: return use(out, written);
@@ -314,23 +390,35 @@ nody_status_t nody_recode(nody_form_t from, nody_form_t to, const uint8_t *in, s
 nody_status_t nody_recode_strict(nody_form_t from, nody_form_t to, const uint8_t *in, size_t len, uint8_t *out, size_t room,
                                  size_t *read, size_t *written, nody_fault_t *fault);
 
-/* How many bytes nody_recode writes of this input, given enough room. SIZE_MAX where a size_t cannot count them, or a form is
- * above 2. Linear: it recodes, in parts, into a kilobyte of the stack.
+/* How many bytes nody_recode writes for this input, if the room is enough.
+ *
+ * from, to: the forms. in, len: the input.
+ * Result: the number of bytes.
+ * Errors: SIZE_MAX if a size_t cannot hold the number, or a form is above 2. Cost: linear. It recodes, in parts, into a kilobyte
+ * of the stack.
  *
  *     size_t room = nody_recoded_len(NODY_FORM_UTF8, NODY_FORM_UTF16LE, bytes, len);
  */
 size_t nody_recoded_len(nody_form_t from, nody_form_t to, const uint8_t *in, size_t len);
 
-/* A bound: the most bytes that any input of `len` bytes is recoded as, at most three for each. For a part that a recoder is fed,
- * add to `len` the bytes that it holds. SIZE_MAX where a size_t cannot count them, or a form is above 2. Constant.
+/* The most bytes that any input of this length can become: at most three for each byte.
+ *
+ * from, to: the forms. len: the length of the input. For one part that you feed to a recoder, add the number of bytes that the
+ * recoder holds.
+ * Result: the number of bytes.
+ * Errors: SIZE_MAX if a size_t cannot hold the number, or a form is above 2. Cost: constant.
  *
  *     size_t most = nody_recoded_len_max(NODY_FORM_UTF8, NODY_FORM_UTF16LE, 100); // 200
  */
 size_t nody_recoded_len_max(nody_form_t from, nody_form_t to, size_t len);
 
-/* nody_recode between UTF-8 and an array of uint16_t. A length, `room` or `*written` counts units for a uint16_t pointer, and
- * bytes for a uint8_t pointer. A count of units that you pass must be below SIZE_MAX / 2, which is not checked. (Do not cast a
- * buffer of bytes to uint16_t *: for bytes use nody_recode.)
+/* nody_recode between UTF-8 and an array of uint16_t.
+ *
+ * in, len, out, room, written: as for nody_recode. A number that belongs to a uint16_t pointer counts units, and one that belongs
+ * to a uint8_t pointer counts bytes. A number of units must be below SIZE_MAX / 2: this is not checked. Do not cast a buffer of
+ * bytes to uint16_t *. For UTF-16 in bytes call nody_recode.
+ * Result: NODY_STATUS_DONE, or NODY_STATUS_FULL if the room is too small.
+ * Errors: none. Cost: linear.
  *
  *     size_t count, size = nody_recoded_len(NODY_FORM_UTF8, NODY_FORM_UTF16_NATIVE, bytes, len); // in bytes
  *     uint16_t *units = size < SIZE_MAX ? (uint16_t *)malloc(size + 1) : NULL;
@@ -347,18 +435,31 @@ static inline nody_status_t nody_utf16_to_utf8(const uint16_t *in, size_t len, u
 
 /* ---- Input that comes in parts ---------------------------------------------------------------------------------------------- */
 
-/* A recoder that holds nothing and has replaced nothing. The forms may be the same: then valid text is copied, and each fault
- * becomes U+FFFD. A form above 2 makes a recoder that the calls refuse. Constant. */
+/* Makes a recoder, which holds nothing and has replaced nothing.
+ *
+ * from, to: the forms. They may be the same: then valid text is copied, and each fault becomes U+FFFD.
+ * Result: the recoder.
+ * Errors: if a form is above 2, all calls refuse this recoder. Cost: constant.
+ *
+ *     nody_recoder_t recoder = nody_recoder(NODY_FORM_UTF8, NODY_FORM_UTF16LE);
+ */
 nody_recoder_t nody_recoder(nody_form_t from, nody_form_t to);
 
-/* Feeds a part of the input, as far as there is room: `*read` bytes of it were fed, and `*written` bytes
- * at the front of the room came of it. What comes out is the same however the input is cut into parts. Linear.
- * NODY_STATUS_DONE: the whole part was read, and nothing waits for room. NODY_STATUS_FULL: call again with the rest of the part,
- * even if nothing is left of it, and with new room; the same buffer will do once you have emptied it. Up to three of the bytes
- * counted in `*read` may be held in the recoder: do not feed them again. NODY_STATUS_REFUSED: both counts are 0. Give room for
- * four bytes or more: then each call that answers NODY_STATUS_FULL has written something. A loop that calls again with the
- * same room of 3 bytes or less may never end. `recoder->replaced` grows by the number of invalid bytes, or units, for which
- * this call wrote U+FFFD; a U+FFFD in the input does not count.
+/* Feeds the next part of the input to a recoder. The output of all calls, joined, does not depend on how the input is divided into
+ * parts.
+ *
+ * recoder: the recoder. For each fault that the call replaces, `recoder->replaced` grows by 1. A U+FFFD in the input does not
+ * count.
+ * in, in_len: the part.
+ * out, room: where to write, and how many bytes. Give room for four bytes or more: with less, a loop may never end.
+ * read: receives how many bytes of the part were read. The recoder may hold up to three of them: do not feed them again.
+ * written: receives how many bytes were written.
+ * Result:
+ *   NODY_STATUS_DONE: the whole part was read, and nothing waits for room.
+ *   NODY_STATUS_FULL: the next character does not fit. Empty `out`, and call again with the rest of the part, even if that is
+ *   empty.
+ * Errors: NODY_STATUS_REFUSED, with 0 in `*read` and `*written`, if a form of the recoder is above 2, or it holds more than three
+ * bytes. Cost: linear.
  *
  *     do {
  *         status = nody_recoder_feed(&recoder, in + place, len - place, out, sizeof out, &read, &written);
@@ -370,10 +471,15 @@ nody_recoder_t nody_recoder(nody_form_t from, nody_form_t to);
 nody_status_t nody_recoder_feed(nody_recoder_t *recoder, const uint8_t *in, size_t in_len, uint8_t *out, size_t room, size_t *read,
                                 size_t *written);
 
-/* Puts out what is held, when no more input follows: at most nine bytes. NODY_STATUS_FULL: call this again, and not
- * nody_recoder_feed, with new room; what was written is not held any more. NODY_STATUS_REFUSED: `*written` is 0. Give room for
- * four bytes or more, as for nody_recoder_feed. `recoder->replaced` grows as there: after NODY_STATUS_DONE it is the number
- * for the whole input. The recoder then holds nothing and may be fed another input, on which it goes on counting. Constant.
+/* Ends the input: writes what the recoder still holds, at most nine bytes. After NODY_STATUS_DONE you may feed another input.
+ *
+ * recoder: the recoder. `recoder->replaced` grows as for nody_recoder_feed, and is not reset.
+ * out, room: where to write, and how many bytes. Give room for four bytes or more.
+ * written: receives how many bytes were written.
+ * Result:
+ *   NODY_STATUS_DONE: all was written. The recoder holds nothing.
+ *   NODY_STATUS_FULL: the next character does not fit. Empty `out`, and call this again, and not nody_recoder_feed.
+ * Errors: NODY_STATUS_REFUSED, with 0 in `*written`, as for nody_recoder_feed. Cost: constant.
  *
  *     do {
  *         status = nody_recoder_finish(&recoder, out, sizeof out, &written);
@@ -383,15 +489,22 @@ nody_status_t nody_recoder_feed(nody_recoder_t *recoder, const uint8_t *in, size
  */
 nody_status_t nody_recoder_finish(nody_recoder_t *recoder, uint8_t *out, size_t room, size_t *written);
 
-/* nody_recoder_feed that stops at the first fault. Its bytes count as read, and nothing is written for them: what was written is
- * all before it. `*fault` says what it is, and where: add up `*read` of all calls, this one too, and subtract `fault.back`. So it
- * may begin in an earlier part. What comes out, and the faults, are the same however the input is cut into parts.
- * NODY_STATUS_FAULT: to go on after the fault, call again with the rest of the part, even if nothing is left of it; to refuse
- * the input, do not. NODY_STATUS_DONE: the whole part was read. The last bytes, three at most, are held where it depends on bytes
- * that have not come whether they are a fault, or of which kind: after E9 0A a third byte decides between
- * NODY_KIND_INTERRUPTED_SEQUENCE and NODY_KIND_TOO_FEW_BYTES. NODY_STATUS_FULL and NODY_STATUS_REFUSED are as for
- * nody_recoder_feed; in room for four bytes or more a loop as below ends. Nothing is replaced, and `recoder->replaced` stays. This
- * call and nody_recoder_feed may take turns: each goes on from what the recoder holds. Linear.
+/* Feeds the next part of the input, but stops at the first fault. What is written, and the faults, do not depend on how the
+ * input is divided into parts.
+ *
+ * recoder: the recoder. `recoder->replaced` does not change. You may mix calls of this and of nody_recoder_feed.
+ * in, in_len, out, room, written: as for nody_recoder_feed. What was written is all the text before the fault.
+ * read: receives how many bytes of the part were read, those of the fault included.
+ * fault: receives the fault. Its offset in the whole input is the sum of `*read` of all calls, this one included, minus
+ * `fault->back`. It may lie in an earlier part.
+ * Result:
+ *   NODY_STATUS_DONE: the whole part was read. The recoder holds its last bytes, at most three, if later bytes decide whether
+ *   they are a fault, or of which kind. After E9 0A, for example, the kind of E9 is NODY_KIND_INTERRUPTED_SEQUENCE if a third byte
+ *   comes, and NODY_KIND_TOO_FEW_BYTES if the input ends.
+ *   NODY_STATUS_FAULT: the call stopped at a fault. To refuse the input, stop. To go on after the fault, call again with the rest
+ *   of the part, even if that is empty.
+ *   NODY_STATUS_FULL: as for nody_recoder_feed.
+ * Errors: NODY_STATUS_REFUSED, as for nody_recoder_feed. Cost: linear.
  *
  *     do {
  *         status = nody_recoder_feed_strict(&recoder, in + place, len - place, out, sizeof out, &read, &written, &fault);
@@ -403,9 +516,15 @@ nody_status_t nody_recoder_finish(nody_recoder_t *recoder, uint8_t *out, size_t 
 nody_status_t nody_recoder_feed_strict(nody_recoder_t *recoder, const uint8_t *in, size_t in_len, uint8_t *out, size_t room,
                                        size_t *read, size_t *written, nody_fault_t *fault);
 
-/* nody_recoder_finish that stops at the first fault: what is held is the end of the input. NODY_STATUS_FAULT: all before the
- * fault was written, and the fault is not held any more; its offset is the number of bytes that were read in all, minus
- * `fault.back`. To go on after it, call this again. Nothing is read; the other statuses are as for nody_recoder_finish. Constant.
+/* Ends the input, but stops at the first fault. An input that ends inside a character ends with a fault.
+ *
+ * recoder: the recoder. `recoder->replaced` does not change.
+ * out, room, written: as for nody_recoder_finish.
+ * fault: receives the fault. Its offset is the sum of `*read` of all calls, minus `fault->back`.
+ * Result:
+ *   NODY_STATUS_DONE, NODY_STATUS_FULL: as for nody_recoder_finish.
+ *   NODY_STATUS_FAULT: the call stopped at a fault, which the recoder holds no longer. To go on after it, call this again.
+ * Errors: NODY_STATUS_REFUSED, as for nody_recoder_finish. Cost: constant.
  *
  *     do {
  *         status = nody_recoder_finish_strict(&recoder, out, sizeof out, &written, &fault);
@@ -415,15 +534,19 @@ nody_status_t nody_recoder_feed_strict(nody_recoder_t *recoder, const uint8_t *i
  */
 nody_status_t nody_recoder_finish_strict(nody_recoder_t *recoder, uint8_t *out, size_t room, size_t *written, nody_fault_t *fault);
 
-/* nody_recoder_feed that writes one U+FFFD for each maximal subpart, as the Unicode standard recommends (chapter 3, "U+FFFD
- * Substitution of Maximal Subparts"), and as browsers, Python's errors="replace" and Rust's from_utf8_lossy do. A maximal
- * subpart is the longest run of one to three bytes that begins like a valid character and does not complete it: E2 82 41
- * becomes U+FFFD A. Where there is no such start, it is one byte: E0 80 becomes U+FFFD U+FFFD. Of UTF-16 it is an invalid
- * unit, or a single byte at the end. So for UTF-16, and for valid input, this call and nody_recoder_feed write the same.
- * `*read`, `*written` and the statuses are as for nody_recoder_feed, and so is the loop. `recoder->replaced` does not change.
- * This call, nody_recoder_feed and nody_recoder_feed_strict may take turns: each goes on from what the recoder holds. End the
- * input by nody_recoder_finish_lossy. Do not cut an input for it at a boundary of nody_boundary_before: such a place may lie
- * inside a maximal subpart. Linear.
+/* Feeds the next part of the input, and writes one U+FFFD for each maximal subpart, and not for each fault. The Unicode standard
+ * recommends this (chapter 3, "U+FFFD Substitution of Maximal Subparts"). Browsers, Python's errors="replace" and Rust's
+ * from_utf8_lossy do it. A maximal subpart is the longest run of bytes, one to three, that begins like a valid character and does
+ * not complete it: E2 82 in E2 82 41, which becomes U+FFFD A. Any other invalid byte is a maximal subpart alone: E0 80 becomes
+ * U+FFFD U+FFFD, since no valid character begins with E0 80. In UTF-16, and in valid input, this call and nody_recoder_feed write
+ * the same.
+ *
+ * recoder: the recoder. `recoder->replaced` does not change. You may mix calls of this, of nody_recoder_feed and of
+ * nody_recoder_feed_strict. End the input by nody_recoder_finish_lossy.
+ * in, in_len: the part. Do not divide an input at a boundary of nody_boundary_before and recode each side by itself: the boundary
+ * may lie inside a maximal subpart. (Parts that you feed to one recoder may end anywhere.)
+ * out, room, read, written: as for nody_recoder_feed.
+ * Result, errors, cost: as for nody_recoder_feed. The loop is the same.
  *
  *     nody_recoder_t recoder = nody_recoder(NODY_FORM_UTF8, NODY_FORM_UTF8);
  *     nody_recoder_feed_lossy(&recoder, (const uint8_t *)"\xe2\x82" "A", 3, out, sizeof out, &read, &written); // 4: EF BF BD 41
@@ -431,16 +554,22 @@ nody_status_t nody_recoder_finish_strict(nody_recoder_t *recoder, uint8_t *out, 
 nody_status_t nody_recoder_feed_lossy(nody_recoder_t *recoder, const uint8_t *in, size_t in_len, uint8_t *out, size_t room,
                                       size_t *read, size_t *written);
 
-/* nody_recoder_finish after nody_recoder_feed_lossy: bytes of UTF-8 that are held, which are the front of a character, become one
- * U+FFFD. `*written` and the statuses are as for nody_recoder_finish. `recoder->replaced` does not change. Constant.
+/* Ends the input after nody_recoder_feed_lossy. If the recoder holds the front of a character of UTF-8, that becomes one U+FFFD.
+ *
+ * recoder: the recoder. `recoder->replaced` does not change.
+ * out, room, written: as for nody_recoder_finish.
+ * Result, errors, cost: as for nody_recoder_finish.
  *
  *     nody_recoder_feed_lossy(&recoder, (const uint8_t *)"\xf0\x9f\x98", 3, out, sizeof out, &read, &written); // 0: they are held
  *     nody_recoder_finish_lossy(&recoder, out, sizeof out, &written);                                         // 3: EF BF BD
  */
 nody_status_t nody_recoder_finish_lossy(nody_recoder_t *recoder, uint8_t *out, size_t room, size_t *written);
 
-/* How many bytes the recoder holds, 0 to 3: those of the input that were read and not yet recoded. They are written to `out` if
- * `room` is at least that many. SIZE_MAX where a form is above 2, or the struct holds more than three bytes. Constant.
+/* The bytes that a recoder holds: those of the input that were read and not recoded yet.
+ *
+ * recoder: the recoder. out, room: where to write them. If the room is too small, nothing is written.
+ * Result: how many they are, 0 to 3.
+ * Errors: SIZE_MAX if a form of the recoder is above 2, or it holds more than three bytes. Cost: constant.
  *
  *     uint8_t held[3];
  *     size_t count = nody_recoder_held(&recoder, held, sizeof held);
@@ -449,13 +578,27 @@ size_t nody_recoder_held(const nody_recoder_t *recoder, uint8_t *out, size_t roo
 
 /* ---- Kinds in words --------------------------------------------------------------------------------------------------------- */
 
-/* Writes the address of the name of a kind, or of a sentence about it, to `*name` or `*sentence`. Before the call
- * `*name` or `*sentence` must be a valid pointer: for a number that is no kind it stays as it was. Names and sentences live as
- * long as the program. From C and C++ call the two functions below. Constant. */
+/* Writes the address of the name of a kind, or of a sentence about it. From C and C++ call nody_kind_name and nody_kind_sentence
+ * below, which are easier.
+ *
+ * kind: the kind. name or sentence: receives the address. Names and sentences live as long as the program.
+ * Errors: if the number is no kind, `*name` or `*sentence` stays as it was. So put a valid pointer there before. Cost: constant.
+ *
+ *     static const nody_name_t unknown = {"?"};
+ *     const nody_name_t *name = &unknown;
+ *     nody_put_kind_name(kind, &name);
+ */
 void nody_put_kind_name(nody_kind_t kind, const nody_name_t **name);
 void nody_put_kind_sentence(nody_kind_t kind, const nody_sentence_t **sentence);
 
-/* The name of a kind, as "OverlongEncoding", or "?" of a number that is no kind. */
+/* The name of a kind.
+ *
+ * kind: the kind.
+ * Result: the name, such as "OverlongEncoding". It lives as long as the program.
+ * Errors: "?" if the number is no kind. Cost: constant.
+ *
+ *     puts(nody_kind_name(piece.kind));
+ */
 static inline const char *nody_kind_name(nody_kind_t kind) {
     static const nody_name_t unknown = {"?"};
     const nody_name_t *name = &unknown;
@@ -463,7 +606,14 @@ static inline const char *nody_kind_name(nody_kind_t kind) {
     return name->text;
 }
 
-/* What a kind means, as "overlong encoding: the value has a shorter code", or "?" of a number that is no kind. */
+/* What a kind means.
+ *
+ * kind: the kind.
+ * Result: a sentence, such as "overlong encoding: the value has a shorter code". It lives as long as the program.
+ * Errors: "?" if the number is no kind. Cost: constant.
+ *
+ *     puts(nody_kind_sentence(piece.kind));
+ */
 static inline const char *nody_kind_sentence(nody_kind_t kind) {
     static const nody_sentence_t unknown = {"?"};
     const nody_sentence_t *sentence = &unknown;

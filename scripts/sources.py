@@ -182,6 +182,18 @@ def read_rest(function, lines, number):
     function.lines = range(number, at + 1)
 
 
+def without_clauses(lines):
+    """A function without what it promises and without attributes, moved to the left edge."""
+    kept, indent, is_clause = [], len(lines[0]) - len(lines[0].lstrip(" ")), False
+    for line in lines:
+        text, deep = line[indent:] if line.strip() else "", len(line) - len(line.lstrip(" ")) - indent
+        is_clause = bool(re.match(r" +(requires|ensures|ghost)\b", text)) or is_clause and deep > 4 and kept[-1] != "{"
+        if not is_clause and not text.startswith("#["):
+            kept.append(text)
+    joined = "\n".join(kept)
+    return re.sub(r"([^\n{])\n\{\n", r"\1 {\n", joined, count=1).split("\n")
+
+
 def pairs_of(edit):
     """The pairs of texts of a wrong body: the file, what stands there, and what is put in its place."""
     found, path, old = [], "", None

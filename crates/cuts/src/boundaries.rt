@@ -37,8 +37,8 @@ pub fn ceil(bytes: &[u8], place: usize) -> usize
     }
 }
 
-/// The offset of the beginning of that character or invalid byte to which the byte before this
-/// offset belongs.
+/// The offset at which the piece begins that has the byte before this offset. A piece is a
+/// character or one invalid byte.
 ///
 /// Condition: the place is above 0 and at most the length.
 pub fn previous(bytes: &[u8], place: usize) -> usize
@@ -49,8 +49,8 @@ pub fn previous(bytes: &[u8], place: usize) -> usize
     floor(bytes, place - 1)
 }
 
-/// The offset of the end of that character or invalid byte to which the byte at this offset
-/// belongs.
+/// The offset at which the piece ends that has the byte at this offset. A piece is a character or
+/// one invalid byte.
 ///
 /// Condition: the place is below the length.
 pub fn following(bytes: &[u8], place: usize) -> usize
@@ -60,8 +60,8 @@ pub fn following(bytes: &[u8], place: usize) -> usize
     ceil(bytes, place + 1)
 }
 
-/// The longest front of the bytes that ends at a boundary and has at most `most` bytes. That is all of them,
-/// where they are no more than `most`.
+/// The longest front of the bytes that ends at a boundary and has at most `most` bytes: all of the bytes, if they are
+/// no more than `most`.
 pub fn truncated(bytes: &[u8], most: usize) -> &[u8]
     ensures front { result.now ≡ take (length result.now) bytes.now }
     ensures last { IsLastBetween bytes.now (min most (length bytes.now)) (length result.now) }

@@ -29,11 +29,9 @@ impl<'a> Model for SplitLines<'a> {
     ghost view = { λ l. lines_left l.ended l.parts };
 }
 
-/// The lines of the bytes, as `str::lines` of std: a line ends at `\n` or `\r\n`, which is no part of
-/// it, or with the bytes. What follows the last `\n` is a line where it has a byte. A `\r` alone ends
-/// no line.
-///
-/// The bytes may be damaged. No character lies over an end of a line.
+/// The lines of the bytes, as `str::lines` of std. A line ends at `\n` or `\r\n`, which does not belong to it, or at
+/// the end of the bytes. What follows the last `\n` is a line if it has a byte. A `\r` alone ends no line. The bytes
+/// may be invalid. No line begins or ends inside a character.
 #[tactic(auto, using(crate::proofs::LinesOfParts::are_lines, crate::proofs::SplitPlaces::lines_lie, crate::proofs::SplitPlaces::each_lies, crate::proofs::SplitPlaces::each_lies_back, crate::proofs::LinesOfParts::few_lines))]
 pub fn lines(bytes: &[u8]) -> SplitLines<'_>
     ensures list { result ≡ lines_by bytes.now }
@@ -73,7 +71,7 @@ impl<'a> Iterator for SplitLines<'a> {
         Some(part)
     }
 
-    /// Bounds of how many lines remain: (none; as many as there may be parts between line feeds).
+    /// Bounds of how many lines remain: (none; as many as there may be fields between line feeds).
     fn size_hint(&self) -> (usize, Option<usize>)
         ensures lower { IsWithinCount result.0 (item_count (λ left. left) self.now) }
         ensures upper { IfSome result.1 (UpTo (item_count (λ left. left) self.now)) }

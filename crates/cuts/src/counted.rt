@@ -14,8 +14,8 @@ use std::io;
 use std::io::{ErrorKind, Read, Write};
 use std::marker::Model;
 
-/// A reader or writer with counts of how its calls went. Contracts are stated in these counts; no
-/// call reads them.
+/// A reader or a writer that counts how its calls went. Only contracts use the counts: no call
+/// reads them.
 #[derive(Drop)]
 pub struct Counted<T> {
     inner: T,

@@ -15,9 +15,10 @@ use encode_unicode::{Steps, Utf8Char};
 use std::alloc::{AllocError, Allocator};
 use std::marker::Model;
 
-/// Bytes and their pieces, kept together while the bytes are edited. Contracts see both.
+/// Bytes and their pieces, which are kept up to date while the bytes are edited. Contracts see
+/// both.
 ///
-/// A change of the bytes reaches few pieces: `replace` decodes those alone, and moves the others.
+/// A change of the bytes reaches few pieces: `replace` decodes only those, and moves the others.
 #[derive(Drop)]
 pub struct PieceTable<A: Allocator + Copy> {
     bytes: Vec<u8, A>,
@@ -36,7 +37,7 @@ impl<A: Allocator + Copy> Model for PieceTable<A> {
 }
 
 impl<A: Allocator + Copy> PieceTable<A> {
-    /// The table of a copy of the bytes. The error is that memory was refused.
+    /// A table of a copy of the bytes. The error is that memory was refused.
     ///
     /// Cost: O(n), allocates.
     pub fn new(alloc: A, bytes: &[u8]) -> Result<PieceTable<A>, AllocError>
@@ -60,7 +61,8 @@ impl<A: Allocator + Copy> PieceTable<A> {
         self.bytes.as_slice()
     }
 
-    /// All pieces of the bytes, in order, with the errors that a decoder gives from the front.
+    /// All pieces of the bytes, in order: (offset, character or error, length). The errors are
+    /// those that a decoder gives from the front.
     pub fn pieces(&self) -> &[Item]
         ensures held { result.now ≡ self.now.pieces }
         ensures run { IsForwardRun self.now.bytes result.now }
@@ -73,12 +75,12 @@ impl<A: Allocator + Copy> PieceTable<A> {
         self.pieces.as_slice()
     }
 
-    /// Replaces the bytes from `start` to `end` by `new`, and counts in `steps` the pieces that it
-    /// decodes.
+    /// Replaces the bytes from `start` up to `end`, `end` not included, by `new`. It counts in
+    /// `steps` the pieces that it decodes.
     ///
-    /// The error says that memory was refused, or that there would be more bytes than a `usize`
-    /// counts. The table is then as it was. Where `start` is `end` and `new` is empty, no memory is
-    /// asked for.
+    /// The error is that memory was refused, or that a `usize` cannot count the bytes. The table is
+    /// then as it was. If nothing is replaced by nothing (`start` is `end`, and `new` is empty), no
+    /// memory is asked for.
     ///
     /// Condition: `start` is at most `end`, and `end` at most the length.
     ///

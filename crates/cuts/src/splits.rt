@@ -98,7 +98,7 @@ impl<'a> Clone for Span<'a> {
     }
 }
 
-/// The parts of bytes between separators, from both ends: what `split_ascii` makes.
+/// The fields of bytes between separators, from both ends: what `split_ascii` makes.
 #[derive(Debug, Drop)]
 pub struct SplitAscii<'a> {
     start: usize,
@@ -118,8 +118,8 @@ impl<'a> Model for SplitAscii<'a> {
     ghost invariant = { λ s. s.start + length s.rest.now < 2 ^ 64 };
 }
 
-/// The parts of the bytes between the separators, as `slice::split` of std: n separators give n + 1
-/// parts, and empty bytes one empty part. No character lies over an end of a part.
+/// The fields of the bytes between the separators, as `slice::split` of std: n separators give n +
+/// 1 fields, and empty bytes one empty field. No field begins or ends inside a character.
 ///
 /// Condition: the separator is below 0x80.
 #[tactic(auto, using(crate::proofs::SplitLemmas::split_bytes, crate::proofs::SplitLemmas::split_length, crate::proofs::SplitPlaces::parts_lie, crate::proofs::SplitPlaces::each_lies, crate::proofs::SplitPlaces::each_lies_back, crate::proofs::SplitPlaces::spans_run, crate::proofs::SplitPlaces::spans_run_back))]
@@ -172,9 +172,9 @@ impl<'a> Iterator for SplitAscii<'a> {
 
     ghost remaining = { item_count (λ left. left) };
 
-    /// The part at the front, and `None` once all were given.
+    /// The field at the front, and `None` once all were given.
     ///
-    /// Cost: O(n) in the part.
+    /// Cost: O(n) in the field.
     fn next(&mut self) -> Option<Span<'a>> {
         if self.done {
             return None;
@@ -184,7 +184,7 @@ impl<'a> Iterator for SplitAscii<'a> {
         Some(part)
     }
 
-    /// Bounds of how many parts remain: (one until all were given; one more than there are bytes).
+    /// Bounds of how many fields remain: (one until all were given; one more than there are bytes).
     #[tactic(auto, using(crate::proofs::SplitLemmas::some_left, crate::proofs::SplitLemmas::few_left))]
     fn size_hint(&self) -> (usize, Option<usize>)
         ensures lower { IsWithinCount result.0 (item_count (λ left. left) self.now) }
@@ -200,9 +200,9 @@ impl<'a> Iterator for SplitAscii<'a> {
 impl<'a> DoubleEndedIterator for SplitAscii<'a> {
     ghost next_back_gives = { YieldsLast (λ left. left) };
 
-    /// The part at the back, and `None` once all were given.
+    /// The field at the back, and `None` once all were given.
     ///
-    /// Cost: O(n) in the part.
+    /// Cost: O(n) in the field.
     fn next_back(&mut self) -> Option<Span<'a>> {
         if self.done {
             return None;
@@ -218,7 +218,7 @@ impl<'a> Clone for SplitAscii<'a> {
 
     ghost is_infallible = { λ _. ⊤ };
 
-    /// A second iterator over the parts that remain. It never fails.
+    /// A second iterator over the fields that remain. It never fails.
     fn clone(&self) -> Result<SplitAscii<'a>, AllocError> {
         Ok(SplitAscii {
             start: self.start,

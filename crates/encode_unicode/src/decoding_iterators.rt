@@ -19,13 +19,14 @@ mod back_scan;
 
 /// Splits a slice of bytes into characters and single invalid bytes, from both ends.
 ///
-/// An item is (offset, result, length): the offset in bytes from the front of the slice that the
-/// decoder was made from, the character or the error, and how many bytes it has. An error always
-/// has length 1: the next byte is judged anew, so no error hides an ASCII character.
+/// An item is (offset, result, length). For the bytes `h`, `C3`, `A9`, `FF` the items are `(0,
+/// Ok('h'), 1)`, `(1, Ok('é'), 2)` and `(3, Err(error), 1)`, where the kind of the error is
+/// `NonUtf8Byte`. The offset counts from the front of the slice that the decoder was made from. The
+/// length is in bytes. Of an error it is always 1, and decoding goes on at the next byte: so no
+/// error hides an ASCII character.
 ///
-/// One call looks at the bytes that remain and at nothing else. Which kind an error has is decided
-/// by `CharExt::from_utf8_slice_start` on what remains; from the back by
-/// `Utf8Char::from_slice_end`.
+/// Only the bytes that remain decide an item. `CharExt::from_utf8_slice_start` says which kind an
+/// error has from the front, and `Utf8Char::from_slice_end` which kind it has from the back.
 #[derive(Drop)]
 pub struct Utf8CharDecoder<'a> {
     slice: &'a [u8],
@@ -68,9 +69,8 @@ impl<'a> Utf8CharDecoder<'a> {
         &self.slice[self.front..self.back]
     }
 
-    /// `next_back`, which counts in `steps` the bytes that it looks at.
-    ///
-    /// It looks at the last byte, and while it sees continuation bytes, at the one before, up to
+    /// `next_back`, which also counts in `steps` the bytes that it looks at. It looks at the last
+    /// byte. While the byte that it sees is a continuation byte, it looks at the one before, up to
     /// four bytes in all. Where no byte remains it looks at none.
     #[inline(always)]
     pub fn next_back_counted(

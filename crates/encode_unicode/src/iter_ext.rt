@@ -56,8 +56,8 @@ impl<I: Iterator<Item = u16>> U16IterExt for I {
 
 /// Methods of every iterator of `Utf8Char`.
 ///
-/// The calls that collect and extend take memory for one whole character at a time, so that no part
-/// of a character stands where memory is refused. The source's `size_hint` is not used.
+/// The calls that collect and extend take memory for one whole character at a time: where memory is
+/// refused, no character is incomplete. The source's `size_hint` is not used.
 pub trait Utf8CharIterExt: Iterator<Item = Utf8Char> + Sized {
     /// The bytes of the characters, one character after another.
     fn to_bytes(self) -> Utf8CharSplitter<Self>
@@ -158,8 +158,8 @@ impl<I: Iterator<Item = Utf8Char>> Utf8CharIterExt for I {
 
 /// Methods of every iterator of `Utf16Char`.
 ///
-/// The calls that collect and extend take memory for one whole character at a time, so that no part
-/// of a character stands where memory is refused. The source's `size_hint` is not used.
+/// The calls that collect and extend take memory for one whole character at a time: where memory is
+/// refused, no character is incomplete. The source's `size_hint` is not used.
 pub trait Utf16CharIterExt: Iterator<Item = Utf16Char> + Sized {
     /// The units of the characters, one character after another.
     fn to_units(self) -> Utf16CharSplitter<Self>

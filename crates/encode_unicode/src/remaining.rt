@@ -16,10 +16,10 @@ use std::alloc::AllocError;
 use std::fmt;
 use std::marker::Model;
 
-/// What a merger of bytes has not used: the bytes that it held, in order, and then those that its
+/// What a merger of bytes has not decoded: the bytes that it held, in order, and then those that its
 /// source still gives.
 ///
-/// The source is not asked again once it has given `None`. Contracts see what is held, the source,
+/// Once the source has given `None`, it is not called again. Contracts see what is held, the source,
 /// and whether it has ended.
 #[derive(Drop)]
 pub struct RemainingBytes<I> {

@@ -4,12 +4,12 @@ ghost use Rattle.std.specs.Prelude.{◌≡◌, ◌+◌};
 use crate::tally::Tally;
 use std::marker::Model;
 
-/// How many steps a call took, or, in a reader or writer that is counted, how many calls failed: a
-/// number for contracts alone. At run time it is nothing.
+/// A count for contracts alone: how many steps a call took, or how many calls of a reader or writer
+/// failed. At run time it is nothing.
 ///
-/// A call that takes steps, as `Utf8CharDecoder::next_back_counted` does, ticks once for each, and
-/// its contract says how many they are at most. Where you state nothing about steps, pass `&mut
-/// Steps::new()`.
+/// A call that takes steps, as `Utf8CharDecoder::next_back_counted` does, ticks once for each step.
+/// Its contract says how many there are at most. If your contracts say nothing about steps, pass
+/// `&mut Steps::new()`.
 #[derive(Drop)]
 pub struct Steps {
     taken: Tally,

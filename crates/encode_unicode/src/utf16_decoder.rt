@@ -19,11 +19,15 @@ use utf_chars::utf16_char::Utf16Char;
 
 /// Splits a slice of UTF-16 units into characters and lone surrogates, from both ends.
 ///
-/// An item is (offset, result, length): the offset in units from the front of the slice that the
-/// decoder was made from, the character or the error, and how many units it has. An error always
-/// has length 1: the next unit is judged anew. The units that remain decide which kind it has:
-/// `UnexpectedTrailingSurrogate`; `UnmatchedLeadingSurrogate` where the unit after it is not a
-/// trailing surrogate; `Incomplete` where nothing follows (RFC 2781, section 2.2).
+/// An item is (offset, result, length). For the units `0068`, `D800`, `D83D`, `DE00` the items are
+/// `(0, Ok('h'), 1)`, `(1, Err(error), 1)`, where the error is `UnmatchedLeadingSurrogate`, and
+/// `(2, Ok('😀'), 2)`. The offset counts from the front of the slice that the decoder was made from.
+/// The length is in units. Of an error it is always 1, and decoding goes on at the next unit.
+///
+/// Only the units that remain decide an item. A trailing surrogate where a character should begin
+/// is `UnexpectedTrailingSurrogate`. A leading surrogate is `UnmatchedLeadingSurrogate` where the
+/// next unit is not a trailing surrogate, and `Incomplete` where nothing follows (RFC 2781, section
+/// 2.2).
 #[derive(Drop)]
 pub struct Utf16CharDecoder<'a> {
     slice: &'a [u16],

@@ -16,7 +16,7 @@ use utf_chars::utf16_char::Utf16Char;
 
 /// The characters of a text, kept as UTF-16, each with its offset: (offset in bytes, character).
 ///
-/// Both ends may be asked in turn. Contracts see the part of the text that remains.
+/// You may take from both ends in any order. Contracts see the text that remains.
 #[derive(Drop)]
 pub struct Utf16CharIndices<'a> {
     window: TextWindow<'a>,
@@ -117,7 +117,7 @@ impl<'a> fmt::Debug for Utf16CharIndices<'a> {
 
 /// The characters of a text, kept as UTF-16.
 ///
-/// Both ends may be asked in turn. Contracts see the part of the text that remains.
+/// You may take from both ends in any order. Contracts see the text that remains.
 #[derive(Drop)]
 pub struct Utf16Chars<'a> {
     indices: Utf16CharIndices<'a>,

@@ -22,14 +22,15 @@ use utf_chars::utf16_char::Utf16Char;
 
 /// Splits the units of any iterator into characters and lone surrogates: a streaming decoder.
 ///
-/// An error is of one unit, and the next is judged anew. A unit that was read after a leading
-/// surrogate and does not complete it is held until it has been given: one at most. Nothing is held
-/// before the first call, after a character, and after `None`. The source is not asked again once
-/// it has given `None`.
+/// An error is of one unit, and decoding goes on at the next unit. To recognise a leading surrogate
+/// that is alone, it has to read the unit after it. It holds that unit, and decodes it next. Before
+/// the first call, after a character and after `None` it holds nothing. Once the source has given
+/// `None`, it is not called again.
 ///
-/// A trailing surrogate where a character should begin is `UnexpectedTrailingSurrogate`, a leading
-/// one before another unit `UnmatchedLeadingSurrogate`, and one at the end `Incomplete` (RFC 2781,
-/// section 2.2). Contracts see what is held, the source, and whether it has ended.
+/// A trailing surrogate where a character should begin is `UnexpectedTrailingSurrogate`. A leading
+/// surrogate is `UnmatchedLeadingSurrogate` if another unit follows that is not a trailing
+/// surrogate, and `Incomplete` at the end (RFC 2781, section 2.2). Contracts see what is held, the
+/// source, and whether it has ended.
 #[derive(Drop)]
 pub struct Utf16CharMerger<I> {
     source: I,
@@ -109,8 +110,8 @@ impl<I: Iterator<Item = u16>> Iterator for Utf16CharMerger<I> {
 }
 
 impl<I: Iterator<Item = u16>> Utf16CharMerger<I> {
-    /// The source, as far as it was read. The unit that is held is lost: after a character none is,
-    /// after an error there may be one, and then `into_remaining_units` keeps it.
+    /// The source, as far as it was read. After a character the merger holds no unit. After an
+    /// error it may hold one, which is lost here: `into_remaining_units` keeps it.
     #[inline]
     pub fn into_inner(self) -> I
         ensures source { result ≡ self.source }
@@ -121,7 +122,8 @@ impl<I: Iterator<Item = u16>> Utf16CharMerger<I> {
         source
     }
 
-    /// All units that no answer has used: what is held, and then what the source still gives.
+    /// All units that are not decoded yet: the one that the merger holds, and then what the source
+    /// still gives.
     #[inline]
     pub fn into_remaining_units(self) -> RemainingUnits<I>
         ensures { result ≡ self }
@@ -239,11 +241,11 @@ fn stands_alone(unit: u64) -> bool
     unit.wrapping_sub(0xe000) < 0xffff_ffff_ffff_f800
 }
 
-/// What a merger of units has not used: the unit that it held, and then those that its source still
-/// gives.
+/// What a merger of units has not decoded: the unit that it held, and then those that its source
+/// still gives.
 ///
-/// The source is not asked again once it has given `None`. Contracts see what is held, the source,
-/// and whether it has ended.
+/// Once the source has given `None`, it is not called again. Contracts see what is held, the
+/// source, and whether it has ended.
 #[derive(Drop)]
 pub struct RemainingUnits<I> {
     source: I,

@@ -16,7 +16,7 @@ use utf_chars::utf8_char::Utf8Char;
 
 /// The characters of a text, kept as UTF-8, each with its offset: (offset in bytes, character).
 ///
-/// Both ends may be asked in turn. Contracts see the part of the text that remains.
+/// You may take from both ends in any order. Contracts see the text that remains.
 #[derive(Drop)]
 pub struct Utf8CharIndices<'a> {
     window: TextWindow<'a>,
@@ -115,7 +115,7 @@ impl<'a> fmt::Debug for Utf8CharIndices<'a> {
 
 /// The characters of a text, kept as UTF-8.
 ///
-/// Both ends may be asked in turn. Contracts see the part of the text that remains.
+/// You may take from both ends in any order. Contracts see the text that remains.
 #[derive(Drop)]
 pub struct Utf8Chars<'a> {
     indices: Utf8CharIndices<'a>,

@@ -25,13 +25,14 @@ use utf_chars::utf8_char::Utf8Char;
 
 /// Splits the bytes of any iterator into characters and single invalid bytes: a streaming decoder.
 ///
-/// An error is of one byte, and the next is judged anew, so no error hides an ASCII character. A
-/// byte is read only where the ones before it ask for it. What was read after an invalid byte is
-/// held until it has been given: at most three bytes. Nothing is held before the first call, after
-/// a character, and after `None`. The source is not asked again once it has given `None`.
+/// An error is of one byte, and decoding goes on at the next byte: so no error hides an ASCII
+/// character. It reads no more bytes than it needs to decide. To recognise an error it may have
+/// read up to three bytes after the invalid one. It holds these, and decodes them next. Before the
+/// first call, after a character and after `None` it holds nothing. Once the source has given
+/// `None`, it is not called again.
 ///
-/// Errors are those of `CharExt::from_utf8_slice_start`, with one difference: where the source ends
-/// early, and one of the bytes that it still gave breaks the sequence, the error is
+/// The errors are those of `CharExt::from_utf8_slice_start`, with one difference. If fewer bytes are
+/// left in the source than the first byte needs, and one of them breaks the sequence, the error is
 /// `InterruptedSequence` and not `TooFewBytes`. Contracts see what is held, the source, and whether
 /// it has ended.
 #[derive(Drop)]
@@ -113,8 +114,8 @@ impl<I: Iterator<Item = u8>> Iterator for Utf8CharMerger<I> {
 }
 
 impl<I: Iterator<Item = u8>> Utf8CharMerger<I> {
-    /// The source, as far as it was read. Bytes that are held are lost: after a character none are,
-    /// after an error there may be some, and then `into_remaining_bytes` keeps them.
+    /// The source, as far as it was read. After a character the merger holds no bytes. After an
+    /// error it may hold some, which are lost here: `into_remaining_bytes` keeps them.
     #[inline]
     pub fn into_inner(self) -> I
         ensures source { result ≡ self.source }
@@ -125,8 +126,8 @@ impl<I: Iterator<Item = u8>> Utf8CharMerger<I> {
         source
     }
 
-    /// All bytes that no answer has used: those that are held, in order, and then what the source
-    /// still gives.
+    /// All bytes that are not decoded yet: those that the merger holds, in order, and then what the
+    /// source still gives.
     #[inline]
     pub fn into_remaining_bytes(self) -> RemainingBytes<I>
         ensures { result ≡ self }

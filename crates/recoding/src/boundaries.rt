@@ -9,9 +9,9 @@ use crate::form::Form;
 use crate::shards::shard_end;
 use encode_unicode::CharExt;
 
-/// The first offset, from `at` on, that lies inside no character, and in UTF-16 inside no unit. It
-/// is at most three bytes after `at`; where `at` is the length or more, it is the length.
-/// `shard_end` gives the last one up to `at`.
+/// The first offset, from `at` on, that is not inside a character, and in UTF-16 not inside a unit.
+/// It is at most three bytes after `at`. If `at` is the length or more, it is the length.
+/// `shard_end` gives the last such offset up to `at`.
 pub fn boundary_after(from: Form, bytes: &[u8], at: usize) -> usize
     ensures end { IsFirstFrom (IsShardEnd from bytes.now) (length bytes.now) at result }
     ensures near { result ≤ at + 3 }
@@ -23,8 +23,8 @@ pub fn boundary_after(from: Form, bytes: &[u8], at: usize) -> usize
     place
 }
 
-/// The last offset in units, up to `at`, that lies inside no surrogate pair. It is at most one unit
-/// before `at`; where `at` is the length or more, it is the length.
+/// The last offset in units, up to `at`, that is not inside a surrogate pair. It is at most one
+/// unit before `at`. If `at` is the length or more, it is the length.
 pub fn unit_boundary_before(units: &[u16], at: usize) -> usize
     ensures end { IsLastTo (IsUnitBoundary units.now) (length units.now) at result }
     ensures near { min at (length units.now) ≤ result + 1 }
@@ -49,8 +49,8 @@ fn is_pair(units: &[u16]) -> bool
     }
 }
 
-/// The first offset in units, from `at` on, that lies inside no surrogate pair. It is at most one
-/// unit after `at`; where `at` is the length or more, it is the length.
+/// The first offset in units, from `at` on, that is not inside a surrogate pair. It is at most one
+/// unit after `at`. If `at` is the length or more, it is the length.
 pub fn unit_boundary_after(units: &[u16], at: usize) -> usize
     ensures end { IsFirstFrom (IsUnitBoundary units.now) (length units.now) at result }
     ensures near { result ≤ at + 1 }

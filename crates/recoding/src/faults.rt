@@ -5,38 +5,36 @@ use encode_unicode::error::{Utf8ErrorKind, Utf16PairError};
 /// Why a byte or a unit is invalid.
 #[derive(Clone, Copy, Debug, PartialEq, Eq, Drop)]
 pub enum FaultKind {
-    /// Of bytes that should be UTF-8.
+    /// Why a byte of UTF-8 is invalid.
     Utf8(Utf8ErrorKind),
-    /// Of bytes that should be UTF-16: `Incomplete` is also what an odd byte at the end is.
+    /// Why a unit of UTF-16 is invalid. An odd byte at the end is `Incomplete`.
     Utf16(Utf16PairError),
 }
 
 /// The invalid bytes at which strict recoding stopped.
 ///
 /// They count as read, and nothing was written for them. Their offset in the whole input is the
-/// number of bytes that were read so far, by this call too, less `back`. So a caller adds up what
-/// calls have read, and has to ask neither whether the invalid bytes lie in this part or in an
-/// earlier one, nor how many the recoder holds.
+/// number of bytes that all calls have read, this call included, minus `back`. They may lie in an
+/// earlier part.
 #[derive(Clone, Copy, Debug, PartialEq, Eq, Drop)]
 pub struct Fault {
     /// Why they are invalid: the kind that a decoder gives, however the input was divided.
     pub kind: FaultKind,
-    /// How many bytes they are: 1 in UTF-8. In UTF-16 2, a lone surrogate, and 1 where an odd byte
-    /// ends the input.
+    /// How many bytes they are: 1 in UTF-8, 2 for a lone surrogate, 1 for an odd byte at the end of
+    /// UTF-16.
     pub len: usize,
-    /// How many bytes lie from the first of them to the end of what was read: they and those that
-    /// are held now, so at most 5.
+    /// The distance in bytes from the first of them to the end of what was read: at most 5.
     pub back: usize,
 }
 
 /// Why a call of strict recoding ended.
 #[derive(Clone, Copy, Debug, PartialEq, Eq, Drop)]
 pub enum Outcome {
-    /// All that there was has been read, and none of it was invalid so far.
+    /// All of the part was read, or at the end all that was held, and no invalid byte is known yet.
     AllRead,
     /// The next character does not fit into the room that remains.
     Full,
-    /// What comes next is invalid.
+    /// The call stopped at these invalid bytes.
     Faulty(Fault),
 }
 

@@ -16,18 +16,19 @@ use crate::rooms::Progress;
 
 impl Recoder {
     /// `feed_into` that writes one U+FFFD for each *maximal subpart*, and not one for each invalid
-    /// byte: as the Unicode standard recommends (chapter 3, "U+FFFD Substitution of Maximal
-    /// Subparts"), and as browsers, Python's `errors="replace"` and Rust's `from_utf8_lossy` do.
+    /// byte. The Unicode standard recommends this (chapter 3, "U+FFFD Substitution of Maximal
+    /// Subparts"). Browsers, Python's `errors="replace"` and Rust's `from_utf8_lossy` do it.
     ///
-    /// A maximal subpart is the longest start of a well-formed sequence where no character stands,
-    /// one to three bytes: `E2 82 41` becomes one U+FFFD and an `A`. Where there is no such start,
-    /// it is one byte: `E0 80` becomes two U+FFFD. Of UTF-16 it is a lone surrogate or an odd last
-    /// byte, so both calls write the same. They also do where the input is valid.
+    /// A maximal subpart is the longest start, one to three bytes, of a well-formed sequence that
+    /// is not completed: `E2 82 41` becomes one U+FFFD and an `A`. A byte with which no such
+    /// sequence begins is a maximal subpart alone: `E0 80` becomes two U+FFFD, since no well-formed
+    /// sequence begins with `E0 80`. In UTF-16 it is a lone surrogate or an odd last byte. So in
+    /// UTF-16, and in valid input, this call and `feed_into` write the same.
     ///
-    /// Bytes that may still become a character are held, at most three; everything before them
-    /// comes out. `read`, `written` and `is_full` are as those of `feed_into`. The recoder is the
-    /// same: this call goes on from what another one holds. End the input by `finish_lossy_into`.
-    /// What is replaced is not counted: `replaced` is 0.
+    /// Bytes that may still become a character are held, at most three. Everything before them
+    /// comes out. `read`, `written` and `is_full` are as those of `feed_into`, and `replaced` is 0:
+    /// this call does not count. You may mix it with the other calls: each goes on from what the
+    /// recoder holds. End the input by `finish_lossy_into`.
     ///
     /// Cost: O(n) in what is read and written.
     pub fn feed_lossy_into(&mut self, part: &[u8], room: &mut [u8]) -> Progress
@@ -95,11 +96,11 @@ impl Recoder {
         ended(read, 0, false, false)
     }
 
-    /// `finish_into` of a recoder that was fed lossily: bytes of UTF-8 that are held, which are the
-    /// front of a character, become one U+FFFD. `read` and `replaced` are 0.
+    /// `finish_into` after `feed_lossy_into`. If the recoder holds the front of a character of
+    /// UTF-8, that becomes one U+FFFD. `read` and `replaced` are 0.
     ///
-    /// Where `is_full` is false, nothing is held any more. Where it is true, the next character did
-    /// not fit: call this again with more room. Four bytes are room for any character.
+    /// If `is_full` is false, nothing is held any more. If it is true, the next character did not
+    /// fit: call this again, with new room. Room for four bytes is enough for any character.
     ///
     /// Cost: constant.
     pub fn finish_lossy_into(&mut self, room: &mut [u8]) -> Progress

@@ -16,9 +16,9 @@ use std::marker::Model;
 /// Converts text that comes in parts from one form into another. It holds at most three bytes
 /// between calls.
 ///
-/// Each invalid byte becomes U+FFFD, the replacement character; so does a lone surrogate (RFC 2781,
-/// section 2.2), and an odd byte at the end of UTF-16. A character may begin in one part and end in
-/// another: the output does not depend on how the input was divided.
+/// Each invalid byte of UTF-8 becomes U+FFFD, the replacement character. In UTF-16 each lone
+/// surrogate does (RFC 2781, section 2.2), and so does an odd byte at the end. A character may
+/// begin in one part and end in another: the output does not depend on how the input was divided.
 #[derive(Debug, Drop)]
 pub struct Recoder {
     // The first field, so that no store of the others overlaps it, for which each call would wait.
@@ -77,12 +77,12 @@ impl Recoder {
         }
     }
 
-    /// Takes the next part, and appends to `out` what it becomes. Where the last bytes of the part
-    /// may be the beginning of a character, or are half a unit, they are held for the next call;
-    /// everything before them comes out.
+    /// Takes the next part, and appends to `out` what it becomes. If the last bytes of the part may
+    /// begin a character, or are half a unit, the recoder holds them for the next call. Everything
+    /// before them comes out.
     ///
-    /// All memory is asked for before the first byte is put out. Where it is refused, nothing has
-    /// changed, and the same part can be fed again. An empty part asks for no memory.
+    /// If memory is refused, nothing has changed: feed the same part again. (All memory is asked
+    /// for before the first byte is put out.) An empty part asks for no memory.
     ///
     /// Cost: O(n) in the part, allocates at most three bytes for each byte that is held or in the
     /// part.
@@ -199,12 +199,12 @@ impl Recoder {
         self.replaced = self.replaced.saturating_add(count as u64);
     }
 
-    /// Appends to `out` what the held bytes become, now that nothing follows them: one U+FFFD for
-    /// each byte of UTF-8; of UTF-16 one for a leading surrogate, and one for an odd byte.
+    /// Ends the input: appends to `out` what the held bytes become. In UTF-8 each of them becomes
+    /// one U+FFFD. In UTF-16 a leading surrogate becomes one, and so does an odd byte.
     ///
-    /// Where memory is refused, the error has the recoder as it was, which can be finished again.
-    /// Where nothing is held, no memory is asked for. How many invalid bytes became U+FFFD in all,
-    /// `replaced_at_end` tells before this call.
+    /// If memory is refused, the error contains the recoder as it was: finish that again. If
+    /// nothing is held, no memory is asked for. `replaced_at_end`, called before, gives how many
+    /// invalid bytes became U+FFFD in all.
     ///
     /// Cost: constant, allocates at most nine bytes.
     #[inline(always)]
@@ -241,8 +241,8 @@ impl Recoder {
         Ok(())
     }
 
-    /// A recoder that holds these bytes and has replaced nothing. With the `held` of another recoder
-    /// it goes on where that one was.
+    /// A recoder that holds these bytes and has replaced nothing. With the bytes that another recoder holds it goes on
+    /// where that one was.
     ///
     /// Condition: there are at most three bytes.
     pub fn holding(from: Form, to: Form, held: &[u8]) -> Recoder
@@ -274,20 +274,18 @@ impl Recoder {
         self.held_bytes()
     }
 
-    /// How many invalid bytes the recoder has replaced by U+FFFD since it was made; so many lone
-    /// surrogates and odd last bytes of UTF-16. A U+FFFD that stood in the input does not count. At
-    /// 2^64 - 1 the count stays as it is.
+    /// How many invalid bytes, lone surrogates and odd last bytes the recoder has replaced by
+    /// U+FFFD since it was made. A U+FFFD in the input does not count. The count stops at 2^64 - 1.
     ///
     /// `feed`, `feed_into` and `finish_into` count. The calls that stop at the first invalid byte
-    /// replace nothing, and the lossy ones do not count.
+    /// replace nothing, and the lossy calls do not count.
     pub fn replaced(&self) -> u64
         ensures { result ≡ self.now.replaced }
     {
         self.replaced
     }
 
-    /// What `replaced` comes to where the input ends here: the bytes that are held are invalid then,
-    /// and become U+FFFD too.
+    /// What `replaced` will be if the input ends now: the bytes that are held are then invalid, and become U+FFFD too.
     #[tactic(auto, using(crate::proofs::Advancing::counts_all))]
     pub fn replaced_at_end(&self) -> u64
         ensures replaces { result ≡ min (2 ^ 64 - 1) (self.now.replaced + fault_count self.now.from self.now.held) }
@@ -297,13 +295,13 @@ impl Recoder {
         self.replaced.saturating_add(count as u64)
     }
 
-    /// `feed` into room of a fixed size, in the manner of iconv(3): reads and writes as far as
-    /// there is room. `read` bytes of the part were fed. Call again with those that follow them,
-    /// and more room.
+    /// `feed` into room of a fixed size, as iconv(3) does: it reads and writes as far as there is
+    /// room. `read` bytes of the part were fed. To go on, call again with the bytes after them, and
+    /// with new room.
     ///
-    /// Where `is_full` is false, the whole part was read. Where it is true, the next character did
-    /// not fit; at most three of the bytes that were read are held for the next call, and nothing
-    /// is lost. With room for four bytes, each call reads or writes something.
+    /// If `is_full` is false, the whole part was read. If it is true, the next character did not
+    /// fit. At most three of the bytes that were read are held for the next call, and nothing is
+    /// lost. With room for four bytes, each call reads or writes something.
     ///
     /// Cost: O(n) in what is read and written.
     pub fn feed_into(&mut self, part: &[u8], room: &mut [u8]) -> Progress
@@ -385,9 +383,9 @@ impl Recoder {
 
     /// `finish` into room of a fixed size. `read` is 0.
     ///
-    /// Where `is_full` is false, nothing is held any more. Where it is true, the next character did
-    /// not fit: call this again, and not `feed_into`, with more room. Four bytes are room for any
-    /// character.
+    /// If `is_full` is false, nothing is held any more. If it is true, the next character did not
+    /// fit: call this again, and not `feed_into`, with new room. Room for four bytes is enough for
+    /// any character.
     pub fn finish_into(&mut self, room: &mut [u8]) -> Progress
         ensures finishes { FinishesInto self.old room.old room.new result.written self.new }
         ensures full { IsTrue result.is_full → IsLastFull self.new self.new.held (length room.old - result.written) }

@@ -4,11 +4,11 @@ ghost use Rattle.recoding.specs.Rooms.{most_bytes, parts_of, widest, IsRoomFor};
 
 use crate::form::Form;
 
-/// The most bytes that input of `len` bytes can become: into UTF-8 three for each byte of UTF-8 or
-/// unit of UTF-16, into UTF-16 two. An odd byte at the end counts as a unit. `None` where a `usize`
-/// cannot count them.
+/// The most bytes that input of `len` bytes can become. Into UTF-8 these are three for each byte of
+/// UTF-8, or for each unit of UTF-16. Into UTF-16 they are two. An odd byte at the end counts as a
+/// unit. `None` if a `usize` cannot hold the number.
 ///
-/// For a part that is fed to a recoder, `len` is the length of the part plus the number of bytes
+/// For a part that you feed to a recoder, `len` is the length of the part plus the number of bytes
 /// that the recoder holds.
 pub fn room_for(from: Form, to: Form, len: usize) -> Option<usize>
     ensures most { IfSome result (λ n. n ≡ most_bytes from to len) }
@@ -36,7 +36,7 @@ fn count_parts(from: Form, len: usize) -> usize
     }
 }
 
-/// How far a call went that fills room of a fixed size.
+/// How far a call went that writes into room of a fixed size.
 #[derive(Clone, Copy, Debug, PartialEq, Eq, Drop)]
 pub struct Progress {
     /// How many bytes of the part were read.

@@ -10,11 +10,11 @@ use crate::form::Form;
 use encode_unicode::CharExt;
 use utf_lanes::byte_pairs::unit;
 
-/// The last offset, up to `at`, that lies inside no character, and in UTF-16 inside no unit. It is
-/// at most three bytes before `at`; where `at` is the length or more, it is the length.
+/// The last offset, up to `at`, that is not inside a character, and in UTF-16 not inside a unit. It
+/// is at most three bytes before `at`. If `at` is the length or more, it is the length.
 ///
-/// What stands before it and what stands after it can be converted apart, also on several machines,
-/// and joined: the law `shards_join`. Six bytes around `at` are looked at.
+/// You may convert the bytes before it and the bytes after it separately, also on several machines,
+/// and join the outputs: this is the law `shards_join`. The call looks at six bytes around `at`.
 #[tactic(auto, using(crate::proofs::RecodedLists::recoded_apart))]
 pub fn shard_end(from: Form, bytes: &[u8], at: usize) -> usize
     ensures end { IsLastShardEnd from bytes.now at result }

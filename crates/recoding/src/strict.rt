@@ -20,22 +20,20 @@ pub(crate) struct HeldRun {
 }
 
 impl Recoder {
-    /// `feed_into` that stops at the first invalid byte, and says where it is and why it is invalid.
+    /// `feed_into` that stops at the first invalid byte, and tells where it is and why it is invalid.
     ///
-    /// What was written is exactly the text before it. Nothing is written for the invalid bytes, and
-    /// they count as read: to go on after them, call again with the bytes of the part that follow
-    /// those that were read; to refuse the input, do not. Each invalid byte of UTF-8 stops a call of
-    /// its own, and so does each lone surrogate.
+    /// What was written is exactly the text before that byte. The invalid byte counts as read, and nothing is written
+    /// for it. To go on after it, call again with the bytes of the part after those that were read. To refuse the
+    /// input, stop. A call stops at each invalid byte of UTF-8, and at each lone surrogate of UTF-16.
     ///
-    /// Where what is invalid, or why, depends on bytes that have not come yet, the first bytes are
-    /// held, at most three: after `E9 0A` a third byte decides between `InterruptedSequence` and
-    /// `TooFewBytes`. `feed_into` and this call may take turns: each goes on from what the other
-    /// holds.
+    /// The kind never depends on how the input was divided. So bytes are held, at most three, where later bytes decide
+    /// whether they are invalid, or of which kind. After `E9 0A`, the kind of `E9` is `InterruptedSequence` if a third
+    /// byte comes, and `TooFewBytes` if the input ends. You may mix calls of `feed_into` and of this one: each goes on
+    /// from what the other holds.
     ///
-    /// `Outcome::AllRead`: the whole part was read. `Outcome::Full`: the next character did not fit.
-    /// With room for four bytes, each call with some bytes reads or writes something, or passes an
-    /// invalid byte that was held. With three bytes of room for each byte that is held or in the
-    /// part, none is full.
+    /// `Outcome::AllRead`: the whole part was read. `Outcome::Full`: the next character did not fit. With room for four
+    /// bytes, each call that is given a byte reads or writes something, or passes an invalid byte that was held. With
+    /// three bytes of room for each byte that is held or in the part, the room is never full.
     ///
     /// Cost: O(n) in what is read and written.
     pub fn feed_strict_into(&mut self, part: &[u8], room: &mut [u8]) -> StrictProgress
@@ -129,11 +127,11 @@ impl Recoder {
 
     /// `finish_into` that stops at the first invalid byte. `read` is 0.
     ///
-    /// What is held ends the input: where it is the front of a character, its first byte is invalid,
-    /// of the kind `TooFewBytes` or `Incomplete`. To go on after it, call this again.
+    /// If the recoder holds the front of a character, its first byte is invalid, of the kind `TooFewBytes` or
+    /// `Incomplete`. To go on after it, call this again.
     ///
-    /// `Outcome::AllRead`: nothing is held any more. `Outcome::Full`: the next character did not fit;
-    /// four bytes are room for any, and nine for all.
+    /// `Outcome::AllRead`: nothing is held any more. `Outcome::Full`: the next character did not fit. Room for four
+    /// bytes is enough for any character, and room for nine for all.
     pub fn finish_strict_into(&mut self, room: &mut [u8]) -> StrictProgress
         ensures finishes { FinishesStrictly self.old room.old room.new result self.new }
         ensures read { result.read ≡ 0 }

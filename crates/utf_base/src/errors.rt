@@ -16,25 +16,27 @@ pub use units::{
 
 /// Why bytes are not valid UTF-8: the kind of an error.
 ///
-/// Where several apply, `CharExt::from_utf8_slice_start` says which is given. RFC 3629, section 4, has
-/// the grammar of what is valid.
+/// If several kinds apply, `CharExt::from_utf8_slice_start` says which one is given. RFC 3629, section 4, has the
+/// grammar of what is valid.
 #[derive(Clone, Copy, Debug, PartialEq, Eq, Drop)]
 pub enum Utf8ErrorKind {
-    /// The sequence is truncated: fewer bytes remain than the first one asks for, as where `e2 82` ends
-    /// the input; or none remains.
+    /// The sequence is truncated: fewer bytes remain than its first byte needs, as where `e2 82` ends the input. Or no
+    /// byte remains.
     TooFewBytes,
     /// The first byte never occurs in UTF-8: it is 0xc0, 0xc1, or above 0xf4.
     NonUtf8Byte,
     /// The first byte is a continuation byte, 0x80 to 0xbf: no character begins there.
     UnexpectedContinuationByte,
-    /// One of the bytes that the first one asks for is no continuation byte, 0x80 to 0xbf, as in
-    /// `e2 82 41`.
+    /// The first byte needs more bytes, and one of them is not a continuation byte, 0x80 to 0xbf,
+    /// as in `e2 82 41`.
     InterruptedSequence,
-    /// The sequence is overlong: its value fits in fewer bytes, as the `/` that `e0 80 af` encodes.
+    /// The sequence is overlong: its character has a shorter encoding, as the `/` that `e0 80 af`
+    /// encodes.
     OverlongEncoding,
-    /// The value is a surrogate, 0xd800 to 0xdfff, which only UTF-16 uses, as that of `ed a0 80`.
+    /// The sequence encodes a surrogate, 0xd800 to 0xdfff, which only UTF-16 uses, as `ed a0 80`
+    /// does.
     Utf16ReservedCodepoint,
-    /// The value is above 0x10ffff, the last code point, as that of `f4 90 80 80`.
+    /// The sequence encodes a number above 0x10ffff, the last code point, as `f4 90 80 80` does.
     TooHighCodepoint,
 }
 

@@ -22,8 +22,8 @@ use utf_base::errors::{
 /// Methods of `char`: to UTF-8 and UTF-16, and back, with the reason where bytes or units are
 /// invalid.
 ///
-/// The calls ending in `_unchecked` make no check. If one has a condition, its caller has to meet
-/// it.
+/// A call whose name ends in `_unchecked` makes no check. If it has a condition, its caller must
+/// meet it.
 pub trait CharExt: Sized {
     // The scalar that the character is.
     ghost scalar: { Self → ℕ };
@@ -73,12 +73,12 @@ pub trait CharExt: Sized {
     /// The character that begins the bytes: (character, length in bytes), the length 1 to 4. What
     /// follows it does not matter.
     ///
-    /// Where no character begins the bytes, the error is the first of these that applies: (1)
-    /// `UnexpectedContinuationByte` or `NonUtf8Byte`, where the first byte begins no character; (2)
-    /// `TooFewBytes`, where there are fewer bytes than the first one asks for, or none; (3)
-    /// `InterruptedSequence`, where one of the bytes that it asks for is no continuation byte; (4)
-    /// `OverlongEncoding`, `Utf16ReservedCodepoint` or `TooHighCodepoint`, by the value (RFC 3629,
-    /// sections 3 and 4).
+    /// If no character begins the bytes, the error is the first of these that applies: (1)
+    /// `UnexpectedContinuationByte` or `NonUtf8Byte`: no character begins with the first byte; (2)
+    /// `TooFewBytes`: there are fewer bytes than the first one needs, or none; (3)
+    /// `InterruptedSequence`: one of the bytes that the first one needs is not a continuation byte;
+    /// (4) `OverlongEncoding`, `Utf16ReservedCodepoint` or `TooHighCodepoint`, by the number that
+    /// the bytes encode (RFC 3629, sections 3 and 4).
     fn from_utf8_slice_start(src: &[u8]) -> Result<(Self, usize), Utf8Error>
         ensures decodes { DecodesFront scalar src.now result }
         ensures known { GivesFirst scalar (decoded src.now) result }
@@ -103,9 +103,9 @@ pub trait CharExt: Sized {
 
     /// The character that begins the units: (character, length in units), the length 1 or 2.
     ///
-    /// Where no character begins the units, the error is the first that applies of `EmptySlice`,
-    /// `FirstIsTrailingSurrogate`, `MissingSecond` and `SecondIsNotTrailingSurrogate` (RFC 2781,
-    /// section 2.2).
+    /// If no character begins the units, the error is the first of these that applies:
+    /// `EmptySlice`, `FirstIsTrailingSurrogate`, `MissingSecond`, `SecondIsNotTrailingSurrogate`
+    /// (RFC 2781, section 2.2).
     fn from_utf16_slice_start(src: &[u16]) -> Result<(Self, usize), Utf16SliceError>
         ensures decodes { DecodesUnits scalar src.now result }
         ensures known { GivesFirst scalar (decoded_units src.now) result }
@@ -127,9 +127,10 @@ pub trait CharExt: Sized {
 
     /// The character of two units, without a check.
     ///
-    /// A first unit that is no surrogate is the character, and the second is ignored. Else the two
-    /// are taken for a surrogate pair, whatever they are: 0x10000 plus the number whose twenty bits
-    /// are the lower ten of the first unit and then those of the second.
+    /// If the first unit is no surrogate, it is the character, and the second is ignored. Else the
+    /// two are taken for a surrogate pair, whatever they are. The character is then 0x10000 plus a
+    /// number of twenty bits: the lower ten of the first unit, and then the lower ten of the
+    /// second.
     fn from_utf16_array_unchecked(utf16: [u16; 2]) -> Self
         ensures value { scalar result ≡ array_value utf16 }
         ensures known { IfOk (decoded_two utf16) (λ s. scalar result ≡ s) };

@@ -30,7 +30,7 @@ const PART: usize = 65536;
 
 /// Converts all that the reader gives from one form into another, part by part.
 ///
-/// A read that is interrupted is made again, and none is made once the reader is at its end.
+/// A read that is interrupted is made again. No read is made after the end of the input.
 ///
 /// Cost: O(n), allocates an amount that does not grow with the input.
 pub fn recode<A: Allocator, R: Read, W: Write>(

@@ -41,11 +41,10 @@ const PART: usize = 16384;
 const ROOM: usize = 3 * (PART + 3);
 
 /// Converts all that the reader gives from one form into another, part by part, and stops at the
-/// first invalid byte, or lone surrogate. `recode` replaces each by U+FFFD instead.
+/// first invalid byte or lone surrogate. (`recode` replaces each by U+FFFD instead.)
 ///
-/// All text before it is written then, exactly, and nothing for what is invalid. The reader may
-/// have given bytes that follow it. A read that is interrupted is made again, and none is made once
-/// the reader is at its end.
+/// Exactly the text before it is written. The reader may have given bytes after it. A read that is
+/// interrupted is made again. No read is made after the end of the input.
 ///
 /// Cost: O(n).
 pub fn recode_strict<R: Read, W: Write>(

@@ -5,7 +5,7 @@ ghost use Rattle.cuts.specs.ForwardRuns.{faulty_item_count};
 
 use encode_unicode::U8SliceExt;
 
-/// How many bytes are invalid: 0 exactly where the bytes are UTF-8.
+/// How many bytes are invalid: 0 if all are valid UTF-8, and only then.
 ///
 /// Cost: O(n).
 pub fn faulty_item_count(bytes: &[u8]) -> usize

@@ -3,7 +3,7 @@
 use encode_unicode::error::{Utf8Error, Utf16PairError};
 use encode_unicode::{Utf8Char, Utf16Char};
 
-/// One end of a slice: which piece a walk asks for next.
+/// One end of a slice: from which end a walk takes the next piece.
 #[derive(Clone, Copy, Debug, PartialEq, Eq, Drop)]
 pub enum End {
     /// The piece at the front.

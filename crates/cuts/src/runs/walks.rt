@@ -9,13 +9,12 @@ use crate::runs::items::{End, Item, UnitItem};
 use encode_unicode::iterator::{Utf8CharDecoder, Utf16CharDecoder};
 use std::alloc::{AllocError, Allocator};
 
-/// Takes one piece of the bytes for each letter of `word`, from the end that the letter names, or
-/// `None` where no byte remains.
+/// Takes one piece of the bytes for each entry of `word`, from the end that the entry names. If no
+/// byte remains, the answer is `None`.
 ///
-/// No piece is given twice, whatever the word. The kind of an error from the front depends on the
-/// bytes that remain then; that of one from the back on its byte alone.
-///
-/// Where the word is empty, no memory is asked for.
+/// No piece is given twice. From the front, the kind of an error depends on the bytes that remain
+/// at that moment. From the back it depends on the byte alone. If the word is empty, no memory is
+/// asked for.
 ///
 /// Cost: O(n) in the word, allocates.
 pub fn walk_utf8<A: Allocator>(
@@ -37,12 +36,12 @@ pub fn walk_utf8<A: Allocator>(
     Ok(answers)
 }
 
-/// Takes one piece of units of UTF-16 for each letter of `word`, from the end that the letter
-/// names, or `None` where no unit remains.
+/// Takes one piece of units of UTF-16 for each entry of `word`, from the end that the entry names.
+/// If no unit remains, the answer is `None`.
 ///
-/// A lone leading surrogate from the front is `UnmatchedLeadingSurrogate` where a unit remains
-/// after it, and `Incomplete` where none does; from the back it is always `Incomplete`. Where the
-/// word is empty, no memory is asked for.
+/// From the front, a lone leading surrogate is `UnmatchedLeadingSurrogate` if a unit remains after
+/// it, and `Incomplete` if none does. From the back it is always `Incomplete`. If the word is
+/// empty, no memory is asked for.
 ///
 /// Cost: O(n) in the word, allocates.
 pub fn walk_utf16<A: Allocator>(

@@ -9,8 +9,7 @@ use encode_unicode::CharExt;
 use utf_lanes::paired_units::paired_len;
 use utf_lanes::text_blocks::text_len;
 
-/// The offset of the first invalid byte, or the length where there is none: all bytes are then
-/// UTF-8.
+/// The offset of the first invalid byte, or the length if all bytes are valid UTF-8.
 ///
 /// Cost: O(n).
 pub fn valid_up_to(bytes: &[u8]) -> usize
@@ -29,8 +28,7 @@ pub fn valid_up_to(bytes: &[u8]) -> usize
     place
 }
 
-/// The offset of the first lone surrogate, or the length where there is none: all units are then
-/// UTF-16.
+/// The offset of the first lone surrogate, or the length if all units are valid UTF-16.
 ///
 /// Cost: O(n).
 pub fn units_valid_up_to(units: &[u16]) -> usize
