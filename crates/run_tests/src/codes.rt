@@ -101,6 +101,8 @@ fn a_table_gives_its_pieces(rt: HostRuntime) -> Result<(), Fail> {
     assert!(rt; table.bytes() == b"h\xc3\xa9?\x82A\xf0\x9f\x98\x80".as_slice());
     assert!(rt; editor::mend_first(&mut table, b"")?);
     assert!(rt; !editor::mend_first(&mut table, b"")?);
+    let mended = editor::mended(rt.alloc(), damaged())?;
+    assert!(rt; mended.bytes() == b"h\xc3\xa9?\x82A\xf0\x9f\x98\x80".as_slice());
     Ok(())
 }
 

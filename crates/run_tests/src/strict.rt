@@ -6,7 +6,7 @@ use fakes::fuse::{Failure, Fuse, Plan};
 use std::alloc::{AllocError, Global};
 use std::io::ErrorKind;
 use std::test::Fail;
-use uses::strict::feed_strictly;
+use uses::strict::{feed_strictly, finish_strictly};
 
 // An input, where it is faulty and why, and the text before that in the other form.
 type Row = (
@@ -288,6 +288,20 @@ fn packets_carry_text_to_the_first_fault(rt: HostRuntime) -> Result<(), Fail> {
     assert!(rt; stop == of_bytes(120, Utf8ErrorKind::InterruptedSequence));
     assert!(rt; sent.len() == 120);
     assert!(rt; &sent[..4] == b"\0a\x20\xac".as_slice());
+    assert!(rt; finish_strictly(&mut recoder, total, &mut sent)?.is_none());
+    assert!(rt; sent.len() == 120);
+    Ok(())
+}
+
+#[test]
+fn an_input_that_ends_inside_a_character_is_invalid(rt: HostRuntime) -> Result<(), Fail> {
+    let mut recoder = Recoder::new(Form::Utf8, LE);
+    let mut sent = Vec::new(rt.alloc());
+    let mut total = 0;
+    assert!(rt; feed_strictly(&mut recoder, b"ab\xe2\x82", &mut total, &mut sent)?.is_none());
+    let stop = finish_strictly(&mut recoder, total, &mut sent)?;
+    assert!(rt; stop == of_bytes(2, Utf8ErrorKind::TooFewBytes));
+    assert!(rt; &sent[..] == b"a\0b\0".as_slice());
     Ok(())
 }
 

@@ -85,3 +85,10 @@ pub fn mend_first<A: Allocator + Copy>(
         None => Ok(false),
     }
 }
+
+/// A table of the bytes in which a question mark stands for the first invalid one.
+pub fn mended<A: Allocator + Copy>(alloc: A, bytes: &[u8]) -> Result<PieceTable<A>, AllocError> {
+    let mut table = PieceTable::new(alloc, bytes)?;
+    mend_first(&mut table, b"?")?;
+    Ok(table)
+}

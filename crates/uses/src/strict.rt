@@ -25,3 +25,19 @@ pub fn feed_strictly<A: Allocator>(
     }
     Ok(None)
 }
+
+/// Ends the input, and appends what the held bytes become: where the first invalid byte among them is,
+/// of an input of which `total` bytes were read, and why it is invalid.
+pub fn finish_strictly<A: Allocator>(
+    recoder: &mut Recoder,
+    total: u64,
+    sent: &mut Vec<u8, A>,
+) -> Result<Option<(u64, FaultKind)>, AllocError> {
+    let mut packet = [0; 16];
+    let progress = recoder.finish_strict_into(&mut packet);
+    sent.extend_from_slice(&packet[..progress.written])?;
+    match progress.outcome {
+        Outcome::Faulty(fault) => Ok(Some((total.saturating_sub(fault.back as u64), fault.kind))),
+        _ => Ok(None),
+    }
+}
