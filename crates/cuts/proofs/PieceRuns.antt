@@ -1,11 +1,11 @@
 -- A run, one piece after another, over one list and generic in its code: from the laws of cuts alone.
-use Rattle.std.proofs.Common.{◌≡◌, ℕ, ◌+◌, ◌<◌, ◌≤◌, List, [], ◌∷◌, ◌++◌, length, map, ap, subst, arith, Option, Some, Ok, Err, Result}
+use Rattle.std.proofs.Common.{◌≡◌, ℕ, ◌+◌, ◌<◌, ◌≤◌, List, [], ◌∷◌, ◌++◌, length, map, ap, subst, arith, Option, Ok, Err, Result}
 use Rattle.std.proofs.lemmas.List.{map-append, take_rest, length_push}
 use Rattle.std.proofs.lemmas.List.Elements.{All-push}
 use Rattle.std.specs.Prelude.{slice_range}
 use Rattle.std.specs.Result.{result_ok}
 use Rattle.utf_base.specs.Code.{IsCode}
-use Rattle.utf_base.specs.Piece.{Inside, IsPieceAt, IsCutBetween, Stands}
+use Rattle.utf_base.specs.Piece.{Inside, IsPieceAt, IsCutBetween}
 use Rattle.utf_base.proofs.Cuts.{front_char, front_fault, cut_none, cut_push}
 use Rattle.utf_base.proofs.Standing.{outside_front, outside_end}
 use Rattle.encode_unicode.specs.Window.{Placed, IsFrontOf}
