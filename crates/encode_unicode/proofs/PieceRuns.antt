@@ -29,7 +29,7 @@ use Rattle.encode_unicode.proofs.Joined.{some_utf8}
 use Rattle.encode_unicode.proofs.RunTests.{tells, tells_back}
 use Rattle.encode_unicode.specs.Pieces.{Gives, GivesReversed, LengthsFit, LiesWithin, LiesInText, LiesInTextWindow, LiesInWindow, PiecesFit, pieces, unit_pieces, pieces_by, pieces_left, unit_pieces_left, placed_chars, chars_left, placed_chars_left}
 use Rattle.encode_unicode.specs.Sources.{IsListed, IsListedBack}
-use Rattle.encode_unicode.specs.TextWindow.{NextScalar, NextPlaced, BackScalar, BackPlaced, GivesFirst, GivesLast}
+use Rattle.encode_unicode.specs.TextWindow.{NextScalar, NextPlaced, BackScalar, BackPlaced, GivesFirstChar, GivesLastChar}
 use Rattle.encode_unicode.specs.Window.{Window, Placed, elements, whole_window, without_front, as_piece, GivesNone, GivesFrontOf, GivesBackOf, HasCode, NextGives, NextGivesUnits, NextBackGives, NextBackGivesUnits}
 
 -- A list that tells what each state still gives is what each run gives.
@@ -142,7 +142,7 @@ no_chars w v h =
     let zero : w.back - w.front ≡ 0 = omega arith in
     ap (λ n. chars (take n (drop w.front w.whole))) zero ∙ chars-nil
 
-first_char : (w v : Window) (place s : ℕ) → GivesFirst w place s v → chars_left w ≡ s ∷ chars_left v
+first_char : (w v : Window) (place s : ℕ) → GivesFirstChar w place s v → chars_left w ≡ s ∷ chars_left v
 first_char w v place s h =
     chars_past_char (elements w) (elements v) s (rw h.code (IsUtf8-append (utf8 s) (elements v) (utf8_is_text s h.scalar) h.between.text))
     (h.code ∙ ap (λ code. code ++ elements v) (sym (utf8_is_std s)))
@@ -167,7 +167,7 @@ placed_listed w (Some x) v h =
 no_chars_back : (w v : Window) → GivesNone w v → (chars_left w ≡ []) × (chars_left v ≡ [])
 no_chars_back w v h = let none = no_chars w v h in (none, ap chars_left h.left ∙ none)
 
-last_char : (w v : Window) (place s : ℕ) → GivesLast w place s v → chars_left w ≡ chars_left v ++ s ∷ []
+last_char : (w v : Window) (place s : ℕ) → GivesLastChar w place s v → chars_left w ≡ chars_left v ++ s ∷ []
 last_char w v place s h =
     let one : chars (utf8 s) ≡ s ∷ [] = ap chars (sym (append-nil (utf8 s))) ∙ chars_past_char (utf8 s ++ []) [] s (rw (append-nil (utf8 s)) (utf8_is_text s h.scalar)) (ap (λ code. code ++ []) (sym (utf8_is_std s))) ∙ ap (λ xs. s ∷ xs) chars-nil in
     ap chars h.code ∙ chars-append (elements v) (utf8 s) h.between.text ∙ ap (λ xs. chars_left v ++ xs) one
@@ -342,7 +342,7 @@ pub unit_decoder_codes_back : (xs : List ℕ) (s : Window) → s ≡ whole_windo
 unit_decoder_codes_back = codes_there utf16 NextBackGivesUnits (λ xs w v x k g. code_kept_back utf16 2 unit_back_kind decoded_pairs_end xs w v x k g)
 
 -- a character that begins a window of a text, and one that ends it, lies in the text
-char_first : (w v : Window) (x : ℕ × ℕ) → GivesFirst w x.0 x.1 v → LiesInText w.whole x
+char_first : (w v : Window) (x : ℕ × ℕ) → GivesFirstChar w x.0 x.1 v → LiesInText w.whole x
 char_first w v x g =
     let whole : v.whole ≡ w.whole = ap (λ (u : Window). u.whole) g.left in
     let front : v.front ≡ x.0 + length (utf8 x.1) = ap (λ (u : Window). u.front) g.left ∙ ap (λ p. p + length (utf8 x.1)) (sym g.at_front) in
@@ -351,7 +351,7 @@ char_first w v x g =
     let after : IsCharBoundary w.whole (x.0 + length (utf8 x.1)) = rw (whole, front) at g.between.front in
     (omega arith, here, omega arith, after)
 
-char_last : (w v : Window) (x : ℕ × ℕ) → GivesLast w x.0 x.1 v → LiesInText w.whole x × (x.0 + length (utf8 x.1) ≡ w.back) × (w.front ≤ x.0)
+char_last : (w v : Window) (x : ℕ × ℕ) → GivesLastChar w x.0 x.1 v → LiesInText w.whole x × (x.0 + length (utf8 x.1) ≡ w.back) × (w.front ≤ x.0)
 char_last w v x g =
     let whole : v.whole ≡ w.whole = ap (λ (u : Window). u.whole) g.left in
     let back : v.back ≡ w.back - length (utf8 x.1) = ap (λ (u : Window). u.back) g.left in
@@ -373,7 +373,7 @@ record IsLeftOf (u w : Window) : Type 0 where
 all_left : (u : Window) → IsLeftOf u u
 all_left u = record { whole = refl; front = omega arith; back = omega arith }
 
-placed_on : (u w v : Window) (x : ℕ × ℕ) → IsLeftOf u w → GivesFirst w x.0 x.1 v → LiesInTextWindow u x × IsLeftOf u v
+placed_on : (u w v : Window) (x : ℕ × ℕ) → IsLeftOf u w → GivesFirstChar w x.0 x.1 v → LiesInTextWindow u x × IsLeftOf u v
 placed_on u w v x k g =
     let front : v.front ≡ w.front + length (utf8 x.1) = ap (λ (z : Window). z.front) g.left in
     let back : v.back ≡ w.back = ap (λ (z : Window). z.back) g.left in
@@ -383,7 +383,7 @@ placed_on u w v x k g =
     let most : length (elements w) ≤ w.back - w.front = grind (arith, common_steps) in
     ((rw k.whole at (char_first w v x g), omega arith, omega arith), record { whole = ap (λ (z : Window). z.whole) g.left ∙ k.whole; front = omega arith; back = omega arith })
 
-placed_back_on : (u w v : Window) (x : ℕ × ℕ) → IsLeftOf u w → GivesLast w x.0 x.1 v → LiesInTextWindow u x × IsLeftOf u v
+placed_back_on : (u w v : Window) (x : ℕ × ℕ) → IsLeftOf u w → GivesLastChar w x.0 x.1 v → LiesInTextWindow u x × IsLeftOf u v
 placed_back_on u w v x k g =
     let front : v.front ≡ w.front = ap (λ (z : Window). z.front) g.left in
     let back : v.back ≡ w.back - length (utf8 x.1) = ap (λ (z : Window). z.back) g.left in

@@ -5,7 +5,7 @@ pub mod OutputRuns
 pub mod Bounds
 pub mod Fed
 pub mod Shards
-pub mod ShownFronts
+pub mod NextScalars
 pub mod UnitRuns
 pub mod Outputs
 pub mod Recodes
@@ -17,4 +17,4 @@ pub mod Strict
 pub mod FirstFaults
 pub mod Lossy
 pub mod LossyBytes
-pub mod LossyParts
+pub mod LossyPieces
