@@ -1,19 +1,16 @@
 -- A run, one piece after another, over one list and generic in its code: from the laws of cuts alone.
-use Rattle.std.proofs.Common.{◌≡◌, ℕ, ◌+◌, ◌<◌, ◌≤◌, List, [], ◌∷◌, ◌++◌, length, map, ap, subst, arith, Option, Some, Ok, Err, Result}
+use Rattle.std.proofs.Common.{◌≡◌, ℕ, ◌+◌, ◌<◌, ◌≤◌, List, [], ◌∷◌, ◌++◌, length, map, ap, subst, arith, Option, Ok, Err, Result}
 use Rattle.std.proofs.lemmas.List.{map-append, take_rest, length_push}
 use Rattle.std.proofs.lemmas.List.Elements.{All-push}
 use Rattle.std.specs.Prelude.{slice_range}
 use Rattle.std.specs.Result.{result_ok}
 use Rattle.utf_base.specs.Code.{IsCode}
-use Rattle.utf_base.specs.Piece.{Inside, IsPieceAt, IsCutBetween, Stands}
+use Rattle.utf_base.specs.Piece.{Inside, IsPieceAt, IsCutBetween}
 use Rattle.utf_base.proofs.Cuts.{front_char, front_fault, cut_none, cut_push}
 use Rattle.utf_base.proofs.Standing.{outside_front, outside_end}
 use Rattle.encode_unicode.specs.Window.{Placed, IsFrontOf}
+pub use Rattle.recoding.proofs.FirstFaults.{Excludes}
 use Rattle.cuts.specs.Items.{piece_of, HasKind, IsRunBetween, IsRun}
-
--- elements that have a kind are begun by no code
-abbrev pub Excludes : {E : Type 0} → (ℕ → List ℕ) → (List ℕ → Option E) → Type 0
-Excludes {E} code kind = (w : List ℕ) (k : E) (s : ℕ) → kind w ≡ Some k → Stands code w 0 s → ⊥
 
 -- The items are the run from the place i as far as the place j.
 pub record IsRunTo {E : Type 0} (code : ℕ → List ℕ) (kind : List ℕ → Option E) (xs : List ℕ) (i : ℕ) (items : List (Placed E)) (j : ℕ) : Type 0 where

@@ -14,7 +14,7 @@ use Rattle.utf_base.proofs.Utf16Code.{utf16_is_code, length_utf16}
 use Rattle.utf_lanes.specs.BytePairs.{units_of, unit_of}
 use Rattle.recoding.proofs.JoinedShards.{even_units}
 use Rattle.cuts.specs.WellFormed.{IsFirstFault, BeginsUnits, NoUnitsBegin, IsFirstUnitFault}
-use Rattle.cuts.proofs.FirstFaults.{IsGoodTo, good_all, good_front, good_units}
+use Rattle.recoding.proofs.FirstFaults.{IsGoodTo, good_all, good_front, good_units}
 
 -- What begins the bytes.
 

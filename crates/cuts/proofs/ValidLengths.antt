@@ -19,7 +19,7 @@ use Rattle.encode_unicode.specs.Pieces.{pieces, pieces_by, unit_pieces}
 use Rattle.encode_unicode.specs.Window.{Placed, Item, as_piece}
 use Rattle.encode_unicode.proofs.PieceRuns.{some_bytes, some_units}
 use Rattle.cuts.specs.WellFormed.{IsFirstFault, valid_len}
-use Rattle.cuts.proofs.FirstFaults.{IsGoodTo, good_front, good_bytes, good_units, good_all, first_fault, first_pair_fault}
+use Rattle.recoding.proofs.FirstFaults.{IsGoodTo, good_front, good_bytes, good_units, good_all, first_fault, first_pair_fault}
 
 -- there is one first fault
 one_first : (code : ℕ → List ℕ) (xs : List ℕ) (n m : ℕ) → IsFirstFault code xs n → IsFirstFault code xs m → n ≡ m

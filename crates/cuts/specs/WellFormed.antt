@@ -1,16 +1,10 @@
 -- How far a list is well-formed.
-use Rattle.std.specs.Prelude.{◌≡◌, ℕ, ◌+◌, ◌*◌, ◌/◌, ◌<◌, ◌≤◌, Bool, List, [], ◌∷◌, length, None, is_ok, if◌then◌else◌}
+use Rattle.std.specs.Prelude.{◌≡◌, ℕ, ◌+◌, ◌*◌, ◌/◌, ◌<◌, ◌≤◌, Bool, List, [], ◌∷◌, length, is_ok, if◌then◌else◌}
 use Rattle.utf_base.specs.Code.{utf16}
 use Rattle.utf_base.specs.Front.{BeginsWith, NoneBegins}
 use Rattle.utf_lanes.specs.BytePairs.{units_of}
-use Rattle.utf_base.specs.Piece.{Piece, IsPiece}
 use Rattle.encode_unicode.specs.Window.{Placed}
-
--- the first fault of the list begins at the place n, or there is none, and n is the length of the list
-pub record IsFirstFault (code : ℕ → List ℕ) (xs : List ℕ) (n : ℕ) : Type 0 where
-  pub within : n ≤ length xs
-  pub none : (x : Piece) → IsPiece code xs x → x.char ≡ None → n ≤ x.start
-  pub fault : n < length xs → IsPiece code xs (record { start = n; len = 1; char = None })
+pub use Rattle.recoding.specs.FirstFaults.{IsFirstFault, IsFirstFaultOf, IsFirstUnitFault}
 
 -- how many elements stand before the first fault of some pieces, which are all where none is a fault
 abbrev pub valid_len : {E : Type 0} → List (Placed E) → ℕ
@@ -28,10 +22,3 @@ pub record BeginsUnits (high_first : Bool) (bytes : List ℕ) (n : ℕ) : Type 0
 -- where they are a unit or more, no character begins them
 abbrev pub NoUnitsBegin : Bool → List ℕ → Type 0
 NoUnitsBegin high_first bytes = 2 ≤ length bytes → NoneBegins utf16 (units_of high_first bytes)
-
--- the first fault of bytes that are UTF-16 begins at the place n, which is that of a unit, or there is none, and n is their length.
--- A single byte at the end is a fault.
-pub record IsFirstUnitFault (high_first : Bool) (bytes : List ℕ) (n : ℕ) : Type 0 where
-  pub within : n ≤ length bytes
-  pub even : n ≡ 2 * (n / 2)
-  pub first : IsFirstFault utf16 (units_of high_first bytes) (n / 2)

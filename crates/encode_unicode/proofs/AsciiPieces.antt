@@ -1,11 +1,11 @@
 -- An ASCII byte is a piece of its own wherever it stands: so it is among the pieces, and counts as often as its character.
-use Rattle.std.proofs.Common.{◌≡◌, ℕ, zero, suc, ◌+◌, ◌-◌, ◌<◌, ◌≤◌, List, [], ◌∷◌, ◌++◌, length, get_or, drop, take, cond, false, get_or-drop, map, Option, Some, None, Ok, Err, Result, refl, ap, sym, subst, ◌∙◌, arith, ⊎_elim, length-drop, length-append, take-append-drop}
+use Rattle.std.proofs.Common.{◌≡◌, ℕ, zero, suc, ◌+◌, ◌-◌, ◌<◌, ◌≤◌, List, [], ◌∷◌, ◌++◌, length, get_or, drop, take, cond, false, get_or-drop, map, Option, Some, None, Ok, Err, Result, refl, ap, sym, subst, ◌∙◌, arith, ⊎_elim, length-drop, take-append-drop}
 use Rattle.std.proofs.lemmas.Bool.{cases_lt}
 use Rattle.std.proofs.lemmas.Bool.Decides.{nat_tests}
 use Rattle.std.proofs.lemmas.Grind.{common_steps}
 use Rattle.std.proofs.lemmas.List.{get_or_append_left}
 use Rattle.std.proofs.lemmas.List.Sums.{sum_by-cons}
-use Rattle.std.specs.List.{count_by, filter_map, list_all, sum_by}
+use Rattle.std.specs.List.{count_by, filter_map, list_all}
 use Rattle.std.specs.Prelude.{Contains, is_ok, nat_eq}
 use Rattle.std.specs.Result.{result_ok}
 use Rattle.utf_base.specs.Code.{utf8}
@@ -13,14 +13,13 @@ use Rattle.utf_base.specs.declared.errors.Utf8ErrorKind.{Utf8ErrorKind}
 use Rattle.utf_base.specs.Decoded.{decoded}
 use Rattle.utf_base.specs.Kinds.{fault_kind, merger_kind, value}
 use Rattle.utf_base.specs.Piece.{Inside, IsPiece, Stands}
-use Rattle.utf_base.specs.Scalar.{IsScalar}
 use Rattle.utf_base.proofs.DecodedLemmas.{answer_of_bytes, decoded_code}
 use Rattle.utf_base.proofs.FrontLemmas.{code_where_no_fault, no_code_where_fault}
 use Rattle.utf_base.proofs.KindLemmas.{ascii_stands_alone}
 use Rattle.utf_base.proofs.MergerLemmas.{merger_none_where_code}
 use Rattle.utf_base.proofs.Standing.{codes_never_overlap}
 use Rattle.utf_base.proofs.Utf8Code.{utf8-continuation_byte, utf8_is_code}
-use Rattle.encode_unicode.specs.AsciiBytes.{IsAsciiAt, ascii_item, ascii_piece}
+use Rattle.encode_unicode.specs.AsciiBytes.{IsAsciiAt, ascii_piece}
 use Rattle.encode_unicode.specs.Mergers.{decoded_by_merger, merged}
 use Rattle.encode_unicode.specs.Pieces.{characters, pieces, pieces_by}
 use Rattle.encode_unicode.specs.Window.{Item, as_piece}

@@ -1,4 +1,5 @@
 pub mod PieceRuns
+pub mod PlaceRuns
 pub mod BackPieces
 pub mod AsciiPieces
 pub mod SeenRuns
@@ -22,6 +23,7 @@ pub mod HeldWords
 pub mod MergerSteps
 pub mod MergerRuns
 pub mod MergedLists
+pub mod MergedCharacters
 pub mod ByteMerging
 pub mod UnitMerging
 pub mod MergerHints

@@ -1,5 +1,5 @@
 -- A run of a decoder, or of an iterator over a text, gives the list of its pieces, or of its characters.
-use Rattle.std.proofs.Common.{◌≡◌, ℕ, zero, suc, ◌+◌, ◌-◌, ◌*◌, ◌<◌, ◌≤◌, List, [], ◌∷◌, ◌++◌, length, take, drop, Option, Some, None, Ok, Err, Result, map, refl, ap, sym, subst, ◌∙◌, arith, length-append, length-drop, append-nil}
+use Rattle.std.proofs.Common.{◌≡◌, ℕ, zero, suc, ◌+◌, ◌-◌, ◌*◌, ◌≤◌, List, [], ◌∷◌, ◌++◌, length, take, drop, Option, Some, None, Ok, Err, Result, map, refl, ap, sym, subst, ◌∙◌, arith, length-append, length-drop, append-nil}
 use Rattle.std.specs.Iterator.{Yields, YieldsLast}
 use Rattle.std.specs.Iterator.Runs.{Run, EveryRun, EachRunFrom, WholeRun, AllItems}
 use Rattle.std.proofs.iter.runs.Lists.{Everywhere}
@@ -9,7 +9,7 @@ use Rattle.std.specs.List.{flat_map, fold, last_or}
 use Rattle.std.specs.Prelude.{IfOk, encode_utf8_all, slice_index, slice_range, option_map}
 use Rattle.std.specs.Str.{chars, IsCharBoundary, IsUtf8}
 use Rattle.std.proofs.lemmas.Grind.{common_steps}
-use Rattle.std.proofs.lemmas.Str.{IsCharBoundary-end, IsCharBoundary-start, IsUtf8-append, chars-append, chars-nil, chars_past_char, encodes-chars}
+use Rattle.std.proofs.lemmas.Str.{IsUtf8-append, chars-append, chars-nil, chars_past_char, encodes-chars}
 use Rattle.std.proofs.lemmas.Iterator.{YieldsList, items_from_drains}
 use Rattle.std.proofs.lemmas.Iterator.Consumers.{YieldsList-from_shown}
 use Rattle.std.proofs.lemmas.List.{map-id, take_all}
@@ -27,9 +27,9 @@ use Rattle.utf_base.proofs.StdText.{utf8_is_std, utf8_is_text}
 use Rattle.utf_chars.proofs.Ranges.{range_after}
 use Rattle.encode_unicode.proofs.Joined.{some_utf8}
 use Rattle.encode_unicode.proofs.RunTests.{tells, tells_back}
-use Rattle.encode_unicode.specs.Pieces.{Gives, GivesReversed, LengthsFit, LiesWithin, LiesInText, PiecesFit, pieces, unit_pieces, pieces_by, pieces_left, unit_pieces_left, placed_chars, chars_left, placed_chars_left}
+use Rattle.encode_unicode.specs.Pieces.{Gives, GivesReversed, LengthsFit, LiesWithin, LiesInText, LiesInTextWindow, LiesInWindow, PiecesFit, pieces, unit_pieces, pieces_by, pieces_left, unit_pieces_left, placed_chars, chars_left, placed_chars_left}
 use Rattle.encode_unicode.specs.Sources.{IsListed, IsListedBack}
-use Rattle.encode_unicode.specs.TextWindow.{IsTextWindow, NextScalar, NextPlaced, BackScalar, BackPlaced, GivesFirstChar, GivesLastChar}
+use Rattle.encode_unicode.specs.TextWindow.{NextScalar, NextPlaced, BackScalar, BackPlaced, GivesFirstChar, GivesLastChar}
 use Rattle.encode_unicode.specs.Window.{Window, Placed, elements, whole_window, without_front, as_piece, GivesNone, GivesFrontOf, GivesBackOf, HasCode, NextGives, NextGivesUnits, NextBackGives, NextBackGivesUnits}
 
 -- A list that tells what each state still gives is what each run gives.
@@ -264,13 +264,21 @@ unit_decoder_places xs s e p seen from =
     (ap (λ (u : Window). u.back) (from ∙ e))
 
 -- The same of a decoder that was asked already.
-pub decoder_places_on : EveryRun NextGives (λ p. AllItems p (LiesWithin 4 p.from.back))
-decoder_places_on p seen =
-    all_items NextGives (λ w. w.back ≡ p.from.back) (LiesWithin 4 p.from.back) (λ w x v k g. place_kept utf8 4 fault_kind decoded p.from.back w v x k g) p refl
+window_kept : {E : Type 0} (code : ℕ → List ℕ) (most : ℕ) (kind : List ℕ → Option E) (answer : List ℕ → Result (ℕ × ℕ) E) (u w v : Window) (x : Placed E)
+    → (w.back ≡ u.back) × (u.front ≤ w.front) → GivesFrontOf code most kind answer w x v → LiesInWindow most u x × ((v.back ≡ u.back) × (u.front ≤ v.front))
+window_kept code most kind answer u w v x k g =
+    let kept = place_kept code most kind answer u.back w v x k.0 g in
+    let front : v.front ≡ w.front + x.2 = ap (λ (z : Window). z.front) g.left in
+    let place = g.place in
+    ((kept.0, omega arith), (kept.1, omega arith))
 
-pub unit_decoder_places_on : EveryRun NextGivesUnits (λ p. AllItems p (LiesWithin 2 p.from.back))
+pub decoder_places_on : EveryRun NextGives (λ p. AllItems p (LiesInWindow 4 p.from))
+decoder_places_on p seen =
+    all_items NextGives (λ w. (w.back ≡ p.from.back) × (p.from.front ≤ w.front)) (LiesInWindow 4 p.from) (λ w x v k g. window_kept utf8 4 fault_kind decoded p.from w v x k g) p (refl, omega arith)
+
+pub unit_decoder_places_on : EveryRun NextGivesUnits (λ p. AllItems p (LiesInWindow 2 p.from))
 unit_decoder_places_on p seen =
-    all_items NextGivesUnits (λ w. w.back ≡ p.from.back) (LiesWithin 2 p.from.back) (λ w x v k g. place_kept utf16 2 unit_fault_kind decoded_pairs p.from.back w v x k g) p refl
+    all_items NextGivesUnits (λ w. (w.back ≡ p.from.back) × (p.from.front ≤ w.front)) (LiesInWindow 2 p.from) (λ w x v k g. window_kept utf16 2 unit_fault_kind decoded_pairs p.from w v x k g) p (refl, omega arith)
 
 piece_kept_back : {E : Type 0} (code : ℕ → List ℕ) (most : ℕ) (kind : ℕ → E) (answer : List ℕ → Result (ℕ × ℕ) E) (n : ℕ) (w v : Window) (x : Placed E)
     → w.back ≤ n → GivesBackOf code most kind answer w x v → LiesWithin most n x × (v.back ≤ n)
@@ -288,13 +296,24 @@ unit_decoder_places_back xs s e p seen from =
     let end : p.from.back ≡ length xs = ap (λ (u : Window). u.back) (from ∙ e) in
     all_items NextBackGivesUnits (λ w. w.back ≤ length xs) (LiesWithin 2 (length xs)) (λ w x v k g. piece_kept_back utf16 2 unit_back_kind decoded_pairs_end (length xs) w v x k g) p (omega arith)
 
-pub decoder_places_back_on : EveryRun NextBackGives (λ p. AllItems p (LiesWithin 4 p.from.back))
-decoder_places_back_on p seen =
-    all_items NextBackGives (λ w. w.back ≤ p.from.back) (LiesWithin 4 p.from.back) (λ w x v k g. piece_kept_back utf8 4 back_kind decoded_end p.from.back w v x k g) p (omega arith)
+window_kept_back : {E : Type 0} (code : ℕ → List ℕ) (most : ℕ) (kind : ℕ → E) (answer : List ℕ → Result (ℕ × ℕ) E) (u w v : Window) (x : Placed E)
+    → (w.back ≤ u.back) × (w.front ≡ u.front) → GivesBackOf code most kind answer w x v → LiesInWindow most u x × ((v.back ≤ u.back) × (v.front ≡ u.front))
+window_kept_back code most kind answer u w v x k g =
+    let kept = piece_kept_back code most kind answer u.back w v x k.0 g in
+    let all : length (elements w) ≤ w.back - w.front = grind (arith, common_steps) in
+    let front : v.front ≡ w.front = ap (λ (z : Window). z.front) g.left in
+    let some = g.some in
+    let place = g.place in
+    let len = g.len in
+    ((kept.0, omega arith), (kept.1, omega arith))
 
-pub unit_decoder_places_back_on : EveryRun NextBackGivesUnits (λ p. AllItems p (LiesWithin 2 p.from.back))
+pub decoder_places_back_on : EveryRun NextBackGives (λ p. AllItems p (LiesInWindow 4 p.from))
+decoder_places_back_on p seen =
+    all_items NextBackGives (λ w. (w.back ≤ p.from.back) × (w.front ≡ p.from.front)) (LiesInWindow 4 p.from) (λ w x v k g. window_kept_back utf8 4 back_kind decoded_end p.from w v x k g) p (omega arith, refl)
+
+pub unit_decoder_places_back_on : EveryRun NextBackGivesUnits (λ p. AllItems p (LiesInWindow 2 p.from))
 unit_decoder_places_back_on p seen =
-    all_items NextBackGivesUnits (λ w. w.back ≤ p.from.back) (LiesWithin 2 p.from.back) (λ w x v k g. piece_kept_back utf16 2 unit_back_kind decoded_pairs_end p.from.back w v x k g) p (omega arith)
+    all_items NextBackGivesUnits (λ w. (w.back ≤ p.from.back) × (w.front ≡ p.from.front)) (LiesInWindow 2 p.from) (λ w x v k g. window_kept_back utf16 2 unit_back_kind decoded_pairs_end p.from w v x k g) p (omega arith, refl)
 
 -- Where they are characters, their codes stand at their places.
 
@@ -322,69 +341,71 @@ unit_decoder_codes = codes_there utf16 NextGivesUnits (λ xs w v x k g. code_kep
 pub unit_decoder_codes_back : (xs : List ℕ) (s : Window) → s ≡ whole_window xs → EachRunFrom NextBackGivesUnits s (λ p. AllItems p (HasCode utf16 xs))
 unit_decoder_codes_back = codes_there utf16 NextBackGivesUnits (λ xs w v x k g. code_kept_back utf16 2 unit_back_kind decoded_pairs_end xs w v x k g)
 
--- what a window of a text keeps, with this end
-record KeepsText (text : List ℕ) (w : Window) (end : ℕ) : Type 0 where
-  whole : w.whole ≡ text
-  boundary : IsCharBoundary text end
-
-char_kept : (text : List ℕ) (w v : Window) (x : ℕ × ℕ) → KeepsText text w w.front → GivesFirstChar w x.0 x.1 v → LiesInText text x × KeepsText text v v.front
-char_kept text w v x k g =
-    let whole : v.whole ≡ text = ap (λ (u : Window). u.whole) g.left ∙ k.whole in
+-- a character that begins a window of a text, and one that ends it, lies in the text
+char_first : (w v : Window) (x : ℕ × ℕ) → GivesFirstChar w x.0 x.1 v → LiesInText w.whole x
+char_first w v x g =
+    let whole : v.whole ≡ w.whole = ap (λ (u : Window). u.whole) g.left in
     let front : v.front ≡ x.0 + length (utf8 x.1) = ap (λ (u : Window). u.front) g.left ∙ ap (λ p. p + length (utf8 x.1)) (sym g.at_front) in
-    let new_front : IsCharBoundary text v.front = rw whole at g.between.front in
     let some = some_utf8 x.1 in
-    let here : IsCharBoundary text x.0 = rw (← g.at_front) at k.boundary in
-    let after : IsCharBoundary text (x.0 + length (utf8 x.1)) = rw front at new_front in
-    ((omega arith, here, omega arith, after), record { whole = whole; boundary = new_front })
+    let here : IsCharBoundary w.whole x.0 = rw (← g.at_front) at g.begins in
+    let after : IsCharBoundary w.whole (x.0 + length (utf8 x.1)) = rw (whole, front) at g.between.front in
+    (omega arith, here, omega arith, after)
 
-pub text_places : (text : List ℕ) (s : Window) → IsUtf8 text → s ≡ whole_window text → EachRunFrom NextPlaced s (λ p. AllItems p (LiesInText text))
-text_places text s h e p seen from =
-    all_items NextPlaced (λ w. KeepsText text w w.front) (LiesInText text) (λ w x v k g. char_kept text w v x k g) p (rw (from, e) (record { whole = refl; boundary = IsCharBoundary-start text h }))
-
--- the same from the back
-char_kept_back : (text : List ℕ) (w v : Window) (x : ℕ × ℕ) → KeepsText text w w.back → GivesLastChar w x.0 x.1 v → LiesInText text x × KeepsText text v v.back
-char_kept_back text w v x k g =
-    let whole : v.whole ≡ text = ap (λ (u : Window). u.whole) g.left ∙ k.whole in
+char_last : (w v : Window) (x : ℕ × ℕ) → GivesLastChar w x.0 x.1 v → LiesInText w.whole x × (x.0 + length (utf8 x.1) ≡ w.back) × (w.front ≤ x.0)
+char_last w v x g =
+    let whole : v.whole ≡ w.whole = ap (λ (u : Window). u.whole) g.left in
     let back : v.back ≡ w.back - length (utf8 x.1) = ap (λ (u : Window). u.back) g.left in
-    let new_back : IsCharBoundary text v.back = rw whole at g.between.back in
     let some = some_utf8 x.1 in
     let both : length (elements w) ≡ length (elements v) + length (utf8 x.1) = ap length g.code ∙ length-append (elements v) (utf8 x.1) in
     let most : length (elements w) ≤ w.back - w.front = grind (arith, common_steps) in
     let at : x.0 ≡ v.back = g.at_back in
     let end : x.0 + length (utf8 x.1) ≡ w.back = omega arith in
-    let here : IsCharBoundary text x.0 = rw (← at) at new_back in
-    let after : IsCharBoundary text (x.0 + length (utf8 x.1)) = rw end k.boundary in
-    ((omega arith, here, omega arith, after), record { whole = whole; boundary = new_back })
+    let here : IsCharBoundary w.whole x.0 = rw (whole, ← at) at g.between.back in
+    let after : IsCharBoundary w.whole (x.0 + length (utf8 x.1)) = rw end g.ends in
+    ((omega arith, here, omega arith, after), end, omega arith)
 
-pub text_places_back : (text : List ℕ) (s : Window) → IsUtf8 text → s ≡ whole_window text → EachRunFrom BackPlaced s (λ p. AllItems p (LiesInText text))
-text_places_back text s h e p seen from =
-    all_items BackPlaced (λ w. KeepsText text w w.back) (LiesInText text) (λ w x v k g. char_kept_back text w v x k g) p (rw (from, e) (record { whole = refl; boundary = IsCharBoundary-end text }))
+-- what calls from a window u of a text have left
+record IsLeftOf (u w : Window) : Type 0 where
+  whole : w.whole ≡ u.whole
+  front : u.front ≤ w.front
+  back : w.back ≤ u.back
 
--- The same of an iterator that was asked already.
+all_left : (u : Window) → IsLeftOf u u
+all_left u = record { whole = refl; front = omega arith; back = omega arith }
 
--- a window that begins with a code begins between two characters of the text
-begins_between : (w v : Window) (place s : ℕ) → GivesFirstChar w place s v → IsCharBoundary w.whole w.front
-begins_between w v place s g =
-    let text : IsUtf8 (elements w) = rw g.code (IsUtf8-append (utf8 s) (elements v) (utf8_is_text s g.scalar) g.between.text) in
-    let start = IsCharBoundary-start (elements w) text in
-    let some = some_utf8 s in
-    let both : length (elements w) ≡ length (utf8 s) + length (elements v) = ap length g.code ∙ length-append (utf8 s) (elements v) in
-    let fits : w.front < length w.whole = grind (arith, common_steps) in
-    let same : slice_index (elements w) 0 ≡ slice_index w.whole w.front = grind (arith, common_steps) in
-    (omega arith, λ lt. rw (← same) (start.1 (omega arith)))
+placed_on : (u w v : Window) (x : ℕ × ℕ) → IsLeftOf u w → GivesFirstChar w x.0 x.1 v → LiesInTextWindow u x × IsLeftOf u v
+placed_on u w v x k g =
+    let front : v.front ≡ w.front + length (utf8 x.1) = ap (λ (z : Window). z.front) g.left in
+    let back : v.back ≡ w.back = ap (λ (z : Window). z.back) g.left in
+    let at = g.at_front in
+    let some = some_utf8 x.1 in
+    let both : length (elements w) ≡ length (utf8 x.1) + length (elements v) = ap length g.code ∙ length-append (utf8 x.1) (elements v) in
+    let most : length (elements w) ≤ w.back - w.front = grind (arith, common_steps) in
+    ((rw k.whole at (char_first w v x g), omega arith, omega arith), record { whole = ap (λ (z : Window). z.whole) g.left ∙ k.whole; front = omega arith; back = omega arith })
 
-placed_on : (text : List ℕ) (w v : Window) (x : ℕ × ℕ) → w.whole ≡ text → GivesFirstChar w x.0 x.1 v → LiesInText text x × (v.whole ≡ text)
-placed_on text w v x is g =
-    let begins : IsCharBoundary text w.front = rw is at (begins_between w v x.0 x.1 g) in
-    let kept = char_kept text w v x (record { whole = is; boundary = begins }) g in
-    (kept.0, kept.1.whole)
+placed_back_on : (u w v : Window) (x : ℕ × ℕ) → IsLeftOf u w → GivesLastChar w x.0 x.1 v → LiesInTextWindow u x × IsLeftOf u v
+placed_back_on u w v x k g =
+    let front : v.front ≡ w.front = ap (λ (z : Window). z.front) g.left in
+    let back : v.back ≡ w.back - length (utf8 x.1) = ap (λ (z : Window). z.back) g.left in
+    let lies = char_last w v x g in
+    ((rw k.whole at lies.0, omega arith, omega arith), record { whole = ap (λ (z : Window). z.whole) g.left ∙ k.whole; front = omega arith; back = omega arith })
 
-pub text_places_on : EveryRun NextPlaced (λ p. AllItems p (LiesInText p.from.whole))
-text_places_on p seen = all_items NextPlaced (λ w. w.whole ≡ p.from.whole) (LiesInText p.from.whole) (λ w x v k g. placed_on p.from.whole w v x k g) p refl
+pub text_places_on : EveryRun NextPlaced (λ p. AllItems p (LiesInTextWindow p.from))
+text_places_on p seen = all_items NextPlaced (IsLeftOf p.from) (LiesInTextWindow p.from) (λ w x v k g. placed_on p.from w v x k g) p (all_left p.from)
 
-pub text_places_back_on : EveryRun BackPlaced (λ p. IsTextWindow p.from → AllItems p (LiesInText p.from.whole))
-text_places_back_on p seen ends =
-    all_items BackPlaced (λ w. KeepsText p.from.whole w w.back) (LiesInText p.from.whole) (λ w x v k g. char_kept_back p.from.whole w v x k g) p (record { whole = refl; boundary = ends.back })
+pub text_places_back_on : EveryRun BackPlaced (λ p. AllItems p (LiesInTextWindow p.from))
+text_places_back_on p seen = all_items BackPlaced (IsLeftOf p.from) (LiesInTextWindow p.from) (λ w x v k g. placed_back_on p.from w v x k g) p (all_left p.from)
+
+pub text_places : (text : List ℕ) (s : Window) → s ≡ whole_window text → EachRunFrom NextPlaced s (λ p. AllItems p (LiesInText text))
+text_places text s e p seen from =
+    let whole : p.from.whole ≡ text = ap (λ (w : Window). w.whole) (from ∙ e) in
+    rw whole at (all_items NextPlaced (λ w. w.whole ≡ p.from.whole) (LiesInText p.from.whole) (λ w x v k g. (rw k at (char_first w v x g), ap (λ (z : Window). z.whole) g.left ∙ k)) p refl)
+
+-- the same from the back
+pub text_places_back : (text : List ℕ) (s : Window) → s ≡ whole_window text → EachRunFrom BackPlaced s (λ p. AllItems p (LiesInText text))
+text_places_back text s e p seen from =
+    let whole : p.from.whole ≡ text = ap (λ (w : Window). w.whole) (from ∙ e) in
+    rw whole at (all_items BackPlaced (λ w. w.whole ≡ p.from.whole) (LiesInText p.from.whole) (λ w x v k g. (rw k at (char_last w v x g).0, ap (λ (z : Window). z.whole) g.left ∙ k)) p refl)
 
 -- How long their codes are together.
 

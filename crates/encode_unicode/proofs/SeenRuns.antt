@@ -1,5 +1,5 @@
 -- What the calls of a decoder or of an iterator over a text gave, one after another: the list, once they have ended.
-use Rattle.std.proofs.Common.{◌≡◌, ℕ, ◌+◌, ◌≤◌, List, [], ◌∷◌, ◌++◌, length, Option, Some, None, refl, ap, sym, subst, ◌∙◌, arith, append-nil, length-append}
+use Rattle.std.proofs.Common.{◌≡◌, ℕ, ◌+◌, ◌≤◌, List, [], ◌∷◌, ◌++◌, length, Option, Some, None, refl, ap, sym, ◌∙◌, arith, append-nil, length-append}
 use Rattle.std.specs.Iterator.{Yields}
 use Rattle.std.specs.List.{flat_map}
 use Rattle.std.specs.Str.{chars, IsUtf8}
@@ -13,7 +13,7 @@ use Rattle.encode_unicode.proofs.PieceCounts.{pieces_within, unit_pieces_within}
 use Rattle.encode_unicode.proofs.PieceRuns.{chars_of_text, codes_of_text, decoder_listed, placed_listed, scalars_listed, unit_decoder_listed}
 
 module _ {S A : Type 0} (steps : S → Option A → S → Type 0) (rest : S → List A) (listed : IsListed steps rest) where
-  passed : (seen : List A) (s t : S) → Yields steps s seen t → rest s ≡ seen ++ rest t
+  pub passed : (seen : List A) (s t : S) → Yields steps s seen t → rest s ≡ seen ++ rest t
   passed [] s t y = ap rest y
   passed (x ∷ seen) s t y = listed s (Some x) y.0 y.1 ∙ ap (λ xs. x ∷ xs) (passed seen y.0 t y.2)
 
@@ -35,7 +35,7 @@ few_codes (s ∷ scalars) =
 few_chars : (text : List ℕ) → IsUtf8 text → length (chars text) ≤ length text
 few_chars text h = omega (arith, few_codes (chars text), ap length (codes_of_text text h))
 
-length-placed : (place : ℕ) (scalars : List ℕ) → length (placed_chars place scalars) ≡ length scalars
+pub length-placed : (place : ℕ) (scalars : List ℕ) → length (placed_chars place scalars) ≡ length scalars
 length-placed place [] = refl
 length-placed place (s ∷ scalars) = let rest = length-placed (place + length (utf8 s)) scalars in omega arith
 

@@ -54,6 +54,7 @@ first_taken {xs} {i} {j} {s} {n} kept begins =
         code = sym (take-append-drop n (slice_range xs i j)) ∙ ap (λ ys. ys ++ drop n (slice_range xs i j)) code ∙ ap (λ ys. utf8 s ++ ys) (sym following);
         at_front = refl;
         left = ap (λ (k : ℕ). record { whole = xs; front = i + k; back = j }) len;
+        begins = kept.between.front;
         between = between;
       },
       record { is_text = kept.is_text; ordered = omega arith; between = between },
@@ -82,6 +83,7 @@ last_taken xs i j s n m kept ends e =
         code = sym (take-append-drop (length (slice_range xs i j) - n) (slice_range xs i j)) ∙ ap (λ ys. take (length (slice_range xs i j) - n) (slice_range xs i j) ++ ys) last ∙ ap (λ ys. ys ++ utf8 s) (sym before);
         at_back = refl;
         left = ap (λ (k : ℕ). record { whole = xs; front = i; back = k }) (omega arith);
+        ends = kept.between.back;
         between = between;
       },
       record { is_text = kept.is_text; ordered = omega arith; between = between },

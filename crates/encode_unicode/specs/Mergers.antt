@@ -4,6 +4,8 @@ use Rattle.std.specs.Prelude.{◌≡◌, ℕ, ◌+◌, ◌/◌, ◌<◌, ◌≤�
 use Rattle.std.specs.Bool.{MatchBool}
 use Rattle.std.specs.Iterator.{Count, Yields, YieldsFirst, YieldsThen, count_map, count_unless}
 use Rattle.std.specs.Iterator.Runs.{Run}
+use Rattle.std.specs.List.{filter_map}
+use Rattle.std.specs.Result.{result_ok}
 use Rattle.utf_base.specs.declared.errors.Utf8ErrorKind.{Utf8ErrorKind}
 use Rattle.utf_base.specs.declared.errors.units.Utf16PairError.{Utf16PairError}
 use Rattle.utf_base.specs.Code.{utf8, utf16}
@@ -13,7 +15,7 @@ use Rattle.utf_base.specs.Scalar.{IsScalar}
 use Rattle.utf_base.specs.Units.{unit_fault_kind}
 use Rattle.utf_chars.specs.Taking.{BoundsLength}
 use Rattle.encode_unicode.specs.Hints.{BoundsCut}
-use Rattle.encode_unicode.specs.Pieces.{Gives, pieces_by}
+use Rattle.encode_unicode.specs.Pieces.{Gives, characters, pieces_by, unit_characters}
 use Rattle.encode_unicode.specs.Sources.{GivesTheSame, IsListed, IsHintOf, split_hint, split_upper}
 
 -- a merger: the elements that it has read and not answered for, in order, its source, and whether that has answered `None`
@@ -105,6 +107,13 @@ merged xs = map (λ x. x.1) (pieces_by decoded_by_merger (length xs) 0 xs)
 -- the same of units
 unfoldable pub merged_units : List ℕ → List (Result ℕ Utf16PairError)
 merged_units xs = map (λ x. x.1) (pieces_by decoded_pairs (length xs) 0 xs)
+
+-- the characters among a merger's answers are those among the pieces of the same bytes, or units
+abbrev pub MergedCharacters : Type 0
+MergedCharacters = (xs : List ℕ) → filter_map (λ r. result_ok r) (merged xs) ≡ characters xs
+
+abbrev pub MergedUnitCharacters : Type 0
+MergedUnitCharacters = (xs : List ℕ) → filter_map (λ r. result_ok r) (merged_units xs) ≡ unit_characters xs
 
 -- P holds where the items of the run q are the first elements of a list, and all of it where the run is whole
 abbrev pub WhereFront : {S : Type 0} {steps : S → Option ℕ → S → Type 0} → Run steps → List ℕ → Type 0 → Type 0

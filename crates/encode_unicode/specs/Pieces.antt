@@ -1,14 +1,13 @@
 -- What whole runs of decoders and of iterators over a text give, as lists.
-use Rattle.std.specs.Prelude.{◌≡◌, ℕ, zero, suc, ◌+◌, ◌<◌, ◌≤◌, List, [], ◌∷◌, length, take, drop, reverse, true, Result, Option, None}
+use Rattle.std.specs.Prelude.{◌≡◌, ℕ, zero, suc, ◌+◌, ◌<◌, ◌≤◌, List, [], ◌∷◌, length, take, drop, reverse, true, Result, Option, IfSome, None}
 use Rattle.std.specs.List.{filter_map, flat_map, fold}
 use Rattle.std.specs.Iterator.{Yields}
-use Rattle.std.specs.Iterator.Runs.{AllItems, Run, ItemsAre, ItemsMapTo, ItemsAreReversed, ItemsMapToReversed}
+use Rattle.std.specs.Iterator.Runs.{Run, ItemsAre, ItemsMapTo, ItemsAreReversed, ItemsMapToReversed}
 use Rattle.std.specs.Result.{result_ok}
 use Rattle.std.specs.Str.{chars, IsCharBoundary, IsUtf8}
 use Rattle.utf_base.specs.Code.{utf8}
 use Rattle.utf_base.specs.Decoded.{decoded, decoded_pairs}
 use Rattle.encode_unicode.specs.RunTests.{Tells}
-use Rattle.encode_unicode.specs.TextWindow.{IsTextWindow}
 use Rattle.encode_unicode.specs.Window.{Window, Placed, Item, UnitItem, elements, whole_window, as_piece}
 
 -- the pieces of a list whose first element stands at a place, one after another, by what is decoded at the front of what is
@@ -75,17 +74,41 @@ PiecesFit most p = fold (λ sum x. sum + x.2) 0 p.items ≤ most
 abbrev pub LiesWithin : {E : Type 0} → ℕ → ℕ → Placed E → Type 0
 LiesWithin most n x = (x.0 < n) × (1 ≤ x.2) × (x.2 ≤ most) × (x.0 + x.2 ≤ n)
 
+-- a piece of at most so many elements lies in a window: not before its front, and not beyond its back
+abbrev pub LiesInWindow : {E : Type 0} → ℕ → Window → Placed E → Type 0
+LiesInWindow most w x = LiesWithin most w.back x × (w.front ≤ x.0)
+
 -- a character with its offset lies in the text, between two places at which the text can be cut
 abbrev pub LiesInText : List ℕ → ℕ × ℕ → Type 0
 LiesInText text x = (x.0 < length text) × IsCharBoundary text x.0 × (x.0 + length (utf8 x.1) ≤ length text) × IsCharBoundary text (x.0 + length (utf8 x.1))
 
--- so do all that a run gives from a window of a text
-abbrev pub AllLieInText : {steps : Window → Option (ℕ × ℕ) → Window → Type 0} → Run steps → Type 0
-AllLieInText p = IsTextWindow p.from → AllItems p (LiesInText p.from.whole)
+-- and it lies in a window of the text
+abbrev pub LiesInTextWindow : Window → ℕ × ℕ → Type 0
+LiesInTextWindow w x = LiesInText w.whole x × (w.front ≤ x.0) × (x.0 + length (utf8 x.1) ≤ w.back)
+
+-- the front of the text is its first k characters
+abbrev pub HasFirstChars : List ℕ → ℕ → List ℕ → Type 0
+HasFirstChars text k front = (front ≡ flat_map utf8 (take k (chars text))) × (chars front ≡ take k (chars text))
+
+-- before each item stand as many characters as items came before it; a run that ends has passed all of them
+abbrev pub StandAfterChars : {steps : Window → Option (ℕ × ℕ) → Window → Type 0} → List ℕ → Run steps → Type 0
+StandAfterChars text p = ((k : ℕ) → IfSome (p.at k) (λ x. HasFirstChars text k (take x.0 text))) × ((k : ℕ) → p.whole ≡ true → p.len ≤ k → HasFirstChars text k text)
+
+-- calls from the front leave the list and its back as they are
+abbrev pub LeavesBack : {A : Type 0} → (Window → Option A → Window → Type 0) → Type 0
+LeavesBack {A} steps = (w : Window) (seen : List A) (v : Window) → Yields steps w seen v → (v.whole ≡ w.whole) × (v.back ≡ w.back) × (w.front ≤ v.front)
+
+-- calls from the back leave the list and its front as they are
+abbrev pub LeavesFront : {A : Type 0} → (Window → Option A → Window → Type 0) → Type 0
+LeavesFront {A} steps = (w : Window) (seen : List A) (v : Window) → Yields steps w seen v → (v.whole ≡ w.whole) × (v.front ≡ w.front) × (v.back ≤ w.back)
 
 -- the characters among the pieces of some bytes
 abbrev pub characters : List ℕ → List ℕ
 characters xs = filter_map (λ x. result_ok x.1) (pieces xs)
+
+-- and among those of some units
+abbrev pub unit_characters : List ℕ → List ℕ
+unit_characters xs = filter_map (λ x. result_ok x.1) (unit_pieces xs)
 
 -- calls from s that gave these items, and then `None`, gave the list
 abbrev pub GaveAll : {S A : Type 0} → (S → Option A → S → Type 0) → S → List A → Type 0

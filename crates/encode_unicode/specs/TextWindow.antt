@@ -27,6 +27,7 @@ pub record GivesFirstChar (w : Window) (place s : ℕ) (v : Window) : Type 0 whe
   pub code : elements w ≡ utf8 s ++ elements v
   pub at_front : place ≡ w.front
   pub left : v ≡ without_front w (length (utf8 s))
+  pub begins : IsCharBoundary w.whole w.front
   pub between : IsTextWindow v
 
 -- the scalar whose code ends the window, with its place, and exactly that code has left it
@@ -35,6 +36,7 @@ pub record GivesLastChar (w : Window) (place s : ℕ) (v : Window) : Type 0 wher
   pub code : elements w ≡ elements v ++ utf8 s
   pub at_back : place ≡ v.back
   pub left : v ≡ without_back w (length (utf8 s))
+  pub ends : IsCharBoundary w.whole w.back
   pub between : IsTextWindow v
 
 -- one call of `next` and one of `next_back`, whose items have a place

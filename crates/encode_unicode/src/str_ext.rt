@@ -3,7 +3,7 @@ ghost use Rattle.std.specs.Prelude.{◌≡◌, length, List, ℕ};
 ghost use Rattle.std.specs.Str.{chars};
 ghost use Rattle.std.specs.Iterator.Runs.{AllItems, EachRunFrom, EveryRun};
 ghost use Rattle.utf_base.specs.Code.{utf8, utf16};
-ghost use Rattle.encode_unicode.specs.Pieces.{GaveAll, GiveAtMost, Gives, GivesReversed, AllLieInText, LengthsFit, LiesInText, chars_left, placed_chars, placed_chars_left};
+ghost use Rattle.encode_unicode.specs.Pieces.{GaveAll, GiveAtMost, Gives, GivesReversed, LeavesBack, LeavesFront, LengthsFit, LiesInText, LiesInTextWindow, StandAfterChars, chars_left, placed_chars, placed_chars_left};
 ghost use Rattle.encode_unicode.specs.Sources.{IsListed, IsListedBack};
 ghost use Rattle.encode_unicode.specs.TextWindow.{BackPlaced, BackScalar, NextPlaced, NextScalar};
 ghost use Rattle.encode_unicode.specs.Window.{whole_window};
@@ -51,9 +51,12 @@ pub trait StrExt<'a>: Sized {
         ensures gave { GaveAll NextPlaced result (placed_chars 0 (chars (text self))) }
         ensures few { GiveAtMost NextPlaced result (length (text self)) }
         ensures places { EachRunFrom NextPlaced result (λ p. AllItems p (LiesInText (text self))) }
-        ensures places_on { EveryRun NextPlaced (λ p. AllItems p (LiesInText p.from.whole)) }
+        ensures places_on { EveryRun NextPlaced (λ p. AllItems p (LiesInTextWindow p.from)) }
         ensures places_back { EachRunFrom BackPlaced result (λ p. AllItems p (LiesInText (text self))) }
-        ensures places_back_on { EveryRun BackPlaced AllLieInText };
+        ensures places_back_on { EveryRun BackPlaced (λ p. AllItems p (LiesInTextWindow p.from)) }
+        ensures moves { LeavesBack NextPlaced }
+        ensures moves_back { LeavesFront BackPlaced }
+        ensures after { EachRunFrom NextPlaced result (StandAfterChars (text self)) };
 
     /// The characters, kept as UTF-16, each with its offset: (offset in bytes, character).
     fn utf16char_indices(self) -> Utf16CharIndices<'a>
@@ -66,9 +69,12 @@ pub trait StrExt<'a>: Sized {
         ensures gave { GaveAll NextPlaced result (placed_chars 0 (chars (text self))) }
         ensures few { GiveAtMost NextPlaced result (length (text self)) }
         ensures places { EachRunFrom NextPlaced result (λ p. AllItems p (LiesInText (text self))) }
-        ensures places_on { EveryRun NextPlaced (λ p. AllItems p (LiesInText p.from.whole)) }
+        ensures places_on { EveryRun NextPlaced (λ p. AllItems p (LiesInTextWindow p.from)) }
         ensures places_back { EachRunFrom BackPlaced result (λ p. AllItems p (LiesInText (text self))) }
-        ensures places_back_on { EveryRun BackPlaced AllLieInText };
+        ensures places_back_on { EveryRun BackPlaced (λ p. AllItems p (LiesInTextWindow p.from)) }
+        ensures moves { LeavesBack NextPlaced }
+        ensures moves_back { LeavesFront BackPlaced }
+        ensures after { EachRunFrom NextPlaced result (StandAfterChars (text self)) };
 }
 
 impl<'a> StrExt<'a> for &'a str {
@@ -87,13 +93,13 @@ impl<'a> StrExt<'a> for &'a str {
     }
 
     #[inline]
-    #[tactic(auto, using(crate::proofs::PieceRuns::chars_of_text, crate::proofs::PieceRuns::placed_listed, crate::proofs::PieceRuns::placed_listed_back, crate::proofs::SeenRuns::placed_few, crate::proofs::PieceRuns::text_places, crate::proofs::PieceRuns::text_places_on, crate::proofs::PieceRuns::text_places_back, crate::proofs::PieceRuns::text_places_back_on))]
+    #[tactic(auto, using(crate::proofs::PieceRuns::chars_of_text, crate::proofs::PieceRuns::placed_listed, crate::proofs::PieceRuns::placed_listed_back, crate::proofs::SeenRuns::placed_few, crate::proofs::PieceRuns::text_places, crate::proofs::PieceRuns::text_places_on, crate::proofs::PieceRuns::text_places_back, crate::proofs::PieceRuns::text_places_back_on, crate::proofs::PlaceRuns::text_leaves_back, crate::proofs::PlaceRuns::text_leaves_front, crate::proofs::PlaceRuns::text_stands_after))]
     fn utf8char_indices(self) -> Utf8CharIndices<'a> {
         Utf8CharIndices::from(self)
     }
 
     #[inline]
-    #[tactic(auto, using(crate::proofs::PieceRuns::chars_of_text, crate::proofs::PieceRuns::placed_listed, crate::proofs::PieceRuns::placed_listed_back, crate::proofs::SeenRuns::placed_few, crate::proofs::PieceRuns::text_places, crate::proofs::PieceRuns::text_places_on, crate::proofs::PieceRuns::text_places_back, crate::proofs::PieceRuns::text_places_back_on))]
+    #[tactic(auto, using(crate::proofs::PieceRuns::chars_of_text, crate::proofs::PieceRuns::placed_listed, crate::proofs::PieceRuns::placed_listed_back, crate::proofs::SeenRuns::placed_few, crate::proofs::PieceRuns::text_places, crate::proofs::PieceRuns::text_places_on, crate::proofs::PieceRuns::text_places_back, crate::proofs::PieceRuns::text_places_back_on, crate::proofs::PlaceRuns::text_leaves_back, crate::proofs::PlaceRuns::text_leaves_front, crate::proofs::PlaceRuns::text_stands_after))]
     fn utf16char_indices(self) -> Utf16CharIndices<'a> {
         Utf16CharIndices::from(self)
     }

@@ -1,13 +1,15 @@
 -- Where all that comes of some bytes fits into the room, no call ends full.
-use Rattle.std.proofs.Common.{◌≡◌, ℕ, ◌-◌, ◌<◌, ◌≤◌, List, [], ◌∷◌, ◌++◌, length, take, drop, flat_map, refl, sym, subst, append_assoc, arith, length-append, length-take, take-append-drop}
+use Rattle.std.proofs.Common.{◌≡◌, ℕ, ◌-◌, ◌*◌, ◌<◌, ◌≤◌, List, [], ◌∷◌, ◌++◌, length, take, drop, flat_map, refl, sym, subst, append_assoc, arith, length-append, length-take, take-append-drop}
 use Rattle.std.proofs.lemmas.List.{append-nil}
 use Rattle.recoding.specs.declared.form.Form.{Form}
-use Rattle.recoding.specs.declared.form.Form.TheVariants.{Utf8}
+use Rattle.recoding.specs.declared.form.Form.TheVariants.{Utf8, Utf16Le, Utf16Be}
 use Rattle.recoding.specs.Recoded.{Recoding, Reads, written, IsRecoded}
-use Rattle.recoding.specs.Rooms.{FeedsInto, IsFull, IsLastFull}
-use Rattle.recoding.specs.Bounds.{LossyIsBounded, FeedsInRoom, RoomIsLeft, FinishesInRoom}
+use Rattle.recoding.specs.Rooms.{FeedsInto, IsFull, IsLastFull, most_bytes}
+use Rattle.recoding.specs.Bounds.{LossyIsBounded, RecodedIsShort, FeedsInRoom, RoomIsLeft, FinishesInRoom}
 use Rattle.recoding.proofs.BoundLemmas.{recoded_bound}
 use Rattle.recoding.proofs.Growing.{recoded_once}
+use Rattle.recoding.proofs.RecodedLists.{recoded_is}
+use Rattle.recoding.specs.RecodedBytes.{recoded}
 
 pub lossy_is_bounded : LossyIsBounded
 lossy_is_bounded bytes out r = recoded_bound Utf8 Utf8 bytes out r
@@ -74,3 +76,18 @@ finishes_in_room r s old new wrote f same room full =
     subst (λ x. IsRecoded x r.to s.held long.out) f.from (subst (λ x. IsRecoded s.from x s.held long.out) f.to long.recoded) in
     let le = room_after old new long.out wrote f.fits same (room (take wrote new ++ long.out) (f.leaves long.out held)) in
     omega arith
+
+-- three bytes for each byte are enough, whatever the forms
+three_each : (from to : Form) (n : ℕ) → most_bytes from to n ≤ 3 * n
+three_each Utf8 Utf8 n = omega arith
+three_each Utf8 Utf16Le n = omega arith
+three_each Utf8 Utf16Be n = omega arith
+three_each Utf16Le Utf8 n = omega arith
+three_each Utf16Le Utf16Le n = omega arith
+three_each Utf16Le Utf16Be n = omega arith
+three_each Utf16Be Utf8 n = omega arith
+three_each Utf16Be Utf16Le n = omega arith
+three_each Utf16Be Utf16Be n = omega arith
+
+pub recoded_is_short : RecodedIsShort
+recoded_is_short from to bytes = omega (arith, recoded_bound from to bytes (recoded from to bytes) (recoded_is from to bytes), three_each from to (length bytes))

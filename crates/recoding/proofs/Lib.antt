@@ -5,6 +5,7 @@ pub mod CopiedUnits
 pub mod Earliest
 pub mod EnoughRoom
 pub mod FedParts
+pub mod FirstFaults
 pub mod LossyPieces
 pub mod FirstPieces
 pub mod Forms
@@ -12,6 +13,7 @@ pub mod FrontBytes
 pub mod GivenBytes
 pub mod GivenRuns
 pub mod HeldFronts
+pub mod GoodCodes
 pub mod Growing
 pub mod JoinedShards
 pub mod Listed
@@ -28,6 +30,7 @@ pub mod RecodedLists
 pub mod RoomLemmas
 pub mod RoomRuns
 pub mod ShardEnds
+pub mod StrictFaults
 pub mod StrictSteps
 pub mod SubpartLengths
 pub mod SwappedRuns

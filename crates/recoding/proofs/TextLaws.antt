@@ -20,7 +20,7 @@ use Rattle.utf_base.proofs.Utf16Code.{utf16_is_code}
 
 -- The bytes of units make these units.
 
-units_of_bytes : (high : Bool) (us later : List ℕ) → units_of high (flat_map (bytes_of high) us ++ later) ≡ us ++ units_of high later
+pub units_of_bytes : (high : Bool) (us later : List ℕ) → units_of high (flat_map (bytes_of high) us ++ later) ≡ us ++ units_of high later
 units_of_bytes high [] later = refl
 units_of_bytes true (u ∷ us) later = let whole : u / 256 * 256 + u % 256 ≡ u = omega arith in ap₂ (λ x xs. x ∷ xs) whole (units_of_bytes true us later)
 units_of_bytes false (u ∷ us) later = let whole : u / 256 * 256 + u % 256 ≡ u = omega arith in ap₂ (λ x xs. x ∷ xs) whole (units_of_bytes false us later)

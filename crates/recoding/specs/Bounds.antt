@@ -3,11 +3,16 @@ use Rattle.std.specs.Prelude.{◌≡◌, ℕ, ◌-◌, ◌*◌, ◌≤◌, List,
 use Rattle.recoding.specs.declared.form.Form.{Form}
 use Rattle.recoding.specs.declared.form.Form.TheVariants.{Utf8}
 use Rattle.recoding.specs.Recoded.{Recoding, IsRecoded}
+use Rattle.recoding.specs.RecodedBytes.{recoded}
 use Rattle.recoding.specs.Rooms.{FeedsInto, FinishesInto, IsFull, IsLastFull, most_bytes}
 
 -- bytes are recoded as no more bytes than `room_for` answers
 abbrev pub RecodedIsBounded : Type 0
 RecodedIsBounded = (from to : Form) (bytes out : List ℕ) → IsRecoded from to bytes out → length out ≤ most_bytes from to (length bytes)
+
+-- the list that bytes are recoded as is at most three times as long as they are
+abbrev pub RecodedIsShort : Type 0
+RecodedIsShort = (from to : Form) (bytes : List ℕ) → length (recoded from to bytes) ≤ 3 * length bytes
 
 -- a lossy text is at most three times as long as its bytes
 abbrev pub LossyIsBounded : Type 0

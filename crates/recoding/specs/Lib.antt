@@ -14,6 +14,7 @@ pub mod Undecided
 pub mod FilledRooms
 pub mod Boundaries
 pub mod Strict
+pub mod FirstFaults
 pub mod Lossy
 pub mod LossyBytes
 pub mod LossyPieces

@@ -7,7 +7,7 @@ ghost use Rattle.recoding.specs.Faults.{FaultCountIsOne};
 ghost use Rattle.recoding.specs.LossyBytes.{LossyIsOne, LossyJoinsFaults, LossyPartsAreOne, LossyUnitsAreRecoded, TextIsLossy};
 ghost use Rattle.recoding.specs.RecodedBytes.{RecodedIsOne};
 ghost use Rattle.recoding.specs.Strict.{TextIsRecoded};
-ghost use Rattle.recoding.specs.Bounds.{RecodedIsBounded, LossyIsBounded, FeedsInRoom, RoomIsLeft, FinishesInRoom};
+ghost use Rattle.recoding.specs.Bounds.{RecodedIsBounded, RecodedIsShort, LossyIsBounded, FeedsInRoom, RoomIsLeft, FinishesInRoom};
 ghost use Rattle.recoding.specs.Undecided.{FrontsAreUndecided, LackingTextIsUndecided, LackingUnitsAreUndecided};
 ghost use Rattle.recoding.specs.Undecided.{LackingUnitIsUndecided, NothingComesEarlier};
 ghost use Rattle.recoding.specs.Fed.{NothingIsFed, PartIsFed, FedIsFront, FedIsRecoded, TwoPartsAreOne, TwoPartsAreRecoded};
@@ -61,6 +61,7 @@ pub fn nothing_comes_earlier()
 /// its bytes.
 pub fn recoded_is_bounded()
     ensures recoded { RecodedIsBounded }
+    ensures plain { RecodedIsShort }
     ensures lossy { LossyIsBounded }
 {}
 

@@ -1,5 +1,6 @@
 //! Strict recoding of text that comes in parts: to the first faulty byte, and on from there.
 ghost use Rattle.std.specs.Prelude.{◌≡◌, ◌≢◌, ◌+◌, ◌-◌, ◌*◌, ◌<◌, ◌≤◌, [], length, drop, Some};
+ghost use Rattle.recoding.specs.FirstFaults.{TellsFirst, TellsFirstAtEnd};
 ghost use Rattle.recoding.specs.Rooms.{ComesNearer};
 ghost use Rattle.recoding.specs.Strict.{EndsRun, FeedsStrictly, FinishesStrictly, IsFirstPiece, PassesHeld};
 
@@ -42,6 +43,7 @@ impl Recoder {
         ensures short { result.outcome ≡ Outcome.Full → length room.old < result.written + 4 }
         ensures enough { 3 * (length self.old.held + length part.now) ≤ length room.old → result.outcome ≢ Outcome.Full }
         ensures nearer { ComesNearer part.now room.old result.read self.old self.new }
+        ensures first { TellsFirst self.old part.now result self.new }
     {
         let passed = self.pass_held(part, room);
         if let Some(outcome) = passed.outcome {
@@ -138,6 +140,7 @@ impl Recoder {
         ensures all { result.outcome ≡ Outcome.AllRead → self.new.held ≡ [] }
         ensures short { result.outcome ≡ Outcome.Full → length room.old < result.written + 4 }
         ensures enough { 3 * length self.old.held ≤ length room.old → result.outcome ≢ Outcome.Full }
+        ensures first { TellsFirstAtEnd self.old result }
     {
         let (from, to) = self.forms();
         let mut written = 0;

@@ -10,7 +10,8 @@ use utf_lanes::byte_pairs::unit;
 ///
 /// Cost: O(n).
 pub fn unit_bytes_valid_up_to(high_first: bool, bytes: &[u8]) -> usize
-    ensures { IsFirstUnitFault high_first bytes.now result }
+    ensures first { IsFirstUnitFault high_first bytes.now result }
+    ensures within { result ≤ length bytes.now }
 {
     let mut place = 0;
     while let Some(len) = first_len(high_first, &bytes[place..]) {

@@ -1,5 +1,5 @@
 //! How far bytes and units are well-formed.
-ghost use Rattle.std.specs.Prelude.{◌≡◌, length, take};
+ghost use Rattle.std.specs.Prelude.{◌≡◌, ◌≤◌, length, take};
 ghost use Rattle.std.specs.Str.{IsUtf8};
 ghost use Rattle.utf_base.specs.Code.{utf8, utf16};
 ghost use Rattle.encode_unicode.specs.Pieces.{pieces, unit_pieces};
@@ -14,6 +14,7 @@ use utf_lanes::text_blocks::text_len;
 /// Cost: O(n).
 pub fn valid_up_to(bytes: &[u8]) -> usize
     ensures first { IsFirstFault utf8 bytes.now result }
+    ensures within { result ≤ length bytes.now }
     ensures value { result ≡ valid_len (pieces bytes.now) }
     ensures text { IsUtf8 (take result bytes.now) }
     ensures whole { IsUtf8 bytes.now → result ≡ length bytes.now }
@@ -33,6 +34,7 @@ pub fn valid_up_to(bytes: &[u8]) -> usize
 /// Cost: O(n).
 pub fn units_valid_up_to(units: &[u16]) -> usize
     ensures first { IsFirstFault utf16 units.now result }
+    ensures within { result ≤ length units.now }
     ensures value { result ≡ valid_len (unit_pieces units.now) }
 {
     let mut place = paired_len(units);

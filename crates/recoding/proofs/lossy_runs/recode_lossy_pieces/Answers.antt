@@ -1,4 +1,4 @@
-use Rattle.std.proofs.Common.{◌<◌, [], length, take, drop, rules, arith, refl, sym, ◌∙◌, subst, ap, take-append-drop}
+use Rattle.std.proofs.Common.{◌<◌, length, take, drop, rules, arith, refl, sym, ◌∙◌, subst, ap, take-append-drop}
 use Rattle.std.proofs.lemmas.List.{take_rest}
 use Rattle.recoding.specs.Lossy.{ReadsParts}
 use Rattle.recoding.specs.Recoded.{fresh, written}

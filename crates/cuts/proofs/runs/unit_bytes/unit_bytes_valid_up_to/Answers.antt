@@ -9,6 +9,6 @@ pub loop-len-preserved : goal.loop-len-preserved
 loop-len-preserved c =
     good_unit_step c.args.high_first c.args.bytes.now c.loop-len.place c.in-Some.len c.loop-len.invariant (rw (take_rest c.args.bytes.now c.loop-len.place) at c.in-Some.ensures.some)
 
-pub returns : goal.returns
-returns c =
+pub returns-clause-first : goal.returns-clause-first
+returns-clause-first c =
     good_unit_all c.args.high_first c.args.bytes.now c.loop-len.place c.loop-len.invariant (rw (take_rest c.args.bytes.now c.loop-len.place) at c.in_default.ensures.none)

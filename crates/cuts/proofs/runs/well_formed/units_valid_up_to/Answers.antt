@@ -1,8 +1,8 @@
 use Rattle.std.proofs.Common.{arith}
 use Rattle.std.proofs.lemmas.List.{take_rest}
 use Rattle.utf_base.specs.Code.{utf16}
-use Rattle.cuts.proofs.FirstFaults.{good_all, good_units, first_unit_fault}
-use Rattle.cuts.proofs.GoodCodes.{good_front_codes}
+use Rattle.recoding.proofs.FirstFaults.{good_all, good_units, first_unit_fault}
+use Rattle.recoding.proofs.GoodCodes.{good_front_codes}
 use Rattle.cuts.proofs.ValidLengths.{first_unit_fault_known}
 use Rattle.cuts.proofs.runs.well_formed.units_valid_up_to.Goals as goal
 

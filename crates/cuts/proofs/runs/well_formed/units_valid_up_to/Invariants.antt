@@ -1,6 +1,6 @@
 use Rattle.std.proofs.Common.{◌-◌, length}
 use Rattle.utf_base.specs.Code.{utf16}
-use Rattle.cuts.proofs.FirstFaults.{IsGoodTo}
+use Rattle.recoding.proofs.FirstFaults.{IsGoodTo}
 use Rattle.cuts.proofs.runs.well_formed.units_valid_up_to.Given as goal
 
 abbrev pub invariant-loop-place : goal.invariant-loop-place

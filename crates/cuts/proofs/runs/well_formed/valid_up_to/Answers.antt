@@ -3,8 +3,8 @@ use Rattle.std.proofs.lemmas.List.{take_rest}
 use Rattle.utf_base.specs.Code.{utf8}
 use Rattle.utf_lanes.proofs.JudgedText.{text_step}
 use Rattle.cuts.proofs.CharacterRuns.{first_fault_of_text}
-use Rattle.cuts.proofs.FirstFaults.{good_all, good_bytes, first_fault}
-use Rattle.cuts.proofs.GoodCodes.{good_text}
+use Rattle.recoding.proofs.FirstFaults.{good_all, good_bytes, first_fault}
+use Rattle.recoding.proofs.GoodCodes.{good_text}
 use Rattle.cuts.proofs.ValidLengths.{first_fault_known}
 use Rattle.cuts.proofs.runs.well_formed.valid_up_to.Goals as goal
 

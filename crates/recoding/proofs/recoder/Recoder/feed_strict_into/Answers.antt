@@ -1,6 +1,7 @@
 use Rattle.std.proofs.Common.{◌∙◌, subst, drop, ◌-◌, length}
 use Rattle.std.proofs.lemmas.List.{take_rest}
 use Rattle.recoding.specs.Strict.{EndsHeld}
+use Rattle.recoding.proofs.StrictFaults.{tells_first}
 use Rattle.recoding.proofs.StrictSteps.{all_is_read, room_is_short, room_is_enough, comes_nearer, FeedsStrictly-held, FeedsStrictly-run}
 use Rattle.recoding.proofs.recoder.Recoder.feed_strict_into.Goals as goal
 
@@ -15,6 +16,10 @@ returns-in-Some-clause-enough c =
 pub returns-in-Some-clause-nearer : goal.returns-in-Some-clause-nearer
 returns-in-Some-clause-nearer c =
     comes_nearer c.args.self.now c.args.part.now c.args.room.now _ _ _ (FeedsStrictly-held _ _ _ _ _ _ _ c.pass_held-passed.ensures c.in-Some.is) c.pass_held-passed.auto.room
+
+pub returns-in-Some-clause-first : goal.returns-in-Some-clause-first
+returns-in-Some-clause-first c =
+    tells_first c.args.self.now c.args.part.now c.args.room.now _ _ _ (FeedsStrictly-held _ _ _ _ _ _ _ c.pass_held-passed.ensures c.in-Some.is)
 
 pub returns-clause-feeds : goal.returns-clause-feeds
 returns-clause-feeds c =
@@ -53,3 +58,7 @@ pub returns-clause-nearer : goal.returns-clause-nearer
 returns-clause-nearer c =
     comes_nearer c.args.self.now c.args.part.now c.args.room.now c.run_strictly-run.new.room c.end_run-end.new.self _ (returns-clause-feeds c)
     (c.run_strictly-run.auto.room ∙ c.pass_held-passed.auto.room)
+
+pub returns-clause-first : goal.returns-clause-first
+returns-clause-first c =
+    tells_first c.args.self.now c.args.part.now c.args.room.now c.run_strictly-run.new.room _ c.end_run-end.new.self (returns-clause-feeds c)

@@ -1,5 +1,7 @@
-use Rattle.std.proofs.Common.{◌-◌, ◌<◌, length, arith, ap, ◌∙◌, length-drop}
+use Rattle.std.proofs.Common.{rules, ◌-◌, ◌<◌, length, arith, ap, ◌∙◌, length-drop}
+use Rattle.std.proofs.lemmas.Grind.{common_steps}
 use Rattle.recoding.specs.Recoded.{written}
+use Rattle.recoding.proofs.StrictFaults.{tells_first_at_end}
 use Rattle.recoding.proofs.StrictSteps.{RecodesText-char, FinishesStrictly-fault, enough_room}
 use Rattle.recoding.proofs.recoder.Recoder.finish_strict_into.Goals as goal
 
@@ -36,3 +38,18 @@ returns-in_default-clause-enough c fits full =
     let long = c.in_default.ensures.long in
     let longer : length c.args.room.now - c.loop-from.written < length (written c.forms-from.result.1 c.in-Ok.c) = omega arith in
     enough_room v.recodes len fits (record { scalar = c.in-Ok.c; len = c.in-Ok.count; begins = d; longer = longer })
+
+pub returns-in_default-clause-finishes : goal.returns-in_default-clause-finishes
+returns-in_default-clause-finishes c = search rules
+
+pub returns-in_default-clause-first : goal.returns-in_default-clause-first
+returns-in_default-clause-first c = tells_first_at_end c.args.self.now c.args.room.now _ _ _ (returns-in_default-clause-finishes c)
+
+pub returns-in-Err-clause-first : goal.returns-in-Err-clause-first
+returns-in-Err-clause-first c = tells_first_at_end c.args.self.now c.args.room.now _ _ _ (returns-in-Err-clause-finishes c)
+
+pub returns-clause-finishes : goal.returns-clause-finishes
+returns-clause-finishes c = grind (arith, common_steps)
+
+pub returns-clause-first : goal.returns-clause-first
+returns-clause-first c = tells_first_at_end c.args.self.now c.args.room.now _ _ _ (returns-clause-finishes c)

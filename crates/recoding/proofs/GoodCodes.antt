@@ -9,7 +9,7 @@ use Rattle.utf_base.proofs.Standing.{stands_first}
 use Rattle.utf_base.proofs.Utf8Code.{utf8_is_code}
 use Rattle.utf_base.proofs.Utf16Code.{utf16_is_code}
 use Rattle.utf_lanes.specs.UnitBlocks.{AreCodes}
-use Rattle.cuts.proofs.FirstFaults.{IsGoodTo, good_front, good_step}
+use Rattle.recoding.proofs.FirstFaults.{IsGoodTo, good_front, good_step}
 use Rattle.encode_unicode.proofs.TextScalars.{joined_from_text}
 
 module _ (code : ℕ → List ℕ) (is_code : IsCode code) where
@@ -34,7 +34,7 @@ module _ (code : ℕ → List ℕ) (is_code : IsCode code) where
       let good = good_step code is_code xs i s m g (stands_first code w (codes ++ drop n w) s (all 0 s (omega arith)) whole, refl) in
       subst (IsGoodTo code xs) at (good_codes rest xs (i + m) (n - m) good (λ k d lt. all (suc k) d (omega arith)) room next)
 
-  good_codes_front : (cs xs : List ℕ) (n : ℕ) → n ≤ length xs → All IsScalar cs → take n xs ≡ flat_map code cs → IsGoodTo code xs n
+  pub good_codes_front : (cs xs : List ℕ) (n : ℕ) → n ≤ length xs → All IsScalar cs → take n xs ≡ flat_map code cs → IsGoodTo code xs n
   good_codes_front cs xs n within all e = let at : 0 + n ≡ n = omega arith in subst (IsGoodTo code xs) at (good_codes cs xs 0 n (good_front code xs) all within e)
 
 pub good_front_codes : (xs : List ℕ) (n : ℕ) → n ≤ length xs → AreCodes (take n xs) → IsGoodTo utf16 xs n

@@ -17,8 +17,11 @@ use Rattle.utf_base.proofs.Standing.{outside_front, outside_end}
 use Rattle.utf_base.proofs.UnitLemmas.{no_units_where_fault, no_units_where_kind}
 use Rattle.utf_base.proofs.Utf8Code.{utf8_is_code}
 use Rattle.utf_base.proofs.Utf16Code.{utf16_is_code}
-use Rattle.cuts.specs.WellFormed.{IsFirstFault}
-use Rattle.cuts.proofs.PieceRuns.{Excludes}
+use Rattle.recoding.specs.FirstFaults.{IsFirstFault}
+
+-- elements that have a kind are begun by no code
+abbrev pub Excludes : {E : Type 0} → (ℕ → List ℕ) → (List ℕ → Option E) → Type 0
+Excludes {E} code kind = (w : List ℕ) (k : E) (s : ℕ) → kind w ≡ Some k → Stands code w 0 s → ⊥
 
 -- no fault begins before the place, and no code lies over it
 pub record IsGoodTo (code : ℕ → List ℕ) (xs : List ℕ) (i : ℕ) : Type 0 where
