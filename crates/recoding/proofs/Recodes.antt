@@ -9,9 +9,9 @@ use Rattle.recoding.specs.Faults.{Advances}
 use Rattle.recoding.specs.Recodes.{Reaches, Recodes}
 use Rattle.recoding.specs.declared.engine.Reached.{Reached}
 use Rattle.recoding.specs.Outputs.{Extends}
-use Rattle.recoding.specs.OutputRuns.{HasRoomFor, RunsOnto, RunsUntil}
+use Rattle.recoding.specs.OutputRuns.{RunsOnto, RunsUntil}
 use Rattle.recoding.specs.FilledRooms.{FillsRoom}
-use Rattle.recoding.specs.Rooms.{NextIsTooLong}
+use Rattle.recoding.specs.Rooms.{HasRoomFor, NextIsTooLong}
 use Rattle.recoding.specs.NextScalars.{Decides, Settles}
 use Rattle.recoding.specs.Strict.{PutsText, Transcodes}
 use Rattle.recoding.proofs.Advancing.{Advances-append, Advances-none, Advances-onto}

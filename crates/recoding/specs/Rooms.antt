@@ -1,5 +1,5 @@
 -- Recoding into room of a fixed size.
-use Rattle.std.specs.Prelude.{◌≡◌, ℕ, ◌+◌, ◌-◌, ◌*◌, ◌/◌, ◌<◌, ◌≤◌, List, ◌++◌, length, take, drop}
+use Rattle.std.specs.Prelude.{◌≡◌, ℕ, ◌+◌, ◌-◌, ◌*◌, ◌/◌, ◌<◌, ◌≤◌, List, ◌++◌, length, take, drop, Vec, vec_len, vec_capacity}
 use Rattle.recoding.specs.Recoded.{Reads, written, IsRecoded, Recoding, Feeds}
 use Rattle.recoding.specs.NextScalars.{Decides, Ends}
 use Rattle.recoding.specs.declared.form.TheConstants.{WIDEST}
@@ -75,6 +75,10 @@ IsAmple room count = WIDEST * count ≤ room
 -- and so for all that the held bytes and a part are
 abbrev pub IsAmpleFor : ℕ → Recoding → List ℕ → Type 0
 IsAmpleFor room r part = IsAmple room (length r.held + length part)
+
+-- what is left of a list's capacity is
+abbrev pub HasRoomFor : {Z : Type 0} → Vec ℕ Z → ℕ → Type 0
+HasRoomFor out count = vec_len out + WIDEST * count ≤ vec_capacity out
 
 -- the most bytes that come of one byte or unit
 abbrev pub widest : Form → ℕ

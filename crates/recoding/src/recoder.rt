@@ -3,9 +3,8 @@ ghost use Rattle.std.specs.Prelude.{◌≡◌, ◌<◌, ◌≤◌, [], ◌+◌, 
 ghost use Rattle.recoding.specs.Recoded.{Feeds, Finishes, FinishesWith, Lacks, fresh, most_held};
 ghost use Rattle.recoding.specs.Faults.{AddsUp, CountsFed, KeepsCount, Replaces, ReplacesLast, fault_count, replaced_in_all, saturated};
 ghost use Rattle.recoding.specs.LossyBytes.{lossy, lossy_outcome};
-ghost use Rattle.recoding.specs.OutputRuns.{HasRoomFor};
 ghost use Rattle.recoding.specs.RecodedBytes.{AddsAll, AddsLast, AddsOutcome, KeepsOutcome, outcome, recoded};
-ghost use Rattle.recoding.specs.Rooms.{ComesNearer, FeedsInto, FinishesInto, IsFull, IsLastFull, bytes_left};
+ghost use Rattle.recoding.specs.Rooms.{ComesNearer, FeedsInto, FinishesInto, HasRoomFor, IsFull, IsLastFull, bytes_left};
 
 use crate::form::{Form, WIDEST};
 use crate::recoder_rooms::{next_of_both, progress, put_at, recode_into, recode_last_into};

@@ -2,7 +2,8 @@
 ghost use Rattle.std.specs.Prelude.{◌≡◌, ◌+◌, ◌≤◌, length, take, ◌++◌, min};
 ghost use Rattle.recoding.specs.Recoded.{Finishes, fresh, most_held};
 ghost use Rattle.recoding.specs.Faults.{fault_count};
-ghost use Rattle.recoding.specs.OutputRuns.{HasRoomFor, RunsUntil};
+ghost use Rattle.recoding.specs.OutputRuns.{RunsUntil};
+ghost use Rattle.recoding.specs.Rooms.{HasRoomFor};
 
 use crate::engine::recode;
 use crate::form::Form;
