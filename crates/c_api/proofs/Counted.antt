@@ -1,5 +1,5 @@
 -- How many faults a call replaced, and what the struct has counted then.
-use Rattle.std.proofs.Common.{◌≡◌, ℕ, ◌+◌, ◌-◌, ◌^◌, List, min, subst, sym}
+use Rattle.std.proofs.Common.{◌≡◌, ℕ, ◌+◌, List, subst, sym}
 use Rattle.cuts.specs.Recoded.{Recoding}
 use Rattle.cuts.specs.Faults.{Replaces, ReplacesLast, saturated}
 use Rattle.c_api.specs.declared.recodings.NodyRecoder.{NodyRecoder}

@@ -1,5 +1,5 @@
 -- Recoding of a whole input in one call, and in parts that are only counted.
-use Rattle.std.proofs.Common.{◌≡◌, ℕ, ◌+◌, ◌-◌, ◌*◌, ◌<◌, ◌≤◌, ◌^◌, ⊎_elim, List, [], ◌++◌, length, take, drop, min, refl, ap, sym, subst, ◌∙◌, append_assoc, arith, length-append, length-take, length-drop, take-append-drop}
+use Rattle.std.proofs.Common.{◌≡◌, ℕ, ◌+◌, ◌-◌, ◌<◌, ◌≤◌, ◌^◌, ⊎_elim, List, [], ◌++◌, length, take, drop, min, refl, ap, sym, subst, ◌∙◌, append_assoc, arith, length-append, length-take, length-drop, take-append-drop}
 use Rattle.std.proofs.lemmas.Bool.{cases_lt}
 use Rattle.std.proofs.lemmas.List.{append-nil, take_all, drop-drop}
 use Rattle.std.proofs.lemmas.Slice.{take-put_mid, drop-put_mid}
@@ -11,7 +11,6 @@ use Rattle.cuts.specs.declared.Form.{Form}
 use Rattle.cuts.specs.declared.Form.TheVariants.{Utf8, Utf16Le, Utf16Be}
 use Rattle.cuts.specs.Recoded.{Recoding, IsRecoded, Finishes, fresh}
 use Rattle.cuts.specs.Rooms.{FeedsInto, FinishesInto, IsAmple, IsAmpleFor, IsFull, IsLastFull, most_bytes}
-use Rattle.recoding.specs.declared.form.TheConstants.{WIDEST}
 use Rattle.cuts.specs.Bounds.{HasRoom}
 use Rattle.cuts.specs.Fed.{IsFed}
 use Rattle.c_api.specs.declared.recodings.NodyRecoder.{NodyRecoder}
@@ -85,21 +84,21 @@ pub record CountsTo (from to : Form) (bytes : List ℕ) (place count : ℕ) (r :
 pub counts_none : (from to : Form) (bytes : List ℕ) → CountsTo from to bytes 0 0 (fresh from to)
 counts_none from to bytes = record { within = omega arith; out = []; fed = nothing_is_fed from to; counted = refl }
 
-few_parts : (from to : Form) (n : ℕ) → most_bytes from to n ≤ WIDEST * n
-few_parts Utf8 Utf8 n = omega arith
-few_parts Utf8 Utf16Le n = omega arith
-few_parts Utf8 Utf16Be n = omega arith
-few_parts Utf16Le Utf8 n = omega arith
-few_parts Utf16Le Utf16Le n = omega arith
-few_parts Utf16Le Utf16Be n = omega arith
-few_parts Utf16Be Utf8 n = omega arith
-few_parts Utf16Be Utf16Le n = omega arith
-few_parts Utf16Be Utf16Be n = omega arith
+few_parts : (from to : Form) (n room : ℕ) → IsAmple room n → most_bytes from to n ≤ room
+few_parts Utf8 Utf8 n room ample = omega arith
+few_parts Utf8 Utf16Le n room ample = omega arith
+few_parts Utf8 Utf16Be n room ample = omega arith
+few_parts Utf16Le Utf8 n room ample = omega arith
+few_parts Utf16Le Utf16Le n room ample = omega arith
+few_parts Utf16Le Utf16Be n room ample = omega arith
+few_parts Utf16Be Utf8 n room ample = omega arith
+few_parts Utf16Be Utf16Le n room ample = omega arith
+few_parts Utf16Be Utf16Be n room ample = omega arith
 
 room_for_few : (from to : Form) (bytes : List ℕ) (room : ℕ) → IsAmple room (length bytes) → HasRoom from to bytes room
 room_for_few from to bytes room le out r =
     let bound = recoded_bound from to bytes out r in
-    let few = few_parts from to (length bytes) in
+    let few = few_parts from to (length bytes) room le in
     omega arith
 
 -- ample room for what is held and fed is never full

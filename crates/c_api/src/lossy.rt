@@ -1,8 +1,8 @@
 //! Recoding into room of the caller's, with one U+FFFD for each maximal subpart.
-ghost use Rattle.std.specs.Prelude.{◌≡◌, ◌+◌, ◌-◌, ◌<◌, ◌++◌, length, take, drop};
+ghost use Rattle.std.specs.Prelude.{◌≡◌, ◌+◌, ◌-◌, ◌<◌, length};
 ghost use Rattle.cuts.specs.Recoded.{Lacks};
 ghost use Rattle.cuts.specs.LossyBytes.{FeedsLossy, FinishesLossy, IsFullLossy, IsLastFullLossy};
-ghost use Rattle.c_api.specs.Api.{form_of, IsRecoder, recoder_of};
+ghost use Rattle.c_api.specs.Api.{IfRecoder, IsRecoder};
 
 use crate::recodings::{DONE, FULL, NodyRecoder, REFUSED, is_recoder, keep, opened};
 

@@ -1,5 +1,5 @@
 //! Recoding into room of the caller's.
-ghost use Rattle.std.specs.Prelude.{◌≡◌, true, [], ◌∷◌, ◌+◌, ◌-◌, ◌<◌, ◌≤◌, ◌^◌, ◌++◌, length, take, drop, min, IfSome};
+ghost use Rattle.std.specs.Prelude.{◌≡◌, true, [], ◌∷◌, ◌+◌, ◌-◌, ◌<◌, ◌≤◌, ◌^◌, ◌++◌, length, take, drop};
 ghost use Rattle.cuts.specs.Faults.{saturated};
 ghost use Rattle.cuts.specs.Recoded.{Lacks};
 ghost use Rattle.cuts.specs.Rooms.{FeedsInto, FinishesInto, IsFull, IsLastFull, most_bytes};

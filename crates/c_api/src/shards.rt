@@ -1,5 +1,5 @@
 //! Where bytes may be cut into shards.
-ghost use Rattle.std.specs.Prelude.{◌≡◌, ◌+◌, ◌-◌, ◌<◌, ◌≤◌, ◌^◌, length, min};
+ghost use Rattle.std.specs.Prelude.{◌≡◌, ◌+◌, ◌-◌, ◌≤◌, ◌^◌, length, min};
 ghost use Rattle.cuts.specs.Shards.{IsLastShardEnd};
 ghost use Rattle.c_api.specs.Api.{IfForm, IsForm};
 

@@ -1,5 +1,5 @@
 //! Recoding into room of the caller's that stops at the first fault.
-ghost use Rattle.std.specs.Prelude.{◌≡◌, ◌≢◌, ◌+◌, ◌*◌, ◌<◌, ◌≤◌, length};
+ghost use Rattle.std.specs.Prelude.{◌≡◌, ◌≢◌, ◌+◌, ◌*◌, ◌<◌, length};
 ghost use Rattle.cuts.specs.Rooms.{ComesNearer, IsAmple};
 ghost use Rattle.cuts.specs.Strict.{FeedsStrictly, FinishesStrictly};
 ghost use Rattle.c_api.specs.Api.{IfRecoder, IsRecoder, TellsOutcome, fault_as, no_fault, told};

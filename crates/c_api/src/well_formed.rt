@@ -1,5 +1,5 @@
 //! How far bytes and units are well-formed.
-ghost use Rattle.std.specs.Prelude.{◌≡◌, ◌-◌, ◌<◌, ◌≤◌, ◌^◌};
+ghost use Rattle.std.specs.Prelude.{◌≡◌, ◌-◌, ◌<◌, ◌^◌};
 ghost use Rattle.utf_base.specs.Code.{utf8, utf16};
 ghost use Rattle.cuts.specs.WellFormed.{IsFirstFault};
 ghost use Rattle.c_api.specs.Api.{IfForm, IsFirstFaultIn, IsForm};

@@ -1,4 +1,4 @@
-use Rattle.std.proofs.Common.{◌-◌, ◌++◌, length, drop, sym, subst}
+use Rattle.std.proofs.Common.{◌-◌, length, sym, subst}
 use Rattle.cuts.specs.LossyBytes.{IsFullLossy}
 use Rattle.c_api.proofs.lossy.nody_recoder_feed_lossy.Goals as goal
 

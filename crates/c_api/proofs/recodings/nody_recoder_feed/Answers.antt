@@ -1,4 +1,4 @@
-use Rattle.std.proofs.Common.{◌-◌, ◌++◌, arith, length, drop, take, sym, subst}
+use Rattle.std.proofs.Common.{◌-◌, arith, length, take, sym, subst}
 use Rattle.cuts.specs.Rooms.{IsFull}
 use Rattle.c_api.proofs.Counted.{part_counted}
 use Rattle.c_api.proofs.recodings.nody_recoder_feed.Goals as goal
