@@ -1,13 +1,13 @@
 -- How many faults a call replaced, and what the struct has counted then.
-use Rattle.std.proofs.Common.{◌≡◌, ℕ, ◌+◌, ◌-◌, ◌^◌, List, min, subst, sym}
+use Rattle.std.proofs.Common.{◌≡◌, ℕ, ◌+◌, List, subst, sym}
 use Rattle.cuts.specs.Recoded.{Recoding}
-use Rattle.cuts.specs.Faults.{Replaces, ReplacesLast}
+use Rattle.cuts.specs.Faults.{Replaces, ReplacesLast, saturated}
 use Rattle.c_api.specs.declared.recodings.NodyRecoder.{NodyRecoder}
 use Rattle.c_api.specs.Api.{recoder_of, CountsPart, CountsEnd}
 
 -- The struct was opened as a recoder, which a call changed and which was kept.
 module _ (r kept : NodyRecoder) (opened inner : Recoding) (n total : ℕ) (was : opened ≡ recoder_of r) (is : recoder_of kept ≡ record inner { replaced = 0 })
-    (sum : total ≡ min (2 ^ 64 - 1) (r.replaced + n)) where
+    (sum : total ≡ saturated (r.replaced + n)) where
   pub part_counted : (part : List ℕ) → Replaces opened part n inner → CountsPart r part (record kept { replaced = total })
   part_counted part h =
       let from : Replaces (recoder_of r) part n inner = subst (λ x. Replaces x part n inner) was h in

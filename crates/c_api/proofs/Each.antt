@@ -26,9 +26,9 @@ Filled piece xs ys first room n = record {
 }
 
 -- one piece more, in the next place of the room
-pub fills_on : (piece : List ℕ → NodyPiece) (xs ys zs : List ℕ) (x : NodyPiece) (first room : List NodyPiece) (n : ℕ)
+pub fills_on : (piece : List ℕ → NodyPiece) (xs ys : List ℕ) {zs : List ℕ} {x : NodyPiece} (first room : List NodyPiece) (n : ℕ)
     → Filled piece xs ys first room n → n < length room → 0 < length ys → x ≡ piece ys → zs ≡ after ys x → Filled piece xs zs first (set room n x) (n + 1)
-fills_on piece xs ys zs x first room n before lt some is leaves =
+fills_on piece xs ys {x = x} first room n before lt some is leaves =
     let len = before.len in
     let more : GivesEach piece xs (take n room ++ x ∷ []) (after ys x) = each_append piece xs ys (take n room) x before.each some is in
     record {

@@ -1,5 +1,5 @@
 -- Recoding of a whole input in one call, and in parts that are only counted.
-use Rattle.std.proofs.Common.{◌≡◌, ℕ, ◌+◌, ◌-◌, ◌*◌, ◌<◌, ◌≤◌, ◌^◌, ⊎_elim, List, [], ◌++◌, length, take, drop, min, refl, ap, sym, subst, ◌∙◌, append_assoc, arith, length-append, length-take, length-drop, take-append-drop}
+use Rattle.std.proofs.Common.{◌≡◌, ℕ, ◌+◌, ◌-◌, ◌<◌, ◌≤◌, ◌^◌, ⊎_elim, List, [], ◌++◌, length, take, drop, min, refl, ap, sym, subst, ◌∙◌, append_assoc, arith, length-append, length-take, length-drop, take-append-drop}
 use Rattle.std.proofs.lemmas.Bool.{cases_lt}
 use Rattle.std.proofs.lemmas.List.{append-nil, take_all, drop-drop}
 use Rattle.std.proofs.lemmas.Slice.{take-put_mid, drop-put_mid}
@@ -10,7 +10,7 @@ use Rattle.std.specs.Prelude.{slice_range}
 use Rattle.cuts.specs.declared.Form.{Form}
 use Rattle.cuts.specs.declared.Form.TheVariants.{Utf8, Utf16Le, Utf16Be}
 use Rattle.cuts.specs.Recoded.{Recoding, IsRecoded, Finishes, fresh}
-use Rattle.cuts.specs.Rooms.{FeedsInto, FinishesInto, IsFull, IsLastFull, most_bytes}
+use Rattle.cuts.specs.Rooms.{FeedsInto, FinishesInto, IsAmple, IsAmpleFor, IsFull, IsLastFull, most_bytes}
 use Rattle.cuts.specs.Bounds.{HasRoom}
 use Rattle.cuts.specs.Fed.{IsFed}
 use Rattle.c_api.specs.declared.recodings.NodyRecoder.{NodyRecoder}
@@ -33,7 +33,7 @@ longer_where_no_room from to bytes room none out r =
 
 -- A room that was full before all was read.
 module _ (from to : Form) (s : Recoding) (bytes old new : List ℕ) (read wrote : ℕ) (f : FeedsInto (fresh from to) bytes old new read wrote s) where
-  pub longer_where_full : length new ≡ length old → IsFull s (s.held ++ drop read bytes) (length old - wrote) → IsLongerThan from to bytes (length old)
+  pub longer_where_full : length new ≡ length old → IsFull s bytes read (length old - wrote) → IsLongerThan from to bytes (length old)
   longer_where_full same full = longer_where_no_room from to bytes (length old) (λ room. feeds_in_room (fresh from to) s bytes old new read wrote f same room full)
 
   pub fed_front : IsFrontOfRecoded from to bytes (take wrote new)
@@ -46,7 +46,7 @@ module _ (from to : Form) (s : Recoding) (bytes old new : List ℕ) (read wrote 
     fed_all : IsFed from to bytes (take wrote new) s
     fed_all = let whole : take read bytes ≡ bytes = take_all read bytes (omega arith) in record { once = rw whole at (f.feeds []) }
 
-    pub longer_where_last_full : length new ≡ length old → length rest ≡ length old - wrote → length after ≡ length rest → IsLastFull t t.held (length rest - last)
+    pub longer_where_last_full : length new ≡ length old → length rest ≡ length old - wrote → length after ≡ length rest → IsLastFull t (length rest - last)
         → IsLongerThan from to bytes (length old)
     longer_where_last_full same left kept full =
         longer_where_no_room from to bytes (length old)
@@ -84,31 +84,31 @@ pub record CountsTo (from to : Form) (bytes : List ℕ) (place count : ℕ) (r :
 pub counts_none : (from to : Form) (bytes : List ℕ) → CountsTo from to bytes 0 0 (fresh from to)
 counts_none from to bytes = record { within = omega arith; out = []; fed = nothing_is_fed from to; counted = refl }
 
-few_parts : (from to : Form) (n : ℕ) → most_bytes from to n ≤ 3 * n
-few_parts Utf8 Utf8 n = omega arith
-few_parts Utf8 Utf16Le n = omega arith
-few_parts Utf8 Utf16Be n = omega arith
-few_parts Utf16Le Utf8 n = omega arith
-few_parts Utf16Le Utf16Le n = omega arith
-few_parts Utf16Le Utf16Be n = omega arith
-few_parts Utf16Be Utf8 n = omega arith
-few_parts Utf16Be Utf16Le n = omega arith
-few_parts Utf16Be Utf16Be n = omega arith
+few_parts : (from to : Form) (n room : ℕ) → IsAmple room n → most_bytes from to n ≤ room
+few_parts Utf8 Utf8 n room ample = omega arith
+few_parts Utf8 Utf16Le n room ample = omega arith
+few_parts Utf8 Utf16Be n room ample = omega arith
+few_parts Utf16Le Utf8 n room ample = omega arith
+few_parts Utf16Le Utf16Le n room ample = omega arith
+few_parts Utf16Le Utf16Be n room ample = omega arith
+few_parts Utf16Be Utf8 n room ample = omega arith
+few_parts Utf16Be Utf16Le n room ample = omega arith
+few_parts Utf16Be Utf16Be n room ample = omega arith
 
-room_for_few : (from to : Form) (bytes : List ℕ) (room : ℕ) → 3 * length bytes ≤ room → HasRoom from to bytes room
+room_for_few : (from to : Form) (bytes : List ℕ) (room : ℕ) → IsAmple room (length bytes) → HasRoom from to bytes room
 room_for_few from to bytes room le out r =
     let bound = recoded_bound from to bytes out r in
-    let few = few_parts from to (length bytes) in
+    let few = few_parts from to (length bytes) room le in
     omega arith
 
--- three times as much room as bytes are fed and held is never full
+-- ample room for what is held and fed is never full
 pub part_has_room : (r s : Recoding) (part room new : List ℕ) (read wrote : ℕ) → FeedsInto r part room new read wrote s → length new ≡ length room
-    → 3 * (length r.held + length part) ≤ length room → IsFull s (s.held ++ drop read part) (length room - wrote) → ⊥
+    → IsAmpleFor (length room) r part → IsFull s part read (length room - wrote) → ⊥
 part_has_room r s part room new read wrote f same le full =
     feeds_in_room r s part room new read wrote f same (room_for_few r.from r.to (r.held ++ part) (length room) (omega (arith, length-append r.held part))) full
 
 pub end_has_room : (r s : Recoding) (room new : List ℕ) (wrote : ℕ) → FinishesInto r room new wrote s → length new ≡ length room
-    → 3 * length r.held ≤ length room → IsLastFull s s.held (length room - wrote) → ⊥
+    → IsAmple (length room) (length r.held) → IsLastFull s (length room - wrote) → ⊥
 end_has_room r s room new wrote f same le full = finishes_in_room r s room new wrote f same (room_for_few r.from r.to r.held (length room) le) full
 
 -- where nothing is held any more, all is finished

@@ -1,5 +1,5 @@
 -- What C sees: numbers of kinds and forms, pieces, what is left, and recoders.
-use Rattle.std.specs.Prelude.{◌≡◌, ℕ, true, false, zero, suc, ◌+◌, ◌-◌, ◌^◌, ◌<◌, ◌≤◌, min, List, [], ◌∷◌, length, take, drop, set, get_or, All, Result, Ok, Err, ◌++◌, codes, replicate}
+use Rattle.std.specs.Prelude.{◌≡◌, ℕ, true, false, zero, suc, ◌+◌, ◌-◌, ◌<◌, ◌≤◌, List, [], ◌∷◌, length, take, drop, set, get_or, All, Result, Ok, Err, ◌++◌, codes, replicate}
 use Rattle.utf_base.specs.declared.errors.Utf8ErrorKind.{Utf8ErrorKind}
 use Rattle.utf_base.specs.declared.errors.Utf8ErrorKind.TheVariants.{TooFewBytes, NonUtf8Byte, UnexpectedContinuationByte, InterruptedSequence, OverlongEncoding, Utf16ReservedCodepoint, TooHighCodepoint}
 use Rattle.utf_base.specs.declared.errors.units.Utf16PairError.{Utf16PairError}
@@ -18,8 +18,8 @@ use Rattle.cuts.specs.declared.FaultKind.TheVariants as kind
 use Rattle.cuts.specs.declared.Outcome.{Outcome}
 use Rattle.cuts.specs.declared.Outcome.TheVariants.{AllRead, Full, Faulty}
 use Rattle.cuts.specs.declared.StrictProgress.{StrictProgress}
-use Rattle.cuts.specs.Recoded.{Recoding}
-use Rattle.cuts.specs.Faults.{Replaces, ReplacesLast}
+use Rattle.cuts.specs.Recoded.{Recoding, most_held}
+use Rattle.cuts.specs.Faults.{Replaces, ReplacesLast, saturated}
 use Rattle.cuts.specs.WellFormed.{IsFirstFault, IsFirstUnitFault}
 use Rattle.c_api.specs.declared.cursors.NodyPiece.{NodyPiece}
 use Rattle.c_api.specs.declared.recodings.NodyRecoder.{NodyRecoder}
@@ -112,29 +112,48 @@ pub record IsPut (xs : List ℕ) (old : List NodyPiece) (place n : ℕ) (new : L
   pub most : n ≤ length xs
   pub none : length xs ≡ 0 → new ≡ old
 
--- the form of a number below three
+-- the number is that of a form, of which there are three
+abbrev pub IsForm : ℕ → Type 0
+IsForm number = number < 3
+
+-- that form
 abbrev pub form_of : ℕ → Form
 form_of zero = Utf8
 form_of (suc zero) = Utf16Le
 form_of (suc (suc n)) = Utf16Be
 
+-- What holds of the form, or of both, where the numbers are those of forms.
+abbrev pub IfForm : ℕ → (Form → Type 0) → Type 0
+IfForm number holds = IsForm number → holds (form_of number)
+
+abbrev pub IfForms : ℕ → ℕ → (Form → Form → Type 0) → Type 0
+IfForms from to holds = IsForm from → IsForm to → holds (form_of from) (form_of to)
+
 -- The struct is a recoder.
 pub record IsRecoder (r : NodyRecoder) : Type 0 where
-  pub from : r.from < 3
-  pub to : r.to < 3
-  pub few : r.count ≤ 3
+  pub from : IsForm r.from
+  pub to : IsForm r.to
+  pub few : r.count ≤ most_held
+
+-- the bytes that it holds
+abbrev pub held_by : NodyRecoder → List ℕ
+held_by r = take r.count r.held
 
 -- the recoder that it is; what it has replaced is counted in the struct alone
 abbrev pub recoder_of : NodyRecoder → Recoding
-recoder_of r = record { from = form_of r.from; to = form_of r.to; held = take r.count r.held; replaced = 0 }
+recoder_of r = record { from = form_of r.from; to = form_of r.to; held = held_by r; replaced = 0 }
 
--- A part was fed and so many faults were replaced, which are added to those before, as far as 64 bits count.
+-- what holds of the recoders that the struct was and is, where it was one
+abbrev pub IfRecoder : NodyRecoder → NodyRecoder → (Recoding → Recoding → Type 0) → Type 0
+IfRecoder old new holds = IsRecoder old → holds (recoder_of old) (recoder_of new)
+
+-- A part was fed and so many faults were replaced, which are added to those before.
 abbrev pub CountsPart : NodyRecoder → List ℕ → NodyRecoder → Type 0
-CountsPart r part s = (n : ℕ) × Replaces (recoder_of r) part n (recoder_of s) × (s.replaced ≡ min (2 ^ 64 - 1) (r.replaced + n))
+CountsPart r part s = (n : ℕ) × Replaces (recoder_of r) part n (recoder_of s) × (s.replaced ≡ saturated (r.replaced + n))
 
 -- The same of the end.
 abbrev pub CountsEnd : NodyRecoder → NodyRecoder → Type 0
-CountsEnd r s = (n : ℕ) × ReplacesLast (recoder_of r) n (recoder_of s) × (s.replaced ≡ min (2 ^ 64 - 1) (r.replaced + n))
+CountsEnd r s = (n : ℕ) × ReplacesLast (recoder_of r) n (recoder_of s) × (s.replaced ≡ saturated (r.replaced + n))
 
 -- what C sees of how a strict call ended: a status, and the fault, if it ended at one
 abbrev pub no_fault : NodyFault

@@ -2,16 +2,16 @@
 ghost use Rattle.std.specs.Prelude.{◌≡◌, ◌+◌, ◌-◌, ◌<◌, ◌≤◌, ◌^◌, length, min};
 ghost use Rattle.cuts.specs.Boundaries.{IsFirstFrom, IsLastTo, IsUnitBoundary};
 ghost use Rattle.cuts.specs.Shards.{IsLastShardEnd, IsShardEnd};
-ghost use Rattle.c_api.specs.Api.{form_of};
+ghost use Rattle.c_api.specs.Api.{IfForm, IsForm};
 
 use crate::recodings::form_of;
 
 /// The last place, up to `at`, over which no character lies, and of UTF-16 no unit, or all ones where the form is none.
 #[unsafe(no_mangle)]
 pub extern "C" fn nody_boundary_before(form: u8, bytes: &[u8], at: usize) -> usize
-    ensures end { form < 3 → IsLastShardEnd (form_of form) bytes.now at result }
-    ensures near { form < 3 → min at (length bytes.now) ≤ result + 3 }
-    ensures none { 3 ≤ form → result ≡ 2 ^ 64 - 1 }
+    ensures end { IfForm form (λ f. IsLastShardEnd f bytes.now at result) }
+    ensures near { IsForm form → min at (length bytes.now) ≤ result + 3 }
+    ensures none { ¬ IsForm form → result ≡ 2 ^ 64 - 1 }
 {
     if 3 <= form {
         return usize::MAX;
@@ -22,9 +22,9 @@ pub extern "C" fn nody_boundary_before(form: u8, bytes: &[u8], at: usize) -> usi
 /// The first such place from `at` on.
 #[unsafe(no_mangle)]
 pub extern "C" fn nody_boundary_after(form: u8, bytes: &[u8], at: usize) -> usize
-    ensures end { form < 3 → IsFirstFrom (IsShardEnd (form_of form) bytes.now) (length bytes.now) at result }
-    ensures near { form < 3 → result ≤ at + 3 }
-    ensures none { 3 ≤ form → result ≡ 2 ^ 64 - 1 }
+    ensures end { IfForm form (λ f. IsFirstFrom (IsShardEnd f bytes.now) (length bytes.now) at result) }
+    ensures near { IsForm form → result ≤ at + 3 }
+    ensures none { ¬ IsForm form → result ≡ 2 ^ 64 - 1 }
 {
     if 3 <= form {
         return usize::MAX;

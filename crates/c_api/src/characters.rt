@@ -11,7 +11,8 @@ use encode_unicode::{CharExt, Utf8Char, Utf16Char};
 pub extern "C" fn nody_utf8_encode(scalar: u32, room: &mut [u8]) -> usize
     ensures len { IsScalar scalar → result ≡ length (utf8 scalar) }
     ensures most { result ≤ 4 }
-    ensures written { IsScalar scalar → length (utf8 scalar) ≤ length room.old → room.new ≡ utf8 scalar ++ drop (length (utf8 scalar)) room.old }
+    ensures written { IsScalar scalar → length (utf8 scalar) ≤ length room.old →
+        room.new ≡ utf8 scalar ++ drop (length (utf8 scalar)) room.old }
     ensures short { IsScalar scalar → length room.old < length (utf8 scalar) → room.new ≡ room.old }
     ensures refused { ¬ IsScalar scalar → result ≡ 0 }
     ensures unwritten { ¬ IsScalar scalar → room.new ≡ room.old }
@@ -32,7 +33,8 @@ pub extern "C" fn nody_utf8_encode(scalar: u32, room: &mut [u8]) -> usize
 pub extern "C" fn nody_utf16_encode(scalar: u32, room: &mut [u16]) -> usize
     ensures len { IsScalar scalar → result ≡ length (utf16 scalar) }
     ensures most { result ≤ 2 }
-    ensures written { IsScalar scalar → length (utf16 scalar) ≤ length room.old → room.new ≡ utf16 scalar ++ drop (length (utf16 scalar)) room.old }
+    ensures written { IsScalar scalar → length (utf16 scalar) ≤ length room.old →
+        room.new ≡ utf16 scalar ++ drop (length (utf16 scalar)) room.old }
     ensures short { IsScalar scalar → length room.old < length (utf16 scalar) → room.new ≡ room.old }
     ensures refused { ¬ IsScalar scalar → result ≡ 0 }
     ensures unwritten { ¬ IsScalar scalar → room.new ≡ room.old }

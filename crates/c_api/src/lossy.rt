@@ -1,8 +1,8 @@
 //! Recoding into room of the caller's, with one U+FFFD for each maximal subpart.
-ghost use Rattle.std.specs.Prelude.{◌≡◌, ◌+◌, ◌-◌, ◌<◌, ◌++◌, length, take, drop};
+ghost use Rattle.std.specs.Prelude.{◌≡◌, ◌+◌, ◌-◌, ◌<◌, length};
 ghost use Rattle.cuts.specs.Recoded.{Lacks};
 ghost use Rattle.cuts.specs.LossyBytes.{FeedsLossy, FinishesLossy, IsFullLossy, IsLastFullLossy};
-ghost use Rattle.c_api.specs.Api.{form_of, IsRecoder, recoder_of};
+ghost use Rattle.c_api.specs.Api.{IfRecoder, IsRecoder};
 
 use crate::recodings::{DONE, FULL, NodyRecoder, REFUSED, is_recoder, keep, opened};
 
@@ -16,10 +16,12 @@ pub extern "C" fn nody_recoder_feed_lossy(
     written: &mut usize,
 ) -> u8
     ensures recoder { IsRecoder recoder.old → IsRecoder recoder.new }
-    ensures feeds { IsRecoder recoder.old → FeedsLossy (recoder_of recoder.old) part.now room.old room.new read.new written.new (recoder_of recoder.new) }
+    ensures feeds { IfRecoder recoder.old recoder.new
+        (λ r s. FeedsLossy r part.now room.old room.new read.new written.new s) }
     ensures all { IsRecoder recoder.old → result ≡ 0 → read.new ≡ length part.now }
-    ensures waits { IsRecoder recoder.old → result ≡ 0 → Lacks (form_of recoder.old.from) (take recoder.new.count recoder.new.held) }
-    ensures full { IsRecoder recoder.old → result ≡ 1 → IsFullLossy (recoder_of recoder.new) (take recoder.new.count recoder.new.held ++ drop read.new part.now) (length room.old - written.new) }
+    ensures waits { IfRecoder recoder.old recoder.new (λ r s. result ≡ 0 → Lacks r.from s.held) }
+    ensures full { IfRecoder recoder.old recoder.new
+        (λ r s. result ≡ 1 → IsFullLossy s part.now read.new (length room.old - written.new)) }
     ensures short { IsRecoder recoder.old → result ≡ 1 → length room.old < written.new + 4 }
     ensures status { IsRecoder recoder.old → result < 2 }
     ensures uncounted { recoder.new.replaced ≡ recoder.old.replaced }
@@ -48,9 +50,11 @@ pub extern "C" fn nody_recoder_finish_lossy(
     written: &mut usize,
 ) -> u8
     ensures recoder { IsRecoder recoder.old → IsRecoder recoder.new }
-    ensures finishes { IsRecoder recoder.old → FinishesLossy (recoder_of recoder.old) room.old room.new written.new (recoder_of recoder.new) }
+    ensures finishes { IfRecoder recoder.old recoder.new
+        (λ r s. FinishesLossy r room.old room.new written.new s) }
     ensures all { IsRecoder recoder.old → result ≡ 0 → recoder.new.count ≡ 0 }
-    ensures full { IsRecoder recoder.old → result ≡ 1 → IsLastFullLossy (recoder_of recoder.new) (take recoder.new.count recoder.new.held) (length room.old - written.new) }
+    ensures full { IfRecoder recoder.old recoder.new
+        (λ r s. result ≡ 1 → IsLastFullLossy s (length room.old - written.new)) }
     ensures short { IsRecoder recoder.old → result ≡ 1 → length room.old < written.new + 4 }
     ensures status { IsRecoder recoder.old → result < 2 }
     ensures uncounted { recoder.new.replaced ≡ recoder.old.replaced }

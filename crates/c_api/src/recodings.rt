@@ -1,8 +1,9 @@
 //! Recoding into room of the caller's.
-ghost use Rattle.std.specs.Prelude.{◌≡◌, true, [], ◌∷◌, ◌+◌, ◌-◌, ◌<◌, ◌≤◌, ◌^◌, ◌++◌, length, take, drop, min, IfSome};
+ghost use Rattle.std.specs.Prelude.{◌≡◌, true, [], ◌∷◌, ◌+◌, ◌-◌, ◌<◌, ◌≤◌, ◌^◌, ◌++◌, length, take, drop};
+ghost use Rattle.cuts.specs.Faults.{saturated};
 ghost use Rattle.cuts.specs.Recoded.{Lacks};
 ghost use Rattle.cuts.specs.Rooms.{FeedsInto, FinishesInto, IsFull, IsLastFull, most_bytes};
-ghost use Rattle.c_api.specs.Api.{form_of, IsRecoder, recoder_of, CountsPart, CountsEnd};
+ghost use Rattle.c_api.specs.Api.{CountsEnd, CountsPart, IfForms, IfRecoder, IsForm, IsRecoder, form_of, held_by, recoder_of};
 
 use cuts::{Form, Recoder, room_for};
 
@@ -31,7 +32,7 @@ pub(crate) const REFUSED: u8 = 2;
 
 // The form of a number.
 pub(crate) fn form_of(number: u8) -> Form
-    requires { number < 3 }
+    requires { IsForm number }
     ensures { result ≡ form_of number }
 {
     match number {
@@ -91,7 +92,7 @@ pub(crate) fn keep(recoder: &mut NodyRecoder, inner: &Recoder)
 
 // The count with so many more, as far as 64 bits count.
 fn with_more(count: u64, more: usize) -> u64
-    ensures { result ≡ min (2 ^ 64 - 1) (count + more) }
+    ensures { result ≡ saturated (count + more) }
 {
     count.saturating_add(more as u64)
 }
@@ -107,10 +108,12 @@ pub extern "C" fn nody_recoder_feed(
     written: &mut usize,
 ) -> u8
     ensures recoder { IsRecoder recoder.old → IsRecoder recoder.new }
-    ensures feeds { IsRecoder recoder.old → FeedsInto (recoder_of recoder.old) part.now room.old room.new read.new written.new (recoder_of recoder.new) }
+    ensures feeds { IfRecoder recoder.old recoder.new
+        (λ r s. FeedsInto r part.now room.old room.new read.new written.new s) }
     ensures all { IsRecoder recoder.old → result ≡ 0 → read.new ≡ length part.now }
-    ensures waits { IsRecoder recoder.old → result ≡ 0 → Lacks (form_of recoder.old.from) (take recoder.new.count recoder.new.held) }
-    ensures full { IsRecoder recoder.old → result ≡ 1 → IsFull (recoder_of recoder.new) (take recoder.new.count recoder.new.held ++ drop read.new part.now) (length room.old - written.new) }
+    ensures waits { IfRecoder recoder.old recoder.new (λ r s. result ≡ 0 → Lacks r.from s.held) }
+    ensures full { IfRecoder recoder.old recoder.new
+        (λ r s. result ≡ 1 → IsFull s part.now read.new (length room.old - written.new)) }
     ensures short { IsRecoder recoder.old → result ≡ 1 → length room.old < written.new + 4 }
     ensures status { IsRecoder recoder.old → result < 2 }
     ensures counts { IsRecoder recoder.old → CountsPart recoder.old (take read.new part.now) recoder.new }
@@ -141,9 +144,11 @@ pub extern "C" fn nody_recoder_finish(
     written: &mut usize,
 ) -> u8
     ensures recoder { IsRecoder recoder.old → IsRecoder recoder.new }
-    ensures finishes { IsRecoder recoder.old → FinishesInto (recoder_of recoder.old) room.old room.new written.new (recoder_of recoder.new) }
+    ensures finishes { IfRecoder recoder.old recoder.new
+        (λ r s. FinishesInto r room.old room.new written.new s) }
     ensures all { IsRecoder recoder.old → result ≡ 0 → recoder.new.count ≡ 0 }
-    ensures full { IsRecoder recoder.old → result ≡ 1 → IsLastFull (recoder_of recoder.new) (take recoder.new.count recoder.new.held) (length room.old - written.new) }
+    ensures full { IfRecoder recoder.old recoder.new
+        (λ r s. result ≡ 1 → IsLastFull s (length room.old - written.new)) }
     ensures short { IsRecoder recoder.old → result ≡ 1 → length room.old < written.new + 4 }
     ensures status { IsRecoder recoder.old → result < 2 }
     ensures counts { IsRecoder recoder.old → CountsEnd recoder.old recoder.new }
@@ -166,10 +171,10 @@ pub extern "C" fn nody_recoder_finish(
 /// The most bytes that so many bytes are recoded as, or all ones where a `size_t` cannot count them, or a form is none.
 #[unsafe(no_mangle)]
 pub extern "C" fn nody_recoded_len_max(from: u8, to: u8, len: usize) -> usize
-    ensures most { from < 3 → to < 3 → most_bytes (form_of from) (form_of to) len < 2 ^ 64 → result ≡ most_bytes (form_of from) (form_of to) len }
-    ensures none { from < 3 → to < 3 → 2 ^ 64 ≤ most_bytes (form_of from) (form_of to) len → result ≡ 2 ^ 64 - 1 }
-    ensures from { 3 ≤ from → result ≡ 2 ^ 64 - 1 }
-    ensures to { 3 ≤ to → result ≡ 2 ^ 64 - 1 }
+    ensures most { IfForms from to (λ f t. most_bytes f t len < 2 ^ 64 → result ≡ most_bytes f t len) }
+    ensures none { IfForms from to (λ f t. 2 ^ 64 ≤ most_bytes f t len → result ≡ 2 ^ 64 - 1) }
+    ensures from { ¬ IsForm from → result ≡ 2 ^ 64 - 1 }
+    ensures to { ¬ IsForm to → result ≡ 2 ^ 64 - 1 }
 {
     if 3 <= from || 3 <= to {
         return usize::MAX;
@@ -185,7 +190,8 @@ pub extern "C" fn nody_recoded_len_max(from: u8, to: u8, len: usize) -> usize
 #[unsafe(no_mangle)]
 pub extern "C" fn nody_recoder_held(recoder: &NodyRecoder, room: &mut [u8]) -> usize
     ensures count { IsRecoder recoder.now → result ≡ recoder.now.count }
-    ensures written { IsRecoder recoder.now → recoder.now.count ≤ length room.old → room.new ≡ take recoder.now.count recoder.now.held ++ drop recoder.now.count room.old }
+    ensures written { IsRecoder recoder.now → recoder.now.count ≤ length room.old →
+        room.new ≡ held_by recoder.now ++ drop recoder.now.count room.old }
     ensures short { IsRecoder recoder.now → length room.old < recoder.now.count → room.new ≡ room.old }
     ensures wrong { ¬ IsRecoder recoder.now → result ≡ 2 ^ 64 - 1 }
     ensures unwritten { ¬ IsRecoder recoder.now → room.new ≡ room.old }

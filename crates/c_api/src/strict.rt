@@ -1,8 +1,8 @@
 //! Recoding into room of the caller's that stops at the first fault.
-ghost use Rattle.std.specs.Prelude.{◌≡◌, ◌≢◌, ◌+◌, ◌*◌, ◌<◌, ◌≤◌, length};
-ghost use Rattle.cuts.specs.Rooms.{ComesNearer};
+ghost use Rattle.std.specs.Prelude.{◌≡◌, ◌≢◌, ◌+◌, ◌*◌, ◌<◌, length};
+ghost use Rattle.cuts.specs.Rooms.{ComesNearer, IsAmple};
 ghost use Rattle.cuts.specs.Strict.{FeedsStrictly, FinishesStrictly};
-ghost use Rattle.c_api.specs.Api.{IsRecoder, recoder_of, no_fault, fault_as, told, TellsOutcome};
+ghost use Rattle.c_api.specs.Api.{IfRecoder, IsRecoder, TellsOutcome, fault_as, no_fault, told};
 
 use crate::kinds::fault_number_of;
 use crate::recodings::{DONE, FULL, NodyRecoder, REFUSED, is_recoder, keep, opened};
@@ -64,11 +64,14 @@ pub extern "C" fn nody_recoder_feed_strict(
     fault: &mut NodyFault,
 ) -> u8
     ensures recoder { IsRecoder recoder.old → IsRecoder recoder.new }
-    ensures feeds { IsRecoder recoder.old → TellsOutcome (λ p. FeedsStrictly (recoder_of recoder.old) part.now room.old room.new p (recoder_of recoder.new)) read.new written.new result fault.new }
+    ensures feeds { IfRecoder recoder.old recoder.new
+        (λ r s. TellsOutcome (λ p. FeedsStrictly r part.now room.old room.new p s)
+        read.new written.new result fault.new) }
     ensures all { IsRecoder recoder.old → result ≡ 0 → read.new ≡ length part.now }
     ensures short { IsRecoder recoder.old → result ≡ 1 → length room.old < written.new + 4 }
-    ensures enough { IsRecoder recoder.old → 3 * (recoder.old.count + length part.now) ≤ length room.old → result ≢ 1 }
-    ensures nearer { IsRecoder recoder.old → ComesNearer part.now room.old read.new (recoder_of recoder.old) (recoder_of recoder.new) }
+    ensures enough { IsRecoder recoder.old →
+        IsAmple (length room.old) (recoder.old.count + length part.now) → result ≢ 1 }
+    ensures nearer { IfRecoder recoder.old recoder.new (ComesNearer part.now room.old read.new) }
     ensures uncounted { recoder.new.replaced ≡ recoder.old.replaced }
     ensures refused { result ≡ 2 → (recoder.new ≡ recoder.old) × (room.new ≡ room.old) }
     ensures none { result ≡ 2 → (read.new ≡ 0) × (written.new ≡ 0) × (fault.new ≡ no_fault) }
@@ -102,10 +105,12 @@ pub extern "C" fn nody_recoder_finish_strict(
     fault: &mut NodyFault,
 ) -> u8
     ensures recoder { IsRecoder recoder.old → IsRecoder recoder.new }
-    ensures finishes { IsRecoder recoder.old → TellsOutcome (λ p. FinishesStrictly (recoder_of recoder.old) room.old room.new p (recoder_of recoder.new)) 0 written.new result fault.new }
+    ensures finishes { IfRecoder recoder.old recoder.new
+        (λ r s. TellsOutcome (λ p. FinishesStrictly r room.old room.new p s)
+        0 written.new result fault.new) }
     ensures all { IsRecoder recoder.old → result ≡ 0 → recoder.new.count ≡ 0 }
     ensures short { IsRecoder recoder.old → result ≡ 1 → length room.old < written.new + 4 }
-    ensures enough { IsRecoder recoder.old → 3 * recoder.old.count ≤ length room.old → result ≢ 1 }
+    ensures enough { IsRecoder recoder.old → IsAmple (length room.old) recoder.old.count → result ≢ 1 }
     ensures uncounted { recoder.new.replaced ≡ recoder.old.replaced }
     ensures refused { result ≡ 2 → (recoder.new ≡ recoder.old) × (room.new ≡ room.old) }
     ensures none { result ≡ 2 → (written.new ≡ 0) × (fault.new ≡ no_fault) }

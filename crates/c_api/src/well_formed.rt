@@ -1,8 +1,8 @@
 //! How far bytes and units are well-formed.
-ghost use Rattle.std.specs.Prelude.{◌≡◌, ◌-◌, ◌<◌, ◌≤◌, ◌^◌};
+ghost use Rattle.std.specs.Prelude.{◌≡◌, ◌-◌, ◌<◌, ◌^◌};
 ghost use Rattle.utf_base.specs.Code.{utf8, utf16};
 ghost use Rattle.cuts.specs.WellFormed.{IsFirstFault};
-ghost use Rattle.c_api.specs.Api.{form_of, IsFirstFaultIn};
+ghost use Rattle.c_api.specs.Api.{IfForm, IsFirstFaultIn, IsForm};
 
 use crate::recodings::form_of;
 use cuts::Form;
@@ -27,8 +27,8 @@ pub extern "C" fn nody_utf16_valid_up_to(units: &[u16]) -> usize
 /// none.
 #[unsafe(no_mangle)]
 pub extern "C" fn nody_utf16_bytes_valid_up_to(form: u8, bytes: &[u8]) -> usize
-    ensures first { form < 3 → IsFirstFaultIn (form_of form) bytes.now result }
-    ensures none { 3 ≤ form → result ≡ 2 ^ 64 - 1 }
+    ensures first { IfForm form (λ f. IsFirstFaultIn f bytes.now result) }
+    ensures none { ¬ IsForm form → result ≡ 2 ^ 64 - 1 }
 {
     if 3 <= form {
         return usize::MAX;

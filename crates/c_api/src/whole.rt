@@ -2,7 +2,7 @@
 ghost use Rattle.std.specs.Prelude.{◌≡◌, ◌-◌, ◌<◌, ◌≤◌, ◌^◌, length, take, drop};
 ghost use Rattle.cuts.specs.Recoded.{IsRecoded};
 ghost use Rattle.c_api.specs.Whole.{IsLongerThan, IsFrontOfRecoded, IsRecodedLen};
-ghost use Rattle.c_api.specs.Api.{form_of};
+ghost use Rattle.c_api.specs.Api.{IfForms, IsForm, form_of};
 
 use crate::recodings::{FULL, REFUSED, nody_recoder, nody_recoder_feed, nody_recoder_finish};
 
@@ -25,11 +25,12 @@ pub extern "C" fn nody_recode(
     ensures rest { drop written.new room.new ≡ drop written.new room.old }
     ensures all { result ≡ 0 → IsRecoded (form_of from) (form_of to) bytes.now (take written.new room.new) }
     ensures full { result ≡ 1 → IsLongerThan (form_of from) (form_of to) bytes.now (length room.old) }
-    ensures front { result ≡ 1 → IsFrontOfRecoded (form_of from) (form_of to) bytes.now (take written.new room.new) }
-    ensures status { from < 3 → to < 3 → result < 2 }
+    ensures front { result ≡ 1 →
+        IsFrontOfRecoded (form_of from) (form_of to) bytes.now (take written.new room.new) }
+    ensures status { IsForm from → IsForm to → result < 2 }
     ensures refused { result ≡ 2 → (written.new ≡ 0) × (room.new ≡ room.old) }
-    ensures from { 3 ≤ from → result ≡ 2 }
-    ensures to { 3 ≤ to → result ≡ 2 }
+    ensures from { ¬ IsForm from → result ≡ 2 }
+    ensures to { ¬ IsForm to → result ≡ 2 }
 {
     *written = 0;
     if 3 <= from || 3 <= to {
@@ -49,9 +50,9 @@ pub extern "C" fn nody_recode(
 /// How many bytes all of these are recoded as, or all ones where a `size_t` cannot count them, or a form is none.
 #[unsafe(no_mangle)]
 pub extern "C" fn nody_recoded_len(from: u8, to: u8, bytes: &[u8]) -> usize
-    ensures len { from < 3 → to < 3 → IsRecodedLen (form_of from) (form_of to) bytes.now result }
-    ensures from { 3 ≤ from → result ≡ 2 ^ 64 - 1 }
-    ensures to { 3 ≤ to → result ≡ 2 ^ 64 - 1 }
+    ensures len { IfForms from to (λ f t. IsRecodedLen f t bytes.now result) }
+    ensures from { ¬ IsForm from → result ≡ 2 ^ 64 - 1 }
+    ensures to { ¬ IsForm to → result ≡ 2 ^ 64 - 1 }
 {
     if 3 <= from || 3 <= to {
         return usize::MAX;

@@ -1,6 +1,7 @@
 //! Recoding of a whole input in one call, up to its first fault.
 ghost use Rattle.std.specs.Prelude.{◌≡◌, ◌≢◌, ◌+◌, ◌-◌, ◌*◌, ◌<◌, ◌≤◌, length};
-ghost use Rattle.c_api.specs.Api.{form_of, no_fault, TellsOutcome};
+ghost use Rattle.c_api.specs.Api.{IfForms, IsForm, TellsOutcome, no_fault};
+ghost use Rattle.cuts.specs.Rooms.{IsAmple};
 ghost use Rattle.c_api.specs.Whole.{RecodesStrictly, fault_unread, unrecoded};
 
 use crate::recodings::{REFUSED, form_of};
@@ -19,15 +20,17 @@ pub extern "C" fn nody_recode_strict(
     written: &mut usize,
     fault: &mut NodyFault,
 ) -> u8
-    ensures recodes { from < 3 → to < 3 → TellsOutcome (λ p. RecodesStrictly (form_of from) (form_of to) bytes.now room.old room.new p) read.new written.new result fault.new }
+    ensures recodes { IfForms from to
+        (λ f t. TellsOutcome (λ p. RecodesStrictly f t bytes.now room.old room.new p)
+        read.new written.new result fault.new) }
     ensures all { result ≡ 0 → read.new ≡ length bytes.now }
     ensures short { result ≡ 1 → length room.old < written.new + 4 }
-    ensures enough { 3 * length bytes.now ≤ length room.old → result ≢ 1 }
+    ensures enough { IsAmple (length room.old) (length bytes.now) → result ≢ 1 }
     ensures refused { result ≡ 2 → (read.new ≡ 0) × (written.new ≡ 0) × (room.new ≡ room.old) }
     ensures none { result ≡ 2 → fault.new ≡ no_fault }
-    ensures are_forms { from < 3 → to < 3 → result ≢ 2 }
-    ensures from { 3 ≤ from → result ≡ 2 }
-    ensures to { 3 ≤ to → result ≡ 2 }
+    ensures are_forms { IsForm from → IsForm to → result ≢ 2 }
+    ensures from { ¬ IsForm from → result ≡ 2 }
+    ensures to { ¬ IsForm to → result ≡ 2 }
 {
     *read = 0;
     *written = 0;
@@ -48,7 +51,7 @@ fn recode_strictly(from: Form, to: Form, bytes: &[u8], room: &mut [u8]) -> Stric
     ensures recodes { RecodesStrictly from to bytes.now room.old room.new result }
     ensures all { result.outcome ≡ Outcome.AllRead → result.read ≡ length bytes.now }
     ensures short { result.outcome ≡ Outcome.Full → length room.old < result.written + 4 }
-    ensures enough { 3 * length bytes.now ≤ length room.old → result.outcome ≢ Outcome.Full }
+    ensures enough { IsAmple (length room.old) (length bytes.now) → result.outcome ≢ Outcome.Full }
 {
     let mut recoder = Recoder::new(from, to);
     let fed = recoder.feed_strict_into(bytes, room);
@@ -67,7 +70,11 @@ fn recode_strictly(from: Form, to: Form, bytes: &[u8], room: &mut [u8]) -> Stric
 // The same where the fault at which it ended is not read, nor are so many bytes that are held.
 fn up_to_fault(progress: StrictProgress, held: usize) -> StrictProgress
     requires { unrecoded progress.outcome held ≤ progress.read }
-    ensures { result ≡ record { read = progress.read - unrecoded progress.outcome held; written = progress.written; outcome = fault_unread progress.outcome } }
+    ensures { result ≡ record {
+      read = progress.read - unrecoded progress.outcome held;
+      written = progress.written;
+      outcome = fault_unread progress.outcome;
+    } }
 {
     match progress.outcome {
         Outcome::Faulty(fault) => StrictProgress {

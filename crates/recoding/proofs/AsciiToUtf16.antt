@@ -19,6 +19,11 @@ use Rattle.utf_lanes.proofs.Joined.{joined_add}
 
 -- What was written.
 
+-- one after another
+pub appended_twice : {O : Type 0} {appends : O → List ℕ → O → Type 0} → ((a b c : O) (xs ys : List ℕ) → appends a xs b → appends b ys c → appends a (xs ++ ys) c)
+    → {a b c : O} {xs ys : List ℕ} → appends a xs b → appends b ys c → appends a (xs ++ ys) c
+appended_twice more {a} {b} {c} {xs} {ys} f g = more a b c xs ys f g
+
 -- so many bytes and then more
 pub widened_more : (high : Bool) (xs : List ℕ) (p n : ℕ) → widened high (take p xs) ++ widened high (take n (drop p xs)) ≡ widened high (take (p + n) xs)
 widened_more high xs p n = sym (flat_map-append (λ b. halves high b 0) (take p xs) (take n (drop p xs))) ∙ ap (widened high) (sym (take-add p n xs))

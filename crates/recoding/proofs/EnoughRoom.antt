@@ -4,7 +4,7 @@ use Rattle.std.proofs.lemmas.List.{append-nil}
 use Rattle.recoding.specs.declared.form.Form.{Form}
 use Rattle.recoding.specs.declared.form.Form.TheVariants.{Utf8, Utf16Le, Utf16Be}
 use Rattle.recoding.specs.Recoded.{Recoding, Reads, written, IsRecoded}
-use Rattle.recoding.specs.Rooms.{FeedsInto, IsFull, IsLastFull, most_bytes}
+use Rattle.recoding.specs.Rooms.{FeedsInto, LastIsTooLong, NextIsTooLong, most_bytes}
 use Rattle.recoding.specs.Bounds.{LossyIsBounded, RecodedIsShort, FeedsInRoom, RoomIsLeft, FinishesInRoom}
 use Rattle.recoding.proofs.BoundLemmas.{recoded_bound}
 use Rattle.recoding.proofs.Growing.{recoded_once}
@@ -27,13 +27,13 @@ longer_of from to bytes ss s room reads long = record {
   longer = omega (arith, length-append (written to s) (flat_map (written to) ss));
 }
 
-full_is_longer : (s : Recoding) (left : List ℕ) (room : ℕ) → IsFull s left room → IsLonger s.from s.to left room
+full_is_longer : (s : Recoding) (left : List ℕ) (room : ℕ) → NextIsTooLong s.from s.to left room → IsLonger s.from s.to left room
 full_is_longer s left room full =
     let rest = (recoded_once s.from s.to (drop full.len left)).1 in
     let reads : Reads s.from (left ++ []) (full.scalar ∷ rest.0) = full.begins.first [] rest.0 (rw (append-nil (drop full.len left)) rest.1) in
     longer_of s.from s.to left rest.0 full.scalar room (rw (append-nil left) at reads) full.longer
 
-last_is_longer : (s : Recoding) (left : List ℕ) (room : ℕ) → IsLastFull s left room → IsLonger s.from s.to left room
+last_is_longer : (s : Recoding) (left : List ℕ) (room : ℕ) → LastIsTooLong s.from s.to left room → IsLonger s.from s.to left room
 last_is_longer s left room full =
     let rest = (recoded_once s.from s.to (drop full.len left)).1 in
     longer_of s.from s.to left rest.0 full.scalar room (full.begins.first rest.0 rest.1) full.longer

@@ -49,8 +49,8 @@ Ends-from_decides {reads} {w} {s} {n} d = record {
 }
 
 -- what is settled whatever follows is where nothing does
-pub SettlesLast-of : (from : Form) (w : List ℕ) (s n k : ℕ) → Settles from w s n k → SettlesLast from w s n k
-SettlesLast-of from w s n k settles = record {
+pub SettlesLast-of : {from : Form} {w : List ℕ} {s n k : ℕ} → Settles from w s n k → SettlesLast from w s n k
+SettlesLast-of {w = w} {n = n} settles = record {
   ends = Ends-from_decides settles.decides;
   few = settles.few;
   counts = rw (append-nil w, append-nil (drop n w)) at (settles.counts []);

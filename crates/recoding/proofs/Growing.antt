@@ -134,9 +134,9 @@ pub record Remains (from to : Form) (bytes old new held : List ℕ) : Type 0 whe
   pub appended : new ≡ old ++ grown
   pub continues : (rest : List ℕ) → IsRecoded from to held rest → IsRecoded from to bytes (grown ++ rest)
 
-pub Remains-step : (from to : Form) (bytes old mid new : List ℕ) (p s n : ℕ) → Remains from to bytes old mid (drop p bytes) → Ends (Reads from) (drop p bytes) s n
+pub Remains-step : {from to : Form} {bytes old mid new : List ℕ} (p : ℕ) {s n : ℕ} → Remains from to bytes old mid (drop p bytes) → Ends (Reads from) (drop p bytes) s n
     → new ≡ mid ++ written to s → Remains from to bytes old new (drop (p + n) bytes)
-Remains-step from to bytes old mid new p s n g d e = record {
+Remains-step {from} {to} {bytes} {old} p {s} {n} g d e = record {
   grown = g.grown ++ written to s;
   appended = e ∙ ap (λ x. x ++ written to s) g.appended ∙ append_assoc old g.grown (written to s);
   continues = λ rest (ss, r, f).
@@ -144,8 +144,8 @@ Remains-step from to bytes old mid new p s n g d e = record {
       (g.continues (written to s ++ rest) (s ∷ ss, d.first ss (rw (drop-drop n p bytes) r), ap (λ x. written to s ++ x) f));
 }
 
-pub Remains-all : (from to : Form) (bytes old new : List ℕ) → Remains from to bytes old new [] → Finishes (record (fresh from to) { held = bytes }) old new
-Remains-all from to bytes old new g = record {
+pub Remains-all : {from to : Form} {bytes old new : List ℕ} → Remains from to bytes old new [] → Finishes (record (fresh from to) { held = bytes }) old new
+Remains-all {from} {to} g = record {
   grown = g.grown;
   appended = g.appended;
   recoded = rw (append-nil g.grown) at (g.continues [] (recoded_nothing from to));

@@ -1,15 +1,15 @@
 -- Lossy recoding, step by step, to any output.
-use Rattle.std.proofs.Common.{◌≡◌, ℕ, ◌+◌, ◌-◌, ◌*◌, ◌<◌, ◌≤◌, ⊎_elim, Bool, true, false, rules, List, [], ◌++◌, length, min, take, drop, arith, refl, ap, ap₂, sym, ◌∙◌, subst, append_assoc, length-append, length-drop, length-take, take-append-drop}
+use Rattle.std.proofs.Common.{◌≡◌, ℕ, ◌+◌, ◌-◌, ◌<◌, ◌≤◌, ⊎_elim, Bool, true, false, rules, List, [], ◌++◌, length, min, take, drop, arith, refl, ap, ap₂, sym, ◌∙◌, subst, append_assoc, length-append, length-drop, length-take, take-append-drop}
 use Rattle.std.proofs.lemmas.Bool.{cases_lt}
 use Rattle.std.proofs.lemmas.List.{append-nil, drop_at, drop-drop, take_all, take_at, take_rest, take-take}
 use Rattle.std.specs.Prelude.{IsTrue, IsFalse}
 use Rattle.recoding.specs.declared.form.Form.{Form}
 use Rattle.recoding.specs.declared.room.Room.{Room}
 use Rattle.recoding.specs.FilledRooms.{FillsRoom}
-use Rattle.recoding.specs.Rooms.{ComesNearer}
+use Rattle.recoding.specs.Rooms.{ComesNearer, IsAmple, IsAmpleFor}
 use Rattle.recoding.specs.Lossy.{ReadsParts}
-use Rattle.recoding.specs.LossyBytes.{AddsAllLossy, AddsLastLossy, AddsLossy, Becomes, EndsParts, FeedsLossy, FinishesLossy, IsFullLossy, IsLastFullLossy, RecodesParts, TakesParts, lossy, lossy_outcome}
-use Rattle.recoding.specs.Recoded.{Recoding, fresh, written}
+use Rattle.recoding.specs.LossyBytes.{AddsAllLossy, AddsLastLossy, AddsLossy, Becomes, EndsParts, FeedsLossy, FinishesLossy, IsFullLossy, IsLastFullLossy, NextPartIsTooLong, RecodesParts, TakesParts, lossy, lossy_outcome}
+use Rattle.recoding.specs.Recoded.{Recoding, written}
 use Rattle.recoding.specs.NextScalars.{Decides, Ends}
 use Rattle.recoding.specs.Strict.{PutsText, Transcodes}
 use Rattle.recoding.proofs.Growing.{length_written}
@@ -117,9 +117,9 @@ Ends-as {reads} {w} {s} {n} {t} {m} e f d = subst (λ x. Ends reads w x n) (sym 
 
 -- What begins with a part whose code is longer than the room.
 
-pub IsFullLossy-of : (s : Recoding) (from to : Form) (w x : List ℕ) (c n room : ℕ) → from ≡ s.from → to ≡ s.to → Decides (ReadsParts from) w c n → room < length (written to c)
-    → IsFullLossy s (w ++ x) room
-IsFullLossy-of s from to w x c n room e f d long = record {
+pub NextPartIsTooLong-of : (s : Recoding) (from to : Form) (w x : List ℕ) (c n room : ℕ) → from ≡ s.from → to ≡ s.to → Decides (ReadsParts from) w c n → room < length (written to c)
+    → NextPartIsTooLong s.from s.to (w ++ x) room
+NextPartIsTooLong-of s from to w x c n room e f d long = record {
   scalar = c;
   len = n;
   begins = subst (λ y. Decides (ReadsParts y) (w ++ x) c n) e (Decides-more (ReadsParts from) w x c n d);
@@ -128,8 +128,8 @@ IsFullLossy-of s from to w x c n room e f d long = record {
 
 -- the same of what a run left, of which some is held
 pub IsFullLossy-then : (s v : Recoding) (from to : Form) (part : List ℕ) (read n end room : ℕ) → from ≡ s.from → to ≡ s.to → n ≤ end
-    → v ≡ record (s) { held = take (end - n) (drop n (drop read part)) } → IsFullLossy (fresh from to) (drop n (drop read part)) room
-    → IsFullLossy v (v.held ++ drop (read + end) part) room
+    → v ≡ record (s) { held = take (end - n) (drop n (drop read part)) } → NextPartIsTooLong from to (drop n (drop read part)) room
+    → IsFullLossy v part (read + end) room
 IsFullLossy-then s v from to part read n end room e f le same full =
     let xs : List ℕ = drop n (drop read part) in
     let whole : n + (end - n) ≡ end = omega arith in
@@ -353,7 +353,7 @@ false_unless false never = search rules
 -- Three bytes of room for each byte are enough.
 
 pub enough_room : {r s : Recoding} {part old : List ℕ} {read : ℕ} (a b : Room) (full : Bool) → a.bytes.now ≡ old → a.len ≡ 0 → TakesParts FillsRoom r part a b read s
-    → (IsTrue full → IsFullLossy s (s.held ++ drop read part) (length b.bytes.now - b.len)) → 3 * (length r.held + length part) ≤ length old → IsFalse full
+    → (IsTrue full → IsFullLossy s part read (length b.bytes.now - b.len)) → IsAmpleFor (length old) r part → IsFalse full
 enough_room {r} {s} {part} {old} {read} a b full e none f is enough =
     false_unless full
     (λ yes.
@@ -374,8 +374,8 @@ enough_room {r} {s} {part} {old} {read} a b full e none f is enough =
       length-drop read part,
     ))
 
-pub enough_room_at_end : {r s : Recoding} {old : List ℕ} (a b : Room) (full : Bool) → a.bytes.now ≡ old → a.len ≡ 0 → EndsParts FillsRoom r a b s → (IsTrue full → IsLastFullLossy s s.held (length b.bytes.now - b.len))
-    → 3 * length r.held ≤ length old → IsFalse full
+pub enough_room_at_end : {r s : Recoding} {old : List ℕ} (a b : Room) (full : Bool) → a.bytes.now ≡ old → a.len ≡ 0 → EndsParts FillsRoom r a b s → (IsTrue full → IsLastFullLossy s (length b.bytes.now - b.len))
+    → IsAmple (length old) (length r.held) → IsFalse full
 enough_room_at_end {r} {s} {old} a b full e none f is enough =
     false_unless full
     (λ yes.

@@ -5,7 +5,8 @@ use Rattle.recoding.specs.declared.form.Form.{Form}
 use Rattle.recoding.specs.Recoded.{Reads, written, Lacks}
 use Rattle.recoding.specs.NextScalars.{Decides, Settles, Waits}
 use Rattle.recoding.specs.Outputs.{Extends}
-use Rattle.recoding.specs.OutputRuns.{HasRoomFor, RunsOnto, RunsUntil}
+use Rattle.recoding.specs.OutputRuns.{RunsOnto, RunsUntil}
+use Rattle.recoding.specs.Rooms.{HasRoomFor}
 use Rattle.recoding.proofs.Advancing.{Advances-none, Advances-code, Advances-next, Advances-more}
 use Rattle.recoding.proofs.Growing.{length_written}
 

@@ -66,14 +66,14 @@ outcome_none r old none =
 
 -- The same of room of a fixed size.
 
-pub outcome_fed_into : (r : Recoding) (part room new : List ℕ) (read wrote : ℕ) (s : Recoding) → FeedsInto r part room new read wrote s
+pub outcome_fed_into : {r s : Recoding} {part room new : List ℕ} {read wrote : ℕ} → FeedsInto r part room new read wrote s
     → AddsOutcome r (take read part) (take wrote new) s
-outcome_fed_into r part room new read wrote s f out later = outcome_fed r (take read part) out (out ++ take wrote new) s (f.feeds out) later
+outcome_fed_into {r} {s} {part} {new = new} {read} {wrote} f out later = outcome_fed r (take read part) out (out ++ take wrote new) s (f.feeds out) later
 
-pub outcome_finished_into : (r : Recoding) (room new : List ℕ) (wrote : ℕ) (s : Recoding) → FinishesInto r room new wrote s
+pub outcome_finished_into : {r s : Recoding} {room new : List ℕ} {wrote : ℕ} → FinishesInto r room new wrote s
     → AddsLast r (take wrote new) s
 unfolding outcome
-outcome_finished_into r room new wrote s f out =
+outcome_finished_into {r} {s} {new = new} {wrote} f out =
     let rest : List ℕ = recoded r.from r.to s.held in
     let whole : IsRecoded r.from r.to r.held (take wrote new ++ rest) = f.leaves rest (recoded_is r.from r.to s.held) in
     let same : recoded s.from s.to (s.held ++ []) ≡ rest =

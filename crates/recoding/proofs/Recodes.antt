@@ -9,15 +9,15 @@ use Rattle.recoding.specs.Faults.{Advances}
 use Rattle.recoding.specs.Recodes.{Reaches, Recodes}
 use Rattle.recoding.specs.declared.engine.Reached.{Reached}
 use Rattle.recoding.specs.Outputs.{Extends}
-use Rattle.recoding.specs.OutputRuns.{HasRoomFor, RunsOnto, RunsUntil}
+use Rattle.recoding.specs.OutputRuns.{RunsOnto, RunsUntil}
 use Rattle.recoding.specs.FilledRooms.{FillsRoom}
-use Rattle.recoding.specs.Rooms.{NextIsTooLong}
+use Rattle.recoding.specs.Rooms.{HasRoomFor, NextIsTooLong}
 use Rattle.recoding.specs.NextScalars.{Decides, Settles}
 use Rattle.recoding.specs.Strict.{PutsText, Transcodes}
 use Rattle.recoding.proofs.Advancing.{Advances-append, Advances-none, Advances-onto}
 use Rattle.recoding.proofs.FrontBytes.{lacks_all}
 use Rattle.recoding.proofs.Growing.{length_written}
-use Rattle.recoding.proofs.RoomLemmas.{Advances-ahead, IsFull-of, take_more}
+use Rattle.recoding.proofs.RoomLemmas.{Advances-ahead, NextIsTooLong-of, take_more}
 use Rattle.recoding.proofs.RoomRuns.{Advances-after}
 use Rattle.recoding.proofs.TextLaws.{text_counts, text_is_recoded}
 use Rattle.recoding.proofs.TextRuns.{text_room}
@@ -126,7 +126,7 @@ module _ {O : Type 0} {appends : O → List ℕ → O → Type 0} {room : O → 
       → room mid < 4 → Reaches appends room from to bytes old new (record { read = n; replaced = k; is_full = true; is_waiting = false })
   Reaches-full {mid} {n} {k} {s} {len} f kept settles longer short =
       let xs = drop n bytes in
-      let full : NextIsTooLong from to xs (room mid) = rw (take-append-drop 4 xs) at (IsFull-of (fresh from to) from to (take 4 xs) (drop 4 xs) s len (room mid) refl refl settles.decides longer) in
+      let full : NextIsTooLong from to xs (room mid) = rw (take-append-drop 4 xs) at (NextIsTooLong-of (fresh from to) from to (take 4 xs) (drop 4 xs) s len (room mid) refl refl settles.decides longer) in
       rw kept (record { runs = f; full = λ is. full; short = λ is. short; waits = λ is. absurd (no_truth is); lacks = λ is. absurd (no_truth is) })
 
   -- neither

@@ -35,9 +35,9 @@ take_clip n m xs le short =
 
 -- Bytes that nothing follows.
 
-pub Leaves-step : (from to : Form) (bytes grown new : List ℕ) (p s n : ℕ) → Leaves from to bytes grown (drop p bytes) → Ends (Reads from) (drop p bytes) s n
+pub Leaves-step : (from to : Form) (bytes : List ℕ) (p : ℕ) (grown : List ℕ) {new : List ℕ} {s n : ℕ} → Leaves from to bytes grown (drop p bytes) → Ends (Reads from) (drop p bytes) s n
     → new ≡ grown ++ written to s → Leaves from to bytes new (drop (p + n) bytes)
-Leaves-step from to bytes grown new p s n h d e rest (ss, r, f) =
+Leaves-step from to bytes p grown {s = s} {n = n} h d e rest (ss, r, f) =
     let all : IsRecoded from to bytes (grown ++ (written to s ++ rest)) =
     h (written to s ++ rest) (s ∷ ss, d.first ss (rw (drop-drop n p bytes) r), ap (λ x. written to s ++ x) f) in
     subst (λ xs. IsRecoded from to bytes xs) (sym (ap (λ x. x ++ rest) e ∙ append_assoc grown (written to s) rest)) all
@@ -62,7 +62,7 @@ Finishes-of r s old new wrote f none out = record {
 }
 
 pub IsLastFull-of : (r s : Recoding) (from to : Form) (left : List ℕ) (room : ℕ) {n : ℕ} → from ≡ r.from → to ≡ r.to
-    → s ≡ record r { held = left; replaced = n } → LastIsTooLong from to left room → IsLastFull s s.held room
+    → s ≡ record r { held = left; replaced = n } → LastIsTooLong from to left room → IsLastFull s room
 IsLastFull-of r s from to left room e f k full =
     rw k (record {
       scalar = full.scalar;
@@ -97,8 +97,8 @@ FeedsInto-of r s part old new read wrote e f few within fits g rest = record {
 }
 
 -- the same after the recoder has counted faults
-pub FeedsInto-counted : (r s t : Recoding) (part old new : List ℕ) (read wrote : ℕ) {n : ℕ} → FeedsInto r part old new read wrote s → t ≡ record s { replaced = n } → FeedsInto r part old new read wrote t
-FeedsInto-counted r s t part old new read wrote f e = rw e (record {
+pub FeedsInto-counted : {r s t : Recoding} {part old new : List ℕ} {read wrote n : ℕ} → FeedsInto r part old new read wrote s → t ≡ record s { replaced = n } → FeedsInto r part old new read wrote t
+FeedsInto-counted f e = rw e (record {
   within = f.within;
   feeds = λ out. let g = f.feeds out in record { grows = g.grows; from = g.from; to = g.to; few = g.few };
   fits = f.fits;
@@ -122,9 +122,9 @@ Decides-more reads w x s n d =
           rw (sym (append_assoc w x later)) at (d.first (x ++ later) ss (rw e at h));
     }
 
-pub IsFull-of : (s : Recoding) (from to : Form) (w x : List ℕ) (c n room : ℕ) → from ≡ s.from → to ≡ s.to → Decides (Reads from) w c n → room < length (written to c)
-    → IsFull s (w ++ x) room
-IsFull-of s from to w x c n room e f d long = record {
+pub NextIsTooLong-of : (s : Recoding) (from to : Form) (w x : List ℕ) (c n room : ℕ) → from ≡ s.from → to ≡ s.to → Decides (Reads from) w c n → room < length (written to c)
+    → NextIsTooLong s.from s.to (w ++ x) room
+NextIsTooLong-of s from to w x c n room e f d long = record {
   scalar = c;
   len = n;
   begins = subst (λ y. Decides (Reads y) (w ++ x) c n) e (Decides-more (Reads from) w x c n d);
@@ -199,7 +199,7 @@ FeedsInto-then r s v part old mid new read more wrote all end n f near within or
 
 pub IsFull-then : (s v : Recoding) (from to : Form) (part : List ℕ) (read more end room : ℕ) {n : ℕ} → from ≡ s.from → to ≡ s.to → more ≤ end
     → v ≡ record s { held = take (end - more) (drop more (drop read part)); replaced = n }
-    → NextIsTooLong from to (drop more (drop read part)) room → IsFull v (v.held ++ drop (read + end) part) room
+    → NextIsTooLong from to (drop more (drop read part)) room → IsFull v part (read + end) room
 IsFull-then s v from to part read more end room e f le k full =
     let xs : List ℕ = drop read part in
     let place : more + (end - more) ≡ end = omega arith in

@@ -4,7 +4,7 @@ use Rattle.std.proofs.Math.Seq.{drop-append-add}
 use Rattle.std.proofs.lemmas.Bool.{cases_lt}
 use Rattle.std.proofs.lemmas.List.{drop_all, drop-drop, take_all, drop-append-le, take-append-le}
 use Rattle.recoding.specs.Recoded.{Recoding, written}
-use Rattle.recoding.specs.Rooms.{Fills, ComesNearer}
+use Rattle.recoding.specs.Rooms.{Fills, ComesNearer, IsAmpleFor}
 use Rattle.recoding.specs.NextScalars.{fault_len}
 use Rattle.recoding.specs.Strict.{BeginsChar, BeginsFault, EndsInFault, IsTooLong, RecodesText, RunsStrictly, IsLonger, EndsFeed, EndsHeld, FeedsStrictly, FinishesStrictly, PassesHeld, EndsRun}
 use Rattle.recoding.specs.declared.faults.FaultKind.{FaultKind}
@@ -116,7 +116,7 @@ module _ (r : Recoding) (part old new : List ℕ) (s : Recoding) where
       omega (arith, few_written r.to long.scalar, long.longer, f.recodes.fits)
 
   -- There was none for what is left.
-  pub room_is_enough : (p : StrictProgress) → FeedsStrictly r part old new p s → length new ≡ length old → 3 * (length r.held + length part) ≤ length old → p.outcome ≡ Full → ⊥
+  pub room_is_enough : (p : StrictProgress) → FeedsStrictly r part old new p s → length new ≡ length old → IsAmpleFor (length old) r part → p.outcome ≡ Full → ⊥
   room_is_enough p f len enough e =
       let ends = subst (λ o. EndsFeed r.from r.to o f.fault s.held (drop p.read part) (length old - p.written)) e f.ends in
       enough_room (rw ends.0 at f.recodes) len (omega (arith, length-append r.held part)) ends.1
@@ -206,9 +206,9 @@ PassesHeld-of r s from to part old new run fault w e f i j same few within recod
 }
 
 -- The call ended among the held bytes.
-pub FeedsStrictly-held : (r s : Recoding) (part old new : List ℕ) (run : HeldRun) (o : Outcome) → PassesHeld r part old new run s → run.outcome ≡ Some o
+pub FeedsStrictly-held : {r s : Recoding} {part old new : List ℕ} {run : HeldRun} {o : Outcome} → PassesHeld r part old new run s → run.outcome ≡ Some o
     → FeedsStrictly r part old new (record { read = run.read; written = run.written; outcome = o }) s
-FeedsStrictly-held r s part old new run o f e = record {
+FeedsStrictly-held {r} {s} {part} {old} {run = run} f e = record {
   fault = f.fault;
   recodes = f.recodes;
   ends = subst (λ x. EndsHeld r.from r.to x f.fault s.held (drop run.read part) (length old - run.written)) e f.ends;

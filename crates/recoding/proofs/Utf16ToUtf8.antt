@@ -155,9 +155,9 @@ module _ (high : Bool) (from : Form) (w : List ℕ) (u : ℕ → ℕ) (n : ℕ) 
   PutsText-narrowed put = record { within = enough; grown = concat_range (code_at u) 0 n; appended = put; transcodes = Transcodes-narrowed }
 
 -- Sixteen bytes that are eight units of ASCII are text.
-pub Transcodes-ascii : (high : Bool) (from : Form) (v us ascii : List ℕ) → HasByteOrder high from → ((i : ℕ) → Fits w8 (get_or v i 0)) → length v ≡ 16 → length us ≡ 8 → us ≡ units_of high v → AreAscii us 0 8
+pub Transcodes-ascii : (high : Bool) {from : Form} {v us ascii : List ℕ} → HasByteOrder high from → ((i : ℕ) → Fits w8 (get_or v i 0)) → length v ≡ 16 → length us ≡ 8 → us ≡ units_of high v → AreAscii us 0 8
     → ascii ≡ us → Transcodes from Utf8 v ascii
-Transcodes-ascii high from v us ascii form fits even eight e low same =
+Transcodes-ascii high {from} {v} {us} {ascii} form fits even eight e low same =
     let each : AreAscii us 0 (length us) = λ k ge lt. low k ge (omega arith) in
     let codes : AreCodes (units_of high v) = record { scalars = us; all = ascii_scalars us each; codes = sym e ∙ ascii_units us each } in
     record { scalars = us; all = ascii_scalars us each; codes = coded_bytes high from v 8 form codes even fits; made = same ∙ sym (ascii_codes us each) }

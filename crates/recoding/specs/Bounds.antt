@@ -1,7 +1,8 @@
 -- How many bytes come of some bytes at most, and what fits into room of a fixed size, as laws.
-use Rattle.std.specs.Prelude.{◌≡◌, ℕ, ◌-◌, ◌*◌, ◌≤◌, List, ◌++◌, length, take, drop}
+use Rattle.std.specs.Prelude.{◌≡◌, ℕ, ◌-◌, ◌*◌, ◌≤◌, List, ◌++◌, length, take}
 use Rattle.recoding.specs.declared.form.Form.{Form}
 use Rattle.recoding.specs.declared.form.Form.TheVariants.{Utf8}
+use Rattle.recoding.specs.declared.form.TheConstants.{WIDEST}
 use Rattle.recoding.specs.Recoded.{Recoding, IsRecoded}
 use Rattle.recoding.specs.RecodedBytes.{recoded}
 use Rattle.recoding.specs.Rooms.{FeedsInto, FinishesInto, IsFull, IsLastFull, most_bytes}
@@ -10,13 +11,13 @@ use Rattle.recoding.specs.Rooms.{FeedsInto, FinishesInto, IsFull, IsLastFull, mo
 abbrev pub RecodedIsBounded : Type 0
 RecodedIsBounded = (from to : Form) (bytes out : List ℕ) → IsRecoded from to bytes out → length out ≤ most_bytes from to (length bytes)
 
--- the list that bytes are recoded as is at most three times as long as they are
+-- the list that bytes are recoded as is at most so many times as long as they are
 abbrev pub RecodedIsShort : Type 0
-RecodedIsShort = (from to : Form) (bytes : List ℕ) → length (recoded from to bytes) ≤ 3 * length bytes
+RecodedIsShort = (from to : Form) (bytes : List ℕ) → length (recoded from to bytes) ≤ WIDEST * length bytes
 
 -- a lossy text is at most three times as long as its bytes
 abbrev pub LossyIsBounded : Type 0
-LossyIsBounded = (bytes out : List ℕ) → IsRecoded Utf8 Utf8 bytes out → length out ≤ 3 * length bytes
+LossyIsBounded = (bytes out : List ℕ) → IsRecoded Utf8 Utf8 bytes out → length out ≤ most_bytes Utf8 Utf8 (length bytes)
 
 -- all that the bytes are recoded as fits into so much room
 abbrev pub HasRoom : Form → Form → List ℕ → ℕ → Type 0
@@ -26,7 +27,7 @@ HasRoom from to bytes room = (out : List ℕ) → IsRecoded from to bytes out �
 abbrev pub FeedsInRoom : Type 0
 FeedsInRoom =
     (r s : Recoding) (part old new : List ℕ) (read wrote : ℕ) → FeedsInto r part old new read wrote s → length new ≡ length old
-    → HasRoom r.from r.to (r.held ++ part) (length old) → ¬ IsFull s (s.held ++ drop read part) (length old - wrote)
+    → HasRoom r.from r.to (r.held ++ part) (length old) → ¬ IsFull s part read (length old - wrote)
 
 -- there is room left then for what the held bytes become
 abbrev pub RoomIsLeft : Type 0
@@ -38,4 +39,4 @@ RoomIsLeft =
 abbrev pub FinishesInRoom : Type 0
 FinishesInRoom =
     (r s : Recoding) (old new : List ℕ) (wrote : ℕ) → FinishesInto r old new wrote s → length new ≡ length old
-    → HasRoom r.from r.to r.held (length old) → ¬ IsLastFull s s.held (length old - wrote)
+    → HasRoom r.from r.to r.held (length old) → ¬ IsLastFull s (length old - wrote)

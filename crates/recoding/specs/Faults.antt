@@ -1,5 +1,5 @@
 -- How many faults some bytes have, and how many of them a recoder has replaced by U+FFFD.
-use Rattle.std.specs.Prelude.{◌≡◌, ◌↔◌, ℕ, ◌+◌, ◌-◌, ◌^◌, Bool, List, ◌++◌, length, min, is_none, count_by, true, false}
+use Rattle.std.specs.Prelude.{◌≡◌, ◌↔◌, ℕ, ◌+◌, ◌-◌, ◌^◌, Bool, List, ◌++◌, length, take, drop, min, is_none, count_by, true, false}
 use Rattle.utf_base.specs.Code.{utf8, utf16}
 use Rattle.utf_base.specs.Piece.{Piece, IsCut}
 use Rattle.utf_base.proofs.Cuts.{cut_exists}
@@ -44,10 +44,18 @@ FaultCountIsOne = (from : Form) (bytes : List ℕ) (n : ℕ) → Faults from byt
 abbrev pub CountsTo : Form → List ℕ → ℕ → List ℕ → Type 0
 CountsTo from bytes n held = (later : List ℕ) → fault_count from (bytes ++ later) ≡ n + fault_count from (held ++ later)
 
+-- the number, as far as 64 bits count
+abbrev pub saturated : ℕ → ℕ
+saturated n = min (2 ^ 64 - 1) n
+
 -- What an output holds has grown by what the bytes are recoded as, up to the held ones, and so many faults were replaced.
 pub record Advances (from to : Form) (bytes old new held : List ℕ) (faults : ℕ) : Type 0 where
   pub grows : Grows from to bytes old new held
   pub counts : CountsTo from bytes faults held
+
+-- The same of so many bytes at the front, by the three that follow them and no others.
+abbrev pub AdvancesBy : Form → Form → List ℕ → List ℕ → List ℕ → ℕ → ℕ → Type 0
+AdvancesBy from to bytes old new read faults = Advances from to (take (read + 3) bytes) old new (take 3 (drop read bytes)) faults
 
 -- A recoder was fed a part and replaced so many faults: whatever follows, they and those that are still to come are the faults
 -- of what it held, the part and what follows.
@@ -58,9 +66,9 @@ Replaces r part n s = (later : List ℕ) → fault_count r.from (r.held ++ (part
 abbrev pub ReplacesLast : Recoding → ℕ → Recoding → Type 0
 ReplacesLast r n s = fault_count r.from r.held ≡ n + fault_count s.from s.held
 
--- and it has counted them with those before, as far as 64 bits count
+-- and it has counted them with those before
 abbrev pub AddsUp : Recoding → ℕ → Recoding → Type 0
-AddsUp r n s = s.replaced ≡ min (2 ^ 64 - 1) (r.replaced + n)
+AddsUp r n s = s.replaced ≡ saturated (r.replaced + n)
 
 -- both of a call that does not say how many
 abbrev pub CountsFed : Recoding → List ℕ → Recoding → Type 0
@@ -68,7 +76,7 @@ CountsFed r part s = (n : ℕ) × Replaces r part n s × AddsUp r n s
 
 -- how many a recoder has replaced at the end, where these bytes and no more are fed to it and it is finished
 unfoldable pub replaced_in_all : Recoding → List ℕ → ℕ
-replaced_in_all r later = min (2 ^ 64 - 1) (r.replaced + fault_count r.from (r.held ++ later))
+replaced_in_all r later = saturated (r.replaced + fault_count r.from (r.held ++ later))
 
 -- a part was fed: whatever follows it, that is the number of the part and then of what follows
 abbrev pub KeepsCount : Recoding → List ℕ → Recoding → Type 0

@@ -10,10 +10,11 @@ use Rattle.utf_base.proofs.UnitLemmas.{utf16_finds}
 use Rattle.utf_base.proofs.Utf8Code.{utf8_is_code}
 use Rattle.utf_base.proofs.Utf16Code.{utf16_is_code}
 use Rattle.utf_lanes.specs.BytePairs.{units_of}
+use Rattle.recoding.specs.declared.form.TheConstants.{WIDEST}
 use Rattle.recoding.specs.declared.form.Form.{Form}
 use Rattle.recoding.specs.declared.form.Form.TheVariants.{Utf8, Utf16Le, Utf16Be}
 use Rattle.recoding.specs.Lossy.{IsLossy, ReadsParts}
-use Rattle.recoding.specs.Recoded.{Recoding, fresh, odd_end, written}
+use Rattle.recoding.specs.Recoded.{Recoding, fresh, most_held, odd_end, written}
 use Rattle.recoding.specs.RecodedBytes.{recoded}
 use Rattle.recoding.specs.Rooms.{BeginsLonger}
 use Rattle.recoding.specs.NextScalars.{Decides, Ends}
@@ -68,7 +69,7 @@ pub record FeedsLossy (r : Recoding) (part old new : List ℕ) (read wrote : ℕ
   pub from : s.from ≡ r.from
   pub to : s.to ≡ r.to
   pub replaced : s.replaced ≡ r.replaced
-  pub few : length s.held ≤ 3
+  pub few : length s.held ≤ most_held
   pub fits : wrote ≤ length old
   pub rest : drop wrote new ≡ drop wrote old
 
@@ -83,12 +84,16 @@ pub record FinishesLossy (r : Recoding) (old new : List ℕ) (wrote : ℕ) (s : 
   pub rest : drop wrote new ≡ drop wrote old
 
 -- The bytes that are left begin with a part, whatever follows them, and the code of what it shows is longer than the room.
-abbrev pub IsFullLossy : Recoding → List ℕ → ℕ → Type 0
-IsFullLossy r left room = BeginsLonger (Decides (ReadsParts r.from) left) r.to room
+abbrev pub NextPartIsTooLong : Form → Form → List ℕ → ℕ → Type 0
+NextPartIsTooLong from to left room = BeginsLonger (Decides (ReadsParts from) left) to room
 
--- The same of bytes that nothing follows.
-abbrev pub IsLastFullLossy : Recoding → List ℕ → ℕ → Type 0
-IsLastFullLossy r left room = BeginsLonger (Ends (ReadsParts r.from) left) r.to room
+-- so a recoder can go no further, of whose part so many bytes were read
+abbrev pub IsFullLossy : Recoding → List ℕ → ℕ → ℕ → Type 0
+IsFullLossy r part read room = NextPartIsTooLong r.from r.to (r.held ++ drop read part) room
+
+-- The same of a recoder that is to be finished.
+abbrev pub IsLastFullLossy : Recoding → ℕ → Type 0
+IsLastFullLossy r room = BeginsLonger (Ends (ReadsParts r.from) r.held) r.to room
 
 -- Any output.
 
@@ -98,7 +103,7 @@ pub record RecodesParts {O : Type 0} (appends : O → List ℕ → O → Type 0)
   pub grown : List ℕ
   pub appended : appends old grown new
   pub within : read ≤ length bytes
-  pub short : length grown ≤ 3 * read
+  pub short : length grown ≤ WIDEST * read
   pub becomes : Becomes from to (take (read + 3) bytes) grown (take 3 (drop read bytes))
 
 -- So many bytes of a part were read, after those that were held, and some are held.
@@ -106,18 +111,18 @@ pub record TakesParts {O : Type 0} (appends : O → List ℕ → O → Type 0) (
   pub grown : List ℕ
   pub appended : appends old grown new
   pub within : read ≤ length part
-  pub short : length grown + 3 * length s.held ≤ 3 * (length r.held + read)
+  pub short : length grown + WIDEST * length s.held ≤ WIDEST * (length r.held + read)
   pub becomes : Becomes r.from r.to (r.held ++ take read part) grown s.held
   pub from : s.from ≡ r.from
   pub to : s.to ≡ r.to
   pub replaced : s.replaced ≡ r.replaced
-  pub few : length s.held ≤ 3
+  pub few : length s.held ≤ most_held
 
 -- The same of the bytes that are held at the end.
 pub record EndsParts {O : Type 0} (appends : O → List ℕ → O → Type 0) (r : Recoding) (old new : O) (s : Recoding) : Type 0 where
   pub grown : List ℕ
   pub appended : appends old grown new
-  pub short : length grown + 3 * length s.held ≤ 3 * length r.held
+  pub short : length grown + WIDEST * length s.held ≤ WIDEST * length r.held
   pub becomes : lossy r.from r.to r.held ≡ grown ++ lossy r.from r.to s.held
   pub from : s.from ≡ r.from
   pub to : s.to ≡ r.to

@@ -5,10 +5,6 @@ use Rattle.recoding.specs.Faults.{Advances}
 use Rattle.recoding.specs.declared.form.Form.{Form}
 use Rattle.recoding.specs.declared.form.TheConstants.{WIDEST}
 
--- There is room for all that so many bytes may be recoded as.
-abbrev pub HasRoomFor : {Z : Type 0} → Vec ℕ Z → ℕ → Type 0
-HasRoomFor out count = vec_len out + WIDEST * count ≤ vec_capacity out
-
 -- A run has recoded so many bytes, whatever follows them, and replaced so many faults. No more than three bytes came of each, and
 -- no more than one fault, and the output lost no room.
 pub record RunsOnto {Z : Type 0} (from to : Form) (bytes : List ℕ) (old new : Vec ℕ Z) (read faults : ℕ) : Type 0 where

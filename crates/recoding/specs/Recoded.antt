@@ -67,6 +67,10 @@ pub record Recoding : Type 0 where
   pub held : List ℕ
   pub replaced : ℕ
 
+-- how many bytes it holds at most: those of a code of four but the last
+abbrev pub most_held : ℕ
+most_held = 3
+
 -- one that holds nothing and has replaced nothing
 abbrev pub fresh : Form → Form → Recoding
 fresh from to = record { from = from; to = to; held = []; replaced = 0 }
@@ -82,13 +86,17 @@ pub record Feeds (r : Recoding) (part old new : List ℕ) (s : Recoding) : Type 
   pub grows : Grows r.from r.to (r.held ++ part) old new s.held
   pub from : s.from ≡ r.from
   pub to : s.to ≡ r.to
-  pub few : length s.held ≤ 3
+  pub few : length s.held ≤ most_held
 
 -- one call of `finish`
 pub record Finishes (r : Recoding) (old new : List ℕ) : Type 0 where
   pub grown : List ℕ
   pub appended : new ≡ old ++ grown
   pub recoded : IsRecoded r.from r.to r.held grown
+
+-- the end brings these bytes, to whatever they are added
+abbrev pub FinishesWith : Recoding → List ℕ → Type 0
+FinishesWith r made = (out : List ℕ) → Finishes r out (out ++ made)
 
 -- A recoder is fed these parts one after another and then finished, and what an output holds grows by what comes of it.
 abbrev pub FeedsEach : Recoding → List (List ℕ) → List ℕ → List ℕ → Type 0

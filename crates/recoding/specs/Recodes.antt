@@ -2,10 +2,10 @@
 use Rattle.std.specs.Prelude.{◌≡◌, ℕ, ◌+◌, ◌*◌, ◌%◌, ◌<◌, ◌≤◌, Bool, not, List, [], length, take, drop, IsTrue}
 use Rattle.std.proofs.Math.Bool.{beq}
 use Rattle.recoding.specs.Recoded.{Lacks}
-use Rattle.recoding.specs.Rooms.{NextIsTooLong}
+use Rattle.recoding.specs.Rooms.{IsAmple, NextIsTooLong}
 use Rattle.recoding.specs.declared.form.TheConstants.{WIDEST}
 use Rattle.recoding.specs.declared.engine.Reached.{Reached}
-use Rattle.recoding.specs.Faults.{Advances}
+use Rattle.recoding.specs.Faults.{AdvancesBy}
 use Rattle.recoding.specs.declared.form.Form.{Form}
 use Rattle.utf_lanes.specs.BytePairs.{units_of, turned}
 use Rattle.utf_lanes.specs.Utf8ToUtf16.{concat_range}
@@ -14,7 +14,7 @@ use Rattle.utf_lanes.specs.UnitCodes.{lane_unit, code_at, AreText}
 
 -- There is room for all that comes of the bytes, whatever the forms.
 abbrev pub FitsAll : List ℕ → ℕ → Type 0
-FitsAll bytes room = WIDEST * length bytes ≤ room
+FitsAll bytes room = IsAmple room (length bytes)
 
 -- So many bytes were recoded, by the three that follow them and no others, so many faults were replaced, and what came of both
 -- was appended. No more than one fault came of each.
@@ -24,7 +24,7 @@ pub record Recodes {O : Type 0} (appends : O → List ℕ → O → Type 0) (fro
   pub within : read ≤ length bytes
   pub short : length grown ≤ WIDEST * read
   pub few : faults ≤ read
-  pub advances : Advances from to (take (read + 3) bytes) [] grown (take 3 (drop read bytes)) faults
+  pub advances : AdvancesBy from to bytes [] grown read faults
 
 -- How far a run went: so many bytes were recoded and so many faults replaced as it says, and it ended before a code for which there is no room, or since
 -- what follows decides, or neither.

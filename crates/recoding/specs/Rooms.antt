@@ -1,7 +1,8 @@
 -- Recoding into room of a fixed size.
-use Rattle.std.specs.Prelude.{◌≡◌, ℕ, ◌+◌, ◌-◌, ◌*◌, ◌/◌, ◌<◌, ◌≤◌, List, ◌++◌, length, take, drop}
+use Rattle.std.specs.Prelude.{◌≡◌, ℕ, ◌+◌, ◌-◌, ◌*◌, ◌/◌, ◌<◌, ◌≤◌, List, ◌++◌, length, take, drop, Vec, vec_len, vec_capacity}
 use Rattle.recoding.specs.Recoded.{Reads, written, IsRecoded, Recoding, Feeds}
 use Rattle.recoding.specs.NextScalars.{Decides, Ends}
+use Rattle.recoding.specs.declared.form.TheConstants.{WIDEST}
 use Rattle.recoding.specs.declared.form.Form.{Form}
 use Rattle.recoding.specs.declared.form.Form.TheVariants.{Utf8, Utf16Le, Utf16Be}
 
@@ -39,9 +40,9 @@ pub record BeginsLonger (shows : ℕ → ℕ → Type 0) (to : Form) (room : ℕ
 abbrev pub NextIsTooLong : Form → Form → List ℕ → ℕ → Type 0
 NextIsTooLong from to left room = BeginsLonger (Decides (Reads from) left) to room
 
--- so a recoder can go no further
-abbrev pub IsFull : Recoding → List ℕ → ℕ → Type 0
-IsFull r left room = NextIsTooLong r.from r.to left room
+-- so a recoder can go no further, of whose part so many bytes were read
+abbrev pub IsFull : Recoding → List ℕ → ℕ → ℕ → Type 0
+IsFull r part read room = NextIsTooLong r.from r.to (r.held ++ drop read part) room
 
 -- Where nothing follows the bytes, they are recoded as `grown`, and then as the held ones are.
 abbrev pub Leaves : Form → Form → List ℕ → List ℕ → List ℕ → Type 0
@@ -61,10 +62,23 @@ pub record FinishesInto (r : Recoding) (old new : List ℕ) (wrote : ℕ) (s : R
 abbrev pub LastIsTooLong : Form → Form → List ℕ → ℕ → Type 0
 LastIsTooLong from to left room = BeginsLonger (Ends (Reads from) left) to room
 
-abbrev pub IsLastFull : Recoding → List ℕ → ℕ → Type 0
-IsLastFull r left room = LastIsTooLong r.from r.to left room
+-- so a recoder that is to be finished can go no further
+abbrev pub IsLastFull : Recoding → ℕ → Type 0
+IsLastFull r room = LastIsTooLong r.from r.to r.held room
 
 -- How much room recoding takes.
+
+-- the room is surely enough for all that so many bytes are recoded as, whatever the forms
+abbrev pub IsAmple : ℕ → ℕ → Type 0
+IsAmple room count = WIDEST * count ≤ room
+
+-- and so for all that the held bytes and a part are
+abbrev pub IsAmpleFor : ℕ → Recoding → List ℕ → Type 0
+IsAmpleFor room r part = IsAmple room (length r.held + length part)
+
+-- what is left of a list's capacity is
+abbrev pub HasRoomFor : {Z : Type 0} → Vec ℕ Z → ℕ → Type 0
+HasRoomFor out count = vec_len out + WIDEST * count ≤ vec_capacity out
 
 -- the most bytes that come of one byte or unit
 abbrev pub widest : Form → ℕ

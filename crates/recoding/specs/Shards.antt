@@ -32,6 +32,10 @@ pub record LiesOver (code : ℕ → List ℕ) (xs : List ℕ) (from at : ℕ) : 
   pub stands : Stands code xs from char
   pub ends : at < from + length (code char)
 
+-- no code of two units begins these
+abbrev pub BeginsNoPair : List ℕ → Type 0
+BeginsNoPair units = (s : ℕ) → Stands utf16 units 0 s → length (utf16 s) ≤ 1
+
 -- n is the last place, up to `at`, over which no code of the list lies
 pub record IsLastOutside (code : ℕ → List ℕ) (xs : List ℕ) (at n : ℕ) : Type 0 where
   pub before : n ≤ at

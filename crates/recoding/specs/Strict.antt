@@ -7,7 +7,7 @@ use Rattle.utf_base.specs.Units.{unit_fault_kind}
 use Rattle.utf_base.specs.declared.errors.Utf8ErrorKind.TheVariants.{TooFewBytes}
 use Rattle.utf_base.specs.declared.errors.units.Utf16PairError.TheVariants.{Incomplete}
 use Rattle.utf_lanes.specs.BytePairs.{units_of}
-use Rattle.recoding.specs.Recoded.{Recoding, IsRecoded, written}
+use Rattle.recoding.specs.Recoded.{Recoding, IsRecoded, most_held, written}
 use Rattle.recoding.specs.Rooms.{BeginsLonger, Fills}
 use Rattle.recoding.specs.NextScalars.{fault_len}
 use Rattle.recoding.specs.declared.first_pieces.FirstPiece.{FirstPiece}
@@ -139,7 +139,7 @@ pub record FeedsStrictly (r : Recoding) (part old new : List ℕ) (p : StrictPro
   pub from : s.from ≡ r.from
   pub to : s.to ≡ r.to
   pub replaced : s.replaced ≡ r.replaced
-  pub few : length s.held ≤ 3
+  pub few : length s.held ≤ most_held
 
 -- The same of what was held alone: it is gone, or the call ended.
 abbrev pub EndsHeld : Form → Form → Option Outcome → List ℕ → List ℕ → List ℕ → ℕ → Type 0
@@ -154,7 +154,7 @@ pub record PassesHeld (r : Recoding) (part old new : List ℕ) (run : HeldRun) (
   pub from : s.from ≡ r.from
   pub to : s.to ≡ r.to
   pub replaced : s.replaced ≡ r.replaced
-  pub few : length s.held ≤ 3
+  pub few : length s.held ≤ most_held
 
 -- What a run left of some bytes, of which so many are read then: a fault, and what is held.
 pub record EndsRun (r : Recoding) (bytes : List ℕ) (run : StrictRun) (ended : ℕ × Outcome) (s : Recoding) : Type 0 where
@@ -165,7 +165,7 @@ pub record EndsRun (r : Recoding) (bytes : List ℕ) (run : StrictRun) (ended : 
   pub from : s.from ≡ r.from
   pub to : s.to ≡ r.to
   pub replaced : s.replaced ≡ r.replaced
-  pub few : length s.held ≤ 3
+  pub few : length s.held ≤ most_held
 
 -- The same of `finish_strict_into`: what was held ends the input, and too few bytes are a fault.
 abbrev pub EndsFinish : Form → Form → Outcome → List ℕ → List ℕ → ℕ → Type 0

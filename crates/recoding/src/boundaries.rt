@@ -1,9 +1,8 @@
 //! Places near another over which no character lies.
-ghost use Rattle.std.specs.Prelude.{◌≡◌, ◌+◌, ◌≤◌, ◌<◌, ℕ, length, min, IsTrue, IsFalse};
+ghost use Rattle.std.specs.Prelude.{◌+◌, ◌≤◌, ◌<◌, length, min, IsTrue, IsFalse};
 ghost use Rattle.utf_base.specs.Code.{utf16};
-ghost use Rattle.utf_base.specs.Piece.{Stands};
 ghost use Rattle.recoding.specs.Boundaries.{IsFirstFrom, IsLastTo, IsUnitBoundary};
-ghost use Rattle.recoding.specs.Shards.{IsShardEnd, LiesOver};
+ghost use Rattle.recoding.specs.Shards.{BeginsNoPair, IsShardEnd, LiesOver};
 
 use crate::form::Form;
 use crate::shards::shard_end;
@@ -41,7 +40,7 @@ pub fn unit_boundary_before(units: &[u16], at: usize) -> usize
 // Whether the code of two units begins these.
 fn is_pair(units: &[u16]) -> bool
     ensures yes { IsTrue result → LiesOver utf16 units.now 0 1 }
-    ensures no { IsFalse result → (s : ℕ) → Stands utf16 units.now 0 s → length (utf16 s) ≤ 1 }
+    ensures no { IsFalse result → BeginsNoPair units.now }
 {
     match char::from_utf16_slice_start(units) {
         Ok((_, len)) => 1 < len,

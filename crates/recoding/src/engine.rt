@@ -117,7 +117,8 @@ fn run<S: Text, T: Text, K: Kernel<S, T>, O: Output>(
 
 #[inline(always)]
 pub(crate) fn ended(read: usize, replaced: usize, is_full: bool, is_waiting: bool) -> Reached
-    ensures { result ≡ record { read = read; replaced = replaced; is_full = is_full; is_waiting = is_waiting } }
+    ensures { result ≡
+        record { read = read; replaced = replaced; is_full = is_full; is_waiting = is_waiting } }
 {
     Reached {
         read,

@@ -84,7 +84,8 @@ pub(crate) fn first_piece(from: Form, bytes: &[u8]) -> FirstPiece
 #[inline(always)]
 pub(crate) fn last_piece(from: Form, bytes: &[u8]) -> Result<(char, usize), (FaultKind, usize)>
     requires { 0 < length bytes.now }
-    ensures { MatchResult result (λ x. BeginsChar from bytes.now x.0 x.1) (λ x. EndsInFault from bytes.now x.0 x.1) }
+    ensures { MatchResult result (λ x. BeginsChar from bytes.now x.0 x.1)
+        (λ x. EndsInFault from bytes.now x.0 x.1) }
 {
     match first_piece(from, bytes) {
         FirstPiece::Char(c, len) => Ok((c, len)),

@@ -72,7 +72,7 @@ impl<const BIG_ENDIAN: bool> Kernel<Utf8, Utf16<BIG_ENDIAN>> for Widened {
         }
         let part = &bytes[..most];
         if most <= SHORT && is_ascii(part) {
-            put_ascii_as_utf16(BIG_ENDIAN, part, out);
+            put_ascii_as_utf16::<O, BIG_ENDIAN>(part, out);
             return most;
         }
         if most < 32 {

@@ -30,6 +30,7 @@ pub mod rooms;
 pub mod shards;
 pub mod strict;
 mod strict_runs;
+mod swapped;
 mod text;
 mod utf16_to_utf8;
 mod utf8_to_utf16;

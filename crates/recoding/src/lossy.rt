@@ -1,8 +1,8 @@
 //! Lossy recoding of text that comes in parts: one U+FFFD for each maximal subpart.
-ghost use Rattle.std.specs.Prelude.{◌≡◌, [], ◌+◌, ◌-◌, ◌*◌, ◌<◌, ◌≤◌, ◌++◌, length, take, drop, IsTrue, IsFalse};
+ghost use Rattle.std.specs.Prelude.{◌≡◌, [], ◌+◌, ◌-◌, ◌<◌, ◌≤◌, length, take, IsTrue, IsFalse};
 ghost use Rattle.recoding.specs.LossyBytes.{AddsAllLossy, AddsLastLossy, AddsLossy, EndsParts, FeedsLossy, FinishesLossy, IsFullLossy, IsLastFullLossy, TakesParts};
 ghost use Rattle.recoding.specs.Recoded.{Lacks};
-ghost use Rattle.recoding.specs.Rooms.{ComesNearer};
+ghost use Rattle.recoding.specs.Rooms.{ComesNearer, IsAmple, IsAmpleFor};
 
 use crate::engine::{Reached, ended};
 use crate::form_calls::put_fitting;
@@ -33,15 +33,17 @@ impl Recoder {
     /// Cost: O(n) in what is read and written.
     pub fn feed_lossy_into(&mut self, part: &[u8], room: &mut [u8]) -> Progress
         ensures feeds { FeedsLossy self.old part.now room.old room.new result.read result.written self.new }
-        ensures full { IsTrue result.is_full → IsFullLossy self.new (self.new.held ++ drop result.read part.now) (length room.old - result.written) }
+        ensures full { IsTrue result.is_full →
+            IsFullLossy self.new part.now result.read (length room.old - result.written) }
         ensures short { IsTrue result.is_full → length room.old < result.written + 4 }
-        ensures enough { 3 * (length self.old.held + length part.now) ≤ length room.old → IsFalse result.is_full }
+        ensures enough { IsAmpleFor (length room.old) self.old part.now → IsFalse result.is_full }
         ensures read { IsFalse result.is_full → result.read ≡ length part.now }
         ensures waits { IsFalse result.is_full → Lacks self.old.from self.new.held }
         ensures moves { 4 ≤ length room.old → 0 < length part.now → 0 < result.read + result.written }
         ensures nearer { ComesNearer part.now room.old result.read self.old self.new }
         ensures uncounted { result.replaced ≡ 0 }
-        ensures outcome { AddsLossy self.old (take result.read part.now) (take result.written room.new) self.new }
+        ensures outcome { AddsLossy self.old (take result.read part.now)
+            (take result.written room.new) self.new }
     {
         let mut out = Room::new(room, 0);
         let done = self.take_pieces(part, &mut out);
@@ -51,7 +53,7 @@ impl Recoder {
     // The same to any output.
     pub(crate) fn take_pieces<O: Output>(&mut self, part: &[u8], out: &mut O) -> Reached
         ensures takes { TakesParts O.appends self.old part.now out.old out.new result.read self.new }
-        ensures full { IsTrue result.is_full → IsFullLossy self.new (self.new.held ++ drop result.read part.now) (O.room out.new) }
+        ensures full { IsTrue result.is_full → IsFullLossy self.new part.now result.read (O.room out.new) }
         ensures short { IsTrue result.is_full → O.room out.new < 4 }
         ensures read { IsFalse result.is_full → result.read ≡ length part.now }
         ensures waits { IsFalse result.is_full → Lacks self.old.from self.new.held }
@@ -71,7 +73,7 @@ impl Recoder {
     // The same of what is held, with as many bytes of the part as it takes, until nothing is held.
     fn take_held<O: Output>(&mut self, part: &[u8], out: &mut O) -> Reached
         ensures takes { TakesParts O.appends self.old part.now out.old out.new result.read self.new }
-        ensures full { IsTrue result.is_full → IsFullLossy self.new (self.new.held ++ drop result.read part.now) (O.room out.new) }
+        ensures full { IsTrue result.is_full → IsFullLossy self.new part.now result.read (O.room out.new) }
         ensures short { IsTrue result.is_full → O.room out.new < 4 }
         ensures read { IsTrue result.is_waiting → result.read ≡ length part.now }
         ensures waits { IsTrue result.is_waiting → Lacks self.old.from self.new.held }
@@ -105,9 +107,9 @@ impl Recoder {
     /// Cost: constant.
     pub fn finish_lossy_into(&mut self, room: &mut [u8]) -> Progress
         ensures finishes { FinishesLossy self.old room.old room.new result.written self.new }
-        ensures full { IsTrue result.is_full → IsLastFullLossy self.new self.new.held (length room.old - result.written) }
+        ensures full { IsTrue result.is_full → IsLastFullLossy self.new (length room.old - result.written) }
         ensures short { IsTrue result.is_full → length room.old < result.written + 4 }
-        ensures enough { 3 * length self.old.held ≤ length room.old → IsFalse result.is_full }
+        ensures enough { IsAmple (length room.old) (length self.old.held) → IsFalse result.is_full }
         ensures all { IsFalse result.is_full → self.new.held ≡ [] }
         ensures read { result.read ≡ 0 }
         ensures uncounted { result.replaced ≡ 0 }
@@ -122,7 +124,7 @@ impl Recoder {
     // The same to any output. Answers whether the next character did not fit.
     pub(crate) fn end_pieces<O: Output>(&mut self, out: &mut O) -> bool
         ensures ends { EndsParts O.appends self.old out.old out.new self.new }
-        ensures full { IsTrue result → IsLastFullLossy self.new self.new.held (O.room out.new) }
+        ensures full { IsTrue result → IsLastFullLossy self.new (O.room out.new) }
         ensures short { IsTrue result → O.room out.new < 4 }
         ensures all { IsFalse result → self.new.held ≡ [] }
     {

@@ -1,11 +1,9 @@
 //! The part that begins some bytes: a character, or a maximal subpart of what is none.
 ghost use Rattle.std.specs.Prelude.{◌≡◌, ◌<◌, ◌≤◌, length, IsTrue, IfSome, IfNone, Some};
-ghost use Rattle.utf_base.specs.Kinds.{fault_kind};
-ghost use Rattle.utf_base.specs.declared.errors.Utf8ErrorKind.TheVariants.{TooFewBytes};
 ghost use Rattle.recoding.specs.Lossy.{BeginsLongCode, BeginsNoCode, BeginsSubpart, ReadsParts, ThirdContinues};
-ghost use Rattle.recoding.specs.LossyPieces.{len_of, scalar_of};
+ghost use Rattle.recoding.specs.LossyPieces.{BeginsPart, len_of, scalar_of};
 ghost use Rattle.recoding.specs.Recoded.{Lacks};
-ghost use Rattle.recoding.specs.NextScalars.{Decides, Ends};
+ghost use Rattle.recoding.specs.NextScalars.{Ends};
 ghost use Rattle.recoding.specs.Strict.{AwaitsKind};
 
 use crate::first_pieces::FirstPiece;
@@ -38,7 +36,7 @@ impl LossyPiece {
 // The part that begins the bytes, whatever follows them; `None` where that depends on what does.
 #[inline(always)]
 pub(crate) fn first_lossy_piece(from: Form, bytes: &[u8]) -> Option<LossyPiece>
-    ensures some { IfSome result (λ x. Decides (ReadsParts from) bytes.now (scalar_of x) (len_of x)) }
+    ensures some { IfSome result (λ x. BeginsPart from bytes.now x) }
     ensures lacks { IfNone result (Lacks from bytes.now) }
     ensures few { IfNone result (length bytes.now ≤ 3) }
 {
@@ -59,7 +57,7 @@ pub(crate) fn first_lossy_piece(from: Form, bytes: &[u8]) -> Option<LossyPiece>
 #[inline(never)]
 fn subpart_of_few(bytes: &[u8]) -> Option<LossyPiece>
     requires { AwaitsKind Form.Utf8 bytes.now }
-    ensures some { IfSome result (λ x. Decides (ReadsParts Form.Utf8) bytes.now (scalar_of x) (len_of x)) }
+    ensures some { IfSome result (λ x. BeginsPart Form.Utf8 bytes.now x) }
     ensures lacks { IfNone result (Lacks Form.Utf8 bytes.now) }
     ensures few { IfNone result (length bytes.now ≤ 3) }
 {

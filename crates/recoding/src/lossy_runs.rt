@@ -1,10 +1,8 @@
 //! Lossy runs over bytes, to any output: text in blocks, and the other parts one by one.
-ghost use Rattle.std.specs.Prelude.{◌≡◌, ◌+◌, ◌<◌, ◌≤◌, length, take, drop, ◌++◌, IfSome, IfNone, IsTrue, IsFalse};
-ghost use Rattle.recoding.specs.Lossy.{ReadsParts};
-ghost use Rattle.recoding.specs.LossyBytes.{IsFullLossy, RecodesParts};
-ghost use Rattle.recoding.specs.LossyPieces.{len_of, scalar_of};
-ghost use Rattle.recoding.specs.Recoded.{Lacks, fresh};
-ghost use Rattle.recoding.specs.NextScalars.{Decides};
+ghost use Rattle.std.specs.Prelude.{◌+◌, ◌<◌, ◌≤◌, length, take, drop, ◌++◌, IfSome, IfNone, IsTrue, IsFalse};
+ghost use Rattle.recoding.specs.LossyBytes.{NextPartIsTooLong, RecodesParts};
+ghost use Rattle.recoding.specs.LossyPieces.{BeginsPart};
+ghost use Rattle.recoding.specs.Recoded.{Lacks, most_held};
 
 use crate::engine::{AFTER_FAULT, Reached, STRIDE, ended};
 use crate::form::Form;
@@ -18,7 +16,8 @@ use crate::strict_runs::put_text;
 // Recodes the bytes as far as no later byte can change what their parts show, and there is room.
 pub(crate) fn run_lossily<O: Output>(from: Form, to: Form, bytes: &[u8], out: &mut O) -> Reached
     ensures runs { RecodesParts O.appends from to bytes.now out.old out.new result.read }
-    ensures full { IsTrue result.is_full → IsFullLossy (fresh from to) (drop result.read bytes.now) (O.room out.new) }
+    ensures full { IsTrue result.is_full →
+        NextPartIsTooLong from to (drop result.read bytes.now) (O.room out.new) }
     ensures short { IsTrue result.is_full → O.room out.new < 4 }
     ensures waits { IsFalse result.is_full → length bytes.now ≤ result.read + 3 }
     ensures lacks { IsFalse result.is_full → Lacks from (drop result.read bytes.now) }
@@ -37,7 +36,8 @@ pub(crate) fn run_lossily<O: Output>(from: Form, to: Form, bytes: &[u8], out: &m
 // The same of a few bytes, part by part, or of fewer from the last subpart among them on.
 fn recode_lossy_pieces<O: Output>(from: Form, to: Form, bytes: &[u8], out: &mut O) -> Reached
     ensures runs { RecodesParts O.appends from to bytes.now out.old out.new result.read }
-    ensures full { IsTrue result.is_full → IsFullLossy (fresh from to) (drop result.read bytes.now) (O.room out.new) }
+    ensures full { IsTrue result.is_full →
+        NextPartIsTooLong from to (drop result.read bytes.now) (O.room out.new) }
     ensures short { IsTrue result.is_full → O.room out.new < 4 }
     ensures waits { IsTrue result.is_waiting → length bytes.now ≤ result.read + 3 }
     ensures lacks { IsTrue result.is_waiting → Lacks from (drop result.read bytes.now) }
@@ -66,9 +66,9 @@ fn recode_lossy_pieces<O: Output>(from: Form, to: Form, bytes: &[u8], out: &mut 
 // `None` where all of them together are too few.
 pub(crate) fn first_of_both(from: Form, held: &[u8], rest: &[u8]) -> Option<(LossyPiece, usize)>
     requires some { 0 < length held.now }
-    requires few { length held.now ≤ 3 }
+    requires few { length held.now ≤ most_held }
     ensures within { IfSome result (λ x. x.1 ≤ length rest.now) }
-    ensures decides { IfSome result (λ x. Decides (ReadsParts from) (held.now ++ take x.1 rest.now) (scalar_of x.0) (len_of x.0)) }
+    ensures decides { IfSome result (λ x. BeginsPart from (held.now ++ take x.1 rest.now) x.0) }
     ensures near { IfSome result (λ x. length held.now + x.1 ≤ 4) }
     ensures none { IfNone result (length held.now + length rest.now ≤ 3) }
     ensures lacks { IfNone result (Lacks from (held.now ++ rest.now)) }

@@ -1,10 +1,10 @@
 //! Recoding of text that comes in parts, which may be cut anywhere, also inside of a code or of a unit.
-ghost use Rattle.std.specs.Prelude.{◌≡◌, ◌<◌, ◌≤◌, [], ◌+◌, ◌*◌, ◌^◌, min, length, OnOk, OnErr, IsOk, IfErr, vec_len, vec_capacity, ℕ, List, ◌-◌, ◌++◌, take, drop, IsTrue, IsFalse};
-ghost use Rattle.recoding.specs.Recoded.{Feeds, Finishes, Lacks, fresh};
-ghost use Rattle.recoding.specs.Faults.{AddsUp, CountsFed, KeepsCount, Replaces, ReplacesLast, fault_count, replaced_in_all};
+ghost use Rattle.std.specs.Prelude.{◌≡◌, ◌<◌, ◌≤◌, [], ◌+◌, ◌*◌, min, length, OnOk, OnErr, IsOk, IfErr, ℕ, List, ◌-◌, ◌++◌, take, drop, IsTrue, IsFalse};
+ghost use Rattle.recoding.specs.Recoded.{Feeds, Finishes, FinishesWith, Lacks, fresh, most_held};
+ghost use Rattle.recoding.specs.Faults.{AddsUp, CountsFed, KeepsCount, Replaces, ReplacesLast, fault_count, replaced_in_all, saturated};
 ghost use Rattle.recoding.specs.LossyBytes.{lossy, lossy_outcome};
 ghost use Rattle.recoding.specs.RecodedBytes.{AddsAll, AddsLast, AddsOutcome, KeepsOutcome, outcome, recoded};
-ghost use Rattle.recoding.specs.Rooms.{ComesNearer, FeedsInto, FinishesInto, IsFull, IsLastFull, bytes_left};
+ghost use Rattle.recoding.specs.Rooms.{ComesNearer, FeedsInto, FinishesInto, HasRoomFor, IsFull, IsLastFull, bytes_left};
 
 use crate::form::{Form, WIDEST};
 use crate::recoder_rooms::{next_of_both, progress, put_at, recode_into, recode_last_into};
@@ -65,7 +65,8 @@ impl Recoder {
     pub fn new(from: Form, to: Form) -> Recoder
         ensures nothing { result ≡ fresh from to }
         ensures outcome { (out later : List ℕ) → outcome result out later ≡ out ++ recoded from to later }
-        ensures counts { (later : List ℕ) → replaced_in_all result later ≡ min (2 ^ 64 - 1) (fault_count from later) }
+        ensures counts { (later : List ℕ) →
+            replaced_in_all result later ≡ saturated (fault_count from later) }
         ensures lossy { (out later : List ℕ) → lossy_outcome result out later ≡ out ++ lossy from to later }
     {
         Recoder {
@@ -99,7 +100,7 @@ impl Recoder {
         ensures waits { 0 < length part.now → OnOk result (Lacks self.old.from self.new.held) }
         ensures nothing { length part.now ≡ 0 → IsOk result × (out.new ≡ out.old) }
         ensures unchanged { length part.now ≡ 0 → self.new ≡ self.old }
-        ensures succeeds { vec_len out.old + 3 * (length self.old.held + length part.now) ≤ vec_capacity out.old → IsOk result }
+        ensures succeeds { HasRoomFor out.old (length self.old.held + length part.now) → IsOk result }
         ensures outcome { OnOk result (KeepsOutcome self.old out.old.items part.now out.new.items self.new) }
         ensures replaces { OnOk result (CountsFed self.old part.now self.new) }
         ensures counts { OnOk result (KeepsCount self.old part.now self.new) }
@@ -128,7 +129,7 @@ impl Recoder {
         ensures unwritten { OnErr result (out.new.items ≡ out.old.items) }
         ensures waits { OnOk result (Lacks self.old.from self.new.held) }
         ensures replaces { OnOk result (CountsFed self.old part.now self.new) }
-        ensures succeeds { vec_len out.old + 3 * length part.now ≤ vec_capacity out.old → IsOk result }
+        ensures succeeds { HasRoomFor out.old (length part.now) → IsOk result }
     {
         out.reserve(part.len().saturating_mul(WIDEST))?;
         let run = recode_whole(self.from, self.to, part, out);
@@ -153,7 +154,7 @@ impl Recoder {
         ensures unwritten { OnErr result (out.new.items ≡ out.old.items) }
         ensures waits { OnOk result (Lacks self.old.from self.new.held) }
         ensures replaces { OnOk result (CountsFed self.old part.now self.new) }
-        ensures succeeds { vec_len out.old + 3 * (length self.old.held + length part.now) ≤ vec_capacity out.old → IsOk result }
+        ensures succeeds { HasRoomFor out.old (length self.old.held + length part.now) → IsOk result }
     {
         let held = self.held_bytes();
         out.reserve((held.len() + part.len()).saturating_mul(WIDEST))?;
@@ -175,14 +176,14 @@ impl Recoder {
     #[inline(always)]
     fn held_bytes(&self) -> &[u8]
         ensures bytes { result.now ≡ self.now.held }
-        ensures few { length result.now ≤ 3 }
+        ensures few { length result.now ≤ most_held }
     {
         &self.held[..self.count]
     }
 
     // Holds these bytes in place of those that were held.
     pub(crate) fn hold(&mut self, bytes: &[u8])
-        requires { length bytes.now ≤ 3 }
+        requires { length bytes.now ≤ most_held }
         ensures { self.new ≡ record (self.old) { held = bytes.now } }
     {
         self.count = bytes.len();
@@ -194,7 +195,7 @@ impl Recoder {
     // Counts so many more faults, as far as 64 bits do.
     #[inline(always)]
     fn count_faults(&mut self, count: usize)
-        ensures { self.new ≡ record (self.old) { replaced = min (2 ^ 64 - 1) (self.old.replaced + count) } }
+        ensures { self.new ≡ record (self.old) { replaced = saturated (self.old.replaced + count) } }
     {
         self.replaced = self.replaced.saturating_add(count as u64);
     }
@@ -214,7 +215,7 @@ impl Recoder {
         ensures err { IfErr result (λ e. e.recoder ≡ self) }
         ensures unwritten { OnErr result (out.new.items ≡ out.old.items) }
         ensures nothing { length self.held ≡ 0 → IsOk result }
-        ensures succeeds { vec_len out.old + 3 * length self.held ≤ vec_capacity out.old → IsOk result }
+        ensures succeeds { HasRoomFor out.old (length self.held) → IsOk result }
         ensures outcome { OnOk result (out.new.items ≡ outcome self out.old.items []) }
     {
         if self.count == 0 {
@@ -229,7 +230,7 @@ impl Recoder {
         ensures ok { OnOk result (Finishes self out.old.items out.new.items) }
         ensures err { IfErr result (λ e. e.recoder ≡ self) }
         ensures unwritten { OnErr result (out.new.items ≡ out.old.items) }
-        ensures succeeds { vec_len out.old + 3 * length self.held ≤ vec_capacity out.old → IsOk result }
+        ensures succeeds { HasRoomFor out.old (length self.held) → IsOk result }
     {
         if let Err(cause) = out.reserve(WIDEST * self.count) {
             return Err(Unfinished {
@@ -246,7 +247,7 @@ impl Recoder {
     ///
     /// Condition: there are at most three bytes.
     pub fn holding(from: Form, to: Form, held: &[u8]) -> Recoder
-        requires { length held.now ≤ 3 }
+        requires { length held.now ≤ most_held }
         ensures { result ≡ record (fresh from to) { held = held.now } }
     {
         let mut recoder = Recoder::new(from, to);
@@ -259,7 +260,7 @@ impl Recoder {
     pub(crate) fn forms(&self) -> (Form, Form)
         ensures from { result.0 ≡ self.now.from }
         ensures to { result.1 ≡ self.now.to }
-        ensures few { length self.now.held ≤ 3 }
+        ensures few { length self.now.held ≤ most_held }
     {
         // To read it tells a proof that few bytes are held.
         let _ = self.count;
@@ -269,7 +270,7 @@ impl Recoder {
     /// The bytes that were fed and are not converted yet: at most three.
     pub fn held(&self) -> &[u8]
         ensures bytes { result.now ≡ self.now.held }
-        ensures few { length result.now ≤ 3 }
+        ensures few { length result.now ≤ most_held }
     {
         self.held_bytes()
     }
@@ -288,7 +289,7 @@ impl Recoder {
     /// What `replaced` will be if the input ends now: the bytes that are held are then invalid, and become U+FFFD too.
     #[tactic(auto, using(crate::proofs::Advancing::counts_all))]
     pub fn replaced_at_end(&self) -> u64
-        ensures replaces { result ≡ min (2 ^ 64 - 1) (self.now.replaced + fault_count self.now.from self.now.held) }
+        ensures replaces { result ≡ saturated (self.now.replaced + fault_count self.now.from self.now.held) }
         ensures counts { result ≡ replaced_in_all self.now [] }
     {
         let count = faults_at_end(self.from, self.held_bytes());
@@ -306,13 +307,15 @@ impl Recoder {
     /// Cost: O(n) in what is read and written.
     pub fn feed_into(&mut self, part: &[u8], room: &mut [u8]) -> Progress
         ensures feeds { FeedsInto self.old part.now room.old room.new result.read result.written self.new }
-        ensures full { IsTrue result.is_full → IsFull self.new (self.new.held ++ drop result.read part.now) (length room.old - result.written) }
+        ensures full { IsTrue result.is_full →
+            IsFull self.new part.now result.read (length room.old - result.written) }
         ensures short { IsTrue result.is_full → length room.old < result.written + 4 }
         ensures read { IsFalse result.is_full → result.read ≡ length part.now }
         ensures waits { IsFalse result.is_full → Lacks self.old.from self.new.held }
         ensures moves { 4 ≤ length room.old → 0 < length part.now → 0 < result.read + result.written }
         ensures nearer { ComesNearer part.now room.old result.read self.old self.new }
-        ensures outcome { AddsOutcome self.old (take result.read part.now) (take result.written room.new) self.new }
+        ensures outcome { AddsOutcome self.old (take result.read part.now)
+            (take result.written room.new) self.new }
         ensures replaces { Replaces self.old (take result.read part.now) result.replaced self.new }
         ensures total { AddsUp self.old result.replaced self.new }
         ensures counts { KeepsCount self.old (take result.read part.now) self.new }
@@ -338,12 +341,15 @@ impl Recoder {
     // `feed_into` of what is held, with as many bytes of the part as it takes, until nothing is held. Faults are not counted yet.
     fn feed_held(&mut self, part: &[u8], room: &mut [u8]) -> Progress
         ensures feeds { FeedsInto self.old part.now room.old room.new result.read result.written self.new }
-        ensures full { IsTrue result.is_full → IsFull self.new (self.new.held ++ drop result.read part.now) (length room.old - result.written) }
+        ensures full { IsTrue result.is_full →
+            IsFull self.new part.now result.read (length room.old - result.written) }
         ensures short { IsTrue result.is_full → length room.old < result.written + 4 }
         ensures read { IsFalse result.is_full → 0 < length self.new.held → result.read ≡ length part.now }
-        ensures waits { IsFalse result.is_full → 0 < length self.new.held → Lacks self.old.from self.new.held }
+        ensures waits { IsFalse result.is_full → 0 < length self.new.held →
+            Lacks self.old.from self.new.held }
         ensures near { bytes_left part.now result.read self.new ≤ bytes_left part.now 0 self.old }
-        ensures nearer { 0 < result.read + result.written → bytes_left part.now result.read self.new < bytes_left part.now 0 self.old }
+        ensures nearer { 0 < result.read + result.written →
+            bytes_left part.now result.read self.new < bytes_left part.now 0 self.old }
         ensures replaces { Replaces self.old (take result.read part.now) result.replaced self.new }
         ensures uncounted { self.new.replaced ≡ self.old.replaced }
         ensures few { result.replaced ≤ result.read + 3 }
@@ -388,10 +394,10 @@ impl Recoder {
     /// any character.
     pub fn finish_into(&mut self, room: &mut [u8]) -> Progress
         ensures finishes { FinishesInto self.old room.old room.new result.written self.new }
-        ensures full { IsTrue result.is_full → IsLastFull self.new self.new.held (length room.old - result.written) }
+        ensures full { IsTrue result.is_full → IsLastFull self.new (length room.old - result.written) }
         ensures short { IsTrue result.is_full → length room.old < result.written + 4 }
         ensures all { IsFalse result.is_full → self.new.held ≡ [] }
-        ensures done { IsFalse result.is_full → (out : List ℕ) → Finishes self.old out (out ++ take result.written room.new) }
+        ensures done { IsFalse result.is_full → FinishesWith self.old (take result.written room.new) }
         ensures read { result.read ≡ 0 }
         ensures outcome { AddsLast self.old (take result.written room.new) self.new }
         ensures outcome_done { IsFalse result.is_full → AddsAll self.old (take result.written room.new) }

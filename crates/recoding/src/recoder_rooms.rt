@@ -1,7 +1,7 @@
 //! Runs over bytes, into room of a fixed size.
-ghost use Rattle.std.specs.Prelude.{◌≡◌, [], ◌+◌, ◌-◌, ◌<◌, ◌≤◌, length, take, drop, ◌++◌, IfSome, IfNone, IsTrue, IsFalse};
-ghost use Rattle.recoding.specs.Recoded.{written, Lacks};
-ghost use Rattle.recoding.specs.Faults.{Advances, fault_count};
+ghost use Rattle.std.specs.Prelude.{◌≡◌, ◌+◌, ◌-◌, ◌<◌, ◌≤◌, length, take, drop, ◌++◌, IfSome, IfNone, IsTrue, IsFalse};
+ghost use Rattle.recoding.specs.Recoded.{Lacks, most_held, written};
+ghost use Rattle.recoding.specs.Faults.{AdvancesBy, fault_count};
 ghost use Rattle.recoding.specs.NextScalars.{Settles};
 ghost use Rattle.recoding.specs.Rooms.{Fills, LastIsTooLong, Leaves, NextIsTooLong};
 
@@ -45,10 +45,12 @@ pub(crate) fn recode_into(
     ensures within { result.read ≤ length bytes.now }
     ensures ordered { place ≤ result.written }
     ensures fits { result.written ≤ length room.old }
-    ensures advances { Advances from to (take (result.read + 3) bytes.now) (take place room.old) (take result.written room.new) (take 3 (drop result.read bytes.now)) result.replaced }
+    ensures advances { AdvancesBy from to bytes.now (take place room.old)
+        (take result.written room.new) result.read result.replaced }
     ensures few { result.replaced ≤ result.read }
     ensures rest { drop result.written room.new ≡ drop result.written room.old }
-    ensures full { IsTrue result.is_full → NextIsTooLong from to (drop result.read bytes.now) (length room.old - result.written) }
+    ensures full { IsTrue result.is_full →
+        NextIsTooLong from to (drop result.read bytes.now) (length room.old - result.written) }
     ensures short { IsTrue result.is_full → length room.old < result.written + 4 }
     ensures waits { IsFalse result.is_full → length bytes.now ≤ result.read + 3 }
     ensures lacks { IsFalse result.is_full → Lacks from (drop result.read bytes.now) }
@@ -77,9 +79,11 @@ pub(crate) fn recode_last_into(from: Form, to: Form, bytes: &[u8], room: &mut [u
     ensures within { result.read ≤ length bytes.now }
     ensures fits { result.written ≤ length room.old }
     ensures leaves { Leaves from to bytes.now (take result.written room.new) (drop result.read bytes.now) }
-    ensures faults { fault_count from bytes.now ≡ result.replaced + fault_count from (drop result.read bytes.now) }
+    ensures faults { fault_count from bytes.now ≡
+        result.replaced + fault_count from (drop result.read bytes.now) }
     ensures rest { drop result.written room.new ≡ drop result.written room.old }
-    ensures full { IsTrue result.is_full → LastIsTooLong from to (drop result.read bytes.now) (length room.old - result.written) }
+    ensures full { IsTrue result.is_full →
+        LastIsTooLong from to (drop result.read bytes.now) (length room.old - result.written) }
     ensures short { IsTrue result.is_full → length room.old < result.written + 4 }
     ensures all { IsFalse result.is_full → result.read ≡ length bytes.now }
 {
@@ -102,9 +106,10 @@ pub(crate) fn recode_last_into(from: Form, to: Form, bytes: &[u8], room: &mut [u
 // tell it. `None` where all of them together are too few.
 pub(crate) fn next_of_both(from: Form, held: &[u8], rest: &[u8]) -> Option<(NextScalar, usize)>
     requires some { 0 < length held.now }
-    requires few { length held.now ≤ 3 }
+    requires few { length held.now ≤ most_held }
     ensures within { IfSome result (λ x. x.1 ≤ length rest.now) }
-    ensures settles { IfSome result (λ x. Settles from (held.now ++ take x.1 rest.now) x.0.c x.0.len x.0.faults) }
+    ensures settles { IfSome result
+        (λ x. Settles from (held.now ++ take x.1 rest.now) x.0.c x.0.len x.0.faults) }
     ensures near { IfSome result (λ x. length held.now + x.1 ≤ 4) }
     ensures none { IfNone result (length held.now + length rest.now ≤ 3) }
     ensures lacks { IfNone result (Lacks from (held.now ++ rest.now)) }

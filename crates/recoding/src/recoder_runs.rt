@@ -1,8 +1,9 @@
 //! Runs over bytes, into an output that has room for what comes of them.
 ghost use Rattle.std.specs.Prelude.{◌≡◌, ◌+◌, ◌≤◌, length, take, ◌++◌, min};
-ghost use Rattle.recoding.specs.Recoded.{Finishes, fresh};
+ghost use Rattle.recoding.specs.Recoded.{Finishes, fresh, most_held};
 ghost use Rattle.recoding.specs.Faults.{fault_count};
-ghost use Rattle.recoding.specs.OutputRuns.{HasRoomFor, RunsUntil};
+ghost use Rattle.recoding.specs.OutputRuns.{RunsUntil};
+ghost use Rattle.recoding.specs.Rooms.{HasRoomFor};
 
 use crate::engine::recode;
 use crate::form::Form;
@@ -83,10 +84,11 @@ pub(crate) fn recode_joined<A: Allocator>(
     part: &[u8],
     out: &mut Vec<u8, A>,
 ) -> Run
-    requires few { length held.now ≤ 3 }
+    requires few { length held.now ≤ most_held }
     requires room { HasRoomFor out.old (length held.now + length part.now) }
     ensures within { result.read ≤ length held.now + length part.now }
-    ensures runs { RunsUntil from to (held.now ++ part.now) out.old out.new (length held.now) result.read result.replaced }
+    ensures runs { RunsUntil from to (held.now ++ part.now) out.old out.new (length held.now)
+        result.read result.replaced }
 {
     if held.is_empty() {
         return Run {
@@ -101,7 +103,7 @@ pub(crate) fn recode_joined<A: Allocator>(
 // The held bytes and at most three that follow them.
 #[inline]
 pub(crate) fn join(held: &[u8], part: &[u8]) -> ([u8; 6], usize)
-    requires { length held.now ≤ 3 }
+    requires { length held.now ≤ most_held }
     ensures len { result.1 ≡ length held.now + min 3 (length part.now) }
     ensures bytes { take result.1 result.0 ≡ held.now ++ take 3 part.now }
 {

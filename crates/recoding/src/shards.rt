@@ -4,7 +4,7 @@ ghost use Rattle.utf_base.specs.Code.{utf8, utf16};
 ghost use Rattle.utf_base.specs.Piece.{Stands};
 ghost use Rattle.utf_lanes.specs.BytePairs.{units_of};
 ghost use Rattle.recoding.specs.RecodedBytes.{IsRecodedApart};
-ghost use Rattle.recoding.specs.Shards.{IsLastShardEnd, IsLastOutside, LiesOver, IsLastUnitsEnd};
+ghost use Rattle.recoding.specs.Shards.{BeginsNoPair, IsLastOutside, IsLastShardEnd, IsLastUnitsEnd, LiesOver};
 
 use crate::form::Form;
 use encode_unicode::CharExt;
@@ -72,7 +72,7 @@ fn units_end(high_first: bool, bytes: &[u8], at: usize) -> usize
 // Whether the code of two units begins the bytes.
 fn is_pair(high_first: bool, bytes: &[u8]) -> bool
     ensures yes { IsTrue result → LiesOver utf16 (units_of high_first bytes.now) 0 1 }
-    ensures no { IsFalse result → (s : ℕ) → Stands utf16 (units_of high_first bytes.now) 0 s → length (utf16 s) ≤ 1 }
+    ensures no { IsFalse result → BeginsNoPair (units_of high_first bytes.now) }
 {
     if bytes.len() < 4 {
         return false;

@@ -1,7 +1,8 @@
 //! Strict recoding of text that comes in parts: to the first faulty byte, and on from there.
-ghost use Rattle.std.specs.Prelude.{◌≡◌, ◌≢◌, ◌+◌, ◌-◌, ◌*◌, ◌<◌, ◌≤◌, [], length, drop, Some};
+ghost use Rattle.std.specs.Prelude.{◌≡◌, ◌≢◌, ◌+◌, ◌-◌, ◌<◌, ◌≤◌, [], length, drop, Some};
 ghost use Rattle.recoding.specs.FirstFaults.{TellsFirst, TellsFirstAtEnd};
-ghost use Rattle.recoding.specs.Rooms.{ComesNearer};
+ghost use Rattle.recoding.specs.Recoded.{most_held};
+ghost use Rattle.recoding.specs.Rooms.{ComesNearer, IsAmple, IsAmpleFor};
 ghost use Rattle.recoding.specs.Strict.{EndsRun, FeedsStrictly, FinishesStrictly, IsFirstPiece, PassesHeld};
 
 use crate::faults::{Fault, FaultKind, Outcome, StrictProgress};
@@ -41,7 +42,7 @@ impl Recoder {
         ensures feeds { FeedsStrictly self.old part.now room.old room.new result self.new }
         ensures read { result.outcome ≡ Outcome.AllRead → result.read ≡ length part.now }
         ensures short { result.outcome ≡ Outcome.Full → length room.old < result.written + 4 }
-        ensures enough { 3 * (length self.old.held + length part.now) ≤ length room.old → result.outcome ≢ Outcome.Full }
+        ensures enough { IsAmpleFor (length room.old) self.old part.now → result.outcome ≢ Outcome.Full }
         ensures nearer { ComesNearer part.now room.old result.read self.old self.new }
         ensures first { TellsFirst self.old part.now result self.new }
     {
@@ -139,7 +140,7 @@ impl Recoder {
         ensures read { result.read ≡ 0 }
         ensures all { result.outcome ≡ Outcome.AllRead → self.new.held ≡ [] }
         ensures short { result.outcome ≡ Outcome.Full → length room.old < result.written + 4 }
-        ensures enough { 3 * length self.old.held ≤ length room.old → result.outcome ≢ Outcome.Full }
+        ensures enough { IsAmple (length room.old) (length self.old.held) → result.outcome ≢ Outcome.Full }
         ensures first { TellsFirstAtEnd self.old result }
     {
         let (from, to) = self.forms();
@@ -188,7 +189,7 @@ fn held_run(read: usize, written: usize, outcome: Outcome) -> HeldRun
 // A fault of so many bytes, after which so many are held.
 fn faulty(kind: FaultKind, len: usize, held: usize) -> Outcome
     requires len { len ≤ 2 }
-    requires held { held ≤ 3 }
+    requires held { held ≤ most_held }
     ensures { result ≡ Outcome.Faulty (record { kind = kind; len = len; back = len + held }) }
 {
     Outcome::Faulty(Fault {

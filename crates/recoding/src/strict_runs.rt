@@ -30,7 +30,8 @@ pub(crate) fn run_strictly(
 ) -> StrictRun
     requires { place ≤ length room.old }
     ensures runs { RunsStrictly from to bytes.now room.old room.new place result.read result.written }
-    ensures stops { StopsAt from to (drop result.read bytes.now) (length room.old - result.written) result.first }
+    ensures stops { StopsAt from to (drop result.read bytes.now) (length room.old - result.written)
+        result.first }
 {
     let (ahead, end) = run_in_blocks(from, to, bytes, room, place);
     let run = run_by_pieces(from, to, &bytes[ahead..], room, end);
@@ -44,7 +45,8 @@ pub(crate) fn run_strictly(
 fn run_by_pieces(from: Form, to: Form, bytes: &[u8], room: &mut [u8], place: usize) -> StrictRun
     requires { place ≤ length room.old }
     ensures runs { RunsStrictly from to bytes.now room.old room.new place result.read result.written }
-    ensures stops { StopsAt from to (drop result.read bytes.now) (length room.old - result.written) result.first }
+    ensures stops { StopsAt from to (drop result.read bytes.now) (length room.old - result.written)
+        result.first }
 {
     let mut read = 0;
     let mut written = place;

@@ -6,7 +6,8 @@ use Rattle.std.proofs.lemmas.Nat.{and_mask}
 use Rattle.std.proofs.lemmas.Simd.{get_or-chunk, length-chunk}
 use Rattle.std.specs.Int.{bit_at}
 use lib.Lanes.{chunk}
-use Rattle.utf_lanes.specs.Utf8ToUtf16.{concat_range, ends_unit, low_half, high_half, unit_low, unit_high, halves, utf16_bytes_at, pair_at}
+use Rattle.utf_lanes.specs.Lanes.{AreBits, AreLanes, ArePairs, lane_of_two, lane_of_three, lane_of_four}
+use Rattle.utf_lanes.specs.Utf8ToUtf16.{concat_range, block_bytes, ends_unit, low_half, high_half, unit_low, unit_high, unit_low_at, unit_high_at, halves, halves_at, utf16_bytes_at, pair_at}
 use Rattle.utf_lanes.proofs.Joined.{joined_same, joined_none, joined_add, joined_moved}
 use Rattle.utf_lanes.proofs.LaneLemmas.{reach_mask, none_reach}
 use Rattle.utf_lanes.proofs.ChosenLanes.{where_below, where_below_len, where_below_at}
@@ -40,13 +41,13 @@ module _ (xs ys : List ℕ) (p : length xs ≡ 16) (q : length ys ≡ 16) where
       let back : j - 16 ≡ k = omega arith in
       ap₂ (λ x y. x ∷ y ∷ []) (get_or_append_left xs ys 0 k (omega (arith, p))) (get_or-append_right xs ys 16 j 0 p (omega arith) ∙ ap (λ n. get_or ys n 0) back)
 
-  pub first_pairs_at : (k : ℕ) → k < 8 → get_or first_pairs (2 * k) 0 ∷ get_or first_pairs (2 * k + 1) 0 ∷ [] ≡ get_or xs k 0 ∷ get_or ys k 0 ∷ []
+  pub first_pairs_at : ArePairs first_pairs (λ k. get_or xs k 0 ∷ get_or ys k 0 ∷ [])
   first_pairs_at =
       below_8 (λ k. get_or first_pairs (2 * k) 0 ∷ get_or first_pairs (2 * k + 1) 0 ∷ [] ≡ get_or xs k 0 ∷ get_or ys k 0 ∷ [])
       (both 0 16 (lit< tt) refl) (both 1 17 (lit< tt) refl) (both 2 18 (lit< tt) refl) (both 3 19 (lit< tt) refl)
       (both 4 20 (lit< tt) refl) (both 5 21 (lit< tt) refl) (both 6 22 (lit< tt) refl) (both 7 23 (lit< tt) refl)
 
-  pub last_pairs_at : (k : ℕ) → k < 8 → get_or last_pairs (2 * k) 0 ∷ get_or last_pairs (2 * k + 1) 0 ∷ [] ≡ get_or xs (8 + k) 0 ∷ get_or ys (8 + k) 0 ∷ []
+  pub last_pairs_at : ArePairs last_pairs (λ k. get_or xs (8 + k) 0 ∷ get_or ys (8 + k) 0 ∷ [])
   last_pairs_at =
       below_8 (λ k. get_or last_pairs (2 * k) 0 ∷ get_or last_pairs (2 * k + 1) 0 ∷ [] ≡ get_or xs (8 + k) 0 ∷ get_or ys (8 + k) 0 ∷ [])
       (both 8 24 (lit< tt) refl) (both 9 25 (lit< tt) refl) (both 10 26 (lit< tt) refl) (both 11 27 (lit< tt) refl)
@@ -65,12 +66,10 @@ kept_pair m i v pair true bit e = rw bit e
 kept_pair m i v pair false bit e = rw bit refl
 
 -- The lanes of one block.
-module _ (high_first : Bool) (xs : List ℕ) (place s : ℕ) (start : 3 ≤ place) (few : s < 16) (mask : ℕ) (low high front back : List ℕ)
-    (bits : (k : ℕ) → k < 16 → bit_at mask k ≡ cond (ends_unit (get_or xs (place - 1 + k) 0) (get_or xs (place + k) 0) && leb s k) 1 0)
-    (lows : (k : ℕ) → k < 16 → get_or low k 0 ≡ unit_low (get_or xs (place - 2 + k) 0) (get_or xs (place - 1 + k) 0) (get_or xs (place + k) 0))
-    (highs : (k : ℕ) → k < 16 → get_or high k 0 ≡ unit_high (get_or xs (place - 3 + k) 0) (get_or xs (place - 2 + k) 0) (get_or xs (place - 1 + k) 0) (get_or xs (place + k) 0))
-    (fronts : (k : ℕ) → k < 8 → get_or front (2 * k) 0 ∷ get_or front (2 * k + 1) 0 ∷ [] ≡ halves high_first (get_or low k 0) (get_or high k 0))
-    (backs : (k : ℕ) → k < 8 → get_or back (2 * k) 0 ∷ get_or back (2 * k + 1) 0 ∷ [] ≡ halves high_first (get_or low (8 + k) 0) (get_or high (8 + k) 0)) where
+module _ (high_first : Bool) (xs : List ℕ) (place s : ℕ) (start : 3 ≤ place) (few : s < 16) (mask : ℕ)
+    (bits : AreBits mask (λ k. ends_unit (get_or xs (place - 1 + k) 0) (get_or xs (place + k) 0) && leb s k)) {low high : List ℕ}
+    (lows : AreLanes low (unit_low_at xs place)) (highs : AreLanes high (unit_high_at xs place)) (front back : List ℕ)
+    (fronts : ArePairs front (halves_at high_first low high)) (backs : ArePairs back (λ k. halves_at high_first low high (8 + k))) where
   abbrev lane_given : ℕ → List ℕ
   lane_given k = cond (ends_unit (get_or xs (place - 1 + k) 0) (get_or xs (place + k) 0) && leb s k) (halves high_first (get_or low k 0) (get_or high k 0)) []
 
@@ -95,9 +94,9 @@ module _ (high_first : Bool) (xs : List ℕ) (place s : ℕ) (start : 3 ≤ plac
       let b : place - 3 + k + 1 ≡ place - 2 + k = omega arith in
       let c : place - 3 + k + 2 ≡ place - 1 + k = omega arith in
       let d : place - 3 + k + 3 ≡ place + k = omega arith in
-      rw (b, c, d) (keeps (ends_unit (get_or xs (place - 1 + k) 0) (get_or xs (place + k) 0)) k ge ∙ ap₂ (λ x y. cond (ends_unit (get_or xs (place - 1 + k) 0) (get_or xs (place + k) 0)) (halves high_first x y) []) (lows k lt) (highs k lt))
+      rw (b, c, d) (keeps (ends_unit (get_or xs (place - 1 + k) 0) (get_or xs (place + k) 0)) k ge ∙ ap₂ (λ x y. cond (ends_unit (get_or xs (place - 1 + k) 0) (get_or xs (place + k) 0)) (halves high_first x y) []) (lows.each k lt) (highs.each k lt))
 
-  pub block_given : concat_range (pair_at (bit_and mask 255) front) 0 8 ++ concat_range (pair_at (mask / 256) back) 0 8 ≡ concat_range (utf16_bytes_at high_first xs) (place - 3 + s) (16 - s)
+  pub block_given : concat_range (pair_at (bit_and mask 255) front) 0 8 ++ concat_range (pair_at (mask / 256) back) 0 8 ≡ block_bytes high_first xs place s
   block_given =
       let first = joined_same (pair_at (bit_and mask 255) front) lane_given 0 8 (λ i ge lt. front_pair i lt) in
       let second = joined_moved (pair_at (mask / 256) back) lane_given 0 8 8 (λ i lt. let at : 0 + i ≡ i = omega arith in rw at (back_pair i lt)) in
@@ -115,21 +114,23 @@ module _ (high_first : Bool) (xs : List ℕ) (place s : ℕ) (start : 3 ≤ plac
 -- Loads, and the bytes in them.
 
 module _ (xs : List ℕ) (place : ℕ) (fits : (k : ℕ) → Fits w8 (get_or xs k 0)) (start : 3 ≤ place) (within : place + 16 ≤ length xs) where
-  pub loaded_bits : (mask s : ℕ)
-      → ((k : ℕ) → k < 16 → bit_at mask k ≡ cond (ends_unit (get_or (chunk (place - 1) 16 xs) k 0) (get_or (chunk place 16 xs) k 0) && leb s k) 1 0)
-      → (k : ℕ) → k < 16 → bit_at mask k ≡ cond (ends_unit (get_or xs (place - 1 + k) 0) (get_or xs (place + k) 0) && leb s k) 1 0
+  pub loaded_bits : (mask s : ℕ) → AreBits mask (λ k. ends_unit (get_or (chunk (place - 1) 16 xs) k 0) (get_or (chunk place 16 xs) k 0) && leb s k)
+      → AreBits mask (λ k. ends_unit (get_or xs (place - 1 + k) 0) (get_or xs (place + k) 0) && leb s k)
   loaded_bits mask s bits k lt = rw (get_or-chunk (place - 1) 16 xs k 0 lt, get_or-chunk place 16 xs k 0 lt) at (bits k lt)
 
-  pub loaded_long_low : (low : List ℕ)
-      → ((k : ℕ) → k < 16 → get_or low k 0 ≡ unit_low (get_or (chunk (place - 2) 16 xs) k 0) (get_or (chunk (place - 1) 16 xs) k 0) (get_or (chunk place 16 xs) k 0))
-      → (k : ℕ) → k < 16 → get_or low k 0 ≡ unit_low (get_or xs (place - 2 + k) 0) (get_or xs (place - 1 + k) 0) (get_or xs (place + k) 0)
-  loaded_long_low low lows k lt = rw (get_or-chunk (place - 2) 16 xs k 0 lt, get_or-chunk (place - 1) 16 xs k 0 lt, get_or-chunk place 16 xs k 0 lt) at (lows k lt)
+  pub loaded_long_low : {low : List ℕ} → AreLanes low (lane_of_three unit_low (chunk (place - 2) 16 xs) (chunk (place - 1) 16 xs) (chunk place 16 xs)) → AreLanes low (unit_low_at xs place)
+  loaded_long_low lows = record {
+    wide = lows.wide;
+    each = λ k lt. rw (get_or-chunk (place - 2) 16 xs k 0 lt, get_or-chunk (place - 1) 16 xs k 0 lt, get_or-chunk place 16 xs k 0 lt) at (lows.each k lt);
+  }
 
-  pub loaded_long_high : (high : List ℕ)
-      → ((k : ℕ) → k < 16 → get_or high k 0 ≡ unit_high (get_or (chunk (place - 3) 16 xs) k 0) (get_or (chunk (place - 2) 16 xs) k 0) (get_or (chunk (place - 1) 16 xs) k 0) (get_or (chunk place 16 xs) k 0))
-      → (k : ℕ) → k < 16 → get_or high k 0 ≡ unit_high (get_or xs (place - 3 + k) 0) (get_or xs (place - 2 + k) 0) (get_or xs (place - 1 + k) 0) (get_or xs (place + k) 0)
-  loaded_long_high high highs k lt =
-      rw (get_or-chunk (place - 3) 16 xs k 0 lt, get_or-chunk (place - 2) 16 xs k 0 lt, get_or-chunk (place - 1) 16 xs k 0 lt, get_or-chunk place 16 xs k 0 lt) at (highs k lt)
+  pub loaded_long_high : {high : List ℕ}
+      → AreLanes high (lane_of_four unit_high (chunk (place - 3) 16 xs) (chunk (place - 2) 16 xs) (chunk (place - 1) 16 xs) (chunk place 16 xs)) → AreLanes high (unit_high_at xs place)
+  loaded_long_high highs = record {
+    wide = highs.wide;
+    each = λ k lt.
+        rw (get_or-chunk (place - 3) 16 xs k 0 lt, get_or-chunk (place - 2) 16 xs k 0 lt, get_or-chunk (place - 1) 16 xs k 0 lt, get_or-chunk place 16 xs k 0 lt) at (highs.each k lt);
+  }
 
   -- Where no byte begins a code of four.
 
@@ -164,14 +165,19 @@ module _ (xs : List ℕ) (place : ℕ) (fits : (k : ℕ) → Fits w8 (get_or xs 
   short_high : (a b c d : ℕ) → a < 0xF0 → b < 0xF0 → high_half b c d ≡ unit_high a b c d
   short_high a b c d la lb = grind (arith, common_steps)
 
-  pub loaded_low : longest_mask ≡ 0 → (low : List ℕ) → ((k : ℕ) → k < 16 → get_or low k 0 ≡ low_half (get_or (chunk (place - 1) 16 xs) k 0) (get_or (chunk place 16 xs) k 0))
-      → (k : ℕ) → k < 16 → get_or low k 0 ≡ unit_low (get_or xs (place - 2 + k) 0) (get_or xs (place - 1 + k) 0) (get_or xs (place + k) 0)
-  loaded_low none low lows k lt =
-      rw (get_or-chunk (place - 1) 16 xs k 0 lt, get_or-chunk place 16 xs k 0 lt) at (lows k lt) ∙ short_low (get_or xs (place - 2 + k) 0) (get_or xs (place - 1 + k) 0) (get_or xs (place + k) 0) (short_here none k lt).1
+  pub loaded_low : longest_mask ≡ 0 → {low : List ℕ} → AreLanes low (lane_of_two low_half (chunk (place - 1) 16 xs) (chunk place 16 xs)) → AreLanes low (unit_low_at xs place)
+  loaded_low none lows = record {
+    wide = lows.wide;
+    each = λ k lt.
+        rw (get_or-chunk (place - 1) 16 xs k 0 lt, get_or-chunk place 16 xs k 0 lt) at (lows.each k lt)
+        ∙ short_low (get_or xs (place - 2 + k) 0) (get_or xs (place - 1 + k) 0) (get_or xs (place + k) 0) (short_here none k lt).1;
+  }
 
-  pub loaded_high : longest_mask ≡ 0 → (high : List ℕ)
-      → ((k : ℕ) → k < 16 → get_or high k 0 ≡ high_half (get_or (chunk (place - 2) 16 xs) k 0) (get_or (chunk (place - 1) 16 xs) k 0) (get_or (chunk place 16 xs) k 0))
-      → (k : ℕ) → k < 16 → get_or high k 0 ≡ unit_high (get_or xs (place - 3 + k) 0) (get_or xs (place - 2 + k) 0) (get_or xs (place - 1 + k) 0) (get_or xs (place + k) 0)
-  loaded_high none high highs k lt =
-      rw (get_or-chunk (place - 2) 16 xs k 0 lt, get_or-chunk (place - 1) 16 xs k 0 lt, get_or-chunk place 16 xs k 0 lt) at (highs k lt)
-      ∙ short_high (get_or xs (place - 3 + k) 0) (get_or xs (place - 2 + k) 0) (get_or xs (place - 1 + k) 0) (get_or xs (place + k) 0) (short_here none k lt).0 (short_here none k lt).1
+  pub loaded_high : longest_mask ≡ 0 → {high : List ℕ} → AreLanes high (lane_of_three high_half (chunk (place - 2) 16 xs) (chunk (place - 1) 16 xs) (chunk place 16 xs))
+      → AreLanes high (unit_high_at xs place)
+  loaded_high none highs = record {
+    wide = highs.wide;
+    each = λ k lt.
+        rw (get_or-chunk (place - 2) 16 xs k 0 lt, get_or-chunk (place - 1) 16 xs k 0 lt, get_or-chunk place 16 xs k 0 lt) at (highs.each k lt)
+        ∙ short_high (get_or xs (place - 3 + k) 0) (get_or xs (place - 2 + k) 0) (get_or xs (place - 1 + k) 0) (get_or xs (place + k) 0) (short_here none k lt).0 (short_here none k lt).1;
+  }

@@ -6,7 +6,7 @@ use Rattle.std.proofs.lemmas.List.{take_at}
 use Rattle.std.specs.Int.{bit_at}
 use Rattle.utf_base.specs.Units.{is_leading_surrogate, is_trailing_surrogate, is_surrogate}
 use Rattle.utf_lanes.specs.Utf8ToUtf16.{concat_range}
-use Rattle.utf_lanes.specs.UnitCodes.{lane_unit, unit_code, code_at, AreText, lane_bytes, slot_at, first_byte, middle_byte, last_byte, lead_byte, second_byte, first_in_text, middle_in_text, last_in_text, nonzero_lead, lanes_at, WritesUnits}
+use Rattle.utf_lanes.specs.UnitCodes.{lane_unit, unit_code, code_at, AreText, lane_bytes, slot_at, first_byte, middle_byte, last_byte, lead_byte, second_byte, first_in_text, middle_in_text, last_in_text, nonzero_lead, lanes_at, Writes, WritesUnits}
 use Rattle.utf_lanes.proofs.Joined.{joined_add, joined_same, joined_moved, joined_1}
 use Rattle.utf_lanes.proofs.UnitBytes.{not_both, ascii_code, leading_code}
 use Rattle.utf_lanes.proofs.UnitSlots.{below_16, leading_is, surrogate_is}
@@ -136,13 +136,13 @@ module _ (u : ℕ → ℕ) (old new : List ℕ) (last : is_leading_surrogate (u 
       rw at (ap (take (length (old ++ concat_range (code_at u) 0 15))) split ∙ take_at (old ++ concat_range (code_at u) 0 15) (lead_byte (u 15) ∷ second_byte (u 15) ∷ []) (length (old ++ concat_range (code_at u) 0 15)) refl)
 
 -- bytes of all sixteen, written into room
-pub WritesUnits-all : (low high old new bytes : List ℕ) (at end : ℕ) → AreText (lane_unit low high) 16 → length new ≡ length old → take end new ≡ take at old ++ bytes
+pub WritesUnits-all : {low high old new bytes : List ℕ} {at end : ℕ} → AreText (lane_unit low high) 16 → Writes old new at end bytes
     → bytes ≡ concat_range (code_at (lane_unit low high)) 0 16 → end ≤ at + 48 → WritesUnits low high old new at 16 end
-WritesUnits-all low high old new bytes at end text len written codes fits = record {
+WritesUnits-all {old = old} {at = at} text written codes fits = record {
   most = omega arith;
   text = text;
-  len = len;
-  bytes = written ∙ ap (λ xs. take at old ++ xs) codes;
+  len = written.len;
+  bytes = written.front ∙ ap (λ xs. take at old ++ xs) codes;
   short = omega arith;
   fits = fits;
 }

@@ -9,7 +9,7 @@ use Rattle.std.specs.List.{prefix_len}
 use lib.Count.{count_trailing_zeros}
 use lib.Lanes.{zip2, sel_l, mask_l, top, Each1, chunk}
 use Rattle.utf_lanes.specs.AsciiTexts.{AreAscii}
-use Rattle.utf_lanes.specs.TextBlocks.{Follows, AllMayFollow, IsPair}
+use Rattle.utf_lanes.specs.TextBlocks.{Follows, AllMayFollow, ArePairsLeft, IsPair, ZerosFollow}
 use Rattle.utf_lanes.proofs.PairTables.{AreRight, tables_judge}
 
 -- sixteen bytes
@@ -87,8 +87,7 @@ module _ (high low here before block : List ℕ) (p : IsBlock before) (q : IsBlo
   pub pairs_len : length (zip2 bit_and (zip2 bit_and by_high by_low) by_here) ≡ 16
   pairs_len = wide bit_and (zip2 bit_and by_high by_low) by_here (wide bit_and by_high by_low long_high long_low) long_here
 
-  pub pair_lanes : AreRight high low here → (k : ℕ) → k < 16
-      → IsPair (get_or before k 0) (get_or block k 0) (get_or (zip2 bit_and (zip2 bit_and by_high by_low) by_here) k 0)
+  pub pair_lanes : AreRight high low here → ArePairsLeft before block (zip2 bit_and (zip2 bit_and by_high by_low) by_here)
   pair_lanes right k lt =
       rw (
         lane bit_and (zip2 bit_and by_high by_low) by_here (wide bit_and by_high by_low long_high long_low) long_here k lt,
@@ -163,8 +162,8 @@ has_to_fourth a b A B high =
     let both = bit_at_or (b - 0x60) (a - 0x70) 7 in
     omega arith
 
-lane_follows : (a b c d left : ℕ) → a < 256 → b < 256 → IsPair c d left → bit_xor (has_to a b) left ≡ 0 → Follows a b c d
-lane_follows a b c d left A B pair none = record {
+lane_follows : (a b : ℕ) {c d left : ℕ} → a < 256 → b < 256 → IsPair c d left → bit_xor (has_to a b) left ≡ 0 → Follows a b c d
+lane_follows a b A B pair none = record {
   early = λ low middle. pair.early (rw (has_to_not a b low middle) at none);
   third = λ high. pair.late (rw (has_to_third a b A B high) at none);
   fourth = λ high. pair.late (rw (has_to_fourth a b A B high) at none);
@@ -204,8 +203,7 @@ module _ (bytes : List ℕ) (place : ℕ) (fits : (k : ℕ) → Fits w8 (get_or 
           get_or-chunk (place - 3) 16 bytes k 0 lt,
         ) refl
 
-    pub faultless_follows : ((k : ℕ) → k < 16 → IsPair (get_or (chunk (place - 1) 16 bytes) k 0) (get_or (chunk place 16 bytes) k 0) (get_or left k 0))
-        → (k : ℕ) → k < 16 → get_or (faults left) k 0 ≡ 0 → AllMayFollow bytes (place + k) (place + k + 1)
+    pub faultless_follows : ArePairsLeft (chunk (place - 1) 16 bytes) (chunk place 16 bytes) left → ZerosFollow bytes place (faults left)
     faultless_follows pairs k lt none j least most =
         let zero : place - 3 + k ≡ j = omega arith in
         let one : place - 2 + k ≡ j + 1 = omega arith in
@@ -214,7 +212,7 @@ module _ (bytes : List ℕ) (place : ℕ) (fits : (k : ℕ) → Fits w8 (get_or 
         let pair : IsPair (get_or bytes (j + 2) 0) (get_or bytes (j + 3) 0) (get_or left k 0)
         = rw (get_or-chunk (place - 1) 16 bytes k 0 lt, get_or-chunk place 16 bytes k 0 lt, two, three) at (pairs k lt) in
         let wrong : bit_xor (has_to (get_or bytes j 0) (get_or bytes (j + 1) 0)) (get_or left k 0) ≡ 0 = rw (zero, one) at (sym (fault_at k lt) ∙ none) in
-        lane_follows _ _ _ _ _ ((fits j).fits) ((fits (j + 1)).fits) pair wrong
+        lane_follows _ _ ((fits j).fits) ((fits (j + 1)).fits) pair wrong
 
 -- Masks.
 

@@ -5,7 +5,9 @@ use Rattle.std.proofs.lemmas.Nat.{le_or_l, le_or_r}
 use Rattle.std.proofs.lemmas.Simd.{get_or-replicate, get_or-chunk, length-chunk, bitmask_splat, leading_from_mask_l}
 use lib.Lanes.{zip2, mask_l, top, chunk}
 use Rattle.utf_base.specs.Units.{is_leading_surrogate, is_trailing_surrogate}
-use Rattle.utf_lanes.specs.UnitBlocks.{AllPaired}
+use Rattle.std.specs.Prelude.{slice_index}
+use Rattle.utf_lanes.specs.Lanes.{ones_where}
+use Rattle.utf_lanes.specs.UnitBlocks.{AllPaired, ZerosPair}
 use Rattle.utf_lanes.proofs.LaneLemmas.{zero_before}
 use Rattle.utf_lanes.proofs.SameLanes.{wide_of, lane_of}
 use Rattle.utf_lanes.proofs.UnitPairs.{pair_lanes, pair_more}
@@ -38,9 +40,8 @@ module _ (us : List ℕ) (place : ℕ) (start : 1 ≤ place) (within : place + 8
   shifted : (n k : ℕ) → n + 8 ≤ length us → k < 8 → get_or (zip2 down (chunk n 8 us) (replicate 8 10)) k 0 ≡ get_or us (n + k) 0 / 1024
   shifted n k room lt = rw (lane_of 8 down (chunk n 8 us) (replicate 8 10) (length-chunk n 8 us room) refl k lt, get_or-chunk n 8 us k 0 lt, get_or-replicate {A = ℕ} 8 k 10 0 lt) refl
 
-  pub lanes_pair : (xs ys : List ℕ) → length xs ≡ 8 → length ys ≡ 8 → ((k : ℕ) → k < 8 → get_or xs k 0 ≡ cond (eqb (get_or here k 0) 55) 0xFFFF 0)
-      → ((k : ℕ) → k < 8 → get_or ys k 0 ≡ cond (eqb (get_or before k 0) 54) 0xFFFF 0)
-      → (k : ℕ) → k < 8 → get_or (zip2 bit_xor xs ys) k 0 ≡ 0 → AllPaired us (place + k) (place + k + 1)
+  pub lanes_pair : (xs ys : List ℕ) → length xs ≡ 8 → length ys ≡ 8 → ((k : ℕ) → k < 8 → get_or xs k 0 ≡ ones_where 0xFFFF here 55 k)
+      → ((k : ℕ) → k < 8 → get_or ys k 0 ≡ ones_where 0xFFFF before 54 k) → ZerosPair us place (slice_index (zip2 bit_xor xs ys))
   lanes_pair xs ys p q x y k lt none j least most =
       let at : place + k ≡ j + 1 = omega arith in
       let one : place - 1 + k ≡ j = omega arith in
@@ -62,10 +63,6 @@ pub unpaired_len : (xs ys : List ℕ) → length xs ≡ 8 → length ys ≡ 8 �
 unpaired_len xs ys p q = wide_of 8 bit_xor xs ys p q
 
 -- Four vectors at once.
-
--- the lanes that are 0 pair, from the place i on
-abbrev LanesPair : List ℕ → List ℕ → ℕ → Type 0
-LanesPair us v i = (k : ℕ) → k < 8 → get_or v k 0 ≡ 0 → AllPaired us (i + k) (i + k + 1)
 
 abbrev differ_mask : List ℕ → ℕ
 differ_mask v = mask_l (map (top 15) (zip2 (λ a b. cond (not (eqb a b)) 0xFFFF 0) v (replicate 8 0))) % 2 ^ 64
@@ -94,7 +91,7 @@ module _ (p q r s : List ℕ) (lp : length p ≡ 8) (lq : length q ≡ 8) (lr : 
       let s_le = le_or_r (get_or r k 0) (get_or s k 0) in
       (omega arith, omega arith, omega arith, omega arith)
 
-  pub all_pair : (us : List ℕ) (i : ℕ) → LanesPair us p i → LanesPair us q (i + 8) → LanesPair us r (i + 16) → LanesPair us s (i + 24) → differ_mask any ≡ 0 → AllPaired us i (i + 32)
+  pub all_pair : (us : List ℕ) (i : ℕ) → ZerosPair us i (slice_index p) → ZerosPair us (i + 8) (slice_index q) → ZerosPair us (i + 16) (slice_index r) → ZerosPair us (i + 24) (slice_index s) → differ_mask any ≡ 0 → AllPaired us i (i + 32)
   all_pair us i f g h e none =
       let zero = all_zero none in
       pair_more us i (i + 24) 8 (i + 32) (omega arith)

@@ -5,15 +5,15 @@ use Rattle.std.proofs.lemmas.List.{get_or-map, length-map}
 use Rattle.std.proofs.lemmas.Simd.{bitmask_splat, bit_mask_l, mask_l-lt, zip2_splat, zip2_splat_left}
 use Rattle.std.specs.Int.{bit_at}
 use lib.Lanes.{zip2, mask_l}
-use Rattle.utf_lanes.specs.Utf8ToUtf16.{concat_range}
-use Rattle.utf_lanes.specs.UnitCodes.{nonzero_lead, lane_bytes, slot_at, marked, row_bytes, row_slots, lanes_at}
+use Rattle.utf_lanes.specs.Lanes.{ArePairs}
+use Rattle.utf_lanes.specs.UnitCodes.{nonzero_lead, lane_bytes, slot_at, slots_of, marked, row_bytes, row_of, row_slots, lanes_at, lanes_of}
 use Rattle.utf_lanes.proofs.BlockUnits.{low_bit, high_bit}
 use Rattle.utf_lanes.proofs.Joined.{joined_halves}
 use Rattle.utf_lanes.proofs.LaneLemmas.{reach_mask}
 
--- The pairs of a vector: the first of each, and the second.
-abbrev ArePairs : List ℕ → (ℕ → ℕ) → (ℕ → ℕ) → Type 0
-ArePairs vs f g = (k : ℕ) → k < 8 → get_or vs (2 * k) 0 ∷ get_or vs (2 * k + 1) 0 ∷ [] ≡ f k ∷ g k ∷ []
+-- What the first and the second of each pair of a vector are.
+abbrev HasBoth : List ℕ → (ℕ → ℕ) → (ℕ → ℕ) → Type 0
+HasBoth vs f g = ArePairs vs (λ k. f k ∷ g k ∷ [])
 
 abbrev at_front : List ℕ → ℕ → ℕ
 at_front xs k = get_or xs k 0
@@ -26,7 +26,7 @@ abbrev lane_at : Bool → (ℕ → ℕ) → (ℕ → ℕ) → ℕ → List ℕ
 lane_at true f g i = nonzero_lead (f i) ++ (g i ∷ [])
 lane_at false f g i = lane_bytes (f (2 * i)) (f (2 * i + 1)) (g (2 * i))
 
-module _ (vs : List ℕ) (f g : ℕ → ℕ) (pairs : ArePairs vs f g) where
+module _ (vs : List ℕ) (f g : ℕ → ℕ) (pairs : HasBoth vs f g) where
   pair_first : (k : ℕ) → k < 8 → get_or vs (2 * k) 0 ≡ f k
   pair_first k lt = ap (λ l. get_or l 0 0) (pairs k lt)
 
@@ -65,7 +65,7 @@ marked_kept m i b bit = rw bit (either (leb 0x80 b) (ltb b 0x80) refl refl)
     either false false e f = grind (arith, common_steps)
 
 -- The slots of one vector, by a mask that says which bytes are kept.
-module _ (m : ℕ) (vs : List ℕ) (f g : ℕ → ℕ) (pairs : ArePairs vs f g) (bits : (k : ℕ) → k < 8 → bit_at m k ≡ cond (leb 0x80 (f k)) 1 0) where
+module _ (m : ℕ) (vs : List ℕ) (f g : ℕ → ℕ) (pairs : HasBoth vs f g) (bits : (k : ℕ) → k < 8 → bit_at m k ≡ cond (leb 0x80 (f k)) 1 0) where
   row_is : (short : Bool) (i : ℕ) → i < row_slots short → row_bytes short m vs i ≡ lane_at short f g i
   row_is true i lt = rw (pair_first vs f g pairs i lt, pair_second vs f g pairs i lt) (ap (λ xs. xs ++ (g i ∷ [])) (marked_kept m i (f i) (bits i lt)))
   -- slots of four bytes are pairs of pairs
@@ -82,7 +82,7 @@ module _ (m : ℕ) (vs : List ℕ) (f g : ℕ → ℕ) (pairs : ArePairs vs f g)
       (marked_kept m (2 * i + 1) (f (2 * i + 1)) (bits (2 * i + 1) (omega arith))))
 
 -- Those of two, by a mask whose halves say so of each.
-module _ (fronts lasts vs ws : List ℕ) (long : length fronts ≡ 16) (pairs : ArePairs vs (at_front fronts) (at_front lasts)) (more : ArePairs ws (at_back fronts) (at_back lasts)) (short : Bool) where
+module _ (fronts lasts vs ws : List ℕ) (long : length fronts ≡ 16) (pairs : HasBoth vs (at_front fronts) (at_front lasts)) (more : HasBoth ws (at_back fronts) (at_back lasts)) (short : Bool) where
   front_row : (i : ℕ) → i < row_slots short → row_bytes short (bit_and (reach_mask 0x80 fronts) 255) vs i ≡ lanes_at short fronts lasts i
   front_row i lt =
       row_is (bit_and (reach_mask 0x80 fronts) 255) vs (at_front fronts) (at_front lasts) pairs (λ k lt. low_bit (reach_mask 0x80 fronts) k lt ∙ high_bits fronts long k (omega arith)) short i lt
@@ -104,17 +104,16 @@ module _ (fronts lasts vs ws : List ℕ) (long : length fronts ≡ 16) (pairs : 
           let b : 8 + (2 * i + 1) ≡ 2 * (4 + i) + 1 = omega arith in
           ap₂ (λ p q. lane_bytes (get_or fronts p 0) (get_or fronts q 0) (get_or lasts p 0)) a b
 
-  pub rows_joined : concat_range (row_bytes short (bit_and (reach_mask 0x80 fronts) 255) vs) 0 (row_slots short) ++ concat_range (row_bytes short (reach_mask 0x80 fronts / 256) ws) 0 (row_slots short)
-      ≡ concat_range (lanes_at short fronts lasts) 0 (row_slots short + row_slots short)
+  pub rows_joined : row_of short (bit_and (reach_mask 0x80 fronts) 255) vs ++ row_of short (reach_mask 0x80 fronts / 256) ws ≡ lanes_of short fronts lasts
   rows_joined = joined_halves _ _ _ (row_slots short) front_row back_row
 
 -- Sixteen slots in three vectors.
-module _ (firsts middles lasts fronts more_fronts ends more_ends : List ℕ) (front : ArePairs fronts (at_front firsts) (at_front middles))
-    (more_front : ArePairs more_fronts (at_back firsts) (at_back middles)) (end : ArePairs ends (at_front lasts) (at_front lasts)) (more_end : ArePairs more_ends (at_back lasts) (at_back lasts)) where
-  slots_at : (vs zs : List ℕ) (f g h : ℕ → ℕ) → ArePairs vs f g → ArePairs zs h h → (k : ℕ) → k < 8 → lanes_at false vs zs k ≡ lane_bytes (f k) (g k) (h k)
+module _ (firsts middles lasts fronts more_fronts ends more_ends : List ℕ) (front : HasBoth fronts (at_front firsts) (at_front middles))
+    (more_front : HasBoth more_fronts (at_back firsts) (at_back middles)) (end : HasBoth ends (at_front lasts) (at_front lasts)) (more_end : HasBoth more_ends (at_back lasts) (at_back lasts)) where
+  slots_at : (vs zs : List ℕ) (f g h : ℕ → ℕ) → HasBoth vs f g → HasBoth zs h h → (k : ℕ) → k < 8 → lanes_at false vs zs k ≡ lane_bytes (f k) (g k) (h k)
   slots_at vs zs f g h p e k lt = rw (pair_first vs f g p k lt, pair_second vs f g p k lt, pair_first zs h h e k lt) refl
 
-  pub sixteen_slots : concat_range (lanes_at false fronts ends) 0 8 ++ concat_range (lanes_at false more_fronts more_ends) 0 8 ≡ concat_range (slot_at firsts middles lasts) 0 16
+  pub sixteen_slots : lanes_of false fronts ends ++ lanes_of false more_fronts more_ends ≡ slots_of firsts middles lasts
   sixteen_slots =
       joined_halves (lanes_at false fronts ends) (lanes_at false more_fronts more_ends) (slot_at firsts middles lasts) 8
       (slots_at fronts ends (at_front firsts) (at_front middles) (at_front lasts) front end)

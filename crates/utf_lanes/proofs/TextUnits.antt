@@ -10,6 +10,7 @@ use Rattle.utf_base.specs.Scalar.{IsScalar}
 use Rattle.utf_base.proofs.Utf8Code.{utf8-1, utf8-2, utf8-3, utf8-4}
 use Rattle.utf_base.proofs.Utf16Code.{utf16-1, utf16-2}
 use Rattle.utf_lanes.specs.BytePairs.{bytes_of}
+use Rattle.utf_lanes.specs.UnitCodes.{Writes}
 use Rattle.utf_lanes.specs.Utf8ToUtf16.{concat_range, utf16_bytes, utf16_bytes_at, ends_unit, halves, unit_low, unit_high}
 use Rattle.utf_lanes.proofs.Joined.{joined_add, joined_moved, joined_same, joined_1, joined_2, joined_3, joined_4}
 
@@ -54,8 +55,11 @@ given_more high xs old mid new p m q n t e f at sum =
     f ∙ ap (λ ys. ys ++ utf16_bytes high xs q n) e ∙ append_assoc old (utf16_bytes high xs p m) (utf16_bytes high xs q n)
     ∙ ap (λ ys. old ++ ys) (ap (λ ys. utf16_bytes high xs p m ++ ys) (sym next) ∙ sym whole ∙ ap (utf16_bytes high xs p) sum)
 
-pub two_halves : (old mid new first second all : List ℕ) → mid ≡ old ++ first → new ≡ mid ++ second → first ++ second ≡ all → new ≡ old ++ all
-two_halves old mid new first second all e f g = f ∙ ap (λ ys. ys ++ second) e ∙ append_assoc old first second ∙ ap (λ ys. old ++ ys) g
+pub Writes-then : {old mid new first second all : List ℕ} {at middle end : ℕ} → Writes old mid at middle first → Writes mid new middle end second → first ++ second ≡ all → Writes old new at end all
+Writes-then {old} {mid} {new} {first} {second} {all} {at} f g e = record {
+  len = g.len ∙ f.len;
+  front = g.front ∙ ap (λ ys. ys ++ second) f.front ∙ append_assoc (take at old) first second ∙ ap (λ ys. take at old ++ ys) e;
+}
 
 -- One code.
 

@@ -7,7 +7,8 @@ use Rattle.std.proofs.lemmas.Grind.{common_steps}
 use Rattle.std.proofs.lemmas.List.{get_or-map, length-map}
 use Rattle.std.specs.Int.{bit_at}
 use lib.Lanes.{zip2, mask_l, top}
-use Rattle.utf_lanes.specs.Utf8ToUtf16.{ends_unit, low_half, high_half, leading_low, leading_high, trailing_high, continued_byte}
+use Rattle.utf_lanes.specs.Lanes.{AreBits, AreLanes, lane_of_two, lane_of_three, lane_of_four}
+use Rattle.utf_lanes.specs.Utf8ToUtf16.{ends_unit, low_half, high_half, unit_low, unit_high, leading_low, leading_high, trailing_high, continued_byte}
 use Rattle.utf_lanes.proofs.LaneLemmas.{IsBlock, wide, lane, lane_with, excess, excess_len, excess_at}
 use Rattle.utf_lanes.proofs.ChosenLanes.{wide_with, where_below, where_below_len, where_below_at}
 
@@ -52,8 +53,7 @@ module _ (before here : List ℕ) (p : IsBlock before) (q : IsBlock here) where
       let below : mask_l (map (λ x. ltb x 0xC0) (later before here)) < 2 ^ 16 = rw long at most in
       omega (arith, mask_is, and_le_l (giving_mask before here) ((2 ^ 64 - 1) * 2 ^ s % 2 ^ 64))
 
-  pub giving_bits : (s : ℕ) → s < 16 → (k : ℕ) → k < 16
-      → bit_at (bit_and (giving_mask before here) ((2 ^ 64 - 1) * 2 ^ s % 2 ^ 64)) k ≡ cond (ends_unit (get_or before k 0) (get_or here k 0) && leb s k) 1 0
+  pub giving_bits : (s : ℕ) → s < 16 → AreBits (bit_and (giving_mask before here) ((2 ^ 64 - 1) * 2 ^ s % 2 ^ 64)) (λ k. ends_unit (get_or before k 0) (get_or here k 0) && leb s k)
   giving_bits s few k lt =
       rw (bit_at_and (giving_mask before here) ((2 ^ 64 - 1) * 2 ^ s % 2 ^ 64) k, ones_shl 64 s (omega arith), mask_bit k lt)
       (both (ends_unit (get_or before k 0) (get_or here k 0)) (leb s k) refl)
@@ -213,8 +213,9 @@ trailing_at first q k lt =
     (trailing_is (get_or first k 0))
 
 -- Where some units may be surrogates.
-module _ (third second low high leading_l leading_h trailing : List ℕ) (t : length third ≡ 16) (u : length second ≡ 16) (l : length low ≡ 16) (h : length high ≡ 16)
-    (ll : length leading_l ≡ 16) (lh : length leading_h ≡ 16) (tr : length trailing ≡ 16) where
+module _ (third second first here : List ℕ) (t : length third ≡ 16) (u : length second ≡ 16) {low high leading_l leading_h trailing : List ℕ}
+    (l : AreLanes low (lane_of_two low_half first here)) (h : AreLanes high (lane_of_three high_half second first here)) (ll : AreLanes leading_l (lane_of_two leading_low first here))
+    (lh : AreLanes leading_h (lane_of_three leading_high second first here)) (tr : AreLanes trailing (λ k. trailing_high (get_or first k 0))) where
   abbrev chosen_lows : List ℕ
   chosen_lows = where_below second (replicate 16 0xF0) low leading_l
 
@@ -225,22 +226,25 @@ module _ (third second low high leading_l leading_h trailing : List ℕ) (t : le
   chosen_highs = where_below second (replicate 16 0xF0) shorter leading_h
 
   shorter_len : length shorter ≡ 16
-  shorter_len = where_below_len third (replicate 16 0xF0) high trailing t refl h tr
+  shorter_len = where_below_len third (replicate 16 0xF0) high trailing t refl h.wide tr.wide
 
-  pub chosen_lows_len : length chosen_lows ≡ 16
-  chosen_lows_len = where_below_len second (replicate 16 0xF0) low leading_l u refl l ll
+  pub chosen_lows_are : AreLanes chosen_lows (lane_of_three unit_low second first here)
+  chosen_lows_are = record {
+    wide = where_below_len second (replicate 16 0xF0) low leading_l u refl l.wide ll.wide;
+    each = λ k lt.
+        rw (where_below_at second (replicate 16 0xF0) low leading_l u refl l.wide ll.wide k lt, get_or-replicate {A = ℕ} 16 k 0xF0 0 lt, l.each k lt, ll.each k lt) refl;
+  }
 
-  pub chosen_highs_len : length chosen_highs ≡ 16
-  chosen_highs_len = where_below_len second (replicate 16 0xF0) shorter leading_h u refl shorter_len lh
-
-  pub chosen_low_at : (k : ℕ) → k < 16 → get_or chosen_lows k 0 ≡ cond (ltb (get_or second k 0) 0xF0) (get_or low k 0) (get_or leading_l k 0)
-  chosen_low_at k lt = rw (where_below_at second (replicate 16 0xF0) low leading_l u refl l ll k lt, get_or-replicate {A = ℕ} 16 k 0xF0 0 lt) refl
-
-  pub chosen_high_at : (k : ℕ) → k < 16
-      → get_or chosen_highs k 0 ≡ cond (ltb (get_or second k 0) 0xF0) (cond (ltb (get_or third k 0) 0xF0) (get_or high k 0) (get_or trailing k 0)) (get_or leading_h k 0)
-  chosen_high_at k lt =
-      rw (
-        where_below_at second (replicate 16 0xF0) shorter leading_h u refl shorter_len lh k lt,
-        where_below_at third (replicate 16 0xF0) high trailing t refl h tr k lt,
-        get_or-replicate {A = ℕ} 16 k 0xF0 0 lt,
-      ) refl
+  pub chosen_highs_are : AreLanes chosen_highs (lane_of_four unit_high third second first here)
+  chosen_highs_are = record {
+    wide = where_below_len second (replicate 16 0xF0) shorter leading_h u refl shorter_len lh.wide;
+    each = λ k lt.
+        rw (
+          where_below_at second (replicate 16 0xF0) shorter leading_h u refl shorter_len lh.wide k lt,
+          where_below_at third (replicate 16 0xF0) high trailing t refl h.wide tr.wide k lt,
+          get_or-replicate {A = ℕ} 16 k 0xF0 0 lt,
+          h.each k lt,
+          lh.each k lt,
+          tr.each k lt,
+        ) refl;
+  }

@@ -5,10 +5,10 @@ use Rattle.std.proofs.lemmas.Grind.{common_steps}
 use Rattle.std.proofs.lemmas.Simd.{get_or-chunk, length-chunk}
 use lib.Lanes.{zip2, chunk}
 use Rattle.utf_base.specs.Units.{is_leading_surrogate, is_trailing_surrogate}
-use Rattle.utf_lanes.specs.BytePairs.{unit_of, units_of}
-use Rattle.utf_lanes.specs.UnitBlocks.{AllPaired}
-use Rattle.utf_lanes.specs.BytePairs.{high_place}
-use Rattle.utf_lanes.proofs.LaneLemmas.{wide, lane}
+use Rattle.utf_lanes.specs.BytePairs.{unit_of, units_of, high_byte, high_place}
+use Rattle.utf_lanes.specs.Lanes.{AreLanes, ones_where}
+use Rattle.utf_lanes.specs.UnitBlocks.{AllPaired, ZerosPair}
+use Rattle.utf_lanes.proofs.LaneLemmas.{lane}
 use Rattle.utf_lanes.proofs.PairTables.{at_each}
 
 -- Units by their bytes.
@@ -58,7 +58,7 @@ module _ (high : Bool) (bytes : List ℕ) (fits : (k : ℕ) → Fits w8 (get_or 
   trails_at false j m at lt = rw (at, unit_at false bytes j lt) (trails (get_or bytes (2 * j + 1) 0) (get_or bytes (2 * j) 0) (fits (2 * j + 1)).fits (fits (2 * j)).fits)
 
   module _ (place : ℕ) (start : 1 ≤ place) (within : 2 * place + 16 ≤ length bytes) (bits : List ℕ) (long : length bits ≡ 16)
-      (upper_six : (k : ℕ) → k < 8 → get_or bits (2 * k + high_place high) 0 ≡ 0xFC) where
+      (upper_six : (k : ℕ) → k < 8 → high_byte high bits k ≡ 0xFC) where
     abbrev here : List ℕ
     here = zip2 bit_and (chunk (2 * place) 16 bytes) bits
 
@@ -69,13 +69,8 @@ module _ (high : Bool) (bytes : List ℕ) (fits : (k : ℕ) → Fits w8 (get_or 
     masked n i k room at lt inside =
         rw (lane bit_and (chunk n 16 bytes) bits (length-chunk n 16 bytes room) long i inside, get_or-chunk n 16 bytes i 0 inside) (ap (bit_and (get_or bytes (n + i) 0)) (rw (sym at) at (upper_six k lt)))
 
-    pub unpaired_len : (xs ys : List ℕ) → length xs ≡ 16 → length ys ≡ 16 → length (zip2 bit_xor xs ys) ≡ 16
-    unpaired_len xs ys p q = wide bit_xor xs ys p q
-
-    pub lanes_pair : (xs ys : List ℕ) → length xs ≡ 16 → length ys ≡ 16 → ((k : ℕ) → k < 16 → get_or xs k 0 ≡ cond (eqb (get_or here k 0) 0xDC) 255 0)
-        → ((k : ℕ) → k < 16 → get_or ys k 0 ≡ cond (eqb (get_or before k 0) 0xD8) 255 0)
-        → (k : ℕ) → k < 8 → get_or (zip2 bit_xor xs ys) (2 * k + high_place high) 0 ≡ 0 → AllPaired (units_of high bytes) (place + k) (place + k + 1)
-    lanes_pair xs ys p q x y k lt none j least most =
+    pub lanes_pair : {xs ys : List ℕ} → AreLanes xs (ones_where 255 here 0xDC) → AreLanes ys (ones_where 255 before 0xD8) → ZerosPair (units_of high bytes) place (high_byte high (zip2 bit_xor xs ys))
+    lanes_pair {xs} {ys} x y k lt none j least most =
         let below = place_below high in
         let i = 2 * k + high_place high in
         let inside : i < 16 = omega arith in
@@ -83,9 +78,9 @@ module _ (high : Bool) (bytes : List ℕ) (fits : (k : ℕ) → Fits w8 (get_or 
         let l = leads_at high j (2 * place - 2 + i) (omega arith) (omega arith) in
         let e : bit_xor (cond (is_trailing_surrogate (get_or (units_of high bytes) (j + 1) 0)) 255 0) (cond (is_leading_surrogate (get_or (units_of high bytes) j 0)) 255 0) ≡ 0
         = rw (
-          lane bit_xor xs ys p q i inside,
-          x i inside,
-          y i inside,
+          lane bit_xor xs ys x.wide y.wide i inside,
+          x.each i inside,
+          y.each i inside,
           masked (2 * place) i k (omega arith) refl lt inside,
           masked (2 * place - 2) i k (omega arith) refl lt inside,
           t,
@@ -107,5 +102,5 @@ pair_more us i j n m at front each = rw at at (pair_on us i j (j + n) front (pai
 
 -- none before the first lane that is not 0
 pub pair_before : (high : Bool) (us v : List ℕ) (i r : ℕ) → r ≤ 16 → ((k : ℕ) → k < r → get_or v k 0 ≡ 0)
-    → ((k : ℕ) → k < 8 → get_or v (2 * k + high_place high) 0 ≡ 0 → AllPaired us (i + k) (i + k + 1)) → AllPaired us i (i + r / 2)
+    → ZerosPair us i (high_byte high v) → AllPaired us i (i + r / 2)
 pair_before high us v i r most none each = pair_lanes us i (r / 2) (λ k lt. let below = place_below high in each k (omega arith) (none (2 * k + high_place high) (omega arith)))

@@ -9,8 +9,9 @@ use Rattle.std.proofs.lemmas.Simd.{get_or-replicate, get_or-chunk, length-chunk,
 use Rattle.std.specs.Int.{bit_at}
 use lib.Lanes.{zip2, sel_l, mask_l, top, chunk}
 use Rattle.utf_base.specs.Units.{is_leading_surrogate, is_surrogate}
-use Rattle.utf_lanes.specs.BytePairs.{unit_of}
-use Rattle.utf_lanes.specs.UnitCodes.{lane_unit, AreLanes, first_byte, middle_byte, last_byte, lead_byte, second_byte, third_byte, first_in_text, middle_in_text, last_in_text}
+use Rattle.utf_lanes.specs.Lanes.{AreLanes}
+use Rattle.utf_lanes.specs.BytePairs.{unit_number}
+use Rattle.utf_lanes.specs.UnitCodes.{lane_unit, lane_after, first_byte, middle_byte, last_byte, lead_byte, second_byte, third_byte, first_in_text, middle_in_text, last_in_text}
 use Rattle.utf_lanes.proofs.BlockUnits.{below_8}
 use Rattle.utf_lanes.proofs.ChosenLanes.{wide_with}
 use Rattle.utf_lanes.proofs.UnitLanes.{added, up, down}
@@ -296,9 +297,9 @@ module _ (low high : List ℕ) (p : IsBlock low) (q : IsBlock high) where
         (third_is (get_or before k 0) (get_or high k 0) (get_or low k 0) (lane_fits high k q lt) (lane_fits low k p lt))
 
 -- Where some units may be surrogates.
-module _ (low high before first middle last lead second third : List ℕ) (p : IsBlock low) (q : IsBlock high) (f : AreLanes first (λ k. first_byte (lane_unit low high k)))
+module _ (low high before : List ℕ) {first middle last lead second third : List ℕ} (p : IsBlock low) (q : IsBlock high) (f : AreLanes first (λ k. first_byte (lane_unit low high k)))
     (m : AreLanes middle (λ k. middle_byte (lane_unit low high k))) (l : AreLanes last (λ k. last_byte (lane_unit low high k))) (d : AreLanes lead (λ k. lead_byte (lane_unit low high k)))
-    (s : AreLanes second (λ k. second_byte (lane_unit low high k))) (t : AreLanes third (λ k. third_byte (get_or before k 0) (lane_unit low high k))) where
+    (s : AreLanes second (λ k. second_byte (lane_unit low high k))) (t : AreLanes third (lane_after third_byte before low high)) where
   abbrev eighths : List ℕ
   eighths = zip2 down high (replicate 16 3)
 
@@ -338,7 +339,7 @@ module _ (low high before first middle last lead second third : List ℕ) (p : I
     each = λ k lt. rw (where_passed_at eqb eighths 0x1B (replicate 16 0) first eighths_len refl f.wide k lt, eighth k lt, get_or-replicate {A = ℕ} 16 k 0 0 lt, f.each k lt) refl;
   }
 
-  pub text_middles_are : AreLanes text_middles (λ k. middle_in_text (get_or before k 0) (lane_unit low high k))
+  pub text_middles_are : AreLanes text_middles (lane_after middle_in_text before low high)
   text_middles_are = record {
     wide = where_passed_len eqb fourths 0x36 lead paired fourths_len d.wide paired_len;
     each = λ k lt.
@@ -403,8 +404,8 @@ module _ (xs : List ℕ) (enough : 32 ≤ length xs) where
   odds_at : (k : ℕ) → k < 16 → get_or odds k 0 ≡ get_or xs (2 * k + 1) 0
   odds_at = below_16 (λ i. get_or odds i 0 ≡ get_or xs (2 * i + 1) 0) (both_at 1 (lit< tt)) (both_at 3 (lit< tt)) (both_at 5 (lit< tt)) (both_at 7 (lit< tt)) (both_at 9 (lit< tt)) (both_at 11 (lit< tt)) (both_at 13 (lit< tt)) (both_at 15 (lit< tt)) (both_at 17 (lit< tt)) (both_at 19 (lit< tt)) (both_at 21 (lit< tt)) (both_at 23 (lit< tt)) (both_at 25 (lit< tt)) (both_at 27 (lit< tt)) (both_at 29 (lit< tt)) (both_at 31 (lit< tt))
 
-  pub high_first_units : (k : ℕ) → k < 16 → lane_unit odds evens k ≡ unit_of true (get_or xs (2 * k) 0) (get_or xs (2 * k + 1) 0)
+  pub high_first_units : (k : ℕ) → k < 16 → lane_unit odds evens k ≡ unit_number true xs k
   high_first_units k lt = ap₂ (λ a b. a * 256 + b) (evens_at k lt) (odds_at k lt)
 
-  pub low_first_units : (k : ℕ) → k < 16 → lane_unit evens odds k ≡ unit_of false (get_or xs (2 * k) 0) (get_or xs (2 * k + 1) 0)
+  pub low_first_units : (k : ℕ) → k < 16 → lane_unit evens odds k ≡ unit_number false xs k
   low_first_units k lt = ap₂ (λ a b. a * 256 + b) (odds_at k lt) (evens_at k lt)

@@ -1,3 +1,4 @@
+pub mod Lanes
 pub mod BytePairs
 pub mod AsciiTexts
 pub mod TextBlocks

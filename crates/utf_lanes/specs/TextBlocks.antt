@@ -30,6 +30,10 @@ pub record Follows (a b c d : ℕ) : Type 0 where
 abbrev pub AllMayFollow : List ℕ → ℕ → ℕ → Type 0
 AllMayFollow xs i j = (k : ℕ) → i ≤ k + 3 → k + 3 < j → Follows (slice_index xs k) (slice_index xs (k + 1)) (slice_index xs (k + 2)) (slice_index xs (k + 3))
 
+-- a lane that is 0 tells so of the byte of its number, counted from the place i on
+abbrev pub ZerosFollow : List ℕ → ℕ → List ℕ → Type 0
+ZerosFollow xs i v = (k : ℕ) → k < 16 → slice_index v k ≡ 0 → AllMayFollow xs (i + k) (i + k + 1)
+
 -- the three bytes before the place ask for no more
 abbrev pub EndsCharacter : List ℕ → ℕ → Type 0
 EndsCharacter xs i = (k : ℕ) → k + 3 ≡ i → (slice_index xs k < 0xF0) × (slice_index xs (k + 1) < 0xE0) × (slice_index xs (k + 2) < 0xC0)
@@ -38,3 +42,7 @@ EndsCharacter xs i = (k : ℕ) → k + 3 ≡ i → (slice_index xs k < 0xF0) × 
 pub record IsPair (c d left : ℕ) : Type 0 where
   pub early : bit_xor 0 left ≡ 0 → MayFollow c d
   pub late : bit_xor 0x80 left ≡ 0 → IsContinuation c × IsContinuation d
+
+-- each lane of `left` is what look-ups leave of the byte in that lane of `here`, after the one in that of `before`
+abbrev pub ArePairsLeft : List ℕ → List ℕ → List ℕ → Type 0
+ArePairsLeft before here left = (k : ℕ) → k < 16 → IsPair (slice_index before k) (slice_index here k) (slice_index left k)

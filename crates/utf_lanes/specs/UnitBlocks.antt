@@ -9,6 +9,10 @@ use Rattle.utf_lanes.specs.BytePairs.{units_of}
 abbrev pub AllPaired : List ℕ → ℕ → ℕ → Type 0
 AllPaired us i j = (k : ℕ) → i ≤ k + 1 → k + 1 < j → is_leading_surrogate (slice_index us k) ≡ is_trailing_surrogate (slice_index us (k + 1))
 
+-- a lane that is 0 tells so of the unit of its number, counted from the place i on
+abbrev pub ZerosPair : List ℕ → ℕ → (ℕ → ℕ) → Type 0
+ZerosPair us i lane = (k : ℕ) → k < 8 → lane k ≡ 0 → AllPaired us (i + k) (i + k + 1)
+
 -- the units are the codes of some scalars
 pub record AreCodes (us : List ℕ) : Type 0 where
   pub scalars : List ℕ

@@ -8,6 +8,10 @@ use Rattle.utf_base.specs.Units.{is_leading_surrogate, is_trailing_surrogate, is
 abbrev pub lane_unit : List ℕ → List ℕ → ℕ → ℕ
 lane_unit low high k = slice_index high k * 256 + slice_index low k
 
+-- what a function gives of that unit, after the byte in the lane k of another vector
+abbrev pub lane_after : (ℕ → ℕ → ℕ) → List ℕ → List ℕ → List ℕ → ℕ → ℕ
+lane_after f before low high k = f (slice_index before k) (lane_unit low high k)
+
 -- The bytes of a unit that is a character: the last, and those before it, 0 where there is none.
 abbrev pub first_byte : ℕ → ℕ
 first_byte u = if nat_lt u 0x800 then 0 else 0xE0 + u / 4096
@@ -53,16 +57,16 @@ unit_code p u = lane_bytes (first_in_text u) (middle_in_text p u) (last_in_text 
 abbrev pub code_at : (ℕ → ℕ) → ℕ → List ℕ
 code_at unit k = unit_code (unit (k - 1)) (unit k)
 
--- A vector has sixteen lanes, and each is what its number says.
-pub record AreLanes (v : List ℕ) (lane : ℕ → ℕ) : Type 0 where
-  pub wide : length v ≡ 16
-  pub each : (k : ℕ) → k < 16 → slice_index v k ≡ lane k
-
 -- The first n units are text: each leading surrogate has a trailing one after it, and each trailing one a leading one before it.
 pub record AreText (unit : ℕ → ℕ) (n : ℕ) : Type 0 where
   pub first : 0 < n → is_trailing_surrogate (unit 0) ≡ false
   pub leading : (k : ℕ) → k < n → is_leading_surrogate (unit k) ≡ true → (k + 1 < n) × (is_trailing_surrogate (unit (k + 1)) ≡ true)
   pub trailing : (k : ℕ) → k + 1 < n → is_trailing_surrogate (unit (k + 1)) ≡ true → is_leading_surrogate (unit k) ≡ true
+
+-- The bytes were written into room, from one place to another, and those before them stay.
+pub record Writes (old new : List ℕ) (at end : ℕ) (bytes : List ℕ) : Type 0 where
+  pub len : length new ≡ length old
+  pub front : take end new ≡ take at old ++ bytes
 
 -- The first n of sixteen units are text, and their bytes were written into room, from one place to another.
 pub record WritesUnits (low high old new : List ℕ) (at n end : ℕ) : Type 0 where
@@ -76,6 +80,10 @@ pub record WritesUnits (low high old new : List ℕ) (at n end : ℕ) : Type 0 w
 -- the slot in the lane k of three vectors
 abbrev pub slot_at : List ℕ → List ℕ → List ℕ → ℕ → List ℕ
 slot_at firsts middles lasts k = lane_bytes (slice_index firsts k) (slice_index middles k) (slice_index lasts k)
+
+-- the bytes of all sixteen
+abbrev pub slots_of : List ℕ → List ℕ → List ℕ → List ℕ
+slots_of firsts middles lasts = concat_range (slot_at firsts middles lasts) 0 16
 
 -- the byte where the mask has its bit
 abbrev pub marked : ℕ → ℕ → ℕ → List ℕ
@@ -99,7 +107,15 @@ row_slots short = if short then 8 else 4
 abbrev pub row_most : Bool → ℕ
 row_most short = if short then 16 else 12
 
+-- the bytes of its slots that the mask keeps
+abbrev pub row_of : Bool → ℕ → List ℕ → List ℕ
+row_of short mask lanes = concat_range (row_bytes short mask lanes) 0 (row_slots short)
+
 -- the slot in the lane k of two vectors
 abbrev pub lanes_at : Bool → List ℕ → List ℕ → ℕ → List ℕ
 lanes_at true middles lasts k = nonzero_lead (slice_index middles k) ++ (slice_index lasts k ∷ [])
 lanes_at false fronts lasts k = lane_bytes (slice_index fronts (2 * k)) (slice_index fronts (2 * k + 1)) (slice_index lasts (2 * k))
+
+-- the bytes of all their slots, twice as many as one vector has
+abbrev pub lanes_of : Bool → List ℕ → List ℕ → List ℕ
+lanes_of short fronts lasts = concat_range (lanes_at short fronts lasts) 0 (row_slots short + row_slots short)

@@ -1,6 +1,7 @@
 -- Text in UTF-8 as units of UTF-16: which unit the byte at a place gives, by it and the three before it.
 use Rattle.std.specs.Prelude.{◌≡◌, ℕ, suc, zero, ◌+◌, ◌-◌, ◌*◌, ◌/◌, ◌%◌, Bool, ◌&&◌, if◌then◌else◌, List, [], ◌∷◌, ◌++◌, nat_lt, nat_eq, slice_index, ◌<◌, ◌≤◌, take, count_ones}
 use Rattle.std.specs.Int.{bit_at}
+use Rattle.utf_lanes.specs.declared.text_units.UnitBytes.{UnitBytes}
 
 -- lists joined, for each number from p on and n of them
 unfoldable pub concat_range : (ℕ → List ℕ) → ℕ → ℕ → List ℕ
@@ -41,8 +42,20 @@ unit_low b c d = if nat_lt b 0xF0 then low_half c d else leading_low c d
 abbrev pub unit_high : ℕ → ℕ → ℕ → ℕ → ℕ
 unit_high a b c d = if nat_lt b 0xF0 then (if nat_lt a 0xF0 then high_half b c d else trailing_high c) else leading_high b c d
 
+-- The same of the byte number k, counted from the place on.
+abbrev pub unit_low_at : List ℕ → ℕ → ℕ → ℕ
+unit_low_at xs place k = unit_low (slice_index xs (place - 2 + k)) (slice_index xs (place - 1 + k)) (slice_index xs (place + k))
+
+abbrev pub unit_high_at : List ℕ → ℕ → ℕ → ℕ
+unit_high_at xs place k =
+    unit_high (slice_index xs (place - 3 + k)) (slice_index xs (place - 2 + k)) (slice_index xs (place - 1 + k)) (slice_index xs (place + k))
+
 abbrev pub halves : Bool → ℕ → ℕ → List ℕ
 halves high_first low high = if high_first then high ∷ low ∷ [] else low ∷ high ∷ []
+
+-- both halves of the unit in the lane k of two vectors
+abbrev pub halves_at : Bool → List ℕ → List ℕ → ℕ → List ℕ
+halves_at high_first low high k = halves high_first (slice_index low k) (slice_index high k)
 
 -- the bytes that the place k + 3 gives
 unfoldable pub utf16_bytes_at : Bool → List ℕ → ℕ → List ℕ
@@ -52,6 +65,14 @@ utf16_bytes_at high_first xs k =
     let c = slice_index xs (k + 2) in
     let d = slice_index xs (k + 3) in
     if ends_unit c d then halves high_first (unit_low b c d) (unit_high a b c d) else []
+
+-- what the sixteen bytes from the place on give, but for the first of them, which are skipped
+abbrev pub block_bytes : Bool → List ℕ → ℕ → ℕ → List ℕ
+block_bytes high_first xs place skipped = concat_range (utf16_bytes_at high_first xs) (place - 3 + skipped) (16 - skipped)
+
+-- the bytes that half a block gives
+abbrev pub given : UnitBytes → List ℕ
+given units = take units.len units.bytes
 
 -- A row of places below 16, for a mask of eight bits at most: the first of them, so many, are those of n parts.
 pub record IsRow (row : List ℕ) (mask len n : ℕ) (places : ℕ → List ℕ) : Type 0 where

@@ -1,7 +1,7 @@
 //! The bytes of slots, written into room from a place on.
-ghost use Rattle.std.specs.Prelude.{◌≡◌, ℕ, ◌+◌, ◌<◌, ◌≤◌, ◌++◌, length, take, slice_index, map};
-ghost use Rattle.utf_lanes.specs.Utf8ToUtf16.{concat_range, IsRow};
-ghost use Rattle.utf_lanes.specs.UnitCodes.{slot_at, lanes_at, row_bytes, row_most, row_places, row_slots};
+ghost use Rattle.std.specs.Prelude.{◌≡◌, ℕ, ◌+◌, ◌<◌, ◌≤◌, length, take, slice_index, map};
+ghost use Rattle.utf_lanes.specs.Utf8ToUtf16.{IsRow};
+ghost use Rattle.utf_lanes.specs.UnitCodes.{Writes, lanes_of, row_most, row_of, row_places, row_slots, slots_of};
 
 use crate::shuffles::{COMPRESS_ENDS, COMPRESS_LANES};
 use crate::unit_bytes::Utf8Lanes;
@@ -14,8 +14,7 @@ pub(crate) fn write_lanes_of_units(slots: Utf8Lanes, room: &mut [u8], at: usize)
     requires middle { length slots.middle ≡ 16 }
     requires last { length slots.last ≡ 16 }
     requires room { at + 64 ≤ length room.old }
-    ensures len { length room.new ≡ length room.old }
-    ensures bytes { take result room.new ≡ take at room.old ++ concat_range (slot_at slots.first slots.middle slots.last) 0 16 }
+    ensures written { Writes room.old room.new at result (slots_of slots.first slots.middle slots.last) }
     ensures most { result ≤ at + 48 }
 {
     let (fronts, more_fronts) = slots.first.interleave(slots.middle);
@@ -35,8 +34,7 @@ pub(crate) fn write_lanes(
     at: usize,
 ) -> usize
     requires { at + 32 ≤ length room.old }
-    ensures len { length room.new ≡ length room.old }
-    ensures bytes { take result room.new ≡ take at room.old ++ concat_range (lanes_at short fronts lasts) 0 (row_slots short + row_slots short) }
+    ensures written { Writes room.old room.new at result (lanes_of short fronts lasts) }
     ensures most { result ≤ at + (row_most short + row_most short) }
 {
     let mask = fronts.simd_ge(u8x16::splat(0x80)).to_bitmask() as usize;
@@ -50,8 +48,7 @@ pub(crate) fn write_lanes(
 fn write_row(short: bool, lanes: u8x16, mask: usize, room: &mut [u8], at: usize) -> usize
     requires mask { mask < 256 }
     requires room { at + 16 ≤ length room.old }
-    ensures len { length room.new ≡ length room.old }
-    ensures bytes { take result room.new ≡ take at room.old ++ concat_range (row_bytes short mask lanes) 0 (row_slots short) }
+    ensures written { Writes room.old room.new at result (row_of short mask lanes) }
     ensures most { result ≤ at + row_most short }
     ensures within { result ≤ at + 16 }
 {
@@ -81,8 +78,7 @@ fn write_compressed(lanes: u8x16, places: [u8; 16], len: usize, room: &mut [u8],
     requires few { len ≤ 16 }
     requires within { (k : ℕ) → k < 16 → slice_index places k < 16 }
     requires room { at + 16 ≤ length room.old }
-    ensures len { length room.new ≡ length room.old }
-    ensures bytes { take result room.new ≡ take at room.old ++ map (slice_index lanes) (take len places) }
+    ensures written { Writes room.old room.new at result (map (slice_index lanes) (take len places)) }
     ensures end { result ≡ at + len }
 {
     let kept = lanes.swizzle_dyn(u8x16::from_array(places));

@@ -1,6 +1,7 @@
 //! How far units are well-formed, judged eight at once: each ends a pair just where the one before it begins one.
-ghost use Rattle.std.specs.Prelude.{◌≡◌, ℕ, ◌+◌, ◌<◌, ◌≤◌, IsTrue, length, take, slice_index, if◌then◌else◌, nat_eq};
-ghost use Rattle.utf_lanes.specs.UnitBlocks.{AllPaired, AreCodes};
+ghost use Rattle.std.specs.Prelude.{◌≡◌, ℕ, ◌+◌, ◌<◌, ◌≤◌, IsTrue, length, take, slice_index};
+ghost use Rattle.utf_lanes.specs.Lanes.{ones_where};
+ghost use Rattle.utf_lanes.specs.UnitBlocks.{AllPaired, AreCodes, ZerosPair};
 
 use std::simd::prelude::*;
 use utf_base::elements::is_trailing_surrogate;
@@ -59,7 +60,7 @@ fn unpaired(units: &[u16], place: usize) -> u16x8
     requires start { 1 ≤ place }
     requires within { place + 8 ≤ length units.now }
     ensures len { length result ≡ 8 }
-    ensures lanes { (k : ℕ) → k < 8 → slice_index result k ≡ 0 → AllPaired units.now (place + k) (place + k + 1) }
+    ensures lanes { ZerosPair units.now place (slice_index result) }
 {
     let here = u16x8::from_slice(&units[place..]) >> u16x8::splat(10);
     let before = u16x8::from_slice(&units[place - 1..]) >> u16x8::splat(10);
@@ -70,7 +71,7 @@ fn unpaired(units: &[u16], place: usize) -> u16x8
 #[inline(always)]
 fn where_equal(lanes: u16x8, number: u16) -> u16x8
     ensures len { length result ≡ 8 }
-    ensures lanes { (k : ℕ) → k < 8 → slice_index result k ≡ (if nat_eq (slice_index lanes k) number then 0xFFFF else 0) }
+    ensures lanes { (k : ℕ) → k < 8 → slice_index result k ≡ ones_where 0xFFFF lanes number k }
 {
     lanes
         .simd_eq(u16x8::splat(number))

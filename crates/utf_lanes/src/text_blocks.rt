@@ -3,8 +3,8 @@
 //! A byte is judged by the three before it: three look-ups tell whether it may follow the one before it, and
 //! the two before that tell whether a code of three or four bytes has to go on (Keiser and Lemire, "Validating
 //! UTF-8 in less than one instruction per byte", 2021).
-ghost use Rattle.std.specs.Prelude.{◌≡◌, ℕ, ◌+◌, ◌-◌, ◌<◌, ◌≤◌, ◌∷◌, ◌++◌, length, take, replicate, slice_index, IsTrue, IsUtf8, false};
-ghost use Rattle.utf_lanes.specs.TextBlocks.{AllMayFollow, EndsCharacter, IsPair};
+ghost use Rattle.std.specs.Prelude.{◌≡◌, ◌+◌, ◌-◌, ◌<◌, ◌≤◌, ◌∷◌, ◌++◌, length, take, replicate, slice_index, IsTrue, IsUtf8, false};
+ghost use Rattle.utf_lanes.specs.TextBlocks.{AllMayFollow, ArePairsLeft, EndsCharacter, ZerosFollow};
 ghost use Rattle.utf_base.specs.Kinds.{is_continuation};
 
 use crate::ascii_texts::{ascii_end, is_ascii_block, is_ascii_each};
@@ -272,7 +272,7 @@ fn faults_at(bytes: &[u8], place: usize) -> u8x16
     requires start { 3 ≤ place }
     requires within { place + 16 ≤ length bytes.now }
     ensures len { length result ≡ 16 }
-    ensures lanes { (k : ℕ) → k < 16 → slice_index result k ≡ 0 → AllMayFollow bytes.now (place + k) (place + k + 1) }
+    ensures lanes { ZerosFollow bytes.now place result }
 {
     let here = u8x16::from_slice(&bytes[place..]);
     let first = u8x16::from_slice(&bytes[place - 1..]);
@@ -287,7 +287,7 @@ fn faults_at(bytes: &[u8], place: usize) -> u8x16
 #[inline(always)]
 fn pairs(before: u8x16, here: u8x16) -> u8x16
     ensures len { length result ≡ 16 }
-    ensures lanes { (k : ℕ) → k < 16 → IsPair (slice_index before k) (slice_index here k) (slice_index result k) }
+    ensures lanes { ArePairsLeft before here result }
 {
     let high = u8x16::from_array(BEFORE_HIGH).swizzle_dyn(before >> u8x16::splat(4));
     let low = u8x16::from_array(BEFORE_LOW).swizzle_dyn(before & u8x16::splat(15));

@@ -1,7 +1,7 @@
 //! Text in UTF-8 as UTF-16, sixteen bytes at once, and 64 where they are ASCII.
-ghost use Rattle.std.specs.Prelude.{◌≡◌, ℕ, ◌+◌, ◌-◌, ◌*◌, ◌<◌, ◌≤◌, ◌&&◌, ◌++◌, [], ◌∷◌, cond, nat_le, length, take, slice_index, count_ones};
-ghost use Rattle.std.specs.Int.{bit_at};
-ghost use Rattle.utf_lanes.specs.Utf8ToUtf16.{utf16_bytes, concat_range, IsRow, ends_unit, low_half, high_half, unit_low, unit_high, halves, utf16_bytes_at, pair_at, places_at, leading_low, leading_high, trailing_high};
+ghost use Rattle.std.specs.Prelude.{◌≡◌, ℕ, ◌+◌, ◌-◌, ◌*◌, ◌<◌, ◌≤◌, ◌&&◌, ◌++◌, ◌∷◌, nat_le, length, take, slice_index, count_ones};
+ghost use Rattle.utf_lanes.specs.Lanes.{AreBits, AreLanes, ArePairs, lane_of_two, lane_of_three, lane_of_four};
+ghost use Rattle.utf_lanes.specs.Utf8ToUtf16.{utf16_bytes, concat_range, IsRow, block_bytes, ends_unit, given, halves, halves_at, low_half, high_half, unit_low, unit_high, unit_low_at, unit_high_at, pair_at, places_at, leading_low, leading_high, trailing_high};
 ghost use Rattle.utf_lanes.specs.TextBlocks.{EndsCharacter};
 
 use crate::shuffles::COMPRESS_PAIRS;
@@ -29,7 +29,7 @@ pub fn block_units(
     requires few { skipped < 16 }
     ensures first { result.0.len ≤ 16 }
     ensures second { result.1.len ≤ 16 }
-    ensures units { take result.0.len result.0.bytes ++ take result.1.len result.1.bytes ≡ concat_range (utf16_bytes_at high_first bytes.now) (place - 3 + skipped) (16 - skipped) }
+    ensures units { given result.0 ++ given result.1 ≡ block_bytes high_first bytes.now place skipped }
 {
     let here = u8x16::from_slice(&bytes[place..]);
     let before = u8x16::from_slice(&bytes[place - 1..]);
@@ -45,8 +45,8 @@ pub fn block_units(
 // The two bytes of each unit, one beside the other: of the first eight units, and of the others.
 #[inline(always)]
 fn paired(high_first: bool, low: u8x16, high: u8x16) -> (u8x16, u8x16)
-    ensures front { (k : ℕ) → k < 8 → slice_index result.0 (2 * k) ∷ slice_index result.0 (2 * k + 1) ∷ [] ≡ halves high_first (slice_index low k) (slice_index high k) }
-    ensures back { (k : ℕ) → k < 8 → slice_index result.1 (2 * k) ∷ slice_index result.1 (2 * k + 1) ∷ [] ≡ halves high_first (slice_index low (8 + k)) (slice_index high (8 + k)) }
+    ensures front { ArePairs result.0 (halves_at high_first low high) }
+    ensures back { ArePairs result.1 (λ k. halves_at high_first low high (8 + k)) }
 {
     if high_first {
         high.interleave(low)
@@ -60,7 +60,8 @@ fn paired(high_first: bool, low: u8x16, high: u8x16) -> (u8x16, u8x16)
 fn mask_of_unit_ends(before: u8x16, here: u8x16, skipped: usize) -> usize
     requires few { skipped < 16 }
     ensures most { result < 65536 }
-    ensures bits { (k : ℕ) → k < 16 → bit_at result k ≡ cond (ends_unit (slice_index before k) (slice_index here k) && nat_le skipped k) 1 0 }
+    ensures bits { AreBits result
+        (λ k. ends_unit (slice_index before k) (slice_index here k) && nat_le skipped k) }
 {
     let later = before.saturating_sub(u8x16::splat(0x20)).simd_max(here);
     let mask = later.simd_lt(u8x16::splat(0xc0)).to_bitmask() as usize;
@@ -72,10 +73,8 @@ fn mask_of_unit_ends(before: u8x16, here: u8x16, skipped: usize) -> usize
 fn unit_halves(bytes: &[u8], place: usize) -> (u8x16, u8x16)
     requires start { 3 ≤ place }
     requires within { place + 16 ≤ length bytes.now }
-    ensures low_len { length result.0 ≡ 16 }
-    ensures high_len { length result.1 ≡ 16 }
-    ensures low { (k : ℕ) → k < 16 → slice_index result.0 k ≡ unit_low (slice_index bytes.now (place - 2 + k)) (slice_index bytes.now (place - 1 + k)) (slice_index bytes.now (place + k)) }
-    ensures high { (k : ℕ) → k < 16 → slice_index result.1 k ≡ unit_high (slice_index bytes.now (place - 3 + k)) (slice_index bytes.now (place - 2 + k)) (slice_index bytes.now (place - 1 + k)) (slice_index bytes.now (place + k)) }
+    ensures low { AreLanes result.0 (unit_low_at bytes.now place) }
+    ensures high { AreLanes result.1 (unit_high_at bytes.now place) }
 {
     let here = u8x16::from_slice(&bytes[place..]);
     let first = u8x16::from_slice(&bytes[place - 1..]);
@@ -96,10 +95,8 @@ fn unit_halves(bytes: &[u8], place: usize) -> (u8x16, u8x16)
 // The halves of units that end codes of at most three bytes.
 #[inline(always)]
 fn short_halves(second: u8x16, first: u8x16, here: u8x16) -> (u8x16, u8x16)
-    ensures low_len { length result.0 ≡ 16 }
-    ensures high_len { length result.1 ≡ 16 }
-    ensures low { (k : ℕ) → k < 16 → slice_index result.0 k ≡ low_half (slice_index first k) (slice_index here k) }
-    ensures high { (k : ℕ) → k < 16 → slice_index result.1 k ≡ high_half (slice_index second k) (slice_index first k) (slice_index here k) }
+    ensures low { AreLanes result.0 (lane_of_two low_half first here) }
+    ensures high { AreLanes result.1 (lane_of_three high_half second first here) }
 {
     let none = u8x16::splat(0);
     let continued = here.simd_lt(u8x16::splat(0x80)).select(none, first);
@@ -112,10 +109,8 @@ fn short_halves(second: u8x16, first: u8x16, here: u8x16) -> (u8x16, u8x16)
 // The halves of units, some of which may be surrogates.
 #[inline(never)]
 fn long_halves(third: u8x16, second: u8x16, first: u8x16, here: u8x16) -> (u8x16, u8x16)
-    ensures low_len { length result.0 ≡ 16 }
-    ensures high_len { length result.1 ≡ 16 }
-    ensures low { (k : ℕ) → k < 16 → slice_index result.0 k ≡ unit_low (slice_index second k) (slice_index first k) (slice_index here k) }
-    ensures high { (k : ℕ) → k < 16 → slice_index result.1 k ≡ unit_high (slice_index third k) (slice_index second k) (slice_index first k) (slice_index here k) }
+    ensures low { AreLanes result.0 (lane_of_three unit_low second first here) }
+    ensures high { AreLanes result.1 (lane_of_four unit_high third second first here) }
 {
     let (low, high) = short_halves(second, first, here);
     let (leading_low, leading_high) = leading_halves(second, first, here);
@@ -133,10 +128,8 @@ fn long_halves(third: u8x16, second: u8x16, first: u8x16, here: u8x16) -> (u8x16
 // The halves of leading surrogates.
 #[inline(always)]
 fn leading_halves(second: u8x16, first: u8x16, here: u8x16) -> (u8x16, u8x16)
-    ensures low_len { length result.0 ≡ 16 }
-    ensures high_len { length result.1 ≡ 16 }
-    ensures low { (k : ℕ) → k < 16 → slice_index result.0 k ≡ leading_low (slice_index first k) (slice_index here k) }
-    ensures high { (k : ℕ) → k < 16 → slice_index result.1 k ≡ leading_high (slice_index second k) (slice_index first k) (slice_index here k) }
+    ensures low { AreLanes result.0 (lane_of_two leading_low first here) }
+    ensures high { AreLanes result.1 (lane_of_three leading_high second first here) }
 {
     let bits = (first & u8x16::splat(0x3f)) << u8x16::splat(2);
     let more = (here & u8x16::splat(0x3f)) >> u8x16::splat(4);
@@ -149,8 +142,7 @@ fn leading_halves(second: u8x16, first: u8x16, here: u8x16) -> (u8x16, u8x16)
 // The high halves of trailing surrogates.
 #[inline(always)]
 fn trailing_halves(first: u8x16) -> u8x16
-    ensures len { length result ≡ 16 }
-    ensures lanes { (k : ℕ) → k < 16 → slice_index result k ≡ trailing_high (slice_index first k) }
+    ensures { AreLanes result (λ k. trailing_high (slice_index first k)) }
 {
     ((first >> u8x16::splat(2)) & u8x16::splat(3)) + u8x16::splat(0xdc)
 }

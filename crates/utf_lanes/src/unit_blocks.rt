@@ -2,10 +2,11 @@
 //!
 //! A unit is judged by the one before it: it ends a pair just where that begins one. Six bits of its high byte tell
 //! either.
-ghost use Rattle.std.specs.Prelude.{◌≡◌, ℕ, ◌+◌, ◌-◌, ◌*◌, ◌<◌, ◌≤◌, ◌∷◌, IsTrue, false, length, take, slice_index, if◌then◌else◌, nat_eq};
+ghost use Rattle.std.specs.Prelude.{◌≡◌, ℕ, ◌+◌, ◌-◌, ◌*◌, ◌<◌, ◌≤◌, ◌∷◌, IsTrue, false, length, take, slice_index};
 ghost use Rattle.utf_base.specs.Units.{is_trailing_surrogate};
-ghost use Rattle.utf_lanes.specs.UnitBlocks.{AllPaired, AreCodes, PairsTo};
-ghost use Rattle.utf_lanes.specs.BytePairs.{high_place, units_of};
+ghost use Rattle.utf_lanes.specs.Lanes.{AreLanes, ones_where};
+ghost use Rattle.utf_lanes.specs.UnitBlocks.{AllPaired, AreCodes, PairsTo, ZerosPair};
+ghost use Rattle.utf_lanes.specs.BytePairs.{high_byte, units_of};
 
 use crate::byte_pairs::unit;
 use std::simd::prelude::*;
@@ -48,7 +49,8 @@ pub fn units_len(high_first: bool, bytes: &[u8]) -> usize
 fn paired_end(high_first: bool, bytes: &[u8]) -> usize
     requires { 16 ≤ length bytes.now }
     ensures within { 2 * result ≤ length bytes.now }
-    ensures first { 0 < result → is_trailing_surrogate (slice_index (units_of high_first bytes.now) 0) ≡ false }
+    ensures first { 0 < result →
+        is_trailing_surrogate (slice_index (units_of high_first bytes.now) 0) ≡ false }
     ensures paired { AllPaired (units_of high_first bytes.now) 1 result }
 {
     let count = paired_lanes(high_first, &padded_units(bytes), 1);
@@ -143,7 +145,7 @@ fn unpaired(high_first: bool, bytes: &[u8], place: usize) -> u8x16
     requires start { 1 ≤ place }
     requires within { 2 * place + 16 ≤ length bytes.now }
     ensures len { length result ≡ 16 }
-    ensures lanes { (k : ℕ) → k < 8 → slice_index result (2 * k + high_place high_first) ≡ 0 → AllPaired (units_of high_first bytes.now) (place + k) (place + k + 1) }
+    ensures lanes { ZerosPair (units_of high_first bytes.now) place (high_byte high_first result) }
 {
     let bits = upper_bits(high_first);
     let here = u8x16::from_slice(&bytes[2 * place..]) & bits;
@@ -155,7 +157,7 @@ fn unpaired(high_first: bool, bytes: &[u8], place: usize) -> u8x16
 #[inline(always)]
 fn upper_bits(high_first: bool) -> u8x16
     ensures len { length result ≡ 16 }
-    ensures lanes { (k : ℕ) → k < 8 → slice_index result (2 * k + high_place high_first) ≡ 0xFC }
+    ensures lanes { (k : ℕ) → k < 8 → high_byte high_first result k ≡ 0xFC }
 {
     if high_first {
         u8x16::from_array(HIGH_IS_FIRST)
@@ -167,8 +169,7 @@ fn upper_bits(high_first: bool) -> u8x16
 // 255 in each lane that is this byte, and 0 in the others.
 #[inline(always)]
 fn where_equal(lanes: u8x16, byte: u8) -> u8x16
-    ensures len { length result ≡ 16 }
-    ensures lanes { (k : ℕ) → k < 16 → slice_index result k ≡ (if nat_eq (slice_index lanes k) byte then 255 else 0) }
+    ensures { AreLanes result (ones_where 255 lanes byte) }
 {
     lanes
         .simd_eq(u8x16::splat(byte))

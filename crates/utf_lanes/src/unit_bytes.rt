@@ -1,8 +1,8 @@
 //! Units of UTF-16 as bytes of UTF-8, sixteen at once.
-ghost use Rattle.std.specs.Prelude.{◌≡◌, ℕ, ◌+◌, ◌*◌, ◌<◌, ◌≤◌, IsTrue, length, slice_index, cond, nat_eq, false, ◌/◌};
-ghost use Rattle.std.specs.Int.{bit_at};
-ghost use Rattle.utf_lanes.specs.UnitCodes.{lane_unit, AreLanes, first_byte, middle_byte, last_byte, first_in_text, middle_in_text, last_in_text, lead_byte, second_byte, third_byte};
-ghost use Rattle.utf_lanes.specs.BytePairs.{unit_of};
+ghost use Rattle.std.specs.Prelude.{◌≡◌, ℕ, ◌+◌, ◌*◌, ◌<◌, ◌≤◌, IsTrue, length, slice_index, nat_eq, false, ◌/◌};
+ghost use Rattle.utf_lanes.specs.Lanes.{AreBits, AreLanes};
+ghost use Rattle.utf_lanes.specs.UnitCodes.{lane_unit, lane_after, first_byte, middle_byte, last_byte, first_in_text, middle_in_text, last_in_text, lead_byte, second_byte, third_byte};
+ghost use Rattle.utf_lanes.specs.BytePairs.{unit_number};
 
 use std::simd::prelude::*;
 
@@ -47,7 +47,7 @@ pub(crate) fn are_characters(high: u8x16) -> bool
 #[inline(always)]
 pub(crate) fn mask_of_top_bits(high: u8x16, top: u8) -> usize
     ensures most { result < 65536 }
-    ensures bits { (k : ℕ) → k < 16 → bit_at result k ≡ cond (nat_eq (slice_index high k / 4) top) 1 0 }
+    ensures bits { AreBits result (λ k. nat_eq (slice_index high k / 4) top) }
 {
     (high >> u8x16::splat(2))
         .simd_eq(u8x16::splat(top))
@@ -81,7 +81,7 @@ pub(crate) fn character_lanes(low: u8x16, high: u8x16) -> Utf8Lanes
 #[inline(always)]
 pub(crate) fn text_lanes(before: u8x16, low: u8x16, high: u8x16) -> Utf8Lanes
     ensures first { AreLanes result.first (λ k. first_in_text (lane_unit low high k)) }
-    ensures middle { AreLanes result.middle (λ k. middle_in_text (slice_index before k) (lane_unit low high k)) }
+    ensures middle { AreLanes result.middle (lane_after middle_in_text before low high) }
     ensures last { AreLanes result.last (λ k. last_in_text (lane_unit low high k)) }
 {
     let plain = character_lanes(low, high);
@@ -112,7 +112,7 @@ fn front_of_four(low: u8x16, high: u8x16) -> (u8x16, u8x16)
 // The third byte of four, which trailing surrogates give.
 #[inline(always)]
 fn third_of_four(before: u8x16, low: u8x16, high: u8x16) -> u8x16
-    ensures { AreLanes result (λ k. third_byte (slice_index before k) (lane_unit low high k)) }
+    ensures { AreLanes result (lane_after third_byte before low high) }
 {
     let two = (before & u8x16::splat(3)) << u8x16::splat(4);
     let four = ((high & u8x16::splat(3)) << u8x16::splat(2)) + (low >> u8x16::splat(6));
@@ -133,7 +133,7 @@ pub fn sixteen_halves(high_first: bool, bytes: &[u8]) -> (u8x16, u8x16)
     requires { 32 ≤ length bytes.now }
     ensures low_len { length result.0 ≡ 16 }
     ensures high_len { length result.1 ≡ 16 }
-    ensures units { (k : ℕ) → k < 16 → lane_unit result.0 result.1 k ≡ unit_of high_first (slice_index bytes.now (2 * k)) (slice_index bytes.now (2 * k + 1)) }
+    ensures units { (k : ℕ) → k < 16 → lane_unit result.0 result.1 k ≡ unit_number high_first bytes.now k }
 {
     let front = u8x16::from_slice(bytes);
     let back = u8x16::from_slice(&bytes[16..]);

@@ -8,4 +8,4 @@ loop-count-preserved c =
     let gives = c.nody_utf16_next-piece.ensures in
     let has = c.if-piece-eq0.false in
     let some = some_left first_of_units c.loop-count.left.units.now _ _ gives (omega (arith, has)) in
-    fills_on first_of_units _ c.loop-count.left.units.now _ _ _ _ _ c.loop-count.invariant (omega arith) some (gives.some some) (gives.leaves some)
+    fills_on first_of_units _ c.loop-count.left.units.now _ _ _ c.loop-count.invariant (omega arith) some (gives.some some) (gives.leaves some)

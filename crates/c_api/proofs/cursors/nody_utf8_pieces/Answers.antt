@@ -9,4 +9,4 @@ loop-count-preserved c =
     let put = c.put_first_piece-len.ensures in
     let bytes = c.loop-count.bytes.now in
     let some : 0 < length bytes = omega (arith, c.if-len-eq0.false, put.most) in
-    rw (put.some some) (fills_on first_piece_of _ bytes _ (first_piece_of bytes) _ c.loop-count.room c.loop-count.count c.loop-count.invariant (omega arith) some refl (take_rest bytes c.put_first_piece-len.result ∙ put.leaves some))
+    rw (put.some some) (fills_on first_piece_of _ bytes _ c.loop-count.room c.loop-count.count c.loop-count.invariant (omega arith) some refl (take_rest bytes c.put_first_piece-len.result ∙ put.leaves some))

@@ -1,4 +1,4 @@
-use Rattle.std.proofs.Common.{◌-◌, ◌++◌, arith, length, drop, take, sym, subst}
+use Rattle.std.proofs.Common.{◌-◌, arith, length, take, sym, subst}
 use Rattle.cuts.specs.Rooms.{IsFull}
 use Rattle.c_api.proofs.Counted.{part_counted}
 use Rattle.c_api.proofs.recodings.nody_recoder_feed.Goals as goal
@@ -6,7 +6,7 @@ use Rattle.c_api.proofs.recodings.nody_recoder_feed.Goals as goal
 pub returns-then-progress-clause-full : goal.returns-then-progress-clause-full
 returns-then-progress-clause-full c is one =
     let progress = c.feed_into-progress.result in
-    subst (λ r. IsFull r (r.held ++ drop progress.read c.args.part.now) (length c.args.room.now - progress.written)) (sym c.keep.ensures.kept)
+    subst (λ r. IsFull r c.args.part.now progress.read (length c.args.room.now - progress.written)) (sym c.keep.ensures.kept)
     (c.feed_into-progress.ensures.full c.if-progress.true)
 
 pub returns-then-progress-clause-counts : goal.returns-then-progress-clause-counts

@@ -3,7 +3,7 @@ use Rattle.std.proofs.lemmas.List.{take_rest}
 use Rattle.recoding.specs.Lossy.{ReadsParts}
 use Rattle.recoding.specs.Recoded.{fresh, written}
 use Rattle.recoding.specs.NextScalars.{Decides}
-use Rattle.recoding.proofs.LossySteps.{Decides-as, IsFullLossy-of, RecodesParts-none, RecodesParts-part, RecodesParts-then}
+use Rattle.recoding.proofs.LossySteps.{Decides-as, NextPartIsTooLong-of, RecodesParts-none, RecodesParts-part, RecodesParts-then}
 use Rattle.recoding.proofs.lossy_runs.recode_lossy_pieces.Goals as goal
 use Rattle.recoding.proofs.lossy_runs.recode_lossy_pieces.Goals.{in-Subpart, in_default-part}
 
@@ -20,7 +20,7 @@ returns-then-not-is_put-clause-full g c =
     let full : g.O.Output.room c.loop-read.out < length (written c.args.to c.shown-c.result.0) = c.if-not-is_put.ensures.full (search rules) in
     let longer = subst (λ o. g.O.Output.room o < length (written c.args.to c.shown-c.result.0)) (sym kept) full in
     rw c.ended-then-not-is_put.ensures
-    (λ _. rw (take-append-drop 4 xs) at (IsFullLossy-of (fresh c.args.from c.args.to) c.args.from c.args.to (take 4 xs) (drop 4 xs) _ _ _ refl refl d longer))
+    (λ _. rw (take-append-drop 4 xs) at (NextPartIsTooLong-of (fresh c.args.from c.args.to) c.args.from c.args.to (take 4 xs) (drop 4 xs) _ _ _ refl refl d longer))
 
 pub loop-read-preserved : goal.loop-read-preserved
 loop-read-preserved g c =

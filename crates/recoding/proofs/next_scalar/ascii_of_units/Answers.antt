@@ -5,5 +5,5 @@ use Rattle.recoding.proofs.next_scalar.ascii_of_units.Goals as goal
 
 pub returns-then-eight_are_ascii : goal.returns-then-eight_are_ascii
 returns-then-eight_are_ascii g c =
-    Transcodes-ascii _ _ _ _ _ (is_utf16 _) c.type_inv.bytes c.requires (search rules) c.eight_units-units.ensures (c.eight_are_ascii.ensures c.if-eight_are_ascii.true)
+    Transcodes-ascii _ (is_utf16 _) c.type_inv.bytes c.requires (search rules) c.eight_units-units.ensures (c.eight_are_ascii.ensures c.if-eight_are_ascii.true)
     c.eight_bytes.ensures

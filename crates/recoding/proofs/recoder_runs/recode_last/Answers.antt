@@ -29,11 +29,11 @@ loop-place-preserved g c =
     let put = c.put_code.ensures in
     record {
       within = omega (arith, length-drop place c.args.bytes.now);
-      grows = Remains-step _ _ _ _ _ _ _ _ _ v.grows ends put.items;
+      grows = Remains-step place v.grows ends put.items;
       room = omega (arith, length-drop place c.args.bytes.now, ap length put.items, length-append c.loop-place.out.items (written c.args.to first.c), put.capacity);
     }
 
 pub returns : goal.returns
 returns g c =
     let rest : drop c.loop-place.place c.args.bytes.now ≡ [] = drop_all c.loop-place.place c.args.bytes.now (omega arith) in
-    Remains-all _ _ _ _ _ (rw rest at c.loop-place.invariant.grows)
+    Remains-all (rw rest at c.loop-place.invariant.grows)

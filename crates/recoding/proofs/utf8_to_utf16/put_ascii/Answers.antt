@@ -1,9 +1,10 @@
-use Rattle.std.proofs.Common.{refl}
+use Rattle.std.proofs.Common.{not, refl}
+use Rattle.std.specs.Prelude.{eqb}
 use Rattle.recoding.proofs.GivenBytes.{appends_given}
 use Rattle.recoding.proofs.utf8_to_utf16.put_ascii.Goals as goal
 
 pub returns : goal.returns
 returns g c =
     let p = c.args.place in
-    appends_given g.O.Output.appends g.met.O.Output.appends_more c.args.high_first c.args.text.now _ _ _ p 32 _ 32 64
+    appends_given g.O.Output.appends g.met.O.Output.appends_more (not (eqb g.row.BIG_ENDIAN 0)) c.args.text.now _ _ _ p 32 _ 32 64
     (rw c.ascii_units.ensures.first at c.put_wide.ensures) (rw c.ascii_units.ensures.second at c.put_wide-2.ensures) refl refl

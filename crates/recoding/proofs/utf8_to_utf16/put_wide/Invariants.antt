@@ -1,4 +1,5 @@
-use Rattle.std.proofs.Common.{◌-◌, ◌≤◌, length}
+use Rattle.std.proofs.Common.{not, ◌-◌, ◌≤◌, length}
+use Rattle.std.specs.Prelude.{eqb}
 use Rattle.utf_lanes.specs.Utf8ToUtf16.{utf16_bytes}
 use Rattle.recoding.proofs.utf8_to_utf16.put_wide.Given as goal
 
@@ -6,7 +7,7 @@ abbrev pub invariant-loop-place : goal.invariant-loop-place
 invariant-loop-place g l = record {
   least : 16 ≤ l.place;
   within : l.place ≤ length l.text;
-  appends : g.O.Output.appends l.fn.out (utf16_bytes l.high_first l.text 16 (l.place - 16)) l.out;
+  appends : g.O.Output.appends l.fn.out (utf16_bytes (not (eqb g.row.BIG_ENDIAN 0)) l.text 16 (l.place - 16)) l.out;
 }
 
 abbrev pub decreases-loop-place : goal.decreases-loop-place

@@ -2,5 +2,10 @@ use Rattle.std.proofs.Common.{◌++◌, take, ap, ◌∙◌}
 use Rattle.utf_lanes.proofs.CompressLanes.{row_kept}
 use Rattle.utf_lanes.proofs.compressed.write_row.Goals as goal
 
-pub returns-clause-bytes : goal.returns-clause-bytes
-returns-clause-bytes c = c.write_compressed.ensures.bytes ∙ ap (λ xs. take c.args.at c.args.room.now ++ xs) (row_kept c.args.short c.args.mask _ c.args.lanes _ c.compress_row-len.ensures.row)
+pub returns-clause-written : goal.returns-clause-written
+returns-clause-written c =
+    let put = c.write_compressed.ensures.written in
+    record {
+      len = put.len;
+      front = put.front ∙ ap (λ xs. take c.args.at c.args.room.now ++ xs) (row_kept c.args.short c.args.mask _ c.args.lanes _ c.compress_row-len.ensures.row);
+    }

@@ -1,12 +1,12 @@
-use Rattle.utf_lanes.proofs.UnitPairs.{unpaired_len, lanes_pair}
+use Rattle.std.proofs.Common.{bit_xor}
+use Rattle.utf_lanes.proofs.LaneLemmas.{wide}
+use Rattle.utf_lanes.proofs.UnitPairs.{lanes_pair}
 use Rattle.utf_lanes.proofs.unit_blocks.unpaired.Goals as goal
 
 pub returns-clause-len : goal.returns-clause-len
-returns-clause-len c =
-    unpaired_len c.args.high_first c.args.bytes.now c.type_inv.bytes c.args.place c.requires.start c.requires.within c.upper_bits-bits.result c.upper_bits-bits.ensures.len c.upper_bits-bits.ensures.lanes
-    _ _ c.where_equal.ensures.len c.where_equal-2.ensures.len
+returns-clause-len c = wide bit_xor _ _ c.where_equal.ensures.wide c.where_equal-2.ensures.wide
 
 pub returns-clause-lanes : goal.returns-clause-lanes
 returns-clause-lanes c =
     lanes_pair c.args.high_first c.args.bytes.now c.type_inv.bytes c.args.place c.requires.start c.requires.within c.upper_bits-bits.result c.upper_bits-bits.ensures.len c.upper_bits-bits.ensures.lanes
-    _ _ c.where_equal.ensures.len c.where_equal-2.ensures.len c.where_equal.ensures.lanes c.where_equal-2.ensures.lanes
+    c.where_equal.ensures c.where_equal-2.ensures

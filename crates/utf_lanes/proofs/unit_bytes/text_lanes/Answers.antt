@@ -7,7 +7,7 @@ returns c =
     let four = c.front_of_four.ensures in
     let third = c.third_of_four-middle.ensures in
     record {
-      first = text_firsts_are c.args.low c.args.high c.args.before _ _ _ _ _ _ c.fits-low c.fits-high plain.first plain.middle plain.last four.first four.second third;
-      middle = text_middles_are c.args.low c.args.high c.args.before _ _ _ _ _ _ c.fits-low c.fits-high plain.first plain.middle plain.last four.first four.second third;
-      last = text_lasts_are c.args.low c.args.high c.args.before _ _ _ _ _ _ c.fits-low c.fits-high plain.first plain.middle plain.last four.first four.second third;
+      first = text_firsts_are c.args.low c.args.high c.args.before c.fits-low c.fits-high plain.first plain.middle plain.last four.first four.second third;
+      middle = text_middles_are c.args.low c.args.high c.args.before c.fits-low c.fits-high plain.first plain.middle plain.last four.first four.second third;
+      last = text_lasts_are c.args.low c.args.high c.args.before c.fits-low c.fits-high plain.first plain.middle plain.last four.first four.second third;
     }

@@ -9,12 +9,12 @@ returns-then-are_short c =
     let slots = c.character_lanes-slots.ensures in
     let put = c.write_lanes.ensures in
     let codes = short_codes c.args.low c.args.high (λ k lt. lane_fits c.args.low k c.fits-low lt) short _ _ slots.middle.each slots.last.each in
-    WritesUnits-all _ _ _ _ _ _ _ (short_text c.args.low c.args.high (λ k lt. lane_fits c.args.low k c.fits-low lt) short) put.len put.bytes codes (omega (arith, put.most))
+    WritesUnits-all (short_text c.args.low c.args.high (λ k lt. lane_fits c.args.low k c.fits-low lt) short) put.written codes (omega (arith, put.most))
 
 pub returns-then-are_characters : goal.returns-then-are_characters
 returns-then-are_characters c =
     let none = c.are_characters.ensures c.if-are_characters.true in
     let slots = c.character_lanes.ensures in
     let put = c.write_lanes_of_units.ensures in
-    WritesUnits-all _ _ _ _ _ _ _ (characters_are_text c.args.low c.args.high (λ k lt. lane_fits c.args.low k c.fits-low lt) none) put.len put.bytes
+    WritesUnits-all (characters_are_text c.args.low c.args.high (λ k lt. lane_fits c.args.low k c.fits-low lt) none) put.written
     (character_codes c.args.low c.args.high (λ k lt. lane_fits c.args.low k c.fits-low lt) none _ _ _ slots.first.each slots.middle.each slots.last.each) put.most

@@ -8,5 +8,5 @@ pub returns-then-are_ascii : goal.returns-then-are_ascii
 returns-then-are_ascii c =
     let low = c.args.low in
     let ascii = c.are_ascii.ensures c.if-are_ascii.true in
-    WritesUnits-all _ _ _ _ _ _ _ (ascii_text low c.args.high c.fits-low.0 ascii) (search rules) (part_stored c.args.room.now low c.args.at 16 (omega arith) (omega arith))
+    WritesUnits-all (ascii_text low c.args.high c.fits-low.0 ascii) (record { len = search rules; front = part_stored c.args.room.now low c.args.at 16 (omega arith) (omega arith) })
     (take_all 16 low (omega arith) ∙ ascii_codes low c.args.high c.fits-low.0 ascii) (omega arith)

@@ -22,7 +22,7 @@ returns-then-count-eq16 c =
     let slots = c.text_lanes.ensures in
     let put = c.write_lanes_of_units-end.ensures in
     let codes = text_codes c.args.low c.args.high c.one_later.result _ _ _ (judged.text.first (omega arith)) c.one_later.ensures slots.first.each slots.middle.each slots.last.each in
-    WritesUnits-all _ _ _ _ _ _ _ (subst (AreText (lane_unit c.args.low c.args.high)) c.if-count-eq16.true judged.text) put.len put.bytes codes put.most
+    WritesUnits-all (subst (AreText (lane_unit c.args.low c.args.high)) c.if-count-eq16.true judged.text) put.written codes put.most
 
 pub overflow_sub-result : goal.overflow_sub-result
 overflow_sub-result c =
@@ -31,7 +31,7 @@ overflow_sub-result c =
     let slots = c.text_lanes.ensures in
     let put = c.write_lanes_of_units-end in
     let codes = text_codes c.args.low c.args.high c.one_later.result _ _ _ (judged.text.first (omega arith)) c.one_later.ensures slots.first.each slots.middle.each slots.last.each in
-    let two = two_more (lane_unit c.args.low c.args.high) _ _ (judged.last count) (put.ensures.bytes ∙ ap (λ xs. take c.args.at c.args.room.now ++ xs) codes) in
+    let two = two_more (lane_unit c.args.low c.args.high) _ _ (judged.last count) (put.ensures.written.front ∙ ap (λ xs. take c.args.at c.args.room.now ++ xs) codes) in
     omega (arith, two, length-take put.result put.new.room)
 
 pub returns : goal.returns
@@ -44,7 +44,7 @@ returns c =
     let front : List ℕ = take end put.new.room in
     let codes = text_codes c.args.low c.args.high c.one_later.result _ _ _ (judged.text.first (omega arith)) c.one_later.ensures slots.first.each slots.middle.each slots.last.each in
     let most = put.ensures.most in
-    let len = put.ensures.len in
+    let len = put.ensures.written.len in
     let fit = c.requires in
     let at : end - 2 ≡ length front - 2 = omega (arith, length-take end put.new.room) in
     record {
@@ -53,7 +53,7 @@ returns c =
       len = len;
       bytes =
           sym (take-take (end - 2) end put.new.room (omega arith)) ∙ ap (λ n. take n front) at
-          ∙ without_last (lane_unit c.args.low c.args.high) _ _ (judged.last count) (put.ensures.bytes ∙ ap (λ xs. take c.args.at c.args.room.now ++ xs) codes);
+          ∙ without_last (lane_unit c.args.low c.args.high) _ _ (judged.last count) (put.ensures.written.front ∙ ap (λ xs. take c.args.at c.args.room.now ++ xs) codes);
       short = omega arith;
       fits = omega arith;
     }

@@ -3,8 +3,8 @@ use Rattle.std.proofs.lemmas.List.{take_rest}
 use Rattle.recoding.specs.Recoded.{written, Grows}
 use Rattle.recoding.specs.NextScalars.{Settles}
 use Rattle.recoding.proofs.Advancing.{Advances-front, Replaces-of}
-use Rattle.recoding.specs.Rooms.{IsFull}
-use Rattle.recoding.proofs.RoomLemmas.{drop_later, Advances-start, Advances-more-read, FeedsInto-of, IsFull-of}
+use Rattle.recoding.specs.Rooms.{NextIsTooLong}
+use Rattle.recoding.proofs.RoomLemmas.{drop_later, Advances-start, Advances-more-read, FeedsInto-of, NextIsTooLong-of}
 use Rattle.recoding.proofs.recoder.Recoder.feed_held.Goals as goal
 
 pub loop-self-init : goal.loop-self-init
@@ -67,8 +67,8 @@ returns-in_default-put_at-clause-full c =
     let left : (held ++ take taken more) ++ drop taken more ≡ s.held ++ drop read part =
     append_assoc held (take taken more) (drop taken more) ∙ ap₂ (λ xs ys. xs ++ ys) c.held_bytes.ensures.bytes (take-append-drop taken more ∙ take_rest part read) in
     rw c.progress-in_default-put_at.ensures
-    (λ is. subst (λ xs. IsFull s xs (length c.args.room.now - c.loop-self.written)) left
-    (IsFull-of s c.self-in-loop-self.inside.from c.self-in-loop-self.inside.to (held ++ take taken more) (drop taken more) c.in-Some.first.c c.in-Some.first.len _
+    (λ is. subst (λ xs. NextIsTooLong s.from s.to xs (length c.args.room.now - c.loop-self.written)) left
+    (NextIsTooLong-of s c.self-in-loop-self.inside.from c.self-in-loop-self.inside.to (held ++ take taken more) (drop taken more) c.in-Some.first.c c.in-Some.first.len _
     (ap (λ x. x.from) c.self-in-loop-self.view_is) (ap (λ x. x.to) c.self-in-loop-self.view_is) c.in-Some.ensures.settles.decides longer))
 
 pub loop-self-preserved : goal.loop-self-preserved

@@ -62,13 +62,13 @@ returns-clause-full c is =
 
 first_feeds : (c : After-count_faults)
     → FeedsInto c.args.self.now c.args.part.now c.args.room.now c.feed_held-first.new.room c.feed_held-first.result.read c.feed_held-first.result.written c.count_faults.new.self
-first_feeds c = FeedsInto-counted _ _ _ _ _ _ _ _ c.feed_held-first.ensures.feeds c.count_faults.ensures
+first_feeds c = FeedsInto-counted c.feed_held-first.ensures.feeds c.count_faults.ensures
 
 pub returns-then-first-clause-feeds : goal.returns-then-first-clause-feeds
 returns-then-first-clause-feeds c = first_feeds c
 
 pub returns-then-first-clause-outcome : goal.returns-then-first-clause-outcome
-returns-then-first-clause-outcome c = outcome_fed_into _ _ _ _ _ _ _ (first_feeds c)
+returns-then-first-clause-outcome c = outcome_fed_into (first_feeds c)
 
 pub returns-then-first-clause-replaces : goal.returns-then-first-clause-replaces
 returns-then-first-clause-replaces c = rw c.count_faults.ensures c.feed_held-first.ensures.replaces
@@ -80,7 +80,7 @@ pub returns-then-first-clause-counts : goal.returns-then-first-clause-counts
 returns-then-first-clause-counts c = keeps_count _ _ _ _ (returns-then-first-clause-replaces c) (returns-then-first-clause-total c)
 
 pub returns-clause-outcome : goal.returns-clause-outcome
-returns-clause-outcome c = outcome_fed_into _ _ _ _ _ _ _ (returns-clause-feeds c)
+returns-clause-outcome c = outcome_fed_into (returns-clause-feeds c)
 
 -- What was replaced.
 

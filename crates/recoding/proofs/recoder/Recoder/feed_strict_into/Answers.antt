@@ -7,15 +7,15 @@ use Rattle.recoding.proofs.recoder.Recoder.feed_strict_into.Goals as goal
 
 pub returns-in-Some-clause-short : goal.returns-in-Some-clause-short
 returns-in-Some-clause-short c =
-    room_is_short c.args.self.now c.args.part.now c.args.room.now _ _ _ (FeedsStrictly-held _ _ _ _ _ _ _ c.pass_held-passed.ensures c.in-Some.is)
+    room_is_short c.args.self.now c.args.part.now c.args.room.now _ _ _ (FeedsStrictly-held c.pass_held-passed.ensures c.in-Some.is)
 
 pub returns-in-Some-clause-enough : goal.returns-in-Some-clause-enough
 returns-in-Some-clause-enough c =
-    room_is_enough c.args.self.now c.args.part.now c.args.room.now _ _ _ (FeedsStrictly-held _ _ _ _ _ _ _ c.pass_held-passed.ensures c.in-Some.is) c.pass_held-passed.auto.room
+    room_is_enough c.args.self.now c.args.part.now c.args.room.now _ _ _ (FeedsStrictly-held c.pass_held-passed.ensures c.in-Some.is) c.pass_held-passed.auto.room
 
 pub returns-in-Some-clause-nearer : goal.returns-in-Some-clause-nearer
 returns-in-Some-clause-nearer c =
-    comes_nearer c.args.self.now c.args.part.now c.args.room.now _ _ _ (FeedsStrictly-held _ _ _ _ _ _ _ c.pass_held-passed.ensures c.in-Some.is) c.pass_held-passed.auto.room
+    comes_nearer c.args.self.now c.args.part.now c.args.room.now _ _ _ (FeedsStrictly-held c.pass_held-passed.ensures c.in-Some.is) c.pass_held-passed.auto.room
 
 pub returns-in-Some-clause-first : goal.returns-in-Some-clause-first
 returns-in-Some-clause-first c =

@@ -55,7 +55,7 @@ pub returns-then-self-eq0-clause-outcome_done : goal.returns-then-self-eq0-claus
 returns-then-self-eq0-clause-outcome_done c whole out = outcome_finished c.args.self.now out _ (returns-then-self-eq0-clause-done c whole out)
 
 pub returns-clause-outcome : goal.returns-clause-outcome
-returns-clause-outcome c = outcome_finished_into _ _ _ _ _ (returns-clause-finishes c)
+returns-clause-outcome c = outcome_finished_into (returns-clause-finishes c)
 
 pub returns-clause-outcome_done : goal.returns-clause-outcome_done
 returns-clause-outcome_done c whole out = outcome_finished c.args.self.now out _ (returns-clause-done c whole out)

@@ -1,8 +1,8 @@
 use Rattle.std.proofs.Common.{◌≡◌, ◌-◌, ◌<◌, ◌++◌, length, take, drop, rules, arith, ap, ap₂, sym, subst, ◌∙◌, append_assoc, length-drop, take-append-drop}
 use Rattle.std.proofs.lemmas.List.{take_rest}
-use Rattle.recoding.specs.LossyBytes.{IsFullLossy}
+use Rattle.recoding.specs.LossyBytes.{NextPartIsTooLong}
 use Rattle.recoding.specs.Recoded.{written}
-use Rattle.recoding.proofs.LossySteps.{Decides-as, IsFullLossy-of, TakesParts-none, TakesParts-part, TakesParts-all}
+use Rattle.recoding.proofs.LossySteps.{Decides-as, NextPartIsTooLong-of, TakesParts-none, TakesParts-part, TakesParts-all}
 use Rattle.recoding.proofs.recoder.Recoder.take_held.Goals as goal
 
 pub loop-from-init : goal.loop-from-init
@@ -31,8 +31,8 @@ returns-then-not-is_put-clause-full g c =
     let left : (held ++ take taken more) ++ drop taken more ≡ s.held ++ drop read part =
     append_assoc held (take taken more) (drop taken more) ∙ ap₂ (λ xs ys. xs ++ ys) c.held-in-loop-from.ensures.bytes (take-append-drop taken more ∙ take_rest part read) in
     rw c.ended-then-not-is_put.ensures
-    (λ _. subst (λ xs. IsFullLossy s xs (g.O.Output.room c.put_fitting-is_put.new.out)) left
-    (IsFullLossy-of s c.forms-from.result.0 c.forms-from.result.1 (held ++ take taken more) (drop taken more) _ _ _ (c.forms-from.ensures.from ∙ sym c.loop-from.invariant.from) (c.forms-from.ensures.to ∙ sym c.loop-from.invariant.to) d longer))
+    (λ _. subst (λ xs. NextPartIsTooLong s.from s.to xs (g.O.Output.room c.put_fitting-is_put.new.out)) left
+    (NextPartIsTooLong-of s c.forms-from.result.0 c.forms-from.result.1 (held ++ take taken more) (drop taken more) _ _ _ (c.forms-from.ensures.from ∙ sym c.loop-from.invariant.from) (c.forms-from.ensures.to ∙ sym c.loop-from.invariant.to) d longer))
 
 pub loop-from-preserved : goal.loop-from-preserved
 loop-from-preserved g c =

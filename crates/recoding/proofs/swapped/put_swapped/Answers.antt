@@ -1,7 +1,7 @@
 use Rattle.std.proofs.Common.{◌≡◌, ◌+◌, ◌-◌, take, drop, length, arith, length-take, length-drop}
 use Rattle.std.proofs.lemmas.List.{take_rest}
 use Rattle.recoding.proofs.SwappedRuns.{appends_swapped, appends_swapped_rest, length_swapped_front}
-use Rattle.recoding.proofs.copied.put_swapped.Goals as goal
+use Rattle.recoding.proofs.swapped.put_swapped.Goals as goal
 
 pub put_blocks-place-requires-clause-room : goal.put_blocks-place-requires-clause-room
 put_blocks-place-requires-clause-room g c =

@@ -2,7 +2,7 @@ use Rattle.std.proofs.Common.{◌≡◌, take, [], arith, refl}
 use Rattle.std.proofs.lemmas.List.{take_all}
 use Rattle.recoding.proofs.SwappedRuns.{appends_swapped, length_swapped_front}
 use Rattle.utf_lanes.proofs.SwappedBytes.{swapped_pair}
-use Rattle.recoding.proofs.copied.put_pairs.Goals as goal
+use Rattle.recoding.proofs.swapped.put_pairs.Goals as goal
 
 pub loop-place-init : goal.loop-place-init
 loop-place-init g c = record { within = omega arith; even = refl; appends = g.met.O.Output.appends_none c.args.out.now }

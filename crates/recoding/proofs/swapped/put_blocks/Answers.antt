@@ -1,7 +1,7 @@
 use Rattle.std.proofs.Common.{arith, refl}
 use Rattle.recoding.proofs.SwappedRuns.{appends_swapped, length_swapped_front}
 use Rattle.utf_lanes.proofs.SwappedBytes.{width_pairs}
-use Rattle.recoding.proofs.copied.put_blocks.Goals as goal
+use Rattle.recoding.proofs.swapped.put_blocks.Goals as goal
 
 pub loop-place-init : goal.loop-place-init
 loop-place-init g c = record { within = omega arith; even = refl; appends = g.met.O.Output.appends_none c.args.out.now }
