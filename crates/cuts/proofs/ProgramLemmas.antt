@@ -55,31 +55,31 @@ stays_after NoMemory out mid new same kept = kept ∙ same
 -- the program ended early by its run, or by the flush after it
 pub ends_early : {T E : Type 0} (name : List ℕ) (reads : Stop → Type 0) (says : E → E → List ℕ → Type 0) (out mid new : Counting T) (f g h : E) (status result : ℕ)
     → (2 ≤ status → EndsEarly name reads (FailsOrStays out mid) (says f g) status)
-    → (status < 2 → reads CannotWrite) → (status < 2 → g ≡ f) → mid.extras ≡ out.extras
+    → (status < 2 → reads CannotWrite) → (status < 2 → g ≡ f) → mid.other_calls ≡ out.other_calls
     → (2 ≤ status → new ≡ mid)
-    → (new.extras.failed_flushes ≡ mid.extras.failed_flushes → (result ≡ status) × (h ≡ g))
-    → mid.extras.failed_flushes ≤ new.extras.failed_flushes
-    → (mid.extras.failed_flushes < new.extras.failed_flushes → result ≡ 3)
-    → (mid.extras.failed_flushes < new.extras.failed_flushes → says g h (stop_line name CannotWrite))
+    → (new.other_calls.failed_flushes ≡ mid.other_calls.failed_flushes → (result ≡ status) × (h ≡ g))
+    → mid.other_calls.failed_flushes ≤ new.other_calls.failed_flushes
+    → (mid.other_calls.failed_flushes < new.other_calls.failed_flushes → result ≡ 3)
+    → (mid.other_calls.failed_flushes < new.other_calls.failed_flushes → says g h (stop_line name CannotWrite))
     → 2 ≤ result → EndsEarly name reads (FlushFailsOrStays out new) (says f h) result
-ends_early name reads says out mid new f g h status result early unbroken silent extras stays whole never_fewer failed line late =
+ends_early name reads says out mid new f g h status result early unbroken silent other_calls stays whole never_fewer failed line late =
     ⊎_elim
     (λ (few : status < 2).
     ⊎_elim
-    (λ (rose : mid.extras.failed_flushes < new.extras.failed_flushes). record {
+    (λ (rose : mid.other_calls.failed_flushes < new.other_calls.failed_flushes). record {
       reason = CannotWrite;
       input = unbroken few;
-      output = inr (rw (← ap (λ e. e.failed_flushes) extras) rose);
+      output = inr (rw (← ap (λ e. e.failed_flushes) other_calls) rose);
       line = subst (λ e. says e h (stop_line name CannotWrite)) (silent few) (line rose);
       told = failed rose;
     })
-    (λ (fewer : new.extras.failed_flushes ≤ mid.extras.failed_flushes).
+    (λ (fewer : new.other_calls.failed_flushes ≤ mid.other_calls.failed_flushes).
     let same = (whole (omega arith)).0 in
     absurd (omega arith))
-    (cases_lt mid.extras.failed_flushes new.extras.failed_flushes))
+    (cases_lt mid.other_calls.failed_flushes new.other_calls.failed_flushes))
     (λ (many : 2 ≤ status).
     let kept = stays many in
-    let same = whole (ap (λ c. c.extras.failed_flushes) kept) in
+    let same = whole (ap (λ c. c.other_calls.failed_flushes) kept) in
     let ends = early many in
     record {
       reason = ends.reason;

@@ -22,7 +22,7 @@ loop-entry-preserved g c =
         | then-not-has_room+in_ok-write_to w ↦ rw w.out-is (search rules)
         | else-not-has_room w ↦ rw w.out-is (search rules)
       ];
-      extras = elim c.if-not-has_room.branch [
+      other_calls = elim c.if-not-has_room.branch [
         | then-not-has_room+in_ok-write_to w ↦ rw w.out-is (search rules)
         | else-not-has_room w ↦ rw w.out-is (search rules)
       ];

@@ -14,7 +14,7 @@ loop-item-init g c =
       offset = rw (c.new-offset.ensures, whole) refl;
       quiet = refl;
       stalls = refl;
-      extras = refl;
+      other_calls = refl;
     }
 
 pub loop-item-preserved : goal.loop-item-preserved
@@ -37,7 +37,7 @@ loop-item-preserved g c =
         | then-not-has_room+in_ok-write_to w ↦ rw w.out-is (search rules)
         | else-not-has_room w ↦ rw w.out-is (search rules)
       ];
-      extras = elim c.if-not-has_room.branch [
+      other_calls = elim c.if-not-has_room.branch [
         | then-not-has_room+in_ok-write_to w ↦ rw w.out-is (search rules)
         | else-not-has_room w ↦ rw w.out-is (search rules)
       ];

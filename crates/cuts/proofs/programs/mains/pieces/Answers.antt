@@ -23,8 +23,8 @@ returns-in-Ok-clause-early g c =
     let run = c.run_pieces-status.ensures in
     let end = c.finish_run.ensures in
     ends_early _ _
-    (Says g.E.Sink.is_counted g.E.Sink.failures g.E.Sink.contents)
-    _ _ _ _ _ _ _ _ run.early run.unbroken run.silent run.extras end.early end.whole end.never_fewer end.failed end.line
+    (Says g.E.Sink)
+    _ _ _ _ _ _ _ _ run.early run.unbroken run.silent run.other_calls end.early end.whole end.never_fewer end.failed end.line
 
 pub returns-in-Err-clause-front : goal.returns-in-Err-clause-front
 returns-in-Err-clause-front g c asked words = BeginsAsked-none asked _ _
@@ -34,7 +34,7 @@ returns-in-Ok-clause-wrong g c words =
     let given = c.in-Ok.ensures.given words.0 words.1 in
     let two = c.run_pieces-status.ensures.wrong (rw (c.as_slice.ensures.value, given) words.2) in
     let stays = c.finish_run.ensures.early (omega (arith, two)) in
-    let told = c.finish_run.ensures.whole (ap (λ out. out.extras.failed_flushes) stays) in
+    let told = c.finish_run.ensures.whole (ap (λ out. out.other_calls.failed_flushes) stays) in
     let same = told.0 ∙ two in
     omega (arith, same)
 

@@ -17,7 +17,7 @@ loop-init g c = record {
   in_time = λ open_yet. refl;
   drained = λ none. none;
   unheld = λ none. ap (λ r. r.held) c.new-recoder.ensures.nothing;
-  extras = refl;
+  other_calls = refl;
 }
 
 pub loop-preserved : goal.loop-preserved
@@ -27,7 +27,7 @@ loop-preserved g c =
           let taken = w.in-Ok.ensures in
           let passed = w.in_ok-write_part-in-Ok.ensures in
           let quiet = c.loop.invariant.quiet in
-          let extras = c.loop.invariant.extras in
+          let other_calls = c.loop.invariant.other_calls in
           let never_fewer = c.loop.invariant.never_fewer in
           let same = taken.failures in
           rw (w.out-is, w.recoder-is, w.recoded-is) (record {
@@ -37,10 +37,10 @@ loop-preserved g c =
             quiet = passed.quiet (search rules) ∙ quiet;
             unbroken = taken.reads.whole ∙ c.loop.invariant.unbroken;
             unended = λ open_yet. still_false _ _ _ taken.reads.ended (c.loop.invariant.unended open_yet) (is_end-some w.in-Ok.count _ (omega arith));
-            in_time = λ open_yet. still_early _ _ _ taken.reads.late (c.loop.invariant.unended open_yet) ∙ c.loop.invariant.in_time open_yet;
+            in_time = λ open_yet. still_early _ _ _ taken.reads.reads_after_end (c.loop.invariant.unended open_yet) ∙ c.loop.invariant.in_time open_yet;
             drained = λ none. absurd (from_nothing _ _ (rw (c.loop.invariant.drained none) at taken.consumes.0) (omega arith));
             unheld = λ none. absurd (from_nothing _ _ (rw (c.loop.invariant.drained none) at taken.consumes.0) (omega arith));
-            extras = passed.extras ∙ extras;
+            other_calls = passed.other_calls ∙ other_calls;
           })
       | in-Err w ↦
           let failed = w.in-Err.ensures in
@@ -53,10 +53,10 @@ loop-preserved g c =
             quiet = c.loop.invariant.quiet;
             unbroken = failed.reads.interrupted (search rules) ∙ c.loop.invariant.unbroken;
             unended = λ open_yet. still_false _ _ _ failed.reads.ended (c.loop.invariant.unended open_yet) refl;
-            in_time = λ open_yet. still_early _ _ _ failed.reads.late (c.loop.invariant.unended open_yet) ∙ c.loop.invariant.in_time open_yet;
+            in_time = λ open_yet. still_early _ _ _ failed.reads.reads_after_end (c.loop.invariant.unended open_yet) ∙ c.loop.invariant.in_time open_yet;
             drained = λ none. still_nothing _ (rw (c.loop.invariant.drained none) at failed.consumes);
             unheld = c.loop.invariant.unheld;
-            extras = c.loop.invariant.extras;
+            other_calls = c.loop.invariant.other_calls;
           })
     ]
 
