@@ -34,11 +34,11 @@ pub still_early : (a : Bool) (m n : ℕ) → n ≡ (if a then m + 1 else m) → 
 still_early a m n e none = e ∙ rw none refl
 
 -- and then a read gave a part
-pub IsReadSoFar-part : (counted : Bool) (left_old left_mid left_new : Option (List ℕ)) (f g h : ℕ) (old mid new : ReadCounts) (n : ℕ) (bytes part : List ℕ) (count : ℕ) (places : List ℕ)
+pub IsReadSoFar-part : {counted : Bool} {left_old left_mid left_new : Option (List ℕ)} {f g h : ℕ} {old mid new : ReadCounts} {n : ℕ} {bytes : List ℕ} (part : List ℕ) {count : ℕ} {places : List ℕ}
     → IsReadSoFar counted left_old left_mid f g old mid n bytes → Consumes left_mid left_new part → 0 < length part → 0 < count
     → (IsTrue counted → h ≡ g + 0) → (IsTrue counted → CountsRead mid new (Ok count) places)
     → IsReadSoFar counted left_old left_new f h old new (n + 1) (bytes ++ part)
-IsReadSoFar-part counted left_old left_mid left_new f g h old mid new n bytes part count places now taken some any same counts = record {
+IsReadSoFar-part {left_old} {left_mid} {left_new} {f} {g} {n} {bytes} part {count} {places} now taken some any same counts = record {
   read = Consumes-trans left_old left_mid left_new bytes part now.read taken;
   paced = λ is.
       let same_now = same is in
@@ -53,11 +53,11 @@ IsReadSoFar-part counted left_old left_mid left_new f g h old mid new n bytes pa
 }
 
 -- and then a read was interrupted
-pub IsReadSoFar-idle : (counted : Bool) (left_old left_mid left_new : Option (List ℕ)) (f g h : ℕ) (old mid new : ReadCounts) (n : ℕ) (bytes : List ℕ) (error : Error) (places : List ℕ)
+pub IsReadSoFar-idle : {counted : Bool} {left_old left_mid left_new : Option (List ℕ)} {f g h : ℕ} {old mid new : ReadCounts} {n : ℕ} {bytes : List ℕ} {error : Error} {places : List ℕ}
     → IsReadSoFar counted left_old left_mid f g old mid n bytes → Keeps left_mid left_new → error_kind error ≡ Interrupted
     → (IsTrue counted → h ≡ g + 1) → (IsTrue counted → CountsRead mid new (Err error) places)
     → IsReadSoFar counted left_old left_new f h old new (n + 1) bytes
-IsReadSoFar-idle counted left_old left_mid left_new f g h old mid new n bytes error places now keeps kind more counts = record {
+IsReadSoFar-idle {left_old} {left_mid} {left_new} {bytes} now keeps kind more counts = record {
   read = Consumes-kept left_old left_mid left_new bytes now.read keeps;
   paced = λ is. let more_now = more is in let le = now.rising is in inl (omega arith);
   rising = λ is. let more_now = more is in let le = now.rising is in omega arith;

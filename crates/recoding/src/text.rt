@@ -11,7 +11,7 @@ use crate::next_scalar::{NextScalar, next_of_utf8, next_of_utf16, next_valid_of_
 use crate::output::Output;
 use encode_unicode::CharExt;
 use encode_unicode::error::{Utf8ErrorKind, Utf16PairError};
-use utf_lanes::next_valid::front_of_text;
+use utf_lanes::text_front::front_of_text;
 
 // A form of text.
 pub(crate) trait Text {

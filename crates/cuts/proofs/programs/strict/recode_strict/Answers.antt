@@ -36,7 +36,7 @@ ended (Some xs) h = h
 
 pub loop-init : goal.loop-init
 loop-init g c = record {
-  relayed = IsTextRelayed-none _ _ _ _ _ _ c.new-recoder.ensures.nothing;
+  relayed = IsTextRelayed-none c.new-recoder.ensures.nothing;
   part = search rules;
   room = search rules;
   never_fewer = search rules;
@@ -58,7 +58,7 @@ loop-preserved g c =
           let never_fewer = c.loop.invariant.never_fewer in
           let same = taken.failures in
           rw (w.out-is, w.recoder-is, w.offset-is) (record {
-            relayed = IsTextRelayed-part c.loop.invariant.relayed _ _ _ _ _ _ taken.consumes.0 (omega arith) same passed.passes (search rules);
+            relayed = IsTextRelayed-part c.loop.invariant.relayed taken.consumes.0 (omega arith) same passed.passes (search rules);
             part = search rules;
             room = search rules;
             never_fewer = omega arith;
