@@ -5,7 +5,7 @@ ghost use Rattle.encode_unicode.specs.Pieces.{pieces};
 ghost use Rattle.cuts.specs.ForwardRuns.{faulty_item_count};
 ghost use Rattle.cuts.specs.Splits.{LiesBetween, lines_by, split_by};
 
-use cuts::{Span, faulty_item_count, lines, split_ascii};
+use cuts::{Span, fault_count, lines, split_ascii};
 use std::alloc::{AllocError, Allocator};
 
 /// How many lines the bytes have.
@@ -69,7 +69,7 @@ pub fn first_damaged_line(bytes: &[u8]) -> Option<Span<'_>>
     ensures lies { IfSome result (LiesBetween bytes.now) }
     ensures first { result ≡ find (λ x. not (nat_eq (faulty_item_count (pieces x.bytes)) 0)) (lines_by bytes.now) }
 {
-    lines(bytes).find(|line| faulty_item_count(line.as_bytes()) != 0)
+    lines(bytes).find(|line| fault_count(line.as_bytes()) != 0)
 }
 
 /// The field at that place of a record.

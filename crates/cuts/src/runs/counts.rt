@@ -8,7 +8,7 @@ use encode_unicode::U8SliceExt;
 /// How many bytes are invalid: 0 exactly where the bytes are UTF-8.
 ///
 /// Cost: O(n).
-pub fn faulty_item_count(bytes: &[u8]) -> usize
+pub fn fault_count(bytes: &[u8]) -> usize
     ensures { result ≡ faulty_item_count (pieces bytes.now) }
 {
     bytes.utf8char_indices().filter(|x| x.1.is_err()).count()
