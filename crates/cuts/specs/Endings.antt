@@ -1,11 +1,11 @@
 -- What a run of a program has done once it ends.
-use Rattle.std.specs.Prelude.{◌≡◌, ℕ, ◌-◌, ◌^◌, ◌<◌, ◌==◌, ◌⊎◌, Bool, true, IsTrue, if◌then◌else◌, List, [], ◌∷◌, ◌++◌, length, Option, Some, IfSome, codes}
+use Rattle.std.specs.Prelude.{◌≡◌, ℕ, ◌-◌, ◌^◌, ◌<◌, ◌==◌, ◌⊎◌, IsTrue, if◌then◌else◌, List, [], ◌∷◌, ◌++◌, length, Option, Some, IfSome, codes}
 use Rattle.std.specs.Io.KnownBytes.{Appends}
 use Rattle.cuts.specs.declared.streams.Source as Source
 use Rattle.cuts.specs.declared.streams.Sink as Sink
 use Rattle.cuts.specs.declared.programs.stops.Stop.{Stop}
 use Rattle.cuts.specs.declared.programs.stops.Stop.TheVariants.{WrongArguments, CannotRead, CannotWrite, NoMemory}
-use Rattle.cuts.specs.Failures.{Counting, ReadCounts, NoFailedRead, AppendsFront}
+use Rattle.cuts.specs.Failures.{Counting, NoFailedRead, AppendsFront}
 use Rattle.cuts.specs.Arguments.{Asked, listed, merged, walked}
 use Rattle.cuts.specs.Layouts.{forward_layout, merged_layout, walk_layout, WritesRun, WritesRunFront}
 use Rattle.cuts.specs.declared.programs.recode_stream.RecodeFault.{RecodeFault}

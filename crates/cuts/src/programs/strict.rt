@@ -59,8 +59,8 @@ pub fn recode_strict<R: Read, W: Write>(
         (Known W.contents (WritesText from to (R.remaining input.old.inner)) out.old out.new) }
     ensures faulty { IfErr result (λ e. IfFaulty e
         (Pipes R.remaining W.contents (StopsFaulty from to) input.old input.new out.old out.new)) }
-    ensures front { Pipes R.remaining W.contents
-        (BeginsTranscoded from to) input.old input.new out.old out.new }
+    ensures front { Pipes R.remaining W.contents (BeginsTranscoded from to)
+        input.old input.new out.old out.new }
     ensures held_back { result ≡ Err StrictError.Read →
         Pipes R.remaining W.contents (HoldsText from to) input.old input.new out.old out.new }
     ensures drained { OnOk result (Known R.remaining IsDrained input.old input.new) }
