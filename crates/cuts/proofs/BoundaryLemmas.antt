@@ -39,8 +39,8 @@ end_of_fault xs i k fault = record {
   some = λ lt. absurd (omega arith);
 }
 
-pub over_push : (xs : List ℕ) (p i j e : ℕ) → NoneOver xs p i j → IsEndFrom xs j e → e ≤ p → NoneOver xs p i (j + 1)
-over_push xs p i j e none ends le k t from before stands = ⊎_elim
+pub over_push : {xs : List ℕ} (p i : ℕ) {j e : ℕ} → NoneOver xs p i j → IsEndFrom xs j e → e ≤ p → NoneOver xs p i (j + 1)
+over_push p i {j} none ends le k t from before stands = ⊎_elim
     (λ (lt : k < j). none k t from lt stands)
     (λ (ge : j ≤ k).
     let at : k ≡ j = omega arith in

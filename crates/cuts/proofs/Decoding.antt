@@ -29,14 +29,14 @@ IsDecodedTo-none xs place until within outside = record {
 }
 
 -- the piece at the next place has an element
-pub item_has_some : (xs : List ℕ) (place until next : ℕ) (items : List Item) (x : Item) → IsDecodedTo xs place until next items → next < length xs
+pub item_has_some : {xs : List ℕ} {place until next : ℕ} {items : List Item} (x : Item) → IsDecodedTo xs place until next items → next < length xs
     → IsFrontPiece (slice_range xs next (length xs)) x.1 x.2 → 0 < x.2
-item_has_some xs place until next items x f lt piece = (at_front utf8 fault_kind utf8_is_code no_code_where_fault xs next x.2 x.1 lt f.run.outside piece).some
+item_has_some {xs} {next} x f lt piece = (at_front utf8 fault_kind utf8_is_code no_code_where_fault xs next x.2 x.1 lt f.run.outside piece).some
 
 -- one piece more
-pub IsDecodedTo-push : (xs : List ℕ) (place until next after : ℕ) (items : List Item) (x : Item) → IsDecodedTo xs place until next items → next < until → next < length xs
+pub IsDecodedTo-push : {xs : List ℕ} {place until next after : ℕ} (items : List Item) (x : Item) → IsDecodedTo xs place until next items → next < until → next < length xs
     → x.0 ≡ next → IsFrontPiece (slice_range xs next (length xs)) x.1 x.2 → after ≡ next + x.2 → IsDecodedTo xs place until after (items ++ x ∷ [])
-IsDecodedTo-push xs place until next after items x f lt within at piece step =
+IsDecodedTo-push {xs} {place} {until} {next} items x f lt within at piece step =
     let few = f.few in
     let one = length_push items x in
     record {
@@ -46,9 +46,9 @@ IsDecodedTo-push xs place until next after items x f lt within at piece step =
     }
 
 -- once `until` or the end of the bytes is reached, these are all
-pub IsDecodedTo-all : (xs : List ℕ) (place until next : ℕ) (items : List Item) → IsDecodedTo xs place until next items → (next < until → length xs ≤ next)
+pub IsDecodedTo-all : {xs : List ℕ} {place until next : ℕ} {items : List Item} → IsDecodedTo xs place until next items → (next < until → length xs ≤ next)
     → IsForwardRunBetween xs place until items
-IsDecodedTo-all xs place until next items f done = record {
+IsDecodedTo-all {xs} {place} {until} {next} {items} f done = record {
   cut = cut_up_to utf8 xs place next until (map piece_of items) (All-map (λ y. y.start < until) piece_of items f.before)
       (λ x h lo hi. let some = piece_some utf8 utf8_is_code xs x.start x.len x.char h in omega arith) f.run.run.cut;
   kinds = f.run.run.kinds;

@@ -52,8 +52,8 @@ IsRunSoFar = IsWindowRun utf8 fault_kind
 pub IsRunSoFar-none : (xs : List ℕ) → IsRunSoFar xs [] (whole_window xs)
 IsRunSoFar-none = IsWindowRun-none utf8 fault_kind
 
-pub IsRunSoFar-push : (xs : List ℕ) (items : List Item) (w v : Window) (x : Item) → IsRunSoFar xs items w → GivesFront w x v → IsRunSoFar xs (items ++ x ∷ []) v
-IsRunSoFar-push = IsWindowRun-push utf8 4 fault_kind decoded utf8_is_code no_code_where_fault
+pub IsRunSoFar-push : {xs : List ℕ} {items : List Item} {w v : Window} {x : Item} → IsRunSoFar xs items w → GivesFront w x v → IsRunSoFar xs (items ++ x ∷ []) v
+IsRunSoFar-push {xs} {items} {w} {v} {x} f g = IsWindowRun-push utf8 4 fault_kind decoded utf8_is_code no_code_where_fault xs items w v x f g
 
 pub IsForwardRun-all : (xs : List ℕ) (items : List Item) (w v : Window) → IsRunSoFar xs items w → GivesNone w v → IsForwardRun xs items
 IsForwardRun-all = IsWindowRun-all utf8 fault_kind
@@ -63,12 +63,12 @@ IsForwardRun-all = IsWindowRun-all utf8 fault_kind
 abbrev pub IsUnitRunSoFar : List ℕ → List UnitItem → Window → Type 0
 IsUnitRunSoFar = IsWindowRun utf16 unit_fault_kind
 
-pub IsUnitRunSoFar-push : (xs : List ℕ) (items : List UnitItem) (w v : Window) (x : UnitItem) → IsUnitRunSoFar xs items w → GivesFrontUnits w x v → IsUnitRunSoFar xs (items ++ x ∷ []) v
-IsUnitRunSoFar-push = IsWindowRun-push utf16 2 unit_fault_kind decoded_pairs utf16_is_code no_units_where_kind
+pub IsUnitRunSoFar-push : {xs : List ℕ} {items : List UnitItem} {w v : Window} {x : UnitItem} → IsUnitRunSoFar xs items w → GivesFrontUnits w x v → IsUnitRunSoFar xs (items ++ x ∷ []) v
+IsUnitRunSoFar-push {xs} {items} {w} {v} {x} f g = IsWindowRun-push utf16 2 unit_fault_kind decoded_pairs utf16_is_code no_units_where_kind xs items w v x f g
 
 -- an item has an element
-pub item_some : (xs : List ℕ) (items : List Item) (w v : Window) (x : Item) → IsRunSoFar xs items w → GivesFront w x v → w.front < v.front
-item_some xs items w v x f g = let some = g.len.0 in rw g.left (omega arith)
+pub item_some : {xs : List ℕ} {items : List Item} {w v : Window} {x : Item} → IsRunSoFar xs items w → GivesFront w x v → w.front < v.front
+item_some f g = let some = g.len.0 in rw g.left (omega arith)
 
 -- a window that is not empty has a first item
 front_item : (w : Window) → w.front < w.back → w.back ≤ length w.whole → (x : Item) × GivesFront w x (without_front w x.2)
@@ -120,8 +120,8 @@ run_out (suc fuel) xs items w f enough =
     (λ (some : w.front < w.back).
     let first = front_item w some (rw (f.whole, f.end) (omega arith)) in
     let v = without_front w first.0.2 in
-    let shorter = item_some xs items w v first.0 f first.1 in
-    let rest = run_out fuel xs (items ++ first.0 ∷ []) v (IsRunSoFar-push xs items w v first.0 f first.1) (omega arith) in
+    let shorter = item_some f first.1 in
+    let rest = run_out fuel xs (items ++ first.0 ∷ []) v (IsRunSoFar-push f first.1) (omega arith) in
     rw (decoder_listed w (Some first.0) v first.1) (rw (← append_assoc items (first.0 ∷ []) (pieces_left v)) rest))
     (λ (none : w.back ≤ w.front). run_out_end xs items w f none)
     (cases_lt w.front w.back)

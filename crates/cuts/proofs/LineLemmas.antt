@@ -62,10 +62,10 @@ HoldsLines-sent line wrong xs old mid new held left n h sends =
     }
 
 -- what was held is written, or a front of it, and the line of the next entry is held
-pub HoldsLines-next : {X : Type 0} (line : X → List ℕ) (wrong : X → Bool) (xs : List X) (i : ℕ) (x : X) (old mid new : Option (List ℕ)) (held left : List ℕ) (n : ℕ)
+pub HoldsLines-next : {X : Type 0} {line : X → List ℕ} {wrong : X → Bool} (xs : List X) (i : ℕ) (x : X) {old mid new : Option (List ℕ)} {held left : List ℕ} {n : ℕ}
     → i < length xs → x ≡ get_or xs i x → HoldsLines line wrong (take i xs) old mid held n → Sends mid new held left
     → HoldsLines line wrong (take (i + 1) xs) old new (left ++ line x) (n + (if wrong x then 1 else 0))
-HoldsLines-next line wrong xs i x old mid new held left n lt is h sends =
+HoldsLines-next {line} {wrong} xs i x {old} {mid} {new} {held} {left} {n} lt is h sends =
     rw (take_more xs i x lt, ← is)
     (HoldsLines-push line wrong (take i xs) x old new left n (HoldsLines-sent line wrong (take i xs) old mid new held left n h sends))
 
@@ -89,9 +89,9 @@ AppendsFront-taken line xs i old new h =
     (rw (flat_map-append line (take i xs) (drop i xs)) (AppendsFront-first old new (flat_map line (take i xs)) (flat_map line (drop i xs)) h))
 
 -- the same where these are the first entries
-pub AppendsFront-failed : {X : Type 0} (line : X → List ℕ) (wrong : X → Bool) (xs : List X) (i : ℕ) (old mid new : Option (List ℕ)) (held : List ℕ) (n : ℕ)
+pub AppendsFront-failed : {X : Type 0} {line : X → List ℕ} {wrong : X → Bool} (xs : List X) (i : ℕ) {old mid : Option (List ℕ)} (new : Option (List ℕ)) {held : List ℕ} {n : ℕ}
     → HoldsLines line wrong (take i xs) old mid held n → AppendsFront mid new held → AppendsFront old new (flat_map line xs)
-AppendsFront-failed line wrong xs i old mid new held n h front =
+AppendsFront-failed {line} {wrong} xs i {old} {mid} new {held} {n} h front =
     AppendsFront-taken line xs i old new (AppendsFront-held line wrong (take i xs) old mid new held n h front)
 
 -- nothing is sent

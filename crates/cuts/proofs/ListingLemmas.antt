@@ -28,23 +28,23 @@ IsListedSoFar-none xs known held w e none =
     rw (e, none) (record { items = []; run = IsRunSoFar-none xs; lines = HoldsLines-none item_line is_fault known; few = omega arith })
 
 -- one line more
-pub IsListedSoFar-push : (xs : List ℕ) (old new : Option (List ℕ)) (held : List ℕ) (faults : ℕ) (w v : Window) (x : Item)
+pub IsListedSoFar-push : {xs : List ℕ} {old new : Option (List ℕ)} {held : List ℕ} {faults : ℕ} {w v : Window} {x : Item}
     → IsListedSoFar xs old new held faults w → GivesFront w x v → IsListedSoFar xs old new (held ++ item_line x) (faults + (if is_fault x then 1 else 0)) v
-IsListedSoFar-push xs old new held faults w v x f g =
+IsListedSoFar-push {xs} {old} {new} {held} {faults} {w} {v} {x} f g =
     let few = f.few in
-    let some = item_some xs f.items w v x f.run g in
+    let some = item_some f.run g in
     let one = one_at_most (is_fault x) in
     record {
       items = f.items ++ x ∷ [];
-      run = IsRunSoFar-push xs f.items w v x f.run g;
+      run = IsRunSoFar-push f.run g;
       lines = HoldsLines-push item_line is_fault f.items x old new held faults f.lines;
       few = omega arith;
     }
 
 -- lines that were held are written
-pub IsListedSoFar-sent : (xs : List ℕ) (old mid new : Option (List ℕ)) (held left : List ℕ) (faults : ℕ) (w : Window)
+pub IsListedSoFar-sent : {xs : List ℕ} {old mid new : Option (List ℕ)} {held left : List ℕ} {faults : ℕ} {w : Window}
     → IsListedSoFar xs old mid held faults w → Sends mid new held left → IsListedSoFar xs old new left faults w
-IsListedSoFar-sent xs old mid new held left faults w f sends =
+IsListedSoFar-sent {old} {mid} {new} {held} {left} {faults} f sends =
     record {
       items = f.items;
       run = f.run;
@@ -53,9 +53,9 @@ IsListedSoFar-sent xs old mid new held left faults w f sends =
     }
 
 -- the window is empty and nothing is held, so the listing is whole
-pub WritesListing-all : (xs : List ℕ) (old mid new : Option (List ℕ)) (held : List ℕ) (faults : ℕ) (w v : Window)
+pub WritesListing-all : {xs : List ℕ} {old mid new : Option (List ℕ)} {held : List ℕ} {faults : ℕ} {w v : Window}
     → IsListedSoFar xs old mid held faults w → GivesNone w v → Appends mid new held → WritesListing xs old new faults
-WritesListing-all xs old mid new held faults w v f g written =
+WritesListing-all {xs} {old} {mid} {new} {held} {faults} {w} {v} f g written =
     record { entries = f.items; run = IsForwardRun-all xs f.items w v f.run g; lines = WritesLines-held item_line is_fault f.items old mid new held faults f.lines written }
 
 -- what is listed so far is a front, and the lines to come are the rest
@@ -70,9 +70,9 @@ WritesListingFront-so_far xs old new items w run front =
     }
 
 -- the writer failed at the lines that were held
-pub WritesListingFront-failed : (xs : List ℕ) (old mid new : Option (List ℕ)) (held : List ℕ) (faults : ℕ) (w : Window)
+pub WritesListingFront-failed : {xs : List ℕ} {old mid new : Option (List ℕ)} {held : List ℕ} {faults : ℕ} {w : Window}
     → IsListedSoFar xs old mid held faults w → AppendsFront mid new held → WritesListingFront xs old new
-WritesListingFront-failed xs old mid new held faults w f front =
+WritesListingFront-failed {xs} {old} {mid} {new} {held} {faults} {w} f front =
     WritesListingFront-so_far xs old new f.items w f.run (AppendsFront-held item_line is_fault f.items old mid new held faults f.lines front)
 
 -- the whole listing is a front of it

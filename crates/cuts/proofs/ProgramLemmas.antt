@@ -36,15 +36,15 @@ WritesAskedFront-kept merged xs old mid new h keeps = WritesRunFront-kept merged
 WritesAskedFront-kept (walked word) xs old mid new h keeps = WritesRunFront-kept (walk_layout word) xs old mid new h keeps
 
 -- a flush changes nothing that was written
-pub TellsAsked-kept : (asked : Asked) (input old mid new : Option (List ℕ)) (m n : ℕ) → TellsAsked asked input old mid m → Keeps mid new → n ≡ m → TellsAsked asked input old new n
-TellsAsked-kept asked input old mid new m n h keeps same = record {
+pub TellsAsked-kept : {asked : Asked} {input old mid new : Option (List ℕ)} {m n : ℕ} → TellsAsked asked input old mid m → Keeps mid new → n ≡ m → TellsAsked asked input old new n
+TellsAsked-kept {asked} {old} {mid} {new} h keeps same = record {
   faults = h.faults;
   run = record { bytes = h.run.bytes; read = h.run.read; lines = WritesAsked-kept asked h.run.bytes old mid new h.faults h.run.lines keeps };
   told = same ∙ h.told;
 }
 
-pub BeginsAsked-kept : (asked : Asked) (input old mid new : Option (List ℕ)) → BeginsAsked asked input old mid → Keeps mid new → BeginsAsked asked input old new
-BeginsAsked-kept asked input old mid new h keeps = record { bytes = h.bytes; read = h.read; lines = WritesAskedFront-kept asked h.bytes old mid new h.lines keeps }
+pub BeginsAsked-kept : {asked : Asked} {input old mid new : Option (List ℕ)} → BeginsAsked asked input old mid → Keeps mid new → BeginsAsked asked input old new
+BeginsAsked-kept {asked} {old} {mid} {new} h keeps = record { bytes = h.bytes; read = h.read; lines = WritesAskedFront-kept asked h.bytes old mid new h.lines keeps }
 
 stays_after : {T : Type 0} (reason : Stop) (out mid new : Counting T) → FailsOrStays out mid reason → new ≡ mid → FlushFailsOrStays out new reason
 stays_after WrongArguments out mid new same kept = kept ∙ same
@@ -53,33 +53,33 @@ stays_after CannotWrite out mid new failed kept = inl (rw kept failed)
 stays_after NoMemory out mid new same kept = kept ∙ same
 
 -- the program ended early by its run, or by the flush after it
-pub ends_early : {T E : Type 0} (name : List ℕ) (reads : Stop → Type 0) (says : E → E → List ℕ → Type 0) (out mid new : Counting T) (f g h : E) (status result : ℕ)
+pub ends_early : {T E : Type 0} {name : List ℕ} {reads : Stop → Type 0} (says : E → E → List ℕ → Type 0) (out : Counting T) {mid new : Counting T} {f g h : E} {status result : ℕ}
     → (2 ≤ status → EndsEarly name reads (FailsOrStays out mid) (says f g) status)
-    → (status < 2 → reads CannotWrite) → (status < 2 → g ≡ f) → mid.extras ≡ out.extras
+    → (status < 2 → reads CannotWrite) → (status < 2 → g ≡ f) → mid.other_calls ≡ out.other_calls
     → (2 ≤ status → new ≡ mid)
-    → (new.extras.failed_flushes ≡ mid.extras.failed_flushes → (result ≡ status) × (h ≡ g))
-    → mid.extras.failed_flushes ≤ new.extras.failed_flushes
-    → (mid.extras.failed_flushes < new.extras.failed_flushes → result ≡ 3)
-    → (mid.extras.failed_flushes < new.extras.failed_flushes → says g h (stop_line name CannotWrite))
+    → (new.other_calls.failed_flushes ≡ mid.other_calls.failed_flushes → (result ≡ status) × (h ≡ g))
+    → mid.other_calls.failed_flushes ≤ new.other_calls.failed_flushes
+    → (mid.other_calls.failed_flushes < new.other_calls.failed_flushes → result ≡ 3)
+    → (mid.other_calls.failed_flushes < new.other_calls.failed_flushes → says g h (stop_line name CannotWrite))
     → 2 ≤ result → EndsEarly name reads (FlushFailsOrStays out new) (says f h) result
-ends_early name reads says out mid new f g h status result early unbroken silent extras stays whole never_fewer failed line late =
+ends_early {name} says out {mid} {new} {f} {h} {status} early unbroken silent other_calls stays whole never_fewer failed line late =
     ⊎_elim
     (λ (few : status < 2).
     ⊎_elim
-    (λ (rose : mid.extras.failed_flushes < new.extras.failed_flushes). record {
+    (λ (rose : mid.other_calls.failed_flushes < new.other_calls.failed_flushes). record {
       reason = CannotWrite;
       input = unbroken few;
-      output = inr (rw (← ap (λ e. e.failed_flushes) extras) rose);
+      output = inr (rw (← ap (λ e. e.failed_flushes) other_calls) rose);
       line = subst (λ e. says e h (stop_line name CannotWrite)) (silent few) (line rose);
       told = failed rose;
     })
-    (λ (fewer : new.extras.failed_flushes ≤ mid.extras.failed_flushes).
+    (λ (fewer : new.other_calls.failed_flushes ≤ mid.other_calls.failed_flushes).
     let same = (whole (omega arith)).0 in
     absurd (omega arith))
-    (cases_lt mid.extras.failed_flushes new.extras.failed_flushes))
+    (cases_lt mid.other_calls.failed_flushes new.other_calls.failed_flushes))
     (λ (many : 2 ≤ status).
     let kept = stays many in
-    let same = whole (ap (λ c. c.extras.failed_flushes) kept) in
+    let same = whole (ap (λ c. c.other_calls.failed_flushes) kept) in
     let ends = early many in
     record {
       reason = ends.reason;
@@ -91,6 +91,6 @@ ends_early name reads says out mid new f g h status result early unbroken silent
     (cases_lt status 2)
 
 -- the same where nothing is said of the output
-pub of_any_output : (name : List ℕ) (reads writes : Stop → Type 0) (says : List ℕ → Type 0) (status : ℕ) → EndsEarly name reads writes says status
+pub of_any_output : {name : List ℕ} {reads writes : Stop → Type 0} {says : List ℕ → Type 0} {status : ℕ} → EndsEarly name reads writes says status
     → EndsEarly name reads (λ reason. ⊤) says status
-of_any_output name reads writes says status ends = record { reason = ends.reason; input = ends.input; output = tt; line = ends.line; told = ends.told }
+of_any_output ends = record { reason = ends.reason; input = ends.input; output = tt; line = ends.line; told = ends.told }

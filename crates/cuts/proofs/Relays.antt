@@ -28,9 +28,9 @@ pub record IsRelayed (from to : Form) (in_old in_now out_old out_now : Option (L
   pub few : length r.held ≤ 3
   pub paced : (failures_old < failures_now) ⊎ (turns ≤ length bytes)
 
-pub IsRelayed-none : (from to : Form) (input out : Option (List ℕ)) (failures : ℕ) (r : Recoding) → r ≡ fresh from to
+pub IsRelayed-none : {from to : Form} {input out : Option (List ℕ)} {failures : ℕ} {r : Recoding} → r ≡ fresh from to
     → IsRelayed from to input input out out failures failures 0 r
-IsRelayed-none from to input out failures r e =
+IsRelayed-none {from} {to} {input} {out} e =
     rw e (record {
       bytes = [];
       grown = [];
@@ -44,10 +44,10 @@ IsRelayed-none from to input out failures r e =
     })
 
 -- a part was read, fed and written
-pub IsRelayed-part : (from to : Form) (in_old in_mid in_new out_old out_mid out_new : Option (List ℕ)) (f g h n : ℕ) (r s : Recoding) (part : List ℕ)
+pub IsRelayed-part : {from to : Form} {in_old in_mid in_new out_old out_mid out_new : Option (List ℕ)} {f g h n : ℕ} {r s : Recoding} {part : List ℕ}
     → IsRelayed from to in_old in_mid out_old out_mid f g n r → Consumes in_mid in_new part → 0 < length part → h ≡ g + 0
     → Passes r part out_mid out_new s → IsRelayed from to in_old in_new out_old out_new f h (n + 1) s
-IsRelayed-part from to in_old in_mid in_new out_old out_mid out_new f g h n r s part now taken some same (grown, fed, put) =
+IsRelayed-part {from} {to} {in_old} {in_mid} {in_new} {out_old} {out_mid} {out_new} {f} {g} {n} {r} {s} {part} now taken some same (grown, fed, put) =
     let grows = fed.grows in
     let then : Continues from to (r.held ++ part) grows.grown s.held = rw (now.from_same, now.to_same) at grows.continues in
     let first : Continues from to (now.bytes ++ part) now.grown (r.held ++ part) = Continues-append from to now.bytes now.grown r.held part now.continues in
@@ -69,10 +69,10 @@ IsRelayed-part from to in_old in_mid in_new out_old out_mid out_new f g h n r s 
     }
 
 -- a read failed
-pub IsRelayed-idle : (from to : Form) (in_old in_mid in_new out_old out_now : Option (List ℕ)) (f g h n : ℕ) (r : Recoding)
+pub IsRelayed-idle : {from to : Form} {in_old in_mid in_new out_old out_now : Option (List ℕ)} {f g h n : ℕ} {r : Recoding}
     → IsRelayed from to in_old in_mid out_old out_now f g n r → Keeps in_mid in_new → f ≤ g → h ≡ g + 1
     → IsRelayed from to in_old in_new out_old out_now f h (n + 1) r
-IsRelayed-idle from to in_old in_mid in_new out_old out_now f g h n r now keeps le more = record {
+IsRelayed-idle {in_old} {in_mid} {in_new} now keeps le more = record {
   bytes = now.bytes;
   grown = now.grown;
   from_same = now.from_same;
@@ -85,10 +85,10 @@ IsRelayed-idle from to in_old in_mid in_new out_old out_now f g h n r now keeps 
 }
 
 -- the reader is at its end, and what was held is written
-pub IsRelayed-all : (from to : Form) (in_old in_mid in_new out_old out_mid out_new : Option (List ℕ)) (f g n : ℕ) (r : Recoding)
+pub IsRelayed-all : {from to : Form} {in_old in_mid : Option (List ℕ)} (in_new : Option (List ℕ)) {out_old out_mid out_new : Option (List ℕ)} {f g n : ℕ} {r : Recoding}
     → IsRelayed from to in_old in_mid out_old out_mid f g n r → Consumes in_mid in_new [] → IsAtEnd in_new → PassesLast r out_mid out_new
     → WritesRecoded from to in_old out_old out_new
-IsRelayed-all from to in_old in_mid in_new out_old out_mid out_new f g n r now taken end (grown, last, put) =
+IsRelayed-all {from} {to} {in_old} {in_mid} in_new {out_old} {out_mid} {out_new} {r} now taken end (grown, last, put) =
     let all : grown ≡ last.grown = last.appended in
     let held : IsRecoded from to r.held last.grown = rw (now.from_same, now.to_same) at last.recoded in
     let whole : IsRecoded from to (now.bytes ++ []) (now.grown ++ last.grown) = now.continues [] last.grown (rw (append-nil r.held) held) in
@@ -107,9 +107,9 @@ IsRelayed-all from to in_old in_mid in_new out_old out_mid out_new f g n r now t
     bytes_of_input (Some zs) (Some us) xs h i = sym (h ∙ ap (λ w. xs ++ w) i ∙ append-nil xs)
 
 -- so many reads found no end in fewer bytes, so one failed
-pub IsRelayed-long : (from to : Form) (in_old in_now out_old out_now : Option (List ℕ)) (f g n most : ℕ) (r : Recoding)
+pub IsRelayed-long : {from to : Form} {in_old in_now out_old out_now : Option (List ℕ)} {f g n : ℕ} (most : ℕ) {r : Recoding}
     → IsRelayed from to in_old in_now out_old out_now f g n r → most ≤ n → IfSome in_old (λ xs. length xs < most → f < g)
-IsRelayed-long from to in_old in_now out_old out_now f g n most r now le = by_bytes in_old in_now now.bytes f g n most now.read now.paced le
+IsRelayed-long {in_old} {in_now} {f} {g} {n} most now le = by_bytes in_old in_now now.bytes f g n most now.read now.paced le
   where
     by_bytes : (a b : Option (List ℕ)) (xs : List ℕ) (f g n most : ℕ) → Consumes a b xs → (f < g) ⊎ (n ≤ length xs) → most ≤ n → IfSome a (λ ys. length ys < most → f < g)
     by_bytes None b xs f g n most h paced le = tt
@@ -140,9 +140,9 @@ BeginsRecoded-held from to in_old in_new out_old out_new bytes grown held read c
     }
 
 -- a read failed, so no more was written
-pub BeginsRecoded-now : (from to : Form) (in_old in_mid in_new out_old out_now : Option (List ℕ)) (f g n : ℕ) (r : Recoding)
+pub BeginsRecoded-now : {from to : Form} {in_old in_mid in_new out_old out_now : Option (List ℕ)} {f g n : ℕ} {r : Recoding}
     → IsRelayed from to in_old in_mid out_old out_now f g n r → Keeps in_mid in_new → BeginsRecoded from to in_old in_new out_old out_now
-BeginsRecoded-now from to in_old in_mid in_new out_old out_now f g n r now keeps =
+BeginsRecoded-now {from} {to} {in_old} {in_mid} {in_new} {out_old} {out_now} {r} now keeps =
     BeginsRecoded-held from to in_old in_new out_old out_now now.bytes now.grown r.held
     (Consumes-kept in_old in_mid in_new now.bytes now.read keeps) now.continues (AppendsFront-all out_old out_now now.grown now.written)
 
@@ -185,28 +185,28 @@ BeginsRecoded-last from to in_old in_mid in_new out_old out_mid out_new f g n r 
     }
 
 -- whatever the last write answered
-pub BeginsRecoded-end : {U : Type 0} (from to : Form) (in_old in_mid in_new out_old out_mid out_new : Option (List ℕ)) (f g n : ℕ) (r : Recoding) (result : Result U RecodeFault)
+pub BeginsRecoded-end : {U : Type 0} {from to : Form} {in_old in_mid in_new out_old out_mid out_new : Option (List ℕ)} {f g n : ℕ} {r : Recoding} (result : Result U RecodeFault)
     → IsRelayed from to in_old in_mid out_old out_mid f g n r → Consumes in_mid in_new [] → OnOk result (PassesLast r out_mid out_new)
     → (result ≡ Err Write → PassesLastFront r out_mid out_new) → (result ≡ Err Memory → out_new ≡ out_mid) → (result ≡ Err Read → ⊥)
     → BeginsRecoded from to in_old in_new out_old out_new
-BeginsRecoded-end from to in_old in_mid in_new out_old out_mid out_new f g n r (Ok done) now taken all front refused other =
+BeginsRecoded-end {from} {to} {in_old} {in_mid} {in_new} {out_old} {out_mid} {out_new} {f} {g} {n} {r} (Ok done) now taken all front refused other =
     BeginsRecoded-last from to in_old in_mid in_new out_old out_mid out_new f g n r now taken (all.0, all.1, AppendsFront-all out_mid out_new all.0 all.2)
-BeginsRecoded-end from to in_old in_mid in_new out_old out_mid out_new f g n r (Err Write) now taken all front refused other =
+BeginsRecoded-end {from} {to} {in_old} {in_mid} {in_new} {out_old} {out_mid} {out_new} {f} {g} {n} {r} (Err Write) now taken all front refused other =
     BeginsRecoded-last from to in_old in_mid in_new out_old out_mid out_new f g n r now taken (front refl)
-BeginsRecoded-end from to in_old in_mid in_new out_old out_mid out_new f g n r (Err Memory) now taken all front refused other =
+BeginsRecoded-end {from} {to} {in_old} {in_mid} {in_new} {out_old} {out_mid} {f} {g} {n} {r} (Err Memory) now taken all front refused other =
     rw (refused refl) (BeginsRecoded-refused from to in_old in_mid in_new out_old out_mid f g n r [] now taken)
-BeginsRecoded-end from to in_old in_mid in_new out_old out_mid out_new f g n r (Err Read) now taken all front refused other = absurd (other refl)
+BeginsRecoded-end (Err Read) now taken all front refused other = absurd (other refl)
 
 -- whatever fault a part had
-pub BeginsRecoded-fault : (from to : Form) (in_old in_mid in_new out_old out_mid out_new : Option (List ℕ)) (f g n : ℕ) (r s : Recoding) (part : List ℕ) (fault : RecodeFault)
+pub BeginsRecoded-fault : {from to : Form} {in_old in_mid in_new out_old out_mid out_new : Option (List ℕ)} {f g n : ℕ} {r s : Recoding} {part : List ℕ} (fault : RecodeFault)
     → IsRelayed from to in_old in_mid out_old out_mid f g n r → Consumes in_mid in_new part
     → (fault ≡ Write → PassesFront r part out_mid out_new s) → (fault ≡ Memory → out_new ≡ out_mid) → (fault ≡ Read → ⊥)
     → BeginsRecoded from to in_old in_new out_old out_new
-BeginsRecoded-fault from to in_old in_mid in_new out_old out_mid out_new f g n r s part Write now taken front refused other =
+BeginsRecoded-fault {from} {to} {in_old} {in_mid} {in_new} {out_old} {out_mid} {out_new} {f} {g} {n} {r} {s} {part} Write now taken front refused other =
     BeginsRecoded-part from to in_old in_mid in_new out_old out_mid out_new f g n r s part now taken (front refl)
-BeginsRecoded-fault from to in_old in_mid in_new out_old out_mid out_new f g n r s part Memory now taken front refused other =
+BeginsRecoded-fault {from} {to} {in_old} {in_mid} {in_new} {out_old} {out_mid} {f} {g} {n} {r} {part} Memory now taken front refused other =
     rw (refused refl) (BeginsRecoded-refused from to in_old in_mid in_new out_old out_mid f g n r part now taken)
-BeginsRecoded-fault from to in_old in_mid in_new out_old out_mid out_new f g n r s part Read now taken front refused other = absurd (other refl)
+BeginsRecoded-fault Read now taken front refused other = absurd (other refl)
 
 -- a reader of which nothing is left gives nothing
 pub from_nothing : (b : Option (List ℕ)) (xs : List ℕ) → Consumes (Some []) b xs → 0 < length xs → ⊥
@@ -227,8 +227,8 @@ fails_at_an_end Write f g h k reads writes refused = inr (writes refl)
 fails_at_an_end Memory f g h k reads writes refused = absurd (refused refl)
 
 -- where all of a known input was recoded, its one list was written
-pub AppendsRecoded-of : (from to : Form) (input old new : Option (List ℕ)) → WritesRecoded from to input old new → AppendsRecoded from to input old new
-AppendsRecoded-of from to None old new w = tt
-AppendsRecoded-of from to (Some xs) old new w =
+pub AppendsRecoded-of : {from to : Form} (input : Option (List ℕ)) {old new : Option (List ℕ)} → WritesRecoded from to input old new → AppendsRecoded from to input old new
+AppendsRecoded-of None w = tt
+AppendsRecoded-of {from} {to} (Some xs) {old} {new} w =
     let same : w.recoded ≡ recoded from to xs = same_list from to w.bytes w.recoded w.is_recoded ∙ ap (recoded from to) w.read in
     subst (λ ys. Appends old new ys) same w.written

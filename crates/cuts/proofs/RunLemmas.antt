@@ -37,10 +37,10 @@ DoesAsked-all args a bytes input old new (Ok faults) is read lines = λ asked as
     subst (λ b. DoesAsked b input old new faults) (one_asked args a asked is asks) (record { bytes = bytes; read = read; lines = lines })
 DoesAsked-all args a bytes input old new (Err stop) is read lines = tt
 
-pub BeginsAsked-all : (args : List (List ℕ)) (a : Asked) (bytes : List ℕ) (input old new : Option (List ℕ))
+pub BeginsAsked-all : (args : List (List ℕ)) (a : Asked) (bytes : List ℕ) {input old new : Option (List ℕ)}
     → Asks args a → IfSome input (λ xs. bytes ≡ xs) → WritesAskedFront a bytes old new
     → (asked : Asked) → Asks args asked → BeginsAsked asked input old new
-BeginsAsked-all args a bytes input old new is read lines asked asks =
+BeginsAsked-all args a bytes {input} {old} {new} is read lines asked asks =
     subst (λ b. BeginsAsked b input old new) (one_asked args a asked is asks) (record { bytes = bytes; read = read; lines = lines })
 
 -- where no call of the output failed it is as it was

@@ -66,9 +66,9 @@ pub record IsTextRelayed (from to : Form) (in_old in_now out_old out_now : Optio
   pub counted : length (text ++ r.held) < 2 ^ 64 → offset ≡ length (text ++ r.held)
   pub before : length r.held ≤ offset
 
-pub IsTextRelayed-none : (from to : Form) (input out : Option (List ℕ)) (failures : ℕ) (r : Recoding) → r ≡ fresh from to
+pub IsTextRelayed-none : {from to : Form} {input out : Option (List ℕ)} {failures : ℕ} {r : Recoding} → r ≡ fresh from to
     → IsTextRelayed from to input input out out failures failures 0 r 0
-IsTextRelayed-none from to input out failures r e =
+IsTextRelayed-none {from} {to} {input} {out} e =
     rw e (record {
       text = [];
       grown = [];
@@ -96,9 +96,9 @@ module _ {from to : Form} {in_old in_mid out_old out_mid : Option (List ℕ)} {f
   more_text text grown t = Transcodes-then now.transcodes (rw (now.from_same, now.to_same) at t)
 
   -- a part was read, fed and written
-  pub IsTextRelayed-part : (in_new out_new : Option (List ℕ)) (h more : ℕ) (s : Recoding) (part : List ℕ) → Consumes in_mid in_new part → 0 < length part → h ≡ g + 0
+  pub IsTextRelayed-part : {in_new out_new : Option (List ℕ)} {h more : ℕ} {s : Recoding} {part : List ℕ} → Consumes in_mid in_new part → 0 < length part → h ≡ g + 0
       → PassesText r part out_mid out_new s → more ≡ min (o + length part) (2 ^ 64 - 1) → IsTextRelayed from to in_old in_new out_old out_new f h (n + 1) s more
-  IsTextRelayed-part in_new out_new h more s part taken some same p sum =
+  IsTextRelayed-part {in_new} {out_new} {s} {part} taken some same p sum =
       let all = ap length (read_more part p.text s.held p.parts) in
       let both = length-append (now.text ++ r.held) part in
       let before = now.before in

@@ -388,7 +388,7 @@ StepForEach-to xs i j k before after e h = rw e h
 
 -- The run over bytes of which a part was replaced.
 
-module _ (ys : List ℕ) (s e t : ℕ) (items : List Item) (h : WereReplaced ys s e t items) where
+module _ {ys : List ℕ} {s e t : ℕ} {items : List Item} (h : WereReplaced ys s e t items) where
   length_new : length ys ≡ t + (length h.old - e)
   length_new = ap length h.replaced ∙ (length-splice h.old h.new s e h.ordered h.within ∙ ap (λ n. n + (length h.old - e)) (sym h.ends))
 
@@ -412,8 +412,8 @@ module _ (ys : List ℕ) (s e t : ℕ) (items : List Item) (h : WereReplaced ys 
       let whole = run_append ys 0 (s - 3) (length ys + 3) (take k items) (fresh ++ map (moved_item e t) (drop r items)) (omega arith) (omega arith) (kept_run k kept) following in
       record { cut = cut_to_end utf8 utf8_is_code ys 0 (length ys + 3) _ (omega arith) whole.cut; kinds = whole.kinds }
 
-  pub IsSplice-found : (k r from : ℕ) → IsSplitAt items (s - 3) k → IsSplitAt items (e + 3) r → EndsAt items k from → IsSplice ys s e t items k r from
-  IsSplice-found k r from kept resumed ends =
+  pub IsSplice-found : {k r from : ℕ} → IsSplitAt items (s - 3) k → IsSplitAt items (e + 3) r → EndsAt items k from → IsSplice ys s e t items k r from
+  IsSplice-found {k} {r} {from} kept resumed ends =
       let ends_at = h.ends in
       let ordered = h.ordered in
       let long = length_new in
@@ -430,17 +430,17 @@ module _ (ys : List ℕ) (s e t : ℕ) (items : List Item) (h : WereReplaced ys 
       }
 
   -- so many pieces were decoded as begin near what was replaced
-  pub least_at_spot : (k r from before after : ℕ) (fresh : List Item) → IsSplice ys s e t items k r from → IsForwardRunBetween ys from (t + 3) fresh
+  pub least_at_spot : {k r from : ℕ} (before after : ℕ) (fresh : List Item) → IsSplice ys s e t items k r from → IsForwardRunBetween ys from (t + 3) fresh
       → after ≡ before + length fresh → StepForEach ys (s - 3) (t + 3) before after
-  least_at_spot k r from before after fresh spot run counted =
+  least_at_spot {from} before after fresh spot run counted =
       let mid : IsForwardRunBetween ys (s - 3) (t + 3) fresh
       = record { cut = cut_from_before utf8 ys (s - 3) from (t + 3) (map piece_of fresh) spot.reached spot.none run.cut; kinds = run.kinds } in
       StepForEach-run ys (s - 3) (t + 3) before after fresh mid counted
 
-  pub IsRenewed-all : (k r from : ℕ) (fresh others : List Item) (steps_before steps : ℕ) → IsSplice ys s e t items k r from → IsForwardRunBetween ys from (t + 3) fresh
+  pub IsRenewed-all : {k r from : ℕ} {fresh others : List Item} {steps_before steps : ℕ} → IsSplice ys s e t items k r from → IsForwardRunBetween ys from (t + 3) fresh
       → others ≡ take k items ++ (fresh ++ map (moved_item e t) (drop r items)) → steps ≡ steps_before + length fresh → steps ≤ steps_before + (t + 3 - from)
       → IsRenewed ys s e t items others steps_before steps
-  IsRenewed-all k r from fresh others steps_before steps spot run same counted few =
+  IsRenewed-all {k} {r} {from} {fresh} {steps_before} {steps} spot run same counted few =
       let ends_at = h.ends in
       let reached = spot.reached in
       let mid : IsForwardRunBetween ys (s - 3) (t + 3) fresh

@@ -106,9 +106,9 @@ module _ {E : Type 0} where
       })
 
   -- after the last letter it is the walk of the word
-  pub IsWalk-all : (e : Encoding E) (xs : List ℕ) (word : List End) (answers : List (Option (Placed E))) (w : Window) (n : ℕ) → length word ≤ n → IsWalkSoFar e xs (take n word) answers w
+  pub IsWalk-all : (e : Encoding E) {xs : List ℕ} (word : List End) {answers : List (Option (Placed E))} {w : Window} (n : ℕ) → length word ≤ n → IsWalkSoFar e xs (take n word) answers w
       → IsWalk e xs (map side word) answers
-  IsWalk-all e xs word answers w n all f =
+  IsWalk-all e word {w} n all f =
       let whole : take n word ≡ word = take_all n word all in
       record { front = w.front; back = w.back; walks = rw whole at f.walks }
 
@@ -144,10 +144,14 @@ module _ {E : Type 0} where
 
 -- One call more of the decoder of bytes, and of that of units.
 
-pub byte_more : (xs : List ℕ) (word : List End) (answers : List (Option Item)) (w v : Window) (end : End) (a : Option Item) → IsWalkSoFar utf8_bytes xs word answers w
+pub byte_more : {xs : List ℕ} {word : List End} {answers : List (Option Item)} {w v : Window} (end : End) (a : Option Item) → IsWalkSoFar utf8_bytes xs word answers w
     → CallGives NextGives NextBackGives end w a v → IsWalkSoFar utf8_bytes xs (word ++ end ∷ []) (answers ++ a ∷ []) v
-byte_more = call_more utf8_bytes utf8_is_code no_code_where_fault NextGives NextBackGives 4 decoded decoded_end (λ w v g. g) (λ w v x g. g) (λ w v g. g) (λ w v x g. g)
+byte_more {xs} {word} {answers} {w} {v} end a f g =
+    call_more utf8_bytes utf8_is_code no_code_where_fault NextGives NextBackGives 4 decoded decoded_end (λ w v g. g) (λ w v x g. g) (λ w v g. g) (λ w v x g. g)
+    xs word answers w v end a f g
 
-pub unit_more : (xs : List ℕ) (word : List End) (answers : List (Option UnitItem)) (w v : Window) (end : End) (a : Option UnitItem) → IsWalkSoFar utf16_units xs word answers w
+pub unit_more : {xs : List ℕ} {word : List End} {answers : List (Option UnitItem)} {w v : Window} (end : End) (a : Option UnitItem) → IsWalkSoFar utf16_units xs word answers w
     → CallGives NextGivesUnits NextBackGivesUnits end w a v → IsWalkSoFar utf16_units xs (word ++ end ∷ []) (answers ++ a ∷ []) v
-unit_more = call_more utf16_units utf16_is_code no_units_where_kind NextGivesUnits NextBackGivesUnits 2 decoded_pairs decoded_pairs_end (λ w v g. g) (λ w v x g. g) (λ w v g. g) (λ w v x g. g)
+unit_more {xs} {word} {answers} {w} {v} end a f g =
+    call_more utf16_units utf16_is_code no_units_where_kind NextGivesUnits NextBackGivesUnits 2 decoded_pairs decoded_pairs_end (λ w v g. g) (λ w v x g. g) (λ w v g. g) (λ w v x g. g)
+    xs word answers w v end a f g

@@ -1,9 +1,11 @@
 -- What a run of a program has done once it ends.
-use Rattle.std.specs.Prelude.{◌≡◌, ℕ, ◌-◌, ◌^◌, ◌<◌, ◌==◌, ◌⊎◌, Bool, true, IsTrue, if◌then◌else◌, List, [], ◌∷◌, ◌++◌, length, Option, Some, IfSome, codes}
+use Rattle.std.specs.Prelude.{◌≡◌, ℕ, ◌-◌, ◌^◌, ◌<◌, ◌==◌, ◌⊎◌, IsTrue, if◌then◌else◌, List, [], ◌∷◌, ◌++◌, length, Option, Some, IfSome, codes}
 use Rattle.std.specs.Io.KnownBytes.{Appends}
+use Rattle.cuts.specs.declared.streams.Source as Source
+use Rattle.cuts.specs.declared.streams.Sink as Sink
 use Rattle.cuts.specs.declared.programs.stops.Stop.{Stop}
 use Rattle.cuts.specs.declared.programs.stops.Stop.TheVariants.{WrongArguments, CannotRead, CannotWrite, NoMemory}
-use Rattle.cuts.specs.Failures.{Counting, ReadCounts, AppendsFront}
+use Rattle.cuts.specs.Failures.{Counting, NoFailedRead, AppendsFront}
 use Rattle.cuts.specs.Arguments.{Asked, listed, merged, walked}
 use Rattle.cuts.specs.Layouts.{forward_layout, merged_layout, walk_layout, WritesRun, WritesRunFront}
 use Rattle.cuts.specs.declared.programs.recode_stream.RecodeFault.{RecodeFault}
@@ -80,25 +82,29 @@ FailsOrIsQuiet old new NoMemory = new.failures ≡ old.failures
 abbrev pub FlushFailsOrStays : {T : Type 0} → Counting T → Counting T → Stop → Type 0
 FlushFailsOrStays old new WrongArguments = new ≡ old
 FlushFailsOrStays old new CannotRead = new ≡ old
-FlushFailsOrStays old new CannotWrite = (old.failures < new.failures) ⊎ (old.extras.failed_flushes < new.extras.failed_flushes)
+FlushFailsOrStays old new CannotWrite = (old.failures < new.failures) ⊎ (old.other_calls.failed_flushes < new.other_calls.failed_flushes)
 FlushFailsOrStays old new NoMemory = new ≡ old
 
 -- Where reads are counted and a program could not read, one of them failed, but for a reader of as many bytes as there are
--- reads; where it ended for another reason, no read was broken off.
-abbrev pub ReadsUntil : {R : Type 0} → Bool → (R → Option (List ℕ)) → (R → ℕ) → (R → ReadCounts) → R → R → Stop → Type 0
-ReadsUntil counted left failures reads old new CannotRead = IsTrue counted → IfSome (left old) (λ xs. length xs < 2 ^ 64 - 1 → failures old < failures new)
-ReadsUntil counted left failures reads old new WrongArguments = IsTrue counted → (reads new).broken ≡ (reads old).broken
-ReadsUntil counted left failures reads old new CannotWrite = IsTrue counted → (reads new).broken ≡ (reads old).broken
-ReadsUntil counted left failures reads old new NoMemory = IsTrue counted → (reads new).broken ≡ (reads old).broken
+-- reads; where it ended for another reason, no read failed.
+abbrev pub ReadsUntil : {R : Type 0} → Source.Ghosts R → R → R → Stop → Type 0
+ReadsUntil source old new CannotRead =
+    IsTrue source.is_counted → IfSome (source.remaining old) (λ xs. length xs < 2 ^ 64 - 1 → source.failures old < source.failures new)
+ReadsUntil source old new WrongArguments = IsTrue source.is_counted → NoFailedRead (source.reads old) (source.reads new)
+ReadsUntil source old new CannotWrite = IsTrue source.is_counted → NoFailedRead (source.reads old) (source.reads new)
+ReadsUntil source old new NoMemory = IsTrue source.is_counted → NoFailedRead (source.reads old) (source.reads new)
 
 -- the same of a reader whose reads are counted
 abbrev pub CountsUntil : {R : Type 0} → (R → Option (List ℕ)) → Counting R → Counting R → Stop → Type 0
-CountsUntil left old new stop = ReadsUntil true (λ c. left c.inner) (λ c. c.failures) (λ c. c.reads) old new stop
+CountsUntil left old new CannotRead = IfSome (left old.inner) (λ xs. length xs < 2 ^ 64 - 1 → old.failures < new.failures)
+CountsUntil left old new WrongArguments = NoFailedRead old.reads new.reads
+CountsUntil left old new CannotWrite = NoFailedRead old.reads new.reads
+CountsUntil left old new NoMemory = NoFailedRead old.reads new.reads
 
 -- known bytes grew by a front of this line, and by the whole of it where writes are counted and none failed
-pub record Says {E : Type 0} (counted : Bool) (failures : E → ℕ) (contents : E → Option (List ℕ)) (old new : E) (line : List ℕ) : Type 0 where
-  pub front : AppendsFront (contents old) (contents new) line
-  pub whole : IsTrue counted → failures new ≡ failures old → Appends (contents old) (contents new) line
+pub record Says {E : Type 0} (sink : Sink.Ghosts E) (old new : E) (line : List ℕ) : Type 0 where
+  pub front : AppendsFront (sink.contents old) (sink.contents new) line
+  pub whole : IsTrue sink.is_counted → sink.failures new ≡ sink.failures old → Appends (sink.contents old) (sink.contents new) line
 
 -- a program ended early, and its input, its output, its line on standard error and its status are all of one reason
 pub record EndsEarly (name : List ℕ) (reads writes : Stop → Type 0) (says : List ℕ → Type 0) (status : ℕ) : Type 0 where

@@ -5,16 +5,16 @@ use Rattle.std.specs.IoError.{error_kind}
 use Rattle.std.specs.declared.io.Error.{Error}
 use Rattle.std.specs.declared.io.ErrorKind.TheVariants.{Interrupted, WriteZero}
 
--- What is known of the reads so far: how many were broken off, which is by an error other than an interruption; whether one
--- answered the end; and how many were made after that.
+-- What is known of the reads so far: how many failed, which is by an error other than an interruption; whether one answered
+-- the end; and how many were made after that.
 pub record ReadCounts : Type 0 where
-  pub broken : ℕ
+  pub failed_reads : ℕ
   pub ended : Bool
-  pub late : ℕ
+  pub reads_after_end : ℕ
 
 -- what a writer was asked for beside writing some bytes: how many writes had no bytes, how often it was flushed, and how many
 -- flushes failed
-pub record Extras : Type 0 where
+pub record OtherCalls : Type 0 where
   pub empty_puts : ℕ
   pub flushes : ℕ
   pub failed_flushes : ℕ
@@ -26,7 +26,26 @@ pub record Counting (T : Type 0) : Type 0 where
   pub failures : ℕ
   pub stalls : ℕ
   pub reads : ReadCounts
-  pub extras : Extras
+  pub other_calls : OtherCalls
+
+-- What was known of the reader or writer inside and what is known of it now are so related: of a writer the bytes that it
+-- holds, of a reader those that are left.
+abbrev pub Known : {T : Type 0} {Z : Type 1} → (T → Option (List ℕ)) → (Option (List ℕ) → Option (List ℕ) → Z) → Counting T → Counting T → Z
+Known bytes relation old new = relation (bytes old.inner) (bytes new.inner)
+
+-- the same of a reader and of the writer that gets what comes of it
+abbrev pub Pipes : {R W : Type 0} {Z : Type 1} → (R → Option (List ℕ)) → (W → Option (List ℕ))
+    → (Option (List ℕ) → Option (List ℕ) → Option (List ℕ) → Option (List ℕ) → Z)
+    → Counting R → Counting R → Counting W → Counting W → Z
+Pipes left held relation input_old input_new out_old out_new = Known held (Known left relation input_old input_new) out_old out_new
+
+-- no read failed meanwhile
+abbrev pub NoFailedRead : ReadCounts → ReadCounts → Type 0
+NoFailedRead old new = new.failed_reads ≡ old.failed_reads
+
+-- where no read had answered the end before, none was made after one that did
+abbrev pub NoReadAfterEnd : ReadCounts → ReadCounts → Type 0
+NoReadAfterEnd old new = old.ended ≡ false → new.reads_after_end ≡ old.reads_after_end
 
 -- 1 where a write of these bytes answered an error, or took none though there were some, and 0 elsewhere
 abbrev pub put_failures : {E : Type 0} → Result ℕ E → List ℕ → ℕ
@@ -45,10 +64,10 @@ abbrev pub TellsStall : {T : Type 0} → Result T Error → ℕ → ℕ → Type
 TellsStall (Ok done) old new = new ≡ old
 TellsStall (Err error) old new = old < new → error_kind error ≡ WriteZero
 
--- a write of no bytes is counted among the extras
-abbrev pub after_put : Extras → List ℕ → Extras
-after_put extras [] = record extras { empty_puts = extras.empty_puts + 1 }
-after_put extras (byte ∷ bytes) = extras
+-- a write of no bytes is counted among the other calls
+abbrev pub after_put : OtherCalls → List ℕ → OtherCalls
+after_put calls [] = record calls { empty_puts = calls.empty_puts + 1 }
+after_put calls (byte ∷ bytes) = calls
 
 -- 1 where a flush answered an error, and 0 elsewhere
 abbrev pub flush_failures : {T E : Type 0} → Result T E → ℕ
@@ -56,8 +75,8 @@ flush_failures (Err error) = 1
 flush_failures (Ok done) = 0
 
 -- and so is a flush
-abbrev pub after_flush : {T E : Type 0} → Extras → Result T E → Extras
-after_flush extras result = record { empty_puts = extras.empty_puts; flushes = extras.flushes + 1; failed_flushes = extras.failed_flushes + flush_failures result }
+abbrev pub after_flush : {T E : Type 0} → OtherCalls → Result T E → OtherCalls
+after_flush calls result = record { empty_puts = calls.empty_puts; flushes = calls.flushes + 1; failed_flushes = calls.failed_flushes + flush_failures result }
 
 -- 1 where a read answered an error, and 0 elsewhere
 abbrev pub take_failures : {E : Type 0} → Result ℕ E → ℕ
@@ -72,11 +91,11 @@ is_end (Ok count) (place ∷ places) = count == 0
 
 -- what one read into these places counts
 pub record CountsRead (old new : ReadCounts) (result : Result ℕ Error) (places : List ℕ) : Type 0 where
-  pub whole : OnOk result (new.broken ≡ old.broken)
-  pub interrupted : IfErr result (λ error. error_kind error ≡ Interrupted → new.broken ≡ old.broken)
-  pub broken : IfErr result (λ error. error_kind error ≢ Interrupted → new.broken ≡ old.broken + 1)
+  pub whole : OnOk result (NoFailedRead old new)
+  pub interrupted : IfErr result (λ error. error_kind error ≡ Interrupted → NoFailedRead old new)
+  pub failed_reads : IfErr result (λ error. error_kind error ≢ Interrupted → new.failed_reads ≡ old.failed_reads + 1)
   pub ended : new.ended ≡ (old.ended || is_end result places)
-  pub late : new.late ≡ (if old.ended then old.late + 1 else old.late)
+  pub reads_after_end : new.reads_after_end ≡ (if old.ended then old.reads_after_end + 1 else old.reads_after_end)
 
 -- known bytes grow by a front of these, as when a writer fails on the way
 abbrev pub AppendsFront : Option (List ℕ) → Option (List ℕ) → List ℕ → Type 0

@@ -7,7 +7,7 @@
 ghost use Rattle.std.specs.Prelude.{◌≡◌, ◌+◌, false};
 ghost use Rattle.std.specs.Io.{ReadsAtMost, WritesAtMost};
 ghost use Rattle.std.specs.Io.KnownBytes.{Keeps, ReadConsumes, WriteAppends};
-ghost use Rattle.cuts.specs.Failures.{put_failures, put_stalls, take_failures, after_put, after_flush, CountsRead};
+ghost use Rattle.cuts.specs.Failures.{Known, put_failures, put_stalls, take_failures, after_put, after_flush, CountsRead};
 
 use encode_unicode::Steps;
 use std::io;
@@ -21,9 +21,9 @@ pub struct Counted<T> {
     inner: T,
     failures: Steps,
     stalls: Steps,
-    broken: Steps,
+    failed_reads: Steps,
     ended: bool,
-    late: Steps,
+    reads_after_end: Steps,
     empty_puts: Steps,
     flushes: Steps,
     failed_flushes: Steps,
@@ -38,8 +38,8 @@ impl<T> Model for Counted<T> {
       inner = c.inner;
       failures = c.failures;
       stalls = c.stalls;
-      reads = record { broken = c.broken; ended = c.ended; late = c.late };
-      extras = record { empty_puts = c.empty_puts; flushes = c.flushes; failed_flushes = c.failed_flushes };
+      reads = record { failed_reads = c.failed_reads; ended = c.ended; reads_after_end = c.reads_after_end };
+      other_calls = record { empty_puts = c.empty_puts; flushes = c.flushes; failed_flushes = c.failed_flushes };
     } };
 }
 
@@ -50,20 +50,20 @@ impl<T> Counted<T> {
         ensures inner { result.inner ≡ inner }
         ensures failures { result.failures ≡ 0 }
         ensures stalls { result.stalls ≡ 0 }
-        ensures broken { result.reads.broken ≡ 0 }
+        ensures failed_reads { result.reads.failed_reads ≡ 0 }
         ensures ended { result.reads.ended ≡ false }
-        ensures late { result.reads.late ≡ 0 }
-        ensures empty_puts { result.extras.empty_puts ≡ 0 }
-        ensures flushes { result.extras.flushes ≡ 0 }
-        ensures failed_flushes { result.extras.failed_flushes ≡ 0 }
+        ensures reads_after_end { result.reads.reads_after_end ≡ 0 }
+        ensures empty_puts { result.other_calls.empty_puts ≡ 0 }
+        ensures flushes { result.other_calls.flushes ≡ 0 }
+        ensures failed_flushes { result.other_calls.failed_flushes ≡ 0 }
     {
         Counted {
             inner,
             failures: Steps::new(),
             stalls: Steps::new(),
-            broken: Steps::new(),
+            failed_reads: Steps::new(),
             ended: false,
-            late: Steps::new(),
+            reads_after_end: Steps::new(),
             empty_puts: Steps::new(),
             flushes: Steps::new(),
             failed_flushes: Steps::new(),
@@ -79,9 +79,9 @@ impl<T> Counted<T> {
             inner,
             failures: _,
             stalls: _,
-            broken: _,
+            failed_reads: _,
             ended: _,
-            late: _,
+            reads_after_end: _,
             empty_puts: _,
             flushes: _,
             failed_flushes: _,
@@ -100,11 +100,10 @@ impl<W: Write> Counted<W> {
     #[inline(always)]
     pub fn put(&mut self, bytes: &[u8]) -> io::Result<usize>
         ensures at_most { WritesAtMost result bytes.now }
-        ensures appends { WriteAppends (W.contents self.old.inner) (W.contents self.new.inner)
-            result bytes.now }
+        ensures appends { Known W.contents WriteAppends self.old self.new result bytes.now }
         ensures failures { self.new.failures ≡ self.old.failures + put_failures result bytes.now }
         ensures stalls { self.new.stalls ≡ self.old.stalls + put_stalls result bytes.now }
-        ensures extras { self.new.extras ≡ after_put self.old.extras bytes.now }
+        ensures other_calls { self.new.other_calls ≡ after_put self.old.other_calls bytes.now }
         ensures reads { self.new.reads ≡ self.old.reads }
     {
         if bytes.is_empty() {
@@ -129,10 +128,10 @@ impl<W: Write> Counted<W> {
     /// Cost: that of the call.
     #[inline(always)]
     pub fn flush(&mut self) -> io::Result<()>
-        ensures keeps { Keeps (W.contents self.old.inner) (W.contents self.new.inner) }
+        ensures keeps { Known W.contents Keeps self.old self.new }
         ensures failures { self.new.failures ≡ self.old.failures }
         ensures stalls { self.new.stalls ≡ self.old.stalls }
-        ensures extras { self.new.extras ≡ after_flush self.old.extras result }
+        ensures other_calls { self.new.other_calls ≡ after_flush self.old.other_calls result }
         ensures reads { self.new.reads ≡ self.old.reads }
     {
         self.flushes.tick();
@@ -153,15 +152,14 @@ impl<R: Read> Counted<R> {
     #[inline(always)]
     pub fn take(&mut self, buf: &mut [u8]) -> io::Result<usize>
         ensures at_most { ReadsAtMost result buf.new }
-        ensures consumes { ReadConsumes (R.remaining self.old.inner) (R.remaining self.new.inner)
-            result buf.new }
+        ensures consumes { Known R.remaining ReadConsumes self.old self.new result buf.new }
         ensures failures { self.new.failures ≡ self.old.failures + take_failures result }
         ensures stalls { self.new.stalls ≡ self.old.stalls }
         ensures reads { CountsRead self.old.reads self.new.reads result buf.new }
-        ensures extras { self.new.extras ≡ self.old.extras }
+        ensures other_calls { self.new.other_calls ≡ self.old.other_calls }
     {
         if self.ended {
-            self.late.tick();
+            self.reads_after_end.tick();
         }
         let given = self.inner.read(buf);
         if given.is_err() {
@@ -169,7 +167,7 @@ impl<R: Read> Counted<R> {
         }
         match &given {
             Ok(count) => self.ended = self.ended || (*count == 0 && !buf.is_empty()),
-            Err(error) if error.kind() != ErrorKind::Interrupted => self.broken.tick(),
+            Err(error) if error.kind() != ErrorKind::Interrupted => self.failed_reads.tick(),
             Err(_) => {}
         }
         given

@@ -141,7 +141,8 @@ fn redecode<A: Allocator>(
     requires fresh_room { after - start + 6 ≤ vec_capacity fresh.old }
     requires room { vec_len pieces.old + (after - start + 6) ≤ vec_capacity pieces.old }
     ensures done { IsOk result }
-    ensures renewed { IsRenewed bytes.now start end after pieces.old.items pieces.new.items steps.old steps.new }
+    ensures renewed { IsRenewed bytes.now start end after
+        pieces.old.items pieces.new.items steps.old steps.new }
 {
     let spot = find_splice(bytes, start, end, after, pieces.as_slice());
     decode_pieces(bytes, spot.from, after + 3, fresh, steps)?;

@@ -2,7 +2,7 @@
 ghost use Rattle.std.specs.Prelude.{◌≡◌, ◌+◌, ◌<◌, ◌≤◌, IsTrue, Option, ℕ, Bool, List, OnOk, OnErr};
 ghost use Rattle.std.specs.Io.{ReadsAtMost, WritesAtMost};
 ghost use Rattle.std.specs.Io.KnownBytes.{Appends, ReadConsumes, WriteAppends};
-ghost use Rattle.cuts.specs.Failures.{ReadCounts, Extras, put_failures, put_stalls, take_failures, after_put, CountsRead, AppendsFront, TellsStall};
+ghost use Rattle.cuts.specs.Failures.{ReadCounts, OtherCalls, put_failures, put_stalls, take_failures, after_put, CountsRead, AppendsFront, TellsStall};
 
 use crate::counted::Counted;
 use std::io;
@@ -41,7 +41,7 @@ impl<R: Read> Source for R {
 
     ghost failures = { λ _. 0 };
 
-    ghost reads = { λ _. record { broken = 0; ended = false; late = 0 } };
+    ghost reads = { λ _. record { failed_reads = 0; ended = false; reads_after_end = 0 } };
 
     #[inline(always)]
     fn read_once(&mut self, buf: &mut [u8]) -> io::Result<usize> {
@@ -81,7 +81,7 @@ pub trait Sink {
     ghost stalls: { Self → ℕ };
 
     // what else is known of the writes
-    ghost extras: { Self → Extras };
+    ghost other_calls: { Self → OtherCalls };
 
     /// One call of the writer's `write`, with its answer.
     ///
@@ -92,7 +92,8 @@ pub trait Sink {
         ensures failures { IsTrue is_counted →
             failures self.new ≡ failures self.old + put_failures result bytes.now }
         ensures stalls { IsTrue is_counted → stalls self.new ≡ stalls self.old + put_stalls result bytes.now }
-        ensures extras { IsTrue is_counted → extras self.new ≡ after_put (extras self.old) bytes.now };
+        ensures other_calls { IsTrue is_counted →
+            other_calls self.new ≡ after_put (other_calls self.old) bytes.now };
 }
 
 impl<W: Write> Sink for W {
@@ -106,7 +107,7 @@ impl<W: Write> Sink for W {
 
     ghost stalls = { λ _. 0 };
 
-    ghost extras = { λ _. record { empty_puts = 0; flushes = 0; failed_flushes = 0 } };
+    ghost other_calls = { λ _. record { empty_puts = 0; flushes = 0; failed_flushes = 0 } };
 
     #[inline(always)]
     fn write_once(&mut self, bytes: &[u8]) -> io::Result<usize> {
@@ -125,7 +126,7 @@ impl<W: Write> Sink for Counted<W> {
 
     ghost stalls = { λ c. c.stalls };
 
-    ghost extras = { λ c. c.extras };
+    ghost other_calls = { λ c. c.other_calls };
 
     #[inline(always)]
     fn write_once(&mut self, bytes: &[u8]) -> io::Result<usize> {
@@ -145,7 +146,7 @@ pub(crate) fn write_whole<S: Sink>(bytes: &[u8], to: &mut S) -> io::Result<()>
     ensures err { IsTrue S.is_counted → OnErr result (S.failures to.old < S.failures to.new) }
     ensures never_fewer { IsTrue S.is_counted → S.failures to.old ≤ S.failures to.new }
     ensures stalls { IsTrue S.is_counted → TellsStall result (S.stalls to.old) (S.stalls to.new) }
-    ensures extras { IsTrue S.is_counted → S.extras to.new ≡ S.extras to.old }
+    ensures other_calls { IsTrue S.is_counted → S.other_calls to.new ≡ S.other_calls to.old }
 {
     let mut sent = 0;
     while sent < bytes.len() {

@@ -88,12 +88,12 @@ recoded_begun text m utf is = rw (is, range_all text) (recoded_none text utf)
     range_all : (xs : List ℕ) → slice_range xs 0 (length xs) ≡ xs
     range_all xs = grind (arith, common_steps)
 
-pub recoded_answer : (text again old new : List ℕ) (r : Result ℕ Utf16PairError) (s : ℕ) → IsRecodedSoFar text again old → r ≡ Ok s → TakesFront utf16 unit_fault_kind old (Some r) new → IsRecodedSoFar text (again ++ utf8 s) new
-recoded_answer text again old new (Ok t) s before is takes =
+pub recoded_answer : {text again old new : List ℕ} {r : Result ℕ Utf16PairError} (s : ℕ) → IsRecodedSoFar text again old → r ≡ Ok s → TakesFront utf16 unit_fault_kind old (Some r) new → IsRecodedSoFar text (again ++ utf8 s) new
+recoded_answer {text} {again} {old} {new} {r = (Ok t)} s before is takes =
     let same : t ≡ s = cc in
     rw (← same) (recoded_char text again old new t before takes.0 takes.1)
-recoded_answer text again old new (Err k) s before is takes = absurd (cc is)
+recoded_answer {r = (Err k)} s before is takes = absurd (cc is)
 
-pub recoded_no_error : (text again old new : List ℕ) (r : Result ℕ Utf16PairError) (k : Utf16PairError) → IsRecodedSoFar text again old → r ≡ Err k → TakesFront utf16 unit_fault_kind old (Some r) new → ⊥
-recoded_no_error text again old new (Ok s) k before is takes = absurd (cc is)
-recoded_no_error text again old new (Err e) k before is takes = recoded_fault text again old new _ e before takes.0 takes.1
+pub recoded_no_error : {text again old : List ℕ} (new : List ℕ) {r : Result ℕ Utf16PairError} {k : Utf16PairError} → IsRecodedSoFar text again old → r ≡ Err k → TakesFront utf16 unit_fault_kind old (Some r) new → ⊥
+recoded_no_error new {r = (Ok s)} before is takes = absurd (cc is)
+recoded_no_error {text} {again} {old} new {r = (Err e)} before is takes = recoded_fault text again old new _ e before takes.0 takes.1

@@ -19,10 +19,10 @@ pub record IsRecordSoFar (units text following : List ℕ) : Type 0 where
   pub is_text : text ≡ flat_map utf8 scalars
   pub split : units ≡ flat_map utf16 scalars ++ following
 
-pub record_char : (units text old new : List ℕ) (r : Result ℕ Utf16PairError) (s : ℕ) → IsRecordSoFar units text old → r ≡ Ok s → s ≢ 0 → TakesFront utf16 unit_fault_kind old (Some r) new
+pub record_char : {units text old new : List ℕ} {r : Result ℕ Utf16PairError} (s : ℕ) → IsRecordSoFar units text old → r ≡ Ok s → s ≢ 0 → TakesFront utf16 unit_fault_kind old (Some r) new
     → IsRecordSoFar units (text ++ utf8 s) new
-record_char units text old new (Err k) s before is some takes = absurd (cc is)
-record_char units text old new (Ok t) s before is some takes =
+record_char {r = (Err k)} s before is some takes = absurd (cc is)
+record_char {old} {new} {r = (Ok t)} s before is some takes =
     let same : t ≡ s = cc in
     let h : IsScalar s × (old ≡ utf16 s ++ new) = rw (← same) takes in
     record {
@@ -36,10 +36,10 @@ zero_unit : utf16 0 ≡ 0 ∷ []
 unfolding utf16
 zero_unit = refl
 
-pub record_zero : (units text old new : List ℕ) (r : Result ℕ Utf16PairError) (s : ℕ) → IsRecordSoFar units text old → r ≡ Ok s → s ≡ 0 → TakesFront utf16 unit_fault_kind old (Some r) new
+pub record_zero : {units text old new : List ℕ} {r : Result ℕ Utf16PairError} {s : ℕ} → IsRecordSoFar units text old → r ≡ Ok s → s ≡ 0 → TakesFront utf16 unit_fault_kind old (Some r) new
     → IsRecord units text Zero new
-record_zero units text old new (Err k) s before is zero takes = absurd (cc is)
-record_zero units text old new (Ok t) s before is zero takes =
+record_zero {r = (Err k)} before is zero takes = absurd (cc is)
+record_zero {old} {new} {r = (Ok t)} before is zero takes =
     let same : t ≡ 0 = cc in
     let h : IsScalar 0 × (old ≡ utf16 0 ++ new) = rw (← same) takes in
     record { scalars = before.scalars; all = before.all; is_text = before.is_text; end = old; split = before.split; ends = h.1 ∙ ap (λ ys. ys ++ new) zero_unit }

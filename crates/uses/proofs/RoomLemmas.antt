@@ -20,12 +20,12 @@ joined_fronts xs ys post n m a b =
     ap (λ k. take (k + m) (take n xs ++ (ys ++ post))) (sym len) ∙ take-append-add (take n xs) (ys ++ post) m ∙ ap (λ zs. take n xs ++ zs) (take-append-le m ys post b)
 
 -- one part into the room, and then the end into what is left of it
-pub in_room : FeedsInRoom → RoomIsLeft → FinishesInRoom → (from to : Form) (r s t : Recoding) (bytes old mid old2 new2 post : List ℕ) (read wrote more : ℕ) (full last : Bool)
+pub in_room : FeedsInRoom → RoomIsLeft → FinishesInRoom → {from to : Form} {r s t : Recoding} {bytes old mid old2 new2 : List ℕ} (post : List ℕ) {read wrote more : ℕ} (full last : Bool)
     → r ≡ fresh from to → FeedsInto r bytes old mid read wrote s → (IsTrue full → IsFull s bytes read (length old - wrote))
     → (IsFalse full → read ≡ length bytes) → FinishesInto s old2 new2 more t → (IsTrue last → IsLastFull t (length old2 - more))
     → (IsFalse last → (out : List ℕ) → Finishes s out (out ++ take more new2)) → length mid ≡ length old → length old2 ≡ length old - wrote → length new2 ≡ length old2
     → HasRoom from to bytes (length old) → IsRecoded from to bytes (take (wrote + more) (take wrote mid ++ (new2 ++ post)))
-in_room feeds left ends from to r s t bytes old mid old2 new2 post read wrote more full last e f is_full all g is_last done same_mid len2 same2 room =
+in_room feeds left ends {from} {to} {r} {s} {t} {bytes} {old} {mid} {old2} {new2} post {read} {wrote} {more} full last e f is_full all g is_last done same_mid len2 same2 room =
     let room_before : HasRoom r.from r.to (r.held ++ bytes) (length old) = subst (λ (x : Recoding). HasRoom x.from x.to (x.held ++ bytes) (length old)) (sym e) room in
     let read_all : read ≡ length bytes = where_not full is_full (feeds r s bytes old mid read wrote f same_mid room_before) all in
     let taken : take read bytes ≡ bytes = take_all read bytes (omega arith) in

@@ -37,8 +37,8 @@ pub record Passes (xs : List ℕ) (w v : Window) (n : ℕ) : Type 0 where
   pub front : v.front ≡ w.front + n
   pub high : 1 < n → (q : ℕ) → w.front ≤ q → q < w.front + n → 128 ≤ get_or xs q 0
 
-pub passes : AsciiStandsAlone → PiecesNeverOverlap utf8 → (xs : List ℕ) (items : List Item) (w v : Window) (x : Item) → IsRunSoFar xs items w → GivesFront w x v → Passes xs w v x.2
-passes alone apart xs items w v x f g =
+pub passes : AsciiStandsAlone → PiecesNeverOverlap utf8 → {xs : List ℕ} {items : List Item} {w v : Window} {x : Item} → IsRunSoFar xs items w → GivesFront w x v → Passes xs w v x.2
+passes alone apart {xs} {w} {x} f g =
     let lt : w.front < length xs = rw (← f.end) g.some in
     let piece : IsFrontPiece (slice_range xs w.front (length xs)) x.1 x.2 = rw (f.whole, f.end) at g.piece in
     let at : AtFront utf8 fault_kind xs w.front x.2 x.1 = at_front utf8 fault_kind utf8_is_code no_code_where_fault xs w.front x.2 x.1 lt f.run.outside piece in

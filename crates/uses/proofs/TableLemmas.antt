@@ -66,14 +66,14 @@ pub record CountsSoFar (text seen : List ℕ) (w : Window) (table : ℕ → Opti
   pub counted : CountsEach seen table
   pub read : IsReadSoFar text seen w
 
-pub one_fits : (text seen : List ℕ) (w v : Window) (s m : ℕ) (table : ℕ → Option ℕ) → CountsSoFar text seen w table → NextScalar w (Some s) v → length text < m → count_at table s + 1 < m
-one_fits text seen w v s m table before step fits =
+pub one_fits : {text seen : List ℕ} {w : Window} (v : Window) (s m : ℕ) {table : ℕ → Option ℕ} → CountsSoFar text seen w table → NextScalar w (Some s) v → length text < m → count_at table s + 1 < m
+one_fits {text} {seen} {w} v s m {table} before step fits =
     let few = count_few seen table s before.counted in
     let more = (read_more text seen w v s before.read step).0 in
     omega arith
 
-pub one_counted : (text seen : List ℕ) (w v : Window) (s : ℕ) (old new : ℕ → Option ℕ) → CountsSoFar text seen w old → NextScalar w (Some s) v → CountsOneMore old new s → CountsSoFar text (seen ++ s ∷ []) v new
-one_counted text seen w v s old new before step more = record { counted = counts_push seen old new s before.counted more; read = (read_more text seen w v s before.read step).1 }
+pub one_counted : {text seen : List ℕ} {w v : Window} {s : ℕ} {old new : ℕ → Option ℕ} → CountsSoFar text seen w old → NextScalar w (Some s) v → CountsOneMore old new s → CountsSoFar text (seen ++ s ∷ []) v new
+one_counted {text} {seen} {w} {v} {s} {old} {new} before step more = record { counted = counts_push seen old new s before.counted more; read = (read_more text seen w v s before.read step).1 }
 
 pub all_counted : (text seen : List ℕ) (w v : Window) (table : ℕ → Option ℕ) → CountsSoFar text seen w table → NextScalar w None v → CountsEach (chars text) table
 all_counted text seen w v table before step = rw (← read_all text seen w v before.read step) before.counted

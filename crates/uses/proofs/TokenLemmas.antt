@@ -100,9 +100,9 @@ standing : (xs : List ℕ) (w v : Window) (n s : ℕ) → IsNext xs w v n → w.
 standing xs w v n s next le h = (front_char utf8 utf8_is_code xs w.front (length xs) s le (omega arith) (rw (← next.same) h)).0.0
 
 -- another character has no delimiter in its code
-pub tokens_other : AsciiStandsAlone → CodesNeverOverlap utf8 → (xs : List ℕ) (d start : ℕ) (ts : List (List ℕ)) (w v : Window) (x : Item) (s : ℕ) → d < 128
+pub tokens_other : AsciiStandsAlone → CodesNeverOverlap utf8 → {xs : List ℕ} {d start : ℕ} {ts : List (List ℕ)} {w v : Window} {x : Item} (s : ℕ) → d < 128
     → IsTokenizedSoFar xs d ts start w → GivesFront w x v → x.1 ≡ Ok s → s ≢ d → IsTokenizedSoFar xs d ts start v
-tokens_other alone apart xs d start ts w v x s ascii before step is other =
+tokens_other alone apart {xs} {d} {start} {ts} {w} {v} {x} s ascii before step is other =
     let next = next_of xs d start ts w v x before step in
     let begins : Stands utf8 (elements w) 0 s × (x.2 ≡ length (utf8 s)) = rw is at step.piece in
     let first = standing xs w v x.2 s next before.within begins.0 in
@@ -113,9 +113,9 @@ tokens_other alone apart xs d start ts w v x s ascii before step is other =
     ⊎_elim (λ lt. let over = both.1 lt in let len = begins.1 in absurd (omega arith)) (λ ge. absurd (other (both.0 (omega arith)))) (cases_lt w.front q))
 
 -- nor is a faulty byte one
-pub tokens_fault : AsciiStandsAlone → (xs : List ℕ) (d start : ℕ) (ts : List (List ℕ)) (w v : Window) (x : Item) (k : Utf8ErrorKind) → d < 128
+pub tokens_fault : AsciiStandsAlone → {xs : List ℕ} {d start : ℕ} {ts : List (List ℕ)} {w v : Window} {x : Item} {k : Utf8ErrorKind} → d < 128
     → IsTokenizedSoFar xs d ts start w → GivesFront w x v → x.1 ≡ Err k → IsTokenizedSoFar xs d ts start v
-tokens_fault alone xs d start ts w v x k ascii before step is =
+tokens_fault alone {xs} {d} {start} {ts} {w} {v} {x} {k} ascii before step is =
     let next = next_of xs d start ts w v x before step in
     let fault : (fault_kind (elements w) ≡ Some k) × (x.2 ≡ 1) = rw is at step.piece in
     let one = fault.1 in
@@ -130,9 +130,9 @@ pub shown_push : (tokens before : List (Bor (List ℕ))) (token : Bor (List ℕ)
 shown_push tokens before token is = ap (map (λ x. x.now)) is ∙ map-append (λ (x : Bor (List ℕ)). x.now) before (token ∷ [])
 
 -- a delimiter ends a token
-pub tokens_push : (xs : List ℕ) (d start : ℕ) (ts : List (List ℕ)) (w v : Window) (x : Item) (s : ℕ) (t : List ℕ) → d < 128
+pub tokens_push : {xs : List ℕ} {d start : ℕ} {ts : List (List ℕ)} {w v : Window} {x : Item} (s : ℕ) {t : List ℕ} → d < 128
     → IsTokenizedSoFar xs d ts start w → GivesFront w x v → x.1 ≡ Ok s → s ≡ d → t ≡ slice_range xs start w.front → IsTokenizedSoFar xs d (ts ++ t ∷ []) (w.front + 1) v
-tokens_push xs d start ts w v x s t ascii before step is delimiter token =
+tokens_push {xs} {d} {start} {ts} {w} {v} {x} s {t} ascii before step is delimiter token =
     let next = next_of xs d start ts w v x before step in
     let begins : Stands utf8 (elements w) 0 d × (x.2 ≡ length (utf8 d)) = rw (is, delimiter) at step.piece in
     let code = ascii_code d ascii in
@@ -156,8 +156,8 @@ tokens_push xs d start ts w v x s t ascii before step is delimiter token =
     }
 
 -- what is left is the last
-pub tokens_all : (xs : List ℕ) (d start : ℕ) (ts : List (List ℕ)) (w : Window) (t : List ℕ) → IsTokenizedSoFar xs d ts start w → w.front ≡ w.back → t ≡ slice_range xs start (length xs) → AreTokensOf xs d (ts ++ t ∷ [])
-tokens_all xs d start ts w t before end token =
+pub tokens_all : {xs : List ℕ} {d start : ℕ} {ts : List (List ℕ)} {w : Window} {t : List ℕ} → IsTokenizedSoFar xs d ts start w → w.front ≡ w.back → t ≡ slice_range xs start (length xs) → AreTokensOf xs d (ts ++ t ∷ [])
+tokens_all {xs} {d} {start} {ts} {w} {t} before end token =
     let back = before.back in
     let all : w.front ≡ length xs = end ∙ before.back in
     let rest : drop start xs ≡ t = after_range xs start (length xs) (omega (arith, before.ordered)) ∙ (λ i. sym token i ++ none i) ∙ append-nil t in

@@ -1,6 +1,7 @@
 pub mod Counts
 pub mod Cursor
 pub mod Initials
+pub mod Parts
 pub mod Records
 pub mod Tables
 pub mod Tokens

@@ -8,6 +8,10 @@ pub record StandsAt (xs needle : List ℕ) (p : ℕ) : Type 0 where
   pub within : p + length needle ≤ length xs
   pub equal : slice_range xs p (p + length needle) ≡ needle
 
--- each byte that stands there is a character by itself
+-- the byte b is a character by itself at the place p
+abbrev pub IsOwnPiece : List ℕ → ℕ → ℕ → Type 0
+IsOwnPiece xs p b = IsPiece utf8 xs (record { start = p; len = 1; char = Some b })
+
+-- each byte that stands there is one
 abbrev pub AreOwnPieces : List ℕ → List ℕ → ℕ → Type 0
-AreOwnPieces xs needle p = (k : ℕ) → k < length needle → IsPiece utf8 xs (record { start = p + k; len = 1; char = Some (slice_index needle k) })
+AreOwnPieces xs needle p = (k : ℕ) → k < length needle → IsOwnPiece xs (p + k) (slice_index needle k)

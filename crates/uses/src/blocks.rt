@@ -1,7 +1,7 @@
 //! How many characters of one block of Unicode the bytes of any source have, as who guesses the script of a text asks.
-ghost use Rattle.std.specs.Prelude.{◌≡◌, ℕ, List, IfOk, count_by};
+ghost use Rattle.std.specs.Prelude.{◌≡◌, IfOk, count_by};
 ghost use Rattle.std.specs.Iterator.{IsFinite};
-ghost use Rattle.encode_unicode.specs.Sources.{IsListed};
+ghost use Rattle.cuts.specs.Collected.{WhateverIsLeft};
 ghost use Rattle.uses.specs.Blocks.{CountsBlock, is_in_block};
 
 use cuts::merge_utf8;
@@ -18,7 +18,7 @@ pub fn count_block<A: Allocator, I: Iterator<Item = u8>>(
 ) -> Result<usize, AllocError>
     requires can { I.can_next source }
     requires ends { IsFinite (I.remaining source) }
-    ensures { (rest : I → List ℕ) → IsListed I.next_gives rest → IfOk result (CountsBlock (rest source) first last) }
+    ensures { WhateverIsLeft I.next_gives (λ rest. IfOk result (CountsBlock (rest source) first last)) }
 {
     let answers = merge_utf8(alloc, source)?;
     Ok(count_answers(&answers, first, last))

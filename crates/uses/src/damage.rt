@@ -1,8 +1,9 @@
 //! What the laws say of damaged bytes.
-ghost use Rattle.std.specs.Prelude.{◌≡◌, ◌<◌, ℕ, Contains, IfSome, IsTrue, Ok, Some, count_by, length, nat_eq, slice_index};
+ghost use Rattle.std.specs.Prelude.{◌≡◌, ◌<◌, ℕ, Contains, IfSome, IsTrue, Ok, count_by, length, nat_eq, slice_index};
 ghost use Rattle.encode_unicode.specs.Code.{utf8};
-ghost use Rattle.encode_unicode.specs.Piece.{Inside, IsPiece, Stands};
+ghost use Rattle.encode_unicode.specs.Piece.{Inside, Stands};
 ghost use Rattle.encode_unicode.specs.Pieces.{characters, pieces};
+ghost use Rattle.uses.specs.Needles.{IsOwnPiece};
 ghost use Rattle.encode_unicode.specs.ShownLaws.{CodeShowsFirst, FaultShowsFirst, FirstPieceStays, KindStays, ShowsOne, ShowsSome};
 
 use encode_unicode::{U8SliceExt, Utf8Char, laws};
@@ -10,7 +11,7 @@ use encode_unicode::{U8SliceExt, Utf8Char, laws};
 /// Whether a byte is ASCII, and so a piece of its own, whatever stands around it.
 pub fn is_ascii_piece(bytes: &[u8], place: usize) -> bool
     requires { place < length bytes.now }
-    ensures { IsTrue result → IsPiece utf8 bytes.now (record { start = place; len = 1; char = Some (slice_index bytes.now place) }) }
+    ensures { IsTrue result → IsOwnPiece bytes.now place (slice_index bytes.now place) }
 {
     laws::ascii_stands_alone();
     bytes[place] < 0x80

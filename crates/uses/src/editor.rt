@@ -1,9 +1,7 @@
 //! An editor's buffer: a table of pieces, an edit in it, and the pieces that have to be drawn anew.
 ghost use Rattle.std.specs.List.{splice};
-ghost use Rattle.std.specs.Prelude.{◌≡◌, ◌+◌, ◌≤◌, ◌<◌, ◌↔◌, length, Contains, IfOk, IfSome, OnOk, OnErr, filter};
-ghost use Rattle.cuts.specs.Tables.{moved_item};
-ghost use Rattle.encode_unicode.specs.Window.{Item as AnItem};
-ghost use Rattle.uses.specs.Editor.{begins_between};
+ghost use Rattle.std.specs.Prelude.{◌≡◌, ◌+◌, ◌≤◌, ◌<◌, length, IfOk, IfSome, OnOk, OnErr, filter};
+ghost use Rattle.uses.specs.Editor.{StaysBefore, MovesFrom, begins_between};
 
 use cuts::{Item, PieceTable};
 use encode_unicode::Steps;
@@ -29,8 +27,9 @@ pub fn edit<A: Allocator + Copy>(
     requires ordered { start ≤ end }
     requires within { end ≤ length table.old.bytes }
     ensures bytes { OnOk result (table.new.bytes ≡ splice table.old.bytes start end new.now) }
-    ensures before { IfOk result (λ changed. (x : AnItem) → x.0 < changed.from → Contains table.new.pieces x ↔ Contains table.old.pieces x) }
-    ensures following { IfOk result (λ changed. (x : AnItem) → changed.until ≤ x.0 → Contains table.new.pieces x ↔ Contains table.old.pieces (moved_item (start + length new.now) end x)) }
+    ensures before { IfOk result (λ changed. StaysBefore table.old.pieces table.new.pieces changed.from) }
+    ensures following { IfOk result (λ changed.
+        MovesFrom table.old.pieces table.new.pieces changed.until end (start + length new.now)) }
     ensures err { OnErr result (table.new ≡ table.old) }
 {
     let after = start.checked_add(new.len()).ok_or(AllocError)?;
@@ -46,7 +45,8 @@ pub fn pieces_to_draw<A: Allocator + Copy>(
     table: &PieceTable<A>,
     changed: Changed,
 ) -> Result<Vec<Item, A>, AllocError>
-    ensures { IfOk result (λ drawn. drawn.items ≡ filter (begins_between changed.from changed.until) table.now.pieces) }
+    ensures { IfOk result (λ drawn. drawn.items ≡
+        filter (begins_between changed.from changed.until) table.now.pieces) }
 {
     table
         .pieces()

@@ -58,7 +58,8 @@ pub fn turned_by_units<A: Allocator>(
     alloc: A,
     text: &str,
 ) -> Result<Vec<Result<Utf16Char, Utf16PairError>, A>, AllocError>
-    ensures { IfOk result (λ all. IsMergedRun utf16 unit_fault_kind (flat_map utf16 (reverse (chars text.now))) all.items) }
+    ensures { IfOk result (λ all.
+        IsMergedRun utf16 unit_fault_kind (flat_map utf16 (reverse (chars text.now))) all.items) }
 {
     merge_utf16(alloc, text.utf16chars().rev().to_units())
 }

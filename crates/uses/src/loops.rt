@@ -70,7 +70,8 @@ pub fn has_tab(text: &str) -> bool
 
 /// Where the commas of the text stand.
 pub fn commas<A: Allocator>(alloc: A, text: &str) -> Result<Vec<usize, A>, AllocError>
-    ensures { IfOk result (λ places. places.items ≡ map (λ x. x.0) (filter (λ x. nat_eq x.1 44) (placed_chars 0 (chars text.now)))) }
+    ensures { IfOk result (λ places. places.items ≡
+        map (λ x. x.0) (filter (λ x. nat_eq x.1 44) (placed_chars 0 (chars text.now)))) }
 {
     let mut places = Vec::new(alloc);
     for (place, c) in text.utf8char_indices() {

@@ -11,7 +11,8 @@ pub fn feed_lossy_packet<A: Allocator>(
     part: &[u8],
     sent: &mut Vec<u8, A>,
 ) -> Result<usize, AllocError>
-    ensures { IfOk result (λ read. KeepsLossy recoder.old sent.old.items (take read part.now) sent.new.items recoder.new) }
+    ensures { IfOk result (λ read.
+        KeepsLossy recoder.old sent.old.items (take read part.now) sent.new.items recoder.new) }
 {
     let mut packet = [0; 32];
     let progress = recoder.feed_lossy_into(part, &mut packet);
@@ -40,7 +41,8 @@ pub fn send_lossy_end<A: Allocator>(
     recoder: &mut Recoder,
     sent: &mut Vec<u8, A>,
 ) -> Result<bool, AllocError>
-    ensures { IfOk result (λ is_all. IsTrue is_all → sent.new.items ≡ lossy_outcome recoder.old sent.old.items []) }
+    ensures { IfOk result (λ is_all. IsTrue is_all →
+        sent.new.items ≡ lossy_outcome recoder.old sent.old.items []) }
 {
     let mut packet = [0; 16];
     let progress = recoder.finish_lossy_into(&mut packet);

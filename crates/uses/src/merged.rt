@@ -1,11 +1,10 @@
 //! Characters from a source of bytes or units of any kind, read no further than they ask for.
-ghost use Rattle.std.specs.Prelude.{◌≡◌, ◌++◌, List, ℕ, IfOk, IfSome};
+ghost use Rattle.std.specs.Prelude.{◌≡◌, ◌++◌, IfOk, IfSome};
 ghost use Rattle.std.specs.Iterator.{IsFinite};
 ghost use Rattle.encode_unicode.specs.Code.{utf8, utf16};
 ghost use Rattle.encode_unicode.specs.Kinds.{merger_kind};
 ghost use Rattle.encode_unicode.specs.Mergers.{unread, TakesFront};
-ghost use Rattle.encode_unicode.specs.Sources.{IsListed};
-ghost use Rattle.cuts.specs.Collected.{IsJoinedExactly};
+ghost use Rattle.cuts.specs.Collected.{WhateverIsLeft, IsJoinedExactly};
 
 use cuts::{merge_utf8, merge_utf16};
 use encode_unicode::error::{Utf8Error, Utf16PairError};
@@ -16,7 +15,7 @@ use std::alloc::{AllocError, Allocator};
 /// The character whose code a source of bytes begins with, and the source after that code.
 pub fn split_char<I: Iterator<Item = u8>>(source: I) -> Option<(Utf8Char, I)>
     requires { I.can_next source }
-    ensures { (rest : I → List ℕ) → IsListed I.next_gives rest → IfSome result (λ x. rest source ≡ utf8 x.0 ++ rest x.1) }
+    ensures { WhateverIsLeft I.next_gives (λ rest. IfSome result (λ x. rest source ≡ utf8 x.0 ++ rest x.1)) }
 {
     let mut merger = source.to_utf8chars();
     match merger.next() {
@@ -28,7 +27,8 @@ pub fn split_char<I: Iterator<Item = u8>>(source: I) -> Option<(Utf8Char, I)>
 /// The same of units.
 pub fn split_utf16_char<I: Iterator<Item = u16>>(source: I) -> Option<(Utf16Char, I)>
     requires { I.can_next source }
-    ensures { (rest : I → List ℕ) → IsListed I.next_gives rest → IfSome result (λ x. rest source ≡ utf16 x.0 ++ rest x.1) }
+    ensures { WhateverIsLeft I.next_gives (λ rest.
+        IfSome result (λ x. rest source ≡ utf16 x.0 ++ rest x.1)) }
 {
     let mut merger = source.to_utf16chars();
     match merger.next() {
@@ -43,7 +43,8 @@ pub fn split_piece<I: Iterator<Item = u8>>(
     source: I,
 ) -> (Option<Result<Utf8Char, Utf8Error>>, RemainingBytes<I>)
     requires { I.can_next source }
-    ensures { (rest : I → List ℕ) → IsListed I.next_gives rest → TakesFront utf8 merger_kind (rest source) result.0 (unread rest result.1) }
+    ensures { WhateverIsLeft I.next_gives (λ rest.
+        TakesFront utf8 merger_kind (rest source) result.0 (unread rest result.1)) }
 {
     let mut merger = source.to_utf8chars();
     let first = merger.next();
@@ -57,7 +58,8 @@ pub fn pieces_of_bytes<A: Allocator, I: Iterator<Item = u8>>(
 ) -> Result<Vec<Result<Utf8Char, Utf8Error>, A>, AllocError>
     requires can { I.can_next source }
     requires ends { IsFinite (I.remaining source) }
-    ensures { (rest : I → List ℕ) → IsListed I.next_gives rest → IfOk result (λ all. IsJoinedExactly utf8 (rest source) all.items) }
+    ensures { WhateverIsLeft I.next_gives (λ rest.
+        IfOk result (λ all. IsJoinedExactly utf8 (rest source) all.items)) }
 {
     merge_utf8(alloc, source)
 }
@@ -69,7 +71,8 @@ pub fn pieces_of_units<A: Allocator, I: Iterator<Item = u16>>(
 ) -> Result<Vec<Result<Utf16Char, Utf16PairError>, A>, AllocError>
     requires can { I.can_next source }
     requires ends { IsFinite (I.remaining source) }
-    ensures { (rest : I → List ℕ) → IsListed I.next_gives rest → IfOk result (λ all. IsJoinedExactly utf16 (rest source) all.items) }
+    ensures { WhateverIsLeft I.next_gives (λ rest.
+        IfOk result (λ all. IsJoinedExactly utf16 (rest source) all.items)) }
 {
     merge_utf16(alloc, source)
 }

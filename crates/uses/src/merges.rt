@@ -1,10 +1,10 @@
 //! Chains over mergers: what a chain answers is said of `merged`, the list of a merger's answers for some bytes.
-ghost use Rattle.std.specs.Prelude.{◌≡◌, ◌↔◌, IfOk, IsTrue, List, ℕ, count_by, is_err, is_ok, position, slice_get};
+ghost use Rattle.std.specs.Prelude.{◌≡◌, ◌↔◌, IfOk, IsTrue, count_by, is_err, is_ok, position, slice_get};
 ghost use Rattle.std.specs.Iterator.{IsFinite};
 ghost use Rattle.std.specs.List.{find, list_all, list_any};
 ghost use Rattle.std.specs.Str.{IsUtf8};
 ghost use Rattle.encode_unicode.specs.Mergers.{merged, merged_units};
-ghost use Rattle.encode_unicode.specs.Sources.{IsListed};
+ghost use Rattle.cuts.specs.Collected.{WhateverIsLeft};
 
 use cuts::laws::merged_is_all_characters;
 use encode_unicode::error::{Utf8Error, Utf16PairError};
@@ -40,7 +40,7 @@ pub fn all_answers<A: Allocator, B: Allocator>(
 pub fn all_characters<I: Iterator<Item = u8>>(source: I) -> bool
     requires can { I.can_next source }
     requires ends { IsFinite (I.remaining source) }
-    ensures { (rest : I → List ℕ) → IsListed I.next_gives rest → result ≡ list_all (λ r. is_ok r) (merged (rest source)) }
+    ensures { WhateverIsLeft I.next_gives (λ rest. result ≡ list_all (λ r. is_ok r) (merged (rest source))) }
 {
     source.to_utf8chars().all(|r| r.is_ok())
 }
@@ -65,7 +65,8 @@ pub fn characters_before(units: &[u16]) -> Option<usize>
 pub fn has_faulty_unit<I: Iterator<Item = u16>>(source: I) -> bool
     requires can { I.can_next source }
     requires ends { IsFinite (I.remaining source) }
-    ensures { (rest : I → List ℕ) → IsListed I.next_gives rest → result ≡ list_any (λ r. is_err r) (merged_units (rest source)) }
+    ensures { WhateverIsLeft I.next_gives (λ rest.
+        result ≡ list_any (λ r. is_err r) (merged_units (rest source))) }
 {
     source.to_utf16chars().any(|r| r.is_err())
 }

@@ -10,7 +10,8 @@ pub fn find_ascii(bytes: &[u8], needle: &[u8]) -> Option<usize>
     requires { All (λ b. b < 128) needle.now }
     ensures found { IfSome result (λ place. StandsAt bytes.now needle.now place) }
     ensures pieces { IfSome result (λ place. AreOwnPieces bytes.now needle.now place) }
-    ensures first { (place : ℕ) → StandsAt bytes.now needle.now place → IsSomeAnd result (λ least. least ≤ place) }
+    ensures first { (place : ℕ) → StandsAt bytes.now needle.now place →
+        IsSomeAnd result (λ least. least ≤ place) }
 {
     laws::ascii_stands_alone();
     for place in 0..(bytes.len() + 1).saturating_sub(needle.len()) {

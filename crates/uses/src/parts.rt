@@ -1,9 +1,10 @@
 //! Text that comes in parts, as from a socket.
-ghost use Rattle.std.specs.Prelude.{◌≡◌, ◌+◌, ◌-◌, ◌^◌, min, ◌<◌, ◌≤◌, ◌++◌, [], length, IfOk, IsTrue, IsFalse, OnOk, flat_map, ℕ, List, drop, take};
-ghost use Rattle.cuts.specs.Recoded.{Continues, IsRecoded};
+ghost use Rattle.std.specs.Prelude.{◌≡◌, ◌+◌, ◌-◌, ◌^◌, min, ◌<◌, ◌≤◌, ◌++◌, [], length, IfOk, IsTrue, IsFalse, OnOk, flat_map, drop, take};
+ghost use Rattle.cuts.specs.Recoded.{IsRecoded};
 ghost use Rattle.cuts.specs.Undecided.{IsUndecided};
 ghost use Rattle.cuts.specs.Faults.{fault_count};
 ghost use Rattle.cuts.specs.RecodedBytes.{recoded};
+ghost use Rattle.uses.specs.Parts.{GrowsByTheMost};
 
 use cuts::{Form, Recoder, laws, shard_end};
 use std::alloc::{AllocError, Allocator};
@@ -141,7 +142,8 @@ pub fn feed_line<A: Allocator>(
     ensures waits { IfOk result (λ waits. IsTrue waits → IsUndecided Form.Utf8 recoder.new.held) }
     ensures done { IfOk result (λ waits. IsFalse waits → recoder.new.held ≡ []) }
     ensures form { recoder.new.from ≡ Form.Utf8 }
-    ensures early { OnOk result ((other rest : List ℕ) → Continues Form.Utf8 recoder.old.to (recoder.old.held ++ line.now) other rest → length out.old.items + length other ≤ length out.new.items) }
+    ensures early { OnOk result (GrowsByTheMost Form.Utf8 recoder.old.to
+        (recoder.old.held ++ line.now) out.old.items out.new.items) }
 {
     laws::held_is_undecided();
     laws::nothing_comes_earlier();

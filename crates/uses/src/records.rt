@@ -1,8 +1,8 @@
 //! Records of UTF-16 units, each ended by a zero unit, from an iterator.
-ghost use Rattle.std.specs.Prelude.{◌≡◌, ℕ, List, false, IfOk, string_bytes};
+ghost use Rattle.std.specs.Prelude.{◌≡◌, false, IfOk, string_bytes};
 ghost use Rattle.std.specs.Iterator.{IsFinite};
 ghost use Rattle.encode_unicode.specs.Mergers.{unread, unread_count};
-ghost use Rattle.encode_unicode.specs.Sources.{IsListed};
+ghost use Rattle.cuts.specs.Collected.{WhateverIsLeft};
 ghost use Rattle.uses.specs.Records.{IsRecord};
 
 use encode_unicode::U16IterExt;
@@ -29,7 +29,8 @@ pub fn next_record<I: Iterator<Item = u16>>(
 ) -> Result<(String, Ending), AllocError>
     requires can { units.old.ended ≡ false → I.can_next units.old.source }
     requires ends { IsFinite (unread_count I.remaining units.old) }
-    ensures record { IfOk result (λ taken. (rest : I → List ℕ) → IsListed I.next_gives rest → IsRecord (unread rest units.old) (string_bytes taken.0) taken.1 (unread rest units.new)) }
+    ensures record { IfOk result (λ taken. WhateverIsLeft I.next_gives (λ rest.
+        IsRecord (unread rest units.old) (string_bytes taken.0) taken.1 (unread rest units.new))) }
     ensures can { IfOk result (λ _. units.new.ended ≡ false → I.can_next units.new.source) }
     ensures ends { IfOk result (λ _. IsFinite (unread_count I.remaining units.new)) }
 {
@@ -55,7 +56,8 @@ pub fn first_record<I: Iterator<Item = u16>>(
 ) -> Result<(String, Ending, RemainingUnits<I>), AllocError>
     requires can { I.can_next source }
     requires ends { IsFinite (I.remaining source) }
-    ensures { IfOk result (λ first. (rest : I → List ℕ) → IsListed I.next_gives rest → IsRecord (rest source) (string_bytes first.0) first.1 (unread rest first.2)) }
+    ensures { IfOk result (λ first. WhateverIsLeft I.next_gives (λ rest.
+        IsRecord (rest source) (string_bytes first.0) first.1 (unread rest first.2))) }
 {
     let mut units = source.to_utf16chars();
     let (text, ending) = next_record(alloc, &mut units)?;

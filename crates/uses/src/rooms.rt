@@ -39,7 +39,8 @@ pub fn feed_packet<A: Allocator>(
     part: &[u8],
     sent: &mut Vec<u8, A>,
 ) -> Result<usize, AllocError>
-    ensures { IfOk result (λ read. KeepsOutcome recoder.old sent.old.items (take read part.now) sent.new.items recoder.new) }
+    ensures { IfOk result (λ read.
+        KeepsOutcome recoder.old sent.old.items (take read part.now) sent.new.items recoder.new) }
 {
     let mut packet = [0; 32];
     let progress = recoder.feed_into(part, &mut packet);

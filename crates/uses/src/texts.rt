@@ -83,7 +83,8 @@ pub fn joined_units<A: Allocator>(
 
 /// Adds the characters of another text, last first.
 pub fn add_reversed<A: Allocator>(text: &mut String<A>, more: &str) -> Result<(), AllocError>
-    ensures { OnOk result (string_bytes text.new ≡ string_bytes text.old ++ flat_map utf8 (reverse (chars more.now))) }
+    ensures { OnOk result (string_bytes text.new ≡
+        string_bytes text.old ++ flat_map utf8 (reverse (chars more.now))) }
 {
     more.utf8chars().rev().extend_string(text)
 }

@@ -12,7 +12,8 @@ pub fn tokens<'a, A: Allocator>(
     delimiter: u8,
 ) -> Result<Vec<&'a [u8], A>, AllocError>
     requires { delimiter < 128 }
-    ensures { IfOk result (λ tokens. AreTokensOf bytes.now delimiter (map (λ token. token.now) tokens.items)) }
+    ensures { IfOk result (λ tokens.
+        AreTokensOf bytes.now delimiter (map (λ token. token.now) tokens.items)) }
 {
     laws::ascii_stands_alone();
     laws::codes_never_overlap();

@@ -13,7 +13,9 @@ pub fn first_text<'a, A: Allocator>(
     alloc: A,
     bytes: &'a [u8],
 ) -> Result<Option<(Vec<u8, A>, &'a [u8])>, AllocError>
-    ensures { IfOk result (λ found. MatchOption found (length bytes.now < record_end bytes.now) (λ x. IsTextRecord bytes.now x.0.items x.1.now)) }
+    ensures { IfOk result (λ found.
+        MatchOption found (length bytes.now < record_end bytes.now)
+        (λ x. IsTextRecord bytes.now x.0.items x.1.now)) }
 {
     if bytes.len() < 2 {
         return Ok(None);

@@ -2,7 +2,7 @@
 ghost use Rattle.std.specs.Prelude.{◌≡◌, ◌+◌, ◌^◌, ◌<◌, ◌≤◌, ◌++◌, ◌∷◌, [], ℕ, Bool, if◌then◌else◌, List, length, flat_map, IfOk, OnOk, OnErr};
 ghost use Rattle.std.specs.Fmt.{decimal};
 ghost use Rattle.cuts.specs.ForwardRuns.{is_fault};
-ghost use Rattle.cuts.specs.Failures.{AppendsFront, TellsStall};
+ghost use Rattle.cuts.specs.Failures.{Known, AppendsFront, TellsStall};
 ghost use Rattle.cuts.specs.Lines.{kind_name, answer_text, item_line};
 ghost use Rattle.cuts.specs.Written.{WritesLines};
 ghost use Rattle.cuts.specs.declared.programs.lines.TheConstants.{LINE_ROOM, ROOM};
@@ -129,14 +129,12 @@ pub(crate) fn write_entries<T: Entry, W: Write>(
     entries: &[T],
     out: &mut Counted<W>,
 ) -> io::Result<usize>
-    ensures lines { IfOk result (WritesLines T.line T.wrong entries.now (W.contents out.old.inner)
-        (W.contents out.new.inner)) }
-    ensures front { AppendsFront (W.contents out.old.inner) (W.contents out.new.inner)
-        (flat_map T.line entries.now) }
+    ensures lines { IfOk result (Known W.contents (WritesLines T.line T.wrong entries.now) out.old out.new) }
+    ensures front { Known W.contents AppendsFront out.old out.new (flat_map T.line entries.now) }
     ensures quiet { OnOk result (out.new.failures ≡ out.old.failures) }
     ensures err { OnErr result (out.old.failures < out.new.failures) }
     ensures stalls { TellsStall result out.old.stalls out.new.stalls }
-    ensures extras { out.new.extras ≡ out.old.extras }
+    ensures other_calls { out.new.other_calls ≡ out.old.other_calls }
 {
     let mut lines = Lines::new();
     let mut faults = 0;

@@ -2,7 +2,7 @@
 ghost use Rattle.std.specs.Prelude.{◌≡◌, ◌↔◌, IsTrue, ◌+◌, ◌/◌, ◌%◌, ◌<◌, ◌≤◌, [], ◌∷◌, ◌++◌, length, take, drop, OnOk, OnErr};
 ghost use Rattle.std.specs.Fmt.{decimal};
 ghost use Rattle.std.specs.Io.KnownBytes.{Appends};
-ghost use Rattle.cuts.specs.Failures.{AppendsFront, TellsStall};
+ghost use Rattle.cuts.specs.Failures.{Known, AppendsFront, TellsStall};
 ghost use Rattle.cuts.specs.Line.{hex_digit, six_hex_digits};
 
 use crate::counted::Counted;
@@ -91,13 +91,13 @@ impl Lines {
     #[cold]
     #[inline(never)]
     pub(crate) fn write_to<W: Write>(&mut self, out: &mut Counted<W>) -> io::Result<()>
-        ensures ok { OnOk result (Appends (W.contents out.old.inner) (W.contents out.new.inner) self.old) }
+        ensures ok { OnOk result (Known W.contents Appends out.old out.new self.old) }
         ensures empty { OnOk result (self.new ≡ []) }
-        ensures front { AppendsFront (W.contents out.old.inner) (W.contents out.new.inner) self.old }
+        ensures front { Known W.contents AppendsFront out.old out.new self.old }
         ensures quiet { OnOk result (out.new.failures ≡ out.old.failures) }
         ensures err { OnErr result (out.old.failures < out.new.failures) }
         ensures stalls { TellsStall result out.old.stalls out.new.stalls }
-        ensures extras { out.new.extras ≡ out.old.extras }
+        ensures other_calls { out.new.other_calls ≡ out.old.other_calls }
     {
         write_whole(self.as_bytes(), out)?;
         self.len = 0;

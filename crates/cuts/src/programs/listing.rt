@@ -2,7 +2,7 @@
 ghost use Rattle.std.specs.Prelude.{◌≡◌, ◌<◌, ◌↔◌, IfOk, OnOk, OnErr, count_by, is_err};
 ghost use Rattle.std.specs.Str.{IsUtf8};
 ghost use Rattle.encode_unicode.specs.Pieces.{pieces};
-ghost use Rattle.cuts.specs.Failures.{AppendsFront, TellsStall};
+ghost use Rattle.cuts.specs.Failures.{Known, AppendsFront, TellsStall};
 ghost use Rattle.cuts.specs.Layouts.{WritesListing, WritesListingFront};
 ghost use Rattle.cuts.specs.Lines.{is_fault_step};
 ghost use Rattle.cuts.specs.ForwardRuns.{faulty_item_count};
@@ -28,15 +28,14 @@ use std::io::Write;
 ///
 /// Cost: O(n).
 pub fn write_listing<W: Write>(src: &[u8], out: &mut Counted<W>) -> io::Result<usize>
-    ensures listing { IfOk result (WritesListing src.now (W.contents out.old.inner)
-        (W.contents out.new.inner)) }
+    ensures listing { IfOk result (Known W.contents (WritesListing src.now) out.old out.new) }
     ensures count { IfOk result (λ faults. faults ≡ faulty_item_count (pieces src.now)) }
     ensures text { IfOk result (λ faults. (faults ≡ 0) ↔ IsUtf8 src.now) }
-    ensures front { WritesListingFront src.now (W.contents out.old.inner) (W.contents out.new.inner) }
+    ensures front { Known W.contents (WritesListingFront src.now) out.old out.new }
     ensures quiet { OnOk result (out.new.failures ≡ out.old.failures) }
     ensures err { OnErr result (out.old.failures < out.new.failures) }
     ensures stalls { TellsStall result out.old.stalls out.new.stalls }
-    ensures extras { out.new.extras ≡ out.old.extras }
+    ensures other_calls { out.new.other_calls ≡ out.old.other_calls }
 {
     let mut lines = Lines::new();
     let mut offset = Offset::new();
@@ -62,14 +61,12 @@ pub fn write_merged<W: Write>(
     out: &mut Counted<W>,
 ) -> io::Result<usize>
     ensures count { IfOk result (λ faults. faults ≡ count_by is_err results.now) }
-    ensures lines { IfOk result (WritesMerged results.now (W.contents out.old.inner)
-        (W.contents out.new.inner)) }
-    ensures front { AppendsFront (W.contents out.old.inner) (W.contents out.new.inner)
-        (merged_lines results.now) }
+    ensures lines { IfOk result (Known W.contents (WritesMerged results.now) out.old out.new) }
+    ensures front { Known W.contents AppendsFront out.old out.new (merged_lines results.now) }
     ensures quiet { OnOk result (out.new.failures ≡ out.old.failures) }
     ensures err { OnErr result (out.old.failures < out.new.failures) }
     ensures stalls { TellsStall result out.old.stalls out.new.stalls }
-    ensures extras { out.new.extras ≡ out.old.extras }
+    ensures other_calls { out.new.other_calls ≡ out.old.other_calls }
 {
     write_entries(results, out)
 }
@@ -82,13 +79,12 @@ pub fn write_merged<W: Write>(
 /// Cost: O(n).
 pub fn write_walk<W: Write>(steps: &[Option<Item>], out: &mut Counted<W>) -> io::Result<usize>
     ensures count { IfOk result (λ faults. faults ≡ count_by is_fault_step steps.now) }
-    ensures lines { IfOk result (WritesWalk steps.now (W.contents out.old.inner) (W.contents out.new.inner)) }
-    ensures front { AppendsFront (W.contents out.old.inner) (W.contents out.new.inner)
-        (walk_lines steps.now) }
+    ensures lines { IfOk result (Known W.contents (WritesWalk steps.now) out.old out.new) }
+    ensures front { Known W.contents AppendsFront out.old out.new (walk_lines steps.now) }
     ensures quiet { OnOk result (out.new.failures ≡ out.old.failures) }
     ensures err { OnErr result (out.old.failures < out.new.failures) }
     ensures stalls { TellsStall result out.old.stalls out.new.stalls }
-    ensures extras { out.new.extras ≡ out.old.extras }
+    ensures other_calls { out.new.other_calls ≡ out.old.other_calls }
 {
     write_entries(steps, out)
 }

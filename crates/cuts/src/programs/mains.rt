@@ -1,9 +1,10 @@
 //! The programs `pieces` and `recode`, over any streams: all that `main` of each does.
-ghost use Rattle.std.specs.Prelude.{◌≡◌, ◌≢◌, ◌+◌, ◌<◌, ◌≤◌, [], ◌∷◌, ℕ, List, IsTrue, false, codes, map, drop, string_bytes, IfOk, IfErr, IsOkAnd, ⊤};
+ghost use Rattle.std.specs.Prelude.{◌≡◌, ◌≢◌, ◌+◌, ◌<◌, ◌≤◌, [], ◌∷◌, ℕ, List, IsTrue, codes, map, drop, string_bytes, IfOk, IfErr, IsOkAnd, ⊤};
 ghost use Rattle.std.specs.IoError.{error_kind};
 ghost use Rattle.cuts.specs.Arguments.{Asked, HaveArguments, WordsAsk, WordsAreWrong, AreNotHad, WordsAskForms, WordsNameNoForms};
 ghost use Rattle.cuts.specs.Endings.{IsDrained, TellsAsked, BeginsAsked, ReadsUntil, CountsUntil, FlushFailsOrStays, FailsOrIsQuiet, Says, EndsEarly};
 ghost use Rattle.cuts.specs.RecodeStream.{WritesRecoded, BeginsRecoded};
+ghost use Rattle.cuts.specs.Failures.{Known, Pipes, NoFailedRead, NoReadAfterEnd};
 
 use crate::counted::Counted;
 use crate::programs::pieces_program::{finish_run, run_pieces};
@@ -32,22 +33,19 @@ pub fn pieces<R: Source, W: Write, E: Sink>(
     stderr: &mut E,
 ) -> u8
     ensures lines { (asked : Asked) → WordsAsk words asked → result < 2 →
-        TellsAsked asked (R.remaining input.old) (W.contents out.old.inner) (W.contents out.new.inner) result }
+        Known W.contents (TellsAsked asked (R.remaining input.old)) out.old out.new result }
     ensures front { (asked : Asked) → WordsAsk words asked →
-        BeginsAsked asked (R.remaining input.old) (W.contents out.old.inner) (W.contents out.new.inner) }
+        Known W.contents (BeginsAsked asked (R.remaining input.old)) out.old out.new }
     ensures drained { result < 2 → IsDrained (R.remaining input.old) (R.remaining input.new) }
     ensures unbroken { result < 2 → IsTrue R.is_counted →
-        (R.reads input.new).broken ≡ (R.reads input.old).broken }
-    ensures in_time { IsTrue R.is_counted → (R.reads input.old).ended ≡ false →
-        (R.reads input.new).late ≡ (R.reads input.old).late }
+        NoFailedRead (R.reads input.old) (R.reads input.new) }
+    ensures in_time { IsTrue R.is_counted → NoReadAfterEnd (R.reads input.old) (R.reads input.new) }
     ensures quiet { result < 2 → out.new.failures ≡ out.old.failures }
-    ensures flushed { result < 2 → out.new.extras.flushes ≡ out.old.extras.flushes + 1 }
-    ensures out_whole { result < 2 → out.new.extras.failed_flushes ≡ out.old.extras.failed_flushes }
+    ensures flushed { result < 2 → out.new.other_calls.flushes ≡ out.old.other_calls.flushes + 1 }
+    ensures out_whole { result < 2 → out.new.other_calls.failed_flushes ≡ out.old.other_calls.failed_flushes }
     ensures silent { result < 2 → stderr.new ≡ stderr.old }
-    ensures early { 2 ≤ result → EndsEarly (codes "pieces")
-        (ReadsUntil R.is_counted R.remaining R.failures R.reads input.old input.new)
-        (FlushFailsOrStays out.old out.new)
-        (Says E.is_counted E.failures E.contents stderr.old stderr.new) result }
+    ensures early { 2 ≤ result → EndsEarly (codes "pieces") (ReadsUntil R.Source input.old input.new)
+        (FlushFailsOrStays out.old out.new) (Says E.Sink stderr.old stderr.new) result }
     ensures wrong { WordsAreWrong words → 2 ≤ result }
     ensures untouched { WordsAreWrong words → (input.new ≡ input.old) × (out.new ≡ out.old) }
     ensures right { (asked : Asked) → WordsAsk words asked → result ≢ 2 }
@@ -79,13 +77,11 @@ pub fn pieces_buffered<R: Source, W: Write + Drop, E: Sink>(
 ) -> u8
     ensures drained { result < 2 → IsDrained (R.remaining input.old) (R.remaining input.new) }
     ensures unbroken { result < 2 → IsTrue R.is_counted →
-        (R.reads input.new).broken ≡ (R.reads input.old).broken }
-    ensures in_time { IsTrue R.is_counted → (R.reads input.old).ended ≡ false →
-        (R.reads input.new).late ≡ (R.reads input.old).late }
+        NoFailedRead (R.reads input.old) (R.reads input.new) }
+    ensures in_time { IsTrue R.is_counted → NoReadAfterEnd (R.reads input.old) (R.reads input.new) }
     ensures silent { result < 2 → stderr.new ≡ stderr.old }
-    ensures early { 2 ≤ result → EndsEarly (codes "pieces")
-        (ReadsUntil R.is_counted R.remaining R.failures R.reads input.old input.new) (λ _. ⊤)
-        (Says E.is_counted E.failures E.contents stderr.old stderr.new) result }
+    ensures early { 2 ≤ result → EndsEarly (codes "pieces") (ReadsUntil R.Source input.old input.new) (λ _. ⊤)
+        (Says E.Sink stderr.old stderr.new) result }
     ensures wrong { WordsAreWrong words → 2 ≤ result }
     ensures untouched { WordsAreWrong words → input.new ≡ input.old }
     ensures right { (asked : Asked) → WordsAsk words asked → result ≢ 2 }
@@ -114,19 +110,17 @@ pub fn recode<R: Read, W: Write, E: Sink>(
     stderr: &mut E,
 ) -> u8
     ensures recoded { (from to : Form) → WordsAskForms words from to → result ≡ 0 →
-        WritesRecoded from to (R.remaining input.old.inner) (W.contents out.old.inner) (W.contents out.new.inner) }
+        Known W.contents (WritesRecoded from to (R.remaining input.old.inner)) out.old out.new }
     ensures front { (from to : Form) → WordsAskForms words from to →
-        BeginsRecoded from to (R.remaining input.old.inner) (R.remaining input.new.inner)
-        (W.contents out.old.inner) (W.contents out.new.inner) }
-    ensures drained { result ≡ 0 → IsDrained (R.remaining input.old.inner) (R.remaining input.new.inner) }
+        Pipes R.remaining W.contents (BeginsRecoded from to) input.old input.new out.old out.new }
+    ensures drained { result ≡ 0 → Known R.remaining IsDrained input.old input.new }
     ensures quiet { result ≡ 0 → out.new.failures ≡ out.old.failures }
-    ensures unbroken { result ≡ 0 → input.new.reads.broken ≡ input.old.reads.broken }
-    ensures in_time { input.old.reads.ended ≡ false → input.new.reads.late ≡ input.old.reads.late }
+    ensures unbroken { result ≡ 0 → NoFailedRead input.old.reads input.new.reads }
+    ensures in_time { NoReadAfterEnd input.old.reads input.new.reads }
     ensures silent { result ≡ 0 → stderr.new ≡ stderr.old }
-    ensures early { 0 < result → EndsEarly (codes "recode")
-        (CountsUntil R.remaining input.old input.new) (FailsOrIsQuiet out.old out.new)
-        (Says E.is_counted E.failures E.contents stderr.old stderr.new) result }
-    ensures extras { out.new.extras ≡ out.old.extras }
+    ensures early { 0 < result → EndsEarly (codes "recode") (CountsUntil R.remaining input.old input.new)
+        (FailsOrIsQuiet out.old out.new) (Says E.Sink stderr.old stderr.new) result }
+    ensures other_calls { out.new.other_calls ≡ out.old.other_calls }
     ensures wrong { WordsNameNoForms words → 2 ≤ result }
     ensures untouched { WordsNameNoForms words → (input.new ≡ input.old) × (out.new ≡ out.old) }
     ensures right { (from to : Form) → WordsAskForms words from to → result ≢ 2 }

@@ -1,5 +1,5 @@
 //! One run of `pieces`, over any reader and writers.
-ghost use Rattle.std.specs.Prelude.{◌≡◌, ◌≢◌, ◌+◌, ◌<◌, ◌≤◌, ◌++◌, [], ◌∷◌, false, codes, map, string_bytes, Contains, IsTrue, IfOk, IfErr, IfSome, OnOk, OnErr};
+ghost use Rattle.std.specs.Prelude.{◌≡◌, ◌≢◌, ◌+◌, ◌<◌, ◌≤◌, ◌++◌, [], ◌∷◌, codes, map, string_bytes, Contains, IsTrue, IfOk, IfErr, IfSome, OnOk, OnErr};
 ghost use Rattle.std.specs.Io.KnownBytes.{Keeps};
 ghost use Rattle.utf_base.specs.Code.{utf8};
 ghost use Rattle.utf_base.specs.Kinds.{merger_kind};
@@ -7,6 +7,7 @@ ghost use Rattle.cuts.specs.Arguments.{Asked, Asks, AreWrong, asked_in};
 ghost use Rattle.cuts.specs.Collected.{IsMergedRun};
 ghost use Rattle.cuts.specs.Layouts.{forward_layout, merged_layout, walk_layout, WritesRun, WritesRunFront};
 ghost use Rattle.cuts.specs.Endings.{stop_line, IsDrained, WritesAsked, WritesAskedFront, DoesAsked, TellsAsked, BeginsAsked, FailsOrStays, ReadsUntil, Says, EndsEarly};
+ghost use Rattle.cuts.specs.Failures.{Known, NoFailedRead, NoReadAfterEnd};
 
 use crate::counted::Counted;
 use crate::programs::listing::{write_listing, write_merged, write_walk};
@@ -47,21 +48,18 @@ pub fn run_pieces<A: Allocator + Copy, R: Source, W: Write, E: Sink>(
     stderr: &mut E,
 ) -> u8
     ensures lines { (asked : Asked) → Asks (map string_bytes args.now) asked → result < 2 →
-        TellsAsked asked (R.remaining input.old) (W.contents out.old.inner)
-        (W.contents out.new.inner) result }
+        Known W.contents (TellsAsked asked (R.remaining input.old)) out.old out.new result }
     ensures front { (asked : Asked) → Asks (map string_bytes args.now) asked →
-        BeginsAsked asked (R.remaining input.old) (W.contents out.old.inner) (W.contents out.new.inner) }
+        Known W.contents (BeginsAsked asked (R.remaining input.old)) out.old out.new }
     ensures drained { result < 2 → IsDrained (R.remaining input.old) (R.remaining input.new) }
     ensures unbroken { result < 2 → IsTrue R.is_counted →
-        (R.reads input.new).broken ≡ (R.reads input.old).broken }
-    ensures in_time { IsTrue R.is_counted → (R.reads input.old).ended ≡ false →
-        (R.reads input.new).late ≡ (R.reads input.old).late }
+        NoFailedRead (R.reads input.old) (R.reads input.new) }
+    ensures in_time { IsTrue R.is_counted → NoReadAfterEnd (R.reads input.old) (R.reads input.new) }
     ensures quiet { result < 2 → out.new.failures ≡ out.old.failures }
     ensures silent { result < 2 → stderr.new ≡ stderr.old }
-    ensures early { 2 ≤ result → EndsEarly (codes "pieces")
-        (ReadsUntil R.is_counted R.remaining R.failures R.reads input.old input.new)
-        (FailsOrStays out.old out.new) (Says E.is_counted E.failures E.contents stderr.old stderr.new) result }
-    ensures extras { out.new.extras ≡ out.old.extras }
+    ensures early { 2 ≤ result → EndsEarly (codes "pieces") (ReadsUntil R.Source input.old input.new)
+        (FailsOrStays out.old out.new) (Says E.Sink stderr.old stderr.new) result }
+    ensures other_calls { out.new.other_calls ≡ out.old.other_calls }
     ensures wrong { AreWrong (map string_bytes args.now) → result ≡ 2 }
     ensures untouched { AreWrong (map string_bytes args.now) → (input.new ≡ input.old) × (out.new ≡ out.old) }
     ensures right { (asked : Asked) → Asks (map string_bytes args.now) asked → result ≢ 2 }
@@ -82,19 +80,18 @@ pub fn run_pieces<A: Allocator + Copy, R: Source, W: Write, E: Sink>(
 ///
 /// Cost: one flush.
 pub fn finish_run<W: Write, E: Sink>(status: u8, out: &mut Counted<W>, stderr: &mut E) -> u8
-    ensures flushed { status < 2 → out.new.extras.flushes ≡ out.old.extras.flushes + 1 }
-    ensures keeps { Keeps (W.contents out.old.inner) (W.contents out.new.inner) }
-    ensures whole { out.new.extras.failed_flushes ≡ out.old.extras.failed_flushes → (result ≡ status) ×
-        (stderr.new ≡ stderr.old) }
+    ensures flushed { status < 2 → out.new.other_calls.flushes ≡ out.old.other_calls.flushes + 1 }
+    ensures keeps { Known W.contents Keeps out.old out.new }
+    ensures whole { out.new.other_calls.failed_flushes ≡ out.old.other_calls.failed_flushes →
+        (result ≡ status) × (stderr.new ≡ stderr.old) }
     ensures early { 2 ≤ status → out.new ≡ out.old }
     ensures quiet { out.new.failures ≡ out.old.failures }
-    ensures never_fewer { out.old.extras.failed_flushes ≤ out.new.extras.failed_flushes }
-    ensures failed { out.old.extras.failed_flushes < out.new.extras.failed_flushes → result ≡ 3 }
+    ensures never_fewer { out.old.other_calls.failed_flushes ≤ out.new.other_calls.failed_flushes }
+    ensures failed { out.old.other_calls.failed_flushes < out.new.other_calls.failed_flushes → result ≡ 3 }
     ensures kept { result < 3 → (result ≡ status) × (stderr.new ≡ stderr.old) ×
-        (out.new.extras.failed_flushes ≡ out.old.extras.failed_flushes) }
-    ensures line { out.old.extras.failed_flushes < out.new.extras.failed_flushes →
-        Says E.is_counted E.failures E.contents stderr.old stderr.new
-        (stop_line (codes "pieces") Stop.CannotWrite) }
+        (out.new.other_calls.failed_flushes ≡ out.old.other_calls.failed_flushes) }
+    ensures line { out.old.other_calls.failed_flushes < out.new.other_calls.failed_flushes →
+        Says E.Sink stderr.old stderr.new (stop_line (codes "pieces") Stop.CannotWrite) }
 {
     if status >= 2 {
         return status;
@@ -114,19 +111,17 @@ fn run_request<A: Allocator + Copy, R: Source, W: Write>(
     out: &mut Counted<W>,
 ) -> Result<usize, Stop>
     ensures lines { IfOk result (λ faults. (asked : Asked) → Asks (map string_bytes args.now) asked →
-        DoesAsked asked (R.remaining input.old) (W.contents out.old.inner)
-        (W.contents out.new.inner) faults) }
+        Known W.contents (DoesAsked asked (R.remaining input.old)) out.old out.new faults) }
     ensures front { (asked : Asked) → Asks (map string_bytes args.now) asked →
-        BeginsAsked asked (R.remaining input.old) (W.contents out.old.inner) (W.contents out.new.inner) }
+        Known W.contents (BeginsAsked asked (R.remaining input.old)) out.old out.new }
     ensures drained { OnOk result (IsDrained (R.remaining input.old) (R.remaining input.new)) }
     ensures unbroken { OnOk result (IsTrue R.is_counted →
-        (R.reads input.new).broken ≡ (R.reads input.old).broken) }
-    ensures until { IfErr result (ReadsUntil R.is_counted R.remaining R.failures R.reads input.old input.new) }
-    ensures in_time { IsTrue R.is_counted → (R.reads input.old).ended ≡ false →
-        (R.reads input.new).late ≡ (R.reads input.old).late }
+        NoFailedRead (R.reads input.old) (R.reads input.new)) }
+    ensures until { IfErr result (ReadsUntil R.Source input.old input.new) }
+    ensures in_time { IsTrue R.is_counted → NoReadAfterEnd (R.reads input.old) (R.reads input.new) }
     ensures quiet { OnOk result (out.new.failures ≡ out.old.failures) }
     ensures early { IfErr result (FailsOrStays out.old out.new) }
-    ensures extras { out.new.extras ≡ out.old.extras }
+    ensures other_calls { out.new.other_calls ≡ out.old.other_calls }
     ensures wrong { AreWrong (map string_bytes args.now) → (result ≡ Err Stop.WrongArguments) ×
         (input.new ≡ input.old) × (out.new ≡ out.old) }
     ensures right { result ≡ Err Stop.WrongArguments → AreWrong (map string_bytes args.now) }
@@ -144,13 +139,12 @@ fn write_asked<A: Allocator + Copy, W: Write>(
     bytes: &[u8],
     out: &mut Counted<W>,
 ) -> Result<usize, Stop>
-    ensures lines { IfOk result (WritesAsked (asked_in request.now) bytes.now (W.contents out.old.inner)
-        (W.contents out.new.inner)) }
-    ensures front { WritesAskedFront (asked_in request.now) bytes.now (W.contents out.old.inner)
-        (W.contents out.new.inner) }
+    ensures lines { IfOk result
+        (Known W.contents (WritesAsked (asked_in request.now) bytes.now) out.old out.new) }
+    ensures front { Known W.contents (WritesAskedFront (asked_in request.now) bytes.now) out.old out.new }
     ensures quiet { OnOk result (out.new.failures ≡ out.old.failures) }
     ensures early { IfErr result (FailsOrStays out.old out.new) }
-    ensures extras { out.new.extras ≡ out.old.extras }
+    ensures other_calls { out.new.other_calls ≡ out.old.other_calls }
     ensures right { IfErr result (λ stop. Contains (Stop.CannotWrite ∷ Stop.NoMemory ∷ []) stop) }
 {
     match request {
@@ -162,13 +156,11 @@ fn write_asked<A: Allocator + Copy, W: Write>(
 
 // Writes the listing of the bytes.
 fn list_bytes<W: Write>(bytes: &[u8], out: &mut Counted<W>) -> Result<usize, Stop>
-    ensures lines { IfOk result (WritesRun forward_layout bytes.now (W.contents out.old.inner)
-        (W.contents out.new.inner)) }
-    ensures front { WritesRunFront forward_layout bytes.now (W.contents out.old.inner)
-        (W.contents out.new.inner) }
+    ensures lines { IfOk result (Known W.contents (WritesRun forward_layout bytes.now) out.old out.new) }
+    ensures front { Known W.contents (WritesRunFront forward_layout bytes.now) out.old out.new }
     ensures quiet { OnOk result (out.new.failures ≡ out.old.failures) }
     ensures early { IfErr result (FailsOrStays out.old out.new) }
-    ensures extras { out.new.extras ≡ out.old.extras }
+    ensures other_calls { out.new.other_calls ≡ out.old.other_calls }
     ensures right { IfErr result (λ stop. Contains (Stop.CannotWrite ∷ Stop.NoMemory ∷ []) stop) }
 {
     match write_listing(bytes, out) {
@@ -183,13 +175,11 @@ fn merge_bytes<A: Allocator, W: Write>(
     bytes: &[u8],
     out: &mut Counted<W>,
 ) -> Result<usize, Stop>
-    ensures lines { IfOk result (WritesRun merged_layout bytes.now (W.contents out.old.inner)
-        (W.contents out.new.inner)) }
-    ensures front { WritesRunFront merged_layout bytes.now (W.contents out.old.inner)
-        (W.contents out.new.inner) }
+    ensures lines { IfOk result (Known W.contents (WritesRun merged_layout bytes.now) out.old out.new) }
+    ensures front { Known W.contents (WritesRunFront merged_layout bytes.now) out.old out.new }
     ensures quiet { OnOk result (out.new.failures ≡ out.old.failures) }
     ensures early { IfErr result (FailsOrStays out.old out.new) }
-    ensures extras { out.new.extras ≡ out.old.extras }
+    ensures other_calls { out.new.other_calls ≡ out.old.other_calls }
     ensures right { IfErr result (λ stop. Contains (Stop.CannotWrite ∷ Stop.NoMemory ∷ []) stop) }
 {
     let Ok(answers) = merge_all(alloc, bytes) else {
@@ -219,13 +209,12 @@ fn walk_bytes<A: Allocator, W: Write>(
     word: &[End],
     out: &mut Counted<W>,
 ) -> Result<usize, Stop>
-    ensures lines { IfOk result (WritesRun (walk_layout word.now) bytes.now (W.contents out.old.inner)
-        (W.contents out.new.inner)) }
-    ensures front { WritesRunFront (walk_layout word.now) bytes.now (W.contents out.old.inner)
-        (W.contents out.new.inner) }
+    ensures lines { IfOk result
+        (Known W.contents (WritesRun (walk_layout word.now) bytes.now) out.old out.new) }
+    ensures front { Known W.contents (WritesRunFront (walk_layout word.now) bytes.now) out.old out.new }
     ensures quiet { OnOk result (out.new.failures ≡ out.old.failures) }
     ensures early { IfErr result (FailsOrStays out.old out.new) }
-    ensures extras { out.new.extras ≡ out.old.extras }
+    ensures other_calls { out.new.other_calls ≡ out.old.other_calls }
     ensures right { IfErr result (λ stop. Contains (Stop.CannotWrite ∷ Stop.NoMemory ∷ []) stop) }
 {
     let Ok(answers) = walk_utf8(alloc, bytes, word) else {
@@ -243,10 +232,9 @@ fn read_whole<A: Allocator, R: Source>(alloc: A, input: &mut R) -> Result<Vec<u8
     ensures bytes { IfOk result (λ bytes. IfSome (R.remaining input.old) (λ xs. bytes.items ≡ xs)) }
     ensures drained { OnOk result (IsDrained (R.remaining input.old) (R.remaining input.new)) }
     ensures unbroken { OnOk result (IsTrue R.is_counted →
-        (R.reads input.new).broken ≡ (R.reads input.old).broken) }
-    ensures until { IfErr result (ReadsUntil R.is_counted R.remaining R.failures R.reads input.old input.new) }
-    ensures in_time { IsTrue R.is_counted → (R.reads input.old).ended ≡ false →
-        (R.reads input.new).late ≡ (R.reads input.old).late }
+        NoFailedRead (R.reads input.old) (R.reads input.new)) }
+    ensures until { IfErr result (ReadsUntil R.Source input.old input.new) }
+    ensures in_time { IsTrue R.is_counted → NoReadAfterEnd (R.reads input.old) (R.reads input.new) }
     ensures right { IfErr result (λ stop. Contains (Stop.CannotRead ∷ Stop.NoMemory ∷ []) stop) }
 {
     let mut bytes = Vec::new(alloc);

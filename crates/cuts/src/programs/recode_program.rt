@@ -1,8 +1,9 @@
 //! One run of `recode`, over any reader and writers.
-ghost use Rattle.std.specs.Prelude.{◌≡◌, ◌≢◌, ◌<◌, ◌⊎◌, [], codes, map, string_bytes, false, Some, IfSome, IfNone};
+ghost use Rattle.std.specs.Prelude.{◌≡◌, ◌≢◌, ◌<◌, ◌⊎◌, [], codes, map, string_bytes, Some, IfSome, IfNone};
 ghost use Rattle.cuts.specs.Endings.{IsDrained, CountsUntil, FailsOrIsQuiet, Says, EndsEarly, reason_of};
 ghost use Rattle.cuts.specs.Arguments.{form_name, AsksForms};
 ghost use Rattle.cuts.specs.RecodeStream.{WritesRecoded, BeginsRecoded};
+ghost use Rattle.cuts.specs.Failures.{Known, Pipes, NoFailedRead, NoReadAfterEnd};
 
 use crate::counted::Counted;
 use crate::programs::recode_stream::{RecodeFault, recode};
@@ -32,22 +33,20 @@ pub fn run_recode<A: Allocator + Copy, R: Read, W: Write, E: Sink>(
     stderr: &mut E,
 ) -> u8
     ensures recoded { (from to : Form) → AsksForms (map string_bytes args.now) from to → result ≡ 0 →
-        WritesRecoded from to (R.remaining input.old.inner) (W.contents out.old.inner)
-        (W.contents out.new.inner) }
+        Known W.contents (WritesRecoded from to (R.remaining input.old.inner)) out.old out.new }
     ensures front { (from to : Form) → AsksForms (map string_bytes args.now) from to →
-        BeginsRecoded from to (R.remaining input.old.inner) (R.remaining input.new.inner)
-        (W.contents out.old.inner) (W.contents out.new.inner) }
-    ensures drained { result ≡ 0 → IsDrained (R.remaining input.old.inner) (R.remaining input.new.inner) }
+        Pipes R.remaining W.contents (BeginsRecoded from to) input.old input.new out.old out.new }
+    ensures drained { result ≡ 0 → Known R.remaining IsDrained input.old input.new }
     ensures quiet { result ≡ 0 → out.new.failures ≡ out.old.failures }
-    ensures unbroken { result ≡ 0 → input.new.reads.broken ≡ input.old.reads.broken }
-    ensures in_time { input.old.reads.ended ≡ false → input.new.reads.late ≡ input.old.reads.late }
+    ensures unbroken { result ≡ 0 → NoFailedRead input.old.reads input.new.reads }
+    ensures in_time { NoReadAfterEnd input.old.reads input.new.reads }
     ensures silent { result ≡ 0 → stderr.new ≡ stderr.old }
     ensures early { 0 < result → EndsEarly (codes "recode") (CountsUntil R.remaining input.old input.new)
-        (FailsOrIsQuiet out.old out.new) (Says E.is_counted E.failures E.contents stderr.old stderr.new) result }
+        (FailsOrIsQuiet out.old out.new) (Says E.Sink stderr.old stderr.new) result }
     ensures nothing { (from to : Form) → AsksForms (map string_bytes args.now) from to →
         R.remaining input.old.inner ≡ Some [] → 0 < result →
         (input.old.failures < input.new.failures) ⊎ (out.old.failures < out.new.failures) }
-    ensures extras { out.new.extras ≡ out.old.extras }
+    ensures other_calls { out.new.other_calls ≡ out.old.other_calls }
     ensures wrong { ((from to : Form) → ¬ AsksForms (map string_bytes args.now) from to) → (result ≡ 2) ×
         (input.new ≡ input.old) × (out.new ≡ out.old) }
     ensures right { (from to : Form) → AsksForms (map string_bytes args.now) from to → result ≢ 2 }

@@ -1,7 +1,8 @@
 //! Recoding from a reader to a writer.
-ghost use Rattle.std.specs.Prelude.{◌≡◌, ◌≢◌, ◌-◌, ◌^◌, ◌<◌, [], length, false, Some, IfSome, OnOk};
+ghost use Rattle.std.specs.Prelude.{◌≡◌, ◌≢◌, ◌-◌, ◌^◌, ◌<◌, [], length, Some, IfSome, OnOk};
 ghost use Rattle.cuts.specs.Endings.{IsDrained};
 ghost use Rattle.cuts.specs.RecodeStream.{AppendsRecoded, WritesRecoded, BeginsRecoded, HoldsBack, Passes, PassesFront, PassesLast, PassesLastFront};
+ghost use Rattle.cuts.specs.Failures.{Known, Pipes, NoFailedRead, NoReadAfterEnd};
 
 use crate::counted::Counted;
 use crate::streams::write_whole;
@@ -40,25 +41,23 @@ pub fn recode<A: Allocator, R: Read, W: Write>(
     from: Form,
     to: Form,
 ) -> Result<(), RecodeFault>
-    ensures recoded { OnOk result (WritesRecoded from to (R.remaining input.old.inner)
-        (W.contents out.old.inner) (W.contents out.new.inner)) }
-    ensures list { OnOk result (AppendsRecoded from to (R.remaining input.old.inner)
-        (W.contents out.old.inner) (W.contents out.new.inner)) }
-    ensures front { BeginsRecoded from to (R.remaining input.old.inner) (R.remaining input.new.inner)
-        (W.contents out.old.inner) (W.contents out.new.inner) }
+    ensures recoded { OnOk result
+        (Known W.contents (WritesRecoded from to (R.remaining input.old.inner)) out.old out.new) }
+    ensures list { OnOk result
+        (Known W.contents (AppendsRecoded from to (R.remaining input.old.inner)) out.old out.new) }
+    ensures front { Pipes R.remaining W.contents (BeginsRecoded from to) input.old input.new out.old out.new }
     ensures held_back { result ≡ Err RecodeFault.Read →
-        HoldsBack from to (R.remaining input.old.inner) (R.remaining input.new.inner)
-        (W.contents out.old.inner) (W.contents out.new.inner) }
-    ensures drained { OnOk result (IsDrained (R.remaining input.old.inner) (R.remaining input.new.inner)) }
+        Pipes R.remaining W.contents (HoldsBack from to) input.old input.new out.old out.new }
+    ensures drained { OnOk result (Known R.remaining IsDrained input.old input.new) }
     ensures quiet { result ≢ Err RecodeFault.Write → out.new.failures ≡ out.old.failures }
-    ensures unbroken { result ≢ Err RecodeFault.Read → input.new.reads.broken ≡ input.old.reads.broken }
-    ensures in_time { input.old.reads.ended ≡ false → input.new.reads.late ≡ input.old.reads.late }
+    ensures unbroken { result ≢ Err RecodeFault.Read → NoFailedRead input.old.reads input.new.reads }
+    ensures in_time { NoReadAfterEnd input.old.reads input.new.reads }
     ensures cannot_read { result ≡ Err RecodeFault.Read →
         IfSome (R.remaining input.old.inner) (λ xs. length xs < 2 ^ 64 - 1 →
         input.old.failures < input.new.failures) }
     ensures cannot_write { result ≡ Err RecodeFault.Write → out.old.failures < out.new.failures }
     ensures nothing { R.remaining input.old.inner ≡ Some [] → result ≢ Err RecodeFault.Memory }
-    ensures extras { out.new.extras ≡ out.old.extras }
+    ensures other_calls { out.new.other_calls ≡ out.old.other_calls }
 {
     let mut recoder = Recoder::new(from, to);
     let mut recoded = Vec::new(alloc);
@@ -82,16 +81,16 @@ fn write_part<A: Allocator, W: Write>(
     out: &mut Counted<W>,
 ) -> Result<(), RecodeFault>
     requires { recoded.old.items ≡ [] }
-    ensures passes { OnOk result (Passes recoder.old part.now (W.contents out.old.inner)
-        (W.contents out.new.inner) recoder.new) }
+    ensures passes { OnOk result
+        (Known W.contents (Passes recoder.old part.now) out.old out.new recoder.new) }
     ensures front { result ≡ Err RecodeFault.Write →
-        PassesFront recoder.old part.now (W.contents out.old.inner) (W.contents out.new.inner) recoder.new }
+        Known W.contents (PassesFront recoder.old part.now) out.old out.new recoder.new }
     ensures refused { result ≡ Err RecodeFault.Memory → out.new ≡ out.old }
     ensures empty { OnOk result (recoded.new.items ≡ []) }
     ensures quiet { result ≢ Err RecodeFault.Write → out.new.failures ≡ out.old.failures }
     ensures can_read { result ≢ Err RecodeFault.Read }
     ensures cannot_write { result ≡ Err RecodeFault.Write → out.old.failures < out.new.failures }
-    ensures extras { out.new.extras ≡ out.old.extras }
+    ensures other_calls { out.new.other_calls ≡ out.old.other_calls }
 {
     if recoder.feed(part, recoded).is_err() {
         return Err(RecodeFault::Memory);
@@ -110,15 +109,15 @@ fn write_end<A: Allocator, W: Write>(
     out: &mut Counted<W>,
 ) -> Result<(), RecodeFault>
     requires { recoded.old.items ≡ [] }
-    ensures passes { OnOk result (PassesLast recoder (W.contents out.old.inner) (W.contents out.new.inner)) }
+    ensures passes { OnOk result (Known W.contents (PassesLast recoder) out.old out.new) }
     ensures front { result ≡ Err RecodeFault.Write →
-        PassesLastFront recoder (W.contents out.old.inner) (W.contents out.new.inner) }
+        Known W.contents (PassesLastFront recoder) out.old out.new }
     ensures refused { result ≡ Err RecodeFault.Memory → out.new ≡ out.old }
     ensures quiet { result ≢ Err RecodeFault.Write → out.new.failures ≡ out.old.failures }
     ensures can_read { result ≢ Err RecodeFault.Read }
     ensures cannot_write { result ≡ Err RecodeFault.Write → out.old.failures < out.new.failures }
     ensures nothing { length recoder.held ≡ 0 → result ≢ Err RecodeFault.Memory }
-    ensures extras { out.new.extras ≡ out.old.extras }
+    ensures other_calls { out.new.other_calls ≡ out.old.other_calls }
 {
     if recoder.finish(recoded).is_err() {
         return Err(RecodeFault::Memory);

@@ -27,8 +27,7 @@ impl Stop {
     /// Cost: one line is written.
     pub fn report<E: Sink>(self, program: &str, stderr: &mut E) -> u8
         ensures status { result ≡ status_of self }
-        ensures line { Says E.is_counted E.failures E.contents stderr.old stderr.new
-            (stop_line program.now self) }
+        ensures line { Says E.Sink stderr.old stderr.new (stop_line program.now self) }
     {
         let _ = self.write_line(program, stderr);
         match self {

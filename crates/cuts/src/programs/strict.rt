@@ -1,7 +1,8 @@
 //! Strict recoding from a reader to a writer: to the first faulty byte.
-ghost use Rattle.std.specs.Prelude.{◌≡◌, ◌≢◌, ◌+◌, ◌-◌, ◌*◌, ◌^◌, ◌<◌, ◌≤◌, [], length, false, Some, IfSome, IfErr, OnOk};
+ghost use Rattle.std.specs.Prelude.{◌≡◌, ◌≢◌, ◌+◌, ◌-◌, ◌*◌, ◌^◌, ◌<◌, ◌≤◌, [], length, IfSome, IfErr, OnOk};
 ghost use Rattle.cuts.specs.Endings.{IsDrained};
 ghost use Rattle.cuts.specs.StrictRelayed.{BeginsTranscoded, EndsText, HoldsText, IfFaulty, IsFollowed, PassesText, PassesTextFront, PassesTextLast, StopsFaulty, StopsText, WritesText};
+ghost use Rattle.cuts.specs.Failures.{Known, Pipes, NoFailedRead, NoReadAfterEnd};
 
 use crate::counted::Counted;
 use crate::streams::write_whole;
@@ -53,24 +54,23 @@ pub fn recode_strict<R: Read, W: Write>(
     from: Form,
     to: Form,
 ) -> Result<(), StrictError>
-    ensures text { OnOk result (WritesText from to (R.remaining input.old.inner)
-        (W.contents out.old.inner) (W.contents out.new.inner)) }
-    ensures faulty { IfErr result (λ e. IfFaulty e (λ x. StopsFaulty from to (R.remaining input.old.inner)
-        (R.remaining input.new.inner) (W.contents out.old.inner) (W.contents out.new.inner) x)) }
-    ensures front { BeginsTranscoded from to (R.remaining input.old.inner) (R.remaining input.new.inner)
-        (W.contents out.old.inner) (W.contents out.new.inner) }
+    ensures text { OnOk result
+        (Known W.contents (WritesText from to (R.remaining input.old.inner)) out.old out.new) }
+    ensures faulty { IfErr result (λ e. IfFaulty e
+        (Pipes R.remaining W.contents (StopsFaulty from to) input.old input.new out.old out.new)) }
+    ensures front { Pipes R.remaining W.contents (BeginsTranscoded from to)
+        input.old input.new out.old out.new }
     ensures held_back { result ≡ Err StrictError.Read →
-        HoldsText from to (R.remaining input.old.inner) (R.remaining input.new.inner)
-        (W.contents out.old.inner) (W.contents out.new.inner) }
-    ensures drained { OnOk result (IsDrained (R.remaining input.old.inner) (R.remaining input.new.inner)) }
+        Pipes R.remaining W.contents (HoldsText from to) input.old input.new out.old out.new }
+    ensures drained { OnOk result (Known R.remaining IsDrained input.old input.new) }
     ensures quiet { result ≢ Err StrictError.Write → out.new.failures ≡ out.old.failures }
-    ensures unbroken { result ≢ Err StrictError.Read → input.new.reads.broken ≡ input.old.reads.broken }
-    ensures in_time { input.old.reads.ended ≡ false → input.new.reads.late ≡ input.old.reads.late }
+    ensures unbroken { result ≢ Err StrictError.Read → NoFailedRead input.old.reads input.new.reads }
+    ensures in_time { NoReadAfterEnd input.old.reads input.new.reads }
     ensures cannot_read { result ≡ Err StrictError.Read →
         IfSome (R.remaining input.old.inner) (λ xs. length xs < 2 ^ 64 - 1 →
         input.old.failures < input.new.failures) }
     ensures cannot_write { result ≡ Err StrictError.Write → out.old.failures < out.new.failures }
-    ensures extras { out.new.extras ≡ out.old.extras }
+    ensures other_calls { out.new.other_calls ≡ out.old.other_calls }
 {
     let mut recoder = Recoder::new(from, to);
     let mut part = [0; PART];
@@ -100,15 +100,15 @@ fn pass_part<W: Write>(
 ) -> Result<(), StrictError>
     requires room { 3 * (length recoder.old.held + length part.now) ≤ length room.old }
     requires before { length recoder.old.held ≤ offset }
-    ensures passes { OnOk result (PassesText recoder.old part.now (W.contents out.old.inner)
-        (W.contents out.new.inner) recoder.new) }
-    ensures faulty { IfErr result (λ e. IfFaulty e (λ x. StopsText recoder.old part.now IsFollowed offset
-        (W.contents out.old.inner) (W.contents out.new.inner) x)) }
-    ensures front { PassesTextFront recoder.old part.now (W.contents out.old.inner) (W.contents out.new.inner) }
+    ensures passes { OnOk result
+        (Known W.contents (PassesText recoder.old part.now) out.old out.new recoder.new) }
+    ensures faulty { IfErr result (λ e. IfFaulty e
+        (Known W.contents (StopsText recoder.old part.now IsFollowed offset) out.old out.new)) }
+    ensures front { Known W.contents (PassesTextFront recoder.old part.now) out.old out.new }
     ensures quiet { result ≢ Err StrictError.Write → out.new.failures ≡ out.old.failures }
     ensures can_read { result ≢ Err StrictError.Read }
     ensures cannot_write { result ≡ Err StrictError.Write → out.old.failures < out.new.failures }
-    ensures extras { out.new.extras ≡ out.old.extras }
+    ensures other_calls { out.new.other_calls ≡ out.old.other_calls }
 {
     let progress = recoder.feed_strict_into(part, room);
     if write_whole(&room[..progress.written], out).is_err() {
@@ -129,14 +129,14 @@ fn pass_end<W: Write>(
 ) -> Result<(), StrictError>
     requires room { 3 * length recoder.old.held ≤ length room.old }
     requires before { length recoder.old.held ≤ offset }
-    ensures passes { OnOk result (PassesTextLast recoder.old (W.contents out.old.inner) (W.contents out.new.inner)) }
-    ensures faulty { IfErr result (λ e. IfFaulty e (λ x. StopsText recoder.old [] EndsText offset
-        (W.contents out.old.inner) (W.contents out.new.inner) x)) }
-    ensures front { PassesTextFront recoder.old [] (W.contents out.old.inner) (W.contents out.new.inner) }
+    ensures passes { OnOk result (Known W.contents (PassesTextLast recoder.old) out.old out.new) }
+    ensures faulty { IfErr result
+        (λ e. IfFaulty e (Known W.contents (StopsText recoder.old [] EndsText offset) out.old out.new)) }
+    ensures front { Known W.contents (PassesTextFront recoder.old []) out.old out.new }
     ensures quiet { result ≢ Err StrictError.Write → out.new.failures ≡ out.old.failures }
     ensures can_read { result ≢ Err StrictError.Read }
     ensures cannot_write { result ≡ Err StrictError.Write → out.old.failures < out.new.failures }
-    ensures extras { out.new.extras ≡ out.old.extras }
+    ensures other_calls { out.new.other_calls ≡ out.old.other_calls }
 {
     let progress = recoder.finish_strict_into(room);
     if write_whole(&room[..progress.written], out).is_err() {

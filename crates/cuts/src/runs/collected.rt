@@ -1,13 +1,13 @@
 //! Whole runs that are collected into memory.
-ghost use Rattle.std.specs.Prelude.{◌≡◌, ℕ, List, [], length, IfOk, IsOk};
+ghost use Rattle.std.specs.Prelude.{◌≡◌, List, length, IfOk, IsOk};
 ghost use Rattle.std.specs.Iterator.{IsFinite};
 ghost use Rattle.utf_base.specs.Code.{utf8, utf16};
 ghost use Rattle.utf_base.specs.Kinds.{merger_kind};
 ghost use Rattle.utf_base.specs.Units.{unit_fault_kind};
 ghost use Rattle.encode_unicode.specs.Pieces.{unit_pieces};
-ghost use Rattle.encode_unicode.specs.Sources.{IsListed};
+ghost use Rattle.encode_unicode.specs.Sources.{WhereEmpty};
 ghost use Rattle.encode_unicode.specs.Window.{UnitItem};
-ghost use Rattle.cuts.specs.Collected.{IsUnitRun, IsMergedRun, IsJoinedExactly};
+ghost use Rattle.cuts.specs.Collected.{WhateverIsLeft, IsUnitRun, IsMergedRun, IsJoinedExactly};
 ghost use Rattle.cuts.specs.Items.{answers_of};
 
 use crate::runs::items::UnitItem;
@@ -29,9 +29,11 @@ pub fn merge_utf8<A: Allocator, I: Iterator<Item = u8>>(
 ) -> Result<Vec<Result<Utf8Char, Utf8Error>, A>, AllocError>
     requires can { I.can_next source }
     requires ends { IsFinite (I.remaining source) }
-    ensures run { IfOk result (λ all. (rest : I → List ℕ) → IsListed I.next_gives rest → IsMergedRun utf8 merger_kind (rest source) all.items) }
-    ensures joined { IfOk result (λ all. (rest : I → List ℕ) → IsListed I.next_gives rest → IsJoinedExactly utf8 (rest source) all.items) }
-    ensures nothing { (rest : I → List ℕ) → IsListed I.next_gives rest → rest source ≡ [] → IsOk result }
+    ensures run { IfOk result (λ all. WhateverIsLeft I.next_gives (λ rest.
+        IsMergedRun utf8 merger_kind (rest source) all.items)) }
+    ensures joined { IfOk result (λ all. WhateverIsLeft I.next_gives (λ rest.
+        IsJoinedExactly utf8 (rest source) all.items)) }
+    ensures nothing { WhereEmpty I.next_gives source (IsOk result) }
 {
     let mut all = Vec::new(alloc);
     for answer in source.to_utf8chars() {
@@ -55,10 +57,13 @@ pub fn merge_utf16<A: Allocator, I: Iterator<Item = u16>>(
 ) -> Result<Vec<Result<Utf16Char, Utf16PairError>, A>, AllocError>
     requires can { I.can_next source }
     requires ends { IsFinite (I.remaining source) }
-    ensures run { IfOk result (λ all. (rest : I → List ℕ) → IsListed I.next_gives rest → IsMergedRun utf16 unit_fault_kind (rest source) all.items) }
-    ensures joined { IfOk result (λ all. (rest : I → List ℕ) → IsListed I.next_gives rest → IsJoinedExactly utf16 (rest source) all.items) }
-    ensures alike { IfOk result (λ all. (rest : I → List ℕ) → IsListed I.next_gives rest → (items : List UnitItem) → IsUnitRun (rest source) items → all.items ≡ answers_of items) }
-    ensures nothing { (rest : I → List ℕ) → IsListed I.next_gives rest → rest source ≡ [] → IsOk result }
+    ensures run { IfOk result (λ all. WhateverIsLeft I.next_gives (λ rest.
+        IsMergedRun utf16 unit_fault_kind (rest source) all.items)) }
+    ensures joined { IfOk result (λ all. WhateverIsLeft I.next_gives (λ rest.
+        IsJoinedExactly utf16 (rest source) all.items)) }
+    ensures alike { IfOk result (λ all. WhateverIsLeft I.next_gives (λ rest.
+        (items : List UnitItem) → IsUnitRun (rest source) items → all.items ≡ answers_of items)) }
+    ensures nothing { WhereEmpty I.next_gives source (IsOk result) }
 {
     let mut all = Vec::new(alloc);
     for answer in source.to_utf16chars() {

@@ -25,7 +25,8 @@ pub fn walk_utf8<A: Allocator>(
     ensures walk { IfOk result (λ answers. IsWalk utf8_bytes src.now (map side word.now) answers.items) }
     ensures entries { IfOk result (λ answers. length answers.items ≡ length word.now) }
     ensures each_once { IfOk result (λ answers. GivesEachOnce utf8 src.now answers.items) }
-    ensures outside { IfOk result (λ answers. StaysOutside utf8_bytes src.now (map side word.now) answers.items) }
+    ensures outside { IfOk result
+        (λ answers. StaysOutside utf8_bytes src.now (map side word.now) answers.items) }
     ensures empty { length word.now ≡ 0 → IsOk result }
 {
     let mut answers = Vec::new(alloc);
@@ -52,7 +53,8 @@ pub fn walk_utf16<A: Allocator>(
     ensures walk { IfOk result (λ answers. IsWalk utf16_units src.now (map side word.now) answers.items) }
     ensures entries { IfOk result (λ answers. length answers.items ≡ length word.now) }
     ensures each_once { IfOk result (λ answers. GivesEachOnce utf16 src.now answers.items) }
-    ensures outside { IfOk result (λ answers. StaysOutside utf16_units src.now (map side word.now) answers.items) }
+    ensures outside { IfOk result
+        (λ answers. StaysOutside utf16_units src.now (map side word.now) answers.items) }
     ensures empty { length word.now ≡ 0 → IsOk result }
 {
     let mut answers = Vec::new(alloc);

@@ -6,7 +6,7 @@ pub loop-start-init : goal.loop-start-init
 loop-start-init c k s from before stands = let first = c.saturating_sub-start.ensures in absurd (omega arith)
 
 pub loop-start-preserved : goal.loop-start-preserved
-loop-start-preserved c = over_push _ _ _ _ _ c.loop-start.invariant c.end_of_code-end.ensures c.if-place-end.false
+loop-start-preserved c = over_push _ _ c.loop-start.invariant c.end_of_code-end.ensures c.if-place-end.false
 
 pub returns-then-place-end : goal.returns-then-place-end
 returns-then-place-end c = over_found _ _ _ _ c.end_of_code-end.ensures c.loop-start-test.true c.if-place-end.true

@@ -12,7 +12,7 @@ loop-next-init c =
 pub loop-next-smaller : goal.loop-next-smaller
 loop-next-smaller c =
     let short : c.loop-next.next < length c.args.bytes.now = omega (arith, c.min-end.ensures) in
-    let some = item_has_some _ _ _ _ _ c.piece_at-item.result c.loop-next.invariant.1 short c.piece_at-item.ensures.piece in
+    let some = item_has_some c.piece_at-item.result c.loop-next.invariant.1 short c.piece_at-item.ensures.piece in
     omega arith
 
 pub loop-next-preserved : goal.loop-next-preserved
@@ -22,14 +22,14 @@ loop-next-preserved c =
     let short : c.loop-next.next < length c.args.bytes.now = omega (arith, c.min-end.ensures) in
     let lt : c.loop-next.next < c.args.place + 3 = omega (arith, c.min-end.ensures) in (
       now.0 ++ c.piece_at-item.result ∷ [],
-      IsDecodedTo-push _ _ _ _ _ now.0 c.piece_at-item.result now.1 lt short item.place item.piece refl,
+      IsDecodedTo-push now.0 c.piece_at-item.result now.1 lt short item.place item.piece refl,
       omega (arith, now.2, item.step, length_push now.0 c.piece_at-item.result),
     )
 
 pub returns-clause-least : goal.returns-clause-least
 returns-clause-least c =
     let now = c.loop-next.invariant in
-    least_at_spot _ _ _ _ _ c.requires.replaced _ _ _ _ _ now.0 c.find_splice-spot.ensures (IsDecodedTo-all _ _ _ _ _ now.1 (λ lt. omega (arith, c.min-end.ensures))) now.2
+    least_at_spot c.requires.replaced _ _ now.0 c.find_splice-spot.ensures (IsDecodedTo-all now.1 (λ lt. omega (arith, c.min-end.ensures))) now.2
 
 pub returns-clause-most : goal.returns-clause-most
 returns-clause-most c =

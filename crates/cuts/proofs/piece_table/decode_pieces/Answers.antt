@@ -5,7 +5,7 @@ use Rattle.cuts.proofs.piece_table.decode_pieces.Goals as goal
 
 pub loop-next-smaller : goal.loop-next-smaller
 loop-next-smaller g c =
-    let some = item_has_some _ _ _ _ _ c.piece_at-item.result c.loop-next.invariant.decoded (omega (arith, c.min-end.ensures)) c.piece_at-item.ensures.piece in
+    let some = item_has_some c.piece_at-item.result c.loop-next.invariant.decoded (omega (arith, c.min-end.ensures)) c.piece_at-item.ensures.piece in
     omega arith
 
 pub loop-next-preserved : goal.loop-next-preserved
@@ -15,10 +15,10 @@ loop-next-preserved g c =
     record {
       decoded =
           rw c.in_ok-push.ensures.items
-          (IsDecodedTo-push _ _ _ _ _ c.loop-next.pieces.items c.piece_at-item.result c.loop-next.invariant.decoded lt short c.piece_at-item.ensures.place c.piece_at-item.ensures.piece refl);
+          (IsDecodedTo-push c.loop-next.pieces.items c.piece_at-item.result c.loop-next.invariant.decoded lt short c.piece_at-item.ensures.place c.piece_at-item.ensures.piece refl);
       counted = rw c.in_ok-push.ensures.items (omega (arith, c.loop-next.invariant.counted, c.piece_at-item.ensures.step, length_push c.loop-next.pieces.items c.piece_at-item.result));
       room = omega arith;
     }
 
 pub returns-clause-run : goal.returns-clause-run
-returns-clause-run g c = IsDecodedTo-all _ _ _ _ _ c.loop-next.invariant.decoded (λ lt. omega (arith, c.min-end.ensures))
+returns-clause-run g c = IsDecodedTo-all c.loop-next.invariant.decoded (λ lt. omega (arith, c.min-end.ensures))

@@ -13,5 +13,5 @@ end_of-requires-clause-fits c k d lt = let w = run_within _ _ c.requires.replace
 
 pub returns : goal.returns
 returns c =
-    IsSplice-found _ _ _ _ _ c.requires.replaced _ _ _ (rw c.saturating_sub.ensures at c.count_before-keep.ensures) c.count_before.ensures
+    IsSplice-found c.requires.replaced (rw c.saturating_sub.ensures at c.count_before-keep.ensures) c.count_before.ensures
     c.end_of.ensures

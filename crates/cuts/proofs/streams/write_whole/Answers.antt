@@ -8,5 +8,5 @@ loop-sent-preserved g c = record {
   front = sent_more _ _ _ _ c.loop-sent.sent _ c.loop-sent.invariant.front c.in_ok-count.ensures.appends;
   quiet = search rules;
   stalls = search rules;
-  extras = search rules;
+  other_calls = search rules;
 }

@@ -9,7 +9,7 @@ invariant-loop-sent g l = record {
   front : Appends (g.S.Sink.contents l.fn.to) (g.S.Sink.contents l.to) (take l.sent l.bytes);
   quiet : IsTrue g.S.Sink.is_counted → g.S.Sink.failures l.to ≡ g.S.Sink.failures l.fn.to;
   stalls : IsTrue g.S.Sink.is_counted → g.S.Sink.stalls l.to ≡ g.S.Sink.stalls l.fn.to;
-  extras : IsTrue g.S.Sink.is_counted → g.S.Sink.extras l.to ≡ g.S.Sink.extras l.fn.to;
+  other_calls : IsTrue g.S.Sink.is_counted → g.S.Sink.other_calls l.to ≡ g.S.Sink.other_calls l.fn.to;
 }
 
 abbrev pub decreases-loop-sent : goal.decreases-loop-sent

@@ -10,4 +10,4 @@ returns-clause-before g c x lt =
 pub returns-clause-following : goal.returns-clause-following
 returns-clause-following g c x le =
     let until : c.in_ok-until.until ≡ c.args.start + length c.args.new.now + 3 = search rules in
-    stays_after _ _ _ _ _ c.in_ok-replace.ensures.around x (omega arith)
+    stays_after _ _ _ c.args.end _ c.in_ok-replace.ensures.around x (omega arith)

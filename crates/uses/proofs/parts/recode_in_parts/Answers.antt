@@ -8,9 +8,9 @@ longer : (p n : ℕ) (xs : List ℕ) → take (p + n) xs ≡ take p xs ++ slice_
 longer p n xs = let count : p + n - p ≡ n = omega arith in rw count (take_plus p n xs)
 
 pub loop-place-preserved : goal.loop-place-preserved
-loop-place-preserved g c = c.parts_are_one_part.ensures.part _ _ _ _ _ _ _ _ _ c.loop-place.invariant c.in_ok-feed.ensures.ok (longer _ _ _)
+loop-place-preserved g c = c.parts_are_one_part.ensures.part c.args.from c.args.to _ _ _ c.loop-place.out.items _ _ _ c.loop-place.invariant c.in_ok-feed.ensures.ok (longer _ _ _)
 
 pub returns : goal.returns
 returns g c =
-    c.parts_are_one_part.ensures.whole _ _ _ _ _ _ _ c.loop-place.invariant c.in_ok-finish.ensures.ok
+    c.parts_are_one_part.ensures.whole c.args.from c.args.to _ c.args.bytes.now _ _ _ c.loop-place.invariant c.in_ok-finish.ensures.ok
     (sym (take_all _ _ c.loop-place-test.false))

@@ -9,11 +9,11 @@ loop-answer-init c =
 
 pub loop-answer-preserved-in-Continue-1 : goal.loop-answer-preserved-in-Continue-1
 loop-answer-preserved-in-Continue-1 c =
-    let more = recoded_answer _ _ _ _ _ c.in-Ok.c c.loop-answer.invariant c.in-Ok.is (c.in-Some.ensures.steps.takes units_left units_listed) in
+    let more = recoded_answer c.in-Ok.c c.loop-answer.invariant c.in-Ok.is (c.in-Some.ensures.steps.takes units_left units_listed) in
     rw (c.in_ok-push.ensures.bytes, c.to_char.ensures.char, utf8_is_std c.in-Ok.c) more
 
 pub loop-answer-preserved : goal.loop-answer-preserved
-loop-answer-preserved c = absurd (recoded_no_error _ _ _ _ _ _ c.loop-answer.invariant c.in_default.is (c.in-Some.ensures.steps.takes units_left units_listed))
+loop-answer-preserved c = absurd (recoded_no_error _ c.loop-answer.invariant c.in_default.is (c.in-Some.ensures.steps.takes units_left units_listed))
 
 pub returns : goal.returns
 returns c = recoded_all _ _ _ c.loop-answer.invariant (c.in-None.ensures.steps.takes units_left units_listed).0

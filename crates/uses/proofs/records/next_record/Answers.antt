@@ -6,7 +6,7 @@ use Rattle.uses.proofs.records.next_record.Goals as goal
 
 pub returns-then-eq_u16-clause-record : goal.returns-then-eq_u16-clause-record
 returns-then-eq_u16-clause-record g c rest listed =
-    record_zero _ _ _ _ _ _ (c.loop-answer.invariant.taken rest listed) c.in-Ok.is (c.if-eq_u16.ensures.equal.0 refl) (c.in-Some.ensures.steps.takes rest listed)
+    record_zero (c.loop-answer.invariant.taken rest listed) c.in-Ok.is (c.if-eq_u16.ensures.equal.0 refl) (c.in-Some.ensures.steps.takes rest listed)
 
 pub loop-answer-preserved : goal.loop-answer-preserved
 loop-answer-preserved g c =
@@ -16,6 +16,6 @@ loop-answer-preserved g c =
       can = goes.0;
       ends = goes.1;
       taken = λ rest listed.
-          let more = record_char _ _ _ _ _ c.in-Ok.c (c.loop-answer.invariant.taken rest listed) c.in-Ok.is some (c.in-Some.ensures.steps.takes rest listed) in
+          let more = record_char c.in-Ok.c (c.loop-answer.invariant.taken rest listed) c.in-Ok.is some (c.in-Some.ensures.steps.takes rest listed) in
           rw (c.in_ok-push-in-Ok.ensures.bytes, c.to_char.ensures.char, utf8_is_std c.in-Ok.c) more;
     }

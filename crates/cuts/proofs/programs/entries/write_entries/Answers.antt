@@ -12,7 +12,7 @@ loop-entry-preserved g c =
     ] in
     record {
       held = rw (c.push_to.ensures, c.error_lines-faults.ensures.count)
-          (HoldsLines-next _ _ _ _ _ _ _ _ _ _ _ c.loop-entry-test.true c.entry-item.is c.loop-entry.invariant.held sent);
+          (HoldsLines-next _ _ _ c.loop-entry-test.true c.entry-item.is c.loop-entry.invariant.held sent);
       few = search rules;
       quiet = elim c.if-not-has_room.branch [
         | then-not-has_room+in_ok-write_to w ↦ rw w.out-is (search rules)
@@ -22,17 +22,17 @@ loop-entry-preserved g c =
         | then-not-has_room+in_ok-write_to w ↦ rw w.out-is (search rules)
         | else-not-has_room w ↦ rw w.out-is (search rules)
       ];
-      extras = elim c.if-not-has_room.branch [
+      other_calls = elim c.if-not-has_room.branch [
         | then-not-has_room+in_ok-write_to w ↦ rw w.out-is (search rules)
         | else-not-has_room w ↦ rw w.out-is (search rules)
       ];
     }
 
 pub returns-in_err-write_to-clause-front : goal.returns-in_err-write_to-clause-front
-returns-in_err-write_to-clause-front g c = AppendsFront-failed _ _ _ _ _ _ _ _ _ c.loop-entry.invariant.held c.write_to.ensures.front
+returns-in_err-write_to-clause-front g c = AppendsFront-failed _ _ _ c.loop-entry.invariant.held c.write_to.ensures.front
 
 pub returns-in_err-write_to-2-clause-front : goal.returns-in_err-write_to-2-clause-front
-returns-in_err-write_to-2-clause-front g c = AppendsFront-failed _ _ _ _ _ _ _ _ _ c.loop-entry.invariant.held c.write_to-2.ensures.front
+returns-in_err-write_to-2-clause-front g c = AppendsFront-failed _ _ _ c.loop-entry.invariant.held c.write_to-2.ensures.front
 
 pub returns-clause-front : goal.returns-clause-front
-returns-clause-front g c = AppendsFront-failed _ _ _ _ _ _ _ _ _ c.loop-entry.invariant.held c.write_to-2.ensures.front
+returns-clause-front g c = AppendsFront-failed _ _ _ c.loop-entry.invariant.held c.write_to-2.ensures.front

@@ -8,5 +8,5 @@ invariant-loop-entry g l = record {
   few : l.faults ≤ l.entry-index;
   quiet : l.out.failures ≡ l.fn.out.failures;
   stalls : l.out.stalls ≡ l.fn.out.stalls;
-  extras : l.out.extras ≡ l.fn.out.extras;
+  other_calls : l.out.other_calls ≡ l.fn.out.other_calls;
 }

@@ -14,7 +14,7 @@ loop-item-init g c =
       offset = rw (c.new-offset.ensures, whole) refl;
       quiet = refl;
       stalls = refl;
-      extras = refl;
+      other_calls = refl;
     }
 
 pub loop-item-preserved : goal.loop-item-preserved
@@ -25,9 +25,9 @@ loop-item-preserved g c =
       | then-not-has_room+in_ok-write_to w ↦ rw (w.out-is, w.lines-is) (Sends-all _ _ _ _ w.in_ok-write_to.ensures.ok w.in_ok-write_to.ensures.empty)
       | else-not-has_room w ↦ rw (w.out-is, w.lines-is) (Sends-none _ _)
     ] in
-    let listed = IsListedSoFar-sent _ _ _ _ _ _ _ _ c.loop-item.invariant.listed sent in
+    let listed = IsListedSoFar-sent c.loop-item.invariant.listed sent in
     record {
-      listed = rw (c.push_counted-faults.ensures.line, c.push_counted-faults.ensures.faults) (IsListedSoFar-push _ _ _ _ _ _ _ _ listed steps);
+      listed = rw (c.push_counted-faults.ensures.line, c.push_counted-faults.ensures.faults) (IsListedSoFar-push listed steps);
       offset = rw (c.push_counted-faults.ensures.next, steps.left, steps.place) refl;
       quiet = elim c.if-not-has_room.branch [
         | then-not-has_room+in_ok-write_to w ↦ rw w.out-is (search rules)
@@ -37,25 +37,25 @@ loop-item-preserved g c =
         | then-not-has_room+in_ok-write_to w ↦ rw w.out-is (search rules)
         | else-not-has_room w ↦ rw w.out-is (search rules)
       ];
-      extras = elim c.if-not-has_room.branch [
+      other_calls = elim c.if-not-has_room.branch [
         | then-not-has_room+in_ok-write_to w ↦ rw w.out-is (search rules)
         | else-not-has_room w ↦ rw w.out-is (search rules)
       ];
     }
 
 pub returns-in_err-write_to-clause-front : goal.returns-in_err-write_to-clause-front
-returns-in_err-write_to-clause-front g c = WritesListingFront-failed _ _ _ _ _ _ _ c.loop-item.invariant.listed c.write_to.ensures.front
+returns-in_err-write_to-clause-front g c = WritesListingFront-failed c.loop-item.invariant.listed c.write_to.ensures.front
 
 pub returns-in_err-write_to-2-clause-front : goal.returns-in_err-write_to-2-clause-front
-returns-in_err-write_to-2-clause-front g c = WritesListingFront-failed _ _ _ _ _ _ _ c.loop-item.invariant.listed c.write_to-2.ensures.front
+returns-in_err-write_to-2-clause-front g c = WritesListingFront-failed c.loop-item.invariant.listed c.write_to-2.ensures.front
 
 pub returns-clause-front : goal.returns-clause-front
-returns-clause-front g c = WritesListingFront-failed _ _ _ _ _ _ _ c.loop-item.invariant.listed c.write_to-2.ensures.front
+returns-clause-front g c = WritesListingFront-failed c.loop-item.invariant.listed c.write_to-2.ensures.front
 
 pub returns-clause-text : goal.returns-clause-text
 returns-clause-text g c =
-    listing_of_text _ _ _ _ (WritesListing-all _ _ _ _ _ _ _ _ c.loop-item.invariant.listed c.in-None.ensures.steps c.in_ok-write_to-2.ensures.ok)
+    listing_of_text _ _ _ _ (WritesListing-all c.loop-item.invariant.listed c.in-None.ensures.steps c.in_ok-write_to-2.ensures.ok)
 
 pub returns-clause-count : goal.returns-clause-count
 returns-clause-count g c =
-    listing_of_pieces _ _ _ _ (WritesListing-all _ _ _ _ _ _ _ _ c.loop-item.invariant.listed c.in-None.ensures.steps c.in_ok-write_to-2.ensures.ok)
+    listing_of_pieces _ _ _ _ (WritesListing-all c.loop-item.invariant.listed c.in-None.ensures.steps c.in_ok-write_to-2.ensures.ok)

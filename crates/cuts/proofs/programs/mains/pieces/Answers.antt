@@ -10,21 +10,19 @@ returns-in-Ok-clause-lines g c asked words few =
     let kept = c.finish_run.ensures.kept (omega arith) in
     let same = kept.0 in
     let done = c.run_pieces-status.ensures.lines asked (rw (c.as_slice.ensures.value, given) words.2) (omega arith) in
-    TellsAsked-kept _ _ _ _ _ _ _ done c.finish_run.ensures.keeps same
+    TellsAsked-kept done c.finish_run.ensures.keeps same
 
 pub returns-in-Ok-clause-front : goal.returns-in-Ok-clause-front
 returns-in-Ok-clause-front g c asked words =
     let given = c.in-Ok.ensures.given words.0 words.1 in
     let done = c.run_pieces-status.ensures.front asked (rw (c.as_slice.ensures.value, given) words.2) in
-    BeginsAsked-kept _ _ _ _ _ done c.finish_run.ensures.keeps
+    BeginsAsked-kept done c.finish_run.ensures.keeps
 
 pub returns-in-Ok-clause-early : goal.returns-in-Ok-clause-early
 returns-in-Ok-clause-early g c =
     let run = c.run_pieces-status.ensures in
     let end = c.finish_run.ensures in
-    ends_early _ _
-    (Says g.E.Sink.is_counted g.E.Sink.failures g.E.Sink.contents)
-    _ _ _ _ _ _ _ _ run.early run.unbroken run.silent run.extras end.early end.whole end.never_fewer end.failed end.line
+    ends_early (Says g.E.Sink) _ run.early run.unbroken run.silent run.other_calls end.early end.whole end.never_fewer end.failed end.line
 
 pub returns-in-Err-clause-front : goal.returns-in-Err-clause-front
 returns-in-Err-clause-front g c asked words = BeginsAsked-none asked _ _
@@ -34,7 +32,7 @@ returns-in-Ok-clause-wrong g c words =
     let given = c.in-Ok.ensures.given words.0 words.1 in
     let two = c.run_pieces-status.ensures.wrong (rw (c.as_slice.ensures.value, given) words.2) in
     let stays = c.finish_run.ensures.early (omega (arith, two)) in
-    let told = c.finish_run.ensures.whole (ap (λ out. out.extras.failed_flushes) stays) in
+    let told = c.finish_run.ensures.whole (ap (λ out. out.other_calls.failed_flushes) stays) in
     let same = told.0 ∙ two in
     omega (arith, same)
 

@@ -9,10 +9,10 @@ loop-preserved g c =
       | in-Ok+in_ok-add-in-Ok w ↦
           let taken = w.in-Ok.ensures in
           rw (w.bytes-is, w.in_ok-add-in-Ok.ensures.items)
-          (IsReadSoFar-part _ _ _ _ _ _ _ _ _ _ _ _ _ _ _ c.loop.invariant taken.consumes.0 (omega arith) (omega arith) taken.failures taken.reads)
+          (IsReadSoFar-part _ c.loop.invariant taken.consumes.0 (omega arith) (omega arith) taken.failures taken.reads)
       | in-Err w ↦
           let failed = w.in-Err.ensures in
-          rw w.bytes-is (IsReadSoFar-idle _ _ _ _ _ _ _ _ _ _ _ _ _ _ c.loop.invariant failed.consumes (search rules) failed.failures failed.reads)
+          rw w.bytes-is (IsReadSoFar-idle c.loop.invariant failed.consumes (search rules) failed.failures failed.reads)
     ]
 
 pub returns-in-Ok-eq0-clause-bytes : goal.returns-in-Ok-eq0-clause-bytes

@@ -1,4 +1,5 @@
 use Rattle.std.proofs.Common.{◌≡◌, ◌≤◌, [], Some, false}
+use Rattle.cuts.specs.Failures.{NoFailedRead, NoReadAfterEnd}
 use Rattle.cuts.proofs.Relays.{IsRelayed}
 use Rattle.cuts.proofs.programs.recode_stream.recode.Given as goal
 
@@ -9,10 +10,10 @@ invariant-loop g l = record {
       (g.W.Write.contents l.fn.out.inner) (g.W.Write.contents l.out.inner) l.fn.input.failures l.input.failures l.counter l.recoder;
   never_fewer : l.fn.input.failures ≤ l.input.failures;
   quiet : l.out.failures ≡ l.fn.out.failures;
-  unbroken : l.input.reads.broken ≡ l.fn.input.reads.broken;
+  unbroken : NoFailedRead l.fn.input.reads l.input.reads;
   unended : l.fn.input.reads.ended ≡ false → l.input.reads.ended ≡ false;
-  in_time : l.fn.input.reads.ended ≡ false → l.input.reads.late ≡ l.fn.input.reads.late;
+  in_time : NoReadAfterEnd l.fn.input.reads l.input.reads;
   drained : g.R.Read.remaining l.fn.input.inner ≡ Some [] → g.R.Read.remaining l.input.inner ≡ Some [];
   unheld : g.R.Read.remaining l.fn.input.inner ≡ Some [] → l.recoder.held ≡ [];
-  extras : l.out.extras ≡ l.fn.out.extras;
+  other_calls : l.out.other_calls ≡ l.fn.out.other_calls;
 }

@@ -36,7 +36,7 @@ ended (Some xs) h = h
 
 pub loop-init : goal.loop-init
 loop-init g c = record {
-  relayed = IsTextRelayed-none _ _ _ _ _ _ c.new-recoder.ensures.nothing;
+  relayed = IsTextRelayed-none c.new-recoder.ensures.nothing;
   part = search rules;
   room = search rules;
   never_fewer = search rules;
@@ -44,7 +44,7 @@ loop-init g c = record {
   unbroken = refl;
   unended = λ open_yet. open_yet;
   in_time = λ open_yet. refl;
-  extras = refl;
+  other_calls = refl;
 }
 
 pub loop-preserved : goal.loop-preserved
@@ -54,19 +54,19 @@ loop-preserved g c =
           let taken = w.in-Ok.ensures in
           let passed = w.in_ok-pass_part-in-Ok.ensures in
           let quiet = c.loop.invariant.quiet in
-          let extras = c.loop.invariant.extras in
+          let other_calls = c.loop.invariant.other_calls in
           let never_fewer = c.loop.invariant.never_fewer in
           let same = taken.failures in
           rw (w.out-is, w.recoder-is, w.offset-is) (record {
-            relayed = IsTextRelayed-part c.loop.invariant.relayed _ _ _ _ _ _ taken.consumes.0 (omega arith) same passed.passes (search rules);
+            relayed = IsTextRelayed-part c.loop.invariant.relayed taken.consumes.0 (omega arith) same passed.passes (search rules);
             part = search rules;
             room = search rules;
             never_fewer = omega arith;
             quiet = passed.quiet (search rules) ∙ quiet;
             unbroken = taken.reads.whole ∙ c.loop.invariant.unbroken;
             unended = λ open_yet. still_false _ _ _ taken.reads.ended (c.loop.invariant.unended open_yet) (is_end-some w.in-Ok.count _ (omega arith));
-            in_time = λ open_yet. still_early _ _ _ taken.reads.late (c.loop.invariant.unended open_yet) ∙ c.loop.invariant.in_time open_yet;
-            extras = passed.extras ∙ extras;
+            in_time = λ open_yet. still_early _ _ _ taken.reads.reads_after_end (c.loop.invariant.unended open_yet) ∙ c.loop.invariant.in_time open_yet;
+            other_calls = passed.other_calls ∙ other_calls;
           })
       | in-Err w ↦
           let failed = w.in-Err.ensures in
@@ -80,8 +80,8 @@ loop-preserved g c =
             quiet = c.loop.invariant.quiet;
             unbroken = failed.reads.interrupted (search rules) ∙ c.loop.invariant.unbroken;
             unended = λ open_yet. still_false _ _ _ failed.reads.ended (c.loop.invariant.unended open_yet) refl;
-            in_time = λ open_yet. still_early _ _ _ failed.reads.late (c.loop.invariant.unended open_yet) ∙ c.loop.invariant.in_time open_yet;
-            extras = c.loop.invariant.extras;
+            in_time = λ open_yet. still_early _ _ _ failed.reads.reads_after_end (c.loop.invariant.unended open_yet) ∙ c.loop.invariant.in_time open_yet;
+            other_calls = c.loop.invariant.other_calls;
           })
     ]
 

@@ -1,4 +1,5 @@
 use Rattle.std.proofs.Common.{◌≡◌, ◌≤◌, false, length}
+use Rattle.cuts.specs.Failures.{NoFailedRead, NoReadAfterEnd}
 use Rattle.cuts.proofs.StrictRelays.{IsTextRelayed}
 use Rattle.cuts.proofs.programs.strict.recode_strict.Given as goal
 
@@ -10,8 +11,8 @@ invariant-loop g l = record {
   room : length l.room ≡ 49161;
   never_fewer : l.fn.input.failures ≤ l.input.failures;
   quiet : l.out.failures ≡ l.fn.out.failures;
-  unbroken : l.input.reads.broken ≡ l.fn.input.reads.broken;
+  unbroken : NoFailedRead l.fn.input.reads l.input.reads;
   unended : l.fn.input.reads.ended ≡ false → l.input.reads.ended ≡ false;
-  in_time : l.fn.input.reads.ended ≡ false → l.input.reads.late ≡ l.fn.input.reads.late;
-  extras : l.out.extras ≡ l.fn.out.extras;
+  in_time : NoReadAfterEnd l.fn.input.reads l.input.reads;
+  other_calls : l.out.other_calls ≡ l.fn.out.other_calls;
 }

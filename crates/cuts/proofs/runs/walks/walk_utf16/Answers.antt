@@ -11,13 +11,13 @@ loop-end-init g c = rw (c.new-answers.ensures.items, c.from-units.ensures) (IsWa
 pub loop-end-preserved : goal.loop-end-preserved
 loop-end-preserved g c =
     let more = take_more c.args.word.now c.loop-end.end-index _ (omega arith) in
-    rw (c.in_ok-push.ensures.items, more) (unit_more _ _ _ _ _ _ _ c.loop-end.invariant c.ask.ensures)
+    rw (c.in_ok-push.ensures.items, more) (unit_more _ _ c.loop-end.invariant c.ask.ensures)
 
 pub returns-clause-entries : goal.returns-clause-entries
-returns-clause-entries g c = walk_entries utf16_units _ _ _ (IsWalk-all utf16_units _ _ _ _ _ c.loop-end-test.false c.loop-end.invariant)
+returns-clause-entries g c = walk_entries utf16_units _ _ _ (IsWalk-all utf16_units _ _ c.loop-end-test.false c.loop-end.invariant)
 
 pub returns-clause-each_once : goal.returns-clause-each_once
-returns-clause-each_once g c = walk_each_once utf16_units utf16_is_code _ _ _ (IsWalk-all utf16_units _ _ _ _ _ c.loop-end-test.false c.loop-end.invariant)
+returns-clause-each_once g c = walk_each_once utf16_units utf16_is_code _ _ _ (IsWalk-all utf16_units _ _ c.loop-end-test.false c.loop-end.invariant)
 
 pub returns-clause-outside : goal.returns-clause-outside
-returns-clause-outside g c = walk_outside utf16_units utf16_is_code _ _ _ (IsWalk-all utf16_units _ _ _ _ _ c.loop-end-test.false c.loop-end.invariant)
+returns-clause-outside g c = walk_outside utf16_units utf16_is_code _ _ _ (IsWalk-all utf16_units _ _ c.loop-end-test.false c.loop-end.invariant)

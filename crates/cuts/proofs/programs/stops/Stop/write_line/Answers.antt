@@ -1,3 +1,5 @@
+use Rattle.std.proofs.Common.{[], ◌∷◌}
+use Rattle.cuts.specs.Endings.{stop_text}
 use Rattle.cuts.proofs.Fronts.{AppendsFront-first, AppendsFront-then}
 use Rattle.std.proofs.KnownBytes.{Appends-trans}
 use Rattle.cuts.proofs.programs.stops.Stop.write_line.Goals as goal
@@ -10,16 +12,18 @@ returns-in_err-write_whole-clause-front g c =
 pub returns-in_err-write_whole-2-clause-front : goal.returns-in_err-write_whole-2-clause-front
 returns-in_err-write_whole-2-clause-front g c =
     let name = rw c.as_bytes.ensures.value at c.in_ok-write_whole.ensures.ok in
-    AppendsFront-first _ _ _ _ (AppendsFront-first _ _ _ _ (AppendsFront-then _ _ _ _ _ name c.write_whole-2.ensures.front))
+    AppendsFront-first _ _ _ _ (AppendsFront-first _ _ _ _ (AppendsFront-then _ _ _ c.args.program.now _ name c.write_whole-2.ensures.front))
 
 pub returns-in_err-write_whole-3-clause-front : goal.returns-in_err-write_whole-3-clause-front
 returns-in_err-write_whole-3-clause-front g c =
     let name = rw c.as_bytes.ensures.value at c.in_ok-write_whole.ensures.ok in
     let text = rw (c.as_bytes-2.ensures.value, c.text.ensures) at c.write_whole-3.ensures.front in
-    AppendsFront-first _ _ _ _ (AppendsFront-then _ _ _ _ _ (Appends-trans _ _ _ _ _ name c.in_ok-write_whole-2.ensures.ok) text)
+    let begun = Appends-trans _ _ _ c.args.program.now _ name c.in_ok-write_whole-2.ensures.ok in
+    AppendsFront-first _ _ _ _ (AppendsFront-then _ _ _ _ (stop_text c.args.self) begun text)
 
 pub returns-clause-front : goal.returns-clause-front
 returns-clause-front g c =
     let name = rw c.as_bytes.ensures.value at c.in_ok-write_whole.ensures.ok in
     let text = rw (c.as_bytes-2.ensures.value, c.text.ensures) at c.in_ok-write_whole-3.ensures.ok in
-    AppendsFront-then _ _ _ _ _ (Appends-trans _ _ _ _ _ (Appends-trans _ _ _ _ _ name c.in_ok-write_whole-2.ensures.ok) text) c.write_whole-4.ensures.front
+    let begun = Appends-trans _ _ _ c.args.program.now _ name c.in_ok-write_whole-2.ensures.ok in
+    AppendsFront-then _ _ _ _ (10 ∷ []) (Appends-trans _ _ _ _ (stop_text c.args.self) begun text) c.write_whole-4.ensures.front
