@@ -2,7 +2,7 @@
 use Rattle.std.proofs.Common.{◌≡◌, ℕ, ◌<◌, ◌≤◌, ⊎_elim, List, [], ◌∷◌, ◌++◌, length, length-set, arith, sym, ap, subst, ◌+◌, take, drop, set, ◌∙◌}
 use Rattle.std.proofs.lemmas.List.{take_more_set, drop-set-lt, drop-drop}
 use Rattle.std.proofs.lemmas.Bool.{cases_lt}
-use Rattle.c_api.specs.Api.{Gives, GivesEach, after}
+use Rattle.c_api.specs.Api.{GivesPiece, GivesEach, after}
 use Rattle.c_api.specs.declared.cursors.NodyPiece.{NodyPiece}
 
 pub each_append : (piece : List ℕ → NodyPiece) (xs ys : List ℕ) (ps : List NodyPiece) (x : NodyPiece) → GivesEach piece xs ps ys
@@ -12,7 +12,7 @@ each_append piece xs ys [] x e some is =
 each_append piece xs ys (y ∷ ps) x (first, known, rest) some is = (first, known, each_append piece (after xs y) ys ps x rest some is)
 
 -- a piece that has a length was left
-pub some_left : (piece : List ℕ → NodyPiece) (xs ys : List ℕ) (x : NodyPiece) → Gives piece after xs x ys → 0 < x.len → 0 < length xs
+pub some_left : (piece : List ℕ → NodyPiece) (xs ys : List ℕ) (x : NodyPiece) → GivesPiece piece after xs x ys → 0 < x.len → 0 < length xs
 some_left piece xs ys x g some =
     ⊎_elim (λ (lt : 0 < length xs). lt) (λ (le : length xs ≤ 0). let n = (g.none (omega arith)).0 in omega (arith, ap (λ p. p.len) n)) (cases_lt 0 (length xs))
 

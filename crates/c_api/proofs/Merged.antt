@@ -12,11 +12,11 @@ use Rattle.encode_unicode.specs.Mergers.{TakesFront}
 use Rattle.encode_unicode.specs.Window.{Item}
 use Rattle.cuts.specs.Items.{HasKind, piece_of}
 use Rattle.cuts.proofs.ShardEnds.{stands_in_rest}
-use Rattle.c_api.specs.Api.{kind_number, first_merged, merged, shown_as, IsMergedPiece}
+use Rattle.c_api.specs.Api.{kind_number, first_merged, merger_answer, piece_for_c, IsMergedPiece}
 use Rattle.c_api.specs.declared.cursors.NodyPiece.{NodyPiece}
 
 -- where a code begins the bytes it is that scalar
-merged_code : (w : List ℕ) (s : ℕ) → Stands utf8 w 0 s → merged w ≡ (Ok s, length (utf8 s))
+merged_code : (w : List ℕ) (s : ℕ) → Stands utf8 w 0 s → merger_answer w ≡ (Ok s, length (utf8 s))
 merged_code w s h =
     let none = merger_none_where_code w s h in
     let char : value w ≡ s = (decodes_from_stands w s h).1 in
@@ -24,22 +24,22 @@ merged_code w s h =
     rw (none, char, len) refl
 
 -- else it is the merger's kind
-merged_kind : (w : List ℕ) (k : Utf8ErrorKind) → merger_kind w ≡ Some k → merged w ≡ (Err k, 1)
+merged_kind : (w : List ℕ) (k : Utf8ErrorKind) → merger_kind w ≡ Some k → merger_answer w ≡ (Err k, 1)
 merged_kind w k h = rw h refl
 
 -- so a merger that has read nothing answers
-pub merged_char : (w old new : List ℕ) (s : ℕ) (r : Result ℕ Utf8ErrorKind) → old ≡ w → r ≡ Ok s → TakesFront utf8 merger_kind old (Some r) new → merged w ≡ (Ok s, length (utf8 s))
+pub merged_char : (w old new : List ℕ) (s : ℕ) (r : Result ℕ Utf8ErrorKind) → old ≡ w → r ≡ Ok s → TakesFront utf8 merger_kind old (Some r) new → merger_answer w ≡ (Ok s, length (utf8 s))
 merged_char w old new s r all is h =
     let takes : TakesFront utf8 merger_kind w (Some (Ok s)) new = rw (is, all) at h in
     merged_code w s (stands_first utf8 w new s takes.0 takes.1)
 
-pub merged_error : (w old new : List ℕ) (k : Utf8ErrorKind) (r : Result ℕ Utf8ErrorKind) → old ≡ w → r ≡ Err k → TakesFront utf8 merger_kind old (Some r) new → merged w ≡ (Err k, 1)
+pub merged_error : (w old new : List ℕ) (k : Utf8ErrorKind) (r : Result ℕ Utf8ErrorKind) → old ≡ w → r ≡ Err k → TakesFront utf8 merger_kind old (Some r) new → merger_answer w ≡ (Err k, 1)
 merged_error w old new k r all is h =
     let takes : TakesFront utf8 merger_kind w (Some (Err k)) new = rw (is, all) at h in
     merged_kind w k takes.0
 
 -- a piece of the merged run is what a merger answers that begins there
-merged_item : (xs : List ℕ) (item : Item) → IsPiece utf8 xs (piece_of item) → HasKind merger_kind xs item → merged (drop item.0 xs) ≡ (item.1, item.2)
+merged_item : (xs : List ℕ) (item : Item) → IsPiece utf8 xs (piece_of item) → HasKind merger_kind xs item → merger_answer (drop item.0 xs) ≡ (item.1, item.2)
 merged_item xs (place, Ok s, n) piece kind = merged_code (drop place xs) s (stands_in_rest utf8 xs place s piece.0) ∙ ap (λ m. (Ok s, m)) (sym piece.1)
 merged_item xs (place, Err k, n) piece kind = merged_kind (drop place xs) k kind ∙ ap (λ m. (Err k, m)) (sym piece.1)
 
@@ -47,4 +47,4 @@ pub piece_of_run : (xs : List ℕ) (place : ℕ) (x : NodyPiece) → (place < le
 piece_of_run xs place x is items run k d lt begins =
     let each = rw (get_or-map piece_of items k d (piece_of d) lt) at (run.cut.pieces k (piece_of d) (omega (arith, length-map items piece_of))) in
     let item = merged_item xs (get_or items k d) each.0 (run.kinds k d lt) in
-    is (rw begins at each.2) ∙ ap (shown_as kind_number) (rw begins at item)
+    is (rw begins at each.2) ∙ ap (piece_for_c kind_number) (rw begins at item)

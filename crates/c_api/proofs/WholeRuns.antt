@@ -14,7 +14,7 @@ use Rattle.cuts.specs.Rooms.{FeedsInto, FinishesInto, IsFull, IsLastFull, most_b
 use Rattle.cuts.specs.Bounds.{HasRoom}
 use Rattle.cuts.specs.Fed.{IsFed}
 use Rattle.c_api.specs.declared.recodings.NodyRecoder.{NodyRecoder}
-use Rattle.c_api.specs.Whole.{IsLongerThan, BeginsRecoded, IsRecodedLen}
+use Rattle.c_api.specs.Whole.{IsLongerThan, IsFrontOfRecoded, IsRecodedLen}
 use Rattle.recoding.proofs.BoundLemmas.{recoded_bound}
 use Rattle.recoding.proofs.EnoughRoom.{feeds_in_room, room_is_left, finishes_in_room}
 use Rattle.recoding.proofs.FedParts.{nothing_is_fed, part_is_fed, fed_is_front, fed_is_recoded}
@@ -36,7 +36,7 @@ module _ (from to : Form) (s : Recoding) (bytes old new : List ℕ) (read wrote 
   pub longer_where_full : length new ≡ length old → IsFull s (s.held ++ drop read bytes) (length old - wrote) → IsLongerThan from to bytes (length old)
   longer_where_full same full = longer_where_no_room from to bytes (length old) (λ room. feeds_in_room (fresh from to) s bytes old new read wrote f same room full)
 
-  pub fed_front : BeginsRecoded from to bytes (take wrote new)
+  pub fed_front : IsFrontOfRecoded from to bytes (take wrote new)
   fed_front out r =
       let fed : IsFed from to (take read bytes) (take wrote new) s = record { once = f.feeds [] } in
       fed_is_front from to (take read bytes) (drop read bytes) (take wrote new) out s fed (subst (λ xs. IsRecoded from to xs out) (sym (take-append-drop read bytes)) r)
@@ -59,7 +59,7 @@ module _ (from to : Form) (s : Recoding) (bytes old new : List ℕ) (read wrote 
     pub recoded_whole : ((out : List ℕ) → Finishes s out (out ++ take last after)) → IsRecoded from to bytes (take wrote new ++ take last after)
     recoded_whole done = fed_is_recoded from to bytes bytes (take wrote new) (take wrote new ++ take last after) s fed_all (done (take wrote new)) refl
 
-    pub last_front : BeginsRecoded from to bytes (take wrote new ++ take last after)
+    pub last_front : IsFrontOfRecoded from to bytes (take wrote new ++ take last after)
     last_front out r =
         let once = fed_all.once in
         let tail = recoded_once from to t.held in

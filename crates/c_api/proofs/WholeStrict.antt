@@ -9,7 +9,7 @@ use Rattle.cuts.specs.declared.Outcome.TheVariants.{AllRead, Full, Faulty}
 use Rattle.cuts.specs.declared.StrictProgress.{StrictProgress}
 use Rattle.cuts.specs.Recoded.{Recoding, fresh}
 use Rattle.cuts.specs.Strict.{RecodesText, BeginsFault, EndsInFault, EndsFeed, EndsFinish, FeedsStrictly, FinishesStrictly}
-use Rattle.c_api.specs.Whole.{EndsWhole, RecodesStrictly, unread, unrecoded}
+use Rattle.c_api.specs.Whole.{EndsWhole, RecodesStrictly, fault_unread, unrecoded}
 use Rattle.c_api.proofs.WholeRuns.{length_both, written_both, kept_both}
 use borrow.Rule.Slice.PartMut.{put_mid}
 use Rattle.recoding.proofs.FrontBytes.{fault_is_some}
@@ -56,7 +56,7 @@ module _ (from to : Form) (s : Recoding) (bytes old new : List ℕ) (p : StrictP
       )
 
   fed_by : (o : Outcome) → (o ≡ AllRead → ⊥) → EndsFeed from to o f.fault s.held (drop p.read bytes) (length old - p.written)
-      → RecodesStrictly from to bytes old new (record { read = p.read - unrecoded o (length s.held); written = p.written; outcome = unread o })
+      → RecodesStrictly from to bytes old new (record { read = p.read - unrecoded o (length s.held); written = p.written; outcome = fault_unread o })
   fed_by AllRead not ends = absurd (not refl)
   fed_by Full not ends =
       RecodesStrictly-of from to bytes old new (f.fault ++ (s.held ++ drop p.read bytes)) (p.read - length s.held) p.written Full f.recodes
@@ -64,10 +64,10 @@ module _ (from to : Form) (s : Recoding) (bytes old new : List ℕ) (p : StrictP
   fed_by (Faulty x) not ends =
       let left : List ℕ = f.fault ++ (s.held ++ drop p.read bytes) in
       let tells = ends.1 in
-      RecodesStrictly-of from to bytes old new left (p.read - x.back) p.written (unread (Faulty x)) f.recodes
+      RecodesStrictly-of from to bytes old new left (p.read - x.back) p.written (fault_unread (Faulty x)) f.recodes
       (omega (arith, text_len, tells.back)) (rw tells.len (EndsInFault-of from left x.kind (length f.fault) ends.0), refl)
 
-  pub fed_whole : (p.outcome ≡ AllRead → ⊥) → RecodesStrictly from to bytes old new (record { read = p.read - unrecoded p.outcome (length s.held); written = p.written; outcome = unread p.outcome })
+  pub fed_whole : (p.outcome ≡ AllRead → ⊥) → RecodesStrictly from to bytes old new (record { read = p.read - unrecoded p.outcome (length s.held); written = p.written; outcome = fault_unread p.outcome })
   fed_whole not = fed_by p.outcome not f.ends
 
   unrecoded_by : (o : Outcome) → EndsFeed from to o f.fault s.held (drop p.read bytes) (length old - p.written) → unrecoded o (length s.held) ≤ p.read
@@ -126,7 +126,7 @@ module _ (from to : Form) (s : Recoding) (bytes old new : List ℕ) (p : StrictP
     left_room = omega (arith, length-drop p.written new, same)
 
     finished_by : (o : Outcome) → EndsFinish from to o g.fault t.held (length old - (p.written + q.written))
-        → RecodesStrictly from to bytes old both (record { read = p.read - unrecoded o (length t.held); written = p.written + q.written; outcome = unread o })
+        → RecodesStrictly from to bytes old both (record { read = p.read - unrecoded o (length t.held); written = p.written + q.written; outcome = fault_unread o })
     finished_by AllRead ends =
         RecodesStrictly-of from to bytes old both (g.fault ++ t.held) (p.read - length t.held) (p.written + q.written) AllRead both_text
         (text_read (length t.held) (omega (arith, ap length ends.0))) (rw (ends.0, ends.1) refl)
@@ -135,10 +135,10 @@ module _ (from to : Form) (s : Recoding) (bytes old new : List ℕ) (p : StrictP
         (text_read (length t.held) (omega (arith, ap length ends.0))) (rw ends.0 ends.1)
     finished_by (Faulty x) ends =
         let tells = ends.1 in
-        RecodesStrictly-of from to bytes old both (g.fault ++ t.held) (p.read - x.back) (p.written + q.written) (unread (Faulty x)) both_text
+        RecodesStrictly-of from to bytes old both (g.fault ++ t.held) (p.read - x.back) (p.written + q.written) (fault_unread (Faulty x)) both_text
         (text_read x.back tells.back) (rw tells.len ends.0, refl)
 
-    pub finished_whole : RecodesStrictly from to bytes old both (record { read = p.read - unrecoded q.outcome (length t.held); written = p.written + q.written; outcome = unread q.outcome })
+    pub finished_whole : RecodesStrictly from to bytes old both (record { read = p.read - unrecoded q.outcome (length t.held); written = p.written + q.written; outcome = fault_unread q.outcome })
     finished_whole = finished_by q.outcome (rw (f.from, f.to, left_room) at g.ends)
 
 -- What callers have of it.

@@ -45,38 +45,38 @@ fault_number (kind.Utf8 k) = kind_number k
 fault_number (kind.Utf16 e) = pair_number e
 
 -- what C sees of a piece: a scalar has the kind 0, and a fault its number and no scalar
-abbrev pub shown_as : {E : Type 0} → (E → ℕ) → Result ℕ E × ℕ → NodyPiece
-shown_as number (Ok s, n) = record { len = n; scalar = s; kind = 0 }
-shown_as number (Err e, n) = record { len = n; scalar = 0; kind = number e }
+abbrev pub piece_for_c : {E : Type 0} → (E → ℕ) → Result ℕ E × ℕ → NodyPiece
+piece_for_c number (Ok s, n) = record { len = n; scalar = s; kind = 0 }
+piece_for_c number (Err e, n) = record { len = n; scalar = 0; kind = number e }
 
 -- that nothing is left
 abbrev pub no_piece : NodyPiece
 no_piece = record { len = 0; scalar = 0; kind = 11 }
 
 -- the pieces that begin and end bytes and units
-abbrev pub first_of : List ℕ → NodyPiece
-first_of xs = shown_as kind_number (as_piece (decoded xs))
+abbrev pub first_piece_of : List ℕ → NodyPiece
+first_piece_of xs = piece_for_c kind_number (as_piece (decoded xs))
 
-abbrev pub last_of : List ℕ → NodyPiece
-last_of xs = shown_as kind_number (as_piece (decoded_end xs))
+abbrev pub last_piece_of : List ℕ → NodyPiece
+last_piece_of xs = piece_for_c kind_number (as_piece (decoded_end xs))
 
 abbrev pub first_of_units : List ℕ → NodyPiece
-first_of_units xs = shown_as pair_number (as_piece (decoded_pairs xs))
+first_of_units xs = piece_for_c pair_number (as_piece (decoded_pairs xs))
 
 abbrev pub last_of_units : List ℕ → NodyPiece
-last_of_units xs = shown_as pair_number (as_piece (decoded_pairs_end xs))
+last_of_units xs = piece_for_c pair_number (as_piece (decoded_pairs_end xs))
 
 -- what a reader of one byte at a time answers first: the scalar whose code begins the bytes, with the code's length, else
 -- the kind that a merger names
-abbrev pub merged : List ℕ → Result ℕ Utf8ErrorKind × ℕ
-merged w = as_piece (unless_fault (merger_kind w) (value w, asked_by w))
+abbrev pub merger_answer : List ℕ → Result ℕ Utf8ErrorKind × ℕ
+merger_answer w = as_piece (unless_fault (merger_kind w) (value w, asked_by w))
 
 abbrev pub first_merged : List ℕ → NodyPiece
-first_merged w = shown_as kind_number (merged w)
+first_merged w = piece_for_c kind_number (merger_answer w)
 
 -- each piece of the merged run over the bytes that begins at the place is this one
 abbrev pub IsMergedPiece : List ℕ → ℕ → NodyPiece → Type 0
-IsMergedPiece xs place x = (items : List Item) → IsRun utf8 merger_kind xs items → All (λ item. item.0 ≡ place → x ≡ shown_as kind_number (item.1, item.2)) items
+IsMergedPiece xs place x = (items : List Item) → IsRun utf8 merger_kind xs items → All (λ item. item.0 ≡ place → x ≡ piece_for_c kind_number (item.1, item.2)) items
 
 -- the piece at an end of some bytes or units, as long as it says
 pub record IsPieceOf (piece : List ℕ → NodyPiece) (xs : List ℕ) (x : NodyPiece) : Type 0 where
@@ -93,7 +93,7 @@ abbrev pub before : List ℕ → NodyPiece → List ℕ
 before xs x = take (length xs - x.len) xs
 
 -- One call on what is left: the piece at its end, which leaves it. Where nothing is left nothing changes.
-pub record Gives (piece : List ℕ → NodyPiece) (left : List ℕ → NodyPiece → List ℕ) (xs : List ℕ) (x : NodyPiece) (ys : List ℕ) : Type 0 where
+pub record GivesPiece (piece : List ℕ → NodyPiece) (left : List ℕ → NodyPiece → List ℕ) (xs : List ℕ) (x : NodyPiece) (ys : List ℕ) : Type 0 where
   pub some : 0 < length xs → x ≡ piece xs
   pub leaves : 0 < length xs → ys ≡ left xs x
   pub least : 0 < length xs → (1 ≤ x.len) × (x.len ≤ length xs)
@@ -106,8 +106,8 @@ GivesEach piece xs (x ∷ ps) ys = (0 < length xs) × (x ≡ piece xs) × GivesE
 
 -- The piece that begins the bytes was put in a place of the room, and is so long; of no bytes nothing was put.
 pub record IsPut (xs : List ℕ) (old : List NodyPiece) (place n : ℕ) (new : List NodyPiece) : Type 0 where
-  pub some : 0 < length xs → new ≡ set old place (first_of xs)
-  pub leaves : 0 < length xs → drop n xs ≡ after xs (first_of xs)
+  pub some : 0 < length xs → new ≡ set old place (first_piece_of xs)
+  pub leaves : 0 < length xs → drop n xs ≡ after xs (first_piece_of xs)
   pub least : 0 < length xs → 1 ≤ n
   pub most : n ≤ length xs
   pub none : length xs ≡ 0 → new ≡ old
@@ -149,7 +149,7 @@ told Full = (1, no_fault)
 told (Faulty f) = (3, fault_as f)
 
 -- A strict call, as C sees it: what the call did, with the outcome that is told so.
-pub record Tells (run : StrictProgress → Type 0) (read wrote status : ℕ) (fault : NodyFault) : Type 0 where
+pub record TellsOutcome (run : StrictProgress → Type 0) (read wrote status : ℕ) (fault : NodyFault) : Type 0 where
   pub outcome : Outcome
   pub ran : run (record { read = read; written = wrote; outcome = outcome })
   pub answer : (status, fault) ≡ told outcome

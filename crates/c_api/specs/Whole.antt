@@ -12,8 +12,8 @@ abbrev pub IsLongerThan : Form → Form → List ℕ → ℕ → Type 0
 IsLongerThan from to bytes room = (out : List ℕ) → IsRecoded from to bytes out → room < length out
 
 -- what the bytes are recoded as begins with these
-abbrev pub BeginsRecoded : Form → Form → List ℕ → List ℕ → Type 0
-BeginsRecoded from to bytes front = (out : List ℕ) → IsRecoded from to bytes out → (rest : List ℕ) × (out ≡ front ++ rest)
+abbrev pub IsFrontOfRecoded : Form → Form → List ℕ → List ℕ → Type 0
+IsFrontOfRecoded from to bytes front = (out : List ℕ) → IsRecoded from to bytes out → (rest : List ℕ) × (out ≡ front ++ rest)
 
 -- what the bytes are recoded as has so many bytes, or more than a `usize` can count, all whose bits are then set
 abbrev pub IsRecodedLen : Form → Form → List ℕ → ℕ → Type 0
@@ -32,10 +32,10 @@ unrecoded Full held = held
 unrecoded (Faulty f) held = f.back
 
 -- why a strict call ended, where what was not recoded is not read
-abbrev pub unread : Outcome → Outcome
-unread AllRead = AllRead
-unread Full = Full
-unread (Faulty f) = Faulty (record { kind = f.kind; len = f.len; back = 0 })
+abbrev pub fault_unread : Outcome → Outcome
+fault_unread AllRead = AllRead
+fault_unread Full = Full
+fault_unread (Faulty f) = Faulty (record { kind = f.kind; len = f.len; back = 0 })
 
 -- What was read of a whole input is text, which was recoded. A fault is not read.
 pub record RecodesStrictly (from to : Form) (bytes old new : List ℕ) (p : StrictProgress) : Type 0 where

@@ -1,6 +1,6 @@
 //! Single pieces, what is left of bytes and units, and runs of pieces into an array.
 ghost use Rattle.std.specs.Prelude.{◌≡◌, ◌<◌, ◌≤◌, length, take, drop};
-ghost use Rattle.c_api.specs.Api.{first_of, last_of, first_of_units, last_of_units, first_merged, no_piece, IsMergedPiece, IsPieceOf, IsPut, Gives, GivesEach, after, before};
+ghost use Rattle.c_api.specs.Api.{first_piece_of, last_piece_of, first_of_units, last_of_units, first_merged, no_piece, IsMergedPiece, IsPieceOf, IsPut, GivesPiece, GivesEach, after, before};
 
 use crate::kinds::{number_of, pair_number_of};
 use cuts::front_of_text;
@@ -41,12 +41,12 @@ pub struct NodyUnits<'a> {
 fn none() -> NodyPiece
     ensures { result ≡ no_piece }
 {
-    fault(0, 11)
+    fault_piece(0, 11)
 }
 
 // What is wrong with so many bytes or units.
 #[inline(always)]
-fn fault(len: usize, kind: u8) -> NodyPiece
+fn fault_piece(len: usize, kind: u8) -> NodyPiece
     ensures { result ≡ record { len = len; scalar = 0; kind = kind } }
 {
     NodyPiece {
@@ -58,7 +58,7 @@ fn fault(len: usize, kind: u8) -> NodyPiece
 
 // A character that has so many bytes or units.
 #[inline(always)]
-fn character(c: char, len: usize) -> NodyPiece
+fn character_piece(c: char, len: usize) -> NodyPiece
     ensures { result ≡ record { len = len; scalar = c; kind = 0 } }
 {
     NodyPiece {
@@ -84,10 +84,10 @@ fn anew(piece: NodyPiece) -> NodyPiece
 #[inline(always)]
 #[tactic(auto, using(utf_base::proofs::DecodedLemmas::decoded_code, utf_base::proofs::DecodedLemmas::front_len_utf8))]
 fn first(bytes: &[u8]) -> NodyPiece
-    ensures { IsPieceOf first_of bytes.now result }
+    ensures { IsPieceOf first_piece_of bytes.now result }
 {
     match front_of_text(bytes) {
-        Some((c, len)) => character(c, len),
+        Some((c, len)) => character_piece(c, len),
         None => anew(first_copied(bytes)),
     }
 }
@@ -96,7 +96,7 @@ fn first(bytes: &[u8]) -> NodyPiece
 // written, and no caller clears it before.
 #[inline(never)]
 fn first_copied(bytes: &[u8]) -> NodyPiece
-    ensures { IsPieceOf first_of bytes.now result }
+    ensures { IsPieceOf first_piece_of bytes.now result }
 {
     first_with_care(bytes)
 }
@@ -104,26 +104,26 @@ fn first_copied(bytes: &[u8]) -> NodyPiece
 // The same, written by parts.
 #[inline(never)]
 fn first_with_care(bytes: &[u8]) -> NodyPiece
-    ensures { IsPieceOf first_of bytes.now result }
+    ensures { IsPieceOf first_piece_of bytes.now result }
 {
     if bytes.is_empty() {
         return none();
     }
     match char::from_utf8_slice_start(bytes) {
-        Ok((c, len)) => character(c, len),
-        Err(error) => fault(1, number_of(error.kind())),
+        Ok((c, len)) => character_piece(c, len),
+        Err(error) => fault_piece(1, number_of(error.kind())),
     }
 }
 
 // The piece that ends the bytes.
 #[inline(always)]
 fn last(bytes: &[u8]) -> NodyPiece
-    ensures { IsPieceOf last_of bytes.now result }
+    ensures { IsPieceOf last_piece_of bytes.now result }
 {
     match Utf8CharDecoder::from(bytes).next_back() {
         None => none(),
-        Some((_, Ok(c), len)) => character(c.to_char(), len),
-        Some((_, Err(error), len)) => fault(len, number_of(error.kind())),
+        Some((_, Ok(c), len)) => character_piece(c.to_char(), len),
+        Some((_, Err(error), len)) => fault_piece(len, number_of(error.kind())),
     }
 }
 
@@ -134,8 +134,8 @@ fn first_unit(units: &[u16]) -> NodyPiece
 {
     match Utf16CharDecoder::from(units).next() {
         None => none(),
-        Some((_, Ok(c), len)) => character(c.to_char(), len),
-        Some((_, Err(error), len)) => fault(len, pair_number_of(error)),
+        Some((_, Ok(c), len)) => character_piece(c.to_char(), len),
+        Some((_, Err(error), len)) => fault_piece(len, pair_number_of(error)),
     }
 }
 
@@ -146,8 +146,8 @@ fn last_unit(units: &[u16]) -> NodyPiece
 {
     match Utf16CharDecoder::from(units).next_back() {
         None => none(),
-        Some((_, Ok(c), len)) => character(c.to_char(), len),
-        Some((_, Err(error), len)) => fault(len, pair_number_of(error)),
+        Some((_, Ok(c), len)) => character_piece(c.to_char(), len),
+        Some((_, Err(error), len)) => fault_piece(len, pair_number_of(error)),
     }
 }
 
@@ -155,12 +155,12 @@ fn last_unit(units: &[u16]) -> NodyPiece
 #[unsafe(no_mangle)]
 #[tactic(auto, using(utf_base::proofs::DecodedLemmas::decoded_code, utf_base::proofs::DecodedLemmas::front_len_utf8))]
 pub extern "C" fn nody_utf8_next(left: &mut NodyBytes<'_>) -> NodyPiece
-    ensures { Gives first_of after left.old.bytes.now result left.new.bytes.now }
+    ensures { GivesPiece first_piece_of after left.old.bytes.now result left.new.bytes.now }
 {
     match front_of_text(left.bytes) {
         Some((c, len)) => {
             left.bytes = &left.bytes[len..];
-            character(c, len)
+            character_piece(c, len)
         }
         None => anew(next_with_care(left)),
     }
@@ -169,7 +169,7 @@ pub extern "C" fn nody_utf8_next(left: &mut NodyBytes<'_>) -> NodyPiece
 // The same of bytes that may be anything.
 #[inline(never)]
 fn next_with_care(left: &mut NodyBytes<'_>) -> NodyPiece
-    ensures { Gives first_of after left.old.bytes.now result left.new.bytes.now }
+    ensures { GivesPiece first_piece_of after left.old.bytes.now result left.new.bytes.now }
 {
     let piece = first_with_care(left.bytes);
     left.bytes = &left.bytes[piece.len..];
@@ -179,7 +179,7 @@ fn next_with_care(left: &mut NodyBytes<'_>) -> NodyPiece
 /// The piece that ends the bytes that are left, which then leaves them.
 #[unsafe(no_mangle)]
 pub extern "C" fn nody_utf8_next_back(left: &mut NodyBytes<'_>) -> NodyPiece
-    ensures { Gives last_of before left.old.bytes.now result left.new.bytes.now }
+    ensures { GivesPiece last_piece_of before left.old.bytes.now result left.new.bytes.now }
 {
     let piece = last(left.bytes);
     left.bytes = &left.bytes[..left.bytes.len() - piece.len];
@@ -189,7 +189,7 @@ pub extern "C" fn nody_utf8_next_back(left: &mut NodyBytes<'_>) -> NodyPiece
 /// The piece that begins the units that are left, which then leaves them.
 #[unsafe(no_mangle)]
 pub extern "C" fn nody_utf16_next(left: &mut NodyUnits<'_>) -> NodyPiece
-    ensures { Gives first_of_units after left.old.units.now result left.new.units.now }
+    ensures { GivesPiece first_of_units after left.old.units.now result left.new.units.now }
 {
     let piece = first_unit(left.units);
     left.units = &left.units[piece.len..];
@@ -199,7 +199,7 @@ pub extern "C" fn nody_utf16_next(left: &mut NodyUnits<'_>) -> NodyPiece
 /// The piece that ends the units that are left, which then leaves them.
 #[unsafe(no_mangle)]
 pub extern "C" fn nody_utf16_next_back(left: &mut NodyUnits<'_>) -> NodyPiece
-    ensures { Gives last_of_units before left.old.units.now result left.new.units.now }
+    ensures { GivesPiece last_of_units before left.old.units.now result left.new.units.now }
 {
     let piece = last_unit(left.units);
     left.units = &left.units[..left.units.len() - piece.len];
@@ -207,7 +207,7 @@ pub extern "C" fn nody_utf16_next_back(left: &mut NodyUnits<'_>) -> NodyPiece
 }
 
 // The first answer of a merger over the bytes.
-fn merged(bytes: &[u8]) -> NodyPiece
+fn streaming_piece(bytes: &[u8]) -> NodyPiece
     requires { 0 < length bytes.now }
     ensures { result ≡ first_merged bytes.now }
 {
@@ -218,7 +218,7 @@ fn merged(bytes: &[u8]) -> NodyPiece
             scalar: c.to_char() as u32,
             kind: 0,
         },
-        Some(Err(error)) => fault(1, number_of(error.kind())),
+        Some(Err(error)) => fault_piece(1, number_of(error.kind())),
     }
 }
 
@@ -230,7 +230,7 @@ pub extern "C" fn nody_utf8_streamed_at(bytes: &[u8], place: usize) -> NodyPiece
     ensures none { length bytes.now ≤ place → result ≡ no_piece }
 {
     if place < bytes.len() {
-        merged(&bytes[place..])
+        streaming_piece(&bytes[place..])
     } else {
         none()
     }
@@ -239,7 +239,7 @@ pub extern "C" fn nody_utf8_streamed_at(bytes: &[u8], place: usize) -> NodyPiece
 /// The character that begins some bytes, or what is wrong with the first of them.
 #[unsafe(no_mangle)]
 pub extern "C" fn nody_utf8_first(bytes: &[u8]) -> NodyPiece
-    ensures some { 0 < length bytes.now → result ≡ first_of bytes.now }
+    ensures some { 0 < length bytes.now → result ≡ first_piece_of bytes.now }
     ensures none { length bytes.now ≡ 0 → result ≡ no_piece }
 {
     first(bytes)
@@ -248,7 +248,7 @@ pub extern "C" fn nody_utf8_first(bytes: &[u8]) -> NodyPiece
 /// The character that ends some bytes, or what is wrong with the last of them.
 #[unsafe(no_mangle)]
 pub extern "C" fn nody_utf8_last(bytes: &[u8]) -> NodyPiece
-    ensures some { 0 < length bytes.now → result ≡ last_of bytes.now }
+    ensures some { 0 < length bytes.now → result ≡ last_piece_of bytes.now }
     ensures none { length bytes.now ≡ 0 → result ≡ no_piece }
 {
     last(bytes)
@@ -275,13 +275,13 @@ pub extern "C" fn nody_utf16_last(units: &[u16]) -> NodyPiece
 // Puts the piece that begins the bytes in a place of the room, and answers its length: 0 where there is none.
 #[inline(always)]
 #[tactic(auto, using(utf_base::proofs::DecodedLemmas::decoded_code, utf_base::proofs::DecodedLemmas::front_len_utf8))]
-fn put_first(bytes: &[u8], room: &mut [NodyPiece], place: usize) -> usize
+fn put_first_piece(bytes: &[u8], room: &mut [NodyPiece], place: usize) -> usize
     requires { place < length room.old }
     ensures { IsPut bytes.now room.old place result room.new }
 {
     match front_of_text(bytes) {
         Some((c, len)) => {
-            room[place] = character(c, len);
+            room[place] = character_piece(c, len);
             len
         }
         None => put_with_care(bytes, room, place),
@@ -306,14 +306,14 @@ fn put_with_care(bytes: &[u8], room: &mut [NodyPiece], place: usize) -> usize
 #[unsafe(no_mangle)]
 pub extern "C" fn nody_utf8_pieces(left: &mut NodyBytes<'_>, room: &mut [NodyPiece]) -> usize
     ensures within { result ≤ length room.old }
-    ensures each { GivesEach first_of left.old.bytes.now (take result room.new) left.new.bytes.now }
+    ensures each { GivesEach first_piece_of left.old.bytes.now (take result room.new) left.new.bytes.now }
     ensures rest { drop result room.new ≡ drop result room.old }
     ensures over { result < length room.old → length left.new.bytes.now ≡ 0 }
 {
     let mut bytes = left.bytes;
     let mut count = 0;
     while count < room.len() {
-        let len = put_first(bytes, room, count);
+        let len = put_first_piece(bytes, room, count);
         if len == 0 {
             left.bytes = bytes;
             return count;

@@ -2,7 +2,7 @@
 ghost use Rattle.std.specs.Prelude.{◌≡◌, ◌≢◌, ◌+◌, ◌*◌, ◌<◌, ◌≤◌, length};
 ghost use Rattle.cuts.specs.Rooms.{ComesNearer};
 ghost use Rattle.cuts.specs.Strict.{FeedsStrictly, FinishesStrictly};
-ghost use Rattle.c_api.specs.Api.{IsRecoder, recoder_of, no_fault, fault_as, told, Tells};
+ghost use Rattle.c_api.specs.Api.{IsRecoder, recoder_of, no_fault, fault_as, told, TellsOutcome};
 
 use crate::kinds::fault_number_of;
 use crate::recodings::{DONE, FULL, NodyRecoder, REFUSED, is_recoder, keep, opened};
@@ -64,7 +64,7 @@ pub extern "C" fn nody_recoder_feed_strict(
     fault: &mut NodyFault,
 ) -> u8
     ensures recoder { IsRecoder recoder.old → IsRecoder recoder.new }
-    ensures feeds { IsRecoder recoder.old → Tells (λ p. FeedsStrictly (recoder_of recoder.old) part.now room.old room.new p (recoder_of recoder.new)) read.new written.new result fault.new }
+    ensures feeds { IsRecoder recoder.old → TellsOutcome (λ p. FeedsStrictly (recoder_of recoder.old) part.now room.old room.new p (recoder_of recoder.new)) read.new written.new result fault.new }
     ensures all { IsRecoder recoder.old → result ≡ 0 → read.new ≡ length part.now }
     ensures short { IsRecoder recoder.old → result ≡ 1 → length room.old < written.new + 4 }
     ensures enough { IsRecoder recoder.old → 3 * (recoder.old.count + length part.now) ≤ length room.old → result ≢ 1 }
@@ -102,7 +102,7 @@ pub extern "C" fn nody_recoder_finish_strict(
     fault: &mut NodyFault,
 ) -> u8
     ensures recoder { IsRecoder recoder.old → IsRecoder recoder.new }
-    ensures finishes { IsRecoder recoder.old → Tells (λ p. FinishesStrictly (recoder_of recoder.old) room.old room.new p (recoder_of recoder.new)) 0 written.new result fault.new }
+    ensures finishes { IsRecoder recoder.old → TellsOutcome (λ p. FinishesStrictly (recoder_of recoder.old) room.old room.new p (recoder_of recoder.new)) 0 written.new result fault.new }
     ensures all { IsRecoder recoder.old → result ≡ 0 → recoder.new.count ≡ 0 }
     ensures short { IsRecoder recoder.old → result ≡ 1 → length room.old < written.new + 4 }
     ensures enough { IsRecoder recoder.old → 3 * recoder.old.count ≤ length room.old → result ≢ 1 }

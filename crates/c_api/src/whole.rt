@@ -1,7 +1,7 @@
 //! Recoding of a whole input in one call.
 ghost use Rattle.std.specs.Prelude.{◌≡◌, ◌-◌, ◌<◌, ◌≤◌, ◌^◌, length, take, drop};
 ghost use Rattle.cuts.specs.Recoded.{IsRecoded};
-ghost use Rattle.c_api.specs.Whole.{IsLongerThan, BeginsRecoded, IsRecodedLen};
+ghost use Rattle.c_api.specs.Whole.{IsLongerThan, IsFrontOfRecoded, IsRecodedLen};
 ghost use Rattle.c_api.specs.Api.{form_of};
 
 use crate::recodings::{FULL, REFUSED, nody_recoder, nody_recoder_feed, nody_recoder_finish};
@@ -25,7 +25,7 @@ pub extern "C" fn nody_recode(
     ensures rest { drop written.new room.new ≡ drop written.new room.old }
     ensures all { result ≡ 0 → IsRecoded (form_of from) (form_of to) bytes.now (take written.new room.new) }
     ensures full { result ≡ 1 → IsLongerThan (form_of from) (form_of to) bytes.now (length room.old) }
-    ensures front { result ≡ 1 → BeginsRecoded (form_of from) (form_of to) bytes.now (take written.new room.new) }
+    ensures front { result ≡ 1 → IsFrontOfRecoded (form_of from) (form_of to) bytes.now (take written.new room.new) }
     ensures status { from < 3 → to < 3 → result < 2 }
     ensures refused { result ≡ 2 → (written.new ≡ 0) × (room.new ≡ room.old) }
     ensures from { 3 ≤ from → result ≡ 2 }

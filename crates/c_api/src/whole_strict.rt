@@ -1,7 +1,7 @@
 //! Recoding of a whole input in one call, up to its first fault.
 ghost use Rattle.std.specs.Prelude.{◌≡◌, ◌≢◌, ◌+◌, ◌-◌, ◌*◌, ◌<◌, ◌≤◌, length};
-ghost use Rattle.c_api.specs.Api.{form_of, no_fault, Tells};
-ghost use Rattle.c_api.specs.Whole.{RecodesStrictly, unread, unrecoded};
+ghost use Rattle.c_api.specs.Api.{form_of, no_fault, TellsOutcome};
+ghost use Rattle.c_api.specs.Whole.{RecodesStrictly, fault_unread, unrecoded};
 
 use crate::recodings::{REFUSED, form_of};
 use crate::strict::{NO_FAULT, NodyFault, told_of};
@@ -19,7 +19,7 @@ pub extern "C" fn nody_recode_strict(
     written: &mut usize,
     fault: &mut NodyFault,
 ) -> u8
-    ensures recodes { from < 3 → to < 3 → Tells (λ p. RecodesStrictly (form_of from) (form_of to) bytes.now room.old room.new p) read.new written.new result fault.new }
+    ensures recodes { from < 3 → to < 3 → TellsOutcome (λ p. RecodesStrictly (form_of from) (form_of to) bytes.now room.old room.new p) read.new written.new result fault.new }
     ensures all { result ≡ 0 → read.new ≡ length bytes.now }
     ensures short { result ≡ 1 → length room.old < written.new + 4 }
     ensures enough { 3 * length bytes.now ≤ length room.old → result ≢ 1 }
@@ -67,7 +67,7 @@ fn recode_strictly(from: Form, to: Form, bytes: &[u8], room: &mut [u8]) -> Stric
 // The same where the fault at which it ended is not read, nor are so many bytes that are held.
 fn up_to_fault(progress: StrictProgress, held: usize) -> StrictProgress
     requires { unrecoded progress.outcome held ≤ progress.read }
-    ensures { result ≡ record { read = progress.read - unrecoded progress.outcome held; written = progress.written; outcome = unread progress.outcome } }
+    ensures { result ≡ record { read = progress.read - unrecoded progress.outcome held; written = progress.written; outcome = fault_unread progress.outcome } }
 {
     match progress.outcome {
         Outcome::Faulty(fault) => StrictProgress {

@@ -14,7 +14,7 @@ use Rattle.encode_unicode.specs.Pieces.{LiesWithin, pieces}
 use Rattle.encode_unicode.specs.Window.{Item}
 use Rattle.encode_unicode.proofs.AsciiPieces.{merged_alike}
 use Rattle.encode_unicode.proofs.Joined.{some_utf8}
-use Rattle.cuts.specs.ForwardRuns.{IsForwardRun, fault_count}
+use Rattle.cuts.specs.ForwardRuns.{IsForwardRun, faulty_item_count}
 use Rattle.cuts.specs.Items.{piece_of}
 use Rattle.cuts.specs.WellFormed.{IsFirstFault}
 use Rattle.cuts.proofs.ForwardRuns.{pieces_are_the_run}
@@ -25,10 +25,10 @@ char_first : (r : Result ℕ Utf8ErrorKind) (n : ℕ) → cond {A = ℕ} (is_err
 char_first (Ok s) n e = (refl, refl, omega arith)
 char_first (Err k) n e = absurd (omega arith)
 
-chars_alone : (items : List Item) → fault_count items ≡ 0 → (list_all (λ (x : Item). is_ok x.1) items ≡ true) × (None ≡ find (λ (x : Item). is_err x.1) items)
+chars_alone : (items : List Item) → faulty_item_count items ≡ 0 → (list_all (λ (x : Item). is_ok x.1) items ≡ true) × (None ≡ find (λ (x : Item). is_err x.1) items)
 chars_alone [] e = (refl, refl)
 chars_alone (x ∷ items) e =
-    let first = char_first x.1 (fault_count items) (sym (fault_count-more x items) ∙ e) in
+    let first = char_first x.1 (faulty_item_count items) (sym (fault_count-more x items) ∙ e) in
     let rest = chars_alone items first.2 in
     (rw first.0 rest.0, rw first.1 rest.1)
 
@@ -36,7 +36,7 @@ no_fault_first : (r : Result ℕ Utf8ErrorKind) (rest : Bool) → (is_ok r && re
 no_fault_first (Ok s) rest e = (refl, e)
 no_fault_first (Err k) rest e = absurd cc
 
-no_fault_among : (items : List Item) → list_all (λ (x : Item). is_ok x.1) items ≡ true → fault_count items ≡ 0
+no_fault_among : (items : List Item) → list_all (λ (x : Item). is_ok x.1) items ≡ true → faulty_item_count items ≡ 0
 no_fault_among [] e = refl
 no_fault_among (x ∷ items) e =
     let first = no_fault_first x.1 (list_all (λ (y : Item). is_ok y.1) items) e in

@@ -8,11 +8,11 @@ use Rattle.std.specs.Io.KnownBytes.{Consumes, Keeps, IsAtEnd}
 use Rattle.std.specs.IoError.{error_kind}
 use Rattle.std.specs.declared.io.Error.{Error}
 use Rattle.std.specs.declared.io.ErrorKind.TheVariants.{Interrupted}
-use Rattle.cuts.specs.Failures.{Reads, CountsRead, is_end}
+use Rattle.cuts.specs.Failures.{ReadCounts, CountsRead, is_end}
 
 -- From one reader to another these bytes were read, in so many reads. Where reads are counted, each gave a byte or one
 -- failed, none was broken off, and none answered the end.
-pub record IsReadSoFar (counted : Bool) (left_old left_now : Option (List ℕ)) (failures_old failures_now : ℕ) (old now : Reads) (turns : ℕ) (bytes : List ℕ) : Type 0 where
+pub record IsReadSoFar (counted : Bool) (left_old left_now : Option (List ℕ)) (failures_old failures_now : ℕ) (old now : ReadCounts) (turns : ℕ) (bytes : List ℕ) : Type 0 where
   pub read : Consumes left_old left_now bytes
   pub paced : IsTrue counted → (failures_old < failures_now) ⊎ (turns ≤ length bytes)
   pub rising : IsTrue counted → failures_old ≤ failures_now
@@ -34,7 +34,7 @@ pub still_early : (a : Bool) (m n : ℕ) → n ≡ (if a then m + 1 else m) → 
 still_early a m n e none = e ∙ rw none refl
 
 -- and then a read gave a part
-pub IsReadSoFar-part : (counted : Bool) (left_old left_mid left_new : Option (List ℕ)) (f g h : ℕ) (old mid new : Reads) (n : ℕ) (bytes part : List ℕ) (count : ℕ) (places : List ℕ)
+pub IsReadSoFar-part : (counted : Bool) (left_old left_mid left_new : Option (List ℕ)) (f g h : ℕ) (old mid new : ReadCounts) (n : ℕ) (bytes part : List ℕ) (count : ℕ) (places : List ℕ)
     → IsReadSoFar counted left_old left_mid f g old mid n bytes → Consumes left_mid left_new part → 0 < length part → 0 < count
     → (IsTrue counted → h ≡ g + 0) → (IsTrue counted → CountsRead mid new (Ok count) places)
     → IsReadSoFar counted left_old left_new f h old new (n + 1) (bytes ++ part)
@@ -53,7 +53,7 @@ IsReadSoFar-part counted left_old left_mid left_new f g h old mid new n bytes pa
 }
 
 -- and then a read was interrupted
-pub IsReadSoFar-idle : (counted : Bool) (left_old left_mid left_new : Option (List ℕ)) (f g h : ℕ) (old mid new : Reads) (n : ℕ) (bytes : List ℕ) (error : Error) (places : List ℕ)
+pub IsReadSoFar-idle : (counted : Bool) (left_old left_mid left_new : Option (List ℕ)) (f g h : ℕ) (old mid new : ReadCounts) (n : ℕ) (bytes : List ℕ) (error : Error) (places : List ℕ)
     → IsReadSoFar counted left_old left_mid f g old mid n bytes → Keeps left_mid left_new → error_kind error ≡ Interrupted
     → (IsTrue counted → h ≡ g + 1) → (IsTrue counted → CountsRead mid new (Err error) places)
     → IsReadSoFar counted left_old left_new f h old new (n + 1) bytes

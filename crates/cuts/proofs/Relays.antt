@@ -3,14 +3,14 @@ use Rattle.std.proofs.Common.{◌≡◌, ℕ, ◌+◌, ◌<◌, ◌≤◌, ◌�
 use Rattle.std.proofs.lemmas.List.{append-nil}
 use Rattle.std.proofs.KnownBytes.{Appends-nil, Appends-trans, Consumes-nil, Consumes-trans, Consumes-kept}
 use Rattle.std.specs.Prelude.{IfSome, OnOk, Result, Ok, Err}
-use Rattle.cuts.specs.declared.programs.relayed.RecodeFault.{RecodeFault}
-use Rattle.cuts.specs.declared.programs.relayed.RecodeFault.TheVariants.{Read, Write, Memory}
+use Rattle.cuts.specs.declared.programs.recode_stream.RecodeFault.{RecodeFault}
+use Rattle.cuts.specs.declared.programs.recode_stream.RecodeFault.TheVariants.{Read, Write, Memory}
 use Rattle.std.specs.Io.KnownBytes.{Appends, Consumes, Keeps, IsAtEnd}
 use Rattle.recoding.specs.declared.form.Form.{Form}
 use Rattle.recoding.specs.Recoded.{Recoding, Continues, IsRecoded, fresh}
 use Rattle.recoding.specs.RecodedBytes.{recoded}
 use Rattle.cuts.specs.Failures.{AppendsFront}
-use Rattle.cuts.specs.Relayed.{AppendsRecoded, WritesRecoded, BeginsRecoded, Passes, PassesFront, PassesLast, PassesLastFront}
+use Rattle.cuts.specs.RecodeStream.{AppendsRecoded, WritesRecoded, BeginsRecoded, Passes, PassesFront, PassesLast, PassesLastFront}
 use Rattle.cuts.proofs.Fronts.{AppendsFront-all, AppendsFront-first, AppendsFront-then}
 use Rattle.recoding.proofs.Growing.{Continues-none, Continues-append, Continues-trans, recoded_once}
 use Rattle.recoding.proofs.RecodedLists.{same_list}

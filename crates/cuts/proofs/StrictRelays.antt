@@ -12,7 +12,7 @@ use Rattle.recoding.specs.Recoded.{Recoding, fresh}
 use Rattle.recoding.specs.Strict.{Transcodes, FeedsStrictly, EndsFeed, kind_of}
 use Rattle.recoding.proofs.StrictSteps.{fault_few}
 use Rattle.recoding.proofs.TextRuns.{Transcodes-none, Transcodes-then}
-use Rattle.cuts.specs.StrictRelayed.{BeginsText, HoldsText, StopsFaulty, WritesText, PassesText, PassesTextFront, PassesTextLast, StopsText, IsFollowed}
+use Rattle.cuts.specs.StrictRelayed.{BeginsTranscoded, HoldsText, StopsFaulty, WritesText, PassesText, PassesTextFront, PassesTextLast, StopsText, IsFollowed}
 use Rattle.cuts.specs.declared.programs.strict.FaultAt.{FaultAt}
 use Rattle.cuts.proofs.Fronts.{AppendsFront-all, AppendsFront-then}
 
@@ -175,7 +175,7 @@ module _ {from to : Form} {in_old in_mid out_old out_mid : Option (List ℕ)} {f
     written = now.written;
   }
 
-  pub BeginsText-now : (in_new : Option (List ℕ)) → Keeps in_mid in_new → BeginsText from to in_old in_new out_old out_mid
+  pub BeginsText-now : (in_new : Option (List ℕ)) → Keeps in_mid in_new → BeginsTranscoded from to in_old in_new out_old out_mid
   BeginsText-now in_new keeps = record {
     text = now.text;
     rest = r.held;
@@ -186,7 +186,7 @@ module _ {from to : Form} {in_old in_mid out_old out_mid : Option (List ℕ)} {f
   }
 
   -- a part was fed, and a front of its text was written
-  pub BeginsText-part : (in_new out_new : Option (List ℕ)) (part : List ℕ) → Consumes in_mid in_new part → PassesTextFront r part out_mid out_new → BeginsText from to in_old in_new out_old out_new
+  pub BeginsText-part : (in_new out_new : Option (List ℕ)) (part : List ℕ) → Consumes in_mid in_new part → PassesTextFront r part out_mid out_new → BeginsTranscoded from to in_old in_new out_old out_new
   BeginsText-part in_new out_new part taken p = record {
     text = now.text ++ p.text;
     rest = p.rest;

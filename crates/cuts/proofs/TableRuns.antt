@@ -23,7 +23,7 @@ use Rattle.utf_base.proofs.Utf8Code.{utf8_is_code}
 use Rattle.encode_unicode.specs.Window.{Item}
 use Rattle.cuts.specs.Items.{piece_of, HasKind}
 use Rattle.cuts.specs.ForwardRuns.{IsForwardRun, IsForwardRunBetween}
-use Rattle.cuts.specs.Tables.{StayAround, IsSplitAt, IsSpot, IsRenewed, EndsAt, StepForEach, WereReplaced, moved_item}
+use Rattle.cuts.specs.Tables.{StayAround, IsSplitAt, IsSplice, IsRenewed, EndsAt, StepForEach, WereReplaced, moved_item}
 
 -- What a run tells of its items.
 
@@ -412,8 +412,8 @@ module _ (ys : List ℕ) (s e t : ℕ) (items : List Item) (h : WereReplaced ys 
       let whole = run_append ys 0 (s - 3) (length ys + 3) (take k items) (fresh ++ map (moved_item e t) (drop r items)) (omega arith) (omega arith) (kept_run k kept) following in
       record { cut = cut_to_end utf8 utf8_is_code ys 0 (length ys + 3) _ (omega arith) whole.cut; kinds = whole.kinds }
 
-  pub IsSpot-found : (k r from : ℕ) → IsSplitAt items (s - 3) k → IsSplitAt items (e + 3) r → EndsAt items k from → IsSpot ys s e t items k r from
-  IsSpot-found k r from kept resumed ends =
+  pub IsSplice-found : (k r from : ℕ) → IsSplitAt items (s - 3) k → IsSplitAt items (e + 3) r → EndsAt items k from → IsSplice ys s e t items k r from
+  IsSplice-found k r from kept resumed ends =
       let ends_at = h.ends in
       let ordered = h.ordered in
       let long = length_new in
@@ -430,14 +430,14 @@ module _ (ys : List ℕ) (s e t : ℕ) (items : List Item) (h : WereReplaced ys 
       }
 
   -- so many pieces were decoded as begin near what was replaced
-  pub least_at_spot : (k r from before after : ℕ) (fresh : List Item) → IsSpot ys s e t items k r from → IsForwardRunBetween ys from (t + 3) fresh
+  pub least_at_spot : (k r from before after : ℕ) (fresh : List Item) → IsSplice ys s e t items k r from → IsForwardRunBetween ys from (t + 3) fresh
       → after ≡ before + length fresh → StepForEach ys (s - 3) (t + 3) before after
   least_at_spot k r from before after fresh spot run counted =
       let mid : IsForwardRunBetween ys (s - 3) (t + 3) fresh
       = record { cut = cut_from_before utf8 ys (s - 3) from (t + 3) (map piece_of fresh) spot.reached spot.none run.cut; kinds = run.kinds } in
       StepForEach-run ys (s - 3) (t + 3) before after fresh mid counted
 
-  pub IsRenewed-all : (k r from : ℕ) (fresh others : List Item) (steps_before steps : ℕ) → IsSpot ys s e t items k r from → IsForwardRunBetween ys from (t + 3) fresh
+  pub IsRenewed-all : (k r from : ℕ) (fresh others : List Item) (steps_before steps : ℕ) → IsSplice ys s e t items k r from → IsForwardRunBetween ys from (t + 3) fresh
       → others ≡ take k items ++ (fresh ++ map (moved_item e t) (drop r items)) → steps ≡ steps_before + length fresh → steps ≤ steps_before + (t + 3 - from)
       → IsRenewed ys s e t items others steps_before steps
   IsRenewed-all k r from fresh others steps_before steps spot run same counted few =

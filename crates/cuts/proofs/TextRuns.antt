@@ -19,7 +19,7 @@ use Rattle.encode_unicode.specs.Window.{Item}
 use Rattle.encode_unicode.proofs.TextScalars.{joined_from_text}
 use Rattle.cuts.specs.Layouts.{WritesListing}
 use Rattle.cuts.specs.Items.{piece_of, answers_of}
-use Rattle.cuts.specs.ForwardRuns.{IsForwardRun, fault_count}
+use Rattle.cuts.specs.ForwardRuns.{IsForwardRun, faulty_item_count}
 use Rattle.cuts.proofs.RunLaws.{run_of_joined}
 
 text_from_joined : (scalars : List ℕ) → All IsScalar scalars → IsUtf8 (flat_map utf8 scalars)
@@ -31,22 +31,22 @@ first_is_char : (r : Result ℕ Utf8ErrorKind) (n : ℕ) → cond (is_err r) 1 0
 first_is_char (Ok s) n e = (refl, omega arith)
 first_is_char (Err k) n e = absurd (omega arith)
 
-pub fault_count-more : (x : Item) (items : List Item) → fault_count (x ∷ items) ≡ cond (is_err x.1) 1 0 + fault_count items
+pub fault_count-more : (x : Item) (items : List Item) → faulty_item_count (x ∷ items) ≡ cond (is_err x.1) 1 0 + faulty_item_count items
 fault_count-more x items = sum_by-cons (λ (y : Item). cond (is_err y.1) 1 0) x items
 
-no_fault_from_zero : (items : List Item) → fault_count items ≡ 0 → HaveNoFault (map piece_of items)
+no_fault_from_zero : (items : List Item) → faulty_item_count items ≡ 0 → HaveNoFault (map piece_of items)
 no_fault_from_zero [] e = All-nil (λ x. is_some x.char ≡ true)
 no_fault_from_zero (x ∷ items) e =
-    let first = first_is_char x.1 (fault_count items) (sym (fault_count-more x items) ∙ e) in
+    let first = first_is_char x.1 (faulty_item_count items) (sym (fault_count-more x items) ∙ e) in
     All-cons (λ x. is_some x.char ≡ true) (piece_of x) (map piece_of items) first.0 (no_fault_from_zero items first.1)
 
-zero_from_chars : (items : List Item) (scalars : List ℕ) → answers_of items ≡ map Ok scalars → fault_count items ≡ 0
+zero_from_chars : (items : List Item) (scalars : List ℕ) → answers_of items ≡ map Ok scalars → faulty_item_count items ≡ 0
 zero_from_chars [] scalars e = refl
 zero_from_chars (x ∷ items) [] e = absurd cc
 zero_from_chars (x ∷ items) (s ∷ scalars) e =
     let first : x.1 ≡ Ok s = cc in
     let rest : answers_of items ≡ map Ok scalars = cc in
-    fault_count-more x items ∙ no_more (cond {A = ℕ} (is_err x.1) 1 0) (fault_count items) (none_of_char x.1 s first) (zero_from_chars items scalars rest)
+    fault_count-more x items ∙ no_more (cond {A = ℕ} (is_err x.1) 1 0) (faulty_item_count items) (none_of_char x.1 s first) (zero_from_chars items scalars rest)
   where
     none_of_char : (r : Result ℕ Utf8ErrorKind) (s : ℕ) → r ≡ Ok s → cond {A = ℕ} (is_err r) 1 0 ≡ 0
     none_of_char (Ok t) s e = refl
@@ -55,12 +55,12 @@ zero_from_chars (x ∷ items) (s ∷ scalars) e =
     no_more : (a b : ℕ) → a ≡ 0 → b ≡ 0 → a + b ≡ 0
     no_more a b e f = omega arith
 
-pub text_where_no_fault : (xs : List ℕ) (items : List Item) → IsForwardRun xs items → fault_count items ≡ 0 → IsUtf8 xs
+pub text_where_no_fault : (xs : List ℕ) (items : List Item) → IsForwardRun xs items → faulty_item_count items ≡ 0 → IsUtf8 xs
 text_where_no_fault xs items run e =
     let found = (no_fault_in_joined_codes utf8 utf8_is_code utf8_finds).only xs (map piece_of items) run.cut (no_fault_from_zero items e) in
     rw found.1.1 (text_from_joined found.0 found.1.0)
 
-pub no_fault_where_text : (xs : List ℕ) (items : List Item) → IsForwardRun xs items → IsUtf8 xs → fault_count items ≡ 0
+pub no_fault_where_text : (xs : List ℕ) (items : List Item) → IsForwardRun xs items → IsUtf8 xs → faulty_item_count items ≡ 0
 no_fault_where_text xs items run text =
     let joined = joined_from_text xs text in
     zero_from_chars items joined.0 (run_of_joined utf8 fault_kind utf8_is_code utf8_finds xs joined.0 items joined.1 run)

@@ -39,10 +39,10 @@ abbrev pub AreWrong : List (List ℕ) → Type 0
 AreWrong args = (asked : Asked) → Asks args asked → ⊥
 
 -- what a request is of
-abbrev pub asked_by : {A : Type 0} → Request A → Asked
-asked_by Listing = listed
-asked_by Merged = merged
-asked_by (Walk word) = walked word.items
+abbrev pub asked_in : {A : Type 0} → Request A → Asked
+asked_in Listing = listed
+asked_in Merged = merged
+asked_in (Walk word) = walked word.items
 
 -- These are the arguments among the words that a program was started with, which stand after its name; where a word is not
 -- UTF-8, which is an error of the kind `InvalidData`, the empty text stands for them all.

@@ -3,11 +3,11 @@ use Rattle.std.specs.Prelude.{◌≡◌, ℕ, ◌-◌, ◌^◌, ◌<◌, ◌==�
 use Rattle.std.specs.Io.KnownBytes.{Appends}
 use Rattle.cuts.specs.declared.programs.stops.Stop.{Stop}
 use Rattle.cuts.specs.declared.programs.stops.Stop.TheVariants.{WrongArguments, CannotRead, CannotWrite, NoMemory}
-use Rattle.cuts.specs.Failures.{Counting, Reads, AppendsFront}
+use Rattle.cuts.specs.Failures.{Counting, ReadCounts, AppendsFront}
 use Rattle.cuts.specs.Arguments.{Asked, listed, merged, walked}
 use Rattle.cuts.specs.Layouts.{forward_layout, merged_layout, walk_layout, WritesRun, WritesRunFront}
-use Rattle.cuts.specs.declared.programs.relayed.RecodeFault.{RecodeFault}
-use Rattle.cuts.specs.declared.programs.relayed.RecodeFault.TheVariants.{Read, Write, Memory}
+use Rattle.cuts.specs.declared.programs.recode_stream.RecodeFault.{RecodeFault}
+use Rattle.cuts.specs.declared.programs.recode_stream.RecodeFault.TheVariants.{Read, Write, Memory}
 
 -- the status of a program that ends early
 abbrev pub status_of : Stop → ℕ
@@ -85,7 +85,7 @@ FlushFailsOrStays old new NoMemory = new ≡ old
 
 -- Where reads are counted and a program could not read, one of them failed, but for a reader of as many bytes as there are
 -- reads; where it ended for another reason, no read was broken off.
-abbrev pub ReadsUntil : {R : Type 0} → Bool → (R → Option (List ℕ)) → (R → ℕ) → (R → Reads) → R → R → Stop → Type 0
+abbrev pub ReadsUntil : {R : Type 0} → Bool → (R → Option (List ℕ)) → (R → ℕ) → (R → ReadCounts) → R → R → Stop → Type 0
 ReadsUntil counted left failures reads old new CannotRead = IsTrue counted → IfSome (left old) (λ xs. length xs < 2 ^ 64 - 1 → failures old < failures new)
 ReadsUntil counted left failures reads old new WrongArguments = IsTrue counted → (reads new).broken ≡ (reads old).broken
 ReadsUntil counted left failures reads old new CannotWrite = IsTrue counted → (reads new).broken ≡ (reads old).broken

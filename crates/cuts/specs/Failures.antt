@@ -7,7 +7,7 @@ use Rattle.std.specs.declared.io.ErrorKind.TheVariants.{Interrupted, WriteZero}
 
 -- What is known of the reads so far: how many were broken off, which is by an error other than an interruption; whether one
 -- answered the end; and how many were made after that.
-pub record Reads : Type 0 where
+pub record ReadCounts : Type 0 where
   pub broken : ℕ
   pub ended : Bool
   pub late : ℕ
@@ -25,7 +25,7 @@ pub record Counting (T : Type 0) : Type 0 where
   pub inner : T
   pub failures : ℕ
   pub stalls : ℕ
-  pub reads : Reads
+  pub reads : ReadCounts
   pub extras : Extras
 
 -- 1 where a write of these bytes answered an error, or took none though there were some, and 0 elsewhere
@@ -71,7 +71,7 @@ is_end (Ok count) [] = false
 is_end (Ok count) (place ∷ places) = count == 0
 
 -- what one read into these places counts
-pub record CountsRead (old new : Reads) (result : Result ℕ Error) (places : List ℕ) : Type 0 where
+pub record CountsRead (old new : ReadCounts) (result : Result ℕ Error) (places : List ℕ) : Type 0 where
   pub whole : OnOk result (new.broken ≡ old.broken)
   pub interrupted : IfErr result (λ error. error_kind error ≡ Interrupted → new.broken ≡ old.broken)
   pub broken : IfErr result (λ error. error_kind error ≢ Interrupted → new.broken ≡ old.broken + 1)

@@ -21,8 +21,8 @@ abbrev pub is_fault : Item → Bool
 is_fault x = is_err x.1
 
 -- how many items are errors
-abbrev pub fault_count : List Item → ℕ
-fault_count items = count_by is_fault items
+abbrev pub faulty_item_count : List Item → ℕ
+faulty_item_count items = count_by is_fault items
 
 -- the forward run over some bytes is what a decoder gives of them, piece by piece, and nothing else
 abbrev pub PiecesAreTheRun : Type 0
@@ -30,4 +30,4 @@ PiecesAreTheRun = (xs : List ℕ) (items : List Item) → IsForwardRun xs items 
 
 -- the forward run over some bytes has no error exactly where they are text
 abbrev pub TextHasNoFault : Type 0
-TextHasNoFault = (xs : List ℕ) (items : List Item) → IsForwardRun xs items → (fault_count items ≡ 0) ↔ IsUtf8 xs
+TextHasNoFault = (xs : List ℕ) (items : List Item) → IsForwardRun xs items → (faulty_item_count items ≡ 0) ↔ IsUtf8 xs

@@ -8,7 +8,7 @@ pub mod Walks
 pub mod WellFormed
 pub mod Tables
 pub mod Failures
-pub mod Relayed
+pub mod RecodeStream
 pub mod StrictRelayed
 pub mod Arguments
 pub mod Line
@@ -26,7 +26,7 @@ pub use Rattle.recoding.specs.Rooms
 pub use Rattle.recoding.specs.Bounds
 pub use Rattle.recoding.specs.Fed
 pub use Rattle.recoding.specs.Shards
-pub use Rattle.recoding.specs.ShownFronts
+pub use Rattle.recoding.specs.NextScalars
 pub use Rattle.recoding.specs.Undecided
 pub use Rattle.recoding.specs.Strict
 pub use Rattle.recoding.specs.Boundaries

@@ -18,7 +18,7 @@ pub record WritesText (from to : Form) (input old new : Option (List ℕ)) : Typ
   pub written : Appends old new grown
 
 -- Text was read and then more, and known bytes grew by a front of the text in the other form.
-pub record BeginsText (from to : Form) (input_old input_new old new : Option (List ℕ)) : Type 0 where
+pub record BeginsTranscoded (from to : Form) (input_old input_new old new : Option (List ℕ)) : Type 0 where
   pub text : List ℕ
   pub rest : List ℕ
   pub grown : List ℕ

@@ -54,7 +54,7 @@ EndsAt items k from = (k ≡ 0 → from ≡ 0) × (0 < k → HoldsAt (λ x. from
 
 -- Where the pieces of ys take the place of those items: the first k stay, those from the r-th on move, and between them
 -- stand the pieces that are decoded from the place `from` on.
-pub record IsSpot (ys : List ℕ) (s e t : ℕ) (items : List Item) (k r from : ℕ) : Type 0 where
+pub record IsSplice (ys : List ℕ) (s e t : ℕ) (items : List Item) (k r from : ℕ) : Type 0 where
   pub kept : IsSplitAt items (s - 3) k
   pub moved : IsSplitAt items (e + 3) r
   pub ordered : k ≤ r

@@ -8,7 +8,7 @@ ghost use Rattle.std.specs.Str.{IsUtf8};
 ghost use Rattle.encode_unicode.specs.BackPieces.{AreTurned, pieces_back};
 ghost use Rattle.encode_unicode.specs.Mergers.{merged};
 ghost use Rattle.encode_unicode.specs.Pieces.{pieces};
-ghost use Rattle.cuts.specs.ForwardRuns.{PiecesAreTheRun, TextHasNoFault, fault_count};
+ghost use Rattle.cuts.specs.ForwardRuns.{PiecesAreTheRun, TextHasNoFault, faulty_item_count};
 ghost use Rattle.cuts.specs.EqualRuns.{OneRun, OneMergedRun};
 ghost use Rattle.cuts.specs.Splits.{OneSplit};
 ghost use Rattle.utf_base.specs.Code.{utf8, utf16};
@@ -54,7 +54,7 @@ pub fn merged_is_all_characters(bytes: &[u8])
 #[tactic(auto, using(crate::proofs::TurnedPieces::turned, crate::proofs::TurnedPieces::faults_turned))]
 pub fn pieces_back_are_the_pieces(bytes: &[u8])
     ensures turned { AreTurned (pieces_back bytes.now) (pieces bytes.now) }
-    ensures faults { fault_count (pieces_back bytes.now) ≡ fault_count (pieces bytes.now) }
+    ensures faults { faulty_item_count (pieces_back bytes.now) ≡ faulty_item_count (pieces bytes.now) }
 {}
 
 /// Parts without the separator that are the bytes, joined by it, are those that `split_ascii` gives.

@@ -31,7 +31,7 @@ pub use piece_table::PieceTable;
 pub use programs::listing::{write_listing, write_merged, write_walk};
 pub use programs::pieces_program::run_pieces;
 pub use programs::recode_program::run_recode;
-pub use programs::relayed::{RecodeFault, recode};
+pub use programs::recode_stream::{RecodeFault, recode};
 pub use programs::strict::{FaultAt, StrictError, recode_strict};
 pub use recoding::boundaries::{boundary_after, unit_boundary_after, unit_boundary_before};
 pub use recoding::faults::{Fault, FaultKind, Outcome, StrictProgress};

@@ -7,7 +7,7 @@ ghost use Rattle.utf_base.specs.Piece.{Inside};
 ghost use Rattle.encode_unicode.specs.Pieces.{pieces as all_pieces, LiesWithin};
 ghost use Rattle.encode_unicode.specs.Window.{Item as AnItem, IsFrontPiece};
 ghost use Rattle.cuts.specs.ForwardRuns.{IsForwardRun, IsForwardRunBetween};
-ghost use Rattle.cuts.specs.Tables.{StayAround, StepForEach, WereReplaced, IsSpot, IsRenewed, IsSplitAt, EndsAt, IsRestMoved, moved_item};
+ghost use Rattle.cuts.specs.Tables.{StayAround, StepForEach, WereReplaced, IsSplice, IsRenewed, IsSplitAt, EndsAt, IsRestMoved, moved_item};
 
 use crate::block_moves::move_items;
 use crate::runs::items::Item;
@@ -46,7 +46,7 @@ impl<A: Allocator + Copy> PieceTable<A> {
         let mut held = Vec::with_capacity(alloc, bytes.len())?;
         held.extend_from_slice(bytes)?;
         let mut pieces = Vec::new(alloc);
-        decode(bytes, 0, bytes.len(), &mut pieces, &mut Steps::new())?;
+        decode_pieces(bytes, 0, bytes.len(), &mut pieces, &mut Steps::new())?;
         Ok(PieceTable {
             bytes: held,
             pieces,
@@ -110,8 +110,8 @@ impl<A: Allocator + Copy> PieceTable<A> {
         let most = new.len().saturating_add(6);
         let mut fresh = Vec::with_capacity(*self.bytes.allocator(), most)?;
         self.pieces.reserve(most)?;
-        put(&mut self.bytes, start, end, new)?;
-        renew(
+        splice_in(&mut self.bytes, start, end, new)?;
+        redecode(
             &self.bytes,
             start,
             end,
@@ -125,7 +125,7 @@ impl<A: Allocator + Copy> PieceTable<A> {
 
 // Makes the pieces of some bytes those of `bytes`, which these became where what stood from `start` to
 // `end` was replaced and now ends at `after`. There is room for what is decoded, so it never fails.
-fn renew<A: Allocator>(
+fn redecode<A: Allocator>(
     bytes: &[u8],
     start: usize,
     end: usize,
@@ -141,8 +141,8 @@ fn renew<A: Allocator>(
     ensures done { IsOk result }
     ensures renewed { IsRenewed bytes.now start end after pieces.old.items pieces.new.items steps.old steps.new }
 {
-    let spot = find_spot(bytes, start, end, after, pieces.as_slice());
-    decode(bytes, spot.from, after + 3, fresh, steps)?;
+    let spot = find_splice(bytes, start, end, after, pieces.as_slice());
+    decode_pieces(bytes, spot.from, after + 3, fresh, steps)?;
     put_pieces(pieces, spot.keep, spot.resume, fresh.as_slice(), end, after)
 }
 
@@ -153,7 +153,7 @@ fn decode_near(bytes: &[u8], place: usize, pieces: &[Item], steps: &mut Steps)
     ensures least { StepForEach bytes.now (place - 3) (place + 3) steps.old steps.new }
     ensures most { steps.new ≤ steps.old + 6 }
 {
-    let spot = find_spot(bytes, place, place, place, pieces);
+    let spot = find_splice(bytes, place, place, place, pieces);
     let end = bytes.len().min(place + 3);
     let mut next = spot.from;
     while next < end {
@@ -165,19 +165,19 @@ fn decode_near(bytes: &[u8], place: usize, pieces: &[Item], steps: &mut Steps)
 // Where the new pieces go: in place of the old ones from `keep` to `resume`, and decoded from the place
 // `from` on.
 #[derive(Drop)]
-struct Spot {
+struct Splice {
     keep: usize,
     resume: usize,
     from: usize,
 }
 
 // The spot for the new pieces. A piece that ends near enough to a change to be reached by it is not kept.
-fn find_spot(bytes: &[u8], start: usize, end: usize, after: usize, pieces: &[Item]) -> Spot
+fn find_splice(bytes: &[u8], start: usize, end: usize, after: usize, pieces: &[Item]) -> Splice
     requires replaced { WereReplaced bytes.now start end after pieces.now }
-    ensures { IsSpot bytes.now start end after pieces.now result.keep result.resume result.from }
+    ensures { IsSplice bytes.now start end after pieces.now result.keep result.resume result.from }
 {
     let keep = count_before(pieces, start.saturating_sub(3));
-    Spot {
+    Splice {
         keep,
         resume: count_before(pieces, end + 3),
         from: end_of(pieces, keep),
@@ -203,12 +203,12 @@ fn put_pieces<A: Allocator>(
     ensures room { vec_len pieces.old + length fresh.now ≤ vec_capacity pieces.old → IsOk result }
 {
     move_places(&mut pieces[resume..], from, to);
-    put(pieces, keep, resume, fresh)
+    splice_in(pieces, keep, resume, fresh)
 }
 
 // Puts `new` in place of the items from `start` to `end`. It fails only where room for it is missing,
 // and then changes nothing.
-fn put<T: Copy + Drop, A: Allocator>(
+fn splice_in<T: Copy + Drop, A: Allocator>(
     items: &mut Vec<T, A>,
     start: usize,
     end: usize,
@@ -299,7 +299,7 @@ fn move_each(items: &mut [Item], from: usize, to: usize)
 
 // Collects the pieces of the bytes that begin from `place` on and before `until`, where no code lies over
 // `place`. Each takes one step.
-fn decode<A: Allocator>(
+fn decode_pieces<A: Allocator>(
     bytes: &[u8],
     place: usize,
     until: usize,

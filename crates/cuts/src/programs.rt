@@ -7,7 +7,7 @@ pub mod mains;
 pub(crate) mod offset;
 pub mod pieces_program;
 pub mod recode_program;
-pub mod relayed;
+pub mod recode_stream;
 pub(crate) mod requests;
 pub mod stops;
 pub mod strict;

@@ -2,7 +2,7 @@
 ghost use Rattle.std.specs.Prelude.{◌≡◌, ◌+◌, ◌<◌, ◌≤◌, IsTrue, Option, ℕ, Bool, List, OnOk, OnErr};
 ghost use Rattle.std.specs.Io.{ReadsAtMost, WritesAtMost};
 ghost use Rattle.std.specs.Io.KnownBytes.{Appends, ReadConsumes, WriteAppends};
-ghost use Rattle.cuts.specs.Failures.{Reads, Extras, put_failures, put_stalls, take_failures, after_put, CountsRead, AppendsFront, TellsStall};
+ghost use Rattle.cuts.specs.Failures.{ReadCounts, Extras, put_failures, put_stalls, take_failures, after_put, CountsRead, AppendsFront, TellsStall};
 
 use crate::counted::Counted;
 use std::io;
@@ -20,7 +20,7 @@ pub trait Source {
     ghost failures: { Self → ℕ };
 
     // what else is known of the reads
-    ghost reads: { Self → Reads };
+    ghost reads: { Self → ReadCounts };
 
     /// One call of the reader's `read`, with its answer.
     ///

@@ -15,7 +15,7 @@ use Rattle.utf_chars.proofs.PaddedLemmas.{IsPadded_padded, value_padded}
 use Rattle.utf_base.proofs.MergerLemmas.{kind_of_front, few-1}
 use Rattle.utf_base.proofs.Utf8Code.{utf8-first}
 use Rattle.encode_unicode.specs.Mergers.{IsHeldBytes}
-use Rattle.encode_unicode.specs.Reading.{Answers, Completes, CompletesAfter, JudgesBytes, Reads}
+use Rattle.encode_unicode.specs.Reading.{Answers, Completes, CompletesAfter, JudgesBytes, ReadsElements}
 use Rattle.encode_unicode.proofs.MergerSteps.{reads_none, reads_more, value_of_answer}
 
 pub asks_two : (b : ℕ) → 0xC2 ≤ b → b < 0xF5 → 2 ≤ asked b
@@ -117,7 +117,7 @@ begins_alone b h = grind (arith, common_steps)
 
 -- a code, whose last byte is b
 pub code_after : {S : Type 0} {can_next : S → Type 0} {remaining : S → Count} {steps : S → Option ℕ → S → Type 0} (first : ℕ) (before : List ℕ) (b c : ℕ) {bytes : List ℕ} {u t : S} {new : List ℕ} {f : Bool}
-    → Reads can_next remaining steps u false (b ∷ []) t false → IsScalar c → first ∷ before ++ b ∷ [] ≡ utf8 c → bytes ≡ padded 4 (utf8 c) → new ≡ [] → f ≡ false
+    → ReadsElements can_next remaining steps u false (b ∷ []) t false → IsScalar c → first ∷ before ++ b ∷ [] ≡ utf8 c → bytes ≡ padded 4 (utf8 c) → new ≡ [] → f ≡ false
     → CompletesAfter can_next remaining steps first before u (Ok bytes) (record { held = new; ended = f }) t
 code_after {S} {can_next} {remaining} {steps} first before b c {bytes} {u} {t} {new} {f} reads scalar code same none going s so_far =
     completes_ok can_next remaining steps first [] bytes c s t false f new scalar same
@@ -131,7 +131,7 @@ code_after {S} {can_next} {remaining} {steps} first before b c {bytes} {u} {t} {
 
 -- no code, as the byte b shows, which is held after the others
 pub fault_after : {S : Type 0} {can_next : S → Type 0} {remaining : S → Count} {steps : S → Option ℕ → S → Type 0} (first : ℕ) (before : List ℕ) (b : ℕ) {k : Utf8ErrorKind} {u t : S} {new : List ℕ} {f : Bool}
-    → Reads can_next remaining steps u false (b ∷ []) t false → ((later : List ℕ) → merger_kind (first ∷ (before ++ b ∷ []) ++ later) ≡ Some k) → IsHeldBytes (before ++ b ∷ []) → new ≡ before ++ b ∷ [] → f ≡ false
+    → ReadsElements can_next remaining steps u false (b ∷ []) t false → ((later : List ℕ) → merger_kind (first ∷ (before ++ b ∷ []) ++ later) ≡ Some k) → IsHeldBytes (before ++ b ∷ []) → new ≡ before ++ b ∷ [] → f ≡ false
     → CompletesAfter can_next remaining steps first before u (Err k) (record { held = new; ended = f }) t
 fault_after first before b {k} {u} {t} {new} reads kind held same going s so_far =
     let len : length new ≡ length (before ++ b ∷ []) = ap length same in
@@ -148,7 +148,7 @@ fault_after first before b {k} {u} {t} {new} reads kind held same going s so_far
 
 -- no code, since the source has ended
 pub end_after : {S : Type 0} {can_next : S → Type 0} {remaining : S → Count} {steps : S → Option ℕ → S → Type 0} (first : ℕ) (before : List ℕ) {k : Utf8ErrorKind} {u t : S} {new : List ℕ} {f : Bool}
-    → Reads can_next remaining steps u false [] t true → merger_kind (first ∷ before) ≡ Some k → IsHeldBytes before → new ≡ before → f ≡ true
+    → ReadsElements can_next remaining steps u false [] t true → merger_kind (first ∷ before) ≡ Some k → IsHeldBytes before → new ≡ before → f ≡ true
     → CompletesAfter can_next remaining steps first before u (Err k) (record { held = new; ended = f }) t
 end_after first before {k} {u} {t} {new} reads kind held same mark s so_far =
     let len : length new ≡ length before = ap length same in

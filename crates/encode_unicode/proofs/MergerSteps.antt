@@ -5,7 +5,7 @@ use Rattle.std.specs.Prelude.{Option, Result, MatchOption}
 use Rattle.utf_base.specs.Decoded.{unless_fault}
 use Rattle.encode_unicode.specs.HeldWord.{Kept}
 use Rattle.encode_unicode.specs.Mergers.{Gave, Merging, MergerNext, TakesFront, still, unread_count}
-use Rattle.encode_unicode.specs.Reading.{Answers, Reads, TakesFirst}
+use Rattle.encode_unicode.specs.Reading.{Answers, ReadsElements, TakesFirst}
 
 -- calls that follow one another
 pub yields_joined : {S A : Type 0} (steps : S → Option A → S → Type 0) (s t u : S) (xs ys : List A) → Yields steps s xs t → Yields steps t ys u → Yields steps s (xs ++ ys) u
@@ -24,7 +24,7 @@ gave_more steps s t u false true false xs ys one two = absurd (cc two.2)
 gave_more steps s t u false false true xs ys one two = (two.0, yields_joined steps s t two.0 xs ys one two.1, two.2)
 gave_more steps s t u false false false xs ys one two = yields_joined steps s t u xs ys one two
 
-pub reads_none : {S A : Type 0} {can_next : S → Type 0} {remaining : S → Count} {steps : S → Option A → S → Type 0} {s : S} {e : Bool} → (e ≡ false → can_next s) → Reads can_next remaining steps s e [] s e
+pub reads_none : {S A : Type 0} {can_next : S → Type 0} {remaining : S → Count} {steps : S → Option A → S → Type 0} {s : S} {e : Bool} → (e ≡ false → can_next s) → ReadsElements can_next remaining steps s e [] s e
 reads_none {S} {A} {can_next} {remaining} {steps} {s} {e} can = record {
   gives = λ rest listed. refl;
   gave = gave_none steps s e;
@@ -35,7 +35,7 @@ reads_none {S} {A} {can_next} {remaining} {steps} {s} {e} can = record {
 }
 
 pub reads_more : {S A : Type 0} {can_next : S → Type 0} {remaining : S → Count} {steps : S → Option A → S → Type 0} {s t u : S} {e f g : Bool} {xs ys : List A}
-    → Reads can_next remaining steps s e xs t f → Reads can_next remaining steps t f ys u g → Reads can_next remaining steps s e (xs ++ ys) u g
+    → ReadsElements can_next remaining steps s e xs t f → ReadsElements can_next remaining steps t f ys u g → ReadsElements can_next remaining steps s e (xs ++ ys) u g
 reads_more {S} {A} {can_next} {remaining} {steps} {s} {t} {u} {e} {f} {g} {xs} {ys} one two = record {
   gives = λ rest listed. one.gives rest listed ∙ ap (λ zs. xs ++ zs) (two.gives rest listed) ∙ sym (append_assoc xs ys (still rest u g));
   gave = gave_more steps s t u e f g xs ys one.gave two.gave;
@@ -56,7 +56,7 @@ nothing_still rest s e ends = rw ends refl
 -- One call of `next`: the elements `held` and then those that are read at first, xs, begin with the one that is answered for.
 pub merger_next : {S E : Type 0} (code : ℕ → List ℕ) (kind : List ℕ → Option E) (Held : List ℕ → Type 0) {can_next : S → Type 0} {remaining : S → Count} {steps : S → Option ℕ → S → Type 0}
     {held xs : List ℕ} {s u t : S} {e d f : Bool} {first : ℕ} {old : List ℕ} {r : Result ℕ E} {new : List ℕ}
-    → Reads can_next remaining steps s e xs u d → held ++ xs ≡ first ∷ old → Answers code kind can_next remaining steps first old u d r new t f → Held new
+    → ReadsElements can_next remaining steps s e xs u d → held ++ xs ≡ first ∷ old → Answers code kind can_next remaining steps first old u d r new t f → Held new
     → MergerNext code kind Held steps (record { held = held; source = s; ended = e }) (Some r) (record { held = new; source = t; ended = f })
 merger_next code kind Held {can_next} {remaining} {steps} {held} {xs} {s} {u} {t} {e} {d} {f} {first} {old} {r} {new} reads begins a keeps = record {
   takes = λ rest listed.
@@ -85,7 +85,7 @@ merger_next code kind Held {can_next} {remaining} {steps} {held} {xs} {s} {u} {t
 -- the merger comes nearer to its end
 pub merger_nearer : {S E : Type 0} (code : ℕ → List ℕ) (kind : List ℕ → Option E) {can_next : S → Type 0} {remaining : S → Count} {steps : S → Option ℕ → S → Type 0}
     {held xs : List ℕ} {s u t : S} {e d f : Bool} {first : ℕ} {old : List ℕ} {r : Result ℕ E} {new : List ℕ}
-    → Reads can_next remaining steps s e xs u d → held ++ xs ≡ first ∷ old → Answers code kind can_next remaining steps first old u d r new t f
+    → ReadsElements can_next remaining steps s e xs u d → held ++ xs ≡ first ∷ old → Answers code kind can_next remaining steps first old u d r new t f
     → MakesProgress (λ (m : Merging S). m.ended ≡ false → can_next m.source) (unread_count remaining) (record { held = held; source = s; ended = e }) (Some r) (record { held = new; source = t; ended = f })
 merger_nearer code kind {can_next} {remaining} {steps} {held} {xs} {s} {u} {t} {e} {d} {f} {first} {old} reads begins a = record {
   on = λ finite.

@@ -29,7 +29,7 @@ use Rattle.encode_unicode.proofs.Joined.{some_utf8}
 use Rattle.encode_unicode.proofs.RunTests.{tells, tells_back}
 use Rattle.encode_unicode.specs.Pieces.{Gives, GivesReversed, LengthsFit, LiesWithin, LiesInText, PiecesFit, pieces, unit_pieces, pieces_by, pieces_left, unit_pieces_left, placed_chars, chars_left, placed_chars_left}
 use Rattle.encode_unicode.specs.Sources.{IsListed, IsListedBack}
-use Rattle.encode_unicode.specs.TextWindow.{IsTextWindow, NextScalar, NextPlaced, BackScalar, BackPlaced, GivesFirst, GivesLast}
+use Rattle.encode_unicode.specs.TextWindow.{IsTextWindow, NextScalar, NextPlaced, BackScalar, BackPlaced, GivesFirstChar, GivesLastChar}
 use Rattle.encode_unicode.specs.Window.{Window, Placed, elements, whole_window, without_front, as_piece, GivesNone, GivesFrontOf, GivesBackOf, HasCode, NextGives, NextGivesUnits, NextBackGives, NextBackGivesUnits}
 
 -- A list that tells what each state still gives is what each run gives.
@@ -142,7 +142,7 @@ no_chars w v h =
     let zero : w.back - w.front ≡ 0 = omega arith in
     ap (λ n. chars (take n (drop w.front w.whole))) zero ∙ chars-nil
 
-first_char : (w v : Window) (place s : ℕ) → GivesFirst w place s v → chars_left w ≡ s ∷ chars_left v
+first_char : (w v : Window) (place s : ℕ) → GivesFirstChar w place s v → chars_left w ≡ s ∷ chars_left v
 first_char w v place s h =
     chars_past_char (elements w) (elements v) s (rw h.code (IsUtf8-append (utf8 s) (elements v) (utf8_is_text s h.scalar) h.between.text))
     (h.code ∙ ap (λ code. code ++ elements v) (sym (utf8_is_std s)))
@@ -167,7 +167,7 @@ placed_listed w (Some x) v h =
 no_chars_back : (w v : Window) → GivesNone w v → (chars_left w ≡ []) × (chars_left v ≡ [])
 no_chars_back w v h = let none = no_chars w v h in (none, ap chars_left h.left ∙ none)
 
-last_char : (w v : Window) (place s : ℕ) → GivesLast w place s v → chars_left w ≡ chars_left v ++ s ∷ []
+last_char : (w v : Window) (place s : ℕ) → GivesLastChar w place s v → chars_left w ≡ chars_left v ++ s ∷ []
 last_char w v place s h =
     let one : chars (utf8 s) ≡ s ∷ [] = ap chars (sym (append-nil (utf8 s))) ∙ chars_past_char (utf8 s ++ []) [] s (rw (append-nil (utf8 s)) (utf8_is_text s h.scalar)) (ap (λ code. code ++ []) (sym (utf8_is_std s))) ∙ ap (λ xs. s ∷ xs) chars-nil in
     ap chars h.code ∙ chars-append (elements v) (utf8 s) h.between.text ∙ ap (λ xs. chars_left v ++ xs) one
@@ -327,7 +327,7 @@ record KeepsText (text : List ℕ) (w : Window) (end : ℕ) : Type 0 where
   whole : w.whole ≡ text
   boundary : IsCharBoundary text end
 
-char_kept : (text : List ℕ) (w v : Window) (x : ℕ × ℕ) → KeepsText text w w.front → GivesFirst w x.0 x.1 v → LiesInText text x × KeepsText text v v.front
+char_kept : (text : List ℕ) (w v : Window) (x : ℕ × ℕ) → KeepsText text w w.front → GivesFirstChar w x.0 x.1 v → LiesInText text x × KeepsText text v v.front
 char_kept text w v x k g =
     let whole : v.whole ≡ text = ap (λ (u : Window). u.whole) g.left ∙ k.whole in
     let front : v.front ≡ x.0 + length (utf8 x.1) = ap (λ (u : Window). u.front) g.left ∙ ap (λ p. p + length (utf8 x.1)) (sym g.at_front) in
@@ -342,7 +342,7 @@ text_places text s h e p seen from =
     all_items NextPlaced (λ w. KeepsText text w w.front) (LiesInText text) (λ w x v k g. char_kept text w v x k g) p (rw (from, e) (record { whole = refl; boundary = IsCharBoundary-start text h }))
 
 -- the same from the back
-char_kept_back : (text : List ℕ) (w v : Window) (x : ℕ × ℕ) → KeepsText text w w.back → GivesLast w x.0 x.1 v → LiesInText text x × KeepsText text v v.back
+char_kept_back : (text : List ℕ) (w v : Window) (x : ℕ × ℕ) → KeepsText text w w.back → GivesLastChar w x.0 x.1 v → LiesInText text x × KeepsText text v v.back
 char_kept_back text w v x k g =
     let whole : v.whole ≡ text = ap (λ (u : Window). u.whole) g.left ∙ k.whole in
     let back : v.back ≡ w.back - length (utf8 x.1) = ap (λ (u : Window). u.back) g.left in
@@ -363,7 +363,7 @@ text_places_back text s h e p seen from =
 -- The same of an iterator that was asked already.
 
 -- a window that begins with a code begins between two characters of the text
-begins_between : (w v : Window) (place s : ℕ) → GivesFirst w place s v → IsCharBoundary w.whole w.front
+begins_between : (w v : Window) (place s : ℕ) → GivesFirstChar w place s v → IsCharBoundary w.whole w.front
 begins_between w v place s g =
     let text : IsUtf8 (elements w) = rw g.code (IsUtf8-append (utf8 s) (elements v) (utf8_is_text s g.scalar) g.between.text) in
     let start = IsCharBoundary-start (elements w) text in
@@ -373,7 +373,7 @@ begins_between w v place s g =
     let same : slice_index (elements w) 0 ≡ slice_index w.whole w.front = grind (arith, common_steps) in
     (omega arith, λ lt. rw (← same) (start.1 (omega arith)))
 
-placed_on : (text : List ℕ) (w v : Window) (x : ℕ × ℕ) → w.whole ≡ text → GivesFirst w x.0 x.1 v → LiesInText text x × (v.whole ≡ text)
+placed_on : (text : List ℕ) (w v : Window) (x : ℕ × ℕ) → w.whole ≡ text → GivesFirstChar w x.0 x.1 v → LiesInText text x × (v.whole ≡ text)
 placed_on text w v x is g =
     let begins : IsCharBoundary text w.front = rw is at (begins_between w v x.0 x.1 g) in
     let kept = char_kept text w v x (record { whole = is; boundary = begins }) g in

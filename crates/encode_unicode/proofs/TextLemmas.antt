@@ -17,7 +17,7 @@ use Rattle.utf_chars.proofs.Ranges.{range_after}
 use Rattle.utf_chars.proofs.TextLemmas.{boundary_after}
 use Rattle.utf_base.specs.Decoded.{decoded_bytes}
 use Rattle.encode_unicode.proofs.TextEnds.{last_is_read}
-use Rattle.encode_unicode.specs.TextWindow.{IsKeptWindow, IsLastCode, IsTextWindow, GivesFirst, GivesLast, BoundsScalars}
+use Rattle.encode_unicode.specs.TextWindow.{IsKeptWindow, IsLastCode, IsTextWindow, GivesFirstChar, GivesLastChar, BoundsScalars}
 use Rattle.encode_unicode.proofs.Joined.{joined_bounds, some_utf8}
 
 text_window : (xs : List ℕ) (i j : ℕ) → IsUtf8 xs → i ≤ j → IsCharBoundary xs i → IsCharBoundary xs j → IsTextWindow (record { whole = xs; front = i; back = j })
@@ -37,7 +37,7 @@ boundary_before xs p s h =
     (omega arith, λ lt high. ⊎_elim (λ (low : get_or (utf8 s) 0 0 < 0x80). absurd (omega arith)) (λ (high : 0xC2 ≤ get_or (utf8 s) 0 0). omega arith) (utf8-first s h.scalar))
 
 pub first_taken : {xs : List ℕ} {i j s n : ℕ} → IsKeptWindow xs i j → BeginsWith utf8 (slice_range xs i j) s n
-    → GivesFirst (record { whole = xs; front = i; back = j }) i s (record { whole = xs; front = i + n; back = j }) × IsKeptWindow xs (i + n) j × (j - (i + n) < j - i)
+    → GivesFirstChar (record { whole = xs; front = i; back = j }) i s (record { whole = xs; front = i + n; back = j }) × IsKeptWindow xs (i + n) j × (j - (i + n) < j - i)
 first_taken {xs} {i} {j} {s} {n} kept begins =
     let ordered = kept.ordered in
     let back = kept.between.back.0 in
@@ -61,7 +61,7 @@ first_taken {xs} {i} {j} {s} {n} kept begins =
     )
 
 pub last_taken : (xs : List ℕ) (i j s n m : ℕ) → IsKeptWindow xs i j → EndsWith utf8 (slice_range xs i j) s n → m ≡ j - n
-    → GivesLast (record { whole = xs; front = i; back = j }) m s (record { whole = xs; front = i; back = m }) × IsKeptWindow xs i m × (m - i < j - i)
+    → GivesLastChar (record { whole = xs; front = i; back = j }) m s (record { whole = xs; front = i; back = m }) × IsKeptWindow xs i m × (m - i < j - i)
 last_taken xs i j s n m kept ends e =
     let ordered = kept.ordered in
     let back = kept.between.back.0 in
@@ -90,7 +90,7 @@ last_taken xs i j s n m kept ends e =
 
 -- the same where the character was made of the code that the text ends with
 pub last_char_taken : {xs text code : List ℕ} {i j t n : ℕ} → IsKeptWindow xs i j → text ≡ slice_range xs i j → IsLastCode text code n → decoded_bytes code ≡ Ok t
-    → GivesLast (record { whole = xs; front = i; back = j }) (j - n) t (record { whole = xs; front = i; back = j - n }) × IsKeptWindow xs i (j - n) × (j - n - i < j - i)
+    → GivesLastChar (record { whole = xs; front = i; back = j }) (j - n) t (record { whole = xs; front = i; back = j - n }) × IsKeptWindow xs i (j - n) × (j - n - i < j - i)
 last_char_taken {xs} {text} {code} {i} {j} {t} {n} kept e last known =
     let same = last_is_read text code t n last known in
     let ends : EndsWith utf8 (slice_range xs i j) t n = rw (← e, ← same) last.ends in

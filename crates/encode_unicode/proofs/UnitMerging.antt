@@ -10,7 +10,7 @@ use Rattle.utf_base.specs.Scalar.{IsScalar}
 use Rattle.utf_base.specs.Units.{is_leading_surrogate, is_trailing_surrogate, is_surrogate, is_padded_units, array_fault, pair_value, unit_fault_kind, unit_value}
 use Rattle.utf_base.proofs.UnitLemmas.{no_both}
 use Rattle.utf_base.proofs.Utf16Code.{unit_is_code, code_of_pair, scalar_pair, unit_value-pair, unit_value-unit}
-use Rattle.encode_unicode.specs.Reading.{Answers, CompletesUnits, Reads}
+use Rattle.encode_unicode.specs.Reading.{Answers, CompletesUnits, ReadsElements}
 use Rattle.encode_unicode.proofs.MergerSteps.{reads_none, value_of_answer}
 
 -- The kinds, case by case.
@@ -85,7 +85,7 @@ trails_from u h high = grind (arith, common_steps)
 -- A leading surrogate.
 
 pub unit_last : {S : Type 0} (can_next : S → Type 0) (remaining : S → Count) (steps : S → Option ℕ → S → Type 0) (first : ℕ) (s t : S) (new : List ℕ) (f : Bool)
-    → is_leading_surrogate first ≡ true → Reads can_next remaining steps s false [] t true → new ≡ [] → f ≡ true
+    → is_leading_surrogate first ≡ true → ReadsElements can_next remaining steps s false [] t true → new ≡ [] → f ≡ true
     → CompletesUnits can_next remaining steps first s (Err Incomplete) (record { held = new; ended = f }) t
 unit_last can_next remaining steps first s t new f lead reads none mark = record {
   more = [];
@@ -96,7 +96,7 @@ unit_last can_next remaining steps first s t new f lead reads none mark = record
 }
 
 pub unit_pair : {S : Type 0} (can_next : S → Type 0) (remaining : S → Count) (steps : S → Option ℕ → S → Type 0) (first second : ℕ) (s t : S) (new : List ℕ) (f : Bool)
-    → is_leading_surrogate first ≡ true → is_trailing_surrogate second ≡ true → Reads can_next remaining steps s false (second ∷ []) t false → new ≡ [] → f ≡ false
+    → is_leading_surrogate first ≡ true → is_trailing_surrogate second ≡ true → ReadsElements can_next remaining steps s false (second ∷ []) t false → new ≡ [] → f ≡ false
     → CompletesUnits can_next remaining steps first s (Ok second) (record { held = new; ended = f }) t
 unit_pair can_next remaining steps first second s t new f lead trail reads none going =
     units_answer can_next remaining steps first second (pair_value first second) s t new f (rw lead trail) (unit_value-pair (first ∷ second ∷ []) lead)
@@ -109,7 +109,7 @@ unit_pair can_next remaining steps first second s t new f lead trail reads none 
     })
 
 pub unit_unmatched : {S : Type 0} (can_next : S → Type 0) (remaining : S → Count) (steps : S → Option ℕ → S → Type 0) (first second : ℕ) (s t : S) (new : List ℕ) (f : Bool)
-    → is_leading_surrogate first ≡ true → is_trailing_surrogate second ≡ false → Reads can_next remaining steps s false (second ∷ []) t false → new ≡ second ∷ [] → f ≡ false
+    → is_leading_surrogate first ≡ true → is_trailing_surrogate second ≡ false → ReadsElements can_next remaining steps s false (second ∷ []) t false → new ≡ second ∷ [] → f ≡ false
     → CompletesUnits can_next remaining steps first s (Err UnmatchedLeadingSurrogate) (record { held = new; ended = f }) t
 unit_unmatched can_next remaining steps first second s t new f lead trail reads one going = record {
   more = second ∷ [];

@@ -14,7 +14,7 @@ use Rattle.encode_unicode.specs.Sources.{IsListed}
 use Rattle.encode_unicode.specs.Mergers.{Gave, IsHeldBytes, IsSpent, TakesFront, still}
 
 -- the elements xs were read, from the state s with the end e to the state t with the end f
-pub record Reads {S A : Type 0} (can_next : S → Type 0) (remaining : S → Count) (steps : S → Option A → S → Type 0) (s : S) (e : Bool) (xs : List A) (t : S) (f : Bool) : Type 0 where
+pub record ReadsElements {S A : Type 0} (can_next : S → Type 0) (remaining : S → Count) (steps : S → Option A → S → Type 0) (s : S) (e : Bool) (xs : List A) (t : S) (f : Bool) : Type 0 where
   pub gives : (rest : S → List A) → IsListed steps rest → still rest s e ≡ xs ++ still rest t f
   pub gave : Gave steps s e xs t f
   pub can : f ≡ false → can_next t
@@ -36,7 +36,7 @@ ends (Some x) = false
 pub record FirstOf {S : Type 0} (Held : List ℕ → Type 0) (can_next : S → Type 0) (remaining : S → Count) (steps : S → Option ℕ → S → Type 0)
     (old : List ℕ) (s : S) (e : Bool) (x : ℕ) (new : List ℕ) (t : S) (f : Bool) : Type 0 where
   pub more : List ℕ
-  pub reads : Reads can_next remaining steps s e more t f
+  pub reads : ReadsElements can_next remaining steps s e more t f
   pub begins : old ++ more ≡ x ∷ new
   pub held : Held new
 
@@ -44,19 +44,19 @@ pub record FirstOf {S : Type 0} (Held : List ℕ → Type 0) (can_next : S → T
 abbrev pub TakesFirst : {S : Type 0} → (List ℕ → Type 0) → (S → Type 0) → (S → Count) → (S → Option ℕ → S → Type 0) → Kept → S → Option ℕ → Kept → S → Type 0
 TakesFirst Held can_next remaining steps k s r l t =
     MatchOption r
-    (Reads can_next remaining steps s k.ended [] t l.ended × (k.held ≡ []) × (l.held ≡ []) × (l.ended ≡ true))
+    (ReadsElements can_next remaining steps s k.ended [] t l.ended × (k.held ≡ []) × (l.held ≡ []) × (l.ended ≡ true))
     (λ x. FirstOf Held can_next remaining steps k.held s k.ended x l.held t l.ended)
 
 -- of elements that are followed by others, or by none where the source has ended, the answer takes the front
-abbrev pub Settles : {E : Type 0} → (ℕ → List ℕ) → (List ℕ → Option E) → List ℕ → Bool → Result ℕ E → List ℕ → Type 0
-Settles code kind xs ended r held = (later : List ℕ) → (ended ≡ true → later ≡ []) → TakesFront code kind (xs ++ later) (Some r) (held ++ later)
+abbrev pub SettlesAnswer : {E : Type 0} → (ℕ → List ℕ) → (List ℕ → Option E) → List ℕ → Bool → Result ℕ E → List ℕ → Type 0
+SettlesAnswer code kind xs ended r held = (later : List ℕ) → (ended ≡ true → later ≡ []) → TakesFront code kind (xs ++ later) (Some r) (held ++ later)
 
 -- the answer for an element that has left a merger which still holds `old`, and what it holds then
 pub record Answers {S E : Type 0} (code : ℕ → List ℕ) (kind : List ℕ → Option E) (can_next : S → Type 0) (remaining : S → Count) (steps : S → Option ℕ → S → Type 0)
     (first : ℕ) (old : List ℕ) (s : S) (e : Bool) (r : Result ℕ E) (new : List ℕ) (t : S) (f : Bool) : Type 0 where
   pub more : List ℕ
-  pub reads : Reads can_next remaining steps s e more t f
-  pub settles : Settles code kind (first ∷ old ++ more) f r new
+  pub reads : ReadsElements can_next remaining steps s e more t f
+  pub settles : SettlesAnswer code kind (first ∷ old ++ more) f r new
   pub few : length new ≤ length old + length more
   pub clear : IfOk r (λ _. new ≡ [])
 
@@ -76,7 +76,7 @@ pub record Completes {S : Type 0} (can_next : S → Type 0) (remaining : S → C
 -- the same, of a first byte after which nothing was held, where `before` have been read since
 abbrev pub CompletesAfter : {S : Type 0} → (S → Type 0) → (S → Count) → (S → Option ℕ → S → Type 0) → ℕ → List ℕ → S → Result (List ℕ) Utf8ErrorKind → Kept → S → Type 0
 CompletesAfter {S} can_next remaining steps first before u r l t =
-    (s : S) → Reads can_next remaining steps s false before u false → Completes can_next remaining steps first (record { held = []; ended = false }) s r l t
+    (s : S) → ReadsElements can_next remaining steps s false before u false → Completes can_next remaining steps first (record { held = []; ended = false }) s r l t
 
 -- the second unit of the code of a first one, 0 where that has one unit, and the answer that the character is; or the answer
 -- that is an error. Nothing was held

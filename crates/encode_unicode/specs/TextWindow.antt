@@ -22,7 +22,7 @@ pub record IsKeptWindow (text : List ℕ) (front back : ℕ) : Type 0 where
   pub between : IsTextWindow (record { whole = text; front = front; back = back })
 
 -- the scalar whose code begins the window, with its place, and exactly that code has left it
-pub record GivesFirst (w : Window) (place s : ℕ) (v : Window) : Type 0 where
+pub record GivesFirstChar (w : Window) (place s : ℕ) (v : Window) : Type 0 where
   pub scalar : IsScalar s
   pub code : elements w ≡ utf8 s ++ elements v
   pub at_front : place ≡ w.front
@@ -30,7 +30,7 @@ pub record GivesFirst (w : Window) (place s : ℕ) (v : Window) : Type 0 where
   pub between : IsTextWindow v
 
 -- the scalar whose code ends the window, with its place, and exactly that code has left it
-pub record GivesLast (w : Window) (place s : ℕ) (v : Window) : Type 0 where
+pub record GivesLastChar (w : Window) (place s : ℕ) (v : Window) : Type 0 where
   pub scalar : IsScalar s
   pub code : elements w ≡ elements v ++ utf8 s
   pub at_back : place ≡ v.back
@@ -40,20 +40,20 @@ pub record GivesLast (w : Window) (place s : ℕ) (v : Window) : Type 0 where
 -- one call of `next` and one of `next_back`, whose items have a place
 abbrev pub NextPlaced : Window → Option (ℕ × ℕ) → Window → Type 0
 NextPlaced w None v = GivesNone w v
-NextPlaced w (Some x) v = GivesFirst w x.0 x.1 v
+NextPlaced w (Some x) v = GivesFirstChar w x.0 x.1 v
 
 abbrev pub BackPlaced : Window → Option (ℕ × ℕ) → Window → Type 0
 BackPlaced w None v = GivesNone w v
-BackPlaced w (Some x) v = GivesLast w x.0 x.1 v
+BackPlaced w (Some x) v = GivesLastChar w x.0 x.1 v
 
 -- the same of items without a place
 abbrev pub NextScalar : Window → Option ℕ → Window → Type 0
 NextScalar w None v = GivesNone w v
-NextScalar w (Some s) v = GivesFirst w w.front s v
+NextScalar w (Some s) v = GivesFirstChar w w.front s v
 
 abbrev pub BackScalar : Window → Option ℕ → Window → Type 0
 BackScalar w None v = GivesNone w v
-BackScalar w (Some s) v = GivesLast w v.back s v
+BackScalar w (Some s) v = GivesLastChar w v.back s v
 
 -- the array is the code that ends the text, and zeros after it, and the code has n bytes
 pub record IsLastCode (text code : List ℕ) (n : ℕ) : Type 0 where

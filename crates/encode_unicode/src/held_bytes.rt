@@ -19,11 +19,11 @@ pub(crate) struct HeldBytes {
 
 impl Model for HeldBytes {
     ghost use Rattle.std.specs.Prelude.{◌≤◌};
-    ghost use Rattle.encode_unicode.specs.HeldWord.{Kept, bytes_of, count_of, has_ended};
+    ghost use Rattle.encode_unicode.specs.HeldWord.{Kept, held_bytes_of, count_of, has_ended};
 
     ghost Value = { Kept };
 
-    ghost view = { λ h. record { held = bytes_of h.word; ended = has_ended h.word } };
+    ghost view = { λ h. record { held = held_bytes_of h.word; ended = has_ended h.word } };
 
     ghost invariant = { λ h. count_of h.word ≤ 3 };
 }
@@ -163,7 +163,7 @@ fn without_first(word: u32) -> u32
 impl fmt::Debug for HeldBytes {
     ghost debug_output = { λ kept. debug_numbers kept.held };
 
-    #[tactic(auto, unfolding(crate::specs::HeldWord::bytes_of))]
+    #[tactic(auto, unfolding(crate::specs::HeldWord::held_bytes_of))]
     fn fmt<W: fmt::Write>(&self, f: &mut fmt::Formatter<W>) -> fmt::Result {
         let word = self.word;
         let bytes = [

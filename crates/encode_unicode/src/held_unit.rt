@@ -18,11 +18,11 @@ pub(crate) struct HeldUnit {
 
 impl Model for HeldUnit {
     ghost use Rattle.std.specs.Prelude.{◌≡◌, ◌<◌, true};
-    ghost use Rattle.encode_unicode.specs.HeldWord.{Kept, unit_of};
+    ghost use Rattle.encode_unicode.specs.HeldWord.{Kept, held_unit_of};
 
     ghost Value = { Kept };
 
-    ghost view = { λ h. record { held = unit_of h.word; ended = h.ended } };
+    ghost view = { λ h. record { held = held_unit_of h.word; ended = h.ended } };
 
     ghost invariant = { λ h. h.ended ≡ true → h.word < 0x1_0000 };
 }
@@ -30,7 +30,7 @@ impl Model for HeldUnit {
 impl HeldUnit {
     /// None.
     #[inline(always)]
-    #[tactic(auto, unfolding(crate::specs::HeldWord::unit_of))]
+    #[tactic(auto, unfolding(crate::specs::HeldWord::held_unit_of))]
     pub(crate) fn none() -> HeldUnit
         ensures none { result.held ≡ [] }
         ensures going { result.ended ≡ false }
@@ -43,7 +43,7 @@ impl HeldUnit {
 
     /// None, and the source has ended.
     #[inline(always)]
-    #[tactic(auto, unfolding(crate::specs::HeldWord::unit_of))]
+    #[tactic(auto, unfolding(crate::specs::HeldWord::held_unit_of))]
     pub(crate) fn ended() -> HeldUnit
         ensures none { result.held ≡ [] }
         ensures ended { result.ended ≡ true }
@@ -56,7 +56,7 @@ impl HeldUnit {
 
     /// One.
     #[inline(always)]
-    #[tactic(auto, unfolding(crate::specs::HeldWord::unit_of))]
+    #[tactic(auto, unfolding(crate::specs::HeldWord::held_unit_of))]
     pub(crate) fn one(unit: u16) -> HeldUnit
         ensures one { result.held ≡ unit ∷ [] }
         ensures going { result.ended ≡ false }
@@ -69,7 +69,7 @@ impl HeldUnit {
 
     /// Whether nothing is held, and the source has not ended.
     #[inline(always)]
-    #[tactic(auto, unfolding(crate::specs::HeldWord::unit_of))]
+    #[tactic(auto, unfolding(crate::specs::HeldWord::held_unit_of))]
     pub(crate) fn is_idle(&self) -> bool
         ensures none { result ≡ true → self.now.held ≡ [] }
         ensures going { result ≡ true → self.now.ended ≡ false }
@@ -81,7 +81,7 @@ impl HeldUnit {
 
     /// Whether the source has ended.
     #[inline(always)]
-    #[tactic(auto, unfolding(crate::specs::HeldWord::unit_of))]
+    #[tactic(auto, unfolding(crate::specs::HeldWord::held_unit_of))]
     pub(crate) fn is_ended(&self) -> bool
         ensures { result ≡ self.now.ended }
     {
@@ -90,7 +90,7 @@ impl HeldUnit {
 
     /// How many there are: 0 or 1.
     #[inline(always)]
-    #[tactic(auto, unfolding(crate::specs::HeldWord::unit_of))]
+    #[tactic(auto, unfolding(crate::specs::HeldWord::held_unit_of))]
     pub(crate) fn len(&self) -> usize
         ensures len { result ≡ length self.now.held }
         ensures few { IsHeldUnits self.now.held }
@@ -100,7 +100,7 @@ impl HeldUnit {
 
     /// The same once more.
     #[inline(always)]
-    #[tactic(auto, unfolding(crate::specs::HeldWord::unit_of))]
+    #[tactic(auto, unfolding(crate::specs::HeldWord::held_unit_of))]
     pub(crate) fn copy(&self) -> HeldUnit
         ensures { result ≡ self.now }
     {
@@ -112,7 +112,7 @@ impl HeldUnit {
 
     /// Takes it.
     #[inline(always)]
-    #[tactic(auto, unfolding(crate::specs::HeldWord::unit_of))]
+    #[tactic(auto, unfolding(crate::specs::HeldWord::held_unit_of))]
     pub(crate) fn take(&mut self) -> Option<u64>
         requires busy { self.old.held ≡ [] → self.old.ended ≡ true }
         ensures first { YieldsFirst (λ kept. kept.held) self.old result self.new }
@@ -134,7 +134,7 @@ impl HeldUnit {
 impl fmt::Debug for HeldUnit {
     ghost debug_output = { λ kept. debug_unit kept.held };
 
-    #[tactic(auto, unfolding(crate::specs::HeldWord::unit_of))]
+    #[tactic(auto, unfolding(crate::specs::HeldWord::held_unit_of))]
     fn fmt<W: fmt::Write>(&self, f: &mut fmt::Formatter<W>) -> fmt::Result {
         let unit = if self.word >= 0x1_0000 {
             Some((self.word % 0x1_0000) as u16)

@@ -1,7 +1,7 @@
 //! What the two mergers share.
 ghost use Rattle.std.specs.Prelude.{◌≡◌, ◌<◌, false};
 ghost use Rattle.encode_unicode.specs.Mergers.{hint_until, merge_hint};
-ghost use Rattle.encode_unicode.specs.Reading.{Reads, as_list, ends};
+ghost use Rattle.encode_unicode.specs.Reading.{ReadsElements, as_list, ends};
 
 use crate::splitting::hint_of;
 
@@ -9,7 +9,7 @@ use crate::splitting::hint_of;
 #[inline(always)]
 pub(crate) fn read<T, I: Iterator<Item = T>>(source: &mut I) -> Option<T>
     requires { I.can_next source.old }
-    ensures { Reads I.can_next I.remaining I.next_gives
+    ensures { ReadsElements I.can_next I.remaining I.next_gives
         source.old false (as_list result) source.new (ends result) }
 {
     source.next()

@@ -5,7 +5,7 @@ use Rattle.std.proofs.lemmas.List.{append-nil, drop-drop, drop-append-le}
 use Rattle.recoding.specs.declared.form.Form.{Form}
 use Rattle.recoding.specs.Recoded.{Recoding, written}
 use Rattle.recoding.specs.Faults.{AddsUp, Advances, CountsFed, CountsTo, KeepsCount, Replaces, ReplacesLast, fault_count, replaced_in_all}
-use Rattle.recoding.specs.ShownFronts.{Settles}
+use Rattle.recoding.specs.NextScalars.{Settles}
 use Rattle.recoding.proofs.FaultCounts.{none_in_nothing}
 use Rattle.recoding.proofs.Growing.{Continues-none, Continues-step, Grows-append, Grows-none, Grows-trans}
 

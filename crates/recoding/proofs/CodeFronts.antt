@@ -13,7 +13,7 @@ use Rattle.utf_base.proofs.FrontLemmas.{Decodes, asked_cases, asked_le, asked-3,
 use Rattle.utf_base.proofs.GrammarLemmas.{char_encodes}
 use Rattle.utf_base.proofs.Utf8Code.{utf8-1}
 use Rattle.recoding.specs.Recoded.{IsProperFront}
-use Rattle.recoding.specs.ShownFronts.{MayBeSecond}
+use Rattle.recoding.specs.NextScalars.{MayBeSecond}
 
 -- nothing is the front of every code
 pub front_of_nothing : IsProperFront utf8 []

@@ -13,7 +13,7 @@ use Rattle.recoding.specs.declared.form.Form.TheVariants.{Utf8, Utf16Le, Utf16Be
 use Rattle.recoding.specs.Recodes.{differ}
 use Rattle.recoding.specs.Recoded.{written}
 use Rattle.utf_lanes.specs.BytePairs.{unit_of, units_of, bytes_of, swapped, turned}
-use Rattle.recoding.specs.ShownFronts.{IsUnits}
+use Rattle.recoding.specs.NextScalars.{HasByteOrder}
 use Rattle.utf_lanes.specs.UnitBlocks.{AreCodes}
 
 -- Codes show their scalars.
@@ -26,12 +26,12 @@ codes_show (s ∷ cs) later ss all r =
 
 -- The codes of scalars as bytes are the bytes of their units.
 
-pub as_written : (high : Bool) (to : Form) (s : ℕ) → IsUnits high to → written to s ≡ flat_map (bytes_of high) (utf16 s)
+pub as_written : (high : Bool) (to : Form) (s : ℕ) → HasByteOrder high to → written to s ≡ flat_map (bytes_of high) (utf16 s)
 as_written high Utf8 s form = absurd form
 as_written high Utf16Le s form = rw form refl
 as_written high Utf16Be s form = rw form refl
 
-pub all_written : (high : Bool) (to : Form) (cs : List ℕ) → IsUnits high to → flat_map (written to) cs ≡ flat_map (bytes_of high) (flat_map utf16 cs)
+pub all_written : (high : Bool) (to : Form) (cs : List ℕ) → HasByteOrder high to → flat_map (written to) cs ≡ flat_map (bytes_of high) (flat_map utf16 cs)
 all_written high to [] form = refl
 all_written high to (s ∷ cs) form = ap₂ (λ xs ys. xs ++ ys) (as_written high to s form) (all_written high to cs form) ∙ sym (flat_map-append (bytes_of high) (utf16 s) (flat_map utf16 cs))
 
@@ -70,7 +70,7 @@ front_fits (x ∷ w) (suc n) fits zero = fits 0
 front_fits (x ∷ w) (suc n) fits (suc j) = front_fits w n (λ i. fits (suc i)) j
 
 -- Codes are the bytes of their units.
-pub coded_bytes : (high : Bool) (from : Form) (v : List ℕ) (k : ℕ) → IsUnits high from → (h : AreCodes (units_of high v)) → length v ≡ 2 * k → ((j : ℕ) → Fits w8 (get_or v j 0))
+pub coded_bytes : (high : Bool) (from : Form) (v : List ℕ) (k : ℕ) → HasByteOrder high from → (h : AreCodes (units_of high v)) → length v ≡ 2 * k → ((j : ℕ) → Fits w8 (get_or v j 0))
     → v ≡ flat_map (written from) h.scalars
 coded_bytes high from v k form h even fits =
     sym (all_written high from h.scalars form ∙ ap (flat_map (bytes_of high)) (sym h.codes) ∙ same_order high v k even fits)

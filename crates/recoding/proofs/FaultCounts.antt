@@ -18,7 +18,7 @@ use Rattle.utf_lanes.specs.BytePairs.{units_of}
 use Rattle.recoding.specs.declared.form.Form.{Form}
 use Rattle.recoding.specs.declared.form.Form.TheVariants.{Utf8, Utf16Le, Utf16Be}
 use Rattle.recoding.specs.Recoded.{odd_end}
-use Rattle.recoding.specs.ShownFronts.{IsUnits}
+use Rattle.recoding.specs.NextScalars.{HasByteOrder}
 use Rattle.recoding.specs.Faults.{Faults, FaultCountIsOne, HasFaults, HasUnitFaults, fault_count, faults_in}
 
 -- There is one number.
@@ -90,17 +90,17 @@ fault_counts code c w later m some none r =
 pub counts_more : (bytes rest : List ℕ) (k : ℕ) → ((m : ℕ) → HasFaults utf8 rest m → HasFaults utf8 bytes (k + m)) → fault_count Utf8 bytes ≡ k + fault_count Utf8 rest
 counts_more bytes rest k more = sym (same_count Utf8 bytes (k + fault_count Utf8 rest) (more (fault_count Utf8 rest) (counted Utf8 rest)))
 
-as_units : (high : Bool) (from : Form) (bytes : List ℕ) (n : ℕ) → IsUnits high from → Faults from bytes n → HasUnitFaults high bytes n
+as_units : (high : Bool) (from : Form) (bytes : List ℕ) (n : ℕ) → HasByteOrder high from → Faults from bytes n → HasUnitFaults high bytes n
 as_units high Utf8 bytes n form h = absurd form
 as_units high Utf16Le bytes n form h = rw form h
 as_units high Utf16Be bytes n form h = rw form h
 
-of_units : (high : Bool) (from : Form) (bytes : List ℕ) (n : ℕ) → IsUnits high from → HasUnitFaults high bytes n → Faults from bytes n
+of_units : (high : Bool) (from : Form) (bytes : List ℕ) (n : ℕ) → HasByteOrder high from → HasUnitFaults high bytes n → Faults from bytes n
 of_units high Utf8 bytes n form h = absurd form
 of_units high Utf16Le bytes n form h = rw form at h
 of_units high Utf16Be bytes n form h = rw form at h
 
-pub units_count_more : (high : Bool) (from : Form) (bytes rest : List ℕ) (i j : ℕ) → IsUnits high from → ((m : ℕ) → HasFaults utf16 (units_of high rest) m → HasFaults utf16 (units_of high bytes) (i + m))
+pub units_count_more : (high : Bool) (from : Form) (bytes rest : List ℕ) (i j : ℕ) → HasByteOrder high from → ((m : ℕ) → HasFaults utf16 (units_of high rest) m → HasFaults utf16 (units_of high bytes) (i + m))
     → length (odd_end bytes) ≡ j + length (odd_end rest) → fault_count from bytes ≡ i + j + fault_count from rest
 units_count_more high from bytes rest i j form more odd =
     let (m, h, e) = as_units high from rest (fault_count from rest) form (counted from rest) in

@@ -16,7 +16,7 @@ use Rattle.utf_base.proofs.LaterLemmas.{kind_stays, few_where_too_few}
 use Rattle.utf_base.proofs.UnitLemmas.{no_both}
 use Rattle.utf_base.proofs.Utf8Code.{utf8_is_code}
 use Rattle.utf_lanes.specs.BytePairs.{units_of, bytes_of}
-use Rattle.recoding.specs.ShownFronts.{IsUnits, fault_len}
+use Rattle.recoding.specs.NextScalars.{HasByteOrder, fault_len}
 use Rattle.recoding.specs.Strict.{kind_of, lacking, BeginsChar, BeginsFault, EndsInFault, AwaitsKind}
 use Rattle.recoding.specs.declared.faults.FaultKind.{FaultKind}
 use Rattle.recoding.specs.declared.faults.FaultKind.TheVariants as kind
@@ -49,17 +49,17 @@ AwaitsKind-utf8 w e = record { kind = ap (option_map kind.Utf8) e; few = few_whe
 
 -- UTF-16: bytes, two by two.
 
-pub kind_of_units : (high : Bool) (from : Form) (w : List ℕ) → IsUnits high from → kind_of from w ≡ option_map kind.Utf16 (unit_fault_kind (units_of high w))
+pub kind_of_units : (high : Bool) (from : Form) (w : List ℕ) → HasByteOrder high from → kind_of from w ≡ option_map kind.Utf16 (unit_fault_kind (units_of high w))
 kind_of_units high Utf8 w form = absurd form
 kind_of_units high Utf16Le w form = rw form refl
 kind_of_units high Utf16Be w form = rw form refl
 
-lacking_units : (high : Bool) (from : Form) → IsUnits high from → lacking from ≡ kind.Utf16 Incomplete
+lacking_units : (high : Bool) (from : Form) → HasByteOrder high from → lacking from ≡ kind.Utf16 Incomplete
 lacking_units high Utf8 form = absurd form
 lacking_units high Utf16Le form = refl
 lacking_units high Utf16Be form = refl
 
-fault_of_unit : (high : Bool) (from : Form) → IsUnits high from → 2 ≡ fault_len from
+fault_of_unit : (high : Bool) (from : Form) → HasByteOrder high from → 2 ≡ fault_len from
 fault_of_unit high Utf8 form = absurd form
 fault_of_unit high Utf16Le form = refl
 fault_of_unit high Utf16Be form = refl
@@ -90,7 +90,7 @@ front_four (a ∷ b ∷ []) h = absurd (omega arith)
 front_four (a ∷ b ∷ c ∷ []) h = absurd (omega arith)
 front_four (a ∷ b ∷ c ∷ d ∷ w) h = refl
 
-module _ (high : Bool) (from : Form) (w : List ℕ) (form : IsUnits high from) where
+module _ (high : Bool) (from : Form) (w : List ℕ) (form : HasByteOrder high from) where
   units_undecided : length w ≤ 3 → unit_fault_kind (units_of high w) ≡ Some Incomplete → AwaitsKind from w
   units_undecided few e = record {
     kind = kind_of_units high from w form ∙ ap (option_map kind.Utf16) e ∙ ap Some (sym (lacking_units high from form));

@@ -4,11 +4,11 @@ use Rattle.utf_base.specs.Code.{utf16}
 use Rattle.utf_base.specs.declared.errors.units.Utf16PairError.TheVariants.{Incomplete}
 use Rattle.utf_lanes.specs.BytePairs.{bytes_of}
 use Rattle.recoding.specs.Recoded.{written}
-use Rattle.recoding.specs.ShownFronts.{IsUnits, fault_len, utf16_form}
+use Rattle.recoding.specs.NextScalars.{HasByteOrder, fault_len, utf16_form}
 use Rattle.recoding.specs.Strict.{lacking}
 use Rattle.recoding.specs.declared.faults.FaultKind.TheVariants as kind
 
-pub is_utf16 : (big : Bool) → IsUnits big (utf16_form big)
+pub is_utf16 : (big : Bool) → HasByteOrder big (utf16_form big)
 is_utf16 true = refl
 is_utf16 false = refl
 

@@ -26,7 +26,7 @@ use Rattle.utf_base.proofs.Utf16Code.{utf16_is_code}
 use Rattle.recoding.specs.Recoded.{Reads, ShowsUnits, odd_end, Lacks}
 use Rattle.recoding.specs.Faults.{fault_count}
 use Rattle.utf_lanes.specs.BytePairs.{units_of, unit_of}
-use Rattle.recoding.specs.ShownFronts.{Decides, Ends, IsUnits, Settles, SettlesLast, Waits, fault_len}
+use Rattle.recoding.specs.NextScalars.{Decides, Ends, HasByteOrder, Settles, SettlesLast, Waits, fault_len}
 use Rattle.recoding.proofs.FaultCounts.{counts_more, fault_counts, units_count_more}
 use Rattle.recoding.proofs.CodeFronts.{front_of_nothing}
 
@@ -180,12 +180,12 @@ fault_shows_units high w two none = record {
   );
 }
 
-as_form : (high : Bool) (from : Form) (w : List ℕ) (s n : ℕ) → IsUnits high from → Decides (ShowsUnits high) w s n → Decides (Reads from) w s n
+as_form : (high : Bool) (from : Form) (w : List ℕ) (s n : ℕ) → HasByteOrder high from → Decides (ShowsUnits high) w s n → Decides (Reads from) w s n
 as_form high Utf8 w s n form d = absurd form
 as_form high Utf16Le w s n form d = rw form at d
 as_form high Utf16Be w s n form d = rw form at d
 
-fault_of_unit : (high : Bool) (from : Form) (w : List ℕ) → IsUnits high from → 2 ≤ length w
+fault_of_unit : (high : Bool) (from : Form) (w : List ℕ) → HasByteOrder high from → 2 ≤ length w
     → ((later : List ℕ) (s : ℕ) → Stands utf16 (first_unit high w ∷ units_of high (drop 2 w ++ later)) 0 s → ⊥) → Settles from w 0xFFFD 2 1
 fault_of_unit high from w form two none = record {
   decides = as_form high from w 0xFFFD 2 form (fault_shows_units high w two none);
@@ -196,10 +196,10 @@ fault_of_unit high from w form two none = record {
       (ap length (odd_two w later two) ∙ omega arith);
 }
 
-pub Settles-trailing : (high : Bool) (from : Form) (w : List ℕ) → IsUnits high from → 2 ≤ length w → is_trailing_surrogate (first_unit high w) ≡ true → Settles from w 0xFFFD 2 1
+pub Settles-trailing : (high : Bool) (from : Form) (w : List ℕ) → HasByteOrder high from → 2 ≤ length w → is_trailing_surrogate (first_unit high w) ≡ true → Settles from w 0xFFFD 2 1
 Settles-trailing high from w form two t = fault_of_unit high from w form two (λ later s h. no_code_at_trailing (first_unit high w) (units_of high (drop 2 w ++ later)) s t h)
 
-pub Settles-unmatched : (high : Bool) (from : Form) (w : List ℕ) → IsUnits high from → 4 ≤ length w → is_leading_surrogate (first_unit high w) ≡ true
+pub Settles-unmatched : (high : Bool) (from : Form) (w : List ℕ) → HasByteOrder high from → 4 ≤ length w → is_leading_surrogate (first_unit high w) ≡ true
     → is_trailing_surrogate (second_unit high w) ≡ false → Settles from w 0xFFFD 2 1
 Settles-unmatched high from w form four l t =
     fault_of_unit high from w form (omega arith)
@@ -222,7 +222,7 @@ byte_shows high (a ∷ []) h some ss (ts, r, f) =
     ([], shows_none utf16, ap (λ xs. 0xFFFD ∷ xs) (f ∙ append-nil ts ∙ none))
 byte_shows high (a ∷ b ∷ w) h some ss r = absurd (omega arith)
 
-byte_counts : (high : Bool) (from : Form) (w : List ℕ) → IsUnits high from → length w < 2 → 0 < length w → fault_count from w ≡ 1 + fault_count from (drop 2 w)
+byte_counts : (high : Bool) (from : Form) (w : List ℕ) → HasByteOrder high from → length w < 2 → 0 < length w → fault_count from w ≡ 1 + fault_count from (drop 2 w)
 byte_counts high from [] form h some = absurd (omega arith)
 byte_counts high from (a ∷ []) form h some = units_count_more high from (a ∷ []) [] 0 1 form (λ m r. let none : 0 + m ≡ m = omega arith in rw none r) refl
 byte_counts high from (a ∷ b ∷ w) form h some = absurd (omega arith)
@@ -251,23 +251,23 @@ leading_shows high w two few l ss (ts, r, f) =
       ap (λ xs. 0xFFFD ∷ xs) (f ∙ ap (λ o. ts ++ o) (sym last.odd)),
     )
 
-leading_counts : (high : Bool) (from : Form) (w : List ℕ) → IsUnits high from → 2 ≤ length w → length w < 4 → is_leading_surrogate (first_unit high w) ≡ true
+leading_counts : (high : Bool) (from : Form) (w : List ℕ) → HasByteOrder high from → 2 ≤ length w → length w < 4 → is_leading_surrogate (first_unit high w) ≡ true
     → fault_count from w ≡ 1 + fault_count from (drop 2 w)
 leading_counts high from w form two few l =
     let last = leading_is_last high w two few l in
     units_count_more high from w (drop 2 w) 1 0 form
     (λ m r. rw last.units (fault_counts utf16 utf16_is_code (first_unit high w ∷ []) (units_of high (drop 2 w)) m (lit< tt) last.none r)) (ap length last.odd ∙ omega arith)
 
-waits_of : (high : Bool) (from : Form) (w : List ℕ) → IsUnits high from → length w ≤ 3 → (0 < length w → (ss : List ℕ) → ShowsUnits high (drop 2 w) ss → ShowsUnits high w (0xFFFD ∷ ss))
+waits_of : (high : Bool) (from : Form) (w : List ℕ) → HasByteOrder high from → length w ≤ 3 → (0 < length w → (ss : List ℕ) → ShowsUnits high (drop 2 w) ss → ShowsUnits high w (0xFFFD ∷ ss))
     → (0 < length w → fault_count from w ≡ 1 + fault_count from (drop 2 w)) → Waits from w
 waits_of high Utf8 w form few shows counts = absurd form
 waits_of high Utf16Le w form few shows counts = record { few = few; last = rw form at shows; counts = counts }
 waits_of high Utf16Be w form few shows counts = record { few = few; last = rw form at shows; counts = counts }
 
-pub Waits-byte : (high : Bool) (from : Form) (w : List ℕ) → IsUnits high from → length w < 2 → Waits from w
+pub Waits-byte : (high : Bool) (from : Form) (w : List ℕ) → HasByteOrder high from → length w < 2 → Waits from w
 Waits-byte high from w form h = waits_of high from w form (omega arith) (byte_shows high w h) (byte_counts high from w form h)
 
-pub Waits-leading : (high : Bool) (from : Form) (w : List ℕ) → IsUnits high from → 2 ≤ length w → length w < 4 → is_leading_surrogate (first_unit high w) ≡ true → Waits from w
+pub Waits-leading : (high : Bool) (from : Form) (w : List ℕ) → HasByteOrder high from → 2 ≤ length w → length w < 4 → is_leading_surrogate (first_unit high w) ≡ true → Waits from w
 Waits-leading high from w form two few l = waits_of high from w form (omega arith) (λ some. leading_shows high w two few l) (λ some. leading_counts high from w form two few l)
 
 -- Such bytes lack elements.
@@ -291,15 +291,15 @@ lacks_second high w two few l =
     let rest : units_of high (drop 2 w) ≡ [] = few_units high (drop 2 w) (omega (arith, length-drop 2 w)) in
     rw (units, rest) (alone (first_unit high w) l)
 
-lacks_of : (high : Bool) (from : Form) (w : List ℕ) → IsUnits high from → unit_fault_kind (units_of high w) ≡ Some Incomplete → Lacks from w
+lacks_of : (high : Bool) (from : Form) (w : List ℕ) → HasByteOrder high from → unit_fault_kind (units_of high w) ≡ Some Incomplete → Lacks from w
 lacks_of high Utf8 w form h = absurd form
 lacks_of high Utf16Le w form h = rw form at h
 lacks_of high Utf16Be w form h = rw form at h
 
-pub Lacks-byte : (high : Bool) (from : Form) (w : List ℕ) → IsUnits high from → length w < 2 → Lacks from w
+pub Lacks-byte : (high : Bool) (from : Form) (w : List ℕ) → HasByteOrder high from → length w < 2 → Lacks from w
 Lacks-byte high from w form few = lacks_of high from w form (lacks_byte high w few)
 
-pub Lacks-second : (high : Bool) (from : Form) (w : List ℕ) → IsUnits high from → 2 ≤ length w → length w < 4 → is_leading_surrogate (first_unit high w) ≡ true → Lacks from w
+pub Lacks-second : (high : Bool) (from : Form) (w : List ℕ) → HasByteOrder high from → 2 ≤ length w → length w < 4 → is_leading_surrogate (first_unit high w) ≡ true → Lacks from w
 Lacks-second high from w form two few l = lacks_of high from w form (lacks_second high w two few l)
 
 -- and so does nothing at all

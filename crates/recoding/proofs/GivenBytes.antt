@@ -1,16 +1,16 @@
 -- What the places of some text give, appended to any output.
 use Rattle.std.proofs.Common.{◌≡◌, ℕ, zero, suc, ◌+◌, ◌-◌, ◌*◌, ◌≤◌, Bool, true, false, cond, List, [], ◌∷◌, ◌++◌, length, arith, refl, subst, length-append}
-use Rattle.utf_lanes.specs.GivenUnits.{joined, given, given_at, halves}
+use Rattle.utf_lanes.specs.Utf8ToUtf16.{concat_range, utf16_bytes, utf16_bytes_at, halves}
 use Rattle.utf_lanes.proofs.TextUnits.{given_more, given_nothing}
 
 -- after those of some places, those of the next
 pub appends_given : {O : Type 0} (appends : O → List ℕ → O → Type 0) → ((a b c : O) (xs ys : List ℕ) → appends a xs b → appends b ys c → appends a (xs ++ ys) c)
-    → (high : Bool) (xs : List ℕ) (old mid new : O) (p m q n t : ℕ) → appends old (given high xs p m) mid → appends mid (given high xs q n) new → p + m ≡ q → m + n ≡ t
-    → appends old (given high xs p t) new
+    → (high : Bool) (xs : List ℕ) (old mid new : O) (p m q n t : ℕ) → appends old (utf16_bytes high xs p m) mid → appends mid (utf16_bytes high xs q n) new → p + m ≡ q → m + n ≡ t
+    → appends old (utf16_bytes high xs p t) new
 appends_given appends more high xs old mid new p m q n t f g at sum =
-    subst (λ ys. appends old ys new) (given_more high xs [] (given high xs p m) (given high xs p m ++ given high xs q n) p m q n t refl refl at sum) (more old mid new (given high xs p m) (given high xs q n) f g)
+    subst (λ ys. appends old ys new) (given_more high xs [] (utf16_bytes high xs p m) (utf16_bytes high xs p m ++ utf16_bytes high xs q n) p m q n t refl refl at sum) (more old mid new (utf16_bytes high xs p m) (utf16_bytes high xs q n) f g)
 
-pub appends_nothing : {O : Type 0} (appends : O → List ℕ → O → Type 0) → ((a : O) → appends a [] a) → (high : Bool) (xs : List ℕ) (old : O) (p : ℕ) → appends old (given high xs p (p - p)) old
+pub appends_nothing : {O : Type 0} (appends : O → List ℕ → O → Type 0) → ((a : O) → appends a [] a) → (high : Bool) (xs : List ℕ) (old : O) (p : ℕ) → appends old (utf16_bytes high xs p (p - p)) old
 appends_nothing appends none high xs old p =
     let nothing : p - p ≡ 0 = omega arith in
     rw nothing (subst (λ ys. appends old ys old) (given_nothing high xs [] p) (none old))
@@ -25,14 +25,14 @@ length_chosen : (high : Bool) (low top : ℕ) (b : Bool) → length (cond b (hal
 length_chosen high low top true = length_halves high low top
 length_chosen high low top false = omega arith
 
-length_here : (high : Bool) (xs : List ℕ) (k : ℕ) → length (given_at high xs k) ≤ 2
-unfolding given_at
+length_here : (high : Bool) (xs : List ℕ) (k : ℕ) → length (utf16_bytes_at high xs k) ≤ 2
+unfolding utf16_bytes_at
 length_here high xs k = length_chosen high _ _ _
 
-length_joined : (f : ℕ → List ℕ) (p n : ℕ) → ((k : ℕ) → length (f k) ≤ 2) → length (joined f p n) ≤ 2 * n
-unfolding joined
+length_joined : (f : ℕ → List ℕ) (p n : ℕ) → ((k : ℕ) → length (f k) ≤ 2) → length (concat_range f p n) ≤ 2 * n
+unfolding concat_range
 length_joined f p zero few = omega arith
-length_joined f p (suc n) few = omega (arith, length-append (f p) (joined f (suc p) n), few p, length_joined f (suc p) n few)
+length_joined f p (suc n) few = omega (arith, length-append (f p) (concat_range f (suc p) n), few p, length_joined f (suc p) n few)
 
-pub length_given : (high : Bool) (xs : List ℕ) (p n : ℕ) → length (given high xs p n) ≤ 2 * n
-length_given high xs p n = length_joined (given_at high (0 ∷ 0 ∷ 0 ∷ xs)) p n (length_here high (0 ∷ 0 ∷ 0 ∷ xs))
+pub length_given : (high : Bool) (xs : List ℕ) (p n : ℕ) → length (utf16_bytes high xs p n) ≤ 2 * n
+length_given high xs p n = length_joined (utf16_bytes_at high (0 ∷ 0 ∷ 0 ∷ xs)) p n (length_here high (0 ∷ 0 ∷ 0 ∷ xs))

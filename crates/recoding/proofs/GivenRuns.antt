@@ -10,8 +10,8 @@ use Rattle.recoding.specs.declared.form.Form.{Form}
 use Rattle.recoding.specs.declared.form.Form.TheVariants.{Utf8, Utf16Le, Utf16Be}
 use Rattle.recoding.specs.Recoded.{written}
 use Rattle.utf_lanes.specs.BytePairs.{bytes_of}
-use Rattle.recoding.specs.ShownFronts.{ShowsEach, IsUnits}
-use Rattle.utf_lanes.specs.GivenUnits.{given}
+use Rattle.recoding.specs.NextScalars.{ShowsEach, HasByteOrder}
+use Rattle.utf_lanes.specs.Utf8ToUtf16.{utf16_bytes}
 use Rattle.utf_lanes.proofs.TextUnits.{text_given}
 
 -- A text shows its characters, whatever follows.
@@ -21,16 +21,16 @@ shows_each (s ∷ cs) all later ss h =
     rw (append_assoc (utf8 s) (flat_map utf8 cs) later)
     (whole_code_shows_first utf8 utf8_is_code (utf8 s) (flat_map utf8 cs ++ later) s (cs ++ ss) (all 0 s (omega arith)) refl (shows_each cs (λ j d lt. all (suc j) d (omega arith)) later ss h))
 
-as_units : (high : Bool) (to : Form) (s : ℕ) → IsUnits high to → written to s ≡ flat_map (bytes_of high) (utf16 s)
+as_units : (high : Bool) (to : Form) (s : ℕ) → HasByteOrder high to → written to s ≡ flat_map (bytes_of high) (utf16 s)
 as_units high Utf8 s form = absurd form
 as_units high Utf16Le s form = rw form refl
 as_units high Utf16Be s form = rw form refl
 
-same_codes : (high : Bool) (to : Form) (cs : List ℕ) → IsUnits high to → flat_map (written to) cs ≡ flat_map (λ s. flat_map (bytes_of high) (utf16 s)) cs
+same_codes : (high : Bool) (to : Form) (cs : List ℕ) → HasByteOrder high to → flat_map (written to) cs ≡ flat_map (λ s. flat_map (bytes_of high) (utf16 s)) cs
 same_codes high to [] form = refl
 same_codes high to (s ∷ cs) form = ap₂ (λ ys zs. ys ++ zs) (as_units high to s form) (same_codes high to cs form)
 
 -- What the places of a text give are the codes of its characters.
-pub given_codes : (high : Bool) (to : Form) → IsUnits high to → (text cs : List ℕ) → All IsScalar cs → text ≡ flat_map utf8 cs → flat_map (written to) cs ≡ given high text 0 (length text)
+pub given_codes : (high : Bool) (to : Form) → HasByteOrder high to → (text cs : List ℕ) → All IsScalar cs → text ≡ flat_map utf8 cs → flat_map (written to) cs ≡ utf16_bytes high text 0 (length text)
 given_codes high to form text cs all e =
-    same_codes high to cs form ∙ sym (text_given high cs all) ∙ ap (λ ys. given high ys 0 (length ys)) (sym e)
+    same_codes high to cs form ∙ sym (text_given high cs all) ∙ ap (λ ys. utf16_bytes high ys 0 (length ys)) (sym e)

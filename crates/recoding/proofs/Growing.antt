@@ -13,7 +13,7 @@ use Rattle.recoding.specs.declared.form.Form.{Form}
 use Rattle.recoding.specs.declared.form.Form.TheVariants.{Utf8, Utf16Le, Utf16Be}
 use Rattle.recoding.specs.Recoded.{Reads, ShowsUnits, odd_end, written, IsRecoded, Continues, RecodedOnce, Recoding, Grows, Feeds, Finishes, fresh}
 use Rattle.utf_lanes.specs.BytePairs.{units_of, bytes_of}
-use Rattle.recoding.specs.ShownFronts.{Decides, Ends}
+use Rattle.recoding.specs.NextScalars.{Decides, Ends}
 
 -- Bytes show one list.
 

@@ -5,7 +5,7 @@ pub mod CopiedUnits
 pub mod Earliest
 pub mod EnoughRoom
 pub mod FedParts
-pub mod FirstParts
+pub mod LossyPieces
 pub mod FirstPieces
 pub mod Forms
 pub mod FrontBytes
@@ -17,7 +17,7 @@ pub mod JoinedShards
 pub mod Listed
 pub mod LossyLists
 pub mod LossySteps
-pub mod NarrowedUnits
+pub mod Utf16ToUtf8
 pub mod OutputRuns
 pub mod PartLaws
 pub mod Recodes
@@ -33,5 +33,5 @@ pub mod SubpartLengths
 pub mod SwappedRuns
 pub mod TextLaws
 pub mod TextRuns
-pub mod WidenedTexts
+pub mod AsciiToUtf16
 pub mod UnitEnds

@@ -24,7 +24,7 @@ use Rattle.recoding.specs.Lossy.{BeginsSubpart, IsLossy, ReadsParts, ShowsUnitPa
 use Rattle.recoding.specs.LossyBytes.{AddsEach, LossyIsOne, LossyJoinsFaults, LossyPartsAreOne, LossyUnitsAreRecoded, TextIsLossy, lossy, lossy_outcome, shown_by_parts}
 use Rattle.recoding.specs.Recoded.{fresh, IsProperFront, Reads, Recoding, ShowsUnits, odd_end, written}
 use Rattle.recoding.specs.RecodedBytes.{recoded}
-use Rattle.recoding.specs.ShownFronts.{Decides, Ends, ShowsEach}
+use Rattle.recoding.specs.NextScalars.{Decides, Ends, ShowsEach}
 use Rattle.recoding.proofs.FrontBytes.{replacement}
 use Rattle.recoding.proofs.HeldFronts.{no_code_in_front}
 use Rattle.utf_base.proofs.PartLists.{part_shows_first, parts_show_none, parts_show_one, parts_show_some}

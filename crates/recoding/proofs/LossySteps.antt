@@ -10,7 +10,7 @@ use Rattle.recoding.specs.Rooms.{ComesNearer}
 use Rattle.recoding.specs.Lossy.{ReadsParts}
 use Rattle.recoding.specs.LossyBytes.{AddsAllLossy, AddsLastLossy, AddsLossy, Becomes, EndsParts, FeedsLossy, FinishesLossy, IsFullLossy, IsLastFullLossy, RecodesParts, TakesParts, lossy, lossy_outcome}
 use Rattle.recoding.specs.Recoded.{Recoding, fresh, written}
-use Rattle.recoding.specs.ShownFronts.{Decides, Ends}
+use Rattle.recoding.specs.NextScalars.{Decides, Ends}
 use Rattle.recoding.specs.Strict.{PutsText, Transcodes}
 use Rattle.recoding.proofs.Growing.{length_written}
 use Rattle.recoding.proofs.LossyLists.{lossy_first, lossy_last, nothing_is_lossy, text_is_lossy}
@@ -41,8 +41,8 @@ Becomes-where : {from to : Form} {a g b : List ℕ} (c d : List ℕ) → a ≡ c
 Becomes-where {from} {to} {a} {g} {b} c d e f h = subst (λ xs. Becomes from to xs g d) e (subst (λ ys. Becomes from to a g ys) f h)
 
 -- text, by the three bytes after it
-text_front : {from to : Form} {grown : List ℕ} (bytes : List ℕ) (n : ℕ) → Transcodes from to (take n bytes) grown → Becomes from to (take (n + 3) bytes) grown (take 3 (drop n bytes))
-text_front bytes n t = Becomes-where (take (n + 3) bytes) (take 3 (drop n bytes)) (take_more n 3 bytes) refl (Becomes-more (take 3 (drop n bytes)) (Becomes-text t))
+next_valid : {from to : Form} {grown : List ℕ} (bytes : List ℕ) (n : ℕ) → Transcodes from to (take n bytes) grown → Becomes from to (take (n + 3) bytes) grown (take 3 (drop n bytes))
+next_valid bytes n t = Becomes-where (take (n + 3) bytes) (take 3 (drop n bytes)) (take_more n 3 bytes) refl (Becomes-more (take 3 (drop n bytes)) (Becomes-text t))
 
 -- a part that four bytes tell
 part_front : {from to : Form} (xs : List ℕ) (s n : ℕ) → Decides (ReadsParts from) (take 4 xs) s n → Becomes from to (take (n + 3) xs) (written to s) (take 3 (drop n xs))
@@ -96,7 +96,7 @@ module _ {O : Type 0} {appends : O → List ℕ → O → Type 0} {from to : For
     appended = f.appended;
     within = f.within;
     short = omega (arith, text_room f.transcodes, length-take n bytes);
-    becomes = text_front bytes n f.transcodes;
+    becomes = next_valid bytes n f.transcodes;
   }
 
   pub RecodesParts-part : {old new : O} {s n : ℕ} → Decides (ReadsParts from) (take 4 bytes) s n → appends old (written to s) new → RecodesParts appends from to bytes old new n

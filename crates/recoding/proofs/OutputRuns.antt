@@ -3,7 +3,7 @@ use Rattle.std.proofs.Common.{ℕ, ◌+◌, ◌-◌, ◌≤◌, List, ◌++◌, 
 use Rattle.std.specs.Prelude.{Vec, vec_len, vec_capacity}
 use Rattle.recoding.specs.declared.form.Form.{Form}
 use Rattle.recoding.specs.Recoded.{Reads, written, Lacks}
-use Rattle.recoding.specs.ShownFronts.{Decides, Settles, Waits}
+use Rattle.recoding.specs.NextScalars.{Decides, Settles, Waits}
 use Rattle.recoding.specs.Outputs.{Extends}
 use Rattle.recoding.specs.OutputRuns.{HasRoomFor, RunsOnto, RunsUntil}
 use Rattle.recoding.proofs.Advancing.{Advances-none, Advances-code, Advances-next, Advances-more}

@@ -12,7 +12,7 @@ use Rattle.recoding.specs.Outputs.{Extends}
 use Rattle.recoding.specs.OutputRuns.{HasRoomFor, RunsOnto, RunsUntil}
 use Rattle.recoding.specs.FilledRooms.{FillsRoom}
 use Rattle.recoding.specs.Rooms.{NextIsTooLong}
-use Rattle.recoding.specs.ShownFronts.{Decides, Settles}
+use Rattle.recoding.specs.NextScalars.{Decides, Settles}
 use Rattle.recoding.specs.Strict.{PutsText, Transcodes}
 use Rattle.recoding.proofs.Advancing.{Advances-append, Advances-none, Advances-onto}
 use Rattle.recoding.proofs.FrontBytes.{lacks_all}

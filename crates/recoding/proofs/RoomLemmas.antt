@@ -4,7 +4,7 @@ use Rattle.std.proofs.lemmas.List.{drop-drop, drop-take, take-take, drop-append-
 use Rattle.std.proofs.lemmas.Bool.{cases_lt}
 use Rattle.recoding.specs.declared.form.Form.{Form}
 use Rattle.recoding.specs.Recoded.{Reads, written, IsRecoded, Recoding, Grows, Finishes}
-use Rattle.recoding.specs.ShownFronts.{Decides, Ends, Settles}
+use Rattle.recoding.specs.NextScalars.{Decides, Ends, Settles}
 use Rattle.recoding.specs.Rooms.{FeedsInto, FinishesInto, IsFull, IsLastFull, LastIsTooLong, Leaves, NextIsTooLong}
 use Rattle.recoding.specs.Faults.{Advances, Replaces}
 use Rattle.recoding.proofs.Advancing.{Advances-append, Advances-front, Advances-none, Advances-trans, counts_of}

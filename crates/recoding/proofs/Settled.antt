@@ -6,7 +6,7 @@ use Rattle.std.specs.Prelude.{All}
 use Rattle.utf_base.specs.Scalar.{IsScalar}
 use Rattle.recoding.specs.declared.form.Form.{Form}
 use Rattle.recoding.specs.Recoded.{written}
-use Rattle.recoding.specs.ShownFronts.{Settles}
+use Rattle.recoding.specs.NextScalars.{Settles}
 use Rattle.recoding.specs.Strict.{BeginsChar}
 use Rattle.recoding.proofs.TextLaws.{text_counts, text_shows}
 use Rattle.recoding.proofs.TextRuns.{wide_written}

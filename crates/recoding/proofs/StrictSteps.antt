@@ -5,7 +5,7 @@ use Rattle.std.proofs.lemmas.Bool.{cases_lt}
 use Rattle.std.proofs.lemmas.List.{drop_all, drop-drop, take_all, drop-append-le, take-append-le}
 use Rattle.recoding.specs.Recoded.{Recoding, written}
 use Rattle.recoding.specs.Rooms.{Fills, ComesNearer}
-use Rattle.recoding.specs.ShownFronts.{fault_len}
+use Rattle.recoding.specs.NextScalars.{fault_len}
 use Rattle.recoding.specs.Strict.{BeginsChar, BeginsFault, EndsInFault, IsTooLong, RecodesText, RunsStrictly, IsLonger, EndsFeed, EndsHeld, FeedsStrictly, FinishesStrictly, PassesHeld, EndsRun}
 use Rattle.recoding.specs.declared.faults.FaultKind.{FaultKind}
 use Rattle.recoding.specs.declared.faults.Outcome.{Outcome}

@@ -6,7 +6,7 @@ use Rattle.utf_base.specs.Code.{utf8, utf16}
 use Rattle.utf_base.specs.Scalar.{IsScalar}
 use Rattle.utf_lanes.specs.BytePairs.{units_of, bytes_of}
 use Rattle.recoding.specs.Recoded.{Reads, ShowsUnits, odd_end, written}
-use Rattle.recoding.specs.ShownFronts.{ShowsEach, IsUnits}
+use Rattle.recoding.specs.NextScalars.{ShowsEach, HasByteOrder}
 use Rattle.recoding.specs.Strict.{TextIsRecoded}
 use Rattle.recoding.specs.declared.form.Form.{Form}
 use Rattle.recoding.specs.declared.form.Form.TheVariants.{Utf8, Utf16Le, Utf16Be}
@@ -39,7 +39,7 @@ units_show high cs all later ss (ts, r, f) = (
   ap (λ xs. cs ++ xs) f ∙ sym (append_assoc cs ts (odd_end later)) ∙ ap (λ o. (cs ++ ts) ++ o) (sym (odd_of_bytes high (flat_map utf16 cs) later)),
 )
 
-written_show : (high : Bool) (from : Form) (cs : List ℕ) → IsUnits high from → All IsScalar cs → ShowsEach (Reads from) (flat_map (written from) cs) cs
+written_show : (high : Bool) (from : Form) (cs : List ℕ) → HasByteOrder high from → All IsScalar cs → ShowsEach (Reads from) (flat_map (written from) cs) cs
 written_show high from cs form all = rw (all_written high from cs form) (as_read high from (flat_map (bytes_of high) (flat_map utf16 cs)) cs form (units_show high cs all))
 
 pub text_shows : (from : Form) (cs : List ℕ) → All IsScalar cs → ShowsEach (Reads from) (flat_map (written from) cs) cs
@@ -48,7 +48,7 @@ text_shows Utf16Le cs all = written_show false Utf16Le cs refl all
 text_shows Utf16Be cs all = written_show true Utf16Be cs refl all
 
 -- and have no fault
-written_counts : (high : Bool) (from : Form) (cs later : List ℕ) → IsUnits high from → All IsScalar cs → fault_count from (flat_map (written from) cs ++ later) ≡ fault_count from later
+written_counts : (high : Bool) (from : Form) (cs later : List ℕ) → HasByteOrder high from → All IsScalar cs → fault_count from (flat_map (written from) cs ++ later) ≡ fault_count from later
 written_counts high from cs later form all =
     rw (all_written high from cs form)
     (units_count_more high from (flat_map (bytes_of high) (flat_map utf16 cs) ++ later) later 0 0 form

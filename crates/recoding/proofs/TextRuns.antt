@@ -7,13 +7,13 @@ use Rattle.std.proofs.lemmas.List.Elements.{All-append, All-nil, All-cons}
 use Rattle.encode_unicode.proofs.TextScalars.{joined_from_text}
 use Rattle.utf_base.specs.Scalar.{IsScalar}
 use Rattle.utf_lanes.specs.BytePairs.{units_of, bytes_of, turned}
-use Rattle.utf_lanes.specs.GivenUnits.{given}
+use Rattle.utf_lanes.specs.Utf8ToUtf16.{utf16_bytes}
 use Rattle.utf_lanes.specs.UnitBlocks.{AreCodes}
 use Rattle.recoding.specs.FilledRooms.{FillsRoom}
 use Rattle.recoding.specs.Recoded.{written}
 use Rattle.recoding.specs.Recodes.{CopiesUnits, differ}
 use Rattle.recoding.specs.Rooms.{Fills}
-use Rattle.recoding.specs.ShownFronts.{IsUnits}
+use Rattle.recoding.specs.NextScalars.{HasByteOrder}
 use Rattle.recoding.specs.Strict.{Transcodes, BeginsChar, PutsText, RunsStrictly, RecodesText}
 use Rattle.recoding.specs.declared.form.Form.{Form}
 use Rattle.recoding.specs.declared.form.Form.TheVariants.{Utf8, Utf16Le, Utf16Be}
@@ -132,20 +132,20 @@ PutsText-text {bytes} {n} within text put =
     let t = joined_from_text (take n bytes) text in
     record { within = within; grown = take n bytes; appended = put; transcodes = record { scalars = t.0; all = t.1.0; codes = t.1.1; made = t.1.1 } }
 
-pub PutsText-given : {O : Type 0} {appends : O → List ℕ → O → Type 0} {old new : O} {to : Form} {bytes : List ℕ} {n : ℕ} (high : Bool) → IsUnits high to → n ≤ length bytes → IsUtf8 (take n bytes)
-    → appends old (given high (take n bytes) 0 (length (take n bytes))) new → PutsText appends Utf8 to bytes old new n
+pub PutsText-given : {O : Type 0} {appends : O → List ℕ → O → Type 0} {old new : O} {to : Form} {bytes : List ℕ} {n : ℕ} (high : Bool) → HasByteOrder high to → n ≤ length bytes → IsUtf8 (take n bytes)
+    → appends old (utf16_bytes high (take n bytes) 0 (length (take n bytes))) new → PutsText appends Utf8 to bytes old new n
 PutsText-given {to} {bytes} {n} high form within text put =
     let t = joined_from_text (take n bytes) text in
     record {
       within = within;
-      grown = given high (take n bytes) 0 (length (take n bytes));
+      grown = utf16_bytes high (take n bytes) 0 (length (take n bytes));
       appended = put;
       transcodes = record { scalars = t.0; all = t.1.0; codes = t.1.1; made = sym (given_codes high to form (take n bytes) t.0 t.1.0 t.1.1) };
     }
 
 -- Units, in bytes.
 
-pub PutsText-units : {O : Type 0} {appends : O → List ℕ → O → Type 0} {old new : O} {from to : Form} {bytes : List ℕ} {n : ℕ} (high other : Bool) (count : ℕ) → IsUnits high from → IsUnits other to
+pub PutsText-units : {O : Type 0} {appends : O → List ℕ → O → Type 0} {old new : O} {from to : Form} {bytes : List ℕ} {n : ℕ} (high other : Bool) (count : ℕ) → HasByteOrder high from → HasByteOrder other to
     → ((j : ℕ) → Fits w8 (get_or bytes j 0)) → CopiesUnits appends high (differ high other) (take count bytes) old new n → PutsText appends from to bytes old new n
 PutsText-units {appends} {old} {new} {from} {to} {bytes} {n} high other count reads writes fits copied =
     let even = copied.even in

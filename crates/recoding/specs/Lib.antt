@@ -5,7 +5,7 @@ pub mod OutputRuns
 pub mod Bounds
 pub mod Fed
 pub mod Shards
-pub mod ShownFronts
+pub mod NextScalars
 pub mod UnitRuns
 pub mod Outputs
 pub mod Recodes
@@ -16,4 +16,4 @@ pub mod Boundaries
 pub mod Strict
 pub mod Lossy
 pub mod LossyBytes
-pub mod LossyParts
+pub mod LossyPieces

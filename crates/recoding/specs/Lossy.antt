@@ -6,7 +6,7 @@ use Rattle.utf_base.specs.Piece.{Stands}
 use Rattle.utf_base.specs.Subparts.{IsMaximalSubpart, ShowsParts}
 use Rattle.utf_lanes.specs.BytePairs.{units_of}
 use Rattle.recoding.specs.Recoded.{odd_end, written}
-use Rattle.recoding.specs.ShownFronts.{MayBeSecond}
+use Rattle.recoding.specs.NextScalars.{MayBeSecond}
 use Rattle.recoding.specs.declared.form.Form.{Form}
 use Rattle.recoding.specs.declared.form.Form.TheVariants.{Utf8, Utf16Le, Utf16Be}
 

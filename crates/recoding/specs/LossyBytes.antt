@@ -16,7 +16,7 @@ use Rattle.recoding.specs.Lossy.{IsLossy, ReadsParts}
 use Rattle.recoding.specs.Recoded.{Recoding, fresh, odd_end, written}
 use Rattle.recoding.specs.RecodedBytes.{recoded}
 use Rattle.recoding.specs.Rooms.{BeginsLonger}
-use Rattle.recoding.specs.ShownFronts.{Decides, Ends}
+use Rattle.recoding.specs.NextScalars.{Decides, Ends}
 use Rattle.recoding.specs.Strict.{Transcodes}
 use Rattle.utf_base.proofs.PartLists.{parts_show_some}
 
@@ -144,13 +144,13 @@ abbrev pub TextIsLossy : Type 0
 TextIsLossy = (from to : Form) (text out later : List ℕ) → Transcodes from to text out → lossy from to (text ++ later) ≡ out ++ lossy from to later
 
 -- what some pieces or parts show, in a form
-abbrev pub shown_as : Form → List Piece → List ℕ
-shown_as to ps = flat_map (written to) (map shown ps)
+abbrev pub codes_of_pieces : Form → List Piece → List ℕ
+codes_of_pieces to ps = flat_map (written to) (map shown ps)
 
 -- Of UTF-8 there are parts that show the one, and their single pieces show the other: each U+FFFD of a maximal subpart stands for as
 -- many as it has bytes.
 abbrev pub LossyJoinsFaults : Type 0
 LossyJoinsFaults =
     (to : Form) (bytes : List ℕ)
-    → (parts : List Piece) × IsInParts utf8 bytes parts × (lossy Utf8 to bytes ≡ shown_as to parts)
-    × (recoded Utf8 to bytes ≡ shown_as to (flat_map (λ x. pieces_of x.start x.len x.char) parts))
+    → (parts : List Piece) × IsInParts utf8 bytes parts × (lossy Utf8 to bytes ≡ codes_of_pieces to parts)
+    × (recoded Utf8 to bytes ≡ codes_of_pieces to (flat_map (λ x. pieces_of x.start x.len x.char) parts))

@@ -8,7 +8,7 @@ use Rattle.recoding.specs.declared.engine.Reached.{Reached}
 use Rattle.recoding.specs.Faults.{Advances}
 use Rattle.recoding.specs.declared.form.Form.{Form}
 use Rattle.utf_lanes.specs.BytePairs.{units_of, turned}
-use Rattle.utf_lanes.specs.GivenUnits.{joined}
+use Rattle.utf_lanes.specs.Utf8ToUtf16.{concat_range}
 use Rattle.utf_lanes.specs.UnitBlocks.{AreCodes}
 use Rattle.utf_lanes.specs.UnitCodes.{lane_unit, code_at, AreText}
 
@@ -39,7 +39,7 @@ pub record Reaches {O : Type 0} (appends : O → List ℕ → O → Type 0) (roo
 pub record PutsUnits {O : Type 0} (appends : O → List ℕ → O → Type 0) (low high : List ℕ) (old new : O) (n : ℕ) : Type 0 where
   pub most : n ≤ 16
   pub text : AreText (lane_unit low high) n
-  pub appended : appends old (joined (code_at (lane_unit low high)) 0 n) new
+  pub appended : appends old (concat_range (code_at (lane_unit low high)) 0 n) new
 
 -- whether the bytes of a unit are swapped from one order to another
 abbrev pub differ : Bool → Bool → Bool

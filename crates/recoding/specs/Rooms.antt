@@ -1,7 +1,7 @@
 -- Recoding into room of a fixed size.
 use Rattle.std.specs.Prelude.{◌≡◌, ℕ, ◌+◌, ◌-◌, ◌*◌, ◌/◌, ◌<◌, ◌≤◌, List, ◌++◌, length, take, drop}
 use Rattle.recoding.specs.Recoded.{Reads, written, IsRecoded, Recoding, Feeds}
-use Rattle.recoding.specs.ShownFronts.{Decides, Ends}
+use Rattle.recoding.specs.NextScalars.{Decides, Ends}
 use Rattle.recoding.specs.declared.form.Form.{Form}
 use Rattle.recoding.specs.declared.form.Form.TheVariants.{Utf8, Utf16Le, Utf16Be}
 

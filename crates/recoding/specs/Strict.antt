@@ -9,7 +9,7 @@ use Rattle.utf_base.specs.declared.errors.units.Utf16PairError.TheVariants.{Inco
 use Rattle.utf_lanes.specs.BytePairs.{units_of}
 use Rattle.recoding.specs.Recoded.{Recoding, IsRecoded, written}
 use Rattle.recoding.specs.Rooms.{BeginsLonger, Fills}
-use Rattle.recoding.specs.ShownFronts.{fault_len}
+use Rattle.recoding.specs.NextScalars.{fault_len}
 use Rattle.recoding.specs.declared.first_pieces.FirstPiece.{FirstPiece}
 use Rattle.recoding.specs.declared.first_pieces.FirstPiece.TheVariants as piece
 use Rattle.recoding.specs.declared.form.Form.{Form}
@@ -116,7 +116,7 @@ abbrev pub IsTooLong : Form → Form → List ℕ → ℕ → Type 0
 IsTooLong from to left room = BeginsLonger (BeginsChar from left) to room
 
 -- what the caller is told of a fault of so many bytes, after which so many are held
-pub record Tells (f : Fault) (count held : ℕ) : Type 0 where
+pub record LocatesFault (f : Fault) (count held : ℕ) : Type 0 where
   pub len : f.len ≡ count
   pub back : f.back ≡ count + held
 
@@ -127,7 +127,7 @@ abbrev pub EndsFeed : Form → Form → Outcome → List ℕ → List ℕ → Li
 EndsFeed from to AllRead fault held rest room = (fault ≡ []) × (rest ≡ []) × AwaitsKind from held
 EndsFeed from to Full fault held rest room = (fault ≡ []) × IsTooLong from to (held ++ rest) room
 EndsFeed from to (Faulty f) fault held rest room =
-    BeginsFault from (fault ++ (held ++ rest)) f.kind (length fault) × Tells f (length fault) (length held)
+    BeginsFault from (fault ++ (held ++ rest)) f.kind (length fault) × LocatesFault f (length fault) (length held)
 
 -- One call of `feed_strict_into`: what was held and the part are text, which was recoded, then a fault, if the call ended at one,
 -- then what is held now, and what was not read.
@@ -171,7 +171,7 @@ pub record EndsRun (r : Recoding) (bytes : List ℕ) (run : StrictRun) (ended : 
 abbrev pub EndsFinish : Form → Form → Outcome → List ℕ → List ℕ → ℕ → Type 0
 EndsFinish from to AllRead fault held room = (fault ≡ []) × (held ≡ [])
 EndsFinish from to Full fault held room = (fault ≡ []) × IsTooLong from to held room
-EndsFinish from to (Faulty f) fault held room = EndsInFault from (fault ++ held) f.kind (length fault) × Tells f (length fault) (length held)
+EndsFinish from to (Faulty f) fault held room = EndsInFault from (fault ++ held) f.kind (length fault) × LocatesFault f (length fault) (length held)
 
 -- One call of `finish_strict_into`: what was held is text, which was recoded, then a fault, if the call ended at one, then what is
 -- held now.

@@ -47,7 +47,7 @@ pub(crate) fn put_short<O: Output>(code: [u8; 4], len: usize, out: &mut O)
 
 // Appends the code of the character.
 #[inline(always)]
-pub(crate) fn put_units<O: Output, const BIG_ENDIAN: bool>(c: char, out: &mut O)
+pub(crate) fn put_code_units<O: Output, const BIG_ENDIAN: bool>(c: char, out: &mut O)
     requires { length (flat_map (bytes_of BIG_ENDIAN) (utf16 c)) ≤ O.room out.old }
     ensures { O.appends out.old (flat_map (bytes_of BIG_ENDIAN) (utf16 c)) out.new }
 {

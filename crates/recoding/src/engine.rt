@@ -2,13 +2,13 @@
 ghost use Rattle.std.specs.Prelude.{◌≡◌, ◌+◌, ◌<◌, ◌≤◌, length, take, drop, IfSome, IfNone, IsTrue, IsFalse};
 ghost use Rattle.recoding.specs.Recoded.{Lacks};
 ghost use Rattle.recoding.specs.Recodes.{FitsAll, Reaches};
-ghost use Rattle.recoding.specs.ShownFronts.{Settles};
+ghost use Rattle.recoding.specs.NextScalars.{Settles};
 ghost use Rattle.recoding.specs.Strict.{PutsText};
 
 use crate::form::{Form, WIDEST};
-use crate::form_blocks::{Copied, Kernel, Narrowed, PART, Turned, Widened, by_forms};
+use crate::kernels::{Copied, Kernel, Narrowed, PART, Turned, Widened, by_forms};
+use crate::next_scalar::{NextScalar, first_four};
 use crate::output::Output;
-use crate::shown_fronts::{ShownFront, four};
 use crate::text::{Text, Utf8, Utf16};
 
 // How many bytes go with care before a run looks for text again, where no fault is among them.
@@ -101,7 +101,7 @@ fn run<S: Text, T: Text, K: Kernel<S, T>, O: Output>(
             if read == bytes.len() {
                 return ended(read, replaced, false, true);
             }
-            let few = recode_few::<S, T, O>(is_ample, &bytes[read..], out);
+            let few = recode_carefully::<S, T, O>(is_ample, &bytes[read..], out);
             read += few.read;
             replaced += few.replaced;
             if few.is_full || few.is_waiting {
@@ -165,7 +165,7 @@ fn recode_stretch<S: Text, T: Text, K: Kernel<S, T>, O: Output>(
     if fits_all(is_ample, stretch, out) {
         return recode_text::<S, T, O>(stretch, out);
     }
-    recode_scant_text::<S, T, O>(stretch, out)
+    recode_text_within::<S, T, O>(stretch, out)
 }
 
 // The same of all the bytes, for which there is room.
@@ -174,10 +174,10 @@ fn recode_text<S: Text, T: Text, O: Output>(bytes: &[u8], out: &mut O) -> usize
     requires { FitsAll bytes.now (O.room out.old) }
     ensures { PutsText O.appends S.form T.form bytes.now out.old out.new result }
 {
-    let least = S::least_front();
+    let least = S::least_valid();
     let mut read = 0;
     while least <= bytes.len() - read {
-        match S::text_front(four(&bytes[read..])) {
+        match S::next_valid(first_four(&bytes[read..])) {
             None => return read,
             Some((c, len)) => {
                 T::put_code(c, out);
@@ -190,13 +190,13 @@ fn recode_text<S: Text, T: Text, O: Output>(bytes: &[u8], out: &mut O) -> usize
 
 // The same as long as there is room for any code.
 #[inline(never)]
-fn recode_scant_text<S: Text, T: Text, O: Output>(bytes: &[u8], out: &mut O) -> usize
+fn recode_text_within<S: Text, T: Text, O: Output>(bytes: &[u8], out: &mut O) -> usize
     ensures { PutsText O.appends S.form T.form bytes.now out.old out.new result }
 {
-    let least = S::least_front();
+    let least = S::least_valid();
     let mut read = 0;
     while least <= bytes.len() - read && 4 <= out.room() {
-        match S::text_front(four(&bytes[read..])) {
+        match S::next_valid(first_four(&bytes[read..])) {
             None => return read,
             Some((c, len)) => {
                 T::put_code(c, out);
@@ -209,7 +209,11 @@ fn recode_scant_text<S: Text, T: Text, O: Output>(bytes: &[u8], out: &mut O) -> 
 
 // Recodes a few bytes with care, or fewer from the last fault among them on.
 #[inline(always)]
-fn recode_few<S: Text, T: Text, O: Output>(is_ample: bool, bytes: &[u8], out: &mut O) -> Reached
+fn recode_carefully<S: Text, T: Text, O: Output>(
+    is_ample: bool,
+    bytes: &[u8],
+    out: &mut O,
+) -> Reached
     requires { IsTrue is_ample → FitsAll bytes.now (O.room out.old) }
     ensures reaches { Reaches O.appends O.room S.form T.form bytes.now out.old out.new result }
     ensures moves { IsFalse result.is_full → IsFalse result.is_waiting → 0 < result.read }
@@ -217,7 +221,7 @@ fn recode_few<S: Text, T: Text, O: Output>(is_ample: bool, bytes: &[u8], out: &m
     if fits_all(is_ample, bytes, out) {
         return recode_faults::<S, T, O>(bytes, out);
     }
-    recode_scant_faults::<S, T, O>(bytes, out)
+    recode_faults_within::<S, T, O>(bytes, out)
 }
 
 // The same where there is room for all the bytes, kept out of the loop that seldom calls it.
@@ -231,7 +235,7 @@ fn recode_faults<S: Text, T: Text, O: Output>(bytes: &[u8], out: &mut O) -> Reac
     let mut read = 0;
     let mut replaced = 0;
     while read < stop {
-        let Some(first) = front_at::<S>(bytes, read) else {
+        let Some(first) = next_at::<S>(bytes, read) else {
             return ended(read, replaced, false, true);
         };
         // A compiler knows the code of a fault where nothing else is written.
@@ -252,14 +256,14 @@ fn recode_faults<S: Text, T: Text, O: Output>(bytes: &[u8], out: &mut O) -> Reac
 
 // The same as far as there is room.
 #[inline(never)]
-fn recode_scant_faults<S: Text, T: Text, O: Output>(bytes: &[u8], out: &mut O) -> Reached
+fn recode_faults_within<S: Text, T: Text, O: Output>(bytes: &[u8], out: &mut O) -> Reached
     ensures reaches { Reaches O.appends O.room S.form T.form bytes.now out.old out.new result }
     ensures moves { IsFalse result.is_full → IsFalse result.is_waiting → 0 < result.read }
 {
     let mut read = 0;
     let mut replaced = 0;
     while read < STRIDE {
-        let Some(first) = front_at::<S>(bytes, read) else {
+        let Some(first) = next_at::<S>(bytes, read) else {
             return ended(read, replaced, false, true);
         };
         let is_put = T::put_fitting(first.c, out);
@@ -274,14 +278,14 @@ fn recode_scant_faults<S: Text, T: Text, O: Output>(bytes: &[u8], out: &mut O) -
 
 // What begins at a place of the bytes, by no more than four of them; `None` where that depends on what follows all of them.
 #[inline(always)]
-fn front_at<S: Text>(bytes: &[u8], place: usize) -> Option<ShownFront>
+fn next_at<S: Text>(bytes: &[u8], place: usize) -> Option<NextScalar>
     requires { place ≤ length bytes.now }
     ensures some { IfSome result (λ x. Settles S.form (take 4 (drop place bytes.now)) x.c x.len x.faults) }
     ensures few { IfNone result (length bytes.now ≤ place + 3) }
     ensures lacks { IfNone result (Lacks S.form (drop place bytes.now)) }
 {
     if 4 <= bytes.len() - place {
-        return S::front(&bytes[place..place + 4]);
+        return S::next_scalar(&bytes[place..place + 4]);
     }
-    S::front(&bytes[place..])
+    S::next_scalar(&bytes[place..])
 }

@@ -1,6 +1,6 @@
 //! The piece that begins some bytes, of which a fault has its kind.
 ghost use Rattle.std.specs.Prelude.{◌≡◌, ◌<◌, length, min, MatchResult};
-ghost use Rattle.recoding.specs.ShownFronts.{fault_len, utf16_form};
+ghost use Rattle.recoding.specs.NextScalars.{fault_len, utf16_form};
 ghost use Rattle.recoding.specs.Strict.{BeginsChar, EndsInFault, IsFirstPiece, lacking};
 
 use crate::faults::FaultKind;

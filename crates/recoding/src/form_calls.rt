@@ -1,14 +1,14 @@
 //! What a form is asked that is known only when it runs: a function of its type.
 ghost use Rattle.std.specs.Prelude.{◌≡◌, ◌<◌, ◌≤◌, length, min, IfSome, IfNone, IsTrue, IsFalse, MatchResult};
 ghost use Rattle.recoding.specs.Recoded.{Lacks, written};
-ghost use Rattle.recoding.specs.ShownFronts.{Settles, SettlesLast, Waits, fault_len};
+ghost use Rattle.recoding.specs.NextScalars.{Settles, SettlesLast, Waits, fault_len};
 ghost use Rattle.recoding.specs.Strict.{BeginsChar, EndsInFault, IsFirstPiece, lacking};
 
 use crate::faults::FaultKind;
 use crate::first_pieces::FirstPiece;
 use crate::form::Form;
+use crate::next_scalar::{NextScalar, fault};
 use crate::output::Output;
-use crate::shown_fronts::{ShownFront, fault};
 use crate::text::{Text, Utf8, Utf16};
 
 // Calls a function of the type of a form.
@@ -24,21 +24,21 @@ macro_rules! by_form {
 
 // What begins the bytes; `None` where that depends on what follows them.
 #[inline(always)]
-pub(crate) fn front(from: Form, bytes: &[u8]) -> Option<ShownFront>
+pub(crate) fn next_of(from: Form, bytes: &[u8]) -> Option<NextScalar>
     ensures some { IfSome result (λ x. Settles from bytes.now x.c x.len x.faults) }
     ensures none { IfNone result (Waits from bytes.now) }
     ensures lacks { IfNone result (Lacks from bytes.now) }
 {
-    by_form!(from, front(bytes))
+    by_form!(from, next_scalar(bytes))
 }
 
 // The same where nothing follows the bytes.
 #[inline(always)]
-pub(crate) fn last_front(from: Form, bytes: &[u8]) -> ShownFront
+pub(crate) fn next_at_end(from: Form, bytes: &[u8]) -> NextScalar
     requires { 0 < length bytes.now }
     ensures { SettlesLast from bytes.now result.c result.len result.faults }
 {
-    match front(from, bytes) {
+    match next_of(from, bytes) {
         Some(first) => first,
         None => fault(fault_bytes(from).min(bytes.len())),
     }

@@ -6,19 +6,21 @@
 //! It is an addition of this project, and no part of the Rust crate.
 #![tactic(auto)]
 
+mod ascii_to_utf16;
 pub mod boundaries;
 mod codes;
+mod copied;
 mod engine;
 pub mod faults;
-mod first_parts;
 mod first_pieces;
 pub mod form;
-mod form_blocks;
 mod form_calls;
+mod kernels;
 pub mod laws;
 pub mod lossy;
+mod lossy_pieces;
 mod lossy_runs;
-mod narrowed_units;
+mod next_scalar;
 mod output;
 pub mod recoder;
 mod recoder_rooms;
@@ -26,10 +28,8 @@ mod recoder_runs;
 mod room;
 pub mod rooms;
 pub mod shards;
-mod shown_fronts;
 pub mod strict;
 mod strict_runs;
 mod text;
-mod unit_copies;
-mod unit_puts;
-mod widened_texts;
+mod utf16_to_utf8;
+mod utf8_to_utf16;

@@ -5,8 +5,8 @@ ghost use Rattle.recoding.specs.Recoded.{Lacks};
 ghost use Rattle.recoding.specs.Rooms.{ComesNearer};
 
 use crate::engine::{Reached, ended};
-use crate::first_parts::last_part;
 use crate::form_calls::put_fitting;
+use crate::lossy_pieces::last_lossy_piece;
 use crate::lossy_runs::{first_of_both, run_lossily};
 use crate::output::Output;
 use crate::recoder::Recoder;
@@ -43,12 +43,12 @@ impl Recoder {
         ensures outcome { AddsLossy self.old (take result.read part.now) (take result.written room.new) self.new }
     {
         let mut out = Room::new(room, 0);
-        let done = self.take_parts(part, &mut out);
+        let done = self.take_pieces(part, &mut out);
         progress(done.read, out.len, 0, done.is_full)
     }
 
     // The same to any output.
-    pub(crate) fn take_parts<O: Output>(&mut self, part: &[u8], out: &mut O) -> Reached
+    pub(crate) fn take_pieces<O: Output>(&mut self, part: &[u8], out: &mut O) -> Reached
         ensures takes { TakesParts O.appends self.old part.now out.old out.new result.read self.new }
         ensures full { IsTrue result.is_full → IsFullLossy self.new (self.new.held ++ drop result.read part.now) (O.room out.new) }
         ensures short { IsTrue result.is_full → O.room out.new < 4 }
@@ -114,12 +114,12 @@ impl Recoder {
         ensures outcome_done { IsFalse result.is_full → AddsAllLossy self.old (take result.written room.new) }
     {
         let mut out = Room::new(room, 0);
-        let is_full = self.end_parts(&mut out);
+        let is_full = self.end_pieces(&mut out);
         progress(0, out.len, 0, is_full)
     }
 
     // The same to any output. Answers whether the next character did not fit.
-    pub(crate) fn end_parts<O: Output>(&mut self, out: &mut O) -> bool
+    pub(crate) fn end_pieces<O: Output>(&mut self, out: &mut O) -> bool
         ensures ends { EndsParts O.appends self.old out.old out.new self.new }
         ensures full { IsTrue result → IsLastFullLossy self.new self.new.held (O.room out.new) }
         ensures short { IsTrue result → O.room out.new < 4 }
@@ -127,7 +127,7 @@ impl Recoder {
     {
         let (from, to) = self.forms();
         while !self.held().is_empty() {
-            let (c, len) = last_part(from, self.held()).shown();
+            let (c, len) = last_lossy_piece(from, self.held()).shown();
             let is_put = put_fitting(to, c, out);
             if !is_put {
                 return true;

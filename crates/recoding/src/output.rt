@@ -5,7 +5,7 @@ ghost use Rattle.recoding.specs.Recodes.{PutsUnits};
 
 use std::alloc::Allocator;
 use std::simd::prelude::*;
-use utf_lanes::slot_blocks::write_others;
+use utf_lanes::utf16_blocks::write_others;
 
 // Where bytes are put one after another: it has room for so many, and takes no memory.
 pub(crate) trait Output {

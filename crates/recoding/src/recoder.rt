@@ -7,7 +7,7 @@ ghost use Rattle.recoding.specs.RecodedBytes.{AddsAll, AddsLast, AddsOutcome, Ke
 ghost use Rattle.recoding.specs.Rooms.{ComesNearer, FeedsInto, FinishesInto, IsFull, IsLastFull, bytes_left};
 
 use crate::form::{Form, WIDEST};
-use crate::recoder_rooms::{first_of, progress, put_at, recode_into, recode_last_into};
+use crate::recoder_rooms::{next_of_both, progress, put_at, recode_into, recode_last_into};
 use crate::recoder_runs::{faults_at_end, join, recode_joined, recode_last, recode_whole};
 use crate::rooms::Progress;
 use std::alloc::{AllocError, Allocator};
@@ -357,7 +357,7 @@ impl Recoder {
         let mut replaced = 0;
         while 0 < self.count {
             let rest = &part[read..];
-            let Some((first, taken)) = first_of(self.from, self.held_bytes(), rest) else {
+            let Some((first, taken)) = next_of_both(self.from, self.held_bytes(), rest) else {
                 self.take_more(rest, 0);
                 return progress(part.len(), written, replaced, false);
             };

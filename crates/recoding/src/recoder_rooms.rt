@@ -2,16 +2,16 @@
 ghost use Rattle.std.specs.Prelude.{◌≡◌, [], ◌+◌, ◌-◌, ◌<◌, ◌≤◌, length, take, drop, ◌++◌, IfSome, IfNone, IsTrue, IsFalse};
 ghost use Rattle.recoding.specs.Recoded.{written, Lacks};
 ghost use Rattle.recoding.specs.Faults.{Advances, fault_count};
-ghost use Rattle.recoding.specs.ShownFronts.{Settles};
+ghost use Rattle.recoding.specs.NextScalars.{Settles};
 ghost use Rattle.recoding.specs.Rooms.{Fills, LastIsTooLong, Leaves, NextIsTooLong};
 
 use crate::engine::{has_room_for_all, recode};
 use crate::form::Form;
-use crate::form_calls::{front, last_front, put_fitting};
+use crate::form_calls::{next_at_end, next_of, put_fitting};
+use crate::next_scalar::NextScalar;
 use crate::recoder_runs::join;
 use crate::room::Room;
 use crate::rooms::Progress;
-use crate::shown_fronts::ShownFront;
 
 // Writes the code of the character into the room from the place on, where it fits, and answers the place after it.
 #[inline(always)]
@@ -87,7 +87,7 @@ pub(crate) fn recode_last_into(from: Form, to: Form, bytes: &[u8], room: &mut [u
     let mut written = 0;
     let mut replaced = 0;
     while read < bytes.len() {
-        let first = last_front(from, &bytes[read..]);
+        let first = next_at_end(from, &bytes[read..]);
         let Some(end) = put_at(to, first.c, room, written) else {
             return progress(read, written, replaced, true);
         };
@@ -100,7 +100,7 @@ pub(crate) fn recode_last_into(from: Form, to: Form, bytes: &[u8], room: &mut [u
 
 // What begins the held bytes with those that follow them, and how many of those that follow were looked at: no more than
 // tell it. `None` where all of them together are too few.
-pub(crate) fn first_of(from: Form, held: &[u8], rest: &[u8]) -> Option<(ShownFront, usize)>
+pub(crate) fn next_of_both(from: Form, held: &[u8], rest: &[u8]) -> Option<(NextScalar, usize)>
     requires some { 0 < length held.now }
     requires few { length held.now ≤ 3 }
     ensures within { IfSome result (λ x. x.1 ≤ length rest.now) }
@@ -112,7 +112,7 @@ pub(crate) fn first_of(from: Form, held: &[u8], rest: &[u8]) -> Option<(ShownFro
     let mut taken = 0;
     loop {
         let (joined, len) = join(held, &rest[..taken]);
-        if let Some(first) = front(from, &joined[..len]) {
+        if let Some(first) = next_of(from, &joined[..len]) {
             return Some((first, taken));
         }
         if taken == rest.len() {

@@ -6,7 +6,7 @@ ghost use Rattle.recoding.specs.OutputRuns.{HasRoomFor, RunsUntil};
 
 use crate::engine::recode;
 use crate::form::Form;
-use crate::form_calls::{front, last_front, put_code};
+use crate::form_calls::{next_at_end, next_of, put_code};
 use std::alloc::Allocator;
 
 // How many bytes a run recoded, and how many of their faults became U+FFFD.
@@ -33,7 +33,7 @@ pub(crate) fn recode_decided<A: Allocator>(
     let mut read = 0;
     let mut replaced = 0;
     while read < stop {
-        match front(from, &bytes[read..]) {
+        match next_of(from, &bytes[read..]) {
             None => return Run { read, replaced },
             Some(first) => {
                 put_code(to, first.c, out);
@@ -53,7 +53,7 @@ pub(crate) fn recode_last<A: Allocator>(from: Form, to: Form, bytes: &[u8], out:
 {
     let mut place = 0;
     while place < bytes.len() {
-        let first = last_front(from, &bytes[place..]);
+        let first = next_at_end(from, &bytes[place..]);
         put_code(to, first.c, out);
         place += first.len;
     }
@@ -66,7 +66,7 @@ pub(crate) fn faults_at_end(from: Form, bytes: &[u8]) -> usize
     let mut place = 0;
     let mut count = 0;
     while place < bytes.len() {
-        let first = last_front(from, &bytes[place..]);
+        let first = next_at_end(from, &bytes[place..]);
         place += first.len;
         count += first.faults;
     }

@@ -4,7 +4,7 @@ ghost use Rattle.recoding.specs.Rooms.{Fills};
 
 use crate::output::Output;
 use std::simd::prelude::*;
-use utf_lanes::slot_blocks::write_others;
+use utf_lanes::utf16_blocks::write_others;
 
 // A slice of which some bytes at the front are written.
 #[derive(Drop)]

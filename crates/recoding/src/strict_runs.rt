@@ -4,8 +4,8 @@ ghost use Rattle.recoding.specs.Strict.{PutsText, RunsStrictly, StopsAt};
 
 use crate::first_pieces::FirstPiece;
 use crate::form::Form;
-use crate::form_blocks::{Copied, Kernel, Narrowed, Turned, Widened, by_forms};
 use crate::form_calls::first_piece;
+use crate::kernels::{Copied, Kernel, Narrowed, Turned, Widened, by_forms};
 use crate::output::Output;
 use crate::recoder_rooms::put_at;
 use crate::room::Room;

@@ -1,14 +1,14 @@
 //! The forms as types, so that each pair of them has a copy of the loops.
 ghost use Rattle.std.specs.Prelude.{◌≡◌, ◌<◌, ◌≤◌, length, IfSome, IfNone, IsTrue, IsFalse};
 ghost use Rattle.recoding.specs.Recoded.{Lacks, written};
-ghost use Rattle.recoding.specs.ShownFronts.{Settles, Waits, fault_len};
+ghost use Rattle.recoding.specs.NextScalars.{Settles, Waits, fault_len};
 ghost use Rattle.recoding.specs.Strict.{BeginsChar, IsFirstPiece, lacking};
 
-use crate::codes::{len_of_units, put_short, put_units};
+use crate::codes::{len_of_units, put_code_units, put_short};
 use crate::faults::FaultKind;
 use crate::first_pieces::{FirstPiece, first_of_utf8, first_of_utf16};
+use crate::next_scalar::{NextScalar, next_of_utf8, next_of_utf16, next_valid_of_utf16};
 use crate::output::Output;
-use crate::shown_fronts::{ShownFront, char_of_utf16, front_of_utf8, front_of_utf16};
 use encode_unicode::CharExt;
 use encode_unicode::error::{Utf8ErrorKind, Utf16PairError};
 use utf_lanes::text_front::front_of_text;
@@ -21,17 +21,17 @@ pub(crate) trait Text {
     ghost form: { Form };
 
     // What begins the bytes; `None` where that depends on what follows them.
-    fn front(bytes: &[u8]) -> Option<ShownFront>
+    fn next_scalar(bytes: &[u8]) -> Option<NextScalar>
         ensures some { IfSome result (λ x. Settles form bytes.now x.c x.len x.faults) }
         ensures none { IfNone result (Waits form bytes.now) }
         ensures lacks { IfNone result (Lacks form bytes.now) };
 
     // The character that begins the bytes, and how many bytes it has; `None` at a fault, and near the end.
-    fn text_front(bytes: &[u8]) -> Option<(char, usize)>
+    fn next_valid(bytes: &[u8]) -> Option<(char, usize)>
         ensures { IfSome result (λ x. BeginsChar form bytes.now x.0 x.1) };
 
-    // How many bytes there have to be for `text_front` to answer a character.
-    fn least_front() -> usize
+    // How many bytes there have to be for `next_valid` to answer a character.
+    fn least_valid() -> usize
         ensures { 0 < result };
 
     // The piece that begins the bytes, whatever follows them.
@@ -97,17 +97,17 @@ impl Text for Utf8 {
     ghost form = { form.Utf8 };
 
     #[inline(always)]
-    fn front(bytes: &[u8]) -> Option<ShownFront> {
-        front_of_utf8(bytes)
+    fn next_scalar(bytes: &[u8]) -> Option<NextScalar> {
+        next_of_utf8(bytes)
     }
 
     #[inline(always)]
-    fn text_front(bytes: &[u8]) -> Option<(char, usize)> {
+    fn next_valid(bytes: &[u8]) -> Option<(char, usize)> {
         front_of_text(bytes)
     }
 
     #[inline(always)]
-    fn least_front() -> usize {
+    fn least_valid() -> usize {
         4
     }
 
@@ -139,22 +139,22 @@ impl Text for Utf8 {
 }
 
 impl<const BIG_ENDIAN: bool> Text for Utf16<BIG_ENDIAN> {
-    ghost use Rattle.recoding.specs.ShownFronts.{utf16_form};
+    ghost use Rattle.recoding.specs.NextScalars.{utf16_form};
 
     ghost form = { utf16_form BIG_ENDIAN };
 
     #[inline(always)]
-    fn front(bytes: &[u8]) -> Option<ShownFront> {
-        front_of_utf16::<BIG_ENDIAN>(bytes)
+    fn next_scalar(bytes: &[u8]) -> Option<NextScalar> {
+        next_of_utf16::<BIG_ENDIAN>(bytes)
     }
 
     #[inline(always)]
-    fn text_front(bytes: &[u8]) -> Option<(char, usize)> {
-        char_of_utf16::<BIG_ENDIAN>(bytes)
+    fn next_valid(bytes: &[u8]) -> Option<(char, usize)> {
+        next_valid_of_utf16::<BIG_ENDIAN>(bytes)
     }
 
     #[inline(always)]
-    fn least_front() -> usize {
+    fn least_valid() -> usize {
         2
     }
 
@@ -178,7 +178,7 @@ impl<const BIG_ENDIAN: bool> Text for Utf16<BIG_ENDIAN> {
     #[inline(always)]
     #[tactic(auto, using(crate::proofs::Forms::written_utf16))]
     fn put_code<O: Output>(c: char, out: &mut O) {
-        put_units::<O, BIG_ENDIAN>(c, out);
+        put_code_units::<O, BIG_ENDIAN>(c, out);
     }
 
     #[inline(always)]

@@ -16,7 +16,7 @@ use Rattle.encode_unicode.specs.Window.{Item}
 use Rattle.encode_unicode.specs.declared.error.Utf8ErrorKind.{Utf8ErrorKind}
 use Rattle.cuts.specs.Items.{piece_of}
 use Rattle.cuts.specs.Recoded.{IsRecoded}
-use Rattle.cuts.specs.ForwardRuns.{PiecesAreTheRun, TextHasNoFault, fault_count}
+use Rattle.cuts.specs.ForwardRuns.{PiecesAreTheRun, TextHasNoFault, faulty_item_count}
 use Rattle.cuts.specs.WellFormed.{IsFirstFault}
 use Rattle.cuts.specs.declared.Form.TheVariants.{Utf8}
 use Rattle.uses.specs.Shown.{shown_item}
@@ -66,15 +66,15 @@ front_has_none xs n first x piece fault =
             let few : p + k - p ≤ n - p = omega arith in
             ap (λ m. take (p + k - p) (drop p (take m xs))) rest ∙ ap (take (p + k - p)) (drop-take p (n - p) xs) ∙ take-take (p + k - p) (n - p) (drop p xs) few
 
-count_more : (x : Item) (items : List Item) → fault_count (x ∷ items) ≡ cond (is_err x.1) 1 0 + fault_count items
+count_more : (x : Item) (items : List Item) → faulty_item_count (x ∷ items) ≡ cond (is_err x.1) 1 0 + faulty_item_count items
 count_more x items = sum_by-cons (λ (y : Item). cond (is_err y.1) 1 0) x items
 
-none_counted : (xs : List ℕ) → ((x : Piece) → IsPiece utf8 xs x → x.char ≡ None → ⊥) → (items : List Item) → All (IsPiece utf8 xs) (map piece_of items) → fault_count items ≡ 0
+none_counted : (xs : List ℕ) → ((x : Piece) → IsPiece utf8 xs x → x.char ≡ None → ⊥) → (items : List Item) → All (IsPiece utf8 xs) (map piece_of items) → faulty_item_count items ≡ 0
 none_counted xs none [] h = refl
 none_counted xs none (x ∷ items) h =
     let first = no_error x.1 (none (piece_of x) (h 0 (piece_of x) (omega arith))) in
     let rest = none_counted xs none items (All-rest (IsPiece utf8 xs) (piece_of x) (map piece_of items) (map piece_of (x ∷ items)) refl h) in
-    count_more x items ∙ no_more (cond (is_err x.1) 1 0) (fault_count items) (ap (λ b. cond b 1 0) first) rest
+    count_more x items ∙ no_more (cond (is_err x.1) 1 0) (faulty_item_count items) (ap (λ b. cond b 1 0) first) rest
   where
     no_more : (a b : ℕ) → a ≡ 0 → b ≡ 0 → a + b ≡ 0
     no_more a b e f = omega arith

@@ -8,10 +8,10 @@ use Rattle.uses.specs.declared.records.Ending.{Ending}
 use Rattle.uses.specs.declared.records.Ending.TheVariants.{Zero, Damaged, Missing}
 
 -- what stands at the end of a record, in front of the units `following`: a zero unit, a unit that is damaged, or nothing
-abbrev pub Ends : Ending → List ℕ → List ℕ → Type 0
-Ends Zero units following = units ≡ 0 ∷ following
-Ends (Damaged kind) units following = (unit_fault_kind units ≡ Some kind) × (units ≡ slice_index units 0 ∷ following)
-Ends Missing units following = (units ≡ []) × (following ≡ [])
+abbrev pub EndsRecord : Ending → List ℕ → List ℕ → Type 0
+EndsRecord Zero units following = units ≡ 0 ∷ following
+EndsRecord (Damaged kind) units following = (unit_fault_kind units ≡ Some kind) × (units ≡ slice_index units 0 ∷ following)
+EndsRecord Missing units following = (units ≡ []) × (following ≡ [])
 
 -- the units are the codes of the record's characters, which are its text, its end, and those after it; none of its
 -- characters is U+0000
@@ -21,4 +21,4 @@ pub record IsRecord (units text : List ℕ) (ending : Ending) (following : List 
   pub is_text : text ≡ flat_map utf8 scalars
   pub end : List ℕ
   pub split : units ≡ flat_map utf16 scalars ++ end
-  pub ends : Ends ending end following
+  pub ends : EndsRecord ending end following

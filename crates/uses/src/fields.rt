@@ -2,7 +2,7 @@
 ghost use Rattle.std.specs.Prelude.{◌≡◌, IfOk, IfSome, None, count_by, length, max, nat_eq, not, slice_get};
 ghost use Rattle.std.specs.List.{find, fold, last_or};
 ghost use Rattle.encode_unicode.specs.Pieces.{pieces};
-ghost use Rattle.cuts.specs.ForwardRuns.{fault_count};
+ghost use Rattle.cuts.specs.ForwardRuns.{faulty_item_count};
 ghost use Rattle.cuts.specs.Splits.{LiesBetween, lines_by, split_by};
 
 use cuts::{Span, fault_count, lines, split_ascii};
@@ -67,7 +67,7 @@ pub fn first_empty_line(bytes: &[u8]) -> Option<Span<'_>>
 /// The first line that has an invalid byte, with its offset.
 pub fn first_damaged_line(bytes: &[u8]) -> Option<Span<'_>>
     ensures lies { IfSome result (LiesBetween bytes.now) }
-    ensures first { result ≡ find (λ x. not (nat_eq (fault_count (pieces x.bytes)) 0)) (lines_by bytes.now) }
+    ensures first { result ≡ find (λ x. not (nat_eq (faulty_item_count (pieces x.bytes)) 0)) (lines_by bytes.now) }
 {
     lines(bytes).find(|line| fault_count(line.as_bytes()) != 0)
 }

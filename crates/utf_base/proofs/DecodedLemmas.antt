@@ -15,7 +15,7 @@ use Rattle.utf_base.specs.Front.{as_scalar, BeginsWith, IsOneCode, IsFrontLen, D
 use Rattle.utf_base.specs.Kinds.{fault_kind, asked_by, value}
 use Rattle.utf_base.specs.Piece.{Stands}
 use Rattle.utf_base.specs.Refused.{number_fault}
-use Rattle.utf_base.specs.Units.{is_padded_units, is_surrogate, pair_value, unit_value, tuple_value, units_of, array_fault, tuple_fault, unit_fault_kind}
+use Rattle.utf_base.specs.Units.{is_padded_units, is_surrogate, pair_value, unit_value, tuple_value, units_of_pair, array_fault, tuple_fault, unit_fault_kind}
 use Rattle.utf_base.proofs.Ending.{front_len}
 use Rattle.utf_base.proofs.FrontLemmas.{decodes_from_stands, code_where_no_fault, no_fault_where_code}
 use Rattle.utf_base.proofs.Standing.{same_char, stands_alone}
@@ -124,11 +124,11 @@ answer_of_tuple u (Some v) (Ok s) h =
     (stands_cases (u ∷ v ∷ []) s stands)
 answer_of_tuple u second (Err k) h = rw h refl
 
-pub decoded_tuple_code : (u : ℕ) (second : Option ℕ) (s : ℕ) → IsScalar s → units_of u second ≡ utf16 s → decoded_tuple u second ≡ Ok s
+pub decoded_tuple_code : (u : ℕ) (second : Option ℕ) (s : ℕ) → IsScalar s → units_of_pair u second ≡ utf16 s → decoded_tuple u second ≡ Ok s
 decoded_tuple_code u second s h e = sym (answer_of_tuple u second (Ok s) (h, e))
 
 -- the units of a scalar are a code, and 0 for a second that is not there
-pub padded_tuple : (u : ℕ) (second : Option ℕ) (s : ℕ) → IsScalar s → units_of u second ≡ utf16 s → is_padded_units u (unwrap_or second 0) ≡ true
+pub padded_tuple : (u : ℕ) (second : Option ℕ) (s : ℕ) → IsScalar s → units_of_pair u second ≡ utf16 s → is_padded_units u (unwrap_or second 0) ≡ true
 padded_tuple u None s h e =
     ⊎_elim
     (λ (p : StandsAsUnit (u ∷ []) s). rw (no_lead u p.plain, no_trail u p.plain) refl)

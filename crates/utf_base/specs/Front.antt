@@ -11,7 +11,7 @@ use Rattle.utf_base.specs.Code.{utf8, utf16}
 use Rattle.utf_base.specs.Kinds.{asked, is_continuation, fault_kind}
 use Rattle.utf_base.specs.Piece.{Stands}
 use Rattle.utf_base.specs.Refused.{number_fault}
-use Rattle.utf_base.specs.Units.{units_of, slice_fault, array_fault, tuple_fault}
+use Rattle.utf_base.specs.Units.{units_of_pair, slice_fault, array_fault, tuple_fault}
 
 -- contracts see a character as its scalar
 abbrev pub as_scalar : ℕ → ℕ
@@ -56,7 +56,7 @@ DecodesTwoUnits scalar w r =
 abbrev pub DecodesTuple : {C : Type 0} → (C → ℕ) → ℕ × Option ℕ → Result C Utf16TupleError → Type 0
 DecodesTuple scalar t r =
     MatchResult r
-    (λ c. IsScalar (scalar c) × (units_of t.0 t.1 ≡ utf16 (scalar c)))
+    (λ c. IsScalar (scalar c) × (units_of_pair t.0 t.1 ≡ utf16 (scalar c)))
     (λ e. tuple_fault t.0 t.1 ≡ Some e)
 
 -- the character that the number is, else why it is none

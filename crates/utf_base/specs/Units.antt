@@ -43,9 +43,9 @@ NeedsExtraUnit u r =
     (λ _. is_trailing_surrogate u ≡ true)
 
 -- the units of a pair with an optional second
-abbrev pub units_of : ℕ → Option ℕ → List ℕ
-units_of u None = u ∷ []
-units_of u (Some v) = u ∷ v ∷ []
+abbrev pub units_of_pair : ℕ → Option ℕ → List ℕ
+units_of_pair u None = u ∷ []
+units_of_pair u (Some v) = u ∷ v ∷ []
 
 -- two units are a code, and 0 where it has one: a unit that is no surrogate and 0, or a pair
 abbrev pub is_padded_units : ℕ → ℕ → Bool

@@ -12,5 +12,5 @@ pub record IsPadded (code : ℕ → List ℕ) (places : ℕ) (value : List ℕ �
   pub equal : xs ≡ padded places (code (value xs))
 
 -- the list has room for the code, which has at most `most` elements
-abbrev pub HasRoom : ℕ → List ℕ → List ℕ → Type 0
-HasRoom most code xs = length xs < most → length code ≤ length xs
+abbrev pub HasRoomForCode : ℕ → List ℕ → List ℕ → Type 0
+HasRoomForCode most code xs = length xs < most → length code ≤ length xs

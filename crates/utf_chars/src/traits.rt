@@ -7,7 +7,7 @@ ghost use Rattle.utf_base.specs.Front.{as_scalar, DecodesFront, DecodesBytes, De
 ghost use Rattle.utf_base.specs.Front.{DecodesUnits, DecodesTwoUnits, DecodesTuple};
 ghost use Rattle.utf_base.specs.Kinds.{value, fault_kind};
 ghost use Rattle.utf_chars.specs.Chars.{array_value};
-ghost use Rattle.utf_base.specs.Units.{is_padded_units, is_surrogate, tuple_value, units_of};
+ghost use Rattle.utf_base.specs.Units.{is_padded_units, is_surrogate, tuple_value, units_of_pair};
 ghost use Rattle.utf_chars.specs.Padded.{padded, IsPadded};
 
 use crate::codes::{number, utf8, utf16};
@@ -66,7 +66,7 @@ pub trait CharExt: Sized {
 
     /// Its UTF-16: (first unit, second unit where there is one).
     fn to_utf16_tuple(self) -> (u16, Option<u16>)
-        ensures code { units_of result.0 result.1 ≡ utf16 (scalar self) }
+        ensures code { units_of_pair result.0 result.1 ≡ utf16 (scalar self) }
         ensures own { is_padded_units result.0 (unwrap_or result.1 0) ≡ true }
         ensures decodes { decoded_tuple result.0 result.1 ≡ Ok (scalar self) };
 

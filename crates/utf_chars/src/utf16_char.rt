@@ -15,10 +15,10 @@ ghost use Rattle.utf_base.specs.Code.{utf8, utf16};
 ghost use Rattle.utf_base.specs.Back.{decoded_units_end, DecodesUnitsEnd};
 ghost use Rattle.utf_base.specs.Decoded.{decoded_units, decoded_two, decoded_tuple};
 ghost use Rattle.utf_base.specs.Front.{as_scalar, BeginsWith, DecodesUnits, DecodesTwoUnits, DecodesTuple, IsFrontLen};
-ghost use Rattle.utf_base.specs.Units.{is_padded_units, is_surrogate, units_of};
+ghost use Rattle.utf_base.specs.Units.{is_padded_units, is_surrogate, units_of_pair};
 ghost use Rattle.utf_chars.specs.Chars.{ascii_lowercase, ascii_uppercase, BeginsText};
 ghost use Rattle.utf_chars.specs.Chars.{first_of_text, Parses};
-ghost use Rattle.utf_chars.specs.Padded.{padded, HasRoom};
+ghost use Rattle.utf_chars.specs.Padded.{padded, HasRoomForCode};
 
 use crate::codes::utf16;
 use crate::utf8_char::Utf8Char;
@@ -282,7 +282,7 @@ impl Utf16Char {
     #[inline(always)]
     #[tactic(auto, using(crate::proofs::OwnCodes::own_unit_front))]
     pub fn to_slice(self, dst: &mut [u16]) -> usize
-        requires { HasRoom 2 (utf16 self) dst.old }
+        requires { HasRoomForCode 2 (utf16 self) dst.old }
         ensures len { result ≡ length (utf16 self) }
         ensures bounds { IsFrontLen 2 dst.new result }
         ensures written { dst.new ≡ utf16 self ++ drop (length (utf16 self)) dst.old }
@@ -311,7 +311,7 @@ impl Utf16Char {
     #[inline(always)]
     #[tactic(auto, using(utf_base::proofs::DecodedLemmas::padded_tuple, utf_base::proofs::DecodedLemmas::decoded_tuple_code, crate::proofs::PaddedUnits::code_by_second))]
     pub fn to_tuple(self) -> (u16, Option<u16>)
-        ensures code { units_of result.0 result.1 ≡ utf16 self }
+        ensures code { units_of_pair result.0 result.1 ≡ utf16 self }
         ensures own { is_padded_units result.0 (unwrap_or result.1 0) ≡ true }
         ensures decodes { decoded_tuple result.0 result.1 ≡ Ok self }
     {

@@ -17,7 +17,7 @@ ghost use Rattle.utf_base.specs.Front.{as_scalar, BeginsWith, DecodesFront, Deco
 ghost use Rattle.utf_base.specs.Kinds.{value, asked, fault_kind};
 ghost use Rattle.utf_chars.specs.Chars.{ascii_lowercase, ascii_uppercase, BeginsText, IsFrontCode};
 ghost use Rattle.utf_chars.specs.Chars.{first_of_text, parsed, Parses};
-ghost use Rattle.utf_chars.specs.Padded.{padded, IsPadded, HasRoom};
+ghost use Rattle.utf_chars.specs.Padded.{padded, IsPadded, HasRoomForCode};
 
 use crate::codes::{utf8, utf8_end};
 use crate::utf16_char::Utf16Char;
@@ -360,7 +360,7 @@ impl Utf8Char {
     #[inline(always)]
     #[tactic(auto, using(crate::proofs::OwnCodes::own_front))]
     pub fn to_slice(self, dst: &mut [u8]) -> usize
-        requires { HasRoom 4 (utf8 self) dst.old }
+        requires { HasRoomForCode 4 (utf8 self) dst.old }
         ensures len { result ≡ length (utf8 self) }
         ensures bounds { IsFrontLen 4 dst.new result }
         ensures written { dst.new ≡ utf8 self ++ drop (length (utf8 self)) dst.old }

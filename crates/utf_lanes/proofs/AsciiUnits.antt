@@ -5,8 +5,8 @@ use Rattle.std.proofs.lemmas.Grind.{common_steps}
 use Rattle.std.proofs.lemmas.List.{get_or_append_left, get_or-append_right, length-replicate}
 use Rattle.std.proofs.lemmas.Simd.{get_or-replicate, get_or-chunk}
 use lib.Lanes.{chunk}
-use Rattle.utf_lanes.specs.TextBlocks.{AreClosed}
-use Rattle.utf_lanes.specs.GivenUnits.{joined, given, given_at, gives, halves, unit_low, unit_high}
+use Rattle.utf_lanes.specs.TextBlocks.{EndsCharacter}
+use Rattle.utf_lanes.specs.Utf8ToUtf16.{concat_range, utf16_bytes, utf16_bytes_at, ends_unit, halves, unit_low, unit_high}
 use Rattle.utf_lanes.proofs.Joined.{joined_same, joined_moved}
 use Rattle.utf_lanes.proofs.TextUnits.{given_here}
 
@@ -15,8 +15,8 @@ abbrev side_places : ℕ → ℕ → ℕ → List ℕ
 side_places d p zero = []
 side_places d p (suc n) = p ∷ (p + d) ∷ side_places d (suc p) n
 
-beside : (ys : List ℕ) (d p n : ℕ) → map (λ k. get_or ys k 0) (side_places d p n) ≡ joined (λ k. get_or ys k 0 ∷ get_or ys (k + d) 0 ∷ []) p n
-unfolding joined
+beside : (ys : List ℕ) (d p n : ℕ) → map (λ k. get_or ys k 0) (side_places d p n) ≡ concat_range (λ k. get_or ys k 0 ∷ get_or ys (k + d) 0 ∷ []) p n
+unfolding concat_range
 beside ys d p zero = refl
 beside ys d p (suc n) = ap (λ zs. get_or ys p 0 ∷ get_or ys (p + d) 0 ∷ zs) (beside ys d (suc p) n)
 
@@ -37,19 +37,19 @@ module _ (d : ℕ) (xs : List ℕ) (long : length xs ≡ d) where
       ap₂ (λ x y. x ∷ y ∷ []) (get_or_append_left nuls xs 0 k (omega (arith, wide)) ∙ get_or-replicate d k 0 0 lt)
       (get_or-append_right nuls xs d (k + d) 0 wide (omega arith) ∙ ap (λ j. get_or xs j 0) back)
 
-  pub nuls_second : (p n : ℕ) → p + n ≤ d → map (λ k. get_or (xs ++ nuls) k 0) (side_places d p n) ≡ joined (λ k. halves false (get_or xs k 0) 0) p n
+  pub nuls_second : (p n : ℕ) → p + n ≤ d → map (λ k. get_or (xs ++ nuls) k 0) (side_places d p n) ≡ concat_range (λ k. halves false (get_or xs k 0) 0) p n
   nuls_second p n within = beside (xs ++ nuls) d p n ∙ joined_same _ _ p n (λ k ge lt. right k (omega arith))
 
-  pub nuls_first : (p n : ℕ) → p + n ≤ d → map (λ k. get_or (nuls ++ xs) k 0) (side_places d p n) ≡ joined (λ k. halves true (get_or xs k 0) 0) p n
+  pub nuls_first : (p n : ℕ) → p + n ≤ d → map (λ k. get_or (nuls ++ xs) k 0) (side_places d p n) ≡ concat_range (λ k. halves true (get_or xs k 0) 0) p n
   nuls_first p n within = beside (nuls ++ xs) d p n ∙ joined_same _ _ p n (λ k ge lt. left k (omega arith))
 
 -- what a byte of ASCII gives after bytes that ask for no more
 one_given : (high : Bool) (xs : List ℕ) (k : ℕ) → get_or xs k 0 < 0xF0 → get_or xs (k + 1) 0 < 0xE0 → get_or xs (k + 2) 0 < 0xC0 → get_or xs (k + 3) 0 < 0x80
-    → given_at high xs k ≡ halves high (get_or xs (k + 3) 0) 0
-unfolding given_at
+    → utf16_bytes_at high xs k ≡ halves high (get_or xs (k + 3) 0) 0
+unfolding utf16_bytes_at
 one_given high xs k a b c d = rw (opens _ _ d c, low _ _ _ b d, upper _ _ _ _ a b d) refl
   where
-    opens : (c d : ℕ) → d < 0x80 → c < 0xC0 → gives c d ≡ true
+    opens : (c d : ℕ) → d < 0x80 → c < 0xC0 → ends_unit c d ≡ true
     opens c d x y = grind (arith, common_steps)
 
     low : (b c d : ℕ) → b < 0xE0 → d < 0x80 → unit_low b c d ≡ d
@@ -58,10 +58,10 @@ one_given high xs k a b c d = rw (opens _ _ d c, low _ _ _ b d, upper _ _ _ _ a 
     upper : (a b c d : ℕ) → a < 0xF0 → b < 0xE0 → d < 0x80 → unit_high a b c d ≡ 0
     upper a b c d x y z = grind (arith, common_steps)
 
-pub ascii_given : (high : Bool) (text : List ℕ) (place i n : ℕ) → 3 ≤ place → i + n ≤ 64 → AreClosed text place → ((k : ℕ) → k < 64 → get_or text (place + k) 0 < 0x80)
-    → joined (λ k. halves high (get_or (chunk place 64 text) k 0) 0) i n ≡ given high text (place + i) n
+pub ascii_given : (high : Bool) (text : List ℕ) (place i n : ℕ) → 3 ≤ place → i + n ≤ 64 → EndsCharacter text place → ((k : ℕ) → k < 64 → get_or text (place + k) 0 < 0x80)
+    → concat_range (λ k. halves high (get_or (chunk place 64 text) k 0) 0) i n ≡ utf16_bytes high text (place + i) n
 ascii_given high text place i n start within closed low =
-    joined_moved _ (given_at high text) i (place - 3 + i) n (λ k lt.
+    joined_moved _ (utf16_bytes_at high text) i (place - 3 + i) n (λ k lt.
     let before = closed (place - 3) (omega arith) in
     let ends : (j : ℕ) → place ≤ j + 1 → j < place + 64 → get_or text j 0 < 0xC0
     = λ j ge more. elim (cases_lt j place) [

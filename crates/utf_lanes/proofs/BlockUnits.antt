@@ -6,7 +6,7 @@ use Rattle.std.proofs.lemmas.Nat.{and_mask}
 use Rattle.std.proofs.lemmas.Simd.{get_or-chunk, length-chunk}
 use Rattle.std.specs.Int.{bit_at}
 use lib.Lanes.{chunk}
-use Rattle.utf_lanes.specs.GivenUnits.{joined, gives, low_half, high_half, unit_low, unit_high, halves, given_at, pair_at}
+use Rattle.utf_lanes.specs.Utf8ToUtf16.{concat_range, ends_unit, low_half, high_half, unit_low, unit_high, halves, utf16_bytes_at, pair_at}
 use Rattle.utf_lanes.proofs.Joined.{joined_same, joined_none, joined_add, joined_moved}
 use Rattle.utf_lanes.proofs.LaneLemmas.{reach_mask, none_reach}
 use Rattle.utf_lanes.proofs.ChosenLanes.{where_below, where_below_len, where_below_at}
@@ -66,20 +66,20 @@ kept_pair m i v pair false bit e = rw bit refl
 
 -- The lanes of one block.
 module _ (high_first : Bool) (xs : List ℕ) (place s : ℕ) (start : 3 ≤ place) (few : s < 16) (mask : ℕ) (low high front back : List ℕ)
-    (bits : (k : ℕ) → k < 16 → bit_at mask k ≡ cond (gives (get_or xs (place - 1 + k) 0) (get_or xs (place + k) 0) && leb s k) 1 0)
+    (bits : (k : ℕ) → k < 16 → bit_at mask k ≡ cond (ends_unit (get_or xs (place - 1 + k) 0) (get_or xs (place + k) 0) && leb s k) 1 0)
     (lows : (k : ℕ) → k < 16 → get_or low k 0 ≡ unit_low (get_or xs (place - 2 + k) 0) (get_or xs (place - 1 + k) 0) (get_or xs (place + k) 0))
     (highs : (k : ℕ) → k < 16 → get_or high k 0 ≡ unit_high (get_or xs (place - 3 + k) 0) (get_or xs (place - 2 + k) 0) (get_or xs (place - 1 + k) 0) (get_or xs (place + k) 0))
     (fronts : (k : ℕ) → k < 8 → get_or front (2 * k) 0 ∷ get_or front (2 * k + 1) 0 ∷ [] ≡ halves high_first (get_or low k 0) (get_or high k 0))
     (backs : (k : ℕ) → k < 8 → get_or back (2 * k) 0 ∷ get_or back (2 * k + 1) 0 ∷ [] ≡ halves high_first (get_or low (8 + k) 0) (get_or high (8 + k) 0)) where
   abbrev lane_given : ℕ → List ℕ
-  lane_given k = cond (gives (get_or xs (place - 1 + k) 0) (get_or xs (place + k) 0) && leb s k) (halves high_first (get_or low k 0) (get_or high k 0)) []
+  lane_given k = cond (ends_unit (get_or xs (place - 1 + k) 0) (get_or xs (place + k) 0) && leb s k) (halves high_first (get_or low k 0) (get_or high k 0)) []
 
   front_pair : (k : ℕ) → k < 8 → pair_at (bit_and mask 255) front k ≡ lane_given k
-  front_pair k lt = kept_pair (bit_and mask 255) k front _ (gives (get_or xs (place - 1 + k) 0) (get_or xs (place + k) 0) && leb s k) (low_bit mask k lt ∙ bits k (omega arith)) (fronts k lt)
+  front_pair k lt = kept_pair (bit_and mask 255) k front _ (ends_unit (get_or xs (place - 1 + k) 0) (get_or xs (place + k) 0) && leb s k) (low_bit mask k lt ∙ bits k (omega arith)) (fronts k lt)
 
   back_pair : (k : ℕ) → k < 8 → pair_at (mask / 256) back k ≡ lane_given (8 + k)
   back_pair k lt =
-      kept_pair (mask / 256) k back _ (gives (get_or xs (place - 1 + (8 + k)) 0) (get_or xs (place + (8 + k)) 0) && leb s (8 + k)) (high_bit mask k lt ∙ bits (8 + k) (omega arith)) (backs k lt)
+      kept_pair (mask / 256) k back _ (ends_unit (get_or xs (place - 1 + (8 + k)) 0) (get_or xs (place + (8 + k)) 0) && leb s (8 + k)) (high_bit mask k lt ∙ bits (8 + k) (omega arith)) (backs k lt)
 
   skips : (g : Bool) (k : ℕ) → k < s → cond {A = List ℕ} (g && leb s k) (halves high_first (get_or low k 0) (get_or high k 0)) [] ≡ []
   skips true k lt = grind (arith, common_steps)
@@ -89,35 +89,35 @@ module _ (high_first : Bool) (xs : List ℕ) (place s : ℕ) (start : 3 ≤ plac
   keeps true k ge = grind (arith, common_steps)
   keeps false k ge = refl
 
-  lane_is : (k : ℕ) → s ≤ k → k < 16 → lane_given k ≡ given_at high_first xs (place - 3 + k)
-  unfolding given_at
+  lane_is : (k : ℕ) → s ≤ k → k < 16 → lane_given k ≡ utf16_bytes_at high_first xs (place - 3 + k)
+  unfolding utf16_bytes_at
   lane_is k ge lt =
       let b : place - 3 + k + 1 ≡ place - 2 + k = omega arith in
       let c : place - 3 + k + 2 ≡ place - 1 + k = omega arith in
       let d : place - 3 + k + 3 ≡ place + k = omega arith in
-      rw (b, c, d) (keeps (gives (get_or xs (place - 1 + k) 0) (get_or xs (place + k) 0)) k ge ∙ ap₂ (λ x y. cond (gives (get_or xs (place - 1 + k) 0) (get_or xs (place + k) 0)) (halves high_first x y) []) (lows k lt) (highs k lt))
+      rw (b, c, d) (keeps (ends_unit (get_or xs (place - 1 + k) 0) (get_or xs (place + k) 0)) k ge ∙ ap₂ (λ x y. cond (ends_unit (get_or xs (place - 1 + k) 0) (get_or xs (place + k) 0)) (halves high_first x y) []) (lows k lt) (highs k lt))
 
-  pub block_given : joined (pair_at (bit_and mask 255) front) 0 8 ++ joined (pair_at (mask / 256) back) 0 8 ≡ joined (given_at high_first xs) (place - 3 + s) (16 - s)
+  pub block_given : concat_range (pair_at (bit_and mask 255) front) 0 8 ++ concat_range (pair_at (mask / 256) back) 0 8 ≡ concat_range (utf16_bytes_at high_first xs) (place - 3 + s) (16 - s)
   block_given =
       let first = joined_same (pair_at (bit_and mask 255) front) lane_given 0 8 (λ i ge lt. front_pair i lt) in
       let second = joined_moved (pair_at (mask / 256) back) lane_given 0 8 8 (λ i lt. let at : 0 + i ≡ i = omega arith in rw at (back_pair i lt)) in
-      let all : joined lane_given 0 8 ++ joined lane_given 8 8 ≡ joined lane_given 0 16 = sym (joined_add lane_given 0 8 8) in
+      let all : concat_range lane_given 0 8 ++ concat_range lane_given 8 8 ≡ concat_range lane_given 0 16 = sym (joined_add lane_given 0 8 8) in
       let sum : s + (16 - s) ≡ 16 = omega arith in
       let at : 0 + s ≡ s = omega arith in
-      let split : joined lane_given 0 16 ≡ joined lane_given 0 s ++ joined lane_given s (16 - s)
-      = ap (joined lane_given 0) (sym sum) ∙ joined_add lane_given 0 s (16 - s) ∙ ap (λ p. joined lane_given 0 s ++ joined lane_given p (16 - s)) at in
-      let none : joined lane_given 0 s ≡ [] = joined_none lane_given 0 s (λ i ge lt. skips (gives (get_or xs (place - 1 + i) 0) (get_or xs (place + i) 0)) i (omega arith)) in
-      let rest : joined lane_given s (16 - s) ≡ joined (given_at high_first xs) (place - 3 + s) (16 - s)
-      = joined_moved lane_given (given_at high_first xs) s (place - 3 + s) (16 - s)
-      (λ i lt. let there : place - 3 + (s + i) ≡ place - 3 + s + i = omega arith in lane_is (s + i) (omega arith) (omega arith) ∙ ap (given_at high_first xs) there) in
+      let split : concat_range lane_given 0 16 ≡ concat_range lane_given 0 s ++ concat_range lane_given s (16 - s)
+      = ap (concat_range lane_given 0) (sym sum) ∙ joined_add lane_given 0 s (16 - s) ∙ ap (λ p. concat_range lane_given 0 s ++ concat_range lane_given p (16 - s)) at in
+      let none : concat_range lane_given 0 s ≡ [] = joined_none lane_given 0 s (λ i ge lt. skips (ends_unit (get_or xs (place - 1 + i) 0) (get_or xs (place + i) 0)) i (omega arith)) in
+      let rest : concat_range lane_given s (16 - s) ≡ concat_range (utf16_bytes_at high_first xs) (place - 3 + s) (16 - s)
+      = joined_moved lane_given (utf16_bytes_at high_first xs) s (place - 3 + s) (16 - s)
+      (λ i lt. let there : place - 3 + (s + i) ≡ place - 3 + s + i = omega arith in lane_is (s + i) (omega arith) (omega arith) ∙ ap (utf16_bytes_at high_first xs) there) in
       ap₂ (λ x y. x ++ y) first second ∙ all ∙ split ∙ ap₂ (λ x y. x ++ y) none rest
 
 -- Loads, and the bytes in them.
 
 module _ (xs : List ℕ) (place : ℕ) (fits : (k : ℕ) → Fits w8 (get_or xs k 0)) (start : 3 ≤ place) (within : place + 16 ≤ length xs) where
   pub loaded_bits : (mask s : ℕ)
-      → ((k : ℕ) → k < 16 → bit_at mask k ≡ cond (gives (get_or (chunk (place - 1) 16 xs) k 0) (get_or (chunk place 16 xs) k 0) && leb s k) 1 0)
-      → (k : ℕ) → k < 16 → bit_at mask k ≡ cond (gives (get_or xs (place - 1 + k) 0) (get_or xs (place + k) 0) && leb s k) 1 0
+      → ((k : ℕ) → k < 16 → bit_at mask k ≡ cond (ends_unit (get_or (chunk (place - 1) 16 xs) k 0) (get_or (chunk place 16 xs) k 0) && leb s k) 1 0)
+      → (k : ℕ) → k < 16 → bit_at mask k ≡ cond (ends_unit (get_or xs (place - 1 + k) 0) (get_or xs (place + k) 0) && leb s k) 1 0
   loaded_bits mask s bits k lt = rw (get_or-chunk (place - 1) 16 xs k 0 lt, get_or-chunk place 16 xs k 0 lt) at (bits k lt)
 
   pub loaded_long_low : (low : List ℕ)

@@ -11,13 +11,13 @@ use Rattle.utf_base.specs.Scalar.{IsScalar}
 use Rattle.utf_base.proofs.FrontLemmas.{least_value-below_3, least_value-3, least_value-4}
 use Rattle.utf_base.proofs.KindCases.{Asks-2, Asks-3, Asks-4, Sums-2, Sums-3, Sums-4, begins_with, begins_with-1}
 use Rattle.utf_base.proofs.StdText.{utf8_is_text}
-use Rattle.utf_lanes.specs.TextBlocks.{Continues, MayBegin, Follows, AllFollow}
+use Rattle.utf_lanes.specs.TextBlocks.{IsContinuation, MayBegin, Follows, AllMayFollow}
 
 -- a code of n bytes begins the list
 abbrev Front : List ℕ → ℕ → Type 0
 Front w n = (s : ℕ) × BeginsWith utf8 w s n
 
-continuation : (b : ℕ) → Continues b → is_continuation b ≡ true
+continuation : (b : ℕ) → IsContinuation b → is_continuation b ≡ true
 continuation b h = grind (arith, common_steps)
 
 front-2 : (w : List ℕ) → 2 ≤ length w → MayBegin (get_or w 0 0) (get_or w 1 0) → get_or w 0 0 < 0xE0 → Front w 2
@@ -34,7 +34,7 @@ front-2 w enough b top =
 at_byte : {P : Type 0} (c n : ℕ) → (c ≡ n → P) → ((c ≡ n) × P) ⊎ (c ≡ n → ⊥)
 at_byte c n f = elim (cases_eq c n) [ inl e ↦ inl (e, f e) | inr other ↦ inr other ]
 
-front-3 : (w : List ℕ) → 3 ≤ length w → MayBegin (get_or w 0 0) (get_or w 1 0) → Continues (get_or w 2 0) → 0xE0 ≤ get_or w 0 0 → get_or w 0 0 < 0xF0 → Front w 3
+front-3 : (w : List ℕ) → 3 ≤ length w → MayBegin (get_or w 0 0) (get_or w 1 0) → IsContinuation (get_or w 2 0) → 0xE0 ≤ get_or w 0 0 → get_or w 0 0 < 0xF0 → Front w 3
 front-3 w enough b third low top =
     let v = (get_or w 0 0 - 0xE0) * 4096 + (get_or w 1 0 - 0x80) * 64 + (get_or w 2 0 - 0x80) in
     let second = b.second in
@@ -46,7 +46,7 @@ front-3 w enough b third low top =
     let scalar : IsScalar v = record { below = omega arith; no_surrogate = λ g. omega arith } in
     (v, begins_with w 3 v sums (rw least_value-3 least) scalar)
 
-front-4 : (w : List ℕ) → 4 ≤ length w → MayBegin (get_or w 0 0) (get_or w 1 0) → Continues (get_or w 2 0) → Continues (get_or w 3 0) → 0xF0 ≤ get_or w 0 0 → Front w 4
+front-4 : (w : List ℕ) → 4 ≤ length w → MayBegin (get_or w 0 0) (get_or w 1 0) → IsContinuation (get_or w 2 0) → IsContinuation (get_or w 3 0) → 0xF0 ≤ get_or w 0 0 → Front w 4
 front-4 w enough b third fourth low =
     let v = (get_or w 0 0 - 0xF0) * 262144 + (get_or w 1 0 - 0x80) * 4096 + (get_or w 2 0 - 0x80) * 64 + (get_or w 3 0 - 0x80) in
     let second = b.second in
@@ -91,11 +91,11 @@ begins_after a b c d f low middle high = let may = f.early low middle in may.fir
 pub begins_from : (xs : List ℕ) (p : ℕ) → is_continuation (get_or xs p 0) ≡ false → Begins xs p
 begins_from xs p e high = grind (arith, common_steps)
 
-module _ (xs : List ℕ) (i e : ℕ) (end : e < length xs) (last : Begins xs e) (all : AllFollow xs i (e + 1)) where
+module _ (xs : List ℕ) (i e : ℕ) (end : e < length xs) (last : Begins xs e) (all : AllMayFollow xs i (e + 1)) where
   judged : (k l m n : ℕ) → k + 1 ≡ l → k + 2 ≡ m → k + 3 ≡ n → i ≤ n → n ≤ e → Follows (get_or xs k 0) (get_or xs l 0) (get_or xs m 0) (get_or xs n 0)
   judged k l m n one two three least most = rw (← one, ← two, ← three) (all k (omega arith) (omega arith))
 
-  not_last : (j : ℕ) → j ≤ e → Continues (get_or xs j 0) → j < e
+  not_last : (j : ℕ) → j ≤ e → IsContinuation (get_or xs j 0) → j < e
   not_last j le h =
       elim (cases_lt j e) [
         | inl lt ↦ lt
@@ -148,13 +148,13 @@ module _ (xs : List ℕ) (i e : ℕ) (end : e < length xs) (last : Begins xs e) 
         let front = front-2 (drop (k + 3) xs) (enough 2 (omega arith)) (rw (here 0 (k + 3) (omega arith), here 1 (k + 4) (omega arith)) b) (rw (here 0 (k + 3) (omega arith)) low) in
         of_len 2 (k + 2) (k + 3) (k + 4) (lit< tt) refl (omega arith) (omega arith) (omega arith) front (omega (arith, before.2)) low (b.second.1)
 
-    three : MayBegin (get_or xs (k + 3) 0) (get_or xs (k + 4) 0) → Continues (get_or xs (k + 5) 0) → k + 5 < e → 0xE0 ≤ get_or xs (k + 3) 0 → get_or xs (k + 3) 0 < 0xF0 → OneCode k
+    three : MayBegin (get_or xs (k + 3) 0) (get_or xs (k + 4) 0) → IsContinuation (get_or xs (k + 5) 0) → k + 5 < e → 0xE0 ≤ get_or xs (k + 3) 0 → get_or xs (k + 3) 0 < 0xF0 → OneCode k
     three b third more low top =
         let front = front-3 (drop (k + 3) xs) (enough 3 (omega arith)) (rw (here 0 (k + 3) (omega arith), here 1 (k + 4) (omega arith)) b) (rw (here 2 (k + 5) (omega arith)) third)
         (rw (here 0 (k + 3) (omega arith)) low) (rw (here 0 (k + 3) (omega arith)) top) in
         of_len 3 (k + 3) (k + 4) (k + 5) (lit< tt) refl (omega arith) (omega arith) (omega arith) front top (omega (arith, b.second.1)) (third.1)
 
-    four : MayBegin (get_or xs (k + 3) 0) (get_or xs (k + 4) 0) → Continues (get_or xs (k + 5) 0) → Continues (get_or xs (k + 6) 0) → k + 6 < e → 0xF0 ≤ get_or xs (k + 3) 0 → OneCode k
+    four : MayBegin (get_or xs (k + 3) 0) (get_or xs (k + 4) 0) → IsContinuation (get_or xs (k + 5) 0) → IsContinuation (get_or xs (k + 6) 0) → k + 6 < e → 0xF0 ≤ get_or xs (k + 3) 0 → OneCode k
     four b third fourth more low =
         let front = front-4 (drop (k + 3) xs) (enough 4 (omega arith)) (rw (here 0 (k + 3) (omega arith), here 1 (k + 4) (omega arith)) b) (rw (here 2 (k + 5) (omega arith)) third)
         (rw (here 3 (k + 6) (omega arith)) fourth) (rw (here 0 (k + 3) (omega arith)) low) in
@@ -195,5 +195,5 @@ module _ (xs : List ℕ) (i e : ℕ) (end : e < length xs) (last : Begins xs e) 
       ]
 
 -- from one first byte of a code to another
-pub judged_text : (xs : List ℕ) (p e : ℕ) → 3 ≤ p → p ≤ e → e < length xs → IsUtf8 (take p xs) → Begins xs p → Begins xs e → AllFollow xs p (e + 1) → IsUtf8 (take e xs)
+pub judged_text : (xs : List ℕ) (p e : ℕ) → 3 ≤ p → p ≤ e → e < length xs → IsUtf8 (take p xs) → Begins xs p → Begins xs e → AllMayFollow xs p (e + 1) → IsUtf8 (take e xs)
 judged_text xs p e three le end text first last all = to_last xs p e end last all e p (p - 3) (omega arith) (omega arith) le (omega arith) text first

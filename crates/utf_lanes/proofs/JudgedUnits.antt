@@ -5,8 +5,8 @@ use Rattle.std.proofs.lemmas.Grind.{common_steps}
 use Rattle.std.proofs.lemmas.List.{take_at}
 use Rattle.std.specs.Int.{bit_at}
 use Rattle.utf_base.specs.Units.{is_leading_surrogate, is_trailing_surrogate, is_surrogate}
-use Rattle.utf_lanes.specs.GivenUnits.{joined}
-use Rattle.utf_lanes.specs.UnitCodes.{lane_unit, unit_code, code_at, AreText, slot, slot_at, first_byte, middle_byte, last_byte, lead_byte, second_byte, first_in_text, middle_in_text, last_in_text, kept, lanes_at, WritesUnits}
+use Rattle.utf_lanes.specs.Utf8ToUtf16.{concat_range}
+use Rattle.utf_lanes.specs.UnitCodes.{lane_unit, unit_code, code_at, AreText, lane_bytes, slot_at, first_byte, middle_byte, last_byte, lead_byte, second_byte, first_in_text, middle_in_text, last_in_text, nonzero_lead, lanes_at, WritesUnits}
 use Rattle.utf_lanes.proofs.Joined.{joined_add, joined_same, joined_moved, joined_1}
 use Rattle.utf_lanes.proofs.UnitBytes.{not_both, ascii_code, leading_code}
 use Rattle.utf_lanes.proofs.UnitSlots.{below_16, leading_is, surrogate_is}
@@ -114,30 +114,30 @@ module _ (low high before firsts middles lasts : List ℕ) (start : is_trailing_
   code_is : (k : ℕ) → k < 16 → slot_at firsts middles lasts k ≡ code_at (lane_unit low high) k
   code_is k lt = rw (first k lt, middle_at k lt, last k lt) refl
 
-  pub text_codes : joined (slot_at firsts middles lasts) 0 16 ≡ joined (code_at (lane_unit low high)) 0 16
+  pub text_codes : concat_range (slot_at firsts middles lasts) 0 16 ≡ concat_range (code_at (lane_unit low high)) 0 16
   text_codes = joined_same (slot_at firsts middles lasts) (code_at (lane_unit low high)) 0 16 (λ i ge lt. code_is i (omega arith))
 
 -- Fifteen units, where a leading surrogate is the last of sixteen.
-module _ (u : ℕ → ℕ) (old new : List ℕ) (last : is_leading_surrogate (u 15) ≡ true) (items : new ≡ old ++ joined (code_at u) 0 16) where
-  split : new ≡ (old ++ joined (code_at u) 0 15) ++ (lead_byte (u 15) ∷ second_byte (u 15) ∷ [])
+module _ (u : ℕ → ℕ) (old new : List ℕ) (last : is_leading_surrogate (u 15) ≡ true) (items : new ≡ old ++ concat_range (code_at u) 0 16) where
+  split : new ≡ (old ++ concat_range (code_at u) 0 15) ++ (lead_byte (u 15) ∷ second_byte (u 15) ∷ [])
   split =
-      items ∙ ap (λ xs. old ++ xs) (joined_add (code_at u) 0 15 1 ∙ ap (λ xs. joined (code_at u) 0 15 ++ xs) (joined_1 (code_at u) 15 ∙ leading_code (u 14) (u 15) last))
-      ∙ sym (append_assoc old (joined (code_at u) 0 15) (lead_byte (u 15) ∷ second_byte (u 15) ∷ []))
+      items ∙ ap (λ xs. old ++ xs) (joined_add (code_at u) 0 15 1 ∙ ap (λ xs. concat_range (code_at u) 0 15 ++ xs) (joined_1 (code_at u) 15 ∙ leading_code (u 14) (u 15) last))
+      ∙ sym (append_assoc old (concat_range (code_at u) 0 15) (lead_byte (u 15) ∷ second_byte (u 15) ∷ []))
 
-  new_len : length new ≡ length (old ++ joined (code_at u) 0 15) + 2
-  new_len = ap length split ∙ length-append (old ++ joined (code_at u) 0 15) (lead_byte (u 15) ∷ second_byte (u 15) ∷ [])
+  new_len : length new ≡ length (old ++ concat_range (code_at u) 0 15) + 2
+  new_len = ap length split ∙ length-append (old ++ concat_range (code_at u) 0 15) (lead_byte (u 15) ∷ second_byte (u 15) ∷ [])
 
   pub two_more : 2 ≤ length new
   two_more = omega (arith, new_len)
 
-  pub without_last : take (length new - 2) new ≡ old ++ joined (code_at u) 0 15
+  pub without_last : take (length new - 2) new ≡ old ++ concat_range (code_at u) 0 15
   without_last =
-      let at : length new - 2 ≡ length (old ++ joined (code_at u) 0 15) = omega (arith, new_len) in
-      rw at (ap (take (length (old ++ joined (code_at u) 0 15))) split ∙ take_at (old ++ joined (code_at u) 0 15) (lead_byte (u 15) ∷ second_byte (u 15) ∷ []) (length (old ++ joined (code_at u) 0 15)) refl)
+      let at : length new - 2 ≡ length (old ++ concat_range (code_at u) 0 15) = omega (arith, new_len) in
+      rw at (ap (take (length (old ++ concat_range (code_at u) 0 15))) split ∙ take_at (old ++ concat_range (code_at u) 0 15) (lead_byte (u 15) ∷ second_byte (u 15) ∷ []) (length (old ++ concat_range (code_at u) 0 15)) refl)
 
 -- bytes of all sixteen, written into room
 pub WritesUnits-all : (low high old new bytes : List ℕ) (at end : ℕ) → AreText (lane_unit low high) 16 → length new ≡ length old → take end new ≡ take at old ++ bytes
-    → bytes ≡ joined (code_at (lane_unit low high)) 0 16 → end ≤ at + 48 → WritesUnits low high old new at 16 end
+    → bytes ≡ concat_range (code_at (lane_unit low high)) 0 16 → end ≤ at + 48 → WritesUnits low high old new at 16 end
 WritesUnits-all low high old new bytes at end text len written codes fits = record {
   most = omega arith;
   text = text;
@@ -162,7 +162,7 @@ characters_text u n none = record {
     no_lead : (u : ℕ) → is_surrogate u ≡ false → is_leading_surrogate u ≡ false
     no_lead u e = grind (arith, common_steps)
 
-code_of : (p u : ℕ) → is_surrogate u ≡ false → slot (first_byte u) (middle_byte u) (last_byte u) ≡ unit_code p u
+code_of : (p u : ℕ) → is_surrogate u ≡ false → lane_bytes (first_byte u) (middle_byte u) (last_byte u) ≡ unit_code p u
 code_of p u e = let f : is_leading_surrogate u ≡ false = grind (arith, common_steps) in rw (e, f) refl
 
 module _ (low high : List ℕ) (fits : (k : ℕ) → k < 16 → get_or low k 0 < 256) (none : (k : ℕ) → k < 16 → eqb (get_or high k 0 / 8) 0x1B ≡ false) where
@@ -176,7 +176,7 @@ module _ (low high : List ℕ) (fits : (k : ℕ) → k < 16 → get_or low k 0 <
       (first : (k : ℕ) → k < 16 → get_or firsts k 0 ≡ first_byte (lane_unit low high k))
       (middle : (k : ℕ) → k < 16 → get_or middles k 0 ≡ middle_byte (lane_unit low high k))
       (last : (k : ℕ) → k < 16 → get_or lasts k 0 ≡ last_byte (lane_unit low high k)) where
-    pub character_codes : joined (slot_at firsts middles lasts) 0 16 ≡ joined (code_at (lane_unit low high)) 0 16
+    pub character_codes : concat_range (slot_at firsts middles lasts) 0 16 ≡ concat_range (code_at (lane_unit low high)) 0 16
     character_codes =
         joined_same (slot_at firsts middles lasts) (code_at (lane_unit low high)) 0 16
         (λ i ge more. let lt : i < 16 = omega arith in rw (first i lt, middle i lt, last i lt) (code_of (lane_unit low high (i - 1)) (lane_unit low high i) (no_surrogates i lt)))
@@ -193,23 +193,23 @@ module _ (low high : List ℕ) (fits : (k : ℕ) → k < 16 → get_or low k 0 <
   pub short_text : AreText (lane_unit low high) 16
   short_text = characters_text (lane_unit low high) 16 (λ k lt. below_surrogates (lane_unit low high k) (unit_short k lt))
 
-  short_code : (p u : ℕ) → u < 0x800 → kept (middle_byte u) ++ (last_byte u ∷ []) ≡ unit_code p u
+  short_code : (p u : ℕ) → u < 0x800 → nonzero_lead (middle_byte u) ++ (last_byte u ∷ []) ≡ unit_code p u
   short_code p u h =
       let none : first_byte u ≡ 0 = grind (arith, common_steps) in
-      sym (ap (λ n. slot n (middle_byte u) (last_byte u)) none) ∙ code_of p u (below_surrogates u h)
+      sym (ap (λ n. lane_bytes n (middle_byte u) (last_byte u)) none) ∙ code_of p u (below_surrogates u h)
 
   module _ (middles lasts : List ℕ)
       (middle : (k : ℕ) → k < 16 → get_or middles k 0 ≡ middle_byte (lane_unit low high k))
       (last : (k : ℕ) → k < 16 → get_or lasts k 0 ≡ last_byte (lane_unit low high k)) where
-    pub short_codes : joined (lanes_at true middles lasts) 0 16 ≡ joined (code_at (lane_unit low high)) 0 16
+    pub short_codes : concat_range (lanes_at true middles lasts) 0 16 ≡ concat_range (code_at (lane_unit low high)) 0 16
     short_codes =
         joined_same (lanes_at true middles lasts) (code_at (lane_unit low high)) 0 16
         (λ i ge more. let lt : i < 16 = omega arith in rw (middle i lt, last i lt) (short_code (lane_unit low high (i - 1)) (lane_unit low high i) (unit_short i lt)))
 
 -- Units of ASCII.
 
-listed : (xs : List ℕ) → joined (λ i. get_or xs i 0 ∷ []) 0 (length xs) ≡ xs
-unfolding joined
+listed : (xs : List ℕ) → concat_range (λ i. get_or xs i 0 ∷ []) 0 (length xs) ≡ xs
+unfolding concat_range
 listed [] = refl
 listed (x ∷ xs) =
     ap (λ ys. x ∷ ys)
@@ -226,8 +226,8 @@ module _ (low high : List ℕ) (long : length low ≡ 16) (ascii : (k : ℕ) →
   low_is : (k : ℕ) → k < 16 → lane_unit low high k ≡ get_or low k 0
   low_is k lt = let h = ascii k lt in omega arith
 
-  pub ascii_codes : low ≡ joined (code_at (lane_unit low high)) 0 16
+  pub ascii_codes : low ≡ concat_range (code_at (lane_unit low high)) 0 16
   ascii_codes =
-      sym (listed low) ∙ ap (joined (λ i. get_or low i 0 ∷ []) 0) long
+      sym (listed low) ∙ ap (concat_range (λ i. get_or low i 0 ∷ []) 0) long
       ∙ joined_same (λ i. get_or low i 0 ∷ []) (code_at (lane_unit low high)) 0 16
       (λ i ge more. let lt : i < 16 = omega arith in sym (ascii_code (lane_unit low high (i - 1)) (lane_unit low high i) (ascii i lt) ∙ ap (λ n. n ∷ []) (low_is i lt)))

@@ -9,7 +9,7 @@ use Rattle.std.specs.List.{prefix_len}
 use lib.Count.{count_trailing_zeros}
 use lib.Lanes.{zip2, sel_l, mask_l, top, Each1, chunk}
 use Rattle.utf_lanes.specs.AsciiTexts.{AreAscii}
-use Rattle.utf_lanes.specs.TextBlocks.{Follows, AllFollow, IsPair}
+use Rattle.utf_lanes.specs.TextBlocks.{Follows, AllMayFollow, IsPair}
 use Rattle.utf_lanes.proofs.PairTables.{AreRight, tables_judge}
 
 -- sixteen bytes
@@ -205,7 +205,7 @@ module _ (bytes : List ℕ) (place : ℕ) (fits : (k : ℕ) → Fits w8 (get_or 
         ) refl
 
     pub faultless_follows : ((k : ℕ) → k < 16 → IsPair (get_or (chunk (place - 1) 16 bytes) k 0) (get_or (chunk place 16 bytes) k 0) (get_or left k 0))
-        → (k : ℕ) → k < 16 → get_or (faults left) k 0 ≡ 0 → AllFollow bytes (place + k) (place + k + 1)
+        → (k : ℕ) → k < 16 → get_or (faults left) k 0 ≡ 0 → AllMayFollow bytes (place + k) (place + k + 1)
     faultless_follows pairs k lt none j least most =
         let zero : place - 3 + k ≡ j = omega arith in
         let one : place - 2 + k ≡ j + 1 = omega arith in
@@ -326,10 +326,10 @@ loads_low bytes place within none k lt =
 
 -- Bytes that may follow, one part after another.
 
-pub follow_on : (xs : List ℕ) (i j m : ℕ) → AllFollow xs i j → AllFollow xs j m → AllFollow xs i m
+pub follow_on : (xs : List ℕ) (i j m : ℕ) → AllMayFollow xs i j → AllMayFollow xs j m → AllMayFollow xs i m
 follow_on xs i j m p q k least most = elim (cases_lt (k + 3) j) [ inl lt ↦ p k least lt | inr ge ↦ q k ge most ]
 
-pub follow_lanes : (xs : List ℕ) (i n : ℕ) → ((k : ℕ) → k < n → AllFollow xs (i + k) (i + k + 1)) → AllFollow xs i (i + n)
+pub follow_lanes : (xs : List ℕ) (i n : ℕ) → ((k : ℕ) → k < n → AllMayFollow xs (i + k) (i + k + 1)) → AllMayFollow xs i (i + n)
 follow_lanes xs i n each k least most = each (k + 3 - i) (omega arith) k (omega arith) (omega arith)
 
 -- a block of ASCII
@@ -342,7 +342,7 @@ ascii_on xs i j m p q k least most = elim (cases_lt k j) [ inl lt ↦ p k least 
 
 -- ASCII may follow where no code has to go on
 pub ascii_follows : (xs : List ℕ) (i n : ℕ) → ((k : ℕ) → k + 3 ≡ i → (get_or xs k 0 < 0xF0) × (get_or xs (k + 1) 0 < 0xE0) × (get_or xs (k + 2) 0 < 0xC0))
-    → AreAscii xs i n → 3 ≤ i → AllFollow xs i n
+    → AreAscii xs i n → 3 ≤ i → AllMayFollow xs i n
 ascii_follows xs i n closed at start k least most =
     let before = closed (i - 3) (omega arith) in
     let first : get_or xs (i - 3) 0 < 0xF0 = before.0 in

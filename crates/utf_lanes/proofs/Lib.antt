@@ -7,9 +7,9 @@ pub mod FewBytes
 pub mod Joined
 pub mod JudgedText
 pub mod JudgedUnits
-pub mod KeptPairs
-pub mod KeptRows
-pub mod KeptSlots
+pub mod CompressPairs
+pub mod CompressRows
+pub mod CompressLanes
 pub mod LaneLemmas
 pub mod NoneBegins
 pub mod PairTables

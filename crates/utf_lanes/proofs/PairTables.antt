@@ -1,7 +1,7 @@
 -- Three tables that judge a byte after the one before it, computed at each byte and each upper half of the next.
 use Rattle.std.proofs.Common.{◌≡◌, ℕ, zero, suc, ◌-◌, ◌/◌, ◌<◌, Bool, true, not, ◌&&◌, ◌||◌, eqb, ltb, leb, List, get_or, bit_and, bit_xor, arith, subst, inl, inr, eq-zero-or-pos, ltb-true, leb-true, eq-eqb}
 use Rattle.std.proofs.lemmas.Bool.{and_parts, or_cases}
-use Rattle.utf_lanes.specs.TextBlocks.{Continues, MayBegin, MayFollow, IsPair}
+use Rattle.utf_lanes.specs.TextBlocks.{IsContinuation, MayBegin, MayFollow, IsPair}
 
 abbrev pub each_below : (ℕ → Bool) → ℕ → Bool
 each_below p zero = true
@@ -86,7 +86,7 @@ module _ (c d : ℕ) where
             record { first = λ low _. absurd (omega arith); second = λ _. from_second q.1 }
       ]
 
-  from_late : late_half c (d / 16) ≡ true → Continues c × Continues d
+  from_late : late_half c (d / 16) ≡ true → IsContinuation c × IsContinuation d
   from_late e =
       let p = and_parts (leb 0x80 c && ltb c 0xC0) _ e in
       let q = and_parts (leb 0x80 c) _ p.0 in

@@ -5,8 +5,8 @@ use Rattle.std.proofs.lemmas.List.{get_or-map, length-map}
 use Rattle.std.proofs.lemmas.Simd.{bitmask_splat, bit_mask_l, mask_l-lt, zip2_splat, zip2_splat_left}
 use Rattle.std.specs.Int.{bit_at}
 use lib.Lanes.{zip2, mask_l}
-use Rattle.utf_lanes.specs.GivenUnits.{joined}
-use Rattle.utf_lanes.specs.UnitCodes.{kept, slot, slot_at, marked, row_bytes, row_slots, lanes_at}
+use Rattle.utf_lanes.specs.Utf8ToUtf16.{concat_range}
+use Rattle.utf_lanes.specs.UnitCodes.{nonzero_lead, lane_bytes, slot_at, marked, row_bytes, row_slots, lanes_at}
 use Rattle.utf_lanes.proofs.BlockUnits.{low_bit, high_bit}
 use Rattle.utf_lanes.proofs.Joined.{joined_halves}
 use Rattle.utf_lanes.proofs.LaneLemmas.{reach_mask}
@@ -23,8 +23,8 @@ at_back xs k = get_or xs (8 + k) 0
 
 -- the slot of one lane, by what stands first and second in each pair
 abbrev lane_at : Bool → (ℕ → ℕ) → (ℕ → ℕ) → ℕ → List ℕ
-lane_at true f g i = kept (f i) ++ (g i ∷ [])
-lane_at false f g i = slot (f (2 * i)) (f (2 * i + 1)) (g (2 * i))
+lane_at true f g i = nonzero_lead (f i) ++ (g i ∷ [])
+lane_at false f g i = lane_bytes (f (2 * i)) (f (2 * i + 1)) (g (2 * i))
 
 module _ (vs : List ℕ) (f g : ℕ → ℕ) (pairs : ArePairs vs f g) where
   pair_first : (k : ℕ) → k < 8 → get_or vs (2 * k) 0 ≡ f k
@@ -55,7 +55,7 @@ high_bits v long k lt =
     let test : get_or (map (λ x. leb 0x80 x) v) k false ≡ leb 0x80 (get_or v k 0) = get_or-map (λ x. leb 0x80 x) v k 0 false (omega (arith, long)) in
     rw (mask_is v long) (bit_mask_l (map (λ x. leb 0x80 x) v) k ∙ ap (λ (b : Bool). cond {A = ℕ} b 1 0) test)
 
-marked_kept : (m i b : ℕ) → bit_at m i ≡ cond (leb 0x80 b) 1 0 → marked m i b ≡ kept b
+marked_kept : (m i b : ℕ) → bit_at m i ≡ cond (leb 0x80 b) 1 0 → marked m i b ≡ nonzero_lead b
 marked_kept m i b bit = rw bit (either (leb 0x80 b) (ltb b 0x80) refl refl)
   where
     either : (s t : Bool) → leb 0x80 b ≡ s → ltb b 0x80 ≡ t → cond (eqb (cond s 1 0) 1) (b ∷ []) [] ≡ cond t [] (b ∷ [])
@@ -102,19 +102,19 @@ module _ (fronts lasts vs ws : List ℕ) (long : length fronts ≡ 16) (pairs : 
       there false =
           let a : 8 + 2 * i ≡ 2 * (4 + i) = omega arith in
           let b : 8 + (2 * i + 1) ≡ 2 * (4 + i) + 1 = omega arith in
-          ap₂ (λ p q. slot (get_or fronts p 0) (get_or fronts q 0) (get_or lasts p 0)) a b
+          ap₂ (λ p q. lane_bytes (get_or fronts p 0) (get_or fronts q 0) (get_or lasts p 0)) a b
 
-  pub rows_joined : joined (row_bytes short (bit_and (reach_mask 0x80 fronts) 255) vs) 0 (row_slots short) ++ joined (row_bytes short (reach_mask 0x80 fronts / 256) ws) 0 (row_slots short)
-      ≡ joined (lanes_at short fronts lasts) 0 (row_slots short + row_slots short)
+  pub rows_joined : concat_range (row_bytes short (bit_and (reach_mask 0x80 fronts) 255) vs) 0 (row_slots short) ++ concat_range (row_bytes short (reach_mask 0x80 fronts / 256) ws) 0 (row_slots short)
+      ≡ concat_range (lanes_at short fronts lasts) 0 (row_slots short + row_slots short)
   rows_joined = joined_halves _ _ _ (row_slots short) front_row back_row
 
 -- Sixteen slots in three vectors.
 module _ (firsts middles lasts fronts more_fronts ends more_ends : List ℕ) (front : ArePairs fronts (at_front firsts) (at_front middles))
     (more_front : ArePairs more_fronts (at_back firsts) (at_back middles)) (end : ArePairs ends (at_front lasts) (at_front lasts)) (more_end : ArePairs more_ends (at_back lasts) (at_back lasts)) where
-  slots_at : (vs zs : List ℕ) (f g h : ℕ → ℕ) → ArePairs vs f g → ArePairs zs h h → (k : ℕ) → k < 8 → lanes_at false vs zs k ≡ slot (f k) (g k) (h k)
+  slots_at : (vs zs : List ℕ) (f g h : ℕ → ℕ) → ArePairs vs f g → ArePairs zs h h → (k : ℕ) → k < 8 → lanes_at false vs zs k ≡ lane_bytes (f k) (g k) (h k)
   slots_at vs zs f g h p e k lt = rw (pair_first vs f g p k lt, pair_second vs f g p k lt, pair_first zs h h e k lt) refl
 
-  pub sixteen_slots : joined (lanes_at false fronts ends) 0 8 ++ joined (lanes_at false more_fronts more_ends) 0 8 ≡ joined (slot_at firsts middles lasts) 0 16
+  pub sixteen_slots : concat_range (lanes_at false fronts ends) 0 8 ++ concat_range (lanes_at false more_fronts more_ends) 0 8 ≡ concat_range (slot_at firsts middles lasts) 0 16
   sixteen_slots =
       joined_halves (lanes_at false fronts ends) (lanes_at false more_fronts more_ends) (slot_at firsts middles lasts) 8
       (slots_at fronts ends (at_front firsts) (at_front middles) (at_front lasts) front end)

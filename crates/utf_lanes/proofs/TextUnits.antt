@@ -10,13 +10,13 @@ use Rattle.utf_base.specs.Scalar.{IsScalar}
 use Rattle.utf_base.proofs.Utf8Code.{utf8-1, utf8-2, utf8-3, utf8-4}
 use Rattle.utf_base.proofs.Utf16Code.{utf16-1, utf16-2}
 use Rattle.utf_lanes.specs.BytePairs.{bytes_of}
-use Rattle.utf_lanes.specs.GivenUnits.{joined, given, given_at, gives, halves, unit_low, unit_high}
+use Rattle.utf_lanes.specs.Utf8ToUtf16.{concat_range, utf16_bytes, utf16_bytes_at, ends_unit, halves, unit_low, unit_high}
 use Rattle.utf_lanes.proofs.Joined.{joined_add, joined_moved, joined_same, joined_1, joined_2, joined_3, joined_4}
 
 -- Places of a text, and of the bytes with NULs before them.
 
-at_place : (high : Bool) (xs : List ℕ) (k : ℕ) → given_at high (0 ∷ 0 ∷ 0 ∷ xs) (3 + k) ≡ given_at high xs k
-unfolding given_at
+at_place : (high : Bool) (xs : List ℕ) (k : ℕ) → utf16_bytes_at high (0 ∷ 0 ∷ 0 ∷ xs) (3 + k) ≡ utf16_bytes_at high xs k
+unfolding utf16_bytes_at
 at_place high xs k =
     let a : 3 + k ≡ suc (suc (suc k)) = omega arith in
     let b : 3 + k + 1 ≡ suc (suc (suc (k + 1))) = omega arith in
@@ -24,13 +24,13 @@ at_place high xs k =
     let d : 3 + k + 3 ≡ suc (suc (suc (k + 3))) = omega arith in
     rw (b, c, d, a) refl
 
-pub given_here : (high : Bool) (xs : List ℕ) (place s n : ℕ) → 3 ≤ place → joined (given_at high xs) (place - 3 + s) n ≡ given high xs (place + s) n
+pub given_here : (high : Bool) (xs : List ℕ) (place s n : ℕ) → 3 ≤ place → concat_range (utf16_bytes_at high xs) (place - 3 + s) n ≡ utf16_bytes high xs (place + s) n
 given_here high xs place s n start =
-    joined_moved (given_at high xs) (given_at high (0 ∷ 0 ∷ 0 ∷ xs)) (place - 3 + s) (place + s) n
-    (λ i lt. let at : 3 + (place - 3 + s + i) ≡ place + s + i = omega arith in sym (at_place high xs (place - 3 + s + i)) ∙ ap (given_at high (0 ∷ 0 ∷ 0 ∷ xs)) at)
+    joined_moved (utf16_bytes_at high xs) (utf16_bytes_at high (0 ∷ 0 ∷ 0 ∷ xs)) (place - 3 + s) (place + s) n
+    (λ i lt. let at : 3 + (place - 3 + s + i) ≡ place + s + i = omega arith in sym (at_place high xs (place - 3 + s + i)) ∙ ap (utf16_bytes_at high (0 ∷ 0 ∷ 0 ∷ xs)) at)
 
-same_at : (high : Bool) (front zs : List ℕ) (i : ℕ) → i < 16 → front ≡ take 19 zs → given_at high front i ≡ given_at high zs i
-unfolding given_at
+same_at : (high : Bool) (front zs : List ℕ) (i : ℕ) → i < 16 → front ≡ take 19 zs → utf16_bytes_at high front i ≡ utf16_bytes_at high zs i
+unfolding utf16_bytes_at
 same_at high front zs i lt w =
     let a : get_or front i 0 ≡ get_or zs i 0 = ap (λ ys. get_or ys i 0) w ∙ get_or-take 19 zs i 0 (omega arith) in
     let b : get_or front (i + 1) 0 ≡ get_or zs (i + 1) 0 = ap (λ ys. get_or ys (i + 1) 0) w ∙ get_or-take 19 zs (i + 1) 0 (omega arith) in
@@ -39,20 +39,20 @@ same_at high front zs i lt w =
     rw (a, b, c, d) refl
 
 -- the first sixteen
-pub given_first : (high : Bool) (xs front : List ℕ) → front ≡ 0 ∷ 0 ∷ 0 ∷ take 16 xs → joined (given_at high front) 0 16 ≡ given high xs 0 16
-given_first high xs front e = joined_same (given_at high front) (given_at high (0 ∷ 0 ∷ 0 ∷ xs)) 0 16 (λ i ge lt. same_at high front (0 ∷ 0 ∷ 0 ∷ xs) i (omega arith) e)
+pub given_first : (high : Bool) (xs front : List ℕ) → front ≡ 0 ∷ 0 ∷ 0 ∷ take 16 xs → concat_range (utf16_bytes_at high front) 0 16 ≡ utf16_bytes high xs 0 16
+given_first high xs front e = joined_same (utf16_bytes_at high front) (utf16_bytes_at high (0 ∷ 0 ∷ 0 ∷ xs)) 0 16 (λ i ge lt. same_at high front (0 ∷ 0 ∷ 0 ∷ xs) i (omega arith) e)
 
-pub given_nothing : (high : Bool) (xs old : List ℕ) (p : ℕ) → old ≡ old ++ given high xs p 0
-unfolding joined
+pub given_nothing : (high : Bool) (xs old : List ℕ) (p : ℕ) → old ≡ old ++ utf16_bytes high xs p 0
+unfolding concat_range
 given_nothing high xs old p = sym (append-nil old)
 
 -- what more places give
-pub given_more : (high : Bool) (xs old mid new : List ℕ) (p m q n t : ℕ) → mid ≡ old ++ given high xs p m → new ≡ mid ++ given high xs q n → p + m ≡ q → m + n ≡ t → new ≡ old ++ given high xs p t
+pub given_more : (high : Bool) (xs old mid new : List ℕ) (p m q n t : ℕ) → mid ≡ old ++ utf16_bytes high xs p m → new ≡ mid ++ utf16_bytes high xs q n → p + m ≡ q → m + n ≡ t → new ≡ old ++ utf16_bytes high xs p t
 given_more high xs old mid new p m q n t e f at sum =
-    let whole = joined_add (given_at high (0 ∷ 0 ∷ 0 ∷ xs)) p m n in
-    let next : given high xs (p + m) n ≡ given high xs q n = ap (λ j. given high xs j n) at in
-    f ∙ ap (λ ys. ys ++ given high xs q n) e ∙ append_assoc old (given high xs p m) (given high xs q n)
-    ∙ ap (λ ys. old ++ ys) (ap (λ ys. given high xs p m ++ ys) (sym next) ∙ sym whole ∙ ap (given high xs p) sum)
+    let whole = joined_add (utf16_bytes_at high (0 ∷ 0 ∷ 0 ∷ xs)) p m n in
+    let next : utf16_bytes high xs (p + m) n ≡ utf16_bytes high xs q n = ap (λ j. utf16_bytes high xs j n) at in
+    f ∙ ap (λ ys. ys ++ utf16_bytes high xs q n) e ∙ append_assoc old (utf16_bytes high xs p m) (utf16_bytes high xs q n)
+    ∙ ap (λ ys. old ++ ys) (ap (λ ys. utf16_bytes high xs p m ++ ys) (sym next) ∙ sym whole ∙ ap (utf16_bytes high xs p) sum)
 
 pub two_halves : (old mid new first second all : List ℕ) → mid ≡ old ++ first → new ≡ mid ++ second → first ++ second ≡ all → new ≡ old ++ all
 two_halves old mid new first second all e f g = f ∙ ap (λ ys. ys ++ second) e ∙ append_assoc old first second ∙ ap (λ ys. old ++ ys) g
@@ -67,19 +67,19 @@ record Closed (xs : List ℕ) (k : ℕ) : Type 0 where
 
 -- What the byte d gives after a, b and c.
 abbrev here : Bool → ℕ → ℕ → ℕ → ℕ → List ℕ
-here high a b c d = cond (gives c d) (halves high (unit_low b c d) (unit_high a b c d)) []
+here high a b c d = cond (ends_unit c d) (halves high (unit_low b c d) (unit_high a b c d)) []
 
 gives_none : (high : Bool) (a b c d : ℕ) → (0xC0 ≤ d) ⊎ (0xE0 ≤ c) → here high a b c d ≡ []
 gives_none high a b c d h = rw (closes c d h) refl
   where
-    closes : (c d : ℕ) → (0xC0 ≤ d) ⊎ (0xE0 ≤ c) → gives c d ≡ false
+    closes : (c d : ℕ) → (0xC0 ≤ d) ⊎ (0xE0 ≤ c) → ends_unit c d ≡ false
     closes c d (inl ge) = grind (arith, common_steps)
     closes c d (inr ge) = grind (arith, common_steps)
 
 gives_unit : (high : Bool) (a b c d u : ℕ) → d < 0xC0 → c < 0xE0 → unit_low b c d ≡ u % 256 → unit_high a b c d ≡ u / 256 → here high a b c d ≡ bytes_of high u
 gives_unit high a b c d u lt below e f = rw (opens c d lt below, e, f) (either high)
   where
-    opens : (c d : ℕ) → d < 0xC0 → c < 0xE0 → gives c d ≡ true
+    opens : (c d : ℕ) → d < 0xC0 → c < 0xE0 → ends_unit c d ≡ true
     opens c d lt below = grind (arith, common_steps)
 
     either : (high : Bool) → halves high (u % 256) (u / 256) ≡ bytes_of high u
@@ -146,8 +146,8 @@ trailing_high_is s h = omega arith
 
 -- The bytes of one code, as they stand after the place k + 2 of some bytes.
 module _ (high : Bool) (xs rest : List ℕ) (k s : ℕ) (scalar : IsScalar s) (before : Closed xs k) (code : drop (k + 3) xs ≡ utf8 s ++ rest) where
-  place_gives : (m a b c d : ℕ) → get_or xs m 0 ≡ a → get_or xs (m + 1) 0 ≡ b → get_or xs (m + 2) 0 ≡ c → get_or xs (m + 3) 0 ≡ d → given_at high xs m ≡ here high a b c d
-  unfolding given_at
+  place_gives : (m a b c d : ℕ) → get_or xs m 0 ≡ a → get_or xs (m + 1) 0 ≡ b → get_or xs (m + 2) 0 ≡ c → get_or xs (m + 3) 0 ≡ d → utf16_bytes_at high xs m ≡ here high a b c d
+  unfolding utf16_bytes_at
   place_gives m a b c d e f g h = rw (e, f, g, h) refl
 
   byte : (w : List ℕ) (j m : ℕ) → utf8 s ++ rest ≡ w → k + 3 + j ≡ m → get_or xs m 0 ≡ get_or w j 0
@@ -158,21 +158,21 @@ module _ (high : Bool) (xs rest : List ℕ) (k s : ℕ) (scalar : IsScalar s) (b
 
   -- The places of the code, one by one.
 
-  gives_at_0 : (w : List ℕ) → utf8 s ++ rest ≡ w → given_at high xs k ≡ here high (get_or xs k 0) (get_or xs (k + 1) 0) (get_or xs (k + 2) 0) (get_or w 0 0)
+  gives_at_0 : (w : List ℕ) → utf8 s ++ rest ≡ w → utf16_bytes_at high xs k ≡ here high (get_or xs k 0) (get_or xs (k + 1) 0) (get_or xs (k + 2) 0) (get_or w 0 0)
   gives_at_0 w e = place_gives k _ _ _ _ refl refl refl (byte w 0 (k + 3) e (omega arith))
 
-  gives_at_1 : (w : List ℕ) → utf8 s ++ rest ≡ w → given_at high xs (k + 1) ≡ here high (get_or xs (k + 1) 0) (get_or xs (k + 2) 0) (get_or w 0 0) (get_or w 1 0)
+  gives_at_1 : (w : List ℕ) → utf8 s ++ rest ≡ w → utf16_bytes_at high xs (k + 1) ≡ here high (get_or xs (k + 1) 0) (get_or xs (k + 2) 0) (get_or w 0 0) (get_or w 1 0)
   gives_at_1 w e = place_gives (k + 1) _ _ _ _ refl (old (k + 1 + 1) (k + 2) (omega arith)) (byte w 0 (k + 1 + 2) e (omega arith)) (byte w 1 (k + 1 + 3) e (omega arith))
 
-  gives_at_2 : (w : List ℕ) → utf8 s ++ rest ≡ w → given_at high xs (k + 2) ≡ here high (get_or xs (k + 2) 0) (get_or w 0 0) (get_or w 1 0) (get_or w 2 0)
+  gives_at_2 : (w : List ℕ) → utf8 s ++ rest ≡ w → utf16_bytes_at high xs (k + 2) ≡ here high (get_or xs (k + 2) 0) (get_or w 0 0) (get_or w 1 0) (get_or w 2 0)
   gives_at_2 w e = place_gives (k + 2) _ _ _ _ refl (byte w 0 (k + 2 + 1) e (omega arith)) (byte w 1 (k + 2 + 2) e (omega arith)) (byte w 2 (k + 2 + 3) e (omega arith))
 
-  gives_at_3 : (w : List ℕ) → utf8 s ++ rest ≡ w → given_at high xs (k + 3) ≡ here high (get_or w 0 0) (get_or w 1 0) (get_or w 2 0) (get_or w 3 0)
+  gives_at_3 : (w : List ℕ) → utf8 s ++ rest ≡ w → utf16_bytes_at high xs (k + 3) ≡ here high (get_or w 0 0) (get_or w 1 0) (get_or w 2 0) (get_or w 3 0)
   gives_at_3 w e = place_gives (k + 3) _ _ _ _ (byte w 0 (k + 3) e (omega arith)) (byte w 1 (k + 3 + 1) e (omega arith)) (byte w 2 (k + 3 + 2) e (omega arith)) (byte w 3 (k + 3 + 3) e (omega arith))
 
   -- The code gives its units, and then the bytes before the next ask for no more.
   record CodeGiven (ws : List ℕ) : Type 0 where
-    units : joined (given_at high xs) k (length ws) ≡ flat_map (bytes_of high) (utf16 s)
+    units : concat_range (utf16_bytes_at high xs) k (length ws) ≡ flat_map (bytes_of high) (utf16 s)
     after : Closed xs (k + length ws)
 
   one : s < 0x80 → CodeGiven (utf8 s)
@@ -187,7 +187,7 @@ module _ (high : Bool) (xs rest : List ℕ) (k s : ℕ) (scalar : IsScalar s) (b
       let p : get_or xs (k + 1 + 1) 0 ≡ get_or xs (k + 2) 0 = old (k + 1 + 1) (k + 2) (omega arith) in
       let q : get_or xs (k + 1 + 2) 0 ≡ s = old (k + 1 + 2) (k + 3) (omega arith) ∙ last in
       rw e (record {
-        units = rw (utf16-1 s (omega arith)) (joined_1 (given_at high xs) k ∙ gives_at_0 w is ∙ unit ∙ sym (append-nil (bytes_of high s)));
+        units = rw (utf16-1 s (omega arith)) (joined_1 (utf16_bytes_at high xs) k ∙ gives_at_0 w is ∙ unit ∙ sym (append-nil (bytes_of high s)));
         after = record { third = omega arith; second = omega (arith, p); first = omega (arith, q) };
       })
 
@@ -206,7 +206,7 @@ module _ (high : Bool) (xs rest : List ℕ) (k s : ℕ) (scalar : IsScalar s) (b
       let p : get_or xs (k + 2 + 1) 0 ≡ w0 = byte w 0 (k + 2 + 1) is (omega arith) in
       let q : get_or xs (k + 2 + 2) 0 ≡ w1 = byte w 1 (k + 2 + 2) is (omega arith) in
       rw e (record {
-        units = rw (utf16-1 s (omega arith)) (joined_2 (given_at high xs) k ∙ ap₂ (λ ys zs. ys ++ zs) none unit ∙ sym (append-nil (bytes_of high s)));
+        units = rw (utf16-1 s (omega arith)) (joined_2 (utf16_bytes_at high xs) k ∙ ap₂ (λ ys zs. ys ++ zs) none unit ∙ sym (append-nil (bytes_of high s)));
         after = record { third = omega arith; second = omega (arith, p); first = omega (arith, q) };
       })
 
@@ -228,7 +228,7 @@ module _ (high : Bool) (xs rest : List ℕ) (k s : ℕ) (scalar : IsScalar s) (b
       let p : get_or xs (k + 3 + 1) 0 ≡ w1 = byte w 1 (k + 3 + 1) is (omega arith) in
       let q : get_or xs (k + 3 + 2) 0 ≡ w2 = byte w 2 (k + 3 + 2) is (omega arith) in
       rw e (record {
-        units = rw (utf16-1 s h) (joined_3 (given_at high xs) k ∙ ap₂ (λ ys zs. ys ++ zs) none (ap₂ (λ ys zs. ys ++ zs) second unit) ∙ sym (append-nil (bytes_of high s)));
+        units = rw (utf16-1 s h) (joined_3 (utf16_bytes_at high xs) k ∙ ap₂ (λ ys zs. ys ++ zs) none (ap₂ (λ ys zs. ys ++ zs) second unit) ∙ sym (append-nil (bytes_of high s)));
         after = record { third = omega (arith, o); second = omega (arith, p); first = omega (arith, q) };
       })
 
@@ -255,7 +255,7 @@ module _ (high : Bool) (xs rest : List ℕ) (k s : ℕ) (scalar : IsScalar s) (b
       let q : get_or xs (k + 4 + 2) 0 ≡ w3 = byte w 3 (k + 4 + 2) is (omega arith) in
       rw e (record {
         units = rw (utf16-2 s g)
-            (joined_4 (given_at high xs) k ∙ ap₂ (λ ys zs. ys ++ zs) none (ap₂ (λ ys zs. ys ++ zs) second (ap₂ (λ ys zs. ys ++ zs) first_unit (last_unit ∙ sym (append-nil (bytes_of high (trailing s)))))));
+            (joined_4 (utf16_bytes_at high xs) k ∙ ap₂ (λ ys zs. ys ++ zs) none (ap₂ (λ ys zs. ys ++ zs) second (ap₂ (λ ys zs. ys ++ zs) first_unit (last_unit ∙ sym (append-nil (bytes_of high (trailing s)))))));
         after = record { third = omega (arith, o); second = omega (arith, p); first = omega (arith, q) };
       })
 
@@ -272,8 +272,8 @@ module _ (high : Bool) (xs rest : List ℕ) (k s : ℕ) (scalar : IsScalar s) (b
 -- All codes of a text.
 
 codes_given : (high : Bool) (xs cs rest : List ℕ) (k : ℕ) → All IsScalar cs → Closed xs k → drop (k + 3) xs ≡ flat_map utf8 cs ++ rest
-    → joined (given_at high xs) k (length (flat_map utf8 cs)) ≡ flat_map (λ s. flat_map (bytes_of high) (utf16 s)) cs
-unfolding joined
+    → concat_range (utf16_bytes_at high xs) k (length (flat_map utf8 cs)) ≡ flat_map (λ s. flat_map (bytes_of high) (utf16 s)) cs
+unfolding concat_range
 codes_given high xs [] rest k all before e = refl
 codes_given high xs (s ∷ cs) rest k all before e =
     let more = flat_map utf8 cs in
@@ -282,9 +282,9 @@ codes_given high xs (s ∷ cs) rest k all before e =
     let first = code_given high xs (more ++ rest) k s (all 0 s (omega arith)) before whole in
     let at : k + 3 + n ≡ k + n + 3 = omega arith in
     let left : drop (k + n + 3) xs ≡ more ++ rest = ap (λ j. drop j xs) (sym at) ∙ sym (drop-drop n (k + 3) xs) ∙ ap (drop n) whole ∙ drop-append_seam (utf8 s) (more ++ rest) in
-    ap (joined (given_at high xs) k) (length-append (utf8 s) more) ∙ joined_add (given_at high xs) k n (length more)
+    ap (concat_range (utf16_bytes_at high xs) k) (length-append (utf8 s) more) ∙ joined_add (utf16_bytes_at high xs) k n (length more)
     ∙ ap₂ (λ ys zs. ys ++ zs) first.units (codes_given high xs cs rest (k + n) (λ j d lt. all (suc j) d (omega arith)) first.after left)
 
-pub text_given : (high : Bool) (cs : List ℕ) → All IsScalar cs → given high (flat_map utf8 cs) 0 (length (flat_map utf8 cs)) ≡ flat_map (λ s. flat_map (bytes_of high) (utf16 s)) cs
+pub text_given : (high : Bool) (cs : List ℕ) → All IsScalar cs → utf16_bytes high (flat_map utf8 cs) 0 (length (flat_map utf8 cs)) ≡ flat_map (λ s. flat_map (bytes_of high) (utf16 s)) cs
 text_given high cs all =
     codes_given high (0 ∷ 0 ∷ 0 ∷ flat_map utf8 cs) cs [] 0 all (record { third = omega arith; second = omega arith; first = omega arith }) (sym (append-nil (flat_map utf8 cs)))

@@ -6,21 +6,21 @@ use Rattle.utf_base.specs.Code.{utf8}
 use Rattle.utf_base.specs.Units.{is_leading_surrogate, is_trailing_surrogate, is_surrogate, pair_value}
 use Rattle.utf_base.proofs.Utf8Code.{utf8-1, utf8-2, utf8-3, utf8-4}
 use Rattle.utf_base.proofs.Utf16Code.{pair_value-range}
-use Rattle.utf_lanes.specs.UnitCodes.{unit_code, slot, first_byte, middle_byte, last_byte, lead_byte, second_byte, third_byte}
+use Rattle.utf_lanes.specs.UnitCodes.{unit_code, lane_bytes, first_byte, middle_byte, last_byte, lead_byte, second_byte, third_byte}
 
 pub no_surrogate : (u : ℕ) → is_leading_surrogate u ≡ false → is_trailing_surrogate u ≡ false → is_surrogate u ≡ false
 no_surrogate u e f = grind (arith, common_steps)
 
-one_byte : (u : ℕ) → u < 0x80 → slot (first_byte u) (middle_byte u) (last_byte u) ≡ u ∷ []
+one_byte : (u : ℕ) → u < 0x80 → lane_bytes (first_byte u) (middle_byte u) (last_byte u) ≡ u ∷ []
 one_byte u h = grind (arith, common_steps)
 
-two_bytes : (u : ℕ) → 0x80 ≤ u → u < 0x800 → slot (first_byte u) (middle_byte u) (last_byte u) ≡ (0xC0 + u / 64) ∷ (0x80 + u % 64) ∷ []
+two_bytes : (u : ℕ) → 0x80 ≤ u → u < 0x800 → lane_bytes (first_byte u) (middle_byte u) (last_byte u) ≡ (0xC0 + u / 64) ∷ (0x80 + u % 64) ∷ []
 two_bytes u g h = grind (arith, common_steps)
 
-three_bytes : (u : ℕ) → 0x800 ≤ u → u < 0x1_0000 → slot (first_byte u) (middle_byte u) (last_byte u) ≡ (0xE0 + u / 4096) ∷ (0x80 + u / 64 % 64) ∷ (0x80 + u % 64) ∷ []
+three_bytes : (u : ℕ) → 0x800 ≤ u → u < 0x1_0000 → lane_bytes (first_byte u) (middle_byte u) (last_byte u) ≡ (0xE0 + u / 4096) ∷ (0x80 + u / 64 % 64) ∷ (0x80 + u % 64) ∷ []
 three_bytes u g h = grind (arith, common_steps)
 
-character_slot : (u : ℕ) → u < 0x1_0000 → slot (first_byte u) (middle_byte u) (last_byte u) ≡ utf8 u
+character_slot : (u : ℕ) → u < 0x1_0000 → lane_bytes (first_byte u) (middle_byte u) (last_byte u) ≡ utf8 u
 character_slot u fits =
     elim (cases_lt u 0x80) [
       | inl a ↦ one_byte u a ∙ sym (utf8-1 u a)

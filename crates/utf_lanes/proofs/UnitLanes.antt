@@ -7,7 +7,7 @@ use Rattle.std.proofs.lemmas.Grind.{common_steps}
 use Rattle.std.proofs.lemmas.List.{get_or-map, length-map}
 use Rattle.std.specs.Int.{bit_at}
 use lib.Lanes.{zip2, mask_l, top}
-use Rattle.utf_lanes.specs.GivenUnits.{gives, low_half, high_half, leading_low, leading_high, trailing_high, continued}
+use Rattle.utf_lanes.specs.Utf8ToUtf16.{ends_unit, low_half, high_half, leading_low, leading_high, trailing_high, continued_byte}
 use Rattle.utf_lanes.proofs.LaneLemmas.{IsBlock, wide, lane, lane_with, excess, excess_len, excess_at}
 use Rattle.utf_lanes.proofs.ChosenLanes.{wide_with, where_below, where_below_len, where_below_at}
 
@@ -33,15 +33,15 @@ module _ (before here : List ℕ) (p : IsBlock before) (q : IsBlock here) where
   mask_is : giving_mask before here ≡ mask_l (map (λ x. ltb x 0xC0) (later before here))
   mask_is = bitmask_splat w8 ltb (later before here) 16 0xC0 later_len (lit< tt)
 
-  lane_gives : (k : ℕ) → k < 16 → ltb (get_or (later before here) k 0) 0xC0 ≡ gives (get_or before k 0) (get_or here k 0)
+  lane_gives : (k : ℕ) → k < 16 → ltb (get_or (later before here) k 0) 0xC0 ≡ ends_unit (get_or before k 0) (get_or here k 0)
   lane_gives k lt =
       rw (where_below_at (excess before 0x20) here here (excess before 0x20) less_len q.0 q.0 less_len k lt, excess_at before 0x20 p (lit< tt) k lt)
       (greater_below (get_or before k 0) (get_or here k 0) _ _ _ refl refl refl)
 
-  mask_bit : (k : ℕ) → k < 16 → bit_at (giving_mask before here) k ≡ cond (gives (get_or before k 0) (get_or here k 0)) 1 0
+  mask_bit : (k : ℕ) → k < 16 → bit_at (giving_mask before here) k ≡ cond (ends_unit (get_or before k 0) (get_or here k 0)) 1 0
   mask_bit k lt =
       let bit = bit_mask_l (map (λ x. ltb x 0xC0) (later before here)) k in
-      let test : get_or (map (λ x. ltb x 0xC0) (later before here)) k false ≡ gives (get_or before k 0) (get_or here k 0)
+      let test : get_or (map (λ x. ltb x 0xC0) (later before here)) k false ≡ ends_unit (get_or before k 0) (get_or here k 0)
       = get_or-map (λ x. ltb x 0xC0) (later before here) k 0 false (omega (arith, later_len)) ∙ lane_gives k lt in
       rw mask_is (bit ∙ ap (λ (b : Bool). cond {A = ℕ} b 1 0) test)
 
@@ -53,10 +53,10 @@ module _ (before here : List ℕ) (p : IsBlock before) (q : IsBlock here) where
       omega (arith, mask_is, and_le_l (giving_mask before here) ((2 ^ 64 - 1) * 2 ^ s % 2 ^ 64))
 
   pub giving_bits : (s : ℕ) → s < 16 → (k : ℕ) → k < 16
-      → bit_at (bit_and (giving_mask before here) ((2 ^ 64 - 1) * 2 ^ s % 2 ^ 64)) k ≡ cond (gives (get_or before k 0) (get_or here k 0) && leb s k) 1 0
+      → bit_at (bit_and (giving_mask before here) ((2 ^ 64 - 1) * 2 ^ s % 2 ^ 64)) k ≡ cond (ends_unit (get_or before k 0) (get_or here k 0) && leb s k) 1 0
   giving_bits s few k lt =
       rw (bit_at_and (giving_mask before here) ((2 ^ 64 - 1) * 2 ^ s % 2 ^ 64) k, ones_shl 64 s (omega arith), mask_bit k lt)
-      (both (gives (get_or before k 0) (get_or here k 0)) (leb s k) refl)
+      (both (ends_unit (get_or before k 0) (get_or here k 0)) (leb s k) refl)
     where
       both : (g t : Bool) → leb s k ≡ t → min (cond g 1 0) (bit_at (2 ^ 64 - 2 ^ s) k) ≡ cond {A = ℕ} (g && t) 1 0
       both true true e = rw (bit_at_mask_inside s 64 k (leb-true s k e) (omega arith)) refl
@@ -88,7 +88,7 @@ module _ (first here : List ℕ) (q : IsBlock first) (r : IsBlock here) where
   continues_len : length (continues first here) ≡ 16
   continues_len = where_below_len here (replicate 16 0x80) (replicate 16 0) first r.0 refl refl q.0
 
-  continues_at : (k : ℕ) → k < 16 → get_or (continues first here) k 0 ≡ continued (get_or first k 0) (get_or here k 0)
+  continues_at : (k : ℕ) → k < 16 → get_or (continues first here) k 0 ≡ continued_byte (get_or first k 0) (get_or here k 0)
   continues_at k lt =
       rw (where_below_at here (replicate 16 0x80) (replicate 16 0) first r.0 refl refl q.0 k lt, get_or-replicate {A = ℕ} 16 k 0x80 0 lt, get_or-replicate {A = ℕ} 16 k 0 0 lt) refl
 
@@ -124,7 +124,7 @@ module _ (first here : List ℕ) (q : IsBlock first) (r : IsBlock here) where
           lane_with up (excess second 0xE0) 4 (excess_len second 0xE0 p (lit< tt)) k lt,
           continues_at k lt,
           excess_at second 0xE0 p (lit< tt) k lt,
-          and_mask (continued (get_or first k 0) (get_or here k 0) / 4) 4,
+          and_mask (continued_byte (get_or first k 0) (get_or here k 0) / 4) 4,
         ) refl
 
 -- Leading and trailing surrogates.

@@ -2,14 +2,14 @@
 use Rattle.std.specs.Prelude.{◌≡◌, ℕ, ◌+◌, ◌<◌, ◌≤◌, List, slice_index, bit_xor}
 
 -- a continuation byte
-abbrev pub Continues : ℕ → Type 0
-Continues b = (0x80 ≤ b) × (b < 0xC0)
+abbrev pub IsContinuation : ℕ → Type 0
+IsContinuation b = (0x80 ≤ b) × (b < 0xC0)
 
 -- the bytes c and d may be the first two of a code: d makes it neither overlong nor a surrogate nor too high
 pub record MayBegin (c d : ℕ) : Type 0 where
   pub least : 0xC2 ≤ c
   pub most : c < 0xF5
-  pub second : Continues d
+  pub second : IsContinuation d
   pub three : c ≡ 0xE0 → 0xA0 ≤ d
   pub surrogate : c ≡ 0xED → d < 0xA0
   pub four : c ≡ 0xF0 → 0x90 ≤ d
@@ -23,18 +23,18 @@ pub record MayFollow (c d : ℕ) : Type 0 where
 -- After the bytes a, b and c the byte d may come: it goes on where a code of three or four bytes has to.
 pub record Follows (a b c d : ℕ) : Type 0 where
   pub early : a < 0xF0 → b < 0xE0 → MayFollow c d
-  pub third : 0xE0 ≤ b → Continues c × Continues d
-  pub fourth : 0xF0 ≤ a → Continues c × Continues d
+  pub third : 0xE0 ≤ b → IsContinuation c × IsContinuation d
+  pub fourth : 0xF0 ≤ a → IsContinuation c × IsContinuation d
 
 -- each byte from the place i on and before j may follow the three before it
-abbrev pub AllFollow : List ℕ → ℕ → ℕ → Type 0
-AllFollow xs i j = (k : ℕ) → i ≤ k + 3 → k + 3 < j → Follows (slice_index xs k) (slice_index xs (k + 1)) (slice_index xs (k + 2)) (slice_index xs (k + 3))
+abbrev pub AllMayFollow : List ℕ → ℕ → ℕ → Type 0
+AllMayFollow xs i j = (k : ℕ) → i ≤ k + 3 → k + 3 < j → Follows (slice_index xs k) (slice_index xs (k + 1)) (slice_index xs (k + 2)) (slice_index xs (k + 3))
 
 -- the three bytes before the place ask for no more
-abbrev pub AreClosed : List ℕ → ℕ → Type 0
-AreClosed xs i = (k : ℕ) → k + 3 ≡ i → (slice_index xs k < 0xF0) × (slice_index xs (k + 1) < 0xE0) × (slice_index xs (k + 2) < 0xC0)
+abbrev pub EndsCharacter : List ℕ → ℕ → Type 0
+EndsCharacter xs i = (k : ℕ) → k + 3 ≡ i → (slice_index xs k < 0xF0) × (slice_index xs (k + 1) < 0xE0) × (slice_index xs (k + 2) < 0xC0)
 
 -- what look-ups leave of the byte d after the byte c: nothing only where d may follow, 0x80 only where both continue
 pub record IsPair (c d left : ℕ) : Type 0 where
   pub early : bit_xor 0 left ≡ 0 → MayFollow c d
-  pub late : bit_xor 0x80 left ≡ 0 → Continues c × Continues d
+  pub late : bit_xor 0x80 left ≡ 0 → IsContinuation c × IsContinuation d

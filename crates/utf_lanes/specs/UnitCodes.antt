@@ -1,7 +1,7 @@
 -- Units of UTF-16 as bytes of UTF-8: which bytes a unit gives, by it and the one before it.
 use Rattle.std.specs.Prelude.{◌≡◌, ℕ, ◌<◌, ◌+◌, ◌-◌, ◌*◌, Bool, true, false, ◌/◌, ◌%◌, if◌then◌else◌, List, [], ◌∷◌, ◌++◌, nat_lt, nat_eq, slice_index, ◌≤◌, length, take}
 use Rattle.std.specs.Int.{bit_at}
-use Rattle.utf_lanes.specs.GivenUnits.{joined}
+use Rattle.utf_lanes.specs.Utf8ToUtf16.{concat_range}
 use Rattle.utf_base.specs.Units.{is_leading_surrogate, is_trailing_surrogate, is_surrogate}
 
 -- the unit in the lane k, of which two vectors have the halves
@@ -39,15 +39,15 @@ abbrev pub last_in_text : ℕ → ℕ
 last_in_text u = if is_leading_surrogate u then second_byte u else last_byte u
 
 -- The bytes of a slot: the last, and those before it that are at least 0x80.
-abbrev pub kept : ℕ → List ℕ
-kept b = if nat_lt b 0x80 then [] else b ∷ []
+abbrev pub nonzero_lead : ℕ → List ℕ
+nonzero_lead b = if nat_lt b 0x80 then [] else b ∷ []
 
-abbrev pub slot : ℕ → ℕ → ℕ → List ℕ
-slot first middle last = kept first ++ (kept middle ++ (last ∷ []))
+abbrev pub lane_bytes : ℕ → ℕ → ℕ → List ℕ
+lane_bytes first middle last = nonzero_lead first ++ (nonzero_lead middle ++ (last ∷ []))
 
 -- the bytes of the unit u in text, after the unit p
 abbrev pub unit_code : ℕ → ℕ → List ℕ
-unit_code p u = slot (first_in_text u) (middle_in_text p u) (last_in_text u)
+unit_code p u = lane_bytes (first_in_text u) (middle_in_text p u) (last_in_text u)
 
 -- the bytes of the unit number k
 abbrev pub code_at : (ℕ → ℕ) → ℕ → List ℕ
@@ -69,13 +69,13 @@ pub record WritesUnits (low high old new : List ℕ) (at n end : ℕ) : Type 0 w
   pub most : n ≤ 16
   pub text : AreText (lane_unit low high) n
   pub len : length new ≡ length old
-  pub bytes : take end new ≡ take at old ++ joined (code_at (lane_unit low high)) 0 n
+  pub bytes : take end new ≡ take at old ++ concat_range (code_at (lane_unit low high)) 0 n
   pub short : end ≤ at + 6 * n
   pub fits : end ≤ at + 48
 
 -- the slot in the lane k of three vectors
 abbrev pub slot_at : List ℕ → List ℕ → List ℕ → ℕ → List ℕ
-slot_at firsts middles lasts k = slot (slice_index firsts k) (slice_index middles k) (slice_index lasts k)
+slot_at firsts middles lasts k = lane_bytes (slice_index firsts k) (slice_index middles k) (slice_index lasts k)
 
 -- the byte where the mask has its bit
 abbrev pub marked : ℕ → ℕ → ℕ → List ℕ
@@ -101,5 +101,5 @@ row_most short = if short then 16 else 12
 
 -- the slot in the lane k of two vectors
 abbrev pub lanes_at : Bool → List ℕ → List ℕ → ℕ → List ℕ
-lanes_at true middles lasts k = kept (slice_index middles k) ++ (slice_index lasts k ∷ [])
-lanes_at false fronts lasts k = slot (slice_index fronts (2 * k)) (slice_index fronts (2 * k + 1)) (slice_index lasts (2 * k))
+lanes_at true middles lasts k = nonzero_lead (slice_index middles k) ++ (slice_index lasts k ∷ [])
+lanes_at false fronts lasts k = lane_bytes (slice_index fronts (2 * k)) (slice_index fronts (2 * k + 1)) (slice_index lasts (2 * k))

@@ -1,7 +1,7 @@
 //! Texts of ASCII alone, judged as a whole, and the units of sixteen bytes of them.
 ghost use Rattle.std.specs.Prelude.{◌≡◌, ℕ, ◌+◌, ◌<◌, ◌≤◌, IsTrue, length, slice_index};
 ghost use Rattle.utf_lanes.specs.AsciiTexts.{AreAscii};
-ghost use Rattle.utf_lanes.specs.GivenUnits.{joined, halves};
+ghost use Rattle.utf_lanes.specs.Utf8ToUtf16.{concat_range, halves};
 
 use std::simd::prelude::*;
 
@@ -93,9 +93,9 @@ pub(crate) fn ascii_end(bytes: &[u8], start: usize) -> usize
 
 /// Each byte with a NUL: the first eight bytes, and the others.
 #[inline(always)]
-pub fn beside_nuls(high_first: bool, bytes: u8x16) -> (u8x16, u8x16)
-    ensures first { result.0 ≡ joined (λ k. halves high_first (slice_index bytes k) 0) 0 8 }
-    ensures second { result.1 ≡ joined (λ k. halves high_first (slice_index bytes k) 0) 8 8 }
+pub fn interleave_zeros(high_first: bool, bytes: u8x16) -> (u8x16, u8x16)
+    ensures first { result.0 ≡ concat_range (λ k. halves high_first (slice_index bytes k) 0) 0 8 }
+    ensures second { result.1 ≡ concat_range (λ k. halves high_first (slice_index bytes k) 0) 8 8 }
 {
     let nuls = u8x16::splat(0);
     if high_first {

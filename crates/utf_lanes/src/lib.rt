@@ -12,12 +12,12 @@
 
 pub mod ascii_texts;
 pub mod byte_pairs;
+mod compressed;
 pub mod paired_units;
 mod shuffles;
-pub mod slot_blocks;
-mod slot_puts;
 pub mod text_blocks;
 pub mod text_front;
 pub mod text_units;
 pub mod unit_blocks;
 pub mod unit_bytes;
+pub mod utf16_blocks;

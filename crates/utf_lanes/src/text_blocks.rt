@@ -4,7 +4,7 @@
 //! the two before that tell whether a code of three or four bytes has to go on (Keiser and Lemire, "Validating
 //! UTF-8 in less than one instruction per byte", 2021).
 ghost use Rattle.std.specs.Prelude.{◌≡◌, ℕ, ◌+◌, ◌-◌, ◌<◌, ◌≤◌, ◌∷◌, ◌++◌, length, take, replicate, slice_index, IsTrue, IsUtf8, false};
-ghost use Rattle.utf_lanes.specs.TextBlocks.{AllFollow, AreClosed, IsPair};
+ghost use Rattle.utf_lanes.specs.TextBlocks.{AllMayFollow, EndsCharacter, IsPair};
 ghost use Rattle.utf_base.specs.Kinds.{is_continuation};
 
 use crate::ascii_texts::{ascii_end, is_ascii_block, is_ascii_each};
@@ -111,11 +111,11 @@ pub fn text_len(bytes: &[u8]) -> usize
     if start < 3 || bytes.len() < start + 16 || is_continuation(bytes[start]) {
         return start;
     }
-    let end = followed(bytes, start);
-    if end == bytes.len() && is_closed(bytes, end) {
+    let end = valid_len(bytes, start);
+    if end == bytes.len() && ends_character(bytes, end) {
         return end;
     }
-    last_code(bytes, start, end)
+    last_code_start(bytes, start, end)
 }
 
 // Whether sixteen bytes at most are text, judged at once.
@@ -127,8 +127,8 @@ fn are_text(bytes: &[u8]) -> bool
     if bytes.len() < 8 {
         return are_chars(bytes);
     }
-    let block = past_nuls(bytes);
-    followed_lanes(&block, 3) == 16 && is_closed(&block, 19)
+    let block = padded_text(bytes);
+    valid_lanes(&block, 3) == 16 && ends_character(&block, 19)
 }
 
 // The same, one character after another.
@@ -142,7 +142,7 @@ fn are_chars(bytes: &[u8]) -> bool
 
 // The bytes after so many NULs that all are nineteen.
 #[inline(always)]
-fn past_nuls(bytes: &[u8]) -> [u8; 19]
+fn padded_text(bytes: &[u8]) -> [u8; 19]
     requires { length bytes.now ≤ 16 }
     ensures { result ≡ 0 ∷ 0 ∷ 0 ∷ (replicate (16 - length bytes.now) 0 ++ bytes.now) }
 {
@@ -169,31 +169,31 @@ fn few_chars(bytes: &[u8], least: usize) -> usize
 
 // How far the bytes from the start on may each follow the three before them: to the first that may not, or the end.
 #[inline(always)]
-fn followed(bytes: &[u8], start: usize) -> usize
+fn valid_len(bytes: &[u8], start: usize) -> usize
     requires start { 3 ≤ start }
     requires within { start + 16 ≤ length bytes.now }
     ensures within { result ≤ length bytes.now }
-    ensures follow { AllFollow bytes.now start result }
+    ensures follow { AllMayFollow bytes.now start result }
 {
-    let count = followed_lanes(bytes, start);
+    let count = valid_lanes(bytes, start);
     if count < 16 {
         return start + count;
     }
-    followed_lane_by_lane(bytes, followed_wide(bytes, start + 16))
+    valid_len_by_lanes(bytes, valid_len_wide(bytes, start + 16))
 }
 
 // The same in blocks of 64, to the first in which some byte may not follow.
 #[inline(always)]
-fn followed_wide(bytes: &[u8], start: usize) -> usize
+fn valid_len_wide(bytes: &[u8], start: usize) -> usize
     requires start { 3 ≤ start }
     requires within { start ≤ length bytes.now }
     ensures least { start ≤ result }
     ensures within { result ≤ length bytes.now }
-    ensures follow { AllFollow bytes.now start result }
+    ensures follow { AllMayFollow bytes.now start result }
 {
     let mut place = start;
     while 64 <= bytes.len() - place {
-        if is_ascii_block(bytes, place) && is_closed(bytes, place) {
+        if is_ascii_block(bytes, place) && ends_character(bytes, place) {
             place = ascii_end(bytes, place + 64);
         } else if follows_block(bytes, place) {
             place += 64;
@@ -206,17 +206,17 @@ fn followed_wide(bytes: &[u8], start: usize) -> usize
 
 // The same in blocks of sixteen, of which the last ends with the bytes.
 #[inline(always)]
-fn followed_lane_by_lane(bytes: &[u8], start: usize) -> usize
+fn valid_len_by_lanes(bytes: &[u8], start: usize) -> usize
     requires enough { 19 ≤ length bytes.now }
     requires start { 3 ≤ start }
     requires within { start ≤ length bytes.now }
     ensures within { result ≤ length bytes.now }
-    ensures follow { AllFollow bytes.now start result }
+    ensures follow { AllMayFollow bytes.now start result }
 {
     let mut place = start;
     while place < bytes.len() {
         let block = place.min(bytes.len() - 16);
-        let count = followed_lanes(bytes, block);
+        let count = valid_lanes(bytes, block);
         if count < 16 {
             return block + count;
         }
@@ -231,7 +231,7 @@ fn followed_lane_by_lane(bytes: &[u8], start: usize) -> usize
 fn follows_block(bytes: &[u8], place: usize) -> bool
     requires start { 3 ≤ place }
     requires within { place + 64 ≤ length bytes.now }
-    ensures { IsTrue result → AllFollow bytes.now place (place + 64) }
+    ensures { IsTrue result → AllMayFollow bytes.now place (place + 64) }
 {
     let first = faults_at(bytes, place) | faults_at(bytes, place + 16);
     let second = faults_at(bytes, place + 32) | faults_at(bytes, place + 48);
@@ -240,21 +240,21 @@ fn follows_block(bytes: &[u8], place: usize) -> bool
 
 /// Whether the three bytes before the place ask for no more.
 #[inline(always)]
-pub fn is_closed(bytes: &[u8], place: usize) -> bool
+pub fn ends_character(bytes: &[u8], place: usize) -> bool
     requires start { 3 ≤ place }
     requires within { place ≤ length bytes.now }
-    ensures { IsTrue result → AreClosed bytes.now place }
+    ensures { IsTrue result → EndsCharacter bytes.now place }
 {
     bytes[place - 1] < 0xc0 && bytes[place - 2] < 0xe0 && bytes[place - 3] < 0xf0
 }
 
 // How many of the sixteen bytes from the place on may follow the three before them, up to the first that may not.
 #[inline(always)]
-fn followed_lanes(bytes: &[u8], place: usize) -> usize
+fn valid_lanes(bytes: &[u8], place: usize) -> usize
     requires start { 3 ≤ place }
     requires within { place + 16 ≤ length bytes.now }
     ensures most { result ≤ 16 }
-    ensures follow { AllFollow bytes.now place (place + result) }
+    ensures follow { AllMayFollow bytes.now place (place + result) }
 {
     let wrong = faults_at(bytes, place)
         .simd_ne(u8x16::splat(0))
@@ -272,7 +272,7 @@ fn faults_at(bytes: &[u8], place: usize) -> u8x16
     requires start { 3 ≤ place }
     requires within { place + 16 ≤ length bytes.now }
     ensures len { length result ≡ 16 }
-    ensures lanes { (k : ℕ) → k < 16 → slice_index result k ≡ 0 → AllFollow bytes.now (place + k) (place + k + 1) }
+    ensures lanes { (k : ℕ) → k < 16 → slice_index result k ≡ 0 → AllMayFollow bytes.now (place + k) (place + k + 1) }
 {
     let here = u8x16::from_slice(&bytes[place..]);
     let first = u8x16::from_slice(&bytes[place - 1..]);
@@ -296,12 +296,12 @@ fn pairs(before: u8x16, here: u8x16) -> u8x16
 
 // The last place of some, from the start on and before the end, at which a code begins.
 #[inline(always)]
-fn last_code(bytes: &[u8], start: usize, end: usize) -> usize
+fn last_code_start(bytes: &[u8], start: usize, end: usize) -> usize
     requires start { 3 ≤ start }
     requires within { (start ≤ length bytes.now) × (end ≤ length bytes.now) }
     requires begins { is_continuation (slice_index bytes.now start) ≡ false }
     requires text { IsUtf8 (take start bytes.now) }
-    requires follow { AllFollow bytes.now start end }
+    requires follow { AllMayFollow bytes.now start end }
     ensures within { result ≤ length bytes.now }
     ensures text { IsUtf8 (take result bytes.now) }
 {

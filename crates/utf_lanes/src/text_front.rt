@@ -45,7 +45,7 @@ fn two(src: &[u8]) -> (char, usize)
     requires { IsBegun 0xC2 0xE0 src.now }
     ensures { BeginsWith utf8 src.now (as_scalar result.0) result.1 }
 {
-    let value = followed((src[0] & 0x1f) as u32, src[1]);
+    let value = with_payload((src[0] & 0x1f) as u32, src[1]);
     (unsafe { char::from_u32_unchecked(value) }, 2)
 }
 
@@ -59,8 +59,8 @@ fn three(src: &[u8]) -> Option<(char, usize)>
     if !is_continuation(src[2]) {
         return None;
     }
-    let front = followed((src[0] & 0x0f) as u32, src[1]);
-    let value = followed(front, src[2]);
+    let front = with_payload((src[0] & 0x0f) as u32, src[1]);
+    let value = with_payload(front, src[2]);
     // Surrogates are told by the bits that they share: comparing with both ends makes a branch hard to foresee.
     if value < 0x800 || value >> 11 == 0xd800 >> 11 {
         return None;
@@ -78,8 +78,8 @@ fn four(src: &[u8]) -> Option<(char, usize)>
     if !is_continuation(src[2]) || !is_continuation(src[3]) {
         return None;
     }
-    let front = followed((src[0] & 0x07) as u32, src[1]);
-    let value = followed(followed(front, src[2]), src[3]);
+    let front = with_payload((src[0] & 0x07) as u32, src[1]);
+    let value = with_payload(with_payload(front, src[2]), src[3]);
     if value < 0x1_0000 || value > 0x10_ffff {
         return None;
     }
@@ -88,7 +88,7 @@ fn four(src: &[u8]) -> Option<(char, usize)>
 
 // The payload of a byte that continues, after what those before it add up to.
 #[inline(always)]
-fn followed(front: u32, byte: u8) -> u32
+fn with_payload(front: u32, byte: u8) -> u32
     requires front { front < 0x8000 }
     requires byte { is_continuation byte ≡ true }
     ensures { result ≡ front * 64 + (byte - 0x80) }

@@ -1,10 +1,10 @@
 //! Text in UTF-8 as UTF-16, sixteen bytes at once, and 64 where they are ASCII.
 ghost use Rattle.std.specs.Prelude.{◌≡◌, ℕ, ◌+◌, ◌-◌, ◌*◌, ◌<◌, ◌≤◌, ◌&&◌, ◌++◌, [], ◌∷◌, cond, nat_le, length, take, slice_index, count_ones};
 ghost use Rattle.std.specs.Int.{bit_at};
-ghost use Rattle.utf_lanes.specs.GivenUnits.{given, joined, IsRow, gives, low_half, high_half, unit_low, unit_high, halves, given_at, pair_at, places_at, leading_low, leading_high, trailing_high};
-ghost use Rattle.utf_lanes.specs.TextBlocks.{AreClosed};
+ghost use Rattle.utf_lanes.specs.Utf8ToUtf16.{utf16_bytes, concat_range, IsRow, ends_unit, low_half, high_half, unit_low, unit_high, halves, utf16_bytes_at, pair_at, places_at, leading_low, leading_high, trailing_high};
+ghost use Rattle.utf_lanes.specs.TextBlocks.{EndsCharacter};
 
-use crate::shuffles::KEPT_PAIRS;
+use crate::shuffles::COMPRESS_PAIRS;
 use std::simd::prelude::*;
 
 /// The bytes of the units that half a block gives: as many of these as `len` says.
@@ -29,14 +29,17 @@ pub fn block_units(
     requires few { skipped < 16 }
     ensures first { result.0.len ≤ 16 }
     ensures second { result.1.len ≤ 16 }
-    ensures units { take result.0.len result.0.bytes ++ take result.1.len result.1.bytes ≡ joined (given_at high_first bytes.now) (place - 3 + skipped) (16 - skipped) }
+    ensures units { take result.0.len result.0.bytes ++ take result.1.len result.1.bytes ≡ concat_range (utf16_bytes_at high_first bytes.now) (place - 3 + skipped) (16 - skipped) }
 {
     let here = u8x16::from_slice(&bytes[place..]);
     let before = u8x16::from_slice(&bytes[place - 1..]);
     let (low, high) = unit_halves(bytes, place);
-    let mask = giving(before, here, skipped);
+    let mask = mask_of_unit_ends(before, here, skipped);
     let (front, back) = paired(high_first, low, high);
-    (kept_bytes(front, mask & 255), kept_bytes(back, mask >> 8))
+    (
+        compressed_pairs(front, mask & 255),
+        compressed_pairs(back, mask >> 8),
+    )
 }
 
 // The two bytes of each unit, one beside the other: of the first eight units, and of the others.
@@ -54,10 +57,10 @@ fn paired(high_first: bool, low: u8x16, high: u8x16) -> (u8x16, u8x16)
 
 // Which of the lanes from `skipped` on give a unit, each as a bit.
 #[inline(always)]
-fn giving(before: u8x16, here: u8x16, skipped: usize) -> usize
+fn mask_of_unit_ends(before: u8x16, here: u8x16, skipped: usize) -> usize
     requires few { skipped < 16 }
     ensures most { result < 65536 }
-    ensures bits { (k : ℕ) → k < 16 → bit_at result k ≡ cond (gives (slice_index before k) (slice_index here k) && nat_le skipped k) 1 0 }
+    ensures bits { (k : ℕ) → k < 16 → bit_at result k ≡ cond (ends_unit (slice_index before k) (slice_index here k) && nat_le skipped k) 1 0 }
 {
     let later = before.saturating_sub(u8x16::splat(0x20)).simd_max(here);
     let mask = later.simd_lt(u8x16::splat(0xc0)).to_bitmask() as usize;
@@ -154,12 +157,12 @@ fn trailing_halves(first: u8x16) -> u8x16
 
 // The pairs of bytes whose bits the mask has, in order.
 #[inline(always)]
-fn kept_bytes(pairs: u8x16, mask: usize) -> UnitBytes
+fn compressed_pairs(pairs: u8x16, mask: usize) -> UnitBytes
     requires { mask < 256 }
     ensures len { result.len ≤ 16 }
-    ensures bytes { take result.len result.bytes ≡ joined (pair_at mask pairs) 0 8 }
+    ensures bytes { take result.len result.bytes ≡ concat_range (pair_at mask pairs) 0 8 }
 {
-    let places = kept_places(mask);
+    let places = compress_places(mask);
     let bytes = pairs.swizzle_dyn(u8x16::from_array(places)).to_array();
     UnitBytes {
         bytes,
@@ -169,16 +172,16 @@ fn kept_bytes(pairs: u8x16, mask: usize) -> UnitBytes
 
 // Where these pairs are: the places of their bytes, two for each bit that the mask has, and then any.
 #[inline(always)]
-fn kept_places(mask: usize) -> [u8; 16]
+fn compress_places(mask: usize) -> [u8; 16]
     requires { mask < 256 }
     ensures { IsRow result mask (2 * count_ones mask) 8 (places_at mask) }
 {
-    KEPT_PAIRS[mask]
+    COMPRESS_PAIRS[mask]
 }
 
 /// The first sixteen bytes after three NULs.
 #[inline(always)]
-pub fn after_nuls(text: &[u8]) -> [u8; 19]
+pub fn padded_front(text: &[u8]) -> [u8; 19]
     requires { 16 ≤ length text.now }
     ensures { result ≡ 0 ∷ 0 ∷ 0 ∷ take 16 text.now }
 {
@@ -192,20 +195,20 @@ pub fn after_nuls(text: &[u8]) -> [u8; 19]
 pub fn ascii_units(high_first: bool, text: &[u8], place: usize) -> ([u8; 64], [u8; 64])
     requires start { 3 ≤ place }
     requires within { place + 64 ≤ length text.now }
-    requires closed { AreClosed text.now place }
+    requires closed { EndsCharacter text.now place }
     requires ascii { (k : ℕ) → k < 64 → slice_index text.now (place + k) < 0x80 }
-    ensures first { result.0 ≡ given high_first text.now place 32 }
-    ensures second { result.1 ≡ given high_first text.now (place + 32) 32 }
+    ensures first { result.0 ≡ utf16_bytes high_first text.now place 32 }
+    ensures second { result.1 ≡ utf16_bytes high_first text.now (place + 32) 32 }
 {
-    let (first, second) = beside_nuls(high_first, u8x64::from_slice(&text[place..]));
+    let (first, second) = interleave_zeros_wide(high_first, u8x64::from_slice(&text[place..]));
     (first.to_array(), second.to_array())
 }
 
 // Each byte with a NUL, which is the high byte of its unit: of the first 32 bytes, and of the others.
 #[inline(always)]
-fn beside_nuls(high_first: bool, bytes: u8x64) -> (u8x64, u8x64)
-    ensures first { result.0 ≡ joined (λ k. halves high_first (slice_index bytes k) 0) 0 32 }
-    ensures second { result.1 ≡ joined (λ k. halves high_first (slice_index bytes k) 0) 32 32 }
+fn interleave_zeros_wide(high_first: bool, bytes: u8x64) -> (u8x64, u8x64)
+    ensures first { result.0 ≡ concat_range (λ k. halves high_first (slice_index bytes k) 0) 0 32 }
+    ensures second { result.1 ≡ concat_range (λ k. halves high_first (slice_index bytes k) 0) 32 32 }
 {
     let nuls = u8x64::splat(0);
     if high_first {

@@ -51,7 +51,7 @@ fn paired_end(high_first: bool, bytes: &[u8]) -> usize
     ensures first { 0 < result → is_trailing_surrogate (slice_index (units_of high_first bytes.now) 0) ≡ false }
     ensures paired { AllPaired (units_of high_first bytes.now) 1 result }
 {
-    let count = paired_lanes(high_first, &after_a_nul(bytes), 1);
+    let count = paired_lanes(high_first, &padded_units(bytes), 1);
     if count < 8 {
         return count;
     }
@@ -60,7 +60,7 @@ fn paired_end(high_first: bool, bytes: &[u8]) -> usize
 
 // The first eight units after a NUL.
 #[inline(always)]
-fn after_a_nul(bytes: &[u8]) -> [u8; 18]
+fn padded_units(bytes: &[u8]) -> [u8; 18]
     requires { 16 ≤ length bytes.now }
     ensures { result ≡ 0 ∷ 0 ∷ take 16 bytes.now }
 {

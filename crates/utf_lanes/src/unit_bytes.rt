@@ -8,7 +8,7 @@ use std::simd::prelude::*;
 
 // The bytes that sixteen units give: of each lane the last, and those before it that are at least 0x80.
 #[derive(Drop)]
-pub(crate) struct Slots {
+pub(crate) struct Utf8Lanes {
     pub(crate) first: u8x16,
     pub(crate) middle: u8x16,
     pub(crate) last: u8x16,
@@ -45,7 +45,7 @@ pub(crate) fn are_characters(high: u8x16) -> bool
 
 // Which units have these six bits at the top, each as a bit.
 #[inline(always)]
-pub(crate) fn having_top(high: u8x16, top: u8) -> usize
+pub(crate) fn mask_of_top_bits(high: u8x16, top: u8) -> usize
     ensures most { result < 65536 }
     ensures bits { (k : ℕ) → k < 16 → bit_at result k ≡ cond (nat_eq (slice_index high k / 4) top) 1 0 }
 {
@@ -56,7 +56,7 @@ pub(crate) fn having_top(high: u8x16, top: u8) -> usize
 
 // The bytes of units that are characters.
 #[inline(always)]
-pub(crate) fn character_slots(low: u8x16, high: u8x16) -> Slots
+pub(crate) fn character_lanes(low: u8x16, high: u8x16) -> Utf8Lanes
     ensures first { AreLanes result.first (λ k. first_byte (lane_unit low high k)) }
     ensures middle { AreLanes result.middle (λ k. middle_byte (lane_unit low high k)) }
     ensures last { AreLanes result.last (λ k. last_byte (lane_unit low high k)) }
@@ -70,7 +70,7 @@ pub(crate) fn character_slots(low: u8x16, high: u8x16) -> Slots
     let middle = is_short.select(lead, bits + u8x16::splat(0x80));
     let long = (high >> u8x16::splat(4)) + u8x16::splat(0xe0);
     let rest = (low & u8x16::splat(0x3f)) + u8x16::splat(0x80);
-    Slots {
+    Utf8Lanes {
         first: is_short.select(none, long),
         middle,
         last: middle.simd_lt(u8x16::splat(1)).select(low, rest),
@@ -79,17 +79,17 @@ pub(crate) fn character_slots(low: u8x16, high: u8x16) -> Slots
 
 // The bytes of units in text, by the low halves of those before them.
 #[inline(always)]
-pub(crate) fn text_slots(before: u8x16, low: u8x16, high: u8x16) -> Slots
+pub(crate) fn text_lanes(before: u8x16, low: u8x16, high: u8x16) -> Utf8Lanes
     ensures first { AreLanes result.first (λ k. first_in_text (lane_unit low high k)) }
     ensures middle { AreLanes result.middle (λ k. middle_in_text (slice_index before k) (lane_unit low high k)) }
     ensures last { AreLanes result.last (λ k. last_in_text (lane_unit low high k)) }
 {
-    let plain = character_slots(low, high);
+    let plain = character_lanes(low, high);
     let (lead, lead_end) = front_of_four(low, high);
     let middle = third_of_four(before, low, high);
     let is_surrogate = (high >> u8x16::splat(3)).simd_eq(u8x16::splat(0x1b));
     let is_leading = (high >> u8x16::splat(2)).simd_eq(u8x16::splat(0x36));
-    Slots {
+    Utf8Lanes {
         first: is_surrogate.select(u8x16::splat(0), plain.first),
         middle: is_leading.select(lead, is_surrogate.select(middle, plain.middle)),
         last: is_leading.select(lead_end, plain.last),

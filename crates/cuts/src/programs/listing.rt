@@ -5,7 +5,7 @@ ghost use Rattle.encode_unicode.specs.Pieces.{pieces};
 ghost use Rattle.cuts.specs.Failures.{AppendsFront, TellsStall};
 ghost use Rattle.cuts.specs.Layouts.{WritesListing, WritesListingFront};
 ghost use Rattle.cuts.specs.Lines.{is_fault_step};
-ghost use Rattle.cuts.specs.ForwardRuns.{fault_count};
+ghost use Rattle.cuts.specs.ForwardRuns.{faulty_item_count};
 ghost use Rattle.cuts.specs.Written.{merged_lines, walk_lines, WritesMerged, WritesWalk};
 
 use crate::counted::Counted;
@@ -30,7 +30,7 @@ use std::io::Write;
 pub fn write_listing<W: Write>(src: &[u8], out: &mut Counted<W>) -> io::Result<usize>
     ensures listing { IfOk result (WritesListing src.now (W.contents out.old.inner)
         (W.contents out.new.inner)) }
-    ensures count { IfOk result (λ faults. faults ≡ fault_count (pieces src.now)) }
+    ensures count { IfOk result (λ faults. faults ≡ faulty_item_count (pieces src.now)) }
     ensures text { IfOk result (λ faults. (faults ≡ 0) ↔ IsUtf8 src.now) }
     ensures front { WritesListingFront src.now (W.contents out.old.inner) (W.contents out.new.inner) }
     ensures quiet { OnOk result (out.new.failures ≡ out.old.failures) }

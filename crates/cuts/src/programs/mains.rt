@@ -3,7 +3,7 @@ ghost use Rattle.std.specs.Prelude.{◌≡◌, ◌≢◌, ◌+◌, ◌<◌, ◌�
 ghost use Rattle.std.specs.IoError.{error_kind};
 ghost use Rattle.cuts.specs.Arguments.{Asked, HaveArguments, WordsAsk, WordsAreWrong, AreNotHad, WordsAskForms, WordsNameNoForms};
 ghost use Rattle.cuts.specs.Endings.{IsDrained, TellsAsked, BeginsAsked, ReadsUntil, CountsUntil, FlushFailsOrStays, FailsOrIsQuiet, Says, EndsEarly};
-ghost use Rattle.cuts.specs.Relayed.{WritesRecoded, BeginsRecoded};
+ghost use Rattle.cuts.specs.RecodeStream.{WritesRecoded, BeginsRecoded};
 
 use crate::counted::Counted;
 use crate::programs::pieces_program::{finish_run, run_pieces};

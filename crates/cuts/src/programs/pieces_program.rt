@@ -3,7 +3,7 @@ ghost use Rattle.std.specs.Prelude.{◌≡◌, ◌≢◌, ◌+◌, ◌<◌, ◌�
 ghost use Rattle.std.specs.Io.KnownBytes.{Keeps};
 ghost use Rattle.utf_base.specs.Code.{utf8};
 ghost use Rattle.utf_base.specs.Kinds.{merger_kind};
-ghost use Rattle.cuts.specs.Arguments.{Asked, Asks, AreWrong, asked_by};
+ghost use Rattle.cuts.specs.Arguments.{Asked, Asks, AreWrong, asked_in};
 ghost use Rattle.cuts.specs.Collected.{IsMergedRun};
 ghost use Rattle.cuts.specs.Layouts.{forward_layout, merged_layout, walk_layout, WritesRun, WritesRunFront};
 ghost use Rattle.cuts.specs.Endings.{stop_line, IsDrained, WritesAsked, WritesAskedFront, DoesAsked, TellsAsked, BeginsAsked, FailsOrStays, ReadsUntil, Says, EndsEarly};
@@ -68,7 +68,7 @@ pub fn run_pieces<A: Allocator + Copy, R: Source, W: Write, E: Sink>(
     ensures known { result < 4 }
     ensures unwritten { result ≡ 3 → out.new.failures ≡ out.old.failures → out.new ≡ out.old }
 {
-    match do_asked(alloc, args, input, out) {
+    match run_request(alloc, args, input, out) {
         Ok(0) => 0,
         Ok(_) => 1,
         Err(stop) => stop.report(PROGRAM, stderr),
@@ -107,7 +107,7 @@ pub fn finish_run<W: Write, E: Sink>(status: u8, out: &mut Counted<W>, stderr: &
 
 // Does what the arguments ask for with all that the reader gives, and answers how many of the lines are
 // errors.
-fn do_asked<A: Allocator + Copy, R: Source, W: Write>(
+fn run_request<A: Allocator + Copy, R: Source, W: Write>(
     alloc: A,
     args: &[String<A>],
     input: &mut R,
@@ -144,9 +144,9 @@ fn write_asked<A: Allocator + Copy, W: Write>(
     bytes: &[u8],
     out: &mut Counted<W>,
 ) -> Result<usize, Stop>
-    ensures lines { IfOk result (WritesAsked (asked_by request.now) bytes.now (W.contents out.old.inner)
+    ensures lines { IfOk result (WritesAsked (asked_in request.now) bytes.now (W.contents out.old.inner)
         (W.contents out.new.inner)) }
-    ensures front { WritesAskedFront (asked_by request.now) bytes.now (W.contents out.old.inner)
+    ensures front { WritesAskedFront (asked_in request.now) bytes.now (W.contents out.old.inner)
         (W.contents out.new.inner) }
     ensures quiet { OnOk result (out.new.failures ≡ out.old.failures) }
     ensures early { IfErr result (FailsOrStays out.old out.new) }
@@ -192,7 +192,7 @@ fn merge_bytes<A: Allocator, W: Write>(
     ensures extras { out.new.extras ≡ out.old.extras }
     ensures right { IfErr result (λ stop. Contains (Stop.CannotWrite ∷ Stop.NoMemory ∷ []) stop) }
 {
-    let Ok(answers) = merged(alloc, bytes) else {
+    let Ok(answers) = merge_all(alloc, bytes) else {
         return Err(Stop::NoMemory);
     };
     match write_merged(answers.as_slice(), out) {
@@ -202,7 +202,7 @@ fn merge_bytes<A: Allocator, W: Write>(
 }
 
 // All that a merger answers over the bytes.
-fn merged<A: Allocator>(
+fn merge_all<A: Allocator>(
     alloc: A,
     bytes: &[u8],
 ) -> Result<Vec<Result<Utf8Char, Utf8Error>, A>, AllocError>

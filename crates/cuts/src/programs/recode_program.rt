@@ -2,10 +2,10 @@
 ghost use Rattle.std.specs.Prelude.{◌≡◌, ◌≢◌, ◌<◌, ◌⊎◌, [], codes, map, string_bytes, false, Some, IfSome, IfNone};
 ghost use Rattle.cuts.specs.Endings.{IsDrained, CountsUntil, FailsOrIsQuiet, Says, EndsEarly, reason_of};
 ghost use Rattle.cuts.specs.Arguments.{form_name, AsksForms};
-ghost use Rattle.cuts.specs.Relayed.{WritesRecoded, BeginsRecoded};
+ghost use Rattle.cuts.specs.RecodeStream.{WritesRecoded, BeginsRecoded};
 
 use crate::counted::Counted;
-use crate::programs::relayed::{RecodeFault, recode};
+use crate::programs::recode_stream::{RecodeFault, recode};
 use crate::programs::stops::Stop;
 use crate::streams::Sink;
 use recoding::form::Form;

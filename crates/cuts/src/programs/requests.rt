@@ -1,6 +1,6 @@
 //! What the arguments of `pieces` ask for.
 ghost use Rattle.std.specs.Prelude.{◌≡◌, ◌↔◌, IsTrue, [], ◌∷◌, map, codes, string_bytes, Contains, IfOk, IfErr};
-ghost use Rattle.cuts.specs.Arguments.{letter, AreLetters, Asks, AreWrong, asked_by};
+ghost use Rattle.cuts.specs.Arguments.{letter, AreLetters, Asks, AreWrong, asked_in};
 
 use crate::programs::stops::Stop;
 use crate::runs::items::End;
@@ -24,7 +24,7 @@ pub(crate) fn request_of<A: Allocator + Copy>(
     alloc: A,
     args: &[String<A>],
 ) -> Result<Request<A>, Stop>
-    ensures asked { IfOk result (λ request. Asks (map string_bytes args.now) (asked_by request)) }
+    ensures asked { IfOk result (λ request. Asks (map string_bytes args.now) (asked_in request)) }
     ensures wrong { AreWrong (map string_bytes args.now) → result ≡ Err Stop.WrongArguments }
     ensures right { result ≡ Err Stop.WrongArguments → AreWrong (map string_bytes args.now) }
     ensures err { IfErr result (λ stop. Contains (Stop.WrongArguments ∷ Stop.NoMemory ∷ []) stop) }

@@ -1,7 +1,7 @@
 //! Strict recoding from a reader to a writer: to the first faulty byte.
 ghost use Rattle.std.specs.Prelude.{◌≡◌, ◌≢◌, ◌+◌, ◌-◌, ◌*◌, ◌^◌, ◌<◌, ◌≤◌, [], length, false, Some, IfSome, IfErr, OnOk};
 ghost use Rattle.cuts.specs.Endings.{IsDrained};
-ghost use Rattle.cuts.specs.StrictRelayed.{BeginsText, EndsText, HoldsText, IfFaulty, IsFollowed, PassesText, PassesTextFront, PassesTextLast, StopsFaulty, StopsText, WritesText};
+ghost use Rattle.cuts.specs.StrictRelayed.{BeginsTranscoded, EndsText, HoldsText, IfFaulty, IsFollowed, PassesText, PassesTextFront, PassesTextLast, StopsFaulty, StopsText, WritesText};
 
 use crate::counted::Counted;
 use crate::streams::write_whole;
@@ -58,7 +58,7 @@ pub fn recode_strict<R: Read, W: Write>(
         (W.contents out.old.inner) (W.contents out.new.inner)) }
     ensures faulty { IfErr result (λ e. IfFaulty e (λ x. StopsFaulty from to (R.remaining input.old.inner)
         (R.remaining input.new.inner) (W.contents out.old.inner) (W.contents out.new.inner) x)) }
-    ensures front { BeginsText from to (R.remaining input.old.inner) (R.remaining input.new.inner)
+    ensures front { BeginsTranscoded from to (R.remaining input.old.inner) (R.remaining input.new.inner)
         (W.contents out.old.inner) (W.contents out.new.inner) }
     ensures held_back { result ≡ Err StrictError.Read →
         HoldsText from to (R.remaining input.old.inner) (R.remaining input.new.inner)

@@ -1,7 +1,7 @@
 //! How many characters and how many faults some bytes have.
 ghost use Rattle.std.specs.Prelude.{◌≡◌, length};
 ghost use Rattle.encode_unicode.specs.Pieces.{pieces};
-ghost use Rattle.cuts.specs.ForwardRuns.{fault_count};
+ghost use Rattle.cuts.specs.ForwardRuns.{faulty_item_count};
 
 use encode_unicode::U8SliceExt;
 
@@ -9,7 +9,7 @@ use encode_unicode::U8SliceExt;
 ///
 /// Cost: O(n).
 pub fn fault_count(bytes: &[u8]) -> usize
-    ensures { result ≡ fault_count (pieces bytes.now) }
+    ensures { result ≡ faulty_item_count (pieces bytes.now) }
 {
     bytes.utf8char_indices().filter(|x| x.1.is_err()).count()
 }

@@ -5,7 +5,7 @@ ghost use Rattle.utf_base.specs.Back.{DecodesUnitsEnd};
 ghost use Rattle.utf_base.specs.Code.{utf16};
 ghost use Rattle.utf_base.specs.Front.{as_scalar, DecodesUnits, DecodesTwoUnits, DecodesTuple};
 ghost use Rattle.utf_chars.specs.Chars.{array_value};
-ghost use Rattle.utf_base.specs.Units.{is_surrogate, is_leading_surrogate, is_trailing_surrogate, pair_value, tuple_value, units_of};
+ghost use Rattle.utf_base.specs.Units.{is_surrogate, is_leading_surrogate, is_trailing_surrogate, pair_value, tuple_value, units_of_pair};
 ghost use Rattle.utf_chars.specs.Padded.{padded};
 
 use utf_base::elements::is_trailing_surrogate;
@@ -56,7 +56,7 @@ pub(crate) fn encode(c: char) -> [u16; 2]
 #[inline(always)]
 #[tactic(auto, unfolding(utf_base::specs::Code::utf16))]
 pub(crate) fn encode_tuple(c: char) -> (u16, Option<u16>)
-    ensures { units_of result.0 result.1 ≡ utf16 c }
+    ensures { units_of_pair result.0 result.1 ≡ utf16 c }
 {
     let s = c as u32;
     if s < 0x1_0000 {

@@ -6,7 +6,7 @@ use Rattle.cuts.proofs.piece_table.decode_near.Goals as goal
 
 pub loop-next-init : goal.loop-next-init
 loop-next-init c =
-    let spot = c.find_spot-spot.ensures in
+    let spot = c.find_splice-spot.ensures in
     ([], IsDecodedTo-none _ _ _ spot.within spot.outside, omega arith)
 
 pub loop-next-smaller : goal.loop-next-smaller
@@ -29,9 +29,9 @@ loop-next-preserved c =
 pub returns-clause-least : goal.returns-clause-least
 returns-clause-least c =
     let now = c.loop-next.invariant in
-    least_at_spot _ _ _ _ _ c.requires.replaced _ _ _ _ _ now.0 c.find_spot-spot.ensures (IsDecodedTo-all _ _ _ _ _ now.1 (λ lt. omega (arith, c.min-end.ensures))) now.2
+    least_at_spot _ _ _ _ _ c.requires.replaced _ _ _ _ _ now.0 c.find_splice-spot.ensures (IsDecodedTo-all _ _ _ _ _ now.1 (λ lt. omega (arith, c.min-end.ensures))) now.2
 
 pub returns-clause-most : goal.returns-clause-most
 returns-clause-most c =
     let now = c.loop-next.invariant in
-    omega (arith, now.1.few, now.2, c.find_spot-spot.ensures.reached)
+    omega (arith, now.1.few, now.2, c.find_splice-spot.ensures.reached)

@@ -8,8 +8,8 @@ pub recode_stretch-count-requires : goal.recode_stretch-count-requires
 recode_stretch-count-requires g c ample =
     room_for_rest g.met.O.Output.appends_room (Recodes-text g.met.O.Output.appends_more c.parts.invariant c.put_text-blocks.ensures) (c.requires ample)
 
-pub recode_few-few-requires : goal.recode_few-few-requires
-recode_few-few-requires g c ample =
+pub recode_carefully-few-requires : goal.recode_carefully-few-requires
+recode_carefully-few-requires g c ample =
     let law = g.met.O.Output.appends_more in
     room_for_rest g.met.O.Output.appends_room (Recodes-text law (Recodes-text law c.parts.invariant c.put_text-blocks.ensures) c.recode_stretch-count.ensures) (c.requires ample)
 
@@ -24,12 +24,12 @@ parts-preserved g c =
 pub parts-preserved-then-count : goal.parts-preserved-then-count
 parts-preserved-then-count g c =
     let law = g.met.O.Output.appends_more in
-    Recodes-then law (Recodes-text law (Recodes-text law c.parts.invariant c.put_text-blocks.ensures) c.recode_stretch-count.ensures) c.recode_few-few.ensures.reaches.runs
+    Recodes-then law (Recodes-text law (Recodes-text law c.parts.invariant c.put_text-blocks.ensures) c.recode_stretch-count.ensures) c.recode_carefully-few.ensures.reaches.runs
 
 pub returns-then-few-clause-reaches : goal.returns-then-few-clause-reaches
 returns-then-few-clause-reaches g c =
     let law = g.met.O.Output.appends_more in
-    Reaches-then law (Recodes-text law (Recodes-text law c.parts.invariant c.put_text-blocks.ensures) c.recode_stretch-count.ensures) c.recode_few-few.ensures.reaches
+    Reaches-then law (Recodes-text law (Recodes-text law c.parts.invariant c.put_text-blocks.ensures) c.recode_stretch-count.ensures) c.recode_carefully-few.ensures.reaches
 
 pub returns-then-read-bytes-clause-reaches : goal.returns-then-read-bytes-clause-reaches
 returns-then-read-bytes-clause-reaches g c =

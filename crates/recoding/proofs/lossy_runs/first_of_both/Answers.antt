@@ -3,10 +3,10 @@ use Rattle.std.proofs.lemmas.List.{take_all}
 use Rattle.recoding.proofs.LossySteps.{looked_at}
 use Rattle.recoding.proofs.lossy_runs.first_of_both.Goals as goal
 
-pub returns-in-Some-first_part-clause-decides : goal.returns-in-Some-first_part-clause-decides
-returns-in-Some-first_part-clause-decides c =
+pub returns-in-Some-first_lossy_piece-clause-decides : goal.returns-in-Some-first_lossy_piece-clause-decides
+returns-in-Some-first_lossy_piece-clause-decides c =
     rw (looked_at c.join-len.result.0 c.args.held.now c.args.rest.now c.join-len.result.1 c.min-looked.result c.join-len.ensures.bytes c.join-len.ensures.len c.min-looked.ensures c.requires.few)
-    at c.in-Some-first_part.ensures.some
+    at c.in-Some-first_lossy_piece.ensures.some
 
 pub returns-in-None-clause-none : goal.returns-in-None-clause-none
 returns-in-None-clause-none c =

@@ -1,5 +1,5 @@
 use Rattle.std.proofs.Common.{arith, ap, sym, ◌∙◌, length}
-use Rattle.utf_lanes.proofs.KeptRows.{written_back}
+use Rattle.utf_lanes.proofs.CompressRows.{written_back}
 use Rattle.recoding.proofs.output.put_in_place.Goals as goal
 
 pub returns : goal.returns

@@ -1,6 +1,6 @@
 use Rattle.std.proofs.Common.{◌∙◌, drop, arith, length-drop}
 use Rattle.std.proofs.lemmas.List.{drop-drop, take_rest}
-use Rattle.recoding.specs.ShownFronts.{SettlesLast}
+use Rattle.recoding.specs.NextScalars.{SettlesLast}
 use Rattle.recoding.proofs.RoomLemmas.{drop_later, Leaves-step}
 use Rattle.recoding.proofs.recoder_rooms.recode_last_into.Goals as goal
 
@@ -17,8 +17,8 @@ loop-read-preserved c =
     let before = c.loop-read.invariant in
     let at = before.within in
     let len = before.len in
-    let first = c.last_front-first.result in
-    let d : SettlesLast c.args.from (drop read bytes) first.c first.len first.faults = rw (take_rest bytes read) at c.last_front-first.ensures in
+    let first = c.next_at_end-first.result in
+    let d : SettlesLast c.args.from (drop read bytes) first.c first.len first.faults = rw (take_rest bytes read) at c.next_at_end-first.ensures in
     let within = d.ends.within in
     let some = d.ends.some in
     let fills = c.in-Some.ensures.some in

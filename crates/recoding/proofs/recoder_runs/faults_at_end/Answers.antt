@@ -1,6 +1,6 @@
 use Rattle.std.proofs.Common.{◌≡◌, [], drop, arith, length-drop}
 use Rattle.std.proofs.lemmas.List.{take_rest, drop_all, drop-drop}
-use Rattle.recoding.specs.ShownFronts.{SettlesLast}
+use Rattle.recoding.specs.NextScalars.{SettlesLast}
 use Rattle.recoding.proofs.FaultCounts.{none_in_nothing}
 use Rattle.recoding.proofs.recoder_runs.faults_at_end.Goals as goal
 
@@ -8,8 +8,8 @@ pub loop-place-preserved : goal.loop-place-preserved
 loop-place-preserved c =
     let bytes = c.args.bytes.now in
     let place = c.loop-place.place in
-    let first = c.last_front-first.result in
-    let d : SettlesLast c.args.from (drop place bytes) first.c first.len first.faults = rw (take_rest bytes place) at c.last_front-first.ensures in
+    let first = c.next_at_end-first.result in
+    let d : SettlesLast c.args.from (drop place bytes) first.c first.len first.faults = rw (take_rest bytes place) at c.next_at_end-first.ensures in
     let ends = d.ends in
     let within = ends.within in
     let some = ends.some in

@@ -21,9 +21,9 @@ pub returns-then-value-lt65536-clause-none : goal.returns-then-value-lt65536-cla
 returns-then-value-lt65536-clause-none c =
     let third = sym c.is_continuation.ensures ∙ c.if-not-is_continuation.false in
     let fourth = sym c.is_continuation-else-not-is_continuation.ensures ∙ c.if-not-is_continuation-2.false in
-    let sums = four_sum c.args.src.now _ _ _ c.requires.enough c.requires.low c.requires.high c.requires.second third fourth c.followed-front.ensures c.followed.ensures c.followed-value.ensures in
+    let sums = four_sum c.args.src.now _ _ _ c.requires.enough c.requires.low c.requires.high c.requires.second third fourth c.with_payload-front.ensures c.with_payload.ensures c.with_payload-value.ensures in
     let least = least_value-4 in
-    none_by_value c.args.src.now 4 c.followed-value.result sums (λ long scalar. let below = scalar.below in elim c.then-value-lt65536.branch [
+    none_by_value c.args.src.now 4 c.with_payload-value.result sums (λ long scalar. let below = scalar.below in elim c.then-value-lt65536.branch [
       | then-value-lt65536-via-then-value-lt65536 w ↦ let low = w.if-value-lt65536.true in absurd (omega arith)
       | then-value-lt65536-via-else-value-lt65536+then-value-gt1114111 w ↦ let high = w.if-value-gt1114111.true in absurd (omega arith)
     ])
@@ -32,7 +32,7 @@ pub returns-clause-some : goal.returns-clause-some
 returns-clause-some c =
     let third = sym c.is_continuation.ensures ∙ c.if-not-is_continuation.false in
     let fourth = sym c.is_continuation-else-not-is_continuation.ensures ∙ c.if-not-is_continuation-2.false in
-    let sums = four_sum c.args.src.now _ _ _ c.requires.enough c.requires.low c.requires.high c.requires.second third fourth c.followed-front.ensures c.followed.ensures c.followed-value.ensures in
-    let least : 0x1_0000 ≤ c.followed-value.result = omega arith in
-    let scalar : IsScalar c.followed-value.result = record { below = omega arith; no_surrogate = λ h. omega arith } in
+    let sums = four_sum c.args.src.now _ _ _ c.requires.enough c.requires.low c.requires.high c.requires.second third fourth c.with_payload-front.ensures c.with_payload.ensures c.with_payload-value.ensures in
+    let least : 0x1_0000 ≤ c.with_payload-value.result = omega arith in
+    let scalar : IsScalar c.with_payload-value.result = record { below = omega arith; no_surrogate = λ h. omega arith } in
     rw c.from_u32_unchecked.ensures (begins_with _ 4 _ sums (rw least_value-4 least) scalar)

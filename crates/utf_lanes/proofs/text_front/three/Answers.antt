@@ -15,9 +15,9 @@ returns-then-not-is_continuation-clause-none c =
 pub returns-then-value-lt2048-clause-none : goal.returns-then-value-lt2048-clause-none
 returns-then-value-lt2048-clause-none c =
     let third = sym c.is_continuation.ensures ∙ c.if-not-is_continuation.false in
-    let (sums, bound) = three_sum c.args.src.now _ _ c.requires.enough c.requires.low c.requires.high c.requires.second third c.followed-front.ensures c.followed-value.ensures in
+    let (sums, bound) = three_sum c.args.src.now _ _ c.requires.enough c.requires.low c.requires.high c.requires.second third c.with_payload-front.ensures c.with_payload-value.ensures in
     let least = least_value-3 in
-    none_by_value c.args.src.now 3 c.followed-value.result sums (λ enough scalar. elim c.then-value-lt2048.branch [
+    none_by_value c.args.src.now 3 c.with_payload-value.result sums (λ enough scalar. elim c.then-value-lt2048.branch [
       | then-value-lt2048-via-then-value-lt2048 w ↦ let below = w.if-value-lt2048.true in absurd (omega arith)
       | then-value-lt2048-via-else-value-lt2048+then-value w ↦ let masked = w.if-value.true in absurd (omega arith)
     ])
@@ -25,7 +25,7 @@ returns-then-value-lt2048-clause-none c =
 pub returns-clause-some : goal.returns-clause-some
 returns-clause-some c =
     let third = sym c.is_continuation.ensures ∙ c.if-not-is_continuation.false in
-    let (sums, bound) = three_sum c.args.src.now _ _ c.requires.enough c.requires.low c.requires.high c.requires.second third c.followed-front.ensures c.followed-value.ensures in
-    let least : 0x800 ≤ c.followed-value.result = omega arith in
-    let scalar : IsScalar c.followed-value.result = record { below = omega arith; no_surrogate = λ g. omega arith } in
+    let (sums, bound) = three_sum c.args.src.now _ _ c.requires.enough c.requires.low c.requires.high c.requires.second third c.with_payload-front.ensures c.with_payload-value.ensures in
+    let least : 0x800 ≤ c.with_payload-value.result = omega arith in
+    let scalar : IsScalar c.with_payload-value.result = record { below = omega arith; no_surrogate = λ g. omega arith } in
     rw c.from_u32_unchecked.ensures (begins_with _ 3 _ sums (rw least_value-3 least) scalar)

@@ -7,21 +7,21 @@ use Rattle.utf_lanes.proofs.unit_blocks.paired_end.Goals as goal
 pub returns-then-count-lt8-clause-first : goal.returns-then-count-lt8-clause-first
 returns-then-count-lt8-clause-first c =
     let lanes = c.paired_lanes-count.ensures in
-    first_after_a_nul c.args.high_first c.args.bytes.now c.after_a_nul.result c.paired_lanes-count.result lanes.most c.after_a_nul.ensures lanes.paired
+    first_after_a_nul c.args.high_first c.args.bytes.now c.padded_units.result c.paired_lanes-count.result lanes.most c.padded_units.ensures lanes.paired
 
 pub returns-then-count-lt8-clause-paired : goal.returns-then-count-lt8-clause-paired
 returns-then-count-lt8-clause-paired c =
     let lanes = c.paired_lanes-count.ensures in
-    pairs_after_a_nul c.args.high_first c.args.bytes.now c.after_a_nul.result c.paired_lanes-count.result lanes.most c.after_a_nul.ensures lanes.paired
+    pairs_after_a_nul c.args.high_first c.args.bytes.now c.padded_units.result c.paired_lanes-count.result lanes.most c.padded_units.ensures lanes.paired
 
 pub returns-clause-first : goal.returns-clause-first
 returns-clause-first c some =
     let lanes = c.paired_lanes-count.ensures in
-    first_after_a_nul c.args.high_first c.args.bytes.now c.after_a_nul.result c.paired_lanes-count.result lanes.most c.after_a_nul.ensures lanes.paired (omega arith)
+    first_after_a_nul c.args.high_first c.args.bytes.now c.padded_units.result c.paired_lanes-count.result lanes.most c.padded_units.ensures lanes.paired (omega arith)
 
 pub returns-clause-paired : goal.returns-clause-paired
 returns-clause-paired c =
     let us = units_of c.args.high_first c.args.bytes.now in
     let lanes = c.paired_lanes-count.ensures in
-    let first = pairs_after_a_nul c.args.high_first c.args.bytes.now c.after_a_nul.result c.paired_lanes-count.result lanes.most c.after_a_nul.ensures lanes.paired in
+    let first = pairs_after_a_nul c.args.high_first c.args.bytes.now c.padded_units.result c.paired_lanes-count.result lanes.most c.padded_units.ensures lanes.paired in
     pair_on us 1 c.paired_wide.result c.paired_lane_by_lane.result (pair_on us 1 8 c.paired_wide.result (λ k ge lt. first k ge (omega arith)) c.paired_wide.ensures.paired) c.paired_lane_by_lane.ensures.paired

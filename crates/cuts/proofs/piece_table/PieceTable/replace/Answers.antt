@@ -4,7 +4,7 @@ use Rattle.cuts.proofs.TableRuns.{OnOk-always, same_bytes, StayAround-same, Step
 use Rattle.cuts.proofs.piece_table.PieceTable.replace.Goals as goal
 
 pub returns-clause-around : goal.returns-clause-around
-returns-clause-around g c = OnOk-always c.renew.result (rw (← c.self.view_is) (rw c.reserve.ensures.items at c.renew.ensures.renewed.around))
+returns-clause-around g c = OnOk-always c.redecode.result (rw (← c.self.view_is) (rw c.reserve.ensures.items at c.redecode.ensures.renewed.around))
 
 pub returns-then-is_empty-clause-ok : goal.returns-then-is_empty-clause-ok
 returns-then-is_empty-clause-ok g c =

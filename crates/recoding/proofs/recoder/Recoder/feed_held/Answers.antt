@@ -1,7 +1,7 @@
 use Rattle.std.proofs.Common.{◌≡◌, ℕ, ◌+◌, ◌-◌, ◌<◌, ◌≤◌, List, [], ◌++◌, length, take, drop, arith, refl, ap, ap₂, sym, subst, ◌∙◌, append_assoc, length-append, length-drop, length-take, take-append-drop}
 use Rattle.std.proofs.lemmas.List.{take_rest}
 use Rattle.recoding.specs.Recoded.{written, Grows}
-use Rattle.recoding.specs.ShownFronts.{Settles}
+use Rattle.recoding.specs.NextScalars.{Settles}
 use Rattle.recoding.proofs.Advancing.{Advances-front, Replaces-of}
 use Rattle.recoding.specs.Rooms.{IsFull}
 use Rattle.recoding.proofs.RoomLemmas.{drop_later, Advances-start, Advances-more-read, FeedsInto-of, IsFull-of}

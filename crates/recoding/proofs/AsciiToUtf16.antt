@@ -1,0 +1,103 @@
+-- Texts of ASCII alone: what they show, and their units.
+use Rattle.std.proofs.Common.{◌≡◌, ℕ, zero, suc, ◌+◌, ◌*◌, ◌/◌, ◌%◌, ◌<◌, ◌≤◌, Bool, true, false, List, [], ◌∷◌, ◌++◌, length, get_or, take, drop, flat_map, arith, refl, sym, ap, ap₂, ◌∙◌, drop-cons, take-add, take-append-drop, length-append, length-take}
+use Rattle.std.proofs.lemmas.Grind.{flat_map-append}
+use Rattle.std.proofs.lemmas.List.{append-nil, take_all}
+use Rattle.std.specs.Prelude.{All}
+use Rattle.utf_base.specs.Code.{utf8}
+use Rattle.utf_base.specs.Scalar.{IsScalar}
+use Rattle.utf_base.proofs.Utf8Code.{utf8-1, ascii_is_scalar}
+use Rattle.utf_base.proofs.Utf16Code.{utf16-1}
+use Rattle.recoding.specs.declared.form.Form.{Form}
+use Rattle.recoding.specs.declared.form.Form.TheVariants.{Utf8, Utf16Le, Utf16Be}
+use Rattle.recoding.specs.Recoded.{written}
+use Rattle.recoding.specs.NextScalars.{HasByteOrder}
+use Rattle.utf_lanes.specs.Utf8ToUtf16.{concat_range, halves}
+use Rattle.recoding.specs.Strict.{PutsText}
+use Rattle.utf_lanes.specs.AsciiTexts.{AreAscii}
+use Rattle.recoding.specs.UnitRuns.{widened}
+use Rattle.utf_lanes.proofs.Joined.{joined_add}
+
+-- What was written.
+
+-- so many bytes and then more
+pub widened_more : (high : Bool) (xs : List ℕ) (p n : ℕ) → widened high (take p xs) ++ widened high (take n (drop p xs)) ≡ widened high (take (p + n) xs)
+widened_more high xs p n = sym (flat_map-append (λ b. halves high b 0) (take p xs) (take n (drop p xs))) ∙ ap (widened high) (sym (take-add p n xs))
+
+pub widened_rest : (high : Bool) (xs : List ℕ) (p : ℕ) → widened high (take p xs) ++ widened high (drop p xs) ≡ widened high xs
+widened_rest high xs p = sym (flat_map-append (λ b. halves high b 0) (take p xs) (drop p xs)) ∙ ap (widened high) (take-append-drop p xs)
+
+-- one byte
+pub widened_one : (high : Bool) (xs : List ℕ) (p : ℕ) → p < length xs → halves high (get_or xs p 0) 0 ≡ widened high (take 1 (drop p xs))
+widened_one high xs p lt =
+    let next : drop p xs ≡ get_or xs p 0 ∷ drop (suc p) xs = drop-cons xs p 0 lt in
+    rw next (sym (append-nil (halves high (get_or xs p 0) 0)))
+
+length_half : (high : Bool) (b : ℕ) → length (halves high b 0) ≡ 2
+length_half true b = refl
+length_half false b = refl
+
+length_widened : (high : Bool) (xs : List ℕ) → length (widened high xs) ≡ 2 * length xs
+length_widened high [] = refl
+length_widened high (x ∷ xs) = omega (arith, length-append (halves high x 0) (widened high xs), length_half high x, length_widened high xs)
+
+pub few_widened : (high : Bool) (xs : List ℕ) (n : ℕ) → length (widened high (take n xs)) ≤ 2 * n
+few_widened high xs n = omega (arith, length_widened high (take n xs), length-take n xs)
+
+joined_widened : (high : Bool) (v : List ℕ) (p n : ℕ) → p + n ≤ length v → concat_range (λ k. halves high (get_or v k 0) 0) p n ≡ widened high (take n (drop p v))
+unfolding concat_range
+joined_widened high v p zero le = refl
+joined_widened high v p (suc n) le =
+    let next : drop p v ≡ get_or v p 0 ∷ drop (suc p) v = drop-cons v p 0 (omega arith) in
+    rw next (ap (λ ys. halves high (get_or v p 0) 0 ++ ys) (joined_widened high v (suc p) n (omega arith)))
+
+-- two halves of the lanes
+pub block_widened : (high : Bool) (v first second : List ℕ) (n : ℕ) → length v ≡ n + n → first ≡ concat_range (λ k. halves high (get_or v k 0) 0) 0 n
+    → second ≡ concat_range (λ k. halves high (get_or v k 0) 0) n n → first ++ second ≡ widened high v
+block_widened high v first second n long e f =
+    let all : take (n + n) v ≡ v = take_all (n + n) v (omega (arith, long)) in
+    let whole = joined_add (λ k. halves high (get_or v k 0) 0) 0 n n in
+    let at : 0 + n ≡ n = omega arith in
+    ap₂ (λ xs ys. xs ++ ys) e f ∙ sym (rw at at whole) ∙ joined_widened high v 0 (n + n) (omega (arith, long)) ∙ ap (widened high) all
+
+-- Its codes.
+
+unit_written : (high : Bool) (to : Form) (b : ℕ) → HasByteOrder high to → b < 0x80 → written to b ≡ halves high b 0
+unit_written high Utf8 b form lt = absurd form
+unit_written high Utf16Le b form lt =
+    let high_byte : b / 256 ≡ 0 = omega arith in
+    let low_byte : b % 256 ≡ b = omega arith in
+    rw (form, utf16-1 b (omega arith), high_byte, low_byte) refl
+unit_written high Utf16Be b form lt =
+    let high_byte : b / 256 ≡ 0 = omega arith in
+    let low_byte : b % 256 ≡ b = omega arith in
+    rw (form, utf16-1 b (omega arith), high_byte, low_byte) refl
+
+units_written : (high : Bool) (to : Form) (xs : List ℕ) → HasByteOrder high to → AreAscii xs 0 (length xs) → flat_map (written to) xs ≡ widened high xs
+units_written high to [] form low = refl
+units_written high to (b ∷ bs) form low =
+    ap₂ (λ ys zs. ys ++ zs) (unit_written high to b form (low 0 (omega arith) (omega arith))) (units_written high to bs form (λ k ge lt. low (suc k) (omega arith) (omega arith)))
+
+pub ascii_codes : (xs : List ℕ) → AreAscii xs 0 (length xs) → flat_map utf8 xs ≡ xs
+ascii_codes [] low = refl
+ascii_codes (b ∷ bs) low =
+    ap₂ (λ ys zs. ys ++ zs) (utf8-1 b (low 0 (omega arith) (omega arith))) (ascii_codes bs (λ k ge lt. low (suc k) (omega arith) (omega arith)))
+
+pub ascii_scalars : (xs : List ℕ) → AreAscii xs 0 (length xs) → All IsScalar xs
+ascii_scalars [] low k d lt = absurd (omega arith)
+ascii_scalars (x ∷ xs) low zero d lt = ascii_is_scalar x (low 0 (omega arith) (omega arith))
+ascii_scalars (x ∷ xs) low (suc k) d lt = ascii_scalars xs (λ j ge le. low (suc j) (omega arith) (omega arith)) k d (omega arith)
+
+-- So a text of ASCII is recoded as its units.
+pub PutsText-widened : {O : Type 0} {appends : O → List ℕ → O → Type 0} {old new : O} {to : Form} {bytes : List ℕ} {n : ℕ} (high : Bool) → HasByteOrder high to → n ≤ length bytes
+    → AreAscii (take n bytes) 0 (length (take n bytes)) → appends old (widened high (take n bytes)) new → PutsText appends Utf8 to bytes old new n
+PutsText-widened {to} {bytes} {n} high form within low put = record {
+  within = within;
+  grown = widened high (take n bytes);
+  appended = put;
+  transcodes = record {
+    scalars = take n bytes;
+    all = ascii_scalars (take n bytes) low;
+    codes = sym (ascii_codes (take n bytes) low);
+    made = sym (units_written high to (take n bytes) form low);
+  };
+}

@@ -1,0 +1,15 @@
+use Rattle.recoding.proofs.LossyPieces.{Decides-char, Decides-units, no_code_where_begun}
+use Rattle.recoding.proofs.LossyLists.{Decides-subpart}
+use Rattle.recoding.proofs.lossy_pieces.first_lossy_piece.Goals as goal
+
+pub subpart_len-requires-clause-none : goal.subpart_len-requires-clause-none
+subpart_len-requires-clause-none c = no_code_where_begun _ _ _ (rw c.in-Utf8.is at c.in-Fault.ensures)
+
+pub returns-in-Char-clause-some : goal.returns-in-Char-clause-some
+returns-in-Char-clause-some c = Decides-char _ _ _ _ c.in-Char.ensures
+
+pub returns-in-Utf8-clause-some : goal.returns-in-Utf8-clause-some
+returns-in-Utf8-clause-some c = rw c.in-Utf8.is (Decides-subpart _ _ c.subpart_len.ensures.within c.subpart_len.ensures.subpart)
+
+pub returns-in_default-clause-some : goal.returns-in_default-clause-some
+returns-in_default-clause-some c = Decides-units _ _ _ _ c.in_default.not-Utf8 c.in-Fault.ensures

@@ -1,0 +1,26 @@
+use Rattle.std.proofs.Common.{◌-◌, ◌+◌, arith}
+use Rattle.recoding.proofs.GivenBytes.{appends_given, appends_nothing}
+use Rattle.recoding.proofs.utf8_to_utf16.put_rest.Goals as goal
+
+pub loop-place-init : goal.loop-place-init
+loop-place-init g c = record {
+  least = omega arith;
+  within = omega arith;
+  appends = appends_nothing g.O.Output.appends g.met.O.Output.appends_none c.args.high_first c.args.text.now _ c.args.start;
+}
+
+pub loop-place-preserved : goal.loop-place-preserved
+loop-place-preserved g c =
+    let before = c.loop-place.invariant in
+    let least = before.least in
+    record {
+      least = omega arith;
+      within = omega arith;
+      appends =
+          appends_given g.O.Output.appends g.met.O.Output.appends_more c.args.high_first c.args.text.now _ _ _ c.args.start _ (c.loop-place.place + 0) 16 _ before.appends c.put_16_places.ensures (omega arith) (omega arith);
+    }
+
+pub returns-then-place-text : goal.returns-then-place-text
+returns-then-place-text g c =
+    let before = c.loop-place.invariant in
+    appends_given g.O.Output.appends g.met.O.Output.appends_more c.args.high_first c.args.text.now _ _ _ c.args.start (c.loop-place.place - c.args.start) _ _ _ before.appends c.put_16_places-then-place-text.ensures (omega arith) (omega arith)

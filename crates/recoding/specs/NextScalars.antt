@@ -1,0 +1,75 @@
+-- What the front of some bytes shows.
+use Rattle.std.specs.Prelude.{◌≡◌, ℕ, ◌+◌, ◌<◌, ◌≤◌, ◌++◌, ◌∷◌, List, length, drop, Bool, true, false, if◌then◌else◌}
+use Rattle.utf_base.specs.Scalar.{IsScalar}
+use Rattle.recoding.specs.Recoded.{Reads}
+use Rattle.recoding.specs.Faults.{CountsTo, fault_count}
+use Rattle.recoding.specs.declared.form.Form.{Form}
+use Rattle.recoding.specs.declared.form.Form.TheVariants.{Utf8, Utf16Le, Utf16Be}
+
+-- The bytes begin with n bytes that show the scalar s, whatever follows.
+pub record Decides (reads : List ℕ → List ℕ → Type 0) (w : List ℕ) (s n : ℕ) : Type 0 where
+  pub some : 0 < n
+  pub within : n ≤ length w
+  pub scalar : IsScalar s
+  pub wide : 0x1_0000 ≤ s → 2 ≤ n
+  pub first : (later ss : List ℕ) → reads (drop n w ++ later) ss → reads (w ++ later) (s ∷ ss)
+
+-- The same where nothing follows.
+pub record Ends (reads : List ℕ → List ℕ → Type 0) (w : List ℕ) (s n : ℕ) : Type 0 where
+  pub some : 0 < n
+  pub within : n ≤ length w
+  pub scalar : IsScalar s
+  pub wide : 0x1_0000 ≤ s → 2 ≤ n
+  pub first : (ss : List ℕ) → reads (drop n w) ss → reads w (s ∷ ss)
+
+-- The same, and with so many faults.
+pub record Settles (from : Form) (w : List ℕ) (s n faults : ℕ) : Type 0 where
+  pub decides : Decides (Reads from) w s n
+  pub few : faults ≤ 1
+  pub counts : CountsTo from w faults (drop n w)
+
+-- and where nothing follows
+pub record SettlesLast (from : Form) (w : List ℕ) (s n faults : ℕ) : Type 0 where
+  pub ends : Ends (Reads from) w s n
+  pub few : faults ≤ 1
+  pub counts : fault_count from w ≡ faults + fault_count from (drop n w)
+
+-- how many bytes a fault has, where there are so many
+abbrev pub fault_len : Form → ℕ
+fault_len Utf8 = 1
+fault_len Utf16Le = 2
+fault_len Utf16Be = 2
+
+-- There are few bytes, and what follows decides; where nothing does, a fault begins them.
+pub record Waits (from : Form) (w : List ℕ) : Type 0 where
+  pub few : length w ≤ 3
+  pub last : 0 < length w → (ss : List ℕ) → Reads from (drop (fault_len from) w) ss → Reads from w (0xFFFD ∷ ss)
+  pub counts : 0 < length w → fault_count from w ≡ 1 + fault_count from (drop (fault_len from) w)
+
+-- A code of three or four bytes that begins with the first byte may have this second one: table 3-7 of the Unicode standard.
+pub record MayBeSecond (first second : ℕ) : Type 0 where
+  pub low : 0x80 ≤ second
+  pub high : second < 0xC0
+  pub after_e0 : first ≡ 0xE0 → 0xA0 ≤ second
+  pub after_ed : first ≡ 0xED → second < 0xA0
+  pub after_f0 : first ≡ 0xF0 → 0x90 ≤ second
+  pub after_f4 : first ≡ 0xF4 → second < 0x90
+
+-- The bytes show these scalars, and then what follows them does.
+abbrev pub ShowsEach : (List ℕ → List ℕ → Type 0) → List ℕ → List ℕ → Type 0
+ShowsEach reads w ts = (later ss : List ℕ) → reads later ss → reads (w ++ later) (ts ++ ss)
+
+-- The form has units, of which the high byte is the first or the second.
+abbrev pub HasByteOrder : Bool → Form → Type 0
+HasByteOrder high_first Utf8 = ⊥
+HasByteOrder high_first Utf16Le = high_first ≡ false
+HasByteOrder high_first Utf16Be = high_first ≡ true
+
+-- the form that has units in that order
+abbrev pub utf16_form : Bool → Form
+utf16_form big_endian = if big_endian then Utf16Be else Utf16Le
+
+-- One of the two forms has units, or both have.
+abbrev pub HaveUnits : Form → Form → Type 0
+HaveUnits Utf8 Utf8 = ⊥
+HaveUnits from to = Unit {0}

@@ -1,0 +1,75 @@
+//! Texts of ASCII alone, written as units.
+ghost use Rattle.std.specs.Prelude.{◌+◌, ◌*◌, ◌≤◌, length, take, drop};
+ghost use Rattle.utf_lanes.specs.Utf8ToUtf16.{halves};
+ghost use Rattle.recoding.specs.UnitRuns.{widened};
+
+use crate::codes::put_pair;
+use crate::output::Output;
+use std::simd::prelude::*;
+use utf_lanes::ascii_texts::interleave_zeros;
+
+// Appends the bytes, each with a NUL, which is the high byte of its unit.
+#[inline(always)]
+#[tactic(auto, using(crate::proofs::AsciiToUtf16::few_widened))]
+pub(crate) fn put_ascii_as_utf16<O: Output>(high_first: bool, bytes: &[u8], out: &mut O)
+    requires { 2 * length bytes.now ≤ O.room out.old }
+    ensures { O.appends out.old (widened high_first bytes.now) out.new }
+{
+    let place = put_lanes(high_first, bytes, out);
+    let last = &bytes[place..];
+    put_each(high_first, last, out);
+}
+
+// The same of blocks of sixteen. Answers where the last one ends.
+#[inline(always)]
+#[tactic(auto, using(crate::proofs::AsciiToUtf16::few_widened))]
+fn put_lanes<O: Output>(high_first: bool, bytes: &[u8], out: &mut O) -> usize
+    requires { 2 * length bytes.now ≤ O.room out.old }
+    ensures within { result ≤ length bytes.now }
+    ensures appends { O.appends out.old (widened high_first (take result bytes.now)) out.new }
+{
+    let mut place = 0;
+    while 16 <= bytes.len() - place {
+        put_16(high_first, bytes, place, out);
+        place += 16;
+    }
+    place
+}
+
+// One of them.
+#[inline(always)]
+fn put_16<O: Output>(high_first: bool, bytes: &[u8], place: usize, out: &mut O)
+    requires within { place + 16 ≤ length bytes.now }
+    requires room { 32 ≤ O.room out.old }
+    ensures { O.appends out.old (widened high_first (take 16 (drop place bytes.now))) out.new }
+{
+    let (first, second) = interleave_zeros(high_first, u8x16::from_slice(&bytes[place..]));
+    out.put(&first.to_array());
+    out.put(&second.to_array());
+}
+
+// The same of a few bytes, one by one.
+#[inline(always)]
+#[tactic(auto, using(crate::proofs::AsciiToUtf16::few_widened))]
+fn put_each<O: Output>(high_first: bool, bytes: &[u8], out: &mut O)
+    requires { 2 * length bytes.now ≤ O.room out.old }
+    ensures { O.appends out.old (widened high_first bytes.now) out.new }
+{
+    let mut place = 0;
+    while place < bytes.len() {
+        put_one(high_first, bytes[place], out);
+        place += 1;
+    }
+}
+
+#[inline(always)]
+fn put_one<O: Output>(high_first: bool, byte: u8, out: &mut O)
+    requires { 2 ≤ O.room out.old }
+    ensures { O.appends out.old (halves high_first byte 0) out.new }
+{
+    if high_first {
+        put_pair(0, byte, out);
+    } else {
+        put_pair(byte, 0, out);
+    }
+}

@@ -1,0 +1,156 @@
+//! What goes in blocks from one form into another, to any output: copied, widened or narrowed.
+ghost use Rattle.std.specs.Prelude.{◌*◌, ◌≤◌, length, IsTrue};
+ghost use Rattle.recoding.specs.Recodes.{FitsAll};
+ghost use Rattle.recoding.specs.Strict.{PutsText};
+
+use crate::ascii_to_utf16::put_ascii_as_utf16;
+use crate::copied::copy_units;
+use crate::form::WIDEST;
+use crate::output::Output;
+use crate::text::{Text, Utf8, Utf16};
+use crate::utf8_to_utf16::put_text_as_utf16;
+use crate::utf16_to_utf8::narrow_text;
+use utf_lanes::ascii_texts::is_ascii;
+use utf_lanes::text_blocks::text_len;
+
+// How many bytes are judged before what is text among them is copied or widened, while they are near.
+pub(crate) const PART: usize = 8192;
+
+// The most bytes that are first asked whether they are ASCII. Of more, faults among them would have the same bytes asked again.
+const SHORT: usize = 1024;
+
+// Blocks of text in one form, made of blocks in another.
+pub(crate) trait Kernel<S: Text, T: Text> {
+    // Whether they take all text, so that what they leave is at a fault, near the end, or needs more room.
+    const TAKES_ALL: bool;
+
+    // Recodes text at the front of the bytes, as far as it goes in blocks and the room is surely enough, of which a caller may
+    // know that it is enough for all. Answers how many bytes it has.
+    fn put_text<O: Output>(is_ample: bool, bytes: &[u8], out: &mut O) -> usize
+        requires { IsTrue is_ample → FitsAll bytes.now (O.room out.old) }
+        ensures { PutsText O.appends S.form T.form bytes.now out.old out.new result };
+}
+
+// UTF-8 as it is.
+pub(crate) struct Copied;
+
+// UTF-8 as UTF-16.
+pub(crate) struct Widened;
+
+// UTF-16 as UTF-8.
+pub(crate) struct Narrowed;
+
+// UTF-16 as it is, or with the bytes of each unit swapped.
+pub(crate) struct Turned;
+
+impl Kernel<Utf8, Utf8> for Copied {
+    const TAKES_ALL: bool = true;
+
+    #[inline(always)]
+    fn put_text<O: Output>(is_ample: bool, bytes: &[u8], out: &mut O) -> usize {
+        let most = PART.min(most_copied(is_ample, bytes, out));
+        let part = &bytes[..most];
+        if most <= SHORT && is_ascii(part) {
+            out.put(part);
+            return most;
+        }
+        let len = text_len(part);
+        out.put(&part[..len]);
+        len
+    }
+}
+
+impl<const BIG_ENDIAN: bool> Kernel<Utf8, Utf16<BIG_ENDIAN>> for Widened {
+    const TAKES_ALL: bool = false;
+
+    #[inline(always)]
+    fn put_text<O: Output>(is_ample: bool, bytes: &[u8], out: &mut O) -> usize {
+        let most = PART.min(most_widened(is_ample, bytes, out));
+        // Fewer are never taken in lanes, and in scant room not judged either.
+        if most < 32 && !is_ample {
+            return 0;
+        }
+        let part = &bytes[..most];
+        if most <= SHORT && is_ascii(part) {
+            put_ascii_as_utf16(BIG_ENDIAN, part, out);
+            return most;
+        }
+        if most < 32 {
+            return 0;
+        }
+        let len = text_len(part);
+        if len < 32 {
+            return 0;
+        }
+        put_text_as_utf16::<O, BIG_ENDIAN>(&bytes[..len], out);
+        len
+    }
+}
+
+impl<const BIG_ENDIAN: bool> Kernel<Utf16<BIG_ENDIAN>, Utf8> for Narrowed {
+    const TAKES_ALL: bool = false;
+
+    #[inline(always)]
+    fn put_text<O: Output>(is_ample: bool, bytes: &[u8], out: &mut O) -> usize {
+        narrow_text::<O, BIG_ENDIAN>(bytes, out)
+    }
+}
+
+impl<const BIG_ENDIAN: bool, const WANTED: bool> Kernel<Utf16<BIG_ENDIAN>, Utf16<WANTED>>
+    for Turned {
+    const TAKES_ALL: bool = false;
+
+    #[inline(always)]
+    fn put_text<O: Output>(is_ample: bool, bytes: &[u8], out: &mut O) -> usize {
+        let most = most_copied(is_ample, bytes, out);
+        if most < 16 {
+            return 0;
+        }
+        copy_units::<O, BIG_ENDIAN, WANTED>(&bytes[..most], out)
+    }
+}
+
+// How many of the bytes there is room for where they are copied.
+#[inline(always)]
+fn most_copied<O: Output>(is_ample: bool, bytes: &[u8], out: &O) -> usize
+    requires { IsTrue is_ample → FitsAll bytes.now (O.room out.now) }
+    ensures within { result ≤ length bytes.now }
+    ensures room { result ≤ O.room out.now }
+{
+    if is_ample {
+        return bytes.len();
+    }
+    bytes.len().min(out.room())
+}
+
+// And for what comes of them, whatever it is.
+#[inline(always)]
+fn most_widened<O: Output>(is_ample: bool, bytes: &[u8], out: &O) -> usize
+    requires { IsTrue is_ample → FitsAll bytes.now (O.room out.now) }
+    ensures within { result ≤ length bytes.now }
+    ensures room { WIDEST * result ≤ O.room out.now }
+{
+    if is_ample {
+        return bytes.len();
+    }
+    bytes.len().min(out.room() / WIDEST)
+}
+
+// Calls a function under the types of two forms and of the blocks between them.
+macro_rules! by_forms {
+    ($from:expr, $to:expr, $call:ident::<$output:ty>($($given:expr),*)) => {
+        match ($from, $to) {
+            (Form::Utf8, Form::Utf8) => $call::<Utf8, Utf8, Copied, $output>($($given),*),
+            (Form::Utf8, Form::Utf16Le) => $call::<Utf8, Utf16<false>, Widened, $output>($($given),*),
+            (Form::Utf8, Form::Utf16Be) => $call::<Utf8, Utf16<true>, Widened, $output>($($given),*),
+            (Form::Utf16Le, Form::Utf8) => $call::<Utf16<false>, Utf8, Narrowed, $output>($($given),*),
+            (Form::Utf16Le, Form::Utf16Le) => $call::<Utf16<false>, Utf16<false>, Turned, $output>($($given),*),
+            (Form::Utf16Le, Form::Utf16Be) => $call::<Utf16<false>, Utf16<true>, Turned, $output>($($given),*),
+            (Form::Utf16Be, Form::Utf8) => $call::<Utf16<true>, Utf8, Narrowed, $output>($($given),*),
+            (Form::Utf16Be, Form::Utf16Le) => $call::<Utf16<true>, Utf16<false>, Turned, $output>($($given),*),
+            (Form::Utf16Be, Form::Utf16Be) => $call::<Utf16<true>, Utf16<true>, Turned, $output>($($given),*),
+        }
+    };
+}
+
+pub(crate) use by_forms;

@@ -1,0 +1,231 @@
+//! What the front of some bytes shows.
+ghost use Rattle.std.specs.Prelude.{◌≡◌, ◌<◌, length, take, IfSome, IfNone, IsTrue, IsFalse, Some, ◌%◌};
+ghost use Rattle.utf_base.specs.Code.{utf8};
+ghost use Rattle.utf_base.specs.Kinds.{fault_kind};
+ghost use Rattle.utf_base.specs.Shown.{IsDecided};
+ghost use Rattle.utf_base.specs.declared.errors.Utf8ErrorKind.TheVariants.{TooFewBytes};
+ghost use Rattle.utf_lanes.specs.AsciiTexts.{AreAscii};
+ghost use Rattle.recoding.specs.Recoded.{Lacks, IsProperFront};
+ghost use Rattle.utf_lanes.specs.BytePairs.{units_of};
+ghost use Rattle.recoding.specs.NextScalars.{Settles, Waits, MayBeSecond, utf16_form};
+ghost use Rattle.recoding.specs.Strict.{BeginsChar, Transcodes};
+
+use crate::form::Form;
+use encode_unicode::error::Utf8ErrorKind;
+use encode_unicode::{CharExt, U16UtfExt};
+use utf_base::elements::is_continuation;
+use utf_lanes::byte_pairs::unit;
+
+// What begins some bytes: the scalar, or U+FFFD for a fault, how many bytes it has, and how many faults it is: one, or none.
+#[derive(Clone, Copy, Drop)]
+pub(crate) struct NextScalar {
+    pub(crate) c: char,
+    pub(crate) len: usize,
+    pub(crate) faults: usize,
+}
+
+// A character of so many bytes.
+#[inline(always)]
+fn character(c: char, len: usize) -> NextScalar
+    ensures { result ≡ record { c = c; len = len; faults = 0 } }
+{
+    NextScalar { c, len, faults: 0 }
+}
+
+// A fault of so many bytes.
+#[inline(always)]
+pub(crate) fn fault(len: usize) -> NextScalar
+    ensures { result ≡ record { c = 0xFFFD; len = len; faults = 1 } }
+{
+    NextScalar {
+        c: char::REPLACEMENT_CHARACTER,
+        len,
+        faults: 1,
+    }
+}
+
+// What begins the bytes; `None` where that depends on what follows them.
+#[inline(always)]
+pub(crate) fn next_of_utf8(bytes: &[u8]) -> Option<NextScalar>
+    ensures some { IfSome result (λ x. Settles Form.Utf8 bytes.now x.c x.len x.faults) }
+    ensures none { IfNone result (Waits Form.Utf8 bytes.now) }
+    ensures lacks { IfNone result (Lacks Form.Utf8 bytes.now) }
+{
+    match char::from_utf8_slice_start(bytes) {
+        Ok((c, len)) => Some(character(c, len)),
+        Err(error) => match error.kind() {
+            Utf8ErrorKind::TooFewBytes => {
+                if is_front_of_code(bytes) {
+                    None
+                } else {
+                    Some(fault(1))
+                }
+            }
+            _ => Some(fault(1)),
+        },
+    }
+}
+
+// Whether bytes that are too few are the front of a code. Else the first is a fault, whatever follows.
+#[cold]
+#[inline(never)]
+pub(crate) fn is_front_of_code(bytes: &[u8]) -> bool
+    requires { fault_kind bytes.now ≡ Some TooFewBytes }
+    ensures yes { IsTrue result → IsProperFront utf8 bytes.now }
+    ensures no { IsFalse result → IsDecided utf8 bytes.now }
+{
+    if bytes.len() < 2 {
+        return true;
+    }
+    may_be_second(bytes[0], bytes[1]) && (bytes.len() < 3 || is_continuation(bytes[2]))
+}
+
+// Whether a code of three or four bytes that begins with the first byte may have this second one.
+#[inline(always)]
+pub(crate) fn may_be_second(first: u8, second: u8) -> bool
+    ensures yes { IsTrue result → MayBeSecond first second }
+    ensures no { MayBeSecond first second → IsTrue result }
+{
+    is_continuation(second)
+        && match first {
+            0xe0 => second >= 0xa0,
+            0xed => second < 0xa0,
+            0xf0 => second >= 0x90,
+            0xf4 => second < 0x90,
+            _ => true,
+        }
+}
+
+// The same of UTF-16.
+#[inline(always)]
+pub(crate) fn next_of_utf16<const BIG_ENDIAN: bool>(bytes: &[u8]) -> Option<NextScalar>
+    ensures some { IfSome result (λ x. Settles (utf16_form BIG_ENDIAN) bytes.now x.c x.len x.faults) }
+    ensures none { IfNone result (Waits (utf16_form BIG_ENDIAN) bytes.now) }
+    ensures lacks { IfNone result (Lacks (utf16_form BIG_ENDIAN) bytes.now) }
+{
+    if bytes.len() < 2 {
+        return None;
+    }
+    let first = unit(BIG_ENDIAN, bytes[0], bytes[1]);
+    if !first.is_utf16_leading_surrogate() {
+        return match char::from_utf16_tuple((first, None)) {
+            Ok(c) => Some(character(c, 2)),
+            Err(_) => Some(fault(2)),
+        };
+    }
+    if bytes.len() < 4 {
+        return None;
+    }
+    let second = unit(BIG_ENDIAN, bytes[2], bytes[3]);
+    match char::from_utf16_tuple((first, Some(second))) {
+        Ok(c) => Some(character(c, 4)),
+        Err(_) => Some(fault(2)),
+    }
+}
+
+// The character that begins the bytes, and how many bytes it has; `None` at a fault, and near the end.
+#[inline(always)]
+pub(crate) fn next_valid_of_utf16<const BIG_ENDIAN: bool>(bytes: &[u8]) -> Option<(char, usize)>
+    ensures { IfSome result (λ x. BeginsChar (utf16_form BIG_ENDIAN) bytes.now x.0 x.1) }
+{
+    if bytes.len() < 2 {
+        return None;
+    }
+    let first = unit(BIG_ENDIAN, bytes[0], bytes[1]);
+    if !first.is_utf16_leading_surrogate() {
+        return match char::from_utf16_tuple((first, None)) {
+            Ok(c) => Some((c, 2)),
+            Err(_) => None,
+        };
+    }
+    if bytes.len() < 4 {
+        return None;
+    }
+    let second = unit(BIG_ENDIAN, bytes[2], bytes[3]);
+    match char::from_utf16_tuple((first, Some(second))) {
+        Ok(c) => Some((c, 4)),
+        Err(_) => None,
+    }
+}
+
+// The eight characters of ASCII that sixteen bytes are as units. `None` where a unit is anything else.
+#[inline(always)]
+pub(crate) fn ascii_of_units<const BIG_ENDIAN: bool>(bytes: &[u8]) -> Option<[u8; 8]>
+    requires { length bytes.now ≡ 16 }
+    ensures { IfSome result (λ ascii. Transcodes (utf16_form BIG_ENDIAN) Form.Utf8 bytes.now ascii) }
+{
+    let units = eight_units::<BIG_ENDIAN>(bytes);
+    if eight_are_ascii(units) {
+        Some(eight_bytes(units))
+    } else {
+        None
+    }
+}
+
+#[inline(always)]
+#[tactic(auto, using(crate::proofs::Blocks::eight_units))]
+fn eight_units<const BIG_ENDIAN: bool>(bytes: &[u8]) -> [u16; 8]
+    requires { length bytes.now ≡ 16 }
+    ensures { result ≡ units_of BIG_ENDIAN bytes.now }
+{
+    [
+        unit(BIG_ENDIAN, bytes[0], bytes[1]),
+        unit(BIG_ENDIAN, bytes[2], bytes[3]),
+        unit(BIG_ENDIAN, bytes[4], bytes[5]),
+        unit(BIG_ENDIAN, bytes[6], bytes[7]),
+        unit(BIG_ENDIAN, bytes[8], bytes[9]),
+        unit(BIG_ENDIAN, bytes[10], bytes[11]),
+        unit(BIG_ENDIAN, bytes[12], bytes[13]),
+        unit(BIG_ENDIAN, bytes[14], bytes[15]),
+    ]
+}
+
+#[inline(always)]
+#[tactic(auto, using(crate::proofs::Blocks::all_eight))]
+fn eight_are_ascii(units: [u16; 8]) -> bool
+    ensures { IsTrue result → AreAscii units 0 8 }
+{
+    units[0] < 0x80
+        && units[1] < 0x80
+        && units[2] < 0x80
+        && units[3] < 0x80
+        && units[4] < 0x80
+        && units[5] < 0x80
+        && units[6] < 0x80
+        && units[7] < 0x80
+}
+
+// The same numbers as bytes.
+#[inline(always)]
+#[tactic(auto, using(crate::proofs::Blocks::eight_bytes))]
+fn eight_bytes(units: [u16; 8]) -> [u8; 8]
+    requires { AreAscii units 0 8 }
+    ensures { result ≡ units }
+{
+    let [a, b, c, d, e, f, g, h] = units;
+    [
+        low(a),
+        low(b),
+        low(c),
+        low(d),
+        low(e),
+        low(f),
+        low(g),
+        low(h),
+    ]
+}
+
+#[inline(always)]
+fn low(unit: u16) -> u8
+    ensures { result ≡ unit % 256 }
+{
+    (unit % 256) as u8
+}
+
+// The first four bytes, or all where they are fewer.
+#[inline(always)]
+pub(crate) fn first_four(bytes: &[u8]) -> &[u8]
+    ensures { result.now ≡ take 4 bytes.now }
+{
+    &bytes[..bytes.len().min(4)]
+}

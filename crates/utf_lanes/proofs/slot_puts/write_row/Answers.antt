@@ -1,6 +1,0 @@
-use Rattle.std.proofs.Common.{◌++◌, take, ap, ◌∙◌}
-use Rattle.utf_lanes.proofs.KeptSlots.{row_kept}
-use Rattle.utf_lanes.proofs.slot_puts.write_row.Goals as goal
-
-pub returns-clause-bytes : goal.returns-clause-bytes
-returns-clause-bytes c = c.write_kept.ensures.bytes ∙ ap (λ xs. take c.args.at c.args.room.now ++ xs) (row_kept c.args.short c.args.mask _ c.args.lanes _ c.kept_row-len.ensures.row)

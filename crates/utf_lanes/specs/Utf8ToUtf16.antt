@@ -1,0 +1,72 @@
+-- Text in UTF-8 as units of UTF-16: which unit the byte at a place gives, by it and the three before it.
+use Rattle.std.specs.Prelude.{◌≡◌, ℕ, suc, zero, ◌+◌, ◌-◌, ◌*◌, ◌/◌, ◌%◌, Bool, ◌&&◌, if◌then◌else◌, List, [], ◌∷◌, ◌++◌, nat_lt, nat_eq, slice_index, ◌<◌, ◌≤◌, take, count_ones}
+use Rattle.std.specs.Int.{bit_at}
+
+-- lists joined, for each number from p on and n of them
+unfoldable pub concat_range : (ℕ → List ℕ) → ℕ → ℕ → List ℕ
+concat_range f p zero = []
+concat_range f p (suc n) = f p ++ concat_range f (suc p) n
+
+-- The byte d gives a unit after the byte c: it ends a code, or is the third of four. No first byte of a longer code does, and
+-- no second byte of one of three or four.
+abbrev pub ends_unit : ℕ → ℕ → Bool
+ends_unit c d = nat_lt d 0xC0 && nat_lt c 0xE0
+
+-- the byte before d, where d goes on from it
+abbrev pub continued_byte : ℕ → ℕ → ℕ
+continued_byte c d = if nat_lt d 0x80 then 0 else c
+
+-- Halves of the unit that the byte d gives after b and c, where it ends a code of at most three bytes.
+abbrev pub low_half : ℕ → ℕ → ℕ
+low_half c d = (d % 128 + continued_byte c d * 64 % 256) % 256
+
+abbrev pub high_half : ℕ → ℕ → ℕ → ℕ
+high_half b c d = (continued_byte c d / 4 % 16 + (b - 0xE0) * 16 % 256) % 256
+
+-- Halves of the leading surrogate that the third byte of four gives.
+abbrev pub leading_low : ℕ → ℕ → ℕ
+leading_low c d = (c % 64 * 4 + d % 64 / 16 + 0xC0) % 256
+
+abbrev pub leading_high : ℕ → ℕ → ℕ → ℕ
+leading_high b c d = b % 8 + (if nat_lt (leading_low c d) 0xC0 then 0xD8 else 0xD7)
+
+-- The high half of the trailing surrogate that the fourth gives.
+abbrev pub trailing_high : ℕ → ℕ
+trailing_high c = 0xDC + c / 4 % 4
+
+-- Halves of the unit that the byte d gives after a, b and c.
+abbrev pub unit_low : ℕ → ℕ → ℕ → ℕ
+unit_low b c d = if nat_lt b 0xF0 then low_half c d else leading_low c d
+
+abbrev pub unit_high : ℕ → ℕ → ℕ → ℕ → ℕ
+unit_high a b c d = if nat_lt b 0xF0 then (if nat_lt a 0xF0 then high_half b c d else trailing_high c) else leading_high b c d
+
+abbrev pub halves : Bool → ℕ → ℕ → List ℕ
+halves high_first low high = if high_first then high ∷ low ∷ [] else low ∷ high ∷ []
+
+-- the bytes that the place k + 3 gives
+unfoldable pub utf16_bytes_at : Bool → List ℕ → ℕ → List ℕ
+utf16_bytes_at high_first xs k =
+    let a = slice_index xs k in
+    let b = slice_index xs (k + 1) in
+    let c = slice_index xs (k + 2) in
+    let d = slice_index xs (k + 3) in
+    if ends_unit c d then halves high_first (unit_low b c d) (unit_high a b c d) else []
+
+-- A row of places below 16, for a mask of eight bits at most: the first of them, so many, are those of n parts.
+pub record IsRow (row : List ℕ) (mask len n : ℕ) (places : ℕ → List ℕ) : Type 0 where
+  pub few : count_ones mask ≤ 8
+  pub within : (k : ℕ) → k < 16 → slice_index row k < 16
+  pub listed : take len row ≡ concat_range places 0 n
+
+-- the places of the pair of bytes number i, where the mask has its bit
+abbrev pub places_at : ℕ → ℕ → List ℕ
+places_at mask i = if nat_eq (bit_at mask i) 1 then 2 * i ∷ (2 * i + 1) ∷ [] else []
+
+-- the pair of bytes number i, where the mask has its bit
+abbrev pub pair_at : ℕ → List ℕ → ℕ → List ℕ
+pair_at mask pairs i = if nat_eq (bit_at mask i) 1 then slice_index pairs (2 * i) ∷ slice_index pairs (2 * i + 1) ∷ [] else []
+
+-- The bytes that n places of some text give, from the place p on. Before the text NULs stand, as it were.
+abbrev pub utf16_bytes : Bool → List ℕ → ℕ → ℕ → List ℕ
+utf16_bytes high_first text p n = concat_range (utf16_bytes_at high_first (0 ∷ 0 ∷ 0 ∷ text)) p n
