@@ -7,4 +7,4 @@ returns g c =
     let xs = c.args.bytes.now in
     let p = c.args.place in
     let both = block_widened c.args.high_first (take 16 (drop p xs)) _ _ 8 (omega (arith, length-take 16 (drop p xs), length-drop p xs)) c.interleave_zeros.ensures.first c.interleave_zeros.ensures.second in
-    rw both at (g.met.O.Output.appends_more _ _ _ _ _ c.put.ensures c.put-2.ensures)
+    rw both at (rw c.beside.ensures at c.put.ensures)
