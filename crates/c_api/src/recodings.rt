@@ -87,7 +87,9 @@ pub(crate) fn keep(recoder: &mut NodyRecoder, inner: &Recoder)
 {
     let held = inner.held();
     recoder.count = held.len() as u8;
-    recoder.held[..held.len()].copy_from_slice(held);
+    if !held.is_empty() {
+        recoder.held[..held.len()].copy_from_slice(held);
+    }
 }
 
 // The count with so many more, as far as 64 bits count.

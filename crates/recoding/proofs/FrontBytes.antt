@@ -1,13 +1,14 @@
 -- What the front of some bytes shows, from the answer of a decoder.
-use Rattle.std.proofs.Common.{◌≡◌, ◌≢◌, ℕ, ◌+◌, take, ◌<◌, ◌≤◌, ⊎_elim, inl, inr, List, [], ◌∷◌, ◌++◌, length, get_or, drop, arith, refl, ap, sym, ◌∙◌, Some, None, Bool, true, false, not, if◌then◌else◌, lit<, length-drop, length-append}
+use Rattle.std.proofs.Common.{◌≡◌, ◌≢◌, ℕ, ◌+◌, ◌-◌, take, ◌<◌, ◌≤◌, ⊎_elim, inl, inr, List, [], ◌∷◌, ◌++◌, length, get_or, drop, arith, refl, ap, sym, ◌∙◌, Some, None, Bool, true, false, not, if◌then◌else◌, lit<, length-drop, length-append}
 use Rattle.std.specs.Prelude.{min}
 use Rattle.std.proofs.lemmas.Grind.{common_steps}
 use Rattle.std.proofs.lemmas.Bool.{cases_lt}
-use Rattle.std.proofs.lemmas.List.{append-nil, take_all, drop_all}
+use Rattle.std.proofs.lemmas.List.{append-nil, take_all, drop_all, take-append-le}
 use Rattle.utf_base.specs.declared.errors.Utf8ErrorKind.{Utf8ErrorKind}
 use Rattle.utf_base.specs.declared.errors.Utf8ErrorKind.TheVariants.{TooFewBytes}
 use Rattle.utf_base.specs.Scalar.{IsScalar}
 use Rattle.utf_base.specs.Code.{utf8, utf16}
+use Rattle.utf_base.specs.Front.{NoneBegins}
 use Rattle.utf_base.specs.Kinds.{fault_kind}
 use Rattle.utf_base.specs.Piece.{Stands}
 use Rattle.utf_base.specs.Shown.{Shows, IsDecided}
@@ -21,7 +22,7 @@ use Rattle.utf_base.proofs.FrontLemmas.{no_code_where_fault}
 use Rattle.utf_base.proofs.KindCases.{begins_with-1, kind-empty}
 use Rattle.utf_base.proofs.LaterLemmas.{kind_stays, few_where_too_few, no_code_at_trailing, no_code_at_unmatched, no_code_at_last}
 use Rattle.utf_base.proofs.Rests.{fault_shows_first, shows_none, shows_one}
-use Rattle.utf_base.proofs.Utf8Code.{utf8_is_code}
+use Rattle.utf_base.proofs.Utf8Code.{length_utf8, utf8_is_code}
 use Rattle.utf_base.proofs.Utf16Code.{utf16_is_code}
 use Rattle.recoding.specs.Recoded.{Reads, ShowsUnits, odd_end, Lacks}
 use Rattle.recoding.specs.Faults.{fault_count}
@@ -114,6 +115,19 @@ Settles-utf8_fault w k e other =
   where
     same_kind : (a b : Utf8ErrorKind) → Some a ≡ Some b → a ≡ b
     same_kind a b e = cc
+
+-- four bytes that no code begins
+pub Settles-utf8_four : (w : List ℕ) → 4 ≤ length w → NoneBegins utf8 w → Settles Utf8 w 0xFFFD 1 1
+Settles-utf8_four w four none = fault_of_byte w (omega arith) (λ later s h. none s (stands_in_four w later s four h))
+  where
+    stands_in_four : (w later : List ℕ) (s : ℕ) → 4 ≤ length w → Stands utf8 (w ++ later) 0 s → Stands utf8 w 0 s
+    stands_in_four w later s four h =
+        let most = length_utf8 s in
+        record {
+          scalar = h.scalar;
+          within = omega arith;
+          equal = sym (take-append-le (0 + length (utf8 s) - 0) w later (omega arith)) ∙ h.equal;
+        }
 
 nothing_is_undecided : IsDecided utf8 [] → ⊥
 nothing_is_undecided (inl (s, h)) = let some = utf8_is_code.some s h.scalar in let within = h.within in omega arith

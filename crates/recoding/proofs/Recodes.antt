@@ -93,6 +93,13 @@ module _ {O : Type 0} {appends : O → List ℕ → O → Type 0} {from to : For
         advances = Advances-ahead from to bytes [] f.grown (f.grown ++ written to s) p s n f.advances settles refl;
       }
 
+  -- a character, which is no fault
+  pub Recodes-char : ((a b c : O) (xs ys : List ℕ) → appends a xs b → appends b ys c → appends a (xs ++ ys) c) → {old mid new : O} {p s n j : ℕ}
+      → Recodes appends from to bytes old mid p j → Settles from (take 4 (drop p bytes)) s n 0 → appends mid (written to s) new → Recodes appends from to bytes old new (p + n) j
+  Recodes-char more {old} {mid} {new} {p} {s} {n} {j} f settles put =
+      let same : j + 0 ≡ j = omega arith in
+      subst (λ m. Recodes appends from to bytes old new (p + n) m) same (Recodes-code more f settles put)
+
   -- room for all bytes is room for a code that begins the ones left
   pub room_for_next : {room : O → ℕ} → ((a b : O) (xs : List ℕ) → appends a xs b → room a ≤ room b + length xs) → {old mid : O} {p s n k : ℕ}
       → Recodes appends from to bytes old mid p k → Decides (Reads from) (take 4 (drop p bytes)) s n → 3 * length bytes ≤ room old → length (written to s) ≤ room mid

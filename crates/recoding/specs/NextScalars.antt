@@ -5,6 +5,9 @@ use Rattle.recoding.specs.Recoded.{Reads}
 use Rattle.recoding.specs.Faults.{CountsTo, fault_count}
 use Rattle.recoding.specs.declared.form.Form.{Form}
 use Rattle.recoding.specs.declared.form.Form.TheVariants.{Utf8, Utf16Le, Utf16Be}
+use Rattle.recoding.specs.declared.next_scalar.NextScalar.{NextScalar}
+use Rattle.recoding.specs.declared.next_scalar.ShownPiece.{ShownPiece}
+use Rattle.recoding.specs.declared.next_scalar.ShownPiece.TheVariants as piece
 
 -- The bytes begin with n bytes that show the scalar s, whatever follows.
 pub record Decides (reads : List ℕ → List ℕ → Type 0) (w : List ℕ) (s n : ℕ) : Type 0 where
@@ -27,6 +30,16 @@ pub record Settles (from : Form) (w : List ℕ) (s n faults : ℕ) : Type 0 wher
   pub decides : Decides (Reads from) w s n
   pub few : faults ≤ 1
   pub counts : CountsTo from w faults (drop n w)
+
+-- what a piece shows: its scalar, or U+FFFD for a fault
+abbrev pub front_of : ShownPiece → NextScalar
+front_of (piece.Char s n) = record { c = s; len = n; faults = 0 }
+front_of (piece.Fault n) = record { c = 0xFFFD; len = n; faults = 1 }
+
+-- The piece begins the bytes, whatever follows.
+abbrev pub BeginsPiece : Form → List ℕ → ShownPiece → Type 0
+BeginsPiece from w (piece.Char s n) = Settles from w s n 0
+BeginsPiece from w (piece.Fault n) = Settles from w 0xFFFD n 1
 
 -- and where nothing follows
 pub record SettlesLast (from : Form) (w : List ℕ) (s n faults : ℕ) : Type 0 where

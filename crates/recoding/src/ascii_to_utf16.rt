@@ -1,5 +1,5 @@
 //! Texts of ASCII alone, written as units.
-ghost use Rattle.std.specs.Prelude.{◌+◌, ◌*◌, ◌≤◌, length, take, drop};
+ghost use Rattle.std.specs.Prelude.{◌≡◌, ◌+◌, ◌*◌, ◌≤◌, ◌++◌, length, take, drop};
 ghost use Rattle.utf_lanes.specs.Utf8ToUtf16.{halves};
 ghost use Rattle.recoding.specs.UnitRuns.{widened};
 
@@ -44,8 +44,18 @@ fn put_16<O: Output, const BIG_ENDIAN: bool>(bytes: &[u8], place: usize, out: &m
     ensures { O.appends out.old (widened BIG_ENDIAN (take 16 (drop place bytes.now))) out.new }
 {
     let (first, second) = interleave_zeros(BIG_ENDIAN, u8x16::from_slice(&bytes[place..]));
-    out.put(&first.to_array());
-    out.put(&second.to_array());
+    out.put(&beside(first, second));
+}
+
+// The bytes of both, which are put at once: so a compiler counts them once.
+#[inline(always)]
+fn beside(first: u8x16, second: u8x16) -> [u8; 32]
+    ensures { result ≡ first ++ second }
+{
+    let mut both = [0; 32];
+    both[..16].copy_from_slice(&first.to_array());
+    both[16..].copy_from_slice(&second.to_array());
+    both
 }
 
 // The same of a few bytes, one by one.

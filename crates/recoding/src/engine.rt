@@ -2,12 +2,12 @@
 ghost use Rattle.std.specs.Prelude.{◌≡◌, ◌+◌, ◌<◌, ◌≤◌, length, take, drop, IfSome, IfNone, IsTrue, IsFalse};
 ghost use Rattle.recoding.specs.Recoded.{Lacks};
 ghost use Rattle.recoding.specs.Recodes.{FitsAll, Reaches};
-ghost use Rattle.recoding.specs.NextScalars.{Settles};
+ghost use Rattle.recoding.specs.NextScalars.{BeginsPiece};
 ghost use Rattle.recoding.specs.Strict.{PutsText};
 
 use crate::form::{Form, WIDEST};
 use crate::kernels::{Copied, Kernel, Narrowed, PART, Turned, Widened, by_forms};
-use crate::next_scalar::{NextScalar, first_four};
+use crate::next_scalar::{ShownPiece, first_four};
 use crate::output::Output;
 use crate::text::{Text, Utf8, Utf16};
 
@@ -105,11 +105,7 @@ fn run<S: Text, T: Text, K: Kernel<S, T>, O: Output>(
             read += few.read;
             replaced += few.replaced;
             if few.is_full || few.is_waiting {
-                return Reached {
-                    read,
-                    replaced,
-                    ..few
-                };
+                return ended(read, replaced, few.is_full, few.is_waiting);
             }
         }
     }
@@ -240,16 +236,17 @@ fn recode_faults<S: Text, T: Text, O: Output>(bytes: &[u8], out: &mut O) -> Reac
             return ended(read, replaced, false, true);
         };
         // A compiler knows the code of a fault where nothing else is written.
-        let is_fault = first.c == char::REPLACEMENT_CHARACTER;
-        if is_fault {
-            stop = read + AFTER_FAULT;
-            T::put_code(first.c, out);
-            read += first.len;
-            replaced += first.faults;
-        } else {
-            T::put_code(first.c, out);
-            read += first.len;
-            replaced += first.faults;
+        match first {
+            ShownPiece::Char(c, len) => {
+                T::put_code(c, out);
+                read += len;
+            }
+            ShownPiece::Fault(len) => {
+                stop = read + AFTER_FAULT;
+                T::put_code(char::REPLACEMENT_CHARACTER, out);
+                read += len;
+                replaced += 1;
+            }
         }
     }
     ended(read, replaced, false, false)
@@ -267,25 +264,34 @@ fn recode_faults_within<S: Text, T: Text, O: Output>(bytes: &[u8], out: &mut O) 
         let Some(first) = next_at::<S>(bytes, read) else {
             return ended(read, replaced, false, true);
         };
-        let is_put = T::put_fitting(first.c, out);
-        if !is_put {
-            return ended(read, replaced, true, false);
+        match first {
+            ShownPiece::Char(c, len) => {
+                if !T::put_fitting(c, out) {
+                    return ended(read, replaced, true, false);
+                }
+                read += len;
+            }
+            ShownPiece::Fault(len) => {
+                if !T::put_fitting(char::REPLACEMENT_CHARACTER, out) {
+                    return ended(read, replaced, true, false);
+                }
+                read += len;
+                replaced += 1;
+            }
         }
-        read += first.len;
-        replaced += first.faults;
     }
     ended(read, replaced, false, false)
 }
 
 // What begins at a place of the bytes, by no more than four of them; `None` where that depends on what follows all of them.
 #[inline(always)]
-fn next_at<S: Text>(bytes: &[u8], place: usize) -> Option<NextScalar>
+fn next_at<S: Text>(bytes: &[u8], place: usize) -> Option<ShownPiece>
     requires { place ≤ length bytes.now }
-    ensures some { IfSome result (λ x. Settles S.form (take 4 (drop place bytes.now)) x.c x.len x.faults) }
+    ensures some { IfSome result (λ x. BeginsPiece S.form (take 4 (drop place bytes.now)) x) }
     ensures few { IfNone result (length bytes.now ≤ place + 3) }
     ensures lacks { IfNone result (Lacks S.form (drop place bytes.now)) }
 {
-    if 4 <= bytes.len() - place {
+    if place + 4 <= bytes.len() {
         return S::next_scalar(&bytes[place..place + 4]);
     }
     S::next_scalar(&bytes[place..])

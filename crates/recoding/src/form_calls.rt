@@ -7,7 +7,7 @@ ghost use Rattle.recoding.specs.Strict.{BeginsChar, EndsInFault, IsFirstPiece, l
 use crate::faults::FaultKind;
 use crate::first_pieces::FirstPiece;
 use crate::form::Form;
-use crate::next_scalar::{NextScalar, fault};
+use crate::next_scalar::{NextScalar, fault, shown};
 use crate::output::Output;
 use crate::text::{Text, Utf8, Utf16};
 
@@ -29,7 +29,10 @@ pub(crate) fn next_of(from: Form, bytes: &[u8]) -> Option<NextScalar>
     ensures none { IfNone result (Waits from bytes.now) }
     ensures lacks { IfNone result (Lacks from bytes.now) }
 {
-    by_form!(from, next_scalar(bytes))
+    match by_form!(from, next_scalar(bytes)) {
+        Some(piece) => Some(shown(piece)),
+        None => None,
+    }
 }
 
 // The same where nothing follows the bytes.

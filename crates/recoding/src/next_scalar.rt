@@ -1,5 +1,5 @@
 //! What the front of some bytes shows.
-ghost use Rattle.std.specs.Prelude.{◌≡◌, ◌<◌, length, take, IfSome, IfNone, IsTrue, IsFalse, Some, ◌%◌};
+ghost use Rattle.std.specs.Prelude.{◌≡◌, ◌<◌, ◌≤◌, length, take, IfSome, IfNone, IsTrue, IsFalse, Some, ◌%◌};
 ghost use Rattle.utf_base.specs.Code.{utf8};
 ghost use Rattle.utf_base.specs.Kinds.{fault_kind};
 ghost use Rattle.utf_base.specs.Shown.{IsDecided};
@@ -7,7 +7,7 @@ ghost use Rattle.utf_base.specs.declared.errors.Utf8ErrorKind.TheVariants.{TooFe
 ghost use Rattle.utf_lanes.specs.AsciiTexts.{AreAscii};
 ghost use Rattle.recoding.specs.Recoded.{Lacks, IsProperFront};
 ghost use Rattle.utf_lanes.specs.BytePairs.{units_of};
-ghost use Rattle.recoding.specs.NextScalars.{Settles, Waits, MayBeSecond, utf16_form};
+ghost use Rattle.recoding.specs.NextScalars.{BeginsPiece, Waits, MayBeSecond, front_of, utf16_form};
 ghost use Rattle.recoding.specs.Strict.{BeginsChar, Transcodes};
 
 use crate::form::Form;
@@ -15,6 +15,16 @@ use encode_unicode::error::Utf8ErrorKind;
 use encode_unicode::{CharExt, U16UtfExt};
 use utf_base::elements::is_continuation;
 use utf_lanes::byte_pairs::unit;
+use utf_lanes::text_front::front_of_text;
+
+// What begins some bytes.
+#[derive(Clone, Copy, Drop)]
+pub(crate) enum ShownPiece {
+    // A character, and how many bytes its code has.
+    Char(char, usize),
+    // A fault, and how many bytes it has.
+    Fault(usize),
+}
 
 // What begins some bytes: the scalar, or U+FFFD for a fault, how many bytes it has, and how many faults it is: one, or none.
 #[derive(Clone, Copy, Drop)]
@@ -24,12 +34,15 @@ pub(crate) struct NextScalar {
     pub(crate) faults: usize,
 }
 
-// A character of so many bytes.
+// The same of a piece.
 #[inline(always)]
-fn character(c: char, len: usize) -> NextScalar
-    ensures { result ≡ record { c = c; len = len; faults = 0 } }
+pub(crate) fn shown(piece: ShownPiece) -> NextScalar
+    ensures { result ≡ front_of piece }
 {
-    NextScalar { c, len, faults: 0 }
+    match piece {
+        ShownPiece::Char(c, len) => NextScalar { c, len, faults: 0 },
+        ShownPiece::Fault(len) => fault(len),
+    }
 }
 
 // A fault of so many bytes.
@@ -44,25 +57,40 @@ pub(crate) fn fault(len: usize) -> NextScalar
     }
 }
 
-// What begins the bytes; `None` where that depends on what follows them.
+// What begins the bytes; `None` where that depends on what follows them. Of four bytes no fault has to be named.
 #[inline(always)]
-pub(crate) fn next_of_utf8(bytes: &[u8]) -> Option<NextScalar>
-    ensures some { IfSome result (λ x. Settles Form.Utf8 bytes.now x.c x.len x.faults) }
+pub(crate) fn next_of_utf8(bytes: &[u8]) -> Option<ShownPiece>
+    ensures some { IfSome result (λ x. BeginsPiece Form.Utf8 bytes.now x) }
     ensures none { IfNone result (Waits Form.Utf8 bytes.now) }
     ensures lacks { IfNone result (Lacks Form.Utf8 bytes.now) }
 {
+    if 4 <= bytes.len() {
+        return Some(piece_of_four(bytes));
+    }
     match char::from_utf8_slice_start(bytes) {
-        Ok((c, len)) => Some(character(c, len)),
+        Ok((c, len)) => Some(ShownPiece::Char(c, len)),
         Err(error) => match error.kind() {
             Utf8ErrorKind::TooFewBytes => {
                 if is_front_of_code(bytes) {
                     None
                 } else {
-                    Some(fault(1))
+                    Some(ShownPiece::Fault(1))
                 }
             }
-            _ => Some(fault(1)),
+            _ => Some(ShownPiece::Fault(1)),
         },
+    }
+}
+
+// The same of four bytes or more.
+#[inline(always)]
+fn piece_of_four(bytes: &[u8]) -> ShownPiece
+    requires { 4 ≤ length bytes.now }
+    ensures { BeginsPiece Form.Utf8 bytes.now result }
+{
+    match front_of_text(bytes) {
+        Some((c, len)) => ShownPiece::Char(c, len),
+        None => ShownPiece::Fault(1),
     }
 }
 
@@ -96,10 +124,10 @@ pub(crate) fn may_be_second(first: u8, second: u8) -> bool
         }
 }
 
-// The same of UTF-16.
+// What begins the bytes as UTF-16; `None` where that depends on what follows them.
 #[inline(always)]
-pub(crate) fn next_of_utf16<const BIG_ENDIAN: bool>(bytes: &[u8]) -> Option<NextScalar>
-    ensures some { IfSome result (λ x. Settles (utf16_form BIG_ENDIAN) bytes.now x.c x.len x.faults) }
+pub(crate) fn next_of_utf16<const BIG_ENDIAN: bool>(bytes: &[u8]) -> Option<ShownPiece>
+    ensures some { IfSome result (λ x. BeginsPiece (utf16_form BIG_ENDIAN) bytes.now x) }
     ensures none { IfNone result (Waits (utf16_form BIG_ENDIAN) bytes.now) }
     ensures lacks { IfNone result (Lacks (utf16_form BIG_ENDIAN) bytes.now) }
 {
@@ -109,8 +137,8 @@ pub(crate) fn next_of_utf16<const BIG_ENDIAN: bool>(bytes: &[u8]) -> Option<Next
     let first = unit(BIG_ENDIAN, bytes[0], bytes[1]);
     if !first.is_utf16_leading_surrogate() {
         return match char::from_utf16_tuple((first, None)) {
-            Ok(c) => Some(character(c, 2)),
-            Err(_) => Some(fault(2)),
+            Ok(c) => Some(ShownPiece::Char(c, 2)),
+            Err(_) => Some(ShownPiece::Fault(2)),
         };
     }
     if bytes.len() < 4 {
@@ -118,8 +146,8 @@ pub(crate) fn next_of_utf16<const BIG_ENDIAN: bool>(bytes: &[u8]) -> Option<Next
     }
     let second = unit(BIG_ENDIAN, bytes[2], bytes[3]);
     match char::from_utf16_tuple((first, Some(second))) {
-        Ok(c) => Some(character(c, 4)),
-        Err(_) => Some(fault(2)),
+        Ok(c) => Some(ShownPiece::Char(c, 4)),
+        Err(_) => Some(ShownPiece::Fault(2)),
     }
 }
 

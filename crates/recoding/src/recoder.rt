@@ -59,6 +59,24 @@ impl From<Unfinished> for AllocError {
     }
 }
 
+// One to three bytes, and then zeros. So each goes by itself, where a copy of so many would be a call.
+#[inline(always)]
+fn padded_to_three(bytes: &[u8]) -> [u8; 3]
+    requires some { 0 < length bytes.now }
+    requires few { length bytes.now ≤ 3 }
+    ensures { take (length bytes.now) result ≡ bytes.now }
+{
+    let first = bytes[0];
+    if bytes.len() == 1 {
+        return [first, 0, 0];
+    }
+    let second = bytes[1];
+    if bytes.len() == 2 {
+        return [first, second, 0];
+    }
+    [first, second, bytes[2]]
+}
+
 impl Recoder {
     /// A recoder that holds nothing and has replaced nothing.
     #[tactic(auto, unfolding(crate::specs::RecodedBytes::outcome, crate::specs::Faults::replaced_in_all, crate::specs::LossyBytes::lossy_outcome))]
@@ -188,7 +206,7 @@ impl Recoder {
     {
         self.count = bytes.len();
         if !bytes.is_empty() {
-            self.held[..bytes.len()].copy_from_slice(bytes);
+            self.held = padded_to_three(bytes);
         }
     }
 
@@ -197,7 +215,9 @@ impl Recoder {
     fn count_faults(&mut self, count: usize)
         ensures { self.new ≡ record (self.old) { replaced = saturated (self.old.replaced + count) } }
     {
-        self.replaced = self.replaced.saturating_add(count as u64);
+        if 0 < count {
+            self.replaced = self.replaced.saturating_add(count as u64);
+        }
     }
 
     /// Ends the input: appends to `out` what the held bytes become. In UTF-8 each of them becomes

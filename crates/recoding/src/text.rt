@@ -1,13 +1,13 @@
 //! The forms as types, so that each pair of them has a copy of the loops.
 ghost use Rattle.std.specs.Prelude.{◌≡◌, ◌<◌, ◌≤◌, length, IfSome, IfNone, IsTrue, IsFalse};
 ghost use Rattle.recoding.specs.Recoded.{Lacks, written};
-ghost use Rattle.recoding.specs.NextScalars.{Settles, Waits, fault_len};
+ghost use Rattle.recoding.specs.NextScalars.{BeginsPiece, Waits, fault_len};
 ghost use Rattle.recoding.specs.Strict.{BeginsChar, IsFirstPiece, lacking};
 
 use crate::codes::{len_of_units, put_code_units, put_short};
 use crate::faults::FaultKind;
 use crate::first_pieces::{FirstPiece, first_of_utf8, first_of_utf16};
-use crate::next_scalar::{NextScalar, next_of_utf8, next_of_utf16, next_valid_of_utf16};
+use crate::next_scalar::{ShownPiece, next_of_utf8, next_of_utf16, next_valid_of_utf16};
 use crate::output::Output;
 use encode_unicode::CharExt;
 use encode_unicode::error::{Utf8ErrorKind, Utf16PairError};
@@ -21,8 +21,8 @@ pub(crate) trait Text {
     ghost form: { Form };
 
     // What begins the bytes; `None` where that depends on what follows them.
-    fn next_scalar(bytes: &[u8]) -> Option<NextScalar>
-        ensures some { IfSome result (λ x. Settles form bytes.now x.c x.len x.faults) }
+    fn next_scalar(bytes: &[u8]) -> Option<ShownPiece>
+        ensures some { IfSome result (λ x. BeginsPiece form bytes.now x) }
         ensures none { IfNone result (Waits form bytes.now) }
         ensures lacks { IfNone result (Lacks form bytes.now) };
 
@@ -97,7 +97,7 @@ impl Text for Utf8 {
     ghost form = { form.Utf8 };
 
     #[inline(always)]
-    fn next_scalar(bytes: &[u8]) -> Option<NextScalar> {
+    fn next_scalar(bytes: &[u8]) -> Option<ShownPiece> {
         next_of_utf8(bytes)
     }
 
@@ -144,7 +144,7 @@ impl<const BIG_ENDIAN: bool> Text for Utf16<BIG_ENDIAN> {
     ghost form = { utf16_form BIG_ENDIAN };
 
     #[inline(always)]
-    fn next_scalar(bytes: &[u8]) -> Option<NextScalar> {
+    fn next_scalar(bytes: &[u8]) -> Option<ShownPiece> {
         next_of_utf16::<BIG_ENDIAN>(bytes)
     }
 

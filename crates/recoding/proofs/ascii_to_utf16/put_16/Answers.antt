@@ -8,4 +8,4 @@ returns g c =
     let xs = c.args.bytes.now in
     let p = c.args.place in
     let both = block_widened (not (eqb g.row.BIG_ENDIAN 0)) (take 16 (drop p xs)) _ _ 8 (omega (arith, length-take 16 (drop p xs), length-drop p xs)) c.interleave_zeros.ensures.first c.interleave_zeros.ensures.second in
-    rw both at (appended_twice g.met.O.Output.appends_more c.put.ensures c.put-2.ensures)
+    rw both at (rw c.beside.ensures at c.put.ensures)

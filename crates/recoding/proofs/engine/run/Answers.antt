@@ -29,7 +29,8 @@ parts-preserved-then-count g c =
 pub returns-then-few-clause-reaches : goal.returns-then-few-clause-reaches
 returns-then-few-clause-reaches g c =
     let law = g.met.O.Output.appends_more in
-    Reaches-then law (Recodes-text law (Recodes-text law c.parts.invariant c.put_text-blocks.ensures) c.recode_stretch-count.ensures) c.recode_carefully-few.ensures.reaches
+    rw c.ended-then-few.ensures
+    (Reaches-then law (Recodes-text law (Recodes-text law c.parts.invariant c.put_text-blocks.ensures) c.recode_stretch-count.ensures) c.recode_carefully-few.ensures.reaches)
 
 pub returns-then-read-bytes-clause-reaches : goal.returns-then-read-bytes-clause-reaches
 returns-then-read-bytes-clause-reaches g c =
