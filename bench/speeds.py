@@ -4,8 +4,10 @@ from pathlib import Path
 
 TOP = Path(__file__).resolve().parent.parent
 STORED = TOP / "bench/stored"
-NAMES = {"rust": "encode_unicode", "std": "std", "bstr": "bstr", "encoding_rs": "encoding_rs", "iconv": "iconv(3)", "simdutf8": "simdutf8, 32-byte lanes",
+NAMES = {"rust": "encode_unicode", "std": "std", "bstr": "bstr", "encoding_rs": "encoding_rs", "iconv": "iconv(3)", "simdutf8": "simdutf8 with AVX2",
          "simdutf8_16": "simdutf8, 16-byte lanes", "icu": "ICU", "utf8proc": "utf8proc"}
+# The inputs of the table in README.md, in words.
+TEXTS = {"ascii": "ASCII", "latin": "Latin script", "three-byte": "characters of three bytes"}
 FORMS = {"utf8": "UTF-8", "utf16le": "UTF-16LE", "utf16be": "UTF-16BE", "utf16": "UTF-16"}
 # What each work of `bench/run` does, by the question that it answers.
 WORKS = {
@@ -198,13 +200,14 @@ def summary():
     for task, name, keys, side, holds in lost:
         row = max((it for it in stored(name, keys) if side in it.numbers and holds(it.key)), key=lambda it: it.ratio(side))
         short = row.key[3] if name == "short" else short
-        text = f"{row.key[2]}, {row.key[3]} bytes, {FORMS[row.key[0]]} to {FORMS[row.key[1]]}" if name == "short" else row.key[-1]
+        text = f"{TEXTS.get(row.key[2], row.key[2])}, {row.key[3]} bytes, {FORMS[row.key[0]]} to {FORMS[row.key[1]]}" if name == "short" else TEXTS.get(row.key[-1], row.key[-1])
         lines.append([task, f"{text} (our worst)", NAMES[side], f"{row.numbers['ours']:.2f} ns", f"{row.numbers[side]:.2f} ns", f"**{row.ratio(side):.2f}**"])
     text, ours, theirs = max(of_c, key=lambda it: it[1] / it[2])
-    lines.append(["split into pieces, from C", f"{text} (our worst)", "ICU", f"{ours:.2f} ns", f"{theirs:.2f} ns", f"**{ours / theirs:.2f}**"])
-    return table(["task", "input", "compared with", "Noddychest", "theirs", "ratio"], lines) + (
-        f"\n\nTimes are nanoseconds per byte. The row of one short part is different: its times are for all {short} bytes. \"Our worst\" is, of all inputs, the one with the highest ratio. "
-        "Ratios were computed before the times were rounded. Noddychest was called from Rattle, and in the last row from C.")
+    lines.append(["split into pieces, from C", f"{TEXTS.get(text, text)} (our worst)", "ICU", f"{ours:.2f} ns", f"{theirs:.2f} ns", f"**{ours / theirs:.2f}**"])
+    told = (f"Times are nanoseconds per byte. Only in the row of one short part they are for all {short} bytes. For a task marked \"our worst\", the row shows "
+            "the input on which we do worst of all that were measured. Ratios were computed before the times were rounded. "
+            "Noddychest was called from Rattle, and in the last row from C.\n\n")
+    return told + table(["task", "input", "compared with", "Noddychest", "theirs", "ratio"], lines)
 
 
 def marked(page, name, text):
