@@ -1,4 +1,4 @@
-/* Noddychest: decodes, validates, divides and converts UTF-8 and UTF-16, with proved code. For C and C++.
+/* Noddychest: decodes, validates, divides and converts UTF-8 and UTF-16. Its code is machine-proved. For C and C++.
  *
  * LANGUAGES AND PLATFORMS. C99 and later, C++98 and later. Linux on x86-64 (with x86-64-v2) and on 64-bit ARM, with glibc or
  * musl. No call allocates memory, reads a locale, or keeps anything. What lasts from call to call is in structs of yours, which
@@ -14,9 +14,10 @@
  *     to recode    to convert from one form to another, or to the same
  *     room         how many bytes, units or pieces a call may write
  *
- * INVALID INPUT. Recoding writes one U+FFFD, the replacement character, for each fault: E2 82 41 becomes U+FFFD U+FFFD A. In some
- * cases browsers and Python write one U+FFFD for several bytes, here U+FFFD A. The calls whose names end in _lossy write what
- * browsers and Python do. The calls whose names end in _strict stop at the first fault, and report its offset and its kind.
+ * INVALID INPUT. Recoding writes one U+FFFD, the replacement character, for each fault: E2 82 41 becomes U+FFFD U+FFFD A.
+ * Browsers and Python sometimes write one U+FFFD for several bytes: for E2 82 41 they write U+FFFD A. The calls whose names end
+ * in _lossy write what browsers and Python do. The calls whose names end in _strict stop at the first fault, and report its
+ * offset and its kind.
  *
  * WHICH KIND. The kind of a byte depends on that byte and on the bytes after it. If several kinds apply, it is the first in this
  * list: UNEXPECTED_CONTINUATION_BYTE, NON_UTF8_BYTE, TOO_FEW_BYTES, INTERRUPTED_SEQUENCE, and then one of OVERLONG_ENCODING,
@@ -28,8 +29,8 @@
  * number is 0, the pointer may be NULL. Else it must be valid for that many bytes, units or pieces. What a call writes must not
  * overlap what it reads. `written`, `read`, `fault`, `left` and `recoder` must not be NULL. Make a recoder only by
  * nody_recoder. If you fill the struct in another way, a call may refuse it, or recode whatever bytes are in it. No call writes
- * out of bounds. Make a cursor by nody_bytes or nody_units, or fill it with a pointer that is not NULL and is valid for its
- * length.
+ * out of bounds. A cursor (nody_bytes_t, nody_units_t) is made by nody_bytes or nody_units. If you fill one yourself, its pointer
+ * must not be NULL, even if `len` is 0, and must be valid for `len`.
  *
  * ERRORS. A call fails only as its comment says. None sets errno. On x86-64 call nody_supported first.
  *
@@ -37,7 +38,8 @@
  * UTF-16 in bytes, the form tells the byte order.
  *
  * COST. "Constant": the call looks at a few bytes, whatever the length. "Linear": the time grows with the length of the input,
- * which is read once. c/README.md says how many machine instructions a byte takes.
+ * which is read once. "In blocks" is faster than "unit by unit" or "character by character". c/README.md says how many machine
+ * instructions a byte takes.
  */
 #ifndef NODDYCHEST_H
 #define NODDYCHEST_H
@@ -103,13 +105,13 @@ NODY_ENUM(nody_status_t) {
 
 /* A piece. */
 typedef struct {
-    size_t len;       /* of a character 1 to 4 bytes, or 1 to 2 units; of a fault 1; 0 for NODY_KIND_NONE */
+    size_t len;       /* character: 1 to 4 bytes, or 1 to 2 units; fault: 1; NODY_KIND_NONE: 0 */
     uint32_t scalar;  /* the number of the character; 0 for all else */
     nody_kind_t kind; /* NODY_KIND_OK, the reason of the fault, or NODY_KIND_NONE */
 } nody_piece_t;
 
-/* A cursor: the bytes, or units, that are still to be taken. nody_bytes and nody_units make it. For an empty input its pointer
- * points to something else than your memory, and is not NULL. */
+/* A cursor: the bytes, or units, that are still to be taken. nody_bytes and nody_units make it. If you make one of an empty
+ * input, its pointer is an address inside the library, and not the pointer that you passed. So do not subtract yours from it. */
 typedef struct {
     const uint8_t *bytes;
     size_t len;
@@ -120,9 +122,11 @@ typedef struct {
     size_t len;
 } nody_units_t;
 
-/* A recoder. Between calls it holds at most three bytes of input: the front of a character whose rest has not come, bytes whose
- * output did not fit into the room, or, after a strict call, bytes that may be a fault. nody_recoder_held gives them. `replaced`
- * counts over all inputs, and stops at UINT64_MAX. You may read it, and set it to 0. Leave the other fields alone. */
+/* A recoder. Between calls it holds at most three bytes of input: the front of a character whose rest has not come;
+ * bytes whose output did not fit into the room; or, after a strict call, bytes of which later ones decide whether they are a
+ * fault, or which kind it has. nody_recoder_held gives them. `replaced` is the number of faults that became U+FFFD.
+ * nody_recoder_finish does not reset it, and it stops at UINT64_MAX. You may read it, and set it to 0. Leave the other fields
+ * alone. */
 typedef struct {
     nody_form_t from;
     nody_form_t to;
@@ -135,7 +139,7 @@ typedef struct {
  * offset of the fault in the whole input is the sum of `*read` of all calls, minus `back`. */
 typedef struct {
     size_t len;       /* in bytes: 1 in UTF-8, 2 for a lone surrogate, 1 for a single byte at the end of UTF-16 */
-    size_t back;      /* the distance from where it begins to the end of what was read; 0 from nody_recode_strict */
+    size_t back;      /* how far before the end of what was read it begins; 0 after nody_recode_strict, which reads up to it */
     nody_kind_t kind; /* the reason, or NODY_KIND_NONE */
 } nody_fault_t;
 
@@ -189,8 +193,8 @@ nody_piece_t nody_utf16_first(const uint16_t *units, size_t len);
  *
  * bytes or units, len: the input. At most its last four bytes, or two units, matter.
  * Result: the piece, or NODY_KIND_NONE if len is 0. The kind of a fault is judged as if the input
- * ended there. If your input goes on after len, a reader from the front may find another kind. If len is not a boundary of your
- * input, the byte may even belong to a character.
+ * ended there. If your input goes on after len, a reader from the front may find another kind. If len lies inside a character of
+ * your input, the byte or unit that is reported as a fault may be part of that character.
  * Errors: none. Cost: constant.
  *
  *     size_t shorter = len - nody_utf8_last(bytes, len).len;
@@ -211,11 +215,12 @@ nody_piece_t nody_utf16_last(const uint16_t *units, size_t len);
 size_t nody_utf8_encode(uint32_t scalar, uint8_t *out, size_t room);
 size_t nody_utf16_encode(uint32_t scalar, uint16_t *out, size_t room);
 
-/* The piece that begins at an offset, with the kind that a reader of one byte at a time sees.
+/* The piece that begins at an offset, with the kind that a decoder of one byte at a time reports. Such a decoder meets a wrong
+ * byte before it can know that the input ends.
  *
  * bytes, len: the input. place: the offset.
- * Result: what nody_utf8_first gives for the bytes from `place` on, but for one case. If fewer bytes are left than the first byte
- * needs, and one of them after the first is not 80 to BF, then the kind is NODY_KIND_INTERRUPTED_SEQUENCE, and not
+ * Result: what nody_utf8_first gives for the bytes from `place` on, but for one case. If the input ends too early for the
+ * first byte, but has already a wrong byte (not 80 to BF) after it, the kind is NODY_KIND_INTERRUPTED_SEQUENCE, and not
  * NODY_KIND_TOO_FEW_BYTES. If `place` is len or more, the kind is NODY_KIND_NONE.
  * Errors: none. Cost: constant.
  *
@@ -283,10 +288,12 @@ static inline nody_units_t nody_units(const uint16_t *units, size_t len) {
 
 /* Takes the first piece off a cursor (`next`), or the last piece (`next_back`). You may mix both: each piece comes once.
  *
- * left: the cursor. After the call it has what is left. After `next` the piece ended at left->bytes; after `next_back` it began at
- * left->bytes + left->len.
- * Result: the piece. If nothing was left, NODY_KIND_NONE, and the cursor does not change. Only what was left decides the piece. So
- * taking pieces from one end may change the kind of a fault at the other end, but not where it is.
+ * left: the cursor. After the call it has what is left. After `next`, left->bytes points just past the piece. After
+ * `next_back`, left->bytes + left->len points to its first byte or unit.
+ * Result: the piece. If nothing was left, NODY_KIND_NONE, and the cursor does not change. A piece is judged by what
+ * the cursor had before the call, and by nothing else. In E0 80 41, for example, the kind of E0 is
+ * NODY_KIND_INTERRUPTED_SEQUENCE; once `next_back` took 41, it is NODY_KIND_TOO_FEW_BYTES. Only kinds change in this way, never
+ * offsets.
  * Errors: none. Cost: constant.
  *
  *     nody_bytes_t left = nody_bytes(bytes, len);
@@ -315,8 +322,8 @@ size_t nody_utf16_pieces(nody_units_t *left, nody_piece_t *out, size_t room);
 /* ---- Where text may be divided ---------------------------------------------------------------------------------------------- */
 
 /* The boundary near an offset: nody_boundary_before gives the last one up to `at`, nody_boundary_after the first one from `at` on.
- * If you divide the input at a boundary and recode each side by itself, the outputs, joined, are the output of the whole. Only the
- * kind of a fault beside the boundary may differ.
+ * If you divide the input at a boundary and recode each side by itself, the outputs, joined, are the output of the whole.
+ * (This does not hold for the lossy calls.) The kind that is reported for a fault beside the boundary may differ.
  *
  * form: the form of the input. bytes, len: the input. at: the offset.
  * Result: the boundary, at most three bytes from `at`. If `at` is len or more, it is len.
@@ -403,8 +410,8 @@ size_t nody_recoded_len(nody_form_t from, nody_form_t to, const uint8_t *in, siz
 
 /* The most bytes that any input of this length can become: at most three for each byte.
  *
- * from, to: the forms. len: the length of the input. For one part that you feed to a recoder, add the number of bytes that the
- * recoder holds.
+ * from, to: the forms. len: the length of the input. For a part that you feed to a recoder, pass the length of
+ * the part plus the number of bytes that the recoder holds.
  * Result: the number of bytes.
  * Errors: SIZE_MAX if a size_t cannot hold the number, or a form is above 2. Cost: constant.
  *
@@ -471,7 +478,8 @@ nody_recoder_t nody_recoder(nody_form_t from, nody_form_t to);
 nody_status_t nody_recoder_feed(nody_recoder_t *recoder, const uint8_t *in, size_t in_len, uint8_t *out, size_t room, size_t *read,
                                 size_t *written);
 
-/* Ends the input: writes what the recoder still holds, at most nine bytes. After NODY_STATUS_DONE you may feed another input.
+/* Ends the input: recodes the bytes that the recoder still holds. That writes at most nine bytes. After NODY_STATUS_DONE you may
+ * feed another input.
  *
  * recoder: the recoder. `recoder->replaced` grows as for nody_recoder_feed, and is not reset.
  * out, room: where to write, and how many bytes. Give room for four bytes or more.
@@ -494,14 +502,15 @@ nody_status_t nody_recoder_finish(nody_recoder_t *recoder, uint8_t *out, size_t 
  *
  * recoder: the recoder. `recoder->replaced` does not change. You may mix calls of this and of nody_recoder_feed.
  * in, in_len, out, room, written: as for nody_recoder_feed. What was written is all the text before the fault.
- * read: receives how many bytes of the part were read, those of the fault included.
+ * read: receives how many bytes of the part were read. This includes the fault, and bytes after it that the recoder now holds.
  * fault: receives the fault. Its offset in the whole input is the sum of `*read` of all calls, this one included, minus
  * `fault->back`. It may lie in an earlier part.
  * Result:
- *   NODY_STATUS_DONE: the whole part was read. The recoder holds its last bytes, at most three, if later bytes decide whether
- *   they are a fault, or of which kind. After E9 0A, for example, the kind of E9 is NODY_KIND_INTERRUPTED_SEQUENCE if a third byte
- *   comes, and NODY_KIND_TOO_FEW_BYTES if the input ends.
- *   NODY_STATUS_FAULT: the call stopped at a fault. To refuse the input, stop. To go on after the fault, call again with the rest
+ *   NODY_STATUS_DONE: the whole part was read. If later bytes decide whether the end of the
+ *   part is a fault, or which kind of fault, the recoder holds those bytes, at most three. After E9 0A, for example, the kind of
+ *   E9 is NODY_KIND_INTERRUPTED_SEQUENCE if a third byte comes, and NODY_KIND_TOO_FEW_BYTES if the input ends.
+ *   NODY_STATUS_FAULT: the call stopped at a fault. To refuse the input, stop, and make a new recoder for the next
+ *   one. To go on after the fault, call again with the rest
  *   of the part, even if that is empty.
  *   NODY_STATUS_FULL: as for nody_recoder_feed.
  * Errors: NODY_STATUS_REFUSED, as for nody_recoder_feed. Cost: linear.
@@ -534,18 +543,18 @@ nody_status_t nody_recoder_feed_strict(nody_recoder_t *recoder, const uint8_t *i
  */
 nody_status_t nody_recoder_finish_strict(nody_recoder_t *recoder, uint8_t *out, size_t room, size_t *written, nody_fault_t *fault);
 
-/* Feeds the next part of the input, and writes one U+FFFD for each maximal subpart, and not for each fault. The Unicode standard
- * recommends this (chapter 3, "U+FFFD Substitution of Maximal Subparts"). Browsers, Python's errors="replace" and Rust's
- * from_utf8_lossy do it. A maximal subpart is the longest run of bytes, one to three, that begins like a valid character and does
- * not complete it: E2 82 in E2 82 41, which becomes U+FFFD A. Any other invalid byte is a maximal subpart alone: E0 80 becomes
- * U+FFFD U+FFFD, since no valid character begins with E0 80. In UTF-16, and in valid input, this call and nody_recoder_feed write
- * the same.
+/* Feeds the next part of the input, and writes one U+FFFD for each maximal subpart, and not for each fault. A maximal subpart is
+ * the beginning of a valid character that is cut off: one to three bytes, as many as fit. In E2 82 41 it is E2 82, so E2 82 41
+ * becomes U+FFFD A. Any other invalid byte is one by itself. E0 80 becomes U+FFFD U+FFFD: no valid character begins with E0 80,
+ * so E0 is cut off alone, and 80 stands alone. The Unicode standard recommends this (chapter 3, "U+FFFD Substitution of Maximal
+ * Subparts"). Browsers, Python's errors="replace" and Rust's from_utf8_lossy do it. In UTF-16, and in valid input, this call and
+ * nody_recoder_feed write the same.
  *
  * recoder: the recoder. `recoder->replaced` does not change. You may mix calls of this, of nody_recoder_feed and of
  * nody_recoder_feed_strict. End the input by nody_recoder_finish_lossy.
- * in, in_len: the part. Do not divide an input at a boundary of nody_boundary_before and recode each side by itself: the boundary
- * may lie inside a maximal subpart. (Parts that you feed to one recoder may end anywhere.)
- * out, room, read, written: as for nody_recoder_feed.
+ * in, in_len: the part. Parts that you feed to one recoder may end anywhere. But do not give the two sides of a boundary of
+ * nody_boundary_before to two recoders, as the replacing calls allow: the boundary may lie inside a maximal subpart.
+ * out, room, read, written: as for nody_recoder_feed. Room for three bytes for each byte that is fed or held is always enough.
  * Result, errors, cost: as for nody_recoder_feed. The loop is the same.
  *
  *     nody_recoder_t recoder = nody_recoder(NODY_FORM_UTF8, NODY_FORM_UTF8);
