@@ -25,8 +25,9 @@ mod back_scan;
 /// length is in bytes. Of an error it is always 1, and decoding goes on at the next byte: so no
 /// error hides an ASCII character.
 ///
-/// Only the bytes that remain decide an item. `CharExt::from_utf8_slice_start` says which kind an
-/// error has from the front, and `Utf8Char::from_slice_end` which kind it has from the back.
+/// Only the bytes that remain decide an item. `CharExt::from_utf8_slice_start` says which `Utf8ErrorKind`
+/// an error has from the front. From the back only three kinds occur: `UnexpectedContinuationByte`,
+/// `TooFewBytes` and `NonUtf8Byte` (`Utf8Char::from_slice_end`).
 #[derive(Drop)]
 pub struct Utf8CharDecoder<'a> {
     slice: &'a [u8],

@@ -16,12 +16,13 @@ pub use units::{
 
 /// Why bytes are not valid UTF-8: the kind of an error.
 ///
-/// If several kinds apply, `CharExt::from_utf8_slice_start` says which one is given. RFC 3629, section 4, has the
-/// grammar of what is valid.
+/// If several kinds apply, the one that is given is the first of these: `UnexpectedContinuationByte`, `NonUtf8Byte`,
+/// `TooFewBytes`, `InterruptedSequence`, and then one of the other three, by the value that the bytes encode. RFC 3629,
+/// section 4, has the grammar of what is valid.
 #[derive(Clone, Copy, Debug, PartialEq, Eq, Drop)]
 pub enum Utf8ErrorKind {
-    /// The sequence is truncated: fewer bytes remain than its first byte needs, as where `e2 82` ends the input. Or no
-    /// byte remains.
+    /// The sequence is truncated: fewer bytes remain than its first byte needs, as where `e2 82` ends the input. Or
+    /// there is no byte at all. (A decoder gives `None` then.)
     TooFewBytes,
     /// The first byte never occurs in UTF-8: it is 0xc0, 0xc1, or above 0xf4.
     NonUtf8Byte,
@@ -50,7 +51,7 @@ impl Utf8ErrorKind {
     }
 }
 
-/// Why bytes could not be decoded as UTF-8. Contracts see it as its kind.
+/// Why bytes could not be decoded as UTF-8: its `Utf8ErrorKind`, which `kind` gives. Contracts see it as its kind.
 #[derive(Clone, Copy, Debug, PartialEq, Eq, Drop)]
 pub struct Utf8Error {
     kind: Utf8ErrorKind,
