@@ -5,7 +5,7 @@ ghost use Rattle.std.specs.Iterator.Runs.{EachRunFrom, SomeRun, WholeRun};
 ghost use Rattle.std.specs.List.{flat_map};
 ghost use Rattle.utf_base.specs.Code.{utf8, utf16};
 ghost use Rattle.encode_unicode.specs.Collections.{AddsCodes, AddsFirstCodes};
-ghost use Rattle.encode_unicode.specs.Mergers.{IsMergerRun, MergedCharacters, MergedUnitCharacters, MergesBytes, MergesUnits, merged, merged_units, unasked};
+ghost use Rattle.encode_unicode.specs.Mergers.{IsMergerRun, MergesBytes, MergesUnits, merged, merged_units, unasked};
 ghost use Rattle.encode_unicode.specs.Pieces.{Gives, IsSplitterRun};
 ghost use Rattle.encode_unicode.specs.Sources.{IsListed, SplitterNext, WhereEmpty, unbegun};
 
@@ -26,8 +26,7 @@ pub trait U8IterExt: Iterator<Item = u8> + Sized {
         ensures runs { EachRunFrom (MergesBytes Self.next_gives) result
             (λ p. SomeRun Self.next_gives self (λ q. IsMergerRun merged p q)) }
         ensures listed { (rest : Self → List ℕ) → IsListed Self.next_gives rest →
-            EachRunFrom (MergesBytes Self.next_gives) result (λ p. Gives p (merged (rest self))) }
-        ensures characters { MergedCharacters };
+            EachRunFrom (MergesBytes Self.next_gives) result (λ p. Gives p (merged (rest self))) };
 }
 
 impl<I: Iterator<Item = u8>> U8IterExt for I {
@@ -45,8 +44,7 @@ pub trait U16IterExt: Iterator<Item = u16> + Sized {
         ensures runs { EachRunFrom (MergesUnits Self.next_gives) result
             (λ p. SomeRun Self.next_gives self (λ q. IsMergerRun merged_units p q)) }
         ensures listed { (rest : Self → List ℕ) → IsListed Self.next_gives rest →
-            EachRunFrom (MergesUnits Self.next_gives) result (λ p. Gives p (merged_units (rest self))) }
-        ensures characters { MergedUnitCharacters };
+            EachRunFrom (MergesUnits Self.next_gives) result (λ p. Gives p (merged_units (rest self))) };
 }
 
 impl<I: Iterator<Item = u16>> U16IterExt for I {

@@ -6,6 +6,7 @@ ghost use Rattle.utf_base.specs.Code.{utf8, utf16};
 ghost use Rattle.utf_base.specs.Piece.{Inside, IsPiece};
 ghost use Rattle.encode_unicode.specs.AsciiBytes.{IsAsciiAt, ascii_item, ascii_piece};
 ghost use Rattle.encode_unicode.specs.GivenBounds.{NoMoreGiven, NoLongerGiven};
+ghost use Rattle.encode_unicode.specs.Mergers.{MergedCharacters, MergedUnitCharacters};
 ghost use Rattle.encode_unicode.specs.Pieces.{CodesAreTheText, PiecesFit, characters, pieces, unit_pieces};
 ghost use Rattle.encode_unicode.specs.Window.{NextGives, NextGivesUnits};
 
@@ -53,6 +54,13 @@ pub fn ascii_is_a_piece(bytes: &[u8], place: usize)
 /// The codes of the characters of a text, one after another, are the text.
 pub fn codes_are_the_text()
     ensures { CodesAreTheText }
+{}
+
+/// A merger answers the characters that a decoder gives of the same bytes, and of the same units.
+#[tactic(auto, using(crate::proofs::MergedCharacters::merged_characters, crate::proofs::MergedCharacters::merged_unit_characters))]
+pub fn merged_are_the_characters()
+    ensures bytes { MergedCharacters }
+    ensures units { MergedUnitCharacters }
 {}
 
 /// A character has no more units in UTF-16 than bytes in UTF-8, and no more bytes than three for each unit.

@@ -1,4 +1,3 @@
-use Rattle.encode_unicode.proofs.MergedCharacters.{merged_characters}
 use Rattle.encode_unicode.proofs.MergedLists.{byte_runs, listed_byte_runs}
 use Rattle.encode_unicode.proofs.iter_ext.AnyU8IterExt.to_utf8chars.Goals as goal
 
@@ -7,6 +6,3 @@ returns-clause-runs g c = byte_runs g.I.Iterator.next_gives _ _ c.from.ensures
 
 pub returns-clause-listed : goal.returns-clause-listed
 returns-clause-listed g c = listed_byte_runs g.I.Iterator.next_gives _ _ c.from.ensures
-
-pub returns-clause-characters : goal.returns-clause-characters
-returns-clause-characters g c = merged_characters
