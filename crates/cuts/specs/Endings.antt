@@ -86,7 +86,7 @@ FlushFailsOrStays old new CannotWrite = (old.failures < new.failures) ⊎ (old.o
 FlushFailsOrStays old new NoMemory = new ≡ old
 
 -- Where reads are counted and a program could not read, one of them failed, but for a reader of as many bytes as there are
--- reads; where it ended for another reason, no read failed.
+-- reads; where it ended for another reason, no read failed. `source` is all that the trait `Source` tells of a reader.
 abbrev pub ReadsUntil : {R : Type 0} → Source.Ghosts R → R → R → Stop → Type 0
 ReadsUntil source old new CannotRead =
     IsTrue source.is_counted → IfSome (source.remaining old) (λ xs. length xs < 2 ^ 64 - 1 → source.failures old < source.failures new)
@@ -101,7 +101,8 @@ CountsUntil left old new WrongArguments = NoFailedRead old.reads new.reads
 CountsUntil left old new CannotWrite = NoFailedRead old.reads new.reads
 CountsUntil left old new NoMemory = NoFailedRead old.reads new.reads
 
--- known bytes grew by a front of this line, and by the whole of it where writes are counted and none failed
+-- Known bytes grew by a front of this line, and by the whole of it where writes are counted and none failed. `sink` is all that
+-- the trait `Sink` tells of a writer.
 pub record Says {E : Type 0} (sink : Sink.Ghosts E) (old new : E) (line : List ℕ) : Type 0 where
   pub front : AppendsFront (sink.contents old) (sink.contents new) line
   pub whole : IsTrue sink.is_counted → sink.failures new ≡ sink.failures old → Appends (sink.contents old) (sink.contents new) line

@@ -25,12 +25,12 @@ record SamePart (xs : List ℕ) (i j : ℕ) (ys : List ℕ) (k l : ℕ) : Type 0
   pub second_within : l ≤ length ys
   pub equal : slice_range xs i j ≡ slice_range ys k l
 
-same_part : (xs : List ℕ) (i j : ℕ) (ys : List ℕ) (k l : ℕ) (zs : List ℕ) → i ≤ j → j ≤ length xs → k ≤ l → l ≤ length ys
+same_part : {xs : List ℕ} {i j : ℕ} {ys : List ℕ} {k l : ℕ} (zs : List ℕ) → i ≤ j → j ≤ length xs → k ≤ l → l ≤ length ys
     → slice_range xs i j ≡ zs → slice_range ys k l ≡ zs → SamePart xs i j ys k l
-same_part xs i j ys k l zs o w p q e f = record { first_in_order = o; first_within = w; second_in_order = p; second_within = q; equal = e ∙ sym f }
+same_part zs o w p q e f = record { first_in_order = o; first_within = w; second_in_order = p; second_within = q; equal = e ∙ sym f }
 
 SamePart-sym : (xs : List ℕ) (i j : ℕ) (ys : List ℕ) (k l : ℕ) → SamePart xs i j ys k l → SamePart ys k l xs i j
-SamePart-sym xs i j ys k l same = same_part _ _ _ _ _ _ _ same.second_in_order same.second_within same.first_in_order same.first_within (sym same.equal) refl
+SamePart-sym xs i j ys k l same = same_part _ same.second_in_order same.second_within same.first_in_order same.first_within (sym same.equal) refl
 
 length-range : (xs : List ℕ) (i j : ℕ) → j ≤ length xs → length (slice_range xs i j) ≡ j - i
 length-range xs i j h = grind (arith, common_steps)
@@ -65,10 +65,10 @@ piece_over code c xs i j ys k l p q r n None same e f of_x of_y lt h =
     h.2 (record { from = i + (v.from - k); char = v.char; stands = stands; begins = omega arith; ends = omega arith }) in
     (omega arith, h.1, uncovered)
 
-same_pieces : (code : ℕ → List ℕ) → IsCode code → (xs : List ℕ) (i j : ℕ) (ys : List ℕ) (k l p q r : ℕ) → SamePart xs i j ys k l → i + p ≡ q → k + p ≡ r
+same_pieces : (code : ℕ → List ℕ) → IsCode code → {xs : List ℕ} {i j : ℕ} {ys : List ℕ} {k l : ℕ} (p q r : ℕ) → SamePart xs i j ys k l → i + p ≡ q → k + p ≡ r
     → LieBetween code xs i j q → LieBetween code ys k l r → (q < length xs → q < j) → (r < length ys → r < l)
     → (n : ℕ) (char : Option ℕ) → IsPieceAt code xs q n char ↔ IsPieceAt code ys r n char
-same_pieces code c xs i j ys k l p q r same e f of_x of_y lt gt n char = (
+same_pieces code c {xs} {i} {j} {ys} {k} {l} p q r same e f of_x of_y lt gt n char = (
   piece_over code c xs i j ys k l p q r n char same e f of_x of_y lt,
   piece_over code c ys k l xs i j p r q n char (SamePart-sym xs i j ys k l same) f e of_y of_x gt,
 )
@@ -80,7 +80,7 @@ same_front front old new rest =
     let part : (mid : List ℕ) → slice_range (front ++ mid ++ rest) 0 (length front) ≡ front = λ mid.
     rw append_assoc (between_from_start (front ++ (mid ++ rest)) (length front) ∙ take_at front (mid ++ rest) (length front) refl) in
     let long : (mid : List ℕ) → length front ≤ length (front ++ mid ++ rest) = λ mid. omega (arith, length-append (front ++ mid) rest, length-append front mid) in
-    same_part _ _ _ _ _ _ front (omega arith) (long old) (omega arith) (long new) (part old) (part new)
+    same_part front (omega arith) (long old) (omega arith) (long new) (part old) (part new)
 
 same_rest : (front old new rest : List ℕ)
     → SamePart (front ++ old ++ rest) (length front + length old) (length (front ++ old ++ rest)) (front ++ new ++ rest) (length front + length new) (length (front ++ new ++ rest))
@@ -88,7 +88,7 @@ same_rest front old new rest =
     let part : (mid : List ℕ) → slice_range (front ++ mid ++ rest) (length front + length mid) (length (front ++ mid ++ rest)) ≡ rest = λ mid.
     take_rest (front ++ mid ++ rest) (length front + length mid) ∙ drop_at (front ++ mid) rest (length front + length mid) (length-append front mid) in
     let long : (mid : List ℕ) → length front + length mid ≤ length (front ++ mid ++ rest) = λ mid. omega (arith, length-append (front ++ mid) rest, length-append front mid) in
-    same_part _ _ _ _ _ _ rest (long old) (omega arith) (long new) (omega arith) (part old) (part new)
+    same_part rest (long old) (omega arith) (long new) (omega arith) (part old) (part new)
 
 -- what is left from a place of the front on begins with elements of it
 front_of_left : (m : ℕ) (front mid rest : List ℕ) (p : ℕ) → p + m ≤ length front → take m (drop p (front ++ mid ++ rest)) ≡ take m (drop p front)
@@ -110,7 +110,7 @@ front_stays : {E : Type 0} (code : ℕ → List ℕ) → IsCode code → (kind :
 front_stays code c kind m some short decides front old new rest p h =
     let before : (xs : List ℕ) → LieBetween code xs 0 (length front) p = λ xs from s stands begins ends. let le = short s in (omega arith, omega arith) in
     record {
-      pieces = same_pieces code c _ 0 (length front) _ 0 (length front) p p p (same_front front old new rest) (omega arith) (omega arith) (before _) (before _) (λ lt. omega arith) (λ lt. omega arith);
+      pieces = same_pieces code c p p p (same_front front old new rest) (omega arith) (omega arith) (before _) (before _) (λ lt. omega arith) (λ lt. omega arith);
       kinds =
           sym (decides (drop p (front ++ old ++ rest)))
           ∙ ap kind (front_of_left m front old rest p h ∙ sym (front_of_left m front new rest p h))
@@ -122,7 +122,7 @@ rest_stays code c kind m short front old new rest p h =
     let following : (xs : List ℕ) (i : ℕ) → LieBetween code xs i (length xs) (i + p) = λ xs i from s stands begins ends.
     let le = short s in let within = stands.within in (omega arith, omega arith) in
     record {
-      pieces = same_pieces code c _ _ _ _ _ _ p _ _ (same_rest front old new rest) refl refl (following _ _) (following _ _) (λ lt. lt) (λ lt. lt);
+      pieces = same_pieces code c p _ _ (same_rest front old new rest) refl refl (following _ _) (following _ _) (λ lt. lt) (λ lt. lt);
       kinds = ap kind (left_of_rest front old rest p ∙ sym (left_of_rest front new rest p));
     }
 

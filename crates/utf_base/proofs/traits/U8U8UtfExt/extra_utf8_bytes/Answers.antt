@@ -52,22 +52,25 @@ returns-in-Unexpected-clause-asks c =
     (asked-0 _ (inl (omega arith, omega arith)), rw (c.new.ensures, first) refl)
 
 -- what is left is a byte that no code has
-never : (b : ℕ) (r : State) → Begins b r → (r ≡ OneMore → ⊥) → (r ≡ TwoMore → ⊥) → (r ≡ ThreeMore → ⊥) → (r ≡ AfterE0 → ⊥) → (r ≡ AfterEd → ⊥) → (r ≡ AfterF0 → ⊥) → (r ≡ AfterF4 → ⊥) → (r ≡ Done → ⊥) → (r ≡ Unexpected → ⊥) → (0xC0 ≤ b) × (b < 0xC2) ⊎ (0xF5 ≤ b)
-never b OneMore h n _ _ _ _ _ _ _ _ = absurd (n refl)
-never b TwoMore h _ n _ _ _ _ _ _ _ = absurd (n refl)
-never b ThreeMore h _ _ n _ _ _ _ _ _ = absurd (n refl)
-never b AfterE0 h _ _ _ n _ _ _ _ _ = absurd (n refl)
-never b AfterEd h _ _ _ _ n _ _ _ _ = absurd (n refl)
-never b AfterF0 h _ _ _ _ _ n _ _ _ = absurd (n refl)
-never b AfterF4 h _ _ _ _ _ _ n _ _ = absurd (n refl)
-never b Done h _ _ _ _ _ _ _ n _ = absurd (n refl)
-never b Unexpected h _ _ _ _ _ _ _ _ n = absurd (n refl)
-never b Never h _ _ _ _ _ _ _ _ _ = h
-never b _ h _ _ _ _ _ _ _ _ _ = absurd h
+never : (b : ℕ) (r : State) → Begins b r
+    → (r ≡ OneMore → ⊥) × (r ≡ TwoMore → ⊥) × (r ≡ ThreeMore → ⊥) × (r ≡ AfterE0 → ⊥) × (r ≡ AfterEd → ⊥)
+    × (r ≡ AfterF0 → ⊥) × (r ≡ AfterF4 → ⊥) × (r ≡ Done → ⊥) × (r ≡ Unexpected → ⊥)
+    → (0xC0 ≤ b) × (b < 0xC2) ⊎ (0xF5 ≤ b)
+never b OneMore h not = absurd (not.0 refl)
+never b TwoMore h not = absurd (not.1 refl)
+never b ThreeMore h not = absurd (not.2 refl)
+never b AfterE0 h not = absurd (not.3 refl)
+never b AfterEd h not = absurd (not.4 refl)
+never b AfterF0 h not = absurd (not.5 refl)
+never b AfterF4 h not = absurd (not.6 refl)
+never b Done h not = absurd (not.7 refl)
+never b Unexpected h not = absurd (not.8 refl)
+never b Never h not = h
+never b _ h not = absurd h
 
 pub returns-in_default : goal.returns-in_default
 returns-in_default c =
     let n = c.in_default in
-    let range = never c.args.self c.step.result (found _ _ _ c.step.result c.class_of.ensures.class c.step.ensures refl) n.not-OneMore n.not-TwoMore n.not-ThreeMore n.not-AfterE0 n.not-AfterEd n.not-AfterF0 n.not-AfterF4 n.not-Done n.not-Unexpected in
+    let range = never c.args.self c.step.result (found _ _ _ c.step.result c.class_of.ensures.class c.step.ensures refl) (n.not-OneMore, n.not-TwoMore, n.not-ThreeMore, n.not-AfterE0, n.not-AfterEd, n.not-AfterF0, n.not-AfterF4, n.not-Done, n.not-Unexpected) in
     let byte = no_code_byte c.args.self range in
     record { asks = (byte.1, rw (c.new-in_default.ensures, byte.0) refl); most = tt; unchecked = tt }
