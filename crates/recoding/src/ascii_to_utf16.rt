@@ -6,7 +6,7 @@ ghost use Rattle.recoding.specs.UnitRuns.{widened};
 use crate::codes::put_pair;
 use crate::output::Output;
 use std::simd::prelude::*;
-use utf_lanes::ascii_texts::interleave_zeros;
+use utf_lanes::ascii_texts::{eight_beside_nuls, four_beside_nuls, interleave_zeros};
 
 // Appends the bytes, each with a NUL, which is the high byte of its unit.
 #[inline(always)]
@@ -17,7 +17,7 @@ pub(crate) fn put_ascii_as_utf16<O: Output>(high_first: bool, bytes: &[u8], out:
 {
     let place = put_lanes(high_first, bytes, out);
     let last = &bytes[place..];
-    put_each(high_first, last, out);
+    put_few(high_first, last, out);
 }
 
 // The same of blocks of sixteen. Answers where the last one ends.
@@ -46,6 +46,53 @@ fn put_16<O: Output>(high_first: bool, bytes: &[u8], place: usize, out: &mut O)
     let (first, second) = interleave_zeros(high_first, u8x16::from_slice(&bytes[place..]));
     out.put(&first.to_array());
     out.put(&second.to_array());
+}
+
+// The same of a few bytes: of eight and of four at once, where there are as many, and then one by one.
+#[inline(always)]
+#[tactic(auto, using(crate::proofs::AsciiToUtf16::few_widened))]
+fn put_few<O: Output>(high_first: bool, bytes: &[u8], out: &mut O)
+    requires { 2 * length bytes.now ≤ O.room out.old }
+    ensures { O.appends out.old (widened high_first bytes.now) out.new }
+{
+    let eight = put_eight(high_first, bytes, out);
+    let rest = &bytes[eight..];
+    let four = put_four(high_first, rest, out);
+    put_each(high_first, &rest[four..], out);
+}
+
+// The same of the first eight bytes, where there are as many. Answers where they end.
+#[inline(always)]
+#[tactic(auto, using(crate::proofs::AsciiToUtf16::few_widened))]
+fn put_eight<O: Output>(high_first: bool, bytes: &[u8], out: &mut O) -> usize
+    requires { 2 * length bytes.now ≤ O.room out.old }
+    ensures within { result ≤ length bytes.now }
+    ensures appends { O.appends out.old (widened high_first (take result bytes.now)) out.new }
+{
+    if bytes.len() < 8 {
+        return 0;
+    }
+    let (front, back) = eight_beside_nuls(high_first, u8x8::from_slice(bytes));
+    out.put(&front.to_array());
+    out.put(&back.to_array());
+    8
+}
+
+// The same of the first four.
+#[inline(always)]
+#[tactic(auto, using(crate::proofs::AsciiToUtf16::few_widened))]
+fn put_four<O: Output>(high_first: bool, bytes: &[u8], out: &mut O) -> usize
+    requires { 2 * length bytes.now ≤ O.room out.old }
+    ensures within { result ≤ length bytes.now }
+    ensures appends { O.appends out.old (widened high_first (take result bytes.now)) out.new }
+{
+    if bytes.len() < 4 {
+        return 0;
+    }
+    let (head, tail) = four_beside_nuls(high_first, u8x4::from_slice(bytes));
+    out.put(&head.to_array());
+    out.put(&tail.to_array());
+    4
 }
 
 // The same of a few bytes, one by one.
