@@ -19,7 +19,7 @@ returns-in-Some-clause-nearer c =
 
 pub returns-in-Some-clause-first : goal.returns-in-Some-clause-first
 returns-in-Some-clause-first c =
-    tells_first c.args.self.now c.args.part.now c.args.room.now _ _ _ (FeedsStrictly-held _ _ _ _ _ _ _ c.pass_held-passed.ensures c.in-Some.is)
+    tells_first c.args.self.now c.args.part.now c.args.room.now _ _ _ (FeedsStrictly-held c.pass_held-passed.ensures c.in-Some.is)
 
 pub returns-clause-feeds : goal.returns-clause-feeds
 returns-clause-feeds c =
