@@ -79,17 +79,23 @@ time_at_places() {
     done
 }
 
-# count_run COMMAND WORDS..: runs it under callgrind, and sets `count` to its instructions and `told` to what it printed.
+# What `count_run` counts: instructions, or mispredictions.
+counted=instructions
+
+# count_run COMMAND WORDS..: runs it under callgrind, and sets `told` to what it printed and `count` to its instructions, or to
+# a thousand times the branches that valgrind's predictor foresees wrongly.
 count_run() {
-    local log="$work_folder/callgrind.log"
+    local log="$work_folder/callgrind.log" options=() conditional indirect
+    [ "$counted" = instructions ] || options=(--branch-sim=yes)
     command -v valgrind >/dev/null || die "valgrind is not on the path (apt-get install valgrind)"
-    told=$(valgrind --tool=callgrind --callgrind-out-file=/dev/null "$@" 2>"$log" </dev/null) \
+    told=$(valgrind --tool=callgrind --callgrind-out-file=/dev/null "${options[@]}" "$@" 2>"$log" </dev/null) \
         || { cat "$log" >&2 && die "valgrind failed"; }
-    count=$(sed -n 's/^==[0-9]*== Collected : //p' "$log")
+    read -r count _ conditional _ indirect < <(sed -n 's/^==[0-9]*== Collected : //p' "$log")
     [ -n "$count" ] || die "callgrind told no count"
+    [ "$counted" = instructions ] || count=$((1000 * (conditional + indirect)))
 }
 
-# say_count ROW COUNT AMONG: the raw line of a row and a side.
+# say_count ROW COUNT AMONG: the raw line of a row and a side. A count is below 0 where a run with no call had more mispredictions.
 say_count() {
-    awk -v row="$1" -v count="$2" -v among="$3" 'BEGIN { printf "%s %.5f\n", row, count / among }'
+    awk -v row="$1" -v count="$2" -v among="$3" 'BEGIN { printf "%s %.5f\n", row, (count < 0 ? 0 : count) / among }'
 }

@@ -36,3 +36,6 @@ length_joined f p (suc n) few = omega (arith, length-append (f p) (concat_range 
 
 pub length_given : (high : Bool) (xs : List ℕ) (p n : ℕ) → length (utf16_bytes high xs p n) ≤ 2 * n
 length_given high xs p n = length_joined (utf16_bytes_at high (0 ∷ 0 ∷ 0 ∷ xs)) p n (length_here high (0 ∷ 0 ∷ 0 ∷ xs))
+
+pub few_given : (high : Bool) (xs ys : List ℕ) (p n : ℕ) → ys ≡ utf16_bytes high xs p n → length ys ≤ 2 * n
+few_given high xs ys p n e = rw e (length_given high xs p n)

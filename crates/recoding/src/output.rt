@@ -31,12 +31,6 @@ pub(crate) trait Output {
         requires { 1 ≤ room self.old }
         ensures { appends self.old (byte ∷ []) self.new };
 
-    // Appends the first bytes of a block. There is room for all.
-    fn put_front(&mut self, block: &[u8], len: usize)
-        requires few { len ≤ length block.now }
-        requires room { length block.now ≤ room self.old }
-        ensures { appends self.old (take len block.now) self.new };
-
     // Appends 64 bytes.
     fn put_wide(&mut self, block: u8x64)
         requires { 64 ≤ room self.old }
@@ -82,13 +76,6 @@ impl<A: Allocator> Output for Vec<u8, A> {
     #[inline(always)]
     fn put_byte(&mut self, byte: u8) {
         self.push_reserved(byte);
-    }
-
-    #[inline(always)]
-    fn put_front(&mut self, block: &[u8], len: usize) {
-        let end = self.len() + len;
-        let _ = self.extend_from_slice(block);
-        self.truncate(end);
     }
 
     #[inline(never)]

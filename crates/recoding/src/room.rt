@@ -57,11 +57,6 @@ impl Output for Room<'_> {
     }
 
     #[inline(always)]
-    fn put_front(&mut self, block: &[u8], len: usize) {
-        self.put(&block[..len]);
-    }
-
-    #[inline(always)]
     fn put_wide(&mut self, block: u8x64) {
         self.len = lay_wide(block, self.bytes, self.len);
     }

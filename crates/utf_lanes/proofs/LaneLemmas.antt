@@ -4,12 +4,12 @@ use Rattle.std.proofs.lemmas.Bool.{cases_lt}
 use Rattle.std.proofs.lemmas.List.Sums.{prefix_len_passes, prefix_len-le-length}
 use Rattle.std.proofs.lemmas.Nat.{and_le_r, le_or_l, le_or_r}
 use Rattle.std.proofs.lemmas.Nat.Bits.{and_pow, bit_at_or}
-use Rattle.std.proofs.lemmas.Simd.{Each1-get_or, Each1-from_get_or, length-zip2, get_or-zip2, get_or-replicate, get_or-chunk, length-chunk, chunk-fits, length-sel_l, get_or-sel_l, tops_compared, bitmask_splat, zip2_splat, zip2_splat_left, leading_from_mask_l, trailing_mask_l, swz_l, SwzOk, SwzOk-from_below, length-swz_l, get_or-swz_l_below}
+use Rattle.std.proofs.lemmas.Simd.{Each1-get_or, Each1-from_get_or, length-zip2, get_or-zip2, get_or-replicate, get_or-chunk, length-chunk, length-sel_l, get_or-sel_l, tops_compared, bitmask_splat, zip2_splat, zip2_splat_left, leading_from_mask_l, trailing_mask_l, swz_l, SwzOk, SwzOk-from_below, length-swz_l, get_or-swz_l_below}
 use Rattle.std.specs.List.{prefix_len}
 use lib.Count.{count_trailing_zeros}
 use lib.Lanes.{zip2, sel_l, mask_l, top, Each1, chunk}
 use Rattle.utf_lanes.specs.AsciiTexts.{AreAscii}
-use Rattle.utf_lanes.specs.TextBlocks.{Follows, AllMayFollow, ArePairsLeft, IsPair, ZerosFollow}
+use Rattle.utf_lanes.specs.TextBlocks.{Follows, AllMayFollow, ArePairsLeft, IsPair, ZeroLanesFollow}
 use Rattle.utf_lanes.proofs.PairTables.{AreRight, tables_judge}
 
 -- sixteen bytes
@@ -169,50 +169,47 @@ lane_follows a b A B pair none = record {
   fourth = λ high. pair.late (rw (has_to_fourth a b A B high) at none);
 }
 
--- The lanes of four loads, each one byte before the last.
+-- The lanes of the bytes two and three places before.
 
-module _ (bytes : List ℕ) (place : ℕ) (fits : (k : ℕ) → Fits w8 (get_or bytes k 0)) (start : 3 ≤ place) (within : place + 16 ≤ length bytes) where
-  pub loaded : (i : ℕ) → i + 16 ≤ length bytes → IsBlock (chunk i 16 bytes)
-  loaded i room = (length-chunk i 16 bytes room, chunk-fits w8 i 16 bytes fits)
+module _ (third second : List ℕ) (T : IsBlock third) (S : IsBlock second) (left : List ℕ) (long : length left ≡ 16) where
+  abbrev faults : List ℕ
+  faults = zip2 bit_xor (zip2 bit_and (zip2 bit_or (excess second 0x60) (excess third 0x70)) (replicate 16 0x80)) left
 
-  abbrev faults : List ℕ → List ℕ
-  faults left = zip2 bit_xor (zip2 bit_and (zip2 bit_or (excess (chunk (place - 2) 16 bytes) 0x60) (excess (chunk (place - 3) 16 bytes) 0x70)) (replicate 16 0x80)) left
+  second_len : length (excess second 0x60) ≡ 16
+  second_len = excess_len second 0x60 S (lit< tt)
 
-  module _ (left : List ℕ) (long : length left ≡ 16) where
-    second_len : length (excess (chunk (place - 2) 16 bytes) 0x60) ≡ 16
-    second_len = excess_len (chunk (place - 2) 16 bytes) 0x60 (loaded (place - 2) (omega arith)) (lit< tt)
+  third_len : length (excess third 0x70) ≡ 16
+  third_len = excess_len third 0x70 T (lit< tt)
 
-    third_len : length (excess (chunk (place - 3) 16 bytes) 0x70) ≡ 16
-    third_len = excess_len (chunk (place - 3) 16 bytes) 0x70 (loaded (place - 3) (omega arith)) (lit< tt)
+  either_len : length (zip2 bit_or (excess second 0x60) (excess third 0x70)) ≡ 16
+  either_len = wide bit_or _ _ second_len third_len
 
-    either_len : length (zip2 bit_or (excess (chunk (place - 2) 16 bytes) 0x60) (excess (chunk (place - 3) 16 bytes) 0x70)) ≡ 16
-    either_len = wide bit_or _ _ second_len third_len
+  pub faults_len : length faults ≡ 16
+  faults_len = wide bit_xor _ left (wide bit_and _ (replicate 16 0x80) either_len refl) long
 
-    pub faults_len : length (faults left) ≡ 16
-    faults_len = wide bit_xor _ left (wide bit_and _ (replicate 16 0x80) either_len refl) long
+  fault_at : (k : ℕ) → k < 16 → get_or faults k 0 ≡ bit_xor (has_to (get_or third k 0) (get_or second k 0)) (get_or left k 0)
+  fault_at k lt =
+      rw (
+        lane bit_xor (zip2 bit_and (zip2 bit_or (excess second 0x60) (excess third 0x70)) (replicate 16 0x80)) left (wide bit_and _ (replicate 16 0x80) either_len refl) long k lt,
+        lane_with bit_and (zip2 bit_or (excess second 0x60) (excess third 0x70)) 0x80 either_len k lt,
+        lane bit_or (excess second 0x60) (excess third 0x70) second_len third_len k lt,
+        excess_at second 0x60 S (lit< tt) k lt,
+        excess_at third 0x70 T (lit< tt) k lt,
+      ) refl
 
-    fault_at : (k : ℕ) → k < 16 → get_or (faults left) k 0 ≡ bit_xor (has_to (get_or bytes (place - 3 + k) 0) (get_or bytes (place - 2 + k) 0)) (get_or left k 0)
-    fault_at k lt =
-        rw (
-          lane bit_xor (zip2 bit_and (zip2 bit_or (excess (chunk (place - 2) 16 bytes) 0x60) (excess (chunk (place - 3) 16 bytes) 0x70)) (replicate 16 0x80)) left (wide bit_and _ (replicate 16 0x80) either_len refl) long k lt,
-          lane_with bit_and (zip2 bit_or (excess (chunk (place - 2) 16 bytes) 0x60) (excess (chunk (place - 3) 16 bytes) 0x70)) 0x80 either_len k lt,
-          lane bit_or (excess (chunk (place - 2) 16 bytes) 0x60) (excess (chunk (place - 3) 16 bytes) 0x70) second_len third_len k lt,
-          excess_at (chunk (place - 2) 16 bytes) 0x60 (loaded (place - 2) (omega arith)) (lit< tt) k lt,
-          excess_at (chunk (place - 3) 16 bytes) 0x70 (loaded (place - 3) (omega arith)) (lit< tt) k lt,
-          get_or-chunk (place - 2) 16 bytes k 0 lt,
-          get_or-chunk (place - 3) 16 bytes k 0 lt,
-        ) refl
+  pub faultless_follows : (first here : List ℕ) → ArePairsLeft first here left → ZeroLanesFollow third second first here faults
+  faultless_follows first here pairs k lt none = lane_follows _ _ (lane_fits third k T lt) (lane_fits second k S lt) (pairs k lt) (sym (fault_at k lt) ∙ none)
 
-    pub faultless_follows : ArePairsLeft (chunk (place - 1) 16 bytes) (chunk place 16 bytes) left → ZerosFollow bytes place (faults left)
-    faultless_follows pairs k lt none j least most =
-        let zero : place - 3 + k ≡ j = omega arith in
-        let one : place - 2 + k ≡ j + 1 = omega arith in
-        let two : place - 1 + k ≡ j + 2 = omega arith in
-        let three : place + k ≡ j + 3 = omega arith in
-        let pair : IsPair (get_or bytes (j + 2) 0) (get_or bytes (j + 3) 0) (get_or left k 0)
-        = rw (get_or-chunk (place - 1) 16 bytes k 0 lt, get_or-chunk place 16 bytes k 0 lt, two, three) at (pairs k lt) in
-        let wrong : bit_xor (has_to (get_or bytes j 0) (get_or bytes (j + 1) 0)) (get_or left k 0) ≡ 0 = rw (zero, one) at (sym (fault_at k lt) ∙ none) in
-        lane_follows _ _ ((fits j).fits) ((fits (j + 1)).fits) pair wrong
+-- Four loads, each one byte before the last.
+module _ (bytes : List ℕ) (place : ℕ) (start : 3 ≤ place) where
+  pub loaded_follow : (k : ℕ) → k < 16 → Follows (get_or (chunk (place - 3) 16 bytes) k 0) (get_or (chunk (place - 2) 16 bytes) k 0) (get_or (chunk (place - 1) 16 bytes) k 0) (get_or (chunk place 16 bytes) k 0)
+      → AllMayFollow bytes (place + k) (place + k + 1)
+  loaded_follow k lt follows j least most =
+      let zero : place - 3 + k ≡ j = omega arith in
+      let one : place - 2 + k ≡ j + 1 = omega arith in
+      let two : place - 1 + k ≡ j + 2 = omega arith in
+      let three : place + k ≡ j + 3 = omega arith in
+      rw (get_or-chunk (place - 3) 16 bytes k 0 lt, get_or-chunk (place - 2) 16 bytes k 0 lt, get_or-chunk (place - 1) 16 bytes k 0 lt, get_or-chunk place 16 bytes k 0 lt, zero, one, two, three) at follows
 
 -- Masks.
 

@@ -3,6 +3,7 @@ pub mod AsciiUnits
 pub mod BlockUnits
 pub mod ChosenLanes
 pub mod CodedUnits
+pub mod EndLanes
 pub mod FewBytes
 pub mod Joined
 pub mod JudgedText

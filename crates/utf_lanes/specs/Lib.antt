@@ -6,3 +6,4 @@ pub mod TextFront
 pub mod Utf8ToUtf16
 pub mod UnitBlocks
 pub mod UnitCodes
+pub mod FewBytes

@@ -34,6 +34,11 @@ AllMayFollow xs i j = (k : ℕ) → i ≤ k + 3 → k + 3 < j → Follows (slice
 abbrev pub ZerosFollow : List ℕ → ℕ → List ℕ → Type 0
 ZerosFollow xs i v = (k : ℕ) → k < 16 → slice_index v k ≡ 0 → AllMayFollow xs (i + k) (i + k + 1)
 
+-- a lane that is 0 tells that the byte in that lane of the last vector may follow those of the three others
+abbrev pub ZeroLanesFollow : List ℕ → List ℕ → List ℕ → List ℕ → List ℕ → Type 0
+ZeroLanesFollow third second first here v =
+    (k : ℕ) → k < 16 → slice_index v k ≡ 0 → Follows (slice_index third k) (slice_index second k) (slice_index first k) (slice_index here k)
+
 -- the three bytes before the place ask for no more
 abbrev pub EndsCharacter : List ℕ → ℕ → Type 0
 EndsCharacter xs i = (k : ℕ) → k + 3 ≡ i → (slice_index xs k < 0xF0) × (slice_index xs (k + 1) < 0xE0) × (slice_index xs (k + 2) < 0xC0)

@@ -3,6 +3,7 @@ ghost use Rattle.std.specs.Prelude.{◌≡◌, ℕ, ◌+◌, ◌<◌, ◌≤◌,
 ghost use Rattle.utf_lanes.specs.AsciiTexts.{AreAscii};
 ghost use Rattle.utf_lanes.specs.Utf8ToUtf16.{concat_range, halves};
 
+use crate::few_bytes::{eights, fours};
 use std::simd::prelude::*;
 
 /// Whether all bytes are ASCII.
@@ -10,11 +11,34 @@ use std::simd::prelude::*;
 pub fn is_ascii(bytes: &[u8]) -> bool
     ensures { IsTrue result → AreAscii bytes.now 0 (length bytes.now) }
 {
-    if bytes.len() < 16 {
-        return is_ascii_each(bytes);
+    if bytes.len() <= 16 {
+        return is_ascii_few(bytes);
     }
     let wide = ascii_end(bytes, 0);
     is_ascii_from(bytes, wide)
+}
+
+// The same of a few bytes, of which one vector has the first and the last.
+#[inline(always)]
+fn is_ascii_few(bytes: &[u8]) -> bool
+    requires { length bytes.now ≤ 16 }
+    ensures { IsTrue result → AreAscii bytes.now 0 (length bytes.now) }
+{
+    if bytes.len() < 4 {
+        return is_ascii_each(bytes);
+    }
+    if bytes.len() < 8 {
+        return are_low(fours(bytes));
+    }
+    are_low(eights(bytes))
+}
+
+// Whether all lanes are ASCII.
+#[inline(always)]
+fn are_low(lanes: u8x16) -> bool
+    ensures { IsTrue result → (k : ℕ) → k < 16 → slice_index lanes k < 0x80 }
+{
+    lanes.simd_ge(u8x16::splat(0x80)).to_bitmask() == 0
 }
 
 // The same of a few bytes, one by one.
@@ -102,5 +126,33 @@ pub fn interleave_zeros(high_first: bool, bytes: u8x16) -> (u8x16, u8x16)
         nuls.interleave(bytes)
     } else {
         bytes.interleave(nuls)
+    }
+}
+
+/// The same of eight bytes: the first four bytes, and the others.
+#[inline(always)]
+pub fn interleave_zeros_of_eight(high_first: bool, bytes: u8x8) -> (u8x8, u8x8)
+    ensures first { result.0 ≡ concat_range (λ k. halves high_first (slice_index bytes k) 0) 0 4 }
+    ensures second { result.1 ≡ concat_range (λ k. halves high_first (slice_index bytes k) 0) 4 4 }
+{
+    let zeros = u8x8::splat(0);
+    if high_first {
+        zeros.interleave(bytes)
+    } else {
+        bytes.interleave(zeros)
+    }
+}
+
+/// The same of four bytes: the first two bytes, and the others.
+#[inline(always)]
+pub fn interleave_zeros_of_four(high_first: bool, bytes: u8x4) -> (u8x4, u8x4)
+    ensures first { result.0 ≡ concat_range (λ k. halves high_first (slice_index bytes k) 0) 0 2 }
+    ensures second { result.1 ≡ concat_range (λ k. halves high_first (slice_index bytes k) 0) 2 2 }
+{
+    let none = u8x4::splat(0);
+    if high_first {
+        none.interleave(bytes)
+    } else {
+        bytes.interleave(none)
     }
 }

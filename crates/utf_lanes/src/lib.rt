@@ -13,10 +13,12 @@
 pub mod ascii_texts;
 pub mod byte_pairs;
 mod compressed;
+mod few_bytes;
 pub mod paired_units;
 mod shuffles;
 pub mod text_blocks;
 pub mod text_front;
+pub mod text_puts;
 pub mod text_units;
 pub mod unit_blocks;
 pub mod unit_bytes;

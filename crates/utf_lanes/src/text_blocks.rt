@@ -3,11 +3,11 @@
 //! A byte is judged by the three before it: three look-ups tell whether it may follow the one before it, and
 //! the two before that tell whether a code of three or four bytes has to go on (Keiser and Lemire, "Validating
 //! UTF-8 in less than one instruction per byte", 2021).
-ghost use Rattle.std.specs.Prelude.{◌≡◌, ◌+◌, ◌-◌, ◌<◌, ◌≤◌, ◌∷◌, ◌++◌, length, take, replicate, slice_index, IsTrue, IsUtf8, false};
-ghost use Rattle.utf_lanes.specs.TextBlocks.{AllMayFollow, ArePairsLeft, EndsCharacter, ZerosFollow};
-ghost use Rattle.utf_base.specs.Kinds.{is_continuation};
+ghost use Rattle.std.specs.Prelude.{◌≡◌, ℕ, ◌+◌, ◌<◌, ◌≤◌, ◌∷◌, length, take, slice_index, IsTrue, IsUtf8};
+ghost use Rattle.utf_lanes.specs.TextBlocks.{AllMayFollow, ArePairsLeft, EndsCharacter, ZeroLanesFollow, ZerosFollow};
 
 use crate::ascii_texts::{ascii_end, is_ascii_block, is_ascii_each};
+use crate::few_bytes::{before_lanes, padded_text};
 use crate::text_front::front_of_text;
 use std::simd::prelude::*;
 use utf_base::elements::is_continuation;
@@ -104,55 +104,57 @@ pub fn text_len(bytes: &[u8]) -> usize
     ensures within { result ≤ length bytes.now }
     ensures text { IsUtf8 (take result bytes.now) }
 {
-    if bytes.len() <= 16 && are_text(bytes) {
-        return bytes.len();
+    if bytes.len() < 19 {
+        return few_len(bytes);
     }
-    let start = few_chars(bytes, 3);
-    if start < 3 || bytes.len() < start + 16 || is_continuation(bytes[start]) {
-        return start;
-    }
-    let end = valid_len(bytes, start);
+    let end = valid_len(bytes);
     if end == bytes.len() && ends_character(bytes, end) {
         return end;
     }
-    last_code_start(bytes, start, end)
+    last_code_start(bytes, end)
 }
 
-// Whether sixteen bytes at most are text, judged at once.
+// The same of a few bytes.
+#[inline(always)]
+fn few_len(bytes: &[u8]) -> usize
+    ensures within { result ≤ length bytes.now }
+    ensures text { IsUtf8 (take result bytes.now) }
+{
+    let start = last_start(bytes);
+    if are_text(&bytes[start..]) {
+        return bytes.len();
+    }
+    few_chars(bytes, 3)
+}
+
+// How many bytes the first characters have, so that after them no more than sixteen are left where no fault is among them.
+#[inline(always)]
+fn last_start(bytes: &[u8]) -> usize
+    ensures within { result ≤ length bytes.now }
+    ensures text { IsUtf8 (take result bytes.now) }
+{
+    if bytes.len() <= 16 {
+        return 0;
+    }
+    few_chars(bytes, bytes.len() - 16)
+}
+
+// Whether the bytes are text, judged at once; no where they are more than sixteen.
 #[inline(always)]
 fn are_text(bytes: &[u8]) -> bool
-    requires { length bytes.now ≤ 16 }
     ensures { IsTrue result → IsUtf8 bytes.now }
 {
-    if bytes.len() < 8 {
-        return are_chars(bytes);
+    if bytes.len() < 4 {
+        return is_ascii_each(bytes);
     }
-    let block = padded_text(bytes);
-    valid_lanes(&block, 3) == 16 && ends_character(&block, 19)
-}
-
-// The same, one character after another.
-#[inline(always)]
-fn are_chars(bytes: &[u8]) -> bool
-    ensures { IsTrue result → IsUtf8 bytes.now }
-{
-    let place = few_chars(bytes, bytes.len().saturating_sub(3));
-    is_ascii_each(&bytes[place..])
-}
-
-// The bytes after so many NULs that all are nineteen.
-#[inline(always)]
-fn padded_text(bytes: &[u8]) -> [u8; 19]
-    requires { length bytes.now ≤ 16 }
-    ensures { result ≡ 0 ∷ 0 ∷ 0 ∷ (replicate (16 - length bytes.now) 0 ++ bytes.now) }
-{
-    let mut block = [0; 19];
-    block[19 - bytes.len()..].copy_from_slice(bytes);
-    block
+    if 16 < bytes.len() {
+        return false;
+    }
+    first_fault(faults_at_front(padded_text(bytes))) == 16 && ends_character(bytes, bytes.len())
 }
 
 // How many bytes the first characters have, until they have `least`, and as far as no fault.
-#[inline(always)]
+#[inline(never)]
 fn few_chars(bytes: &[u8], least: usize) -> usize
     ensures within { result ≤ length bytes.now }
     ensures text { IsUtf8 (take result bytes.now) }
@@ -167,19 +169,18 @@ fn few_chars(bytes: &[u8], least: usize) -> usize
     place
 }
 
-// How far the bytes from the start on may each follow the three before them: to the first that may not, or the end.
+// How far the bytes may each follow the three before them: to the first that may not, or the end. NULs stand before the first.
 #[inline(always)]
-fn valid_len(bytes: &[u8], start: usize) -> usize
-    requires start { 3 ≤ start }
-    requires within { start + 16 ≤ length bytes.now }
+fn valid_len(bytes: &[u8]) -> usize
+    requires { 19 ≤ length bytes.now }
     ensures within { result ≤ length bytes.now }
-    ensures follow { AllMayFollow bytes.now start result }
+    ensures follow { AllMayFollow (0 ∷ 0 ∷ 0 ∷ bytes.now) 3 (result + 3) }
 {
-    let count = valid_lanes(bytes, start);
+    let count = first_fault(faults_at_front(u8x16::from_slice(bytes)));
     if count < 16 {
-        return start + count;
+        return count;
     }
-    valid_len_by_lanes(bytes, valid_len_wide(bytes, start + 16))
+    valid_len_by_lanes(bytes, valid_len_wide(bytes, 16))
 }
 
 // The same in blocks of 64, to the first in which some byte may not follow.
@@ -256,9 +257,16 @@ fn valid_lanes(bytes: &[u8], place: usize) -> usize
     ensures most { result ≤ 16 }
     ensures follow { AllMayFollow bytes.now place (place + result) }
 {
-    let wrong = faults_at(bytes, place)
-        .simd_ne(u8x16::splat(0))
-        .to_bitmask();
+    first_fault(faults_at(bytes, place))
+}
+
+// How many lanes are 0, up to the first that is not.
+#[inline(always)]
+fn first_fault(faults: u8x16) -> usize
+    ensures most { result ≤ 16 }
+    ensures none { (k : ℕ) → k < result → slice_index faults k ≡ 0 }
+{
+    let wrong = faults.simd_ne(u8x16::splat(0)).to_bitmask();
     if wrong == 0 {
         16
     } else {
@@ -278,6 +286,25 @@ fn faults_at(bytes: &[u8], place: usize) -> u8x16
     let first = u8x16::from_slice(&bytes[place - 1..]);
     let second = u8x16::from_slice(&bytes[place - 2..]);
     let third = u8x16::from_slice(&bytes[place - 3..]);
+    faults_after(third, second, first, here)
+}
+
+// The same of sixteen bytes that NULs stand before.
+#[inline(always)]
+fn faults_at_front(here: u8x16) -> u8x16
+    ensures len { length result ≡ 16 }
+    ensures lanes { ZerosFollow (0 ∷ 0 ∷ 0 ∷ here) 3 result }
+{
+    let (one, two, three) = before_lanes(here);
+    faults_after(three, two, one, here)
+}
+
+// The same of sixteen bytes, by the vectors that have the three before each.
+#[inline(always)]
+fn faults_after(third: u8x16, second: u8x16, first: u8x16, here: u8x16) -> u8x16
+    ensures len { length result ≡ 16 }
+    ensures lanes { ZeroLanesFollow third second first here result }
+{
     let long = second.saturating_sub(u8x16::splat(0xe0 - 0x80))
         | third.saturating_sub(u8x16::splat(0xf0 - 0x80));
     (long & u8x16::splat(SECOND)) ^ pairs(first, here)
@@ -294,23 +321,20 @@ fn pairs(before: u8x16, here: u8x16) -> u8x16
     high & low & u8x16::from_array(HERE_HIGH).swizzle_dyn(here >> u8x16::splat(4))
 }
 
-// The last place of some, from the start on and before the end, at which a code begins.
+// The last place before the end at which a code begins, or the first place of all.
 #[inline(always)]
-fn last_code_start(bytes: &[u8], start: usize, end: usize) -> usize
-    requires start { 3 ≤ start }
-    requires within { (start ≤ length bytes.now) × (end ≤ length bytes.now) }
-    requires begins { is_continuation (slice_index bytes.now start) ≡ false }
-    requires text { IsUtf8 (take start bytes.now) }
-    requires follow { AllMayFollow bytes.now start end }
+fn last_code_start(bytes: &[u8], end: usize) -> usize
+    requires within { end ≤ length bytes.now }
+    requires follow { AllMayFollow (0 ∷ 0 ∷ 0 ∷ bytes.now) 3 (end + 3) }
     ensures within { result ≤ length bytes.now }
     ensures text { IsUtf8 (take result bytes.now) }
 {
     let mut place = end;
-    while start < place {
+    while 0 < place {
         place -= 1;
         if !is_continuation(bytes[place]) {
             return place;
         }
     }
-    start
+    0
 }

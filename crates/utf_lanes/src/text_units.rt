@@ -7,18 +7,18 @@ ghost use Rattle.utf_lanes.specs.TextBlocks.{EndsCharacter};
 use crate::shuffles::COMPRESS_PAIRS;
 use std::simd::prelude::*;
 
-/// The bytes of the units that half a block gives: as many of these as `len` says.
+// The bytes of the units that half a block gives: as many of these as `len` says.
 #[derive(Drop)]
-pub struct UnitBytes {
-    /// These bytes, and then any.
-    pub bytes: [u8; 16],
-    /// How many they are.
-    pub len: usize,
+pub(crate) struct UnitBytes {
+    // These bytes, and then any.
+    pub(crate) bytes: [u8; 16],
+    // How many they are.
+    pub(crate) len: usize,
 }
 
-/// The units that the sixteen bytes from the place on give, but those of the first `skipped` of them.
+// The units that the sixteen bytes from the place on give, but those of the first `skipped` of them.
 #[inline(always)]
-pub fn block_units(
+pub(crate) fn block_units(
     high_first: bool,
     bytes: &[u8],
     place: usize,
@@ -171,9 +171,9 @@ fn compress_places(mask: usize) -> [u8; 16]
     COMPRESS_PAIRS[mask]
 }
 
-/// The first sixteen bytes after three NULs.
+// The first sixteen bytes after three NULs.
 #[inline(always)]
-pub fn padded_front(text: &[u8]) -> [u8; 19]
+pub(crate) fn padded_front(text: &[u8]) -> [u8; 19]
     requires { 16 ≤ length text.now }
     ensures { result ≡ 0 ∷ 0 ∷ 0 ∷ take 16 text.now }
 {

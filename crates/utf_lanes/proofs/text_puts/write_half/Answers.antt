@@ -1,0 +1,9 @@
+use Rattle.std.proofs.Common.{arith, rules}
+use Rattle.utf_lanes.proofs.CompressRows.{part_stored}
+use Rattle.utf_lanes.proofs.text_puts.write_half.Goals as goal
+
+pub returns-clause-written : goal.returns-clause-written
+returns-clause-written c = record {
+  len = search rules;
+  front = part_stored c.args.room.now c.args.units.now.bytes c.args.at c.args.units.now.len (omega arith) (omega arith);
+}

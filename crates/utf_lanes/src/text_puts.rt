@@ -1,0 +1,98 @@
+//! Text in UTF-8 as units of UTF-16, written into room from a place on.
+ghost use Rattle.std.specs.Prelude.{◌≡◌, ◌+◌, ◌-◌, ◌*◌, ◌<◌, ◌≤◌, length, take};
+ghost use Rattle.utf_lanes.specs.UnitCodes.{Writes};
+ghost use Rattle.utf_lanes.specs.Utf8ToUtf16.{given, utf16_bytes};
+
+use crate::text_units::{UnitBytes, block_units, padded_front};
+use std::simd::prelude::*;
+
+/// Writes the units of the first sixteen places to the front of the room. Answers where they end.
+#[inline(always)]
+pub fn write_first(high_first: bool, text: &[u8], room: &mut [u8]) -> usize
+    requires long { 16 ≤ length text.now }
+    requires room { 32 ≤ length room.old }
+    ensures len { length room.new ≡ length room.old }
+    ensures units { take result room.new ≡ utf16_bytes high_first text.now 0 16 }
+    ensures most { result ≤ 32 }
+{
+    let front = padded_front(text);
+    let (left, right) = block_units(high_first, &front, 3, 0);
+    let middle = write_half(&left, room, 0);
+    write_half(&right, room, middle)
+}
+
+/// Writes the units of 64 places to the front of the room. Answers where they end.
+#[inline(always)]
+pub fn write_64(high_first: bool, text: &[u8], place: usize, room: &mut [u8]) -> usize
+    requires start { 3 ≤ place }
+    requires within { place + 64 ≤ length text.now }
+    requires room { 128 ≤ length room.old }
+    ensures len { length room.new ≡ length room.old }
+    ensures units { take result room.new ≡ utf16_bytes high_first text.now place 64 }
+    ensures most { result ≤ 128 }
+{
+    let first = write_block(high_first, text, place, 0, room, 0);
+    let second = write_block(high_first, text, place + 16, 0, room, first);
+    let third = write_block(high_first, text, place + 32, 0, room, second);
+    write_block(high_first, text, place + 48, 0, room, third)
+}
+
+/// Writes the units of the places from one on to the end, in blocks of sixteen, of which the last ends with the text. Answers
+/// where they end.
+#[inline(always)]
+pub fn write_rest(high_first: bool, text: &[u8], start: usize, room: &mut [u8], at: usize) -> usize
+    requires start { 16 ≤ start }
+    requires within { start ≤ length text.now }
+    requires long { 32 ≤ length text.now }
+    requires room { at + 2 * (length text.now - start) + 32 ≤ length room.old }
+    ensures written { Writes room.old room.new at result
+        (utf16_bytes high_first text.now start (length text.now - start)) }
+    ensures within { result ≤ length room.new }
+{
+    let mut place = start;
+    let mut end = at;
+    while 16 <= text.len() - place {
+        end = write_block(high_first, text, place, 0, room, end);
+        place += 16;
+    }
+    if place < text.len() {
+        let last = text.len() - 16;
+        end = write_block(high_first, text, last, place - last, room, end);
+    }
+    end
+}
+
+// Writes the units of sixteen places, but those of the first `skipped` of them. Answers where they end.
+#[inline(always)]
+fn write_block(
+    high_first: bool,
+    text: &[u8],
+    place: usize,
+    skipped: usize,
+    room: &mut [u8],
+    at: usize,
+) -> usize
+    requires start { 3 ≤ place }
+    requires within { place + 16 ≤ length text.now }
+    requires few { skipped < 16 }
+    requires room { at + 32 ≤ length room.old }
+    ensures written { Writes room.old room.new at result
+        (utf16_bytes high_first text.now (place + skipped) (16 - skipped)) }
+    ensures most { result ≤ at + 32 }
+{
+    let (first, second) = block_units(high_first, text, place, skipped);
+    let middle = write_half(&first, room, at);
+    write_half(&second, room, middle)
+}
+
+// Writes the units of half a block, and then any bytes. Answers where the units end.
+#[inline(always)]
+fn write_half(units: &UnitBytes, room: &mut [u8], at: usize) -> usize
+    requires few { units.now.len ≤ 16 }
+    requires room { at + 16 ≤ length room.old }
+    ensures written { Writes room.old room.new at result (given units.now) }
+    ensures end { result ≡ at + units.now.len }
+{
+    u8x16::from_array(units.bytes).copy_to_slice(&mut room[at..]);
+    at + units.len
+}
