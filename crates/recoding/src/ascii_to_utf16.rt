@@ -6,9 +6,7 @@ ghost use Rattle.recoding.specs.UnitRuns.{widened};
 use crate::codes::put_pair;
 use crate::output::Output;
 use std::simd::prelude::*;
-use utf_lanes::ascii_texts::{
-    interleave_zeros, interleave_zeros_of_eight, interleave_zeros_of_four,
-};
+use utf_lanes::ascii_texts::interleave_zeros;
 
 // Appends the bytes, each with a NUL, which is the high byte of its unit.
 #[inline(always)]
@@ -19,7 +17,7 @@ pub(crate) fn put_ascii_as_utf16<O: Output, const BIG_ENDIAN: bool>(bytes: &[u8]
 {
     let place = put_lanes::<O, BIG_ENDIAN>(bytes, out);
     let last = &bytes[place..];
-    put_few::<O, BIG_ENDIAN>(last, out);
+    put_each::<O, BIG_ENDIAN>(last, out);
 }
 
 // The same of blocks of sixteen. Answers where the last one ends.
@@ -58,53 +56,6 @@ fn beside(first: u8x16, second: u8x16) -> [u8; 32]
     both[..16].copy_from_slice(&first.to_array());
     both[16..].copy_from_slice(&second.to_array());
     both
-}
-
-// The same of a few bytes: of eight and of four at once, where there are as many, and then one by one.
-#[inline(always)]
-#[tactic(auto, using(crate::proofs::AsciiToUtf16::few_widened))]
-fn put_few<O: Output, const BIG_ENDIAN: bool>(bytes: &[u8], out: &mut O)
-    requires { 2 * length bytes.now ≤ O.room out.old }
-    ensures { O.appends out.old (widened BIG_ENDIAN bytes.now) out.new }
-{
-    let eight = put_eight::<O, BIG_ENDIAN>(bytes, out);
-    let rest = &bytes[eight..];
-    let four = put_four::<O, BIG_ENDIAN>(rest, out);
-    put_each::<O, BIG_ENDIAN>(&rest[four..], out);
-}
-
-// The same of the first eight bytes, where there are as many. Answers where they end.
-#[inline(always)]
-#[tactic(auto, using(crate::proofs::AsciiToUtf16::few_widened))]
-fn put_eight<O: Output, const BIG_ENDIAN: bool>(bytes: &[u8], out: &mut O) -> usize
-    requires { 2 * length bytes.now ≤ O.room out.old }
-    ensures within { result ≤ length bytes.now }
-    ensures appends { O.appends out.old (widened BIG_ENDIAN (take result bytes.now)) out.new }
-{
-    if bytes.len() < 8 {
-        return 0;
-    }
-    let (front, back) = interleave_zeros_of_eight(BIG_ENDIAN, u8x8::from_slice(bytes));
-    out.put(&front.to_array());
-    out.put(&back.to_array());
-    8
-}
-
-// The same of the first four.
-#[inline(always)]
-#[tactic(auto, using(crate::proofs::AsciiToUtf16::few_widened))]
-fn put_four<O: Output, const BIG_ENDIAN: bool>(bytes: &[u8], out: &mut O) -> usize
-    requires { 2 * length bytes.now ≤ O.room out.old }
-    ensures within { result ≤ length bytes.now }
-    ensures appends { O.appends out.old (widened BIG_ENDIAN (take result bytes.now)) out.new }
-{
-    if bytes.len() < 4 {
-        return 0;
-    }
-    let (head, tail) = interleave_zeros_of_four(BIG_ENDIAN, u8x4::from_slice(bytes));
-    out.put(&head.to_array());
-    out.put(&tail.to_array());
-    4
 }
 
 // The same of a few bytes, one by one.

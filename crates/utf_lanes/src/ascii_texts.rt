@@ -128,31 +128,3 @@ pub fn interleave_zeros(high_first: bool, bytes: u8x16) -> (u8x16, u8x16)
         bytes.interleave(nuls)
     }
 }
-
-/// The same of eight bytes: the first four bytes, and the others.
-#[inline(always)]
-pub fn interleave_zeros_of_eight(high_first: bool, bytes: u8x8) -> (u8x8, u8x8)
-    ensures first { result.0 ≡ concat_range (λ k. halves high_first (slice_index bytes k) 0) 0 4 }
-    ensures second { result.1 ≡ concat_range (λ k. halves high_first (slice_index bytes k) 0) 4 4 }
-{
-    let zeros = u8x8::splat(0);
-    if high_first {
-        zeros.interleave(bytes)
-    } else {
-        bytes.interleave(zeros)
-    }
-}
-
-/// The same of four bytes: the first two bytes, and the others.
-#[inline(always)]
-pub fn interleave_zeros_of_four(high_first: bool, bytes: u8x4) -> (u8x4, u8x4)
-    ensures first { result.0 ≡ concat_range (λ k. halves high_first (slice_index bytes k) 0) 0 2 }
-    ensures second { result.1 ≡ concat_range (λ k. halves high_first (slice_index bytes k) 0) 2 2 }
-{
-    let none = u8x4::splat(0);
-    if high_first {
-        none.interleave(bytes)
-    } else {
-        bytes.interleave(none)
-    }
-}
