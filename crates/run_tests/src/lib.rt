@@ -13,6 +13,8 @@ mod codes;
 #[cfg(test)]
 mod first_faults;
 #[cfg(test)]
+mod fronts;
+#[cfg(test)]
 mod lines;
 #[cfg(test)]
 mod long_inputs;

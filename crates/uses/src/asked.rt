@@ -58,3 +58,44 @@ pub fn after_faulty_unit(units: &[u16]) -> Option<&[u16]> {
     let (place, _, len) = pieces.find(|x| x.1.is_err())?;
     Some(&units[place + len..])
 }
+
+/// The bytes between the first piece and the first fault after it.
+pub fn before_later_fault(bytes: &[u8]) -> Option<&[u8]> {
+    let mut pieces = bytes.utf8char_indices();
+    let (front, _, len) = pieces.next()?;
+    let (place, _, _) = pieces.find(|x| x.1.is_err())?;
+    Some(&bytes[front + len..place])
+}
+
+/// The bytes between the first two faults: a decoder is asked twice.
+pub fn between_faults(bytes: &[u8]) -> Option<&[u8]> {
+    let mut pieces = bytes.utf8char_indices();
+    let (first, _, len) = pieces.find(|x| x.1.is_err())?;
+    let (second, _, _) = pieces.find(|x| x.1.is_err())?;
+    Some(&bytes[first + len..second])
+}
+
+/// The units between the byte order mark and the first faulty one.
+pub fn before_faulty_unit(units: &[u16]) -> Option<&[u16]> {
+    let mut pieces = units.utf16char_indices();
+    let (front, mark, len) = pieces.next()?;
+    mark.ok()?;
+    let (place, _, _) = pieces.find(|x| x.1.is_err())?;
+    Some(&units[front + len..place])
+}
+
+/// The name of a tag, between the sign that opens it and the first space.
+pub fn tag_name(tag: &str) -> Option<&str> {
+    let mut characters = tag.utf8char_indices();
+    let (front, sign) = characters.next()?;
+    let (place, _) = characters.find(|x| x.1.eq_char(' '))?;
+    Some(&tag[front + sign.len()..place])
+}
+
+/// The last word of a sentence, without the stop that ends it.
+pub fn word_before_stop(sentence: &str) -> Option<&str> {
+    let mut characters = sentence.utf8char_indices();
+    let (end, _) = characters.next_back()?;
+    let (place, space) = characters.rev().find(|x| x.1.eq_char(' '))?;
+    Some(&sentence[place + space.len()..end])
+}

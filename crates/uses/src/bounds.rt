@@ -4,6 +4,7 @@ ghost use Rattle.cuts.specs.Bounds.{HasRoom};
 ghost use Rattle.cuts.specs.Recoded.{IsRecoded};
 ghost use Rattle.encode_unicode.specs.Pieces.{pieces};
 
+use crate::parts::append_recoded;
 use cuts::{Form, Recoder, laws, room_for};
 use encode_unicode::U8SliceExt;
 use encode_unicode::laws::runs_are_bounded;
@@ -59,4 +60,19 @@ pub fn recode_whole(from: Form, to: Form, bytes: &[u8], room: &mut [u8]) -> usiz
     let fed = recoder.feed_into(bytes, room);
     let ended = recoder.finish_into(&mut room[fed.written..]);
     fed.written + ended.written
+}
+
+/// The bytes in another form, which are at most three times as many.
+pub fn recoded_briefly<A: Allocator>(
+    alloc: A,
+    from: Form,
+    to: Form,
+    bytes: &[u8],
+) -> Result<Vec<u8, A>, AllocError>
+    ensures { IfOk result (λ out. length out.items ≤ 3 * length bytes.now) }
+{
+    laws::recoded_is_bounded();
+    let mut made = Vec::new(alloc);
+    append_recoded(&mut made, from, to, bytes)?;
+    Ok(made)
 }

@@ -239,3 +239,19 @@ pub fn first_fault_place(bytes: &[u8]) -> usize
         None => bytes.len(),
     }
 }
+
+/// The bytes before the first fault, by `filter` and `next`.
+pub fn before_filtered(bytes: &[u8]) -> &[u8] {
+    match bytes.utf8char_indices().filter(|x| x.1.is_err()).next() {
+        Some((place, _, _)) => &bytes[..place],
+        None => bytes,
+    }
+}
+
+/// The text before its first space, by `filter` and `next`.
+pub fn first_word(text: &str) -> &str {
+    match text.utf8char_indices().filter(|x| x.1.eq_char(' ')).next() {
+        Some((place, _)) => &text[..place],
+        None => text,
+    }
+}

@@ -20,6 +20,7 @@ pub mod damage;
 pub mod editor;
 pub mod equals;
 pub mod fields;
+pub mod fronts;
 pub mod lengths;
 pub mod listed;
 pub mod loops;

@@ -1,14 +1,18 @@
 //! Chains over mergers: what a chain answers is said of `merged`, the list of a merger's answers for some bytes.
-ghost use Rattle.std.specs.Prelude.{◌≡◌, ◌↔◌, IfOk, IsTrue, count_by, is_err, is_ok, position, slice_get};
+ghost use Rattle.std.specs.Prelude.{◌≡◌, ◌↔◌, IfOk, IsTrue, List, ℕ, count_by, flat_map, is_err, is_ok, length, position, slice_get, string_bytes};
 ghost use Rattle.std.specs.Iterator.{IsFinite};
 ghost use Rattle.std.specs.List.{find, list_all, list_any};
 ghost use Rattle.std.specs.Str.{IsUtf8};
+ghost use Rattle.encode_unicode.specs.Code.{utf8};
 ghost use Rattle.encode_unicode.specs.Mergers.{merged, merged_units};
 ghost use Rattle.cuts.specs.Collected.{WhateverIsLeft};
+ghost use Rattle.encode_unicode.specs.Pieces.{characters, unit_characters};
+ghost use Rattle.encode_unicode.specs.Sources.{IsListed};
 
 use cuts::laws::merged_is_all_characters;
 use encode_unicode::error::{Utf8Error, Utf16PairError};
-use encode_unicode::{U8IterExt, U16IterExt, Utf8Char, Utf16Char};
+use encode_unicode::laws::merged_are_the_characters;
+use encode_unicode::{U8IterExt, U16IterExt, Utf8Char, Utf8CharIterExt, Utf16Char};
 use std::alloc::{AllocError, Allocator};
 
 /// How many answers for the bytes are errors.
@@ -76,4 +80,22 @@ pub fn first_fault(units: &[u16]) -> Option<Result<Utf16Char, Utf16PairError>>
     ensures { result ≡ find (λ r. is_err r) (merged_units units.now) }
 {
     units.iter().copied().to_utf16chars().find(|r| r.is_err())
+}
+
+/// The text of the characters alone, errors left out. They are those that a decoder gives.
+pub fn characters_alone<A: Allocator>(alloc: A, bytes: &[u8]) -> Result<String<A>, AllocError>
+    ensures { IfOk result (λ text. string_bytes text ≡ flat_map utf8 (characters bytes.now)) }
+{
+    merged_are_the_characters();
+    let answers = bytes.iter().copied().to_utf8chars();
+    answers.filter_map(|r| r.ok()).collect_string(alloc)
+}
+
+/// How many characters the units have.
+pub fn unit_character_count(units: &[u16]) -> usize
+    ensures { result ≡ length (unit_characters units.now) }
+{
+    merged_are_the_characters();
+    let answers = units.iter().copied().to_utf16chars();
+    answers.filter_map(|r| r.ok()).count()
 }

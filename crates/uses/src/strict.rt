@@ -1,6 +1,9 @@
 //! Strict recoding by way of a room of a fixed size.
+ghost use Rattle.std.specs.Prelude.{IfSome};
+ghost use Rattle.cuts.specs.WellFormed.{IsFirstFault, IsFirstFaultOf};
+ghost use Rattle.encode_unicode.specs.Code.{utf8};
 
-use cuts::{FaultKind, Outcome, Recoder};
+use cuts::{FaultKind, Form, Outcome, Recoder};
 use std::alloc::{AllocError, Allocator};
 
 /// Feeds a part by way of a packet, and appends what it holds each time, to the first invalid byte:
@@ -39,5 +42,34 @@ pub fn finish_strictly<A: Allocator>(
     match progress.outcome {
         Outcome::Faulty(fault) => Ok(Some((total.saturating_sub(fault.back as u64), fault.kind))),
         _ => Ok(None),
+    }
+}
+
+/// The offset of the first fault that a strict call tells, as a validator says it; `None` where it tells none.
+pub fn told_fault(from: Form, bytes: &[u8], room: &mut [u8]) -> Option<usize>
+    ensures { IfSome result (λ place. IsFirstFaultOf from bytes.now place) }
+{
+    let mut recoder = Recoder::new(from, Form::Utf8);
+    let progress = recoder.feed_strict_into(bytes, room);
+    match progress.outcome {
+        Outcome::Faulty(fault) => Some(progress.read - fault.back),
+        _ => None,
+    }
+}
+
+/// The offset of the first fault, or the length where there is none; `None` where the room is too small.
+pub fn valid_len(bytes: &[u8], room: &mut [u8]) -> Option<usize>
+    ensures { IfSome result (λ place. IsFirstFault utf8 bytes.now place) }
+{
+    let mut recoder = Recoder::new(Form::Utf8, Form::Utf8);
+    let progress = recoder.feed_strict_into(bytes, room);
+    match progress.outcome {
+        Outcome::Faulty(fault) => Some(progress.read - fault.back),
+        Outcome::Full => None,
+        Outcome::AllRead => match recoder.finish_strict_into(room).outcome {
+            Outcome::Faulty(fault) => Some(bytes.len() - fault.back),
+            Outcome::Full => None,
+            Outcome::AllRead => Some(bytes.len()),
+        },
     }
 }

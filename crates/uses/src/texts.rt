@@ -1,5 +1,5 @@
 //! Texts: where a text can be cut, and what a character adds to one.
-ghost use Rattle.std.specs.Prelude.{◌≡◌, ◌++◌, IfOk, OnOk, flat_map, map, reverse, string_bytes, take};
+ghost use Rattle.std.specs.Prelude.{◌≡◌, ◌++◌, IfOk, OnOk, flat_map, length, map, reverse, string_bytes, take};
 ghost use Rattle.std.specs.Str.{chars};
 ghost use Rattle.encode_unicode.specs.Chars.{ascii_uppercase};
 ghost use Rattle.encode_unicode.specs.Code.{utf8, utf16};
@@ -87,4 +87,25 @@ pub fn add_reversed<A: Allocator>(text: &mut String<A>, more: &str) -> Result<()
         string_bytes text.old ++ flat_map utf8 (reverse (chars more.now))) }
 {
     more.utf8chars().rev().extend_string(text)
+}
+
+/// The text up to so many characters, or all of it, with no memory.
+pub fn front(text: &str, count: usize) -> &str
+    ensures codes { result.now ≡ flat_map utf8 (take count (chars text.now)) }
+    ensures chars { chars result.now ≡ take count (chars text.now) }
+{
+    match text.utf8char_indices().nth(count) {
+        Some((place, _)) => &text[..place],
+        None => text,
+    }
+}
+
+/// The offset of the character after so many others, or that of the end.
+pub fn offset_of(text: &str, count: usize) -> usize
+    ensures { result ≡ length (flat_map utf8 (take count (chars text.now))) }
+{
+    match text.utf8char_indices().nth(count) {
+        Some((place, _)) => place,
+        None => text.len(),
+    }
 }
