@@ -34,8 +34,8 @@ pub record IsTextAndHeld (from : Form) (bytes held : List ℕ) : Type 0 where
   pub all : All IsScalar scalars
   pub parts : bytes ≡ flat_map (written from) scalars ++ held
 
--- A recoder that held nothing was fed a part. Where the call ended at a fault, that is the first fault of the part, as far behind
--- the end of what was read as the call says; where all was read, the part is text but for what is held.
+-- A recoder that held nothing was fed a part. Where the call ended at a fault, that is the first fault of the part, so many bytes
+-- before the end of what was read as the call says; where all was read, the part is text but for what is held.
 pub record TellsFirst (r : Recoding) (part : List ℕ) (p : StrictProgress) (s : Recoding) : Type 0 where
   pub place : r.held ≡ [] → (f : Fault) → p.outcome ≡ Faulty f → (f.back ≤ p.read) × IsFirstFaultOf r.from part (p.read - f.back)
   pub text : r.held ≡ [] → p.outcome ≡ AllRead → IsTextAndHeld s.from part s.held

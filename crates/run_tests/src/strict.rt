@@ -294,7 +294,7 @@ fn packets_carry_text_to_the_first_fault(rt: HostRuntime) -> Result<(), Fail> {
 }
 
 #[test]
-fn an_input_that_ends_inside_a_character_is_invalid(rt: HostRuntime) -> Result<(), Fail> {
+fn an_input_that_ends_inside_a_character_is_faulty(rt: HostRuntime) -> Result<(), Fail> {
     let mut recoder = Recoder::new(Form::Utf8, LE);
     let mut sent = Vec::new(rt.alloc());
     let mut total = 0;

@@ -67,7 +67,8 @@ pub fn first_empty_line(bytes: &[u8]) -> Option<Span<'_>>
 /// The first line that has an invalid byte, with its offset.
 pub fn first_damaged_line(bytes: &[u8]) -> Option<Span<'_>>
     ensures lies { IfSome result (LiesBetween bytes.now) }
-    ensures first { result ≡ find (λ x. not (nat_eq (faulty_item_count (pieces x.bytes)) 0)) (lines_by bytes.now) }
+    ensures first { result ≡
+        find (λ x. not (nat_eq (faulty_item_count (pieces x.bytes)) 0)) (lines_by bytes.now) }
 {
     lines(bytes).find(|line| fault_count(line.as_bytes()) != 0)
 }
