@@ -5083,7 +5083,7 @@ main:                                   // @main
 // %bb.429:                             // %then.1.i.i.i51.i.i.i.i.i.i.i
 	ldr	x0, [sp]                        // 8-byte Reload
 	bl	rattle_dealloc
-.LBB16_430:                             // %"cuts::programs::pieces_program::do_asked::<#b76f9e462aa88497>.exit.i.i.i.i.i.i"
+.LBB16_430:                             // %"cuts::programs::pieces_program::run_request::<#b76f9e462aa88497>.exit.i.i.i.i.i.i"
 	tbz	w19, #0, .LBB16_452
 // %bb.431:                             // %"cuts::programs::pieces_program::run_pieces::<#f2687c392c8179bb>.exit.i.i.i.i.i"
 	movi	v0.2d, #0000000000000000

@@ -3113,7 +3113,7 @@
 	movq	%rdx, %r14
 	callq	rattle_dealloc@PLT
 	movq	%r14, %rdx
-.LBB0_408:                              # %"cuts::programs::pieces_program::do_asked::<#b76f9e462aa88497>.exit.i.i.i.i.i"
+.LBB0_408:                              # %"cuts::programs::pieces_program::run_request::<#b76f9e462aa88497>.exit.i.i.i.i.i"
 	testb	%bl, %bl
 	je	.LBB0_450
 # %bb.409:                              # %"cuts::programs::pieces_program::run_pieces::<#f2687c392c8179bb>.exit.i.i.i.i"
