@@ -195,7 +195,7 @@ def summary():
     of_c = [(text, float(it["nody_utf8_pieces"]), float(it["icu"])) for text, it in of_c_bench().get("decode", [])]
     lost = [("validate UTF-8", "valid", 2, "simdutf8", lambda key: True), ("read valid text backward", "run", 2, "std", lambda key: key[0] == "text_backward"),
             ("decode from an iterator", "run", 2, "rust", lambda key: key[0] in ("merger", "unit_merger")),
-            ("recode one short part into a buffer", "short", 5, "encoding_rs", lambda key: key[4] == "feed_into")]
+            ("recode one short part", "short", 5, "encoding_rs", lambda key: key[4] == "feed_into")]
     short = ""
     for task, name, keys, side, holds in lost:
         row = max((it for it in stored(name, keys) if side in it.numbers and holds(it.key)), key=lambda it: it.ratio(side))
@@ -204,8 +204,8 @@ def summary():
         lines.append([task, f"{text} (our worst)", NAMES[side], f"{row.numbers['ours']:.2f} ns", f"{row.numbers[side]:.2f} ns", f"**{row.ratio(side):.2f}**"])
     text, ours, theirs = max(of_c, key=lambda it: it[1] / it[2])
     lines.append(["split into pieces, from C", f"{TEXTS.get(text, text)} (our worst)", "ICU", f"{ours:.2f} ns", f"{theirs:.2f} ns", f"**{ours / theirs:.2f}**"])
-    told = (f"Times are nanoseconds per byte. Only in the row of one short part they are for all {short} bytes. For a task marked \"our worst\", the row shows "
-            "the input on which we do worst of all that were measured. Ratios were computed before the times were rounded. "
+    told = (f"Times are nanoseconds per byte. In the row \"recode one short part\", the time is for all {short} bytes together. "
+            "\"Our worst\" marks the input with our worst ratio, of all inputs that were measured for that task. Ratios were computed before the times were rounded. "
             "Noddychest was called from Rattle, and in the last row from C.\n\n")
     return told + table(["task", "input", "compared with", "Noddychest", "theirs", "ratio"], lines)
 

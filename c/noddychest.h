@@ -7,7 +7,8 @@
  * WORDS.
  *     character    a Unicode scalar value: 0 to 10FFFF, without D800 to DFFF
  *     unit         one uint16_t of UTF-16
- *     fault        one invalid byte; in UTF-16, one invalid unit. Its kind is the reason why it is invalid
+ *     fault        one invalid byte; in UTF-16, one invalid unit, or a single byte at the end. Its kind is the reason why
+ *                  it is invalid
  *     piece        a character or a fault. Every input is a row of pieces
  *     boundary     an offset that is not inside a character, and in UTF-16 not inside a unit
  *     form         an encoding of text in bytes: UTF-8, little-endian UTF-16 or big-endian UTF-16
@@ -19,11 +20,12 @@
  * in _lossy write what browsers and Python do. The calls whose names end in _strict stop at the first fault, and report its
  * offset and its kind.
  *
- * WHICH KIND. The kind of a byte depends on that byte and on the bytes after it. If several kinds apply, it is the first in this
- * list: UNEXPECTED_CONTINUATION_BYTE, NON_UTF8_BYTE, TOO_FEW_BYTES, INTERRUPTED_SEQUENCE, and then one of OVERLONG_ENCODING,
- * UTF16_RESERVED_CODEPOINT and TOO_HIGH_CODEPOINT, by the value that the bytes encode. Two examples: E0 80 41 is
- * INTERRUPTED_SEQUENCE, and not OVERLONG_ENCODING. ED A0 at the end is TOO_FEW_BYTES, although no third byte would make it a
- * character. A reader of one byte at a time sees other kinds in some cases: see nody_utf8_streamed_at.
+ * WHICH KIND. The kind of a fault depends on its byte and on the bytes after it. These kinds are tested in order, and the first
+ * that applies is the kind: UNEXPECTED_CONTINUATION_BYTE, NON_UTF8_BYTE, TOO_FEW_BYTES, INTERRUPTED_SEQUENCE. If none of them
+ * applies, the value that the bytes encode decides: OVERLONG_ENCODING, UTF16_RESERVED_CODEPOINT or TOO_HIGH_CODEPOINT. Three
+ * examples: E0 80 41 is INTERRUPTED_SEQUENCE, and not OVERLONG_ENCODING. F0 41 at the end is TOO_FEW_BYTES, and not
+ * INTERRUPTED_SEQUENCE. ED A0 at the end is TOO_FEW_BYTES, although no third byte would make it a character. A decoder that is
+ * given its input one byte at a time sees other kinds in some cases: see nody_utf8_streamed_at.
  *
  * POINTERS. A pointer and the number after it belong together: the number is a length to read, or a room to write into. If the
  * number is 0, the pointer may be NULL. Else it must be valid for that many bytes, units or pieces. What a call writes must not
@@ -71,7 +73,7 @@ NODY_ENUM(nody_kind_t) {
     NODY_KIND_TOO_FEW_BYTES = 1,                 /* fewer bytes are left than the first byte needs */
     NODY_KIND_NON_UTF8_BYTE = 2,                 /* C0, C1, or F5 to FF: never in UTF-8 */
     NODY_KIND_UNEXPECTED_CONTINUATION_BYTE = 3,  /* 80 to BF where a character should begin */
-    NODY_KIND_INTERRUPTED_SEQUENCE = 4,          /* a byte that the first byte needs is not 80 to BF */
+    NODY_KIND_INTERRUPTED_SEQUENCE = 4,          /* a byte that should continue the character is not 80 to BF */
     NODY_KIND_OVERLONG_ENCODING = 5,             /* the bytes encode a character that has a shorter encoding */
     NODY_KIND_UTF16_RESERVED_CODEPOINT = 6,      /* the bytes encode a surrogate, D800 to DFFF */
     NODY_KIND_TOO_HIGH_CODEPOINT = 7,            /* the bytes encode a number above 10FFFF */
@@ -111,7 +113,8 @@ typedef struct {
 } nody_piece_t;
 
 /* A cursor: the bytes, or units, that are still to be taken. nody_bytes and nody_units make it. If you make one of an empty
- * input, its pointer is an address inside the library, and not the pointer that you passed. So do not subtract yours from it. */
+ * input, its pointer is the address of a dummy byte or unit, and not the pointer that you passed. So do not subtract yours from
+ * it. */
 typedef struct {
     const uint8_t *bytes;
     size_t len;
@@ -123,10 +126,10 @@ typedef struct {
 } nody_units_t;
 
 /* A recoder. Between calls it holds at most three bytes of input: the front of a character whose rest has not come;
- * bytes whose output did not fit into the room; or, after a strict call, bytes of which later ones decide whether they are a
- * fault, or which kind it has. nody_recoder_held gives them. `replaced` is the number of faults that became U+FFFD.
- * nody_recoder_finish does not reset it, and it stops at UINT64_MAX. You may read it, and set it to 0. Leave the other fields
- * alone. */
+ * bytes whose output did not fit into the room; or, after a strict call, bytes that cannot be judged yet: the next bytes decide
+ * whether there is a fault, and of which kind. nody_recoder_held gives them. `replaced` is the number of faults that became
+ * U+FFFD. nody_recoder_finish does not reset it, and it stops at UINT64_MAX. You may read it, and set it to 0. Leave the other
+ * fields alone. */
 typedef struct {
     nody_form_t from;
     nody_form_t to;
@@ -139,7 +142,7 @@ typedef struct {
  * offset of the fault in the whole input is the sum of `*read` of all calls, minus `back`. */
 typedef struct {
     size_t len;       /* in bytes: 1 in UTF-8, 2 for a lone surrogate, 1 for a single byte at the end of UTF-16 */
-    size_t back;      /* how far before the end of what was read it begins; 0 after nody_recode_strict, which reads up to it */
+    size_t back;      /* the bytes from its start to the end of what was read; 0 after nody_recode_strict, which reads up to it */
     nody_kind_t kind; /* the reason, or NODY_KIND_NONE */
 } nody_fault_t;
 
@@ -192,9 +195,9 @@ nody_piece_t nody_utf16_first(const uint16_t *units, size_t len);
 /* The last piece of some bytes, or units.
  *
  * bytes or units, len: the input. At most its last four bytes, or two units, matter.
- * Result: the piece, or NODY_KIND_NONE if len is 0. The kind of a fault is judged as if the input
- * ended there. If your input goes on after len, a reader from the front may find another kind. If len lies inside a character of
- * your input, the byte or unit that is reported as a fault may be part of that character.
+ * Result: the piece, or NODY_KIND_NONE if len is 0. The kind of a fault is judged as if nothing came after these `len`
+ * bytes or units. If your input goes on after len, a reader from the front may find another kind. If len lies inside a character
+ * of your input, the byte or unit that is reported as a fault may be part of that character.
  * Errors: none. Cost: constant.
  *
  *     size_t shorter = len - nody_utf8_last(bytes, len).len;
@@ -215,12 +218,13 @@ nody_piece_t nody_utf16_last(const uint16_t *units, size_t len);
 size_t nody_utf8_encode(uint32_t scalar, uint8_t *out, size_t room);
 size_t nody_utf16_encode(uint32_t scalar, uint16_t *out, size_t room);
 
-/* The piece that begins at an offset, with the kind that a decoder of one byte at a time reports. Such a decoder meets a wrong
+/* The piece that begins at an offset, with the kind that a decoder reports that is given its input one byte at a time.
+ * Such a decoder meets a wrong
  * byte before it can know that the input ends.
  *
  * bytes, len: the input. place: the offset.
- * Result: what nody_utf8_first gives for the bytes from `place` on, but for one case. If the input ends too early for the
- * first byte, but has already a wrong byte (not 80 to BF) after it, the kind is NODY_KIND_INTERRUPTED_SEQUENCE, and not
+ * Result: what nody_utf8_first gives for the bytes from `place` on, but for one case. If fewer bytes are left than the first byte
+ * needs, and one of those that are left is not 80 to BF, the kind is NODY_KIND_INTERRUPTED_SEQUENCE, and not
  * NODY_KIND_TOO_FEW_BYTES. If `place` is len or more, the kind is NODY_KIND_NONE.
  * Errors: none. Cost: constant.
  *
@@ -243,10 +247,11 @@ size_t nody_utf16_valid_up_to(const uint16_t *units, size_t len);
 
 /* How far some bytes are valid in a form.
  *
- * form: the form, which may also be UTF-8. bytes, len: the input.
+ * form: the form. UTF-8 is allowed too, in spite of the name of the call. bytes, len: the input.
  * Result: the offset in bytes of the first fault, or len if all of the input is valid. A single byte at the end of UTF-16 is a
  * fault.
- * Errors: SIZE_MAX if the form is above 2. So compare the result with len by `!=`. Cost: linear; UTF-16 is read unit by unit.
+ * Errors: SIZE_MAX if the form is above 2. So compare by `!= len`: `< len` would take SIZE_MAX for valid. Cost: linear; UTF-16 is
+ * read unit by unit.
  *
  *     if (nody_utf16_bytes_valid_up_to(NODY_FORM_UTF16BE, bytes, len) != len) return invalid();
  */
@@ -323,7 +328,8 @@ size_t nody_utf16_pieces(nody_units_t *left, nody_piece_t *out, size_t room);
 
 /* The boundary near an offset: nody_boundary_before gives the last one up to `at`, nody_boundary_after the first one from `at` on.
  * If you divide the input at a boundary and recode each side by itself, the outputs, joined, are the output of the whole.
- * (This does not hold for the lossy calls.) The kind that is reported for a fault beside the boundary may differ.
+ * (This does not hold for the lossy calls.) A call that reports kinds may report another kind for a fault just before the
+ * boundary than it does in the whole input.
  *
  * form: the form of the input. bytes, len: the input. at: the offset.
  * Result: the boundary, at most three bytes from `at`. If `at` is len or more, it is len.
@@ -358,7 +364,7 @@ size_t nody_shard_end(nody_form_t from, const uint8_t *bytes, size_t len, size_t
 
 /* ---- A whole input recoded -------------------------------------------------------------------------------------------------- */
 
-/* Recodes a whole input. Each fault becomes one U+FFFD, and so does a single byte at the end of UTF-16.
+/* Recodes a whole input. Each fault becomes one U+FFFD. A single byte at the end of UTF-16 is a fault too.
  *
  * from, to: the forms, which may be the same. in, len: the input.
  * out, room: where to write, and how many bytes. nody_recoded_len gives a room that is enough.
@@ -421,8 +427,8 @@ size_t nody_recoded_len_max(nody_form_t from, nody_form_t to, size_t len);
 
 /* nody_recode between UTF-8 and an array of uint16_t.
  *
- * in, len, out, room, written: as for nody_recode. A number that belongs to a uint16_t pointer counts units, and one that belongs
- * to a uint8_t pointer counts bytes. A number of units must be below SIZE_MAX / 2: this is not checked. Do not cast a buffer of
+ * in, len, out, room, written: as for nody_recode. `len` counts what `in` points to: bytes or units. `room` and `*written`
+ * count what `out` points to. A number of units must be below SIZE_MAX / 2: this is not checked. Do not cast a buffer of
  * bytes to uint16_t *. For UTF-16 in bytes call nody_recode.
  * Result: NODY_STATUS_DONE, or NODY_STATUS_FULL if the room is too small.
  * Errors: none. Cost: linear.
@@ -465,8 +471,8 @@ nody_recoder_t nody_recoder(nody_form_t from, nody_form_t to);
  *   NODY_STATUS_DONE: the whole part was read, and nothing waits for room.
  *   NODY_STATUS_FULL: the next character does not fit. Empty `out`, and call again with the rest of the part, even if that is
  *   empty.
- * Errors: NODY_STATUS_REFUSED, with 0 in `*read` and `*written`, if a form of the recoder is above 2, or it holds more than three
- * bytes. Cost: linear.
+ * Errors: NODY_STATUS_REFUSED, with 0 in `*read` and `*written`, if a form of the recoder is above 2, or its `count` is above 3
+ * (only in a struct that nody_recoder did not make). Cost: linear.
  *
  *     do {
  *         status = nody_recoder_feed(&recoder, in + place, len - place, out, sizeof out, &read, &written);
@@ -506,8 +512,8 @@ nody_status_t nody_recoder_finish(nody_recoder_t *recoder, uint8_t *out, size_t 
  * fault: receives the fault. Its offset in the whole input is the sum of `*read` of all calls, this one included, minus
  * `fault->back`. It may lie in an earlier part.
  * Result:
- *   NODY_STATUS_DONE: the whole part was read. If later bytes decide whether the end of the
- *   part is a fault, or which kind of fault, the recoder holds those bytes, at most three. After E9 0A, for example, the kind of
+ *   NODY_STATUS_DONE: the whole part was read. If the last bytes of the part cannot be judged without the
+ *   bytes after them, the recoder holds these last bytes, at most three. After E9 0A, for example, the kind of
  *   E9 is NODY_KIND_INTERRUPTED_SEQUENCE if a third byte comes, and NODY_KIND_TOO_FEW_BYTES if the input ends.
  *   NODY_STATUS_FAULT: the call stopped at a fault. To refuse the input, stop, and make a new recoder for the next
  *   one. To go on after the fault, call again with the rest
@@ -544,16 +550,16 @@ nody_status_t nody_recoder_feed_strict(nody_recoder_t *recoder, const uint8_t *i
 nody_status_t nody_recoder_finish_strict(nody_recoder_t *recoder, uint8_t *out, size_t room, size_t *written, nody_fault_t *fault);
 
 /* Feeds the next part of the input, and writes one U+FFFD for each maximal subpart, and not for each fault. A maximal subpart is
- * the beginning of a valid character that is cut off: one to three bytes, as many as fit. In E2 82 41 it is E2 82, so E2 82 41
- * becomes U+FFFD A. Any other invalid byte is one by itself. E0 80 becomes U+FFFD U+FFFD: no valid character begins with E0 80,
- * so E0 is cut off alone, and 80 stands alone. The Unicode standard recommends this (chapter 3, "U+FFFD Substitution of Maximal
- * Subparts"). Browsers, Python's errors="replace" and Rust's from_utf8_lossy do it. In UTF-16, and in valid input, this call and
- * nody_recoder_feed write the same.
+ * the longest run of one to three bytes that begins some character but is not continued to its end. In E2 82 41 it is E2 82, so
+ * E2 82 41 becomes U+FFFD A. Any other invalid byte counts as a maximal subpart of its own. E0 80 becomes U+FFFD U+FFFD: no
+ * character begins with E0 80, so E0 is one maximal subpart, and 80 another. The Unicode standard recommends this (chapter 3,
+ * "U+FFFD Substitution of Maximal Subparts"). Browsers, Python's errors="replace" and Rust's from_utf8_lossy do it. In UTF-16,
+ * and in valid input, this call and nody_recoder_feed write the same.
  *
  * recoder: the recoder. `recoder->replaced` does not change. You may mix calls of this, of nody_recoder_feed and of
  * nody_recoder_feed_strict. End the input by nody_recoder_finish_lossy.
- * in, in_len: the part. Parts that you feed to one recoder may end anywhere. But do not give the two sides of a boundary of
- * nody_boundary_before to two recoders, as the replacing calls allow: the boundary may lie inside a maximal subpart.
+ * in, in_len: the part. Parts that you feed to one recoder may end anywhere. nody_recoder_feed lets you divide the input at
+ * nody_boundary_before and give the sides to two recoders. This call does not: the boundary may lie inside a maximal subpart.
  * out, room, read, written: as for nody_recoder_feed. Room for three bytes for each byte that is fed or held is always enough.
  * Result, errors, cost: as for nody_recoder_feed. The loop is the same.
  *
@@ -578,7 +584,8 @@ nody_status_t nody_recoder_finish_lossy(nody_recoder_t *recoder, uint8_t *out, s
  *
  * recoder: the recoder. out, room: where to write them. If the room is too small, nothing is written.
  * Result: how many they are, 0 to 3.
- * Errors: SIZE_MAX if a form of the recoder is above 2, or it holds more than three bytes. Cost: constant.
+ * Errors: SIZE_MAX if a form of the recoder is above 2, or its `count` is above 3 (only in a
+ * struct that nody_recoder did not make). Cost: constant.
  *
  *     uint8_t held[3];
  *     size_t count = nody_recoder_held(&recoder, held, sizeof held);
