@@ -7,8 +7,8 @@
  * WORDS.
  *     character    a Unicode scalar value: 0 to 10FFFF, without D800 to DFFF
  *     unit         one uint16_t of UTF-16
- *     fault        one invalid byte; in UTF-16, one invalid unit, or a single byte at the end. Its kind is the reason why
- *                  it is invalid
+ *     fault        one invalid byte; in UTF-16, one invalid unit, or the last byte if the number of bytes is odd. Its kind is the
+ *                  reason why it is invalid
  *     piece        a character or a fault. Every input is a row of pieces
  *     boundary     an offset that is not inside a character, and in UTF-16 not inside a unit
  *     form         an encoding of text in bytes: UTF-8, little-endian UTF-16 or big-endian UTF-16
@@ -113,8 +113,8 @@ typedef struct {
 } nody_piece_t;
 
 /* A cursor: the bytes, or units, that are still to be taken. nody_bytes and nody_units make it. If you make one of an empty
- * input, its pointer is the address of a dummy byte or unit, and not the pointer that you passed. So do not subtract yours from
- * it. */
+ * input, its pointer is the address of a dummy byte or unit, and not the pointer that you passed. So for an empty input do not
+ * compute `left.bytes - bytes`. */
 typedef struct {
     const uint8_t *bytes;
     size_t len;
@@ -126,10 +126,10 @@ typedef struct {
 } nody_units_t;
 
 /* A recoder. Between calls it holds at most three bytes of input: the front of a character whose rest has not come;
- * bytes whose output did not fit into the room; or, after a strict call, bytes that cannot be judged yet: the next bytes decide
- * whether there is a fault, and of which kind. nody_recoder_held gives them. `replaced` is the number of faults that became
- * U+FFFD. nody_recoder_finish does not reset it, and it stops at UINT64_MAX. You may read it, and set it to 0. Leave the other
- * fields alone. */
+ * bytes whose output did not fit into the room; or, after a strict call, a fault and the bytes after it,
+ * if the kind of the fault depends on bytes that have not come (see nody_recoder_feed_strict). nody_recoder_held gives them.
+ * `replaced` is the number of faults that became U+FFFD. nody_recoder_finish does not reset it. The count stops at UINT64_MAX.
+ * You may read it, and set it to 0. Leave the other fields alone. */
 typedef struct {
     nody_form_t from;
     nody_form_t to;
@@ -142,7 +142,7 @@ typedef struct {
  * offset of the fault in the whole input is the sum of `*read` of all calls, minus `back`. */
 typedef struct {
     size_t len;       /* in bytes: 1 in UTF-8, 2 for a lone surrogate, 1 for a single byte at the end of UTF-16 */
-    size_t back;      /* the bytes from its start to the end of what was read; 0 after nody_recode_strict, which reads up to it */
+    size_t back;      /* how many bytes before the end of what was read the fault starts; 0 after nody_recode_strict */
     nody_kind_t kind; /* the reason, or NODY_KIND_NONE */
 } nody_fault_t;
 
@@ -218,13 +218,13 @@ nody_piece_t nody_utf16_last(const uint16_t *units, size_t len);
 size_t nody_utf8_encode(uint32_t scalar, uint8_t *out, size_t room);
 size_t nody_utf16_encode(uint32_t scalar, uint16_t *out, size_t room);
 
-/* The piece that begins at an offset, with the kind that a decoder reports that is given its input one byte at a time.
+/* The piece that begins at an offset. Its kind is the one that a decoder reports if it gets its input one byte at a time.
  * Such a decoder meets a wrong
  * byte before it can know that the input ends.
  *
  * bytes, len: the input. place: the offset.
  * Result: what nody_utf8_first gives for the bytes from `place` on, but for one case. If fewer bytes are left than the first byte
- * needs, and one of those that are left is not 80 to BF, the kind is NODY_KIND_INTERRUPTED_SEQUENCE, and not
+ * needs, and one of the bytes after the first is not 80 to BF, the kind is NODY_KIND_INTERRUPTED_SEQUENCE, and not
  * NODY_KIND_TOO_FEW_BYTES. If `place` is len or more, the kind is NODY_KIND_NONE.
  * Errors: none. Cost: constant.
  *
@@ -428,7 +428,8 @@ size_t nody_recoded_len_max(nody_form_t from, nody_form_t to, size_t len);
 /* nody_recode between UTF-8 and an array of uint16_t.
  *
  * in, len, out, room, written: as for nody_recode. `len` counts what `in` points to: bytes or units. `room` and `*written`
- * count what `out` points to. A number of units must be below SIZE_MAX / 2: this is not checked. Do not cast a buffer of
+ * count what `out` points to. `len` or `room`, whichever counts units, must be below SIZE_MAX / 2: this
+ * is not checked. Do not cast a buffer of
  * bytes to uint16_t *. For UTF-16 in bytes call nody_recode.
  * Result: NODY_STATUS_DONE, or NODY_STATUS_FULL if the room is too small.
  * Errors: none. Cost: linear.
@@ -550,11 +551,11 @@ nody_status_t nody_recoder_feed_strict(nody_recoder_t *recoder, const uint8_t *i
 nody_status_t nody_recoder_finish_strict(nody_recoder_t *recoder, uint8_t *out, size_t room, size_t *written, nody_fault_t *fault);
 
 /* Feeds the next part of the input, and writes one U+FFFD for each maximal subpart, and not for each fault. A maximal subpart is
- * the longest run of one to three bytes that begins some character but is not continued to its end. In E2 82 41 it is E2 82, so
- * E2 82 41 becomes U+FFFD A. Any other invalid byte counts as a maximal subpart of its own. E0 80 becomes U+FFFD U+FFFD: no
- * character begins with E0 80, so E0 is one maximal subpart, and 80 another. The Unicode standard recommends this (chapter 3,
- * "U+FFFD Substitution of Maximal Subparts"). Browsers, Python's errors="replace" and Rust's from_utf8_lossy do it. In UTF-16,
- * and in valid input, this call and nody_recoder_feed write the same.
+ * the longest run of one to three bytes with which some character begins, where the rest of that character does not follow.
+ * In E2 82 41 it is E2 82, so E2 82 41 becomes U+FFFD A. Any other invalid byte counts as a maximal subpart of its own. E0 80 becomes
+ * U+FFFD U+FFFD: no character begins with E0 80, so E0 is one maximal subpart, and 80 another. The Unicode standard recommends
+ * this (chapter 3, "U+FFFD Substitution of Maximal Subparts"). Browsers, Python's errors="replace" and Rust's from_utf8_lossy do
+ * it. In UTF-16, and in valid input, this call and nody_recoder_feed write the same.
  *
  * recoder: the recoder. `recoder->replaced` does not change. You may mix calls of this, of nody_recoder_feed and of
  * nody_recoder_feed_strict. End the input by nody_recoder_finish_lossy.
