@@ -126,10 +126,10 @@ typedef struct {
 } nody_units_t;
 
 /* A recoder. Between calls it holds at most three bytes of input: the front of a character whose rest has not come;
- * bytes whose output did not fit into the room; or, after a strict call, a fault and the bytes after it,
- * if the kind of the fault depends on bytes that have not come (see nody_recoder_feed_strict). nody_recoder_held gives them.
- * `replaced` is the number of faults that became U+FFFD. nody_recoder_finish does not reset it. The count stops at UINT64_MAX.
- * You may read it, and set it to 0. Leave the other fields alone. */
+ * bytes whose output did not fit into the room; or, after a strict call, bytes that begin with a fault
+ * which is not reported yet, because its kind depends on bytes still to come (see nody_recoder_feed_strict). nody_recoder_held
+ * gives them. `replaced` is the number of faults that became U+FFFD. nody_recoder_finish does not reset it. The count stops at
+ * UINT64_MAX. You may read it, and set it to 0. Leave the other fields alone. */
 typedef struct {
     nody_form_t from;
     nody_form_t to;
@@ -142,7 +142,7 @@ typedef struct {
  * offset of the fault in the whole input is the sum of `*read` of all calls, minus `back`. */
 typedef struct {
     size_t len;       /* in bytes: 1 in UTF-8, 2 for a lone surrogate, 1 for a single byte at the end of UTF-16 */
-    size_t back;      /* how many bytes before the end of what was read the fault starts; 0 after nody_recode_strict */
+    size_t back;      /* the distance from the start of the fault to the end of what was read; 0 after nody_recode_strict */
     nody_kind_t kind; /* the reason, or NODY_KIND_NONE */
 } nody_fault_t;
 
@@ -196,8 +196,8 @@ nody_piece_t nody_utf16_first(const uint16_t *units, size_t len);
  *
  * bytes or units, len: the input. At most its last four bytes, or two units, matter.
  * Result: the piece, or NODY_KIND_NONE if len is 0. The kind of a fault is judged as if nothing came after these `len`
- * bytes or units. If your input goes on after len, a reader from the front may find another kind. If len lies inside a character
- * of your input, the byte or unit that is reported as a fault may be part of that character.
+ * bytes or units. If your input goes on after len, a reader from the front may find another kind. If you cut your input inside a
+ * character, by a `len` that ends there, the bytes of that character before the cut are faults.
  * Errors: none. Cost: constant.
  *
  *     size_t shorter = len - nody_utf8_last(bytes, len).len;
@@ -294,7 +294,7 @@ static inline nody_units_t nody_units(const uint16_t *units, size_t len) {
 /* Takes the first piece off a cursor (`next`), or the last piece (`next_back`). You may mix both: each piece comes once.
  *
  * left: the cursor. After the call it has what is left. After `next`, left->bytes points just past the piece. After
- * `next_back`, left->bytes + left->len points to its first byte or unit.
+ * `next_back`, left->bytes + left->len points to the first byte of the piece. (For units: left->units.)
  * Result: the piece. If nothing was left, NODY_KIND_NONE, and the cursor does not change. A piece is judged by what
  * the cursor had before the call, and by nothing else. In E0 80 41, for example, the kind of E0 is
  * NODY_KIND_INTERRUPTED_SEQUENCE; once `next_back` took 41, it is NODY_KIND_TOO_FEW_BYTES. Only kinds change in this way, never
@@ -328,8 +328,8 @@ size_t nody_utf16_pieces(nody_units_t *left, nody_piece_t *out, size_t room);
 
 /* The boundary near an offset: nody_boundary_before gives the last one up to `at`, nody_boundary_after the first one from `at` on.
  * If you divide the input at a boundary and recode each side by itself, the outputs, joined, are the output of the whole.
- * (This does not hold for the lossy calls.) A call that reports kinds may report another kind for a fault just before the
- * boundary than it does in the whole input.
+ * (This does not hold for the lossy calls.) Only kinds may differ: a fault just before the boundary may have one kind in the
+ * divided input, and another in the whole input.
  *
  * form: the form of the input. bytes, len: the input. at: the offset.
  * Result: the boundary, at most three bytes from `at`. If `at` is len or more, it is len.
@@ -508,7 +508,8 @@ nody_status_t nody_recoder_finish(nody_recoder_t *recoder, uint8_t *out, size_t 
  * input is divided into parts.
  *
  * recoder: the recoder. `recoder->replaced` does not change. You may mix calls of this and of nody_recoder_feed.
- * in, in_len, out, room, written: as for nody_recoder_feed. What was written is all the text before the fault.
+ * in, in_len, out, room, written: as for nody_recoder_feed. When a call stops at a fault, all text before
+ * the fault was written, by this call and those before it.
  * read: receives how many bytes of the part were read. This includes the fault, and bytes after it that the recoder now holds.
  * fault: receives the fault. Its offset in the whole input is the sum of `*read` of all calls, this one included, minus
  * `fault->back`. It may lie in an earlier part.
@@ -551,11 +552,11 @@ nody_status_t nody_recoder_feed_strict(nody_recoder_t *recoder, const uint8_t *i
 nody_status_t nody_recoder_finish_strict(nody_recoder_t *recoder, uint8_t *out, size_t room, size_t *written, nody_fault_t *fault);
 
 /* Feeds the next part of the input, and writes one U+FFFD for each maximal subpart, and not for each fault. A maximal subpart is
- * the longest run of one to three bytes with which some character begins, where the rest of that character does not follow.
- * In E2 82 41 it is E2 82, so E2 82 41 becomes U+FFFD A. Any other invalid byte counts as a maximal subpart of its own. E0 80 becomes
- * U+FFFD U+FFFD: no character begins with E0 80, so E0 is one maximal subpart, and 80 another. The Unicode standard recommends
- * this (chapter 3, "U+FFFD Substitution of Maximal Subparts"). Browsers, Python's errors="replace" and Rust's from_utf8_lossy do
- * it. In UTF-16, and in valid input, this call and nody_recoder_feed write the same.
+ * one to three bytes that could begin a character, as many as possible, before the end or before a byte that does not continue
+ * it. In E2 82 41 it is E2 82, so E2 82 41 becomes U+FFFD A. Any other invalid byte counts as a maximal subpart of its own. E0 80
+ * becomes U+FFFD U+FFFD: no character begins with E0 80, so E0 is one maximal subpart, and 80 another. The Unicode standard
+ * recommends this (chapter 3, "U+FFFD Substitution of Maximal Subparts"). Browsers, Python's errors="replace" and Rust's
+ * from_utf8_lossy do it. In UTF-16, and in valid input, this call and nody_recoder_feed write the same.
  *
  * recoder: the recoder. `recoder->replaced` does not change. You may mix calls of this, of nody_recoder_feed and of
  * nody_recoder_feed_strict. End the input by nody_recoder_finish_lossy.
@@ -565,7 +566,8 @@ nody_status_t nody_recoder_finish_strict(nody_recoder_t *recoder, uint8_t *out, 
  * Result, errors, cost: as for nody_recoder_feed. The loop is the same.
  *
  *     nody_recoder_t recoder = nody_recoder(NODY_FORM_UTF8, NODY_FORM_UTF8);
- *     nody_recoder_feed_lossy(&recoder, (const uint8_t *)"\xe2\x82" "A", 3, out, sizeof out, &read, &written); // 4: EF BF BD 41
+ *     nody_recoder_feed_lossy(&recoder, (const uint8_t *)"\xe2\x82" "A", 3, out, sizeof out, &read, &written);
+ *     // written is 4: EF BF BD 41
  */
 nody_status_t nody_recoder_feed_lossy(nody_recoder_t *recoder, const uint8_t *in, size_t in_len, uint8_t *out, size_t room,
                                       size_t *read, size_t *written);
@@ -576,8 +578,10 @@ nody_status_t nody_recoder_feed_lossy(nody_recoder_t *recoder, const uint8_t *in
  * out, room, written: as for nody_recoder_finish.
  * Result, errors, cost: as for nody_recoder_finish.
  *
- *     nody_recoder_feed_lossy(&recoder, (const uint8_t *)"\xf0\x9f\x98", 3, out, sizeof out, &read, &written); // 0: they are held
- *     nody_recoder_finish_lossy(&recoder, out, sizeof out, &written);                                         // 3: EF BF BD
+ *     nody_recoder_feed_lossy(&recoder, (const uint8_t *)"\xf0\x9f\x98", 3, out, sizeof out, &read, &written);
+ *     // written is 0: they are held
+ *     nody_recoder_finish_lossy(&recoder, out, sizeof out, &written);
+ *     // written is 3: EF BF BD
  */
 nody_status_t nody_recoder_finish_lossy(nody_recoder_t *recoder, uint8_t *out, size_t room, size_t *written);
 
