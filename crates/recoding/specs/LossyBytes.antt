@@ -87,11 +87,12 @@ pub record FinishesLossy (r : Recoding) (old new : List ℕ) (wrote : ℕ) (s : 
 abbrev pub NextPartIsTooLong : Form → Form → List ℕ → ℕ → Type 0
 NextPartIsTooLong from to left room = BeginsLonger (Decides (ReadsParts from) left) to room
 
--- so a recoder can go no further, of whose part so many bytes were read
+-- So many bytes of a part were read, and the recoder can go no further: U+FFFD or the code of what comes next is longer than the
+-- room.
 abbrev pub IsFullLossy : Recoding → List ℕ → ℕ → ℕ → Type 0
 IsFullLossy r part read room = NextPartIsTooLong r.from r.to (r.held ++ drop read part) room
 
--- The same of a recoder that is to be finished.
+-- the same where nothing follows the held bytes
 abbrev pub IsLastFullLossy : Recoding → ℕ → Type 0
 IsLastFullLossy r room = BeginsLonger (Ends (ReadsParts r.from) r.held) r.to room
 

@@ -40,7 +40,7 @@ pub record BeginsLonger (shows : ℕ → ℕ → Type 0) (to : Form) (room : ℕ
 abbrev pub NextIsTooLong : Form → Form → List ℕ → ℕ → Type 0
 NextIsTooLong from to left room = BeginsLonger (Decides (Reads from) left) to room
 
--- so a recoder can go no further, of whose part so many bytes were read
+-- So many bytes of a part were read, and the recoder can go no further: what comes of the next scalar is longer than the room.
 abbrev pub IsFull : Recoding → List ℕ → ℕ → ℕ → Type 0
 IsFull r part read room = NextIsTooLong r.from r.to (r.held ++ drop read part) room
 
@@ -62,7 +62,7 @@ pub record FinishesInto (r : Recoding) (old new : List ℕ) (wrote : ℕ) (s : R
 abbrev pub LastIsTooLong : Form → Form → List ℕ → ℕ → Type 0
 LastIsTooLong from to left room = BeginsLonger (Ends (Reads from) left) to room
 
--- so a recoder that is to be finished can go no further
+-- the same where nothing follows the held bytes
 abbrev pub IsLastFull : Recoding → ℕ → Type 0
 IsLastFull r room = LastIsTooLong r.from r.to r.held room
 
@@ -72,11 +72,11 @@ IsLastFull r room = LastIsTooLong r.from r.to r.held room
 abbrev pub IsAmple : ℕ → ℕ → Type 0
 IsAmple room count = WIDEST * count ≤ room
 
--- and so for all that the held bytes and a part are
+-- the room is surely enough for all that the held bytes and a part are recoded as
 abbrev pub IsAmpleFor : ℕ → Recoding → List ℕ → Type 0
 IsAmpleFor room r part = IsAmple room (length r.held + length part)
 
--- what is left of a list's capacity is
+-- what is left of a list's capacity is surely enough for all that so many bytes are recoded as
 abbrev pub HasRoomFor : {Z : Type 0} → Vec ℕ Z → ℕ → Type 0
 HasRoomFor out count = vec_len out + WIDEST * count ≤ vec_capacity out
 
