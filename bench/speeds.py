@@ -204,9 +204,9 @@ def summary():
         lines.append([task, f"{text} (our worst)", NAMES[side], f"{row.numbers['ours']:.2f} ns", f"{row.numbers[side]:.2f} ns", f"**{row.ratio(side):.2f}**"])
     text, ours, theirs = max(of_c, key=lambda it: it[1] / it[2])
     lines.append(["split into pieces, from C", f"{TEXTS.get(text, text)} (our worst)", "ICU", f"{ours:.2f} ns", f"{theirs:.2f} ns", f"**{ours / theirs:.2f}**"])
-    told = (f"Times are nanoseconds per byte. In the row \"recode one short part\", the time is for all {short} bytes together. "
-            "\"Our worst\" marks the input with our worst ratio, of all inputs that were measured for that task. Ratios were computed before the times were rounded. "
-            "Noddychest was called from Rattle, and in the last row from C.\n\n")
+    told = ("Times are nanoseconds per byte. The ratio is our time divided by theirs: above 1 we are slower. It was computed before the times "
+            "were rounded. For each task many inputs were measured. A row with \"our worst\" is the input with our highest ratio. In the row "
+            f"\"recode one short part\", the time is for all {short} bytes together. Noddychest was called from Rattle, and in the last row from C.\n\n")
     return told + table(["task", "input", "compared with", "Noddychest", "theirs", "ratio"], lines)
 
 

@@ -24,15 +24,16 @@
  * that applies is the kind: UNEXPECTED_CONTINUATION_BYTE, NON_UTF8_BYTE, TOO_FEW_BYTES, INTERRUPTED_SEQUENCE. If none of them
  * applies, the value that the bytes encode decides: OVERLONG_ENCODING, UTF16_RESERVED_CODEPOINT or TOO_HIGH_CODEPOINT. Three
  * examples: E0 80 41 is INTERRUPTED_SEQUENCE, and not OVERLONG_ENCODING. F0 41 at the end is TOO_FEW_BYTES, and not
- * INTERRUPTED_SEQUENCE. ED A0 at the end is TOO_FEW_BYTES, although no third byte would make it a character. A decoder that is
- * given its input one byte at a time sees other kinds in some cases: see nody_utf8_streamed_at.
+ * INTERRUPTED_SEQUENCE. ED A0 at the end is TOO_FEW_BYTES, although no third byte would make it a character. In one case
+ * nody_utf8_streamed_at follows another rule.
  *
  * POINTERS. A pointer and the number after it belong together: the number is a length to read, or a room to write into. If the
  * number is 0, the pointer may be NULL. Else it must be valid for that many bytes, units or pieces. What a call writes must not
- * overlap what it reads. `written`, `read`, `fault`, `left` and `recoder` must not be NULL. Make a recoder only by
- * nody_recoder. If you fill the struct in another way, a call may refuse it, or recode whatever bytes are in it. No call writes
- * out of bounds. A cursor (nody_bytes_t, nody_units_t) is made by nody_bytes or nody_units. If you fill one yourself, its pointer
- * must not be NULL, even if `len` is 0, and must be valid for `len`.
+ * overlap what it reads. Any other pointer that a call takes must not be NULL. No call writes out of bounds.
+ *
+ * STRUCTS. A recoder (nody_recoder_t) is made by nody_recoder. If you fill one yourself, a call may refuse it, or recode whatever
+ * bytes are in it. A cursor (nody_bytes_t, nody_units_t) is made by nody_bytes or nody_units. If you fill one yourself, its
+ * pointer must not be NULL, even if `len` is 0, and must be valid for `len`.
  *
  * ERRORS. A call fails only as its comment says. None sets errno. On x86-64 call nody_supported first.
  *
@@ -125,10 +126,9 @@ typedef struct {
     size_t len;
 } nody_units_t;
 
-/* A recoder. Between calls it holds at most three bytes of input: the front of a character whose rest has not come;
- * bytes whose output did not fit into the room; or, after a strict call, bytes that begin with a fault
- * which is not reported yet, because its kind depends on bytes still to come (see nody_recoder_feed_strict). nody_recoder_held
- * gives them. `replaced` is the number of faults that became U+FFFD. nody_recoder_finish does not reset it. The count stops at
+/* A recoder. Between calls it holds at most three bytes of input, which it has read but not recoded yet. These are the front of a
+ * character whose rest has not come, or bytes whose output did not fit into the room. After a strict call they may also begin with
+ * an invalid byte, if the next bytes decide its kind: then a later call reports it. nody_recoder_held gives the bytes. `replaced` is the number of faults that became U+FFFD. nody_recoder_finish does not reset it. The count stops at
  * UINT64_MAX. You may read it, and set it to 0. Leave the other fields alone. */
 typedef struct {
     nody_form_t from;
@@ -138,11 +138,12 @@ typedef struct {
     uint64_t replaced; /* how many faults nody_recoder_feed and nody_recoder_finish replaced since nody_recoder */
 } nody_recoder_t;
 
-/* The fault at which a strict call stopped. If the call met no fault, the kind is NODY_KIND_NONE, and len and back are 0. The
- * offset of the fault in the whole input is the sum of `*read` of all calls, minus `back`. */
+/* The fault at which a strict call stopped. If the call met no fault, the kind is NODY_KIND_NONE, and len and back are 0. A
+ * call says in `*read` how many bytes it read. The offset of the fault in the whole input is the sum of these numbers, that of this
+ * call included, minus `back`. */
 typedef struct {
     size_t len;       /* in bytes: 1 in UTF-8, 2 for a lone surrogate, 1 for a single byte at the end of UTF-16 */
-    size_t back;      /* the distance from the start of the fault to the end of what was read; 0 after nody_recode_strict */
+    size_t back;      /* from the start of the fault to the end of what was read. 0 after nody_recode_strict, which reads up to the fault */
     nody_kind_t kind; /* the reason, or NODY_KIND_NONE */
 } nody_fault_t;
 
@@ -196,8 +197,8 @@ nody_piece_t nody_utf16_first(const uint16_t *units, size_t len);
  *
  * bytes or units, len: the input. At most its last four bytes, or two units, matter.
  * Result: the piece, or NODY_KIND_NONE if len is 0. The kind of a fault is judged as if nothing came after these `len`
- * bytes or units. If your input goes on after len, a reader from the front may find another kind. If you cut your input inside a
- * character, by a `len` that ends there, the bytes of that character before the cut are faults.
+ * bytes or units. If your input goes on after len, a reader from the front may find another kind. If the input
+ * ends inside a character, because it was cut there, the bytes of that character are faults.
  * Errors: none. Cost: constant.
  *
  *     size_t shorter = len - nody_utf8_last(bytes, len).len;
@@ -218,9 +219,9 @@ nody_piece_t nody_utf16_last(const uint16_t *units, size_t len);
 size_t nody_utf8_encode(uint32_t scalar, uint8_t *out, size_t room);
 size_t nody_utf16_encode(uint32_t scalar, uint16_t *out, size_t room);
 
-/* The piece that begins at an offset. Its kind is the one that a decoder reports if it gets its input one byte at a time.
- * Such a decoder meets a wrong
- * byte before it can know that the input ends.
+/* The piece that begins at an offset, with the kind that the Rust crate encode_unicode reports when it decodes an iterator of
+ * bytes. Its decoder takes one byte at a time, and reports a byte that does not continue a character before it knows whether the
+ * input ends after it.
  *
  * bytes, len: the input. place: the offset.
  * Result: what nody_utf8_first gives for the bytes from `place` on, but for one case. If fewer bytes are left than the first byte
@@ -552,8 +553,8 @@ nody_status_t nody_recoder_feed_strict(nody_recoder_t *recoder, const uint8_t *i
 nody_status_t nody_recoder_finish_strict(nody_recoder_t *recoder, uint8_t *out, size_t room, size_t *written, nody_fault_t *fault);
 
 /* Feeds the next part of the input, and writes one U+FFFD for each maximal subpart, and not for each fault. A maximal subpart is
- * one to three bytes that could begin a character, as many as possible, before the end or before a byte that does not continue
- * it. In E2 82 41 it is E2 82, so E2 82 41 becomes U+FFFD A. Any other invalid byte counts as a maximal subpart of its own. E0 80
+ * the front of a character whose next byte is missing or does not continue the character: one to three bytes, and as long as it
+ * can be. In E2 82 41 it is E2 82, so E2 82 41 becomes U+FFFD A. Any other invalid byte counts as a maximal subpart of its own. E0 80
  * becomes U+FFFD U+FFFD: no character begins with E0 80, so E0 is one maximal subpart, and 80 another. The Unicode standard
  * recommends this (chapter 3, "U+FFFD Substitution of Maximal Subparts"). Browsers, Python's errors="replace" and Rust's
  * from_utf8_lossy do it. In UTF-16, and in valid input, this call and nody_recoder_feed write the same.
