@@ -127,9 +127,10 @@ typedef struct {
 } nody_units_t;
 
 /* A recoder. Between calls it holds at most three bytes of input, which it has read but not recoded yet. These are the front of a
- * character whose rest has not come, or bytes whose output did not fit into the room. After a strict call they may also begin with
- * an invalid byte, if the next bytes decide its kind: then a later call reports it. nody_recoder_held gives the bytes. `replaced` is the number of faults that became U+FFFD. nody_recoder_finish does not reset it. The count stops at
- * UINT64_MAX. You may read it, and set it to 0. Leave the other fields alone. */
+ * character whose rest has not come, or bytes whose output did not fit into the room. After a strict call they may also begin
+ * with an invalid byte, if the next bytes decide its kind: then a later call reports it. nody_recoder_held gives the bytes.
+ * `replaced` is the number of faults that became U+FFFD. nody_recoder_finish does not reset it. The count stops at UINT64_MAX.
+ * You may read it, and set it to 0. Leave the other fields alone. */
 typedef struct {
     nody_form_t from;
     nody_form_t to;
@@ -138,12 +139,12 @@ typedef struct {
     uint64_t replaced; /* how many faults nody_recoder_feed and nody_recoder_finish replaced since nody_recoder */
 } nody_recoder_t;
 
-/* The fault at which a strict call stopped. If the call met no fault, the kind is NODY_KIND_NONE, and len and back are 0. A
- * call says in `*read` how many bytes it read. The offset of the fault in the whole input is the sum of these numbers, that of this
+/* The fault at which a strict call stopped. If the call met no fault, the kind is NODY_KIND_NONE, and len and back are 0. A call
+ * says in `*read` how many bytes it read. The offset of the fault in the whole input is the sum of these numbers, that of this
  * call included, minus `back`. */
 typedef struct {
     size_t len;       /* in bytes: 1 in UTF-8, 2 for a lone surrogate, 1 for a single byte at the end of UTF-16 */
-    size_t back;      /* from the start of the fault to the end of what was read. 0 after nody_recode_strict, which reads up to the fault */
+    size_t back;      /* from the start of the fault to the end of what was read. nody_recode_strict reads up to the fault: 0 */
     nody_kind_t kind; /* the reason, or NODY_KIND_NONE */
 } nody_fault_t;
 
@@ -554,8 +555,8 @@ nody_status_t nody_recoder_finish_strict(nody_recoder_t *recoder, uint8_t *out, 
 
 /* Feeds the next part of the input, and writes one U+FFFD for each maximal subpart, and not for each fault. A maximal subpart is
  * the front of a character whose next byte is missing or does not continue the character: one to three bytes, and as long as it
- * can be. In E2 82 41 it is E2 82, so E2 82 41 becomes U+FFFD A. Any other invalid byte counts as a maximal subpart of its own. E0 80
- * becomes U+FFFD U+FFFD: no character begins with E0 80, so E0 is one maximal subpart, and 80 another. The Unicode standard
+ * can be. In E2 82 41 it is E2 82, so E2 82 41 becomes U+FFFD A. Any other invalid byte counts as a maximal subpart of its own.
+ * E0 80 becomes U+FFFD U+FFFD: no character begins with E0 80, so E0 is one maximal subpart, and 80 another. The Unicode standard
  * recommends this (chapter 3, "U+FFFD Substitution of Maximal Subparts"). Browsers, Python's errors="replace" and Rust's
  * from_utf8_lossy do it. In UTF-16, and in valid input, this call and nody_recoder_feed write the same.
  *
