@@ -5,7 +5,7 @@ from pathlib import Path
 TOP = Path(__file__).resolve().parent.parent
 STORED = TOP / "bench/stored"
 NAMES = {"rust": "encode_unicode", "std": "std", "bstr": "bstr", "encoding_rs": "encoding_rs", "iconv": "iconv(3)", "simdutf8": "simdutf8 with AVX2",
-         "simdutf8_16": "simdutf8, 16-byte lanes", "icu": "ICU", "utf8proc": "utf8proc"}
+         "simdutf8_16": "simdutf8, 16-byte lanes", "icu": "ICU", "utf8proc": "utf8proc", "simdutf": "simdutf with AVX2"}
 # The inputs of the table in README.md, in words.
 TEXTS = {"ascii": "ASCII", "latin": "Latin script", "three-byte": "characters of three bytes"}
 FORMS = {"utf8": "UTF-8", "utf16le": "UTF-16LE", "utf16be": "UTF-16BE", "utf16": "UTF-16"}
@@ -149,7 +149,7 @@ def from_c():
     """The library for C beside others, without the sides in Rattle: those are measured above."""
     found, lines = of_c_bench(), []
     for work, (told, ours) in OF_C.items():
-        for side in ("icu", "iconv", "utf8proc"):
+        for side in ("icu", "iconv", "utf8proc", "simdutf"):
             rows = [Row((work, text), {"ours": float(it[ours]), side: float(it[side])}, {}) for text, it in found[work.split()[0]] if side in it]
             if it := cells(rows, side, "chinese", lambda key: key[1]):
                 lines.append([told, *it])

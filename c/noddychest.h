@@ -31,9 +31,9 @@
  * number is 0, the pointer may be NULL. Else it must be valid for that many bytes, units or pieces. What a call writes must not
  * overlap what it reads. Any other pointer that a call takes must not be NULL. No call writes out of bounds.
  *
- * STRUCTS. A recoder (nody_recoder_t) is made by nody_recoder. If you fill one yourself, a call may refuse it, or recode whatever
- * bytes are in it. A cursor (nody_bytes_t, nody_units_t) is made by nody_bytes or nody_units. If you fill one yourself, its
- * pointer must not be NULL, even if `len` is 0, and must be valid for `len`.
+ * STRUCTS. Make a cursor (nody_bytes_t, nody_units_t) by nody_bytes or nody_units, and a recoder (nody_recoder_t) by
+ * nody_recoder. If you fill a cursor yourself, its pointer must not be NULL, even if `len` is 0, and must be valid for `len`. Do
+ * not fill a recoder yourself: the calls stay within bounds then too, but what they write has no meaning.
  *
  * ERRORS. A call fails only as its comment says. None sets errno. On x86-64 call nody_supported first.
  *
@@ -102,7 +102,7 @@ NODY_ENUM(nody_form_t) {
 NODY_ENUM(nody_status_t) {
     NODY_STATUS_DONE = 0,    /* the call read all of the input, and wrote all that it had to write */
     NODY_STATUS_FULL = 1,    /* the next character does not fit into the room that is left */
-    NODY_STATUS_REFUSED = 2, /* a form is above 2, or a recoder holds more than three bytes. Nothing was read or written */
+    NODY_STATUS_REFUSED = 2, /* a form is above 2, or no call can have made this recoder. Nothing was read or written */
     NODY_STATUS_FAULT = 3    /* a strict call stopped at a fault. All before the fault was written */
 };
 
@@ -128,7 +128,7 @@ typedef struct {
 
 /* A recoder. Between calls it holds at most three bytes of input, which it has read but not recoded yet. These are the front of a
  * character whose rest has not come, or bytes whose output did not fit into the room. After a strict call they may also begin
- * with an invalid byte, if the next bytes decide its kind: then a later call reports it. nody_recoder_held gives the bytes.
+ * with a fault whose kind depends on bytes that have not come yet: a later call reports it. nody_recoder_held gives the bytes.
  * `replaced` is the number of faults that became U+FFFD. nody_recoder_finish does not reset it. The count stops at UINT64_MAX.
  * You may read it, and set it to 0. Leave the other fields alone. */
 typedef struct {
@@ -139,12 +139,12 @@ typedef struct {
     uint64_t replaced; /* how many faults nody_recoder_feed and nody_recoder_finish replaced since nody_recoder */
 } nody_recoder_t;
 
-/* The fault at which a strict call stopped. If the call met no fault, the kind is NODY_KIND_NONE, and len and back are 0. A call
- * says in `*read` how many bytes it read. The offset of the fault in the whole input is the sum of these numbers, that of this
- * call included, minus `back`. */
+/* The fault at which a strict call stopped. If the call met no fault, the kind is NODY_KIND_NONE, and len and back are 0. Each
+ * call says how many bytes it read. To get the offset of the fault in the whole input, add up these numbers, from the first call
+ * to the one that met the fault, and subtract `back`. */
 typedef struct {
     size_t len;       /* in bytes: 1 in UTF-8, 2 for a lone surrogate, 1 for a single byte at the end of UTF-16 */
-    size_t back;      /* from the start of the fault to the end of what was read. nody_recode_strict reads up to the fault: 0 */
+    size_t back;      /* how many bytes were read from the start of the fault on. After nody_recode_strict this is 0 */
     nody_kind_t kind; /* the reason, or NODY_KIND_NONE */
 } nody_fault_t;
 
@@ -221,8 +221,7 @@ size_t nody_utf8_encode(uint32_t scalar, uint8_t *out, size_t room);
 size_t nody_utf16_encode(uint32_t scalar, uint16_t *out, size_t room);
 
 /* The piece that begins at an offset, with the kind that the Rust crate encode_unicode reports when it decodes an iterator of
- * bytes. Its decoder takes one byte at a time, and reports a byte that does not continue a character before it knows whether the
- * input ends after it.
+ * bytes. Its decoder takes one byte at a time. It reports a wrong byte at once, before it can know how much input is left.
  *
  * bytes, len: the input. place: the offset.
  * Result: what nody_utf8_first gives for the bytes from `place` on, but for one case. If fewer bytes are left than the first byte
@@ -512,9 +511,9 @@ nody_status_t nody_recoder_finish(nody_recoder_t *recoder, uint8_t *out, size_t 
  * recoder: the recoder. `recoder->replaced` does not change. You may mix calls of this and of nody_recoder_feed.
  * in, in_len, out, room, written: as for nody_recoder_feed. When a call stops at a fault, all text before
  * the fault was written, by this call and those before it.
- * read: receives how many bytes of the part were read. This includes the fault, and bytes after it that the recoder now holds.
- * fault: receives the fault. Its offset in the whole input is the sum of `*read` of all calls, this one included, minus
- * `fault->back`. It may lie in an earlier part.
+ * read: receives how many bytes of the part were read. Bytes that the recoder now holds are included.
+ * fault: receives the fault. It may lie in this part or, if the recoder held it, in an earlier one. Its offset in the whole input
+ * is the sum of `*read` of all calls, this one included, minus `fault->back`.
  * Result:
  *   NODY_STATUS_DONE: the whole part was read. If the last bytes of the part cannot be judged without the
  *   bytes after them, the recoder holds these last bytes, at most three. After E9 0A, for example, the kind of
@@ -554,8 +553,8 @@ nody_status_t nody_recoder_feed_strict(nody_recoder_t *recoder, const uint8_t *i
 nody_status_t nody_recoder_finish_strict(nody_recoder_t *recoder, uint8_t *out, size_t room, size_t *written, nody_fault_t *fault);
 
 /* Feeds the next part of the input, and writes one U+FFFD for each maximal subpart, and not for each fault. A maximal subpart is
- * the front of a character whose next byte is missing or does not continue the character: one to three bytes, and as long as it
- * can be. In E2 82 41 it is E2 82, so E2 82 41 becomes U+FFFD A. Any other invalid byte counts as a maximal subpart of its own.
+ * an incomplete character: one to three bytes that begin a character, and then the input ends, or a byte comes that cannot be
+ * next in that character. In E2 82 41 it is E2 82, so E2 82 41 becomes U+FFFD A. Any other invalid byte is a subpart of its own.
  * E0 80 becomes U+FFFD U+FFFD: no character begins with E0 80, so E0 is one maximal subpart, and 80 another. The Unicode standard
  * recommends this (chapter 3, "U+FFFD Substitution of Maximal Subparts"). Browsers, Python's errors="replace" and Rust's
  * from_utf8_lossy do it. In UTF-16, and in valid input, this call and nody_recoder_feed write the same.
