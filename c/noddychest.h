@@ -24,8 +24,7 @@
  * that applies is the kind: UNEXPECTED_CONTINUATION_BYTE, NON_UTF8_BYTE, TOO_FEW_BYTES, INTERRUPTED_SEQUENCE. If none of them
  * applies, the value that the bytes encode decides: OVERLONG_ENCODING, UTF16_RESERVED_CODEPOINT or TOO_HIGH_CODEPOINT. Three
  * examples: E0 80 41 is INTERRUPTED_SEQUENCE, and not OVERLONG_ENCODING. F0 41 at the end is TOO_FEW_BYTES, and not
- * INTERRUPTED_SEQUENCE. ED A0 at the end is TOO_FEW_BYTES, although no third byte would make it a character. In one case
- * nody_utf8_streamed_at follows another rule.
+ * INTERRUPTED_SEQUENCE. ED A0 at the end is TOO_FEW_BYTES, although no third byte would make it a character.
  *
  * POINTERS. A pointer and the number after it belong together: the number is a length to read, or a room to write into. If the
  * number is 0, the pointer may be NULL. Else it must be valid for that many bytes, units or pieces. What a call writes must not
@@ -102,7 +101,7 @@ NODY_ENUM(nody_form_t) {
 NODY_ENUM(nody_status_t) {
     NODY_STATUS_DONE = 0,    /* the call read all of the input, and wrote all that it had to write */
     NODY_STATUS_FULL = 1,    /* the next character does not fit into the room that is left */
-    NODY_STATUS_REFUSED = 2, /* a form is above 2, or no call can have made this recoder. Nothing was read or written */
+    NODY_STATUS_REFUSED = 2, /* a form is above 2, or you filled a recoder yourself (see STRUCTS). Nothing was read or written */
     NODY_STATUS_FAULT = 3    /* a strict call stopped at a fault. All before the fault was written */
 };
 
@@ -126,11 +125,11 @@ typedef struct {
     size_t len;
 } nody_units_t;
 
-/* A recoder. Between calls it holds at most three bytes of input, which it has read but not recoded yet. These are the front of a
- * character whose rest has not come, or bytes whose output did not fit into the room. After a strict call they may also begin
- * with a fault whose kind depends on bytes that have not come yet: a later call reports it. nody_recoder_held gives the bytes.
- * `replaced` is the number of faults that became U+FFFD. nody_recoder_finish does not reset it. The count stops at UINT64_MAX.
- * You may read it, and set it to 0. Leave the other fields alone. */
+/* A recoder. It holds up to three bytes of input from one call to the next. It has read these bytes but not recoded them yet,
+ * because the rest of a character has not come, or because the output did not fit into the room. A strict call also holds bytes
+ * if it has to see the next ones to tell the kind of a fault. nody_recoder_held gives the bytes. `replaced` is the number of
+ * faults that became U+FFFD. nody_recoder_finish does not reset it. The count stops at UINT64_MAX. You may read it, and set it to
+ * 0. Leave the other fields alone. */
 typedef struct {
     nody_form_t from;
     nody_form_t to;
@@ -144,7 +143,7 @@ typedef struct {
  * to the one that met the fault, and subtract `back`. */
 typedef struct {
     size_t len;       /* in bytes: 1 in UTF-8, 2 for a lone surrogate, 1 for a single byte at the end of UTF-16 */
-    size_t back;      /* how many bytes were read from the start of the fault on. After nody_recode_strict this is 0 */
+    size_t back;      /* where the fault begins, counted back from the end of what was read: after nody_recode_strict it is 0 */
     nody_kind_t kind; /* the reason, or NODY_KIND_NONE */
 } nody_fault_t;
 
@@ -518,9 +517,8 @@ nody_status_t nody_recoder_finish(nody_recoder_t *recoder, uint8_t *out, size_t 
  *   NODY_STATUS_DONE: the whole part was read. If the last bytes of the part cannot be judged without the
  *   bytes after them, the recoder holds these last bytes, at most three. After E9 0A, for example, the kind of
  *   E9 is NODY_KIND_INTERRUPTED_SEQUENCE if a third byte comes, and NODY_KIND_TOO_FEW_BYTES if the input ends.
- *   NODY_STATUS_FAULT: the call stopped at a fault. To refuse the input, stop, and make a new recoder for the next
- *   one. To go on after the fault, call again with the rest
- *   of the part, even if that is empty.
+ *   NODY_STATUS_FAULT: the call stopped at a fault, which it has read. To go on after the fault, call again with the bytes of
+ *   the part after `*read`, even if there are none. To refuse the input, stop, and make a new recoder for the next one.
  *   NODY_STATUS_FULL: as for nody_recoder_feed.
  * Errors: NODY_STATUS_REFUSED, as for nody_recoder_feed. Cost: linear.
  *
@@ -553,8 +551,8 @@ nody_status_t nody_recoder_feed_strict(nody_recoder_t *recoder, const uint8_t *i
 nody_status_t nody_recoder_finish_strict(nody_recoder_t *recoder, uint8_t *out, size_t room, size_t *written, nody_fault_t *fault);
 
 /* Feeds the next part of the input, and writes one U+FFFD for each maximal subpart, and not for each fault. A maximal subpart is
- * an incomplete character: one to three bytes that begin a character, and then the input ends, or a byte comes that cannot be
- * next in that character. In E2 82 41 it is E2 82, so E2 82 41 becomes U+FFFD A. Any other invalid byte is a subpart of its own.
+ * the front of a character that is not complete: one to three bytes. The input ends after them, or the next byte cannot go on with
+ * that character. In E2 82 41 it is E2 82, so E2 82 41 becomes U+FFFD A. Any other invalid byte is a subpart of its own.
  * E0 80 becomes U+FFFD U+FFFD: no character begins with E0 80, so E0 is one maximal subpart, and 80 another. The Unicode standard
  * recommends this (chapter 3, "U+FFFD Substitution of Maximal Subparts"). Browsers, Python's errors="replace" and Rust's
  * from_utf8_lossy do it. In UTF-16, and in valid input, this call and nody_recoder_feed write the same.
