@@ -46,9 +46,9 @@ pub fn split_piece<I: Iterator<Item = u8>>(
     ensures { WhateverIsLeft I.next_gives (λ rest.
         TakesFront utf8 merger_kind (rest source) result.0 (unread rest result.1)) }
 {
-    let mut merger = source.to_utf8chars();
-    let first = merger.next();
-    (first, merger.into_remaining_bytes())
+    let mut answers = source.to_utf8chars();
+    let first = answers.next();
+    (first, answers.into_remaining_bytes())
 }
 
 /// What a source of bytes holds, piece by piece: characters alone exactly where its bytes are UTF-8.
