@@ -32,7 +32,7 @@
  *
  * STRUCTS. Make a cursor (nody_bytes_t, nody_units_t) by nody_bytes or nody_units, and a recoder (nody_recoder_t) by
  * nody_recoder. If you fill a cursor yourself, its pointer must not be NULL, even if `len` is 0, and must be valid for `len`. Do
- * not fill a recoder yourself: the calls stay within bounds then too, but what they write has no meaning.
+ * not fill a recoder yourself: the calls then refuse it, or write bytes that have no meaning. They stay within bounds.
  *
  * ERRORS. A call fails only as its comment says. None sets errno. On x86-64 call nody_supported first.
  *
@@ -101,7 +101,7 @@ NODY_ENUM(nody_form_t) {
 NODY_ENUM(nody_status_t) {
     NODY_STATUS_DONE = 0,    /* the call read all of the input, and wrote all that it had to write */
     NODY_STATUS_FULL = 1,    /* the next character does not fit into the room that is left */
-    NODY_STATUS_REFUSED = 2, /* a form is above 2, or you filled a recoder yourself (see STRUCTS). Nothing was read or written */
+    NODY_STATUS_REFUSED = 2, /* a form, or the `count` of a recoder, is too great. Nothing was read or written */
     NODY_STATUS_FAULT = 3    /* a strict call stopped at a fault. All before the fault was written */
 };
 
