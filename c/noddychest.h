@@ -138,12 +138,12 @@ typedef struct {
     uint64_t replaced; /* how many faults nody_recoder_feed and nody_recoder_finish replaced since nody_recoder */
 } nody_recoder_t;
 
-/* The fault at which a strict call stopped. If the call met no fault, the kind is NODY_KIND_NONE, and len and back are 0. Each
- * call says how many bytes it read. To get the offset of the fault in the whole input, add up these numbers, from the first call
- * to the one that met the fault, and subtract `back`. */
+/* The fault at which a strict call stopped. If the call met no fault, the kind is NODY_KIND_NONE, and len and back are 0.
+ * nody_recode_strict reads the bytes before the fault, and no more. The other strict calls read the fault too, and sometimes bytes
+ * after it; `back` counts all of these. The offset of the fault in the whole input is what all calls have read, minus `back`. */
 typedef struct {
     size_t len;       /* in bytes: 1 in UTF-8, 2 for a lone surrogate, 1 for a single byte at the end of UTF-16 */
-    size_t back;      /* where the fault begins, counted back from the end of what was read: after nody_recode_strict it is 0 */
+    size_t back;      /* in bytes: how far before the end of what was read the fault begins */
     nody_kind_t kind; /* the reason, or NODY_KIND_NONE */
 } nody_fault_t;
 
@@ -550,9 +550,9 @@ nody_status_t nody_recoder_feed_strict(nody_recoder_t *recoder, const uint8_t *i
  */
 nody_status_t nody_recoder_finish_strict(nody_recoder_t *recoder, uint8_t *out, size_t room, size_t *written, nody_fault_t *fault);
 
-/* Feeds the next part of the input, and writes one U+FFFD for each maximal subpart, and not for each fault. A maximal subpart is
- * what there is of an incomplete character: one to three bytes, after which the input ends, or a byte follows that cannot continue
- * that character. In E2 82 41 it is E2 82, so E2 82 41 becomes U+FFFD A. Any other invalid byte is a subpart of its own.
+/* Feeds the next part of the input, and writes one U+FFFD for each maximal subpart, and not for each fault. If a character is
+ * not complete, because the input ends or because the next byte cannot continue it, then its one to three bytes are a maximal
+ * subpart. In E2 82 41 it is E2 82, so E2 82 41 becomes U+FFFD A. Any other invalid byte is a subpart of its own.
  * E0 80 becomes U+FFFD U+FFFD: no character begins with E0 80, so E0 is one maximal subpart, and 80 another. The Unicode standard
  * recommends this (chapter 3, "U+FFFD Substitution of Maximal Subparts"). Browsers, Python's errors="replace" and Rust's
  * from_utf8_lossy do it. In UTF-16, and in valid input, this call and nody_recoder_feed write the same.
