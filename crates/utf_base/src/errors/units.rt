@@ -111,16 +111,19 @@ impl fmt::Display for Utf16TupleError {
 
 impl Error for Utf16TupleError {}
 
-/// Why a slice of units does not begin with a character.
+/// Why a slice of units does not begin with a character, or does not end with one.
+///
+/// At the front the first unit is judged, with the one after it. At the back the last unit is judged
+/// by itself.
 #[derive(Clone, Copy, Debug, PartialEq, Eq, Drop)]
 pub enum Utf16SliceError {
     /// There are no units.
     EmptySlice,
-    /// The unit that is judged is in 0xdc00 to 0xdfff, whatever follows it.
+    /// The unit that is judged is a trailing surrogate, 0xdc00 to 0xdfff.
     FirstIsTrailingSurrogate,
-    /// The unit that is judged is a leading surrogate, and none follows it.
+    /// The unit that is judged is a leading surrogate, 0xd800 to 0xdbff, and no unit comes after it.
     MissingSecond,
-    /// The first unit is a leading surrogate, and the second does not complete it.
+    /// Only at the front: the first unit is a leading surrogate, and the second is no trailing one.
     SecondIsNotTrailingSurrogate,
 }
 
