@@ -179,6 +179,16 @@ uint32_t nody_version(void);
  */
 int nody_supported(void);
 
+/* How many bytes the calls that go in blocks look at at once on this processor: validation, counting and recoding.
+ *
+ * Result: 32 on x86-64 with x86-64-v3 (AVX2 and what comes with it), else 16. The answers of all calls are the same with either.
+ * The library asks the processor once, when it is loaded. Until then the result is 16, and all calls work.
+ * Errors: none. Cost: constant.
+ *
+ *     printf("noddychest: blocks of %d bytes\n", nody_lanes());
+ */
+int nody_lanes(void);
+
 /* ---- One character ---------------------------------------------------------------------------------------------------------- */
 
 /* The first piece of some bytes, or units.
