@@ -179,13 +179,13 @@ uint32_t nody_version(void);
  */
 int nody_supported(void);
 
-/* How many bytes the calls that go in blocks look at at once on this processor: validation, counting and recoding.
+/* How many bytes validation looks at at once. It tells which code the library has chosen for this processor.
  *
- * Result: 32 on x86-64 with x86-64-v3 (AVX2 and what comes with it), else 16. The answers of all calls are the same with either.
- * The library asks the processor once, when it is loaded. Until then the result is 16, and all calls work.
+ * Result: 32 on x86-64 if the processor has x86-64-v3 (AVX2 and what comes with it), else 16. Counting and recoding are faster with
+ * 32 too. What the calls answer is the same. The library asks the processor once, when it is loaded. Before that the result is 16.
  * Errors: none. Cost: constant.
  *
- *     printf("noddychest: blocks of %d bytes\n", nody_lanes());
+ *     printf("%d bytes at once\n", nody_lanes());
  */
 int nody_lanes(void);
 

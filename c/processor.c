@@ -33,7 +33,8 @@ static int has_v3(void) {
 /* 1 once it was seen, when the library is loaded, that the processor has x86-64-v3. Before that 0, which is right too. */
 static unsigned char is_v3;
 
-__attribute__((constructor)) static void choose(void) {
+/* (by its number it comes before the constructors of a program, which mostly have none) */
+__attribute__((constructor(1000))) static void choose(void) {
     is_v3 = (unsigned char)has_v3();
 }
 

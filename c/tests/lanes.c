@@ -53,7 +53,7 @@ static void ask(const char *when, int lanes) {
     expect(recodes(nody_recoder_feed_strict(&recoder, utf8, BYTES, out, sizeof out, &taken, &written, &fault)), "nody_recoder_feed_strict", when);
 }
 
-/* (the library's function of this kind has no number, and so it comes later) */
+/* (the library's constructor has a higher number, and so it comes later) */
 __attribute__((constructor(101))) static void come_first(void) {
     fill();
     ask("before the processor was asked", 16);
