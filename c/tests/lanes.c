@@ -6,7 +6,7 @@
 
 enum { CHARS = 60, BYTES = 2 * CHARS, UTF8 = NODY_FORM_UTF8, UTF16BE = NODY_FORM_UTF16BE };
 
-/* The same text in each form, with a lone surrogate after it. */
+/* The same text in each form, with a trailing surrogate alone after it. */
 static uint8_t utf8[BYTES + 2], utf16be[BYTES + 2];
 static uint16_t utf16[CHARS + 1];
 
