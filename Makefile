@@ -47,7 +47,7 @@ always:
 $(BUILD)/noddychest.o: generated/noddychest-x86_64.s generated/noddychest-aarch64.s $(BUILD)/target
 	$(PROCESSOR) -c -o $@ generated/noddychest-$$processor.s
 
-# The calls that go in blocks, for x86-64-v3 (for ARM an empty file, which no library gets).
+# The calls that validate and recode, for x86-64-v3 (for ARM an empty file, which no library gets).
 $(BUILD)/noddychest-v3.o: generated/noddychest-x86_64-v3.s $(BUILD)/target
 	read processor <$(BUILD)/target && case $$processor in \
 	x86_64) $(CC) $(CFLAGS) -c -o $@ generated/noddychest-x86_64-v3.s ;; \

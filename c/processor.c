@@ -1,4 +1,4 @@
-/* What this processor has: whether the library runs on it, and which code the calls take that go in blocks. */
+/* What this processor has: whether the library runs on it, and which code the calls take that validate and recode. */
 #include "noddychest.h"
 
 #ifdef __x86_64__
@@ -54,8 +54,6 @@ __attribute__((constructor(1000))) static void choose(void) {
 CHOSEN(size_t, nody_utf8_valid_up_to, (const uint8_t *bytes, size_t len), (bytes, len))
 CHOSEN(size_t, nody_utf16_valid_up_to, (const uint16_t *units, size_t len), (units, len))
 CHOSEN(size_t, nody_utf16_bytes_valid_up_to, (nody_form_t form, const uint8_t *bytes, size_t len), (form, bytes, len))
-CHOSEN(size_t, nody_utf8_char_count, (const uint8_t *bytes, size_t len), (bytes, len))
-CHOSEN(size_t, nody_utf16_char_count, (const uint16_t *units, size_t len), (units, len))
 CHOSEN(size_t, nody_recoded_len, (FORMS, INPUT), (from, to, in, len))
 CHOSEN(nody_status_t, nody_recode, (FORMS, INPUT, ROOM, size_t *written), (from, to, in, len, out, room, written))
 CHOSEN(nody_status_t, nody_recode_strict, (FORMS, INPUT, ROOM, size_t *read, size_t *written, nody_fault_t *fault),
@@ -68,9 +66,15 @@ CHOSEN(nody_status_t, nody_recoder_feed_strict, (nody_recoder_t *recoder, INPUT,
        (recoder, in, len, out, room, read, written, fault))
 
 /* (chosen as the others are, so that it tells what they take) */
-int nody_lanes_v2(void) { return 16; }
-int nody_lanes_v3(void) { return 32; }
 CHOSEN(int, nody_lanes, (void), ())
+
+int nody_lanes_v2(void) {
+    return 16;
+}
+
+int nody_lanes_v3(void) {
+    return 32;
+}
 #else
 /* The first ARMv8 is enough. */
 int nody_supported(void) {

@@ -22837,12 +22837,11 @@ nody_utf16_bytes_valid_up_to_v2:        # @nody_utf16_bytes_valid_up_to_v2
 	.size	nody_utf16_bytes_valid_up_to_v2, .Lfunc_end74-nody_utf16_bytes_valid_up_to_v2
 	.cfi_endproc
                                         # -- End function
-	.section	.text.nody_utf16_char_count_v2,"ax",@progbits
-	.hidden	nody_utf16_char_count_v2        # -- Begin function nody_utf16_char_count_v2
-	.globl	nody_utf16_char_count_v2
+	.section	.text.nody_utf16_char_count,"ax",@progbits
+	.globl	nody_utf16_char_count           # -- Begin function nody_utf16_char_count
 	.p2align	4
-	.type	nody_utf16_char_count_v2,@function
-nody_utf16_char_count_v2:               # @nody_utf16_char_count_v2
+	.type	nody_utf16_char_count,@function
+nody_utf16_char_count:                  # @nody_utf16_char_count
 	.cfi_startproc
 # %bb.0:                                # %start
 	endbr64
@@ -22893,7 +22892,7 @@ nody_utf16_char_count_v2:               # @nody_utf16_char_count_v2
 	xorl	%eax, %eax
 	retq
 .Lfunc_end75:
-	.size	nody_utf16_char_count_v2, .Lfunc_end75-nody_utf16_char_count_v2
+	.size	nody_utf16_char_count, .Lfunc_end75-nody_utf16_char_count
 	.cfi_endproc
                                         # -- End function
 	.section	.text.nody_utf16_encode,"ax",@progbits
@@ -23115,12 +23114,11 @@ nody_utf16_valid_up_to_v2:              # @nody_utf16_valid_up_to_v2
 	.size	nody_utf16_valid_up_to_v2, .Lfunc_end77-nody_utf16_valid_up_to_v2
 	.cfi_endproc
                                         # -- End function
-	.section	.text.nody_utf8_char_count_v2,"ax",@progbits
-	.hidden	nody_utf8_char_count_v2         # -- Begin function nody_utf8_char_count_v2
-	.globl	nody_utf8_char_count_v2
+	.section	.text.nody_utf8_char_count,"ax",@progbits
+	.globl	nody_utf8_char_count            # -- Begin function nody_utf8_char_count
 	.p2align	4
-	.type	nody_utf8_char_count_v2,@function
-nody_utf8_char_count_v2:                # @nody_utf8_char_count_v2
+	.type	nody_utf8_char_count,@function
+nody_utf8_char_count:                   # @nody_utf8_char_count
 	.cfi_startproc
 # %bb.0:                                # %start
 	endbr64
@@ -23273,7 +23271,7 @@ nody_utf8_char_count_v2:                # @nody_utf8_char_count_v2
 	.cfi_def_cfa_offset 80
 	ud2
 .Lfunc_end78:
-	.size	nody_utf8_char_count_v2, .Lfunc_end78-nody_utf8_char_count_v2
+	.size	nody_utf8_char_count, .Lfunc_end78-nody_utf8_char_count
 	.cfi_endproc
                                         # -- End function
 	.section	.text.nody_utf8_encode,"ax",@progbits

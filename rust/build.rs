@@ -7,7 +7,7 @@ use std::env;
 use std::path::{Path, PathBuf};
 use std::process::{self, Command};
 
-/// What the archive is made of. On x86-64 the calls that go in blocks are there twice, and the C file chooses.
+/// What the archive is made of. On x86-64 the calls that validate and recode are there twice, and the C file chooses.
 const X86_64: [&str; 3] = ["generated/noddychest-x86_64.s", "generated/noddychest-x86_64-v3.s", "c/processor.c"];
 const AARCH64: [&str; 2] = ["generated/noddychest-aarch64.s", "c/processor.c"];
 
