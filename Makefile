@@ -16,7 +16,8 @@
 #   make clean       removes what was built
 #
 # CC, CPPFLAGS, CFLAGS and LDFLAGS are as usual; `make CC=aarch64-linux-gnu-gcc` builds for ARM. BUILD is the folder of what
-# is made. RUN stands before each program that `make check` runs, as `make check RUN=qemu-aarch64-static`.
+# is made. RUN stands before each program that `make check` runs, as `make check RUN=qemu-aarch64-static`; LANES is what nody_lanes()
+# has to answer there, 16 or 32.
 
 BUILD ?= build
 CFLAGS ?= -O2
@@ -25,7 +26,7 @@ AR = `$(CC) $(CFLAGS) -print-prog-name=ar`
 COMPILE = $(CC) $(CPPFLAGS) $(CFLAGS)
 # For which processor: the first word of the compiler's target.
 PROCESSOR = read processor <$(BUILD)/target && $(CC) $(CFLAGS)
-LIBRARY = $(BUILD)/noddychest.o $(BUILD)/supported.o
+LIBRARY = $(BUILD)/noddychest.o $(BUILD)/noddychest-v3.o $(BUILD)/processor.o
 # A program is linked as LDFLAGS say, a shared library never statically.
 SHARED = for it in $(CFLAGS) $(LDFLAGS); do case $$it in -static|-static-pie|-pie) ;; *) set -- "$$@" "$$it" ;; esac; done
 
@@ -46,17 +47,25 @@ always:
 $(BUILD)/noddychest.o: generated/noddychest-x86_64.s generated/noddychest-aarch64.s $(BUILD)/target
 	$(PROCESSOR) -c -o $@ generated/noddychest-$$processor.s
 
+# The calls that validate and recode, for x86-64-v3 (for ARM an empty file, which no library gets).
+$(BUILD)/noddychest-v3.o: generated/noddychest-x86_64-v3.s $(BUILD)/target
+	read processor <$(BUILD)/target && case $$processor in \
+	x86_64) $(CC) $(CFLAGS) -c -o $@ generated/noddychest-x86_64-v3.s ;; \
+	*) : >$@ ;; \
+	esac
+
 # (the library can be linked by who has no -flto; the assembly has the properties of -fcf-protection on x86-64)
-$(BUILD)/supported.o: c/supported.c c/noddychest.h $(BUILD)/target
+$(BUILD)/processor.o: c/processor.c c/noddychest.h $(BUILD)/target
 	read processor <$(BUILD)/target && case $$processor in x86_64) set -- -fcf-protection ;; *) set -- ;; esac && \
-	$(COMPILE) -fPIC -fno-lto "$$@" -c -o $@ c/supported.c
+	$(COMPILE) -fPIC -fno-lto "$$@" -c -o $@ c/processor.c
 
 $(BUILD)/libnoddychest.a: $(LIBRARY)
 	rm -f $@
-	$(AR) rcs $@ $(LIBRARY)
+	set --; for it in $(LIBRARY); do if [ -s "$$it" ]; then set -- "$$@" "$$it"; fi; done; $(AR) rcs $@ "$$@"
 
-$(BUILD)/libnoddychest.so.1: $(LIBRARY) c/noddychest.map
-	$(SHARED); $(CC) "$$@" -shared -Wl,-soname,libnoddychest.so.1 -Wl,--version-script=c/noddychest.map -o $@ $(LIBRARY)
+$(BUILD)/libnoddychest.so.1: $(BUILD)/libnoddychest.a c/noddychest.map
+	$(SHARED); $(CC) "$$@" -shared -Wl,-soname,libnoddychest.so.1 -Wl,--version-script=c/noddychest.map -o $@ \
+	-Wl,--whole-archive $(BUILD)/libnoddychest.a -Wl,--no-whole-archive
 
 # The name `main` and those of glibc are changed: see generated/names.sed.
 $(BUILD)/pieces.s: generated/pieces-x86_64.s generated/pieces-aarch64.s generated/names.sed $(BUILD)/target
@@ -81,7 +90,7 @@ $(BUILD)/recode: $(BUILD)/recode.o $(BUILD)/system.o
 	$(CC) $(CFLAGS) $(LDFLAGS) -o $@ $(BUILD)/recode.o $(BUILD)/system.o
 
 check: all
-	@COMPILE='$(COMPILE)' LDFLAGS='$(LDFLAGS)' RUN='$(RUN)' sh c/tests/all $(BUILD)
+	@COMPILE='$(COMPILE)' LDFLAGS='$(LDFLAGS)' RUN='$(RUN)' LANES='$(LANES)' sh c/tests/all $(BUILD)
 
 PYTHON ?= python3
 

@@ -22699,11 +22699,12 @@ nody_utf16_boundary_before:             # @nody_utf16_boundary_before
 	.size	nody_utf16_boundary_before, .Lfunc_end73-nody_utf16_boundary_before
 	.cfi_endproc
                                         # -- End function
-	.section	.text.nody_utf16_bytes_valid_up_to,"ax",@progbits
-	.globl	nody_utf16_bytes_valid_up_to    # -- Begin function nody_utf16_bytes_valid_up_to
+	.section	.text.nody_utf16_bytes_valid_up_to_v2,"ax",@progbits
+	.hidden	nody_utf16_bytes_valid_up_to_v2 # -- Begin function nody_utf16_bytes_valid_up_to_v2
+	.globl	nody_utf16_bytes_valid_up_to_v2
 	.p2align	4
-	.type	nody_utf16_bytes_valid_up_to,@function
-nody_utf16_bytes_valid_up_to:           # @nody_utf16_bytes_valid_up_to
+	.type	nody_utf16_bytes_valid_up_to_v2,@function
+nody_utf16_bytes_valid_up_to_v2:        # @nody_utf16_bytes_valid_up_to_v2
 	.cfi_startproc
 # %bb.0:                                # %start
 	endbr64
@@ -22833,7 +22834,7 @@ nody_utf16_bytes_valid_up_to:           # @nody_utf16_bytes_valid_up_to
 	movq	%rdx, %rsi
 	jmp	"cuts::runs::well_formed::valid_up_to" # TAILCALL
 .Lfunc_end74:
-	.size	nody_utf16_bytes_valid_up_to, .Lfunc_end74-nody_utf16_bytes_valid_up_to
+	.size	nody_utf16_bytes_valid_up_to_v2, .Lfunc_end74-nody_utf16_bytes_valid_up_to_v2
 	.cfi_endproc
                                         # -- End function
 	.section	.text.nody_utf16_char_count,"ax",@progbits
@@ -22961,7 +22962,7 @@ nody_utf16_encode:                      # @nody_utf16_encode
 	.cfi_endproc
                                         # -- End function
 	.section	.rodata.cst16,"aM",@progbits,16
-	.p2align	4, 0x0                          # -- Begin function nody_utf16_valid_up_to
+	.p2align	4, 0x0                          # -- Begin function nody_utf16_valid_up_to_v2
 .LCPI77_0:
 	.short	64512                           # 0xfc00
 	.short	64512                           # 0xfc00
@@ -22989,11 +22990,12 @@ nody_utf16_encode:                      # @nody_utf16_encode
 	.short	55296                           # 0xd800
 	.short	55296                           # 0xd800
 	.short	55296                           # 0xd800
-	.section	.text.nody_utf16_valid_up_to,"ax",@progbits
-	.globl	nody_utf16_valid_up_to
+	.section	.text.nody_utf16_valid_up_to_v2,"ax",@progbits
+	.hidden	nody_utf16_valid_up_to_v2
+	.globl	nody_utf16_valid_up_to_v2
 	.p2align	4
-	.type	nody_utf16_valid_up_to,@function
-nody_utf16_valid_up_to:                 # @nody_utf16_valid_up_to
+	.type	nody_utf16_valid_up_to_v2,@function
+nody_utf16_valid_up_to_v2:              # @nody_utf16_valid_up_to_v2
 	.cfi_startproc
 # %bb.0:                                # %start
 	endbr64
@@ -23109,7 +23111,7 @@ nody_utf16_valid_up_to:                 # @nody_utf16_valid_up_to
 .LBB77_15:                              # %"c_api::well_formed::nody_utf16_valid_up_to.exit"
 	retq
 .Lfunc_end77:
-	.size	nody_utf16_valid_up_to, .Lfunc_end77-nody_utf16_valid_up_to
+	.size	nody_utf16_valid_up_to_v2, .Lfunc_end77-nody_utf16_valid_up_to_v2
 	.cfi_endproc
                                         # -- End function
 	.section	.text.nody_utf8_char_count,"ax",@progbits
@@ -23385,11 +23387,12 @@ nody_utf8_encode:                       # @nody_utf8_encode
 	.size	nody_utf8_encode, .Lfunc_end79-nody_utf8_encode
 	.cfi_endproc
                                         # -- End function
-	.section	.text.nody_utf8_valid_up_to,"ax",@progbits
-	.globl	nody_utf8_valid_up_to           # -- Begin function nody_utf8_valid_up_to
+	.section	.text.nody_utf8_valid_up_to_v2,"ax",@progbits
+	.hidden	nody_utf8_valid_up_to_v2        # -- Begin function nody_utf8_valid_up_to_v2
+	.globl	nody_utf8_valid_up_to_v2
 	.p2align	4
-	.type	nody_utf8_valid_up_to,@function
-nody_utf8_valid_up_to:                  # @nody_utf8_valid_up_to
+	.type	nody_utf8_valid_up_to_v2,@function
+nody_utf8_valid_up_to_v2:               # @nody_utf8_valid_up_to_v2
 	.cfi_startproc
 # %bb.0:                                # %start
 	endbr64
@@ -23400,7 +23403,7 @@ nody_utf8_valid_up_to:                  # @nody_utf8_valid_up_to
 	addq	%rax, %rdi
 	jmp	"cuts::runs::well_formed::valid_up_to" # TAILCALL
 .Lfunc_end80:
-	.size	nody_utf8_valid_up_to, .Lfunc_end80-nody_utf8_valid_up_to
+	.size	nody_utf8_valid_up_to_v2, .Lfunc_end80-nody_utf8_valid_up_to_v2
 	.cfi_endproc
                                         # -- End function
 	.section	.text.nody_version,"ax",@progbits
@@ -24141,11 +24144,12 @@ nody_utf8_next_back:                    # @nody_utf8_next_back
 	.size	nody_utf8_next_back, .Lfunc_end85-nody_utf8_next_back
 	.cfi_endproc
                                         # -- End function
-	.section	.text.nody_recoder_feed_lossy,"ax",@progbits
-	.globl	nody_recoder_feed_lossy         # -- Begin function nody_recoder_feed_lossy
+	.section	.text.nody_recoder_feed_lossy_v2,"ax",@progbits
+	.hidden	nody_recoder_feed_lossy_v2      # -- Begin function nody_recoder_feed_lossy_v2
+	.globl	nody_recoder_feed_lossy_v2
 	.p2align	4
-	.type	nody_recoder_feed_lossy,@function
-nody_recoder_feed_lossy:                # @nody_recoder_feed_lossy
+	.type	nody_recoder_feed_lossy_v2,@function
+nody_recoder_feed_lossy_v2:             # @nody_recoder_feed_lossy_v2
 	.cfi_startproc
 # %bb.0:                                # %start
 	endbr64
@@ -25699,9 +25703,9 @@ nody_recoder_feed_lossy:                # @nody_recoder_feed_lossy
 .LBB86_230:                             # %join.4.i.i126.i.i.i.i.i
 	ud2
 .Lfunc_end86:
-	.size	nody_recoder_feed_lossy, .Lfunc_end86-nody_recoder_feed_lossy
+	.size	nody_recoder_feed_lossy_v2, .Lfunc_end86-nody_recoder_feed_lossy_v2
 	.cfi_endproc
-	.section	.rodata.nody_recoder_feed_lossy,"a",@progbits
+	.section	.rodata.nody_recoder_feed_lossy_v2,"a",@progbits
 	.p2align	2, 0x0
 .LJTI86_0:
 	.long	.LBB86_89-.LJTI86_0
@@ -27202,11 +27206,12 @@ nody_utf8_streamed_at:                  # @nody_utf8_streamed_at
 	.size	nody_utf8_streamed_at, .Lfunc_end94-nody_utf8_streamed_at
 	.cfi_endproc
                                         # -- End function
-	.section	.text.nody_recoder_feed_strict,"ax",@progbits
-	.globl	nody_recoder_feed_strict        # -- Begin function nody_recoder_feed_strict
+	.section	.text.nody_recoder_feed_strict_v2,"ax",@progbits
+	.hidden	nody_recoder_feed_strict_v2     # -- Begin function nody_recoder_feed_strict_v2
+	.globl	nody_recoder_feed_strict_v2
 	.p2align	4
-	.type	nody_recoder_feed_strict,@function
-nody_recoder_feed_strict:               # @nody_recoder_feed_strict
+	.type	nody_recoder_feed_strict_v2,@function
+nody_recoder_feed_strict_v2:            # @nody_recoder_feed_strict_v2
 	.cfi_startproc
 # %bb.0:                                # %start
 	endbr64
@@ -27404,7 +27409,7 @@ nody_recoder_feed_strict:               # @nody_recoder_feed_strict
 	movzbl	5(%rdi), %edi
 	jmp	.LBB95_9
 .Lfunc_end95:
-	.size	nody_recoder_feed_strict, .Lfunc_end95-nody_recoder_feed_strict
+	.size	nody_recoder_feed_strict_v2, .Lfunc_end95-nody_recoder_feed_strict_v2
 	.cfi_endproc
                                         # -- End function
 	.section	.text.nody_recoder_finish_strict,"ax",@progbits
@@ -27599,11 +27604,12 @@ nody_recoder_finish_strict:             # @nody_recoder_finish_strict
 	.size	nody_recoder_finish_strict, .Lfunc_end96-nody_recoder_finish_strict
 	.cfi_endproc
                                         # -- End function
-	.section	.text.nody_recode_strict,"ax",@progbits
-	.globl	nody_recode_strict              # -- Begin function nody_recode_strict
+	.section	.text.nody_recode_strict_v2,"ax",@progbits
+	.hidden	nody_recode_strict_v2           # -- Begin function nody_recode_strict_v2
+	.globl	nody_recode_strict_v2
 	.p2align	4
-	.type	nody_recode_strict,@function
-nody_recode_strict:                     # @nody_recode_strict
+	.type	nody_recode_strict_v2,@function
+nody_recode_strict_v2:                  # @nody_recode_strict_v2
 	.cfi_startproc
 # %bb.0:                                # %start
 	endbr64
@@ -27784,14 +27790,15 @@ nody_recode_strict:                     # @nody_recode_strict
 	.cfi_def_cfa_offset 8
 	retq
 .Lfunc_end97:
-	.size	nody_recode_strict, .Lfunc_end97-nody_recode_strict
+	.size	nody_recode_strict_v2, .Lfunc_end97-nody_recode_strict_v2
 	.cfi_endproc
                                         # -- End function
-	.section	.text.nody_recoder_feed,"ax",@progbits
-	.globl	nody_recoder_feed               # -- Begin function nody_recoder_feed
+	.section	.text.nody_recoder_feed_v2,"ax",@progbits
+	.hidden	nody_recoder_feed_v2            # -- Begin function nody_recoder_feed_v2
+	.globl	nody_recoder_feed_v2
 	.p2align	4
-	.type	nody_recoder_feed,@function
-nody_recoder_feed:                      # @nody_recoder_feed
+	.type	nody_recoder_feed_v2,@function
+nody_recoder_feed_v2:                   # @nody_recoder_feed_v2
 	.cfi_startproc
 # %bb.0:                                # %start
 	endbr64
@@ -27807,7 +27814,7 @@ nody_recoder_feed:                      # @nody_recoder_feed
 	addq	%rax, %rcx
 	jmp	"c_api::recodings::nody_recoder_feed" # TAILCALL
 .Lfunc_end98:
-	.size	nody_recoder_feed, .Lfunc_end98-nody_recoder_feed
+	.size	nody_recoder_feed_v2, .Lfunc_end98-nody_recoder_feed_v2
 	.cfi_endproc
                                         # -- End function
 	.section	.text.nody_recoder_finish,"ax",@progbits
@@ -27828,11 +27835,12 @@ nody_recoder_finish:                    # @nody_recoder_finish
 	.size	nody_recoder_finish, .Lfunc_end99-nody_recoder_finish
 	.cfi_endproc
                                         # -- End function
-	.section	.text.nody_recode,"ax",@progbits
-	.globl	nody_recode                     # -- Begin function nody_recode
+	.section	.text.nody_recode_v2,"ax",@progbits
+	.hidden	nody_recode_v2                  # -- Begin function nody_recode_v2
+	.globl	nody_recode_v2
 	.p2align	4
-	.type	nody_recode,@function
-nody_recode:                            # @nody_recode
+	.type	nody_recode_v2,@function
+nody_recode_v2:                         # @nody_recode_v2
 	.cfi_startproc
 # %bb.0:                                # %start
 	endbr64
@@ -27908,14 +27916,15 @@ nody_recode:                            # @nody_recode
 	.cfi_def_cfa_offset 8
 	retq
 .Lfunc_end100:
-	.size	nody_recode, .Lfunc_end100-nody_recode
+	.size	nody_recode_v2, .Lfunc_end100-nody_recode_v2
 	.cfi_endproc
                                         # -- End function
-	.section	.text.nody_recoded_len,"ax",@progbits
-	.globl	nody_recoded_len                # -- Begin function nody_recoded_len
+	.section	.text.nody_recoded_len_v2,"ax",@progbits
+	.hidden	nody_recoded_len_v2             # -- Begin function nody_recoded_len_v2
+	.globl	nody_recoded_len_v2
 	.p2align	4
-	.type	nody_recoded_len,@function
-nody_recoded_len:                       # @nody_recoded_len
+	.type	nody_recoded_len_v2,@function
+nody_recoded_len_v2:                    # @nody_recoded_len_v2
 	.cfi_startproc
 # %bb.0:                                # %start
 	endbr64
@@ -28019,7 +28028,7 @@ nody_recoded_len:                       # @nody_recoded_len
 	.cfi_def_cfa_offset 8
 	retq
 .Lfunc_end101:
-	.size	nody_recoded_len, .Lfunc_end101-nody_recoded_len
+	.size	nody_recoded_len_v2, .Lfunc_end101-nody_recoded_len_v2
 	.cfi_endproc
                                         # -- End function
 	.type	.Lstatic.1,@object              # @static.1

@@ -13,9 +13,11 @@ try:
 except ImportError:  # before setuptools 70.1
     from wheel.bdist_wheel import bdist_wheel
 
-ASSEMBLY = {"linux-x86_64": "library/noddychest-x86_64.s", "linux-aarch64": "library/noddychest-aarch64.s"}
+# (on x86-64 the calls that validate and recode are there twice, and processor.c chooses)
+ASSEMBLY = {"linux-x86_64": ["noddychest-x86_64.s", "noddychest-x86_64-v3.s"], "linux-aarch64": ["noddychest-aarch64.s"]}
+ALL_ASSEMBLY = sum(ASSEMBLY.values(), [])
 # What the folder library/ has. In the repository these stand beside this folder, and each build copies them; a source archive has them.
-LIBRARY = ["c/noddychest.h", "c/supported.c", "generated/noddychest-x86_64.s", "generated/noddychest-aarch64.s"]
+LIBRARY = ["c/noddychest.h", "c/processor.c", *(f"generated/{it}" for it in ALL_ASSEMBLY)]
 
 # One wheel serves CPython 3.11 and all that follow. Older ones, whose stable ABI has no buffers, and those without the lock, that
 # have no stable ABI, get one each.
@@ -38,7 +40,7 @@ class BuildLibrary(build_ext):
         if self.plat_name not in ASSEMBLY:
             raise PlatformError(f"noddychest is built for {' and '.join(ASSEMBLY)}, and this is {self.plat_name}")
         self.compiler.src_extensions = [*self.compiler.src_extensions, ".s"]
-        extension.sources.append(ASSEMBLY[self.plat_name])
+        extension.sources += [f"library/{it}" for it in ASSEMBLY[self.plat_name]]
         super().build_extension(extension)
 
 
@@ -53,8 +55,8 @@ setup(
     ext_modules=[
         Extension(
             "noddychest._noddychest",
-            sources=["src/_noddychest.c", "library/supported.c"],
-            depends=["src/more.h", "src/exports.map", "library/noddychest.h", *ASSEMBLY.values()],
+            sources=["src/_noddychest.c", "library/processor.c"],
+            depends=["src/more.h", "src/exports.map", "library/noddychest.h", *(f"library/{it}" for it in ALL_ASSEMBLY)],
             include_dirs=["src", "library"],
             define_macros=[("Py_LIMITED_API", "0x030B0000")] if STABLE else [],
             extra_compile_args=["-O2"],

@@ -7,9 +7,9 @@ use std::env;
 use std::path::{Path, PathBuf};
 use std::process::{self, Command};
 
-/// What the archive is made of: a file with `@` for the processor.
-const SOURCES: [&str; 2] = ["generated/noddychest-@.s", "c/supported.c"];
-const READ: [&str; 4] = ["generated/noddychest-x86_64.s", "generated/noddychest-aarch64.s", "c/supported.c", "c/noddychest.h"];
+/// What the archive is made of. On x86-64 the calls that validate and recode are there twice, and the C file chooses.
+const X86_64: [&str; 3] = ["generated/noddychest-x86_64.s", "generated/noddychest-x86_64-v3.s", "c/processor.c"];
+const AARCH64: [&str; 2] = ["generated/noddychest-aarch64.s", "c/processor.c"];
 
 /// Where a file of the library is: in the package, or in the repository, where `rust/` stands beside `generated/` and `c/`.
 fn place(it: &str) -> PathBuf {
@@ -70,7 +70,8 @@ fn run(words: &[String], more: &[&str], needed: &str) -> String {
 fn main() {
     let processor = processor();
     let out = PathBuf::from(env::var_os("OUT_DIR").unwrap_or_default());
-    for it in READ {
+    let sources: &[&str] = if processor == "x86_64" { &X86_64 } else { &AARCH64 };
+    for it in sources.iter().chain(["c/noddychest.h"].iter()) {
         println!("cargo:rerun-if-changed={}", place(it).display());
     }
     let compiler = compiler(&processor);
@@ -85,10 +86,9 @@ fn main() {
     let archive = out.join("libnoddychest.a");
     let _ = std::fs::remove_file(&archive);
     let archiver = named("AR").unwrap_or_else(|| vec![run(&compiler, &["-print-prog-name=ar"], needed)]);
-    for (number, source) in SOURCES.iter().enumerate() {
+    for (number, source) in sources.iter().enumerate() {
         let object = out.join(format!("{number}.o"));
-        let source = place(&source.replace('@', &processor));
-        run(&compiler, &["-O2", "-fPIC", "-c", "-o", text(&object), text(&source)], needed);
+        run(&compiler, &["-O2", "-fPIC", "-c", "-o", text(&object), text(&place(source))], needed);
         run(
             &archiver,
             &["rcs", text(&archive), text(&object)],

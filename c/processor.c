@@ -1,0 +1,87 @@
+/* What this processor has: whether the library runs on it, and which code the calls take that validate and recode. */
+#include "noddychest.h"
+
+#ifdef __x86_64__
+#include <cpuid.h>
+
+/* x86-64-v2: SSE3, SSSE3, CMPXCHG16B, SSE4.1, SSE4.2 and POPCNT of the leaf 1, and LAHF of the leaf 0x80000001, all in ECX. */
+enum { V2_LEAF_1 = 0x982201, V2_LEAF_80000001 = 1 };
+
+/* x86-64-v3 has more: FMA, MOVBE, OSXSAVE, AVX and F16C of the leaf 1, and LZCNT of the leaf 0x80000001, in ECX; BMI1, AVX2 and
+ * BMI2 of the leaf 7, in EBX. The system has to keep the registers xmm and ymm: XCR0 says so. */
+enum { V3_LEAF_1 = 0x38401000, V3_LEAF_80000001 = 0x20, V3_LEAF_7 = 0x128, V3_KEPT = 6 };
+
+static unsigned missing(unsigned leaf, unsigned needed) {
+    unsigned eax, ebx, ecx = 0, edx;
+    __get_cpuid(leaf, &eax, &ebx, &ecx, &edx);
+    return needed & ~ecx;
+}
+
+int nody_supported(void) {
+    return !missing(1, V2_LEAF_1) && !missing(0x80000001, V2_LEAF_80000001);
+}
+
+static int has_v3(void) {
+    unsigned eax, ebx = 0, ecx, edx;
+    if (!nody_supported() || missing(1, V3_LEAF_1) || missing(0x80000001, V3_LEAF_80000001)) return 0;
+    __get_cpuid_count(7, 0, &eax, &ebx, &ecx, &edx);
+    if (V3_LEAF_7 & ~ebx) return 0;
+    __asm__("xgetbv" : "=a"(eax), "=d"(edx) : "c"(0));
+    return (eax & V3_KEPT) == V3_KEPT;
+}
+
+/* 1 once it was seen, when the library is loaded, that the processor has x86-64-v3. Before that 0, which is right too. */
+static unsigned char is_v3;
+
+/* (by its number it comes before the constructors of a program, which mostly have none) */
+__attribute__((constructor(1000))) static void choose(void) {
+    is_v3 = (unsigned char)has_v3();
+}
+
+/* A call whose code is there twice, in generated/noddychest-x86_64.s and generated/noddychest-x86_64-v3.s. scripts/generate gives
+ * the two these names, by the lines below. Each call has a section of its own, so that a linker can drop it with its code. */
+#define CHOSEN(type, name, parameters, arguments) \
+    __attribute__((visibility("hidden"))) type name##_v2 parameters; \
+    __attribute__((visibility("hidden"))) type name##_v3 parameters; \
+    __attribute__((section(".text." #name))) type name parameters { \
+        return is_v3 ? name##_v3 arguments : name##_v2 arguments; \
+    }
+
+#define FORMS nody_form_t from, nody_form_t to
+#define INPUT const uint8_t *in, size_t len
+#define ROOM uint8_t *out, size_t room
+
+CHOSEN(size_t, nody_utf8_valid_up_to, (const uint8_t *bytes, size_t len), (bytes, len))
+CHOSEN(size_t, nody_utf16_valid_up_to, (const uint16_t *units, size_t len), (units, len))
+CHOSEN(size_t, nody_utf16_bytes_valid_up_to, (nody_form_t form, const uint8_t *bytes, size_t len), (form, bytes, len))
+CHOSEN(size_t, nody_recoded_len, (FORMS, INPUT), (from, to, in, len))
+CHOSEN(nody_status_t, nody_recode, (FORMS, INPUT, ROOM, size_t *written), (from, to, in, len, out, room, written))
+CHOSEN(nody_status_t, nody_recode_strict, (FORMS, INPUT, ROOM, size_t *read, size_t *written, nody_fault_t *fault),
+       (from, to, in, len, out, room, read, written, fault))
+CHOSEN(nody_status_t, nody_recoder_feed, (nody_recoder_t *recoder, INPUT, ROOM, size_t *read, size_t *written),
+       (recoder, in, len, out, room, read, written))
+CHOSEN(nody_status_t, nody_recoder_feed_lossy, (nody_recoder_t *recoder, INPUT, ROOM, size_t *read, size_t *written),
+       (recoder, in, len, out, room, read, written))
+CHOSEN(nody_status_t, nody_recoder_feed_strict, (nody_recoder_t *recoder, INPUT, ROOM, size_t *read, size_t *written, nody_fault_t *fault),
+       (recoder, in, len, out, room, read, written, fault))
+
+/* (chosen as the others are, so that it tells what they take) */
+CHOSEN(int, nody_lanes, (void), ())
+
+int nody_lanes_v2(void) {
+    return 16;
+}
+
+int nody_lanes_v3(void) {
+    return 32;
+}
+#else
+/* The first ARMv8 is enough. */
+int nody_supported(void) {
+    return 1;
+}
+
+int nody_lanes(void) {
+    return 16;
+}
+#endif

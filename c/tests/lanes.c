@@ -1,0 +1,73 @@
+/* Whether the calls that validate and recode take the code that is right for this processor: lanes [16|32]. Without the number
+ * it asks the compiler's own library what the processor has. It makes each of these calls before the library has asked the
+ * processor, when they take the code that runs everywhere, and again in main; a shared library has asked before either. Prints
+ * what failed, and then `N passed, M failed`. */
+#include "noddychest.h"
+#include "rows.h"
+
+enum { CHARS = 60, BYTES = 2 * CHARS, UTF8 = NODY_FORM_UTF8, UTF16BE = NODY_FORM_UTF16BE };
+
+/* The same text in each form, with a trailing surrogate alone after it. */
+static uint8_t utf8[BYTES + 2], utf16be[BYTES + 2];
+static uint16_t utf16[CHARS + 1];
+
+static void fill(void) {
+    for (int i = 0; i < CHARS; i++) {
+        utf8[2 * i] = 0xC4;
+        utf8[2 * i + 1] = 0x81;
+        utf16be[2 * i] = utf16be[2 * i + 1] = 1;
+        utf16[i] = 0x0101;
+    }
+    utf8[BYTES] = 0xED;
+    utf8[BYTES + 1] = 0xA0;
+    utf16be[BYTES] = 0xDC;
+    utf16[CHARS] = 0xDC00;
+}
+
+static uint8_t out[BYTES + 64];
+static size_t taken, written;
+
+/* Whether that call turned the text into UTF-16BE. */
+static int recodes(nody_status_t status) {
+    int is_text = status == NODY_STATUS_DONE && taken == BYTES && written == BYTES && memcmp(out, utf16be, BYTES) == 0;
+    memset(out, 0, sizeof out);
+    taken = BYTES;
+    written = 0;
+    return is_text;
+}
+
+static void ask(const char *when, int lanes) {
+    nody_recoder_t recoder = nody_recoder(UTF8, UTF16BE);
+    nody_fault_t fault;
+    taken = BYTES;
+    expect(nody_lanes() == lanes, "nody_lanes", when);
+    expect(nody_utf8_valid_up_to(utf8, BYTES + 2) == BYTES, "nody_utf8_valid_up_to", when);
+    expect(nody_utf16_valid_up_to(utf16, CHARS + 1) == CHARS, "nody_utf16_valid_up_to", when);
+    expect(nody_utf16_bytes_valid_up_to(UTF16BE, utf16be, BYTES + 2) == BYTES, "nody_utf16_bytes_valid_up_to", when);
+    expect(nody_recoded_len(UTF8, UTF16BE, utf8, BYTES) == BYTES, "nody_recoded_len", when);
+    expect(recodes(nody_recode(UTF8, UTF16BE, utf8, BYTES, out, sizeof out, &written)), "nody_recode", when);
+    expect(recodes(nody_recode_strict(UTF8, UTF16BE, utf8, BYTES, out, sizeof out, &taken, &written, &fault)), "nody_recode_strict", when);
+    expect(recodes(nody_recoder_feed(&recoder, utf8, BYTES, out, sizeof out, &taken, &written)), "nody_recoder_feed", when);
+    expect(recodes(nody_recoder_feed_lossy(&recoder, utf8, BYTES, out, sizeof out, &taken, &written)), "nody_recoder_feed_lossy", when);
+    expect(recodes(nody_recoder_feed_strict(&recoder, utf8, BYTES, out, sizeof out, &taken, &written, &fault)), "nody_recoder_feed_strict", when);
+}
+
+/* (the library's constructor has a higher number, and so it comes later) */
+__attribute__((constructor(101))) static void come_first(void) {
+    fill();
+    ask("before the processor was asked", 16);
+}
+
+static int lanes_here(void) {
+#ifdef __x86_64__
+    __builtin_cpu_init();
+    return __builtin_cpu_supports("avx2") && __builtin_cpu_supports("bmi2") && __builtin_cpu_supports("fma") ? 32 : 16;
+#else
+    return 16;
+#endif
+}
+
+int main(int argc, char **argv) {
+    ask("in main", argc > 1 ? atoi(argv[1]) : lanes_here());
+    return tell();
+}
