@@ -14,6 +14,7 @@ pub mod ascii_texts;
 pub mod byte_pairs;
 mod compressed;
 mod few_bytes;
+mod look_ups;
 pub mod paired_units;
 mod shuffles;
 pub mod text_blocks;
