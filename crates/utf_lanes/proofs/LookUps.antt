@@ -13,8 +13,8 @@ module _ (row places : List ℕ) where
   looked_up long below = record {
     wide = length-swz_l w8 16 row 0 places ∙ long;
     each = λ k lt.
-    let at : 16 * ((0 + k) / 16) + get_or places k 0 ≡ get_or places k 0 = omega arith in
-    get_or-swz_l_below w8 16 row 0 places k (omega (arith, long)) (below k lt) ∙ ap (λ n. get_or row n 0) at;
+        let at : 16 * ((0 + k) / 16) + get_or places k 0 ≡ get_or places k 0 = omega arith in
+        get_or-swz_l_below w8 16 row 0 places k (omega (arith, long)) (below k lt) ∙ ap (λ n. get_or row n 0) at;
   }
 
   pub looked_up_twice : length row ≡ 16 → length places ≡ 32 → ArePlaces 32 places → AreLookedUp 32 row places (swz_l w8 16 (row ++ row) 0 places)

@@ -315,9 +315,10 @@ where
     ensures len { length result ≡ N }
     ensures lanes { ZeroLanesFollow third.entry second.entry first.entry here.entry result }
 {
+    let left = pairs(first, here);
     let long = second.saturating_sub(Simd::splat(0xe0 - 0x80))
         | third.saturating_sub(Simd::splat(0xf0 - 0x80));
-    (long & Simd::splat(SECOND)) ^ pairs(first, here)
+    (long & Simd::splat(SECOND)) ^ left
 }
 
 // What the tables leave of each byte after the one before it.
