@@ -181,10 +181,29 @@ fn valid_len(bytes: &[u8]) -> usize
     if count < 16 {
         return count;
     }
-    valid_len_by_lanes(bytes, valid_len_wide(bytes, 16))
+    valid_len_by_lanes(bytes, valid_len_in_blocks(bytes))
 }
 
-// The same in blocks of 64, to the first in which some byte may not follow.
+// The same from the first sixteen bytes on, as far as blocks of 64 go. In a longer text they begin at 32: where it lies in
+// memory at a multiple of 64, as a file that is mapped does, a processor reads vectors of 32 lanes faster from there.
+#[inline(always)]
+fn valid_len_in_blocks(bytes: &[u8]) -> usize
+    requires { 19 ≤ length bytes.now }
+    ensures least { 16 ≤ result }
+    ensures within { result ≤ length bytes.now }
+    ensures follow { AllMayFollow bytes.now 16 result }
+{
+    let mut start = 16;
+    if 256 <= bytes.len() {
+        if valid_lanes(bytes, 16) < 16 {
+            return 16;
+        }
+        start = 32;
+    }
+    valid_len_wide(bytes, start)
+}
+
+// The same from a place on, in blocks of 64, to the first in which some byte may not follow.
 #[inline(always)]
 fn valid_len_wide(bytes: &[u8], start: usize) -> usize
     requires start { 3 ≤ start }
