@@ -1,4 +1,4 @@
-//! How far bytes are text, judged sixteen at once.
+//! How far bytes are text, judged sixteen at once, and in blocks of 64 by 32.
 //!
 //! A byte is judged by the three before it: three look-ups tell whether it may follow the one before it, and
 //! the two before that tell whether a code of three or four bytes has to go on (Keiser and Lemire, "Validating
