@@ -38,19 +38,19 @@ module _ (vs : List ℕ) (f g : ℕ → ℕ) (pairs : HasBoth vs f g) where
 abbrev at_most : ℕ → ℕ → ℕ
 at_most a b = cond (leb a b) 255 0
 
-mask_is : (v : List ℕ) → length v ≡ 16 → reach_mask 0x80 v ≡ mask_l (map (λ x. leb 0x80 x) v)
+mask_is : (v : List ℕ) → length v ≡ 16 → reach_mask 16 0x80 v ≡ mask_l (map (λ x. leb 0x80 x) v)
 mask_is v long =
     let turned : zip2 at_most (replicate 16 0x80) v ≡ zip2 (λ a b. at_most b a) v (replicate 16 0x80)
     = zip2_splat_left at_most 0x80 16 v long ∙ sym (zip2_splat (λ a b. at_most b a) v 16 0x80 long) in
     rw turned (bitmask_splat w8 (λ a b. leb b a) v 16 0x80 long (lit< tt))
 
-pub high_most : (v : List ℕ) → length v ≡ 16 → reach_mask 0x80 v < 65536
+pub high_most : (v : List ℕ) → length v ≡ 16 → reach_mask 16 0x80 v < 65536
 high_most v long =
     let wide : length (map (λ x. leb 0x80 x) v) ≡ 16 = length-map v (λ x. leb 0x80 x) ∙ long in
     let below : mask_l (map (λ x. leb 0x80 x) v) < 2 ^ 16 = rw wide at (mask_l-lt (map (λ x. leb 0x80 x) v)) in
     omega (arith, mask_is v long)
 
-high_bits : (v : List ℕ) → length v ≡ 16 → (k : ℕ) → k < 16 → bit_at (reach_mask 0x80 v) k ≡ cond (leb 0x80 (get_or v k 0)) 1 0
+high_bits : (v : List ℕ) → length v ≡ 16 → (k : ℕ) → k < 16 → bit_at (reach_mask 16 0x80 v) k ≡ cond (leb 0x80 (get_or v k 0)) 1 0
 high_bits v long k lt =
     let test : get_or (map (λ x. leb 0x80 x) v) k false ≡ leb 0x80 (get_or v k 0) = get_or-map (λ x. leb 0x80 x) v k 0 false (omega (arith, long)) in
     rw (mask_is v long) (bit_mask_l (map (λ x. leb 0x80 x) v) k ∙ ap (λ (b : Bool). cond {A = ℕ} b 1 0) test)
@@ -83,18 +83,18 @@ module _ (m : ℕ) (vs : List ℕ) (f g : ℕ → ℕ) (pairs : HasBoth vs f g) 
 
 -- Those of two, by a mask whose halves say so of each.
 module _ (fronts lasts vs ws : List ℕ) (long : length fronts ≡ 16) (pairs : HasBoth vs (at_front fronts) (at_front lasts)) (more : HasBoth ws (at_back fronts) (at_back lasts)) (short : Bool) where
-  front_row : (i : ℕ) → i < row_slots short → row_bytes short (bit_and (reach_mask 0x80 fronts) 255) vs i ≡ lanes_at short fronts lasts i
+  front_row : (i : ℕ) → i < row_slots short → row_bytes short (bit_and (reach_mask 16 0x80 fronts) 255) vs i ≡ lanes_at short fronts lasts i
   front_row i lt =
-      row_is (bit_and (reach_mask 0x80 fronts) 255) vs (at_front fronts) (at_front lasts) pairs (λ k lt. low_bit (reach_mask 0x80 fronts) k lt ∙ high_bits fronts long k (omega arith)) short i lt
+      row_is (bit_and (reach_mask 16 0x80 fronts) 255) vs (at_front fronts) (at_front lasts) pairs (λ k lt. low_bit (reach_mask 16 0x80 fronts) k lt ∙ high_bits fronts long k (omega arith)) short i lt
       ∙ here short
     where
       here : (s : Bool) → lane_at s (at_front fronts) (at_front lasts) i ≡ lanes_at s fronts lasts i
       here true = refl
       here false = refl
 
-  back_row : (i : ℕ) → i < row_slots short → row_bytes short (reach_mask 0x80 fronts / 256) ws i ≡ lanes_at short fronts lasts (row_slots short + i)
+  back_row : (i : ℕ) → i < row_slots short → row_bytes short (reach_mask 16 0x80 fronts / 256) ws i ≡ lanes_at short fronts lasts (row_slots short + i)
   back_row i lt =
-      row_is (reach_mask 0x80 fronts / 256) ws (at_back fronts) (at_back lasts) more (λ k lt. high_bit (reach_mask 0x80 fronts) k lt ∙ high_bits fronts long (8 + k) (omega arith)) short i lt
+      row_is (reach_mask 16 0x80 fronts / 256) ws (at_back fronts) (at_back lasts) more (λ k lt. high_bit (reach_mask 16 0x80 fronts) k lt ∙ high_bits fronts long (8 + k) (omega arith)) short i lt
       ∙ there short
     where
       there : (s : Bool) → lane_at s (at_back fronts) (at_back lasts) i ≡ lanes_at s fronts lasts (row_slots s + i)
@@ -104,7 +104,7 @@ module _ (fronts lasts vs ws : List ℕ) (long : length fronts ≡ 16) (pairs : 
           let b : 8 + (2 * i + 1) ≡ 2 * (4 + i) + 1 = omega arith in
           ap₂ (λ p q. lane_bytes (get_or fronts p 0) (get_or fronts q 0) (get_or lasts p 0)) a b
 
-  pub rows_joined : row_of short (bit_and (reach_mask 0x80 fronts) 255) vs ++ row_of short (reach_mask 0x80 fronts / 256) ws ≡ lanes_of short fronts lasts
+  pub rows_joined : row_of short (bit_and (reach_mask 16 0x80 fronts) 255) vs ++ row_of short (reach_mask 16 0x80 fronts / 256) ws ≡ lanes_of short fronts lasts
   rows_joined = joined_halves _ _ _ (row_slots short) front_row back_row
 
 -- Sixteen slots in three vectors.

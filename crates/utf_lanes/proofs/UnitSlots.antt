@@ -13,9 +13,8 @@ use Rattle.utf_lanes.specs.Lanes.{AreLanes}
 use Rattle.utf_lanes.specs.BytePairs.{unit_number}
 use Rattle.utf_lanes.specs.UnitCodes.{lane_unit, lane_after, first_byte, middle_byte, last_byte, lead_byte, second_byte, third_byte, first_in_text, middle_in_text, last_in_text}
 use Rattle.utf_lanes.proofs.BlockUnits.{below_8}
-use Rattle.utf_lanes.proofs.ChosenLanes.{wide_with}
 use Rattle.utf_lanes.proofs.UnitLanes.{added, up, down}
-use Rattle.utf_lanes.proofs.LaneLemmas.{IsBlock, wide, lane, lane_with, lane_fits, differ_mask, none_differs}
+use Rattle.utf_lanes.proofs.LaneLemmas.{IsVector, wide, wide_with, lane, lane_with, lane_fits, differ_mask, none_differs}
 
 -- Where a test passes of a lane and a number, the lane of one vector, and else that of another.
 module _ (t : ℕ → ℕ → Bool) (xs : List ℕ) (y : ℕ) (ps qs : List ℕ) where
@@ -40,18 +39,18 @@ module _ (t : ℕ → ℕ → Bool) (xs : List ℕ) (y : ℕ) (ps qs : List ℕ)
 ascii_unit : (l h either : ℕ) → h ≤ either → l / 128 ≤ either → either ≡ 0 → h * 256 + l < 0x80
 ascii_unit l h either a b e = omega arith
 
-pub all_ascii : (low high : List ℕ) → length low ≡ 16 → length high ≡ 16 → differ_mask (zip2 bit_or high (zip2 down low (replicate 16 7))) ≡ 0
+pub all_ascii : (low high : List ℕ) → length low ≡ 16 → length high ≡ 16 → differ_mask 16 (zip2 bit_or high (zip2 down low (replicate 16 7))) ≡ 0
     → (k : ℕ) → k < 16 → lane_unit low high k < 0x80
 all_ascii low high p q none k lt =
-    let zero = none_differs (zip2 bit_or high (zip2 down low (replicate 16 7))) (wide bit_or high _ q (wide_with down low 7 p)) none k lt in
+    let zero = none_differs (zip2 bit_or high (zip2 down low (replicate 16 7))) (lit< tt) (wide bit_or high _ q (wide_with down low 7 p)) none k lt in
     let at = lane bit_or high (zip2 down low (replicate 16 7)) q (wide_with down low 7 p) k lt in
     let shifted : get_or (zip2 down low (replicate 16 7)) k 0 ≡ get_or low k 0 / 128 = lane_with down low 7 p k lt in
     let or_zero : bit_or (get_or high k 0) (get_or low k 0 / 128) ≡ 0 = ap (bit_or (get_or high k 0)) (sym shifted) ∙ sym at ∙ zero in
     ascii_unit (get_or low k 0) (get_or high k 0) _ (le_or_l (get_or high k 0) (get_or low k 0 / 128)) (le_or_r (get_or high k 0) (get_or low k 0 / 128)) or_zero
 
-pub all_short : (high : List ℕ) → length high ≡ 16 → differ_mask (zip2 down high (replicate 16 3)) ≡ 0 → (k : ℕ) → k < 16 → get_or high k 0 < 8
+pub all_short : (high : List ℕ) → length high ≡ 16 → differ_mask 16 (zip2 down high (replicate 16 3)) ≡ 0 → (k : ℕ) → k < 16 → get_or high k 0 < 8
 all_short high q none k lt =
-    let zero = none_differs (zip2 down high (replicate 16 3)) (wide_with down high 3 q) none k lt in
+    let zero = none_differs (zip2 down high (replicate 16 3)) (lit< tt) (wide_with down high 3 q) none k lt in
     let at = lane_with down high 3 q k lt in
     omega arith
 
@@ -121,7 +120,7 @@ pub leading_is : (h l : ℕ) → l < 256 → eqb (h / 4) 0x36 ≡ is_leading_sur
 leading_is h l L = grind (arith, common_steps)
 
 -- Lanes of units that are characters.
-module _ (low high : List ℕ) (p : IsBlock low) (q : IsBlock high) where
+module _ (low high : List ℕ) (p : IsVector 16 low) (q : IsVector 16 high) where
   abbrev bits : List ℕ
   bits = zip2 added (zip2 up (zip2 bit_and high (replicate 16 15)) (replicate 16 2)) (zip2 down low (replicate 16 6))
 
@@ -210,7 +209,7 @@ module _ (low high : List ℕ) (p : IsBlock low) (q : IsBlock high) where
       (last_is (get_or high k 0) (get_or low k 0) (get_or middles k 0) (lane_fits high k q lt) (lane_fits low k p lt) (middles_at k lt))
 
 -- Lanes of leading and of trailing surrogates.
-module _ (low high : List ℕ) (p : IsBlock low) (q : IsBlock high) where
+module _ (low high : List ℕ) (p : IsVector 16 low) (q : IsVector 16 high) where
   abbrev carries : List ℕ
   carries = where_passed ltb low 0xC0 (replicate 16 0xF0) (replicate 16 0xF1)
 
@@ -258,7 +257,7 @@ module _ (low high : List ℕ) (p : IsBlock low) (q : IsBlock high) where
       )
       (second_is (get_or high k 0) (get_or low k 0) (lane_fits high k q lt) (lane_fits low k p lt))
 
-  module _ (before : List ℕ) (r : IsBlock before) where
+  module _ (before : List ℕ) (r : IsVector 16 before) where
     abbrev twos : List ℕ
     twos = zip2 up (zip2 bit_and before (replicate 16 3)) (replicate 16 4)
 
@@ -297,7 +296,7 @@ module _ (low high : List ℕ) (p : IsBlock low) (q : IsBlock high) where
         (third_is (get_or before k 0) (get_or high k 0) (get_or low k 0) (lane_fits high k q lt) (lane_fits low k p lt))
 
 -- Where some units may be surrogates.
-module _ (low high before : List ℕ) {first middle last lead second third : List ℕ} (p : IsBlock low) (q : IsBlock high) (f : AreLanes first (λ k. first_byte (lane_unit low high k)))
+module _ (low high before : List ℕ) {first middle last lead second third : List ℕ} (p : IsVector 16 low) (q : IsVector 16 high) (f : AreLanes first (λ k. first_byte (lane_unit low high k)))
     (m : AreLanes middle (λ k. middle_byte (lane_unit low high k))) (l : AreLanes last (λ k. last_byte (lane_unit low high k))) (d : AreLanes lead (λ k. lead_byte (lane_unit low high k)))
     (s : AreLanes second (λ k. second_byte (lane_unit low high k))) (t : AreLanes third (lane_after third_byte before low high)) where
   abbrev eighths : List ℕ

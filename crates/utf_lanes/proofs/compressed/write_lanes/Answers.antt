@@ -6,7 +6,7 @@ use Rattle.utf_lanes.proofs.TextUnits.{Writes-then}
 use Rattle.utf_lanes.proofs.compressed.write_lanes.Goals as goal
 
 pub write_row-requires-clause-mask : goal.write_row-requires-clause-mask
-write_row-requires-clause-mask c = let most : reach_mask 0x80 c.args.fronts < 65536 = high_most c.args.fronts c.fits-fronts.0 in omega arith
+write_row-requires-clause-mask c = let most : reach_mask 16 0x80 c.args.fronts < 65536 = high_most c.args.fronts c.fits-fronts.0 in omega arith
 
 pub returns-clause-written : goal.returns-clause-written
 returns-clause-written c =
