@@ -24,3 +24,5 @@ pub mod UnitLanes
 pub mod UnitPairs
 pub mod UnitSlots
 pub mod ValueSums
+pub mod VectorLanes
+pub mod WideShuffles
