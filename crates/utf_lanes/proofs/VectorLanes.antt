@@ -1,10 +1,9 @@
 -- The lanes of a vector of bytes, of any width.
-use Rattle.std.proofs.Common.{◌≡◌, ℕ, ◌+◌, ◌*◌, ◌%◌, ◌^◌, ◌<◌, ◌≤◌, Bool, true, false, not, cond, eqb, leb, ltb, List, map, length, get_or, replicate, refl, sym, ap, ◌∙◌, arith, w8, Fits}
+use Rattle.std.proofs.Common.{◌≡◌, ℕ, ◌%◌, ◌^◌, ◌<◌, ◌≤◌, Bool, true, false, not, cond, List, map, length, get_or, replicate, refl, sym, ap, ◌∙◌, arith, w8, Fits}
 use Rattle.std.proofs.lemmas.List.{get_or-map, length-map}
 use Rattle.std.proofs.lemmas.List.Sums.{prefix_len_passes}
-use Rattle.std.proofs.lemmas.Simd.{Each1-get_or, length-zip2, get_or-zip2, get_or-replicate, length-replicate, length-sel_l, get_or-sel_l, tops_compared, bitmask_splat, bit_mask_l, mask_l-lt, leading_from_mask_l, zip2_splat, zip2_splat_left}
+use Rattle.std.proofs.lemmas.Simd.{Each1-get_or, length-zip2, get_or-zip2, get_or-replicate, length-replicate, length-sel_l, get_or-sel_l, tops_compared, bitmask_splat, bit_mask_l, mask_l-lt, leading_from_mask_l}
 use Rattle.std.specs.Int.{bit_at}
-use Rattle.std.specs.List.{prefix_len}
 use lib.Lanes.{zip2, sel_l, mask_l, top, Each1}
 
 -- n bytes

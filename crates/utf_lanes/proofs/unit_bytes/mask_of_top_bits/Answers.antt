@@ -1,4 +1,4 @@
-use Rattle.std.proofs.Common.{◌≡◌, ℕ, ◌/◌, ◌<◌, Bool, cond, eqb, get_or, replicate, ap, ◌∙◌, lit<}
+use Rattle.std.proofs.Common.{ℕ, cond, eqb, replicate, ap, ◌∙◌, lit<}
 use Rattle.std.proofs.lemmas.Simd.{shifts_fit_splat}
 use lib.Lanes.{zip2}
 use Rattle.utf_lanes.proofs.UnitLanes.{down}

@@ -1,4 +1,3 @@
-use Rattle.std.proofs.Common.{◌≡◌, ◌+◌, ◌-◌, arith}
 use Rattle.utf_lanes.proofs.JudgedUnits.{text_whole, text_short, last_leads}
 use Rattle.utf_lanes.proofs.VectorLanes.{vector_fits}
 use Rattle.utf_lanes.proofs.utf16_blocks.paired_units.Goals as goal

@@ -1,4 +1,4 @@
-use Rattle.std.proofs.Common.{◌<◌, ℕ, get_or, arith}
+use Rattle.std.proofs.Common.{◌<◌, ℕ, get_or}
 use Rattle.utf_lanes.proofs.JudgedUnits.{characters_are_text, character_codes, short_text, short_codes, WritesUnits-all}
 use Rattle.utf_lanes.proofs.UnitSlots.{firsts_of_units}
 use Rattle.utf_lanes.proofs.VectorLanes.{vector_fits}

@@ -1,8 +1,8 @@
-use Rattle.std.proofs.Common.{◌≡◌, ◌-◌, ◌+◌, ◌<◌, true, List, ℕ, ◌++◌, length, take, get_or, arith, refl, ap, sym, ◌∙◌, subst, length-take}
+use Rattle.std.proofs.Common.{◌≡◌, ◌-◌, ◌+◌, true, List, ℕ, ◌++◌, length, take, arith, refl, ap, sym, ◌∙◌, subst, length-take}
 use Rattle.std.proofs.lemmas.List.{append-nil, take-take}
 use Rattle.utf_lanes.specs.Utf8ToUtf16.{concat_range}
 use Rattle.utf_base.specs.Units.{is_leading_surrogate}
-use Rattle.utf_lanes.specs.UnitCodes.{lane_unit, code_at, slots_of, AreText}
+use Rattle.utf_lanes.specs.UnitCodes.{lane_unit, AreText}
 use Rattle.utf_lanes.proofs.JudgedUnits.{text_codes, two_more, without_last, WritesUnits-all}
 use Rattle.utf_lanes.proofs.UnitSlots.{text_firsts_of_units}
 use Rattle.utf_lanes.proofs.VectorLanes.{vector_fits}

@@ -1,6 +1,4 @@
-use Rattle.std.proofs.Common.{◌≡◌, ◌++◌, ℕ, length, take, ap, ◌∙◌, map, get_or, rules}
-use Rattle.std.proofs.lemmas.List.{take-map}
-use Rattle.std.proofs.lemmas.Simd.{swz_l}
+use Rattle.std.proofs.Common.{take, ap, ◌∙◌, rules}
 use Rattle.utf_lanes.proofs.CompressLanes.{front_row, back_row}
 use Rattle.utf_lanes.proofs.WideShuffles.{in_halves}
 use Rattle.utf_lanes.proofs.wide_rows.compressed_rows.Goals as goal

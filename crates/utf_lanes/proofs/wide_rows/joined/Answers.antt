@@ -1,4 +1,4 @@
-use Rattle.std.proofs.Common.{◌≡◌, ◌++◌, length, arith, length-append}
+use Rattle.std.proofs.Common.{◌++◌, arith, length-append}
 use Rattle.std.proofs.lemmas.Simd.{pick_l_whole}
 use Rattle.utf_lanes.proofs.wide_rows.joined.Goals as goal
 

@@ -1,7 +1,7 @@
-use Rattle.std.proofs.Common.{◌+◌, ◌*◌, ◌++◌, get_or, arith, ap₂, ap, ◌∙◌}
+use Rattle.std.proofs.Common.{◌+◌, ◌*◌, ◌++◌, get_or, arith, ap₂, ◌∙◌}
 use Rattle.utf_lanes.specs.Lanes.{half_place}
 use Rattle.utf_lanes.proofs.WideShuffles.{parts_at}
-use Rattle.utf_lanes.proofs.unit_bytes.even_and_odd.Goals as goal
+use Rattle.utf_lanes.proofs.wide_halves.even_and_odd.Goals as goal
 
 pub returns-clause-even : goal.returns-clause-even
 returns-clause-even c = record {

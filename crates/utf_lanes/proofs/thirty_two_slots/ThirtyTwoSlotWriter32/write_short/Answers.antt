@@ -1,7 +1,7 @@
 use Rattle.std.proofs.Common.{◌++◌, ap₂, ◌∙◌}
 use Rattle.utf_lanes.proofs.SlotLanes.{short_halves}
 use Rattle.utf_lanes.proofs.TextUnits.{Writes-then}
-use Rattle.utf_lanes.proofs.slot_writers.ThirtyTwoSlotWriter32.write_short.Goals as goal
+use Rattle.utf_lanes.proofs.thirty_two_slots.ThirtyTwoSlotWriter32.write_short.Goals as goal
 
 pub returns-clause-written : goal.returns-clause-written
 returns-clause-written c =

@@ -2,7 +2,7 @@ use Rattle.std.proofs.Common.{◌++◌, ap₂, ◌∙◌}
 use Rattle.utf_lanes.proofs.BlockUnits.{first_pairs, last_pairs, first_pairs_at, last_pairs_at}
 use Rattle.utf_lanes.proofs.SlotLanes.{sixteen_slots}
 use Rattle.utf_lanes.proofs.TextUnits.{Writes-then}
-use Rattle.utf_lanes.proofs.slot_writers.SixteenSlotWriter16.write_slots.Goals as goal
+use Rattle.utf_lanes.proofs.sixteen_slots.SixteenSlotWriter16.write_slots.Goals as goal
 
 pub returns-clause-written : goal.returns-clause-written
 returns-clause-written c =
