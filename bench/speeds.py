@@ -5,7 +5,7 @@ from pathlib import Path
 TOP = Path(__file__).resolve().parent.parent
 STORED = TOP / "bench/stored"
 NAMES = {"rust": "encode_unicode", "std": "std", "bstr": "bstr", "encoding_rs": "encoding_rs", "iconv": "iconv(3)", "simdutf8": "simdutf8 with AVX2",
-         "simdutf8_16": "simdutf8, 16-byte lanes", "icu": "ICU", "utf8proc": "utf8proc"}
+         "simdutf8_16": "simdutf8, 16-byte lanes", "icu": "ICU", "utf8proc": "utf8proc", "simdutf": "simdutf with AVX2"}
 # The inputs of the table in README.md, in words.
 TEXTS = {"ascii": "ASCII", "latin": "Latin script", "three-byte": "characters of three bytes"}
 FORMS = {"utf8": "UTF-8", "utf16le": "UTF-16LE", "utf16be": "UTF-16BE", "utf16": "UTF-16"}
@@ -149,7 +149,7 @@ def from_c():
     """The library for C beside others, without the sides in Rattle: those are measured above."""
     found, lines = of_c_bench(), []
     for work, (told, ours) in OF_C.items():
-        for side in ("icu", "iconv", "utf8proc"):
+        for side in ("icu", "iconv", "utf8proc", "simdutf"):
             rows = [Row((work, text), {"ours": float(it[ours]), side: float(it[side])}, {}) for text, it in found[work.split()[0]] if side in it]
             if it := cells(rows, side, "chinese", lambda key: key[1]):
                 lines.append([told, *it])
@@ -204,9 +204,9 @@ def summary():
         lines.append([task, f"{text} (our worst)", NAMES[side], f"{row.numbers['ours']:.2f} ns", f"{row.numbers[side]:.2f} ns", f"**{row.ratio(side):.2f}**"])
     text, ours, theirs = max(of_c, key=lambda it: it[1] / it[2])
     lines.append(["split into pieces, from C", f"{TEXTS.get(text, text)} (our worst)", "ICU", f"{ours:.2f} ns", f"{theirs:.2f} ns", f"**{ours / theirs:.2f}**"])
-    told = (f"Times are nanoseconds per byte. In the row \"recode one short part\", the time is for all {short} bytes together. "
-            "\"Our worst\" marks the input with our worst ratio, of all inputs that were measured for that task. Ratios were computed before the times were rounded. "
-            "Noddychest was called from Rattle, and in the last row from C.\n\n")
+    told = ("Times are nanoseconds per byte. The ratio is our time divided by theirs: above 1 we are slower. It was computed before the times "
+            "were rounded. For each task many inputs were measured. A row with \"our worst\" is the input with our highest ratio. In the row "
+            f"\"recode one short part\", the time is for all {short} bytes together. Noddychest was called from Rattle, and in the last row from C.\n\n")
     return told + table(["task", "input", "compared with", "Noddychest", "theirs", "ratio"], lines)
 
 

@@ -24,15 +24,16 @@
  * that applies is the kind: UNEXPECTED_CONTINUATION_BYTE, NON_UTF8_BYTE, TOO_FEW_BYTES, INTERRUPTED_SEQUENCE. If none of them
  * applies, the value that the bytes encode decides: OVERLONG_ENCODING, UTF16_RESERVED_CODEPOINT or TOO_HIGH_CODEPOINT. Three
  * examples: E0 80 41 is INTERRUPTED_SEQUENCE, and not OVERLONG_ENCODING. F0 41 at the end is TOO_FEW_BYTES, and not
- * INTERRUPTED_SEQUENCE. ED A0 at the end is TOO_FEW_BYTES, although no third byte would make it a character. A decoder that is
- * given its input one byte at a time sees other kinds in some cases: see nody_utf8_streamed_at.
+ * INTERRUPTED_SEQUENCE. ED A0 at the end is TOO_FEW_BYTES, although no third byte would make it a character. In one case
+ * nody_utf8_streamed_at follows another rule.
  *
  * POINTERS. A pointer and the number after it belong together: the number is a length to read, or a room to write into. If the
  * number is 0, the pointer may be NULL. Else it must be valid for that many bytes, units or pieces. What a call writes must not
- * overlap what it reads. `written`, `read`, `fault`, `left` and `recoder` must not be NULL. Make a recoder only by
- * nody_recoder. If you fill the struct in another way, a call may refuse it, or recode whatever bytes are in it. No call writes
- * out of bounds. A cursor (nody_bytes_t, nody_units_t) is made by nody_bytes or nody_units. If you fill one yourself, its pointer
- * must not be NULL, even if `len` is 0, and must be valid for `len`.
+ * overlap what it reads. Any other pointer that a call takes must not be NULL. No call writes out of bounds.
+ *
+ * STRUCTS. Make a cursor (nody_bytes_t, nody_units_t) by nody_bytes or nody_units, and a recoder (nody_recoder_t) by
+ * nody_recoder. If you fill a cursor yourself, its pointer must not be NULL, even if `len` is 0, and must be valid for `len`. Do
+ * not fill a recoder yourself: the calls stay within bounds then too, but what they write has no meaning.
  *
  * ERRORS. A call fails only as its comment says. None sets errno. On x86-64 call nody_supported first.
  *
@@ -101,7 +102,7 @@ NODY_ENUM(nody_form_t) {
 NODY_ENUM(nody_status_t) {
     NODY_STATUS_DONE = 0,    /* the call read all of the input, and wrote all that it had to write */
     NODY_STATUS_FULL = 1,    /* the next character does not fit into the room that is left */
-    NODY_STATUS_REFUSED = 2, /* a form is above 2, or a recoder holds more than three bytes. Nothing was read or written */
+    NODY_STATUS_REFUSED = 2, /* a form is above 2, or no call can have made this recoder. Nothing was read or written */
     NODY_STATUS_FAULT = 3    /* a strict call stopped at a fault. All before the fault was written */
 };
 
@@ -125,11 +126,11 @@ typedef struct {
     size_t len;
 } nody_units_t;
 
-/* A recoder. Between calls it holds at most three bytes of input: the front of a character whose rest has not come;
- * bytes whose output did not fit into the room; or, after a strict call, bytes that begin with a fault
- * which is not reported yet, because its kind depends on bytes still to come (see nody_recoder_feed_strict). nody_recoder_held
- * gives them. `replaced` is the number of faults that became U+FFFD. nody_recoder_finish does not reset it. The count stops at
- * UINT64_MAX. You may read it, and set it to 0. Leave the other fields alone. */
+/* A recoder. Between calls it holds at most three bytes of input, which it has read but not recoded yet. These are the front of a
+ * character whose rest has not come, or bytes whose output did not fit into the room. After a strict call they may also begin
+ * with a fault whose kind depends on bytes that have not come yet: a later call reports it. nody_recoder_held gives the bytes.
+ * `replaced` is the number of faults that became U+FFFD. nody_recoder_finish does not reset it. The count stops at UINT64_MAX.
+ * You may read it, and set it to 0. Leave the other fields alone. */
 typedef struct {
     nody_form_t from;
     nody_form_t to;
@@ -138,11 +139,12 @@ typedef struct {
     uint64_t replaced; /* how many faults nody_recoder_feed and nody_recoder_finish replaced since nody_recoder */
 } nody_recoder_t;
 
-/* The fault at which a strict call stopped. If the call met no fault, the kind is NODY_KIND_NONE, and len and back are 0. The
- * offset of the fault in the whole input is the sum of `*read` of all calls, minus `back`. */
+/* The fault at which a strict call stopped. If the call met no fault, the kind is NODY_KIND_NONE, and len and back are 0. Each
+ * call says how many bytes it read. To get the offset of the fault in the whole input, add up these numbers, from the first call
+ * to the one that met the fault, and subtract `back`. */
 typedef struct {
     size_t len;       /* in bytes: 1 in UTF-8, 2 for a lone surrogate, 1 for a single byte at the end of UTF-16 */
-    size_t back;      /* the distance from the start of the fault to the end of what was read; 0 after nody_recode_strict */
+    size_t back;      /* how many bytes were read from the start of the fault on. After nody_recode_strict this is 0 */
     nody_kind_t kind; /* the reason, or NODY_KIND_NONE */
 } nody_fault_t;
 
@@ -196,8 +198,8 @@ nody_piece_t nody_utf16_first(const uint16_t *units, size_t len);
  *
  * bytes or units, len: the input. At most its last four bytes, or two units, matter.
  * Result: the piece, or NODY_KIND_NONE if len is 0. The kind of a fault is judged as if nothing came after these `len`
- * bytes or units. If your input goes on after len, a reader from the front may find another kind. If you cut your input inside a
- * character, by a `len` that ends there, the bytes of that character before the cut are faults.
+ * bytes or units. If your input goes on after len, a reader from the front may find another kind. If the input
+ * ends inside a character, because it was cut there, the bytes of that character are faults.
  * Errors: none. Cost: constant.
  *
  *     size_t shorter = len - nody_utf8_last(bytes, len).len;
@@ -218,9 +220,8 @@ nody_piece_t nody_utf16_last(const uint16_t *units, size_t len);
 size_t nody_utf8_encode(uint32_t scalar, uint8_t *out, size_t room);
 size_t nody_utf16_encode(uint32_t scalar, uint16_t *out, size_t room);
 
-/* The piece that begins at an offset. Its kind is the one that a decoder reports if it gets its input one byte at a time.
- * Such a decoder meets a wrong
- * byte before it can know that the input ends.
+/* The piece that begins at an offset, with the kind that the Rust crate encode_unicode reports when it decodes an iterator of
+ * bytes. Its decoder takes one byte at a time. It reports a wrong byte at once, before it can know how much input is left.
  *
  * bytes, len: the input. place: the offset.
  * Result: what nody_utf8_first gives for the bytes from `place` on, but for one case. If fewer bytes are left than the first byte
@@ -510,9 +511,9 @@ nody_status_t nody_recoder_finish(nody_recoder_t *recoder, uint8_t *out, size_t 
  * recoder: the recoder. `recoder->replaced` does not change. You may mix calls of this and of nody_recoder_feed.
  * in, in_len, out, room, written: as for nody_recoder_feed. When a call stops at a fault, all text before
  * the fault was written, by this call and those before it.
- * read: receives how many bytes of the part were read. This includes the fault, and bytes after it that the recoder now holds.
- * fault: receives the fault. Its offset in the whole input is the sum of `*read` of all calls, this one included, minus
- * `fault->back`. It may lie in an earlier part.
+ * read: receives how many bytes of the part were read. Bytes that the recoder now holds are included.
+ * fault: receives the fault. It may lie in this part or, if the recoder held it, in an earlier one. Its offset in the whole input
+ * is the sum of `*read` of all calls, this one included, minus `fault->back`.
  * Result:
  *   NODY_STATUS_DONE: the whole part was read. If the last bytes of the part cannot be judged without the
  *   bytes after them, the recoder holds these last bytes, at most three. After E9 0A, for example, the kind of
@@ -552,9 +553,9 @@ nody_status_t nody_recoder_feed_strict(nody_recoder_t *recoder, const uint8_t *i
 nody_status_t nody_recoder_finish_strict(nody_recoder_t *recoder, uint8_t *out, size_t room, size_t *written, nody_fault_t *fault);
 
 /* Feeds the next part of the input, and writes one U+FFFD for each maximal subpart, and not for each fault. A maximal subpart is
- * one to three bytes that could begin a character, as many as possible, before the end or before a byte that does not continue
- * it. In E2 82 41 it is E2 82, so E2 82 41 becomes U+FFFD A. Any other invalid byte counts as a maximal subpart of its own. E0 80
- * becomes U+FFFD U+FFFD: no character begins with E0 80, so E0 is one maximal subpart, and 80 another. The Unicode standard
+ * an incomplete character: one to three bytes that begin a character, and then the input ends, or a byte comes that cannot be
+ * next in that character. In E2 82 41 it is E2 82, so E2 82 41 becomes U+FFFD A. Any other invalid byte is a subpart of its own.
+ * E0 80 becomes U+FFFD U+FFFD: no character begins with E0 80, so E0 is one maximal subpart, and 80 another. The Unicode standard
  * recommends this (chapter 3, "U+FFFD Substitution of Maximal Subparts"). Browsers, Python's errors="replace" and Rust's
  * from_utf8_lossy do it. In UTF-16, and in valid input, this call and nody_recoder_feed write the same.
  *

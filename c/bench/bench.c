@@ -1,10 +1,13 @@
-/* Times the calls for C beside iconv(3), ICU and utf8proc, and beside the same calls in Rattle, in one process: each side in
- * turn, and of each the best round.
+/* Times the calls for C beside iconv(3), ICU, utf8proc and simdutf, and beside the same calls in Rattle, in one process: each side
+ * in turn, and of each the best round.
  *
  * Decoding adds up the scalars. nody_utf8_first is called as utf8proc_iterate is: with an address and what is left, and the
  * caller keeps the place. nody_utf8_next keeps the place, and takes pieces from both ends. Both tell what is wrong and not
  * only that something is, as do nody_utf8_pieces and the Rattle loop. U8_NEXT of ICU is a macro, and the
  * decoder of the Rattle loop is compiled into it: nothing is called.
+ *
+ * simdutf is in node, which exports its functions. With -DSIMDUTF this file becomes a shared object that node opens: it does what
+ * `bench times` does. simdutf only tells whether text is valid, and gives nothing where it is not; here all of it is.
  *
  * bench times ROUNDS           a line for each work and input: nanoseconds for each byte of input, of each side
  * bench once WORK INPUT SIDE   does it once, so that instructions can be counted; the side `none` does nothing
@@ -134,6 +137,18 @@ static size_t narrow_rattle(void) { return bench_c_narrow(units, units_len, out,
 static size_t valid_nody(void) { return nody_utf8_valid_up_to(text, text_len); }
 static size_t valid_rattle(void) { return bench_c_valid_up_to(text, text_len); }
 
+#ifdef SIMDUTF
+/* Its functions for AVX2. The first argument is an object that they do not read. */
+#define OF_SIMDUTF(name) __asm__("_ZNK7simdutf7haswell14implementation" name)
+_Bool simdutf_valid(const void *object, const uint8_t *bytes, size_t len) OF_SIMDUTF("13validate_utf8EPKcm");
+size_t simdutf_widen(const void *object, const uint8_t *bytes, size_t len, uint8_t *out) OF_SIMDUTF("23convert_utf8_to_utf16leEPKcmPDs");
+size_t simdutf_narrow(const void *object, const uint8_t *units, size_t count, uint8_t *out) OF_SIMDUTF("23convert_utf16le_to_utf8EPKDsmPc");
+static const void *const object[16];
+static size_t valid_simdutf(void) { return simdutf_valid(object, text, text_len) ? text_len : 0; }
+static size_t widen_simdutf(void) { return 2 * simdutf_widen(object, text, text_len, out); }
+static size_t narrow_simdutf(void) { return simdutf_narrow(object, units, units_len / 2, out); }
+#endif
+
 static size_t none(void) { return 0; }
 
 static const struct {
@@ -141,7 +156,13 @@ static const struct {
     side_call call;
 } sides[] = {
     {"utf8-to-utf16le", "nody", widen_nody},     {"utf8-to-utf16le", "iconv", widen_iconv},   {"utf8-to-utf16le", "icu", widen_icu},
+#ifdef SIMDUTF
+    {"utf8-to-utf16le", "simdutf", widen_simdutf},
+#endif
     {"utf16le-to-utf8", "nody", narrow_nody},    {"utf16le-to-utf8", "iconv", narrow_iconv},  {"utf16le-to-utf8", "icu", narrow_icu},
+#ifdef SIMDUTF
+    {"utf16le-to-utf8", "simdutf", narrow_simdutf},
+#endif
     {"decode", "nody_utf8_first", decode_first}, {"decode", "nody_utf8_next", decode_next},
     {"decode", "nody_utf8_pieces", decode_pieces},
     {"decode", "rattle", decode_rattle},         {"decode", "icu", decode_icu},
@@ -149,6 +170,9 @@ static const struct {
     {"utf8-in-parts", "nody", widen_parts},      {"utf8-in-parts", "rattle", widen_rattle},
     {"utf16le-in-parts", "nody", narrow_parts},  {"utf16le-in-parts", "rattle", narrow_rattle},
     {"valid-up-to", "nody", valid_nody},         {"valid-up-to", "rattle", valid_rattle},
+#ifdef SIMDUTF
+    {"valid-up-to", "simdutf", valid_simdutf},
+#endif
 };
 enum { SIDES = sizeof sides / sizeof *sides };
 
@@ -219,6 +243,16 @@ static int once(const char *work, const char *input, const char *side) {
         }
     return 0;
 }
+
+#ifdef SIMDUTF
+/* What node does when it opens this file: all times, and no more of node. */
+__attribute__((constructor)) static void in_node(void) {
+    const char *rounds = getenv("ROUNDS");
+    int agree = all_times(rounds ? atoi(rounds) : 1);
+    fflush(stdout);
+    _Exit(!agree);
+}
+#endif
 
 int main(int argc, char **argv) {
     if (argc == 3 && strcmp(argv[1], "times") == 0 && atoi(argv[2]) > 0) return !all_times(atoi(argv[2]));

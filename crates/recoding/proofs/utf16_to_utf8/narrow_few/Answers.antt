@@ -4,7 +4,7 @@ use Rattle.recoding.proofs.CopiedUnits.{rest_fits}
 use Rattle.recoding.proofs.Forms.{is_utf16}
 use Rattle.recoding.proofs.Utf16ToUtf8.{PutsText-narrowed}
 use Rattle.recoding.proofs.TextRuns.{PutsText-done, PutsText-none, PutsText-then}
-use Rattle.recoding.proofs.utf16_to_utf8.narrow_units.Goals as goal
+use Rattle.recoding.proofs.utf16_to_utf8.narrow_few.Goals as goal
 
 pub loop-place-init : goal.loop-place-init
 loop-place-init g c = PutsText-none g.met.O.Output.appends_none
