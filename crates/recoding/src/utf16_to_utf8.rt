@@ -1,4 +1,4 @@
-//! Text in UTF-16 recoded as UTF-8, in blocks of sixteen units, or of eight of ASCII.
+//! Text in UTF-16 recoded as UTF-8, in blocks of thirty-two or sixteen units, or of eight of ASCII.
 ghost use Rattle.std.specs.Prelude.{◌≡◌, ◌≤◌, length, take};
 ghost use Rattle.recoding.specs.NextScalars.{utf16_form};
 ghost use Rattle.recoding.specs.Recodes.{PutsUnits};
@@ -9,12 +9,18 @@ use crate::next_scalar::ascii_of_units;
 use crate::output::Output;
 use std::simd::prelude::*;
 use utf_lanes::unit_bytes::{are_ascii, sixteen_halves};
-use utf_lanes::utf16_blocks::write_sixteen;
+use utf_lanes::utf16_blocks::{write_sixteen, write_thirty_two};
+use utf_lanes::wide_halves::thirty_two_halves;
 
 // How many bytes a block has, and how much room what comes of it takes, with bytes that are none of its own.
 const BLOCK: usize = 32;
 
 const ROOM: usize = 64;
+
+// The same of a wide one, of thirty-two units.
+const WIDE_BLOCK: usize = 64;
+
+const WIDE_ROOM: usize = 112;
 
 // How many bytes a long input has at least, and how many of it go block by block before any are gathered.
 const LONG: usize = 512;
@@ -144,8 +150,8 @@ fn put_gathered<O: Output, const BIG_ENDIAN: bool>(
     len
 }
 
-// Writes what comes of these blocks to the front of some room, of which they take no more than so much. Answers how many bytes
-// they have, and where theirs end.
+// Writes what comes of these blocks to the front of some room, of which they take no more than so much: wide ones while there are
+// as many units, and then others. Answers how many bytes they have, and where theirs end.
 #[inline(never)]
 fn write_blocks<const BIG_ENDIAN: bool>(
     bytes: &[u8],
@@ -158,8 +164,57 @@ fn write_blocks<const BIG_ENDIAN: bool>(
     ensures within { result.0 ≤ length bytes.now }
     ensures text { Transcodes (utf16_form BIG_ENDIAN) Form.Utf8 (take result.0 bytes.now) (take result.1 room.new) }
 {
+    let (len, end) = write_wide_blocks::<BIG_ENDIAN>(bytes, most, room);
+    write_blocks_from::<BIG_ENDIAN>(bytes, len, end, most, room)
+}
+
+// The same of wide ones alone.
+#[inline(always)]
+fn write_wide_blocks<const BIG_ENDIAN: bool>(
+    bytes: &[u8],
+    most: usize,
+    room: &mut [u8],
+) -> (usize, usize)
+    requires { most ≤ length room.old }
+    ensures len { length room.new ≡ length room.old }
+    ensures fits { result.1 ≤ most }
+    ensures within { result.0 ≤ length bytes.now }
+    ensures text { Transcodes (utf16_form BIG_ENDIAN) Form.Utf8 (take result.0 bytes.now) (take result.1 room.new) }
+{
     let mut place = 0;
     let mut end = 0;
+    while WIDE_BLOCK <= bytes.len() - place && WIDE_ROOM <= most - end {
+        let (low, high) = thirty_two_halves(BIG_ENDIAN, &bytes[place..]);
+        let (units, next) = write_thirty_two(low, high, room, end);
+        place += 2 * units;
+        end = next;
+        if units == 0 {
+            return (place, end);
+        }
+    }
+    (place, end)
+}
+
+// The same of the blocks of sixteen units after those that were written.
+#[inline(always)]
+fn write_blocks_from<const BIG_ENDIAN: bool>(
+    bytes: &[u8],
+    start: usize,
+    written: usize,
+    most: usize,
+    room: &mut [u8],
+) -> (usize, usize)
+    requires most { most ≤ length room.old }
+    requires written { written ≤ most }
+    requires start { start ≤ length bytes.now }
+    requires text { Transcodes (utf16_form BIG_ENDIAN) Form.Utf8 (take start bytes.now) (take written room.old) }
+    ensures len { length room.new ≡ length room.old }
+    ensures fits { result.1 ≤ most }
+    ensures within { result.0 ≤ length bytes.now }
+    ensures text { Transcodes (utf16_form BIG_ENDIAN) Form.Utf8 (take result.0 bytes.now) (take result.1 room.new) }
+{
+    let mut place = start;
+    let mut end = written;
     while BLOCK <= bytes.len() - place && ROOM <= most - end {
         let (low, high) = sixteen_halves(BIG_ENDIAN, &bytes[place..]);
         let (units, next) = write_sixteen(low, high, room, end);

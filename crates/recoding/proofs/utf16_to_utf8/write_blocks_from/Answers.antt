@@ -3,11 +3,11 @@ use Rattle.std.proofs.lemmas.List.{take_rest}
 use Rattle.recoding.proofs.CopiedUnits.{rest_fits}
 use Rattle.recoding.proofs.Forms.{is_utf16}
 use Rattle.recoding.proofs.Utf16ToUtf8.{Transcodes-narrowed}
-use Rattle.recoding.proofs.TextRuns.{Transcodes-more, Transcodes-none}
-use Rattle.recoding.proofs.utf16_to_utf8.write_blocks.Goals as goal
+use Rattle.recoding.proofs.TextRuns.{Transcodes-more}
+use Rattle.recoding.proofs.utf16_to_utf8.write_blocks_from.Goals as goal
 
 pub loop-place-init : goal.loop-place-init
-loop-place-init g c = record { within = omega arith; fits = omega arith; len = refl; text = Transcodes-none _ _ }
+loop-place-init g c = record { within = omega arith; fits = omega arith; len = refl; text = c.requires.text }
 
 pub loop-place-preserved : goal.loop-place-preserved
 loop-place-preserved g c =
