@@ -23,12 +23,12 @@ const WIDE_BLOCK: usize = 64;
 const WIDE_ROOM: usize = 112;
 
 // How many bytes a long input has at least, and how many of it go block by block before any are gathered.
-const LONG: usize = 512;
+const LONG: usize = 1024;
 
 const FEW: usize = 256;
 
 // How many bytes are gathered at once.
-const GATHERED: usize = 1088;
+const GATHERED: usize = 1984;
 
 // Recodes the blocks of units at the front of the bytes as UTF-8, as far as they have no fault and the room is surely enough:
 // first long ones, and then those of ASCII that are short. Answers how many bytes it recoded.
@@ -124,11 +124,11 @@ fn put_ascii<O: Output, const BIG_ENDIAN: bool>(bytes: &[u8], out: &mut O) -> us
     let most = 2 * (bytes.len() / 2).min(out.room());
     let mut place = 0;
     while BLOCK <= most - place {
-        let (low, high) = sixteen_halves(BIG_ENDIAN, &bytes[place..]);
-        if !are_ascii(low, high) {
+        let (ascii, high) = sixteen_halves(BIG_ENDIAN, &bytes[place..]);
+        if !are_ascii(ascii, high) {
             return place;
         }
-        out.put(&low.to_array());
+        out.put(&ascii.to_array());
         place += BLOCK;
     }
     place
@@ -217,10 +217,10 @@ fn write_blocks_from<const BIG_ENDIAN: bool>(
     let mut end = written;
     while BLOCK <= bytes.len() - place && ROOM <= most - end {
         let (low, high) = sixteen_halves(BIG_ENDIAN, &bytes[place..]);
-        let (units, next) = write_sixteen(low, high, room, end);
-        place += 2 * units;
+        let (count, next) = write_sixteen(low, high, room, end);
+        place += 2 * count;
         end = next;
-        if units == 0 {
+        if count == 0 {
             return (place, end);
         }
     }
