@@ -185,10 +185,10 @@ fn write_wide_blocks<const BIG_ENDIAN: bool>(
     let mut end = 0;
     while WIDE_BLOCK <= bytes.len() - place && WIDE_ROOM <= most - end {
         let (low, high) = thirty_two_halves(BIG_ENDIAN, &bytes[place..]);
-        let (units, next) = write_thirty_two(low, high, room, end);
-        place += 2 * units;
+        let (count, next) = write_thirty_two(low, high, room, end);
+        place += 2 * count;
         end = next;
-        if units == 0 {
+        if count == 0 {
             return (place, end);
         }
     }

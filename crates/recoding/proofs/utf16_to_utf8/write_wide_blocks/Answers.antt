@@ -15,12 +15,12 @@ loop-place-preserved g c =
     let bytes = c.args.bytes.now in
     let place = c.loop-place.place in
     let halves = rw (take_rest bytes place) at c.thirty_two_halves.ensures.units in
-    let put = c.write_thirty_two-units.ensures in
+    let put = c.write_thirty_two-count.ensures in
     let most = put.most in
     let fits = put.fits in
     record {
       within = omega arith;
       fits = omega arith;
       len = put.len ∙ before.len;
-      text = Transcodes-more _ _ _ _ _ _ _ before.text (Transcodes-narrowed _ _ (drop place bytes) _ c.write_thirty_two-units.result.0 (is_utf16 _) (rest_fits bytes place c.type_inv.bytes) (omega (arith, length-drop place bytes)) (λ k lt. halves k (omega arith)) put.text) put.bytes;
+      text = Transcodes-more _ _ _ _ _ _ _ before.text (Transcodes-narrowed _ _ (drop place bytes) _ c.write_thirty_two-count.result.0 (is_utf16 _) (rest_fits bytes place c.type_inv.bytes) (omega (arith, length-drop place bytes)) (λ k lt. halves k (omega arith)) put.text) put.bytes;
     }
