@@ -1,5 +1,5 @@
 -- Vectors by their lanes, and masks by their bits.
-use Rattle.std.specs.Prelude.{◌≡◌, ℕ, ◌+◌, ◌*◌, ◌/◌, ◌%◌, ◌<◌, Bool, if◌then◌else◌, List, [], ◌∷◌, length, nat_eq, slice_index}
+use Rattle.std.specs.Prelude.{◌≡◌, ℕ, ◌+◌, ◌*◌, ◌/◌, ◌%◌, ◌<◌, Bool, if◌then◌else◌, List, [], ◌∷◌, ◌++◌, length, nat_eq, slice_index}
 use Rattle.std.specs.Int.{bit_at}
 
 -- A vector has n lanes, and each is what its number says.
@@ -44,3 +44,7 @@ pair_of_lanes v w k = slice_index v k ∷ slice_index w k ∷ []
 -- Where the lane k of four parts of sixteen is, of which the first and the third stand before the second and the fourth.
 abbrev pub half_place : ℕ → ℕ
 half_place k = k / 32 * 16 + k / 16 % 2 * 32 + k % 16
+
+-- that lane, where two vectors have the four parts
+abbrev pub crossed_lane : List ℕ → List ℕ → ℕ → ℕ
+crossed_lane v w k = slice_index (v ++ w) (half_place k)

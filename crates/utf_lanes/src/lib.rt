@@ -2,8 +2,8 @@
 //!
 //! - Judged: `text_blocks` says how far bytes are text, `unit_blocks` and `paired_units` how far units are well-formed, and
 //!   `ascii_texts` whether bytes are ASCII.
-//! - Made: `text_puts` and `text_units` make units of text in UTF-8, `utf16_blocks` text in UTF-8 of units, and `byte_pairs`
-//!   units in the other order of bytes; what stays in its form is only judged.
+//! - Made: `text_puts` and `text_units` make units of text in UTF-8, `utf16_blocks` text in UTF-8 of sixteen or thirty-two units,
+//!   and `byte_pairs` units in the other order of bytes; what stays in its form is only judged.
 //! - `text_front` gives one character at the front of bytes.
 //!
 //! It is an addition of this project, and no part of the Rust crate. Nothing here takes memory, and nothing knows of a form of

@@ -24,6 +24,7 @@ pub(crate) trait SlotWriter<const N: usize> {
         at: usize,
     ) -> usize
         requires { at + (3 * N + 16) ≤ length room.old }
-        ensures written { Writes room.old room.new at result (slots_of N first.entry middle.entry last.entry) }
+        ensures written { Writes room.old room.new at result
+            (slots_of N first.entry middle.entry last.entry) }
         ensures most { result ≤ at + 3 * N };
 }

@@ -1,6 +1,6 @@
 //! Thirty-two units as two vectors.
-ghost use Rattle.std.specs.Prelude.{◌≡◌, ℕ, ◌+◌, ◌++◌, ◌*◌, ◌<◌, ◌≤◌, length, slice_index};
-ghost use Rattle.utf_lanes.specs.Lanes.{AreLanesOf, half_place};
+ghost use Rattle.std.specs.Prelude.{◌≡◌, ℕ, ◌+◌, ◌*◌, ◌<◌, ◌≤◌, length, slice_index};
+ghost use Rattle.utf_lanes.specs.Lanes.{AreLanesOf, crossed_lane};
 ghost use Rattle.utf_lanes.specs.UnitCodes.{lane_unit};
 ghost use Rattle.utf_lanes.specs.BytePairs.{unit_number};
 
@@ -37,8 +37,7 @@ fn even_and_odd(bytes: &[u8]) -> (u8x32, u8x32)
 // The even bytes of the first halves of both vectors, and then those of the last.
 #[inline(always)]
 fn even_bytes(front: u8x32, back: u8x32) -> u8x32
-    ensures len { length result ≡ 32 }
-    ensures lanes { (k : ℕ) → k < 32 → slice_index result k ≡ slice_index (front ++ back) (half_place (2 * k)) }
+    ensures { AreLanesOf 32 result (λ k. crossed_lane front back (2 * k)) }
 {
     front.shuffle(
         back,
@@ -52,8 +51,7 @@ fn even_bytes(front: u8x32, back: u8x32) -> u8x32
 // The odd ones.
 #[inline(always)]
 fn odd_bytes(front: u8x32, back: u8x32) -> u8x32
-    ensures len { length result ≡ 32 }
-    ensures lanes { (k : ℕ) → k < 32 → slice_index result k ≡ slice_index (front ++ back) (half_place (2 * k + 1)) }
+    ensures { AreLanesOf 32 result (λ k. crossed_lane front back (2 * k + 1)) }
 {
     front.shuffle(
         back,
