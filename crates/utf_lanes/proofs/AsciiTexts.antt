@@ -6,10 +6,10 @@ use lib.Lanes.{chunk}
 use Rattle.utf_lanes.specs.AsciiTexts.{AreAscii}
 use Rattle.utf_lanes.proofs.LaneLemmas.{reach_mask, none_reach}
 
-pub ascii_lanes : (bytes : List ℕ) (place : ℕ) → place + 16 ≤ length bytes → reach_mask 0x80 (chunk place 16 bytes) ≡ 0 → AreAscii bytes place (place + 16)
+pub ascii_lanes : (bytes : List ℕ) (place : ℕ) → place + 16 ≤ length bytes → reach_mask 16 0x80 (chunk place 16 bytes) ≡ 0 → AreAscii bytes place (place + 16)
 ascii_lanes bytes place within none k ge lt =
     let at : place + (k - place) ≡ k = omega arith in
-    rw (get_or-chunk place 16 bytes (k - place) 0 (omega arith), at) at (none_reach 0x80 (chunk place 16 bytes) (length-chunk place 16 bytes within) none (k - place) (omega arith))
+    rw (get_or-chunk place 16 bytes (k - place) 0 (omega arith), at) at (none_reach 0x80 (chunk place 16 bytes) (lit< tt) (length-chunk place 16 bytes within) none (k - place) (omega arith))
 
 -- ASCII is text
 pub ascii_text : (xs : List ℕ) → AreAscii xs 0 (length xs) → IsUtf8 xs

@@ -138,7 +138,7 @@ module _ (xs : List ℕ) (place : ℕ) (fits : (k : ℕ) → Fits w8 (get_or xs 
   greater = where_below (chunk (place - 2) 16 xs) (chunk (place - 3) 16 xs) (chunk (place - 3) 16 xs) (chunk (place - 2) 16 xs)
 
   abbrev longest_mask : ℕ
-  longest_mask = reach_mask 0xF0 greater
+  longest_mask = reach_mask 16 0xF0 greater
 
   greater_len : length greater ≡ 16
   greater_len =
@@ -146,7 +146,7 @@ module _ (xs : List ℕ) (place : ℕ) (fits : (k : ℕ) → Fits w8 (get_or xs 
       (length-chunk (place - 2) 16 xs (omega arith)) (length-chunk (place - 3) 16 xs (omega arith)) (length-chunk (place - 3) 16 xs (omega arith)) (length-chunk (place - 2) 16 xs (omega arith))
 
   greater_low : longest_mask ≡ 0 → (k : ℕ) → k < 16 → get_or greater k 0 < 0xF0
-  greater_low none k lt = none_reach 0xF0 greater greater_len none k lt
+  greater_low none k lt = none_reach 0xF0 greater (lit< tt) greater_len none k lt
 
   both_low : (a b : ℕ) (t : Bool) → ltb b a ≡ t → cond t a b < 0xF0 → (a < 0xF0) × (b < 0xF0)
   both_low a b true e h = let below = ltb-true b a e in (h, omega arith)

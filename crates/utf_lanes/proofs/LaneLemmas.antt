@@ -1,100 +1,69 @@
--- The sixteen lanes of a vector, and what they say of the bytes that were loaded.
-use Rattle.std.proofs.Common.{◌≡◌, ℕ, ◌+◌, ◌-◌, ◌*◌, ◌/◌, ◌%◌, ◌^◌, ◌<◌, ◌≤◌, Bool, true, false, not, cond, eqb, leb, ltb, List, map, length, get_or, replicate, bit_and, bit_or, bit_xor, refl, sym, ap, ◌∙◌, inl, inr, arith, lit<, w8, Fits, eqb-true, leb-false, ltb-true, ltb-false}
+-- The lanes of a vector, as many as it has, and what they say of the bytes that were loaded.
+use Rattle.std.proofs.Common.{◌≡◌, ℕ, ◌+◌, ◌-◌, ◌/◌, ◌%◌, ◌^◌, ◌<◌, ◌≤◌, Bool, true, false, not, cond, eqb, leb, ltb, List, map, length, get_or, replicate, bit_and, bit_or, bit_xor, refl, sym, ap, ◌∙◌, inl, inr, arith, lit<, w8, Fits, eqb-true, leb-false, ltb-true, ltb-false}
 use Rattle.std.proofs.lemmas.Bool.{cases_lt}
 use Rattle.std.proofs.lemmas.List.Sums.{prefix_len_passes, prefix_len-le-length}
 use Rattle.std.proofs.lemmas.Nat.{and_le_r, le_or_l, le_or_r}
 use Rattle.std.proofs.lemmas.Nat.Bits.{and_pow, bit_at_or}
-use Rattle.std.proofs.lemmas.Simd.{Each1-get_or, Each1-from_get_or, length-zip2, get_or-zip2, get_or-replicate, get_or-chunk, length-chunk, length-sel_l, get_or-sel_l, tops_compared, bitmask_splat, zip2_splat, zip2_splat_left, leading_from_mask_l, trailing_mask_l, swz_l, SwzOk, SwzOk-from_below, length-swz_l, get_or-swz_l_below}
+use Rattle.std.proofs.lemmas.Simd.{Each1-get_or, length-zip2, get_or-zip2, get_or-replicate, get_or-chunk, length-chunk, length-sel_l, get_or-sel_l, tops_compared, bitmask_splat, zip2_splat, zip2_splat_left, leading_from_mask_l, trailing_mask_l, length-replicate}
 use Rattle.std.specs.List.{prefix_len}
 use lib.Count.{count_trailing_zeros}
 use lib.Lanes.{zip2, sel_l, mask_l, top, Each1, chunk}
 use Rattle.utf_lanes.specs.AsciiTexts.{AreAscii}
+use Rattle.utf_lanes.specs.LookUps.{AreLookedUp}
 use Rattle.utf_lanes.specs.TextBlocks.{Follows, AllMayFollow, ArePairsLeft, IsPair, ZeroLanesFollow}
 use Rattle.utf_lanes.proofs.PairTables.{AreRight, tables_judge}
 
--- sixteen bytes
-abbrev pub IsBlock : List ℕ → Type 0
-IsBlock v = (length v ≡ 16) × Each1 (Fits w8) v
+-- as many bytes as a vector has lanes
+abbrev pub IsVector : ℕ → List ℕ → Type 0
+IsVector n v = (length v ≡ n) × Each1 (Fits w8) v
 
-pub lane_fits : (v : List ℕ) (k : ℕ) → IsBlock v → k < 16 → get_or v k 0 < 256
-lane_fits v k block lt = (Each1-get_or (Fits w8) v k 0 (omega (arith, block.0)) block.1).fits
+pub lane_fits : {n : ℕ} (v : List ℕ) (k : ℕ) → IsVector n v → k < n → get_or v k 0 < 256
+lane_fits v k fits lt = (Each1-get_or (Fits w8) v k 0 (omega (arith, fits.0)) fits.1).fits
 
-pub wide : (f : ℕ → ℕ → ℕ) (xs ys : List ℕ) → length xs ≡ 16 → length ys ≡ 16 → length (zip2 f xs ys) ≡ 16
+pub wide : {n : ℕ} (f : ℕ → ℕ → ℕ) (xs ys : List ℕ) → length xs ≡ n → length ys ≡ n → length (zip2 f xs ys) ≡ n
 wide f xs ys p q = length-zip2 f xs ys (p ∙ sym q) ∙ p
 
-pub lane : (f : ℕ → ℕ → ℕ) (xs ys : List ℕ) → length xs ≡ 16 → length ys ≡ 16 → (k : ℕ) → k < 16 → get_or (zip2 f xs ys) k 0 ≡ f (get_or xs k 0) (get_or ys k 0)
+pub lane : {n : ℕ} (f : ℕ → ℕ → ℕ) (xs ys : List ℕ) → length xs ≡ n → length ys ≡ n → (k : ℕ) → k < n → get_or (zip2 f xs ys) k 0 ≡ f (get_or xs k 0) (get_or ys k 0)
 lane f xs ys p q k lt = get_or-zip2 f xs ys k 0 0 0 (omega (arith, p)) (omega (arith, q))
 
-pub lane_with : (f : ℕ → ℕ → ℕ) (xs : List ℕ) (y : ℕ) → length xs ≡ 16 → (k : ℕ) → k < 16 → get_or (zip2 f xs (replicate 16 y)) k 0 ≡ f (get_or xs k 0) y
-lane_with f xs y p k lt = lane f xs (replicate 16 y) p refl k lt ∙ ap (f (get_or xs k 0)) (get_or-replicate 16 k y 0 lt)
+pub wide_with : {n : ℕ} (f : ℕ → ℕ → ℕ) (xs : List ℕ) (y : ℕ) → length xs ≡ n → length (zip2 f xs (replicate n y)) ≡ n
+wide_with {n} f xs y p = wide f xs (replicate n y) p (length-replicate n y)
+
+pub lane_with : {n : ℕ} (f : ℕ → ℕ → ℕ) (xs : List ℕ) (y : ℕ) → length xs ≡ n → (k : ℕ) → k < n → get_or (zip2 f xs (replicate n y)) k 0 ≡ f (get_or xs k 0) y
+lane_with {n} f xs y p k lt = lane f xs (replicate n y) p (length-replicate n y) k lt ∙ ap (f (get_or xs k 0)) (get_or-replicate n k y 0 lt)
 
 -- Look-ups.
 
 abbrev down : ℕ → ℕ → ℕ
 down a b = a / 2 ^ b
 
-abbrev upper_halves : List ℕ → List ℕ
-upper_halves v = zip2 down v (replicate 16 4)
+module _ {n : ℕ} (v : List ℕ) (fits : IsVector n v) (k : ℕ) (lt : k < n) where
+  upper_at : get_or (zip2 down v (replicate n 4)) k 0 ≡ get_or v k 0 / 16
+  upper_at = lane_with down v 4 fits.0 k lt
 
-abbrev lower_halves : List ℕ → List ℕ
-lower_halves v = zip2 bit_and v (replicate 16 15)
+  lower_at : get_or (zip2 bit_and v (replicate n 15)) k 0 ≡ bit_and (get_or v k 0) 15
+  lower_at = lane_with bit_and v 15 fits.0 k lt
 
-upper_at : (v : List ℕ) → IsBlock v → (k : ℕ) → k < 16 → get_or (upper_halves v) k 0 ≡ get_or v k 0 / 16
-upper_at v block k lt = lane_with down v 4 block.0 k lt
+  pub upper_below : get_or (zip2 down v (replicate n 4)) k 0 < 16
+  upper_below = omega (arith, upper_at, lane_fits v k fits lt)
 
-lower_at : (v : List ℕ) → IsBlock v → (k : ℕ) → k < 16 → get_or (lower_halves v) k 0 ≡ bit_and (get_or v k 0) 15
-lower_at v block k lt = lane_with bit_and v 15 block.0 k lt
+  pub lower_below : get_or (zip2 bit_and v (replicate n 15)) k 0 < 16
+  lower_below = omega (arith, lower_at, and_le_r (get_or v k 0) 15)
 
-upper_below : (v : List ℕ) → IsBlock v → (k : ℕ) → k < 16 → get_or (upper_halves v) k 0 < 16
-upper_below v block k lt = omega (arith, upper_at v block k lt, lane_fits v k block lt)
-
-lower_below : (v : List ℕ) → IsBlock v → (k : ℕ) → k < 16 → get_or (lower_halves v) k 0 < 16
-lower_below v block k lt = omega (arith, lower_at v block k lt, and_le_r (get_or v k 0) 15)
-
-in_table : (js : List ℕ) → length js ≡ 16 → ((k : ℕ) → k < 16 → get_or js k 0 < 16) → SwzOk w8 16 16 0 js
-in_table js long below = SwzOk-from_below w8 16 1 16 0 js refl (omega (arith, long)) (Each1-from_get_or (λ j. j < 16) js 0 (λ k lt. below k (omega (arith, long))))
-
-pub upper_in_table : (v : List ℕ) → IsBlock v → SwzOk w8 16 16 0 (upper_halves v)
-upper_in_table v block = in_table (upper_halves v) (wide down v (replicate 16 4) block.0 refl) (upper_below v block)
-
-pub lower_in_table : (v : List ℕ) → IsBlock v → SwzOk w8 16 16 0 (lower_halves v)
-lower_in_table v block = in_table (lower_halves v) (wide bit_and v (replicate 16 15) block.0 refl) (lower_below v block)
-
-looked_up : (t js : List ℕ) → length js ≡ 16 → (k : ℕ) → k < 16 → get_or js k 0 < 16 → get_or (swz_l w8 16 t 0 js) k 0 ≡ get_or t (get_or js k 0) 0
-looked_up t js long k lt below =
-    let at : 16 * ((0 + k) / 16) + get_or js k 0 ≡ get_or js k 0 = omega arith in
-    get_or-swz_l_below w8 16 t 0 js k (omega (arith, long)) below ∙ ap (λ n. get_or t n 0) at
-
-module _ (high low here before block : List ℕ) (p : IsBlock before) (q : IsBlock block) where
-  abbrev by_high : List ℕ
-  by_high = swz_l w8 16 high 0 (upper_halves before)
-
-  abbrev by_low : List ℕ
-  by_low = swz_l w8 16 low 0 (lower_halves before)
-
-  abbrev by_here : List ℕ
-  by_here = swz_l w8 16 here 0 (upper_halves block)
-
-  long_high : length by_high ≡ 16
-  long_high = length-swz_l w8 16 high 0 (upper_halves before) ∙ wide down before (replicate 16 4) p.0 refl
-
-  long_low : length by_low ≡ 16
-  long_low = length-swz_l w8 16 low 0 (lower_halves before) ∙ wide bit_and before (replicate 16 15) p.0 refl
-
-  long_here : length by_here ≡ 16
-  long_here = length-swz_l w8 16 here 0 (upper_halves block) ∙ wide down block (replicate 16 4) q.0 refl
-
-  pub pairs_len : length (zip2 bit_and (zip2 bit_and by_high by_low) by_here) ≡ 16
-  pairs_len = wide bit_and (zip2 bit_and by_high by_low) by_here (wide bit_and by_high by_low long_high long_low) long_here
+module _ {n : ℕ} (high low here : List ℕ) {by_high by_low by_here : List ℕ} (before block : List ℕ) (p : IsVector n before) (q : IsVector n block) (h : AreLookedUp n high (zip2 down before (replicate n 4)) by_high)
+    (l : AreLookedUp n low (zip2 bit_and before (replicate n 15)) by_low) (b : AreLookedUp n here (zip2 down block (replicate n 4)) by_here) where
+  pub pairs_len : length (zip2 bit_and (zip2 bit_and by_high by_low) by_here) ≡ n
+  pairs_len = wide bit_and (zip2 bit_and by_high by_low) by_here (wide bit_and by_high by_low h.wide l.wide) b.wide
 
   pub pair_lanes : AreRight high low here → ArePairsLeft before block (zip2 bit_and (zip2 bit_and by_high by_low) by_here)
-  pair_lanes right k lt =
+  pair_lanes right k less =
+      let lt : k < n = omega (arith, pairs_len) in
       rw (
-        lane bit_and (zip2 bit_and by_high by_low) by_here (wide bit_and by_high by_low long_high long_low) long_here k lt,
-        lane bit_and by_high by_low long_high long_low k lt,
-        looked_up high (upper_halves before) (wide down before (replicate 16 4) p.0 refl) k lt (upper_below before p k lt),
-        looked_up low (lower_halves before) (wide bit_and before (replicate 16 15) p.0 refl) k lt (lower_below before p k lt),
-        looked_up here (upper_halves block) (wide down block (replicate 16 4) q.0 refl) k lt (upper_below block q k lt),
+        lane bit_and (zip2 bit_and by_high by_low) by_here (wide bit_and by_high by_low h.wide l.wide) b.wide k lt,
+        lane bit_and by_high by_low h.wide l.wide k lt,
+        h.each k lt,
+        l.each k lt,
+        b.each k lt,
         upper_at before p k lt,
         lower_at before p k lt,
         upper_at block q k lt,
@@ -109,35 +78,39 @@ less a b = (a + (2 ^ 8 - b)) % 2 ^ 8
 abbrev below_mask : ℕ → ℕ → ℕ
 below_mask a b = cond (ltb a b) 255 0
 
-abbrev pub excess : List ℕ → ℕ → List ℕ
-excess xs y = zip2 less (sel_l (map (top 7) (zip2 below_mask xs (replicate 16 y))) (replicate 16 y) xs) (replicate 16 y)
+abbrev pub excess : ℕ → List ℕ → ℕ → List ℕ
+excess n xs y = zip2 less (sel_l (map (top 7) (zip2 below_mask xs (replicate n y))) (replicate n y) xs) (replicate n y)
 
 one_excess : (a b : ℕ) (t : Bool) → ltb a b ≡ t → a < 256 → b < 256 → less (cond t b a) b ≡ a - b
 one_excess a b true e A B = omega (arith, ltb-true a b e)
 one_excess a b false e A B = omega (arith, ltb-false a b e)
 
-module _ (xs : List ℕ) (y : ℕ) (block : IsBlock xs) (Y : y < 256) where
-  tests_len : length (zip2 ltb xs (replicate 16 y)) ≡ 16
-  tests_len = length-zip2 ltb xs (replicate 16 y) block.0 ∙ block.0
+module _ {n : ℕ} (xs : List ℕ) (y : ℕ) (fits : IsVector n xs) (Y : y < 256) where
+  splat_len : length (replicate n y) ≡ n
+  splat_len = length-replicate n y
 
-  greater_len : length (sel_l (zip2 ltb xs (replicate 16 y)) (replicate 16 y) xs) ≡ 16
-  greater_len = length-sel_l (zip2 ltb xs (replicate 16 y)) (replicate 16 y) xs tests_len (tests_len ∙ sym block.0) ∙ tests_len
+  tests_len : length (zip2 ltb xs (replicate n y)) ≡ n
+  tests_len = length-zip2 ltb xs (replicate n y) (fits.0 ∙ sym splat_len) ∙ fits.0
 
-  pub excess_len : length (excess xs y) ≡ 16
-  excess_len = rw (tops_compared w8 ltb xs (replicate 16 y)) (wide less (sel_l (zip2 ltb xs (replicate 16 y)) (replicate 16 y) xs) (replicate 16 y) greater_len refl)
+  greater_len : length (sel_l (zip2 ltb xs (replicate n y)) (replicate n y) xs) ≡ n
+  greater_len = length-sel_l (zip2 ltb xs (replicate n y)) (replicate n y) xs (tests_len ∙ sym splat_len) (tests_len ∙ sym fits.0) ∙ tests_len
 
-  pub excess_at : (k : ℕ) → k < 16 → get_or (excess xs y) k 0 ≡ get_or xs k 0 - y
+  pub excess_len : length (excess n xs y) ≡ n
+  excess_len = rw (tops_compared w8 ltb xs (replicate n y)) (wide_with less (sel_l (zip2 ltb xs (replicate n y)) (replicate n y) xs) y greater_len)
+
+  pub excess_at : (k : ℕ) → k < n → get_or (excess n xs y) k 0 ≡ get_or xs k 0 - y
   excess_at k lt =
-      let tests = zip2 ltb xs (replicate 16 y) in
-      let test : get_or tests k false ≡ ltb (get_or xs k 0) y = get_or-zip2 ltb xs (replicate 16 y) k 0 0 false (omega (arith, block.0)) lt ∙ ap (ltb (get_or xs k 0)) (get_or-replicate 16 k y 0 lt) in
+      let tests = zip2 ltb xs (replicate n y) in
+      let test : get_or tests k false ≡ ltb (get_or xs k 0) y
+      = get_or-zip2 ltb xs (replicate n y) k 0 0 false (omega (arith, fits.0)) (omega (arith, splat_len)) ∙ ap (ltb (get_or xs k 0)) (get_or-replicate n k y 0 lt) in
       rw (
-        tops_compared w8 ltb xs (replicate 16 y),
-        lane_with less (sel_l tests (replicate 16 y) xs) y greater_len k lt,
-        get_or-sel_l tests (replicate 16 y) xs k 0 (omega (arith, tests_len)) lt (omega (arith, block.0)),
+        tops_compared w8 ltb xs (replicate n y),
+        lane_with less (sel_l tests (replicate n y) xs) y greater_len k lt,
+        get_or-sel_l tests (replicate n y) xs k 0 (omega (arith, tests_len)) (omega (arith, splat_len)) (omega (arith, fits.0)),
         test,
-        get_or-replicate {A = ℕ} 16 k y 0 lt,
+        get_or-replicate {A = ℕ} n k y 0 lt,
       )
-      (one_excess (get_or xs k 0) y (ltb (get_or xs k 0) y) refl (lane_fits xs k block lt) Y)
+      (one_excess (get_or xs k 0) y (ltb (get_or xs k 0) y) refl (lane_fits xs k fits lt) Y)
 
 -- Whether a code of three or four bytes has to go on is one bit.
 
@@ -171,45 +144,50 @@ lane_follows a b A B pair none = record {
 
 -- The lanes of the bytes two and three places before.
 
-module _ (third second : List ℕ) (T : IsBlock third) (S : IsBlock second) (left : List ℕ) (long : length left ≡ 16) where
-  abbrev faults : List ℕ
-  faults = zip2 bit_xor (zip2 bit_and (zip2 bit_or (excess second 0x60) (excess third 0x70)) (replicate 16 0x80)) left
+module _ {n : ℕ} (third second : List ℕ) (T : IsVector n third) (S : IsVector n second) (left : List ℕ) (long : length left ≡ n) where
+  abbrev either : List ℕ
+  either = zip2 bit_or (excess n second 0x60) (excess n third 0x70)
 
-  second_len : length (excess second 0x60) ≡ 16
+  abbrev faults : List ℕ
+  faults = zip2 bit_xor (zip2 bit_and either (replicate n 0x80)) left
+
+  second_len : length (excess n second 0x60) ≡ n
   second_len = excess_len second 0x60 S (lit< tt)
 
-  third_len : length (excess third 0x70) ≡ 16
+  third_len : length (excess n third 0x70) ≡ n
   third_len = excess_len third 0x70 T (lit< tt)
 
-  either_len : length (zip2 bit_or (excess second 0x60) (excess third 0x70)) ≡ 16
+  either_len : length either ≡ n
   either_len = wide bit_or _ _ second_len third_len
 
-  pub faults_len : length faults ≡ 16
-  faults_len = wide bit_xor _ left (wide bit_and _ (replicate 16 0x80) either_len refl) long
+  pub faults_len : length faults ≡ n
+  faults_len = wide bit_xor _ left (wide_with bit_and either 0x80 either_len) long
 
-  fault_at : (k : ℕ) → k < 16 → get_or faults k 0 ≡ bit_xor (has_to (get_or third k 0) (get_or second k 0)) (get_or left k 0)
+  fault_at : (k : ℕ) → k < n → get_or faults k 0 ≡ bit_xor (has_to (get_or third k 0) (get_or second k 0)) (get_or left k 0)
   fault_at k lt =
       rw (
-        lane bit_xor (zip2 bit_and (zip2 bit_or (excess second 0x60) (excess third 0x70)) (replicate 16 0x80)) left (wide bit_and _ (replicate 16 0x80) either_len refl) long k lt,
-        lane_with bit_and (zip2 bit_or (excess second 0x60) (excess third 0x70)) 0x80 either_len k lt,
-        lane bit_or (excess second 0x60) (excess third 0x70) second_len third_len k lt,
+        lane bit_xor (zip2 bit_and either (replicate n 0x80)) left (wide_with bit_and either 0x80 either_len) long k lt,
+        lane_with bit_and either 0x80 either_len k lt,
+        lane bit_or (excess n second 0x60) (excess n third 0x70) second_len third_len k lt,
         excess_at second 0x60 S (lit< tt) k lt,
         excess_at third 0x70 T (lit< tt) k lt,
       ) refl
 
   pub faultless_follows : (first here : List ℕ) → ArePairsLeft first here left → ZeroLanesFollow third second first here faults
-  faultless_follows first here pairs k lt none = lane_follows _ _ (lane_fits third k T lt) (lane_fits second k S lt) (pairs k lt) (sym (fault_at k lt) ∙ none)
+  faultless_follows first here pairs k less none =
+      let lt : k < n = omega (arith, faults_len) in
+      lane_follows _ _ (lane_fits third k T lt) (lane_fits second k S lt) (pairs k (omega (arith, long))) (sym (fault_at k lt) ∙ none)
 
 -- Four loads, each one byte before the last.
-module _ (bytes : List ℕ) (place : ℕ) (start : 3 ≤ place) where
-  pub loaded_follow : (k : ℕ) → k < 16 → Follows (get_or (chunk (place - 3) 16 bytes) k 0) (get_or (chunk (place - 2) 16 bytes) k 0) (get_or (chunk (place - 1) 16 bytes) k 0) (get_or (chunk place 16 bytes) k 0)
+module _ (n : ℕ) (bytes : List ℕ) (place : ℕ) (start : 3 ≤ place) where
+  pub loaded_follow : (k : ℕ) → k < n → Follows (get_or (chunk (place - 3) n bytes) k 0) (get_or (chunk (place - 2) n bytes) k 0) (get_or (chunk (place - 1) n bytes) k 0) (get_or (chunk place n bytes) k 0)
       → AllMayFollow bytes (place + k) (place + k + 1)
   loaded_follow k lt follows j least most =
       let zero : place - 3 + k ≡ j = omega arith in
       let one : place - 2 + k ≡ j + 1 = omega arith in
       let two : place - 1 + k ≡ j + 2 = omega arith in
       let three : place + k ≡ j + 3 = omega arith in
-      rw (get_or-chunk (place - 3) 16 bytes k 0 lt, get_or-chunk (place - 2) 16 bytes k 0 lt, get_or-chunk (place - 1) 16 bytes k 0 lt, get_or-chunk place 16 bytes k 0 lt, zero, one, two, three) at follows
+      rw (get_or-chunk (place - 3) n bytes k 0 lt, get_or-chunk (place - 2) n bytes k 0 lt, get_or-chunk (place - 1) n bytes k 0 lt, get_or-chunk place n bytes k 0 lt, zero, one, two, three) at follows
 
 -- Masks.
 
@@ -221,102 +199,84 @@ not_not false e = e
 pub zero_before : (v : List ℕ) (k : ℕ) → k < prefix_len (λ x. not (not (eqb x 0))) v → get_or v k 0 ≡ 0
 zero_before v k lt = eqb-true (get_or v k 0) 0 (not_not _ (prefix_len_passes (λ x. not (not (eqb x 0))) v k 0 lt))
 
-abbrev pub differ_mask : List ℕ → ℕ
-differ_mask v = mask_l (map (top 7) (zip2 (λ a b. cond (not (eqb a b)) 255 0) v (replicate 16 0))) % 2 ^ 64
+abbrev pub differ_mask : ℕ → List ℕ → ℕ
+differ_mask n v = mask_l (map (top 7) (zip2 (λ a b. cond (not (eqb a b)) 255 0) v (replicate n 0))) % 2 ^ 64
 
-differ_mask_is : (v : List ℕ) → length v ≡ 16 → differ_mask v ≡ mask_l (map (λ x. not (eqb x 0)) v)
-differ_mask_is v long = bitmask_splat w8 (λ a b. not (eqb a b)) v 16 0 long (lit< tt)
+module _ {n : ℕ} (v : List ℕ) (few : n ≤ 64) (long : length v ≡ n) where
+  differ_mask_is : differ_mask n v ≡ mask_l (map (λ x. not (eqb x 0)) v)
+  differ_mask_is = bitmask_splat w8 (λ a b. not (eqb a b)) v n 0 long few
 
-pub none_differs : (v : List ℕ) → length v ≡ 16 → differ_mask v ≡ 0 → (k : ℕ) → k < 16 → get_or v k 0 ≡ 0
-none_differs v long none k lt =
-    let all = leading_from_mask_l (λ x. not (eqb x 0)) v (sym (differ_mask_is v long) ∙ none) in
-    zero_before v k (omega (arith, all, long))
+  pub none_differs : differ_mask n v ≡ 0 → (k : ℕ) → k < n → get_or v k 0 ≡ 0
+  none_differs none k lt =
+      let all = leading_from_mask_l (λ x. not (eqb x 0)) v (sym differ_mask_is ∙ none) in
+      zero_before v k (omega (arith, all, long))
 
-pub first_differs : (v : List ℕ) (r : ℕ) → length v ≡ 16 → (differ_mask v ≡ 0 → ⊥) → r ≡ count_trailing_zeros 64 (differ_mask v)
-    → (r ≤ 16) × ((k : ℕ) → k < r → get_or v k 0 ≡ 0)
-first_differs v r long some e =
-    let mask = differ_mask_is v long in
-    let first = trailing_mask_l (λ x. not (eqb x 0)) 64 v (omega (arith, long)) (omega (arith, mask)) in
-    let at : r ≡ prefix_len (λ x. not (not (eqb x 0))) v = rw mask at e ∙ first in
-    (omega (arith, at, prefix_len-le-length (λ x. not (not (eqb x 0))) v, long), λ k lt. zero_before v k (omega (arith, at)))
+  pub first_differs : (r : ℕ) → (differ_mask n v ≡ 0 → ⊥) → r ≡ count_trailing_zeros 64 (differ_mask n v) → (r ≤ n) × ((k : ℕ) → k < r → get_or v k 0 ≡ 0)
+  first_differs r some e =
+      let mask = differ_mask_is in
+      let first = trailing_mask_l (λ x. not (eqb x 0)) 64 v (omega (arith, long)) (omega (arith, mask)) in
+      let at : r ≡ prefix_len (λ x. not (not (eqb x 0))) v = rw mask at e ∙ first in
+      (omega (arith, at, prefix_len-le-length (λ x. not (not (eqb x 0))) v, long), λ k lt. zero_before v k (omega (arith, at)))
 
 abbrev at_most : ℕ → ℕ → ℕ
 at_most a b = cond (leb a b) 255 0
 
 -- which lanes reach a number
-abbrev pub reach_mask : ℕ → List ℕ → ℕ
-reach_mask n v = mask_l (map (top 7) (zip2 at_most (replicate 16 n) v)) % 2 ^ 64
+abbrev pub reach_mask : ℕ → ℕ → List ℕ → ℕ
+reach_mask n y v = mask_l (map (top 7) (zip2 at_most (replicate n y) v)) % 2 ^ 64
 
-not_reached : (n x : ℕ) → not (leb n x) ≡ true → x < n
-not_reached n x e = leb-false n x (flip (leb n x) e)
+not_reached : (y x : ℕ) → not (leb y x) ≡ true → x < y
+not_reached y x e = leb-false y x (flip (leb y x) e)
   where
     flip : (b : Bool) → not b ≡ true → b ≡ false
     flip true e = sym e
     flip false e = refl
 
-pub none_reach : (n : ℕ) (v : List ℕ) → length v ≡ 16 → reach_mask n v ≡ 0 → (k : ℕ) → k < 16 → get_or v k 0 < n
-none_reach n v long none k lt =
-    let turned : zip2 at_most (replicate 16 n) v ≡ zip2 (λ a b. at_most b a) v (replicate 16 n)
-    = zip2_splat_left at_most n 16 v long ∙ sym (zip2_splat (λ a b. at_most b a) v 16 n long) in
-    let mask : reach_mask n v ≡ mask_l (map (λ x. leb n x) v) = rw turned (bitmask_splat w8 (λ a b. leb b a) v 16 n long (lit< tt)) in
-    let all : prefix_len (λ x. not (leb n x)) v ≡ length v = leading_from_mask_l (λ x. leb n x) v (sym mask ∙ none) in
-    not_reached n (get_or v k 0) (prefix_len_passes (λ x. not (leb n x)) v k 0 (omega (arith, all, long)))
+pub none_reach : {n : ℕ} (y : ℕ) (v : List ℕ) → n ≤ 64 → length v ≡ n → reach_mask n y v ≡ 0 → (k : ℕ) → k < n → get_or v k 0 < y
+none_reach {n} y v few long none k lt =
+    let turned : zip2 at_most (replicate n y) v ≡ zip2 (λ a b. at_most b a) v (replicate n y)
+    = zip2_splat_left at_most y n v long ∙ sym (zip2_splat (λ a b. at_most b a) v n y long) in
+    let mask : reach_mask n y v ≡ mask_l (map (λ x. leb y x) v) = rw turned (bitmask_splat w8 (λ a b. leb b a) v n y long few) in
+    let all : prefix_len (λ x. not (leb y x)) v ≡ length v = leading_from_mask_l (λ x. leb y x) v (sym mask ∙ none) in
+    not_reached y (get_or v k 0) (prefix_len_passes (λ x. not (leb y x)) v k 0 (omega (arith, all, long)))
 
--- Four blocks at once.
+-- Some vectors at once: no lane of one is greater than that of all.
 
-module _ (p q r s : List ℕ) (lp : length p ≡ 16) (lq : length q ≡ 16) (lr : length r ≡ 16) (ls : length s ≡ 16) where
-  abbrev any : List ℕ
-  any = zip2 bit_or (zip2 bit_or p q) (zip2 bit_or r s)
+module _ {n : ℕ} (p q : List ℕ) (lp : length p ≡ n) (lq : length q ≡ n) (k : ℕ) (lt : k < n) where
+  either_le : (get_or p k 0 ≤ get_or (zip2 bit_or p q) k 0) × (get_or q k 0 ≤ get_or (zip2 bit_or p q) k 0)
+  either_le =
+      let either = lane bit_or p q lp lq k lt in
+      (omega (arith, either, le_or_l (get_or p k 0) (get_or q k 0)), omega (arith, either, le_or_r (get_or p k 0) (get_or q k 0)))
 
-  any_len : length any ≡ 16
-  any_len = wide bit_or (zip2 bit_or p q) (zip2 bit_or r s) (wide bit_or p q lp lq) (wide bit_or r s lr ls)
+module _ {n : ℕ} (p q : List ℕ) (few : n ≤ 64) (lp : length p ≡ n) (lq : length q ≡ n) where
+  pub both_zero : differ_mask n (zip2 bit_or p q) ≡ 0 → (k : ℕ) → k < n → (get_or p k 0 ≡ 0) × (get_or q k 0 ≡ 0)
+  both_zero none k lt =
+      let zero = none_differs (zip2 bit_or p q) few (wide bit_or p q lp lq) none k lt in
+      let le = either_le p q lp lq k lt in
+      (omega (arith, le.0), omega (arith, le.1))
 
-  -- no lane of the four is greater than that of all
-  each_le : (k : ℕ) → k < 16 → (get_or p k 0 ≤ get_or any k 0) × (get_or q k 0 ≤ get_or any k 0) × (get_or r k 0 ≤ get_or any k 0) × (get_or s k 0 ≤ get_or any k 0)
-  each_le k lt =
-      let whole = lane bit_or (zip2 bit_or p q) (zip2 bit_or r s) (wide bit_or p q lp lq) (wide bit_or r s lr ls) k lt in
-      let first = lane bit_or p q lp lq k lt in
-      let second = lane bit_or r s lr ls k lt in
-      let a = get_or p k 0 in
-      let b = get_or q k 0 in
-      let c = get_or r k 0 in
-      let d = get_or s k 0 in
-      let front = le_or_l (get_or (zip2 bit_or p q) k 0) (get_or (zip2 bit_or r s) k 0) in
-      let back = le_or_r (get_or (zip2 bit_or p q) k 0) (get_or (zip2 bit_or r s) k 0) in
-      let p_le = le_or_l a b in
-      let q_le = le_or_r a b in
-      let r_le = le_or_l c d in
-      let s_le = le_or_r c d in
-      (omega arith, omega arith, omega arith, omega arith)
+  both_low : reach_mask n 0x80 (zip2 bit_or p q) ≡ 0 → (k : ℕ) → k < n → (get_or p k 0 < 0x80) × (get_or q k 0 < 0x80)
+  both_low none k lt =
+      let low = none_reach 0x80 (zip2 bit_or p q) few (wide bit_or p q lp lq) none k lt in
+      let le = either_le p q lp lq k lt in
+      (omega (arith, le.0), omega (arith, le.1))
 
-  pub all_zero : differ_mask any ≡ 0 → (k : ℕ) → k < 16 → (get_or p k 0 ≡ 0) × (get_or q k 0 ≡ 0) × (get_or r k 0 ≡ 0) × (get_or s k 0 ≡ 0)
-  all_zero none k lt =
-      let zero = none_differs any any_len none k lt in
-      let le = each_le k lt in
-      (omega (arith, le.0), omega (arith, le.1), omega (arith, le.2), omega (arith, le.3))
+pub all_zero : {n : ℕ} (p q r s : List ℕ) → n ≤ 64 → length p ≡ n → length q ≡ n → length r ≡ n → length s ≡ n → differ_mask n (zip2 bit_or (zip2 bit_or p q) (zip2 bit_or r s)) ≡ 0
+    → (k : ℕ) → k < n → (get_or p k 0 ≡ 0) × (get_or q k 0 ≡ 0) × (get_or r k 0 ≡ 0) × (get_or s k 0 ≡ 0)
+all_zero p q r s few lp lq lr ls none k lt =
+    let both = both_zero (zip2 bit_or p q) (zip2 bit_or r s) few (wide bit_or p q lp lq) (wide bit_or r s lr ls) none k lt in
+    let front = either_le p q lp lq k lt in
+    let back = either_le r s lr ls k lt in
+    (omega (arith, both.0, front.0), omega (arith, both.0, front.1), omega (arith, both.1, back.0), omega (arith, both.1, back.1))
 
-  all_low : reach_mask 0x80 any ≡ 0 → (k : ℕ) → k < 16 → (get_or p k 0 < 0x80) × (get_or q k 0 < 0x80) × (get_or r k 0 < 0x80) × (get_or s k 0 < 0x80)
-  all_low none k lt =
-      let low = none_reach 0x80 any any_len none k lt in
-      let le = each_le k lt in
-      (omega (arith, le.0), omega (arith, le.1), omega (arith, le.2), omega (arith, le.3))
-
--- 64 bytes by four loads
-pub loads_low : (bytes : List ℕ) (place : ℕ) → place + 64 ≤ length bytes
-    → reach_mask 0x80 (zip2 bit_or (zip2 bit_or (chunk place 16 bytes) (chunk (place + 16) 16 bytes)) (zip2 bit_or (chunk (place + 32) 16 bytes) (chunk (place + 48) 16 bytes))) ≡ 0
-    → (k : ℕ) → k < 64 → get_or bytes (place + k) 0 < 0x80
-loads_low bytes place within none k lt =
-    let low = all_low (chunk place 16 bytes) (chunk (place + 16) 16 bytes) (chunk (place + 32) 16 bytes) (chunk (place + 48) 16 bytes)
-    (length-chunk place 16 bytes (omega arith)) (length-chunk (place + 16) 16 bytes (omega arith)) (length-chunk (place + 32) 16 bytes (omega arith)) (length-chunk (place + 48) 16 bytes (omega arith)) none in
-    elim (cases_lt k 16) [
-      | inl a ↦ rw (get_or-chunk place 16 bytes k 0 a) at (low k a).0
-      | inr a ↦ elim (cases_lt k 32) [
-        | inl b ↦ (let at : place + 16 + (k - 16) ≡ place + k = omega arith in rw (get_or-chunk (place + 16) 16 bytes (k - 16) 0 (omega arith), at) at (low (k - 16) (omega arith)).1)
-        | inr b ↦ elim (cases_lt k 48) [
-          | inl c ↦ (let at : place + 32 + (k - 32) ≡ place + k = omega arith in rw (get_or-chunk (place + 32) 16 bytes (k - 32) 0 (omega arith), at) at (low (k - 32) (omega arith)).2)
-          | inr c ↦ (let at : place + 48 + (k - 48) ≡ place + k = omega arith in rw (get_or-chunk (place + 48) 16 bytes (k - 48) 0 (omega arith), at) at (low (k - 48) (omega arith)).3)
-        ]
-      ]
+-- bytes by two loads
+pub loads_low : (n : ℕ) (bytes : List ℕ) (place : ℕ) → n ≤ 64 → place + (n + n) ≤ length bytes → reach_mask n 0x80 (zip2 bit_or (chunk place n bytes) (chunk (place + n) n bytes)) ≡ 0
+    → (k : ℕ) → k < n + n → get_or bytes (place + k) 0 < 0x80
+loads_low n bytes place few within none k lt =
+    let low = both_low (chunk place n bytes) (chunk (place + n) n bytes) few (length-chunk place n bytes (omega arith)) (length-chunk (place + n) n bytes (omega arith)) none in
+    elim (cases_lt k n) [
+      | inl a ↦ rw (get_or-chunk place n bytes k 0 a) at (low k a).0
+      | inr a ↦ (let at : place + n + (k - n) ≡ place + k = omega arith in rw (get_or-chunk (place + n) n bytes (k - n) 0 (omega arith), at) at (low (k - n) (omega arith)).1)
     ]
 
 -- Bytes that may follow, one part after another.

@@ -12,9 +12,11 @@ pub mod CompressPairs
 pub mod CompressRows
 pub mod CompressLanes
 pub mod LaneLemmas
+pub mod LookUps
 pub mod NoneBegins
 pub mod PairTables
 pub mod PairedUnits
+pub mod PassedLanes
 pub mod SameLanes
 pub mod SlotLanes
 pub mod SwappedBytes
@@ -24,5 +26,4 @@ pub mod UnitLanes
 pub mod UnitPairs
 pub mod UnitSlots
 pub mod ValueSums
-pub mod VectorLanes
 pub mod WideShuffles

@@ -8,8 +8,7 @@ use Rattle.utf_base.specs.Units.{is_leading_surrogate, is_trailing_surrogate}
 use Rattle.std.specs.Prelude.{slice_index}
 use Rattle.utf_lanes.specs.Lanes.{ones_where}
 use Rattle.utf_lanes.specs.UnitBlocks.{AllPaired, ZerosPair}
-use Rattle.utf_lanes.proofs.LaneLemmas.{zero_before}
-use Rattle.utf_lanes.proofs.SameLanes.{wide_of, lane_of}
+use Rattle.utf_lanes.proofs.LaneLemmas.{wide, lane, zero_before}
 use Rattle.utf_lanes.proofs.UnitPairs.{pair_lanes, pair_more}
 
 -- A unit by its upper six bits.
@@ -38,7 +37,7 @@ module _ (us : List ℕ) (place : ℕ) (start : 1 ≤ place) (within : place + 8
   before = zip2 down (chunk (place - 1) 8 us) (replicate 8 10)
 
   shifted : (n k : ℕ) → n + 8 ≤ length us → k < 8 → get_or (zip2 down (chunk n 8 us) (replicate 8 10)) k 0 ≡ get_or us (n + k) 0 / 1024
-  shifted n k room lt = rw (lane_of 8 down (chunk n 8 us) (replicate 8 10) (length-chunk n 8 us room) refl k lt, get_or-chunk n 8 us k 0 lt, get_or-replicate {A = ℕ} 8 k 10 0 lt) refl
+  shifted n k room lt = rw (lane down (chunk n 8 us) (replicate 8 10) (length-chunk n 8 us room) refl k lt, get_or-chunk n 8 us k 0 lt, get_or-replicate {A = ℕ} 8 k 10 0 lt) refl
 
   pub lanes_pair : (xs ys : List ℕ) → length xs ≡ 8 → length ys ≡ 8 → ((k : ℕ) → k < 8 → get_or xs k 0 ≡ ones_where 0xFFFF here 55 k)
       → ((k : ℕ) → k < 8 → get_or ys k 0 ≡ ones_where 0xFFFF before 54 k) → ZerosPair us place (slice_index (zip2 bit_xor xs ys))
@@ -47,7 +46,7 @@ module _ (us : List ℕ) (place : ℕ) (start : 1 ≤ place) (within : place + 8
       let one : place - 1 + k ≡ j = omega arith in
       let e : bit_xor (cond (is_trailing_surrogate (get_or us (j + 1) 0)) 0xFFFF 0) (cond (is_leading_surrogate (get_or us j 0)) 0xFFFF 0) ≡ 0
       = rw (
-        lane_of 8 bit_xor xs ys p q k lt,
+        lane bit_xor xs ys p q k lt,
         x k lt,
         y k lt,
         shifted place k (omega arith) lt,
@@ -60,7 +59,7 @@ module _ (us : List ℕ) (place : ℕ) (start : 1 ≤ place) (within : place + 8
       agree _ _ e
 
 pub unpaired_len : (xs ys : List ℕ) → length xs ≡ 8 → length ys ≡ 8 → length (zip2 bit_xor xs ys) ≡ 8
-unpaired_len xs ys p q = wide_of 8 bit_xor xs ys p q
+unpaired_len xs ys p q = wide bit_xor xs ys p q
 
 -- Four vectors at once.
 
@@ -79,10 +78,10 @@ module _ (p q r s : List ℕ) (lp : length p ≡ 8) (lq : length q ≡ 8) (lr : 
 
   all_zero : differ_mask any ≡ 0 → (k : ℕ) → k < 8 → (get_or p k 0 ≡ 0) × (get_or q k 0 ≡ 0) × (get_or r k 0 ≡ 0) × (get_or s k 0 ≡ 0)
   all_zero none k lt =
-      let zeros = none_differs any (wide_of 8 bit_or (zip2 bit_or p q) (zip2 bit_or r s) (wide_of 8 bit_or p q lp lq) (wide_of 8 bit_or r s lr ls)) none k lt in
-      let whole = lane_of 8 bit_or (zip2 bit_or p q) (zip2 bit_or r s) (wide_of 8 bit_or p q lp lq) (wide_of 8 bit_or r s lr ls) k lt in
-      let first = lane_of 8 bit_or p q lp lq k lt in
-      let second = lane_of 8 bit_or r s lr ls k lt in
+      let zeros = none_differs any (wide bit_or (zip2 bit_or p q) (zip2 bit_or r s) (wide bit_or p q lp lq) (wide bit_or r s lr ls)) none k lt in
+      let whole = lane bit_or (zip2 bit_or p q) (zip2 bit_or r s) (wide bit_or p q lp lq) (wide bit_or r s lr ls) k lt in
+      let first = lane bit_or p q lp lq k lt in
+      let second = lane bit_or r s lr ls k lt in
       let front = le_or_l (get_or (zip2 bit_or p q) k 0) (get_or (zip2 bit_or r s) k 0) in
       let back = le_or_r (get_or (zip2 bit_or p q) k 0) (get_or (zip2 bit_or r s) k 0) in
       let p_le = le_or_l (get_or p k 0) (get_or q k 0) in

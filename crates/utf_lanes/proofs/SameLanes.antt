@@ -33,11 +33,3 @@ module _ (w : Width) (n full : ℕ) (xs : List ℕ) (y : ℕ) (x : length xs ≡
         get_or-replicate {A = ℕ} n k full 0 lt,
         get_or-replicate {A = ℕ} n k 0 0 lt,
       ) refl
-
--- Two vectors of one length.
-
-pub wide_of : (n : ℕ) (f : ℕ → ℕ → ℕ) (xs ys : List ℕ) → length xs ≡ n → length ys ≡ n → length (zip2 f xs ys) ≡ n
-wide_of n f xs ys p q = length-zip2 f xs ys (p ∙ sym q) ∙ p
-
-pub lane_of : (n : ℕ) (f : ℕ → ℕ → ℕ) (xs ys : List ℕ) → length xs ≡ n → length ys ≡ n → (k : ℕ) → k < n → get_or (zip2 f xs ys) k 0 ≡ f (get_or xs k 0) (get_or ys k 0)
-lane_of n f xs ys p q k lt = get_or-zip2 f xs ys k 0 0 0 (omega (arith, p)) (omega (arith, q))

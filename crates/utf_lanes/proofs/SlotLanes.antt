@@ -10,7 +10,7 @@ use Rattle.utf_lanes.specs.Lanes.{ArePairs}
 use Rattle.utf_lanes.specs.UnitCodes.{nonzero_lead, lane_bytes, slot_at, slots_of, short_slots_of, marked, row_bytes, row_of, row_slots, lanes_at, lanes_of}
 use Rattle.utf_lanes.proofs.BlockUnits.{low_bit, high_bit}
 use Rattle.utf_lanes.proofs.Joined.{joined_halves}
-use Rattle.utf_lanes.proofs.VectorLanes.{passed_mask, passed_most, passed_bits}
+use Rattle.utf_lanes.proofs.PassedLanes.{passed_mask, passed_most, passed_bits}
 
 -- What the first and the second of each pair of a vector are.
 abbrev HasBoth : List ℕ → (ℕ → ℕ) → (ℕ → ℕ) → Type 0

@@ -9,8 +9,8 @@ use Rattle.std.specs.Int.{bit_at}
 use lib.Lanes.{zip2, mask_l, top}
 use Rattle.utf_lanes.specs.Lanes.{AreBits, AreLanes, lane_of_two, lane_of_three, lane_of_four}
 use Rattle.utf_lanes.specs.Utf8ToUtf16.{ends_unit, low_half, high_half, unit_low, unit_high, leading_low, leading_high, trailing_high, continued_byte}
-use Rattle.utf_lanes.proofs.LaneLemmas.{IsBlock, wide, lane, lane_with, excess, excess_len, excess_at}
-use Rattle.utf_lanes.proofs.ChosenLanes.{wide_with, where_below, where_below_len, where_below_at}
+use Rattle.utf_lanes.proofs.LaneLemmas.{IsVector, wide, wide_with, lane, lane_with, excess, excess_len, excess_at}
+use Rattle.utf_lanes.proofs.ChosenLanes.{where_below, where_below_len, where_below_at}
 
 -- Which lanes give a unit.
 
@@ -19,24 +19,24 @@ greater_below c d true t u e f g = grind (arith, common_steps)
 greater_below c d false t u e f g = grind (arith, common_steps)
 
 abbrev later : List ℕ → List ℕ → List ℕ
-later before here = where_below (excess before 0x20) here here (excess before 0x20)
+later before here = where_below (excess 16 before 0x20) here here (excess 16 before 0x20)
 
 abbrev giving_mask : List ℕ → List ℕ → ℕ
 giving_mask before here = mask_l (map (top 7) (zip2 (λ a b. cond (ltb a b) 255 0) (later before here) (replicate 16 0xC0))) % 2 ^ 64
 
-module _ (before here : List ℕ) (p : IsBlock before) (q : IsBlock here) where
-  less_len : length (excess before 0x20) ≡ 16
+module _ (before here : List ℕ) (p : IsVector 16 before) (q : IsVector 16 here) where
+  less_len : length (excess 16 before 0x20) ≡ 16
   less_len = excess_len before 0x20 p (lit< tt)
 
   later_len : length (later before here) ≡ 16
-  later_len = where_below_len (excess before 0x20) here here (excess before 0x20) less_len q.0 q.0 less_len
+  later_len = where_below_len (excess 16 before 0x20) here here (excess 16 before 0x20) less_len q.0 q.0 less_len
 
   mask_is : giving_mask before here ≡ mask_l (map (λ x. ltb x 0xC0) (later before here))
   mask_is = bitmask_splat w8 ltb (later before here) 16 0xC0 later_len (lit< tt)
 
   lane_gives : (k : ℕ) → k < 16 → ltb (get_or (later before here) k 0) 0xC0 ≡ ends_unit (get_or before k 0) (get_or here k 0)
   lane_gives k lt =
-      rw (where_below_at (excess before 0x20) here here (excess before 0x20) less_len q.0 q.0 less_len k lt, excess_at before 0x20 p (lit< tt) k lt)
+      rw (where_below_at (excess 16 before 0x20) here here (excess 16 before 0x20) less_len q.0 q.0 less_len k lt, excess_at before 0x20 p (lit< tt) k lt)
       (greater_below (get_or before k 0) (get_or here k 0) _ _ _ refl refl refl)
 
   mask_bit : (k : ℕ) → k < 16 → bit_at (giving_mask before here) k ≡ cond (ends_unit (get_or before k 0) (get_or here k 0)) 1 0
@@ -82,9 +82,9 @@ abbrev pub lows : List ℕ → List ℕ → List ℕ
 lows first here = zip2 added (zip2 bit_and here (replicate 16 0x7F)) (zip2 up (continues first here) (replicate 16 6))
 
 abbrev pub highs : List ℕ → List ℕ → List ℕ → List ℕ
-highs second first here = zip2 added (zip2 bit_and (zip2 down (continues first here) (replicate 16 2)) (replicate 16 15)) (zip2 up (excess second 0xE0) (replicate 16 4))
+highs second first here = zip2 added (zip2 bit_and (zip2 down (continues first here) (replicate 16 2)) (replicate 16 15)) (zip2 up (excess 16 second 0xE0) (replicate 16 4))
 
-module _ (first here : List ℕ) (q : IsBlock first) (r : IsBlock here) where
+module _ (first here : List ℕ) (q : IsVector 16 first) (r : IsVector 16 here) where
   continues_len : length (continues first here) ≡ 16
   continues_len = where_below_len here (replicate 16 0x80) (replicate 16 0) first r.0 refl refl q.0
 
@@ -105,12 +105,12 @@ module _ (first here : List ℕ) (q : IsBlock first) (r : IsBlock here) where
         and_mask (get_or here k 0) 7,
       ) refl
 
-  module _ (second : List ℕ) (p : IsBlock second) where
+  module _ (second : List ℕ) (p : IsVector 16 second) where
     upper_len : length (zip2 bit_and (zip2 down (continues first here) (replicate 16 2)) (replicate 16 15)) ≡ 16
     upper_len = wide_with bit_and _ 15 (wide_with down (continues first here) 2 continues_len)
 
-    third_len : length (zip2 up (excess second 0xE0) (replicate 16 4)) ≡ 16
-    third_len = wide_with up (excess second 0xE0) 4 (excess_len second 0xE0 p (lit< tt))
+    third_len : length (zip2 up (excess 16 second 0xE0) (replicate 16 4)) ≡ 16
+    third_len = wide_with up (excess 16 second 0xE0) 4 (excess_len second 0xE0 p (lit< tt))
 
     pub highs_len : length (highs second first here) ≡ 16
     highs_len = wide added _ _ upper_len third_len
@@ -118,10 +118,10 @@ module _ (first here : List ℕ) (q : IsBlock first) (r : IsBlock here) where
     pub highs_at : (k : ℕ) → k < 16 → get_or (highs second first here) k 0 ≡ high_half (get_or second k 0) (get_or first k 0) (get_or here k 0)
     highs_at k lt =
         rw (
-          lane added (zip2 bit_and (zip2 down (continues first here) (replicate 16 2)) (replicate 16 15)) (zip2 up (excess second 0xE0) (replicate 16 4)) upper_len third_len k lt,
+          lane added (zip2 bit_and (zip2 down (continues first here) (replicate 16 2)) (replicate 16 15)) (zip2 up (excess 16 second 0xE0) (replicate 16 4)) upper_len third_len k lt,
           lane_with bit_and (zip2 down (continues first here) (replicate 16 2)) 15 (wide_with down (continues first here) 2 continues_len) k lt,
           lane_with down (continues first here) 2 continues_len k lt,
-          lane_with up (excess second 0xE0) 4 (excess_len second 0xE0 p (lit< tt)) k lt,
+          lane_with up (excess 16 second 0xE0) 4 (excess_len second 0xE0 p (lit< tt)) k lt,
           continues_at k lt,
           excess_at second 0xE0 p (lit< tt) k lt,
           and_mask (continued_byte (get_or first k 0) (get_or here k 0) / 4) 4,

@@ -12,7 +12,8 @@ use Rattle.utf_lanes.specs.BytePairs.{unit_number}
 use Rattle.utf_lanes.specs.UnitCodes.{lane_unit, lane_after, first_byte, middle_byte, last_byte, lead_byte, second_byte, third_byte, first_in_text, middle_in_text, last_in_text}
 use Rattle.utf_lanes.proofs.BlockUnits.{below_8}
 use Rattle.utf_lanes.proofs.UnitLanes.{added, up, down}
-use Rattle.utf_lanes.proofs.VectorLanes.{IsVector, vector_fits, wide, wide_with, lane, lane_with, where_passed, where_passed_len, where_passed_at, passed_mask, none_passes}
+use Rattle.utf_lanes.proofs.LaneLemmas.{IsVector, lane_fits, wide, wide_with, lane, lane_with}
+use Rattle.utf_lanes.proofs.PassedLanes.{where_passed, where_passed_len, where_passed_at, passed_mask, none_passes}
 
 -- Tests of all lanes, and of each.
 
@@ -110,7 +111,7 @@ module _ {n : ℕ} (high : List ℕ) (q : IsVector n high) where
         lane_with added (zip2 down high (replicate n 4)) 0xE0 (wide_with down high 4 q.0) k lt,
         lane_with down high 4 q.0 k lt,
       )
-      (first_is (get_or high k 0) (vector_fits high k q lt))
+      (first_is (get_or high k 0) (lane_fits high k q lt))
 
   pub firsts_are : AreLanesOf n firsts (λ k. first_byte (get_or high k 0 * 256))
   firsts_are = record { wide = where_passed_len n ltb high 8 (replicate n 0) longs q.0 (length-replicate n 0) longs_len; each = firsts_at }
@@ -154,7 +155,7 @@ module _ {n : ℕ} (low high : List ℕ) (p : IsVector n low) (q : IsVector n hi
         lane_with added bits 0x80 bits_len k lt,
         bits_at k lt,
       )
-      (middle_is (get_or high k 0) (get_or low k 0) (vector_fits high k q lt) (vector_fits low k p lt))
+      (middle_is (get_or high k 0) (get_or low k 0) (lane_fits high k q lt) (lane_fits low k p lt))
 
   pub middles_are : AreLanesOf n middles (λ k. middle_byte (lane_unit low high k))
   middles_are = record { wide = where_passed_len n ltb high 8 leads (zip2 added bits (replicate n 0x80)) q.0 leads_len (wide_with added bits 0x80 bits_len); each = middles_at }
@@ -178,7 +179,7 @@ module _ {n : ℕ} (low high : List ℕ) (p : IsVector n low) (q : IsVector n hi
           lane_with bit_and low 0x3F p.0 k lt,
           and_mask (get_or low k 0) 6,
         )
-        (last_is (get_or high k 0) (get_or low k 0) (get_or middle k 0) (vector_fits high k q lt) (vector_fits low k p lt) (m.each k lt))
+        (last_is (get_or high k 0) (get_or low k 0) (get_or middle k 0) (lane_fits high k q lt) (lane_fits low k p lt) (m.each k lt))
 
     pub lasts_are : AreLanesOf n lasts (λ k. last_byte (lane_unit low high k))
     lasts_are = record { wide = where_passed_len n ltb middle 1 low rests m.wide p.0 rests_len; each = lasts_at }
@@ -209,7 +210,7 @@ module _ {n : ℕ} (low : List ℕ) (p : IsVector n low) where
         lane_with down low 2 p.0 k lt,
         and_mask (added (get_or low k 0 / 4) 16) 6,
       )
-      (second_is (get_or low k 0) (vector_fits low k p lt))
+      (second_is (get_or low k 0) (lane_fits low k p lt))
 
   pub second_lanes_are : AreLanesOf n second_lanes (λ k. second_byte (get_or low k 0))
   second_lanes_are = record { wide = wide_with added _ 0x80 (wide_with bit_and sums 0x3F sums_len); each = second_lanes_at }
@@ -228,7 +229,7 @@ module _ {n : ℕ} (low : List ℕ) (p : IsVector n low) where
           get_or-replicate {A = ℕ} n k 0xF1 0 lt,
           and_mask (get_or high k 0) 2,
         )
-        (lead_is (get_or high k 0) (get_or low k 0) (vector_fits high k q lt) (vector_fits low k p lt))
+        (lead_is (get_or high k 0) (get_or low k 0) (lane_fits high k q lt) (lane_fits low k p lt))
 
     pub lead_lanes_are : AreLanesOf n lead_lanes (λ k. lead_byte (lane_unit low high k))
     lead_lanes_are = record { wide = wide added _ _ (wide_with bit_and high 3 q.0) carries_len; each = lead_lanes_at }
@@ -266,7 +267,7 @@ module _ {n : ℕ} (low : List ℕ) (p : IsVector n low) where
             and_mask (get_or before k 0) 2,
             and_mask (get_or high k 0) 2,
           )
-          (third_is (get_or before k 0) (get_or high k 0) (get_or low k 0) (vector_fits high k q lt) (vector_fits low k p lt))
+          (third_is (get_or before k 0) (get_or high k 0) (get_or low k 0) (lane_fits high k q lt) (lane_fits low k p lt))
 
       pub third_lanes_are : AreLanesOf n third_lanes (lane_after third_byte before low high)
       third_lanes_are = record { wide = wide_with added _ 0x80 (wide added twos fours twos_len fours_len); each = third_lanes_at }
@@ -302,10 +303,10 @@ module _ {n : ℕ} (high : List ℕ) (q : IsVector n high) where
 
   module _ (low : List ℕ) (p : IsVector n low) where
     eighth : (k : ℕ) → k < n → eqb (get_or eighths k 0) 0x1B ≡ is_surrogate (lane_unit low high k)
-    eighth k lt = rw (lane_with down high 3 q.0 k lt) (surrogate_is (get_or high k 0) (get_or low k 0) (vector_fits low k p lt))
+    eighth k lt = rw (lane_with down high 3 q.0 k lt) (surrogate_is (get_or high k 0) (get_or low k 0) (lane_fits low k p lt))
 
     fourth : (k : ℕ) → k < n → eqb (get_or fourths k 0) 0x36 ≡ is_leading_surrogate (lane_unit low high k)
-    fourth k lt = rw (lane_with down high 2 q.0 k lt) (leading_is (get_or high k 0) (get_or low k 0) (vector_fits low k p lt))
+    fourth k lt = rw (lane_with down high 2 q.0 k lt) (leading_is (get_or high k 0) (get_or low k 0) (lane_fits low k p lt))
 
     pub text_lasts_are : {second last : List ℕ} → AreLanesOf n second (λ k. second_byte (get_or low k 0)) → AreLanesOf n last (λ k. last_byte (lane_unit low high k))
         → AreLanesOf n (where_passed n eqb fourths 0x36 second last) (λ k. last_in_text (lane_unit low high k))

@@ -7,3 +7,4 @@ pub mod Utf8ToUtf16
 pub mod UnitBlocks
 pub mod UnitCodes
 pub mod FewBytes
+pub mod LookUps

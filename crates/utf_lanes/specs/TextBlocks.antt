@@ -1,5 +1,5 @@
 -- Text judged by each byte and the three before it.
-use Rattle.std.specs.Prelude.{◌≡◌, ℕ, ◌+◌, ◌<◌, ◌≤◌, List, slice_index, bit_xor}
+use Rattle.std.specs.Prelude.{◌≡◌, ℕ, ◌+◌, ◌<◌, ◌≤◌, List, length, slice_index, bit_xor}
 
 -- a continuation byte
 abbrev pub IsContinuation : ℕ → Type 0
@@ -32,12 +32,12 @@ AllMayFollow xs i j = (k : ℕ) → i ≤ k + 3 → k + 3 < j → Follows (slice
 
 -- a lane that is 0 tells so of the byte of its number, counted from the place i on
 abbrev pub ZerosFollow : List ℕ → ℕ → List ℕ → Type 0
-ZerosFollow xs i v = (k : ℕ) → k < 16 → slice_index v k ≡ 0 → AllMayFollow xs (i + k) (i + k + 1)
+ZerosFollow xs i v = (k : ℕ) → k < length v → slice_index v k ≡ 0 → AllMayFollow xs (i + k) (i + k + 1)
 
 -- a lane that is 0 tells that the byte in that lane of the last vector may follow those of the three others
 abbrev pub ZeroLanesFollow : List ℕ → List ℕ → List ℕ → List ℕ → List ℕ → Type 0
 ZeroLanesFollow third second first here v =
-    (k : ℕ) → k < 16 → slice_index v k ≡ 0 → Follows (slice_index third k) (slice_index second k) (slice_index first k) (slice_index here k)
+    (k : ℕ) → k < length v → slice_index v k ≡ 0 → Follows (slice_index third k) (slice_index second k) (slice_index first k) (slice_index here k)
 
 -- the three bytes before the place ask for no more
 abbrev pub EndsCharacter : List ℕ → ℕ → Type 0
@@ -50,4 +50,4 @@ pub record IsPair (c d left : ℕ) : Type 0 where
 
 -- each lane of `left` is what look-ups leave of the byte in that lane of `here`, after the one in that of `before`
 abbrev pub ArePairsLeft : List ℕ → List ℕ → List ℕ → Type 0
-ArePairsLeft before here left = (k : ℕ) → k < 16 → IsPair (slice_index before k) (slice_index here k) (slice_index left k)
+ArePairsLeft before here left = (k : ℕ) → k < length left → IsPair (slice_index before k) (slice_index here k) (slice_index left k)

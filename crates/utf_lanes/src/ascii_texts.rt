@@ -92,9 +92,8 @@ pub fn is_ascii_block(bytes: &[u8], place: usize) -> bool
     requires { place + 64 ≤ length bytes.now }
     ensures { IsTrue result → (k : ℕ) → k < 64 → slice_index bytes.now (place + k) < 0x80 }
 {
-    let first = u8x16::from_slice(&bytes[place..]) | u8x16::from_slice(&bytes[place + 16..]);
-    let second = u8x16::from_slice(&bytes[place + 32..]) | u8x16::from_slice(&bytes[place + 48..]);
-    (first | second).simd_ge(u8x16::splat(0x80)).to_bitmask() == 0
+    let either = u8x32::from_slice(&bytes[place..]) | u8x32::from_slice(&bytes[place + 32..]);
+    either.simd_ge(u8x32::splat(0x80)).to_bitmask() == 0
 }
 
 // Where the blocks of ASCII end that begin at the place.

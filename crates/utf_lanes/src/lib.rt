@@ -1,7 +1,7 @@
 //! Bytes and units judged in lanes, and blocks of one form of text made from blocks of another.
 //!
 //! - Judged: `text_blocks` says how far bytes are text, `unit_blocks` and `paired_units` how far units are well-formed, and
-//!   `ascii_texts` whether bytes are ASCII.
+//!   `ascii_texts` whether bytes are ASCII. `look_ups` has what depends on the number of lanes there.
 //! - Made: `text_puts` and `text_units` make units of text in UTF-8, `utf16_blocks` text in UTF-8 of sixteen or thirty-two units,
 //!   and `byte_pairs` units in the other order of bytes; what stays in its form is only judged.
 //! - `text_front` gives one character at the front of bytes.
@@ -14,6 +14,7 @@ pub mod ascii_texts;
 pub mod byte_pairs;
 mod compressed;
 mod few_bytes;
+mod look_ups;
 pub mod paired_units;
 mod shuffles;
 mod sixteen_slots;

@@ -1,4 +1,4 @@
-//! How far bytes are text, judged sixteen at once.
+//! How far bytes are text, judged sixteen at once, and in blocks of 64 by 32.
 //!
 //! A byte is judged by the three before it: three look-ups tell whether it may follow the one before it, and
 //! the two before that tell whether a code of three or four bytes has to go on (Keiser and Lemire, "Validating
@@ -8,6 +8,7 @@ ghost use Rattle.utf_lanes.specs.TextBlocks.{AllMayFollow, ArePairsLeft, EndsCha
 
 use crate::ascii_texts::{ascii_end, is_ascii_block, is_ascii_each};
 use crate::few_bytes::{before_lanes, padded_text};
+use crate::look_ups::LookUp;
 use crate::text_front::front_of_text;
 use std::simd::prelude::*;
 use utf_base::elements::is_continuation;
@@ -180,10 +181,29 @@ fn valid_len(bytes: &[u8]) -> usize
     if count < 16 {
         return count;
     }
-    valid_len_by_lanes(bytes, valid_len_wide(bytes, 16))
+    valid_len_by_lanes(bytes, valid_len_in_blocks(bytes))
 }
 
-// The same in blocks of 64, to the first in which some byte may not follow.
+// The same from the first sixteen bytes on, as far as blocks of 64 go. In a longer text they begin at 32: where it lies in
+// memory at a multiple of 64, as a file that is mapped does, a processor reads vectors of 32 lanes faster from there.
+#[inline(always)]
+fn valid_len_in_blocks(bytes: &[u8]) -> usize
+    requires { 19 ≤ length bytes.now }
+    ensures least { 16 ≤ result }
+    ensures within { result ≤ length bytes.now }
+    ensures follow { AllMayFollow bytes.now 16 result }
+{
+    let mut start = 16;
+    if 256 <= bytes.len() {
+        if valid_lanes(bytes, 16) < 16 {
+            return 16;
+        }
+        start = 32;
+    }
+    valid_len_wide(bytes, start)
+}
+
+// The same from a place on, in blocks of 64, to the first in which some byte may not follow.
 #[inline(always)]
 fn valid_len_wide(bytes: &[u8], start: usize) -> usize
     requires start { 3 ≤ start }
@@ -234,9 +254,8 @@ fn follows_block(bytes: &[u8], place: usize) -> bool
     requires within { place + 64 ≤ length bytes.now }
     ensures { IsTrue result → AllMayFollow bytes.now place (place + 64) }
 {
-    let first = faults_at(bytes, place) | faults_at(bytes, place + 16);
-    let second = faults_at(bytes, place + 32) | faults_at(bytes, place + 48);
-    (first | second).simd_ne(u8x16::splat(0)).to_bitmask() == 0
+    let either = faults_at::<32>(bytes, place) | faults_at::<32>(bytes, place + 32);
+    either.simd_ne(u8x32::splat(0)).to_bitmask() == 0
 }
 
 /// Whether the three bytes before the place ask for no more.
@@ -257,7 +276,7 @@ fn valid_lanes(bytes: &[u8], place: usize) -> usize
     ensures most { result ≤ 16 }
     ensures follow { AllMayFollow bytes.now place (place + result) }
 {
-    first_fault(faults_at(bytes, place))
+    first_fault(faults_at::<16>(bytes, place))
 }
 
 // How many lanes are 0, up to the first that is not.
@@ -274,18 +293,21 @@ fn first_fault(faults: u8x16) -> usize
     }
 }
 
-// What is wrong with each of the sixteen bytes from the place on, after the three before it: 0 where nothing is.
+// What is wrong with each byte from the place on, as many as a vector has lanes, after the three before it: 0 where
+// nothing is.
 #[inline]
-fn faults_at(bytes: &[u8], place: usize) -> u8x16
+fn faults_at<const N: usize>(bytes: &[u8], place: usize) -> Simd<u8, N>
+where
+    Simd<u8, N>: LookUp<N>,
     requires start { 3 ≤ place }
-    requires within { place + 16 ≤ length bytes.now }
-    ensures len { length result ≡ 16 }
+    requires within { place + N ≤ length bytes.now }
+    ensures len { length result ≡ N }
     ensures lanes { ZerosFollow bytes.now place result }
 {
-    let here = u8x16::from_slice(&bytes[place..]);
-    let first = u8x16::from_slice(&bytes[place - 1..]);
-    let second = u8x16::from_slice(&bytes[place - 2..]);
-    let third = u8x16::from_slice(&bytes[place - 3..]);
+    let here = Simd::from_slice(&bytes[place..]);
+    let first = Simd::from_slice(&bytes[place - 1..]);
+    let second = Simd::from_slice(&bytes[place - 2..]);
+    let third = Simd::from_slice(&bytes[place - 3..]);
     faults_after(third, second, first, here)
 }
 
@@ -299,26 +321,36 @@ fn faults_at_front(here: u8x16) -> u8x16
     faults_after(three, two, one, here)
 }
 
-// The same of sixteen bytes, by the vectors that have the three before each.
+// The same of as many bytes as a vector has lanes, by the vectors that have the three before each.
 #[inline(always)]
-fn faults_after(third: u8x16, second: u8x16, first: u8x16, here: u8x16) -> u8x16
-    ensures len { length result ≡ 16 }
-    ensures lanes { ZeroLanesFollow third second first here result }
+fn faults_after<const N: usize>(
+    third: Simd<u8, N>,
+    second: Simd<u8, N>,
+    first: Simd<u8, N>,
+    here: Simd<u8, N>,
+) -> Simd<u8, N>
+where
+    Simd<u8, N>: LookUp<N>,
+    ensures len { length result ≡ N }
+    ensures lanes { ZeroLanesFollow third.entry second.entry first.entry here.entry result }
 {
-    let long = second.saturating_sub(u8x16::splat(0xe0 - 0x80))
-        | third.saturating_sub(u8x16::splat(0xf0 - 0x80));
-    (long & u8x16::splat(SECOND)) ^ pairs(first, here)
+    let left = pairs(first, here);
+    let long = second.saturating_sub(Simd::splat(0xe0 - 0x80))
+        | third.saturating_sub(Simd::splat(0xf0 - 0x80));
+    (long & Simd::splat(SECOND)) ^ left
 }
 
 // What the tables leave of each byte after the one before it.
 #[inline(always)]
-fn pairs(before: u8x16, here: u8x16) -> u8x16
-    ensures len { length result ≡ 16 }
-    ensures lanes { ArePairsLeft before here result }
+fn pairs<const N: usize>(before: Simd<u8, N>, here: Simd<u8, N>) -> Simd<u8, N>
+where
+    Simd<u8, N>: LookUp<N>,
+    ensures len { length result ≡ N }
+    ensures lanes { ArePairsLeft before.entry here.entry result }
 {
-    let high = u8x16::from_array(BEFORE_HIGH).swizzle_dyn(before >> u8x16::splat(4));
-    let low = u8x16::from_array(BEFORE_LOW).swizzle_dyn(before & u8x16::splat(15));
-    high & low & u8x16::from_array(HERE_HIGH).swizzle_dyn(here >> u8x16::splat(4))
+    let high = Simd::<u8, N>::look_up(&BEFORE_HIGH, before >> Simd::splat(4));
+    let low = Simd::<u8, N>::look_up(&BEFORE_LOW, before & Simd::splat(15));
+    high & low & Simd::<u8, N>::look_up(&HERE_HIGH, here >> Simd::splat(4))
 }
 
 // The last place before the end at which a code begins, or the first place of all.

@@ -1,12 +1,12 @@
-use Rattle.std.proofs.Common.{refl}
+use Rattle.std.proofs.Common.{refl, lit<}
 use Rattle.utf_lanes.proofs.LaneLemmas.{none_differs, first_differs}
 use Rattle.utf_lanes.proofs.text_blocks.first_fault.Goals as goal
 
 pub returns-then-wrong-eq0-clause-none : goal.returns-then-wrong-eq0-clause-none
-returns-then-wrong-eq0-clause-none c = none_differs c.args.faults c.fits-faults.0 c.if-wrong-eq0.true
+returns-then-wrong-eq0-clause-none c = none_differs c.args.faults (lit< tt) c.fits-faults.0 c.if-wrong-eq0.true
 
 pub returns-else-wrong-eq0-clause-most : goal.returns-else-wrong-eq0-clause-most
-returns-else-wrong-eq0-clause-most c = (first_differs c.args.faults _ c.fits-faults.0 c.if-wrong-eq0.false refl).0
+returns-else-wrong-eq0-clause-most c = (first_differs c.args.faults (lit< tt) c.fits-faults.0 _ c.if-wrong-eq0.false refl).0
 
 pub returns-else-wrong-eq0-clause-none : goal.returns-else-wrong-eq0-clause-none
-returns-else-wrong-eq0-clause-none c = (first_differs c.args.faults _ c.fits-faults.0 c.if-wrong-eq0.false refl).1
+returns-else-wrong-eq0-clause-none c = (first_differs c.args.faults (lit< tt) c.fits-faults.0 _ c.if-wrong-eq0.false refl).1

@@ -1,4 +1,4 @@
-use Rattle.std.proofs.Common.{◌≡◌, ◌+◌, arith, eqb-true}
+use Rattle.std.proofs.Common.{◌≡◌, ◌+◌, arith, lit<, eqb-true}
 use Rattle.utf_lanes.specs.BytePairs.{units_of}
 use Rattle.utf_lanes.proofs.LaneLemmas.{all_zero}
 use Rattle.utf_lanes.proofs.UnitPairs.{pair_on, pair_before}
@@ -9,7 +9,7 @@ returns c holds =
     let us = units_of c.args.high_first c.args.bytes.now in
     let p = c.args.place in
     let high = c.args.high_first in
-    let zero = all_zero c.unpaired.result c.unpaired-2.result c.unpaired-3.result c.unpaired-4.result c.unpaired.ensures.len c.unpaired-2.ensures.len c.unpaired-3.ensures.len c.unpaired-4.ensures.len (eqb-true _ _ holds) in
+    let zero = all_zero c.unpaired.result c.unpaired-2.result c.unpaired-3.result c.unpaired-4.result (lit< tt) c.unpaired.ensures.len c.unpaired-2.ensures.len c.unpaired-3.ensures.len c.unpaired-4.ensures.len (eqb-true _ _ holds) in
     let first = pair_before high us c.unpaired.result p 16 (omega arith) (λ k lt. (zero k lt).0) c.unpaired.ensures.lanes in
     let second = pair_before high us c.unpaired-2.result (p + 8) 16 (omega arith) (λ k lt. (zero k lt).1) c.unpaired-2.ensures.lanes in
     let third = pair_before high us c.unpaired-3.result (p + 16) 16 (omega arith) (λ k lt. (zero k lt).2) c.unpaired-3.ensures.lanes in

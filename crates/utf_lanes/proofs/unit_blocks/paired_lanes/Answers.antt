@@ -1,4 +1,4 @@
-use Rattle.std.proofs.Common.{◌≡◌, arith, refl}
+use Rattle.std.proofs.Common.{◌≡◌, arith, refl, lit<}
 use Rattle.utf_lanes.specs.BytePairs.{units_of}
 use Rattle.utf_lanes.proofs.LaneLemmas.{differ_mask, none_differs, first_differs}
 use Rattle.utf_lanes.proofs.UnitPairs.{pair_before}
@@ -6,16 +6,16 @@ use Rattle.utf_lanes.proofs.unit_blocks.paired_lanes.Goals as goal
 
 pub returns-then-wrong-eq0-clause-paired : goal.returns-then-wrong-eq0-clause-paired
 returns-then-wrong-eq0-clause-paired c =
-    let none : differ_mask c.unpaired.result ≡ 0 = c.if-wrong-eq0.true in
-    let zero = none_differs c.unpaired.result c.unpaired.ensures.len none in
+    let none : differ_mask 16 c.unpaired.result ≡ 0 = c.if-wrong-eq0.true in
+    let zero = none_differs c.unpaired.result (lit< tt) c.unpaired.ensures.len none in
     pair_before c.args.high_first (units_of c.args.high_first c.args.bytes.now) c.unpaired.result c.args.place 16 (omega arith) zero c.unpaired.ensures.lanes
 
 pub returns-else-wrong-eq0-clause-most : goal.returns-else-wrong-eq0-clause-most
 returns-else-wrong-eq0-clause-most c =
-    let first = first_differs c.unpaired.result _ c.unpaired.ensures.len c.if-wrong-eq0.false refl in
+    let first = first_differs c.unpaired.result (lit< tt) c.unpaired.ensures.len _ c.if-wrong-eq0.false refl in
     omega (arith, first.0)
 
 pub returns-else-wrong-eq0-clause-paired : goal.returns-else-wrong-eq0-clause-paired
 returns-else-wrong-eq0-clause-paired c =
-    let first = first_differs c.unpaired.result _ c.unpaired.ensures.len c.if-wrong-eq0.false refl in
+    let first = first_differs c.unpaired.result (lit< tt) c.unpaired.ensures.len _ c.if-wrong-eq0.false refl in
     pair_before c.args.high_first (units_of c.args.high_first c.args.bytes.now) c.unpaired.result c.args.place _ first.0 first.1 c.unpaired.ensures.lanes

@@ -2,7 +2,8 @@ use Rattle.std.proofs.Common.{ℕ, cond, eqb, replicate, ap, ◌∙◌, lit<}
 use Rattle.std.proofs.lemmas.Simd.{shifts_fit_splat}
 use lib.Lanes.{zip2}
 use Rattle.utf_lanes.proofs.UnitLanes.{down}
-use Rattle.utf_lanes.proofs.VectorLanes.{wide_with, lane_with, passed_most, passed_bits}
+use Rattle.utf_lanes.proofs.LaneLemmas.{wide_with, lane_with}
+use Rattle.utf_lanes.proofs.PassedLanes.{passed_most, passed_bits}
 use Rattle.utf_lanes.proofs.unit_bytes.mask_of_top_bits.Goals as goal
 
 pub overflow_shr-result : goal.overflow_shr-result

@@ -5,7 +5,7 @@ use Rattle.utf_base.specs.Units.{is_leading_surrogate}
 use Rattle.utf_lanes.specs.UnitCodes.{lane_unit, AreText}
 use Rattle.utf_lanes.proofs.JudgedUnits.{text_codes, two_more, without_last, WritesUnits-all}
 use Rattle.utf_lanes.proofs.UnitSlots.{text_firsts_of_units}
-use Rattle.utf_lanes.proofs.VectorLanes.{vector_fits}
+use Rattle.utf_lanes.proofs.LaneLemmas.{lane_fits}
 use Rattle.utf_lanes.proofs.utf16_blocks.write_text.Goals as goal
 
 pub returns-then-count-eq0 : goal.returns-then-count-eq0
@@ -25,7 +25,7 @@ returns-then-count g c =
     let high = c.args.high in
     let judged = c.paired_units-count.ensures in
     let put = c.write_slots-end.ensures in
-    let first = text_firsts_of_units low high c.text_first_bytes.result (λ k lt. vector_fits low k c.fits-low lt) c.text_first_bytes.ensures in
+    let first = text_firsts_of_units low high c.text_first_bytes.result (λ k lt. lane_fits low k c.fits-low lt) c.text_first_bytes.ensures in
     let codes = text_codes low high c.one_later.result _ _ _ (judged.text.first (omega arith)) c.one_later.ensures first.each c.text_middle_bytes-middle.ensures.each c.text_last_bytes-last.ensures.each in
     WritesUnits-all (subst (AreText (lane_unit low high)) c.if-count.true judged.text) put.written codes put.most
 
@@ -38,7 +38,7 @@ overflow_sub-result-2 g c =
     let count : c.paired_units-count.result ≡ n - 1 = omega arith in
     let one : n ≡ n - 1 + 1 = omega arith in
     let put = c.write_slots-end in
-    let first = text_firsts_of_units low high c.text_first_bytes.result (λ k lt. vector_fits low k c.fits-low lt) c.text_first_bytes.ensures in
+    let first = text_firsts_of_units low high c.text_first_bytes.result (λ k lt. lane_fits low k c.fits-low lt) c.text_first_bytes.ensures in
     let codes = text_codes low high c.one_later.result _ _ _ (judged.text.first (omega arith)) c.one_later.ensures first.each c.text_middle_bytes-middle.ensures.each c.text_last_bytes-last.ensures.each in
     let last : is_leading_surrogate (lane_unit low high (n - 1)) ≡ true = subst (λ k. is_leading_surrogate (lane_unit low high k) ≡ true) count (judged.last (omega arith)) in
     let two = two_more n (n - 1) one (lane_unit low high) _ _ last (put.ensures.written.front ∙ ap (λ xs. take c.args.at c.args.room.now ++ xs) codes) in
@@ -55,7 +55,7 @@ returns g c =
     let put = c.write_slots-end in
     let end = put.result in
     let front : List ℕ = take end put.new.room in
-    let first = text_firsts_of_units low high c.text_first_bytes.result (λ k lt. vector_fits low k c.fits-low lt) c.text_first_bytes.ensures in
+    let first = text_firsts_of_units low high c.text_first_bytes.result (λ k lt. lane_fits low k c.fits-low lt) c.text_first_bytes.ensures in
     let codes = text_codes low high c.one_later.result _ _ _ (judged.text.first (omega arith)) c.one_later.ensures first.each c.text_middle_bytes-middle.ensures.each c.text_last_bytes-last.ensures.each in
     let last : is_leading_surrogate (lane_unit low high (n - 1)) ≡ true = subst (λ k. is_leading_surrogate (lane_unit low high k) ≡ true) count (judged.last (omega arith)) in
     let most = put.ensures.most in

@@ -1,29 +1,10 @@
--- The lanes of a vector of bytes, of any width.
-use Rattle.std.proofs.Common.{◌≡◌, ℕ, ◌%◌, ◌^◌, ◌<◌, ◌≤◌, Bool, true, false, not, cond, List, map, length, get_or, replicate, refl, sym, ap, ◌∙◌, arith, w8, Fits}
+-- Lanes that pass a test, of a vector of any width.
+use Rattle.std.proofs.Common.{◌≡◌, ℕ, ◌%◌, ◌^◌, ◌<◌, ◌≤◌, Bool, true, false, not, cond, List, map, length, get_or, replicate, refl, sym, ap, ◌∙◌, arith, w8}
 use Rattle.std.proofs.lemmas.List.{get_or-map, length-map}
 use Rattle.std.proofs.lemmas.List.Sums.{prefix_len_passes}
-use Rattle.std.proofs.lemmas.Simd.{Each1-get_or, length-zip2, get_or-zip2, get_or-replicate, length-replicate, length-sel_l, get_or-sel_l, tops_compared, bitmask_splat, bit_mask_l, mask_l-lt, leading_from_mask_l}
+use Rattle.std.proofs.lemmas.Simd.{length-zip2, get_or-zip2, get_or-replicate, length-replicate, length-sel_l, get_or-sel_l, tops_compared, bitmask_splat, bit_mask_l, mask_l-lt, leading_from_mask_l}
 use Rattle.std.specs.Int.{bit_at}
-use lib.Lanes.{zip2, sel_l, mask_l, top, Each1}
-
--- n bytes
-abbrev pub IsVector : ℕ → List ℕ → Type 0
-IsVector n v = (length v ≡ n) × Each1 (Fits w8) v
-
-pub vector_fits : {n : ℕ} (v : List ℕ) (k : ℕ) → IsVector n v → k < n → get_or v k 0 < 256
-vector_fits v k block lt = (Each1-get_or (Fits w8) v k 0 (omega (arith, block.0)) block.1).fits
-
-pub wide : {n : ℕ} (f : ℕ → ℕ → ℕ) (xs ys : List ℕ) → length xs ≡ n → length ys ≡ n → length (zip2 f xs ys) ≡ n
-wide f xs ys p q = length-zip2 f xs ys (p ∙ sym q) ∙ p
-
-pub wide_with : {n : ℕ} (f : ℕ → ℕ → ℕ) (xs : List ℕ) (y : ℕ) → length xs ≡ n → length (zip2 f xs (replicate n y)) ≡ n
-wide_with {n} f xs y p = wide f xs (replicate n y) p (length-replicate n y)
-
-pub lane : {n : ℕ} (f : ℕ → ℕ → ℕ) (xs ys : List ℕ) → length xs ≡ n → length ys ≡ n → (k : ℕ) → k < n → get_or (zip2 f xs ys) k 0 ≡ f (get_or xs k 0) (get_or ys k 0)
-lane f xs ys p q k lt = get_or-zip2 f xs ys k 0 0 0 (omega (arith, p)) (omega (arith, q))
-
-pub lane_with : {n : ℕ} (f : ℕ → ℕ → ℕ) (xs : List ℕ) (y : ℕ) → length xs ≡ n → (k : ℕ) → k < n → get_or (zip2 f xs (replicate n y)) k 0 ≡ f (get_or xs k 0) y
-lane_with {n} f xs y p k lt = lane f xs (replicate n y) p (length-replicate n y) k lt ∙ ap (f (get_or xs k 0)) (get_or-replicate n k y 0 lt)
+use lib.Lanes.{zip2, sel_l, mask_l, top}
 
 -- Where a test passes of a lane and a number, the lane of one vector, and else that of another.
 module _ (n : ℕ) (t : ℕ → ℕ → Bool) (xs : List ℕ) (y : ℕ) (ps qs : List ℕ) where
