@@ -16,10 +16,10 @@ const BLOCK: usize = 32;
 
 const ROOM: usize = 64;
 
-// How many bytes go block by block before any are gathered, and how many are left then at least.
-const FEW: usize = 512;
+// How many bytes a long input has at least, and how many of it go block by block before any are gathered.
+const LONG: usize = 1024;
 
-const MANY: usize = 512;
+const FEW: usize = 512;
 
 // How many bytes are gathered at once.
 const GATHERED: usize = 1984;
@@ -39,11 +39,32 @@ pub(crate) fn narrow_text<O: Output, const BIG_ENDIAN: bool>(bytes: &[u8], out: 
 fn narrow_units<O: Output, const BIG_ENDIAN: bool>(bytes: &[u8], out: &mut O) -> usize
     ensures { PutsText O.appends (utf16_form BIG_ENDIAN) Form.Utf8 bytes.now out.old out.new result }
 {
+    if O::GATHERS && LONG <= bytes.len() {
+        return narrow_long::<O, BIG_ENDIAN>(bytes, out);
+    }
+    narrow_few::<O, BIG_ENDIAN>(bytes, out)
+}
+
+// The same of a long input: where a few blocks have no fault, those after them are gathered.
+#[inline(always)]
+fn narrow_long<O: Output, const BIG_ENDIAN: bool>(bytes: &[u8], out: &mut O) -> usize
+    requires { 512 ≤ length bytes.now }
+    ensures { PutsText O.appends (utf16_form BIG_ENDIAN) Form.Utf8 bytes.now out.old out.new result }
+{
+    let len = narrow_few::<O, BIG_ENDIAN>(&bytes[..FEW], out);
+    if len <= FEW - BLOCK {
+        return len;
+    }
+    len + narrow_many::<O, BIG_ENDIAN>(&bytes[len..], out)
+}
+
+// The same of blocks of which each is put by itself.
+#[inline(always)]
+fn narrow_few<O: Output, const BIG_ENDIAN: bool>(bytes: &[u8], out: &mut O) -> usize
+    ensures { PutsText O.appends (utf16_form BIG_ENDIAN) Form.Utf8 bytes.now out.old out.new result }
+{
     let mut place = 0;
     while BLOCK <= bytes.len() - place && ROOM <= out.room() {
-        if O::GATHERS && FEW <= place && MANY <= bytes.len() - place {
-            return place + narrow_many::<O, BIG_ENDIAN>(&bytes[place..], out);
-        }
         let (low, high) = sixteen_halves(BIG_ENDIAN, &bytes[place..]);
         let units = put_narrowed(low, high, out);
         if units == 0 {
@@ -80,7 +101,7 @@ fn narrow_many<O: Output, const BIG_ENDIAN: bool>(bytes: &[u8], out: &mut O) -> 
         place += put_ascii::<O, BIG_ENDIAN>(&bytes[place..], out);
         let len = put_gathered::<O, BIG_ENDIAN>(&bytes[place..], &mut made, out);
         place += len;
-        if len < MANY {
+        if len < FEW {
             return place;
         }
     }

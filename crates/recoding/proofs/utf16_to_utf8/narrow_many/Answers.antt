@@ -4,8 +4,8 @@ use Rattle.recoding.proofs.utf16_to_utf8.narrow_many.Goals as goal
 pub loop-made-init : goal.loop-made-init
 loop-made-init g c = PutsText-none g.met.O.Output.appends_none
 
-pub returns-then-len-lt-MANY : goal.returns-then-len-lt-MANY
-returns-then-len-lt-MANY g c =
+pub returns-then-len-lt-FEW : goal.returns-then-len-lt-FEW
+returns-then-len-lt-FEW g c =
     let more = g.met.O.Output.appends_more in
     PutsText-then more (PutsText-then more c.loop-made.invariant c.put_ascii-place.ensures) c.put_gathered-len.ensures.puts
 

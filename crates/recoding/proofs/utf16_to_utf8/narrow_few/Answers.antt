@@ -4,7 +4,7 @@ use Rattle.recoding.proofs.CopiedUnits.{rest_fits}
 use Rattle.recoding.proofs.Forms.{is_utf16}
 use Rattle.recoding.proofs.Utf16ToUtf8.{PutsText-narrowed}
 use Rattle.recoding.proofs.TextRuns.{PutsText-done, PutsText-none, PutsText-then}
-use Rattle.recoding.proofs.utf16_to_utf8.narrow_units.Goals as goal
+use Rattle.recoding.proofs.utf16_to_utf8.narrow_few.Goals as goal
 
 pub loop-place-init : goal.loop-place-init
 loop-place-init g c = PutsText-none g.met.O.Output.appends_none
@@ -28,6 +28,3 @@ loop-place-preserved g c =
     let most = puts.most in
     let put = PutsText-narrowed _ _ (drop place bytes) _ c.put_narrowed-units.result (is_utf16 _) (rest_fits bytes place c.type_inv.bytes) (omega (arith, length-drop place bytes)) (λ k lt. halves k (omega arith)) puts.text puts.appended in
     PutsText-then g.met.O.Output.appends_more c.loop-place.invariant (rw (take_rest bytes place) put)
-
-pub returns-then-bytes-place-ge-MANY : goal.returns-then-bytes-place-ge-MANY
-returns-then-bytes-place-ge-MANY g c = PutsText-then g.met.O.Output.appends_more c.loop-place.invariant c.narrow_many.ensures

@@ -3,7 +3,7 @@ use Rattle.std.specs.Prelude.{eqb}
 use Rattle.recoding.specs.NextScalars.{utf16_form}
 use Rattle.recoding.specs.Strict.{PutsText}
 use Rattle.recoding.specs.declared.form.Form.TheVariants.{Utf8}
-use Rattle.recoding.proofs.utf16_to_utf8.narrow_units.Given as goal
+use Rattle.recoding.proofs.utf16_to_utf8.narrow_few.Given as goal
 
 abbrev pub invariant-loop-place : goal.invariant-loop-place
 invariant-loop-place g l = PutsText g.O.Output.appends (utf16_form (not (eqb g.row.BIG_ENDIAN 0))) Utf8 l.bytes l.fn.out l.out l.place
