@@ -39,6 +39,9 @@ pub(crate) fn narrow_text<O: Output, const BIG_ENDIAN: bool>(bytes: &[u8], out: 
 fn narrow_units<O: Output, const BIG_ENDIAN: bool>(bytes: &[u8], out: &mut O) -> usize
     ensures { PutsText O.appends (utf16_form BIG_ENDIAN) Form.Utf8 bytes.now out.old out.new result }
 {
+    if bytes.len() < BLOCK {
+        return 0;
+    }
     if O::GATHERS && LONG <= bytes.len() {
         return narrow_long::<O, BIG_ENDIAN>(bytes, out);
     }
