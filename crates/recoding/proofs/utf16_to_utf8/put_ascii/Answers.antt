@@ -1,4 +1,4 @@
-use Rattle.std.proofs.Common.{◌*◌, drop, arith, length-drop}
+use Rattle.std.proofs.Common.{drop, arith, length-drop}
 use Rattle.std.proofs.lemmas.List.{take_rest}
 use Rattle.utf_lanes.proofs.JudgedUnits.{ascii_text, ascii_codes}
 use Rattle.recoding.proofs.CopiedUnits.{rest_fits}

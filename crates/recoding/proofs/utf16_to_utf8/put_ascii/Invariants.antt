@@ -1,4 +1,4 @@
-use Rattle.std.proofs.Common.{◌+◌, ◌-◌, ◌*◌, ◌≤◌, not, length}
+use Rattle.std.proofs.Common.{◌+◌, ◌-◌, ◌*◌, ◌≤◌, not}
 use Rattle.std.specs.Prelude.{eqb}
 use Rattle.recoding.specs.NextScalars.{utf16_form}
 use Rattle.recoding.specs.Strict.{PutsText}

@@ -1,4 +1,4 @@
-use Rattle.std.proofs.Common.{◌*◌, drop, arith, length-drop, refl, ◌∙◌}
+use Rattle.std.proofs.Common.{drop, arith, length-drop, refl, ◌∙◌}
 use Rattle.std.proofs.lemmas.List.{take_rest}
 use Rattle.recoding.proofs.CopiedUnits.{rest_fits}
 use Rattle.recoding.proofs.Forms.{is_utf16}
