@@ -25,7 +25,7 @@ const WIDE_ROOM: usize = 112;
 // How many bytes a long input has at least, and how many of it go block by block before any are gathered.
 const LONG: usize = 1024;
 
-const FEW: usize = 256;
+const FEW: usize = 512;
 
 // How many bytes are gathered at once.
 const GATHERED: usize = 1984;
@@ -48,17 +48,16 @@ fn narrow_units<O: Output, const BIG_ENDIAN: bool>(bytes: &[u8], out: &mut O) ->
     if bytes.len() < BLOCK {
         return 0;
     }
-    if LONG <= bytes.len() {
+    if O::GATHERS && LONG <= bytes.len() {
         return narrow_long::<O, BIG_ENDIAN>(bytes, out);
     }
     narrow_few::<O, BIG_ENDIAN>(bytes, out)
 }
 
 // The same of a long input: where a few blocks have no fault, those after them are gathered.
-#[cold]
-#[inline(never)]
+#[inline(always)]
 fn narrow_long<O: Output, const BIG_ENDIAN: bool>(bytes: &[u8], out: &mut O) -> usize
-    requires { 256 ≤ length bytes.now }
+    requires { 512 ≤ length bytes.now }
     ensures { PutsText O.appends (utf16_form BIG_ENDIAN) Form.Utf8 bytes.now out.old out.new result }
 {
     let len = narrow_few::<O, BIG_ENDIAN>(&bytes[..FEW], out);
@@ -100,7 +99,8 @@ fn put_narrowed<O: Output>(low: u8x16, high: u8x16, out: &mut O) -> usize
 
 // The same of many blocks. What comes of them is gathered in room of its own, and then put at once, so that each may be written
 // whole, with what is none of its bytes, which the next one overwrites.
-#[inline(always)]
+#[cold]
+#[inline(never)]
 fn narrow_many<O: Output, const BIG_ENDIAN: bool>(bytes: &[u8], out: &mut O) -> usize
     ensures { PutsText O.appends (utf16_form BIG_ENDIAN) Form.Utf8 bytes.now out.old out.new result }
 {
