@@ -47,6 +47,11 @@ Transcodes-then {from} {to} f g = record {
   made = ap₂ (λ cs ds. cs ++ ds) f.made g.made ∙ sym (flat_map-append (written to) f.scalars g.scalars);
 }
 
+-- what is written next to the end of some room is the next of the text
+pub Transcodes-more : {from to : Form} {grown : List ℕ} (bytes room new : List ℕ) (p n end next : ℕ) → Transcodes from to (take p bytes) (take end room) → Transcodes from to (take n (drop p bytes)) grown
+    → take next new ≡ take end room ++ grown → Transcodes from to (take (p + n) bytes) (take next new)
+Transcodes-more bytes room new p n end next f g e = rw (sym (take_more p n bytes), e) (Transcodes-then f g)
+
 -- How much room a text takes.
 
 pub wide_written : (from : Form) (s : ℕ) → 0x1_0000 ≤ s → 2 ≤ length (written from s)

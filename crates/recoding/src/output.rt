@@ -12,6 +12,9 @@ pub(crate) trait Output {
     ghost use Rattle.std.specs.Prelude.{ℕ, ◌+◌, ◌≤◌, List, [], ◌∷◌, ◌++◌, length};
     ghost use Rattle.recoding.specs.Recodes.{PutsUnits};
 
+    // Whether many blocks are made elsewhere and then put at once, since only what was put may be written.
+    const GATHERS: bool;
+
     // How many more bytes it takes.
     ghost room: { Self → ℕ };
 
@@ -62,6 +65,8 @@ impl<A: Allocator> Output for Vec<u8, A> {
     ghost appends_more = { Extends-more };
 
     ghost appends_room = { Extends-room };
+
+    const GATHERS: bool = false;
 
     #[inline(always)]
     fn room(&self) -> usize {

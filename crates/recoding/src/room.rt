@@ -41,6 +41,8 @@ impl Output for Room<'_> {
 
     ghost appends_room = { FillsRoom-room };
 
+    const GATHERS: bool = true;
+
     #[inline(always)]
     fn room(&self) -> usize {
         self.bytes.len() - self.len

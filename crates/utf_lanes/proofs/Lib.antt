@@ -16,6 +16,7 @@ pub mod LookUps
 pub mod NoneBegins
 pub mod PairTables
 pub mod PairedUnits
+pub mod PassedLanes
 pub mod SameLanes
 pub mod SlotLanes
 pub mod SwappedBytes
@@ -25,3 +26,4 @@ pub mod UnitLanes
 pub mod UnitPairs
 pub mod UnitSlots
 pub mod ValueSums
+pub mod WideShuffles

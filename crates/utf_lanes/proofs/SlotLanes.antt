@@ -1,15 +1,16 @@
 -- Slots of bytes in two and in three vectors, and which of their bytes are kept.
-use Rattle.std.proofs.Common.{◌≡◌, ℕ, ◌+◌, ◌*◌, ◌/◌, ◌^◌, ◌<◌, Bool, true, false, cond, eqb, leb, ltb, List, [], ◌∷◌, ◌++◌, map, length, get_or, replicate, bit_and, refl, sym, ap, ap₂, ◌∙◌, arith, lit<, w8}
+use Rattle.std.proofs.Common.{◌≡◌, ℕ, ◌+◌, ◌*◌, ◌/◌, ◌%◌, ◌^◌, ◌<◌, ◌≤◌, Bool, true, false, cond, eqb, leb, ltb, List, [], ◌∷◌, ◌++◌, map, length, get_or, take, drop, replicate, bit_and, refl, sym, ap, ap₂, ◌∙◌, arith}
 use Rattle.std.proofs.lemmas.Grind.{common_steps}
-use Rattle.std.proofs.lemmas.List.{get_or-map, length-map}
-use Rattle.std.proofs.lemmas.Simd.{bitmask_splat, bit_mask_l, mask_l-lt, zip2_splat, zip2_splat_left}
+use Rattle.std.proofs.lemmas.List.{get_or-take, get_or-drop}
+use Rattle.std.proofs.lemmas.Nat.{shr-shr}
+use Rattle.std.proofs.lemmas.Simd.{zip2_splat, zip2_splat_left}
 use Rattle.std.specs.Int.{bit_at}
-use lib.Lanes.{zip2, mask_l}
+use lib.Lanes.{zip2, mask_l, top}
 use Rattle.utf_lanes.specs.Lanes.{ArePairs}
-use Rattle.utf_lanes.specs.UnitCodes.{nonzero_lead, lane_bytes, slot_at, slots_of, marked, row_bytes, row_of, row_slots, lanes_at, lanes_of}
+use Rattle.utf_lanes.specs.UnitCodes.{nonzero_lead, lane_bytes, slot_at, slots_of, short_slots_of, marked, row_bytes, row_of, row_slots, lanes_at, lanes_of}
 use Rattle.utf_lanes.proofs.BlockUnits.{low_bit, high_bit}
 use Rattle.utf_lanes.proofs.Joined.{joined_halves}
-use Rattle.utf_lanes.proofs.LaneLemmas.{reach_mask}
+use Rattle.utf_lanes.proofs.PassedLanes.{passed_mask, passed_most, passed_bits}
 
 -- What the first and the second of each pair of a vector are.
 abbrev HasBoth : List ℕ → (ℕ → ℕ) → (ℕ → ℕ) → Type 0
@@ -38,22 +39,21 @@ module _ (vs : List ℕ) (f g : ℕ → ℕ) (pairs : HasBoth vs f g) where
 abbrev at_most : ℕ → ℕ → ℕ
 at_most a b = cond (leb a b) 255 0
 
-mask_is : (v : List ℕ) → length v ≡ 16 → reach_mask 16 0x80 v ≡ mask_l (map (λ x. leb 0x80 x) v)
-mask_is v long =
-    let turned : zip2 at_most (replicate 16 0x80) v ≡ zip2 (λ a b. at_most b a) v (replicate 16 0x80)
-    = zip2_splat_left at_most 0x80 16 v long ∙ sym (zip2_splat (λ a b. at_most b a) v 16 0x80 long) in
-    rw turned (bitmask_splat w8 (λ a b. leb b a) v 16 0x80 long (lit< tt))
+abbrev pub kept_mask : ℕ → List ℕ → ℕ
+kept_mask n v = mask_l (map (top 7) (zip2 at_most (replicate n 0x80) v)) % 2 ^ 64
 
-pub high_most : (v : List ℕ) → length v ≡ 16 → reach_mask 16 0x80 v < 65536
-high_most v long =
-    let wide : length (map (λ x. leb 0x80 x) v) ≡ 16 = length-map v (λ x. leb 0x80 x) ∙ long in
-    let below : mask_l (map (λ x. leb 0x80 x) v) < 2 ^ 16 = rw wide at (mask_l-lt (map (λ x. leb 0x80 x) v)) in
-    omega (arith, mask_is v long)
+turned : {n : ℕ} (v : List ℕ) → length v ≡ n → kept_mask n v ≡ passed_mask n (λ a b. leb b a) v 0x80
+turned {n} v long = ap (λ zs. mask_l (map (top 7) zs) % 2 ^ 64) (zip2_splat_left at_most 0x80 n v long ∙ sym (zip2_splat (λ a b. at_most b a) v n 0x80 long))
 
-high_bits : (v : List ℕ) → length v ≡ 16 → (k : ℕ) → k < 16 → bit_at (reach_mask 16 0x80 v) k ≡ cond (leb 0x80 (get_or v k 0)) 1 0
-high_bits v long k lt =
-    let test : get_or (map (λ x. leb 0x80 x) v) k false ≡ leb 0x80 (get_or v k 0) = get_or-map (λ x. leb 0x80 x) v k 0 false (omega (arith, long)) in
-    rw (mask_is v long) (bit_mask_l (map (λ x. leb 0x80 x) v) k ∙ ap (λ (b : Bool). cond {A = ℕ} b 1 0) test)
+pub kept_most : {n : ℕ} (few : n ≤ 64) (v : List ℕ) → length v ≡ n → kept_mask n v < 2 ^ n
+kept_most few v long = rw (turned v long) (passed_most few (λ a b. leb b a) v 0x80 long)
+
+pub kept_bits : {n : ℕ} (few : n ≤ 64) (v : List ℕ) → length v ≡ n → (k : ℕ) → k < n → bit_at (kept_mask n v) k ≡ cond (leb 0x80 (get_or v k 0)) 1 0
+kept_bits few v long k lt = rw (turned v long) (passed_bits few (λ a b. leb b a) v 0x80 long k lt)
+
+-- bits of the byte of a mask that begins at one of its bits
+pub byte_bit : (m s k : ℕ) → k < 8 → bit_at (bit_and (m / 2 ^ s) 255) k ≡ bit_at m (s + k)
+byte_bit m s k lt = low_bit (m / 2 ^ s) k lt ∙ ap (λ n. n % 2) (shr-shr m s k)
 
 marked_kept : (m i b : ℕ) → bit_at m i ≡ cond (leb 0x80 b) 1 0 → marked m i b ≡ nonzero_lead b
 marked_kept m i b bit = rw bit (either (leb 0x80 b) (ltb b 0x80) refl refl)
@@ -81,21 +81,18 @@ module _ (m : ℕ) (vs : List ℕ) (f g : ℕ → ℕ) (pairs : HasBoth vs f g) 
       (marked_kept m (2 * i) (f (2 * i)) (bits (2 * i) (omega arith)))
       (marked_kept m (2 * i + 1) (f (2 * i + 1)) (bits (2 * i + 1) (omega arith))))
 
--- Those of two, by a mask whose halves say so of each.
-module _ (fronts lasts vs ws : List ℕ) (long : length fronts ≡ 16) (pairs : HasBoth vs (at_front fronts) (at_front lasts)) (more : HasBoth ws (at_back fronts) (at_back lasts)) (short : Bool) where
-  front_row : (i : ℕ) → i < row_slots short → row_bytes short (bit_and (reach_mask 16 0x80 fronts) 255) vs i ≡ lanes_at short fronts lasts i
-  front_row i lt =
-      row_is (bit_and (reach_mask 16 0x80 fronts) 255) vs (at_front fronts) (at_front lasts) pairs (λ k lt. low_bit (reach_mask 16 0x80 fronts) k lt ∙ high_bits fronts long k (omega arith)) short i lt
-      ∙ here short
+-- Those of two, by the masks of each.
+module _ (fronts lasts vs ws : List ℕ) (pairs : HasBoth vs (at_front fronts) (at_front lasts)) (more : HasBoth ws (at_back fronts) (at_back lasts)) (short : Bool) (m n : ℕ)
+    (bits : (k : ℕ) → k < 8 → bit_at m k ≡ cond (leb 0x80 (get_or fronts k 0)) 1 0) (more_bits : (k : ℕ) → k < 8 → bit_at n k ≡ cond (leb 0x80 (get_or fronts (8 + k) 0)) 1 0) where
+  front_row : (i : ℕ) → i < row_slots short → row_bytes short m vs i ≡ lanes_at short fronts lasts i
+  front_row i lt = row_is m vs (at_front fronts) (at_front lasts) pairs bits short i lt ∙ here short
     where
       here : (s : Bool) → lane_at s (at_front fronts) (at_front lasts) i ≡ lanes_at s fronts lasts i
       here true = refl
       here false = refl
 
-  back_row : (i : ℕ) → i < row_slots short → row_bytes short (reach_mask 16 0x80 fronts / 256) ws i ≡ lanes_at short fronts lasts (row_slots short + i)
-  back_row i lt =
-      row_is (reach_mask 16 0x80 fronts / 256) ws (at_back fronts) (at_back lasts) more (λ k lt. high_bit (reach_mask 16 0x80 fronts) k lt ∙ high_bits fronts long (8 + k) (omega arith)) short i lt
-      ∙ there short
+  back_row : (i : ℕ) → i < row_slots short → row_bytes short n ws i ≡ lanes_at short fronts lasts (row_slots short + i)
+  back_row i lt = row_is n ws (at_back fronts) (at_back lasts) more more_bits short i lt ∙ there short
     where
       there : (s : Bool) → lane_at s (at_back fronts) (at_back lasts) i ≡ lanes_at s fronts lasts (row_slots s + i)
       there true = refl
@@ -104,7 +101,7 @@ module _ (fronts lasts vs ws : List ℕ) (long : length fronts ≡ 16) (pairs : 
           let b : 8 + (2 * i + 1) ≡ 2 * (4 + i) + 1 = omega arith in
           ap₂ (λ p q. lane_bytes (get_or fronts p 0) (get_or fronts q 0) (get_or lasts p 0)) a b
 
-  pub rows_joined : row_of short (bit_and (reach_mask 16 0x80 fronts) 255) vs ++ row_of short (reach_mask 16 0x80 fronts / 256) ws ≡ lanes_of short fronts lasts
+  pub rows_joined : row_of short m vs ++ row_of short n ws ≡ lanes_of short fronts lasts
   rows_joined = joined_halves _ _ _ (row_slots short) front_row back_row
 
 -- Sixteen slots in three vectors.
@@ -113,8 +110,54 @@ module _ (firsts middles lasts fronts more_fronts ends more_ends : List ℕ) (fr
   slots_at : (vs zs : List ℕ) (f g h : ℕ → ℕ) → HasBoth vs f g → HasBoth zs h h → (k : ℕ) → k < 8 → lanes_at false vs zs k ≡ lane_bytes (f k) (g k) (h k)
   slots_at vs zs f g h p e k lt = rw (pair_first vs f g p k lt, pair_second vs f g p k lt, pair_first zs h h e k lt) refl
 
-  pub sixteen_slots : lanes_of false fronts ends ++ lanes_of false more_fronts more_ends ≡ slots_of firsts middles lasts
+  pub sixteen_slots : lanes_of false fronts ends ++ lanes_of false more_fronts more_ends ≡ slots_of 16 firsts middles lasts
   sixteen_slots =
       joined_halves (lanes_at false fronts ends) (lanes_at false more_fronts more_ends) (slot_at firsts middles lasts) 8
       (slots_at fronts ends (at_front firsts) (at_front middles) (at_front lasts) front end)
       (slots_at more_fronts more_ends (at_back firsts) (at_back middles) (at_back lasts) more_front more_end)
+
+-- Thirty-two slots, by the halves of the vectors.
+
+pub short_halves : (middles lasts : List ℕ) → lanes_of true (take 16 middles) (take 16 lasts) ++ lanes_of true (drop 16 middles) (drop 16 lasts) ≡ short_slots_of 32 middles lasts
+short_halves middles lasts =
+    joined_halves (lanes_at true (take 16 middles) (take 16 lasts)) (lanes_at true (drop 16 middles) (drop 16 lasts)) (lanes_at true middles lasts) 16
+    (λ i lt. rw (get_or-take 16 middles i 0 lt, get_or-take 16 lasts i 0 lt) refl) (λ i lt. rw (get_or-drop 16 middles i 0, get_or-drop 16 lasts i 0) refl)
+
+pub slot_halves : (firsts middles lasts : List ℕ)
+    → slots_of 16 (take 16 firsts) (take 16 middles) (take 16 lasts) ++ slots_of 16 (drop 16 firsts) (drop 16 middles) (drop 16 lasts) ≡ slots_of 32 firsts middles lasts
+slot_halves firsts middles lasts =
+    joined_halves (slot_at (take 16 firsts) (take 16 middles) (take 16 lasts)) (slot_at (drop 16 firsts) (drop 16 middles) (drop 16 lasts)) (slot_at firsts middles lasts) 16
+    (λ i lt. rw (get_or-take 16 firsts i 0 lt, get_or-take 16 middles i 0 lt, get_or-take 16 lasts i 0 lt) refl)
+    (λ i lt. rw (get_or-drop 16 firsts i 0, get_or-drop 16 middles i 0, get_or-drop 16 lasts i 0) refl)
+
+-- The rows of sixteen lanes, and of the halves of thirty-two.
+
+pub narrow_rows : (fronts lasts vs ws : List ℕ) → length fronts ≡ 16 → HasBoth vs (at_front fronts) (at_front lasts) → HasBoth ws (at_back fronts) (at_back lasts) → (short : Bool)
+    → row_of short (bit_and (kept_mask 16 fronts) 255) vs ++ row_of short (kept_mask 16 fronts / 256) ws ≡ lanes_of short fronts lasts
+narrow_rows fronts lasts vs ws long pairs more short =
+    rows_joined fronts lasts vs ws pairs more short _ _ (λ k lt. low_bit (kept_mask 16 fronts) k lt ∙ kept_bits (omega arith) fronts long k (omega arith))
+    (λ k lt. high_bit (kept_mask 16 fronts) k lt ∙ kept_bits (omega arith) fronts long (8 + k) (omega arith))
+
+module _ (fronts lasts vs ws : List ℕ) (long : length fronts ≡ 32) (short : Bool) where
+  abbrev mask : ℕ
+  mask = kept_mask 32 fronts
+
+  abbrev bit_of : ℕ → ℕ
+  bit_of x = cond (leb 0x80 x) 1 0
+
+  bit_from : (s k j : ℕ) → k < 8 → s + k ≡ j → j < 32 → bit_at (bit_and (mask / 2 ^ s) 255) k ≡ bit_of (get_or fronts j 0)
+  bit_from s k j lt at less = byte_bit mask s k lt ∙ ap (bit_at mask) at ∙ kept_bits (omega arith) fronts long j less
+
+  pub front_rows : HasBoth (take 16 vs) (at_front (take 16 fronts)) (at_front (take 16 lasts)) → HasBoth (take 16 ws) (at_back (take 16 fronts)) (at_back (take 16 lasts))
+      → row_of short (bit_and mask 255) (take 16 vs) ++ row_of short (bit_and (mask / 2 ^ 8) 255) (take 16 ws) ≡ lanes_of short (take 16 fronts) (take 16 lasts)
+  front_rows pairs more =
+      rows_joined (take 16 fronts) (take 16 lasts) (take 16 vs) (take 16 ws) pairs more short _ _
+      (λ k lt. low_bit mask k lt ∙ kept_bits (omega arith) fronts long k (omega arith) ∙ ap bit_of (sym (get_or-take 16 fronts k 0 (omega arith))))
+      (λ k lt. bit_from 8 k (8 + k) lt refl (omega arith) ∙ ap bit_of (sym (get_or-take 16 fronts (8 + k) 0 (omega arith))))
+
+  pub back_rows : HasBoth (drop 16 vs) (at_front (drop 16 fronts)) (at_front (drop 16 lasts)) → HasBoth (drop 16 ws) (at_back (drop 16 fronts)) (at_back (drop 16 lasts))
+      → row_of short (bit_and (mask / 2 ^ 16) 255) (drop 16 vs) ++ row_of short (bit_and (mask / 2 ^ 24) 255) (drop 16 ws) ≡ lanes_of short (drop 16 fronts) (drop 16 lasts)
+  back_rows pairs more =
+      rows_joined (drop 16 fronts) (drop 16 lasts) (drop 16 vs) (drop 16 ws) pairs more short _ _
+      (λ k lt. bit_from 16 k (16 + k) lt refl (omega arith) ∙ ap bit_of (sym (get_or-drop 16 fronts k 0)))
+      (λ k lt. bit_from 24 k (16 + (8 + k)) lt (omega arith) (omega arith) ∙ ap bit_of (sym (get_or-drop 16 fronts (8 + k) 0)))

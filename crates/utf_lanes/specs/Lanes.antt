@@ -1,19 +1,27 @@
 -- Vectors by their lanes, and masks by their bits.
-use Rattle.std.specs.Prelude.{◌≡◌, ℕ, ◌+◌, ◌*◌, ◌<◌, Bool, if◌then◌else◌, List, [], ◌∷◌, length, nat_eq, slice_index}
+use Rattle.std.specs.Prelude.{◌≡◌, ℕ, ◌+◌, ◌*◌, ◌/◌, ◌%◌, ◌<◌, Bool, if◌then◌else◌, List, [], ◌∷◌, ◌++◌, length, nat_eq, slice_index}
 use Rattle.std.specs.Int.{bit_at}
 
--- A vector has sixteen lanes, and each is what its number says.
-pub record AreLanes (v : List ℕ) (lane : ℕ → ℕ) : Type 0 where
-  pub wide : length v ≡ 16
-  pub each : (k : ℕ) → k < 16 → slice_index v k ≡ lane k
+-- A vector has n lanes, and each is what its number says.
+pub record AreLanesOf (n : ℕ) (v : List ℕ) (lane : ℕ → ℕ) : Type 0 where
+  pub wide : length v ≡ n
+  pub each : (k : ℕ) → k < n → slice_index v k ≡ lane k
+
+-- The same of sixteen.
+abbrev pub AreLanes : List ℕ → (ℕ → ℕ) → Type 0
+AreLanes = AreLanesOf 16
 
 -- a vector has eight pairs of lanes, and each is what its number says
 abbrev pub ArePairs : List ℕ → (ℕ → List ℕ) → Type 0
 ArePairs v pair = (k : ℕ) → k < 8 → slice_index v (2 * k) ∷ slice_index v (2 * k + 1) ∷ [] ≡ pair k
 
--- a mask has sixteen bits, and each is set where the test of its number passes
+-- a mask has n bits, and each is set where the test of its number passes
+abbrev pub AreBitsOf : ℕ → ℕ → (ℕ → Bool) → Type 0
+AreBitsOf n mask test = (k : ℕ) → k < n → bit_at mask k ≡ (if test k then 1 else 0)
+
+-- The same of sixteen.
 abbrev pub AreBits : ℕ → (ℕ → Bool) → Type 0
-AreBits mask test = (k : ℕ) → k < 16 → bit_at mask k ≡ (if test k then 1 else 0)
+AreBits = AreBitsOf 16
 
 -- What a function gives of the lanes k of two, three and four vectors.
 abbrev pub lane_of_two : (ℕ → ℕ → ℕ) → List ℕ → List ℕ → ℕ → ℕ
@@ -28,3 +36,15 @@ lane_of_four f v w x y k = f (slice_index v k) (slice_index w k) (slice_index x 
 -- all bits where the lane k is that number, and none where it is not
 abbrev pub ones_where : ℕ → List ℕ → ℕ → ℕ → ℕ
 ones_where ones v number k = if nat_eq (slice_index v k) number then ones else 0
+
+-- the lanes k of two vectors
+abbrev pub pair_of_lanes : List ℕ → List ℕ → ℕ → List ℕ
+pair_of_lanes v w k = slice_index v k ∷ slice_index w k ∷ []
+
+-- Where the lane k of four parts of sixteen is, of which the first and the third stand before the second and the fourth.
+abbrev pub half_place : ℕ → ℕ
+half_place k = k / 32 * 16 + k / 16 % 2 * 32 + k % 16
+
+-- that lane, where two vectors have the four parts
+abbrev pub crossed_lane : List ℕ → List ℕ → ℕ → ℕ
+crossed_lane v w k = slice_index (v ++ w) (half_place k)

@@ -2,6 +2,8 @@
 use Rattle.std.specs.Prelude.{◌≡◌, ℕ, ◌<◌, ◌+◌, ◌-◌, ◌*◌, Bool, true, false, ◌/◌, ◌%◌, if◌then◌else◌, List, [], ◌∷◌, ◌++◌, nat_lt, nat_eq, slice_index, ◌≤◌, length, take}
 use Rattle.std.specs.Int.{bit_at}
 use Rattle.utf_lanes.specs.Utf8ToUtf16.{concat_range}
+use Rattle.utf_lanes.specs.declared.compressed.Row.{Row}
+use Rattle.utf_lanes.specs.declared.compressed.Rows.{Rows}
 use Rattle.utf_base.specs.Units.{is_leading_surrogate, is_trailing_surrogate, is_surrogate}
 
 -- the unit in the lane k, of which two vectors have the halves
@@ -68,22 +70,26 @@ pub record Writes (old new : List ℕ) (at end : ℕ) (bytes : List ℕ) : Type 
   pub len : length new ≡ length old
   pub front : take end new ≡ take at old ++ bytes
 
--- The first n of sixteen units are text, and their bytes were written into room, from one place to another.
-pub record WritesUnits (low high old new : List ℕ) (at n end : ℕ) : Type 0 where
-  pub most : n ≤ 16
+-- The first n of so many units are text, and their bytes were written into room, from one place to another.
+pub record WritesUnitsOf (width : ℕ) (low high old new : List ℕ) (at n end : ℕ) : Type 0 where
+  pub most : n ≤ width
   pub text : AreText (lane_unit low high) n
   pub len : length new ≡ length old
   pub bytes : take end new ≡ take at old ++ concat_range (code_at (lane_unit low high)) 0 n
   pub short : end ≤ at + 6 * n
-  pub fits : end ≤ at + 48
+  pub fits : end ≤ at + 3 * width
+
+-- The same of sixteen.
+abbrev pub WritesUnits : List ℕ → List ℕ → List ℕ → List ℕ → ℕ → ℕ → ℕ → Type 0
+WritesUnits = WritesUnitsOf 16
 
 -- the slot in the lane k of three vectors
 abbrev pub slot_at : List ℕ → List ℕ → List ℕ → ℕ → List ℕ
 slot_at firsts middles lasts k = lane_bytes (slice_index firsts k) (slice_index middles k) (slice_index lasts k)
 
--- the bytes of all sixteen
-abbrev pub slots_of : List ℕ → List ℕ → List ℕ → List ℕ
-slots_of firsts middles lasts = concat_range (slot_at firsts middles lasts) 0 16
+-- the bytes of n of them
+abbrev pub slots_of : ℕ → List ℕ → List ℕ → List ℕ → List ℕ
+slots_of n firsts middles lasts = concat_range (slot_at firsts middles lasts) 0 n
 
 -- the byte where the mask has its bit
 abbrev pub marked : ℕ → ℕ → ℕ → List ℕ
@@ -119,3 +125,14 @@ lanes_at false fronts lasts k = lane_bytes (slice_index fronts (2 * k)) (slice_i
 -- the bytes of all their slots, twice as many as one vector has
 abbrev pub lanes_of : Bool → List ℕ → List ℕ → List ℕ
 lanes_of short fronts lasts = concat_range (lanes_at short fronts lasts) 0 (row_slots short + row_slots short)
+
+-- the bytes of n slots in which none has three
+abbrev pub short_slots_of : ℕ → List ℕ → List ℕ → List ℕ
+short_slots_of n middles lasts = concat_range (lanes_at true middles lasts) 0 n
+
+-- The bytes of a row that count, and those of two rows.
+abbrev pub row_given : Row → List ℕ
+row_given row = take row.len row.bytes
+
+abbrev pub rows_given : Rows → List ℕ
+rows_given rows = row_given rows.low ++ row_given rows.high

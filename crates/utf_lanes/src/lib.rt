@@ -2,8 +2,8 @@
 //!
 //! - Judged: `text_blocks` says how far bytes are text, `unit_blocks` and `paired_units` how far units are well-formed, and
 //!   `ascii_texts` whether bytes are ASCII. `look_ups` has what depends on the number of lanes there.
-//! - Made: `text_puts` and `text_units` make units of text in UTF-8, `utf16_blocks` text in UTF-8 of units, and `byte_pairs`
-//!   units in the other order of bytes; what stays in its form is only judged.
+//! - Made: `text_puts` and `text_units` make units of text in UTF-8, `utf16_blocks` text in UTF-8 of sixteen or thirty-two units,
+//!   and `byte_pairs` units in the other order of bytes; what stays in its form is only judged.
 //! - `text_front` gives one character at the front of bytes.
 //!
 //! It is an addition of this project, and no part of the Rust crate. Nothing here takes memory, and nothing knows of a form of
@@ -17,10 +17,15 @@ mod few_bytes;
 mod look_ups;
 pub mod paired_units;
 mod shuffles;
+mod sixteen_slots;
+mod slot_writers;
 pub mod text_blocks;
 pub mod text_front;
 pub mod text_puts;
 pub mod text_units;
+mod thirty_two_slots;
 pub mod unit_blocks;
 pub mod unit_bytes;
 pub mod utf16_blocks;
+pub mod wide_halves;
+mod wide_rows;

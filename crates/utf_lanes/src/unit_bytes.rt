@@ -1,130 +1,155 @@
-//! Units of UTF-16 as bytes of UTF-8, sixteen at once.
-ghost use Rattle.std.specs.Prelude.{◌≡◌, ℕ, ◌+◌, ◌*◌, ◌<◌, ◌≤◌, IsTrue, length, slice_index, nat_eq, false, ◌/◌};
-ghost use Rattle.utf_lanes.specs.Lanes.{AreBits, AreLanes};
+//! Units of UTF-16 as bytes of UTF-8, as many at once as vectors have lanes.
+ghost use Rattle.std.specs.Prelude.{◌≡◌, ℕ, ◌+◌, ◌*◌, ◌<◌, ◌≤◌, IsTrue, length, slice_index, nat_eq, false, ◌/◌, ◌^◌};
+ghost use Rattle.utf_lanes.specs.Lanes.{AreBitsOf, AreLanesOf};
 ghost use Rattle.utf_lanes.specs.UnitCodes.{lane_unit, lane_after, first_byte, middle_byte, last_byte, first_in_text, middle_in_text, last_in_text, lead_byte, second_byte, third_byte};
 ghost use Rattle.utf_lanes.specs.BytePairs.{unit_number};
 
 use std::simd::prelude::*;
 
-// The bytes that sixteen units give: of each lane the last, and those before it that are at least 0x80.
-#[derive(Drop)]
-pub(crate) struct Utf8Lanes {
-    pub(crate) first: u8x16,
-    pub(crate) middle: u8x16,
-    pub(crate) last: u8x16,
-}
-
 /// Whether all units are ASCII.
 #[inline(always)]
-pub fn are_ascii(low: u8x16, high: u8x16) -> bool
-    ensures { IsTrue result → (k : ℕ) → k < 16 → lane_unit low high k < 0x80 }
+pub fn are_ascii<const N: usize>(low: Simd<u8, N>, high: Simd<u8, N>) -> bool
+    requires { N ≤ 64 }
+    ensures { IsTrue result → (k : ℕ) → k < N → lane_unit low.entry high.entry k < 0x80 }
 {
-    (high | (low >> u8x16::splat(7)))
-        .simd_ne(u8x16::splat(0))
+    (high | (low >> Simd::splat(7)))
+        .simd_ne(Simd::splat(0))
         .to_bitmask()
         == 0
 }
 
 // Whether no unit has three bytes.
 #[inline(always)]
-pub(crate) fn are_short(high: u8x16) -> bool
-    ensures { IsTrue result → (k : ℕ) → k < 16 → slice_index high k < 8 }
+pub(crate) fn are_short<const N: usize>(high: Simd<u8, N>) -> bool
+    requires { N ≤ 64 }
+    ensures { IsTrue result → (k : ℕ) → k < N → slice_index high.entry k < 8 }
 {
-    let upper = high >> u8x16::splat(3);
-    upper.simd_ne(u8x16::splat(0)).to_bitmask() == 0
+    let upper = high >> Simd::splat(3);
+    upper.simd_ne(Simd::splat(0)).to_bitmask() == 0
 }
 
 // Whether no unit is a surrogate.
 #[inline(always)]
-pub(crate) fn are_characters(high: u8x16) -> bool
-    ensures { IsTrue result → (k : ℕ) → k < 16 → nat_eq (slice_index high k / 8) 0x1B ≡ false }
+pub(crate) fn are_characters<const N: usize>(high: Simd<u8, N>) -> bool
+    requires { N ≤ 64 }
+    ensures { IsTrue result → (k : ℕ) → k < N → nat_eq (slice_index high.entry k / 8) 0x1B ≡ false }
 {
-    let eighths = high >> u8x16::splat(3);
-    eighths.simd_eq(u8x16::splat(0x1b)).to_bitmask() == 0
+    let eighths = high >> Simd::splat(3);
+    eighths.simd_eq(Simd::splat(0x1b)).to_bitmask() == 0
 }
 
 // Which units have these six bits at the top, each as a bit.
 #[inline(always)]
-pub(crate) fn mask_of_top_bits(high: u8x16, top: u8) -> usize
-    ensures most { result < 65536 }
-    ensures bits { AreBits result (λ k. nat_eq (slice_index high k / 4) top) }
+pub(crate) fn mask_of_top_bits<const N: usize>(high: Simd<u8, N>, top: u8) -> usize
+    requires { N ≤ 64 }
+    ensures most { result < 2 ^ N }
+    ensures bits { AreBitsOf N result (λ k. nat_eq (slice_index high.entry k / 4) top) }
 {
-    (high >> u8x16::splat(2))
-        .simd_eq(u8x16::splat(top))
+    (high >> Simd::splat(2))
+        .simd_eq(Simd::splat(top))
         .to_bitmask() as usize
 }
 
-// The bytes of units that are characters.
+// The bytes of units that are characters: the first, where there are three.
 #[inline(always)]
-pub(crate) fn character_lanes(low: u8x16, high: u8x16) -> Utf8Lanes
-    ensures first { AreLanes result.first (λ k. first_byte (lane_unit low high k)) }
-    ensures middle { AreLanes result.middle (λ k. middle_byte (lane_unit low high k)) }
-    ensures last { AreLanes result.last (λ k. last_byte (lane_unit low high k)) }
+pub(crate) fn first_bytes<const N: usize>(high: Simd<u8, N>) -> Simd<u8, N>
+    ensures { AreLanesOf N result (λ k. first_byte (slice_index high.entry k * 256)) }
 {
-    let none = u8x16::splat(0);
-    let bits = ((high & u8x16::splat(15)) << u8x16::splat(2)) + (low >> u8x16::splat(6));
-    let is_short = high.simd_lt(u8x16::splat(8));
+    let long = (high >> Simd::splat(4)) + Simd::splat(0xe0);
+    high.simd_lt(Simd::splat(8)).select(Simd::splat(0), long)
+}
+
+// The one before the last, where there are two or three.
+#[inline(always)]
+pub(crate) fn middle_bytes<const N: usize>(low: Simd<u8, N>, high: Simd<u8, N>) -> Simd<u8, N>
+    ensures { AreLanesOf N result (λ k. middle_byte (lane_unit low.entry high.entry k)) }
+{
+    let bits = ((high & Simd::splat(15)) << Simd::splat(2)) + (low >> Simd::splat(6));
     let lead = bits
-        .simd_lt(u8x16::splat(2))
-        .select(none, bits + u8x16::splat(0xc0));
-    let middle = is_short.select(lead, bits + u8x16::splat(0x80));
-    let long = (high >> u8x16::splat(4)) + u8x16::splat(0xe0);
-    let rest = (low & u8x16::splat(0x3f)) + u8x16::splat(0x80);
-    Utf8Lanes {
-        first: is_short.select(none, long),
-        middle,
-        last: middle.simd_lt(u8x16::splat(1)).select(low, rest),
-    }
+        .simd_lt(Simd::splat(2))
+        .select(Simd::splat(0), bits + Simd::splat(0xc0));
+    high.simd_lt(Simd::splat(8))
+        .select(lead, bits + Simd::splat(0x80))
 }
 
-// The bytes of units in text, by the low halves of those before them.
+// The last.
 #[inline(always)]
-pub(crate) fn text_lanes(before: u8x16, low: u8x16, high: u8x16) -> Utf8Lanes
-    ensures first { AreLanes result.first (λ k. first_in_text (lane_unit low high k)) }
-    ensures middle { AreLanes result.middle (lane_after middle_in_text before low high) }
-    ensures last { AreLanes result.last (λ k. last_in_text (lane_unit low high k)) }
+pub(crate) fn last_bytes<const N: usize>(low: Simd<u8, N>, high: Simd<u8, N>) -> Simd<u8, N>
+    ensures { AreLanesOf N result (λ k. last_byte (lane_unit low.entry high.entry k)) }
 {
-    let plain = character_lanes(low, high);
-    let (lead, lead_end) = front_of_four(low, high);
-    let middle = third_of_four(before, low, high);
-    let is_surrogate = (high >> u8x16::splat(3)).simd_eq(u8x16::splat(0x1b));
-    let is_leading = (high >> u8x16::splat(2)).simd_eq(u8x16::splat(0x36));
-    Utf8Lanes {
-        first: is_surrogate.select(u8x16::splat(0), plain.first),
-        middle: is_leading.select(lead, is_surrogate.select(middle, plain.middle)),
-        last: is_leading.select(lead_end, plain.last),
-    }
+    let rest = (low & Simd::splat(0x3f)) + Simd::splat(0x80);
+    middle_bytes(low, high)
+        .simd_lt(Simd::splat(1))
+        .select(low, rest)
 }
 
-// The first two bytes of four, which leading surrogates give.
+// The same of units in text, by the low halves of those before them.
 #[inline(always)]
-fn front_of_four(low: u8x16, high: u8x16) -> (u8x16, u8x16)
-    ensures first { AreLanes result.0 (λ k. lead_byte (lane_unit low high k)) }
-    ensures second { AreLanes result.1 (λ k. second_byte (lane_unit low high k)) }
+pub(crate) fn text_first_bytes<const N: usize>(high: Simd<u8, N>) -> Simd<u8, N>
+    ensures { AreLanesOf N result (λ k. first_in_text (slice_index high.entry k * 256)) }
+{
+    (high >> Simd::splat(3))
+        .simd_eq(Simd::splat(0x1b))
+        .select(Simd::splat(0), first_bytes(high))
+}
+
+#[inline(always)]
+pub(crate) fn text_middle_bytes<const N: usize>(
+    before: Simd<u8, N>,
+    low: Simd<u8, N>,
+    high: Simd<u8, N>,
+) -> Simd<u8, N>
+    ensures { AreLanesOf N result (lane_after middle_in_text before.entry low.entry high.entry) }
+{
+    let plain = (high >> Simd::splat(3))
+        .simd_eq(Simd::splat(0x1b))
+        .select(third_bytes(before, low, high), middle_bytes(low, high));
+    (high >> Simd::splat(2))
+        .simd_eq(Simd::splat(0x36))
+        .select(lead_bytes(low, high), plain)
+}
+
+#[inline(always)]
+pub(crate) fn text_last_bytes<const N: usize>(low: Simd<u8, N>, high: Simd<u8, N>) -> Simd<u8, N>
+    ensures { AreLanesOf N result (λ k. last_in_text (lane_unit low.entry high.entry k)) }
+{
+    (high >> Simd::splat(2))
+        .simd_eq(Simd::splat(0x36))
+        .select(second_bytes(low), last_bytes(low, high))
+}
+
+// The first of four bytes, which leading surrogates give.
+#[inline(always)]
+fn lead_bytes<const N: usize>(low: Simd<u8, N>, high: Simd<u8, N>) -> Simd<u8, N>
+    ensures { AreLanesOf N result (λ k. lead_byte (lane_unit low.entry high.entry k)) }
 {
     let carry = low
-        .simd_lt(u8x16::splat(0xc0))
-        .select(u8x16::splat(0xf0), u8x16::splat(0xf1));
-    let six = ((low >> u8x16::splat(2)) + u8x16::splat(16)) & u8x16::splat(0x3f);
-    ((high & u8x16::splat(3)) + carry, six + u8x16::splat(0x80))
+        .simd_lt(Simd::splat(0xc0))
+        .select(Simd::splat(0xf0), Simd::splat(0xf1));
+    (high & Simd::splat(3)) + carry
 }
 
-// The third byte of four, which trailing surrogates give.
+// The second, which they give too.
 #[inline(always)]
-fn third_of_four(before: u8x16, low: u8x16, high: u8x16) -> u8x16
-    ensures { AreLanes result (lane_after third_byte before low high) }
+fn second_bytes<const N: usize>(low: Simd<u8, N>) -> Simd<u8, N>
+    ensures { AreLanesOf N result (λ k. second_byte (slice_index low.entry k)) }
 {
-    let two = (before & u8x16::splat(3)) << u8x16::splat(4);
-    let four = ((high & u8x16::splat(3)) << u8x16::splat(2)) + (low >> u8x16::splat(6));
-    two + four + u8x16::splat(0x80)
+    let six = ((low >> Simd::splat(2)) + Simd::splat(16)) & Simd::splat(0x3f);
+    six + Simd::splat(0x80)
 }
 
-// Each lane one place later.
+// The third, which trailing surrogates give.
 #[inline(always)]
-pub(crate) fn one_later(lanes: u8x16) -> u8x16
-    ensures { (k : ℕ) → k < 15 → slice_index result (k + 1) ≡ slice_index lanes k }
+fn third_bytes<const N: usize>(
+    before: Simd<u8, N>,
+    low: Simd<u8, N>,
+    high: Simd<u8, N>,
+) -> Simd<u8, N>
+    ensures { AreLanesOf N result (lane_after third_byte before.entry low.entry high.entry) }
 {
-    lanes.rotate_elements_right::<1>()
+    let two = (before & Simd::splat(3)) << Simd::splat(4);
+    let four = ((high & Simd::splat(3)) << Simd::splat(2)) + (low >> Simd::splat(6));
+    two + four + Simd::splat(0x80)
 }
 
 /// The low and high halves of the first sixteen units.

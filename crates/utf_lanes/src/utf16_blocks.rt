@@ -1,11 +1,14 @@
-//! Sixteen units of UTF-16 as bytes of UTF-8, written into room from a place on.
-ghost use Rattle.std.specs.Prelude.{◌≡◌, ◌+◌, ◌<◌, ◌≤◌, true, length};
-ghost use Rattle.utf_lanes.specs.UnitCodes.{lane_unit, AreText, WritesUnits};
+//! Sixteen or thirty-two units of UTF-16 as bytes of UTF-8, written into room from a place on.
+ghost use Rattle.std.specs.Prelude.{◌≡◌, ◌+◌, ◌-◌, ◌*◌, ◌<◌, ◌≤◌, true, length};
+ghost use Rattle.utf_lanes.specs.UnitCodes.{lane_unit, AreText, WritesUnits, WritesUnitsOf};
 ghost use Rattle.utf_base.specs.Units.{is_leading_surrogate};
 
-use crate::compressed::{write_lanes, write_lanes_of_units};
+use crate::sixteen_slots::Sixteen;
+use crate::slot_writers::SlotWriter;
+use crate::thirty_two_slots::ThirtyTwo;
 use crate::unit_bytes::{
-    are_ascii, are_characters, are_short, character_lanes, mask_of_top_bits, one_later, text_lanes,
+    are_ascii, are_characters, are_short, first_bytes, last_bytes, mask_of_top_bits, middle_bytes,
+    text_first_bytes, text_last_bytes, text_middle_bytes,
 };
 use std::simd::prelude::*;
 
@@ -15,11 +18,7 @@ pub fn write_sixteen(low: u8x16, high: u8x16, room: &mut [u8], at: usize) -> (us
     requires { at + 64 ≤ length room.old }
     ensures { WritesUnits low high room.old room.new at result.0 result.1 }
 {
-    if are_ascii(low, high) {
-        low.copy_to_slice(&mut room[at..]);
-        return (16, at + 16);
-    }
-    write_others(low, high, room, at)
+    write_units::<16, Sixteen>(low, high, room, at)
 }
 
 /// The same where they are not all ASCII.
@@ -28,48 +27,103 @@ pub fn write_others(low: u8x16, high: u8x16, room: &mut [u8], at: usize) -> (usi
     requires { at + 64 ≤ length room.old }
     ensures { WritesUnits low high room.old room.new at result.0 result.1 }
 {
+    write_coded::<16, Sixteen>(low, high, room, at)
+}
+
+/// Writes the bytes of thirty-two units, or of thirty-one, or none. Answers of how many, and where they end.
+#[inline(always)]
+pub fn write_thirty_two(low: u8x32, high: u8x32, room: &mut [u8], at: usize) -> (usize, usize)
+    requires { at + 112 ≤ length room.old }
+    ensures { WritesUnitsOf 32 low high room.old room.new at result.0 result.1 }
+{
+    write_units::<32, ThirtyTwo>(low, high, room, at)
+}
+
+// Writes the bytes of N units, or of one less, or none.
+#[inline(always)]
+fn write_units<const N: usize, W: SlotWriter<N>>(
+    low: Simd<u8, N>,
+    high: Simd<u8, N>,
+    room: &mut [u8],
+    at: usize,
+) -> (usize, usize)
+    requires least { 2 ≤ N }
+    requires most { N ≤ 32 }
+    requires room { at + (3 * N + 16) ≤ length room.old }
+    ensures { WritesUnitsOf N low.entry high.entry room.old room.new at result.0 result.1 }
+{
+    if are_ascii(low, high) {
+        low.copy_to_slice(&mut room[at..]);
+        return (N, at + N);
+    }
+    write_coded::<N, W>(low, high, room, at)
+}
+
+// The same where they are not all ASCII.
+#[inline(always)]
+fn write_coded<const N: usize, W: SlotWriter<N>>(
+    low: Simd<u8, N>,
+    high: Simd<u8, N>,
+    room: &mut [u8],
+    at: usize,
+) -> (usize, usize)
+    requires least { 2 ≤ N }
+    requires most { N ≤ 32 }
+    requires room { at + (3 * N + 16) ≤ length room.old }
+    ensures { WritesUnitsOf N low.entry high.entry room.old room.new at result.0 result.1 }
+{
     if are_short(high) {
-        let slots = character_lanes(low, high);
-        return (16, write_lanes(true, slots.middle, slots.last, room, at));
+        let middle = middle_bytes(low, high);
+        return (N, W::write_short(middle, last_bytes(low, high), room, at));
     }
     if are_characters(high) {
-        return (
-            16,
-            write_lanes_of_units(character_lanes(low, high), room, at),
-        );
+        let middle = middle_bytes(low, high);
+        let last = last_bytes(low, high);
+        return (N, W::write_slots(first_bytes(high), middle, last, room, at));
     }
-    write_text(low, high, room, at)
+    write_text::<N, W>(low, high, room, at)
 }
 
 // The same where some units may be surrogates.
 #[inline(always)]
-fn write_text(low: u8x16, high: u8x16, room: &mut [u8], at: usize) -> (usize, usize)
-    requires { at + 64 ≤ length room.old }
-    ensures { WritesUnits low high room.old room.new at result.0 result.1 }
+fn write_text<const N: usize, W: SlotWriter<N>>(
+    low: Simd<u8, N>,
+    high: Simd<u8, N>,
+    room: &mut [u8],
+    at: usize,
+) -> (usize, usize)
+    requires least { 2 ≤ N }
+    requires most { N ≤ 32 }
+    requires room { at + (3 * N + 16) ≤ length room.old }
+    ensures { WritesUnitsOf N low.entry high.entry room.old room.new at result.0 result.1 }
 {
     let count = paired_units(low, high);
     if count == 0 {
         return (0, at);
     }
-    let end = write_lanes_of_units(text_lanes(one_later(low), low, high), room, at);
-    if count == 16 {
-        return (16, end);
+    let middle = text_middle_bytes(W::one_later(low), low, high);
+    let last = text_last_bytes(low, high);
+    let end = W::write_slots(text_first_bytes(high), middle, last, room, at);
+    if count == N {
+        return (N, end);
     }
-    (15, end - 2)
+    (N - 1, end - 2)
 }
 
-// How many units are text: all sixteen, or fifteen and then a leading surrogate, or none where that is not so.
+// How many units are text: all, or all but a leading surrogate that is the last, or none where that is not so.
 #[inline(always)]
-fn paired_units(low: u8x16, high: u8x16) -> usize
-    ensures few { 0 < result → 15 ≤ result }
-    ensures most { result ≤ 16 }
-    ensures text { AreText (lane_unit low high) result }
-    ensures last { result ≡ 15 → is_leading_surrogate (lane_unit low high 15) ≡ true }
+fn paired_units<const N: usize>(low: Simd<u8, N>, high: Simd<u8, N>) -> usize
+    requires least { 2 ≤ N }
+    requires within { N ≤ 32 }
+    ensures few { 0 < result → N ≤ result + 1 }
+    ensures most { result ≤ N }
+    ensures text { AreText (lane_unit low.entry high.entry) result }
+    ensures last { result + 1 ≡ N → is_leading_surrogate (lane_unit low.entry high.entry result) ≡ true }
 {
     let leading = mask_of_top_bits(high, 0x36);
     let trailing = mask_of_top_bits(high, 0x37);
-    if trailing != leading * 2 % 0x1_0000 {
+    if trailing != leading * 2 % (1 << N) {
         return 0;
     }
-    if leading < 0x8000 { 16 } else { 15 }
+    if leading < 1 << (N - 1) { N } else { N - 1 }
 }

@@ -1,6 +1,6 @@
 use Rattle.std.proofs.Common.{not, take, drop, arith, length-take, length-drop}
 use Rattle.std.specs.Prelude.{eqb}
-use Rattle.recoding.proofs.AsciiToUtf16.{appended_twice, block_widened}
+use Rattle.recoding.proofs.AsciiToUtf16.{block_widened}
 use Rattle.recoding.proofs.ascii_to_utf16.put_16.Goals as goal
 
 pub returns : goal.returns

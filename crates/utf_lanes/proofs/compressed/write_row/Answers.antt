@@ -1,11 +1,6 @@
-use Rattle.std.proofs.Common.{◌++◌, take, ap, ◌∙◌}
-use Rattle.utf_lanes.proofs.CompressLanes.{row_kept}
+use Rattle.std.proofs.Common.{arith, rules}
+use Rattle.utf_lanes.proofs.CompressRows.{part_stored}
 use Rattle.utf_lanes.proofs.compressed.write_row.Goals as goal
 
 pub returns-clause-written : goal.returns-clause-written
-returns-clause-written c =
-    let put = c.write_compressed.ensures.written in
-    record {
-      len = put.len;
-      front = put.front ∙ ap (λ xs. take c.args.at c.args.room.now ++ xs) (row_kept c.args.short c.args.mask _ c.args.lanes _ c.compress_row-len.ensures.row);
-    }
+returns-clause-written c = record { len = search rules; front = part_stored c.args.room.now c.args.row.bytes c.args.at c.args.row.len (omega arith) (omega arith) }

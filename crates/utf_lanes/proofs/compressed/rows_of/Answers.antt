@@ -1,0 +1,16 @@
+use Rattle.std.proofs.Common.{◌++◌, ap₂, ◌∙◌, arith, ◌<◌}
+use Rattle.utf_lanes.proofs.BlockUnits.{first_pairs, last_pairs, first_pairs_at, last_pairs_at}
+use Rattle.utf_lanes.proofs.SlotLanes.{kept_mask, kept_most, narrow_rows}
+use Rattle.utf_lanes.proofs.compressed.rows_of.Goals as goal
+
+pub compressed_row-requires-2 : goal.compressed_row-requires-2
+compressed_row-requires-2 c = let most : kept_mask 16 c.args.fronts < 65536 = kept_most (omega arith) c.args.fronts c.fits-fronts.0 in omega arith
+
+pub returns-clause-bytes : goal.returns-clause-bytes
+returns-clause-bytes c =
+    let fronts = c.args.fronts in
+    let lasts = c.args.lasts in
+    let p = c.fits-fronts.0 in
+    let q = c.fits-lasts.0 in
+    ap₂ (λ xs ys. xs ++ ys) c.compressed_row.ensures.bytes c.compressed_row-2.ensures.bytes
+    ∙ narrow_rows fronts lasts (first_pairs fronts lasts p q) (last_pairs fronts lasts p q) p (first_pairs_at fronts lasts p q) (last_pairs_at fronts lasts p q) c.args.short

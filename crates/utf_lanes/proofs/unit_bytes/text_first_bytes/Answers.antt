@@ -1,0 +1,10 @@
+use Rattle.std.proofs.Common.{lit<}
+use Rattle.std.proofs.lemmas.Simd.{shifts_fit_splat}
+use Rattle.utf_lanes.proofs.UnitSlots.{text_firsts_are}
+use Rattle.utf_lanes.proofs.unit_bytes.text_first_bytes.Goals as goal
+
+pub overflow_shr-result : goal.overflow_shr-result
+overflow_shr-result g c = shifts_fit_splat 8 c.args.high g.row.N 3 (lit< tt)
+
+pub returns : goal.returns
+returns g c = text_firsts_are c.args.high c.fits-high c.first_bytes.ensures
