@@ -94,6 +94,7 @@ fn first(bytes: &[u8]) -> NodyPiece
 
 // The same of bytes that may be anything, copied whole to where the answer goes: so the compiler sees that all of that place is
 // written, and no caller clears it before.
+#[cold]
 #[inline(never)]
 fn first_copied(bytes: &[u8]) -> NodyPiece
     ensures { IsPieceOf first_piece_of bytes.now result }
@@ -102,6 +103,7 @@ fn first_copied(bytes: &[u8]) -> NodyPiece
 }
 
 // The same, written by parts.
+#[cold]
 #[inline(never)]
 fn first_with_care(bytes: &[u8]) -> NodyPiece
     ensures { IsPieceOf first_piece_of bytes.now result }
@@ -167,6 +169,7 @@ pub extern "C" fn nody_utf8_next(left: &mut NodyBytes<'_>) -> NodyPiece
 }
 
 // The same of bytes that may be anything.
+#[cold]
 #[inline(never)]
 fn next_with_care(left: &mut NodyBytes<'_>) -> NodyPiece
     ensures { GivesPiece first_piece_of after left.old.bytes.now result left.new.bytes.now }
@@ -289,6 +292,7 @@ fn put_first_piece(bytes: &[u8], room: &mut [NodyPiece], place: usize) -> usize
 }
 
 // The same of bytes that may be anything.
+#[cold]
 #[inline(never)]
 fn put_with_care(bytes: &[u8], room: &mut [NodyPiece], place: usize) -> usize
     requires { place < length room.old }
