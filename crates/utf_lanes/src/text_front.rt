@@ -34,11 +34,7 @@ pub fn front_of_text(src: &[u8]) -> Option<(char, usize)>
     if !is_continuation(src[1]) {
         return None;
     }
-    if src[0] < 0xf0 {
-        three(src)
-    } else {
-        four(src)
-    }
+    if src[0] < 0xf0 { three(src) } else { four(src) }
 }
 
 // The character of two bytes, or none where the first is below 0xc2.
@@ -50,12 +46,12 @@ fn two(src: &[u8]) -> Option<(char, usize)>
     ensures some { IfSome result (λ x. BeginsWith utf8 src.now (as_scalar x.0) x.1) }
     ensures none { IfNone result (NoneBegins utf8 src.now) }
 {
-    let second = (src[1] as u32).wrapping_sub(0x80);
+    let second = src[1].wrapping_sub(0x80);
     if second >= 0x40 {
         return None;
     }
     // The mark of the first byte is taken off after it was tested: so the compiler keeps both tests apart.
-    let marked = joined(src[0] as u32, second);
+    let marked = joined(src[0] as u32, second as u32);
     if marked < 0xc2 << 6 {
         return None;
     }

@@ -16,8 +16,7 @@ loop-count-preserved c =
     let some : 0 < length (drop place bytes) = omega (arith, length-drop place bytes) in
     let known : decoded (drop place bytes) ≡ Ok (c.in-Some.c, len) = rw (take_rest bytes place) at c.in-Some.ensures.known in
     let piece : c.character_piece.result ≡ first_piece_of (drop place bytes) = rw (known, c.character_piece.ensures) refl in
-    let left : drop (place + len) bytes ≡ after (drop place bytes) c.character_piece.result = rw c.character_piece.ensures (sym (drop-drop len place bytes)) in
-    (
+    let left : drop (place + len) bytes ≡ after (drop place bytes) c.character_piece.result = rw c.character_piece.ensures (sym (drop-drop len place bytes)) in (
       fills_on first_piece_of bytes (drop place bytes) c.args.room.now c.loop-count.room c.loop-count.count before (omega (arith, before.len)) some piece left,
       omega arith,
       most,
