@@ -1,5 +1,6 @@
 pub mod Counted
 pub mod Each
+pub mod Fronts
 pub mod Merged
 pub mod WholeRuns
 pub mod WholeStrict

@@ -1,5 +1,7 @@
 //! Single pieces, what is left of bytes and units, and runs of pieces into an array.
-ghost use Rattle.std.specs.Prelude.{◌≡◌, ◌<◌, ◌≤◌, length, take, drop};
+ghost use Rattle.std.specs.Prelude.{◌≡◌, ◌<◌, ◌≤◌, length, take, drop, IfSome, Ok};
+ghost use Rattle.utf_base.specs.Decoded.{decoded};
+ghost use Rattle.utf_base.specs.Front.{IsFrontLen};
 ghost use Rattle.c_api.specs.Api.{first_piece_of, last_piece_of, first_of_units, last_of_units, first_merged, no_piece, IsMergedPiece, IsPieceOf, IsPut, GivesPiece, GivesEach, after, before};
 
 use crate::kinds::{number_of, pair_number_of};
@@ -94,6 +96,7 @@ fn first(bytes: &[u8]) -> NodyPiece
 
 // The same of bytes that may be anything, copied whole to where the answer goes: so the compiler sees that all of that place is
 // written, and no caller clears it before.
+#[cold]
 #[inline(never)]
 fn first_copied(bytes: &[u8]) -> NodyPiece
     ensures { IsPieceOf first_piece_of bytes.now result }
@@ -102,6 +105,7 @@ fn first_copied(bytes: &[u8]) -> NodyPiece
 }
 
 // The same, written by parts.
+#[cold]
 #[inline(never)]
 fn first_with_care(bytes: &[u8]) -> NodyPiece
     ensures { IsPieceOf first_piece_of bytes.now result }
@@ -167,6 +171,7 @@ pub extern "C" fn nody_utf8_next(left: &mut NodyBytes<'_>) -> NodyPiece
 }
 
 // The same of bytes that may be anything.
+#[cold]
 #[inline(never)]
 fn next_with_care(left: &mut NodyBytes<'_>) -> NodyPiece
     ensures { GivesPiece first_piece_of after left.old.bytes.now result left.new.bytes.now }
@@ -289,6 +294,7 @@ fn put_first_piece(bytes: &[u8], room: &mut [NodyPiece], place: usize) -> usize
 }
 
 // The same of bytes that may be anything.
+#[cold]
 #[inline(never)]
 fn put_with_care(bytes: &[u8], room: &mut [NodyPiece], place: usize) -> usize
     requires { place < length room.old }
@@ -301,6 +307,42 @@ fn put_with_care(bytes: &[u8], room: &mut [NodyPiece], place: usize) -> usize
     piece.len
 }
 
+// The character that begins the bytes, by no more than four of them: so no length is tested.
+#[inline(always)]
+#[tactic(auto, using(utf_base::proofs::DecodedLemmas::decoded_code, utf_base::proofs::DecodedLemmas::front_len_utf8))]
+fn front_of_four(bytes: &[u8]) -> Option<(char, usize)>
+    requires { 4 ≤ length bytes.now }
+    ensures known { IfSome result (λ x. decoded bytes.now ≡ Ok x) }
+    ensures len { IfSome result (λ x. IsFrontLen 4 bytes.now x.1) }
+{
+    front_of_text(&bytes[..4])
+}
+
+// Puts the characters that begin the bytes in the first places of the room, up to what is none, and answers how many these are
+// and where they end. There are no more than a character for each four bytes: so one count bounds the places and the bytes.
+#[inline(never)]
+fn put_text(bytes: &[u8], room: &mut [NodyPiece]) -> (usize, usize)
+    ensures within { result.0 ≤ length room.old }
+    ensures place { result.1 ≤ length bytes.now }
+    ensures each { GivesEach first_piece_of bytes.now (take result.0 room.new) (drop result.1 bytes.now) }
+    ensures rest { drop result.0 room.new ≡ drop result.0 room.old }
+{
+    let most = room.len().min(bytes.len() / 4);
+    let mut place = 0;
+    let mut count = 0;
+    while count < most {
+        match front_of_four(&bytes[place..]) {
+            None => return (count, place),
+            Some((c, len)) => {
+                room[count] = character_piece(c, len);
+                place += len;
+                count += 1;
+            }
+        }
+    }
+    (count, place)
+}
+
 /// Puts into the array the pieces that begin the bytes that are left, one after another, as many as there are or as there
 /// is room for, and answers how many. These then leave the bytes.
 #[unsafe(no_mangle)]
@@ -310,8 +352,8 @@ pub extern "C" fn nody_utf8_pieces(left: &mut NodyBytes<'_>, room: &mut [NodyPie
     ensures rest { drop result room.new ≡ drop result room.old }
     ensures over { result < length room.old → length left.new.bytes.now ≡ 0 }
 {
-    let mut bytes = left.bytes;
-    let mut count = 0;
+    let (mut count, place) = put_text(left.bytes, room);
+    let mut bytes = &left.bytes[place..];
     while count < room.len() {
         let len = put_first_piece(bytes, room, count);
         if len == 0 {

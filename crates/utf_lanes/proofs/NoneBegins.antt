@@ -1,11 +1,13 @@
 -- Where no code begins some bytes.
-use Rattle.std.proofs.Common.{◌≡◌, ℕ, ◌<◌, ◌≤◌, List, get_or, arith, false}
+use Rattle.std.proofs.Common.{◌≡◌, ℕ, ◌+◌, ◌-◌, ◌*◌, ◌/◌, ◌%◌, ◌<◌, ◌≤◌, List, get_or, lit<, arith, false}
+use Rattle.std.specs.Int.Bits.{bit_and}
+use Rattle.std.proofs.lemmas.Nat.{and_mask}
 use Rattle.std.proofs.lemmas.Grind.{common_steps}
 use Rattle.utf_base.specs.Code.{utf8}
 use Rattle.utf_base.specs.Front.{NoneBegins}
 use Rattle.utf_base.specs.Kinds.{asked, asked_by, is_continuation, least_value}
 use Rattle.utf_base.specs.Scalar.{IsScalar}
-use Rattle.utf_base.proofs.FrontLemmas.{decodes_from_stands}
+use Rattle.utf_base.proofs.FrontLemmas.{asked-3, asked-4, decodes_from_stands, least_value-4, value-3, value-4}
 use Rattle.utf_base.proofs.KindCases.{Sums}
 
 -- the first byte asks for one that does not continue
@@ -34,3 +36,32 @@ pub none_by_value : (w : List ℕ) (n v : ℕ) → Sums w n v → (least_value n
 none_by_value w n v sums other s h =
     let d = (decodes_from_stands w s h).0 in
     other (rw (sums.asks.asks, sums.sum) at d.least) (rw sums.sum at d.scalar)
+
+-- the bits of the first two bytes of three are those that all surrogates begin with
+pub none_by_surrogate : (w : List ℕ) (front : ℕ) → 0xE0 ≤ get_or w 0 0 → get_or w 0 0 < 0xF0
+    → front ≡ bit_and (get_or w 0 0) 0x0F * 64 + (get_or w 1 0 - 0x80) → front / 32 ≡ 27 → NoneBegins utf8 w
+none_by_surrogate w front low high begun surrogate s h =
+    let d = (decodes_from_stands w s h).0 in
+    let asks = asked-3 _ low high in
+    let first : bit_and (get_or w 0 0) 0x0F ≡ get_or w 0 0 % 16 = and_mask (get_or w 0 0) 4 in
+    let second = d.follow 1 (lit< tt) (omega arith) in
+    let third = d.follow 2 (lit< tt) (omega arith) in
+    let sum = value-3 w asks in
+    let after = d.scalar.no_surrogate (omega arith) in
+    omega arith
+
+-- the first two bytes of four leave no scalar from 0x10000 on, or only what is too high
+pub none_by_front_of_four : (w : List ℕ) (front : ℕ) → 0xF0 ≤ get_or w 0 0
+    → front ≡ bit_and (get_or w 0 0) 0x0F * 64 + (get_or w 1 0 - 0x80) → (16 ≤ front → front ≤ 271 → ⊥) → NoneBegins utf8 w
+none_by_front_of_four w front low begun other s h =
+    let d = (decodes_from_stands w s h).0 in
+    let many = begins_many (get_or w 0 0) (omega arith) d.asks in
+    let asks = asked-4 _ low many.1 in
+    let first : bit_and (get_or w 0 0) 0x0F ≡ get_or w 0 0 % 16 = and_mask (get_or w 0 0) 4 in
+    let second = d.follow 1 (lit< tt) (omega arith) in
+    let third = d.follow 2 (lit< tt) (omega arith) in
+    let fourth = d.follow 3 (lit< tt) (omega arith) in
+    let sum = value-4 w asks in
+    let least = rw (asks, least_value-4) at d.least in
+    let below = d.scalar.below in
+    other (omega arith) (omega arith)

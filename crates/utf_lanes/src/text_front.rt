@@ -1,5 +1,5 @@
 //! The character at the front of bytes that are text for the most part.
-ghost use Rattle.std.specs.Prelude.{◌≡◌, ◌+◌, ◌-◌, ◌*◌, ◌≤◌, ◌<◌, length, IfSome, IfNone, None, Ok, true};
+ghost use Rattle.std.specs.Prelude.{◌≡◌, ◌+◌, ◌-◌, ◌*◌, ◌≤◌, ◌<◌, length, slice_index, IfSome, IfNone, None, Ok, true};
 ghost use Rattle.utf_base.specs.Code.{utf8};
 ghost use Rattle.utf_base.specs.Decoded.{decoded};
 ghost use Rattle.utf_base.specs.Front.{as_scalar, BeginsWith, IsFrontLen, NoneBegins};
@@ -28,25 +28,34 @@ pub fn front_of_text(src: &[u8]) -> Option<(char, usize)>
     if src[0] < 0x80 {
         return Some((char::from(src[0]), 1));
     }
+    if src[0] < 0xe0 {
+        return two(src);
+    }
     if !is_continuation(src[1]) {
         return None;
     }
-    match src[0] {
-        0xc2..=0xdf => Some(two(src)),
-        0xe0..=0xef => three(src),
-        0xf0..=0xf4 => four(src),
-        _ => None,
-    }
+    if src[0] < 0xf0 { three(src) } else { four(src) }
 }
 
-// The character of two bytes, of which the second continues.
+// The character of two bytes, or none where the first is below 0xc2.
 #[inline(always)]
-fn two(src: &[u8]) -> (char, usize)
-    requires { IsBegun 0xC2 0xE0 src.now }
-    ensures { BeginsWith utf8 src.now (as_scalar result.0) result.1 }
+fn two(src: &[u8]) -> Option<(char, usize)>
+    requires enough { 4 ≤ length src.now }
+    requires low { 0x80 ≤ slice_index src.now 0 }
+    requires high { slice_index src.now 0 < 0xE0 }
+    ensures some { IfSome result (λ x. BeginsWith utf8 src.now (as_scalar x.0) x.1) }
+    ensures none { IfNone result (NoneBegins utf8 src.now) }
 {
-    let value = with_payload((src[0] & 0x1f) as u32, src[1]);
-    (unsafe { char::from_u32_unchecked(value) }, 2)
+    let second = src[1].wrapping_sub(0x80);
+    if second >= 0x40 {
+        return None;
+    }
+    // The mark of the first byte is taken off after it was tested: so the compiler keeps both tests apart.
+    let marked = joined(src[0] as u32, second as u32);
+    if marked < 0xc2 << 6 {
+        return None;
+    }
+    Some((unsafe { char::from_u32_unchecked(marked - (0xc0 << 6)) }, 2))
 }
 
 // The character of three.
@@ -56,33 +65,37 @@ fn three(src: &[u8]) -> Option<(char, usize)>
     ensures some { IfSome result (λ x. BeginsWith utf8 src.now (as_scalar x.0) x.1) }
     ensures none { IfNone result (NoneBegins utf8 src.now) }
 {
+    let front = with_payload((src[0] & 0x0f) as u32, src[1]);
+    // Surrogates are told by the bits that they share: comparing with both ends makes a branch hard to foresee. That the third byte
+    // is judged between the two tests of the value keeps a compiler from making one of both, which takes more instructions.
+    if front >> 5 == 0xd800 >> 11 {
+        return None;
+    }
     if !is_continuation(src[2]) {
         return None;
     }
-    let front = with_payload((src[0] & 0x0f) as u32, src[1]);
     let value = with_payload(front, src[2]);
-    // Surrogates are told by the bits that they share: comparing with both ends makes a branch hard to foresee.
-    if value < 0x800 || value >> 11 == 0xd800 >> 11 {
+    if value < 0x800 {
         return None;
     }
     Some((unsafe { char::from_u32_unchecked(value) }, 3))
 }
 
-// The character of four.
+// The character of four, or none where the first byte is above 0xf4.
 #[inline(always)]
 fn four(src: &[u8]) -> Option<(char, usize)>
-    requires { IsBegun 0xF0 0xF5 src.now }
+    requires { IsBegun 0xF0 0x100 src.now }
     ensures some { IfSome result (λ x. BeginsWith utf8 src.now (as_scalar x.0) x.1) }
     ensures none { IfNone result (NoneBegins utf8 src.now) }
 {
+    let front = with_payload((src[0] & 0x0f) as u32, src[1]);
+    if front < 0x1_0000 >> 12 || front > 0x10_ffff >> 12 {
+        return None;
+    }
     if !is_continuation(src[2]) || !is_continuation(src[3]) {
         return None;
     }
-    let front = with_payload((src[0] & 0x07) as u32, src[1]);
     let value = with_payload(with_payload(front, src[2]), src[3]);
-    if value < 0x1_0000 || value > 0x10_ffff {
-        return None;
-    }
     Some((unsafe { char::from_u32_unchecked(value) }, 4))
 }
 
@@ -93,5 +106,15 @@ fn with_payload(front: u32, byte: u8) -> u32
     requires byte { is_continuation byte ≡ true }
     ensures { result ≡ front * 64 + (byte - 0x80) }
 {
-    front << 6 | (byte & 0x3f) as u32
+    joined(front, (byte & 0x3f) as u32)
+}
+
+// A number and the six bits after it.
+#[inline(always)]
+fn joined(front: u32, low: u32) -> u32
+    requires front { front < 0x8000 }
+    requires low { low < 64 }
+    ensures { result ≡ front * 64 + low }
+{
+    front << 6 | low
 }

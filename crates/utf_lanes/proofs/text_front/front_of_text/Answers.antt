@@ -1,7 +1,7 @@
 use Rattle.std.proofs.Common.{◌<◌, length, Ok, ap, arith, sym, ◌∙◌}
 use Rattle.utf_base.proofs.DecodedLemmas.{decoded_code}
 use Rattle.utf_base.proofs.KindCases.{begins_with-1}
-use Rattle.utf_lanes.proofs.NoneBegins.{none_by_first, none_by_second}
+use Rattle.utf_lanes.proofs.NoneBegins.{none_by_second}
 use Rattle.utf_lanes.proofs.text_front.front_of_text.Goals as goal
 
 pub returns-then-src-lt128-clause-some : goal.returns-then-src-lt128-clause-some
@@ -11,12 +11,6 @@ returns-then-src-lt128-clause-some c =
 
 pub returns-then-not-is_continuation-clause-none : goal.returns-then-not-is_continuation-clause-none
 returns-then-not-is_continuation-clause-none c enough = none_by_second c.args.src.now (omega arith) (sym c.is_continuation.ensures ∙ c.if-not-is_continuation.true)
-
-pub returns-in_default-clause-none : goal.returns-in_default-clause-none
-returns-in_default-clause-none c enough = none_by_first c.args.src.now (omega arith) (λ low high. omega arith)
-
-pub returns-in_default-2-clause-none : goal.returns-in_default-2-clause-none
-returns-in_default-2-clause-none c enough = none_by_first c.args.src.now (omega arith) (λ low high. omega arith)
 
 pub returns-then-src-lt128-clause-known : goal.returns-then-src-lt128-clause-known
 returns-then-src-lt128-clause-known c =
