@@ -23,7 +23,7 @@ need_number() {
 # run_cargo ARGUMENTS: cargo in the copy of this folder. The processor is the one for which rt builds the library,
 # which takes memory by a few C functions of the kit.
 run_cargo() {
-    if ! (cd "$work_folder/bench" && BENCH_LIBRARY_FOLDER="$root_folder/crates/bench_c/out" \
+    if ! (cd "$work_folder/bench" && BENCH_LIBRARY_FOLDER="${library_folder:-$root_folder/crates/bench_c/out}" \
         RATTLE_C_FOLDER="$(dirname "$(rt doc)")/c" \
         RUSTFLAGS="-C target-cpu=x86-64-v2" CARGO_TARGET_DIR="$work_folder/target" \
         cargo "$@" >"$work_folder/cargo.log" 2>&1); then
@@ -65,6 +65,20 @@ copy_sources() {
     copy_peers
     mkdir "$work_folder/encode_unicode"
     tar -C "$1" --exclude=./target --exclude=./.git -cf - . | tar -C "$work_folder/encode_unicode" -xf -
+}
+
+# Builds the same programs over the library for a processor with AVX2, x86-64-v3, which is then set aside: others find that for
+# x86-64-v2 where it was.
+build_with_avx2() {
+    local made="$root_folder/crates/bench_c/out/libbench_c.a"
+    library_folder="$work_folder/avx2"
+    mkdir -p "$library_folder"
+    mv "$made" "$library_folder/kept.a"
+    (cd "$root_folder/crates/bench_c" && rt lib --cpu=x86-64-v3) >"$work_folder/rt.log" 2>&1 \
+        || { cat "$work_folder/rt.log" >&2 && die "the library could not be built for x86-64-v3"; }
+    mv "$made" "$library_folder/libbench_c.a"
+    mv "$library_folder/kept.a" "$made"
+    run_cargo build --release --offline
 }
 
 # time_at_places PROGRAM WORDS..: links the program at four places, 16 bytes apart, runs it with these words at each,

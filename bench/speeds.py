@@ -133,7 +133,7 @@ def programs():
 
 # What c/bench/run does, and whose call it is there.
 OF_C = {"utf8-to-utf16le": ("UTF-8 to UTF-16LE, `nody_recoder_feed`", "nody"), "utf16le-to-utf8": ("UTF-16LE to UTF-8, `nody_recoder_feed`", "nody"),
-        "decode": ("every piece, `nody_utf8_next`", "nody_utf8_next"), "decode at once": ("every piece, `nody_utf8_pieces`", "nody_utf8_pieces")}
+        "valid-up-to": ("validate UTF-8, `nody_utf8_valid_up_to`", "nody"), "decode": ("every piece, `nody_utf8_next`", "nody_utf8_next"), "decode at once": ("every piece, `nody_utf8_pieces`", "nody_utf8_pieces")}
 
 
 def of_c_bench():

@@ -321,7 +321,7 @@ fn front_of_four(bytes: &[u8]) -> Option<(char, usize)>
 // Puts the characters that begin the bytes in the first places of the room, up to what is none, and answers how many these are
 // and where they end. There are no more than a character for each four bytes: so one count bounds the places and the bytes.
 #[inline(never)]
-fn put_text(bytes: &[u8], room: &mut [NodyPiece]) -> (usize, usize)
+fn put_first_characters(bytes: &[u8], room: &mut [NodyPiece]) -> (usize, usize)
     ensures within { result.0 ≤ length room.old }
     ensures place { result.1 ≤ length bytes.now }
     ensures each { GivesEach first_piece_of bytes.now (take result.0 room.new) (drop result.1 bytes.now) }
@@ -352,7 +352,7 @@ pub extern "C" fn nody_utf8_pieces(left: &mut NodyBytes<'_>, room: &mut [NodyPie
     ensures rest { drop result room.new ≡ drop result room.old }
     ensures over { result < length room.old → length left.new.bytes.now ≡ 0 }
 {
-    let (mut count, place) = put_text(left.bytes, room);
+    let (mut count, place) = put_first_characters(left.bytes, room);
     let mut bytes = &left.bytes[place..];
     while count < room.len() {
         let len = put_first_piece(bytes, room, count);

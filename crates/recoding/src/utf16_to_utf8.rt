@@ -107,7 +107,7 @@ fn narrow_many<O: Output, const BIG_ENDIAN: bool>(bytes: &[u8], out: &mut O) -> 
     let mut made = [0; GATHERED];
     let mut place = 0;
     loop {
-        place += put_ascii::<O, BIG_ENDIAN>(&bytes[place..], out);
+        place += put_ascii_blocks::<O, BIG_ENDIAN>(&bytes[place..], out);
         let len = put_gathered::<O, BIG_ENDIAN>(&bytes[place..], &mut made, out);
         place += len;
         if len < FEW {
@@ -118,7 +118,7 @@ fn narrow_many<O: Output, const BIG_ENDIAN: bool>(bytes: &[u8], out: &mut O) -> 
 
 // The same of blocks of ASCII, which are put one by one.
 #[inline(always)]
-fn put_ascii<O: Output, const BIG_ENDIAN: bool>(bytes: &[u8], out: &mut O) -> usize
+fn put_ascii_blocks<O: Output, const BIG_ENDIAN: bool>(bytes: &[u8], out: &mut O) -> usize
     ensures { PutsText O.appends (utf16_form BIG_ENDIAN) Form.Utf8 bytes.now out.old out.new result }
 {
     let most = 2 * (bytes.len() / 2).min(out.room());

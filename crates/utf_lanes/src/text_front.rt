@@ -51,7 +51,7 @@ fn two(src: &[u8]) -> Option<(char, usize)>
         return None;
     }
     // The mark of the first byte is taken off after it was tested: so the compiler keeps both tests apart.
-    let marked = joined(src[0] as u32, second as u32);
+    let marked = with_low_bits(src[0] as u32, second as u32);
     if marked < 0xc2 << 6 {
         return None;
     }
@@ -106,12 +106,12 @@ fn with_payload(front: u32, byte: u8) -> u32
     requires byte { is_continuation byte ≡ true }
     ensures { result ≡ front * 64 + (byte - 0x80) }
 {
-    joined(front, (byte & 0x3f) as u32)
+    with_low_bits(front, (byte & 0x3f) as u32)
 }
 
 // A number and the six bits after it.
 #[inline(always)]
-fn joined(front: u32, low: u32) -> u32
+fn with_low_bits(front: u32, low: u32) -> u32
     requires front { front < 0x8000 }
     requires low { low < 64 }
     ensures { result ≡ front * 64 + low }

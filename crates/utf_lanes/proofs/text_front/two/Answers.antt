@@ -24,7 +24,7 @@ returns-clause-some c =
     let low : 0xC2 ≤ get_or c.args.src.now 0 0 = omega arith in
     let enough : 2 ≤ length c.args.src.now = omega arith in
     let asks = Asks-2 c.args.src.now (omega arith) low c.requires.high in
-    let v = c.joined-marked.result - 0x3000 in
+    let v = c.with_low_bits-marked.result - 0x3000 in
     let any : 0 ≤ v = omega arith in
     let sums = Sums-2 _ v asks enough continues (omega arith) in
     let scalar : IsScalar v = record { below = omega arith; no_surrogate = λ g. omega arith } in

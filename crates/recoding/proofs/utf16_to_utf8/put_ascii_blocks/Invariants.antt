@@ -3,7 +3,7 @@ use Rattle.std.specs.Prelude.{eqb}
 use Rattle.recoding.specs.NextScalars.{utf16_form}
 use Rattle.recoding.specs.Strict.{PutsText}
 use Rattle.recoding.specs.declared.form.Form.TheVariants.{Utf8}
-use Rattle.recoding.proofs.utf16_to_utf8.put_ascii.Given as goal
+use Rattle.recoding.proofs.utf16_to_utf8.put_ascii_blocks.Given as goal
 
 abbrev pub invariant-loop-place : goal.invariant-loop-place
 invariant-loop-place g l = record {

@@ -5,7 +5,7 @@ use Rattle.recoding.proofs.CopiedUnits.{rest_fits}
 use Rattle.recoding.proofs.Forms.{is_utf16}
 use Rattle.recoding.proofs.Utf16ToUtf8.{PutsText-narrowed}
 use Rattle.recoding.proofs.TextRuns.{PutsText-none, PutsText-then}
-use Rattle.recoding.proofs.utf16_to_utf8.put_ascii.Goals as goal
+use Rattle.recoding.proofs.utf16_to_utf8.put_ascii_blocks.Goals as goal
 
 pub loop-place-init : goal.loop-place-init
 loop-place-init g c = record { within = omega arith; room = omega arith; text = PutsText-none g.met.O.Output.appends_none }
