@@ -32,12 +32,12 @@ pub(crate) fn put_ascii_front<O: Output, const BIG_ENDIAN: bool>(bytes: &[u8], o
     ensures ascii { AreAscii bytes.now 0 result }
     ensures appends { O.appends out.old (widened BIG_ENDIAN (take result bytes.now)) out.new }
 {
-    let mut place = 0;
     if bytes.len() < 128 || !is_ascii_block(bytes, 0) {
         return 0;
     }
+    let mut place = 0;
     while 128 <= bytes.len() - place && is_ascii_block(bytes, place + 64) {
-        put_64::<O, BIG_ENDIAN>(bytes, place, out);
+        put_ascii_64::<O, BIG_ENDIAN>(bytes, place, out);
         place += 64;
     }
     place
@@ -45,7 +45,7 @@ pub(crate) fn put_ascii_front<O: Output, const BIG_ENDIAN: bool>(bytes: &[u8], o
 
 // One of them.
 #[inline(always)]
-fn put_64<O: Output, const BIG_ENDIAN: bool>(bytes: &[u8], place: usize, out: &mut O)
+fn put_ascii_64<O: Output, const BIG_ENDIAN: bool>(bytes: &[u8], place: usize, out: &mut O)
     requires within { place + 64 ≤ length bytes.now }
     requires room { 128 ≤ O.room out.old }
     ensures { O.appends out.old (widened BIG_ENDIAN (take 64 (drop place bytes.now))) out.new }

@@ -19,5 +19,5 @@ loop-place-preserved g c =
     record {
       within = omega arith;
       ascii = ascii_on xs 0 (place + 64) (place + 64 + 64) c.loop-place.invariant.ascii next;
-      appends = rw (widened_more (not (eqb g.row.BIG_ENDIAN 0)) xs place 64) at (appended_twice g.met.O.Output.appends_more c.loop-place.invariant.appends c.put_64.ensures);
+      appends = rw (widened_more (not (eqb g.row.BIG_ENDIAN 0)) xs place 64) at (appended_twice g.met.O.Output.appends_more c.loop-place.invariant.appends c.put_ascii_64.ensures);
     }

@@ -1,7 +1,7 @@
 use Rattle.std.proofs.Common.{not, take, drop, arith, length-take, length-drop}
 use Rattle.std.specs.Prelude.{eqb}
 use Rattle.recoding.proofs.AsciiToUtf16.{appended_twice, block_widened}
-use Rattle.recoding.proofs.ascii_to_utf16.put_64.Goals as goal
+use Rattle.recoding.proofs.ascii_to_utf16.put_ascii_64.Goals as goal
 
 pub returns : goal.returns
 returns g c =
