@@ -1,7 +1,7 @@
 -- Texts of ASCII alone: what they show, and their units.
 use Rattle.std.proofs.Common.{◌≡◌, ℕ, zero, suc, ◌+◌, ◌*◌, ◌/◌, ◌%◌, ◌<◌, ◌≤◌, Bool, true, false, List, [], ◌∷◌, ◌++◌, length, get_or, take, drop, flat_map, arith, refl, sym, ap, ap₂, ◌∙◌, drop-cons, take-add, take-append-drop, length-append, length-take}
 use Rattle.std.proofs.lemmas.Grind.{flat_map-append}
-use Rattle.std.proofs.lemmas.List.{append-nil, take_all}
+use Rattle.std.proofs.lemmas.List.{append-nil, get_or-take, take_all}
 use Rattle.std.specs.Prelude.{All}
 use Rattle.utf_base.specs.Code.{utf8}
 use Rattle.utf_base.specs.Scalar.{IsScalar}
@@ -91,6 +91,10 @@ pub ascii_scalars : (xs : List ℕ) → AreAscii xs 0 (length xs) → All IsScal
 ascii_scalars [] low k d lt = absurd (omega arith)
 ascii_scalars (x ∷ xs) low zero d lt = ascii_is_scalar x (low 0 (omega arith) (omega arith))
 ascii_scalars (x ∷ xs) low (suc k) d lt = ascii_scalars xs (λ j ge le. low (suc j) (omega arith) (omega arith)) k d (omega arith)
+
+-- the first bytes of some, as far as they are ASCII
+pub ascii_front : (xs : List ℕ) (n : ℕ) → AreAscii xs 0 n → AreAscii (take n xs) 0 (length (take n xs))
+ascii_front xs n low k ge lt = let less : k < n = omega (arith, length-take n xs) in rw (get_or-take n xs k 0 less) (low k ge less)
 
 -- So a text of ASCII is recoded as its units.
 pub PutsText-widened : {O : Type 0} {appends : O → List ℕ → O → Type 0} {old new : O} {to : Form} {bytes : List ℕ} {n : ℕ} (high : Bool) → HasByteOrder high to → n ≤ length bytes

@@ -1,12 +1,14 @@
 //! Texts of ASCII alone, written as units.
 ghost use Rattle.std.specs.Prelude.{◌≡◌, ◌+◌, ◌*◌, ◌≤◌, ◌++◌, length, take, drop};
+ghost use Rattle.utf_lanes.specs.AsciiTexts.{AreAscii};
 ghost use Rattle.utf_lanes.specs.Utf8ToUtf16.{halves};
 ghost use Rattle.recoding.specs.UnitRuns.{widened};
 
 use crate::codes::put_pair;
 use crate::output::Output;
 use std::simd::prelude::*;
-use utf_lanes::ascii_texts::interleave_zeros;
+use utf_lanes::ascii_texts::{interleave_zeros, is_ascii_block};
+use utf_lanes::text_units::interleave_zeros_wide;
 
 // Appends the bytes, each with a NUL, which is the high byte of its unit.
 #[inline(always)]
@@ -18,6 +20,39 @@ pub(crate) fn put_ascii_as_utf16<O: Output, const BIG_ENDIAN: bool>(bytes: &[u8]
     let place = put_lanes::<O, BIG_ENDIAN>(bytes, out);
     let last = &bytes[place..];
     put_each::<O, BIG_ENDIAN>(last, out);
+}
+
+// The same of the first bytes, in blocks of 64, as long as such a block and the one after it are ASCII. Answers where they
+// end. Each block is judged just before, and what follows the last is left with a block of ASCII at its front.
+#[inline(always)]
+#[tactic(auto, using(crate::proofs::AsciiToUtf16::few_widened))]
+pub(crate) fn put_ascii_front<O: Output, const BIG_ENDIAN: bool>(bytes: &[u8], out: &mut O) -> usize
+    requires { 2 * length bytes.now ≤ O.room out.old }
+    ensures within { result ≤ length bytes.now }
+    ensures ascii { AreAscii bytes.now 0 result }
+    ensures appends { O.appends out.old (widened BIG_ENDIAN (take result bytes.now)) out.new }
+{
+    if bytes.len() < 128 || !is_ascii_block(bytes, 0) {
+        return 0;
+    }
+    let mut place = 0;
+    while 128 <= bytes.len() - place && is_ascii_block(bytes, place + 64) {
+        put_ascii_64::<O, BIG_ENDIAN>(bytes, place, out);
+        place += 64;
+    }
+    place
+}
+
+// One of them.
+#[inline(always)]
+fn put_ascii_64<O: Output, const BIG_ENDIAN: bool>(bytes: &[u8], place: usize, out: &mut O)
+    requires within { place + 64 ≤ length bytes.now }
+    requires room { 128 ≤ O.room out.old }
+    ensures { O.appends out.old (widened BIG_ENDIAN (take 64 (drop place bytes.now))) out.new }
+{
+    let (first, second) = interleave_zeros_wide(BIG_ENDIAN, u8x64::from_slice(&bytes[place..]));
+    out.put_wide(first);
+    out.put_wide(second);
 }
 
 // The same of blocks of sixteen. Answers where the last one ends.

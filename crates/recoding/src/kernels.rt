@@ -2,8 +2,10 @@
 ghost use Rattle.std.specs.Prelude.{◌*◌, ◌≤◌, length, IsTrue};
 ghost use Rattle.recoding.specs.Recodes.{FitsAll};
 ghost use Rattle.recoding.specs.Strict.{PutsText};
+ghost use Rattle.recoding.specs.NextScalars.{utf16_form};
+ghost use Rattle.recoding.specs.declared.form.Form.TheVariants as form;
 
-use crate::ascii_to_utf16::put_ascii_as_utf16;
+use crate::ascii_to_utf16::{put_ascii_as_utf16, put_ascii_front};
 use crate::copied::copy_units;
 use crate::form::WIDEST;
 use crate::output::Output;
@@ -78,13 +80,24 @@ impl<const BIG_ENDIAN: bool> Kernel<Utf8, Utf16<BIG_ENDIAN>> for Widened {
         if most < 32 {
             return 0;
         }
-        let len = text_len(part);
-        if len < 32 {
-            return 0;
-        }
-        put_text_as_utf16::<O, BIG_ENDIAN>(&bytes[..len], out);
-        len
+        let front = put_ascii_front::<O, BIG_ENDIAN>(part, out);
+        front + put_judged::<O, BIG_ENDIAN>(&part[front..], out)
     }
+}
+
+// Appends the units of text at the front of some bytes, which is judged as a whole before. Answers how many bytes it has, or 0
+// of few.
+#[inline(always)]
+fn put_judged<O: Output, const BIG_ENDIAN: bool>(bytes: &[u8], out: &mut O) -> usize
+    requires { WIDEST * length bytes.now ≤ O.room out.old }
+    ensures { PutsText O.appends form.Utf8 (utf16_form BIG_ENDIAN) bytes.now out.old out.new result }
+{
+    let len = text_len(bytes);
+    if len < 32 {
+        return 0;
+    }
+    put_text_as_utf16::<O, BIG_ENDIAN>(&bytes[..len], out);
+    len
 }
 
 impl<const BIG_ENDIAN: bool> Kernel<Utf16<BIG_ENDIAN>, Utf8> for Narrowed {

@@ -196,9 +196,9 @@ pub fn ascii_units(high_first: bool, text: &[u8], place: usize) -> ([u8; 64], [u
     (first.to_array(), second.to_array())
 }
 
-// Each byte with a NUL, which is the high byte of its unit: of the first 32 bytes, and of the others.
+/// Each byte with a NUL, which is the high byte of its unit: of the first 32 bytes, and of the others.
 #[inline(always)]
-fn interleave_zeros_wide(high_first: bool, bytes: u8x64) -> (u8x64, u8x64)
+pub fn interleave_zeros_wide(high_first: bool, bytes: u8x64) -> (u8x64, u8x64)
     ensures first { result.0 ≡ concat_range (λ k. halves high_first (slice_index bytes k) 0) 0 32 }
     ensures second { result.1 ≡ concat_range (λ k. halves high_first (slice_index bytes k) 0) 32 32 }
 {

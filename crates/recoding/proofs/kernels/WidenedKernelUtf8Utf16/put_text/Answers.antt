@@ -1,8 +1,8 @@
-use Rattle.std.proofs.Common.{◌≤◌, take, arith, IsUtf8, length-take}
-use Rattle.std.proofs.lemmas.List.{take-take}
+use Rattle.std.proofs.Common.{not, ◌-◌, length, drop, take, arith, length-take, length-drop}
+use Rattle.std.specs.Prelude.{eqb}
 use Rattle.recoding.proofs.Forms.{is_utf16}
-use Rattle.recoding.proofs.TextRuns.{PutsText-given, PutsText-none}
-use Rattle.recoding.proofs.AsciiToUtf16.{PutsText-widened}
+use Rattle.recoding.proofs.TextRuns.{PutsText-none, PutsText-part, PutsText-then}
+use Rattle.recoding.proofs.AsciiToUtf16.{PutsText-widened, ascii_front, few_widened}
 use Rattle.recoding.proofs.kernels.WidenedKernelUtf8Utf16.put_text.Goals as goal
 
 pub returns-then-not-is_ample : goal.returns-then-not-is_ample
@@ -11,17 +11,26 @@ returns-then-not-is_ample g c = PutsText-none g.met.O.Output.appends_none
 pub returns-then-most-lt32-2 : goal.returns-then-most-lt32-2
 returns-then-most-lt32-2 g c = PutsText-none g.met.O.Output.appends_none
 
-pub returns-then-len-lt32 : goal.returns-then-len-lt32
-returns-then-len-lt32 g c = PutsText-none g.met.O.Output.appends_none
-
 pub returns-then-is_ascii : goal.returns-then-is_ascii
 returns-then-is_ascii g c = PutsText-widened _ (is_utf16 _) (omega arith) (c.is_ascii.ensures c.if-is_ascii.true) c.put_ascii_as_utf16.ensures
 
+pub put_judged-requires : goal.put_judged-requires
+put_judged-requires g c =
+    let part = take c.min-most.result c.args.bytes.now in
+    let front = c.put_ascii_front-front.result in
+    omega (
+      arith,
+      g.met.O.Output.appends_room _ _ _ c.put_ascii_front-front.ensures.appends,
+      few_widened (not (eqb g.row.BIG_ENDIAN 0)) part front,
+      length-take c.min-most.result c.args.bytes.now,
+      length-take (length part - front) (drop front part),
+      length-drop front part,
+    )
+
 pub returns : goal.returns
 returns g c =
-    let bytes = c.args.bytes.now in
-    let len = c.text_len-len.result in
     let most = c.min-most.result in
-    let few : len ≤ most = omega (arith, length-take most bytes, c.text_len-len.ensures.within) in
-    let text : IsUtf8 (take len bytes) = rw (take-take len most bytes few) at c.text_len-len.ensures.text in
-    PutsText-given _ (is_utf16 _) (omega (arith, length-take most bytes)) text c.put_text_as_utf16.ensures
+    let front = c.put_ascii_front-front.result in
+    let ascii = ascii_front (take most c.args.bytes.now) front c.put_ascii_front-front.ensures.ascii in
+    let put = PutsText-widened _ (is_utf16 _) c.put_ascii_front-front.ensures.within ascii c.put_ascii_front-front.ensures.appends in
+    PutsText-part most (PutsText-then g.met.O.Output.appends_more put c.put_judged.ensures)

@@ -1,0 +1,15 @@
+use Rattle.std.proofs.Common.{not, ◌-◌, ◌+◌, ◌≤◌, length, take}
+use Rattle.std.specs.Prelude.{eqb}
+use Rattle.recoding.specs.UnitRuns.{widened}
+use Rattle.utf_lanes.specs.AsciiTexts.{AreAscii}
+use Rattle.recoding.proofs.ascii_to_utf16.put_ascii_front.Given as goal
+
+abbrev pub invariant-loop-place : goal.invariant-loop-place
+invariant-loop-place g l = record {
+  within : l.place + 64 ≤ length l.bytes;
+  ascii : AreAscii l.bytes 0 (l.place + 64);
+  appends : g.O.Output.appends l.fn.out (widened (not (eqb g.row.BIG_ENDIAN 0)) (take l.place l.bytes)) l.out;
+}
+
+abbrev pub decreases-loop-place : goal.decreases-loop-place
+decreases-loop-place g l = length l.bytes - l.place
