@@ -310,7 +310,7 @@ fn put_with_care(bytes: &[u8], room: &mut [NodyPiece], place: usize) -> usize
 // The character that begins the bytes, by no more than four of them: so no length is tested.
 #[inline(always)]
 #[tactic(auto, using(utf_base::proofs::DecodedLemmas::decoded_code, utf_base::proofs::DecodedLemmas::front_len_utf8))]
-fn front_of_four(bytes: &[u8]) -> Option<(char, usize)>
+fn character_of_four(bytes: &[u8]) -> Option<(char, usize)>
     requires { 4 ≤ length bytes.now }
     ensures known { IfSome result (λ x. decoded bytes.now ≡ Ok x) }
     ensures len { IfSome result (λ x. IsFrontLen 4 bytes.now x.1) }
@@ -321,7 +321,7 @@ fn front_of_four(bytes: &[u8]) -> Option<(char, usize)>
 // Puts the characters that begin the bytes in the first places of the room, up to what is none, and answers how many these are
 // and where they end. There are no more than a character for each four bytes: so one count bounds the places and the bytes.
 #[inline(never)]
-fn put_first_characters(bytes: &[u8], room: &mut [NodyPiece]) -> (usize, usize)
+fn put_characters(bytes: &[u8], room: &mut [NodyPiece]) -> (usize, usize)
     ensures within { result.0 ≤ length room.old }
     ensures place { result.1 ≤ length bytes.now }
     ensures each { GivesEach first_piece_of bytes.now (take result.0 room.new) (drop result.1 bytes.now) }
@@ -331,7 +331,7 @@ fn put_first_characters(bytes: &[u8], room: &mut [NodyPiece]) -> (usize, usize)
     let mut place = 0;
     let mut count = 0;
     while count < most {
-        match front_of_four(&bytes[place..]) {
+        match character_of_four(&bytes[place..]) {
             None => return (count, place),
             Some((c, len)) => {
                 room[count] = character_piece(c, len);
@@ -352,7 +352,7 @@ pub extern "C" fn nody_utf8_pieces(left: &mut NodyBytes<'_>, room: &mut [NodyPie
     ensures rest { drop result room.new ≡ drop result room.old }
     ensures over { result < length room.old → length left.new.bytes.now ≡ 0 }
 {
-    let (mut count, place) = put_first_characters(left.bytes, room);
+    let (mut count, place) = put_characters(left.bytes, room);
     let mut bytes = &left.bytes[place..];
     while count < room.len() {
         let len = put_first_piece(bytes, room, count);

@@ -1,7 +1,7 @@
 use Rattle.std.proofs.Common.{◌+◌, ◌-◌, ◌*◌, ◌≤◌, length, drop}
 use Rattle.c_api.specs.Api.{first_piece_of}
 use Rattle.c_api.proofs.Each.{Filled}
-use Rattle.c_api.proofs.cursors.put_first_characters.Given as goal
+use Rattle.c_api.proofs.cursors.put_characters.Given as goal
 
 -- each piece that may still come has four bytes
 abbrev pub invariant-loop-count : goal.invariant-loop-count

@@ -3,7 +3,7 @@ use Rattle.std.proofs.lemmas.List.{drop-drop, take_rest}
 use Rattle.utf_base.specs.Decoded.{decoded}
 use Rattle.c_api.specs.Api.{first_piece_of, after}
 use Rattle.c_api.proofs.Each.{fills_on}
-use Rattle.c_api.proofs.cursors.put_first_characters.Goals as goal
+use Rattle.c_api.proofs.cursors.put_characters.Goals as goal
 
 pub loop-count-preserved : goal.loop-count-preserved
 loop-count-preserved c =
