@@ -39,7 +39,7 @@ pub(crate) fn narrow_text<O: Output, const BIG_ENDIAN: bool>(bytes: &[u8], out: 
 fn narrow_units<O: Output, const BIG_ENDIAN: bool>(bytes: &[u8], out: &mut O) -> usize
     ensures { PutsText O.appends (utf16_form BIG_ENDIAN) Form.Utf8 bytes.now out.old out.new result }
 {
-    if bytes.len() < BLOCK {
+    if O::GATHERS && bytes.len() < BLOCK {
         return 0;
     }
     if O::GATHERS && LONG <= bytes.len() {
