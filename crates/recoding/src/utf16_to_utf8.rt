@@ -156,7 +156,8 @@ fn write_blocks<const BIG_ENDIAN: bool>(
     ensures len { length room.new ≡ length room.old }
     ensures fits { result.1 ≤ most }
     ensures within { result.0 ≤ length bytes.now }
-    ensures text { Transcodes (utf16_form BIG_ENDIAN) Form.Utf8 (take result.0 bytes.now) (take result.1 room.new) }
+    ensures text { Transcodes (utf16_form BIG_ENDIAN) Form.Utf8
+        (take result.0 bytes.now) (take result.1 room.new) }
 {
     let mut place = 0;
     let mut end = 0;
