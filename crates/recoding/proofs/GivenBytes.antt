@@ -1,5 +1,10 @@
 -- What the places of some text give, appended to any output.
-use Rattle.std.proofs.Common.{◌≡◌, ℕ, zero, suc, ◌+◌, ◌-◌, ◌*◌, ◌≤◌, Bool, true, false, cond, List, [], ◌∷◌, ◌++◌, length, arith, refl, subst, length-append}
+use borrow.Rule.Slice.PartMut.{put_mid}
+use Rattle.std.proofs.Common.{◌≡◌, ℕ, zero, suc, ◌+◌, ◌-◌, ◌*◌, ◌≤◌, Bool, true, false, cond, List, [], ◌∷◌, ◌++◌, length, take, drop, arith, refl, subst, sym, ap, ◌∙◌, length-append, length-take, take-append-drop}
+use Rattle.std.proofs.lemmas.List.{append-nil}
+use Rattle.std.proofs.lemmas.Slice.{take-put_mid, drop-put_mid}
+use Rattle.std.proofs.Math.ListN.{drop_of_length-le}
+use Rattle.std.proofs.Math.Seq.{take-append-add}
 use Rattle.utf_lanes.specs.Utf8ToUtf16.{concat_range, utf16_bytes, utf16_bytes_at, halves}
 use Rattle.utf_lanes.proofs.TextUnits.{given_more, given_nothing}
 
@@ -39,3 +44,22 @@ length_given high xs p n = length_joined (utf16_bytes_at high (0 ∷ 0 ∷ 0 ∷
 
 pub few_given : (high : Bool) (xs ys : List ℕ) (p n : ℕ) → ys ≡ utf16_bytes high xs p n → length ys ≤ 2 * n
 few_given high xs ys p n e = rw e (length_given high xs p n)
+
+-- Room after its rest, from a place on, was written.
+module _ (room rest : List ℕ) (place : ℕ) (le : place ≤ length room) (same : length rest ≡ length room - place) where
+  put_rest : put_mid place (length room - place) room rest ≡ take place room ++ rest
+  put_rest =
+      let put = put_mid place (length room - place) room rest in
+      let front = take-put_mid place (length room - place) room rest (length room) (omega arith) le in
+      let following = drop-put_mid place (length room - place) room rest (length room) (omega arith) le same ∙ drop_of_length-le room (omega arith) in
+      sym (take-append-drop (length room) put) ∙ ap (λ z. z ++ drop (length room) put) front ∙ ap (λ z. (take place room ++ rest) ++ z) following ∙ append-nil (take place room ++ rest)
+
+  front_len : length (take place room) ≡ place
+  front_len = length-take place room ∙ omega arith
+
+  pub length_both : length (put_mid place (length room - place) room rest) ≡ length room
+  length_both = omega (arith, ap length put_rest, length-append (take place room) rest, front_len)
+
+  pub written_both : (wrote : ℕ) → take (place + wrote) (put_mid place (length room - place) room rest) ≡ take place room ++ take wrote rest
+  written_both wrote =
+      ap (take (place + wrote)) put_rest ∙ ap (λ j. take (j + wrote) (take place room ++ rest)) (sym front_len) ∙ take-append-add (take place room) rest wrote

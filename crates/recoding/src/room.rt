@@ -99,7 +99,7 @@ fn lay_byte(byte: u8, room: &mut [u8], place: usize) -> usize
 
 // Writes 64 bytes.
 #[inline(always)]
-fn lay_wide(block: u8x64, room: &mut [u8], place: usize) -> usize
+pub(crate) fn lay_wide(block: u8x64, room: &mut [u8], place: usize) -> usize
     requires { place + 64 ≤ length room.old }
     ensures fills { Fills room.old room.new place result block }
     ensures end { result ≡ place + 64 }

@@ -45,7 +45,7 @@ pub(crate) fn narrow_text<O: Output, const BIG_ENDIAN: bool>(bytes: &[u8], out: 
 fn narrow_units<O: Output, const BIG_ENDIAN: bool>(bytes: &[u8], out: &mut O) -> usize
     ensures { PutsText O.appends (utf16_form BIG_ENDIAN) Form.Utf8 bytes.now out.old out.new result }
 {
-    if bytes.len() < BLOCK {
+    if O::GATHERS && bytes.len() < BLOCK {
         return 0;
     }
     if O::GATHERS && LONG <= bytes.len() {
@@ -162,7 +162,8 @@ fn write_blocks<const BIG_ENDIAN: bool>(
     ensures len { length room.new ≡ length room.old }
     ensures fits { result.1 ≤ most }
     ensures within { result.0 ≤ length bytes.now }
-    ensures text { Transcodes (utf16_form BIG_ENDIAN) Form.Utf8 (take result.0 bytes.now) (take result.1 room.new) }
+    ensures text { Transcodes (utf16_form BIG_ENDIAN) Form.Utf8
+        (take result.0 bytes.now) (take result.1 room.new) }
 {
     let (len, end) = write_wide_blocks::<BIG_ENDIAN>(bytes, most, room);
     write_blocks_from::<BIG_ENDIAN>(bytes, len, end, most, room)

@@ -17,5 +17,5 @@ loop-place-preserved g c =
     record {
       least = omega arith;
       within = omega arith;
-      appends = appends_given g.O.Output.appends g.met.O.Output.appends_more (not (eqb g.row.BIG_ENDIAN 0)) c.args.text.now _ _ _ 16 _ c.loop-place.place 64 _ before.appends c.put_64.ensures.appends (omega arith) (omega arith);
+      appends = appends_given g.O.Output.appends g.met.O.Output.appends_more (not (eqb g.row.BIG_ENDIAN 0)) c.args.text.now _ _ _ 16 _ c.loop-place.place _ _ before.appends c.put_some-place.ensures.appends (omega arith) (omega arith);
     }
