@@ -57,7 +57,8 @@ class Function:
         trait, brackets, of = self.owner_words()
         # (the prover's path leaves out constants that the types take)
         of, brackets = (re.sub(r"<[A-Z_]{2,}>", "", it) for it in (of, brackets))
-        of_what = camel(brackets) if brackets else ""
+        number = re.fullmatch(r"<(\d+)>", brackets)
+        of_what = number[1] if number else camel(brackets) if brackets else ""
         return re.sub(r"0x10000|256", "", between[0]) == f"{camel(of)}{trait}{'' if of_what == 'Any' else of_what}"
 
     def shown(self):
