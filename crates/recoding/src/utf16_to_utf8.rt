@@ -180,7 +180,8 @@ fn write_wide_blocks<const BIG_ENDIAN: bool>(
     ensures len { length room.new ≡ length room.old }
     ensures fits { result.1 ≤ most }
     ensures within { result.0 ≤ length bytes.now }
-    ensures text { Transcodes (utf16_form BIG_ENDIAN) Form.Utf8 (take result.0 bytes.now) (take result.1 room.new) }
+    ensures text { Transcodes (utf16_form BIG_ENDIAN) Form.Utf8
+        (take result.0 bytes.now) (take result.1 room.new) }
 {
     let mut place = 0;
     let mut end = 0;
@@ -208,11 +209,13 @@ fn write_blocks_from<const BIG_ENDIAN: bool>(
     requires most { most ≤ length room.old }
     requires written { written ≤ most }
     requires start { start ≤ length bytes.now }
-    requires text { Transcodes (utf16_form BIG_ENDIAN) Form.Utf8 (take start bytes.now) (take written room.old) }
+    requires text { Transcodes (utf16_form BIG_ENDIAN) Form.Utf8
+        (take start bytes.now) (take written room.old) }
     ensures len { length room.new ≡ length room.old }
     ensures fits { result.1 ≤ most }
     ensures within { result.0 ≤ length bytes.now }
-    ensures text { Transcodes (utf16_form BIG_ENDIAN) Form.Utf8 (take result.0 bytes.now) (take result.1 room.new) }
+    ensures text { Transcodes (utf16_form BIG_ENDIAN) Form.Utf8
+        (take result.0 bytes.now) (take result.1 room.new) }
 {
     let mut place = start;
     let mut end = written;
