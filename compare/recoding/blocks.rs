@@ -9,8 +9,16 @@ use std::sync::atomic::{AtomicUsize, Ordering};
 use std::sync::Mutex;
 use std::thread;
 
-/// The longest block in bytes: two of 64, and some more.
-const MOST: usize = 130;
+/// The longest block that is asked of everything: three of 64 bytes, and some more.
+const MOST: usize = 200;
+
+/// How many bytes longer blocks have, of which some hundreds go one by one and the others together, and how far the things in
+/// them are apart.
+const LONG: [usize; 3] = [1031, 2075, 4139];
+const APART: usize = 62;
+
+/// The sizes of rooms for these.
+const LONG_ROOMS: [usize; 4] = [100, 1000, 1985, 4096];
 
 /// The sizes of rooms: less than a code, and about those in which runs write.
 const ROOMS: [usize; 13] = [1, 3, 4, 5, 8, 15, 16, 17, 32, 33, 64, 65, 100];
@@ -78,8 +86,9 @@ pub fn all() -> (usize, String) {
     let (next, found) = (AtomicUsize::new(0), Mutex::new(Found::default()));
     let work_on = || {
         while let Some((form, fill)) = works.get(next.fetch_add(1, Ordering::Relaxed)) {
-            let more = blocks_between(*form, fill);
-            found.lock().expect("no thread panics").add(more);
+            for more in [blocks_between(*form, fill), long_blocks_between(*form, fill)] {
+                found.lock().expect("no thread panics").add(more);
+            }
         }
     };
     thread::scope(|scope| {
@@ -131,6 +140,42 @@ fn blocks_between(form: usize, fill: &str) -> Found {
         }
     }
     found
+}
+
+// The long blocks: each thing at places that are so far apart, the first one another for each.
+fn long_blocks_between(form: usize, fill: &str) -> Found {
+    let mut found = Found::default();
+    let unit = if form == 0 { 1 } else { 2 };
+    for len in LONG {
+        let odd = len % unit;
+        for (number, other) in others(form).iter().enumerate() {
+            let room = len - odd - other.len();
+            for place in (number * unit % APART..=room).step_by(APART) {
+                let after = text(form, fill, room - place, true);
+                let block = [&text(form, fill, place, false)[..], other, &after, &[0xd8][..odd]].concat();
+                hold_long(form, &block, place, &mut found);
+            }
+        }
+    }
+    found
+}
+
+// One long block, into each form: whole, cut before what is other in it, and into rooms of each size.
+fn hold_long(from: usize, block: &[u8], place: usize, found: &mut Found) {
+    found.blocks += 1;
+    let shown = judge::shown(from, block);
+    for to in 0..3 {
+        let expected = judge::written(to, &shown);
+        for cut in [block.len(), place] {
+            let answer = ours::recode(from, to, block, &[cut as u32]);
+            found.cuts.count(answer.as_deref() == Some(&expected[..]), || format!("{}: cut at {cut}", told(from, to, block)));
+        }
+        for size in LONG_ROOMS {
+            let calls = expected.len() / (size - 3) + 2;
+            hold_calls(from, to, block, &expected, &vec![[block.len() as u32, size as u32]; calls], size, &mut found.rooms);
+        }
+    }
+    hold_well_formed(from, block, &mut found.places);
 }
 
 fn others(form: usize) -> Vec<Vec<u8>> {
