@@ -166,7 +166,7 @@ def limits():
 def replacements():
     lines = []
     for line in (STORED / "tables").read_text(encoding="utf-8").splitlines():
-        parts = [it.strip() for it in line.strip("|").split("|")]
+        parts = line.split()
         if len(parts) == 6 and parts[1].isdigit():
             ours, lists, anew = float(parts[2]), float(parts[3]), float(parts[5])
             lines.append([parts[0], f"{ours:.0f}", f"{lists:.0f}", f"{ours / lists:.2f}", f"{anew:,.0f}"])
