@@ -139,9 +139,9 @@ typedef struct {
 } nody_recoder_t;
 
 /* The fault at which a strict call stopped. If the call met no fault, the kind is NODY_KIND_NONE, and len and back are 0.
- * nody_recode_strict reads the bytes before the fault, and no more. The other strict calls read the fault too, and sometimes bytes
- * after it; `back` counts all of these. To get the offset of the fault in the whole input,
- * add up `*read` of all calls so far, and subtract `back`. */
+ * nody_recode_strict reads the bytes before the fault, and no more. The other strict calls read the fault too, and sometimes
+ * bytes after it; `back` counts all of these. To get the offset of the fault in the whole input, add up `*read` of all calls so
+ * far, and subtract `back`. */
 typedef struct {
     size_t len;       /* in bytes: 1 in UTF-8, 2 for a lone surrogate, 1 for a single byte at the end of UTF-16 */
     size_t back;      /* in bytes: how far before the end of what was read the fault begins */
