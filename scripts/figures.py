@@ -58,8 +58,8 @@ def bytes_per_second(most):
 
 def most_memory():
     """The most MiB of memory that recode was seen to take, rounded up."""
-    cells = [it.split() for it in lines_of("bench/stored/recode-programs")]
-    most = max([int(it[-1]) for it in cells if len(it) == 7 and it[-1].isdigit()] + [int(it) for _, it in grown("bytes +memory")])
+    told = [it.split(": ")[1].split() for it in lines_of("bench/stored/recode-programs") if it.startswith("the most memory of recode: ")]
+    most = max([int(it) for it, _ in told] + [int(it) for _, it in grown("bytes +memory")])
     return f"{math.ceil(most / 102.4) / 10:.1f}"
 
 
