@@ -24,8 +24,7 @@ CFLAGS ?= -O2
 AR = `$(CC) $(CFLAGS) -print-prog-name=ar`
 
 COMPILE = $(CC) $(CPPFLAGS) $(CFLAGS)
-# For which processor: the first word of the compiler's target.
-PROCESSOR = read processor <$(BUILD)/target && $(CC) $(CFLAGS)
+ASSEMBLE = $(CC) $(CFLAGS) `cat $(BUILD)/jumps` -c -o
 LIBRARY = $(BUILD)/noddychest.o $(BUILD)/noddychest-v3.o $(BUILD)/processor.o
 # A program is linked as LDFLAGS say, a shared library never statically.
 SHARED = for it in $(CFLAGS) $(LDFLAGS); do case $$it in -static|-static-pie|-pie) ;; *) set -- "$$@" "$$it" ;; esac; done
@@ -44,13 +43,22 @@ $(BUILD)/target: always
 
 always:
 
-$(BUILD)/noddychest.o: generated/noddychest-x86_64.s generated/noddychest-aarch64.s $(BUILD)/target
-	$(PROCESSOR) -c -o $@ generated/noddychest-$$processor.s
+# On x86-64 the option that keeps jumps off the ends of 32 bytes of code, as gcc or clang writes it; empty where there is none. Some
+# processors of Intel are slow at such jumps (docs/DECISIONS.md).
+$(BUILD)/jumps: $(BUILD)/target
+	@read processor <$(BUILD)/target && for it in -Wa,-mbranches-within-32B-boundaries -mbranches-within-32B-boundaries; do \
+		if [ $$processor = x86_64 ] && $(CC) $(CFLAGS) $$it -x assembler -c -o $@.o /dev/null 2>/dev/null; then \
+			echo $$it && break; \
+		fi; \
+	done >$@; rm -f $@.o
+
+$(BUILD)/noddychest.o: generated/noddychest-x86_64.s generated/noddychest-aarch64.s $(BUILD)/jumps
+	read processor <$(BUILD)/target && $(ASSEMBLE) $@ generated/noddychest-$$processor.s
 
 # The calls that validate and recode, for x86-64-v3 (for ARM an empty file, which no library gets).
-$(BUILD)/noddychest-v3.o: generated/noddychest-x86_64-v3.s $(BUILD)/target
+$(BUILD)/noddychest-v3.o: generated/noddychest-x86_64-v3.s $(BUILD)/jumps
 	read processor <$(BUILD)/target && case $$processor in \
-	x86_64) $(CC) $(CFLAGS) -c -o $@ generated/noddychest-x86_64-v3.s ;; \
+	x86_64) $(ASSEMBLE) $@ generated/noddychest-x86_64-v3.s ;; \
 	*) : >$@ ;; \
 	esac
 
@@ -74,11 +82,11 @@ $(BUILD)/pieces.s: generated/pieces-x86_64.s generated/pieces-aarch64.s generate
 $(BUILD)/recode.s: generated/recode-x86_64.s generated/recode-aarch64.s generated/names.sed $(BUILD)/target
 	read processor <$(BUILD)/target && sed -f generated/names.sed generated/recode-$$processor.s >$@
 
-$(BUILD)/pieces.o: $(BUILD)/pieces.s
-	$(CC) $(CFLAGS) -c -o $@ $(BUILD)/pieces.s
+$(BUILD)/pieces.o: $(BUILD)/pieces.s $(BUILD)/jumps
+	$(ASSEMBLE) $@ $(BUILD)/pieces.s
 
-$(BUILD)/recode.o: $(BUILD)/recode.s
-	$(CC) $(CFLAGS) -c -o $@ $(BUILD)/recode.s
+$(BUILD)/recode.o: $(BUILD)/recode.s $(BUILD)/jumps
+	$(ASSEMBLE) $@ $(BUILD)/recode.s
 
 $(BUILD)/system.o: generated/system.c $(BUILD)/target
 	$(COMPILE) -c -o $@ generated/system.c

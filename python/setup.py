@@ -1,6 +1,7 @@
 """Builds the extension module: assembly of the proved code, and the C that hands it to Python. pyproject.toml has the rest."""
 import os
 import shutil
+import subprocess
 import sys
 import sysconfig
 
@@ -35,10 +36,22 @@ def fill_library():
             raise FileError(f"{it} is missing: it is part of the source archive, and of the repository beside python/")
 
 
+# On x86-64 the option that keeps jumps off the ends of 32 bytes of code, as gcc or clang writes it. Some processors of Intel are
+# slow at such jumps.
+JUMPS = {"linux-x86_64": ["-Wa,-mbranches-within-32B-boundaries", "-mbranches-within-32B-boundaries"], "linux-aarch64": []}
+
+
 class BuildLibrary(build_ext):
+    def is_option(self, option):
+        """Whether the compiler can assemble with it."""
+        os.makedirs(self.build_temp, exist_ok=True)
+        words = [*self.compiler.compiler_so, option, "-x", "assembler", "-c", "-o", f"{self.build_temp}/empty.o", os.devnull]
+        return subprocess.run(words, capture_output=True, check=False).returncode == 0
+
     def build_extension(self, extension):
         if self.plat_name not in ASSEMBLY:
             raise PlatformError(f"noddychest is built for {' and '.join(ASSEMBLY)}, and this is {self.plat_name}")
+        extension.extra_compile_args += [it for it in JUMPS[self.plat_name] if self.is_option(it)][:1]
         self.compiler.src_extensions = [*self.compiler.src_extensions, ".s"]
         extension.sources += [f"library/{it}" for it in ASSEMBLY[self.plat_name]]
         super().build_extension(extension)

@@ -67,6 +67,18 @@ fn run(words: &[String], more: &[&str], needed: &str) -> String {
     }
 }
 
+/// On x86-64 the option that keeps jumps off the ends of 32 bytes of code, as gcc or clang writes it, where there is one. Some
+/// processors of Intel are slow at such jumps.
+fn jumps(compiler: &[String], out: &Path) -> Option<&'static str> {
+    let (empty, object) = (out.join("empty.s"), out.join("empty.o"));
+    std::fs::write(&empty, "").unwrap_or_else(|error| stop(&format!("{} cannot be written: {error}.", empty.display())));
+    let options = ["-Wa,-mbranches-within-32B-boundaries", "-mbranches-within-32B-boundaries"];
+    options.into_iter().find(|option| {
+        let words = compiler[1..].iter().map(String::as_str).chain([option, "-c", "-o", text(&object), text(&empty)]);
+        Command::new(&compiler[0]).args(words).output().is_ok_and(|ran| ran.status.success())
+    })
+}
+
 fn main() {
     let processor = processor();
     let out = PathBuf::from(env::var_os("OUT_DIR").unwrap_or_default());
@@ -86,9 +98,11 @@ fn main() {
     let archive = out.join("libnoddychest.a");
     let _ = std::fs::remove_file(&archive);
     let archiver = named("AR").unwrap_or_else(|| vec![run(&compiler, &["-print-prog-name=ar"], needed)]);
+    let jumps = if processor == "x86_64" { jumps(&compiler, &out) } else { None };
     for (number, source) in sources.iter().enumerate() {
-        let object = out.join(format!("{number}.o"));
-        run(&compiler, &["-O2", "-fPIC", "-c", "-o", text(&object), text(&place(source))], needed);
+        let (source, object) = (place(source), out.join(format!("{number}.o")));
+        let words: Vec<&str> = jumps.into_iter().chain(["-O2", "-fPIC", "-c", "-o", text(&object), text(&source)]).collect();
+        run(&compiler, &words, needed);
         run(
             &archiver,
             &["rcs", text(&archive), text(&object)],
