@@ -127,8 +127,9 @@ def programs():
     of_recode = stored("recode-programs", 3)
     ratios = [it.ratio("iconv") for it in of_recode if "iconv" in it.numbers]
     lines.append(["`recode`", "iconv(1)", between(ratios), f"{sum(it <= 1 for it in ratios)} of {len(ratios)}"])
-    ratios = [it.ratio("rust") for it in stored("pieces", 1)]
-    lines.append(["`pieces`", "a Rust program with the same output", between(ratios), f"{sum(it <= 1 for it in ratios)} of {len(ratios)}"])
+    for side, told in [("rust", "a Rust program with the same output"), ("c", "a C program with the same output, of text")]:
+        ratios = [it.ratio(side) for it in stored("pieces", 1) if side in it.numbers]
+        lines.append(["`pieces`", told, between(ratios), f"{sum(it <= 1 for it in ratios)} of {len(ratios)}"])
     return table(["program", "beside", "ratio", "no slower"], lines)
 
 

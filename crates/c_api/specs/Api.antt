@@ -104,6 +104,10 @@ abbrev pub GivesEach : (List ℕ → NodyPiece) → List ℕ → List NodyPiece 
 GivesEach piece xs [] ys = ys ≡ xs
 GivesEach piece xs (x ∷ ps) ys = (0 < length xs) × (x ≡ piece xs) × GivesEach piece (after xs x) ps ys
 
+-- the piece of an ASCII character
+abbrev pub ascii_piece_of : ℕ → NodyPiece
+ascii_piece_of byte = record { len = 1; scalar = byte; kind = 0 }
+
 -- The piece that begins the bytes was put in a place of the room, and is so long; of no bytes nothing was put.
 pub record IsPut (xs : List ℕ) (old : List NodyPiece) (place n : ℕ) (new : List NodyPiece) : Type 0 where
   pub some : 0 < length xs → new ≡ set old place (first_piece_of xs)

@@ -4,6 +4,7 @@
 //! length 0 the pointer may be null. `c/noddychest.h` declares all of them.
 #![tactic(auto)]
 
+mod ascii_pieces;
 mod boundaries;
 mod characters;
 mod counts;
