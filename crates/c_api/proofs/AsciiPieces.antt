@@ -6,7 +6,7 @@ use Rattle.utf_base.proofs.DecodedLemmas.{decoded_code}
 use Rattle.utf_base.proofs.KindLemmas.{ascii_stands_alone}
 use Rattle.c_api.specs.Api.{ascii_piece_of, first_piece_of, GivesEach}
 use Rattle.c_api.specs.declared.ascii_pieces.TheConstants.{PIECES}
-use Rattle.c_api.specs.declared.cursors.NodyPiece.{NodyPiece}
+use Rattle.c_api.specs.declared.piece.NodyPiece.{NodyPiece}
 
 -- The whole table, computed.
 pieces : PIECES ≡ map ascii_piece_of (range_with_len 0 128)

@@ -5,7 +5,7 @@ use Rattle.std.proofs.lemmas.Slice.{take-put_mid, drop-put_mid}
 use Rattle.std.proofs.lemmas.Bool.{cases_lt}
 use borrow.Rule.Slice.PartMut.{put_mid, same_len_mid}
 use Rattle.c_api.specs.Api.{GivesPiece, GivesEach, after}
-use Rattle.c_api.specs.declared.cursors.NodyPiece.{NodyPiece}
+use Rattle.c_api.specs.declared.piece.NodyPiece.{NodyPiece}
 
 pub each_append : (piece : List ℕ → NodyPiece) (xs ys : List ℕ) (ps : List NodyPiece) (x : NodyPiece) → GivesEach piece xs ps ys
     → 0 < length ys → x ≡ piece ys → GivesEach piece xs (ps ++ x ∷ []) (after ys x)

@@ -21,7 +21,7 @@ use Rattle.cuts.specs.declared.StrictProgress.{StrictProgress}
 use Rattle.cuts.specs.Recoded.{Recoding, most_held}
 use Rattle.cuts.specs.Faults.{Replaces, ReplacesLast, saturated}
 use Rattle.cuts.specs.WellFormed.{IsFirstFault, IsFirstUnitFault}
-use Rattle.c_api.specs.declared.cursors.NodyPiece.{NodyPiece}
+use Rattle.c_api.specs.declared.piece.NodyPiece.{NodyPiece}
 use Rattle.c_api.specs.declared.recodings.NodyRecoder.{NodyRecoder}
 use Rattle.c_api.specs.declared.strict.NodyFault.{NodyFault}
 

@@ -3,7 +3,7 @@ ghost use Rattle.std.specs.Prelude.{◌≡◌, ◌<◌, ◌≤◌, length, map, 
 ghost use Rattle.utf_lanes.specs.AsciiTexts.{AreAscii};
 ghost use Rattle.c_api.specs.Api.{ascii_piece_of, first_piece_of, GivesEach};
 
-use crate::cursors::NodyPiece;
+use crate::piece::NodyPiece;
 use utf_lanes::ascii_texts::is_ascii;
 
 // How many are put at once.
@@ -38,7 +38,7 @@ pub(crate) fn ascii_piece(byte: u8) -> NodyPiece
 // Puts the pieces of the ASCII characters that begin the bytes in the first places of the room, as far as these go in blocks, and
 // answers how many these are.
 #[inline(always)]
-pub(crate) fn put_ascii(bytes: &[u8], room: &mut [NodyPiece]) -> usize
+pub(crate) fn put_ascii_pieces(bytes: &[u8], room: &mut [NodyPiece]) -> usize
     ensures within { result ≤ length room.old }
     ensures few { result ≤ length bytes.now }
     ensures each { GivesEach first_piece_of bytes.now (take result room.new) (drop result bytes.now) }

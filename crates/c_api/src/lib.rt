@@ -11,6 +11,7 @@ mod counts;
 mod cursors;
 mod kinds;
 mod lossy;
+mod piece;
 mod recodings;
 mod shards;
 mod strict;

@@ -1,7 +1,7 @@
 use Rattle.std.proofs.Common.{◌-◌, ◌≤◌, drop}
 use Rattle.c_api.specs.Api.{first_piece_of}
 use Rattle.c_api.proofs.Each.{Filled}
-use Rattle.c_api.proofs.ascii_pieces.put_ascii.Given as goal
+use Rattle.c_api.proofs.ascii_pieces.put_ascii_pieces.Given as goal
 
 abbrev pub invariant-loop-count : goal.invariant-loop-count
 invariant-loop-count l =

@@ -3,7 +3,7 @@ use Rattle.std.proofs.lemmas.List.{drop-drop, length-take-le, take-append-drop}
 use Rattle.c_api.specs.Api.{first_piece_of, GivesEach}
 use Rattle.c_api.proofs.AsciiPieces.{ascii_run}
 use Rattle.c_api.proofs.Each.{fills_more}
-use Rattle.c_api.proofs.ascii_pieces.put_ascii.Goals as goal
+use Rattle.c_api.proofs.ascii_pieces.put_ascii_pieces.Goals as goal
 
 pub loop-count-preserved : goal.loop-count-preserved
 loop-count-preserved c =
