@@ -1,15 +1,23 @@
 -- Pieces that are given one after another.
-use Rattle.std.proofs.Common.{◌≡◌, ℕ, ◌<◌, ◌≤◌, ⊎_elim, List, [], ◌∷◌, ◌++◌, length, length-set, arith, sym, ap, subst, ◌+◌, take, drop, set, ◌∙◌}
-use Rattle.std.proofs.lemmas.List.{take_more_set, drop-set-lt, drop-drop}
+use Rattle.std.proofs.Common.{◌≡◌, ℕ, ◌<◌, ◌≤◌, ⊎_elim, List, [], ◌∷◌, ◌++◌, length, length-set, length-drop, arith, sym, ap, subst, ◌+◌, take, drop, set, ◌∙◌}
+use Rattle.std.proofs.lemmas.List.{length-take-le, take_more_set, drop-set-lt, drop-drop}
+use Rattle.std.proofs.lemmas.Slice.{take-put_mid, drop-put_mid}
 use Rattle.std.proofs.lemmas.Bool.{cases_lt}
+use borrow.Rule.Slice.PartMut.{put_mid, same_len_mid}
 use Rattle.c_api.specs.Api.{GivesPiece, GivesEach, after}
-use Rattle.c_api.specs.declared.cursors.NodyPiece.{NodyPiece}
+use Rattle.c_api.specs.declared.piece.NodyPiece.{NodyPiece}
 
 pub each_append : (piece : List ℕ → NodyPiece) (xs ys : List ℕ) (ps : List NodyPiece) (x : NodyPiece) → GivesEach piece xs ps ys
     → 0 < length ys → x ≡ piece ys → GivesEach piece xs (ps ++ x ∷ []) (after ys x)
 each_append piece xs ys [] x e some is =
     (subst (λ b. 0 < length b) e some, subst (λ b. x ≡ piece b) e is, ap (λ b. after b x) e)
 each_append piece xs ys (y ∷ ps) x (first, known, rest) some is = (first, known, each_append piece (after xs y) ys ps x rest some is)
+
+-- pieces, and then those of what they leave
+pub each_join : (piece : List ℕ → NodyPiece) (xs ys zs : List ℕ) (ps qs : List NodyPiece) → GivesEach piece xs ps ys
+    → GivesEach piece ys qs zs → GivesEach piece xs (ps ++ qs) zs
+each_join piece xs ys zs [] qs e more = subst (λ b. GivesEach piece b qs zs) e more
+each_join piece xs ys zs (p ∷ ps) qs (first, known, rest) more = (first, known, each_join piece (after xs p) ys zs ps qs rest more)
 
 -- a piece that has a length was left
 pub some_left : (piece : List ℕ → NodyPiece) (xs ys : List ℕ) (x : NodyPiece) → GivesPiece piece after xs x ys → 0 < x.len → 0 < length xs
@@ -38,4 +46,17 @@ fills_on piece xs ys {x = x} first room n before lt some is leaves =
           subst (λ b. GivesEach piece xs (take (n + 1) (set room n x)) b) (sym leaves)
           (subst (λ ps. GivesEach piece xs ps (after ys x)) (sym (take_more_set room n x lt)) more);
       rest = drop-set-lt (n + 1) room n x (omega arith) ∙ sym (drop-drop 1 n room) ∙ ap (drop 1) before.rest ∙ drop-drop 1 n first;
+    }
+
+-- more pieces, which a part of the room holds
+pub fills_more : (piece : List ℕ → NodyPiece) (xs ys zs : List ℕ) (first room part : List NodyPiece) (n k : ℕ)
+    → Filled piece xs ys first room n → n + k ≤ length first → length part ≡ k → GivesEach piece ys part zs
+    → Filled piece xs zs first (put_mid n k room part) (n + k)
+fills_more piece xs ys zs first room part n k before fits same more =
+    let le : n ≤ length room = omega (arith, before.len, before.within) in
+    record {
+      within = fits;
+      len = same_len_mid n k room part (same ∙ sym (length-take-le k (drop n room) (omega (arith, length-drop n room, before.len)))) ∙ before.len;
+      each = rw (take-put_mid n k room part (n + k) (omega (arith, same)) le) (each_join piece xs ys zs (take n room) part before.each more);
+      rest = drop-put_mid n k room part (n + k) (omega arith) le same ∙ sym (drop-drop k n room) ∙ ap (drop k) before.rest ∙ drop-drop k n first;
     }

@@ -1,4 +1,5 @@
 pub mod Counted
+pub mod AsciiPieces
 pub mod Each
 pub mod Fronts
 pub mod Merged

@@ -13,7 +13,7 @@ use Rattle.encode_unicode.specs.Window.{Item}
 use Rattle.cuts.specs.Items.{HasKind, piece_of}
 use Rattle.cuts.proofs.ShardEnds.{stands_in_rest}
 use Rattle.c_api.specs.Api.{kind_number, first_merged, merger_answer, piece_for_c, IsMergedPiece}
-use Rattle.c_api.specs.declared.cursors.NodyPiece.{NodyPiece}
+use Rattle.c_api.specs.declared.piece.NodyPiece.{NodyPiece}
 
 -- where a code begins the bytes it is that scalar
 merged_code : (w : List ℕ) (s : ℕ) → Stands utf8 w 0 s → merger_answer w ≡ (Ok s, length (utf8 s))

@@ -156,10 +156,10 @@ module _ (from to : Form) (bytes : List ℕ) (place count : ℕ) (r : Recoding) 
 
 -- Lists that were written and read by parts.
 
-take_more : (p q : List ℕ) (n k : ℕ) → length p ≡ n → take (n + k) (p ++ q) ≡ p ++ take k q
+take_more : {X : Type 0} (p q : List X) (n k : ℕ) → length p ≡ n → take (n + k) (p ++ q) ≡ p ++ take k q
 take_more p q n k e = ap (λ j. take (j + k) (p ++ q)) (sym e) ∙ take-append-add p q k
 
-drop_more : (p q : List ℕ) (n k : ℕ) → length p ≡ n → drop (n + k) (p ++ q) ≡ drop k q
+drop_more : {X : Type 0} (p q : List X) (n k : ℕ) → length p ≡ n → drop (n + k) (p ++ q) ≡ drop k q
 drop_more p q n k e = ap (λ j. drop (j + k) (p ++ q)) (sym e) ∙ drop-append-add p q k
 
 -- the front of the bytes, and a part that follows it
@@ -173,7 +173,7 @@ pub length_part : (bytes : List ℕ) (place end : ℕ) → end ≤ length bytes 
 length_part bytes place end le = omega (arith, length-take (end - place) (drop place bytes), length-drop place bytes)
 
 -- the room after its rest, from a place on, was written
-module _ (room rest : List ℕ) (place wrote : ℕ) (le : place ≤ length room) (same : length rest ≡ length room - place) where
+module _ {X : Type 0} (room rest : List X) (place wrote : ℕ) (le : place ≤ length room) (same : length rest ≡ length room - place) where
   put_rest : put_mid place (length room - place) room rest ≡ take place room ++ rest
   put_rest =
       let put = put_mid place (length room - place) room rest in
@@ -190,7 +190,7 @@ module _ (room rest : List ℕ) (place wrote : ℕ) (le : place ≤ length room)
   pub written_both : take (place + wrote) (put_mid place (length room - place) room rest) ≡ take place room ++ take wrote rest
   written_both = ap (take (place + wrote)) put_rest ∙ take_more (take place room) rest place wrote front_len
 
-  pub kept_both : (old : List ℕ) → drop wrote rest ≡ drop wrote (drop place room) → drop place room ≡ drop place old
+  pub kept_both : (old : List X) → drop wrote rest ≡ drop wrote (drop place room) → drop place room ≡ drop place old
       → drop (place + wrote) (put_mid place (length room - place) room rest) ≡ drop (place + wrote) old
   kept_both old last first =
       ap (drop (place + wrote)) put_rest ∙ drop_more (take place room) rest place wrote front_len ∙ last ∙ ap (drop wrote) first ∙ drop-drop wrote place old

@@ -21,7 +21,7 @@ use Rattle.cuts.specs.declared.StrictProgress.{StrictProgress}
 use Rattle.cuts.specs.Recoded.{Recoding, most_held}
 use Rattle.cuts.specs.Faults.{Replaces, ReplacesLast, saturated}
 use Rattle.cuts.specs.WellFormed.{IsFirstFault, IsFirstUnitFault}
-use Rattle.c_api.specs.declared.cursors.NodyPiece.{NodyPiece}
+use Rattle.c_api.specs.declared.piece.NodyPiece.{NodyPiece}
 use Rattle.c_api.specs.declared.recodings.NodyRecoder.{NodyRecoder}
 use Rattle.c_api.specs.declared.strict.NodyFault.{NodyFault}
 
@@ -103,6 +103,10 @@ pub record GivesPiece (piece : List ℕ → NodyPiece) (left : List ℕ → Nody
 abbrev pub GivesEach : (List ℕ → NodyPiece) → List ℕ → List NodyPiece → List ℕ → Type 0
 GivesEach piece xs [] ys = ys ≡ xs
 GivesEach piece xs (x ∷ ps) ys = (0 < length xs) × (x ≡ piece xs) × GivesEach piece (after xs x) ps ys
+
+-- the piece of an ASCII character
+abbrev pub ascii_piece_of : ℕ → NodyPiece
+ascii_piece_of byte = record { len = 1; scalar = byte; kind = 0 }
 
 -- The piece that begins the bytes was put in a place of the room, and is so long; of no bytes nothing was put.
 pub record IsPut (xs : List ℕ) (old : List NodyPiece) (place n : ℕ) (new : List NodyPiece) : Type 0 where

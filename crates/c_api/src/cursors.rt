@@ -4,24 +4,12 @@ ghost use Rattle.utf_base.specs.Decoded.{decoded};
 ghost use Rattle.utf_base.specs.Front.{IsFrontLen};
 ghost use Rattle.c_api.specs.Api.{first_piece_of, last_piece_of, first_of_units, last_of_units, first_merged, no_piece, IsMergedPiece, IsPieceOf, IsPut, GivesPiece, GivesEach, after, before};
 
+use crate::ascii_pieces::put_ascii_pieces;
 use crate::kinds::{number_of, pair_number_of};
+use crate::piece::NodyPiece;
 use cuts::front_of_text;
 use encode_unicode::CharExt;
 use encode_unicode::iterator::{Utf8CharDecoder, Utf8CharMerger, Utf16CharDecoder};
-
-/// A piece of some bytes or units: a character, or what is wrong with one of them.
-///
-/// Its length stands apart from the others, so that whoever adds it to a place need not wait for them.
-#[repr(C)]
-#[derive(Clone, Copy, Drop)]
-pub struct NodyPiece {
-    /// Its length in bytes or units: 1 for a fault, 0 where there is none.
-    pub len: usize,
-    /// The scalar, or 0 for a fault.
-    pub scalar: u32,
-    /// 0 for a character, else the number of the error, or of `NODY_KIND_NONE`.
-    pub kind: u8,
-}
 
 /// What is left of some bytes.
 #[repr(C)]
@@ -343,6 +331,20 @@ fn put_characters(bytes: &[u8], room: &mut [NodyPiece]) -> (usize, usize)
     (count, place)
 }
 
+// Puts the characters that begin the bytes, as far as they go, and first those of ASCII in blocks. Answers how many these are and
+// where they end.
+#[inline(always)]
+fn put_text_pieces(bytes: &[u8], room: &mut [NodyPiece]) -> (usize, usize)
+    ensures within { result.0 ≤ length room.old }
+    ensures place { result.1 ≤ length bytes.now }
+    ensures each { GivesEach first_piece_of bytes.now (take result.0 room.new) (drop result.1 bytes.now) }
+    ensures rest { drop result.0 room.new ≡ drop result.0 room.old }
+{
+    let ascii = put_ascii_pieces(bytes, room);
+    let (count, end) = put_characters(&bytes[ascii..], &mut room[ascii..]);
+    (ascii + count, ascii + end)
+}
+
 /// Puts into the array the pieces that begin the bytes that are left, one after another, as many as there are or as there
 /// is room for, and answers how many. These then leave the bytes.
 #[unsafe(no_mangle)]
@@ -352,7 +354,7 @@ pub extern "C" fn nody_utf8_pieces(left: &mut NodyBytes<'_>, room: &mut [NodyPie
     ensures rest { drop result room.new ≡ drop result room.old }
     ensures over { result < length room.old → length left.new.bytes.now ≡ 0 }
 {
-    let (mut count, place) = put_characters(left.bytes, room);
+    let (mut count, place) = put_text_pieces(left.bytes, room);
     let mut bytes = &left.bytes[place..];
     while count < room.len() {
         let len = put_first_piece(bytes, room, count);

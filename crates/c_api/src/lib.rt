@@ -4,12 +4,14 @@
 //! length 0 the pointer may be null. `c/noddychest.h` declares all of them.
 #![tactic(auto)]
 
+mod ascii_pieces;
 mod boundaries;
 mod characters;
 mod counts;
 mod cursors;
 mod kinds;
 mod lossy;
+mod piece;
 mod recodings;
 mod shards;
 mod strict;
