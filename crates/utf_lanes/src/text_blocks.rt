@@ -203,7 +203,9 @@ fn valid_len_in_blocks(bytes: &[u8]) -> usize
     valid_len_wide(bytes, start)
 }
 
-// The same from a place on, in blocks of 64, to the first in which some byte may not follow.
+// The same from a place on, in blocks of 64, to the first in which some byte may not follow. Whether a block is ASCII is asked
+// between stretches of text alone: after one block of it, then after two more, and so on up to sixteen. So text with some ASCII
+// blocks in it is not asked for each, which a processor cannot foresee.
 #[inline(always)]
 fn valid_len_wide(bytes: &[u8], start: usize) -> usize
     requires start { 3 ≤ start }
@@ -213,14 +215,43 @@ fn valid_len_wide(bytes: &[u8], start: usize) -> usize
     ensures follow { AllMayFollow bytes.now start result }
 {
     let mut place = start;
+    let mut reach = 0;
     while 64 <= bytes.len() - place {
         if is_ascii_block(bytes, place) && ends_character(bytes, place) {
             place = ascii_end(bytes, place + 64);
-        } else if follows_block(bytes, place) {
-            place += 64;
+            reach = 0;
         } else {
+            let last = (place + reach).min(bytes.len() - 64);
+            place = stretch_end(bytes, place, last);
+            if place <= last {
+                return place;
+            }
+            reach = (2 * reach + 64).min(15 * 64);
+        }
+    }
+    place
+}
+
+// Where the blocks of 64 end in which each byte may follow, of those that begin at the start and up to `last`. The first stands
+// before the loop: so a compiler that takes nothing out of loops has the tables in registers there.
+#[inline(always)]
+fn stretch_end(bytes: &[u8], start: usize, last: usize) -> usize
+    requires start { 3 ≤ start }
+    requires some { start ≤ last }
+    requires within { last + 64 ≤ length bytes.now }
+    ensures least { start ≤ result }
+    ensures within { result ≤ length bytes.now }
+    ensures follow { AllMayFollow bytes.now start result }
+{
+    if !follows_block(bytes, start) {
+        return start;
+    }
+    let mut place = start + 64;
+    while place <= last {
+        if !follows_block(bytes, place) {
             return place;
         }
+        place += 64;
     }
     place
 }
