@@ -104,6 +104,24 @@ pub(crate) fn ascii_end(bytes: &[u8], start: usize) -> usize
     ensures within { result ≤ length bytes.now }
     ensures ascii { AreAscii bytes.now start result }
 {
+    let mut place = start;
+    while 64 <= bytes.len() - place {
+        if !is_ascii_block(bytes, place) {
+            return place;
+        }
+        place += 64;
+    }
+    place
+}
+
+// The same, two blocks at once as far as that goes.
+#[inline(always)]
+pub(crate) fn ascii_wide_end(bytes: &[u8], start: usize) -> usize
+    requires { start ≤ length bytes.now }
+    ensures least { start ≤ result }
+    ensures within { result ≤ length bytes.now }
+    ensures ascii { AreAscii bytes.now start result }
+{
     let place = ascii_pairs_end(bytes, start);
     if 64 <= bytes.len() - place && is_ascii_block(bytes, place) {
         return place + 64;
@@ -111,7 +129,7 @@ pub(crate) fn ascii_end(bytes: &[u8], start: usize) -> usize
     place
 }
 
-// The same of two blocks at once.
+// The same of two blocks at once alone.
 #[inline(always)]
 fn ascii_pairs_end(bytes: &[u8], start: usize) -> usize
     requires { start ≤ length bytes.now }

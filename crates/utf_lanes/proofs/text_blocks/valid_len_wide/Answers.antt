@@ -10,4 +10,4 @@ loop-place-preserved-then-ends_character c =
     let block = ascii_block xs place (c.is_ascii_block.ensures c.if-is_ascii_block.true) in
     let ascii = ascii_on xs place (place + 64) end block c.ascii_end-place.ensures.ascii in
     let new = ascii_follows xs place end (c.ends_character.ensures c.if-ends_character.true) ascii (omega arith) in
-    (omega arith, omega arith, omega arith, follow_on xs c.args.start place end c.loop-place.invariant.3 new)
+    (omega arith, omega arith, follow_on xs c.args.start place end c.loop-place.invariant.2 new)
