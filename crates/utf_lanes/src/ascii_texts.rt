@@ -114,6 +114,48 @@ pub(crate) fn ascii_end(bytes: &[u8], start: usize) -> usize
     place
 }
 
+// The same, two blocks at once as far as that goes.
+#[inline(always)]
+pub(crate) fn ascii_wide_end(bytes: &[u8], start: usize) -> usize
+    requires { start ≤ length bytes.now }
+    ensures least { start ≤ result }
+    ensures within { result ≤ length bytes.now }
+    ensures ascii { AreAscii bytes.now start result }
+{
+    let place = ascii_pairs_end(bytes, start);
+    if 64 <= bytes.len() - place && is_ascii_block(bytes, place) {
+        return place + 64;
+    }
+    place
+}
+
+// The same of two blocks at once alone.
+#[inline(always)]
+fn ascii_pairs_end(bytes: &[u8], start: usize) -> usize
+    requires { start ≤ length bytes.now }
+    ensures least { start ≤ result }
+    ensures within { result ≤ length bytes.now }
+    ensures ascii { AreAscii bytes.now start result }
+{
+    let mut place = start;
+    while 128 <= bytes.len() - place {
+        if !are_ascii_blocks(bytes, place) {
+            return place;
+        }
+        place += 128;
+    }
+    place
+}
+
+// Whether the 128 bytes from the place on are ASCII.
+#[inline(always)]
+fn are_ascii_blocks(bytes: &[u8], place: usize) -> bool
+    requires { place + 128 ≤ length bytes.now }
+    ensures { IsTrue result → AreAscii bytes.now place (place + 128) }
+{
+    is_ascii_block(bytes, place) & is_ascii_block(bytes, place + 64)
+}
+
 /// Each byte with a NUL: the first eight bytes, and the others.
 #[inline(always)]
 pub fn interleave_zeros(high_first: bool, bytes: u8x16) -> (u8x16, u8x16)

@@ -6,7 +6,7 @@
 ghost use Rattle.std.specs.Prelude.{◌≡◌, ℕ, ◌+◌, ◌<◌, ◌≤◌, ◌∷◌, length, take, slice_index, IsTrue, IsUtf8};
 ghost use Rattle.utf_lanes.specs.TextBlocks.{AllMayFollow, ArePairsLeft, EndsCharacter, ZeroLanesFollow, ZerosFollow};
 
-use crate::ascii_texts::{ascii_end, is_ascii_block, is_ascii_each};
+use crate::ascii_texts::{ascii_end, ascii_wide_end, is_ascii_block, is_ascii_each};
 use crate::few_bytes::{before_lanes, padded_text};
 use crate::look_ups::LookUp;
 use crate::text_front::front_of_text;
@@ -193,14 +193,13 @@ fn valid_len_in_blocks(bytes: &[u8]) -> usize
     ensures within { result ≤ length bytes.now }
     ensures follow { AllMayFollow bytes.now 16 result }
 {
-    let mut start = 16;
-    if 256 <= bytes.len() {
-        if valid_lanes(bytes, 16) < 16 {
-            return 16;
-        }
-        start = 32;
+    if bytes.len() < 256 {
+        return valid_len_wide(bytes, 16);
     }
-    valid_len_wide(bytes, start)
+    if valid_lanes(bytes, 16) < 16 {
+        return 16;
+    }
+    valid_len_in_stretches(bytes, 32)
 }
 
 // The same from a place on, in blocks of 64, to the first in which some byte may not follow.
@@ -221,6 +220,58 @@ fn valid_len_wide(bytes: &[u8], start: usize) -> usize
         } else {
             return place;
         }
+    }
+    place
+}
+
+// The same of a longer text. Whether a block is ASCII is asked between stretches of text alone: after one block of it, then after
+// two more, and so on up to sixteen. So text with some ASCII blocks in it is not asked for each, which a processor cannot foresee.
+#[inline(always)]
+fn valid_len_in_stretches(bytes: &[u8], start: usize) -> usize
+    requires start { 3 ≤ start }
+    requires within { start ≤ length bytes.now }
+    ensures least { start ≤ result }
+    ensures within { result ≤ length bytes.now }
+    ensures follow { AllMayFollow bytes.now start result }
+{
+    let mut end = start;
+    let mut reach = 0;
+    while 64 <= bytes.len() - end {
+        if is_ascii_block(bytes, end) && ends_character(bytes, end) {
+            end = ascii_wide_end(bytes, end + 64);
+            reach = 0;
+        } else {
+            let last = (end + reach).min(bytes.len() - 64);
+            end = stretch_end(bytes, end, last);
+            if end <= last {
+                return end;
+            }
+            reach = (2 * reach + 64).min(15 * 64);
+        }
+    }
+    end
+}
+
+// Where the blocks of 64 end in which each byte may follow, of those that begin at the start and up to `last`. The first stands
+// before the loop: so a compiler that takes nothing out of loops has the tables in registers there.
+#[inline(always)]
+fn stretch_end(bytes: &[u8], start: usize, last: usize) -> usize
+    requires start { 3 ≤ start }
+    requires some { start ≤ last }
+    requires within { last + 64 ≤ length bytes.now }
+    ensures least { start ≤ result }
+    ensures within { result ≤ length bytes.now }
+    ensures follow { AllMayFollow bytes.now start result }
+{
+    if !follows_block(bytes, start) {
+        return start;
+    }
+    let mut place = start + 64;
+    while place <= last {
+        if !follows_block(bytes, place) {
+            return place;
+        }
+        place += 64;
     }
     place
 }
