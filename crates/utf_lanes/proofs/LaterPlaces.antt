@@ -1,11 +1,11 @@
 -- What stands some places after what was written stays, and what that has at least.
-use Rattle.std.proofs.Common.{◌≡◌, ℕ, zero, suc, ◌+◌, ◌-◌, ◌*◌, ◌<◌, ◌≤◌, List, [], ◌∷◌, ◌++◌, length, take, drop, arith, refl, sym, ap, ◌∙◌, length-append, length-take}
+use Rattle.std.proofs.Common.{◌≡◌, ℕ, zero, suc, ◌+◌, ◌-◌, ◌<◌, ◌≤◌, List, [], ◌∷◌, ◌++◌, length, take, drop, arith, refl, sym, ap, ◌∙◌, length-append, length-take}
 use Rattle.std.proofs.lemmas.List.{drop-drop}
 use Rattle.std.proofs.lemmas.Simd.{put_chunk_is}
 use Rattle.std.proofs.lemmas.Slice.{drop-put_mid}
 use lib.Lanes.{put_chunk}
 use Rattle.utf_lanes.specs.Utf8ToUtf16.{concat_range}
-use Rattle.utf_lanes.specs.UnitCodes.{lane_unit, lane_bytes, nonzero_lead, unit_code, code_at, first_in_text, middle_in_text, last_in_text, KeepsLater, WritesUnitsOf, WritesCharacters}
+use Rattle.utf_lanes.specs.UnitCodes.{lane_unit, lane_bytes, nonzero_lead, code_at, first_in_text, middle_in_text, last_in_text, KeepsLater, WritesUnitsOf, WritesCharacters}
 
 -- lists that agree from one place on agree from each later one on
 later_too : (m n : ℕ) (xs ys : List ℕ) → m ≤ n → drop m xs ≡ drop m ys → drop n xs ≡ drop n ys
