@@ -1,3 +1,4 @@
+pub mod AheadRuns
 pub mod Blocks
 pub mod CodeFronts
 pub mod BoundLemmas

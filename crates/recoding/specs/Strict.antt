@@ -7,6 +7,7 @@ use Rattle.utf_base.specs.Units.{unit_fault_kind}
 use Rattle.utf_base.specs.declared.errors.Utf8ErrorKind.TheVariants.{TooFewBytes}
 use Rattle.utf_base.specs.declared.errors.units.Utf16PairError.TheVariants.{Incomplete}
 use Rattle.utf_lanes.specs.BytePairs.{units_of}
+use Rattle.utf_lanes.specs.UnitCodes.{KeepsLater}
 use Rattle.recoding.specs.Recoded.{Recoding, IsRecoded, most_held, written}
 use Rattle.recoding.specs.Rooms.{BeginsLonger, Fills}
 use Rattle.recoding.specs.NextScalars.{fault_len}
@@ -90,6 +91,16 @@ pub record RunsStrictly (from to : Form) (bytes old new : List ℕ) (place read 
   pub grown : List ℕ
   pub fills : Fills old new place wrote grown
   pub transcodes : Transcodes from to (take read bytes) grown
+
+-- So many bytes were recoded into room from a place on, but what stands soon after what came of them may be another now.
+pub record RunsAhead (from to : Form) (bytes old new : List ℕ) (place read end : ℕ) : Type 0 where
+  pub within : read ≤ length bytes
+  pub len : length new ≡ length old
+  pub ordered : place ≤ end
+  pub grown : List ℕ
+  pub front : take end new ≡ take place old ++ grown
+  pub transcodes : Transcodes from to (take read bytes) grown
+  pub later : KeepsLater old new end
 
 -- of a character, that its code is longer than the room
 abbrev pub IsLonger : Form → ℕ → FirstPiece → Type 0

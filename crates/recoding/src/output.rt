@@ -7,10 +7,19 @@ use std::alloc::Allocator;
 use std::simd::prelude::*;
 use utf_lanes::utf16_blocks::write_others;
 
+// How many bytes a long input has at least: of fewer no blocks are gathered before they are put.
+pub(crate) const LONG: usize = 1024;
+
+// How many bytes are gathered at once.
+pub(crate) const GATHERED: usize = 1984;
+
 // Where bytes are put one after another: it has room for so many, and takes no memory.
 pub(crate) trait Output {
     ghost use Rattle.std.specs.Prelude.{ℕ, ◌+◌, ◌≤◌, List, [], ◌∷◌, ◌++◌, length};
     ghost use Rattle.recoding.specs.Recodes.{PutsUnits};
+    ghost use Rattle.recoding.specs.NextScalars.{utf16_form};
+    ghost use Rattle.recoding.specs.Strict.{PutsText};
+    ghost use Rattle.recoding.specs.declared.form.Form.TheVariants.{Utf8};
 
     // Whether many blocks are made elsewhere and then put at once, since only what was put may be written.
     const GATHERS: bool;
@@ -43,6 +52,11 @@ pub(crate) trait Output {
     fn put_sixteen(&mut self, low: u8x16, high: u8x16) -> usize
         requires { 64 ≤ room self.old }
         ensures { PutsUnits appends low high self.old self.new result };
+
+    // Recodes blocks of characters at the front of the bytes, in UTF-16, as UTF-8, as far as each may be written where it stays,
+    // and more than it, which the next one overwrites. Answers how many bytes they have.
+    fn put_ahead(&mut self, high_first: bool, bytes: &[u8]) -> usize
+        ensures { PutsText appends (utf16_form high_first) Utf8 bytes.now self.old self.new result };
 
     ghost appends_none: { (a : Self) → appends a [] a };
 
@@ -91,6 +105,12 @@ impl<A: Allocator> Output for Vec<u8, A> {
     #[inline(always)]
     fn put_sixteen(&mut self, low: u8x16, high: u8x16) -> usize {
         put_in_place(low, high, self)
+    }
+
+    // None, since no byte may be written after its last one.
+    #[inline(always)]
+    fn put_ahead(&mut self, high_first: bool, bytes: &[u8]) -> usize {
+        0
     }
 }
 

@@ -1,8 +1,9 @@
 //! The free part of a slice.
-ghost use Rattle.std.specs.Prelude.{◌≡◌, ◌+◌, ◌<◌, ◌≤◌, [], ◌∷◌, length};
-ghost use Rattle.recoding.specs.Rooms.{Fills};
+ghost use Rattle.std.specs.Prelude.{◌≡◌, ◌≤◌, length};
 
+use crate::fills::{lay_byte, lay_wide, put_all};
 use crate::output::Output;
+use crate::units_ahead::run_ahead;
 use std::simd::prelude::*;
 use utf_lanes::utf16_blocks::write_others;
 
@@ -72,38 +73,11 @@ impl Output for Room<'_> {
         self.put(&made[..len]);
         units
     }
-}
 
-// Writes the bytes at the place, and answers the place after them.
-#[inline(always)]
-fn put_all(bytes: &[u8], room: &mut [u8], place: usize) -> usize
-    requires { place + length bytes.now ≤ length room.old }
-    ensures fills { Fills room.old room.new place result bytes.now }
-    ensures end { result ≡ place + length bytes.now }
-{
-    let end = place + bytes.len();
-    room[place..end].copy_from_slice(bytes);
-    end
-}
-
-// Writes one byte.
-#[inline(always)]
-fn lay_byte(byte: u8, room: &mut [u8], place: usize) -> usize
-    requires { place < length room.old }
-    ensures fills { Fills room.old room.new place result (byte ∷ []) }
-    ensures end { result ≡ place + 1 }
-{
-    room[place] = byte;
-    place + 1
-}
-
-// Writes 64 bytes.
-#[inline(always)]
-pub(crate) fn lay_wide(block: u8x64, room: &mut [u8], place: usize) -> usize
-    requires { place + 64 ≤ length room.old }
-    ensures fills { Fills room.old room.new place result block }
-    ensures end { result ≡ place + 64 }
-{
-    block.copy_to_slice(&mut room[place..]);
-    place + 64
+    #[inline(always)]
+    fn put_ahead(&mut self, high_first: bool, bytes: &[u8]) -> usize {
+        let (read, end) = run_ahead(high_first, bytes, self.bytes, self.len);
+        self.len = end;
+        read
+    }
 }

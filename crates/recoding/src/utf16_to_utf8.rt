@@ -6,7 +6,7 @@ ghost use Rattle.recoding.specs.Strict.{PutsText, Transcodes};
 
 use crate::form::Form;
 use crate::next_scalar::ascii_of_units;
-use crate::output::Output;
+use crate::output::{GATHERED, LONG, Output};
 use std::simd::prelude::*;
 use utf_lanes::unit_bytes::{are_ascii, sixteen_halves};
 use utf_lanes::utf16_blocks::{write_sixteen, write_thirty_two};
@@ -22,13 +22,8 @@ const WIDE_BLOCK: usize = 64;
 
 const WIDE_ROOM: usize = 112;
 
-// How many bytes a long input has at least, and how many of it go block by block before any are gathered.
-const LONG: usize = 1024;
-
+// How many bytes of a long input go block by block before any are gathered.
 const FEW: usize = 512;
-
-// How many bytes are gathered at once.
-const GATHERED: usize = 1984;
 
 // Recodes the blocks of units at the front of the bytes as UTF-8, as far as they have no fault and the room is surely enough:
 // first long ones, and then those of ASCII that are short. Answers how many bytes it recoded.
@@ -97,8 +92,8 @@ fn put_narrowed<O: Output>(low: u8x16, high: u8x16, out: &mut O) -> usize
     out.put_sixteen(low, high)
 }
 
-// The same of many blocks. What comes of them is gathered in room of its own, and then put at once, so that each may be written
-// whole, with what is none of its bytes, which the next one overwrites.
+// The same of many blocks. Those of characters alone are written where they stay. What comes of others is gathered in room of
+// its own, and then put at once, so that each may be written whole, with what is none of its bytes, which the next one overwrites.
 #[cold]
 #[inline(never)]
 fn narrow_many<O: Output, const BIG_ENDIAN: bool>(bytes: &[u8], out: &mut O) -> usize
@@ -108,6 +103,7 @@ fn narrow_many<O: Output, const BIG_ENDIAN: bool>(bytes: &[u8], out: &mut O) -> 
     let mut place = 0;
     loop {
         place += put_ascii_blocks::<O, BIG_ENDIAN>(&bytes[place..], out);
+        place += out.put_ahead(BIG_ENDIAN, &bytes[place..]);
         let len = put_gathered::<O, BIG_ENDIAN>(&bytes[place..], &mut made, out);
         place += len;
         if len < FEW {

@@ -4,8 +4,8 @@ ghost use Rattle.utf_lanes.specs.UnitCodes.{Writes};
 ghost use Rattle.utf_lanes.specs.Utf8ToUtf16.{utf16_bytes};
 ghost use Rattle.utf_lanes.specs.TextBlocks.{EndsCharacter};
 
-use crate::output::Output;
-use crate::room::lay_wide;
+use crate::fills::lay_wide;
+use crate::output::{GATHERED, LONG, Output};
 use std::simd::prelude::*;
 use utf_lanes::ascii_texts::is_ascii_block;
 use utf_lanes::text_blocks::ends_character;
@@ -13,12 +13,7 @@ use utf_lanes::text_puts::{write_64, write_first, write_rest};
 use utf_lanes::text_units::ascii_units;
 
 // The least text of which blocks of 64 are put one after another, and the first sixteen places before them.
-const LONG: usize = 80;
-
-// The least text of which several blocks are gathered before they are put, and how many bytes are.
-const MANY: usize = 1024;
-
-const GATHERED: usize = 1984;
+const DIVIDED: usize = 80;
 
 // Appends the units that the places of some text give: gathered in room of its own, and then put at once, so that each block
 // may be written whole, with what is none of its units, which the next block overwrites.
@@ -29,13 +24,13 @@ pub(crate) fn put_text_as_utf16<O: Output, const BIG_ENDIAN: bool>(text: &[u8], 
     requires room { 3 * length text.now ≤ O.room out.old }
     ensures { O.appends out.old (utf16_bytes BIG_ENDIAN text.now 0 (length text.now)) out.new }
 {
-    if MANY <= text.len() {
+    if LONG <= text.len() {
         put_long::<O, BIG_ENDIAN>(text, out);
         return;
     }
     let mut made = [0; 192];
     let first = write_first(BIG_ENDIAN, text, &mut made);
-    if text.len() < LONG {
+    if text.len() < DIVIDED {
         let end = write_rest(BIG_ENDIAN, text, 16, &mut made, first);
         out.put(&made[..end]);
         return;
@@ -59,7 +54,7 @@ fn put_long<O: Output, const BIG_ENDIAN: bool>(text: &[u8], out: &mut O)
 // Appends the units of the first sixteen places, which are there already, and then of the others.
 #[inline(always)]
 #[tactic(auto, using(crate::proofs::GivenBytes::length_given))]
-fn put_parts<O: Output, const BIG_ENDIAN: bool, const GATHERS: bool>(
+fn put_parts<O: Output, const BIG_ENDIAN: bool, const IS_LONG: bool>(
     text: &[u8],
     made: &mut [u8],
     first: usize,
@@ -73,7 +68,7 @@ fn put_parts<O: Output, const BIG_ENDIAN: bool, const GATHERS: bool>(
     ensures { O.appends out.old (utf16_bytes BIG_ENDIAN text.now 0 (length text.now)) out.new }
 {
     out.put(&made[..first]);
-    let place = put_wide::<O, BIG_ENDIAN, GATHERS>(text, made, out);
+    let place = put_wide::<O, BIG_ENDIAN, IS_LONG>(text, made, out);
     let end = write_rest(BIG_ENDIAN, text, place, made, 0);
     out.put(&made[..end]);
 }
@@ -81,7 +76,7 @@ fn put_parts<O: Output, const BIG_ENDIAN: bool, const GATHERS: bool>(
 // Appends the units of the places from 16 on, in blocks of 64, of which fewer are left. Answers where the last block ends.
 #[inline(always)]
 #[tactic(auto, using(crate::proofs::GivenBytes::length_given))]
-fn put_wide<O: Output, const BIG_ENDIAN: bool, const GATHERS: bool>(
+fn put_wide<O: Output, const BIG_ENDIAN: bool, const IS_LONG: bool>(
     text: &[u8],
     made: &mut [u8],
     out: &mut O,
@@ -97,7 +92,7 @@ fn put_wide<O: Output, const BIG_ENDIAN: bool, const GATHERS: bool>(
 {
     let mut place = 16;
     while 64 <= text.len() - place {
-        place = put_some::<O, BIG_ENDIAN, GATHERS>(text, place, made, out);
+        place = put_some::<O, BIG_ENDIAN, IS_LONG>(text, place, made, out);
     }
     place
 }
@@ -105,7 +100,7 @@ fn put_wide<O: Output, const BIG_ENDIAN: bool, const GATHERS: bool>(
 // Appends the units of 64 places or more, which are gathered where they are not ASCII. Answers where they end.
 #[inline(always)]
 #[tactic(auto, using(crate::proofs::GivenBytes::length_given))]
-fn put_some<O: Output, const BIG_ENDIAN: bool, const GATHERS: bool>(
+fn put_some<O: Output, const BIG_ENDIAN: bool, const IS_LONG: bool>(
     text: &[u8],
     place: usize,
     made: &mut [u8],
@@ -124,7 +119,7 @@ fn put_some<O: Output, const BIG_ENDIAN: bool, const GATHERS: bool>(
         put_ascii::<O, BIG_ENDIAN>(text, place, out);
         return place + 64;
     }
-    if !GATHERS {
+    if !IS_LONG {
         let len = write_64(BIG_ENDIAN, text, place, made);
         out.put(&made[..len]);
         return place + 64;

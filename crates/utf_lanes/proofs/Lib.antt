@@ -12,6 +12,7 @@ pub mod CompressPairs
 pub mod CompressRows
 pub mod CompressLanes
 pub mod LaneLemmas
+pub mod LaterPlaces
 pub mod LookUps
 pub mod NoneBegins
 pub mod PairTables

@@ -1,7 +1,7 @@
 //! Units of UTF-16 as bytes of UTF-8, as many at once as vectors have lanes.
 ghost use Rattle.std.specs.Prelude.{◌≡◌, ℕ, ◌+◌, ◌*◌, ◌<◌, ◌≤◌, IsTrue, length, slice_index, nat_eq, false, ◌/◌, ◌^◌};
 ghost use Rattle.utf_lanes.specs.Lanes.{AreBitsOf, AreLanesOf};
-ghost use Rattle.utf_lanes.specs.UnitCodes.{lane_unit, lane_after, first_byte, middle_byte, last_byte, first_in_text, middle_in_text, last_in_text, lead_byte, second_byte, third_byte};
+ghost use Rattle.utf_lanes.specs.UnitCodes.{AreCharacters, lane_unit, lane_after, first_byte, middle_byte, last_byte, first_in_text, middle_in_text, last_in_text, lead_byte, second_byte, third_byte};
 ghost use Rattle.utf_lanes.specs.BytePairs.{unit_number};
 
 use std::simd::prelude::*;
@@ -28,11 +28,11 @@ pub(crate) fn are_short<const N: usize>(high: Simd<u8, N>) -> bool
     upper.simd_ne(Simd::splat(0)).to_bitmask() == 0
 }
 
-// Whether no unit is a surrogate.
+/// Whether no unit is a surrogate.
 #[inline(always)]
-pub(crate) fn are_characters<const N: usize>(high: Simd<u8, N>) -> bool
+pub fn are_characters<const N: usize>(high: Simd<u8, N>) -> bool
     requires { N ≤ 64 }
-    ensures { IsTrue result → (k : ℕ) → k < N → nat_eq (slice_index high.entry k / 8) 0x1B ≡ false }
+    ensures { IsTrue result → AreCharacters N high.entry }
 {
     let eighths = high >> Simd::splat(3);
     eighths.simd_eq(Simd::splat(0x1b)).to_bitmask() == 0

@@ -1,6 +1,6 @@
 //! Sixteen or thirty-two units of UTF-16 as bytes of UTF-8, written into room from a place on.
-ghost use Rattle.std.specs.Prelude.{◌≡◌, ◌+◌, ◌-◌, ◌*◌, ◌<◌, ◌≤◌, true, length};
-ghost use Rattle.utf_lanes.specs.UnitCodes.{lane_unit, AreText, WritesUnits, WritesUnitsOf};
+ghost use Rattle.std.specs.Prelude.{◌≡◌, ℕ, ◌+◌, ◌-◌, ◌*◌, ◌<◌, ◌≤◌, true, length, slice_index};
+ghost use Rattle.utf_lanes.specs.UnitCodes.{lane_unit, AreCharacters, AreText, WritesCharacters, WritesUnits, WritesUnitsOf};
 ghost use Rattle.utf_base.specs.Units.{is_leading_surrogate};
 
 use crate::sixteen_slots::Sixteen;
@@ -39,6 +39,22 @@ pub fn write_thirty_two(low: u8x32, high: u8x32, room: &mut [u8], at: usize) -> 
     write_units::<32, ThirtyTwo>(low, high, room, at)
 }
 
+/// Writes the bytes of thirty-two units that are characters. Answers where they end.
+#[inline(always)]
+pub fn write_characters(low: u8x32, high: u8x32, room: &mut [u8], at: usize) -> usize
+    requires room { at + 112 ≤ length room.old }
+    requires characters { AreCharacters 32 high }
+    ensures { WritesCharacters 32 low high room.old room.new at result }
+{
+    if !are_short(high) {
+        return write_long_units::<32, ThirtyTwo>(low, high, room, at);
+    }
+    if are_ascii(low, high) {
+        return write_ascii_units(low, high, room, at);
+    }
+    write_short_units::<32, ThirtyTwo>(low, high, room, at)
+}
+
 // Writes the bytes of N units, or of one less, or none.
 #[inline(always)]
 fn write_units<const N: usize, W: SlotWriter<N>>(
@@ -53,8 +69,7 @@ fn write_units<const N: usize, W: SlotWriter<N>>(
     ensures { WritesUnitsOf N low.entry high.entry room.old room.new at result.0 result.1 }
 {
     if are_ascii(low, high) {
-        low.copy_to_slice(&mut room[at..]);
-        return (N, at + N);
+        return (N, write_ascii_units(low, high, room, at));
     }
     write_coded::<N, W>(low, high, room, at)
 }
@@ -73,15 +88,61 @@ fn write_coded<const N: usize, W: SlotWriter<N>>(
     ensures { WritesUnitsOf N low.entry high.entry room.old room.new at result.0 result.1 }
 {
     if are_short(high) {
-        let middle = middle_bytes(low, high);
-        return (N, W::write_short(middle, last_bytes(low, high), room, at));
+        return (N, write_short_units::<N, W>(low, high, room, at));
     }
     if are_characters(high) {
-        let middle = middle_bytes(low, high);
-        let last = last_bytes(low, high);
-        return (N, W::write_slots(first_bytes(high), middle, last, room, at));
+        return (N, write_long_units::<N, W>(low, high, room, at));
     }
     write_text::<N, W>(low, high, room, at)
+}
+
+// Writes the bytes of N units of ASCII.
+#[inline(always)]
+fn write_ascii_units<const N: usize>(
+    low: Simd<u8, N>,
+    high: Simd<u8, N>,
+    room: &mut [u8],
+    at: usize,
+) -> usize
+    requires most { N ≤ 32 }
+    requires ascii { (k : ℕ) → k < N → lane_unit low high k < 0x80 }
+    requires room { at + (3 * N + 16) ≤ length room.old }
+    ensures { WritesCharacters N low.entry high.entry room.old room.new at result }
+{
+    low.copy_to_slice(&mut room[at..]);
+    at + N
+}
+
+// The same of units of which none has three bytes.
+#[inline(always)]
+fn write_short_units<const N: usize, W: SlotWriter<N>>(
+    low: Simd<u8, N>,
+    high: Simd<u8, N>,
+    room: &mut [u8],
+    at: usize,
+) -> usize
+    requires short { (k : ℕ) → k < N → slice_index high k < 8 }
+    requires room { at + (3 * N + 16) ≤ length room.old }
+    ensures { WritesCharacters N low.entry high.entry room.old room.new at result }
+{
+    W::write_short(middle_bytes(low, high), last_bytes(low, high), room, at)
+}
+
+// The same of any characters.
+#[inline(always)]
+fn write_long_units<const N: usize, W: SlotWriter<N>>(
+    low: Simd<u8, N>,
+    high: Simd<u8, N>,
+    room: &mut [u8],
+    at: usize,
+) -> usize
+    requires characters { AreCharacters N high }
+    requires room { at + (3 * N + 16) ≤ length room.old }
+    ensures { WritesCharacters N low.entry high.entry room.old room.new at result }
+{
+    let middle = middle_bytes(low, high);
+    let last = last_bytes(low, high);
+    W::write_slots(first_bytes(high), middle, last, room, at)
 }
 
 // The same where some units may be surrogates.

@@ -9,8 +9,8 @@ put-requires g c =
     let all = given_more _ text [] _ _ 0 16 16 (length text - 16) (length text) c.write_first-first.ensures.units c.write_rest-end.ensures.written.front refl (omega arith) in
     omega (arith, few_given _ text _ 0 (length text) all)
 
-pub returns-then-text-lt-LONG : goal.returns-then-text-lt-LONG
-returns-then-text-lt-LONG g c =
+pub returns-then-text-lt-DIVIDED : goal.returns-then-text-lt-DIVIDED
+returns-then-text-lt-DIVIDED g c =
     let text = c.args.text.now in
     let all = given_more _ text [] _ _ 0 16 16 (length text - 16) (length text) c.write_first-first.ensures.units c.write_rest-end.ensures.written.front refl (omega arith) in
     rw all at c.put.ensures

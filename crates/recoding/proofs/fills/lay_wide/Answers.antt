@@ -1,7 +1,7 @@
 use Rattle.std.proofs.Common.{◌≡◌, ◌+◌, ◌≤◌, length, drop, arith, ap, refl, ◌∙◌}
 use Rattle.std.proofs.lemmas.Simd.{take_more_put_chunk, put_chunk_is}
 use Rattle.std.proofs.lemmas.Slice.{drop-put_mid}
-use Rattle.recoding.proofs.room.lay_wide.Goals as goal
+use Rattle.recoding.proofs.fills.lay_wide.Goals as goal
 
 pub returns-clause-fills : goal.returns-clause-fills
 returns-clause-fills c =

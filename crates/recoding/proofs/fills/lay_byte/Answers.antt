@@ -1,6 +1,6 @@
 use Rattle.std.proofs.Common.{◌+◌, arith}
 use Rattle.std.proofs.lemmas.List.{take_more_set, drop-set-lt}
-use Rattle.recoding.proofs.room.lay_byte.Goals as goal
+use Rattle.recoding.proofs.fills.lay_byte.Goals as goal
 
 pub returns-clause-fills : goal.returns-clause-fills
 returns-clause-fills c = record {

@@ -1,6 +1,6 @@
 use Rattle.std.proofs.Common.{◌≡◌, ◌+◌, ◌-◌, ◌≤◌, length, take, arith, ap, ◌∙◌, ◌++◌}
 use Rattle.std.proofs.lemmas.Slice.{take-put_mid, drop-put_mid}
-use Rattle.recoding.proofs.room.put_all.Goals as goal
+use Rattle.recoding.proofs.fills.put_all.Goals as goal
 
 pub returns-clause-fills : goal.returns-clause-fills
 returns-clause-fills c =
