@@ -74,7 +74,7 @@ fn run_apart<S: Text, T: Text, K: Kernel<S, T>, O: Output>(
 // `recode` in blocks where the bytes allow it, then character by character, and with care only where there is a fault, at the
 // end, or at the end of the room. Each pair of forms has a copy of it, in which a compiler knows the forms.
 #[inline(always)]
-fn run<S: Text, T: Text, K: Kernel<S, T>, O: Output>(
+pub(crate) fn run<S: Text, T: Text, K: Kernel<S, T>, O: Output>(
     is_ample: bool,
     bytes: &[u8],
     out: &mut O,
