@@ -1,5 +1,5 @@
 //! What goes in blocks from one form into another, to any output: copied, widened or narrowed.
-ghost use Rattle.std.specs.Prelude.{◌*◌, ◌≤◌, length, IsTrue};
+ghost use Rattle.std.specs.Prelude.{◌*◌, ◌<◌, ◌≤◌, length, IsTrue};
 ghost use Rattle.recoding.specs.Recodes.{FitsAll};
 ghost use Rattle.recoding.specs.Strict.{PutsText};
 ghost use Rattle.recoding.specs.NextScalars.{utf16_form};
@@ -10,7 +10,7 @@ use crate::copied::copy_units;
 use crate::form::WIDEST;
 use crate::output::Output;
 use crate::text::{Text, Utf8, Utf16};
-use crate::utf8_to_utf16::put_text_as_utf16;
+use crate::utf8_to_utf16::{put_few_as_utf16, put_text_as_utf16};
 use crate::utf16_to_utf8::narrow_text;
 use utf_lanes::ascii_texts::is_ascii;
 use utf_lanes::text_blocks::text_len;
@@ -78,11 +78,39 @@ impl<const BIG_ENDIAN: bool> Kernel<Utf8, Utf16<BIG_ENDIAN>> for Widened {
             return most;
         }
         if most < 32 {
-            return 0;
+            return put_few::<O, BIG_ENDIAN>(part, out);
         }
         let front = put_ascii_front::<O, BIG_ENDIAN>(part, out);
         front + put_judged::<O, BIG_ENDIAN>(&part[front..], out)
     }
+}
+
+// Appends the units of text at the front of a few bytes, which is judged as a whole before. Answers how many bytes it has, or 0
+// of fewer than four, and of seventeen or eighteen, which neither one vector has nor two.
+#[inline(never)]
+fn put_few<O: Output, const BIG_ENDIAN: bool>(bytes: &[u8], out: &mut O) -> usize
+    requires few { length bytes.now < 32 }
+    requires room { WIDEST * length bytes.now ≤ O.room out.old }
+    ensures { PutsText O.appends form.Utf8 (utf16_form BIG_ENDIAN) bytes.now out.old out.new result }
+{
+    let few = &bytes[..fewer(bytes.len())];
+    let len = text_len(few);
+    if len < 4 || (16 < len && len < 19) {
+        return 0;
+    }
+    put_few_as_utf16::<O, BIG_ENDIAN>(&few[..len], out);
+    len
+}
+
+// So many, or sixteen in place of seventeen or eighteen.
+#[inline(always)]
+fn fewer(count: usize) -> usize
+    ensures { result ≤ count }
+{
+    if count < 19 {
+        return count.min(16);
+    }
+    count
 }
 
 // Appends the units of text at the front of some bytes, which is judged as a whole before. Answers how many bytes it has, or 0
