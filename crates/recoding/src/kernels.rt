@@ -10,10 +10,10 @@ use crate::copied::copy_units;
 use crate::form::WIDEST;
 use crate::output::Output;
 use crate::text::{Text, Utf8, Utf16};
-use crate::utf8_to_utf16::{put_few_as_utf16, put_text_as_utf16};
+use crate::utf8_to_utf16::{put_few_as_utf16, put_one_vector, put_text_as_utf16};
 use crate::utf16_to_utf8::narrow_text;
 use utf_lanes::ascii_texts::is_ascii;
-use utf_lanes::text_blocks::text_len;
+use utf_lanes::text_blocks::{are_text, text_len};
 
 // How many bytes are judged before what is text among them is copied or widened, while they are near.
 pub(crate) const PART: usize = 8192;
@@ -86,31 +86,36 @@ impl<const BIG_ENDIAN: bool> Kernel<Utf8, Utf16<BIG_ENDIAN>> for Widened {
 }
 
 // Appends the units of text at the front of a few bytes, which is judged as a whole before. Answers how many bytes it has, or 0
-// of fewer than four, and of seventeen or eighteen, which neither one vector has nor two.
+// where neither one vector has them nor two: of fewer than four, and of seventeen or eighteen.
 #[inline(never)]
 fn put_few<O: Output, const BIG_ENDIAN: bool>(bytes: &[u8], out: &mut O) -> usize
     requires few { length bytes.now < 32 }
     requires room { WIDEST * length bytes.now ≤ O.room out.old }
     ensures { PutsText O.appends form.Utf8 (utf16_form BIG_ENDIAN) bytes.now out.old out.new result }
 {
-    let few = &bytes[..fewer(bytes.len())];
-    let len = text_len(few);
-    if len < 4 || (16 < len && len < 19) {
+    if bytes.len() < 19 {
+        return put_at_once::<O, BIG_ENDIAN>(&bytes[..bytes.len().min(16)], out);
+    }
+    let len = text_len(bytes);
+    if len < 19 {
         return 0;
     }
-    put_few_as_utf16::<O, BIG_ENDIAN>(&few[..len], out);
+    put_few_as_utf16::<O, BIG_ENDIAN>(&bytes[..len], out);
     len
 }
 
-// So many, or sixteen in place of seventeen or eighteen.
+// The same of bytes that one vector has, where all of them are text.
 #[inline(always)]
-fn fewer(count: usize) -> usize
-    ensures { result ≤ count }
+fn put_at_once<O: Output, const BIG_ENDIAN: bool>(bytes: &[u8], out: &mut O) -> usize
+    requires few { length bytes.now ≤ 16 }
+    requires room { WIDEST * length bytes.now ≤ O.room out.old }
+    ensures { PutsText O.appends form.Utf8 (utf16_form BIG_ENDIAN) bytes.now out.old out.new result }
 {
-    if count < 19 {
-        return count.min(16);
+    if bytes.len() < 4 || !are_text(bytes) {
+        return 0;
     }
-    count
+    put_one_vector::<O, BIG_ENDIAN>(bytes, out);
+    bytes.len()
 }
 
 // Appends the units of text at the front of some bytes, which is judged as a whole before. Answers how many bytes it has, or 0

@@ -105,7 +105,7 @@ impl Recoder {
     ///
     /// Cost: O(n) in the part, allocates at most three bytes for each byte that is held or in the
     /// part.
-    #[inline]
+    #[inline(always)]
     #[tactic(auto, using(crate::proofs::RecodedLists::outcome_fed, crate::proofs::Advancing::fed_counts))]
     pub fn feed<A: Allocator>(
         &mut self,

@@ -1,5 +1,5 @@
 //! Text in UTF-8 written as UTF-16 to an output that has room for it.
-ghost use Rattle.std.specs.Prelude.{◌≡◌, ◌⊎◌, ℕ, ◌+◌, ◌-◌, ◌*◌, ◌<◌, ◌≤◌, IsTrue, length, slice_index, take};
+ghost use Rattle.std.specs.Prelude.{◌≡◌, ℕ, ◌+◌, ◌-◌, ◌*◌, ◌<◌, ◌≤◌, IsTrue, length, slice_index, take};
 ghost use Rattle.utf_lanes.specs.UnitCodes.{Writes};
 ghost use Rattle.utf_lanes.specs.Utf8ToUtf16.{utf16_bytes};
 ghost use Rattle.utf_lanes.specs.TextBlocks.{EndsCharacter};
@@ -43,37 +43,33 @@ pub(crate) fn put_text_as_utf16<O: Output, const BIG_ENDIAN: bool>(text: &[u8], 
     put_parts::<O, BIG_ENDIAN, false>(text, &mut made, first, out);
 }
 
-// The same of a few bytes.
+// The same of bytes that two vectors have.
 #[inline(always)]
 #[tactic(auto, using(crate::proofs::GivenBytes::length_given))]
 pub(crate) fn put_few_as_utf16<O: Output, const BIG_ENDIAN: bool>(text: &[u8], out: &mut O)
-    requires some { 4 ≤ length text.now }
+    requires long { 19 ≤ length text.now }
     requires few { length text.now < 32 }
-    requires lanes { length text.now ≤ 16 ⊎ 19 ≤ length text.now }
     requires room { 3 * length text.now ≤ O.room out.old }
     ensures { O.appends out.old (utf16_bytes BIG_ENDIAN text.now 0 (length text.now)) out.new }
 {
     let mut made = [0; 96];
-    let end = write_all(BIG_ENDIAN, text, &mut made);
+    let first = write_first(BIG_ENDIAN, text, &mut made);
+    let end = write_rest(BIG_ENDIAN, text, 16, &mut made, first);
     out.put(&made[..end]);
 }
 
-// Writes the units of a few bytes to the front of some room. Answers where they end.
+// The same of bytes that one vector has.
 #[inline(always)]
-fn write_all(high_first: bool, text: &[u8], room: &mut [u8]) -> usize
+#[tactic(auto, using(crate::proofs::GivenBytes::length_given))]
+pub(crate) fn put_one_vector<O: Output, const BIG_ENDIAN: bool>(text: &[u8], out: &mut O)
     requires some { 4 ≤ length text.now }
-    requires few { length text.now < 32 }
-    requires lanes { length text.now ≤ 16 ⊎ 19 ≤ length text.now }
-    requires room { 96 ≤ length room.old }
-    ensures len { length room.new ≡ length room.old }
-    ensures units { take result room.new ≡ utf16_bytes high_first text.now 0 (length text.now) }
-    ensures within { result ≤ length room.old }
+    requires few { length text.now ≤ 16 }
+    requires room { 3 * length text.now ≤ O.room out.old }
+    ensures { O.appends out.old (utf16_bytes BIG_ENDIAN text.now 0 (length text.now)) out.new }
 {
-    if text.len() <= 16 {
-        return write_few(high_first, text, room);
-    }
-    let first = write_first(high_first, text, room);
-    write_rest(high_first, text, 16, room, first)
+    let mut made = [0; 32];
+    let end = write_few(BIG_ENDIAN, text, &mut made);
+    out.put(&made[..end]);
 }
 
 // The same of a long text, of which several blocks are gathered.
