@@ -54,8 +54,8 @@ pub(crate) fn put_few_as_utf16<O: Output, const BIG_ENDIAN: bool>(text: &[u8], o
 {
     let mut made = [0; 96];
     let first = write_first(BIG_ENDIAN, text, &mut made);
-    let end = write_rest(BIG_ENDIAN, text, 16, &mut made, first);
-    out.put(&made[..end]);
+    let last = write_rest(BIG_ENDIAN, text, 16, &mut made, first);
+    out.put(&made[..last]);
 }
 
 // The same of bytes that one vector has.
