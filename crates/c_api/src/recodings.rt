@@ -128,7 +128,62 @@ pub extern "C" fn nody_recoder_feed(
     if !is_recoder(recoder) {
         return REFUSED;
     }
-    let mut inner = opened(recoder);
+    if recoder.count == 0 {
+        let fresh = Recoder::new(form_of(recoder.from), form_of(recoder.to));
+        return feed_inner(recoder, fresh, part, room, read, written);
+    }
+    feed_with_held(recoder, part, room, read, written)
+}
+
+// The same where the recoder holds something, kept apart: so a compiler keeps in registers the one that holds nothing.
+#[inline(never)]
+fn feed_with_held(
+    recoder: &mut NodyRecoder,
+    part: &[u8],
+    room: &mut [u8],
+    read: &mut usize,
+    written: &mut usize,
+) -> u8
+    requires { IsRecoder recoder.old }
+    ensures recoder { IsRecoder recoder.new }
+    ensures feeds { FeedsInto (recoder_of recoder.old) part.now room.old room.new read.new written.new
+        (recoder_of recoder.new) }
+    ensures all { result ≡ 0 → read.new ≡ length part.now }
+    ensures waits { result ≡ 0 → Lacks (form_of recoder.old.from) (held_by recoder.new) }
+    ensures full { result ≡ 1 →
+        IsFull (recoder_of recoder.new) part.now read.new (length room.old - written.new) }
+    ensures short { result ≡ 1 → length room.old < written.new + 4 }
+    ensures status { result < 2 }
+    ensures counts { CountsPart recoder.old (take read.new part.now) recoder.new }
+{
+    let start = opened(recoder);
+    feed_inner(recoder, start, part, room, read, written)
+}
+
+// The same of the recoder that the struct is.
+#[inline(always)]
+fn feed_inner(
+    recoder: &mut NodyRecoder,
+    start: Recoder,
+    part: &[u8],
+    room: &mut [u8],
+    read: &mut usize,
+    written: &mut usize,
+) -> u8
+    requires recoder { IsRecoder recoder.old }
+    requires start { start ≡ recoder_of recoder.old }
+    ensures recoder { IsRecoder recoder.new }
+    ensures feeds { FeedsInto (recoder_of recoder.old) part.now room.old room.new read.new written.new
+        (recoder_of recoder.new) }
+    ensures all { result ≡ 0 → read.new ≡ length part.now }
+    ensures waits { result ≡ 0 → Lacks (form_of recoder.old.from) (held_by recoder.new) }
+    ensures full { result ≡ 1 →
+        IsFull (recoder_of recoder.new) part.now read.new (length room.old - written.new) }
+    ensures short { result ≡ 1 → length room.old < written.new + 4 }
+    ensures status { result < 2 }
+    ensures counts { CountsPart recoder.old (take read.new part.now) recoder.new }
+{
+    let mut inner = start;
     let progress = inner.feed_into(part, room);
     keep(recoder, &inner);
     recoder.replaced = with_more(recoder.replaced, progress.replaced);
@@ -162,7 +217,50 @@ pub extern "C" fn nody_recoder_finish(
     if !is_recoder(recoder) {
         return REFUSED;
     }
-    let mut inner = opened(recoder);
+    if recoder.count == 0 {
+        let fresh = Recoder::new(form_of(recoder.from), form_of(recoder.to));
+        return finish_inner(recoder, fresh, room, written);
+    }
+    finish_with_held(recoder, room, written)
+}
+
+// The same where the recoder holds something, kept apart as for feeding.
+#[inline(never)]
+fn finish_with_held(recoder: &mut NodyRecoder, room: &mut [u8], written: &mut usize) -> u8
+    requires { IsRecoder recoder.old }
+    ensures recoder { IsRecoder recoder.new }
+    ensures finishes { FinishesInto (recoder_of recoder.old) room.old room.new written.new
+        (recoder_of recoder.new) }
+    ensures all { result ≡ 0 → recoder.new.count ≡ 0 }
+    ensures full { result ≡ 1 → IsLastFull (recoder_of recoder.new) (length room.old - written.new) }
+    ensures short { result ≡ 1 → length room.old < written.new + 4 }
+    ensures status { result < 2 }
+    ensures counts { CountsEnd recoder.old recoder.new }
+{
+    let start = opened(recoder);
+    finish_inner(recoder, start, room, written)
+}
+
+// The same of the recoder that the struct is.
+#[inline(always)]
+fn finish_inner(
+    recoder: &mut NodyRecoder,
+    start: Recoder,
+    room: &mut [u8],
+    written: &mut usize,
+) -> u8
+    requires recoder { IsRecoder recoder.old }
+    requires start { start ≡ recoder_of recoder.old }
+    ensures recoder { IsRecoder recoder.new }
+    ensures finishes { FinishesInto (recoder_of recoder.old) room.old room.new written.new
+        (recoder_of recoder.new) }
+    ensures all { result ≡ 0 → recoder.new.count ≡ 0 }
+    ensures full { result ≡ 1 → IsLastFull (recoder_of recoder.new) (length room.old - written.new) }
+    ensures short { result ≡ 1 → length room.old < written.new + 4 }
+    ensures status { result < 2 }
+    ensures counts { CountsEnd recoder.old recoder.new }
+{
+    let mut inner = start;
     let progress = inner.finish_into(room);
     keep(recoder, &inner);
     recoder.replaced = with_more(recoder.replaced, progress.replaced);

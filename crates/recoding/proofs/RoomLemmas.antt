@@ -96,6 +96,14 @@ FeedsInto-of r s part old new read wrote e f few within fits g rest = record {
   rest = rest;
 }
 
+-- nothing is read yet
+pub Advances-start : (from to : Form) (held : List ℕ) → Advances from to (held ++ []) [] [] held 0
+Advances-start from to held = rw (append-nil held) (Advances-none from to held [])
+
+-- nothing is fed yet
+pub FeedsInto-none : (r : Recoding) (part room : List ℕ) → length r.held ≤ 3 → FeedsInto r part room room 0 0 r
+FeedsInto-none r part room few = FeedsInto-of r r part room room 0 0 refl refl few (omega arith) (omega arith) (Advances-start r.from r.to r.held).grows refl
+
 -- the same after the recoder has counted faults
 pub FeedsInto-counted : {r s t : Recoding} {part old new : List ℕ} {read wrote n : ℕ} → FeedsInto r part old new read wrote s → t ≡ record s { replaced = n } → FeedsInto r part old new read wrote t
 FeedsInto-counted f e = rw e (record {
@@ -155,10 +163,6 @@ Advances-ahead from to bytes old mid new p s n {j} {k} g settles e =
     ap₂ (λ ys zs. ys ++ take (n - 1) zs) left more ∙ take_more (4 - n) (n - 1) (drop (p + n) bytes) ∙ ap (λ k. take k (drop (p + n) bytes)) three in
     subst (λ ys. Advances from to (take (p + n + 3) bytes) old new ys (j + k)) held
     (subst (λ m. Advances from to (take m bytes) old new (drop n (take 4 xs) ++ take (n - 1) (drop (p + 3 + 1) bytes)) (j + k)) end third)
-
--- nothing is read yet
-pub Advances-start : (from to : Form) (held : List ℕ) → Advances from to (held ++ []) [] [] held 0
-Advances-start from to held = rw (append-nil held) (Advances-none from to held [])
 
 -- One call after another, where the first left nothing held and the second read to the place `end`, up to three bytes past
 -- those that it recoded.

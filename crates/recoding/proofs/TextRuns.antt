@@ -1,7 +1,7 @@
 -- Text recoded, and no fault: step by step.
 use Rattle.std.proofs.Common.{◌≡◌, ℕ, suc, lit<, ◌∷◌, length-append, ◌+◌, ◌-◌, ◌*◌, ◌/◌, ◌≤◌, Bool, List, [], ◌++◌, length, get_or, take, drop, flat_map, arith, refl, ap, ap₂, sym, ◌∙◌, append_assoc, length-drop, length-take, take-append-drop, Fits, w8, IsUtf8}
 use Rattle.std.specs.Prelude.{All}
-use Rattle.std.proofs.lemmas.List.{append-nil, take_rest, take-take}
+use Rattle.std.proofs.lemmas.List.{append-nil, take_all, take_rest, take-take}
 use Rattle.std.proofs.lemmas.List.Concat.{flat_map-append}
 use Rattle.std.proofs.lemmas.List.Elements.{All-append, All-nil, All-cons}
 use Rattle.encode_unicode.proofs.TextScalars.{joined_from_text}
@@ -147,6 +147,13 @@ PutsText-given {to} {bytes} {n} high form within text put =
       appended = put;
       transcodes = record { scalars = t.0; all = t.1.0; codes = t.1.1; made = sym (given_codes high to form (take n bytes) t.0 t.1.0 t.1.1) };
     }
+
+-- the same of all the bytes
+pub PutsText-whole : {O : Type 0} {appends : O → List ℕ → O → Type 0} {old new : O} {to : Form} {bytes : List ℕ} (high : Bool) → HasByteOrder high to → IsUtf8 bytes
+    → appends old (utf16_bytes high bytes 0 (length bytes)) new → PutsText appends Utf8 to bytes old new (length bytes)
+PutsText-whole {appends = appends} {old = old} {new = new} {bytes = bytes} high form text put =
+    let all : take (length bytes) bytes ≡ bytes = take_all (length bytes) bytes (omega arith) in
+    PutsText-given high form (omega arith) (rw all text) (rw all put)
 
 -- Units, in bytes.
 

@@ -5,11 +5,11 @@ ghost use Rattle.recoding.specs.Recodes.{FitsAll, Reaches};
 ghost use Rattle.recoding.specs.NextScalars.{BeginsPiece};
 ghost use Rattle.recoding.specs.Strict.{PutsText};
 
-use crate::form::{Form, WIDEST};
-use crate::kernels::{Copied, Kernel, Narrowed, PART, Turned, Widened, by_forms};
+use crate::form::WIDEST;
+use crate::kernels::{Kernel, PART};
 use crate::next_scalar::{ShownPiece, first_four};
 use crate::output::Output;
-use crate::text::{Text, Utf8, Utf16};
+use crate::text::Text;
 
 // How many bytes go with care before a run looks for text again, where no fault is among them.
 pub(crate) const STRIDE: usize = 16;
@@ -37,44 +37,10 @@ pub(crate) struct Reached {
 }
 
 // Recodes the bytes as far as no later byte can change what they show, and there is room, of which a caller may know that it is
-// enough for all.
+// enough for all: in blocks where the bytes allow it, then character by character, and with care only where there is a fault,
+// at the end, or at the end of the room. Each pair of forms has a copy of it, in which a compiler knows the forms.
 #[inline(always)]
-pub(crate) fn recode<O: Output>(
-    is_ample: bool,
-    from: Form,
-    to: Form,
-    bytes: &[u8],
-    out: &mut O,
-) -> Reached
-    requires { IsTrue is_ample → FitsAll bytes.now (O.room out.old) }
-    ensures reaches { Reaches O.appends O.room from to bytes.now out.old out.new result }
-    ensures ends { IsFalse result.is_full → IsTrue result.is_waiting }
-{
-    // In line this copy takes 6 to 8 % fewer instructions of texts of up to 40 bytes.
-    if let (Form::Utf8, Form::Utf8) = (from, to) {
-        return run::<Utf8, Utf8, Copied, O>(is_ample, bytes, out);
-    }
-    by_forms!(from, to, run_apart::<O>(is_ample, bytes, out))
-}
-
-// `run`, kept out of line.
-#[inline(never)]
-fn run_apart<S: Text, T: Text, K: Kernel<S, T>, O: Output>(
-    is_ample: bool,
-    bytes: &[u8],
-    out: &mut O,
-) -> Reached
-    requires { IsTrue is_ample → FitsAll bytes.now (O.room out.old) }
-    ensures reaches { Reaches O.appends O.room S.form T.form bytes.now out.old out.new result }
-    ensures ends { IsFalse result.is_full → IsTrue result.is_waiting }
-{
-    run::<S, T, K, O>(is_ample, bytes, out)
-}
-
-// `recode` in blocks where the bytes allow it, then character by character, and with care only where there is a fault, at the
-// end, or at the end of the room. Each pair of forms has a copy of it, in which a compiler knows the forms.
-#[inline(always)]
-fn run<S: Text, T: Text, K: Kernel<S, T>, O: Output>(
+pub(crate) fn run<S: Text, T: Text, K: Kernel<S, T>, O: Output>(
     is_ample: bool,
     bytes: &[u8],
     out: &mut O,

@@ -1,5 +1,5 @@
 //! What goes in blocks from one form into another, to any output: copied, widened or narrowed.
-ghost use Rattle.std.specs.Prelude.{◌*◌, ◌≤◌, length, IsTrue};
+ghost use Rattle.std.specs.Prelude.{◌*◌, ◌<◌, ◌≤◌, length, IsTrue};
 ghost use Rattle.recoding.specs.Recodes.{FitsAll};
 ghost use Rattle.recoding.specs.Strict.{PutsText};
 ghost use Rattle.recoding.specs.NextScalars.{utf16_form};
@@ -10,10 +10,10 @@ use crate::copied::copy_units;
 use crate::form::WIDEST;
 use crate::output::Output;
 use crate::text::{Text, Utf8, Utf16};
-use crate::utf8_to_utf16::put_text_as_utf16;
+use crate::utf8_to_utf16::{put_few_as_utf16, put_one_vector, put_text_as_utf16};
 use crate::utf16_to_utf8::narrow_text;
 use utf_lanes::ascii_texts::is_ascii;
-use utf_lanes::text_blocks::text_len;
+use utf_lanes::text_blocks::{are_text, text_len};
 
 // How many bytes are judged before what is text among them is copied or widened, while they are near.
 pub(crate) const PART: usize = 8192;
@@ -78,11 +78,44 @@ impl<const BIG_ENDIAN: bool> Kernel<Utf8, Utf16<BIG_ENDIAN>> for Widened {
             return most;
         }
         if most < 32 {
-            return 0;
+            return put_few::<O, BIG_ENDIAN>(part, out);
         }
         let front = put_ascii_front::<O, BIG_ENDIAN>(part, out);
         front + put_judged::<O, BIG_ENDIAN>(&part[front..], out)
     }
+}
+
+// Appends the units of text at the front of a few bytes, which is judged as a whole before. Answers how many bytes it has, or 0
+// where neither one vector has them nor two: of fewer than four, and of seventeen or eighteen.
+#[inline(never)]
+fn put_few<O: Output, const BIG_ENDIAN: bool>(bytes: &[u8], out: &mut O) -> usize
+    requires few { length bytes.now < 32 }
+    requires room { WIDEST * length bytes.now ≤ O.room out.old }
+    ensures { PutsText O.appends form.Utf8 (utf16_form BIG_ENDIAN) bytes.now out.old out.new result }
+{
+    if bytes.len() < 19 {
+        return put_at_once::<O, BIG_ENDIAN>(&bytes[..bytes.len().min(16)], out);
+    }
+    let len = text_len(bytes);
+    if len < 19 {
+        return 0;
+    }
+    put_few_as_utf16::<O, BIG_ENDIAN>(&bytes[..len], out);
+    len
+}
+
+// The same of bytes that one vector has, where all of them are text.
+#[inline(always)]
+fn put_at_once<O: Output, const BIG_ENDIAN: bool>(bytes: &[u8], out: &mut O) -> usize
+    requires few { length bytes.now ≤ 16 }
+    requires room { WIDEST * length bytes.now ≤ O.room out.old }
+    ensures { PutsText O.appends form.Utf8 (utf16_form BIG_ENDIAN) bytes.now out.old out.new result }
+{
+    if bytes.len() < 4 || !are_text(bytes) {
+        return 0;
+    }
+    put_one_vector::<O, BIG_ENDIAN>(bytes, out);
+    bytes.len()
 }
 
 // Appends the units of text at the front of some bytes, which is judged as a whole before. Answers how many bytes it has, or 0
@@ -149,8 +182,21 @@ fn most_widened<O: Output>(is_ample: bool, bytes: &[u8], out: &O) -> usize
     bytes.len().min(out.room() / WIDEST)
 }
 
-// Calls a function under the types of two forms and of the blocks between them.
+// Calls a function under the types of two forms and of the blocks between them, and perhaps of an output.
 macro_rules! by_forms {
+    ($from:expr, $to:expr, $call:ident($($given:expr),*)) => {
+        match ($from, $to) {
+            (Form::Utf8, Form::Utf8) => $call::<Utf8, Utf8, Copied>($($given),*),
+            (Form::Utf8, Form::Utf16Le) => $call::<Utf8, Utf16<false>, Widened>($($given),*),
+            (Form::Utf8, Form::Utf16Be) => $call::<Utf8, Utf16<true>, Widened>($($given),*),
+            (Form::Utf16Le, Form::Utf8) => $call::<Utf16<false>, Utf8, Narrowed>($($given),*),
+            (Form::Utf16Le, Form::Utf16Le) => $call::<Utf16<false>, Utf16<false>, Turned>($($given),*),
+            (Form::Utf16Le, Form::Utf16Be) => $call::<Utf16<false>, Utf16<true>, Turned>($($given),*),
+            (Form::Utf16Be, Form::Utf8) => $call::<Utf16<true>, Utf8, Narrowed>($($given),*),
+            (Form::Utf16Be, Form::Utf16Le) => $call::<Utf16<true>, Utf16<false>, Turned>($($given),*),
+            (Form::Utf16Be, Form::Utf16Be) => $call::<Utf16<true>, Utf16<true>, Turned>($($given),*),
+        }
+    };
     ($from:expr, $to:expr, $call:ident::<$output:ty>($($given:expr),*)) => {
         match ($from, $to) {
             (Form::Utf8, Form::Utf8) => $call::<Utf8, Utf8, Copied, $output>($($given),*),

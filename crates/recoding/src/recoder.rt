@@ -105,7 +105,7 @@ impl Recoder {
     ///
     /// Cost: O(n) in the part, allocates at most three bytes for each byte that is held or in the
     /// part.
-    #[inline]
+    #[inline(always)]
     #[tactic(auto, using(crate::proofs::RecodedLists::outcome_fed, crate::proofs::Advancing::fed_counts))]
     pub fn feed<A: Allocator>(
         &mut self,
@@ -325,6 +325,7 @@ impl Recoder {
     /// lost. With room for four bytes, each call reads or writes something.
     ///
     /// Cost: O(n) in what is read and written.
+    #[inline(always)]
     pub fn feed_into(&mut self, part: &[u8], room: &mut [u8]) -> Progress
         ensures feeds { FeedsInto self.old part.now room.old room.new result.read result.written self.new }
         ensures full { IsTrue result.is_full →
@@ -339,6 +340,52 @@ impl Recoder {
         ensures replaces { Replaces self.old (take result.read part.now) result.replaced self.new }
         ensures total { AddsUp self.old result.replaced self.new }
         ensures counts { KeepsCount self.old (take result.read part.now) self.new }
+    {
+        let count = self.count;
+        if count == 0 {
+            return self.feed_alone_into(part, room);
+        }
+        self.feed_joined_into(part, room)
+    }
+
+    // `feed_into` where nothing is held.
+    #[inline(always)]
+    fn feed_alone_into(&mut self, part: &[u8], room: &mut [u8]) -> Progress
+        requires { length self.old.held ≡ 0 }
+        ensures feeds { FeedsInto self.old part.now room.old room.new result.read result.written self.new }
+        ensures full { IsTrue result.is_full →
+            IsFull self.new part.now result.read (length room.old - result.written) }
+        ensures short { IsTrue result.is_full → length room.old < result.written + 4 }
+        ensures read { IsFalse result.is_full → result.read ≡ length part.now }
+        ensures waits { IsFalse result.is_full → Lacks self.old.from self.new.held }
+        ensures moves { 4 ≤ length room.old → 0 < length part.now → 0 < result.read + result.written }
+        ensures nearer { ComesNearer part.now room.old result.read self.old self.new }
+        ensures replaces { Replaces self.old (take result.read part.now) result.replaced self.new }
+        ensures total { AddsUp self.old result.replaced self.new }
+    {
+        let reached = recode_into(self.from, self.to, part, room, 0);
+        let end = part.len().min(reached.read + 3);
+        self.count_faults(reached.replaced);
+        self.hold(&part[reached.read..end]);
+        Progress {
+            read: end,
+            ..reached
+        }
+    }
+
+    // The same where something is held, kept apart so that the test is inlined.
+    #[inline(never)]
+    fn feed_joined_into(&mut self, part: &[u8], room: &mut [u8]) -> Progress
+        ensures feeds { FeedsInto self.old part.now room.old room.new result.read result.written self.new }
+        ensures full { IsTrue result.is_full →
+            IsFull self.new part.now result.read (length room.old - result.written) }
+        ensures short { IsTrue result.is_full → length room.old < result.written + 4 }
+        ensures read { IsFalse result.is_full → result.read ≡ length part.now }
+        ensures waits { IsFalse result.is_full → Lacks self.old.from self.new.held }
+        ensures moves { 4 ≤ length room.old → 0 < length part.now → 0 < result.read + result.written }
+        ensures nearer { ComesNearer part.now room.old result.read self.old self.new }
+        ensures replaces { Replaces self.old (take result.read part.now) result.replaced self.new }
+        ensures total { AddsUp self.old result.replaced self.new }
     {
         let first = self.feed_held(part, room);
         if first.is_full || 0 < self.count {
@@ -412,6 +459,7 @@ impl Recoder {
     /// If `is_full` is false, nothing is held any more. If it is true, the next character did not
     /// fit: call this again, and not `feed_into`, with new room. Room for four bytes is enough for
     /// any character.
+    #[inline(always)]
     pub fn finish_into(&mut self, room: &mut [u8]) -> Progress
         ensures finishes { FinishesInto self.old room.old room.new result.written self.new }
         ensures full { IsTrue result.is_full → IsLastFull self.new (length room.old - result.written) }
@@ -429,6 +477,20 @@ impl Recoder {
         if self.count == 0 {
             return progress(0, 0, 0, false);
         }
+        self.finish_held_into(room)
+    }
+
+    // `finish_into` where something is held, kept apart so that the test is inlined.
+    #[inline(never)]
+    fn finish_held_into(&mut self, room: &mut [u8]) -> Progress
+        ensures finishes { FinishesInto self.old room.old room.new result.written self.new }
+        ensures full { IsTrue result.is_full → IsLastFull self.new (length room.old - result.written) }
+        ensures short { IsTrue result.is_full → length room.old < result.written + 4 }
+        ensures all { IsFalse result.is_full → self.new.held ≡ [] }
+        ensures read { result.read ≡ 0 }
+        ensures replaces { ReplacesLast self.old result.replaced self.new }
+        ensures total { AddsUp self.old result.replaced self.new }
+    {
         let (held, len) = join(self.held_bytes(), &[]);
         let done = recode_last_into(self.from, self.to, &held[..len], room);
         self.count_faults(done.replaced);

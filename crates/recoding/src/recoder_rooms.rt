@@ -5,13 +5,15 @@ ghost use Rattle.recoding.specs.Faults.{AdvancesBy, fault_count};
 ghost use Rattle.recoding.specs.NextScalars.{Settles};
 ghost use Rattle.recoding.specs.Rooms.{Fills, LastIsTooLong, Leaves, NextIsTooLong};
 
-use crate::engine::{has_room_for_all, recode};
+use crate::engine::{has_room_for_all, run};
 use crate::form::Form;
 use crate::form_calls::{next_at_end, next_of, put_fitting};
+use crate::kernels::{Copied, Kernel, Narrowed, Turned, Widened, by_forms};
 use crate::next_scalar::NextScalar;
 use crate::recoder_runs::join;
 use crate::room::Room;
 use crate::rooms::Progress;
+use crate::text::{Text, Utf8, Utf16};
 
 // Writes the code of the character into the room from the place on, where it fits, and answers the place after it.
 #[inline(always)]
@@ -34,6 +36,7 @@ pub(crate) fn put_at(to: Form, c: char, room: &mut [u8], place: usize) -> Option
 // Recodes the bytes as far as no later byte can change what they show and there is room from the place on. `read` counts
 // the bytes that were recoded, and `written` all that now stands in the room. What was recoded is so by the three bytes
 // that follow it, and not by others.
+#[inline(always)]
 pub(crate) fn recode_into(
     from: Form,
     to: Form,
@@ -55,9 +58,33 @@ pub(crate) fn recode_into(
     ensures waits { IsFalse result.is_full → length bytes.now ≤ result.read + 3 }
     ensures lacks { IsFalse result.is_full → Lacks from (drop result.read bytes.now) }
 {
+    by_forms!(from, to, run_into(bytes, room, place))
+}
+
+// The same from one form into another. Each pair of forms has a copy of it, whose counts stay in registers.
+#[inline(never)]
+fn run_into<S: Text, T: Text, K: Kernel<S, T>>(
+    bytes: &[u8],
+    room: &mut [u8],
+    place: usize,
+) -> Progress
+    requires { place ≤ length room.old }
+    ensures within { result.read ≤ length bytes.now }
+    ensures ordered { place ≤ result.written }
+    ensures fits { result.written ≤ length room.old }
+    ensures advances { AdvancesBy S.form T.form bytes.now (take place room.old)
+        (take result.written room.new) result.read result.replaced }
+    ensures few { result.replaced ≤ result.read }
+    ensures rest { drop result.written room.new ≡ drop result.written room.old }
+    ensures full { IsTrue result.is_full →
+        NextIsTooLong S.form T.form (drop result.read bytes.now) (length room.old - result.written) }
+    ensures short { IsTrue result.is_full → length room.old < result.written + 4 }
+    ensures waits { IsFalse result.is_full → length bytes.now ≤ result.read + 3 }
+    ensures lacks { IsFalse result.is_full → Lacks S.form (drop result.read bytes.now) }
+{
     let mut out = Room::new(room, place);
     let is_ample = has_room_for_all(bytes, &out);
-    let done = recode(is_ample, from, to, bytes, &mut out);
+    let done = run::<S, T, K, Room<'_>>(is_ample, bytes, &mut out);
     progress(done.read, out.len, done.replaced, done.is_full)
 }
 

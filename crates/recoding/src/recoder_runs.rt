@@ -5,9 +5,11 @@ ghost use Rattle.recoding.specs.Faults.{fault_count};
 ghost use Rattle.recoding.specs.OutputRuns.{RunsUntil};
 ghost use Rattle.recoding.specs.Rooms.{HasRoomFor};
 
-use crate::engine::recode;
+use crate::engine::run;
 use crate::form::Form;
 use crate::form_calls::{next_at_end, next_of, put_code};
+use crate::kernels::{Copied, Kernel, Narrowed, Turned, Widened, by_forms};
+use crate::text::{Text, Utf8, Utf16};
 use std::alloc::Allocator;
 
 // How many bytes a run recoded, and how many of their faults became U+FFFD.
@@ -116,6 +118,7 @@ pub(crate) fn join(held: &[u8], part: &[u8]) -> ([u8; 6], usize)
 }
 
 // `recode_decided` to the end of the bytes, by the way that is quickest for the forms.
+#[inline(always)]
 pub(crate) fn recode_whole<A: Allocator>(
     from: Form,
     to: Form,
@@ -125,7 +128,20 @@ pub(crate) fn recode_whole<A: Allocator>(
     requires { HasRoomFor out.old (length bytes.now) }
     ensures { RunsUntil from to bytes.now out.old out.new (length bytes.now) result.read result.replaced }
 {
-    let reached = recode(true, from, to, bytes, out);
+    by_forms!(from, to, run_whole::<A>(bytes, out))
+}
+
+// The same from one form into another. Each pair of forms has a copy of it, which answers two numbers in registers.
+#[inline(never)]
+fn run_whole<S: Text, T: Text, K: Kernel<S, T>, A: Allocator>(
+    bytes: &[u8],
+    out: &mut Vec<u8, A>,
+) -> Run
+    requires { HasRoomFor out.old (length bytes.now) }
+    ensures { RunsUntil S.form T.form bytes.now out.old out.new (length bytes.now)
+        result.read result.replaced }
+{
+    let reached = run::<S, T, K, Vec<u8, A>>(true, bytes, out);
     Run {
         read: reached.read,
         replaced: reached.replaced,

@@ -9,7 +9,7 @@ use crate::output::{GATHERED, LONG, Output};
 use std::simd::prelude::*;
 use utf_lanes::ascii_texts::is_ascii_block;
 use utf_lanes::text_blocks::ends_character;
-use utf_lanes::text_puts::{write_64, write_first, write_rest};
+use utf_lanes::text_puts::{write_64, write_few, write_first, write_rest};
 use utf_lanes::text_units::ascii_units;
 
 // The least text of which blocks of 64 are put one after another, and the first sixteen places before them.
@@ -36,6 +36,35 @@ pub(crate) fn put_text_as_utf16<O: Output, const BIG_ENDIAN: bool>(text: &[u8], 
         return;
     }
     put_parts::<O, BIG_ENDIAN, false>(text, &mut made, first, out);
+}
+
+// The same of bytes that two vectors have.
+#[inline(always)]
+#[tactic(auto, using(crate::proofs::GivenBytes::length_given))]
+pub(crate) fn put_few_as_utf16<O: Output, const BIG_ENDIAN: bool>(text: &[u8], out: &mut O)
+    requires long { 19 ≤ length text.now }
+    requires few { length text.now < 32 }
+    requires room { 3 * length text.now ≤ O.room out.old }
+    ensures { O.appends out.old (utf16_bytes BIG_ENDIAN text.now 0 (length text.now)) out.new }
+{
+    let mut made = [0; 96];
+    let first = write_first(BIG_ENDIAN, text, &mut made);
+    let last = write_rest(BIG_ENDIAN, text, 16, &mut made, first);
+    out.put(&made[..last]);
+}
+
+// The same of bytes that one vector has.
+#[inline(always)]
+#[tactic(auto, using(crate::proofs::GivenBytes::length_given))]
+pub(crate) fn put_one_vector<O: Output, const BIG_ENDIAN: bool>(text: &[u8], out: &mut O)
+    requires some { 4 ≤ length text.now }
+    requires few { length text.now ≤ 16 }
+    requires room { 3 * length text.now ≤ O.room out.old }
+    ensures { O.appends out.old (utf16_bytes BIG_ENDIAN text.now 0 (length text.now)) out.new }
+{
+    let mut made = [0; 32];
+    let end = write_few(BIG_ENDIAN, text, &mut made);
+    out.put(&made[..end]);
 }
 
 // The same of a long text, of which several blocks are gathered.

@@ -1,13 +1,13 @@
 -- What a block gives: the units of its lanes, in order.
-use Rattle.std.proofs.Common.{◌≡◌, ℕ, zero, suc, ◌+◌, ◌-◌, ◌*◌, ◌/◌, ◌%◌, ◌<◌, ◌≤◌, Bool, true, false, cond, leb, ltb, ◌&&◌, List, [], ◌∷◌, ◌++◌, length, get_or, bit_and, refl, sym, ap, ap₂, ◌∙◌, arith, lit<, w8, Fits, ltb-true, ltb-false}
+use Rattle.std.proofs.Common.{◌≡◌, ℕ, zero, suc, ◌+◌, ◌-◌, ◌*◌, ◌/◌, ◌%◌, ◌<◌, ◌≤◌, Bool, true, false, cond, leb, ltb, ◌&&◌, List, [], ◌∷◌, ◌++◌, length, get_or, bit_and, refl, sym, ap, ap₂, ◌∙◌, arith, lit<, ltb-true, ltb-false}
 use Rattle.std.proofs.lemmas.Grind.{common_steps}
-use Rattle.std.proofs.lemmas.List.{get_or_append_left, get_or-append_right}
+use Rattle.std.proofs.lemmas.List.{ext_get_or, get_or_append_left, get_or-append_right, take_all}
 use Rattle.std.proofs.lemmas.Nat.{and_mask}
 use Rattle.std.proofs.lemmas.Simd.{get_or-chunk, length-chunk}
 use Rattle.std.specs.Int.{bit_at}
 use lib.Lanes.{chunk}
 use Rattle.utf_lanes.specs.Lanes.{AreBits, AreLanes, ArePairs, lane_of_two, lane_of_three, lane_of_four}
-use Rattle.utf_lanes.specs.Utf8ToUtf16.{concat_range, block_bytes, ends_unit, low_half, high_half, unit_low, unit_high, unit_low_at, unit_high_at, halves, halves_at, utf16_bytes_at, pair_at}
+use Rattle.utf_lanes.specs.Utf8ToUtf16.{AreLoaded, concat_range, block_bytes, ends_unit, low_half, high_half, unit_low, unit_high, unit_low_at, unit_high_at, halves, halves_at, utf16_bytes_at, pair_at}
 use Rattle.utf_lanes.proofs.Joined.{joined_same, joined_none, joined_add, joined_moved}
 use Rattle.utf_lanes.proofs.LaneLemmas.{reach_mask, none_reach}
 use Rattle.utf_lanes.proofs.ChosenLanes.{where_below, where_below_len, where_below_at}
@@ -111,53 +111,27 @@ module _ (high_first : Bool) (xs : List ℕ) (place s : ℕ) (start : 3 ≤ plac
       (λ i lt. let there : place - 3 + (s + i) ≡ place - 3 + s + i = omega arith in lane_is (s + i) (omega arith) (omega arith) ∙ ap (utf16_bytes_at high_first xs) there) in
       ap₂ (λ x y. x ++ y) first second ∙ all ∙ split ∙ ap₂ (λ x y. x ++ y) none rest
 
--- Loads, and the bytes in them.
+-- Lanes where no byte begins a code of four.
 
-module _ (xs : List ℕ) (place : ℕ) (fits : (k : ℕ) → Fits w8 (get_or xs k 0)) (start : 3 ≤ place) (within : place + 16 ≤ length xs) where
-  pub loaded_bits : (mask s : ℕ) → AreBits mask (λ k. ends_unit (get_or (chunk (place - 1) 16 xs) k 0) (get_or (chunk place 16 xs) k 0) && leb s k)
-      → AreBits mask (λ k. ends_unit (get_or xs (place - 1 + k) 0) (get_or xs (place + k) 0) && leb s k)
-  loaded_bits mask s bits k lt = rw (get_or-chunk (place - 1) 16 xs k 0 lt, get_or-chunk place 16 xs k 0 lt) at (bits k lt)
-
-  pub loaded_long_low : {low : List ℕ} → AreLanes low (lane_of_three unit_low (chunk (place - 2) 16 xs) (chunk (place - 1) 16 xs) (chunk place 16 xs)) → AreLanes low (unit_low_at xs place)
-  loaded_long_low lows = record {
-    wide = lows.wide;
-    each = λ k lt. rw (get_or-chunk (place - 2) 16 xs k 0 lt, get_or-chunk (place - 1) 16 xs k 0 lt, get_or-chunk place 16 xs k 0 lt) at (lows.each k lt);
-  }
-
-  pub loaded_long_high : {high : List ℕ}
-      → AreLanes high (lane_of_four unit_high (chunk (place - 3) 16 xs) (chunk (place - 2) 16 xs) (chunk (place - 1) 16 xs) (chunk place 16 xs)) → AreLanes high (unit_high_at xs place)
-  loaded_long_high highs = record {
-    wide = highs.wide;
-    each = λ k lt.
-        rw (get_or-chunk (place - 3) 16 xs k 0 lt, get_or-chunk (place - 2) 16 xs k 0 lt, get_or-chunk (place - 1) 16 xs k 0 lt, get_or-chunk place 16 xs k 0 lt) at (highs.each k lt);
-  }
-
-  -- Where no byte begins a code of four.
-
+module _ (third second : List ℕ) (p : length third ≡ 16) (q : length second ≡ 16) where
   abbrev greater : List ℕ
-  greater = where_below (chunk (place - 2) 16 xs) (chunk (place - 3) 16 xs) (chunk (place - 3) 16 xs) (chunk (place - 2) 16 xs)
+  greater = where_below second third third second
 
   abbrev longest_mask : ℕ
   longest_mask = reach_mask 16 0xF0 greater
 
-  greater_len : length greater ≡ 16
-  greater_len =
-      where_below_len (chunk (place - 2) 16 xs) (chunk (place - 3) 16 xs) (chunk (place - 3) 16 xs) (chunk (place - 2) 16 xs)
-      (length-chunk (place - 2) 16 xs (omega arith)) (length-chunk (place - 3) 16 xs (omega arith)) (length-chunk (place - 3) 16 xs (omega arith)) (length-chunk (place - 2) 16 xs (omega arith))
-
   greater_low : longest_mask ≡ 0 → (k : ℕ) → k < 16 → get_or greater k 0 < 0xF0
-  greater_low none k lt = none_reach 0xF0 greater (lit< tt) greater_len none k lt
+  greater_low none k lt = none_reach 0xF0 greater (lit< tt) (where_below_len second third third second q p p q) none k lt
 
   both_low : (a b : ℕ) (t : Bool) → ltb b a ≡ t → cond t a b < 0xF0 → (a < 0xF0) × (b < 0xF0)
   both_low a b true e h = let below = ltb-true b a e in (h, omega arith)
   both_low a b false e h = let above = ltb-false b a e in (omega arith, h)
 
-  short_here : longest_mask ≡ 0 → (k : ℕ) → k < 16 → (get_or xs (place - 3 + k) 0 < 0xF0) × (get_or xs (place - 2 + k) 0 < 0xF0)
+  short_here : longest_mask ≡ 0 → (k : ℕ) → k < 16 → (get_or third k 0 < 0xF0) × (get_or second k 0 < 0xF0)
   short_here none k lt =
-      let at = where_below_at (chunk (place - 2) 16 xs) (chunk (place - 3) 16 xs) (chunk (place - 3) 16 xs) (chunk (place - 2) 16 xs)
-      (length-chunk (place - 2) 16 xs (omega arith)) (length-chunk (place - 3) 16 xs (omega arith)) (length-chunk (place - 3) 16 xs (omega arith)) (length-chunk (place - 2) 16 xs (omega arith)) k lt in
-      let low : cond (ltb (get_or (chunk (place - 2) 16 xs) k 0) (get_or (chunk (place - 3) 16 xs) k 0)) (get_or (chunk (place - 3) 16 xs) k 0) (get_or (chunk (place - 2) 16 xs) k 0) < 0xF0 = rw at at (greater_low none k lt) in
-      both_low (get_or xs (place - 3 + k) 0) (get_or xs (place - 2 + k) 0) _ refl (rw (get_or-chunk (place - 2) 16 xs k 0 lt, get_or-chunk (place - 3) 16 xs k 0 lt) at low)
+      let low : cond (ltb (get_or second k 0) (get_or third k 0)) (get_or third k 0) (get_or second k 0) < 0xF0
+      = rw (where_below_at second third third second q p p q k lt) at (greater_low none k lt) in
+      both_low (get_or third k 0) (get_or second k 0) _ refl low
 
   short_low : (b c d : ℕ) → b < 0xF0 → low_half c d ≡ unit_low b c d
   short_low b c d lt = grind (arith, common_steps)
@@ -165,19 +139,60 @@ module _ (xs : List ℕ) (place : ℕ) (fits : (k : ℕ) → Fits w8 (get_or xs 
   short_high : (a b c d : ℕ) → a < 0xF0 → b < 0xF0 → high_half b c d ≡ unit_high a b c d
   short_high a b c d la lb = grind (arith, common_steps)
 
-  pub loaded_low : longest_mask ≡ 0 → {low : List ℕ} → AreLanes low (lane_of_two low_half (chunk (place - 1) 16 xs) (chunk place 16 xs)) → AreLanes low (unit_low_at xs place)
-  loaded_low none lows = record {
+  pub short_lows : longest_mask ≡ 0 → (first here : List ℕ) → {low : List ℕ} → AreLanes low (lane_of_two low_half first here) → AreLanes low (lane_of_three unit_low second first here)
+  short_lows none first here lows = record {
     wide = lows.wide;
-    each = λ k lt.
-        rw (get_or-chunk (place - 1) 16 xs k 0 lt, get_or-chunk place 16 xs k 0 lt) at (lows.each k lt)
-        ∙ short_low (get_or xs (place - 2 + k) 0) (get_or xs (place - 1 + k) 0) (get_or xs (place + k) 0) (short_here none k lt).1;
+    each = λ k lt. lows.each k lt ∙ short_low (get_or second k 0) (get_or first k 0) (get_or here k 0) (short_here none k lt).1;
   }
 
-  pub loaded_high : longest_mask ≡ 0 → {high : List ℕ} → AreLanes high (lane_of_three high_half (chunk (place - 2) 16 xs) (chunk (place - 1) 16 xs) (chunk place 16 xs))
-      → AreLanes high (unit_high_at xs place)
-  loaded_high none highs = record {
+  pub short_highs : longest_mask ≡ 0 → (first here : List ℕ) → {high : List ℕ} → AreLanes high (lane_of_three high_half second first here) → AreLanes high (lane_of_four unit_high third second first here)
+  short_highs none first here highs = record {
     wide = highs.wide;
     each = λ k lt.
-        rw (get_or-chunk (place - 2) 16 xs k 0 lt, get_or-chunk (place - 1) 16 xs k 0 lt, get_or-chunk place 16 xs k 0 lt) at (highs.each k lt)
-        ∙ short_high (get_or xs (place - 3 + k) 0) (get_or xs (place - 2 + k) 0) (get_or xs (place - 1 + k) 0) (get_or xs (place + k) 0) (short_here none k lt).0 (short_here none k lt).1;
+        highs.each k lt ∙ short_high (get_or third k 0) (get_or second k 0) (get_or first k 0) (get_or here k 0) (short_here none k lt).0 (short_here none k lt).1;
   }
+
+-- Lanes that were loaded, and the bytes in them.
+
+module _ {third second first here xs : List ℕ} {place : ℕ} (loaded : AreLoaded third second first here xs place) where
+  third_at : (k : ℕ) → k < 16 → get_or third k 0 ≡ get_or xs (place - 3 + k) 0
+  third_at k lt = ap (λ v. get_or v k 0) loaded.third ∙ get_or-chunk (place - 3) 16 xs k 0 lt
+
+  second_at : (k : ℕ) → k < 16 → get_or second k 0 ≡ get_or xs (place - 2 + k) 0
+  second_at k lt = ap (λ v. get_or v k 0) loaded.second ∙ get_or-chunk (place - 2) 16 xs k 0 lt
+
+  first_at : (k : ℕ) → k < 16 → get_or first k 0 ≡ get_or xs (place - 1 + k) 0
+  first_at k lt = ap (λ v. get_or v k 0) loaded.first ∙ get_or-chunk (place - 1) 16 xs k 0 lt
+
+  here_at : (k : ℕ) → k < 16 → get_or here k 0 ≡ get_or xs (place + k) 0
+  here_at k lt = ap (λ v. get_or v k 0) loaded.here ∙ get_or-chunk place 16 xs k 0 lt
+
+  pub loaded_bits : (mask s : ℕ) → AreBits mask (λ k. ends_unit (get_or first k 0) (get_or here k 0) && leb s k)
+      → AreBits mask (λ k. ends_unit (get_or xs (place - 1 + k) 0) (get_or xs (place + k) 0) && leb s k)
+  loaded_bits mask s bits k lt = rw (first_at k lt, here_at k lt) at (bits k lt)
+
+  pub loaded_lows : {low : List ℕ} → AreLanes low (lane_of_three unit_low second first here) → AreLanes low (unit_low_at xs place)
+  loaded_lows lows = record { wide = lows.wide; each = λ k lt. rw (second_at k lt, first_at k lt, here_at k lt) at (lows.each k lt) }
+
+  pub loaded_highs : {high : List ℕ} → AreLanes high (lane_of_four unit_high third second first here) → AreLanes high (unit_high_at xs place)
+  loaded_highs highs = record { wide = highs.wide; each = λ k lt. rw (third_at k lt, second_at k lt, first_at k lt, here_at k lt) at (highs.each k lt) }
+
+-- Vectors before sixteen bytes that NULs stand before have what would be loaded there.
+
+front_same : (v xs : List ℕ) (p : ℕ) → length v ≡ 16 → p + 16 ≤ length xs → ((k : ℕ) → k < 16 → get_or v k 0 ≡ get_or xs (p + k) 0) → v ≡ chunk p 16 xs
+front_same v xs p wide within lanes =
+    ext_get_or 0 v (chunk p 16 xs) (wide ∙ sym (length-chunk p 16 xs within)) (λ k lt. let below : k < 16 = omega (arith, wide) in lanes k below ∙ sym (get_or-chunk p 16 xs k 0 below))
+
+pub front_loaded : (third second first here : List ℕ) → length third ≡ 16 → length second ≡ 16 → length first ≡ 16 → length here ≡ 16
+    → ((k : ℕ) → k < 16 → get_or first k 0 ≡ get_or (0 ∷ 0 ∷ 0 ∷ here) (k + 2) 0) → ((k : ℕ) → k < 16 → get_or second k 0 ≡ get_or (0 ∷ 0 ∷ 0 ∷ here) (k + 1) 0)
+    → ((k : ℕ) → k < 16 → get_or third k 0 ≡ get_or (0 ∷ 0 ∷ 0 ∷ here) k 0) → AreLoaded third second first here (0 ∷ 0 ∷ 0 ∷ here) 3
+front_loaded third second first here p q r s f g h =
+    let xs = 0 ∷ 0 ∷ 0 ∷ here in
+    record {
+      start = omega arith;
+      within = omega (arith, s);
+      third = front_same third xs 0 p (omega (arith, s)) (λ k lt. h k lt ∙ ap (λ n. get_or xs n 0) (omega arith));
+      second = front_same second xs 1 q (omega (arith, s)) (λ k lt. g k lt ∙ ap (λ n. get_or xs n 0) (omega arith));
+      first = front_same first xs 2 r (omega (arith, s)) (λ k lt. f k lt ∙ ap (λ n. get_or xs n 0) (omega arith));
+      here = sym (take_all 16 here (omega (arith, s)));
+    }

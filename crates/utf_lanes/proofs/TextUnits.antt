@@ -1,9 +1,9 @@
 -- The codes in UTF-16 of some text are what its places give, in order.
-use Rattle.std.proofs.Common.{◌≡◌, ℕ, suc, ◌+◌, ◌-◌, ◌*◌, ◌/◌, ◌%◌, ◌<◌, ◌≤◌, Bool, true, false, cond, ltb, ◌⊎◌, List, [], ◌∷◌, ◌++◌, length, get_or, take, drop, flat_map, arith, refl, sym, ap, ap₂, ◌∙◌, inl, inr, append_assoc, length-append, ltb-true, ltb-false}
+use Rattle.std.proofs.Common.{◌≡◌, ℕ, zero, suc, ◌+◌, ◌-◌, ◌*◌, ◌/◌, ◌%◌, ◌<◌, ◌≤◌, Bool, true, false, cond, ltb, ◌⊎◌, List, [], ◌∷◌, ◌++◌, length, get_or, take, drop, replicate, flat_map, arith, refl, sym, ap, ap₂, ◌∙◌, inl, inr, append_assoc, length-append, ltb-true, ltb-false}
 use Rattle.std.proofs.Math.Seq.{drop-append_seam}
 use Rattle.std.proofs.lemmas.Bool.{cases_lt}
 use Rattle.std.proofs.lemmas.Grind.{common_steps}
-use Rattle.std.proofs.lemmas.List.{append-nil, drop-drop, get_or-drop, get_or-take}
+use Rattle.std.proofs.lemmas.List.{append-nil, drop-drop, get_or-append_right, get_or-drop, get_or-take, length-replicate}
 use Rattle.std.specs.Prelude.{All}
 use Rattle.utf_base.specs.Code.{utf8, utf16}
 use Rattle.utf_base.specs.Scalar.{IsScalar}
@@ -42,6 +42,31 @@ same_at high front zs i lt w =
 -- the first sixteen
 pub given_first : (high : Bool) (xs front : List ℕ) → front ≡ 0 ∷ 0 ∷ 0 ∷ take 16 xs → concat_range (utf16_bytes_at high front) 0 16 ≡ utf16_bytes high xs 0 16
 given_first high xs front e = joined_same (utf16_bytes_at high front) (utf16_bytes_at high (0 ∷ 0 ∷ 0 ∷ xs)) 0 16 (λ i ge lt. same_at high front (0 ∷ 0 ∷ 0 ∷ xs) i (omega arith) e)
+
+-- the last ones after NULs
+nuls_before : (m : ℕ) (xs : List ℕ) → 0 ∷ 0 ∷ 0 ∷ (replicate m 0 ++ xs) ≡ replicate m 0 ++ (0 ∷ 0 ∷ 0 ∷ xs)
+nuls_before zero xs = refl
+nuls_before (suc m) xs = ap (λ ys. 0 ∷ ys) (nuls_before m xs)
+
+moved_at : (high : Bool) (xs : List ℕ) (m k : ℕ) → utf16_bytes_at high (replicate m 0 ++ xs) (m + k) ≡ utf16_bytes_at high xs k
+unfolding utf16_bytes_at
+moved_at high xs m k =
+    let nuls : List ℕ = replicate m 0 in
+    let len : length nuls ≡ m = length-replicate m 0 in
+    let at : (j : ℕ) → get_or (nuls ++ xs) (m + j) 0 ≡ get_or xs j 0 = λ j. let back : m + j - m ≡ j = omega arith in get_or-append_right nuls xs m (m + j) 0 len (omega arith) ∙ ap (λ n. get_or xs n 0) back in
+    let b : m + k + 1 ≡ m + (k + 1) = omega arith in
+    let c : m + k + 2 ≡ m + (k + 2) = omega arith in
+    let d : m + k + 3 ≡ m + (k + 3) = omega arith in
+    rw (b, c, d, at k, at (k + 1), at (k + 2), at (k + 3)) refl
+
+pub given_few : (high : Bool) (xs here : List ℕ) (m : ℕ) → m + length xs ≡ 16 → here ≡ replicate m 0 ++ xs
+    → concat_range (utf16_bytes_at high (0 ∷ 0 ∷ 0 ∷ here)) (3 - 3 + m) (16 - m) ≡ utf16_bytes high xs 0 (length xs)
+given_few high xs here m whole e =
+    let n : 16 - m ≡ length xs = omega arith in
+    let start : 3 - 3 + m ≡ m = omega arith in
+    rw (n, start, e, nuls_before m xs)
+    (joined_moved (utf16_bytes_at high (replicate m 0 ++ (0 ∷ 0 ∷ 0 ∷ xs))) (utf16_bytes_at high (0 ∷ 0 ∷ 0 ∷ xs)) m 0 (length xs)
+    (λ i lt. let at : 0 + i ≡ i = omega arith in rw at (moved_at high (0 ∷ 0 ∷ 0 ∷ xs) m i)))
 
 pub given_nothing : (high : Bool) (xs old : List ℕ) (p : ℕ) → old ≡ old ++ utf16_bytes high xs p 0
 unfolding concat_range

@@ -1,5 +1,5 @@
 -- Text in UTF-8 as units of UTF-16: which unit the byte at a place gives, by it and the three before it.
-use Rattle.std.specs.Prelude.{◌≡◌, ℕ, suc, zero, ◌+◌, ◌-◌, ◌*◌, ◌/◌, ◌%◌, Bool, ◌&&◌, if◌then◌else◌, List, [], ◌∷◌, ◌++◌, nat_lt, nat_eq, slice_index, ◌<◌, ◌≤◌, take, count_ones}
+use Rattle.std.specs.Prelude.{◌≡◌, ℕ, suc, zero, ◌+◌, ◌-◌, ◌*◌, ◌/◌, ◌%◌, Bool, ◌&&◌, if◌then◌else◌, List, [], ◌∷◌, ◌++◌, nat_lt, nat_eq, slice_index, ◌<◌, ◌≤◌, length, take, drop, count_ones}
 use Rattle.std.specs.Int.{bit_at}
 use Rattle.utf_lanes.specs.declared.text_units.UnitBytes.{UnitBytes}
 
@@ -69,6 +69,15 @@ utf16_bytes_at high_first xs k =
 -- what the sixteen bytes from the place on give, but for the first of them, which are skipped
 abbrev pub block_bytes : Bool → List ℕ → ℕ → ℕ → List ℕ
 block_bytes high_first xs place skipped = concat_range (utf16_bytes_at high_first xs) (place - 3 + skipped) (16 - skipped)
+
+-- Four vectors have sixteen bytes from the place on, in the last, and those one, two and three places before each.
+pub record AreLoaded (a b c d xs : List ℕ) (place : ℕ) : Type 0 where
+  pub start : 3 ≤ place
+  pub within : place + 16 ≤ length xs
+  pub third : a ≡ take 16 (drop (place - 3) xs)
+  pub second : b ≡ take 16 (drop (place - 2) xs)
+  pub first : c ≡ take 16 (drop (place - 1) xs)
+  pub here : d ≡ take 16 (drop place xs)
 
 -- the bytes that half a block gives
 abbrev pub given : UnitBytes → List ℕ

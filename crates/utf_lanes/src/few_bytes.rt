@@ -46,6 +46,9 @@ pub(crate) fn fours(bytes: &[u8]) -> u8x16
 // What stands one, two and three places before each lane, with NULs before the first.
 #[inline(always)]
 pub(crate) fn before_lanes(here: u8x16) -> (u8x16, u8x16, u8x16)
+    ensures first_len { length result.0 ≡ 16 }
+    ensures second_len { length result.1 ≡ 16 }
+    ensures third_len { length result.2 ≡ 16 }
     ensures first { (k : ℕ) → k < 16 → slice_index result.0 k ≡ slice_index (0 ∷ 0 ∷ 0 ∷ here) (k + 2) }
     ensures second { (k : ℕ) → k < 16 → slice_index result.1 k ≡ slice_index (0 ∷ 0 ∷ 0 ∷ here) (k + 1) }
     ensures third { (k : ℕ) → k < 16 → slice_index result.2 k ≡ slice_index (0 ∷ 0 ∷ 0 ∷ here) k }

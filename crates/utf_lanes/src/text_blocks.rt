@@ -140,9 +140,9 @@ fn last_start(bytes: &[u8]) -> usize
     few_chars(bytes, bytes.len() - 16)
 }
 
-// Whether the bytes are text, judged at once; no where they are more than sixteen.
+/// Whether the bytes are text, judged at once; no where they are more than sixteen.
 #[inline(always)]
-fn are_text(bytes: &[u8]) -> bool
+pub fn are_text(bytes: &[u8]) -> bool
     ensures { IsTrue result → IsUtf8 bytes.now }
 {
     if bytes.len() < 4 {

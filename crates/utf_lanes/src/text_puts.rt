@@ -3,7 +3,8 @@ ghost use Rattle.std.specs.Prelude.{◌≡◌, ◌+◌, ◌-◌, ◌*◌, ◌<�
 ghost use Rattle.utf_lanes.specs.UnitCodes.{Writes};
 ghost use Rattle.utf_lanes.specs.Utf8ToUtf16.{given, utf16_bytes};
 
-use crate::text_units::{UnitBytes, block_units, padded_front};
+use crate::few_bytes::padded_text;
+use crate::text_units::{UnitBytes, block_units, front_units};
 use std::simd::prelude::*;
 
 /// Writes the units of the first sixteen places to the front of the room. Answers where they end.
@@ -15,8 +16,23 @@ pub fn write_first(high_first: bool, text: &[u8], room: &mut [u8]) -> usize
     ensures units { take result room.new ≡ utf16_bytes high_first text.now 0 16 }
     ensures most { result ≤ 32 }
 {
-    let front = padded_front(text);
-    let (left, right) = block_units(high_first, &front, 3, 0);
+    let (left, right) = front_units(high_first, u8x16::from_slice(text), 0);
+    let middle = write_half(&left, room, 0);
+    write_half(&right, room, middle)
+}
+
+/// Writes the units of four to sixteen bytes, which are all of some text, to the front of the room. Answers where they end.
+#[inline(always)]
+pub fn write_few(high_first: bool, text: &[u8], room: &mut [u8]) -> usize
+    requires some { 4 ≤ length text.now }
+    requires few { length text.now ≤ 16 }
+    requires room { 32 ≤ length room.old }
+    ensures len { length room.new ≡ length room.old }
+    ensures units { take result room.new ≡ utf16_bytes high_first text.now 0 (length text.now) }
+    ensures most { result ≤ 32 }
+{
+    let nuls = 16 - text.len();
+    let (left, right) = front_units(high_first, padded_text(text), nuls);
     let middle = write_half(&left, room, 0);
     write_half(&right, room, middle)
 }
@@ -43,7 +59,7 @@ pub fn write_64(high_first: bool, text: &[u8], place: usize, room: &mut [u8]) ->
 pub fn write_rest(high_first: bool, text: &[u8], start: usize, room: &mut [u8], at: usize) -> usize
     requires start { 16 ≤ start }
     requires within { start ≤ length text.now }
-    requires long { 32 ≤ length text.now }
+    requires long { 19 ≤ length text.now }
     requires room { at + 2 * (length text.now - start) + 32 ≤ length room.old }
     ensures written { Writes room.old room.new at result
         (utf16_bytes high_first text.now start (length text.now - start)) }

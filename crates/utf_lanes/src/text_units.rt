@@ -1,9 +1,10 @@
 //! Text in UTF-8 as UTF-16, sixteen bytes at once, and 64 where they are ASCII.
-ghost use Rattle.std.specs.Prelude.{◌≡◌, ℕ, ◌+◌, ◌-◌, ◌*◌, ◌<◌, ◌≤◌, ◌&&◌, ◌++◌, ◌∷◌, nat_le, length, take, slice_index, count_ones};
+ghost use Rattle.std.specs.Prelude.{◌≡◌, ℕ, ◌+◌, ◌-◌, ◌*◌, ◌<◌, ◌≤◌, ◌&&◌, ◌++◌, ◌∷◌, List, nat_le, length, take, slice_index, count_ones};
 ghost use Rattle.utf_lanes.specs.Lanes.{AreBits, AreLanes, ArePairs, lane_of_two, lane_of_three, lane_of_four};
-ghost use Rattle.utf_lanes.specs.Utf8ToUtf16.{utf16_bytes, concat_range, IsRow, block_bytes, ends_unit, given, halves, halves_at, low_half, high_half, unit_low, unit_high, unit_low_at, unit_high_at, pair_at, places_at, leading_low, leading_high, trailing_high};
+ghost use Rattle.utf_lanes.specs.Utf8ToUtf16.{AreLoaded, utf16_bytes, concat_range, IsRow, block_bytes, ends_unit, given, halves, halves_at, low_half, high_half, unit_low, unit_high, pair_at, places_at, leading_low, leading_high, trailing_high};
 ghost use Rattle.utf_lanes.specs.TextBlocks.{EndsCharacter};
 
+use crate::few_bytes::before_lanes;
 use crate::shuffles::COMPRESS_PAIRS;
 use std::simd::prelude::*;
 
@@ -32,9 +33,42 @@ pub(crate) fn block_units(
     ensures units { given result.0 ++ given result.1 ≡ block_bytes high_first bytes.now place skipped }
 {
     let here = u8x16::from_slice(&bytes[place..]);
-    let before = u8x16::from_slice(&bytes[place - 1..]);
-    let (low, high) = unit_halves(bytes, place);
-    let mask = mask_of_unit_ends(before, here, skipped);
+    let first = u8x16::from_slice(&bytes[place - 1..]);
+    let second = u8x16::from_slice(&bytes[place - 2..]);
+    let third = u8x16::from_slice(&bytes[place - 3..]);
+    lane_units(high_first, third, second, first, here, skipped)
+}
+
+// The same of sixteen bytes that NULs stand before. No copy of them is loaded, for which a processor would wait.
+#[inline(always)]
+pub(crate) fn front_units(high_first: bool, here: u8x16, skipped: usize) -> (UnitBytes, UnitBytes)
+    requires few { skipped < 16 }
+    ensures first { result.0.len ≤ 16 }
+    ensures second { result.1.len ≤ 16 }
+    ensures units { given result.0 ++ given result.1 ≡ block_bytes high_first (0 ∷ 0 ∷ 0 ∷ here) 3 skipped }
+{
+    let (first, second, third) = before_lanes(here);
+    lane_units(high_first, third, second, first, here, skipped)
+}
+
+// The same of the bytes in the last of four vectors, by those that stand before them.
+#[inline(always)]
+fn lane_units(
+    high_first: bool,
+    third: u8x16,
+    second: u8x16,
+    first: u8x16,
+    here: u8x16,
+    skipped: usize,
+) -> (UnitBytes, UnitBytes)
+    requires few { skipped < 16 }
+    ensures first { result.0.len ≤ 16 }
+    ensures second { result.1.len ≤ 16 }
+    ensures units { (xs : List ℕ) (place : ℕ) → AreLoaded third second first here xs place →
+        given result.0 ++ given result.1 ≡ block_bytes high_first xs place skipped }
+{
+    let (low, high) = lane_halves(third, second, first, here);
+    let mask = mask_of_unit_ends(first, here, skipped);
     let (front, back) = paired(high_first, low, high);
     (
         compressed_pairs(front, mask & 255),
@@ -70,16 +104,10 @@ fn mask_of_unit_ends(before: u8x16, here: u8x16, skipped: usize) -> usize
 
 // The low and high halves of the units.
 #[inline(always)]
-fn unit_halves(bytes: &[u8], place: usize) -> (u8x16, u8x16)
-    requires start { 3 ≤ place }
-    requires within { place + 16 ≤ length bytes.now }
-    ensures low { AreLanes result.0 (unit_low_at bytes.now place) }
-    ensures high { AreLanes result.1 (unit_high_at bytes.now place) }
+fn lane_halves(third: u8x16, second: u8x16, first: u8x16, here: u8x16) -> (u8x16, u8x16)
+    ensures low { AreLanes result.0 (lane_of_three unit_low second first here) }
+    ensures high { AreLanes result.1 (lane_of_four unit_high third second first here) }
 {
-    let here = u8x16::from_slice(&bytes[place..]);
-    let first = u8x16::from_slice(&bytes[place - 1..]);
-    let second = u8x16::from_slice(&bytes[place - 2..]);
-    let third = u8x16::from_slice(&bytes[place - 3..]);
     if second
         .simd_max(third)
         .simd_ge(u8x16::splat(0xf0))
@@ -169,17 +197,6 @@ fn compress_places(mask: usize) -> [u8; 16]
     ensures { IsRow result mask (2 * count_ones mask) 8 (places_at mask) }
 {
     COMPRESS_PAIRS[mask]
-}
-
-// The first sixteen bytes after three NULs.
-#[inline(always)]
-pub(crate) fn padded_front(text: &[u8]) -> [u8; 19]
-    requires { 16 ≤ length text.now }
-    ensures { result ≡ 0 ∷ 0 ∷ 0 ∷ take 16 text.now }
-{
-    let mut front = [0; 19];
-    front[3..].copy_from_slice(&text[..16]);
-    front
 }
 
 /// The units of 64 bytes of ASCII: each byte and a NUL.

@@ -1,4 +1,4 @@
-use Rattle.std.proofs.Common.{◌∙◌}
+use Rattle.std.proofs.Common.{◌∙◌, refl}
 use Rattle.utf_lanes.proofs.TextUnits.{Writes-then, given_first}
 use Rattle.utf_lanes.proofs.text_puts.write_first.Goals as goal
 
@@ -6,5 +6,5 @@ pub returns-clause-units : goal.returns-clause-units
 returns-clause-units c =
     let written =
     Writes-then c.write_half-middle.ensures.written c.write_half.ensures.written
-    (c.block_units.ensures.units ∙ given_first c.args.high_first c.args.text.now _ c.padded_front-front.ensures) in
+    (c.front_units.ensures.units ∙ given_first c.args.high_first c.args.text.now _ refl) in
     written.front
