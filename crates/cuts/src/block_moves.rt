@@ -1,4 +1,4 @@
-//! Moves of many items within a list, a block at a time.
+//! Moves of the items of a list by some places.
 ghost use Rattle.std.specs.List.{copy_within};
 ghost use Rattle.std.specs.Prelude.{◌≡◌, ◌+◌, ◌-◌, ◌≤◌, ◌<◌, length};
 
@@ -6,53 +6,140 @@ ghost use Rattle.std.specs.Prelude.{◌≡◌, ◌+◌, ◌-◌, ◌≤◌, ◌<
 const BLOCK: usize = 256;
 
 /// Moves the items from `from` to `end` so that they begin at `to`. What stood there is lost.
-///
-/// The block goes by way of the stack, since `copy_within` of std moves item by item.
 pub(crate) fn move_items<T: Copy + Drop>(items: &mut [T], from: usize, end: usize, to: usize)
     requires ordered { from ≤ end }
     requires within { end ≤ length items.old }
     requires room { to + (end - from) ≤ length items.old }
     ensures { items.new ≡ copy_within items.old from end to }
 {
-    if end - from < BLOCK {
-        items.copy_within(from..end, to);
-    } else if to < from {
-        move_down(items, from, end, to);
+    if to < from {
+        move_down(&mut items[to..end], from - to);
     } else {
-        move_up(items, from, end, to);
+        move_up(&mut items[from..to + (end - from)], to - from);
     }
 }
 
-// The same to a place before, from the first block on.
-fn move_down<T: Copy + Drop>(items: &mut [T], from: usize, end: usize, to: usize)
-    requires some { from < end }
-    requires within { end ≤ length items.old }
-    requires down { to ≤ from }
-    ensures { items.new ≡ copy_within items.old from end to }
+// Moves the items so many places on. The last ones are lost.
+fn move_up<T: Copy + Drop>(items: &mut [T], gap: usize)
+    requires within { gap ≤ length items.old }
+    ensures { items.new ≡ copy_within items.old 0 (length items.old - gap) gap }
 {
-    let mut block = [items[from]; BLOCK];
-    let mut next = from;
-    while end - next >= BLOCK {
-        move_block(items, next, to + (next - from), &mut block);
+    match gap {
+        1 => move_up_by::<T, 1>(items),
+        2 => move_up_by::<T, 2>(items),
+        3 => move_up_by::<T, 3>(items),
+        4 => move_up_by::<T, 4>(items),
+        5 => move_up_by::<T, 5>(items),
+        6 => move_up_by::<T, 6>(items),
+        7 => move_up_by::<T, 7>(items),
+        8 => move_up_by::<T, 8>(items),
+        _ => move_blocks_up(items, gap),
+    }
+}
+
+// Moves the items so many places back. The first ones are lost.
+fn move_down<T: Copy + Drop>(items: &mut [T], gap: usize)
+    requires within { gap ≤ length items.old }
+    ensures { items.new ≡ copy_within items.old gap (length items.old) 0 }
+{
+    match gap {
+        1 => move_down_by::<T, 1>(items),
+        2 => move_down_by::<T, 2>(items),
+        3 => move_down_by::<T, 3>(items),
+        4 => move_down_by::<T, 4>(items),
+        5 => move_down_by::<T, 5>(items),
+        6 => move_down_by::<T, 6>(items),
+        7 => move_down_by::<T, 7>(items),
+        8 => move_down_by::<T, 8>(items),
+        _ => move_blocks_down(items, gap),
+    }
+}
+
+// The same by a gap that a compiler knows: of these loops it then makes one call of `memmove`. For that a chunk is as long as the
+// gap, so that a chunk and its new place are apart, and the chunks begin with the first item, whose address is known.
+fn move_up_by<T: Copy + Drop, const GAP: usize>(items: &mut [T])
+    requires some { 0 < GAP }
+    requires within { GAP ≤ length items.old }
+    ensures { items.new ≡ copy_within items.old 0 (length items.old - GAP) GAP }
+{
+    let count = items.len() - GAP;
+    let mut left = count / GAP;
+    items.copy_within(left * GAP..count, left * GAP + GAP);
+    while left > 0 {
+        left -= 1;
+        move_chunk_up::<T, GAP>(items, left * GAP);
+    }
+}
+
+fn move_down_by<T: Copy + Drop, const GAP: usize>(items: &mut [T])
+    requires some { 0 < GAP }
+    requires within { GAP ≤ length items.old }
+    ensures { items.new ≡ copy_within items.old GAP (length items.old) 0 }
+{
+    let len = items.len();
+    let chunks = (len - GAP) / GAP;
+    let mut next = 0;
+    while next < chunks {
+        move_chunk_down::<T, GAP>(items, next * GAP);
+        next += 1;
+    }
+    items.copy_within(next * GAP + GAP..len, next * GAP);
+}
+
+#[inline(always)]
+fn move_chunk_up<T: Copy + Drop, const GAP: usize>(items: &mut [T], from: usize)
+    requires room { from + GAP + GAP ≤ length items.old }
+    ensures { items.new ≡ copy_within items.old from (from + GAP) (from + GAP) }
+{
+    let (front, back) = items.split_at_mut(from + GAP);
+    back[..GAP].copy_from_slice(&front[from..]);
+}
+
+#[inline(always)]
+fn move_chunk_down<T: Copy + Drop, const GAP: usize>(items: &mut [T], to: usize)
+    requires within { to + GAP + GAP ≤ length items.old }
+    ensures { items.new ≡ copy_within items.old (to + GAP) (to + GAP + GAP) to }
+{
+    let (front, back) = items.split_at_mut(to + GAP);
+    front[to..].copy_from_slice(&back[..GAP]);
+}
+
+// The same by any gap. Blocks go by way of the stack, since `copy_within` moves item by item here; from the first on.
+fn move_blocks_down<T: Copy + Drop>(items: &mut [T], gap: usize)
+    requires within { gap ≤ length items.old }
+    ensures { items.new ≡ copy_within items.old gap (length items.old) 0 }
+{
+    let len = items.len();
+    if len - gap < BLOCK {
+        items.copy_within(gap..len, 0);
+        return;
+    }
+    let mut block = [items[0]; BLOCK];
+    let mut next = gap;
+    while len - next >= BLOCK {
+        move_block(items, next, next - gap, &mut block);
         next += BLOCK;
     }
-    items.copy_within(next..end, to + (next - from));
+    items.copy_within(next..len, next - gap);
 }
 
-// The same to a place after, from the last block on.
-fn move_up<T: Copy + Drop>(items: &mut [T], from: usize, end: usize, to: usize)
-    requires some { from < end }
-    requires up { from ≤ to }
-    requires room { to + (end - from) ≤ length items.old }
-    ensures { items.new ≡ copy_within items.old from end to }
+// From the last block on.
+fn move_blocks_up<T: Copy + Drop>(items: &mut [T], gap: usize)
+    requires within { gap ≤ length items.old }
+    ensures { items.new ≡ copy_within items.old 0 (length items.old - gap) gap }
 {
-    let mut block = [items[from]; BLOCK];
-    let mut left = end - from;
+    let count = items.len() - gap;
+    if count < BLOCK {
+        items.copy_within(0..count, gap);
+        return;
+    }
+    let mut block = [items[0]; BLOCK];
+    let mut left = count;
     while left >= BLOCK {
         left -= BLOCK;
-        move_block(items, from + left, to + left, &mut block);
+        move_block(items, left, gap + left, &mut block);
     }
-    items.copy_within(from..from + left, to);
+    items.copy_within(0..left, gap);
 }
 
 // Moves one block by way of `block`.
