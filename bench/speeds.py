@@ -55,6 +55,11 @@ def stored(name, keys):
     return found
 
 
+def marked_ratio(ratio):
+    """A ratio, bold where ours is slower."""
+    return f"**{ratio:.2f}**" if ratio > 1 else f"{ratio:.2f}"
+
+
 def table(heads, rows):
     lines = ["| " + " | ".join(heads) + " |", "|" + "---|" * len(heads)]
     return "\n".join(lines + ["| " + " | ".join(it) + " |" for it in rows])
@@ -117,7 +122,7 @@ def short(call):
     lines = []
     for a, b, text in dict.fromkeys(key[:3] for key in found):
         ratios = [found[(a, b, text, str(size), call)] for size in sizes]
-        lines.append([f"{FORMS[a]} to {FORMS[b]}, {text}", *(f"**{it:.2f}**" if it > 1 else f"{it:.2f}" for it in ratios)])
+        lines.append([f"{FORMS[a]} to {FORMS[b]}, {text}", *map(marked_ratio, ratios)])
     lost = sum(it > 1 for it in found.values())
     return table([f"`{call}`", *(f"{it} bytes" if it > 1 else "1 byte" for it in sizes)], lines) + f"\n\n{len(found) - lost} of {len(found)} are no slower."
 
@@ -202,13 +207,12 @@ def summary():
         row = max((it for it in stored(name, keys) if side in it.numbers and holds(it.key)), key=lambda it: it.ratio(side))
         short = row.key[3] if name == "short" else short
         text = f"{TEXTS.get(row.key[2], row.key[2])}, {row.key[3]} bytes, {FORMS[row.key[0]]} to {FORMS[row.key[1]]}" if name == "short" else TEXTS.get(row.key[-1], row.key[-1])
-        lines.append([task, f"{text} (our worst)", NAMES[side], f"{row.numbers['ours']:.2f} ns", f"{row.numbers[side]:.2f} ns", f"**{row.ratio(side):.2f}**"])
+        lines.append([task, f"{text} (our worst)", NAMES[side], f"{row.numbers['ours']:.2f} ns", f"{row.numbers[side]:.2f} ns", marked_ratio(row.ratio(side))])
     for task, work, call, side in [("split into pieces", "decode", "nody_utf8_pieces", "icu"), ("validate UTF-8", "valid-up-to", "nody", "simdutf"),
                                    ("UTF-8 to UTF-16", "utf8-to-utf16le", "nody", "simdutf"), ("UTF-16 to UTF-8", "utf16le-to-utf8", "nody", "simdutf")]:
         row = max((Row((text,), {"ours": float(it[call]), side: float(it[side])}, {}) for text, it in of_c_bench()[work]), key=lambda it: it.ratio(side))
-        ratio = f"{row.ratio(side):.2f}"
         lines.append([f"{task}, from C", f"{TEXTS.get(row.key[0], row.key[0])} (our worst)", NAMES[side], f"{row.numbers['ours']:.2f} ns",
-                      f"{row.numbers[side]:.2f} ns", f"**{ratio}**" if row.ratio(side) > 1 else ratio])
+                      f"{row.numbers[side]:.2f} ns", marked_ratio(row.ratio(side))])
     told = ("Times are nanoseconds per byte. The ratio is our time divided by theirs: above 1 we are slower. It was computed before the times "
             "were rounded. For each task many inputs were measured. A row with \"our worst\" is the input with our highest ratio. In the row "
             f"\"recode one short part\", the time is for all {short} bytes together. Noddychest was called from Rattle, and where a row says so, from C.\n\n")
