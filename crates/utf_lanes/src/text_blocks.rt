@@ -199,7 +199,7 @@ fn valid_len_in_blocks(bytes: &[u8]) -> usize
     if valid_lanes(bytes, 16) < 16 {
         return 16;
     }
-    valid_len_in_stretches(bytes, 32)
+    valid_len_in_batches(bytes, 32)
 }
 
 // The same from a place on, in blocks of 64, to the first in which some byte may not follow.
@@ -224,10 +224,10 @@ fn valid_len_wide(bytes: &[u8], start: usize) -> usize
     place
 }
 
-// The same of a longer text. Whether a block is ASCII is asked between stretches of text alone: after one block of it, then after
+// The same of a longer text. Whether a block is ASCII is asked between batches of text alone: after one block of it, then after
 // two more, and so on up to sixteen. So text with some ASCII blocks in it is not asked for each, which a processor cannot foresee.
 #[inline(always)]
-fn valid_len_in_stretches(bytes: &[u8], start: usize) -> usize
+fn valid_len_in_batches(bytes: &[u8], start: usize) -> usize
     requires start { 3 ≤ start }
     requires within { start ≤ length bytes.now }
     ensures least { start ≤ result }
@@ -242,7 +242,7 @@ fn valid_len_in_stretches(bytes: &[u8], start: usize) -> usize
             reach = 0;
         } else {
             let last = (end + reach).min(bytes.len() - 64);
-            end = stretch_end(bytes, end, last);
+            end = batch_end(bytes, end, last);
             if end <= last {
                 return end;
             }
@@ -255,7 +255,7 @@ fn valid_len_in_stretches(bytes: &[u8], start: usize) -> usize
 // Where the blocks of 64 end in which each byte may follow, of those that begin at the start and up to `last`. The first stands
 // before the loop: so a compiler that takes nothing out of loops has the tables in registers there.
 #[inline(always)]
-fn stretch_end(bytes: &[u8], start: usize, last: usize) -> usize
+fn batch_end(bytes: &[u8], start: usize, last: usize) -> usize
     requires start { 3 ≤ start }
     requires some { start ≤ last }
     requires within { last + 64 ≤ length bytes.now }

@@ -8,4 +8,4 @@ returns-clause-follow c =
     let bytes = c.args.bytes.now in
     let end : 16 + c.valid_lanes.result ≡ 32 = omega arith in
     let before : AllMayFollow bytes 16 32 = rw end at c.valid_lanes.ensures.follow in
-    follow_on bytes 16 32 c.valid_len_in_stretches.result before c.valid_len_in_stretches.ensures.follow
+    follow_on bytes 16 32 c.valid_len_in_batches.result before c.valid_len_in_batches.ensures.follow

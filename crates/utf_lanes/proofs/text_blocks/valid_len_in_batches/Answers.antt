@@ -1,6 +1,6 @@
 use Rattle.std.proofs.Common.{◌+◌, arith}
 use Rattle.utf_lanes.proofs.LaneLemmas.{ascii_block, ascii_on, ascii_follows, follow_on}
-use Rattle.utf_lanes.proofs.text_blocks.valid_len_in_stretches.Goals as goal
+use Rattle.utf_lanes.proofs.text_blocks.valid_len_in_batches.Goals as goal
 
 pub loop-end-preserved-then-ends_character : goal.loop-end-preserved-then-ends_character
 loop-end-preserved-then-ends_character c =

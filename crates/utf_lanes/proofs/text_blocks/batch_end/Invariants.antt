@@ -1,6 +1,6 @@
 use Rattle.std.proofs.Common.{◌-◌, ◌≤◌, length}
 use Rattle.utf_lanes.specs.TextBlocks.{AllMayFollow}
-use Rattle.utf_lanes.proofs.text_blocks.stretch_end.Given as goal
+use Rattle.utf_lanes.proofs.text_blocks.batch_end.Given as goal
 
 abbrev pub invariant-loop-place : goal.invariant-loop-place
 invariant-loop-place l = (l.start ≤ l.place) × (l.place ≤ length l.bytes) × AllMayFollow l.bytes l.start l.place

@@ -1,6 +1,6 @@
 use Rattle.std.proofs.Common.{◌+◌, arith}
 use Rattle.utf_lanes.proofs.LaneLemmas.{follow_on}
-use Rattle.utf_lanes.proofs.text_blocks.stretch_end.Goals as goal
+use Rattle.utf_lanes.proofs.text_blocks.batch_end.Goals as goal
 
 pub loop-place-preserved : goal.loop-place-preserved
 loop-place-preserved c =
