@@ -184,30 +184,17 @@ fn most_widened<O: Output>(is_ample: bool, bytes: &[u8], out: &O) -> usize
 
 // Calls a function under the types of two forms and of the blocks between them, and perhaps of an output.
 macro_rules! by_forms {
-    ($from:expr, $to:expr, $call:ident($($given:expr),*)) => {
+    ($from:expr, $to:expr, $call:ident $(::<$output:ty>)? ($($given:expr),*)) => {
         match ($from, $to) {
-            (Form::Utf8, Form::Utf8) => $call::<Utf8, Utf8, Copied>($($given),*),
-            (Form::Utf8, Form::Utf16Le) => $call::<Utf8, Utf16<false>, Widened>($($given),*),
-            (Form::Utf8, Form::Utf16Be) => $call::<Utf8, Utf16<true>, Widened>($($given),*),
-            (Form::Utf16Le, Form::Utf8) => $call::<Utf16<false>, Utf8, Narrowed>($($given),*),
-            (Form::Utf16Le, Form::Utf16Le) => $call::<Utf16<false>, Utf16<false>, Turned>($($given),*),
-            (Form::Utf16Le, Form::Utf16Be) => $call::<Utf16<false>, Utf16<true>, Turned>($($given),*),
-            (Form::Utf16Be, Form::Utf8) => $call::<Utf16<true>, Utf8, Narrowed>($($given),*),
-            (Form::Utf16Be, Form::Utf16Le) => $call::<Utf16<true>, Utf16<false>, Turned>($($given),*),
-            (Form::Utf16Be, Form::Utf16Be) => $call::<Utf16<true>, Utf16<true>, Turned>($($given),*),
-        }
-    };
-    ($from:expr, $to:expr, $call:ident::<$output:ty>($($given:expr),*)) => {
-        match ($from, $to) {
-            (Form::Utf8, Form::Utf8) => $call::<Utf8, Utf8, Copied, $output>($($given),*),
-            (Form::Utf8, Form::Utf16Le) => $call::<Utf8, Utf16<false>, Widened, $output>($($given),*),
-            (Form::Utf8, Form::Utf16Be) => $call::<Utf8, Utf16<true>, Widened, $output>($($given),*),
-            (Form::Utf16Le, Form::Utf8) => $call::<Utf16<false>, Utf8, Narrowed, $output>($($given),*),
-            (Form::Utf16Le, Form::Utf16Le) => $call::<Utf16<false>, Utf16<false>, Turned, $output>($($given),*),
-            (Form::Utf16Le, Form::Utf16Be) => $call::<Utf16<false>, Utf16<true>, Turned, $output>($($given),*),
-            (Form::Utf16Be, Form::Utf8) => $call::<Utf16<true>, Utf8, Narrowed, $output>($($given),*),
-            (Form::Utf16Be, Form::Utf16Le) => $call::<Utf16<true>, Utf16<false>, Turned, $output>($($given),*),
-            (Form::Utf16Be, Form::Utf16Be) => $call::<Utf16<true>, Utf16<true>, Turned, $output>($($given),*),
+            (Form::Utf8, Form::Utf8) => $call::<Utf8, Utf8, Copied $(, $output)?>($($given),*),
+            (Form::Utf8, Form::Utf16Le) => $call::<Utf8, Utf16<false>, Widened $(, $output)?>($($given),*),
+            (Form::Utf8, Form::Utf16Be) => $call::<Utf8, Utf16<true>, Widened $(, $output)?>($($given),*),
+            (Form::Utf16Le, Form::Utf8) => $call::<Utf16<false>, Utf8, Narrowed $(, $output)?>($($given),*),
+            (Form::Utf16Le, Form::Utf16Le) => $call::<Utf16<false>, Utf16<false>, Turned $(, $output)?>($($given),*),
+            (Form::Utf16Le, Form::Utf16Be) => $call::<Utf16<false>, Utf16<true>, Turned $(, $output)?>($($given),*),
+            (Form::Utf16Be, Form::Utf8) => $call::<Utf16<true>, Utf8, Narrowed $(, $output)?>($($given),*),
+            (Form::Utf16Be, Form::Utf16Le) => $call::<Utf16<true>, Utf16<false>, Turned $(, $output)?>($($given),*),
+            (Form::Utf16Be, Form::Utf16Be) => $call::<Utf16<true>, Utf16<true>, Turned $(, $output)?>($($given),*),
         }
     };
 }
