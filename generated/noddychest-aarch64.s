@@ -1241,7 +1241,7 @@
 	addp	v4.16b, v4.16b, v4.16b
 	fmov	w15, s4
 	cbz	w15, .LBB4_60
-.LBB4_62:                               // %"utf_lanes::text_blocks::stretch_end.exit"
+.LBB4_62:                               // %"utf_lanes::text_blocks::batch_end.exit"
                                         //   in Loop: Header=BB4_47 Depth=1
 	cmp	x8, x13
 	b.ls	.LBB4_27

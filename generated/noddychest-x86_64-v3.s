@@ -902,11 +902,11 @@
 	vpor	%ymm1, %ymm11, %ymm1
 	vptest	%ymm1, %ymm1
 	je	.LBB3_45
-.LBB3_47:                               # %"utf_lanes::text_blocks::stretch_end.exit.loopexit"
+.LBB3_47:                               # %"utf_lanes::text_blocks::batch_end.exit.loopexit"
                                         #   in Loop: Header=BB3_33 Depth=1
 	addq	$64, %r9
 	movq	%r9, %rax
-.LBB3_48:                               # %"utf_lanes::text_blocks::stretch_end.exit"
+.LBB3_48:                               # %"utf_lanes::text_blocks::batch_end.exit"
                                         #   in Loop: Header=BB3_33 Depth=1
 	cmpq	%r8, %rax
 	jbe	.LBB3_52

@@ -1224,11 +1224,11 @@
 	pmovmskb	%xmm10, %r10d
 	cmpl	$65535, %r10d                   # imm = 0xFFFF
 	je	.LBB4_45
-.LBB4_47:                               # %"utf_lanes::text_blocks::stretch_end.exit.loopexit"
+.LBB4_47:                               # %"utf_lanes::text_blocks::batch_end.exit.loopexit"
                                         #   in Loop: Header=BB4_33 Depth=1
 	addq	$64, %r9
 	movq	%r9, %rax
-.LBB4_48:                               # %"utf_lanes::text_blocks::stretch_end.exit"
+.LBB4_48:                               # %"utf_lanes::text_blocks::batch_end.exit"
                                         #   in Loop: Header=BB4_33 Depth=1
 	cmpq	%r8, %rax
 	jbe	.LBB4_52

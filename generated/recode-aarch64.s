@@ -2469,7 +2469,7 @@
 	addp	v4.16b, v4.16b, v4.16b
 	fmov	w15, s4
 	cbz	w15, .LBB8_60
-.LBB8_62:                               // %"utf_lanes::text_blocks::stretch_end.exit"
+.LBB8_62:                               // %"utf_lanes::text_blocks::batch_end.exit"
                                         //   in Loop: Header=BB8_47 Depth=1
 	cmp	x8, x13
 	b.ls	.LBB8_27

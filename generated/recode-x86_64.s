@@ -4331,11 +4331,11 @@
 	pmovmskb	%xmm10, %r10d
 	cmpl	$65535, %r10d                   # imm = 0xFFFF
 	je	.LBB9_45
-.LBB9_47:                               # %"utf_lanes::text_blocks::stretch_end.exit.loopexit"
+.LBB9_47:                               # %"utf_lanes::text_blocks::batch_end.exit.loopexit"
                                         #   in Loop: Header=BB9_33 Depth=1
 	addq	$64, %r9
 	movq	%r9, %rax
-.LBB9_48:                               # %"utf_lanes::text_blocks::stretch_end.exit"
+.LBB9_48:                               # %"utf_lanes::text_blocks::batch_end.exit"
                                         #   in Loop: Header=BB9_33 Depth=1
 	cmpq	%r8, %rax
 	jbe	.LBB9_52
