@@ -1,5 +1,5 @@
 -- Pieces that are given one after another.
-use Rattle.std.proofs.Common.{◌≡◌, ℕ, ◌<◌, ◌≤◌, ⊎_elim, List, [], ◌∷◌, ◌++◌, length, length-set, length-drop, arith, sym, ap, subst, ◌+◌, take, drop, set, ◌∙◌}
+use Rattle.std.proofs.Common.{◌≡◌, ℕ, ◌<◌, ◌≤◌, ⊎_elim, List, [], ◌∷◌, ◌++◌, length, length-set, length-drop, arith, refl, sym, ap, subst, ◌+◌, take, drop, set, ◌∙◌}
 use Rattle.std.proofs.lemmas.List.{length-take-le, take_more_set, drop-set-lt, drop-drop}
 use Rattle.std.proofs.lemmas.Slice.{take-put_mid, drop-put_mid}
 use Rattle.std.proofs.lemmas.Bool.{cases_lt}
@@ -7,17 +7,16 @@ use borrow.Rule.Slice.PartMut.{put_mid, same_len_mid}
 use Rattle.c_api.specs.Api.{GivesPiece, GivesEach, after}
 use Rattle.c_api.specs.declared.piece.NodyPiece.{NodyPiece}
 
-pub each_append : (piece : List ℕ → NodyPiece) (xs ys : List ℕ) (ps : List NodyPiece) (x : NodyPiece) → GivesEach piece xs ps ys
-    → 0 < length ys → x ≡ piece ys → GivesEach piece xs (ps ++ x ∷ []) (after ys x)
-each_append piece xs ys [] x e some is =
-    (subst (λ b. 0 < length b) e some, subst (λ b. x ≡ piece b) e is, ap (λ b. after b x) e)
-each_append piece xs ys (y ∷ ps) x (first, known, rest) some is = (first, known, each_append piece (after xs y) ys ps x rest some is)
-
 -- pieces, and then those of what they leave
 pub each_join : (piece : List ℕ → NodyPiece) (xs ys zs : List ℕ) (ps qs : List NodyPiece) → GivesEach piece xs ps ys
     → GivesEach piece ys qs zs → GivesEach piece xs (ps ++ qs) zs
 each_join piece xs ys zs [] qs e more = subst (λ b. GivesEach piece b qs zs) e more
 each_join piece xs ys zs (p ∷ ps) qs (first, known, rest) more = (first, known, each_join piece (after xs p) ys zs ps qs rest more)
+
+-- the same of one piece more
+pub each_append : (piece : List ℕ → NodyPiece) (xs ys : List ℕ) (ps : List NodyPiece) (x : NodyPiece) → GivesEach piece xs ps ys
+    → 0 < length ys → x ≡ piece ys → GivesEach piece xs (ps ++ x ∷ []) (after ys x)
+each_append piece xs ys ps x before some is = each_join piece xs ys (after ys x) ps (x ∷ []) before (some, is, refl)
 
 -- a piece that has a length was left
 pub some_left : (piece : List ℕ → NodyPiece) (xs ys : List ℕ) (x : NodyPiece) → GivesPiece piece after xs x ys → 0 < x.len → 0 < length xs
