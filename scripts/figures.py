@@ -108,6 +108,17 @@ def changes():
     return {12: "twelve", 13: "thirteen", 14: "fourteen", 15: "fifteen", 16: "sixteen", 17: "seventeen", 18: "eighteen"}[count]
 
 
+def one_meaning():
+    """How many names are declared in several files, with one meaning."""
+    return str(sum(it.startswith(("function ", "word ")) for it in lines_of("scripts/twice.txt")))
+
+
+def excused():
+    """How many calls no wrong body turns, in words."""
+    listed = re.search(r"^EXCUSED = \{\n(.*?)^\}", "\n".join(lines_of("scripts/refusals")), re.S | re.M)[1]
+    return {7: "seven", 8: "eight", 9: "nine"}[len(re.findall(r'^    \("', listed, re.M))]
+
+
 def is_within(numbers, bound, words):
     """The words, where no number is above the bound, else the most."""
     return words if max(numbers) <= bound else f"{max(numbers):.3f}"
@@ -125,6 +136,8 @@ FIGURES = {
     "docs/GUIDE.md": [(r"in about ([\d.]+) nanoseconds a byte", lambda: (f"{rows('valid', 2)[('utf8', 'japanese')]['ours']:.2f}",))],
     "docs/THE-CUT.md": [(r"in ([\d,]+) random inputs each", lambda: (of_peers(),)), (r"at least (\w+) bytes before them, or at least (\w+) after", damage)],
     "CONTRIBUTING.md": [(r"`logic (\w+)`", lambda: (logic(),)), (r"has the files of (\w+) changes", lambda: (changes(),))],
+    "docs/DEFINITIONS.md": [(r"has those that are: (\d+) names", lambda: (one_meaning(),))],
+    "docs/DECISIONS.md": [(r"and (\w+) calls that `scripts/refusals` lists", lambda: (excused(),))],
     "docs/CONFORMANCE.md": [(r"recodes (\d+) blocks", lambda: (blocks(),))],
     "docs/BENCHMARKS.md": [
         (r"bytes takes at most (.+?) of encode_unicode's instructions, and (.+)\.", lambda: (
