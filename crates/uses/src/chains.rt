@@ -167,7 +167,7 @@ pub fn faults_by_fold(bytes: &[u8]) -> usize
         .fold(0, |count, x| if x.1.is_err() { count + 1 } else { count })
 }
 
-/// The same from its back.
+/// The last character of the text, from its back.
 pub fn last_from_back(text: &str) -> Option<Utf8Char>
     ensures { result ≡ last_or None (chars text.now) }
 {

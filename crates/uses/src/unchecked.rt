@@ -4,7 +4,7 @@ ghost use Rattle.std.specs.Prelude.{◌≡◌};
 
 use encode_unicode::{CharExt, U16UtfExt, Utf8Char, Utf16Char};
 
-/// The same, by ranges.
+/// A unit that was seen to be no surrogate, by ranges.
 pub fn from_unit_by_range(unit: u16) -> Option<Utf16Char> {
     if unit < 0xd800 || unit >= 0xe000 {
         Some(Utf16Char::from_tuple_unchecked((unit, None)))
@@ -30,7 +30,7 @@ pub fn from_pair(first: u16, second: u16) -> Option<Utf16Char> {
     }
 }
 
-/// The same of `char`.
+/// A `char`, after the checked call took the tuple.
 pub fn char_of_tuple_twice(units: (u16, Option<u16>)) -> Option<char> {
     match char::from_utf16_tuple(units) {
         Ok(_) => Some(char::from_utf16_tuple_unchecked(units)),
