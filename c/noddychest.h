@@ -1,8 +1,9 @@
 /* Noddychest: decodes, validates, divides and converts UTF-8 and UTF-16. Its code is machine-proved. For C and C++.
  *
  * LANGUAGES AND PLATFORMS. C99 and later, C++98 and later. Linux on x86-64 (with x86-64-v2) and on 64-bit ARM, with glibc or
- * musl. No call allocates memory, reads a locale, or keeps anything. What lasts from call to call is in structs of yours, which
- * you may copy. Calls on different structs may run in different threads at the same time.
+ * musl. No call allocates memory, reads a locale, or keeps anything. (On x86-64 the library has one byte of its own, which says
+ * what the processor has. It is written when the library is loaded, and never again.) What lasts from call to call is in structs
+ * of yours, which you may copy. Calls on different structs may run in different threads at the same time.
  *
  * WORDS.
  *     character    a Unicode scalar value: 0 to 10FFFF, without D800 to DFFF
