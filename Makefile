@@ -13,6 +13,7 @@
 #   make check-packages
 #                    tests all packages for which the tools are there, and names those that it leaves out
 #   make check-js    tests the package for npm, js/, under node
+#   make check-cmake tests the build by CMake, and programs that find what it installs
 #   make clean       removes what was built
 #
 # CC, CPPFLAGS, CFLAGS and LDFLAGS are as usual; `make CC=aarch64-linux-gnu-gcc` builds for ARM. BUILD is the folder of what
@@ -123,13 +124,16 @@ check-rust: all
 check-deb:
 	@packaging/check $(BOOKWORM)
 
+check-cmake:
+	@packaging/cmake/check
+
 check-packages:
 	@packaging/check-all
 
 check-js:
 	@js/check
 
-.PHONY: dist check-rust check-deb check-packages check-js
+.PHONY: dist check-rust check-deb check-cmake check-packages check-js
 
 clean:
 	rm -rf $(BUILD)
