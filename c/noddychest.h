@@ -1,8 +1,19 @@
 /* Noddychest: decodes, validates, divides and converts UTF-8 and UTF-16. Its code is machine-proved. For C and C++.
  *
  * LANGUAGES AND PLATFORMS. C99 and later, C++98 and later. Linux on x86-64 (with x86-64-v2) and on 64-bit ARM, with glibc or
- * musl. No call allocates memory, reads a locale, or keeps anything. What lasts from call to call is in structs of yours, which
- * you may copy. Calls on different structs may run in different threads at the same time.
+ * musl. No call allocates memory, reads a locale, or keeps anything. (On x86-64 the library has one byte of its own, which says
+ * what the processor has. It is written when the library is loaded, and never again.) What lasts from call to call is in structs
+ * of yours, which you may copy. Calls on different structs may run in different threads at the same time.
+ *
+ * CALLS. A call that begins with nody_utf8_ has a twin for units that begins with nody_utf16_; nody_utf8_streamed_at has none.
+ *     valid?       nody_utf8_valid_up_to, nody_utf16_bytes_valid_up_to
+ *     one piece    nody_utf8_first, nody_utf8_last, nody_utf8_encode, nody_utf8_streamed_at
+ *     all pieces   nody_bytes or nody_units, then nody_utf8_next, nody_utf8_next_back, nody_utf8_pieces; nody_utf8_char_count
+ *     divide       nody_boundary_before, nody_boundary_after, nody_utf16_boundary_before, nody_utf16_boundary_after, nody_shard_end
+ *     recode       nody_recoded_len, nody_recoded_len_max, nody_recode, nody_recode_strict, nody_utf8_to_utf16, nody_utf16_to_utf8
+ *     in parts     nody_recoder, nody_recoder_feed, nody_recoder_finish, nody_recoder_held; the same with _strict and _lossy
+ *     words        nody_kind_name, nody_kind_sentence
+ *     library      nody_version, nody_supported, nody_lanes
  *
  * WORDS.
  *     character    a Unicode scalar value: 0 to 10FFFF, without D800 to DFFF
