@@ -7,15 +7,22 @@
 #                    what it wrote; the programs are nody-pieces, nody-recode
 #   make uninstall   takes it away again, for the same PREFIX and DESTDIR
 #   make dist        packs the sources, and what make builds of them, in build/dist
+#   make dist-windows
+#                    packs there what make builds for Windows
 #   make check-rust, check-deb
 #                    tests the crate for Cargo, and the packages of Debian with what make dist packs (BOOKWORM may name a
 #                    Debian 12 that debootstrap made; else it makes one of Debian's mirror)
 #   make check-packages
 #                    tests all packages for which the tools are there, and names those that it leaves out
 #   make check-js    tests the package for npm, js/, under node
+#   make check-cmake tests the build by CMake, and programs that find what it installs
 #   make clean       removes what was built
 #
-# CC, CPPFLAGS, CFLAGS and LDFLAGS are as usual; `make CC=aarch64-linux-gnu-gcc` builds for ARM. BUILD is the folder of what
+#   make check-windows
+#                    tests what `make CC=x86_64-w64-mingw32-gcc` built, under wine
+#
+# CC, CPPFLAGS, CFLAGS and LDFLAGS are as usual; `make CC=aarch64-linux-gnu-gcc` builds for ARM. `make CC=x86_64-w64-mingw32-gcc` builds for
+# Windows: libnoddychest.a, noddychest.dll with its import library libnoddychest.dll.a, pieces.exe and recode.exe. BUILD is the folder of what
 # is made. RUN stands before each program that `make check` runs, as `make check RUN=qemu-aarch64-static`; LANES is what nody_lanes()
 # has to answer there, 16 or 32.
 
@@ -29,13 +36,22 @@ LIBRARY = $(BUILD)/noddychest.o $(BUILD)/noddychest-v3.o $(BUILD)/processor.o
 # A program is linked as LDFLAGS say, a shared library never statically.
 SHARED = for it in $(CFLAGS) $(LDFLAGS); do case $$it in -static|-static-pie|-pie) ;; *) set -- "$$@" "$$it" ;; esac; done
 
-all: $(BUILD)/libnoddychest.a $(BUILD)/libnoddychest.so.1 $(BUILD)/pieces $(BUILD)/recode
+# What differs on Windows: the assembly, and how files are called.
+ifneq ($(findstring mingw,$(shell $(CC) -dumpmachine 2>/dev/null)),)
+SYSTEM = -windows
+EXE = .exe
+DYNAMIC = $(BUILD)/noddychest.dll
+else
+DYNAMIC = $(BUILD)/libnoddychest.so.1
+endif
+
+all: $(BUILD)/libnoddychest.a $(DYNAMIC) $(BUILD)/pieces$(EXE) $(BUILD)/recode$(EXE)
 
 # The processor, and with what all is compiled: another compiler, or other flags, make all anew.
 $(BUILD)/target: always
 	@mkdir -p $(BUILD)
 	@target=`$(CC) $(CFLAGS) -dumpmachine` || exit 1; \
-	if [ ! -e "generated/pieces-$${target%%-*}.s" ]; then \
+	if [ ! -e "generated/pieces-$${target%%-*}$(SYSTEM).s" ]; then \
 		echo "make: $(CC) compiles for $$target, and generated/ has x86_64 and aarch64" >&2; exit 1; \
 	fi; \
 	printf '%s\n' "$${target%%-*}" "$(CC)" "$(CPPFLAGS)" "$(CFLAGS)" "$(LDFLAGS)" >$@.new; \
@@ -52,19 +68,19 @@ $(BUILD)/jumps: $(BUILD)/target
 		fi; \
 	done >$@; rm -f $@.o
 
-$(BUILD)/noddychest.o: generated/noddychest-x86_64.s generated/noddychest-aarch64.s $(BUILD)/jumps
-	read processor <$(BUILD)/target && $(ASSEMBLE) $@ generated/noddychest-$$processor.s
+$(BUILD)/noddychest.o: generated/noddychest-x86_64$(SYSTEM).s generated/noddychest-aarch64.s $(BUILD)/jumps
+	read processor <$(BUILD)/target && $(ASSEMBLE) $@ generated/noddychest-$$processor$(SYSTEM).s
 
 # The calls that validate and recode, for x86-64-v3 (for ARM an empty file, which no library gets).
-$(BUILD)/noddychest-v3.o: generated/noddychest-x86_64-v3.s $(BUILD)/jumps
+$(BUILD)/noddychest-v3.o: generated/noddychest-x86_64$(SYSTEM)-v3.s $(BUILD)/jumps
 	read processor <$(BUILD)/target && case $$processor in \
-	x86_64) $(ASSEMBLE) $@ generated/noddychest-x86_64-v3.s ;; \
+	x86_64) $(ASSEMBLE) $@ generated/noddychest-x86_64$(SYSTEM)-v3.s ;; \
 	*) : >$@ ;; \
 	esac
 
 # (the library can be linked by who has no -flto; the assembly has the properties of -fcf-protection on x86-64)
 $(BUILD)/processor.o: c/processor.c c/noddychest.h $(BUILD)/target
-	read processor <$(BUILD)/target && case $$processor in x86_64) set -- -fcf-protection ;; *) set -- ;; esac && \
+	read processor <$(BUILD)/target && case $$processor$(SYSTEM) in x86_64) set -- -fcf-protection ;; *) set -- ;; esac && \
 	$(COMPILE) -fPIC -fno-lto "$$@" -c -o $@ c/processor.c
 
 $(BUILD)/libnoddychest.a: $(LIBRARY)
@@ -75,12 +91,18 @@ $(BUILD)/libnoddychest.so.1: $(BUILD)/libnoddychest.a c/noddychest.map
 	$(SHARED); $(CC) "$$@" -shared -Wl,-soname,libnoddychest.so.1 -Wl,--version-script=c/noddychest.map -o $@ \
 	-Wl,--whole-archive $(BUILD)/libnoddychest.a -Wl,--no-whole-archive
 
-# The name `main` and those of glibc are changed: see generated/names.sed.
-$(BUILD)/pieces.s: generated/pieces-x86_64.s generated/pieces-aarch64.s generated/names.sed $(BUILD)/target
-	read processor <$(BUILD)/target && sed -f generated/names.sed generated/pieces-$$processor.s >$@
+# (the calls that a DLL exports are told by name; its import library is made beside it. Its address does not depend on the folder)
+$(BUILD)/noddychest.dll: $(BUILD)/libnoddychest.a c/symbols.txt
+	{ echo EXPORTS; sed -n 's/^call .*[ *]\(nody_[a-z0-9_]*\)(.*/\1/p' c/symbols.txt; } >$(BUILD)/noddychest.def
+	$(SHARED); $(CC) "$$@" -shared -o $@ $(BUILD)/noddychest.def -Wl,--out-implib,$(BUILD)/libnoddychest.dll.a -Wl,--disable-auto-image-base \
+	-Wl,--whole-archive $(BUILD)/libnoddychest.a -Wl,--no-whole-archive
 
-$(BUILD)/recode.s: generated/recode-x86_64.s generated/recode-aarch64.s generated/names.sed $(BUILD)/target
-	read processor <$(BUILD)/target && sed -f generated/names.sed generated/recode-$$processor.s >$@
+# The name `main` and those of glibc are changed: see generated/names.sed. (on Windows they are so in generated/)
+$(BUILD)/pieces.s: generated/pieces-x86_64$(SYSTEM).s generated/pieces-aarch64.s generated/names.sed $(BUILD)/target
+	read processor <$(BUILD)/target && sed -f generated/names.sed generated/pieces-$$processor$(SYSTEM).s >$@
+
+$(BUILD)/recode.s: generated/recode-x86_64$(SYSTEM).s generated/recode-aarch64.s generated/names.sed $(BUILD)/target
+	read processor <$(BUILD)/target && sed -f generated/names.sed generated/recode-$$processor$(SYSTEM).s >$@
 
 $(BUILD)/pieces.o: $(BUILD)/pieces.s $(BUILD)/jumps
 	$(ASSEMBLE) $@ $(BUILD)/pieces.s
@@ -91,10 +113,10 @@ $(BUILD)/recode.o: $(BUILD)/recode.s $(BUILD)/jumps
 $(BUILD)/system.o: generated/system.c $(BUILD)/target
 	$(COMPILE) -c -o $@ generated/system.c
 
-$(BUILD)/pieces: $(BUILD)/pieces.o $(BUILD)/system.o
+$(BUILD)/pieces$(EXE): $(BUILD)/pieces.o $(BUILD)/system.o
 	$(CC) $(CFLAGS) $(LDFLAGS) -o $@ $(BUILD)/pieces.o $(BUILD)/system.o
 
-$(BUILD)/recode: $(BUILD)/recode.o $(BUILD)/system.o
+$(BUILD)/recode$(EXE): $(BUILD)/recode.o $(BUILD)/system.o
 	$(CC) $(CFLAGS) $(LDFLAGS) -o $@ $(BUILD)/recode.o $(BUILD)/system.o
 
 check: all
@@ -117,11 +139,17 @@ uninstall:
 dist:
 	@packaging/dist $(BUILD)/dist
 
+dist-windows:
+	@packaging/dist-windows $(BUILD)/dist
+
 check-rust: all
 	@rust/check $(BUILD)
 
 check-deb:
 	@packaging/check $(BOOKWORM)
+
+check-cmake:
+	@packaging/cmake/check
 
 check-packages:
 	@packaging/check-all
@@ -129,7 +157,10 @@ check-packages:
 check-js:
 	@js/check
 
-.PHONY: dist check-rust check-deb check-packages check-js
+check-windows:
+	@c/check-windows
+
+.PHONY: dist dist-windows check-windows check-rust check-deb check-cmake check-packages check-js
 
 clean:
 	rm -rf $(BUILD)
