@@ -155,9 +155,9 @@ def files_of_forms():
 
 
 def lines_of_python():
-    """The lines of the package for Python, in whole hundreds."""
-    count = sum(len(lines_of(f"python/src/{it}")) for it in ("_noddychest.c", *(f"noddychest/{it}" for it in os.listdir(f"{TOP}/python/src/noddychest") if it.endswith(".py"))))
-    return f"{round(count, -2):,}"
+    """The lines of C and Python of that package, in whole hundreds."""
+    files = [f"{at}/{it}" for at, _, names in os.walk(f"{TOP}/python/src") for it in names if it.endswith((".c", ".h", ".py"))]
+    return f"{round(sum(len(lines_of(os.path.relpath(it, TOP))) for it in files), -2):,}"
 
 
 def is_within(numbers, bound, words):
