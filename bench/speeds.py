@@ -179,6 +179,22 @@ def worst(rows):
     return max(((row, side) for row in rows for side in row.numbers if side != "ours"), key=lambda it: it[0].ratio(it[1]))
 
 
+def by_caller():
+    """For each language and peer: on how many inputs ours is no slower, the ratios, and the worst of them."""
+    told = {work: it for group in WORKS.values() for work, it in group.items()}
+    recoded = lambda key: f"{FORMS[key[0]]} to {FORMS[key[1]]}, {key[2]}"
+    of_c = [(f"{OF_C[work][0]}, {row.key[1]}", row) for work in OF_C for row in rows_of_c(work)]
+    of_rattle = [(f"{told[row.key[0]]}, {row.key[1]}", row) for row in stored("run", 2)] + [(f"validate {FORMS[row.key[0]]}, {row.key[1]}", row) for row in stored("valid", 2)] + [
+        (recoded(row.key), row) for row in stored("recode", 3)] + [(f"{recoded(row.key)}, `{row.key[4]}` of {row.key[3]} bytes", row) for row in stored("short", 5)]
+    lines = []
+    for caller, rows in (("C", of_c), ("Rattle", of_rattle)):
+        for side in dict.fromkeys(side for _, row in rows for side in row.numbers if side != "ours"):
+            found = [(row.ratio(side), name) for name, row in rows if side in row.numbers]
+            ratios, (most, name) = [it for it, _ in found], max(found)
+            lines.append([caller, NAMES[side], f"{sum(it <= 1 for it in ratios)} of {len(ratios)}", between(ratios), f"{name}: {marked_ratio(most)}"])
+    return table(["called from", "beside", "no slower", "ratio", "our worst"], lines)
+
+
 def limits():
     found = [line.split() for line in (STORED / "limit").read_text(encoding="utf-8").splitlines()[1:-1]]
     shown = lambda size: f"{size >> 20} MiB" if size >= 1 << 20 else f"{size >> 10} KiB"
