@@ -8,12 +8,13 @@ version() {
     awk '/^#define NODY_VERSION_(MAJOR|MINOR|PATCH) / { out = out dot $3; dot = "." } END { print out }' c/noddychest.h
 }
 
-# The second of which packages say that they were made: of the last commit, or where there is none that of the header's file.
+# The second of which packages say that they were made: of the last commit, or where git tells none, as in a folder of another user,
+# that of the header's file.
 epoch() {
     if [ -n "${SOURCE_DATE_EPOCH-}" ]; then
         echo "$SOURCE_DATE_EPOCH"
-    elif [ -e .git ] && has git; then
-        git log -1 --format=%ct
+    elif [ -e .git ] && has git && git log -1 --format=%ct 2>/dev/null; then
+        :
     else
         stat -c %Y c/noddychest.h
     fi
