@@ -171,7 +171,7 @@ FIGURES = {
         (r"in ([\d,]+) random inputs each", lambda: (of_peers(),)),
         (r"says why \| one of (\w+) kinds", lambda: (kinds(),)),
         (r"\| (\d) \| wrong arguments \| wrong arguments \|\n\| (\d) \| reading, writing or memory failed", statuses),
-        (r"\| ([\d.]+), not released yet", lambda: (version(),)),
+        (r"Version ([\d.]+), not released yet", lambda: (version(),)),
         (r"Reading mixed text takes about ([\d.]+) nanoseconds a byte", lambda: (f"{rows('run', 2)[('forward', 'mix')]['ours']:.1f}",)),
         (r"\| split into pieces, from C, one at a time \|.*\| \**([\d.]+)\** \|", lambda: (worst_of_c(),)),
         (r"works in parts, in less than ([\d.]+) MiB of memory", lambda: (most_memory(),)),
