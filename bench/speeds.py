@@ -175,7 +175,7 @@ def rows_of_c(work):
 
 
 def worst(rows):
-    """The row and the side of the highest ratio, for which a call is told of in README.md."""
+    """The row and the side of the highest ratio."""
     return max(((row, side) for row in rows for side in row.numbers if side != "ours"), key=lambda it: it[0].ratio(it[1]))
 
 
