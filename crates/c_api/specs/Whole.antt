@@ -11,9 +11,10 @@ use Rattle.cuts.specs.Strict.{RecodesText, IsTooLong, EndsInFault}
 abbrev pub IsLongerThan : Form → Form → List ℕ → ℕ → Type 0
 IsLongerThan from to bytes room = (out : List ℕ) → IsRecoded from to bytes out → room < length out
 
--- what the bytes are recoded as begins with these
+-- What the bytes are recoded as begins with these, and what follows is what some bytes are recoded as: so these end after a whole code.
 abbrev pub IsFrontOfRecoded : Form → Form → List ℕ → List ℕ → Type 0
-IsFrontOfRecoded from to bytes front = (out : List ℕ) → IsRecoded from to bytes out → (rest : List ℕ) × (out ≡ front ++ rest)
+IsFrontOfRecoded from to bytes front =
+    (out : List ℕ) → IsRecoded from to bytes out → (later rest : List ℕ) × IsRecoded from to later rest × (out ≡ front ++ rest)
 
 -- what the bytes are recoded as has so many bytes, or more than a `usize` can count, all whose bits are then set
 abbrev pub IsRecodedLen : Form → Form → List ℕ → ℕ → Type 0
