@@ -1,5 +1,5 @@
-/* One call of the library for C over 32 KiB of a text, so many times: arm CALL TEXT TIMES. For bench/arm, which counts the instructions
- * of one time more. */
+/* One call of the library for C over 32 KiB of a text, so many times: once CALL TEXT TIMES. c/check and bench/arm count the instructions of
+ * one time more. */
 #include "noddychest.h"
 
 #include <stdlib.h>
@@ -29,10 +29,33 @@ static void validate(void) {
     if (nody_utf8_valid_up_to(text, text_len) != text_len) exit(1);
 }
 
+static void validate_bytes(void) {
+    if (nody_utf16_bytes_valid_up_to(NODY_FORM_UTF16LE, units, units_len) != units_len) exit(1);
+}
+
+static void validate_units(void) {
+    static uint16_t each[2 * LEN];
+    memcpy(each, units, units_len);
+    if (nody_utf16_valid_up_to(each, units_len / 2) != units_len / 2) exit(1);
+}
+
+static void widen_strictly(void) {
+    size_t read, written;
+    nody_fault_t fault;
+    if (nody_recode_strict(NODY_FORM_UTF8, NODY_FORM_UTF16LE, text, text_len, out, sizeof out, &read, &written, &fault) != NODY_STATUS_DONE) exit(1);
+}
+
+static void widen_lossily(void) {
+    nody_recoder_t recoder = nody_recoder(NODY_FORM_UTF8, NODY_FORM_UTF16LE);
+    size_t read, written;
+    if (nody_recoder_feed_lossy(&recoder, text, text_len, out, sizeof out, &read, &written) != NODY_STATUS_DONE) exit(1);
+}
+
 static const struct {
     const char *name;
     void (*call)(void);
-} calls[] = {{"utf8-to-utf16le", widen}, {"utf16le-to-utf8", narrow}, {"pieces", decode}, {"valid-up-to", validate}};
+} calls[] = {{"utf8-to-utf16le", widen}, {"utf16le-to-utf8", narrow}, {"pieces", decode}, {"valid-up-to", validate},
+             {"utf16-bytes-valid-up-to", validate_bytes}, {"utf16-valid-up-to", validate_units}, {"strictly", widen_strictly}, {"lossily", widen_lossily}};
 
 static const struct {
     const char *name;
