@@ -580,7 +580,9 @@ nody_status_t nody_recoder_finish_strict(nody_recoder_t *recoder, uint8_t *out, 
  * subpart. In E2 82 41 it is E2 82, so E2 82 41 becomes U+FFFD A. Any other invalid byte is a subpart of its own.
  * E0 80 becomes U+FFFD U+FFFD: no character begins with E0 80, so E0 is one maximal subpart, and 80 another. The Unicode standard
  * recommends this (chapter 3, "U+FFFD Substitution of Maximal Subparts"). Browsers, Python's errors="replace" and Rust's
- * from_utf8_lossy do it. In UTF-16, and in valid input, this call and nody_recoder_feed write the same.
+ * from_utf8_lossy do it. In UTF-16 a lone surrogate is a maximal subpart, and so is an odd last byte; a leading surrogate and an
+ * odd byte that end the input are one together. But for that end, this call and nody_recoder_feed write the same of UTF-16. Of
+ * valid input they do in every form.
  *
  * recoder: the recoder. `recoder->replaced` does not change. You may mix calls of this, of nody_recoder_feed and of
  * nody_recoder_feed_strict. End the input by nody_recoder_finish_lossy.
@@ -596,7 +598,7 @@ nody_status_t nody_recoder_finish_strict(nody_recoder_t *recoder, uint8_t *out, 
 nody_status_t nody_recoder_feed_lossy(nody_recoder_t *recoder, const uint8_t *in, size_t in_len, uint8_t *out, size_t room,
                                       size_t *read, size_t *written);
 
-/* Ends the input after nody_recoder_feed_lossy. If the recoder holds the front of a character of UTF-8, that becomes one U+FFFD.
+/* Ends the input after nody_recoder_feed_lossy. If the recoder holds the front of a character, that becomes one U+FFFD.
  *
  * recoder: the recoder. `recoder->replaced` does not change.
  * out, room, written: as for nody_recoder_finish.
