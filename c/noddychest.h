@@ -67,7 +67,10 @@
 #define NODY_VERSION (NODY_VERSION_MAJOR * 1000000 + NODY_VERSION_MINOR * 1000 + NODY_VERSION_PATCH)
 
 #ifdef __cplusplus
+#define NODY_CAST(type, pointer) reinterpret_cast<type>(pointer)
 extern "C" {
+#else
+#define NODY_CAST(type, pointer) ((type)(pointer))
 #endif
 
 /* Each enum has one byte, with every compiler. In C++11, C23 and later it is a type of its own. In older versions it is another
@@ -461,12 +464,12 @@ size_t nody_recoded_len_max(nody_form_t from, nody_form_t to, size_t len);
  *     if (!units || nody_utf8_to_utf16(bytes, len, units, size / 2, &count) != NODY_STATUS_DONE) return failed();
  */
 static inline nody_status_t nody_utf8_to_utf16(const uint8_t *in, size_t len, uint16_t *out, size_t room, size_t *written) {
-    nody_status_t status = nody_recode(NODY_FORM_UTF8, NODY_FORM_UTF16_NATIVE, in, len, (uint8_t *)out, 2 * room, written);
+    nody_status_t status = nody_recode(NODY_FORM_UTF8, NODY_FORM_UTF16_NATIVE, in, len, NODY_CAST(uint8_t *, out), 2 * room, written);
     *written /= 2;
     return status;
 }
 static inline nody_status_t nody_utf16_to_utf8(const uint16_t *in, size_t len, uint8_t *out, size_t room, size_t *written) {
-    return nody_recode(NODY_FORM_UTF16_NATIVE, NODY_FORM_UTF8, (const uint8_t *)in, 2 * len, out, room, written);
+    return nody_recode(NODY_FORM_UTF16_NATIVE, NODY_FORM_UTF8, NODY_CAST(const uint8_t *, in), 2 * len, out, room, written);
 }
 
 /* ---- Input that comes in parts ---------------------------------------------------------------------------------------------- */
@@ -663,8 +666,21 @@ static inline const char *nody_kind_sentence(nody_kind_t kind) {
     return sentence->text;
 }
 
+#undef NODY_CAST
 #ifdef __cplusplus
 }
+#endif
+
+/* From C++11 on, a stream shows these constants as numbers. In C++98 they are of the type uint8_t: there write +kind. */
+#if defined(__cplusplus) && __cplusplus >= 201103L
+#define NODY_SHOWN(name) \
+    template <typename Out> auto operator<<(Out &out, name value) -> decltype(static_cast<void>(out.put(typename Out::char_type())), out) { \
+        return out << static_cast<int>(value), out; \
+    }
+NODY_SHOWN(nody_kind_t)
+NODY_SHOWN(nody_form_t)
+NODY_SHOWN(nody_status_t)
+#undef NODY_SHOWN
 #endif
 
 #endif

@@ -45,7 +45,7 @@ static double least(void (*call)(void)) {
 int main(int argc, char **argv) {
     FILE *file = argc == 2 ? fopen(argv[1], "rb") : NULL;
     if (!file || fread(in, 1, LEN, file) != LEN) return 2;
-    /* (each fault, as a character that the end divides, becomes a question mark) */
+    /* (of a character that the end divides each byte becomes a question mark) */
     for (size_t end; (end = nody_utf8_valid_up_to(in, LEN)) < LEN;) in[end] = '?';
     double first = least(validate), second = least(recode), third = least(decode);
     printf("%.4f %.4f %.4f\n", first, second, third);
