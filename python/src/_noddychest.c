@@ -1,136 +1,38 @@
 /* What of the package has to be fast, over the calls of noddychest.h. The package itself, and what users read, is in
  * src/noddychest. Forms and kinds cross as numbers; pieces are made as the named tuple that the package hands in.
  *
- * The interpreter's lock is held, but where `bytes`, which nobody can change, are recoded. */
+ * The interpreter's lock is let go while 64 KiB or more are read, and the buffer is held meanwhile. Nothing is kept but in objects, so
+ * each interpreter has its own. */
 #define _GNU_SOURCE
-#define PY_SSIZE_T_CLEAN
-#include <Python.h>
+#include "lengths.h"
+#include "views.h"
+
 #include <dlfcn.h>
 #include <string.h>
 
-#include "more.h"
-
-#if PY_VERSION_HEX < 0x030A0000
-static inline PyObject *Py_NewRef(PyObject *object) {
-    Py_INCREF(object);
-    return object;
-}
-#endif
-
 #define BLOCK 256         /* pieces that cross at once */
-#define LARGE (64 * 1024) /* from here on other threads run while bytes are recoded */
-
-/* ---- arguments ---- */
-
-/* For "O&": any bytes-like object, at its size in bytes, without copying. One whose bytes do not lie one after another is refused
- * by itself. */
-static int take_bytes(PyObject *data, void *into) {
-    Py_buffer *view = into;
-    if (data == NULL) {
-        PyBuffer_Release(view);
-        return 1;
-    }
-    if (!PyObject_CheckBuffer(data)) {
-        PyErr_Format(PyExc_TypeError, "a bytes-like object is required, not %R%s", (PyObject *)Py_TYPE(data),
-                     PyUnicode_Check(data) ? ": encode the text first" : "");
-        return 0;
-    }
-    return PyObject_GetBuffer(data, view, PyBUF_SIMPLE) ? 0 : Py_CLEANUP_SUPPORTED;
-}
-
-static int take_form(PyObject *number, void *into) {
-    long form = PyLong_AsLong(number);
-    if (form == -1 && PyErr_Occurred())
-        return 0;
-    if (form < NODY_FORM_UTF8 || form > NODY_FORM_UTF16BE) {
-        PyErr_SetString(PyExc_ValueError, "no form of text");
-        return 0;
-    }
-    *(nody_form_t *)into = (nody_form_t)form;
-    return 1;
-}
-
-/* Places are given by the package, or by error handlers, and are never trusted. */
-static int is_place(Py_ssize_t place, Py_ssize_t len) {
-    if (place >= 0 && place <= len)
-        return 1;
-    PyErr_SetString(PyExc_IndexError, "the offset is outside of the bytes");
-    return 0;
-}
+#define SMALL (64 * 1024) /* an input up to here gets room for the most that it can become */
 
 /* ---- bytes that are made ---- */
 
-/* _PyBytes_Resize() shortens bytes in place. It is in every CPython, but not in the stable ABI; so it is looked for when the module
- * is loaded, and where it is gone the bytes are copied. */
+/* _PyBytes_Resize() changes the length of bytes in place. It is in every CPython, but not in the stable ABI; so it is looked for when
+ * the module is loaded, and where it is gone the bytes are copied. */
 static int (*resize)(PyObject **bytes, Py_ssize_t len);
 
-static PyObject *shortened(PyObject *made, Py_ssize_t len) {
+static PyObject *resized(PyObject *made, Py_ssize_t len) {
+    Py_ssize_t old = PyBytes_Size(made);
     PyObject *copy;
-    if (PyBytes_Size(made) == len)
+    if (old == len)
         return made;
     if (resize != NULL) {
         resize(&made, len);
         return made;
     }
-    copy = PyBytes_FromStringAndSize(PyBytes_AsString(made), len);
+    copy = PyBytes_FromStringAndSize(NULL, len);
+    if (copy != NULL)
+        memcpy(PyBytes_AsString(copy), PyBytes_AsString(made), (size_t)(len < old ? len : old));
     Py_DECREF(made);
     return copy;
-}
-
-/* ---- faults ---- */
-
-static uint16_t unit_at(nody_form_t form, const uint8_t *bytes) {
-    int low = form == NODY_FORM_UTF16LE ? 0 : 1;
-    return (uint16_t)(bytes[low] | bytes[!low] << 8);
-}
-
-static size_t valid_up_to(nody_form_t form, const uint8_t *bytes, size_t len) {
-    return form == NODY_FORM_UTF8 ? nody_utf8_valid_up_to(bytes, len) : utf16_bytes_valid_up_to(form, bytes, len);
-}
-
-/* How many bytes a fault has: one, or those of a unit, or the half that is left of one. */
-static size_t fault_len(nody_form_t form, size_t left) {
-    return form == NODY_FORM_UTF8 || left < 2 ? 1 : 2;
-}
-
-/* What is wrong where a fault stands: as a reader that has all bytes names it, or one that gets them one at a time. */
-enum Reader { WHOLE, STREAMED };
-static nody_kind_t fault_kind(enum Reader reader, nody_form_t form, const uint8_t *bytes, size_t len) {
-    uint16_t units[2];
-    size_t count = len / 2 < 2 ? len / 2 : 2;
-    if (form == NODY_FORM_UTF8)
-        return reader == WHOLE ? nody_utf8_first(bytes, len).kind : nody_utf8_streamed_at(bytes, len, 0).kind;
-    for (size_t i = 0; i < count; i++)
-        units[i] = unit_at(form, bytes + 2 * i);
-    return count == 0 ? NODY_KIND_INCOMPLETE : nody_utf16_first(units, count).kind;
-}
-
-/* How many bytes at the end, fewer than a code has, begin one. A surrogate in three bytes counts as a code: the error handler
- * `surrogatepass` has to see all of it. */
-static size_t held_utf8(const uint8_t *bytes, size_t len) {
-    for (size_t count = 1; count <= 3 && count <= len; count++) {
-        const uint8_t *tail = bytes + len - count;
-        if ((tail[0] & 0xC0) == 0x80)
-            continue;
-        for (int last = 0x80; last <= 0xBF; last += 0x3F) {
-            uint8_t code[4];
-            nody_piece_t piece;
-            memset(code, last, sizeof code);
-            memcpy(code, tail, count);
-            piece = nody_utf8_first(code, sizeof code);
-            if (count < (piece.kind == NODY_KIND_UTF16_RESERVED_CODEPOINT ? 3 : piece.len))
-                return count;
-        }
-        return 0;
-    }
-    return 0;
-}
-
-static size_t held(nody_form_t form, const uint8_t *bytes, size_t len) {
-    size_t half = len % 2;
-    if (form == NODY_FORM_UTF8)
-        return held_utf8(bytes, len);
-    return len < 2 || (unit_at(form, bytes + len - half - 2) & 0xFC00) != 0xD800 ? half : half + 2;
 }
 
 /* ---- functions ---- */
@@ -145,130 +47,126 @@ static PyObject *kind_sentence(PyObject *module, PyObject *kind) {
     (void)module;
     if (PyErr_Occurred())
         return NULL;
-    return PyUnicode_FromString(sentence_of((nody_kind_t)(number < 256 ? number : 255)));
+    return PyUnicode_FromString(nody_kind_sentence((nody_kind_t)(number < 256 ? number : 255)));
 }
 
 /* fault(form, data): the offset, the length and the kind of the first fault, or None. */
 static PyObject *fault(PyObject *module, PyObject *args) {
     Py_buffer view;
+    Window window;
     nody_form_t form;
-    const uint8_t *bytes;
-    size_t at, len;
-    PyObject *answer;
+    PyObject *answer = NULL;
     (void)module;
     if (!PyArg_ParseTuple(args, "O&O&:fault", take_form, &form, take_bytes, &view))
         return NULL;
-    bytes = view.buf, len = (size_t)view.len;
-    at = valid_up_to(form, bytes, len);
-    answer = at == len ? Py_NewRef(Py_None)
-                       : Py_BuildValue("nnI", (Py_ssize_t)at, (Py_ssize_t)fault_len(form, len - at),
-                                       (unsigned)fault_kind(WHOLE, form, bytes + at, len - at));
-    PyBuffer_Release(&view);
-    return answer;
-}
-
-/* text(form, data, at, end): the characters from `at` up to the first fault, or up to `end`; where that is, and the length and the
- * kind of the fault, which are 0 at the end. */
-static PyObject *text(PyObject *module, PyObject *args) {
-    Py_buffer view;
-    nody_form_t form;
-    Py_ssize_t at, end, stop;
-    PyObject *made = NULL;
-    (void)module;
-    if (!PyArg_ParseTuple(args, "O&O&nn:text", take_form, &form, take_bytes, &view, &at, &end))
-        return NULL;
-    if (is_place(end, view.len) && is_place(at, end)) {
-        const uint8_t *bytes = view.buf;
-        int order = form == NODY_FORM_UTF16LE ? -1 : 1;
-        size_t len = 0;
-        nody_kind_t kind = 0;
-        stop = at + (Py_ssize_t)valid_up_to(form, bytes + at, (size_t)(view.len - at));
-        if (stop < end) {
-            len = fault_len(form, (size_t)(view.len - stop));
-            kind = fault_kind(STREAMED, form, bytes + stop, (size_t)(view.len - stop));
-        } else {
-            stop = end;
-        }
-        made = form == NODY_FORM_UTF8 ? PyUnicode_DecodeUTF8((const char *)bytes + at, stop - at, "strict")
-                                      : PyUnicode_DecodeUTF16((const char *)bytes + at, stop - at, "strict", &order);
-        if (made != NULL)
-            made = Py_BuildValue("NnnI", made, stop, (Py_ssize_t)len, (unsigned)kind);
+    if (open_window(&window, &view)) {
+        Fault found = first_fault(&window, WHOLE, form, &view);
+        answer = found.kind == NODY_KIND_NONE
+                     ? Py_NewRef(Py_None)
+                     : Py_BuildValue("nnI", (Py_ssize_t)found.at, (Py_ssize_t)found.len, (unsigned)found.kind);
+        close_window(&window);
     }
     PyBuffer_Release(&view);
-    return made;
+    return answer;
 }
 
-/* held(form, data): how many bytes at the end may yet become a character. */
-static PyObject *held_count(PyObject *module, PyObject *args) {
-    Py_buffer view;
-    nody_form_t form;
-    size_t count;
-    (void)module;
-    if (!PyArg_ParseTuple(args, "O&O&:held", take_form, &form, take_bytes, &view))
-        return NULL;
-    count = held(form, view.buf, (size_t)view.len);
-    PyBuffer_Release(&view);
-    return PyLong_FromSize_t(count);
-}
-
-/* boundary(data, at) */
+/* boundary(data, at): an offset beyond any length counts as the length. */
 static PyObject *boundary(PyObject *module, PyObject *args) {
     Py_buffer view;
+    PyObject *number, *answer = NULL;
     Py_ssize_t at;
-    PyObject *answer = NULL;
     (void)module;
-    if (!PyArg_ParseTuple(args, "O&n:boundary", take_bytes, &view, &at))
+    if (!PyArg_ParseTuple(args, "O&O:boundary", take_bytes, &view, &number))
         return NULL;
-    if (is_place(at < view.len ? at : view.len, view.len))
-        answer = PyLong_FromSize_t(nody_shard_end(NODY_FORM_UTF8, view.buf, (size_t)view.len, (size_t)at));
+    at = PyNumber_AsSsize_t(number, NULL);
+    if (!PyErr_Occurred() && is_place(at < view.len ? at : view.len, view.len))
+        answer = PyLong_FromSize_t(nody_boundary_before(NODY_FORM_UTF8, view.buf, (size_t)view.len, (size_t)at));
     PyBuffer_Release(&view);
     return answer;
+}
+
+/* check(data): refuses what is no bytes-like object. */
+static PyObject *check(PyObject *module, PyObject *data) {
+    Py_buffer view;
+    (void)module;
+    if (!take_bytes(data, &view))
+        return NULL;
+    PyBuffer_Release(&view);
+    return Py_NewRef(Py_None);
 }
 
 /* char_count(data): how many pieces there are. */
 static PyObject *char_count(PyObject *module, PyObject *data) {
     Py_buffer view;
-    nody_bytes_t left;
-    nody_piece_t block[BLOCK];
-    size_t count = 0, here;
+    Window window;
+    PyObject *answer = NULL;
     (void)module;
     if (!take_bytes(data, &view))
         return NULL;
-    left = nody_bytes(view.buf, (size_t)view.len);
-    while ((here = nody_utf8_pieces(&left, block, BLOCK)) > 0)
-        count += here;
+    if (open_window(&window, &view)) {
+        size_t len = (size_t)view.len, count = 0;
+        PyThreadState *thread = let_lock_go(len);
+        for (size_t at = 0; at < len; at += window.len) {
+            next_window(&window, NODY_FORM_UTF8, (const uint8_t *)view.buf + at, len - at);
+            count += nody_utf8_char_count(window.bytes, window.len);
+        }
+        take_lock(thread);
+        answer = PyLong_FromSize_t(count);
+        close_window(&window);
+    }
     PyBuffer_Release(&view);
-    return PyLong_FromSize_t(count);
+    return answer;
 }
 
-/* index(data, every): how many pieces there are, and the offset of each that has a multiple of `every` before it. */
+/* Pieces that are counted, and the offset of each that has a multiple of `every` before it. */
+typedef struct {
+    uint64_t offset;
+    size_t count, every, marked, room;
+    uint8_t *marks;
+} Index;
+
+static void index_window(Index *index, const Window *window) {
+    nody_bytes_t left = nody_bytes(window->bytes, window->len);
+    nody_piece_t block[BLOCK];
+    size_t here;
+    while ((here = nody_utf8_pieces(&left, block, BLOCK)) > 0) {
+        for (size_t i = 0; i < here; i++) {
+            if (index->count++ % index->every == 0 && index->marked < index->room)
+                memcpy(index->marks + sizeof index->offset * index->marked++, &index->offset, sizeof index->offset);
+            index->offset += block[i].len;
+        }
+    }
+}
+
+/* index(data, every): how many pieces there are, and those offsets. */
 static PyObject *index_pieces(PyObject *module, PyObject *args) {
     Py_buffer view;
     Py_ssize_t every;
+    Window window;
     PyObject *marks = NULL;
     (void)module;
     if (!PyArg_ParseTuple(args, "O&n:index", take_bytes, &view, &every))
         return NULL;
-    if (every < 1)
+    if (every < 1) {
         PyErr_SetString(PyExc_ValueError, "every has to be at least 1");
-    else
-        marks = PyBytes_FromStringAndSize(NULL, (view.len / every + 1) * (Py_ssize_t)sizeof(uint64_t));
-    if (marks != NULL) {
-        uint8_t *to = (uint8_t *)PyBytes_AsString(marks);
-        nody_bytes_t left = nody_bytes(view.buf, (size_t)view.len);
-        nody_piece_t block[BLOCK];
-        uint64_t offset = 0;
-        Py_ssize_t count = 0, marked = 0, here;
-        while ((here = (Py_ssize_t)nody_utf8_pieces(&left, block, BLOCK)) > 0) {
-            for (Py_ssize_t i = 0; i < here; i++) {
-                if (count++ % every == 0)
-                    memcpy(to + sizeof offset * (size_t)marked++, &offset, sizeof offset);
-                offset += block[i].len;
+    } else if (open_window(&window, &view)) {
+        size_t len = (size_t)view.len;
+        Index index = {0, 0, (size_t)every, 0, len / (size_t)every + 1, NULL};
+        marks = PyBytes_FromStringAndSize(NULL, (Py_ssize_t)(index.room * sizeof index.offset));
+        if (marks != NULL) {
+            PyThreadState *thread;
+            index.marks = (uint8_t *)PyBytes_AsString(marks);
+            thread = let_lock_go(len);
+            for (size_t at = 0; at < len; at += window.len) {
+                next_window(&window, NODY_FORM_UTF8, (const uint8_t *)view.buf + at, len - at);
+                index_window(&index, &window);
             }
+            take_lock(thread);
+            marks = resized(marks, (Py_ssize_t)(index.marked * sizeof index.offset));
         }
-        marks = shortened(marks, marked * (Py_ssize_t)sizeof offset);
         if (marks != NULL)
-            marks = Py_BuildValue("nN", count, marks);
+            marks = Py_BuildValue("nN", (Py_ssize_t)index.count, marks);
+        close_window(&window);
     }
     PyBuffer_Release(&view);
     return marks;
@@ -276,55 +174,96 @@ static PyObject *index_pieces(PyObject *module, PyObject *args) {
 
 /* ---- recoding ---- */
 
-/* Empty bytes with room for whatever so many bytes are recoded as. */
-static PyObject *room_for(nody_form_t from, nody_form_t to, size_t len) {
-    size_t room = nody_recoded_len_max(from, to, len);
-    if (room > (size_t)PY_SSIZE_T_MAX - 64)
-        return PyErr_NoMemory();
-    return PyBytes_FromStringAndSize(NULL, (Py_ssize_t)room);
+/* Bytes that are being recoded: the input, how far it was read, and what was made of it. */
+typedef struct {
+    nody_recoder_t recoder;
+    Window window;
+    const uint8_t *in;
+    size_t len, read;
+    PyObject *made;
+    size_t room, written;
+    nody_fault_t *fault; /* where faults are refused */
+} Recoding;
+
+/* Makes room for more: never a tenth more than all will have. Answers 0 with an error. */
+static int make_room(Recoding *it) {
+    size_t left = it->len - it->read, room = nody_recoded_len_max(it->recoder.from, it->recoder.to, left);
+    if (it->len > SMALL) {
+        PyThreadState *thread = let_lock_go(left);
+        room = least_recoded(it->recoder.from, it->recoder.to, it->in + it->read, left);
+        take_lock(thread);
+    }
+    if (it->made != NULL)
+        room += (it->written + room) / 16;
+    if (room > (size_t)PY_SSIZE_T_MAX - it->written - 128) {
+        PyErr_NoMemory();
+        return 0;
+    }
+    it->room = it->written + room + 64; /* (what is held, and the end, have room too) */
+    it->made = it->made == NULL ? PyBytes_FromStringAndSize(NULL, (Py_ssize_t)it->room) : resized(it->made, (Py_ssize_t)it->room);
+    return it->made != NULL;
 }
 
-/* Feeds a part, strictly where there is room for a fault. */
-static nody_status_t feed(nody_recoder_t *recoder, const uint8_t *in, size_t len, uint8_t *out, size_t room, size_t *read, size_t *written,
-                          nody_fault_t *fault) {
-    return fault ? nody_recoder_feed_strict(recoder, in, len, out, room, read, written, fault)
-                 : nody_recoder_feed(recoder, in, len, out, room, read, written);
+/* Feeds the next part, strictly where there is room for a fault. */
+static nody_status_t feed_part(Recoding *it, const uint8_t *in, size_t len, uint8_t *out) {
+    size_t read, written, room = it->room - it->written;
+    nody_status_t status = it->fault ? nody_recoder_feed_strict(&it->recoder, in, len, out + it->written, room, &read, &written, it->fault)
+                                     : nody_recoder_feed(&it->recoder, in, len, out + it->written, room, &read, &written);
+    it->read += read, it->written += written;
+    return status;
 }
 
-static nody_status_t finish(nody_recoder_t *recoder, uint8_t *out, size_t room, size_t *written, nody_fault_t *fault) {
-    return fault ? nody_recoder_finish_strict(recoder, out, room, written, fault) : nody_recoder_finish(recoder, out, room, written);
+/* Feeds all that is left, as far as there is room. */
+static nody_status_t feed(Recoding *it) {
+    uint8_t *out = (uint8_t *)PyBytes_AsString(it->made);
+    PyThreadState *thread = let_lock_go(it->len - it->read);
+    nody_status_t status;
+    do {
+        next_window(&it->window, it->recoder.from, it->in + it->read, it->len - it->read);
+        status = feed_part(it, it->window.bytes, it->window.len, out);
+    } while (status == NODY_STATUS_DONE && it->read < it->len);
+    take_lock(thread);
+    return status;
 }
 
-/* Feeds all of the view, and finishes where that is asked for; answers the bytes that come of it. With room for a fault it goes up to
- * the first one, and `*read` says how many bytes were read then. */
+static nody_status_t finish(Recoding *it) {
+    uint8_t *out = (uint8_t *)PyBytes_AsString(it->made) + it->written;
+    size_t written, room = it->room - it->written;
+    nody_status_t status = it->fault ? nody_recoder_finish_strict(&it->recoder, out, room, &written, it->fault)
+                                     : nody_recoder_finish(&it->recoder, out, room, &written);
+    it->written += written;
+    return status;
+}
+
+/* Goes a step on, as often as there has to be more room. */
+static int goes(Recoding *it, nody_status_t (*step)(Recoding *)) {
+    nody_status_t status;
+    do {
+        status = step(it);
+    } while (status == NODY_STATUS_FULL && make_room(it));
+    if (status == NODY_STATUS_REFUSED)
+        PyErr_SetString(PyExc_SystemError, "the recoder is damaged");
+    return status == NODY_STATUS_DONE || status == NODY_STATUS_FAULT;
+}
+
+/* Feeds all of a view to a recoder, and finishes where that is asked for; answers the bytes that come of it. With room for a fault it
+ * goes up to the first one, and `read` says how many bytes were read then. */
 static PyObject *fed(nody_recoder_t *recoder, const Py_buffer *view, int is_last, size_t *read, nody_fault_t *fault) {
-    size_t len = (size_t)view->len, written = 0, more = 0, room;
-    nody_status_t status = NODY_STATUS_DONE;
-    PyObject *made = room_for(recoder->from, recoder->to, len + recoder->count);
-    uint8_t *out;
-    *read = 0;
-    if (made == NULL)
+    Recoding it = {*recoder, {NULL, NULL, 0, 0}, view->buf, (size_t)view->len, 0, NULL, 0, 0, fault};
+    PyObject *made = NULL;
+    if (!open_window(&it.window, view))
         return NULL;
-    out = (uint8_t *)PyBytes_AsString(made);
-    room = (size_t)PyBytes_Size(made);
-    if (len >= LARGE && view->obj != NULL && PyBytes_CheckExact(view->obj)) {
-        Py_BEGIN_ALLOW_THREADS
-        status = feed(recoder, view->buf, len, out, room, read, &written, fault);
-        Py_END_ALLOW_THREADS
-    } else if (len) {
-        status = feed(recoder, view->buf, len, out, room, read, &written, fault);
-    }
-    if (is_last && status == NODY_STATUS_DONE)
-        status = finish(recoder, out + written, room - written, &more, fault);
-    if (status != NODY_STATUS_DONE && status != NODY_STATUS_FAULT) {
-        Py_DECREF(made);
-        PyErr_SetString(PyExc_SystemError, "the room for recoded bytes was too small");
-        return NULL;
-    }
-    return shortened(made, (Py_ssize_t)(written + more));
+    if (make_room(&it) && goes(&it, feed) && (!is_last || (fault && fault->kind != NODY_KIND_NONE) || goes(&it, finish)))
+        made = resized(it.made, (Py_ssize_t)it.written);
+    else
+        Py_XDECREF(it.made);
+    close_window(&it.window);
+    *recoder = it.recoder, *read = it.read;
+    return made;
 }
 
-/* recode(from, to, data, strict): the bytes that come of it, or the offset, the length and the kind of the first fault. */
+/* recode(from, to, data, strict): the bytes that come of it, or the offset, the length and the kind of the first fault, and the data as
+ * `bytes`. */
 static PyObject *recode(PyObject *module, PyObject *args) {
     Py_buffer view;
     nody_form_t from, to;
@@ -332,23 +271,27 @@ static PyObject *recode(PyObject *module, PyObject *args) {
     nody_fault_t fault = {0, 0, NODY_KIND_NONE};
     size_t read;
     int strict;
-    PyObject *made;
+    PyObject *data, *made;
     (void)module;
-    if (!PyArg_ParseTuple(args, "O&O&O&p:recode", take_form, &from, take_form, &to, take_bytes, &view, &strict))
+    if (!PyArg_ParseTuple(args, "O&O&Op:recode", take_form, &from, take_form, &to, &data, &strict) || !take_bytes(data, &view))
         return NULL;
     recoder = nody_recoder(from, to);
     made = fed(&recoder, &view, 1, &read, strict ? &fault : NULL);
+    if (made != NULL && fault.kind != NODY_KIND_NONE) {
+        Py_DECREF(made);
+        made = bytes_of(data, &view);
+        if (made != NULL)
+            made = Py_BuildValue("nnIN", (Py_ssize_t)(read - fault.back), (Py_ssize_t)fault.len, (unsigned)fault.kind, made);
+    }
     PyBuffer_Release(&view);
-    if (made == NULL || fault.kind == NODY_KIND_NONE)
-        return made;
-    Py_DECREF(made);
-    return Py_BuildValue("nnI", (Py_ssize_t)(read - fault.back), (Py_ssize_t)fault.len, (unsigned)fault.kind);
+    return made;
 }
 
 typedef struct {
     PyObject_HEAD
     nody_recoder_t recoder;
     Py_ssize_t fed; /* bytes that were fed */
+    char busy;      /* 1 while a call goes on: it lets the lock go */
 } Recoder;
 
 static PyObject *recoder_new(PyTypeObject *type, PyObject *args, PyObject *names) {
@@ -370,27 +313,82 @@ static void plain_dealloc(PyObject *self) {
     Py_DECREF(type);
 }
 
-/* step(data, finish, strict): the bytes that come of it; where faults are refused and there is one, its offset, length and kind, what
- * was held before, and its place counted from there; nothing changes then. */
-static PyObject *recoder_step(PyObject *object, PyObject *args) {
-    Recoder *self = (Recoder *)object;
+/* The bytes that come of a step. The recoder changes only if they are made, and no fault is refused. */
+static PyObject *stepped(Recoder *self, const Py_buffer *view, int is_last, int strict) {
     nody_recoder_t before = self->recoder, after = self->recoder;
     nody_fault_t fault = {0, 0, NODY_KIND_NONE};
-    Py_buffer view;
-    size_t read;
-    int finish, strict;
-    PyObject *made;
-    if (!PyArg_ParseTuple(args, "O&pp:step", take_bytes, &view, &finish, &strict))
+    size_t read, place;
+    PyObject *made = fed(&after, view, is_last, &read, strict ? &fault : NULL), *all;
+    if (made == NULL)
         return NULL;
-    made = fed(&after, &view, finish, &read, strict ? &fault : NULL);
-    if (made != NULL && fault.kind != NODY_KIND_NONE) {
-        size_t place = before.count + read - fault.back;
-        Py_DECREF(made);
-        made = Py_BuildValue("nnIy#n", self->fed - before.count + (Py_ssize_t)place, (Py_ssize_t)fault.len, (unsigned)fault.kind,
-                             (const char *)before.held, (Py_ssize_t)before.count, (Py_ssize_t)place);
-    } else if (made != NULL) {
+    if (fault.kind == NODY_KIND_NONE) {
         self->recoder = after;
-        self->fed += view.len;
+        self->fed += view->len;
+        return made;
+    }
+    Py_DECREF(made);
+    place = before.count + read - fault.back;
+    all = PyBytes_FromStringAndSize(NULL, before.count + view->len);
+    if (all == NULL)
+        return NULL;
+    memcpy(PyBytes_AsString(all), before.held, before.count);
+    memcpy(PyBytes_AsString(all) + before.count, view->buf, (size_t)view->len);
+    return Py_BuildValue("nnINn", self->fed - before.count + (Py_ssize_t)place, (Py_ssize_t)fault.len, (unsigned)fault.kind, all,
+                         (Py_ssize_t)place);
+}
+
+/* step(data, finish, strict): the bytes that come of it; where faults are refused and there is one, its offset, length and kind, what
+ * was held before together with the data, and its place in there; nothing changes then. One call goes at a time: making a view of the
+ * data may run code that feeds this recoder, and that has ended before. */
+static PyObject *recoder_step(PyObject *object, PyObject *args) {
+    Recoder *self = (Recoder *)object;
+    Py_buffer view;
+    int is_last, strict;
+    PyObject *made = NULL;
+    if (!PyArg_ParseTuple(args, "O&pp:step", take_bytes, &view, &is_last, &strict))
+        return NULL;
+    if (__atomic_exchange_n(&self->busy, 1, __ATOMIC_ACQUIRE)) {
+        PyErr_SetString(PyExc_RuntimeError, "this Recoder is in use by another call: give each thread its own");
+    } else {
+        made = stepped(self, &view, is_last, strict);
+        __atomic_store_n(&self->busy, 0, __ATOMIC_RELEASE);
+    }
+    PyBuffer_Release(&view);
+    return made;
+}
+
+/* state(): the bytes that are held, how many faults were replaced, and how many bytes were fed. */
+static PyObject *recoder_state(PyObject *object, PyObject *nothing) {
+    const Recoder *self = (Recoder *)object;
+    (void)nothing;
+    return Py_BuildValue("y#Kn", (const char *)self->recoder.held, (Py_ssize_t)self->recoder.count,
+                         (unsigned long long)self->recoder.replaced, self->fed);
+}
+
+/* set_state(held, replaced, fed, strict), of a recoder that is new. What is held is fed: so a state that none can have is refused. */
+static PyObject *recoder_set_state(PyObject *object, PyObject *args) {
+    Recoder *self = (Recoder *)object;
+    nody_recoder_t recoder = nody_recoder(self->recoder.from, self->recoder.to);
+    nody_fault_t fault = {0, 0, NODY_KIND_NONE};
+    Py_buffer view;
+    unsigned long long replaced;
+    Py_ssize_t total;
+    size_t read;
+    int strict;
+    PyObject *made;
+    if (!PyArg_ParseTuple(args, "O&Knp:set_state", take_bytes, &view, &replaced, &total, &strict))
+        return NULL;
+    made = view.len > 3 ? Py_NewRef(Py_None) : fed(&recoder, &view, 0, &read, strict ? &fault : NULL);
+    if (made != NULL && recoder.count == view.len && total >= view.len) {
+        recoder.replaced = replaced;
+        self->recoder = recoder;
+        self->fed = total;
+        Py_DECREF(made);
+        made = Py_NewRef(Py_None);
+    } else if (made != NULL) {
+        Py_DECREF(made);
+        made = NULL;
+        PyErr_SetString(PyExc_ValueError, "no Recoder has this state");
     }
     PyBuffer_Release(&view);
     return made;
@@ -399,12 +397,6 @@ static PyObject *recoder_step(PyObject *object, PyObject *args) {
 static PyObject *recoder_faults(PyObject *self, void *closure) {
     (void)closure;
     return PyLong_FromUnsignedLongLong(((Recoder *)self)->recoder.replaced);
-}
-
-static PyObject *recoder_held(PyObject *self, void *closure) {
-    const nody_recoder_t *recoder = &((Recoder *)self)->recoder;
-    (void)closure;
-    return PyBytes_FromStringAndSize((const char *)recoder->held, recoder->count);
 }
 
 /* ---- pieces ---- */
@@ -421,14 +413,21 @@ typedef struct {
     PyObject *chars[256];
 } Maker;
 
+/* The version of the interpreter, which may be later than that of its headers. */
+static unsigned long version(void) {
+#if defined(Py_LIMITED_API)
+    return Py_Version;
+#else
+    return PY_VERSION_HEX;
+#endif
+}
+
 /* A tuple of 3.14 keeps its hash, so another piece must not come into it; without the lock nobody knows who has it. */
 static int takes_back(void) {
 #if defined(Py_GIL_DISABLED)
     return 0;
-#elif defined(Py_LIMITED_API)
-    return Py_Version < 0x030E0000;
 #else
-    return PY_VERSION_HEX < 0x030E0000;
+    return version() < 0x030E0000;
 #endif
 }
 
@@ -647,9 +646,11 @@ static PyType_Slot ends_slots[] = {{Py_tp_new, ends_new},         {Py_tp_dealloc
                                    {0, NULL}};
 static PyType_Spec ends_spec = {"noddychest._noddychest.Ends", sizeof(Ends), 0, Py_TPFLAGS_DEFAULT | Py_TPFLAGS_BASETYPE, ends_slots};
 
-static PyMethodDef recoder_methods[] = {{"step", recoder_step, METH_VARARGS, NULL}, {NULL, NULL, 0, NULL}};
-static PyGetSetDef recoder_members[] = {
-    {"faults", recoder_faults, NULL, NULL, NULL}, {"held", recoder_held, NULL, NULL, NULL}, {NULL, NULL, NULL, NULL, NULL}};
+static PyMethodDef recoder_methods[] = {{"step", recoder_step, METH_VARARGS, NULL},
+                                        {"state", recoder_state, METH_NOARGS, NULL},
+                                        {"set_state", recoder_set_state, METH_VARARGS, NULL},
+                                        {NULL, NULL, 0, NULL}};
+static PyGetSetDef recoder_members[] = {{"faults", recoder_faults, NULL, NULL, NULL}, {NULL, NULL, NULL, NULL, NULL}};
 static PyType_Slot recoder_slots[] = {{Py_tp_new, recoder_new},
                                       {Py_tp_dealloc, plain_dealloc},
                                       {Py_tp_methods, recoder_methods},
@@ -657,11 +658,17 @@ static PyType_Slot recoder_slots[] = {{Py_tp_new, recoder_new},
                                       {0, NULL}};
 static PyType_Spec recoder_spec = {"noddychest._noddychest.Recoder", sizeof(Recoder), 0, Py_TPFLAGS_DEFAULT, recoder_slots};
 
-static PyMethodDef functions[] = {{"supported", supported, METH_NOARGS, NULL},    {"kind_sentence", kind_sentence, METH_O, NULL},
-                                  {"fault", fault, METH_VARARGS, NULL},           {"text", text, METH_VARARGS, NULL},
-                                  {"held", held_count, METH_VARARGS, NULL},       {"boundary", boundary, METH_VARARGS, NULL},     {"char_count", char_count, METH_O, NULL},
-                                  
-                                  {"index", index_pieces, METH_VARARGS, NULL},    {"recode", recode, METH_VARARGS, NULL},
+static PyMethodDef functions[] = {{"supported", supported, METH_NOARGS, NULL},
+                                  {"kind_sentence", kind_sentence, METH_O, NULL},
+                                  {"fault", fault, METH_VARARGS, NULL},
+                                  {"boundary", boundary, METH_VARARGS, NULL},
+                                  {"check", check, METH_O, NULL},
+                                  {"char_count", char_count, METH_O, NULL},
+                                  {"index", index_pieces, METH_VARARGS, NULL},
+                                  {"recode", recode, METH_VARARGS, NULL},
+                                  {"decode", decode, METH_VARARGS, NULL},
+                                  {"replaced", replaced, METH_VARARGS, NULL},
+                                  {"handled", handled, METH_VARARGS, NULL},
                                   {NULL, NULL, 0, NULL}};
 
 static int begin_module(PyObject *module) {
@@ -678,9 +685,21 @@ static int begin_module(PyObject *module) {
     return 0;
 }
 
-static PyModuleDef_Slot module_slots[] = {{Py_mod_exec, begin_module}, {0, NULL}};
-static struct PyModuleDef module_def = {PyModuleDef_HEAD_INIT, "_noddychest", NULL, 0, functions, module_slots, NULL, NULL, NULL};
+/* From 3.12 on a module says that each interpreter may load it, also one with a lock of its own. Older ones refuse the slot, which
+ * they do not know, so there are two definitions; one wheel serves both. (The numbers are those of the stable ABI, whose headers of
+ * 3.11 lack them.) */
+#ifndef Py_mod_multiple_interpreters
+#define Py_mod_multiple_interpreters 3
+#define Py_MOD_PER_INTERPRETER_GIL_SUPPORTED ((void *)2)
+#endif
+
+static PyModuleDef_Slot old_slots[] = {{Py_mod_exec, begin_module}, {0, NULL}};
+static PyModuleDef_Slot new_slots[] = {{Py_mod_exec, begin_module},
+                                       {Py_mod_multiple_interpreters, Py_MOD_PER_INTERPRETER_GIL_SUPPORTED},
+                                       {0, NULL}};
+static struct PyModuleDef old_module = {PyModuleDef_HEAD_INIT, "_noddychest", NULL, 0, functions, old_slots, NULL, NULL, NULL};
+static struct PyModuleDef new_module = {PyModuleDef_HEAD_INIT, "_noddychest", NULL, 0, functions, new_slots, NULL, NULL, NULL};
 
 PyMODINIT_FUNC PyInit__noddychest(void) {
-    return PyModuleDef_Init(&module_def);
+    return PyModuleDef_Init(version() < 0x030C0000 ? &old_module : &new_module);
 }

@@ -76,7 +76,15 @@ class BytesLike(unittest.TestCase):
     def test_offsets(self):
         self.assertRaises(IndexError, boundary, b"abc", -1)
         self.assertRaises(TypeError, boundary, b"abc", 1.5)
-        self.assertEqual(boundary(b"abc", 2**40), 3)
+        for at in (3, 4, 2**31, 2**32, 2**40, 2**63 - 1, 2**63, 2**64, 10**30):
+            self.assertEqual(boundary(b"abc", at), 3)
+            self.assertEqual(boundary("é".encode(), at), 2)
+            self.assertEqual(boundary(b"", at), 0)
+        for at in (-1, -(2**31), -(2**63), -(2**63) - 1, -(10**30)):
+            self.assertRaises(IndexError, boundary, b"abc", at)
+        self.assertRaises(TypeError, boundary, b"abc", "1")
+        self.assertRaises(TypeError, boundary, b"abc", None)
+        self.assertEqual(boundary("é".encode(), True), 0)
 
 
 class Lifetime(unittest.TestCase):

@@ -21,10 +21,10 @@ _EVERY = 64
 
 
 class ErrorKind(enum.Enum):
-    """What is wrong with a faulty byte, or in UTF-16 with a faulty unit.
+    """The reason why a byte is invalid; in UTF-16, why a 16-bit unit is, or a single byte at the end.
 
     >>> ErrorKind.OVERLONG_ENCODING.reason
-    'the value fits in fewer bytes'
+    'overlong encoding: the value has a shorter code'
     """
 
     TOO_FEW_BYTES = 1
@@ -40,16 +40,18 @@ class ErrorKind(enum.Enum):
 
     @property
     def reason(self) -> str:
-        """The error in words."""
-        return _noddychest.kind_sentence(self.value)
+        """The reason in words."""
+        return REASONS[self.value]
 
 
-# The error of each number of the C library. 0 is a character, and 11 that nothing is left.
-_ERRORS: tuple[Optional[ErrorKind], ...] = (None, *ErrorKind, None)
+# The error of each number of the C library, and the reason in words, which is what its nody_kind_sentence says. 0 is a character, and
+# 11 that nothing is left.
+ERRORS: tuple[Optional[ErrorKind], ...] = (None, *ErrorKind, None)
+REASONS = tuple(map(_noddychest.kind_sentence, range(len(ERRORS))))
 
 
 class Piece(NamedTuple):
-    """A character, or a single faulty byte: one in which no character stands.
+    """A character, or a single invalid byte.
 
     >>> Piece(0, "é", 2, None)
     Piece(offset=0, char='é', length=2, error=None)
@@ -58,16 +60,17 @@ class Piece(NamedTuple):
     offset: int
     """Where it begins, in bytes."""
     char: Optional[str]
-    """The character, or None for a faulty byte."""
+    """The character, or None for an invalid byte."""
     length: int
-    """How many bytes it has: 1 to 4, and 1 for a faulty byte."""
+    """How many bytes it has: 1 to 4, and 1 for an invalid byte."""
     error: Optional[ErrorKind]
-    """What is wrong, or None for a character."""
+    """The reason why the byte is invalid, or None for a character."""
 
 
 class FaultError(UnicodeDecodeError):
-    """Bytes are ill-formed. Beside `start`, `end` and `reason` it has `offset`, which counts from the first byte of all input, and
-    `error`.
+    """An invalid byte was met; in UTF-16, a lone surrogate, or a single byte at the end. Beside what a UnicodeDecodeError has, it has
+    `offset` and `error`. `start` and `end` lie in `object`, which may be a part of the input. `offset` counts from the first byte of
+    all input, also of a stream.
 
     >>> try:
     ...     b"ab\\xff".decode("noddychest-utf8")
@@ -80,19 +83,19 @@ class FaultError(UnicodeDecodeError):
     error: ErrorKind
 
 
-def fault_error(encoding: str, data: ReadableBuffer, start: int, length: int, kind: int, offset: int) -> FaultError:
+def fault_error(encoding: str, data: bytes, start: int, length: int, kind: int, offset: int) -> FaultError:
     error = ErrorKind(kind)
-    fault = FaultError(encoding, bytes(data), start, start + length, error.reason)
+    fault = FaultError(encoding, data, start, start + length, error.reason)
     fault.offset, fault.error = offset, error
     return fault
 
 
 class Pieces(Sequence[Piece]):
-    """The pieces of UTF-8 in order, as a sequence. Nothing is copied: the bytes must stay the same for as long as this is used, and
+    """The pieces of UTF-8 in order, as a sequence. The bytes are not copied: they must stay the same for as long as this is used, and
     a `bytearray` cannot be resized until then.
 
-    Going over it from either end costs no more than the pieces that are taken. `len()` and an index go over all bytes once; after
-    that an index steps over at most 63 pieces. A slice is a list.
+    Iterating from either end costs no more than the pieces that are taken. The first `len()` or index reads all bytes once; after that
+    an index steps over at most 63 pieces. A slice is a list.
 
     >>> cut = Pieces(b"a\\xffb")
     >>> len(cut), cut[1], cut[-1].char
@@ -104,7 +107,7 @@ class Pieces(Sequence[Piece]):
     __slots__ = ("_count", "_data", "_marks", "__weakref__")
 
     def __init__(self, data: ReadableBuffer) -> None:
-        _noddychest.held(0, data)  # refuses what is no bytes-like object
+        _noddychest.check(data)  # (its TypeError says more than that of memoryview)
         self._data = memoryview(data)
         self._count = -1
         self._marks = array.array("Q")
@@ -113,10 +116,10 @@ class Pieces(Sequence[Piece]):
         return f"<{type(self).__name__} of {self._data.nbytes} bytes>"
 
     def __iter__(self) -> Iterator[Piece]:
-        return _noddychest.Run(self._data, Piece, _ERRORS, 0, False)
+        return _noddychest.Run(self._data, Piece, ERRORS, 0, False)
 
     def __reversed__(self) -> Iterator[Piece]:
-        return _noddychest.Run(self._data, Piece, _ERRORS, 0, True)
+        return _noddychest.Run(self._data, Piece, ERRORS, 0, True)
 
     def __bool__(self) -> bool:
         return self._data.nbytes > 0
@@ -147,7 +150,7 @@ class Pieces(Sequence[Piece]):
         if not places:
             return []
         mark, before = divmod(places.start, _EVERY)
-        run = _noddychest.Run(self._data, Piece, _ERRORS, self._marks[mark], False)
+        run = _noddychest.Run(self._data, Piece, ERRORS, self._marks[mark], False)
         found = list(itertools.islice(run, before, before + places.stop - places.start, places.step))
         if len(found) != len(places):
             raise RuntimeError("the bytes were changed since their pieces were counted")
@@ -155,7 +158,7 @@ class Pieces(Sequence[Piece]):
 
 
 def pieces(data: ReadableBuffer) -> Pieces:
-    """The pieces of UTF-8: each character, and each faulty byte by itself. They lie one after another, and are all of the bytes.
+    """The pieces of UTF-8: each character, and each invalid byte by itself. No byte is left out, and none is in two pieces.
 
     >>> [piece.char for piece in pieces(b"\\xf0\\x9f\\x98\\x80\\xf0\\x9f")]
     ['😀', None, None]
@@ -164,8 +167,8 @@ def pieces(data: ReadableBuffer) -> Pieces:
 
 
 class Decoder(_noddychest.Ends):
-    """An iterator that takes pieces of UTF-8 from both ends, in any order: each piece comes once. What is wrong with a faulty byte
-    is judged by the bytes that are left. `start` and `end` are the offsets between which they lie.
+    """An iterator that takes pieces of UTF-8 from both ends, in any order: each piece comes once. Why a byte is invalid is judged by
+    the bytes that are left, which lie between the offsets `start` and `end`.
 
     >>> decoder = Decoder(b"a\\xc3\\xa9b")
     >>> next(decoder).char, decoder.next_back().char, next(decoder).char, decoder.next_back()
@@ -177,19 +180,19 @@ class Decoder(_noddychest.Ends):
     __slots__ = ()
 
     def __new__(cls, data: ReadableBuffer) -> Decoder:
-        return super().__new__(cls, data, Piece, _ERRORS)
+        return super().__new__(cls, data, Piece, ERRORS)
 
     def next_back(self) -> Optional[Piece]:
-        """The piece at the end of what is left, which then is gone; None where nothing is left."""
+        """Takes the last piece of what is left. None if nothing is left."""
         return super().next_back()
 
     def __reversed__(self) -> Iterator[Piece]:
-        """Takes the pieces from the back; what is left is shared with this decoder."""
+        """An iterator that takes the pieces of this decoder from the back."""
         return iter(self.next_back, None)
 
 
 def first_fault(data: ReadableBuffer) -> Optional[Piece]:
-    """The first faulty byte of UTF-8, or None where there is none.
+    """The first invalid byte of UTF-8, or None if there is none.
 
     >>> first_fault(b"ab\\xffc")
     Piece(offset=2, char=None, length=1, error=<ErrorKind.NON_UTF8_BYTE: 2>)
@@ -197,11 +200,11 @@ def first_fault(data: ReadableBuffer) -> Optional[Piece]:
     True
     """
     found = _noddychest.fault(0, data)
-    return None if found is None else Piece(found[0], None, found[1], _ERRORS[found[2]])
+    return None if found is None else Piece(found[0], None, found[1], ERRORS[found[2]])
 
 
 def is_valid(data: ReadableBuffer) -> bool:
-    """Whether all of the bytes are UTF-8.
+    """Whether the bytes are valid UTF-8.
 
     >>> is_valid("é".encode()), is_valid("é".encode("latin-1"))
     (True, False)
@@ -210,7 +213,7 @@ def is_valid(data: ReadableBuffer) -> bool:
 
 
 def char_count(data: ReadableBuffer) -> int:
-    """How many characters there are, where each faulty byte counts as one: as many as are shown where each is one U+FFFD.
+    """How many characters there are, if each invalid byte counts as one.
 
     >>> char_count("né".encode() + b"\\xe2\\x82")
     4
@@ -219,8 +222,8 @@ def char_count(data: ReadableBuffer) -> int:
 
 
 def boundary(data: ReadableBuffer, at: int) -> int:
-    """The last offset up to `at` that is no place inside a character: UTF-8 may be cut there. It is at most three bytes before
-    `at`, and the length where `at` is no less. A negative offset is an IndexError.
+    """The last offset up to `at` that is not inside a character: there you can divide UTF-8. It is at most three bytes before `at`. If
+    `at` is the length or more, it is the length. A negative offset is an IndexError.
 
     >>> boundary("a😀".encode(), 4)
     1
