@@ -3,9 +3,9 @@
  *
  * The interpreter's lock is let go while 64 KiB or more are read, and the buffer is held meanwhile. Nothing is kept but in objects, so
  * each interpreter has its own. */
-#define _GNU_SOURCE
-#include "lengths.h"
 #include "views.h"
+
+#include "lengths.h"
 
 #include <dlfcn.h>
 #include <string.h>

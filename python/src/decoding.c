@@ -4,9 +4,9 @@
 
 #include <string.h>
 
-#define BLOCK 32      /* pieces that are taken at once */
-#define LONGEST 8     /* the most characters that one piece becomes: a unit as \xd8\x00 */
-#define ENOUGH 16     /* characters one after another; after so many more are likely */
+#define LEAST 8       /* bytes that are looked at one by one; while there are faults up to CHUNK */
+#define CHUNK 512
+#define LONGEST 4     /* the most characters that a byte becomes: \xff */
 #define ROOM 4096     /* characters that wait to become a string */
 #define SHORT 64      /* strings up to this length wait one by one */
 
@@ -157,68 +157,63 @@ static void put_fault(Text *text, enum Way way, const uint8_t *bytes, size_t len
     text->count = (size_t)(to - text->room);
 }
 
-/* Puts some pieces; answers how many bytes they have. `good` counts the characters since the last fault. */
-static size_t put_pieces(Text *text, enum Way way, const nody_piece_t *pieces, size_t count, const uint8_t *bytes, size_t unit, int *good) {
-    size_t at = 0;
-    for (size_t i = 0; i < count; i++) {
-        size_t len = unit * pieces[i].len;
-        if (pieces[i].kind == NODY_KIND_OK) {
-            text->room[text->count++] = (wchar_t)pieces[i].scalar;
-            ++*good;
-        } else {
-            put_fault(text, way, bytes + at, len);
-            *good = 0;
+/* How many bytes a character has. */
+static size_t code_len(nody_form_t form, uint32_t scalar) {
+    if (form != NODY_FORM_UTF8)
+        return scalar < 0x10000 ? 2 : 4;
+    return scalar < 0x80 ? 1 : scalar < 0x800 ? 2 : scalar < 0x10000 ? 3 : 4;
+}
+
+/* Whether U+FFFD stands here. */
+static int is_fffd(nody_form_t form, const uint8_t *bytes, size_t len) {
+    return form == NODY_FORM_UTF8 ? len > 2 && memcmp(bytes, "\xEF\xBF\xBD", 3) == 0 : len > 1 && unit_at(form, bytes) == 0xFFFD;
+}
+
+/* Puts the pieces of some bytes, given what they are as UTF-16; answers how many faults there are. U+FFFD stands for a fault where the
+ * bytes have none. */
+static size_t put_pieces(Text *text, enum Way way, nody_form_t form, const uint8_t *bytes, size_t len, const uint8_t *units, size_t size) {
+    size_t faults = 0, at = 0;
+    for (size_t i = 0; i < size; i += 2) {
+        uint32_t scalar = unit_at(NODY_FORM_UTF16LE, units + i);
+        if (scalar == 0xFFFD && !is_fffd(form, bytes + at, len - at)) {
+            size_t fault = form == NODY_FORM_UTF8 || len - at < 2 ? 1 : 2;
+            put_fault(text, way, bytes + at, fault);
+            at += fault, faults++;
+            continue;
         }
-        at += len;
+        if ((scalar & 0xFC00) == 0xD800)
+            scalar = 0x10000 + ((scalar & 0x3FF) << 10) + (unit_at(NODY_FORM_UTF16LE, units + (i += 2)) & 0x3FF);
+        text->room[text->count++] = (wchar_t)scalar;
+        at += code_len(form, scalar);
     }
-    return at;
+    return faults;
 }
 
-/* Puts some pieces from the front of UTF-8: ASCII, or up to BLOCK others; answers how many bytes they have. */
-static size_t put_utf8(Text *text, enum Way way, const uint8_t *bytes, size_t len, int *good) {
-    nody_piece_t pieces[BLOCK];
-    nody_bytes_t left = nody_bytes(bytes, len);
-    size_t at = 0;
-    while (at < len && at < BLOCK && bytes[at] < 0x80)
-        text->room[text->count++] = bytes[at++];
-    *good += (int)at;
-    return at > 0 ? at : put_pieces(text, way, pieces, nody_utf8_pieces(&left, pieces, BLOCK), bytes, 1, good);
+/* Puts about `size` bytes, up to CHUNK; answers how many. */
+static size_t put_chunk(Text *text, enum Way way, nody_form_t form, const uint8_t *bytes, size_t len, size_t size, size_t *faults) {
+    uint8_t units[2 * CHUNK + 2];
+    size_t end = nody_boundary_before(form, bytes, len, size), written;
+    nody_recode(form, NODY_FORM_UTF16LE, bytes, end, units, sizeof units, &written);
+    *faults = put_pieces(text, way, form, bytes, end, units, written);
+    return end;
 }
 
-static size_t put_utf16(Text *text, enum Way way, nody_form_t form, const uint8_t *bytes, size_t len, int *good) {
-    nody_piece_t pieces[BLOCK];
-    uint16_t units[BLOCK];
-    size_t count = len / 2 < BLOCK ? len / 2 : BLOCK;
-    nody_units_t left = nody_units(units, count);
-    if (count == 0) {
-        put_fault(text, way, bytes, 1);
-        return 1;
-    }
-    for (size_t i = 0; i < count; i++)
-        units[i] = unit_at(form, bytes + 2 * i);
-    count = nody_utf16_pieces(&left, pieces, BLOCK);
-    if (count > 1 && pieces[count - 1].kind == NODY_KIND_INCOMPLETE)
-        count--; /* (it is judged with what follows) */
-    return put_pieces(text, way, pieces, count, bytes, 2, good);
-}
-
-/* Puts the text of all bytes. After ENOUGH characters without a fault it looks how far there is none. */
+/* Puts all bytes: chunks that grow while there are faults, and what has none as a whole. */
 static int put_replaced(Text *text, enum Way way, nody_form_t form, const uint8_t *bytes, size_t len) {
-    int good = 0;
+    size_t size = LEAST, faults, valid;
     for (size_t at = 0; at < len;) {
-        size_t valid = good < ENOUGH ? 0 : nody_utf16_bytes_valid_up_to(form, bytes + at, len - at);
-        if (text->count > ROOM - BLOCK * LONGEST && !flush(text))
+        if (text->count > ROOM - CHUNK * LONGEST && !flush(text))
             return 0;
-        if (good >= ENOUGH)
-            good = 0;
+        at += put_chunk(text, way, form, bytes + at, len - at, size, &faults);
+        if (faults > 0) {
+            size = size < CHUNK ? 2 * size : CHUNK;
+            continue;
+        }
+        size = LEAST;
+        valid = nody_utf16_bytes_valid_up_to(form, bytes + at, len - at);
         if (valid > SHORT && !put(text, text_of(form, bytes + at, valid)))
             return 0;
-        if (valid > SHORT)
-            at += valid;
-        else if (form == NODY_FORM_UTF8)
-            at += put_utf8(text, way, bytes + at, len - at, &good);
-        else
-            at += put_utf16(text, way, form, bytes + at, len - at, &good);
+        at += valid > SHORT ? valid : 0;
     }
     return 1;
 }

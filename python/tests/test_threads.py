@@ -13,7 +13,7 @@ import noddychest
 from noddychest import Decoder, FaultError, Recoder, char_count, first_fault, is_valid, pieces, recode
 
 SIZE = 32 << 20
-TRIES = 30
+TRIES = 100
 
 
 def run_all(works):
@@ -231,8 +231,9 @@ class LockIsLetGo(unittest.TestCase):
         return False
 
     def test_each(self):
-        data = bytes(SIZE)
+        data = "é".encode() * (SIZE // 2)  # (which is valid UTF-16 too, and takes longer than ASCII)
         mapped = mmap.mmap(-1, SIZE)
+        mapped[:] = data
         calls = {
             "is_valid": is_valid,
             "first_fault": first_fault,
@@ -243,7 +244,7 @@ class LockIsLetGo(unittest.TestCase):
             "feed": lambda it: Recoder("utf8", "utf8").feed(it),
             "decode": lambda it: codecs.decode(it, "noddychest-utf8"),
         }
-        for it in (data, bytearray(data), memoryview(data), memoryview(bytearray(data))[1:], mapped):
+        for it in (data, bytearray(data), memoryview(data), memoryview(bytearray(data))[2:], mapped):
             for name, call in calls.items():
                 with self.subTest(call=name, type=type(it).__name__):
                     self.assertTrue(self.lets_go(lambda: call(it)))
