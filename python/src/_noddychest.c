@@ -11,6 +11,7 @@
 #include <string.h>
 
 #define BLOCK 256         /* pieces that cross at once */
+#define SKIPPED (1 << 20) /* the bytes over which faults are looked for at once */
 #define SMALL (64 * 1024) /* an input up to here gets room for the most that it can become */
 
 /* ---- bytes that are made ---- */
@@ -33,6 +34,32 @@ static PyObject *resized(PyObject *made, Py_ssize_t len) {
         memcpy(PyBytes_AsString(copy), PyBytes_AsString(made), (size_t)(len < old ? len : old));
     Py_DECREF(made);
     return copy;
+}
+
+/* ---- many pieces ---- */
+
+/* Up to BLOCK pieces from the front of UTF-16; answers how many. */
+static size_t pieces_utf16(nody_form_t form, const uint8_t *bytes, size_t len, nody_piece_t *block) {
+    uint16_t units[BLOCK];
+    size_t size = len / 2 < BLOCK ? len / 2 : BLOCK, count;
+    nody_units_t left = nody_units(units, size);
+    for (size_t i = 0; i < size; i++)
+        units[i] = unit_at(form, bytes + 2 * i);
+    count = nody_utf16_pieces(&left, block, BLOCK);
+    if (count > 1 && block[count - 1].kind == NODY_KIND_INCOMPLETE && size < len / 2)
+        count--; /* (it is judged with what follows) */
+    for (size_t i = 0; i < count; i++)
+        block[i].len *= 2;
+    return count;
+}
+
+static size_t first_pieces(nody_form_t form, const uint8_t *bytes, size_t len, nody_piece_t *block) {
+    nody_bytes_t left = nody_bytes(bytes, len);
+    if (form == NODY_FORM_UTF8)
+        return nody_utf8_pieces(&left, block, BLOCK);
+    if (len == 1)
+        block[0] = first_piece(form, bytes, len);
+    return len == 1 ? 1 : pieces_utf16(form, bytes, len, block);
 }
 
 /* ---- functions ---- */
@@ -70,17 +97,20 @@ static PyObject *fault(PyObject *module, PyObject *args) {
     return answer;
 }
 
-/* boundary(data, at): an offset beyond any length counts as the length. */
+/* boundary(form, data, at, after): an offset beyond any length counts as the length. */
 static PyObject *boundary(PyObject *module, PyObject *args) {
     Py_buffer view;
+    nody_form_t form;
     PyObject *number, *answer = NULL;
     Py_ssize_t at;
+    int after;
     (void)module;
-    if (!PyArg_ParseTuple(args, "O&O:boundary", take_bytes, &view, &number))
+    if (!PyArg_ParseTuple(args, "O&O&Op:boundary", take_form, &form, take_bytes, &view, &number, &after))
         return NULL;
     at = PyNumber_AsSsize_t(number, NULL);
     if (!PyErr_Occurred() && is_place(at < view.len ? at : view.len, view.len))
-        answer = PyLong_FromSize_t(nody_boundary_before(NODY_FORM_UTF8, view.buf, (size_t)view.len, (size_t)at));
+        answer = PyLong_FromSize_t(after ? nody_boundary_after(form, view.buf, (size_t)view.len, (size_t)at)
+                                         : nody_boundary_before(form, view.buf, (size_t)view.len, (size_t)at));
     PyBuffer_Release(&view);
     return answer;
 }
@@ -95,20 +125,35 @@ static PyObject *check(PyObject *module, PyObject *data) {
     return Py_NewRef(Py_None);
 }
 
-/* char_count(data): how many pieces there are. */
-static PyObject *char_count(PyObject *module, PyObject *data) {
+static size_t count_pieces(nody_form_t form, const uint8_t *bytes, size_t len) {
+    nody_piece_t block[BLOCK];
+    size_t count = 0;
+    if (form == NODY_FORM_UTF8)
+        return nody_utf8_char_count(bytes, len);
+    for (size_t at = 0; at < len;) {
+        size_t here = first_pieces(form, bytes + at, len - at, block);
+        for (size_t i = 0; i < here; i++)
+            at += block[i].len;
+        count += here;
+    }
+    return count;
+}
+
+/* char_count(form, data): how many pieces there are. */
+static PyObject *char_count(PyObject *module, PyObject *args) {
     Py_buffer view;
+    nody_form_t form;
     Window window;
     PyObject *answer = NULL;
     (void)module;
-    if (!take_bytes(data, &view))
+    if (!PyArg_ParseTuple(args, "O&O&:char_count", take_form, &form, take_bytes, &view))
         return NULL;
     if (open_window(&window, &view)) {
         size_t len = (size_t)view.len, count = 0;
         PyThreadState *thread = let_lock_go(len);
         for (size_t at = 0; at < len; at += window.len) {
-            next_window(&window, NODY_FORM_UTF8, (const uint8_t *)view.buf + at, len - at);
-            count += nody_utf8_char_count(window.bytes, window.len);
+            next_window(&window, form, (const uint8_t *)view.buf + at, len - at);
+            count += count_pieces(form, window.bytes, window.len);
         }
         take_lock(thread);
         answer = PyLong_FromSize_t(count);
@@ -120,45 +165,47 @@ static PyObject *char_count(PyObject *module, PyObject *data) {
 
 /* Pieces that are counted, and the offset of each that has a multiple of `every` before it. */
 typedef struct {
+    nody_form_t form;
     uint64_t offset;
     size_t count, every, marked, room;
     uint8_t *marks;
 } Index;
 
 static void index_window(Index *index, const Window *window) {
-    nody_bytes_t left = nody_bytes(window->bytes, window->len);
     nody_piece_t block[BLOCK];
-    size_t here;
-    while ((here = nody_utf8_pieces(&left, block, BLOCK)) > 0) {
+    for (size_t at = 0; at < window->len;) {
+        size_t here = first_pieces(index->form, window->bytes + at, window->len - at, block);
         for (size_t i = 0; i < here; i++) {
             if (index->count++ % index->every == 0 && index->marked < index->room)
                 memcpy(index->marks + sizeof index->offset * index->marked++, &index->offset, sizeof index->offset);
             index->offset += block[i].len;
+            at += block[i].len;
         }
     }
 }
 
-/* index(data, every): how many pieces there are, and those offsets. */
+/* index(form, data, every): how many pieces there are, and those offsets. */
 static PyObject *index_pieces(PyObject *module, PyObject *args) {
     Py_buffer view;
+    nody_form_t form;
     Py_ssize_t every;
     Window window;
     PyObject *marks = NULL;
     (void)module;
-    if (!PyArg_ParseTuple(args, "O&n:index", take_bytes, &view, &every))
+    if (!PyArg_ParseTuple(args, "O&O&n:index", take_form, &form, take_bytes, &view, &every))
         return NULL;
     if (every < 1) {
         PyErr_SetString(PyExc_ValueError, "every has to be at least 1");
     } else if (open_window(&window, &view)) {
         size_t len = (size_t)view.len;
-        Index index = {0, 0, (size_t)every, 0, len / (size_t)every + 1, NULL};
+        Index index = {form, 0, 0, (size_t)every, 0, len / (size_t)every + 1, NULL};
         marks = PyBytes_FromStringAndSize(NULL, (Py_ssize_t)(index.room * sizeof index.offset));
         if (marks != NULL) {
             PyThreadState *thread;
             index.marks = (uint8_t *)PyBytes_AsString(marks);
             thread = let_lock_go(len);
             for (size_t at = 0; at < len; at += window.len) {
-                next_window(&window, NODY_FORM_UTF8, (const uint8_t *)view.buf + at, len - at);
+                next_window(&window, form, (const uint8_t *)view.buf + at, len - at);
                 index_window(&index, &window);
             }
             take_lock(thread);
@@ -172,17 +219,46 @@ static PyObject *index_pieces(PyObject *module, PyObject *args) {
     return marks;
 }
 
+/* recoded_len(from, to, data): how many bytes recode makes. */
+static PyObject *recoded_len(PyObject *module, PyObject *args) {
+    Py_buffer view;
+    nody_form_t from, to;
+    Window window;
+    PyObject *answer = NULL;
+    (void)module;
+    if (!PyArg_ParseTuple(args, "O&O&O&:recoded_len", take_form, &from, take_form, &to, take_bytes, &view))
+        return NULL;
+    if (open_window(&window, &view)) {
+        size_t len = (size_t)view.len, sum = 0;
+        PyThreadState *thread = let_lock_go(len);
+        for (size_t at = 0; at < len; at += window.len) {
+            next_window(&window, from, (const uint8_t *)view.buf + at, len - at);
+            sum += nody_recoded_len(from, to, window.bytes, window.len);
+        }
+        take_lock(thread);
+        answer = PyLong_FromSize_t(sum);
+        close_window(&window);
+    }
+    PyBuffer_Release(&view);
+    return answer;
+}
+
 /* ---- recoding ---- */
+
+/* What is done with faults: one U+FFFD for each, a stop at the first, or one U+FFFD for each maximal subpart. The numbers are those of
+ * the package. */
+enum Errors { EACH, STRICT, MAXIMAL };
 
 /* Bytes that are being recoded: the input, how far it was read, and what was made of it. */
 typedef struct {
     nody_recoder_t recoder;
+    enum Errors errors;
     Window window;
     const uint8_t *in;
     size_t len, read;
     PyObject *made;
     size_t room, written;
-    nody_fault_t *fault; /* where faults are refused */
+    nody_fault_t *fault;
 } Recoding;
 
 /* Makes room for more: never a tenth more than all will have. Answers 0 with an error. */
@@ -204,11 +280,17 @@ static int make_room(Recoding *it) {
     return it->made != NULL;
 }
 
-/* Feeds the next part, strictly where there is room for a fault. */
+/* Feeds the next part. */
 static nody_status_t feed_part(Recoding *it, const uint8_t *in, size_t len, uint8_t *out) {
     size_t read, written, room = it->room - it->written;
-    nody_status_t status = it->fault ? nody_recoder_feed_strict(&it->recoder, in, len, out + it->written, room, &read, &written, it->fault)
-                                     : nody_recoder_feed(&it->recoder, in, len, out + it->written, room, &read, &written);
+    nody_status_t status;
+    out += it->written;
+    if (it->errors == STRICT)
+        status = nody_recoder_feed_strict(&it->recoder, in, len, out, room, &read, &written, it->fault);
+    else if (it->errors == MAXIMAL)
+        status = nody_recoder_feed_lossy(&it->recoder, in, len, out, room, &read, &written);
+    else
+        status = nody_recoder_feed(&it->recoder, in, len, out, room, &read, &written);
     it->read += read, it->written += written;
     return status;
 }
@@ -229,8 +311,13 @@ static nody_status_t feed(Recoding *it) {
 static nody_status_t finish(Recoding *it) {
     uint8_t *out = (uint8_t *)PyBytes_AsString(it->made) + it->written;
     size_t written, room = it->room - it->written;
-    nody_status_t status = it->fault ? nody_recoder_finish_strict(&it->recoder, out, room, &written, it->fault)
-                                     : nody_recoder_finish(&it->recoder, out, room, &written);
+    nody_status_t status;
+    if (it->errors == STRICT)
+        status = nody_recoder_finish_strict(&it->recoder, out, room, &written, it->fault);
+    else if (it->errors == MAXIMAL)
+        status = nody_recoder_finish_lossy(&it->recoder, out, room, &written);
+    else
+        status = nody_recoder_finish(&it->recoder, out, room, &written);
     it->written += written;
     return status;
 }
@@ -246,14 +333,28 @@ static int goes(Recoding *it, nody_status_t (*step)(Recoding *)) {
     return status == NODY_STATUS_DONE || status == NODY_STATUS_FAULT;
 }
 
-/* Feeds all of a view to a recoder, and finishes where that is asked for; answers the bytes that come of it. With room for a fault it
- * goes up to the first one, and `read` says how many bytes were read then. */
-static PyObject *fed(nody_recoder_t *recoder, const Py_buffer *view, int is_last, size_t *read, nody_fault_t *fault) {
-    Recoding it = {*recoder, {NULL, NULL, 0, 0}, view->buf, (size_t)view->len, 0, NULL, 0, 0, fault};
+/* For "O&". */
+static int take_errors(PyObject *number, void *into) {
+    long errors = PyLong_AsLong(number);
+    if (errors == -1 && PyErr_Occurred())
+        return 0;
+    if (errors < EACH || errors > MAXIMAL) {
+        PyErr_SetString(PyExc_ValueError, "no way with errors has this number");
+        return 0;
+    }
+    *(enum Errors *)into = (enum Errors)errors;
+    return 1;
+}
+
+/* Feeds all of a view to a recoder, and finishes where that is asked for; answers the bytes that come of it. Where faults are refused
+ * it goes up to the first one, and `read` says how many bytes were read then. */
+static PyObject *fed(nody_recoder_t *recoder, enum Errors errors, const Py_buffer *view, int is_last, size_t *read, nody_fault_t *fault) {
+    Recoding it = {*recoder, errors, {NULL, NULL, 0, 0, 0}, view->buf, (size_t)view->len, 0, NULL, 0, 0, fault};
     PyObject *made = NULL;
+    *fault = (nody_fault_t){0, 0, NODY_KIND_NONE};
     if (!open_window(&it.window, view))
         return NULL;
-    if (make_room(&it) && goes(&it, feed) && (!is_last || (fault && fault->kind != NODY_KIND_NONE) || goes(&it, finish)))
+    if (make_room(&it) && goes(&it, feed) && (!is_last || fault->kind != NODY_KIND_NONE || goes(&it, finish)))
         made = resized(it.made, (Py_ssize_t)it.written);
     else
         Py_XDECREF(it.made);
@@ -262,21 +363,22 @@ static PyObject *fed(nody_recoder_t *recoder, const Py_buffer *view, int is_last
     return made;
 }
 
-/* recode(from, to, data, strict): the bytes that come of it, or the offset, the length and the kind of the first fault, and the data as
+/* recode(from, to, data, errors): the bytes that come of it, or the offset, the length and the kind of the first fault, and the data as
  * `bytes`. */
 static PyObject *recode(PyObject *module, PyObject *args) {
     Py_buffer view;
     nody_form_t from, to;
     nody_recoder_t recoder;
-    nody_fault_t fault = {0, 0, NODY_KIND_NONE};
+    nody_fault_t fault;
+    enum Errors errors;
     size_t read;
-    int strict;
     PyObject *data, *made;
     (void)module;
-    if (!PyArg_ParseTuple(args, "O&O&Op:recode", take_form, &from, take_form, &to, &data, &strict) || !take_bytes(data, &view))
+    if (!PyArg_ParseTuple(args, "O&O&OO&:recode", take_form, &from, take_form, &to, &data, take_errors, &errors) ||
+        !take_bytes(data, &view))
         return NULL;
     recoder = nody_recoder(from, to);
-    made = fed(&recoder, &view, 1, &read, strict ? &fault : NULL);
+    made = fed(&recoder, errors, &view, 1, &read, &fault);
     if (made != NULL && fault.kind != NODY_KIND_NONE) {
         Py_DECREF(made);
         made = bytes_of(data, &view);
@@ -290,19 +392,23 @@ static PyObject *recode(PyObject *module, PyObject *args) {
 typedef struct {
     PyObject_HEAD
     nody_recoder_t recoder;
+    enum Errors errors;
     Py_ssize_t fed; /* bytes that were fed */
     char busy;      /* 1 while a call goes on: it lets the lock go */
 } Recoder;
 
 static PyObject *recoder_new(PyTypeObject *type, PyObject *args, PyObject *names) {
     nody_form_t from, to;
+    enum Errors errors;
     Recoder *self;
     (void)names;
-    if (!PyArg_ParseTuple(args, "O&O&:Recoder", take_form, &from, take_form, &to))
+    if (!PyArg_ParseTuple(args, "O&O&O&:Recoder", take_form, &from, take_form, &to, take_errors, &errors))
         return NULL;
     self = (Recoder *)PyType_GenericAlloc(type, 0);
-    if (self != NULL)
+    if (self != NULL) {
         self->recoder = nody_recoder(from, to);
+        self->errors = errors;
+    }
     return (PyObject *)self;
 }
 
@@ -314,11 +420,11 @@ static void plain_dealloc(PyObject *self) {
 }
 
 /* The bytes that come of a step. The recoder changes only if they are made, and no fault is refused. */
-static PyObject *stepped(Recoder *self, const Py_buffer *view, int is_last, int strict) {
+static PyObject *stepped(Recoder *self, const Py_buffer *view, int is_last) {
     nody_recoder_t before = self->recoder, after = self->recoder;
-    nody_fault_t fault = {0, 0, NODY_KIND_NONE};
+    nody_fault_t fault;
     size_t read, place;
-    PyObject *made = fed(&after, view, is_last, &read, strict ? &fault : NULL), *all;
+    PyObject *made = fed(&after, self->errors, view, is_last, &read, &fault), *all;
     if (made == NULL)
         return NULL;
     if (fault.kind == NODY_KIND_NONE) {
@@ -337,20 +443,20 @@ static PyObject *stepped(Recoder *self, const Py_buffer *view, int is_last, int 
                          (Py_ssize_t)place);
 }
 
-/* step(data, finish, strict): the bytes that come of it; where faults are refused and there is one, its offset, length and kind, what
+/* step(data, finish): the bytes that come of it; where faults are refused and there is one, its offset, length and kind, what
  * was held before together with the data, and its place in there; nothing changes then. One call goes at a time: making a view of the
  * data may run code that feeds this recoder, and that has ended before. */
 static PyObject *recoder_step(PyObject *object, PyObject *args) {
     Recoder *self = (Recoder *)object;
     Py_buffer view;
-    int is_last, strict;
+    int is_last;
     PyObject *made = NULL;
-    if (!PyArg_ParseTuple(args, "O&pp:step", take_bytes, &view, &is_last, &strict))
+    if (!PyArg_ParseTuple(args, "O&p:step", take_bytes, &view, &is_last))
         return NULL;
     if (__atomic_exchange_n(&self->busy, 1, __ATOMIC_ACQUIRE)) {
         PyErr_SetString(PyExc_RuntimeError, "this Recoder is in use by another call: give each thread its own");
     } else {
-        made = stepped(self, &view, is_last, strict);
+        made = stepped(self, &view, is_last);
         __atomic_store_n(&self->busy, 0, __ATOMIC_RELEASE);
     }
     PyBuffer_Release(&view);
@@ -365,20 +471,19 @@ static PyObject *recoder_state(PyObject *object, PyObject *nothing) {
                          (unsigned long long)self->recoder.replaced, self->fed);
 }
 
-/* set_state(held, replaced, fed, strict), of a recoder that is new. What is held is fed: so a state that none can have is refused. */
+/* set_state(held, replaced, fed), of a recoder that is new. What is held is fed: so a state that none can have is refused. */
 static PyObject *recoder_set_state(PyObject *object, PyObject *args) {
     Recoder *self = (Recoder *)object;
     nody_recoder_t recoder = nody_recoder(self->recoder.from, self->recoder.to);
-    nody_fault_t fault = {0, 0, NODY_KIND_NONE};
+    nody_fault_t fault;
     Py_buffer view;
     unsigned long long replaced;
     Py_ssize_t total;
     size_t read;
-    int strict;
     PyObject *made;
-    if (!PyArg_ParseTuple(args, "O&Knp:set_state", take_bytes, &view, &replaced, &total, &strict))
+    if (!PyArg_ParseTuple(args, "O&Kn:set_state", take_bytes, &view, &replaced, &total))
         return NULL;
-    made = view.len > 3 ? Py_NewRef(Py_None) : fed(&recoder, &view, 0, &read, strict ? &fault : NULL);
+    made = view.len > 3 ? Py_NewRef(Py_None) : fed(&recoder, self->errors, &view, 0, &read, &fault);
     if (made != NULL && recoder.count == view.len && total >= view.len) {
         recoder.replaced = replaced;
         self->recoder = recoder;
@@ -507,8 +612,9 @@ typedef struct {
     PyObject_HEAD
     Py_buffer view;
     Maker maker;
-    nody_bytes_t left;
-    size_t offset; /* of the next piece of the block */
+    nody_form_t form;
+    size_t offset; /* of the next piece; from the back, its end */
+    size_t read;   /* where the next block begins */
     int back;
     size_t at, count;
     nody_piece_t block[BLOCK];
@@ -521,14 +627,15 @@ static void run_dealloc(PyObject *object) {
     plain_dealloc(object);
 }
 
-/* Run(data, type, errors, at, back): from the offset on, or all from the back. */
+/* Run(form, data, type, errors, at, back): from the offset on, or all from the back. */
 static PyObject *run_new(PyTypeObject *type, PyObject *args, PyObject *names) {
     PyObject *data, *pieces, *errors;
+    nody_form_t form;
     Py_ssize_t at;
     int back;
     Run *self;
     (void)names;
-    if (!PyArg_ParseTuple(args, "OOOnp:Run", &data, &pieces, &errors, &at, &back))
+    if (!PyArg_ParseTuple(args, "O&OOOnp:Run", take_form, &form, &data, &pieces, &errors, &at, &back))
         return NULL;
     self = (Run *)PyType_GenericAlloc(type, 0);
     if (self == NULL)
@@ -537,30 +644,38 @@ static PyObject *run_new(PyTypeObject *type, PyObject *args, PyObject *names) {
         Py_DECREF(self);
         return NULL;
     }
-    self->offset = (size_t)at;
+    self->form = form;
     self->back = back;
-    self->left = nody_bytes((const uint8_t *)self->view.buf + at, (size_t)(self->view.len - at));
+    self->offset = back ? (size_t)self->view.len : (size_t)at;
+    self->read = self->offset;
     return (PyObject *)self;
+}
+
+static PyObject *run_back(Run *self) {
+    const uint8_t *bytes = self->view.buf;
+    nody_piece_t piece = last_piece(self->form, bytes, self->offset);
+    if (piece.kind == NODY_KIND_NONE)
+        return NULL;
+    self->offset -= piece.len;
+    if (piece.kind != NODY_KIND_OK)
+        piece = first_piece(self->form, bytes + self->offset, (size_t)self->view.len - self->offset);
+    return make_piece(&self->maker, self->offset, piece);
 }
 
 static PyObject *run_next(PyObject *object) {
     Run *self = (Run *)object;
     nody_piece_t piece;
     size_t offset = self->offset;
-    if (self->back) {
-        piece = nody_utf8_next_back(&self->left);
-        if (piece.kind == NODY_KIND_NONE)
-            return NULL;
-        offset = self->left.len;
-        if (piece.kind != NODY_KIND_OK)
-            piece = nody_utf8_first((const uint8_t *)self->view.buf + offset, (size_t)self->view.len - offset);
-        return make_piece(&self->maker, offset, piece);
-    }
+    if (self->back)
+        return run_back(self);
     if (self->at == self->count) {
+        const uint8_t *left = (const uint8_t *)self->view.buf + self->read;
         self->at = 0;
-        self->count = nody_utf8_pieces(&self->left, self->block, BLOCK);
+        self->count = first_pieces(self->form, left, (size_t)self->view.len - self->read, self->block);
         if (self->count == 0)
             return NULL;
+        for (size_t i = 0; i < self->count; i++)
+            self->read += self->block[i].len;
     }
     piece = self->block[self->at++];
     self->offset += piece.len;
@@ -572,8 +687,8 @@ typedef struct {
     PyObject_HEAD
     Py_buffer view;
     Maker maker;
-    nody_bytes_t left;
-    size_t offset; /* where what is left begins */
+    nody_form_t form;
+    size_t start, end; /* where what is left lies */
 } Ends;
 
 static void ends_dealloc(PyObject *object) {
@@ -585,9 +700,10 @@ static void ends_dealloc(PyObject *object) {
 
 static PyObject *ends_new(PyTypeObject *type, PyObject *args, PyObject *names) {
     PyObject *data, *pieces, *errors;
+    nody_form_t form;
     Ends *self;
     (void)names;
-    if (!PyArg_ParseTuple(args, "OOO:Ends", &data, &pieces, &errors))
+    if (!PyArg_ParseTuple(args, "O&OOO:Ends", take_form, &form, &data, &pieces, &errors))
         return NULL;
     self = (Ends *)PyType_GenericAlloc(type, 0);
     if (self == NULL)
@@ -596,37 +712,121 @@ static PyObject *ends_new(PyTypeObject *type, PyObject *args, PyObject *names) {
         Py_DECREF(self);
         return NULL;
     }
-    self->left = nody_bytes(self->view.buf, (size_t)self->view.len);
+    self->form = form;
+    self->end = (size_t)self->view.len;
     return (PyObject *)self;
 }
 
 static PyObject *ends_next(PyObject *object) {
     Ends *self = (Ends *)object;
-    size_t offset = self->offset;
-    nody_piece_t piece = nody_utf8_next(&self->left);
+    size_t offset = self->start;
+    nody_piece_t piece = first_piece(self->form, (const uint8_t *)self->view.buf + offset, self->end - offset);
     if (piece.kind == NODY_KIND_NONE)
         return NULL;
-    self->offset += piece.len;
+    self->start += piece.len;
     return make_piece(&self->maker, offset, piece);
 }
 
 static PyObject *ends_next_back(PyObject *object, PyObject *nothing) {
     Ends *self = (Ends *)object;
-    nody_piece_t piece = nody_utf8_next_back(&self->left);
+    nody_piece_t piece = last_piece(self->form, (const uint8_t *)self->view.buf + self->start, self->end - self->start);
     (void)nothing;
     if (piece.kind == NODY_KIND_NONE)
         return Py_NewRef(Py_None);
-    return make_piece(&self->maker, self->offset + self->left.len, piece);
+    self->end -= piece.len;
+    return make_piece(&self->maker, self->end, piece);
 }
 
 static PyObject *ends_start(PyObject *self, void *closure) {
     (void)closure;
-    return PyLong_FromSize_t(((Ends *)self)->offset);
+    return PyLong_FromSize_t(((Ends *)self)->start);
 }
 
 static PyObject *ends_end(PyObject *self, void *closure) {
     (void)closure;
-    return PyLong_FromSize_t(((Ends *)self)->offset + ((Ends *)self)->left.len);
+    return PyLong_FromSize_t(((Ends *)self)->end);
+}
+
+/* ---- faults alone ---- */
+
+/* The faults of some bytes. Text between them is skipped as validation goes over it, window by window. */
+typedef struct {
+    PyObject_HEAD
+    Py_buffer view;
+    Maker maker;
+    Window window;
+    nody_form_t form;
+    size_t begin; /* where the window begins */
+    size_t at;    /* how far it was read */
+    char busy;
+} Faults;
+
+static void faults_dealloc(PyObject *object) {
+    Faults *self = (Faults *)object;
+    close_window(&self->window);
+    maker_end(&self->maker);
+    PyBuffer_Release(&self->view);
+    plain_dealloc(object);
+}
+
+/* Faults(form, data, type, errors) */
+static PyObject *faults_new(PyTypeObject *type, PyObject *args, PyObject *names) {
+    PyObject *data, *pieces, *errors;
+    nody_form_t form;
+    Faults *self;
+    (void)names;
+    if (!PyArg_ParseTuple(args, "O&OOO:Faults", take_form, &form, &data, &pieces, &errors))
+        return NULL;
+    self = (Faults *)PyType_GenericAlloc(type, 0);
+    if (self == NULL)
+        return NULL;
+    if (!take_bytes(data, &self->view) || !open_window(&self->window, &self->view) || !maker_begin(&self->maker, pieces, errors)) {
+        Py_DECREF(self);
+        return NULL;
+    }
+    self->form = form;
+    self->window.most = SKIPPED;
+    return (PyObject *)self;
+}
+
+/* The next fault of the window, or NODY_KIND_NONE. */
+static nody_piece_t next_in_window(Faults *self, size_t *offset) {
+    nody_piece_t piece = {0, 0, NODY_KIND_NONE};
+    const Window *window = &self->window;
+    self->at += nody_utf16_bytes_valid_up_to(self->form, window->bytes + self->at, window->len - self->at);
+    if (self->at == window->len)
+        return piece;
+    piece = first_piece(self->form, window->bytes + self->at, window->seen - self->at);
+    *offset = self->begin + self->at;
+    self->at += piece.len;
+    return piece;
+}
+
+/* Goes on from window to window, and lets the lock go from the second on. */
+static nody_piece_t next_fault(Faults *self, size_t *offset) {
+    size_t len = (size_t)self->view.len;
+    nody_piece_t piece = next_in_window(self, offset);
+    PyThreadState *thread = piece.kind == NODY_KIND_NONE ? let_lock_go(len - self->begin - self->window.len) : NULL;
+    while (piece.kind == NODY_KIND_NONE && self->begin + self->window.len < len) {
+        self->begin += self->window.len, self->at = 0;
+        next_window(&self->window, self->form, (const uint8_t *)self->view.buf + self->begin, len - self->begin);
+        piece = next_in_window(self, offset);
+    }
+    take_lock(thread);
+    return piece;
+}
+
+static PyObject *faults_next(PyObject *object) {
+    Faults *self = (Faults *)object;
+    nody_piece_t piece;
+    size_t offset = 0;
+    if (__atomic_exchange_n(&self->busy, 1, __ATOMIC_ACQUIRE)) {
+        PyErr_SetString(PyExc_RuntimeError, "this iterator is in use by another call: give each thread its own");
+        return NULL;
+    }
+    piece = next_fault(self, &offset);
+    __atomic_store_n(&self->busy, 0, __ATOMIC_RELEASE);
+    return piece.kind == NODY_KIND_NONE ? NULL : make_piece(&self->maker, offset, piece);
 }
 
 /* ---- the module ---- */
@@ -646,6 +846,13 @@ static PyType_Slot ends_slots[] = {{Py_tp_new, ends_new},         {Py_tp_dealloc
                                    {0, NULL}};
 static PyType_Spec ends_spec = {"noddychest._noddychest.Ends", sizeof(Ends), 0, Py_TPFLAGS_DEFAULT | Py_TPFLAGS_BASETYPE, ends_slots};
 
+static PyType_Slot faults_slots[] = {{Py_tp_new, faults_new},
+                                     {Py_tp_dealloc, faults_dealloc},
+                                     {Py_tp_iter, PyObject_SelfIter},
+                                     {Py_tp_iternext, faults_next},
+                                     {0, NULL}};
+static PyType_Spec faults_spec = {"noddychest._noddychest.Faults", sizeof(Faults), 0, Py_TPFLAGS_DEFAULT, faults_slots};
+
 static PyMethodDef recoder_methods[] = {{"step", recoder_step, METH_VARARGS, NULL},
                                         {"state", recoder_state, METH_NOARGS, NULL},
                                         {"set_state", recoder_set_state, METH_VARARGS, NULL},
@@ -663,8 +870,9 @@ static PyMethodDef functions[] = {{"supported", supported, METH_NOARGS, NULL},
                                   {"fault", fault, METH_VARARGS, NULL},
                                   {"boundary", boundary, METH_VARARGS, NULL},
                                   {"check", check, METH_O, NULL},
-                                  {"char_count", char_count, METH_O, NULL},
+                                  {"char_count", char_count, METH_VARARGS, NULL},
                                   {"index", index_pieces, METH_VARARGS, NULL},
+                                  {"recoded_len", recoded_len, METH_VARARGS, NULL},
                                   {"recode", recode, METH_VARARGS, NULL},
                                   {"decode", decode, METH_VARARGS, NULL},
                                   {"replaced", replaced, METH_VARARGS, NULL},
@@ -672,10 +880,10 @@ static PyMethodDef functions[] = {{"supported", supported, METH_NOARGS, NULL},
                                   {NULL, NULL, 0, NULL}};
 
 static int begin_module(PyObject *module) {
-    PyType_Spec *specs[] = {&run_spec, &ends_spec, &recoder_spec};
-    const char *names[] = {"Run", "Ends", "Recoder"};
+    PyType_Spec *specs[] = {&run_spec, &ends_spec, &faults_spec, &recoder_spec};
+    const char *names[] = {"Run", "Ends", "Faults", "Recoder"};
     *(void **)&resize = dlsym(RTLD_DEFAULT, "_PyBytes_Resize");
-    for (int i = 0; i < 3; i++) {
+    for (int i = 0; i < 4; i++) {
         PyObject *type = PyType_FromSpec(specs[i]);
         if (type == NULL || PyModule_AddObject(module, names[i], type) < 0) {
             Py_XDECREF(type);

@@ -249,7 +249,7 @@ typedef struct {
 static int put_text(Text *text, Asking *asking, Fault *fault) {
     const uint8_t *bytes = (const uint8_t *)PyBytes_AsString(asking->source) + asking->at;
     Py_buffer view = {.buf = (void *)bytes, .len = PyBytes_Size(asking->source) - asking->at};
-    Window all = {NULL, NULL, 0, 0};
+    Window all = {NULL, NULL, 0, 0, 0};
     Py_ssize_t left = asking->end - asking->at;
     *fault = find_fault(&all, STREAMED, asking->form, &view, 0);
     if (fault->at >= (size_t)left)

@@ -86,6 +86,8 @@ void close_window(Window *window) {
 
 void next_window(Window *window, nody_form_t form, const uint8_t *left, size_t len) {
     window->bytes = left, window->len = window->seen = len;
+    if (window->copy == NULL && window->most > 0)
+        window->len = nody_boundary_before(form, left, len, window->most);
     if (window->copy == NULL)
         return;
     window->seen = len < WINDOW + AHEAD ? len : WINDOW + AHEAD;
@@ -94,30 +96,49 @@ void next_window(Window *window, nody_form_t form, const uint8_t *left, size_t l
     window->len = window->seen == len ? len : nody_boundary_before(form, window->copy, window->seen, WINDOW);
 }
 
-/* How many bytes a fault has: one, or those of a unit, or the half that is left of one. */
-static size_t fault_len(nody_form_t form, size_t left) {
-    return form == NODY_FORM_UTF8 || left < 2 ? 1 : 2;
+static nody_piece_t in_bytes(nody_piece_t piece) {
+    piece.len *= 2;
+    return piece;
 }
 
-static nody_kind_t fault_kind(enum Reader reader, nody_form_t form, const uint8_t *bytes, size_t len) {
-    uint16_t units[2];
+/* Up to two units, from the front of some bytes; answers how many. */
+static size_t two_units(nody_form_t form, const uint8_t *bytes, size_t len, uint16_t *units) {
     size_t count = len / 2 < 2 ? len / 2 : 2;
-    if (form == NODY_FORM_UTF8)
-        return reader == WHOLE ? nody_utf8_first(bytes, len).kind : nody_utf8_streamed_at(bytes, len, 0).kind;
     for (size_t i = 0; i < count; i++)
         units[i] = unit_at(form, bytes + 2 * i);
-    return count == 0 ? NODY_KIND_INCOMPLETE : nody_utf16_first(units, count).kind;
+    return count;
+}
+
+static const nody_piece_t half = {1, 0, NODY_KIND_INCOMPLETE}; /* a single byte at the end of UTF-16 */
+
+nody_piece_t first_piece(nody_form_t form, const uint8_t *bytes, size_t len) {
+    uint16_t units[2] = {0, 0};
+    if (form == NODY_FORM_UTF8)
+        return nody_utf8_first(bytes, len);
+    return len == 1 ? half : in_bytes(nody_utf16_first(units, two_units(form, bytes, len, units)));
+}
+
+nody_piece_t last_piece(nody_form_t form, const uint8_t *bytes, size_t len) {
+    uint16_t units[2] = {0, 0};
+    size_t tail = len < 4 ? len : 4;
+    if (form == NODY_FORM_UTF8)
+        return nody_utf8_last(bytes, len);
+    return len % 2 == 1 ? half : in_bytes(nody_utf16_last(units, two_units(form, bytes + len - tail, tail, units)));
 }
 
 Fault find_fault(Window *window, enum Reader reader, nody_form_t form, const Py_buffer *view, size_t at) {
     size_t len = (size_t)view->len;
     while (at < len) {
-        size_t valid, left;
+        size_t valid;
         next_window(window, form, (const uint8_t *)view->buf + at, len - at);
         valid = nody_utf16_bytes_valid_up_to(form, window->bytes, window->len);
-        left = window->seen - valid;
-        if (valid < window->len)
-            return (Fault){at + valid, fault_len(form, left), fault_kind(reader, form, window->bytes + valid, left)};
+        if (valid < window->len) {
+            const uint8_t *bytes = window->bytes + valid;
+            size_t left = window->seen - valid;
+            int is_streamed = reader == STREAMED && form == NODY_FORM_UTF8;
+            nody_piece_t piece = is_streamed ? nody_utf8_streamed_at(bytes, left, 0) : first_piece(form, bytes, left);
+            return (Fault){at + valid, piece.len, piece.kind};
+        }
         at += window->len;
     }
     return (Fault){len, 0, NODY_KIND_NONE};

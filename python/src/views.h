@@ -43,6 +43,7 @@ typedef struct {
     const uint8_t *bytes; /* the window */
     size_t len;
     size_t seen; /* its length together with the bytes after it that are there too: 4 or more, or all that are left */
+    size_t most; /* how long the next one may be; 0 for any length */
 } Window;
 
 /* Answers 0 with a MemoryError if there is no room for the copies. */
@@ -52,7 +53,11 @@ void close_window(Window *window);
 /* The next window of the bytes that are left. It ends at a boundary, so the pieces of all windows are those of the whole. */
 void next_window(Window *window, nody_form_t form, const uint8_t *left, size_t len);
 
-/* ---- faults ---- */
+/* ---- pieces and faults ---- */
+
+/* The first and the last piece of some bytes, with its length in bytes; NODY_KIND_NONE if there are none. */
+nody_piece_t first_piece(nody_form_t form, const uint8_t *bytes, size_t len);
+nody_piece_t last_piece(nody_form_t form, const uint8_t *bytes, size_t len);
 
 /* A fault: its place, its length, and its kind; NODY_KIND_NONE where there is none. */
 typedef struct {

@@ -6,7 +6,7 @@ import tempfile
 import unittest
 
 import noddychest
-from noddychest import Decoder, Recoder, boundary, char_count, first_fault, is_valid, pieces, recode
+from noddychest import Decoder, Recoder, boundary, char_count, faults, first_fault, is_valid, pieces, recode, recoded_len
 
 CALLS = [
     pieces,
@@ -16,6 +16,11 @@ CALLS = [
     is_valid,
     char_count,
     lambda data: boundary(data, 1),
+    lambda data: faults(data, "utf16le"),
+    lambda data: pieces(data, "utf16be"),
+    lambda data: Decoder(data, "utf16be"),
+    lambda data: recoded_len(data, "utf8", "utf16be"),
+    lambda data: recode(data, "utf8", "utf8", "maximal"),
     lambda data: recode(data, "utf8", "utf16le"),
     lambda data: recode(data, "utf16le", "utf8", "strict"),
     Recoder("utf8", "utf8").feed,

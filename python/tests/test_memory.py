@@ -1,9 +1,14 @@
-"""How much memory recoding takes: never a tenth more than what comes of it, whatever the text."""
+"""How much memory recoding takes: never a tenth more than what comes of it, whatever the text. And that no call leaks."""
+import codecs
+import copy
+import gc
 import random
+import sys
 import tracemalloc
 import unittest
 
-from noddychest import Recoder, recode
+from noddychest import (Decoder, ErrorKind, Piece, Recoder, boundary, char_count, faults, first_fault, is_valid, pieces, recode,
+                        recoded_len)
 
 FORMS = {"utf8": "utf-8", "utf16le": "utf-16-le", "utf16be": "utf-16-be"}
 SIZE = 1_200_000
@@ -36,8 +41,8 @@ class Peak(unittest.TestCase):
         return len(made), peak
 
     def check(self, data, form, to):
-        for work in (lambda: recode(data, form, to), Recoder(form, to).feed):
-            made, peak = self.peak((lambda: work(data)) if work.__name__ == "feed" else work)
+        for work in (lambda: recode(data, form, to), lambda: recode(data, form, to, "maximal"), lambda: Recoder(form, to).feed(data)):
+            made, peak = self.peak(work)
             self.assertLessEqual(peak, 1.1 * made + SPARE, (data[:12], len(data), form, to))
 
     def test_text(self):
@@ -63,6 +68,78 @@ class Peak(unittest.TestCase):
                         parts.append(recoder.feed(data[at:at + 30_001]))
                     parts.append(recoder.finish())
                     self.assertEqual(recode(data, form, to), b"".join(parts), (data[:8], form, to))
+
+
+def failing(work):
+    def call():
+        try:
+            work()
+        except (ValueError, TypeError, LookupError, RuntimeError, BufferError):
+            return
+        raise AssertionError("it has to raise")
+
+    return call
+
+
+CALLS = {
+    "pieces": lambda: (list(pieces(b"a\xff\xe2\x82")), pieces(bytearray(5))[2], list(reversed(pieces(b"abc\0", "utf16le")))),
+    "pieces that are left": lambda: next(iter(pieces(b"abc"))),
+    "Decoder": lambda: (next(Decoder(b"a\xff")), Decoder(bytearray(3), "utf16le").next_back()),
+    "faults": lambda: (list(faults(b"a\xff\xe2")), list(faults(bytearray(b"\xff")))),
+    "counts": lambda: (char_count(bytearray(9)), first_fault(memoryview(b"\xff")), is_valid(b""), boundary(b"abc", 10**30)),
+    "recode": lambda: (recode(b"\xff" * 100, "utf8", "utf16le"), recode(bytearray(70_000), "utf8", "utf8")),
+    "recoded_len": lambda: (recoded_len(b"a", "utf8", "utf8"), recoded_len(bytearray(70_000), "utf8", "utf8")),
+    "Recoder": lambda: (Recoder("utf8", "utf8").feed(b"\xe2"), copy.copy(Recoder("utf8", "utf16le")).feed(bytearray(b"a"))),
+    "decode": lambda: [b"a\xff\xe2".decode("noddychest-utf8", it) for it in ("ignore", "replace", "noddychest.leak", "noddychest.other")],
+    "in parts": lambda: list(codecs.iterdecode([b"\xe2", b"\x82\xac\xff"], "noddychest-utf8", "backslashreplace")),
+    "wrong data": failing(lambda: pieces(5)),
+    "scattered data": failing(lambda: is_valid(memoryview(b"abcd")[::2])),
+    "wrong names": failing(lambda: recode(b"", "utf7", "utf8")),
+    "strict": failing(lambda: recode(bytearray(b"\xff"), "utf8", "utf8", "strict")),
+    "strict parts": failing(lambda: Recoder("utf8", "utf8", "strict").feed(b"a\xff")),
+    "strict decoding": failing(lambda: b"a\xff".decode("noddychest-utf8")),
+    "handlers": failing(lambda: b"a\xff".decode("noddychest-utf8", "noddychest.none")),
+    "states": failing(lambda: Recoder("utf8", "utf8").__setstate__((0, 0, 0, (b"ab", 0, 2), None))),
+}
+codecs.register_error("noddychest.leak", lambda error: ("x" * 70, error.end))
+codecs.register_error("noddychest.none", lambda error: (None, error.end))
+
+
+def other(error):
+    error.object = bytes(bytearray(b"other"))
+    return "", 3
+
+
+codecs.register_error("noddychest.other", other)
+
+
+class Leaks(unittest.TestCase):
+    def test_nothing_is_left(self):
+        for name, call in CALLS.items():
+            for _ in range(300):
+                call()
+            gc.collect()
+            tracemalloc.start()
+            for _ in range(100):
+                call()
+            gc.collect()
+            before = tracemalloc.get_traced_memory()[0]
+            for _ in range(2000):
+                call()
+            gc.collect()
+            # (one object for each call would be 32,000 bytes or more; the interpreter keeps some for later)
+            self.assertLess(tracemalloc.get_traced_memory()[0] - before, 30_000, name)
+            tracemalloc.stop()
+
+    def test_references(self):
+        """What is passed in is let go: the bytes, the handler's answers, and what the interpreter has once."""
+        for name, call in CALLS.items():
+            watched = [Piece, ErrorKind.NON_UTF8_BYTE, None, 0, 1, *CALLS]
+            before = [sys.getrefcount(it) for it in watched]
+            for _ in range(2000):
+                call()
+            after = [sys.getrefcount(it) for it in watched]
+            self.assertLess(max(abs(a - b) for a, b in zip(before, after)), 1000, (name, before, after))
 
 
 if __name__ == "__main__":

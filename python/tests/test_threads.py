@@ -1,6 +1,7 @@
 """Threads, re-entrance, copies, and buffers that change or would go away: nothing is lost, and nothing crashes."""
 import codecs
 import copy
+import itertools
 import mmap
 import pickle
 import random
@@ -10,7 +11,7 @@ import time
 import unittest
 
 import noddychest
-from noddychest import Decoder, FaultError, Recoder, char_count, first_fault, is_valid, pieces, recode
+from noddychest import Decoder, FaultError, Recoder, char_count, faults, first_fault, is_valid, pieces, recode, recoded_len
 
 SIZE = 32 << 20
 TRIES = 100
@@ -133,6 +134,12 @@ class OneCallAtATime(unittest.TestCase):
 
 
 class Copies(unittest.TestCase):
+    def test_maximal_ones(self):
+        for way in self.ways():
+            recoder = Recoder("utf8", "utf8", "maximal")
+            self.assertEqual(recoder.feed(b"a\xf0\x9f"), b"a")
+            self.assertEqual((way(recoder).feed(b"\x98!"), way(recoder).feed(b"\x98\x80")), ("\ufffd!".encode(), "😀".encode()))
+
     def begun(self, errors="replace"):
         recoder = Recoder("utf8", "utf16be", errors)
         recoder.feed(b"a\xc3" if errors == "strict" else b"a\xff\xf0\x9f")
@@ -183,7 +190,7 @@ class Copies(unittest.TestCase):
 
     def test_others_raise(self):
         """What goes over bytes has no copies: they would share what is left."""
-        for it in (Decoder(b"abc"), iter(pieces(b"abc")), reversed(pieces(b"abc"))):
+        for it in (Decoder(b"abc"), iter(pieces(b"abc")), reversed(pieces(b"abc")), faults(b"abc")):
             self.assertRaises(TypeError, copy.copy, it)
             self.assertRaises(TypeError, pickle.dumps, it)
         self.assertEqual(list(copy.copy(pieces(b"abc"))), list(pieces(b"abc")))
@@ -239,6 +246,9 @@ class LockIsLetGo(unittest.TestCase):
             "first_fault": first_fault,
             "char_count": char_count,
             "pieces": lambda it: len(pieces(it)),
+            "pieces of UTF-16": lambda it: len(pieces(it, "utf16be")),
+            "faults": lambda it: list(faults(it)),
+            "recoded_len": lambda it: recoded_len(it, "utf8", "utf16le"),
             "recode": lambda it: recode(it, "utf16le", "utf16be"),
             "strict": lambda it: recode(it, "utf8", "utf8", "strict"),
             "feed": lambda it: Recoder("utf8", "utf8").feed(it),
@@ -307,8 +317,12 @@ class ChangingBuffers(unittest.TestCase):
                 if not 0 < count <= size + 1 or not (fault is None or 0 <= fault.offset <= size):
                     wrong.append((count, fault))
                 form, to = random.choice(forms), random.choice(forms)
-                if not len(recode(it, form, to)) <= 3 * size + 9:
+                if not max(len(recode(it, form, to)), len(recode(it, form, to, "maximal")), recoded_len(it, form, to)) <= 3 * size + 9:
                     wrong.append((form, to))
+                if not all(piece.offset <= size and piece.error for piece in itertools.islice(faults(it, form), 1000)):
+                    wrong.append(form)
+                if not all(piece.offset <= size for run in (iter, reversed) for piece in itertools.islice(run(pieces(it, form)), 1000)):
+                    wrong.append(form)
                 try:
                     recode(it, form, to, "strict")
                 except FaultError as error:

@@ -8,8 +8,8 @@ import types
 from typing import TYPE_CHECKING, Any, Optional
 
 from . import _noddychest
+from ._names import STANDARD, plain
 from ._pieces import ERRORS, REASONS, fault_error
-from ._recoding import STANDARD, plain
 
 if TYPE_CHECKING:
     from _typeshed import ReadableBuffer

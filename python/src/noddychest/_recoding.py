@@ -4,40 +4,20 @@ from __future__ import annotations
 from typing import TYPE_CHECKING, Any
 
 from . import _noddychest
+from ._names import STANDARD, form_of
 from ._pieces import fault_error
 
 if TYPE_CHECKING:
     from _typeshed import ReadableBuffer
 
-_FORMS = {"utf8": 0, "utf16le": 1, "utf16be": 2}
-STANDARD = ("utf-8", "utf-16-le", "utf-16-be")  # by the numbers of the C library
-
-# The other labels that browsers take for these encodings (encoding.spec.whatwg.org), as far as they are not the three above with other
-# signs between their words.
-_LABELS = {
-    "unicode-1-1-utf-8": 0, "unicode11utf8": 0, "unicode20utf8": 0, "x-unicode20utf8": 0,
-    "csunicode": 1, "iso-10646-ucs-2": 1, "ucs-2": 1, "unicode": 1, "unicodefeff": 1, "utf-16": 1,
-    "unicodefffe": 2,
-}  # fmt: skip
+_ERRORS = {"replace": 0, "strict": 1, "maximal": 2}
 
 
-def plain(name: str) -> str:
-    """A name without what may stand between its words."""
-    return name.lower().replace("-", "").replace("_", "").replace(" ", "")
-
-
-def _form(name: str) -> int:
-    label = name.strip("\t\n\f\r ").lower() if isinstance(name, str) else ""
-    found = _FORMS.get(plain(label), _LABELS.get(label.replace("_", "-")))
+def _way(errors: str) -> int:
+    found = _ERRORS.get(errors) if isinstance(errors, str) else None
     if found is None:
-        raise LookupError(f"unknown encoding: {name!r}; there are 'utf8', 'utf16le' and 'utf16be'")
+        raise LookupError(f"unknown errors: {errors!r}; there are 'replace', 'strict' and 'maximal'")
     return found
-
-
-def _is_strict(errors: str) -> bool:
-    if errors not in ("replace", "strict"):
-        raise LookupError(f"unknown errors: {errors!r}; there are 'replace' and 'strict'")
-    return errors == "strict"
 
 
 def recode(data: ReadableBuffer, from_: str, to: str, errors: str = "replace") -> bytes:
@@ -45,27 +25,39 @@ def recode(data: ReadableBuffer, from_: str, to: str, errors: str = "replace") -
     the other names that browsers take. (There `utf-16` is little-endian.) No byte order mark is looked for, and none is added.
 
     With `replace` each invalid byte becomes one U+FFFD, and so do each lone surrogate of UTF-16 and a single byte at its end. With
-    `strict` the first of them raises FaultError.
+    `strict` the first of them raises FaultError. With `maximal` one U+FFFD stands for each maximal subpart, which is one to three bytes
+    that begin a character and do not end it, as browsers and Python's own codecs have it.
 
     >>> recode("né".encode(), "utf8", "utf16be")
     b'\\x00n\\x00\\xe9'
     >>> recode(b"a\\xffb", "utf8", "utf8")
     b'a\\xef\\xbf\\xbdb'
+    >>> len(recode(b"\\xe2\\x82", "utf8", "utf16le")), len(recode(b"\\xe2\\x82", "utf8", "utf16le", "maximal"))
+    (4, 2)
     >>> recode(b"a\\xc0\\xaf", "UTF-8", "UTF-16LE", "strict")
     Traceback (most recent call last):
     noddychest.FaultError: 'utf-8' codec can't decode byte 0xc0 in position 1: invalid byte: C0, C1 and F5 to FF never occur in UTF-8
     """
-    source, target = _form(from_), _form(to)
-    made = _noddychest.recode(source, target, data, _is_strict(errors))
+    source, target = form_of(from_), form_of(to)
+    made = _noddychest.recode(source, target, data, _way(errors))
     if isinstance(made, bytes):
         return made
     offset, length, kind, all_bytes = made
     raise fault_error(STANDARD[source], all_bytes, offset, length, kind, offset=offset)
 
 
+def recoded_len(data: ReadableBuffer, from_: str, to: str) -> int:
+    """How many bytes `recode` makes of the data, with `replace`. It takes about as long as `recode`, and no memory.
+
+    >>> recoded_len("né".encode(), "utf8", "utf16be")
+    4
+    """
+    return _noddychest.recoded_len(form_of(from_), form_of(to), data)
+
+
 class Recoder:
     """Converts text that comes in parts. The output does not depend on how the input was divided into parts. With `strict` a part with
-    an invalid byte raises FaultError, once the reason is decided, and the recoder is as it was before.
+    an invalid byte raises FaultError, once the reason is decided, and the recoder is as it was before. `maximal` is as in `recode`.
 
     A Recoder takes one call at a time. If another thread calls it meanwhile, that raises RuntimeError, and no input is lost. `copy.copy`
     and `pickle` make a recoder that goes on by itself from the same state.
@@ -75,20 +67,19 @@ class Recoder:
     (b'\\x00n', b'\\x00\\xe9\\xff\\xfd', b'', b'\\xff\\xfd', 2)
     """
 
-    __slots__ = ("_from", "_to", "_strict", "_recoder", "__weakref__")
+    __slots__ = ("_from", "_to", "_errors", "_recoder", "__weakref__")
 
     def __init__(self, from_: str, to: str, errors: str = "replace") -> None:
-        self._from, self._to = _form(from_), _form(to)
-        self._strict = _is_strict(errors)
-        self._recoder = _noddychest.Recoder(self._from, self._to)
+        self._from, self._to, self._errors = form_of(from_), form_of(to), _way(errors)
+        self._recoder = _noddychest.Recoder(self._from, self._to, self._errors)
 
     def __getstate__(self) -> tuple[Any, ...]:
-        return self._from, self._to, self._strict, self._recoder.state(), getattr(self, "__dict__", None)
+        return self._from, self._to, self._errors, self._recoder.state(), getattr(self, "__dict__", None)
 
     def __setstate__(self, state: tuple[Any, ...]) -> None:
-        self._from, self._to, self._strict, inner, more = state
-        self._recoder = _noddychest.Recoder(self._from, self._to)
-        self._recoder.set_state(*inner, self._strict)
+        self._from, self._to, self._errors, inner, more = state
+        self._recoder = _noddychest.Recoder(self._from, self._to, self._errors)
+        self._recoder.set_state(*inner)
         if more:  # (what a subclass has)
             self.__dict__.update(more)
 
@@ -101,7 +92,7 @@ class Recoder:
         return self._step(b"", True)
 
     def _step(self, data: ReadableBuffer, finish: bool) -> bytes:
-        made = self._recoder.step(data, finish, self._strict)
+        made = self._recoder.step(data, finish)
         if isinstance(made, bytes):
             return made
         offset, length, kind, part, start = made
@@ -109,5 +100,6 @@ class Recoder:
 
     @property
     def faults(self) -> int:
-        """How many invalid bytes (in UTF-16 lone surrogates, or single bytes at the end) were replaced by U+FFFD so far."""
+        """How many invalid bytes (in UTF-16 lone surrogates, or single bytes at the end) were replaced by U+FFFD so far. With
+        `maximal` they are not counted."""
         return self._recoder.faults
