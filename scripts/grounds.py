@@ -26,9 +26,10 @@ from sources import Function
 
 TOP = os.path.dirname(os.path.dirname(os.path.abspath(__file__)))
 NAME = re.compile(r"[^\W\d]\w*")
+COMMENT = re.compile(r"(\s+//.*)?\s*$")
 STRING = re.compile(r'b?"(?:\\.|[^"\\])*"')
 ITEM = re.compile(r"^(?:pub(?:\([^)]*\))? )?(?:ghost use|(?:(?:const|unsafe|final|extern \"C\") )*(?:fn|impl|trait)|use|mod|struct|enum|union|type|const|static|macro_rules)\b")
-IMPORT = re.compile(r"^(?:pub(?:\([^)]*\))? )?(?:ghost )?use (.*);$", re.S)
+IMPORT = re.compile(r"^(?:pub(?:\([^)]*\))? )?(?:ghost )?use ([^;]*);\s*(?://.*)?$")
 # The path of a file of a crate's specs or proofs, as `Rattle.cuts.specs.Lines.{..}` has it, and as an attribute has it.
 CITED = re.compile(r"Rattle\.(\w+)\.(specs|proofs)((?:\.[^\s.{}();,⟨⟩⟦⟧]+)+)(?:\.\{([^}]*)\})?")
 # How a unit is reached: its statement is told; a value of it is there, so that methods are called that have no name in the text; its
@@ -44,8 +45,8 @@ class Unit:
     def __init__(self, crate, file, kind, text, names=(), mentions=None):
         self.crate, self.file, self.kind, self.text, self.names = crate, file, kind, text, {*names}
         self.mentions = names_in(text) if mentions is None else mentions
-        # Of a function the sources' name for it, its body, and what its proof is told; of an impl its functions, and the types that it names as its own; of an
-        # import whose name is no word the parts of that.
+        # Of a function the sources' name for it, its body, and what its proof is told; of an impl its functions, and the types that it
+        # names as its own; of an import whose name is no word the parts of that.
         self.function, self.body, self.tactics, self.methods, self.own_types, self.parts = None, "", "", [], set(), ()
         # Whether it is the function that is to be proved, with its body.
         self.is_proved = False
@@ -78,7 +79,7 @@ def items_in(lines):
         if line.lstrip().startswith("//"):
             continue
         item.append(line)
-        if line[:1].strip() and line.rstrip().endswith(("}", ";")) or line.startswith("#!["):
+        if line[:1].strip() and COMMENT.sub("", line).endswith(("}", ";")) or line.startswith("#!["):
             yield item
             item = []
     if any(it.strip() for it in item):
@@ -122,7 +123,7 @@ class Source:
             self.read_function(text, "")
         elif word in ("impl", "trait"):
             self.read_block(text, word)
-        elif word == "use":
+        elif word == "use" and IMPORT.match(bare):
             self.read_import(bare)
         else:
             # (an attribute of the crate, or a call of a macro among the items, is always taken)
@@ -176,10 +177,11 @@ class Source:
         # (of a contract only what stands in these brackets names an item of a source)
         brackets = " ".join(re.findall(r"⟦.*?⟧", head, re.S))
         mentions = names_in(f"{signature if body or head != text else text} {brackets} {owner}")
+        name = re.search(r"\bfn (\w+)", head)[1]
         # (how its own proof goes is nothing to others)
-        made = Unit(self.crate, self.file, "fn", TACTIC.sub("", head), re.findall(r"\bfn (\w+)", signature)[:1], mentions)
+        made = Unit(self.crate, self.file, "fn", TACTIC.sub("", head), [name], mentions)
         made.body, made.tactics = body, "".join(TACTIC.findall(head))
-        made.function = Function(self.crate, self.file, re.sub(r"\s+", " ", owner), True, [*made.names][0])
+        made.function = Function(self.crate, self.file, re.sub(r"\s+", " ", owner), True, name)
         self.units.append(made)
         return made
 
@@ -243,7 +245,7 @@ class Edited:
         self.crate, self.crates = crate, {it.name: it for it in [*crate.low, crate]}
         made = {path: crate.source(path, text) for path, text in texts.items() if path.endswith(".rt")}
         # (mostly a body alone is another: what leads where is then as it was)
-        self.sources = {path: it for path, it in made.items() if it.sums() != crate.sources[path].sums()}
+        self.sources = {path: it for path, it in made.items() if path not in crate.sources or it.sums() != crate.sources[path].sums()}
         self.proved = {**crate.sources, **made}
         self.files = {path: crate.file(path, text) for path, text in texts.items() if path.endswith(".antt")}
         self.by_name = index(self.sources.values())
@@ -286,10 +288,11 @@ class Edited:
 
     def begin(self, refused):
         """The units from which the closure of what is refused goes, or all of the crate where it cannot be told."""
-        if refused.startswith("lemmas of "):
-            module = f"/{refused.removeprefix('lemmas of ')}.antt"
-            return [self.antt(self.crate.name, path) for path in self.crate.files if f"/{path}".endswith(module)]
+        module = f"/{refused.removeprefix('lemmas of ')}.antt" if refused.startswith("lemmas of ") else None
+        lemmas = [self.antt(self.crate.name, path) for path in self.crate.files if module and path.endswith(module)]
         named = self.functions(refused)
+        if lemmas:
+            return lemmas
         if not named:
             return [with_body(it) for source in self.proved.values() for it in source.units] + [self.antt(self.crate.name, it) for it in self.crate.files]
         folders = {os.path.dirname(path).partition("/")[2] for path in self.crate.files if path.startswith("proofs/")}
