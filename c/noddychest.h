@@ -679,9 +679,11 @@ static inline const char *nody_kind_sentence(nody_kind_t kind) {
     template <typename Out> auto operator<<(Out &out, name value) -> decltype(static_cast<void>(out.put(typename Out::char_type())), out) { \
         return out << static_cast<int>(value), out; \
     }
+extern "C++" {
 NODY_SHOWN(nody_kind_t)
 NODY_SHOWN(nody_form_t)
 NODY_SHOWN(nody_status_t)
+}
 #undef NODY_SHOWN
 #endif
 

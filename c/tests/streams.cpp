@@ -1,5 +1,8 @@
-/* Shows constants of each enum of noddychest.h on streams of C++, which have to show numbers and no bytes. */
+/* Shows constants of each enum of noddychest.h on streams of C++, which have to show numbers and no bytes. The header is included as
+ * many a program includes those of C. */
+extern "C" {
 #include "noddychest.h"
+}
 
 #include <iostream>
 #include <sstream>

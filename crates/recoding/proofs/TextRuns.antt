@@ -4,7 +4,7 @@ use Rattle.std.specs.Prelude.{All}
 use Rattle.std.proofs.lemmas.List.{append-nil, take_all, take_rest, take-take}
 use Rattle.std.proofs.lemmas.List.Concat.{flat_map-append}
 use Rattle.std.proofs.lemmas.List.Elements.{All-append, All-nil, All-cons}
-use Rattle.encode_unicode.proofs.TextScalars.{joined_from_text}
+use Rattle.utf_base.proofs.TextScalars.{joined_from_text}
 use Rattle.utf_base.specs.Scalar.{IsScalar}
 use Rattle.utf_lanes.specs.BytePairs.{units_of, bytes_of, turned}
 use Rattle.utf_lanes.specs.Utf8ToUtf16.{utf16_bytes}

@@ -8,8 +8,7 @@ use Rattle.std.specs.Str.{IsUtf8, all_scalars}
 use Rattle.utf_base.specs.Scalar.{IsScalar}
 use Rattle.utf_base.specs.Code.{utf8}
 use Rattle.utf_base.specs.CutLaws.{IsJoined}
-use Rattle.utf_base.proofs.StdText.{scalar_from_std}
-use Rattle.encode_unicode.proofs.PieceRuns.{encodes_are_codes}
+use Rattle.utf_base.proofs.StdText.{encodes_are_codes, scalar_from_std}
 
 scalars_more : (s : ℕ) (rest : List ℕ) → all_scalars (s ∷ rest) ≡ true → IsStdScalar s × (all_scalars rest ≡ true)
 scalars_more s rest h = (grind (arith, common_steps), grind (arith, common_steps))
