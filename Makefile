@@ -21,7 +21,8 @@
 #   make clean       removes what was built
 #
 # CC, CPPFLAGS, CFLAGS and LDFLAGS are as usual; `make CC=aarch64-linux-gnu-gcc` builds for ARM. `make CC=x86_64-w64-mingw32-gcc` builds for
-# Windows: libnoddychest.a, noddychest.dll with its import library libnoddychest.dll.a, pieces.exe and recode.exe. BUILD is the folder of what
+# Windows: libnoddychest.a, noddychest.dll with its import library libnoddychest.dll.a, pieces.exe and recode.exe. On a Mac there come
+# libnoddychest.1.dylib, libnoddychest.a and the programs, for the other processor with CFLAGS='-O2 -arch x86_64' (python3 is needed). BUILD is the folder of what
 # is made. RUN stands before each program that `make check` runs, as `make check RUN=qemu-aarch64-static`; LANES is what nody_lanes()
 # has to answer there, 16 or 32.
 
@@ -40,13 +41,22 @@ BLANK := $(NOTHING) $(NOTHING)
 IN := $(subst $(BLANK),\$(BLANK),$(BUILD))
 LIBRARY = $(IN)/noddychest.o $(IN)/noddychest-v3.o $(IN)/processor.o
 
-# What differs on Windows: the assembly, and how files are called.
-ifneq ($(findstring mingw,$(shell $(CC) -dumpmachine 2>/dev/null)),)
+# What differs on Windows and on macOS: the assembly, and how files are called. (the assembly of Linux is another text there, with the same
+# instructions)
+MACHINE := $(shell $(CC) -dumpmachine 2>/dev/null)
+TEXT = cp
+PROTECTED = -fcf-protection
+DYNAMIC = $(IN)/libnoddychest.so.1
+ifneq ($(findstring mingw,$(MACHINE)),)
 SYSTEM = -windows
 EXE = .exe
+PROTECTED =
 DYNAMIC = $(IN)/noddychest.dll
-else
-DYNAMIC = $(IN)/libnoddychest.so.1
+endif
+ifneq ($(findstring apple,$(MACHINE)),)
+TEXT = scripts/macho
+PROTECTED =
+DYNAMIC = $(IN)/libnoddychest.1.dylib
 endif
 
 all: $(IN)/libnoddychest.a $(DYNAMIC) $(IN)/pieces$(EXE) $(IN)/recode$(EXE)
@@ -75,18 +85,19 @@ $(IN)/jumps: $(IN)/target
 	done >"$@"; rm -f "$@.o"
 
 $(IN)/noddychest.o: generated/noddychest-x86_64$(SYSTEM).s generated/noddychest-aarch64.s $(IN)/jumps
-	read processor <"$(BUILD)/target" && $(ASSEMBLE) "$@" generated/noddychest-$$processor$(SYSTEM).s
+	read processor <"$(BUILD)/target" && $(TEXT) generated/noddychest-$$processor$(SYSTEM).s "$(BUILD)/noddychest.s" && \
+	$(ASSEMBLE) "$@" "$(BUILD)/noddychest.s"
 
 # The calls that validate and recode, for x86-64-v3 (for ARM an empty file, which no library gets).
 $(IN)/noddychest-v3.o: generated/noddychest-x86_64$(SYSTEM)-v3.s $(IN)/jumps
 	read processor <"$(BUILD)/target" && case $$processor in \
-	x86_64) $(ASSEMBLE) "$@" generated/noddychest-x86_64$(SYSTEM)-v3.s ;; \
+	x86_64) $(TEXT) generated/noddychest-x86_64$(SYSTEM)-v3.s "$(BUILD)/noddychest-v3.s" && $(ASSEMBLE) "$@" "$(BUILD)/noddychest-v3.s" ;; \
 	*) : >"$@" ;; \
 	esac
 
 # (the library can be linked by who has no -flto; the assembly has the properties of -fcf-protection on x86-64)
 $(IN)/processor.o: c/processor.c c/noddychest.h $(IN)/target
-	read processor <"$(BUILD)/target" && case $$processor$(SYSTEM) in x86_64) set -- -fcf-protection ;; *) set -- ;; esac && \
+	read processor <"$(BUILD)/target" && case $$processor in x86_64) set -- $(PROTECTED) ;; *) set -- ;; esac && \
 	$(COMPILE) -fPIC -fno-lto "$$@" -c -o "$@" c/processor.c
 
 $(IN)/libnoddychest.a: $(LIBRARY)
@@ -98,6 +109,11 @@ $(IN)/libnoddychest.a: $(LIBRARY)
 $(IN)/libnoddychest.so.1: $(IN)/libnoddychest.a c/noddychest.map
 	$(SHARED); $(CC) "$$@" -shared -Wl,-soname,libnoddychest.so.1 -Wl,--version-script=c/noddychest.map -o "$@" \
 	-Wl,--whole-archive "$(BUILD)/libnoddychest.a" -Wl,--no-whole-archive
+
+$(IN)/libnoddychest.1.dylib: $(IN)/libnoddychest.a c/symbols.txt
+	sed -n 's/^call .*[ *]\(nody_[a-z0-9_]*\)(.*/_\1/p' c/symbols.txt >"$(BUILD)/exported"
+	$(SHARED); $(CC) "$$@" -dynamiclib -install_name @rpath/libnoddychest.1.dylib -compatibility_version 1 -current_version 1 \
+	-Wl,-exported_symbols_list,"$(BUILD)/exported" -o "$@" -Wl,-all_load "$(BUILD)/libnoddychest.a"
 
 # (the calls that a DLL exports are told by name; its import library is made beside it. Its address does not depend on the folder)
 $(IN)/noddychest.dll: $(IN)/libnoddychest.a c/symbols.txt
@@ -112,11 +128,17 @@ $(IN)/pieces.s: generated/pieces-x86_64$(SYSTEM).s generated/pieces-aarch64.s ge
 $(IN)/recode.s: generated/recode-x86_64$(SYSTEM).s generated/recode-aarch64.s generated/names.sed $(IN)/target
 	read processor <"$(BUILD)/target" && sed -f generated/names.sed generated/recode-$$processor$(SYSTEM).s >"$@"
 
-$(IN)/pieces.o: $(IN)/pieces.s $(IN)/jumps
-	$(ASSEMBLE) "$@" "$(BUILD)/pieces.s"
+$(IN)/pieces-here.s: $(IN)/pieces.s
+	$(TEXT) "$(BUILD)/pieces.s" "$@"
 
-$(IN)/recode.o: $(IN)/recode.s $(IN)/jumps
-	$(ASSEMBLE) "$@" "$(BUILD)/recode.s"
+$(IN)/pieces.o: $(IN)/pieces-here.s $(IN)/jumps
+	$(ASSEMBLE) "$@" "$(BUILD)/pieces-here.s"
+
+$(IN)/recode-here.s: $(IN)/recode.s
+	$(TEXT) "$(BUILD)/recode.s" "$@"
+
+$(IN)/recode.o: $(IN)/recode-here.s $(IN)/jumps
+	$(ASSEMBLE) "$@" "$(BUILD)/recode-here.s"
 
 $(IN)/system.o: generated/system.c $(IN)/target
 	$(COMPILE) -c -o "$@" generated/system.c
@@ -162,13 +184,16 @@ check-cmake:
 check-windows:
 	@c/check-windows
 
+check-macho:
+	@scripts/macho --check
+
 check-packages:
 	@packaging/check-all
 
 check-js:
 	@js/check
 
-.PHONY: dist dist-windows check-rust check-deb check-cmake check-windows check-packages check-js
+.PHONY: dist dist-windows check-rust check-deb check-cmake check-windows check-macho check-packages check-js
 
 clean:
 	rm -rf "$(BUILD)"

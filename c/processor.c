@@ -28,13 +28,18 @@ static unsigned kept_registers(void) {
 }
 #else
 #include <cpuid.h>
-/* (Windows' format of objects knows no hidden names: there the list of what a DLL exports does the same) */
+/* (Windows' format of objects knows no hidden names: there the list of what a DLL exports does the same. On macOS a linker drops functions
+ * by their names, without sections) */
 #ifdef _WIN32
 #define HIDDEN
 #else
 #define HIDDEN __attribute__((visibility("hidden")))
 #endif
+#ifdef __APPLE__
+#define SECTION(name)
+#else
 #define SECTION(name) __attribute__((section(".text." #name)))
+#endif
 #define AT_LOAD __attribute__((constructor(1000))) static void
 
 static void ask(unsigned leaf, unsigned *eax, unsigned *ebx, unsigned *ecx, unsigned *edx) {
