@@ -27,8 +27,8 @@ def texts():
     source = random.Random(30)
     yield from outside.inputs(3000, 40, seed=31)
     for form, encoding in FORMS.items():
-        for count in (0, 1, 5, 400):
-            data = bytearray("".join(outside.characters(source) for _ in range(40_000)).encode(encoding))
+        for count in (0, 3, 400):
+            data = bytearray("".join(outside.characters(source) for _ in range(20_000)).encode(encoding))
             for _ in range(count):
                 data[source.randrange(len(data))] = source.choice(outside.EDGES)
             yield bytes(data)

@@ -132,9 +132,9 @@ class Leaks(unittest.TestCase):
             tracemalloc.stop()
 
     def test_references(self):
-        """What is passed in is let go: the bytes, the handler's answers, and what the interpreter has once."""
+        """What the module shares is let go. (From 3.12 on nobody counts the references to None and small numbers.)"""
         for name, call in CALLS.items():
-            watched = [Piece, ErrorKind.NON_UTF8_BYTE, None, 0, 1, *CALLS]
+            watched = [Piece, ErrorKind.NON_UTF8_BYTE, *([None, 0, 1, 2] if sys.version_info < (3, 12) else [])]
             before = [sys.getrefcount(it) for it in watched]
             for _ in range(2000):
                 call()
