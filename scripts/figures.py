@@ -160,6 +160,17 @@ def lines_of_python():
     return f"{round(sum(len(lines_of(os.path.relpath(it, TOP))) for it in files), -2):,}"
 
 
+def one_meaning():
+    """How many names are declared in several files, with one meaning."""
+    return str(sum(it.startswith(("function ", "word ")) for it in lines_of("scripts/twice.txt")))
+
+
+def excused():
+    """How many calls no wrong body turns, in words."""
+    listed = re.search(r"^EXCUSED = \{\n(.*?)^\}", "\n".join(lines_of("scripts/refusals")), re.S | re.M)[1]
+    return in_words(len(re.findall(r'^    \("', listed, re.M)))
+
+
 def is_within(numbers, bound, words):
     """The words, where no number is above the bound, else the most."""
     return words if max(numbers) <= bound else f"{max(numbers):.3f}"
@@ -185,7 +196,9 @@ FIGURES = {
     "docs/ARCHITECTURE.md": [(r"in (\w+) files that `git grep -l Utf16Be` names\. So UTF-32LE would touch \d+ files of (\d+) in `src`, (\d+) of (\d+) in `specs` and (\d+) of (\d+) lemma",
                               lambda: files_of_forms())],
     "docs/CONFORMANCE.md": [(r"recodes (\d+) blocks", lambda: (blocks(),)), (r"package for Python: ([\d,]+) lines of C and Python", lambda: (lines_of_python(),))],
-    "docs/DECISIONS.md": [(r"and each of (\w+) calls is a function of `c/processor.c`", lambda: (chosen(),))],
+    "docs/DECISIONS.md": [(r"and each of (\w+) calls is a function of `c/processor.c`", lambda: (chosen(),)),
+                          (r"and (\w+) calls that `scripts/refusals` lists", lambda: (excused(),))],
+    "docs/DEFINITIONS.md": [(r"has those that are: (\d+) names", lambda: (one_meaning(),))],
     "docs/BENCHMARKS.md": [
         (r"bytes takes at most (.+?) of encode_unicode's instructions, and (.+)\.", lambda: (
             is_within(ratios("instructions", 2, "rust", lambda it, _: it == "forward"), 1 / 3, "a third"), is_within(ratios("instructions", 2, "rust"), 1, "no work takes more"))),

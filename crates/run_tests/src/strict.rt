@@ -6,7 +6,7 @@ use fakes::fuse::{Failure, Fuse, Plan};
 use std::alloc::{AllocError, Global};
 use std::io::ErrorKind;
 use std::test::Fail;
-use uses::strict::{feed_strictly, finish_strictly};
+use uses_runs::strict::{feed_strictly, finish_strictly};
 
 // An input, where it is faulty and why, and the text before that in the other form.
 type Row = (
