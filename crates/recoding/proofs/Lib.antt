@@ -18,6 +18,7 @@ pub mod GoodCodes
 pub mod Growing
 pub mod JoinedShards
 pub mod Listed
+pub mod LossyEnds
 pub mod LossyLists
 pub mod LossySteps
 pub mod Utf16ToUtf8

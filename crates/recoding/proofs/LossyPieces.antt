@@ -1,33 +1,39 @@
 -- The part that begins some bytes, from the piece that does.
-use Rattle.std.proofs.Common.{◌≡◌, ℕ, ◌<◌, ◌≤◌, ⊎_elim, inl, inr, Bool, true, false, Some, None, Option, List, [], ◌∷◌, ◌++◌, length, min, take, drop, arith, refl, ap, sym, ◌∙◌, subst, append_assoc, take-append-drop, length-take, lit<}
+use Rattle.std.proofs.Common.{◌≡◌, ℕ, ◌<◌, ◌≤◌, inl, inr, Bool, true, false, Some, None, Option, List, [], ◌∷◌, ◌++◌, length, take, drop, arith, refl, ap, sym, ◌∙◌, subst, append_assoc, take-append-drop, length-take, lit<}
 use Rattle.std.specs.Option.{option_map}
-use Rattle.std.proofs.lemmas.Bool.{cases_lt}
 use Rattle.std.proofs.lemmas.List.{append-nil, drop_all}
 use Rattle.std.proofs.lemmas.List.Elements.{All-cons, All-nil}
-use Rattle.utf_base.specs.Code.{utf8}
+use Rattle.utf_base.specs.Code.{utf8, utf16}
+use Rattle.utf_base.specs.Piece.{Stands}
 use Rattle.utf_base.specs.Kinds.{fault_kind}
 use Rattle.utf_base.specs.Scalar.{IsScalar}
 use Rattle.utf_base.specs.Shown.{IsDecided}
-use Rattle.utf_base.specs.Units.{unit_fault_kind}
+use Rattle.utf_base.specs.Subparts.{ShowsParts}
+use Rattle.utf_base.specs.Units.{is_leading_surrogate, unit_fault_kind}
 use Rattle.utf_base.specs.declared.errors.Utf8ErrorKind.{Utf8ErrorKind}
 use Rattle.utf_base.specs.declared.errors.Utf8ErrorKind.TheVariants.{TooFewBytes}
 use Rattle.utf_base.specs.declared.errors.units.Utf16PairError.{Utf16PairError}
 use Rattle.utf_base.specs.declared.errors.units.Utf16PairError.TheVariants.{Incomplete}
 use Rattle.utf_base.proofs.FrontLemmas.{no_code_where_fault, no_fault_where_code}
 use Rattle.utf_base.proofs.KindCases.{begins_with-1}
+use Rattle.utf_base.proofs.LaterLemmas.{no_code_at_last}
+use Rattle.utf_base.proofs.PartLists.{parts_show_none}
+use Rattle.utf_base.proofs.Rests.{fault_shows_first, shows_none}
 use Rattle.utf_base.proofs.UnitLemmas.{units_code_or_one_kind}
+use Rattle.utf_base.proofs.Utf16Code.{utf16_is_code}
 use Rattle.utf_lanes.specs.BytePairs.{unit_of, units_of}
 use Rattle.recoding.specs.declared.faults.FaultKind.{FaultKind}
 use Rattle.recoding.specs.declared.faults.FaultKind.TheVariants as kind
 use Rattle.recoding.specs.declared.form.Form.{Form}
 use Rattle.recoding.specs.declared.form.Form.TheVariants.{Utf8, Utf16Le, Utf16Be}
-use Rattle.recoding.specs.Lossy.{BeginsNoCode, ReadsParts}
-use Rattle.recoding.specs.Recoded.{Lacks, ShowsUnits, written}
-use Rattle.recoding.specs.NextScalars.{Decides, Ends, HasByteOrder, Waits}
+use Rattle.recoding.specs.Lossy.{BeginsNoCode, ReadsParts, ShowsUnitParts}
+use Rattle.recoding.specs.Recoded.{Lacks, written}
+use Rattle.recoding.specs.NextScalars.{Decides, Ends}
 use Rattle.recoding.specs.Strict.{AwaitsKind, BeginsChar, BeginsFault}
-use Rattle.recoding.proofs.FrontBytes.{Waits-byte, Waits-leading, fault_shows_units, replacement, units_two}
+use Rattle.recoding.proofs.FrontBytes.{first_unit, replacement, units_two}
 use Rattle.recoding.proofs.HeldFronts.{leading_by_itself, two_do_not_lack}
-use Rattle.recoding.proofs.LossyLists.{Decides-alike, Ends-alike, alike_be, alike_le, text_shows_parts}
+use Rattle.recoding.proofs.LossyEnds.{end_two, incomplete_of, next_is_there}
+use Rattle.recoding.proofs.LossyLists.{Ends-front, text_shows_parts, unit_parts_one, units_in_parts, units_show}
 use Rattle.recoding.proofs.TextRuns.{wide_written}
 
 -- A character.
@@ -73,57 +79,66 @@ no_unit_kind : (k : FaultKind) (e : Option Utf16PairError) → e ≡ None → op
 no_unit_kind k e none some = let h : option_map kind.Utf16 None ≡ Some k = rw none at some in cc
 
 unit_fault : (high : Bool) (w : List ℕ) (k : FaultKind) → 2 ≤ length w → ((later : List ℕ) → option_map kind.Utf16 (unit_fault_kind (units_of high (w ++ later))) ≡ Some k)
-    → Decides (ShowsUnits high) w 0xFFFD 2
+    → Decides (ShowsUnitParts high) w 0xFFFD 2
 unit_fault high w k two kinds =
-    fault_shows_units high w two
-    (λ later s h. no_unit_kind k (unit_fault_kind (units_of high (w ++ later))) (units_code_or_one_kind.fault (units_of high (w ++ later)) s (rw (units_two high w later two) h)) (kinds later))
+    let none : (later : List ℕ) (s : ℕ) → Stands utf16 (first_unit high w ∷ units_of high (drop 2 w ++ later)) 0 s → ⊥
+    = λ later s h. no_unit_kind k (unit_fault_kind (units_of high (w ++ later))) (units_code_or_one_kind.fault (units_of high (w ++ later)) s (rw (units_two high w later two) h)) (kinds later) in
+    record {
+      some = omega arith;
+      within = two;
+      scalar = replacement;
+      wide = λ h. omega arith;
+      first = λ later ss (ts, r, f). (
+        0xFFFD ∷ ts,
+        units_in_parts (units_of high (w ++ later)) (0xFFFD ∷ ts)
+            (rw (units_two high w later two)
+            (fault_shows_first utf16 utf16_is_code (first_unit high w ∷ []) (units_of high (drop 2 w ++ later)) ts (lit< tt) (none later) (units_show (units_of high (drop 2 w ++ later)) ts r))),
+        ap (λ xs. 0xFFFD ∷ xs) (f ∙ ap (λ o. ts ++ o) (sym (end_two high w later two (next_is_there high w k two kinds)))),
+      );
+    }
 
 pub Decides-units : (from : Form) (w : List ℕ) (k : FaultKind) (n : ℕ) → (from ≡ Utf8 → ⊥) → BeginsFault from w k n → Decides (ReadsParts from) w 0xFFFD n
 Decides-units Utf8 w k n other f = absurd (other refl)
 Decides-units Utf16Le w k n other f =
     let two : n ≡ 2 = f.len in
     let within = f.within in
-    rw two (Decides-alike Utf16Le w 0xFFFD 2 alike_le (unit_fault false w k (omega arith) f.kind))
+    rw two (unit_fault false w k (omega arith) f.kind)
 Decides-units Utf16Be w k n other f =
     let two : n ≡ 2 = f.len in
     let within = f.within in
-    rw two (Decides-alike Utf16Be w 0xFFFD 2 alike_be (unit_fault true w k (omega arith) f.kind))
-
-lacks_where_awaited : (e : Option Utf16PairError) → option_map kind.Utf16 e ≡ Some (kind.Utf16 Incomplete) → e ≡ Some Incomplete
-lacks_where_awaited None h = cc
-lacks_where_awaited (Some k) h = let same : k ≡ Incomplete = cc in ap Some same
+    rw two (unit_fault true w k (omega arith) f.kind)
 
 pub lacks_units : (from : Form) (w : List ℕ) → (from ≡ Utf8 → ⊥) → AwaitsKind from w → Lacks from w
 lacks_units Utf8 w other a = absurd (other refl)
-lacks_units Utf16Le w other a = lacks_where_awaited _ a.kind
-lacks_units Utf16Be w other a = lacks_where_awaited _ a.kind
+lacks_units Utf16Le w other a = incomplete_of _ a.kind
+lacks_units Utf16Be w other a = incomplete_of _ a.kind
 
--- And so are too few bytes of it at the end.
+-- Too few bytes of it at the end are one subpart: half a unit, a leading surrogate, or both.
 
-waits_for_units : (high : Bool) (from : Form) (w : List ℕ) → HasByteOrder high from → unit_fault_kind (units_of high w) ≡ Some Incomplete → Waits from w
-waits_for_units high from [] form h = Waits-byte high from [] form (lit< tt)
-waits_for_units high from (a ∷ []) form h = Waits-byte high from (a ∷ []) form (lit< tt)
-waits_for_units high from (a ∷ b ∷ []) form h = Waits-leading high from (a ∷ b ∷ []) form (lit< tt) (lit< tt) (leading_by_itself (unit_of high a b) h)
-waits_for_units high from (a ∷ b ∷ c ∷ []) form h = Waits-leading high from (a ∷ b ∷ c ∷ []) form (lit< tt) (lit< tt) (leading_by_itself (unit_of high a b) h)
-waits_for_units high from (a ∷ b ∷ c ∷ d ∷ w) form h = absurd (two_do_not_lack _ _ _ h)
+leading_part : (u : ℕ) → is_leading_surrogate u ≡ true → ShowsParts utf16 (u ∷ []) (0xFFFD ∷ [])
+leading_part u l = units_in_parts (u ∷ []) (0xFFFD ∷ []) (fault_shows_first utf16 utf16_is_code (u ∷ []) [] [] (lit< tt) (λ s h. no_code_at_last u s l h) (shows_none utf16))
 
-same_drop : (w : List ℕ) → drop (min 2 (length w)) w ≡ drop 2 w
-same_drop w =
-    ⊎_elim
-    (λ (lt : length w < 2). drop_all (min 2 (length w)) w (omega arith) ∙ sym (drop_all 2 w (omega arith)))
-    (λ (ge : 2 ≤ length w). let two : min 2 (length w) ≡ 2 = omega arith in ap (λ k. drop k w) two)
-    (cases_lt (length w) 2)
+one_part : (high : Bool) (w : List ℕ) → 0 < length w → unit_fault_kind (units_of high w) ≡ Some Incomplete → ShowsUnitParts high w (0xFFFD ∷ [])
+one_part high [] some h = absurd (omega arith)
+one_part high (a ∷ []) some h = ([], parts_show_none utf16, refl)
+one_part high (a ∷ b ∷ []) some h = (0xFFFD ∷ [], leading_part (unit_of high a b) (leading_by_itself (unit_of high a b) h), refl)
+one_part high (a ∷ b ∷ c ∷ []) some h =
+    let leads = leading_by_itself (unit_of high a b) h in
+    (0xFFFD ∷ [], leading_part (unit_of high a b) leads, rw leads refl)
+one_part high (a ∷ b ∷ c ∷ d ∷ w) some h = absurd (two_do_not_lack _ _ _ h)
 
-ends_in_unit : (high : Bool) (w : List ℕ) → 0 < length w → ((ss : List ℕ) → ShowsUnits high (drop 2 w) ss → ShowsUnits high w (0xFFFD ∷ ss)) → Ends (ShowsUnits high) w 0xFFFD (min 2 (length w))
-ends_in_unit high w some last = record {
-  some = omega arith;
+ends_in_part : (high : Bool) (w : List ℕ) → 0 < length w → unit_fault_kind (units_of high w) ≡ Some Incomplete → Ends (ShowsUnitParts high) w 0xFFFD (length w)
+ends_in_part high w some h = record {
+  some = some;
   within = omega arith;
   scalar = replacement;
-  wide = λ high. absurd (omega arith);
-  first = λ ss r. last ss (rw (same_drop w) at r);
+  wide = λ above. absurd (omega arith);
+  first = λ ss r.
+      let none : ss ≡ [] = unit_parts_one high [] ss [] (rw (drop_all (length w) w (omega arith)) at r) ([], parts_show_none utf16, refl) in
+      rw none (one_part high w some h);
 }
 
-pub Ends-units : (from : Form) (w : List ℕ) → (from ≡ Utf8 → ⊥) → 0 < length w → Lacks from w → Ends (ReadsParts from) w 0xFFFD (min 2 (length w))
-Ends-units Utf8 w other some h = absurd (other refl)
-Ends-units Utf16Le w other some h = Ends-alike Utf16Le w 0xFFFD (min 2 (length w)) alike_le (ends_in_unit false w some ((waits_for_units false Utf16Le w refl h).last some))
-Ends-units Utf16Be w other some h = Ends-alike Utf16Be w 0xFFFD (min 2 (length w)) alike_be (ends_in_unit true w some ((waits_for_units true Utf16Be w refl h).last some))
+pub Ends-few : (from : Form) (w : List ℕ) → 0 < length w → Lacks from w → Ends (ReadsParts from) w 0xFFFD (length w)
+Ends-few Utf8 w some h = Ends-front w some h
+Ends-few Utf16Le w some h = ends_in_part false w some h
+Ends-few Utf16Be w some h = ends_in_part true w some h

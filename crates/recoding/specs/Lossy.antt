@@ -1,18 +1,32 @@
 -- Lossy recoding: each character as it is, and U+FFFD for each maximal subpart of what is none, as the Unicode standard
 -- recommends (chapter 3, D93b and "U+FFFD Substitution of Maximal Subparts") and the decoder of the WHATWG Encoding Standard does.
-use Rattle.std.specs.Prelude.{◌≡◌, ℕ, ◌<◌, ◌≤◌, Bool, true, false, List, ◌++◌, length, flat_map, get_or}
+use Rattle.std.specs.Prelude.{◌≡◌, ℕ, ◌<◌, ◌≤◌, Bool, true, false, List, [], ◌∷◌, ◌++◌, length, flat_map, get_or, if◌then◌else◌}
 use Rattle.utf_base.specs.Code.{utf8, utf16}
 use Rattle.utf_base.specs.Piece.{Stands}
 use Rattle.utf_base.specs.Subparts.{IsMaximalSubpart, ShowsParts}
-use Rattle.utf_lanes.specs.BytePairs.{units_of}
-use Rattle.recoding.specs.Recoded.{odd_end, written}
+use Rattle.utf_base.specs.Units.{is_leading_surrogate}
+use Rattle.utf_lanes.specs.BytePairs.{unit_of, units_of}
+use Rattle.recoding.specs.Recoded.{written}
 use Rattle.recoding.specs.NextScalars.{MayBeSecond}
 use Rattle.recoding.specs.declared.form.Form.{Form}
 use Rattle.recoding.specs.declared.form.Form.TheVariants.{Utf8, Utf16Le, Utf16Be}
 
--- ss is what the parts of the units that the bytes make show, and U+FFFD for an odd last byte
+-- Half a unit at the end is a subpart by itself. After a leading surrogate it belongs to the subpart of that, as browsers and Python
+-- have it. `leads` tells whether one stands before the bytes.
+abbrev pub lossy_end : Bool → Bool → List ℕ → List ℕ
+lossy_end leads high_first [] = []
+lossy_end leads high_first (a ∷ []) = if leads then [] else 0xFFFD ∷ []
+lossy_end leads high_first (a ∷ b ∷ bytes) = lossy_end (is_leading_surrogate (unit_of high_first a b)) high_first bytes
+
+-- what is shown of an odd last byte where each fault is replaced, and not here: U+FFFD where it is after a leading surrogate
+abbrev pub joined_end : Bool → Bool → List ℕ → List ℕ
+joined_end leads high_first [] = []
+joined_end leads high_first (a ∷ []) = if leads then 0xFFFD ∷ [] else []
+joined_end leads high_first (a ∷ b ∷ bytes) = joined_end (is_leading_surrogate (unit_of high_first a b)) high_first bytes
+
+-- ss is what the parts of the units that the bytes make show, and U+FFFD for an odd last byte that is a subpart by itself
 abbrev pub ShowsUnitParts : Bool → List ℕ → List ℕ → Type 0
-ShowsUnitParts high_first bytes ss = (ts : List ℕ) × ShowsParts utf16 (units_of high_first bytes) ts × (ss ≡ ts ++ odd_end bytes)
+ShowsUnitParts high_first bytes ss = (ts : List ℕ) × ShowsParts utf16 (units_of high_first bytes) ts × (ss ≡ ts ++ lossy_end false high_first bytes)
 
 -- ss is what the parts of the bytes show as text of that form
 abbrev pub ReadsParts : Form → List ℕ → List ℕ → Type 0
