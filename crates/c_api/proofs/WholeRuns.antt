@@ -16,6 +16,7 @@ use Rattle.cuts.specs.Fed.{IsFed}
 use Rattle.c_api.specs.declared.recodings.NodyRecoder.{NodyRecoder}
 use Rattle.c_api.specs.Whole.{IsLongerThan, IsFrontOfRecoded, IsRecodedLen}
 use Rattle.recoding.proofs.BoundLemmas.{recoded_bound}
+use Rattle.recoding.proofs.Earliest.{read_are_scalars}
 use Rattle.recoding.proofs.EnoughRoom.{feeds_in_room, room_is_left, finishes_in_room}
 use Rattle.recoding.proofs.FedParts.{nothing_is_fed, part_is_fed, fed_is_recoded}
 use Rattle.recoding.proofs.Growing.{recoded_once, recoded_nothing}
@@ -38,13 +39,16 @@ module _ (from to : Form) (s : Recoding) (bytes old new : List ℕ) (read wrote 
 
   pub fed_front : IsFrontOfRecoded from to bytes (take wrote new)
   fed_front out r =
-      let grows = (f.feeds []).grows in
-      let left = s.held ++ drop read bytes in
-      let rest = recoded_once from to left in
-      let first : IsRecoded from to (take read bytes ++ drop read bytes) (grows.grown ++ rest.0) = grows.continues (drop read bytes) rest.0 rest.1 in
-      let here : IsRecoded from to bytes (grows.grown ++ rest.0) = subst (λ xs. IsRecoded from to xs (grows.grown ++ rest.0)) (take-append-drop read bytes) first in
+      let once = f.feeds [] in
+      let tail = recoded_once from to (s.held ++ drop read bytes) in
+      let all : IsRecoded from to (take read bytes ++ drop read bytes) (once.grows.grown ++ tail.0) = once.grows.continues (drop read bytes) tail.0 tail.1 in
+      let here : IsRecoded from to bytes (once.grows.grown ++ tail.0) = subst (λ xs. IsRecoded from to xs (once.grows.grown ++ tail.0)) (take-append-drop read bytes) all in
       let only = recoded_once from to bytes in
-      (left, rest.0, rest.1, only.2 out r ∙ sym (only.2 (grows.grown ++ rest.0) here) ∙ ap (λ xs. xs ++ rest.0) (sym grows.appended))
+      let same : out ≡ once.grows.grown ++ tail.0 = only.2 out r ∙ sym (only.2 _ here) in (
+        tail.1.0,
+        read_are_scalars from (s.held ++ drop read bytes) tail.1.0 tail.1.1,
+        same ∙ ap (λ xs. xs ++ tail.0) (sym once.grows.appended) ∙ ap (λ xs. take wrote new ++ xs) tail.1.2,
+      )
 
   -- And where all was read.
   module _ (t : Recoding) (rest after : List ℕ) (last : ℕ) (all : read ≡ length bytes) (g : FinishesInto s rest after last t) where
@@ -76,7 +80,9 @@ module _ (from to : Form) (s : Recoding) (bytes old new : List ℕ) (read wrote 
         let here : IsRecoded from to bytes (once.grows.grown ++ (take last after ++ tail.0)) = rw (append-nil bytes) at all in
         let only = recoded_once from to bytes in
         let same : out ≡ once.grows.grown ++ (take last after ++ tail.0) = only.2 out r ∙ sym (only.2 _ here) in
-        (t.held, tail.0, tail.1, same ∙ ap (λ xs. xs ++ (take last after ++ tail.0)) (sym once.grows.appended) ∙ sym (append_assoc (take wrote new) (take last after) tail.0))
+        let joined : out ≡ (take wrote new ++ take last after) ++ tail.0 =
+        same ∙ ap (λ xs. xs ++ (take last after ++ tail.0)) (sym once.grows.appended) ∙ sym (append_assoc (take wrote new) (take last after) tail.0) in
+        (tail.1.0, read_are_scalars from t.held tail.1.0 tail.1.1, joined ∙ ap (λ xs. (take wrote new ++ take last after) ++ xs) tail.1.2)
 
 -- Bytes that are fed in parts, of which only the number of bytes that come is kept.
 
