@@ -328,6 +328,21 @@ static void lossy(void) {
         {"a\xf1\x80\x80" "b\xc0\xaf" "c", "a\xef\xbf\xbd" "b\xef\xbf\xbd\xef\xbf\xbd" "c"},
         {"\xe2\x82\xac\xf0\x9f\x82\xa0", "\xe2\x82\xac\xf0\x9f\x82\xa0"},
     };
+    /* what bytes.decode("utf-16-le", "replace") gives, as UTF-8; in "utf-16-be" the bytes of each unit are the other way round */
+    static const struct {
+        size_t len, need;
+        uint8_t in[8];
+        const char *want;
+    } ends[] = {
+        {3, 3, {0x00, 0xd8, 0x00}, "\xef\xbf\xbd"},
+        {3, 6, {0x00, 0xdc, 0x00}, "\xef\xbf\xbd\xef\xbf\xbd"},
+        {3, 4, {0x41, 0x00, 0x00}, "A\xef\xbf\xbd"},
+        {5, 6, {0x00, 0xd8, 0x00, 0xd8, 0x00}, "\xef\xbf\xbd\xef\xbf\xbd"},
+        {5, 7, {0x00, 0xd8, 0x41, 0x00, 0x41}, "\xef\xbf\xbd" "A\xef\xbf\xbd"},
+        {5, 7, {0x00, 0xd8, 0x00, 0xdc, 0x00}, "\xf0\x90\x80\x80\xef\xbf\xbd"},
+        {1, 3, {0xd8}, "\xef\xbf\xbd"},
+        {2, 3, {0x00, 0xd8}, "\xef\xbf\xbd"},
+    };
     nody_recoder_t none = nody_recoder(3, 0), small = nody_recoder(NODY_FORM_UTF8, NODY_FORM_UTF8), units = nody_recoder(NODY_FORM_UTF16LE, NODY_FORM_UTF8);
     static const uint8_t le[] = {0x00, 0xdc, 0x41, 0x00, 0x3c, 0xd8, 0x21};
     uint8_t out[32];
@@ -346,7 +361,18 @@ static void lossy(void) {
     expect(nody_recoder_feed_lossy(&small, (const uint8_t *)"\xe2\x82" "A", 3, out, 3, &read, &written) == NODY_STATUS_FULL && written == 3, "no room for the A");
     expect(nody_recoder_feed_lossy(&small, (const uint8_t *)"\xe2\x82" "A" + read, 3 - read, out, 1, &read, &written) == NODY_STATUS_DONE && written == 1 && out[0] == 'A', "room for it");
     expect(nody_recoder_feed_lossy(&small, (const uint8_t *)"\xe2\x82", 2, out, 0, &read, &written) == NODY_STATUS_DONE && read == 2 && nody_recoder_finish_lossy(&small, out, 2, &written) == NODY_STATUS_FULL && written == 0 && small.count == 2, "no room for the end");
-    expect(nody_recoder_feed_lossy(&units, le, 7, out, 32, &read, &written) == NODY_STATUS_DONE && written == 4 && nody_recoder_finish_lossy(&units, out, 32, &written) == NODY_STATUS_DONE && written == 6 && units.replaced == 0, "of UTF-16 as nody_recoder_feed");
+    expect(nody_recoder_feed_lossy(&units, le, 7, out, 32, &read, &written) == NODY_STATUS_DONE && written == 4 && nody_recoder_finish_lossy(&units, out, 32, &written) == NODY_STATUS_DONE && written == 3 && units.replaced == 0, "a leading surrogate and half a unit");
+    for (size_t i = 0; i < sizeof ends / sizeof *ends; i++)
+        for (size_t at = 0; at <= ends[i].len; at++)
+            for (nody_form_t form = NODY_FORM_UTF16LE; form <= NODY_FORM_UTF16BE; form++) {
+                nody_recoder_t recoder = nody_recoder(form, NODY_FORM_UTF8);
+                uint8_t in[8];
+                for (size_t k = 0; k < ends[i].len; k++) in[k] = ends[i].in[form == NODY_FORM_UTF16BE && (k | 1) < ends[i].len ? k ^ 1 : k];
+                nody_recoder_feed_lossy(&recoder, in, at, out, 32, &read, &written);
+                nody_recoder_feed_lossy(&recoder, in + at, ends[i].len - at, out + written, 32 - written, &read, &more);
+                nody_recoder_finish_lossy(&recoder, out + written + more, 32 - written - more, &last);
+                expect(written + more + last == ends[i].need && memcmp(out, ends[i].want, ends[i].need) == 0, "the end of UTF-16, lossily");
+            }
     expect(nody_recoder_feed_lossy(&none, le, 7, out, 32, &read, &written) == NODY_STATUS_REFUSED && read == 0 && written == 0 && nody_recoder_finish_lossy(&none, out, 32, &written) == NODY_STATUS_REFUSED, "no recoder, lossily");
 }
 

@@ -25,6 +25,7 @@ use core::ops::Range;
 /// ```
 #[derive(Clone, Copy, Debug, PartialEq, Eq, PartialOrd, Ord, Hash)]
 #[repr(u8)]
+#[non_exhaustive]
 pub enum FaultKind {
     /// Fewer bytes are left than the first one needs.
     TooFewBytes = ffi::KIND_TOO_FEW_BYTES,

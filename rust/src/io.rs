@@ -143,7 +143,8 @@ impl<R: Read> Read for RecodingReader<R> {
 
 /// Writes to a writer what it is given, in another form.
 ///
-/// It gathers 8 KiB before it writes. Call [`finish`](RecodingWriter::finish) at the end: it writes what is held. Where a strict
+/// It gathers 8 KiB before it writes. Call [`finish`](RecodingWriter::finish) at the end: it writes what is gathered and held. Dropped
+/// without it the writer writes that too, as [`BufWriter`](std::io::BufWriter) does, and then nobody hears of an error. Where a strict
 /// recoder meets invalid text, the error has the kind [`InvalidData`](std::io::ErrorKind::InvalidData) and a [`Fault`] in it. Since a
 /// call of `write` that fails must have taken nothing, it comes from the call that follows: the next `write`, `flush` or `finish`.
 ///
@@ -159,12 +160,15 @@ impl<R: Read> Read for RecodingReader<R> {
 /// # Ok::<(), std::io::Error>(())
 /// ```
 #[derive(Debug)]
-pub struct RecodingWriter<W> {
-    inner: W,
+pub struct RecodingWriter<W: Write> {
+    /// There until `into_inner` takes it.
+    inner: Option<W>,
     recoder: Recoder,
     /// What was recoded, and from where on it was not written yet.
     made: Block,
     fault: Option<Fault>,
+    /// While the inner writer writes: where that panics, nothing is written once more.
+    is_writing: bool,
 }
 
 impl<W: Write> RecodingWriter<W> {
@@ -175,7 +179,7 @@ impl<W: Write> RecodingWriter<W> {
     /// let writer = RecodingWriter::new(std::io::stdout(), Recoder::new(Form::Utf8, Form::Utf16Be));
     /// ```
     pub fn new(inner: W, recoder: Recoder) -> RecodingWriter<W> {
-        RecodingWriter { inner, recoder, made: Block::new(), fault: None }
+        RecodingWriter { inner: Some(inner), recoder, made: Block::new(), fault: None, is_writing: false }
     }
 
     /// Writes what is held and what was gathered, and flushes the writer. After an error call it again to go on; after a fault of
@@ -191,20 +195,9 @@ impl<W: Write> RecodingWriter<W> {
     /// # Ok::<(), std::io::Error>(())
     /// ```
     pub fn finish(&mut self) -> Result<()> {
-        loop {
-            self.tell()?;
-            self.drain()?;
-            let did = self.recoder.finish(&mut self.made.bytes);
-            self.made.end = did.written;
-            match did.status {
-                Status::Fault(fault) => self.fault = Some(fault),
-                Status::Full => {}
-                Status::Done => {
-                    self.drain()?;
-                    return self.inner.flush();
-                }
-            }
-        }
+        self.tell()?;
+        self.write_rest()?;
+        self.flush_inner()
     }
 
     /// The writer. What is held or gathered is lost: call [`finish`](RecodingWriter::finish) before.
@@ -214,14 +207,32 @@ impl<W: Write> RecodingWriter<W> {
     /// let writer = RecodingWriter::new(Vec::new(), Recoder::new(Form::Utf8, Form::Utf8));
     /// assert!(writer.into_inner().is_empty());
     /// ```
-    pub fn into_inner(self) -> W {
-        self.inner
+    pub fn into_inner(mut self) -> W {
+        self.inner.take().expect("nothing else takes it")
+    }
+
+    /// Writes what was gathered, and then what the recoder holds.
+    fn write_rest(&mut self) -> Result<()> {
+        loop {
+            self.drain()?;
+            self.tell()?;
+            let did = self.recoder.finish(&mut self.made.bytes);
+            self.made.end = did.written;
+            match did.status {
+                Status::Fault(fault) => self.fault = Some(fault),
+                Status::Full => {}
+                Status::Done => return self.drain(),
+            }
+        }
     }
 
     /// Writes what was gathered.
     fn drain(&mut self) -> Result<()> {
-        while !self.made.left().is_empty() {
-            match self.inner.write(self.made.left()) {
+        while let (Some(inner), false) = (&mut self.inner, self.made.left().is_empty()) {
+            self.is_writing = true;
+            let written = inner.write(self.made.left());
+            self.is_writing = false;
+            match written {
                 Ok(0) => return Err(ErrorKind::WriteZero.into()),
                 Ok(count) => self.made.begin += count,
                 Err(error) if error.kind() == ErrorKind::Interrupted => {}
@@ -230,6 +241,10 @@ impl<W: Write> RecodingWriter<W> {
         }
         (self.made.begin, self.made.end) = (0, 0);
         Ok(())
+    }
+
+    fn flush_inner(&mut self) -> Result<()> {
+        self.inner.as_mut().map_or(Ok(()), W::flush)
     }
 
     /// Recodes what it can of a part, and answers how much of it was read.
@@ -270,6 +285,15 @@ impl<W: Write> Write for RecodingWriter<W> {
         // (a character for which there was no room)
         self.feed(&[]);
         self.drain()?;
-        self.inner.flush()
+        self.flush_inner()
+    }
+}
+
+/// Writes what was gathered and what is held, up to a fault of a strict recoder. Errors are ignored.
+impl<W: Write> Drop for RecodingWriter<W> {
+    fn drop(&mut self) {
+        if self.inner.is_some() && !self.is_writing {
+            let _ = self.write_rest();
+        }
     }
 }

@@ -37,8 +37,9 @@
 //!
 //! # Platforms
 //!
-//! Linux on x86-64 and ARM (64 bits). On x86-64 the processor needs x86-64-v2, which those made since about 2009 have:
+//! Linux on x86-64 and ARM64. On x86-64 the processor needs x86-64-v2, which nearly all processors made since 2013 have:
 //! [`is_supported`] says whether it does. No other call asks. To build takes a C compiler, which assembles.
+//! On ARM64 the library for C was run in an emulator (QEMU) alone, and the packages for Python and Rust were not run.
 //!
 //! [`String::from_utf8_lossy`]: https://doc.rust-lang.org/std/string/struct.String.html#method.from_utf8_lossy
 #![cfg_attr(not(feature = "std"), no_std)]

@@ -13,6 +13,7 @@ use core::mem::MaybeUninit;
 /// ```
 #[derive(Clone, Copy, Debug, PartialEq, Eq, Hash)]
 #[repr(u8)]
+#[non_exhaustive]
 pub enum Form {
     /// UTF-8.
     Utf8 = ffi::FORM_UTF8,
@@ -91,6 +92,7 @@ impl core::str::FromStr for Form {
 /// assert_eq!(recoder.feed(b"abc", &mut [0; 4]).status, Status::Full);
 /// ```
 #[derive(Clone, Copy, Debug, PartialEq, Eq, Hash)]
+#[non_exhaustive]
 pub enum Status {
     /// The whole part was read, or all that was held was written.
     Done,

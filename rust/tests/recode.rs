@@ -29,6 +29,7 @@ fn decoded(form: Form, bytes: &[u8]) -> Vec<Answer> {
         Form::Utf8 => of_utf8(bytes),
         Form::Utf16Le => of_utf16(bytes, u16::from_le_bytes),
         Form::Utf16Be => of_utf16(bytes, u16::from_be_bytes),
+        _ => unreachable!("{form} is new"),
     }
 }
 
@@ -38,6 +39,7 @@ fn encoded(form: Form, text: impl Iterator<Item = char>) -> Vec<u8> {
         Form::Utf8 => text.into_bytes(),
         Form::Utf16Le => text.encode_utf16().flat_map(u16::to_le_bytes).collect(),
         Form::Utf16Be => text.encode_utf16().flat_map(u16::to_be_bytes).collect(),
+        _ => unreachable!("{form} is new"),
     }
 }
 
@@ -64,6 +66,7 @@ fn text_of(form: Form, chance: &mut Chance, most: usize) -> Vec<u8> {
         Form::Utf8 => chance.bytes(most),
         Form::Utf16Le => chance.units(most).into_iter().flat_map(u16::to_le_bytes).collect(),
         Form::Utf16Be => chance.units(most).into_iter().flat_map(u16::to_be_bytes).collect(),
+        _ => unreachable!("{form} is new"),
     };
     if chance.below(4) == 0 {
         out.pop();

@@ -97,7 +97,7 @@ pub fn lossy_parts_are_one_part()
 {}
 
 /// One U+FFFD for each maximal subpart, or one for each of its bytes: the same characters and maximal subparts show both.
-/// Of UTF-16 both are the same, and so they are over text, whatever follows it.
+/// Of UTF-16 both are the same, unless a leading surrogate and an odd byte end it. Over text they are, whatever follows it.
 pub fn lossy_joins_faults()
     ensures joins { LossyJoinsFaults }
     ensures units { LossyUnitsAreRecoded }
