@@ -47,7 +47,7 @@ def recode(data: ReadableBuffer, from_: str, to: str, errors: str = "replace") -
 
 
 def recoded_len(data: ReadableBuffer, from_: str, to: str) -> int:
-    """How many bytes `recode` makes of the data, with `replace`. It takes about as long as `recode`, and no memory.
+    """How many bytes `recode` makes of the data, with `replace`. It takes up to twice as long as `recode`, and no memory.
 
     >>> recoded_len("né".encode(), "utf8", "utf16be")
     4
