@@ -14,8 +14,9 @@ proof, this goes by names, and takes more than it has to:
 - A file of definitions or lemmas counts whole, with each file that it names, in turn. A function's own proof files count, and so does
   what its attributes name.
 
-So what could make the refused function provable is in the sum: the prover takes lemmas from the files that are imported and from no
-others, and the rest is the kit, which counts by its name. A random part of the record is tried at each check all the same.
+So what could make the refused function provable is in the sum: antt looks for no instances, and its tactics take the hypotheses, the
+lemmas that a call lists and the sets that it names. The rest is the kit, which counts by its name. A random part of the record is
+tried at each check all the same.
 """
 import functools
 import hashlib
