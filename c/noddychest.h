@@ -1,9 +1,10 @@
 /* Noddychest: decodes, validates, divides and converts UTF-8 and UTF-16. Its code is machine-proved. For C and C++.
  *
  * LANGUAGES AND PLATFORMS. C99 and later, C++98 and later. Linux on x86-64 (with x86-64-v2) and on 64-bit ARM, with glibc or
- * musl. No call allocates memory, reads a locale, or keeps anything. (On x86-64 the library has one byte of its own, which says
- * what the processor has. It is written when the library is loaded, and never again.) What lasts from call to call is in structs
- * of yours, which you may copy. Calls on different structs may run in different threads at the same time.
+ * musl. No call allocates memory, reads a locale, keeps anything, or takes more than 5 KiB of the stack. (On x86-64 the library has
+ * one byte of its own, which says what the processor has. It is written when the library is loaded, and never again.) What lasts
+ * from call to call is in structs of yours, which you may copy. Calls on different structs may run in different threads at the same
+ * time.
  *
  * CALLS. A call that begins with nody_utf8_ has a twin for units that begins with nody_utf16_; nody_utf8_streamed_at has none.
  *     valid?       nody_utf8_valid_up_to, nody_utf16_bytes_valid_up_to
@@ -141,7 +142,8 @@ typedef struct {
 
 /* A recoder. It holds up to three bytes of input from one call to the next. It has read these bytes but not recoded them yet,
  * because the rest of a character has not come, or because the output did not fit into the room. A strict call also holds bytes
- * if it has to see the next ones to tell the kind of a fault. nody_recoder_held gives the bytes. `replaced` is the number of
+ * if it has to see the next ones to tell the kind of a fault. In big-endian UTF-16 a single byte is held, and a leading surrogate
+ * before it, even if the byte cannot complete a pair. nody_recoder_held gives the bytes. `replaced` is the number of
  * faults that became U+FFFD. nody_recoder_finish does not reset it. The count stops at UINT64_MAX. You may read it, and set it to
  * 0. Leave the other fields alone. */
 typedef struct {
@@ -409,7 +411,7 @@ nody_status_t nody_recode(nody_form_t from, nody_form_t to, const uint8_t *in, s
 
 /* Recodes a whole input, but stops at the first fault.
  *
- * from, to, in, len, out, room: as for nody_recode. With three bytes of room for each byte of input the room is always enough.
+ * from, to, in, len, out, room: as for nody_recode. With two bytes of room for each byte of input the room is always enough.
  * read: receives how many bytes of the input were recoded. These are valid.
  * written: receives how many bytes were written. The places after them keep what they had.
  * fault: receives the fault. Its `back` is 0.
@@ -432,8 +434,8 @@ nody_status_t nody_recode_strict(nody_form_t from, nody_form_t to, const uint8_t
  *
  * from, to: the forms. in, len: the input.
  * Result: the number of bytes.
- * Errors: SIZE_MAX if a size_t cannot hold the number, or a form is above 2. Cost: linear. It recodes, in parts, into a kilobyte
- * of the stack.
+ * Errors: SIZE_MAX if a size_t cannot hold the number, or a form is above 2. Cost: linear. It recodes in parts, into
+ * room on the stack.
  *
  *     size_t room = nody_recoded_len(NODY_FORM_UTF8, NODY_FORM_UTF16LE, bytes, len);
  */
@@ -580,9 +582,8 @@ nody_status_t nody_recoder_finish_strict(nody_recoder_t *recoder, uint8_t *out, 
  * subpart. In E2 82 41 it is E2 82, so E2 82 41 becomes U+FFFD A. Any other invalid byte is a subpart of its own.
  * E0 80 becomes U+FFFD U+FFFD: no character begins with E0 80, so E0 is one maximal subpart, and 80 another. The Unicode standard
  * recommends this (chapter 3, "U+FFFD Substitution of Maximal Subparts"). Browsers, Python's errors="replace" and Rust's
- * from_utf8_lossy do it. In UTF-16 a lone surrogate is a maximal subpart, and so is an odd last byte; a leading surrogate and an
- * odd byte that end the input are one together. But for that end, this call and nody_recoder_feed write the same of UTF-16. Of
- * valid input they do in every form.
+ * from_utf8_lossy do it. In UTF-16 this call and nody_recoder_feed write the same, but for one end: a leading surrogate and a single
+ * byte after it are one subpart, if the input ends there. In valid input they write the same.
  *
  * recoder: the recoder. `recoder->replaced` does not change. You may mix calls of this, of nody_recoder_feed and of
  * nody_recoder_feed_strict. End the input by nody_recoder_finish_lossy.
@@ -598,7 +599,8 @@ nody_status_t nody_recoder_finish_strict(nody_recoder_t *recoder, uint8_t *out, 
 nody_status_t nody_recoder_feed_lossy(nody_recoder_t *recoder, const uint8_t *in, size_t in_len, uint8_t *out, size_t room,
                                       size_t *read, size_t *written);
 
-/* Ends the input after nody_recoder_feed_lossy. If the recoder holds the front of a character, that becomes one U+FFFD.
+/* Ends the input after nody_recoder_feed_lossy. If the recoder holds the front of a character, that becomes one U+FFFD, in each
+ * form.
  *
  * recoder: the recoder. `recoder->replaced` does not change.
  * out, room, written: as for nody_recoder_finish.

@@ -316,7 +316,7 @@ static void replaced(void) {
     expect(nody_recoder_feed(&none, in, 7, out, 32, &read, &written) == NODY_STATUS_REFUSED && nody_recoder_finish(&none, out, 32, &written) == NODY_STATUS_REFUSED && none.replaced == 7, "no recoder counts nothing");
 }
 
-/* One U+FFFD for each maximal subpart: what Python's bytes.decode("utf-8", "replace") gives for the same bytes, cut at each place. */
+/* One U+FFFD for each maximal subpart: what Python's bytes.decode with "replace" gives for the same bytes, cut at each place. */
 static void lossy(void) {
     static const struct {
         const char *in, *want;
@@ -393,6 +393,111 @@ static void threads(void) {
     expect(sum == 0, "eight threads");
 }
 
+/* How much of the stack the calls take. */
+
+enum { STACK = 5120, /* (as noddychest.h says) */ PAINTED = 1 << 18, TEXT = 8192 };
+
+static unsigned char painted[PAINTED] __attribute__((aligned(4096))), texts[6][3][3 * TEXT], made[9 * TEXT];
+static size_t lens[6][3];
+
+/* Texts of ASCII, of two, three and four bytes a character, of all of them, and damaged: in each form. */
+static void make_texts(void) {
+    static const char *const unit[] = {"text ", "\xd1\x82\xd0\xb5", "\xe6\x96\x87\xe5", "\xf0\x9f\x98\x80", "a\xd1\x82\xe6\x96\x87\xf0\x9f\x98\x80", "text\xe6\x96\xff"};
+    for (int i = 0; i < 6; i++) {
+        size_t len = strlen(unit[i]);
+        if (i == 2) len--;
+        for (size_t at = 0; at < TEXT; at++) texts[i][0][at] = (unsigned char)unit[i][at % len];
+        lens[i][0] = TEXT;
+        for (uint8_t form = 1; form < 3; form++) nody_recode(0, form, texts[i][0], TEXT, texts[i][form], sizeof texts[i][form], &lens[i][form]);
+        if (i == 5)
+            for (uint8_t form = 1; form < 3; form++) texts[i][form][2 - form + 100] = 0xd8;
+    }
+}
+
+static void *takes_nothing(void *unused) {
+    return unused;
+}
+
+static void take_units(const uint16_t *units, size_t len) {
+    nody_units_t left = nody_units(units, len), back = left;
+    nody_piece_t pieces[4];
+    nody_utf16_pieces(&left, pieces, 4);
+    nody_utf16_next(&left);
+    nody_utf16_next_back(&back);
+    nody_utf16_valid_up_to(units, len);
+    nody_utf16_char_count(units, len);
+    nody_utf16_boundary_before(units, len, len / 2);
+    nody_utf16_boundary_after(units, len, len / 2);
+}
+
+static void take_bytes(const uint8_t *bytes, size_t len) {
+    nody_bytes_t left = nody_bytes(bytes, len), back = left;
+    nody_piece_t pieces[4];
+    nody_utf8_pieces(&left, pieces, 4);
+    nody_utf8_next(&left);
+    nody_utf8_next_back(&back);
+    nody_utf8_streamed_at(bytes, len, 1);
+    nody_utf8_valid_up_to(bytes, len);
+    nody_utf8_char_count(bytes, len);
+}
+
+static void recode_each_way(uint8_t from, uint8_t to, const uint8_t *in, size_t len) {
+    nody_recoder_t a = nody_recoder(from, to), b = a, c = a;
+    nody_fault_t fault;
+    size_t read, written;
+    nody_recode(from, to, in, len, made, sizeof made, &written);
+    nody_recoded_len(from, to, in, len);
+    nody_recode_strict(from, to, in, len, made, sizeof made, &read, &written, &fault);
+    for (size_t cut = len - 7; cut <= len; cut += 7) {
+        size_t start = cut == len ? len - 7 : 0;
+        nody_recoder_feed(&a, in + start, cut - start, made, sizeof made, &read, &written);
+        nody_recoder_feed_strict(&b, in + start, cut - start, made, sizeof made, &read, &written, &fault);
+        nody_recoder_feed_lossy(&c, in + start, cut - start, made, sizeof made, &read, &written);
+    }
+    nody_recoder_finish(&a, made, sizeof made, &written);
+    nody_recoder_finish_strict(&b, made, sizeof made, &written, &fault);
+    nody_recoder_finish_lossy(&c, made, sizeof made, &written);
+    nody_utf16_bytes_valid_up_to(from, in, len);
+    nody_shard_end(from, in, len, len / 2);
+    nody_boundary_after(from, in, len, len / 2);
+}
+
+static void *takes_all(void *unused) {
+    static uint16_t units[3 * TEXT];
+    for (int i = 0; i < 6; i++) {
+        take_bytes(texts[i][0], lens[i][0]);
+        memcpy(units, texts[i][1], lens[i][1]);
+        take_units(units, lens[i][1] / 2);
+        for (uint8_t from = 0; from < 3; from++)
+            for (uint8_t to = 0; to < 3; to++) recode_each_way(from, to, texts[i][from], lens[i][from]);
+    }
+    return unused;
+}
+
+/* How many bytes of a stack that was painted before have another colour after a thread. */
+static size_t taken_by(void *(*calls)(void *)) {
+    pthread_t thread;
+    pthread_attr_t attributes;
+    size_t clean = 0;
+    memset(painted, GUARD, PAINTED);
+    pthread_attr_init(&attributes);
+    expect(pthread_attr_setstack(&attributes, painted, PAINTED) == 0, "a stack of ours");
+    expect(pthread_create(&thread, &attributes, calls, NULL) == 0, "a thread on it");
+    pthread_join(thread, NULL);
+    pthread_attr_destroy(&attributes);
+    while (clean < PAINTED && painted[clean] == GUARD) clean++;
+    return PAINTED - clean;
+}
+
+static void stack(void) {
+    size_t idle, busy;
+    make_texts();
+    idle = taken_by(takes_nothing);
+    busy = taken_by(takes_all);
+    if (getenv("SHOW_STACK")) printf("%zu bytes of the stack\n", busy - idle);
+    expect(busy - idle <= STACK, "what the calls take of the stack");
+}
+
 int main(int argc, char **argv) {
     nothing();
     cursors();
@@ -408,6 +513,7 @@ int main(int argc, char **argv) {
     if (argc == 2) {
         scalars();
         threads();
+        stack();
     }
     return tell();
 }
