@@ -143,7 +143,8 @@ impl<R: Read> Read for RecodingReader<R> {
 
 /// Writes to a writer what it is given, in another form.
 ///
-/// It gathers 8 KiB before it writes. Call [`finish`](RecodingWriter::finish) at the end: it writes what is held. Where a strict
+/// It gathers 8 KiB before it writes. Call [`finish`](RecodingWriter::finish) at the end: it writes what is held. A writer that is
+/// dropped without it writes what it has, and no error is told, as with [`BufWriter`](std::io::BufWriter). Where a strict
 /// recoder meets invalid text, the error has the kind [`InvalidData`](std::io::ErrorKind::InvalidData) and a [`Fault`] in it. Since a
 /// call of `write` that fails must have taken nothing, it comes from the call that follows: the next `write`, `flush` or `finish`.
 ///
@@ -159,12 +160,17 @@ impl<R: Read> Read for RecodingReader<R> {
 /// # Ok::<(), std::io::Error>(())
 /// ```
 #[derive(Debug)]
-pub struct RecodingWriter<W> {
-    inner: W,
+pub struct RecodingWriter<W: Write> {
+    /// The writer, until it is taken.
+    inner: Option<W>,
     recoder: Recoder,
     /// What was recoded, and from where on it was not written yet.
     made: Block,
     fault: Option<Fault>,
+    /// Whether something may not be written yet.
+    is_open: bool,
+    /// Whether a call of the writer has begun and not ended: where it panics, nothing is written again.
+    is_writing: bool,
 }
 
 impl<W: Write> RecodingWriter<W> {
@@ -175,7 +181,7 @@ impl<W: Write> RecodingWriter<W> {
     /// let writer = RecodingWriter::new(std::io::stdout(), Recoder::new(Form::Utf8, Form::Utf16Be));
     /// ```
     pub fn new(inner: W, recoder: Recoder) -> RecodingWriter<W> {
-        RecodingWriter { inner, recoder, made: Block::new(), fault: None }
+        RecodingWriter { inner: Some(inner), recoder, made: Block::new(), fault: None, is_open: false, is_writing: false }
     }
 
     /// Writes what is held and what was gathered, and flushes the writer. After an error call it again to go on; after a fault of
@@ -191,6 +197,7 @@ impl<W: Write> RecodingWriter<W> {
     /// # Ok::<(), std::io::Error>(())
     /// ```
     pub fn finish(&mut self) -> Result<()> {
+        self.is_open = true;
         loop {
             self.tell()?;
             self.drain()?;
@@ -201,7 +208,9 @@ impl<W: Write> RecodingWriter<W> {
                 Status::Full => {}
                 Status::Done => {
                     self.drain()?;
-                    return self.inner.flush();
+                    self.call(W::flush)?;
+                    self.is_open = false;
+                    return Ok(());
                 }
             }
         }
@@ -214,14 +223,25 @@ impl<W: Write> RecodingWriter<W> {
     /// let writer = RecodingWriter::new(Vec::new(), Recoder::new(Form::Utf8, Form::Utf8));
     /// assert!(writer.into_inner().is_empty());
     /// ```
-    pub fn into_inner(self) -> W {
-        self.inner
+    pub fn into_inner(mut self) -> W {
+        self.inner.take().expect("the writer is there until it is taken")
+    }
+
+    /// One call of the writer.
+    fn call<T>(&mut self, call: impl FnOnce(&mut W) -> Result<T>) -> Result<T> {
+        self.is_writing = true;
+        let answer = self.inner.as_mut().map_or_else(|| Err(ErrorKind::NotFound.into()), call);
+        self.is_writing = false;
+        answer
     }
 
     /// Writes what was gathered.
     fn drain(&mut self) -> Result<()> {
         while !self.made.left().is_empty() {
-            match self.inner.write(self.made.left()) {
+            self.is_writing = true;
+            let written = self.inner.as_mut().map_or(Ok(0), |inner| inner.write(self.made.left()));
+            self.is_writing = false;
+            match written {
                 Ok(0) => return Err(ErrorKind::WriteZero.into()),
                 Ok(count) => self.made.begin += count,
                 Err(error) if error.kind() == ErrorKind::Interrupted => {}
@@ -250,6 +270,7 @@ impl<W: Write> RecodingWriter<W> {
 
 impl<W: Write> Write for RecodingWriter<W> {
     fn write(&mut self, part: &[u8]) -> Result<usize> {
+        self.is_open = true;
         loop {
             self.tell()?;
             if self.made.begin > 0 || self.made.bytes.len() - self.made.end < ENOUGH {
@@ -270,6 +291,15 @@ impl<W: Write> Write for RecodingWriter<W> {
         // (a character for which there was no room)
         self.feed(&[]);
         self.drain()?;
-        self.inner.flush()
+        self.call(W::flush)
+    }
+}
+
+impl<W: Write> Drop for RecodingWriter<W> {
+    /// Writes what it has. (Of a strict recoder nothing after a fault is.)
+    fn drop(&mut self) {
+        if self.inner.is_some() && self.is_open && !self.is_writing && self.drain().is_ok() {
+            let _ = self.finish();
+        }
     }
 }
