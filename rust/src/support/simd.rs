@@ -8,8 +8,9 @@ use core::ops::{Add, BitAnd, BitOr, BitXor, Shl, Shr};
 
 #[cfg(any(
     test,
+    all(target_arch = "x86_64", not(target_feature = "ssse3")),
     not(any(
-        all(target_arch = "x86_64", target_feature = "ssse3"),
+        target_arch = "x86_64",
         all(target_arch = "aarch64", target_endian = "little"),
         all(target_arch = "wasm32", target_feature = "simd128")
     ))
@@ -19,13 +20,13 @@ mod lane_by_lane;
 mod neon;
 #[cfg(all(target_arch = "wasm32", target_feature = "simd128"))]
 mod simd128;
-#[cfg(all(target_arch = "x86_64", target_feature = "ssse3"))]
-mod ssse3;
+#[cfg(target_arch = "x86_64")]
+mod sse2;
 #[cfg(test)]
 mod tests;
 
 #[cfg(not(any(
-    all(target_arch = "x86_64", target_feature = "ssse3"),
+    target_arch = "x86_64",
     all(target_arch = "aarch64", target_endian = "little"),
     all(target_arch = "wasm32", target_feature = "simd128")
 )))]
@@ -34,8 +35,8 @@ use lane_by_lane as by;
 use neon as by;
 #[cfg(all(target_arch = "wasm32", target_feature = "simd128"))]
 use simd128 as by;
-#[cfg(all(target_arch = "x86_64", target_feature = "ssse3"))]
-use ssse3 as by;
+#[cfg(target_arch = "x86_64")]
+use sse2 as by;
 
 pub(crate) mod prelude {
     pub(crate) use super::{u16x8, u8x16, u8x32, u8x4, u8x64, u8x8, Simd};
@@ -64,6 +65,30 @@ use by::Block;
 fn block_of(bytes: &[u8; 16]) -> Block {
     // SAFETY: sixteen bytes are there, and a block takes any bits.
     unsafe { bytes.as_ptr().cast::<Block>().read_unaligned() }
+}
+
+/// That all lanes are shifted by the same number, below that one. (Apart, since it stands in each place that shifts.)
+#[inline(always)]
+fn is_one_shift<T: Copy + PartialEq + Into<u32>>(by: &[T], end: u32) {
+    #[inline(never)]
+    fn test<T: Copy + PartialEq + Into<u32>>(by: &[T], end: u32) {
+        assert!(by.iter().all(|n| *n == by[0] && (*n).into() < end));
+    }
+    if cfg!(debug_assertions) {
+        test(by, end);
+    }
+}
+
+/// That each place is below 16, or from 128 on.
+#[inline(always)]
+fn are_places(places: &[u8]) {
+    #[inline(never)]
+    fn test(places: &[u8]) {
+        assert!(places.iter().all(|place| *place < 16 || 128 <= *place));
+    }
+    if cfg!(debug_assertions) {
+        test(places);
+    }
 }
 
 /// Places of lanes, as a type: so what shuffles by them is known when it is compiled.
@@ -205,7 +230,7 @@ impl<const N: usize> Shr for Simd<u8, N> {
     type Output = Self;
     #[inline(always)]
     fn shr(self, by: Self) -> Self {
-        debug_assert!(by.0.iter().all(|n| *n == by.0[0] && *n < 8));
+        is_one_shift(&by.0, 8);
         self.each(self, |a, _| by::right(a, by.0[0]))
     }
 }
@@ -214,7 +239,7 @@ impl<const N: usize> Shl for Simd<u8, N> {
     type Output = Self;
     #[inline(always)]
     fn shl(self, by: Self) -> Self {
-        debug_assert!(by.0.iter().all(|n| *n == by.0[0] && *n < 8));
+        is_one_shift(&by.0, 8);
         self.each(self, |a, _| by::left(a, by.0[0]))
     }
 }
@@ -223,7 +248,7 @@ impl<const N: usize> Shr for Simd<u16, N> {
     type Output = Self;
     #[inline(always)]
     fn shr(self, by: Self) -> Self {
-        debug_assert!(by.0.iter().all(|n| *n == by.0[0] && *n < 16));
+        is_one_shift(&by.0, 16);
         self.each(self, |a, _| by::right_16(a, by.0[0]))
     }
 }
@@ -257,14 +282,16 @@ impl<const N: usize> Simd<u8, N> {
     /// What stands at each place, of sixteen: no place is from 16 to 127, and from 128 on it is 0.
     #[inline(always)]
     pub fn swizzle_dyn(self, places: Self) -> Self {
-        debug_assert!(N == 16 && places.0.iter().all(|p| *p < 16 || 128 <= *p));
+        const { assert!(N == 16) };
+        are_places(&places.0);
         self.each(places, by::at)
     }
 
     /// The same in each sixteen lanes.
     #[inline(always)]
     pub fn swizzle_dyn_within<const K: usize>(self, places: Self) -> Self {
-        debug_assert!(K == 16 && places.0.iter().all(|p| *p < 16 || 128 <= *p));
+        const { assert!(K == 16) };
+        are_places(&places.0);
         self.each(places, by::at)
     }
 
@@ -325,7 +352,7 @@ impl<const N: usize> Simd<u8, N> {
 
     #[inline(always)]
     pub fn deinterleave(self, other: Self) -> (Self, Self) {
-        debug_assert!(N == 16);
+        const { assert!(N == 16) };
         (self.each(other, by::evens), self.each(other, by::odds))
     }
 

@@ -63,6 +63,8 @@ fn all_places() {
             let x = some(&mut seed);
             let places = core::array::from_fn(|k| if k == lane { place } else { k as u8 });
             assert_eq!(bytes_of(by::at(block_of(&x), block_of(&places))), lane_by_lane::at(x, places));
+            #[cfg(target_arch = "x86_64")]
+            assert_eq!(bytes_of(by::at_one_by_one(block_of(&x), block_of(&places))), lane_by_lane::at(x, places));
         }
     }
 }

@@ -1,6 +1,7 @@
-//! Sixteen bytes at a time on x86-64 with SSSE3.
+//! Sixteen bytes at a time on x86-64, whose every processor has SSE2. One call needs SSSE3, which those since 2006 have: where this is
+//! not compiled for it, std asks the processor; without std that call goes lane by lane.
 //!
-//! Each `unsafe` here calls an instruction that the processor has: this module is there where it is compiled for SSSE3.
+//! Each `unsafe` here calls an instruction that the processor has.
 use core::arch::x86_64::*;
 
 pub(crate) type Block = __m128i;
@@ -26,7 +27,44 @@ each! {
     eq_16 = _mm_cmpeq_epi16;
     low_by_turns = _mm_unpacklo_epi8;
     high_by_turns = _mm_unpackhi_epi8;
-    at = _mm_shuffle_epi8;
+}
+
+#[cfg(target_feature = "ssse3")]
+#[inline(always)]
+pub(crate) fn at(a: Block, places: Block) -> Block {
+    // SAFETY: see the module.
+    unsafe { _mm_shuffle_epi8(a, places) }
+}
+
+#[cfg(not(target_feature = "ssse3"))]
+#[inline(always)]
+pub(crate) fn at(a: Block, places: Block) -> Block {
+    #[cfg(feature = "std")]
+    if std::arch::is_x86_feature_detected!("ssse3") {
+        let mut out = a;
+        // SAFETY: the processor has this instruction, which writes this register alone. (As a function for SSSE3 it would be called
+        // each time, and in no register.)
+        unsafe {
+            core::arch::asm!("pshufb {}, {}", inout(xmm_reg) out, in(xmm_reg) places, options(pure, nomem, nostack, preserves_flags));
+        }
+        return out;
+    }
+    at_one_by_one(a, places)
+}
+
+#[cfg(any(test, not(target_feature = "ssse3")))]
+#[inline(never)]
+pub(crate) fn at_one_by_one(a: Block, places: Block) -> Block {
+    let out = super::lane_by_lane::at(bytes_of(a), bytes_of(places));
+    super::block_of(&out)
+}
+
+#[cfg(any(test, not(target_feature = "ssse3")))]
+fn bytes_of(a: Block) -> [u8; 16] {
+    let mut out = [0; 16];
+    // SAFETY: there is room for sixteen bytes.
+    unsafe { _mm_storeu_si128(out.as_mut_ptr().cast(), a) };
+    out
 }
 
 #[inline(always)]
