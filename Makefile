@@ -12,6 +12,7 @@
 #   make check-rust, check-deb
 #                    tests the crate for Cargo, and the packages of Debian with what make dist packs (BOOKWORM may name a
 #                    Debian 12 that debootstrap made; else it makes one of Debian's mirror)
+#   make check-erased  tests what scripts/erase makes of the proved sources: the text of the crate for Cargo, in all its forms
 #   make check-packages
 #                    tests all packages for which the tools are there, and names those that it leaves out
 #   make check-js    tests the package for npm, js/, under node
@@ -175,6 +176,10 @@ dist-windows:
 check-rust: all
 	@rust/check "$(BUILD)"
 
+# Checks the crate's text, which scripts/erase makes of the proved sources, in all its forms.
+check-erased:
+	@erased/check
+
 check-deb:
 	@packaging/check $(BOOKWORM)
 
@@ -193,7 +198,7 @@ check-packages:
 check-js:
 	@js/check
 
-.PHONY: dist dist-windows check-rust check-deb check-cmake check-windows check-macho check-packages check-js
+.PHONY: dist dist-windows check-erased check-rust check-deb check-cmake check-windows check-macho check-packages check-js
 
 clean:
 	rm -rf "$(BUILD)"

@@ -1,17 +1,21 @@
 //! UTF-8: bytes, split from either end.
 
-use crate::ffi;
+use crate::proved::cuts;
+use crate::proved::encode_unicode::error::Utf8Error;
+use crate::proved::encode_unicode::iterator::{Utf8CharDecoder, Utf8CharMerger};
+use crate::proved::encode_unicode::{CharExt, Utf8Char};
 use crate::{Form, Piece};
 use core::iter::FusedIterator;
 
 /// All pieces of the bytes: characters, and single bytes that are invalid.
 ///
-/// The cost is one call of the library for each piece. Nothing is allocated.
+/// Nothing is allocated.
 ///
 /// ```
 /// let text: String = noddychest::pieces(b"na\xC3\xAFve \xE2\x82").map(|piece| piece.result.unwrap_or('\u{FFFD}')).collect();
 /// assert_eq!(text, "naïve \u{FFFD}\u{FFFD}");
 /// ```
+#[must_use = "iterators do nothing unless consumed"]
 pub fn pieces(bytes: &[u8]) -> Pieces<'_> {
     Pieces { left: bytes, offset: 0 }
 }
@@ -23,14 +27,30 @@ pub fn pieces(bytes: &[u8]) -> Pieces<'_> {
 /// assert_eq!((piece.len, piece.char()), (3, Some('€')));
 /// assert_eq!(noddychest::first(b""), None);
 /// ```
+#[must_use]
 pub fn first(bytes: &[u8]) -> Option<Piece> {
     first_of(bytes, 0)
 }
 
-/// The same, of bytes that are left from that offset on.
+/// The same, of bytes that are left from that offset on: that of text first, since most bytes are some.
+#[inline(always)]
 fn first_of(left: &[u8], offset: usize) -> Option<Piece> {
-    // SAFETY: the bytes are valid for their length.
-    Piece::of(offset, unsafe { ffi::nody_utf8_first(left.as_ptr(), left.len()) })
+    match cuts::front_of_text(left) {
+        Some((c, len)) => Some(Piece { offset, len, result: Ok(c) }),
+        None => first_with_care(left, offset),
+    }
+}
+
+#[cold]
+#[inline(never)]
+fn first_with_care(left: &[u8], offset: usize) -> Option<Piece> {
+    if left.is_empty() {
+        return None;
+    }
+    Some(match char::from_utf8_slice_start(left) {
+        Ok((c, len)) => Piece { offset, len, result: Ok(c) },
+        Err(error) => Piece::new(offset, 1, Err::<char, _>(error.kind())),
+    })
 }
 
 /// The piece at the end, or `None` where there are no bytes. At most four bytes are looked at.
@@ -39,15 +59,22 @@ fn first_of(left: &[u8], offset: usize) -> Option<Piece> {
 /// let piece = noddychest::last("5€".as_bytes()).unwrap();
 /// assert_eq!((piece.offset, piece.char()), (1, Some('€')));
 /// ```
+#[must_use]
 pub fn last(bytes: &[u8]) -> Option<Piece> {
     last_of(bytes, 0)
 }
 
 /// The same, of bytes that are left from that offset on.
+#[inline(always)]
 fn last_of(left: &[u8], offset: usize) -> Option<Piece> {
-    // SAFETY: the bytes are valid for their length.
-    let raw = unsafe { ffi::nody_utf8_last(left.as_ptr(), left.len()) };
-    Piece::of(offset + left.len() - raw.len, raw)
+    let (at, result, len) = Utf8CharDecoder::from(left).next_back()?;
+    Some(Piece::new(offset + at, len, of_kind(result)))
+}
+
+/// The character, or the kind alone.
+#[inline(always)]
+pub(crate) fn of_kind(result: Result<Utf8Char, Utf8Error>) -> Result<Utf8Char, crate::encode_unicode::error::Utf8ErrorKind> {
+    result.map_err(|error| error.kind())
 }
 
 /// The offset of the first invalid byte, or the length where all is UTF-8, as [`core::str::Utf8Error::valid_up_to`] says it.
@@ -57,9 +84,9 @@ fn last_of(left: &[u8], offset: usize) -> Option<Piece> {
 /// let valid = noddychest::valid_up_to(bytes);
 /// assert_eq!(std::str::from_utf8(&bytes[..valid]), Ok("ok"));
 /// ```
+#[must_use]
 pub fn valid_up_to(bytes: &[u8]) -> usize {
-    // SAFETY: the bytes are valid for their length.
-    unsafe { ffi::nody_utf8_valid_up_to(bytes.as_ptr(), bytes.len()) }
+    cuts::valid_up_to(bytes)
 }
 
 /// How many characters there are, where each invalid byte counts as one: as many as [`pieces`] gives, and as many as are shown where
@@ -69,8 +96,9 @@ pub fn valid_up_to(bytes: &[u8]) -> usize {
 /// assert_eq!(noddychest::char_count("naïve".as_bytes()), 5);
 /// assert_eq!(noddychest::char_count(b"a\xFFb"), 3);
 /// ```
+#[must_use]
 pub fn char_count(bytes: &[u8]) -> usize {
-    pieces(bytes).count()
+    cuts::char_count(bytes)
 }
 
 /// The last boundary between two pieces that is at most `at`. It is at most three bytes before it, and the length where `at` is no
@@ -81,6 +109,7 @@ pub fn char_count(bytes: &[u8]) -> usize {
 /// assert_eq!(noddychest::boundary_before(bytes, 3), 1);
 /// assert_eq!(noddychest::boundary_before(bytes, 9), 4);
 /// ```
+#[must_use]
 pub fn boundary_before(bytes: &[u8], at: usize) -> usize {
     crate::shard_end(Form::Utf8, bytes, at)
 }
@@ -92,12 +121,9 @@ pub fn boundary_before(bytes: &[u8], at: usize) -> usize {
 /// assert_eq!(noddychest::boundary_after(bytes, 2), 4);
 /// assert_eq!(noddychest::boundary_after(bytes, 1), 1);
 /// ```
+#[must_use]
 pub fn boundary_after(bytes: &[u8], at: usize) -> usize {
-    let before = boundary_before(bytes, at);
-    if before >= at {
-        return before;
-    }
-    before + first(&bytes[before..]).map_or(0, |piece| piece.len)
+    cuts::boundary_after(Form::Utf8.proved(), bytes, at)
 }
 
 /// The piece that begins at `at`, as a decoder that gets one byte at a time names it; `None` from the length on.
@@ -110,9 +136,10 @@ pub fn boundary_after(bytes: &[u8], at: usize) -> usize {
 /// assert_eq!(first(b"\xF0\x9FA").unwrap().fault().unwrap().kind(), FaultKind::TooFewBytes);
 /// assert_eq!(streamed_at(b"\xF0\x9FA", 0).unwrap().fault().unwrap().kind(), FaultKind::InterruptedSequence);
 /// ```
+#[must_use]
 pub fn streamed_at(bytes: &[u8], at: usize) -> Option<Piece> {
-    // SAFETY: the bytes are valid for their length, and the place may be any.
-    Piece::of(at, unsafe { ffi::nody_utf8_streamed_at(bytes.as_ptr(), bytes.len(), at) })
+    let result = Utf8CharMerger::from(bytes.get(at..)?.iter().copied()).next()?;
+    Some(Piece::new(at, result.as_ref().map_or(1, |c| c.len()), of_kind(result)))
 }
 
 /// The pieces of some bytes, from the front and from the back. [`pieces`] makes it.
@@ -141,6 +168,7 @@ impl<'a> Pieces<'a> {
     /// pieces.find(|piece| piece.result == Ok('='));
     /// assert_eq!(pieces.as_slice(), b"value");
     /// ```
+    #[must_use]
     pub fn as_slice(&self) -> &'a [u8] {
         self.left
     }
@@ -152,6 +180,7 @@ impl<'a> Pieces<'a> {
     /// pieces.next();
     /// assert_eq!(pieces.offset(), 2);
     /// ```
+    #[must_use]
     pub fn offset(&self) -> usize {
         self.offset
     }
@@ -166,6 +195,7 @@ impl<'a> From<&'a [u8]> for Pieces<'a> {
 impl Iterator for Pieces<'_> {
     type Item = Piece;
 
+    #[inline]
     fn next(&mut self) -> Option<Piece> {
         let piece = first_of(self.left, self.offset)?;
         self.left = &self.left[piece.len..];
@@ -180,6 +210,7 @@ impl Iterator for Pieces<'_> {
 }
 
 impl DoubleEndedIterator for Pieces<'_> {
+    #[inline]
     fn next_back(&mut self) -> Option<Piece> {
         let piece = last_of(self.left, self.offset)?;
         self.left = &self.left[..self.left.len() - piece.len];

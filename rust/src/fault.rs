@@ -1,7 +1,7 @@
 //! What is wrong with a byte or a unit.
 
-use crate::ffi;
-use core::ffi::CStr;
+use crate::proved::cuts;
+use crate::proved::encode_unicode::error::{Utf16PairError, Utf8ErrorKind};
 use core::fmt;
 use core::ops::Range;
 
@@ -24,29 +24,30 @@ use core::ops::Range;
 /// assert_eq!(kind(b"\xF4\x90\x80\x80"), Some(FaultKind::TooHighCodepoint));
 /// ```
 #[derive(Clone, Copy, Debug, PartialEq, Eq, PartialOrd, Ord, Hash)]
+#[non_exhaustive]
 #[repr(u8)]
 #[non_exhaustive]
 pub enum FaultKind {
     /// Fewer bytes are left than the first one needs.
-    TooFewBytes = ffi::KIND_TOO_FEW_BYTES,
+    TooFewBytes = 1,
     /// A byte that stands nowhere in UTF-8: `C0`, `C1`, or `F5` to `FF`.
-    NonUtf8Byte = ffi::KIND_NON_UTF8_BYTE,
+    NonUtf8Byte = 2,
     /// A continuation byte, `80` to `BF`, where a character should begin.
-    UnexpectedContinuationByte = ffi::KIND_UNEXPECTED_CONTINUATION_BYTE,
+    UnexpectedContinuationByte = 3,
     /// After this byte a continuation byte should follow, and another byte does.
-    InterruptedSequence = ffi::KIND_INTERRUPTED_SEQUENCE,
+    InterruptedSequence = 4,
     /// The sequence is longer than its value needs.
-    OverlongEncoding = ffi::KIND_OVERLONG_ENCODING,
+    OverlongEncoding = 5,
     /// The value is a surrogate, U+D800 to U+DFFF, which only UTF-16 uses.
-    Utf16ReservedCodepoint = ffi::KIND_UTF16_RESERVED_CODEPOINT,
+    Utf16ReservedCodepoint = 6,
     /// The value is above U+10FFFF.
-    TooHighCodepoint = ffi::KIND_TOO_HIGH_CODEPOINT,
+    TooHighCodepoint = 7,
     /// Of UTF-16: a trailing surrogate where a character should begin.
-    UnexpectedTrailingSurrogate = ffi::KIND_UNEXPECTED_TRAILING_SURROGATE,
+    UnexpectedTrailingSurrogate = 8,
     /// Of UTF-16: a leading surrogate after which no trailing one follows.
-    UnmatchedLeadingSurrogate = ffi::KIND_UNMATCHED_LEADING_SURROGATE,
+    UnmatchedLeadingSurrogate = 9,
     /// Of UTF-16: the text ends after a leading surrogate, or in the middle of a unit.
-    Incomplete = ffi::KIND_INCOMPLETE,
+    Incomplete = 10,
 }
 
 impl FaultKind {
@@ -69,10 +70,6 @@ impl FaultKind {
         FaultKind::Incomplete,
     ];
 
-    pub(crate) fn of_number(number: u8) -> Option<FaultKind> {
-        FaultKind::ALL.into_iter().find(|it| *it as u8 == number)
-    }
-
     /// Whether it is one of the three kinds of UTF-16.
     ///
     /// ```
@@ -90,15 +87,51 @@ impl FaultKind {
     /// assert_eq!(noddychest::FaultKind::TooFewBytes.name(), "TooFewBytes");
     /// ```
     pub fn name(self) -> &'static str {
-        static UNKNOWN: ffi::Name = ffi::Name { text: [0; 32] };
-        let mut name: *const ffi::Name = &UNKNOWN;
-        // SAFETY: `name` is the address of a name, and after the call it is that of one that lives for ever.
-        let name: &'static ffi::Name = unsafe {
-            ffi::nody_put_kind_name(self as u8, &mut name);
-            &*name
-        };
-        let text = CStr::from_bytes_until_nul(&name.text).ok();
-        text.and_then(|it| it.to_str().ok()).unwrap_or("?")
+        match self {
+            FaultKind::TooFewBytes => "TooFewBytes",
+            FaultKind::NonUtf8Byte => "NonUtf8Byte",
+            FaultKind::UnexpectedContinuationByte => "UnexpectedContinuationByte",
+            FaultKind::InterruptedSequence => "InterruptedSequence",
+            FaultKind::OverlongEncoding => "OverlongEncoding",
+            FaultKind::Utf16ReservedCodepoint => "Utf16ReservedCodepoint",
+            FaultKind::TooHighCodepoint => "TooHighCodepoint",
+            FaultKind::UnexpectedTrailingSurrogate => "UnexpectedTrailingSurrogate",
+            FaultKind::UnmatchedLeadingSurrogate => "UnmatchedLeadingSurrogate",
+            FaultKind::Incomplete => "Incomplete",
+        }
+    }
+}
+
+impl From<Utf8ErrorKind> for FaultKind {
+    fn from(kind: Utf8ErrorKind) -> FaultKind {
+        match kind {
+            Utf8ErrorKind::TooFewBytes => FaultKind::TooFewBytes,
+            Utf8ErrorKind::NonUtf8Byte => FaultKind::NonUtf8Byte,
+            Utf8ErrorKind::UnexpectedContinuationByte => FaultKind::UnexpectedContinuationByte,
+            Utf8ErrorKind::InterruptedSequence => FaultKind::InterruptedSequence,
+            Utf8ErrorKind::OverlongEncoding => FaultKind::OverlongEncoding,
+            Utf8ErrorKind::Utf16ReservedCodepoint => FaultKind::Utf16ReservedCodepoint,
+            Utf8ErrorKind::TooHighCodepoint => FaultKind::TooHighCodepoint,
+        }
+    }
+}
+
+impl From<Utf16PairError> for FaultKind {
+    fn from(error: Utf16PairError) -> FaultKind {
+        match error {
+            Utf16PairError::UnexpectedTrailingSurrogate => FaultKind::UnexpectedTrailingSurrogate,
+            Utf16PairError::UnmatchedLeadingSurrogate => FaultKind::UnmatchedLeadingSurrogate,
+            Utf16PairError::Incomplete => FaultKind::Incomplete,
+        }
+    }
+}
+
+impl From<cuts::FaultKind> for FaultKind {
+    fn from(kind: cuts::FaultKind) -> FaultKind {
+        match kind {
+            cuts::FaultKind::Utf8(kind) => kind.into(),
+            cuts::FaultKind::Utf16(error) => error.into(),
+        }
     }
 }
 

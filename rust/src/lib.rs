@@ -2,10 +2,8 @@
 //!
 //! [`pieces`] splits any bytes into characters and single invalid bytes, each with its offset, its length and the reason why it is
 //! invalid. From the front, from the back, from both ends or in parts, the split is the same. [`Recoder`] converts between UTF-8 and
-//! both byte orders of UTF-16, and either replaces what is invalid by U+FFFD or stops at it.
-//!
-//! The calls that judge and convert are machine-proved: this crate assembles the code that the proved sources were compiled to, and
-//! wraps it. The wrapper itself, in Rust, is tested and not proved.
+//! both byte orders of UTF-16, and either replaces what is invalid by U+FFFD or stops at it. [`encode_unicode`] has the whole API of
+//! the crate of that name: characters kept as UTF-8 or UTF-16, and iterators over any source.
 //!
 //! ```
 //! use noddychest::{pieces, FaultKind};
@@ -30,16 +28,19 @@
 //! An invalid byte is a piece of its own. [`String::from_utf8_lossy`] and browsers take up to three bytes of a truncated character
 //! as one error, so they show fewer U+FFFD for the same input. Which bytes are valid is the same.
 //!
+//! # What is proved
+//!
+//! Every answer of the source is machine-proved. The source is Rust with contracts; a script takes the contracts away, and what is left
+//! is compiled here by rustc. That script, and what stands around that text, are tested and not proved. By default every index is
+//! tested, so memory safety rests on rustc alone. The feature `trusted` leaves those tests out; memory safety then rests on the proofs and
+//! on the script too.
+//!
 //! # Features
 //!
-//! `std` (on by default) has the adapters of [`io`]. `alloc` has [`recode`] and [`recode_strict`], which give a `Vec`. All else needs
-//! `core` alone.
-//!
-//! # Platforms
-//!
-//! Linux on x86-64 and ARM64. On x86-64 the processor needs x86-64-v2, which nearly all processors made since 2013 have:
-//! [`is_supported`] says whether it does. No other call asks. To build takes a C compiler, which assembles.
-//! On ARM64 the library for C was run in an emulator (QEMU) alone, and the packages for Python and Rust were not run.
+//! - `std` (on by default): the adapters of [`io`], `Read`, and AVX2 where the processor has it.
+//! - `alloc`: [`recode`] and its kin, [`PieceTable`], and what gives a `Vec` or a `String`. All else needs `core` alone.
+//! - `trusted`: for targets of 64 bits, no test of what the proofs rule out.
+//! - `c`: the functions of the library for C, for the package `noddychest-c`.
 //!
 //! [`String::from_utf8_lossy`]: https://doc.rust-lang.org/std/string/struct.String.html#method.from_utf8_lossy
 #![cfg_attr(not(feature = "std"), no_std)]
@@ -48,34 +49,50 @@
 #[cfg(feature = "alloc")]
 extern crate alloc;
 
+#[cfg(all(feature = "trusted", not(target_pointer_width = "64")))]
+compile_error!("the feature `trusted` is for targets of 64 bits: in the proofs a `usize` has 64");
+
 mod bytes;
+pub mod encode_unicode;
 mod fault;
-mod ffi;
 #[cfg(feature = "std")]
 pub mod io;
+pub mod parts;
 mod piece;
+/// What `scripts/erase` made of the proved text. (It keeps laws, which are functions that do nothing, and what only the programs use.)
+#[cfg_attr(not(feature = "trusted"), path = "proved/checked/mod.rs")]
+#[cfg_attr(feature = "trusted", path = "proved/trusted/mod.rs")]
+#[allow(dead_code, unused_imports, unused_labels, unused_variables)]
+#[rustfmt::skip]
+#[allow(missing_debug_implementations, clippy::all, clippy::pedantic, clippy::undocumented_unsafe_blocks)]
+mod proved;
 #[cfg(feature = "alloc")]
 mod recode;
 mod recoder;
+#[allow(dead_code)]
+mod support;
+#[cfg(feature = "alloc")]
+mod table;
 pub mod units;
 
 pub use bytes::{boundary_after, boundary_before, char_count, first, last, pieces, streamed_at, valid_up_to, Pieces};
 pub use fault::{Fault, FaultKind};
 pub use piece::Piece;
 #[cfg(feature = "alloc")]
-pub use recode::{recode, recode_strict};
+pub use recode::{recode, recode_strict, try_recode};
 pub use recoder::{recoded_len_max, shard_end, Form, Progress, Recoder, Status, UnknownForm};
+pub use support::alloc::AllocError;
+#[cfg(feature = "alloc")]
+pub use table::{PieceTable, TablePieces};
 
-/// Whether this processor has what the library was compiled for: on x86-64 that is x86-64-v2 (SSE4.2 and what comes before it).
-///
-/// On a processor that lacks it another call may be stopped by the signal SIGILL. No other call asks.
+/// Whether this processor has what the crate needs. It needs nothing: where the processor lacks what some code uses, other code runs.
 ///
 /// ```
 /// assert!(noddychest::is_supported());
 /// ```
+#[must_use]
 pub fn is_supported() -> bool {
-    // SAFETY: it takes nothing, and reads what the processor says of itself.
-    unsafe { ffi::nody_supported() != 0 }
+    true
 }
 
 /// The example of the README.

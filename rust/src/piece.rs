@@ -1,6 +1,5 @@
 //! A piece of the split.
 
-use crate::ffi;
 use crate::{Fault, FaultKind};
 use core::ops::Range;
 
@@ -21,14 +20,14 @@ pub struct Piece {
 }
 
 impl Piece {
-    /// The piece that a call of the library gave, at that offset.
-    pub(crate) fn of(offset: usize, raw: ffi::Piece) -> Option<Piece> {
-        let result = match raw.kind {
-            ffi::KIND_NONE => return None,
-            ffi::KIND_OK => Ok(char::from_u32(raw.scalar).expect("the library gives scalars")),
-            kind => Err(Fault::new(offset, 1, FaultKind::of_number(kind).expect("the library gives these kinds"))),
+    /// A piece of so many bytes or units.
+    #[inline(always)]
+    pub(crate) fn new<C: Into<char>, K: Into<FaultKind>>(offset: usize, len: usize, result: Result<C, K>) -> Piece {
+        let result = match result {
+            Ok(c) => Ok(c.into()),
+            Err(kind) => Err(Fault::new(offset, 1, kind.into())),
         };
-        Some(Piece { offset, len: raw.len, result })
+        Piece { offset, len, result }
     }
 
     /// Its place, to slice with.

@@ -1,6 +1,9 @@
 //! Recoding of a whole text.
 
-use crate::{Fault, Form, Progress, Recoder, Status};
+use crate::proved::cuts;
+use crate::support::memory;
+use crate::{AllocError, Fault, Form, Recoder, Status};
+use alloc::alloc::{handle_alloc_error, Layout};
 use alloc::vec::Vec;
 
 /// What the bytes are in another form; each invalid byte (of UTF-16 each unit) becomes one U+FFFD.
@@ -9,11 +12,26 @@ use alloc::vec::Vec;
 /// use noddychest::{recode, Form};
 /// assert_eq!(recode(Form::Utf16Le, Form::Utf8, b"\xAC\x20\x00\xDE"), "€\u{FFFD}".as_bytes());
 /// ```
+#[must_use]
 pub fn recode(from: Form, to: Form, bytes: &[u8]) -> Vec<u8> {
+    match try_recode(from, to, bytes) {
+        Ok(out) => out,
+        Err(AllocError) => handle_alloc_error(Layout::new::<u8>()),
+    }
+}
+
+/// The same, where memory may be refused.
+///
+/// ```
+/// use noddychest::{try_recode, Form};
+/// assert_eq!(try_recode(Form::Utf8, Form::Utf16Be, b"a\xFF"), Ok(b"\0a\xFF\xFD".to_vec()));
+/// ```
+pub fn try_recode(from: Form, to: Form, bytes: &[u8]) -> Result<Vec<u8>, AllocError> {
     let mut out = Vec::new();
-    // (a recoder that replaces meets no fault)
-    let _ = recode_by(Recoder::new(from, to), bytes, &mut out);
-    out
+    let mut recoder = cuts::Recoder::new(from.proved(), to.proved());
+    recoder.feed(bytes, memory::Vec::of(&mut out))?;
+    recoder.finish(memory::Vec::of(&mut out))?;
+    Ok(out)
 }
 
 /// What the bytes are in another form, or the first of them that is invalid.
@@ -25,34 +43,22 @@ pub fn recode(from: Form, to: Form, bytes: &[u8]) -> Vec<u8> {
 /// assert_eq!((fault.offset(), fault.kind()), (2, FaultKind::NonUtf8Byte));
 /// ```
 pub fn recode_strict(from: Form, to: Form, bytes: &[u8]) -> Result<Vec<u8>, Fault> {
-    let mut out = Vec::new();
-    recode_by(Recoder::strict(from, to), bytes, &mut out).map(|()| out)
-}
-
-fn recode_by(mut recoder: Recoder, bytes: &[u8], out: &mut Vec<u8>) -> Result<(), Fault> {
-    let (mut rest, mut is_fed) = (bytes, false);
+    let (mut recoder, mut out) = (Recoder::strict(from, to), Vec::new());
+    let (mut rest, mut is_fed, mut written) = (bytes, false, 0);
     loop {
-        // (text of one form is about as long in another; where it is longer the vector grows as vectors do)
-        out.reserve(rest.len() + 16);
-        let did = append(&mut recoder, if is_fed { None } else { Some(rest) }, out);
+        // (text of one form is about as long in another; where it is longer the room grows as vectors do)
+        out.resize(written + rest.len() + 16, 0);
+        let did = if is_fed { recoder.finish(&mut out[written..]) } else { recoder.feed(rest, &mut out[written..]) };
         rest = &rest[did.read..];
+        written += did.written;
         match did.status {
             Status::Fault(fault) => return Err(fault),
-            Status::Done if is_fed => return Ok(()),
+            Status::Done if is_fed => {
+                out.truncate(written);
+                return Ok(out);
+            }
             Status::Done => is_fed = true,
             Status::Full => {}
         }
     }
-}
-
-/// Feeds a part, or finishes, into the room that the vector has.
-fn append(recoder: &mut Recoder, part: Option<&[u8]>, out: &mut Vec<u8>) -> Progress {
-    let room = out.spare_capacity_mut();
-    let did = match part {
-        Some(part) => recoder.feed_uninit(part, room),
-        None => recoder.finish_uninit(room),
-    };
-    // SAFETY: so many bytes of the spare room were written.
-    unsafe { out.set_len(out.len() + did.written) };
-    did
 }

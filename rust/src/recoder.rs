@@ -1,8 +1,7 @@
 //! Recoding in parts, from one form of text in bytes to another.
 
-use crate::ffi;
-use crate::{Fault, FaultKind};
-use core::mem::MaybeUninit;
+use crate::proved::cuts;
+use crate::Fault;
 
 /// How text stands in bytes.
 ///
@@ -12,15 +11,16 @@ use core::mem::MaybeUninit;
 /// assert_eq!(Form::Utf16Le.to_string(), "utf16le");
 /// ```
 #[derive(Clone, Copy, Debug, PartialEq, Eq, Hash)]
+#[non_exhaustive]
 #[repr(u8)]
 #[non_exhaustive]
 pub enum Form {
     /// UTF-8.
-    Utf8 = ffi::FORM_UTF8,
+    Utf8 = 0,
     /// UTF-16, little-endian. No byte order mark is looked for, and none is added.
-    Utf16Le = ffi::FORM_UTF16LE,
+    Utf16Le = 1,
     /// UTF-16, big-endian, likewise.
-    Utf16Be = ffi::FORM_UTF16BE,
+    Utf16Be = 2,
 }
 
 impl Form {
@@ -36,6 +36,7 @@ impl Form {
     /// ```
     /// assert_eq!(noddychest::Form::Utf16Be.name(), "utf16be");
     /// ```
+    #[must_use]
     pub fn name(self) -> &'static str {
         match self {
             Form::Utf8 => "utf8",
@@ -44,11 +45,11 @@ impl Form {
         }
     }
 
-    fn of_number(number: u8) -> Form {
-        match number {
-            ffi::FORM_UTF16LE => Form::Utf16Le,
-            ffi::FORM_UTF16BE => Form::Utf16Be,
-            _ => Form::Utf8,
+    pub(crate) fn proved(self) -> cuts::Form {
+        match self {
+            Form::Utf8 => cuts::Form::Utf8,
+            Form::Utf16Le => cuts::Form::Utf16Le,
+            Form::Utf16Be => cuts::Form::Utf16Be,
         }
     }
 }
@@ -146,7 +147,8 @@ pub struct Progress {
 /// ```
 #[derive(Clone, Debug)]
 pub struct Recoder {
-    raw: ffi::Recoder,
+    inner: cuts::Recoder,
+    forms: (Form, Form),
     is_strict: bool,
     offset: usize,
 }
@@ -160,10 +162,10 @@ impl Recoder {
     /// let did = Recoder::new(Form::Utf8, Form::Utf8).feed(b"a\xFFb", &mut room);
     /// assert_eq!(&room[..did.written], "a\u{FFFD}b".as_bytes());
     /// ```
+    #[must_use]
     pub fn new(from: Form, to: Form) -> Recoder {
-        // SAFETY: a call on two numbers.
-        let raw = unsafe { ffi::nody_recoder(from as u8, to as u8) };
-        Recoder { raw, is_strict: false, offset: 0 }
+        let inner = cuts::Recoder::new(from.proved(), to.proved());
+        Recoder { inner, forms: (from, to), is_strict: false, offset: 0 }
     }
 
     /// A recoder that stops at what is invalid, and says where it is and why: in the places and with the kinds that a decoder of the
@@ -182,6 +184,7 @@ impl Recoder {
     /// let did = recoder.feed(b"b", &mut room);
     /// assert_eq!(&room[..did.written], b"b\0");
     /// ```
+    #[must_use]
     pub fn strict(from: Form, to: Form) -> Recoder {
         Recoder { is_strict: true, ..Recoder::new(from, to) }
     }
@@ -192,8 +195,9 @@ impl Recoder {
     /// use noddychest::{Form, Recoder};
     /// assert_eq!(Recoder::new(Form::Utf8, Form::Utf16Le).from(), Form::Utf8);
     /// ```
+    #[must_use]
     pub fn from(&self) -> Form {
-        Form::of_number(self.raw.from)
+        self.forms.0
     }
 
     /// The form that it writes.
@@ -202,8 +206,9 @@ impl Recoder {
     /// use noddychest::{Form, Recoder};
     /// assert_eq!(Recoder::new(Form::Utf8, Form::Utf16Le).to(), Form::Utf16Le);
     /// ```
+    #[must_use]
     pub fn to(&self) -> Form {
-        Form::of_number(self.raw.to)
+        self.forms.1
     }
 
     /// The bytes, at most three, that were read and of which nothing was written yet.
@@ -214,8 +219,9 @@ impl Recoder {
     /// let did = recoder.feed(b"a\xF0\x9F", &mut [0; 16]);
     /// assert_eq!((did.read, recoder.held()), (3, &b"\xF0\x9F"[..]));
     /// ```
+    #[must_use]
     pub fn held(&self) -> &[u8] {
-        &self.raw.held[..usize::from(self.raw.count)]
+        self.inner.held()
     }
 
     /// How many invalid bytes (of UTF-16 units) it has replaced by U+FFFD so far. A U+FFFD in the text does not count, and a strict
@@ -231,8 +237,9 @@ impl Recoder {
     /// let _ = recoder.finish(&mut room);
     /// assert_eq!(recoder.replaced(), 3);
     /// ```
+    #[must_use]
     pub fn replaced(&self) -> u64 {
-        self.raw.replaced
+        self.inner.replaced()
     }
 
     /// Feeds a part of the text, as far as there is room. In room for four bytes each call with a part that is not empty reads or
@@ -253,32 +260,14 @@ impl Recoder {
     /// assert_eq!(out, "€€".as_bytes());
     /// ```
     pub fn feed(&mut self, part: &[u8], room: &mut [u8]) -> Progress {
-        self.feed_uninit(part, as_uninit(room))
-    }
-
-    /// The same, into room in which nothing was written yet. So many bytes as the answer says are then.
-    pub(crate) fn feed_uninit(&mut self, part: &[u8], room: &mut [MaybeUninit<u8>]) -> Progress {
-        let (mut read, mut written, mut fault) = (0, 0, NO_FAULT);
-        let (out, out_len) = (room.as_mut_ptr().cast(), room.len());
-        // SAFETY: part and room are valid for their lengths, and neither they nor the recoder, the counts and the fault overlap.
-        let status = unsafe {
-            if self.is_strict {
-                ffi::nody_recoder_feed_strict(
-                    &mut self.raw,
-                    part.as_ptr(),
-                    part.len(),
-                    out,
-                    out_len,
-                    &mut read,
-                    &mut written,
-                    &mut fault,
-                )
-            } else {
-                ffi::nody_recoder_feed(&mut self.raw, part.as_ptr(), part.len(), out, out_len, &mut read, &mut written)
-            }
+        let did = if self.is_strict {
+            let did = self.inner.feed_strict_into(part, room);
+            self.told(did)
+        } else {
+            relayed(self.inner.feed_into(part, room))
         };
-        self.offset += read;
-        Progress { read, written, status: self.status_of(status, &fault) }
+        self.offset += did.read;
+        did
     }
 
     /// Writes what is held, at most nine bytes, when no more follows. [`Status::Full`]: call this again with more room.
@@ -294,41 +283,31 @@ impl Recoder {
     /// assert_eq!(&room[..did.written], "\u{FFFD}\u{FFFD}".as_bytes());
     /// ```
     pub fn finish(&mut self, room: &mut [u8]) -> Progress {
-        self.finish_uninit(as_uninit(room))
+        if self.is_strict {
+            let did = self.inner.finish_strict_into(room);
+            self.told(did)
+        } else {
+            relayed(self.inner.finish_into(room))
+        }
     }
 
-    /// The same, into room in which nothing was written yet.
-    pub(crate) fn finish_uninit(&mut self, room: &mut [MaybeUninit<u8>]) -> Progress {
-        let (mut written, mut fault) = (0, NO_FAULT);
-        let (out, out_len) = (room.as_mut_ptr().cast(), room.len());
-        // SAFETY: the room is valid for its length, and neither it nor the recoder, the count and the fault overlap.
-        let status = unsafe {
-            if self.is_strict {
-                ffi::nody_recoder_finish_strict(&mut self.raw, out, out_len, &mut written, &mut fault)
-            } else {
-                ffi::nody_recoder_finish(&mut self.raw, out, out_len, &mut written)
+    /// What a strict call did, with the offset of the fault in all that was fed.
+    fn told(&self, did: cuts::StrictProgress) -> Progress {
+        let status = match did.outcome {
+            cuts::Outcome::AllRead => Status::Done,
+            cuts::Outcome::Full => Status::Full,
+            cuts::Outcome::Faulty(fault) => {
+                Status::Fault(Fault::new(self.offset + did.read - fault.back, fault.len as u8, fault.kind.into()))
             }
         };
-        Progress { read: 0, written, status: self.status_of(status, &fault) }
-    }
-
-    /// A recoder of this crate is never refused.
-    fn status_of(&self, number: u8, fault: &ffi::Fault) -> Status {
-        match (number, FaultKind::of_number(fault.kind)) {
-            (ffi::STATUS_DONE, _) => Status::Done,
-            (ffi::STATUS_FULL, _) => Status::Full,
-            (ffi::STATUS_FAULT, Some(kind)) => Status::Fault(Fault::new(self.offset - fault.back, fault.len as u8, kind)),
-            _ => unreachable!("a recoder has one of three forms, and holds at most three bytes"),
-        }
+        Progress { read: did.read, written: did.written, status }
     }
 }
 
-/// What a call is given to write a fault into.
-const NO_FAULT: ffi::Fault = ffi::Fault { len: 0, back: 0, kind: ffi::KIND_NONE };
-
-fn as_uninit(room: &mut [u8]) -> &mut [MaybeUninit<u8>] {
-    // SAFETY: both have the same layout, and what is done with the room here only writes bytes to it.
-    unsafe { &mut *(room as *mut [u8] as *mut [MaybeUninit<u8>]) }
+/// What a call did that replaces.
+fn relayed(did: cuts::Progress) -> Progress {
+    let status = if did.is_full { Status::Full } else { Status::Done };
+    Progress { read: did.read, written: did.written, status }
 }
 
 /// The most bytes that so many bytes are recoded as, with what `finish` writes; `None` where a `usize` cannot count them. Add to
@@ -339,10 +318,9 @@ fn as_uninit(room: &mut [u8]) -> &mut [MaybeUninit<u8>] {
 /// assert!(recoded_len_max(Form::Utf8, Form::Utf16Le, 100) >= Some(200));
 /// assert_eq!(recoded_len_max(Form::Utf8, Form::Utf16Le, usize::MAX), None);
 /// ```
+#[must_use]
 pub fn recoded_len_max(from: Form, to: Form, len: usize) -> Option<usize> {
-    // SAFETY: a call on numbers.
-    let most = unsafe { ffi::nody_recoded_len_max(from as u8, to as u8, len) };
-    (most != usize::MAX).then_some(most)
+    cuts::room_for(from.proved(), to.proved(), len).filter(|most| *most != usize::MAX)
 }
 
 /// The last place, up to `at`, where bytes of that form may be cut, so that each side can be recoded by itself and the two joined.
@@ -353,7 +331,7 @@ pub fn recoded_len_max(from: Form, to: Form, len: usize) -> Option<usize> {
 /// assert_eq!(shard_end(Form::Utf8, "a€b".as_bytes(), 3), 1);
 /// assert_eq!(shard_end(Form::Utf16Le, b"a\0b\0", 3), 2);
 /// ```
+#[must_use]
 pub fn shard_end(from: Form, bytes: &[u8], at: usize) -> usize {
-    // SAFETY: the bytes are valid for their length, and the place may be any.
-    unsafe { ffi::nody_shard_end(from as u8, bytes.as_ptr(), bytes.len(), at) }
+    cuts::shard_end(from.proved(), bytes, at)
 }

@@ -9,7 +9,8 @@
 //! assert_eq!(text, "f😀\u{FFFD}");
 //! ```
 
-use crate::ffi;
+use crate::proved::cuts;
+use crate::proved::encode_unicode::iterator::Utf16CharDecoder;
 use crate::Piece;
 use core::iter::FusedIterator;
 
@@ -20,6 +21,7 @@ use core::iter::FusedIterator;
 /// let fault = units::pieces(&[0xD83D, 0x41]).find_map(|piece| piece.fault()).unwrap();
 /// assert_eq!((fault.offset(), fault.kind()), (0, FaultKind::UnmatchedLeadingSurrogate));
 /// ```
+#[must_use = "iterators do nothing unless consumed"]
 pub fn pieces(units: &[u16]) -> Pieces<'_> {
     Pieces { left: units, offset: 0 }
 }
@@ -30,14 +32,16 @@ pub fn pieces(units: &[u16]) -> Pieces<'_> {
 /// let piece = noddychest::units::first(&[0xD83D, 0xDE00, 0x41]).unwrap();
 /// assert_eq!((piece.len, piece.char()), (2, Some('😀')));
 /// ```
+#[must_use]
 pub fn first(units: &[u16]) -> Option<Piece> {
     first_of(units, 0)
 }
 
 /// The same, of units that are left from that offset on.
+#[inline(always)]
 fn first_of(left: &[u16], offset: usize) -> Option<Piece> {
-    // SAFETY: the units are valid for their length.
-    Piece::of(offset, unsafe { ffi::nody_utf16_first(left.as_ptr(), left.len()) })
+    let (_, result, len) = Utf16CharDecoder::from(left).next()?;
+    Some(Piece::new(offset, len, result))
 }
 
 /// The piece at the end, or `None` where there are no units. At most two units are looked at.
@@ -46,15 +50,16 @@ fn first_of(left: &[u16], offset: usize) -> Option<Piece> {
 /// let piece = noddychest::units::last(&[0x41, 0xD83D, 0xDE00]).unwrap();
 /// assert_eq!((piece.offset, piece.char()), (1, Some('😀')));
 /// ```
+#[must_use]
 pub fn last(units: &[u16]) -> Option<Piece> {
     last_of(units, 0)
 }
 
 /// The same, of units that are left from that offset on.
+#[inline(always)]
 fn last_of(left: &[u16], offset: usize) -> Option<Piece> {
-    // SAFETY: the units are valid for their length.
-    let raw = unsafe { ffi::nody_utf16_last(left.as_ptr(), left.len()) };
-    Piece::of(offset + left.len() - raw.len, raw)
+    let (at, result, len) = Utf16CharDecoder::from(left).next_back()?;
+    Some(Piece::new(offset + at, len, result))
 }
 
 /// The offset of the first invalid unit, or the length where all is UTF-16.
@@ -64,9 +69,9 @@ fn last_of(left: &[u16], offset: usize) -> Option<Piece> {
 /// let valid = noddychest::units::valid_up_to(&units);
 /// assert_eq!(String::from_utf16(&units[..valid]).unwrap(), "ok");
 /// ```
+#[must_use]
 pub fn valid_up_to(units: &[u16]) -> usize {
-    // SAFETY: the units are valid for their length.
-    unsafe { ffi::nody_utf16_valid_up_to(units.as_ptr(), units.len()) }
+    cuts::units_valid_up_to(units)
 }
 
 /// How many characters there are, where each invalid unit counts as one.
@@ -74,6 +79,7 @@ pub fn valid_up_to(units: &[u16]) -> usize {
 /// ```
 /// assert_eq!(noddychest::units::char_count(&[0x41, 0xD83D, 0xDE00, 0xDE00]), 3);
 /// ```
+#[must_use]
 pub fn char_count(units: &[u16]) -> usize {
     pieces(units).count()
 }
@@ -84,11 +90,9 @@ pub fn char_count(units: &[u16]) -> usize {
 /// ```
 /// assert_eq!(noddychest::units::boundary_before(&[0x41, 0xD83D, 0xDE00], 2), 1);
 /// ```
+#[must_use]
 pub fn boundary_before(units: &[u16], at: usize) -> usize {
-    if at == 0 || at >= units.len() {
-        return at.min(units.len());
-    }
-    at + 1 - first(&units[at - 1..=at]).map_or(1, |piece| piece.len)
+    cuts::unit_boundary_before(units, at)
 }
 
 /// The first boundary between two pieces that is at least `at`, or the length.
@@ -96,9 +100,9 @@ pub fn boundary_before(units: &[u16], at: usize) -> usize {
 /// ```
 /// assert_eq!(noddychest::units::boundary_after(&[0x41, 0xD83D, 0xDE00], 2), 3);
 /// ```
+#[must_use]
 pub fn boundary_after(units: &[u16], at: usize) -> usize {
-    let before = boundary_before(units, at);
-    before + if before < at && before < units.len() { 2 } else { 0 }
+    cuts::unit_boundary_after(units, at)
 }
 
 /// The pieces of some units, from the front and from the back. [`pieces`] makes it.
@@ -123,6 +127,7 @@ impl<'a> Pieces<'a> {
     /// pieces.next();
     /// assert_eq!(pieces.as_slice(), [0x42]);
     /// ```
+    #[must_use]
     pub fn as_slice(&self) -> &'a [u16] {
         self.left
     }
@@ -134,6 +139,7 @@ impl<'a> Pieces<'a> {
     /// pieces.next();
     /// assert_eq!(pieces.offset(), 2);
     /// ```
+    #[must_use]
     pub fn offset(&self) -> usize {
         self.offset
     }
@@ -148,6 +154,7 @@ impl<'a> From<&'a [u16]> for Pieces<'a> {
 impl Iterator for Pieces<'_> {
     type Item = Piece;
 
+    #[inline]
     fn next(&mut self) -> Option<Piece> {
         let piece = first_of(self.left, self.offset)?;
         self.left = &self.left[piece.len..];
@@ -162,6 +169,7 @@ impl Iterator for Pieces<'_> {
 }
 
 impl DoubleEndedIterator for Pieces<'_> {
+    #[inline]
     fn next_back(&mut self) -> Option<Piece> {
         let piece = last_of(self.left, self.offset)?;
         self.left = &self.left[..self.left.len() - piece.len];

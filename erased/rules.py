@@ -1,0 +1,74 @@
+"""What the eraser knows of this project and of Rattle's std. What is in none of these lists stops it."""
+
+# The crates that become modules, each after those that it uses.
+CRATES = ["utf_base", "utf_chars", "encode_unicode", "utf_lanes", "recoding", "cuts", "c_api"]
+
+# The modules that are left out, since they need Rattle's runtime: what the programs do, and streams that are counted.
+LEFT_OUT = {"cuts/programs", "cuts/streams", "cuts/counted"}
+
+# Attributes that Rust has too, and those that are Rattle's alone and go.
+ATTRIBUTES = {"cold", "derive", "inline", "must_use", "non_exhaustive", "repr"}
+GHOST_ATTRIBUTES = {"tactic", "rattlefmt"}
+# What may be derived. `Drop` is Rattle's word for a type whose values may be dropped, and goes.
+DERIVES = {"Clone", "Copy", "Debug", "Default", "Eq", "Hash", "Ord", "PartialEq", "PartialOrd"}
+# Types that Rust's users expect to be cloned too: the derive takes the place of `Drop`.
+CLONED = {("recoding/recoder.rt", "Recoder")}
+# Macros of std that mean in Rust what they mean in Rattle.
+MACROS = {"assert", "assert_eq", "assert_ne", "debug_assert", "macro_rules", "matches", "panic", "unreachable", "write"}
+
+# Modules of std that are the same in `core`; those that src/support has in their place, with the names that it has; and those that
+# only a build with std has.
+CORE = {"array", "ascii", "borrow", "char", "cmp", "convert", "error", "fmt", "hash", "iter", "mem", "num", "ops", "slice", "str"}
+SUPPORT = {
+    "alloc": {"AllocError", "Allocator", "Global"},
+    "simd": {"prelude"},
+}
+GATED = {"io": {"Read", "Result", "ErrorKind"}}
+# Names of Rattle's prelude that mean something else in Rust's: src/support has these, and has no other.
+PRELUDE = {"Vec", "String"}
+NOT_THERE = {"Arc", "Box", "Cow", "HashMap", "Rc", "ToOwned", "ToString", "to_owned", "to_string", "to_vec"}
+
+# Words that no erased text holds. (`invariant` is a ghost member, which goes with its `ghost`.)
+GHOST_WORDS = {"assumption", "decreases", "ensures", "ghost", "ground", "invariant", "requires"}
+
+# Words of a clause that asks nothing but that the source of an adapter may be asked, and ends: in Rust each may, and a source that
+# does not end is a loop that does not.
+OF_SOURCES = {"I", "Self", "self", "source", "iter", "can_next", "remaining", "IsFinite", "old", "now", "ended", "is_begun", "false", "true"}
+
+# Public functions that ask for something which a safe caller may not give: what they ask, as it stands in their clauses, and the
+# test that says the same. Where the clauses change, the eraser stops.
+ASSERTED = {
+    "utf_chars/utf8_char.rt:to_slice": ("HasRoomForCode 4 (utf8 self) dst.old", "self.len() <= dst.len()"),
+    "utf_chars/utf16_char.rt:to_slice": ("HasRoomForCode 2 (utf16 self) dst.old", "self.len() <= dst.len()"),
+    "cuts/boundaries.rt:floor": ("place ≤ length bytes.now", "place <= bytes.len()"),
+    "cuts/boundaries.rt:ceil": ("place ≤ length bytes.now", "place <= bytes.len()"),
+    "cuts/boundaries.rt:previous": ("0 < place; place ≤ length bytes.now", "0 < place && place <= bytes.len()"),
+    "cuts/boundaries.rt:following": ("place < length bytes.now", "place < bytes.len()"),
+    "cuts/splits.rt:split_ascii": ("separator < 128", "separator < 128"),
+    "cuts/piece_table.rt:replace": (
+        "start ≤ end; end ≤ length self.old.bytes",
+        "start <= end && end <= self.bytes.len()",
+    ),
+}
+
+# Functions that only the crate calls: `public` means the whole crate there. Users have traits and comparisons in their place.
+OWN = {
+    "utf_base/errors.rt": {"is_kind", "is_kind_of", "new"},
+    "utf_chars/utf8_char.rt": {"as_bytes", "eq_char", "eq_utf16", "eq_u8", "cmp_char", "cmp_utf16"},
+    "utf_chars/utf16_char.rt": {"eq_char", "eq_utf8", "eq_u8", "eq_u16", "cmp_char", "cmp_utf8", "as_units"},
+}
+
+# Fields that the hand-written text reads: whether a merger holds a unit.
+OPENED = {"encode_unicode/utf16_merger.rt": ("Utf16CharMerger", "held")}
+
+# Types that calls of C are passed by value, and those of what such a call writes: what stands there before it, since C's memory may hold
+# nothing yet.
+BY_VALUE = {"u8", "u32", "usize"}
+WRITTEN = {
+    "usize": "0",
+    "NodyFault": "NodyFault { len: 0, back: 0, kind: 11 }",
+    "& 'static NodyName": "&NodyName { text: [0; 32] }",
+    "& 'static NodySentence": "&NodySentence { text: [0; 64] }",
+}
+CHANGED = {"NodyRecoder"}
+LENT = {"NodyBytes": ("bytes", "u8"), "NodyUnits": ("units", "u16")}

@@ -1,0 +1,125 @@
+#!/usr/bin/env python3
+"""Tests of the eraser: for each rule what it refuses, and what it writes. The last line is 'N passed, M failed'."""
+import os
+import sys
+
+sys.dont_write_bytecode = True
+sys.path.insert(0, os.path.dirname(os.path.abspath(__file__)))
+from eraser import Eraser, Project  # noqa: E402
+from shape import Text  # noqa: E402
+from tokens import Stop, tokens  # noqa: E402
+
+# What stops the eraser: why, the text, and where it stands if that matters.
+REFUSED = [
+    ("`ghost let` is not known", "fn f() { ghost let x = 1; }"),
+    ("`ghost fn` is not known", "ghost fn f() {}"),
+    ("`prove!` is not known", "fn f() { prove!(x); }"),
+    ("`decreases` is left", "fn f() { while true decreases { n } {} }"),
+    ("`requires` is left", "fn f() { let g = |x| requires { x } 1; }"),
+    ("`invariant` is left", "fn f() { invariant(x); }"),
+    ("`λ` is left", "fn f() { λ x. x }"),
+    ("`≡` is left", "fn f() { a ≡ b; }"),
+    ("`requires` with no braces", "fn f() requires x y {}"),
+    ("the attribute `cfg` is not known", "#[cfg(unix)]\nfn f() {}"),
+    ("the attribute `unsafe` is not known", "#[unsafe(link_section = \"x\")]\nfn f() {}"),
+    ("the derive of Error is not known", "#[derive(Debug, Error)]\nstruct S;"),
+    ("the macro `format!` is not known", "fn f() { format!(\"x\"); }"),
+    ("std::collections is not known", "use std::collections::BTreeMap;"),
+    ("std::rayon is not known", "use std::{fmt, rayon};"),
+    ("std::alloc::Layout is not known", "use std::alloc::{AllocError, Layout};"),
+    ("std::io::Write is not known", "use std::io::Write;"),
+    ("Box is not known", "fn f(x: Box<u8>) {}"),
+    ("to_vec is not known", "fn f(x: &[u8]) { x.to_vec(); }"),
+    ("is a method of Index, which any code may call", "impl Index<u8> for S {\n    fn index(&self, i: u8) -> &u8\n        requires { i < 4 }\n    { &self.x }\n}"),
+    ("is a method of a public trait", "pub trait T {\n    fn f(self)\n        requires { self ≡ 1 };\n}"),
+    ("what is asserted says", "pub fn split_ascii(bytes: &[u8], separator: u8)\n    requires { separator < 64 }\n{}", "cuts/splits.rt"),
+    ("no line `/// Condition:` says", "/// A call.\npub fn f_unchecked()\n    requires { x }\n{}"),
+    ("f_unchecked is not called", "fn f_unchecked()\n    requires { x }\n{}\nfn g() { let h = f_unchecked; }"),
+    ("f is passed on, and asks", "pub fn f()\n    requires { x < 1 }\n{}\npub use crate::a::{f, g};"),
+    ("has an invariant and a public field", "pub struct S {\n    pub x: u8,\n}\nimpl Model for S {\n    ghost invariant = { λ s. s.x < 2 };\n}"),
+    ("cannot be const", "impl T for S {\n    fn f() {}\n}", "utf_base/a.rt"),
+    ("`Drop` stands in no bound", "fn f() { Drop; }"),
+    ("a Formatter of another form", "fn f(f: &mut Formatter<Vec<u8>>) {}"),
+    ("a clone that fails by another error", "impl S {\n    fn clone(&self) -> Result<S, Other> { Ok(S) }\n}"),
+    ("a clone that is more than", "impl S {\n    fn clone(&self) -> Result<S, AllocError> { return Err(AllocError); }\n}"),
+    ("places of lanes that are no list of numbers", "fn f() { a.swizzle([n, 1]); }"),
+    ("C passes no `& str`", '#[unsafe(no_mangle)]\npub extern "C" fn f(x: &str) {}'),
+    ("C passes no `& mut u64`", '#[unsafe(no_mangle)]\npub extern "C" fn f(x: &mut u64) {}'),
+    ("an `extern` of another form", '#[unsafe(no_mangle)]\nextern "C" fn f(x: u8) {}'),
+    ("an `extern` function with another attribute first", '#[inline]\npub extern "C" fn f(x: u8) {}'),
+    ("Utf16CharMerger has no field held", "struct Utf16CharMerger {\n    other: u8,\n}", "encode_unicode/utf16_merger.rt"),
+    ("a bracket closes another", "fn f() { (] }"),
+    ("a bracket closes none", "fn f() {} }"),
+    ("a bracket is not closed", "fn f() {"),
+    ("a string does not end", 'const S: &str = "x;'),
+    ("a comment does not end", "/* /* */"),
+]
+
+# What becomes of a text: all of it where nothing else is said.
+WRITTEN = [
+    ("ghost use std::A.{◌≡◌};\n\nuse std::fmt;\n", "use core::fmt;\n"),
+    ("fn f(x: u8) -> u8\n    requires { x < 4 }\n    ensures low { result ≡ x }\n{\n    x\n}\n", "fn f(x: u8) -> u8\n{\n    x\n}\n"),
+    ("pub trait T {\n    // The scalar.\n    ghost scalar: { Self → ℕ };\n\n    /// Says.\n    fn f(self) -> u8\n        ensures { result ≡ 1 };\n}\n",
+     "pub trait T {\n    /// Says.\n    fn f(self) -> u8;\n}\n"),
+    ("#[derive(Clone, Copy, Drop)]\n#[tactic(auto)]\nstruct S;\n", "#[derive(Clone, Copy)]\nstruct S;\n"),
+    ("#[derive(Drop)]\nstruct S;\n", "struct S;\n"),
+    ("fn f<T: Drop, U: Copy + Drop, V: Drop + Copy>() {}\n", "fn f<T, U: Copy, V: Copy>() {}\n"),
+    ("use crate::a::b;\nuse utf_base::c;\npub(crate) fn f() {}\n", "use crate::proved::utf_base::a::b;\nuse crate::proved::utf_base::c;\npub(crate) fn f() {}\n"),
+    ("fn fmt<W: fmt::Write>(&self, f: &mut fmt::Formatter<W>) -> fmt::Result {}\n", "fn fmt(&self, f: &mut fmt::Formatter<'_>) -> fmt::Result {}\n"),
+    ("    fn clone(&self) -> Result<S, AllocError> {\n        Ok(S { x: self.x.clone()? })\n    }\n", "    fn clone(&self) -> S {\n        S { x: self.x.clone() }\n    }\n"),
+    ("pub fn f(x: u8)\n    requires { x < 4 }\n{}\n", "pub(crate) fn f(x: u8)\n{}\n"),
+    ("pub fn f(self)\n    requires can { Self.can_next self }\n    requires ends { IsFinite (Self.remaining self) }\n{}\n", "pub fn f(self)\n{}\n"),
+    ("/// A call.\n///\n/// Condition: it is small.\n#[inline]\npub fn f_unchecked(x: u8)\n    requires { x < 4 }\n{}\nfn g() { a::f_unchecked(1); }\n",
+     "/// A call.\n///\n/// # Safety\n///\n/// It is small.\n#[inline]\npub unsafe fn f_unchecked(x: u8)\n{}\nfn g() { unsafe { a::f_unchecked(1) }; }\n"),
+    ('// "it\'s" // \'\nconst C: [char; 2] = [\'\\\'\', \'"\'];\nconst S: &str = r#"ghost "{" "#;\n', None),
+    ("fn f<'a>(x: &'a [u8]) -> u8 { x[0] /* ghost /* { */ */ }\n", None),
+    ("fn f() -> io::Result<u8> {}\n", '#[cfg(feature = "std")]\nfn f() -> io::Result<u8> {}\n'),
+]
+
+# The same in the trusted text.
+TRUSTED = [
+    ("fn f(x: &[u8]) -> u8 { x[1..].len(); x[x[0] as usize] }\n",
+     "use crate::support::trust::At;\nfn f(x: &[u8]) -> u8 { x[At(1..)].len(); x[At(x[At(0)] as usize)] }\n"),
+    ("fn f(x: [u8; 4]) -> [u8; 2] { [x, y.unwrap()] }\n", "use crate::support::trust::ByProof;\nfn f(x: [u8; 4]) -> [u8; 2] { [x, y.by_proof()] }\n"),
+    ("fn f() { unreachable!(\"no {}\", 1) }\n", "fn f() { crate::support::trust::never() }\n"),
+    ("fn f() { let [a, b] = self.x; for c in [1, 2] { return [c]; } }\n#[inline]\nconst X: [u8; 2] = [1; 2];\n", None),
+    ("fn f() { self.bytes[0] + self.bytes[k] }\n", "use crate::support::trust::At;\nfn f() { self.bytes[0] + self.bytes[At(k)] }\n"),
+]
+
+
+def made(text, name="utf_base/a.rt", is_trusted=False, consts=()):
+    project = Project(set(consts))
+    project.read(Text(text, name))
+    return Eraser(text, name, project, is_trusted).made()
+
+
+def refuses(why, text, name="utf_base/a.rt"):
+    consts = {"utf_base/a.rt:f"} if why == "cannot be const" else ()
+    try:
+        return f"it writes {made(text, name, consts=consts)!r}"
+    except Stop as stop:
+        return None if why in str(stop) else f"it says {stop}"
+
+
+def writes(text, wanted, is_trusted=False):
+    try:
+        have = made(text, is_trusted=is_trusted)
+    except Stop as stop:
+        return f"it says {stop}"
+    return None if have == (text if wanted is None else wanted) else f"it writes {have!r}"
+
+
+def main():
+    tried = [(why, refuses(why, *rest)) for why, *rest in REFUSED]
+    tried += [(text, writes(text, wanted)) for text, wanted in WRITTEN]
+    tried += [(text, writes(text, wanted, True)) for text, wanted in TRUSTED]
+    tried += [("tokens are all of a text", None if "".join(it.text for it in tokens(text, "")) == text else "lost") for text, _ in WRITTEN]
+    failed = [(what, how) for what, how in tried if how]
+    for what, how in failed:
+        print(f"FAILED: {what!r}: {how}")
+    print(f"{len(tried) - len(failed)} passed, {len(failed)} failed")
+    return 1 if failed else 0
+
+
+if __name__ == "__main__":
+    sys.exit(main())

@@ -1,0 +1,134 @@
+//! Vectors and strings that are passed an allocator, and answer where memory is refused: std's own inside.
+use super::alloc::{AllocError, Allocator, Global};
+use alloc::string::String as StdString;
+use alloc::vec::Vec as StdVec;
+use core::ops::{Deref, DerefMut};
+
+/// A vector of std, whose calls answer where memory is refused.
+#[derive(Clone, Debug, PartialEq, Eq)]
+#[repr(C)]
+pub struct Vec<T, A = Global>(StdVec<T>, A);
+
+impl<T, A: Allocator> Vec<T, A> {
+    #[inline(always)]
+    pub(crate) fn new(alloc: A) -> Vec<T, A> {
+        Vec(StdVec::new(), alloc)
+    }
+
+    #[inline(always)]
+    pub(crate) fn with_capacity(alloc: A, n: usize) -> Result<Vec<T, A>, AllocError> {
+        let mut made = Vec::new(alloc);
+        made.reserve(n)?;
+        Ok(made)
+    }
+
+    #[inline(always)]
+    pub(crate) fn reserve(&mut self, n: usize) -> Result<(), AllocError> {
+        self.0.try_reserve(n).map_err(|_| AllocError)
+    }
+
+    #[inline(always)]
+    pub(crate) fn push(&mut self, x: T) -> Result<(), AllocError> {
+        self.reserve(1)?;
+        self.0.push(x);
+        Ok(())
+    }
+
+    #[inline(always)]
+    pub(crate) fn extend_from_slice(&mut self, s: &[T]) -> Result<(), AllocError>
+    where
+        T: Copy,
+    {
+        self.reserve(s.len())?;
+        self.0.extend_from_slice(s);
+        Ok(())
+    }
+
+    /// The same, where a proof shows that there is room. Where there is none, std takes it.
+    #[inline(always)]
+    pub(crate) fn push_reserved(&mut self, x: T) {
+        self.0.push(x);
+    }
+
+    #[inline(always)]
+    pub(crate) fn as_mut_slice(&mut self) -> &mut [T] {
+        &mut self.0
+    }
+
+    #[inline(always)]
+    pub(crate) fn truncate(&mut self, n: usize) {
+        self.0.truncate(n);
+    }
+
+    #[inline(always)]
+    pub(crate) fn clear(&mut self) {
+        self.0.clear();
+    }
+
+    #[inline(always)]
+    pub(crate) fn capacity(&self) -> usize {
+        self.0.capacity()
+    }
+
+    #[inline(always)]
+    pub(crate) fn as_slice(&self) -> &[T] {
+        &self.0
+    }
+
+    #[inline(always)]
+    pub(crate) fn allocator(&self) -> &A {
+        &self.1
+    }
+}
+
+impl<T> Vec<T, Global> {
+    /// std's own vector, borrowed for calls that add to it.
+    #[inline(always)]
+    pub(crate) fn of(v: &mut StdVec<T>) -> &mut Vec<T, Global> {
+        // SAFETY: the type is laid out as C has it: first that vector, and then what has no size and the alignment 1.
+        unsafe { &mut *core::ptr::from_mut(v).cast() }
+    }
+}
+
+impl<T, A> Deref for Vec<T, A> {
+    type Target = [T];
+    #[inline(always)]
+    fn deref(&self) -> &[T] {
+        &self.0
+    }
+}
+
+impl<T, A> DerefMut for Vec<T, A> {
+    #[inline(always)]
+    fn deref_mut(&mut self) -> &mut [T] {
+        &mut self.0
+    }
+}
+
+/// A string of std, in the same way.
+#[derive(Clone, Debug, PartialEq, Eq)]
+#[repr(C)]
+pub struct String<A = Global>(StdString, A);
+
+impl<A: Allocator> String<A> {
+    #[inline(always)]
+    pub(crate) fn new(alloc: A) -> String<A> {
+        String(StdString::new(), alloc)
+    }
+
+    #[inline(always)]
+    pub(crate) fn push_str(&mut self, s: &str) -> Result<(), AllocError> {
+        self.0.try_reserve(s.len()).map_err(|_| AllocError)?;
+        self.0.push_str(s);
+        Ok(())
+    }
+}
+
+impl String<Global> {
+    /// std's own string, borrowed for calls that add to it.
+    #[inline(always)]
+    pub(crate) fn of(s: &mut StdString) -> &mut String<Global> {
+        // SAFETY: as for a vector.
+        unsafe { &mut *core::ptr::from_mut(s).cast() }
+    }
+}

@@ -1,0 +1,119 @@
+//! Sixteen bytes at a time on x86-64, whose every processor has SSE2. One call needs SSSE3, which those since 2006 have: where this is
+//! not compiled for it, std asks the processor; without std that call goes lane by lane.
+//!
+//! Each `unsafe` here calls an instruction that the processor has.
+use core::arch::x86_64::*;
+
+pub(crate) type Block = __m128i;
+
+macro_rules! each {
+    ($($name:ident = $by:ident;)*) => { $(
+        #[inline(always)]
+        pub(crate) fn $name(a: Block, b: Block) -> Block {
+            // SAFETY: see the module.
+            unsafe { $by(a, b) }
+        }
+    )* };
+}
+
+each! {
+    and = _mm_and_si128;
+    or = _mm_or_si128;
+    xor = _mm_xor_si128;
+    add = _mm_add_epi8;
+    sub_or_0 = _mm_subs_epu8;
+    max = _mm_max_epu8;
+    eq = _mm_cmpeq_epi8;
+    eq_16 = _mm_cmpeq_epi16;
+    low_by_turns = _mm_unpacklo_epi8;
+    high_by_turns = _mm_unpackhi_epi8;
+}
+
+#[cfg(target_feature = "ssse3")]
+#[inline(always)]
+pub(crate) fn at(a: Block, places: Block) -> Block {
+    // SAFETY: see the module.
+    unsafe { _mm_shuffle_epi8(a, places) }
+}
+
+#[cfg(not(target_feature = "ssse3"))]
+#[inline(always)]
+pub(crate) fn at(a: Block, places: Block) -> Block {
+    #[cfg(feature = "std")]
+    if std::arch::is_x86_feature_detected!("ssse3") {
+        let mut out = a;
+        // SAFETY: the processor has this instruction, which writes this register alone. (As a function for SSSE3 it would be called
+        // each time, and in no register.)
+        unsafe {
+            core::arch::asm!("pshufb {}, {}", inout(xmm_reg) out, in(xmm_reg) places, options(pure, nomem, nostack, preserves_flags));
+        }
+        return out;
+    }
+    at_one_by_one(a, places)
+}
+
+#[cfg(any(test, not(target_feature = "ssse3")))]
+#[inline(never)]
+pub(crate) fn at_one_by_one(a: Block, places: Block) -> Block {
+    let out = super::lane_by_lane::at(bytes_of(a), bytes_of(places));
+    super::block_of(&out)
+}
+
+#[cfg(any(test, not(target_feature = "ssse3")))]
+fn bytes_of(a: Block) -> [u8; 16] {
+    let mut out = [0; 16];
+    // SAFETY: there is room for sixteen bytes.
+    unsafe { _mm_storeu_si128(out.as_mut_ptr().cast(), a) };
+    out
+}
+
+#[inline(always)]
+pub(crate) fn select(mask: Block, a: Block, b: Block) -> Block {
+    // SAFETY: see the module.
+    unsafe { _mm_or_si128(_mm_and_si128(mask, a), _mm_andnot_si128(mask, b)) }
+}
+
+#[inline(always)]
+pub(crate) fn high_bits(a: Block) -> u64 {
+    // SAFETY: see the module.
+    u64::from(unsafe { _mm_movemask_epi8(a) } as u32)
+}
+
+#[inline(always)]
+pub(crate) fn splat(a: u8) -> Block {
+    // SAFETY: see the module.
+    unsafe { _mm_set1_epi8(a as i8) }
+}
+
+#[inline(always)]
+pub(crate) fn right(a: Block, n: u8) -> Block {
+    and(right_16(a, u16::from(n)), splat((0xFF_u32 >> n) as u8))
+}
+
+#[inline(always)]
+pub(crate) fn left(a: Block, n: u8) -> Block {
+    // SAFETY: see the module.
+    let moved = unsafe { _mm_sll_epi16(a, _mm_cvtsi32_si128(i32::from(n))) };
+    and(moved, splat((0xFF_u32 << n) as u8))
+}
+
+#[inline(always)]
+pub(crate) fn right_16(a: Block, n: u16) -> Block {
+    // SAFETY: see the module.
+    unsafe { _mm_srl_epi16(a, _mm_cvtsi32_si128(i32::from(n))) }
+}
+
+#[inline(always)]
+pub(crate) fn evens(a: Block, b: Block) -> Block {
+    // SAFETY: see the module.
+    unsafe {
+        let low = _mm_set1_epi16(0xFF);
+        _mm_packus_epi16(_mm_and_si128(a, low), _mm_and_si128(b, low))
+    }
+}
+
+#[inline(always)]
+pub(crate) fn odds(a: Block, b: Block) -> Block {
+    // SAFETY: see the module.
+    unsafe { _mm_packus_epi16(_mm_srli_epi16::<8>(a), _mm_srli_epi16::<8>(b)) }
+}
