@@ -26,7 +26,6 @@ use core::ops::Range;
 #[derive(Clone, Copy, Debug, PartialEq, Eq, PartialOrd, Ord, Hash)]
 #[non_exhaustive]
 #[repr(u8)]
-#[non_exhaustive]
 pub enum FaultKind {
     /// Fewer bytes are left than the first one needs.
     TooFewBytes = 1,

@@ -13,7 +13,6 @@ use crate::Fault;
 #[derive(Clone, Copy, Debug, PartialEq, Eq, Hash)]
 #[non_exhaustive]
 #[repr(u8)]
-#[non_exhaustive]
 pub enum Form {
     /// UTF-8.
     Utf8 = 0,
