@@ -167,8 +167,6 @@ pub struct RecodingWriter<W: Write> {
     /// What was recoded, and from where on it was not written yet.
     made: Block,
     fault: Option<Fault>,
-    /// Whether something may not be written yet.
-    is_open: bool,
     /// Whether a call of the writer has begun and not ended: where it panics, nothing is written again.
     is_writing: bool,
 }
@@ -181,7 +179,7 @@ impl<W: Write> RecodingWriter<W> {
     /// let writer = RecodingWriter::new(std::io::stdout(), Recoder::new(Form::Utf8, Form::Utf16Be));
     /// ```
     pub fn new(inner: W, recoder: Recoder) -> RecodingWriter<W> {
-        RecodingWriter { inner: Some(inner), recoder, made: Block::new(), fault: None, is_open: false, is_writing: false }
+        RecodingWriter { inner: Some(inner), recoder, made: Block::new(), fault: None, is_writing: false }
     }
 
     /// Writes what is held and what was gathered, and flushes the writer. After an error call it again to go on; after a fault of
@@ -197,21 +195,22 @@ impl<W: Write> RecodingWriter<W> {
     /// # Ok::<(), std::io::Error>(())
     /// ```
     pub fn finish(&mut self) -> Result<()> {
-        self.is_open = true;
+        self.tell()?;
+        self.write_rest()?;
+        self.call(W::flush)
+    }
+
+    /// Writes what was gathered, and then what the recoder holds.
+    fn write_rest(&mut self) -> Result<()> {
         loop {
-            self.tell()?;
             self.drain()?;
+            self.tell()?;
             let did = self.recoder.finish(&mut self.made.bytes);
             self.made.end = did.written;
             match did.status {
                 Status::Fault(fault) => self.fault = Some(fault),
                 Status::Full => {}
-                Status::Done => {
-                    self.drain()?;
-                    self.call(W::flush)?;
-                    self.is_open = false;
-                    return Ok(());
-                }
+                Status::Done => return self.drain(),
             }
         }
     }
@@ -270,7 +269,6 @@ impl<W: Write> RecodingWriter<W> {
 
 impl<W: Write> Write for RecodingWriter<W> {
     fn write(&mut self, part: &[u8]) -> Result<usize> {
-        self.is_open = true;
         loop {
             self.tell()?;
             if self.made.begin > 0 || self.made.bytes.len() - self.made.end < ENOUGH {
@@ -295,11 +293,11 @@ impl<W: Write> Write for RecodingWriter<W> {
     }
 }
 
+/// Writes what was gathered and what is held, up to a fault of a strict recoder. Errors are ignored.
 impl<W: Write> Drop for RecodingWriter<W> {
-    /// Writes what it has. (Of a strict recoder nothing after a fault is.)
     fn drop(&mut self) {
-        if self.inner.is_some() && self.is_open && !self.is_writing && self.drain().is_ok() {
-            let _ = self.finish();
+        if self.inner.is_some() && !self.is_writing {
+            let _ = self.write_rest();
         }
     }
 }
