@@ -3,10 +3,12 @@
 #   make             build/: libnoddychest.a, libnoddychest.so.1, pieces and recode
 #   make check       tests all of it; the last line is 'N passed, M failed'
 #   make check-python  installs the package for Python into a folder that goes away again, and tests it there
-#   make install     puts it below PREFIX, which has to be given, as PREFIX=/usr/local, in DESTDIR where that is given, and says
-#                    what it wrote; the programs are nody-pieces, nody-recode
+#   make install     puts it below PREFIX, which has to be given, as PREFIX=/usr/local, in DESTDIR where that is given, with the man
+#                    pages of the programs, which are nody-pieces and nody-recode there, and says what it wrote
 #   make uninstall   takes it away again, for the same PREFIX and DESTDIR
 #   make dist        packs the sources, and what make builds of them, in build/dist
+#   make dist-windows
+#                    packs there what make builds for Windows
 #   make check-rust, check-deb
 #                    tests the crate for Cargo, and the packages of Debian with what make dist packs (BOOKWORM may name a
 #                    Debian 12 that debootstrap made; else it makes one of Debian's mirror)
@@ -14,92 +16,142 @@
 #   make check-packages
 #                    tests all packages for which the tools are there, and names those that it leaves out
 #   make check-js    tests the package for npm, js/, under node
+#   make check-cmake tests the build by CMake, and programs that find what it installs
+#   make check-windows
+#                    tests what `make CC=x86_64-w64-mingw32-gcc` builds, under wine
 #   make clean       removes what was built
 #
-# CC, CPPFLAGS, CFLAGS and LDFLAGS are as usual; `make CC=aarch64-linux-gnu-gcc` builds for ARM. BUILD is the folder of what
+# CC, CPPFLAGS, CFLAGS and LDFLAGS are as usual; `make CC=aarch64-linux-gnu-gcc` builds for ARM. `make CC=x86_64-w64-mingw32-gcc` builds for
+# Windows: libnoddychest.a, noddychest.dll with its import library libnoddychest.dll.a, pieces.exe and recode.exe. On a Mac there come
+# libnoddychest.1.dylib, libnoddychest.a and the programs, for the other processor with CFLAGS='-O2 -arch x86_64' (python3 is needed). BUILD is the folder of what
 # is made. RUN stands before each program that `make check` runs, as `make check RUN=qemu-aarch64-static`; LANES is what nody_lanes()
 # has to answer there, 16 or 32.
 
 BUILD ?= build
 CFLAGS ?= -O2
 AR = `$(CC) $(CFLAGS) -print-prog-name=ar`
+unexport CDPATH
 
 COMPILE = $(CC) $(CPPFLAGS) $(CFLAGS)
-ASSEMBLE = $(CC) $(CFLAGS) `cat $(BUILD)/jumps` -c -o
-LIBRARY = $(BUILD)/noddychest.o $(BUILD)/noddychest-v3.o $(BUILD)/processor.o
+ASSEMBLE = $(CC) $(CFLAGS) `cat "$(BUILD)/jumps"` -c -o
 # A program is linked as LDFLAGS say, a shared library never statically.
 SHARED = for it in $(CFLAGS) $(LDFLAGS); do case $$it in -static|-static-pie|-pie) ;; *) set -- "$$@" "$$it" ;; esac; done
+# The folder as make names it: a blank has a backslash before it.
+NOTHING :=
+BLANK := $(NOTHING) $(NOTHING)
+IN := $(subst $(BLANK),\$(BLANK),$(BUILD))
+LIBRARY = $(IN)/noddychest.o $(IN)/noddychest-v3.o $(IN)/processor.o
 
-all: $(BUILD)/libnoddychest.a $(BUILD)/libnoddychest.so.1 $(BUILD)/pieces $(BUILD)/recode
+# What differs on Windows and on macOS: the assembly, and how files are called. (the assembly of Linux is another text there, with the same
+# instructions)
+MACHINE := $(shell $(CC) -dumpmachine 2>/dev/null)
+TEXT = cp
+PROTECTED = -fcf-protection
+DYNAMIC = $(IN)/libnoddychest.so.1
+ifneq ($(findstring mingw,$(MACHINE)),)
+SYSTEM = -windows
+EXE = .exe
+PROTECTED =
+DYNAMIC = $(IN)/noddychest.dll
+endif
+ifneq ($(findstring apple,$(MACHINE)),)
+TEXT = scripts/macho
+PROTECTED =
+DYNAMIC = $(IN)/libnoddychest.1.dylib
+endif
+
+all: $(IN)/libnoddychest.a $(DYNAMIC) $(IN)/pieces$(EXE) $(IN)/recode$(EXE)
 
 # The processor, and with what all is compiled: another compiler, or other flags, make all anew.
-$(BUILD)/target: always
-	@mkdir -p $(BUILD)
-	@target=`$(CC) $(CFLAGS) -dumpmachine` || exit 1; \
-	if [ ! -e "generated/pieces-$${target%%-*}.s" ]; then \
-		echo "make: $(CC) compiles for $$target, and generated/ has x86_64 and aarch64" >&2; exit 1; \
+$(IN)/target: always
+	@mkdir -p "$(BUILD)"
+	@told=`printf '%s\n' '#if !defined __LP64__ && !defined _WIN64' '#elif defined __x86_64__' x86_64 '#elif defined __AARCH64EL__' aarch64 '#endif' | \
+		$(CC) $(CFLAGS) -E -P -x c -` || exit 1; \
+	processor=none; for processor in $$told; do :; done; \
+	if [ ! -e "generated/pieces-$$processor$(SYSTEM).s" ]; then \
+		echo "make: $(CC) $(CFLAGS) compiles for another processor: generated/ has x86_64 and aarch64, each with 64 bits" >&2; exit 1; \
 	fi; \
-	printf '%s\n' "$${target%%-*}" "$(CC)" "$(CPPFLAGS)" "$(CFLAGS)" "$(LDFLAGS)" >$@.new; \
-	if cmp -s $@.new $@; then rm $@.new; else mv $@.new $@; fi
+	printf '%s\n' "$$processor" "$(CC)" "$(CPPFLAGS)" "$(CFLAGS)" "$(LDFLAGS)" >"$@.new"; \
+	if cmp -s "$@.new" "$@"; then rm "$@.new"; else mv "$@.new" "$@"; fi
 
 always:
 
 # On x86-64 the option that keeps jumps off the ends of 32 bytes of code, as gcc or clang writes it; empty where there is none. Some
 # processors of Intel are slow at such jumps (docs/DECISIONS.md).
-$(BUILD)/jumps: $(BUILD)/target
-	@read processor <$(BUILD)/target && for it in -Wa,-mbranches-within-32B-boundaries -mbranches-within-32B-boundaries; do \
-		if [ $$processor = x86_64 ] && $(CC) $(CFLAGS) $$it -x assembler -c -o $@.o /dev/null 2>/dev/null; then \
+$(IN)/jumps: $(IN)/target
+	@read processor <"$(BUILD)/target" && for it in -Wa,-mbranches-within-32B-boundaries -mbranches-within-32B-boundaries; do \
+		if [ $$processor = x86_64 ] && $(CC) $(CFLAGS) $$it -x assembler -c -o "$@.o" /dev/null 2>/dev/null; then \
 			echo $$it && break; \
 		fi; \
-	done >$@; rm -f $@.o
+	done >"$@"; rm -f "$@.o"
 
-$(BUILD)/noddychest.o: generated/noddychest-x86_64.s generated/noddychest-aarch64.s $(BUILD)/jumps
-	read processor <$(BUILD)/target && $(ASSEMBLE) $@ generated/noddychest-$$processor.s
+$(IN)/noddychest.o: generated/noddychest-x86_64$(SYSTEM).s generated/noddychest-aarch64.s $(IN)/jumps
+	read processor <"$(BUILD)/target" && $(TEXT) generated/noddychest-$$processor$(SYSTEM).s "$(BUILD)/noddychest.s" && \
+	$(ASSEMBLE) "$@" "$(BUILD)/noddychest.s"
 
 # The calls that validate and recode, for x86-64-v3 (for ARM an empty file, which no library gets).
-$(BUILD)/noddychest-v3.o: generated/noddychest-x86_64-v3.s $(BUILD)/jumps
-	read processor <$(BUILD)/target && case $$processor in \
-	x86_64) $(ASSEMBLE) $@ generated/noddychest-x86_64-v3.s ;; \
-	*) : >$@ ;; \
+$(IN)/noddychest-v3.o: generated/noddychest-x86_64$(SYSTEM)-v3.s $(IN)/jumps
+	read processor <"$(BUILD)/target" && case $$processor in \
+	x86_64) $(TEXT) generated/noddychest-x86_64$(SYSTEM)-v3.s "$(BUILD)/noddychest-v3.s" && $(ASSEMBLE) "$@" "$(BUILD)/noddychest-v3.s" ;; \
+	*) : >"$@" ;; \
 	esac
 
 # (the library can be linked by who has no -flto; the assembly has the properties of -fcf-protection on x86-64)
-$(BUILD)/processor.o: c/processor.c c/noddychest.h $(BUILD)/target
-	read processor <$(BUILD)/target && case $$processor in x86_64) set -- -fcf-protection ;; *) set -- ;; esac && \
-	$(COMPILE) -fPIC -fno-lto "$$@" -c -o $@ c/processor.c
+$(IN)/processor.o: c/processor.c c/noddychest.h $(IN)/target
+	read processor <"$(BUILD)/target" && case $$processor in x86_64) set -- $(PROTECTED) ;; *) set -- ;; esac && \
+	$(COMPILE) -fPIC -fno-lto "$$@" -c -o "$@" c/processor.c
 
-$(BUILD)/libnoddychest.a: $(LIBRARY)
-	rm -f $@
-	set --; for it in $(LIBRARY); do if [ -s "$$it" ]; then set -- "$$@" "$$it"; fi; done; $(AR) rcs $@ "$$@"
+$(IN)/libnoddychest.a: $(LIBRARY)
+	rm -f "$@"
+	set --; for it in noddychest.o noddychest-v3.o processor.o; do \
+		if [ -s "$(BUILD)/$$it" ]; then set -- "$$@" "$(BUILD)/$$it"; fi; \
+	done; $(AR) rcs "$@" "$$@"
 
-$(BUILD)/libnoddychest.so.1: $(BUILD)/libnoddychest.a c/noddychest.map
-	$(SHARED); $(CC) "$$@" -shared -Wl,-soname,libnoddychest.so.1 -Wl,--version-script=c/noddychest.map -o $@ \
-	-Wl,--whole-archive $(BUILD)/libnoddychest.a -Wl,--no-whole-archive
+$(IN)/libnoddychest.so.1: $(IN)/libnoddychest.a c/noddychest.map
+	$(SHARED); $(CC) "$$@" -shared -Wl,-soname,libnoddychest.so.1 -Wl,--version-script=c/noddychest.map -o "$@" \
+	-Wl,--whole-archive "$(BUILD)/libnoddychest.a" -Wl,--no-whole-archive
 
-# The name `main` and those of glibc are changed: see generated/names.sed.
-$(BUILD)/pieces.s: generated/pieces-x86_64.s generated/pieces-aarch64.s generated/names.sed $(BUILD)/target
-	read processor <$(BUILD)/target && sed -f generated/names.sed generated/pieces-$$processor.s >$@
+$(IN)/libnoddychest.1.dylib: $(IN)/libnoddychest.a c/symbols.txt
+	sed -n 's/^call .*[ *]\(nody_[a-z0-9_]*\)(.*/_\1/p' c/symbols.txt >"$(BUILD)/exported"
+	$(SHARED); $(CC) "$$@" -dynamiclib -install_name @rpath/libnoddychest.1.dylib -compatibility_version 1 -current_version 1 \
+	-Wl,-exported_symbols_list,"$(BUILD)/exported" -o "$@" -Wl,-all_load "$(BUILD)/libnoddychest.a"
 
-$(BUILD)/recode.s: generated/recode-x86_64.s generated/recode-aarch64.s generated/names.sed $(BUILD)/target
-	read processor <$(BUILD)/target && sed -f generated/names.sed generated/recode-$$processor.s >$@
+# (the calls that a DLL exports are told by name; its import library is made beside it. Its address does not depend on the folder)
+$(IN)/noddychest.dll: $(IN)/libnoddychest.a c/symbols.txt
+	{ echo EXPORTS; sed -n 's/^call .*[ *]\(nody_[a-z0-9_]*\)(.*/\1/p' c/symbols.txt; } >"$(BUILD)/noddychest.def"
+	$(SHARED); $(CC) "$$@" -shared -o "$@" "$(BUILD)/noddychest.def" -Wl,--out-implib,"$(BUILD)/libnoddychest.dll.a" -Wl,--disable-auto-image-base \
+	-Wl,--whole-archive "$(BUILD)/libnoddychest.a" -Wl,--no-whole-archive
 
-$(BUILD)/pieces.o: $(BUILD)/pieces.s $(BUILD)/jumps
-	$(ASSEMBLE) $@ $(BUILD)/pieces.s
+# The name `main` and those of glibc are changed: see generated/names.sed. (on Windows they are so in generated/)
+$(IN)/pieces.s: generated/pieces-x86_64$(SYSTEM).s generated/pieces-aarch64.s generated/names.sed $(IN)/target
+	read processor <"$(BUILD)/target" && sed -f generated/names.sed generated/pieces-$$processor$(SYSTEM).s >"$@"
 
-$(BUILD)/recode.o: $(BUILD)/recode.s $(BUILD)/jumps
-	$(ASSEMBLE) $@ $(BUILD)/recode.s
+$(IN)/recode.s: generated/recode-x86_64$(SYSTEM).s generated/recode-aarch64.s generated/names.sed $(IN)/target
+	read processor <"$(BUILD)/target" && sed -f generated/names.sed generated/recode-$$processor$(SYSTEM).s >"$@"
 
-$(BUILD)/system.o: generated/system.c $(BUILD)/target
-	$(COMPILE) -c -o $@ generated/system.c
+$(IN)/pieces-here.s: $(IN)/pieces.s
+	$(TEXT) "$(BUILD)/pieces.s" "$@"
 
-$(BUILD)/pieces: $(BUILD)/pieces.o $(BUILD)/system.o
-	$(CC) $(CFLAGS) $(LDFLAGS) -o $@ $(BUILD)/pieces.o $(BUILD)/system.o
+$(IN)/pieces.o: $(IN)/pieces-here.s $(IN)/jumps
+	$(ASSEMBLE) "$@" "$(BUILD)/pieces-here.s"
 
-$(BUILD)/recode: $(BUILD)/recode.o $(BUILD)/system.o
-	$(CC) $(CFLAGS) $(LDFLAGS) -o $@ $(BUILD)/recode.o $(BUILD)/system.o
+$(IN)/recode-here.s: $(IN)/recode.s
+	$(TEXT) "$(BUILD)/recode.s" "$@"
+
+$(IN)/recode.o: $(IN)/recode-here.s $(IN)/jumps
+	$(ASSEMBLE) "$@" "$(BUILD)/recode-here.s"
+
+$(IN)/system.o: generated/system.c $(IN)/target
+	$(COMPILE) -c -o "$@" generated/system.c
+
+$(IN)/pieces$(EXE): $(IN)/pieces.o $(IN)/system.o
+	$(CC) $(CFLAGS) $(LDFLAGS) -o "$@" "$(BUILD)/pieces.o" "$(BUILD)/system.o"
+
+$(IN)/recode$(EXE): $(IN)/recode.o $(IN)/system.o
+	$(CC) $(CFLAGS) $(LDFLAGS) -o "$@" "$(BUILD)/recode.o" "$(BUILD)/system.o"
 
 check: all
-	@COMPILE='$(COMPILE)' LDFLAGS='$(LDFLAGS)' RUN='$(RUN)' LANES='$(LANES)' sh c/tests/all $(BUILD)
+	@COMPILE='$(COMPILE)' LDFLAGS='$(LDFLAGS)' RUN='$(RUN)' LANES='$(LANES)' sh c/tests/all "$(BUILD)"
 
 PYTHON ?= python3
 
@@ -107,19 +159,22 @@ check-python:
 	@$(PYTHON) python/check
 
 # (the paths go as they are, with their spaces)
-PATHS = PREFIX='$(PREFIX)' DESTDIR='$(DESTDIR)' BINDIR='$(BINDIR)' LIBDIR='$(LIBDIR)' INCLUDEDIR='$(INCLUDEDIR)'
+PATHS = PREFIX='$(PREFIX)' DESTDIR='$(DESTDIR)' BINDIR='$(BINDIR)' LIBDIR='$(LIBDIR)' INCLUDEDIR='$(INCLUDEDIR)' DATADIR='$(DATADIR)'
 
 install: all
-	@$(PATHS) sh c/install install $(BUILD)
+	@$(PATHS) sh c/install install "$(BUILD)"
 
 uninstall:
-	@$(PATHS) sh c/install uninstall $(BUILD)
+	@$(PATHS) sh c/install uninstall "$(BUILD)"
 
 dist:
-	@packaging/dist $(BUILD)/dist
+	@packaging/dist "$(BUILD)/dist"
+
+dist-windows:
+	@packaging/dist-windows "$(BUILD)/dist"
 
 check-rust: all
-	@rust/check $(BUILD)
+	@rust/check "$(BUILD)"
 
 # Checks the crate's text, which scripts/erase makes of the proved sources, in all its forms.
 check-erased:
@@ -128,13 +183,22 @@ check-erased:
 check-deb:
 	@packaging/check $(BOOKWORM)
 
+check-cmake:
+	@packaging/cmake/check
+
+check-windows:
+	@c/check-windows
+
+check-macho:
+	@scripts/macho --check
+
 check-packages:
 	@packaging/check-all
 
 check-js:
 	@js/check
 
-.PHONY: dist check-erased check-rust check-deb check-packages check-js
+.PHONY: dist dist-windows check-erased check-rust check-deb check-cmake check-windows check-macho check-packages check-js
 
 clean:
-	rm -rf $(BUILD)
+	rm -rf "$(BUILD)"

@@ -1,4 +1,5 @@
 # What the scripts of this folder share. They set `name` to their own.
+unset CDPATH
 bench_folder=$(cd "$(dirname "${BASH_SOURCE[0]}")" && pwd)
 root_folder=$(dirname "$bench_folder")
 source "$root_folder/scripts/build.sh"
@@ -32,13 +33,29 @@ run_cargo() {
     fi
 }
 
-# Copies the sources of the peers, and of what they use, beside the copy of this folder. The attributes that are taken
-# out of `simdutf8` name a lint that rustc has no more, or make rustc's newer warnings errors.
+# The peers, and what they use, are of Debian's packages; REGISTRY is the folder in which they are, where it is not Debian's.
+peers=(bstr encoding_rs simdutf8 memchr cfg-if)
+registry=${REGISTRY:-/usr/share/cargo/registry}
+
+# Stops where one of them is missing, and names the packages. What takes minutes comes after this.
+need_peers() {
+    local crate missing=()
+    for crate in "${peers[@]}"; do
+        compgen -G "$registry/$crate-[0-9]*" >/dev/null || missing+=("librust-${crate//_/-}-dev")
+    done
+    [ ${#missing[@]} -eq 0 ] || die "peers are missing (apt-get install ${missing[*]})"
+}
+
+need_valgrind() {
+    command -v valgrind >/dev/null || die "valgrind is not on the path (apt-get install valgrind)"
+}
+
+# Copies their sources beside the copy of this folder. The attributes that are taken out of `simdutf8` name a lint that rustc has
+# no more, or make rustc's newer warnings errors.
 copy_peers() {
     local crate folders
-    for crate in bstr encoding_rs simdutf8 memchr cfg-if; do
-        folders=(/usr/share/cargo/registry/"$crate"-[0-9]*)
-        [ -d "${folders[0]}" ] || die "$crate is missing (apt-get install librust-${crate//_/-}-dev)"
+    for crate in "${peers[@]}"; do
+        folders=("$registry/$crate"-[0-9]*)
         cp -r "${folders[0]}" "$work_folder/$crate"
     done
     find "$work_folder/simdutf8/src" -name '*.rs' -exec sed -i '/#\[allow(const_err)\]/d; /#!\[deny(warnings)\]/d' {} +
@@ -50,6 +67,7 @@ build_programs() {
     local rust_crate=$1
     [ -f "$rust_crate/Cargo.toml" ] || die "no Rust crate in '$rust_crate': there is no Cargo.toml"
     command -v cargo >/dev/null || die "cargo is not on the path"
+    need_peers
     build_crate bench_c lib libbench_c.a "the static library" || exit 2
     work_folder=${BENCH_FOLDER:-$(mktemp -d)}
     [ -n "${BENCH_FOLDER-}" ] || trap 'rm -rf "$work_folder"' EXIT
@@ -101,7 +119,6 @@ counted=instructions
 count_run() {
     local log="$work_folder/callgrind.log" options=() conditional indirect
     [ "$counted" = instructions ] || options=(--branch-sim=yes)
-    command -v valgrind >/dev/null || die "valgrind is not on the path (apt-get install valgrind)"
     told=$(valgrind --tool=callgrind --callgrind-out-file=/dev/null "${options[@]}" "$@" 2>"$log" </dev/null) \
         || { cat "$log" >&2 && die "valgrind failed"; }
     read -r count _ conditional _ indirect < <(sed -n 's/^==[0-9]*== Collected : //p' "$log")

@@ -140,7 +140,12 @@ def programs():
 
 # What c/bench/run does, and whose call it is there.
 OF_C = {"utf8-to-utf16le": ("UTF-8 to UTF-16LE, `nody_recoder_feed`", "nody"), "utf16le-to-utf8": ("UTF-16LE to UTF-8, `nody_recoder_feed`", "nody"),
-        "valid-up-to": ("validate UTF-8, `nody_utf8_valid_up_to`", "nody"), "decode": ("every piece, `nody_utf8_next`", "nody_utf8_next"), "decode at once": ("every piece, `nody_utf8_pieces`", "nody_utf8_pieces")}
+        "valid-up-to": ("validate UTF-8, `nody_utf8_valid_up_to`", "nody"), "decode": ("every piece, `nody_utf8_next`", "nody_utf8_next"),
+        "decode first": ("every piece, `nody_utf8_first`", "nody_utf8_first"), "decode at once": ("every piece, `nody_utf8_pieces`", "nody_utf8_pieces")}
+# Those of README.md, in its words.
+OF_C_IN_SHORT = {"decode": "split into pieces, from C, one at a time", "decode at once": "split into pieces, from C, many at a time",
+                 "valid-up-to": "validate UTF-8, from C", "utf8-to-utf16le": "UTF-8 to UTF-16, from C", "utf16le-to-utf8": "UTF-16 to UTF-8, from C"}
+PEERS_OF_C = ("icu", "iconv", "utf8proc", "simdutf")
 
 
 def of_c_bench():
@@ -154,13 +159,40 @@ def of_c_bench():
 
 def from_c():
     """The library for C beside others, without the sides in Rattle: those are measured above."""
-    found, lines = of_c_bench(), []
-    for work, (told, ours) in OF_C.items():
-        for side in ("icu", "iconv", "utf8proc", "simdutf"):
-            rows = [Row((work, text), {"ours": float(it[ours]), side: float(it[side])}, {}) for text, it in found[work.split()[0]] if side in it]
-            if it := cells(rows, side, "chinese", lambda key: key[1]):
+    lines = []
+    for work, (told, _) in OF_C.items():
+        for side in PEERS_OF_C:
+            if it := cells(rows_of_c(work), side, "chinese", lambda key: key[1]):
                 lines.append([told, *it])
     return table(["task", *HEADS], lines)
+
+
+def rows_of_c(work):
+    """A call from C over each of its inputs, beside those that do the same."""
+    ours = OF_C[work][1]
+    return [Row((work, text), {"ours": float(it[ours]), **{side: float(it[side]) for side in PEERS_OF_C if side in it}}, {})
+            for text, it in of_c_bench()[work.split()[0]]]
+
+
+def worst(rows):
+    """The row and the side of the highest ratio."""
+    return max(((row, side) for row in rows for side in row.numbers if side != "ours"), key=lambda it: it[0].ratio(it[1]))
+
+
+def by_caller():
+    """For each language and peer: on how many inputs ours is no slower, the ratios, and the worst of them."""
+    told = {work: it for group in WORKS.values() for work, it in group.items()}
+    recoded = lambda key: f"{FORMS[key[0]]} to {FORMS[key[1]]}, {key[2]}"
+    of_c = [(f"{OF_C[work][0]}, {row.key[1]}", row) for work in OF_C for row in rows_of_c(work)]
+    of_rattle = [(f"{told[row.key[0]]}, {row.key[1]}", row) for row in stored("run", 2)] + [(f"validate {FORMS[row.key[0]]}, {row.key[1]}", row) for row in stored("valid", 2)] + [
+        (recoded(row.key), row) for row in stored("recode", 3)] + [(f"{recoded(row.key)}, `{row.key[4]}` of {row.key[3]} bytes", row) for row in stored("short", 5)]
+    lines = []
+    for caller, rows in (("C", of_c), ("Rattle", of_rattle)):
+        for side in dict.fromkeys(side for _, row in rows for side in row.numbers if side != "ours"):
+            found = [(row.ratio(side), name) for name, row in rows if side in row.numbers]
+            ratios, (most, name) = [it for it, _ in found], max(found)
+            lines.append([caller, NAMES[side], f"{sum(it <= 1 for it in ratios)} of {len(ratios)}", between(ratios), f"{name}: {marked_ratio(most)}"])
+    return table(["called from", "beside", "no slower", "ratio", "our worst"], lines)
 
 
 def limits():
@@ -185,6 +217,10 @@ def one(name, keys, key, side):
     return row.numbers["ours"], row.numbers[side]
 
 
+def worst_cells(task, text, row, side):
+    return [task, f"{text} (our worst)", NAMES[side], f"{row.numbers['ours']:.2f} ns", f"{row.numbers[side]:.2f} ns", marked_ratio(row.ratio(side))]
+
+
 def summary():
     """The table of README.md: the rows that a first reader asks for, and of each group that loses the worst."""
     asked = [("split into pieces, forward", "mixed text", "run", ("forward", "mix"), "bstr"),
@@ -199,22 +235,19 @@ def summary():
     for task, text, name, key, side in asked:
         ours, theirs = one(name, len(key), key, side)
         lines.append([task, text, NAMES[side], f"{ours:.2f} ns", f"{theirs:.2f} ns", f"{ours / theirs:.2f}"])
-    lost = [("validate UTF-8", "valid", 2, "simdutf8", lambda key: True), ("read valid text backward", "run", 2, "std", lambda key: key[0] == "text_backward"),
-            ("decode from an iterator", "run", 2, "rust", lambda key: key[0] in ("merger", "unit_merger")),
-            ("recode one short part", "short", 5, "encoding_rs", lambda key: key[4] == "feed_into")]
+    lost = [("validate UTF-8", "valid", 2, lambda key: key[0] == "utf8"), ("read valid text backward", "run", 2, lambda key: key[0] == "text_backward"),
+            ("decode from an iterator", "run", 2, lambda key: key[0] in ("merger", "unit_merger")), ("recode one short part", "short", 5, lambda key: key[4] == "feed_into")]
     short = ""
-    for task, name, keys, side, holds in lost:
-        row = max((it for it in stored(name, keys) if side in it.numbers and holds(it.key)), key=lambda it: it.ratio(side))
+    for task, name, keys, holds in lost:
+        row, side = worst([it for it in stored(name, keys) if holds(it.key)])
         short = row.key[3] if name == "short" else short
         text = f"{TEXTS.get(row.key[2], row.key[2])}, {row.key[3]} bytes, {FORMS[row.key[0]]} to {FORMS[row.key[1]]}" if name == "short" else TEXTS.get(row.key[-1], row.key[-1])
-        lines.append([task, f"{text} (our worst)", NAMES[side], f"{row.numbers['ours']:.2f} ns", f"{row.numbers[side]:.2f} ns", marked_ratio(row.ratio(side))])
-    for task, work, call, side in [("split into pieces", "decode", "nody_utf8_pieces", "icu"), ("validate UTF-8", "valid-up-to", "nody", "simdutf"),
-                                   ("UTF-8 to UTF-16", "utf8-to-utf16le", "nody", "simdutf"), ("UTF-16 to UTF-8", "utf16le-to-utf8", "nody", "simdutf")]:
-        row = max((Row((text,), {"ours": float(it[call]), side: float(it[side])}, {}) for text, it in of_c_bench()[work]), key=lambda it: it.ratio(side))
-        lines.append([f"{task}, from C", f"{TEXTS.get(row.key[0], row.key[0])} (our worst)", NAMES[side], f"{row.numbers['ours']:.2f} ns",
-                      f"{row.numbers[side]:.2f} ns", marked_ratio(row.ratio(side))])
+        lines.append(worst_cells(task, text, row, side))
+    for work, task in OF_C_IN_SHORT.items():
+        row, side = worst(rows_of_c(work))
+        lines.append(worst_cells(task, TEXTS.get(row.key[1], row.key[1]), row, side))
     told = ("Times are nanoseconds per byte. The ratio is our time divided by theirs: above 1 we are slower. It was computed before the times "
-            "were rounded. For each task many inputs were measured. A row with \"our worst\" is the input with our highest ratio. In the row "
+            "were rounded. For each task many inputs were measured. A row with \"our worst\" has the input and the library for which our ratio is highest. In the row "
             f"\"recode one short part\", the time is for all {short} bytes together. Noddychest was called from Rattle, and where a row says so, from C.\n\n")
     return told + table(["task", "input", "compared with", "Noddychest", "theirs", "ratio"], lines)
 

@@ -1,8 +1,20 @@
 /* Noddychest: decodes, validates, divides and converts UTF-8 and UTF-16. Its code is machine-proved. For C and C++.
  *
  * LANGUAGES AND PLATFORMS. C99 and later, C++98 and later. Linux on x86-64 (with x86-64-v2) and on 64-bit ARM, with glibc or
- * musl. No call allocates memory, reads a locale, or keeps anything. What lasts from call to call is in structs of yours, which
- * you may copy. Calls on different structs may run in different threads at the same time.
+ * musl. No call allocates memory, reads a locale, keeps anything, or takes more than 5 KiB of the stack. (On x86-64 the library has
+ * one byte of its own, which says what the processor has. It is written when the library is loaded, and never again.) What lasts
+ * from call to call is in structs of yours, which you may copy. Calls on different structs may run in different threads at the same
+ * time.
+ *
+ * CALLS. A call that begins with nody_utf8_ has a twin for units that begins with nody_utf16_; nody_utf8_streamed_at has none.
+ *     valid?       nody_utf8_valid_up_to, nody_utf16_bytes_valid_up_to
+ *     one piece    nody_utf8_first, nody_utf8_last, nody_utf8_encode, nody_utf8_streamed_at
+ *     all pieces   nody_bytes or nody_units, then nody_utf8_next, nody_utf8_next_back, nody_utf8_pieces; nody_utf8_char_count
+ *     divide       nody_boundary_before, nody_boundary_after, nody_utf16_boundary_before, nody_utf16_boundary_after, nody_shard_end
+ *     recode       nody_recoded_len, nody_recoded_len_max, nody_recode, nody_recode_strict, nody_utf8_to_utf16, nody_utf16_to_utf8
+ *     in parts     nody_recoder, nody_recoder_feed, nody_recoder_finish, nody_recoder_held; the same with _strict and _lossy
+ *     words        nody_kind_name, nody_kind_sentence
+ *     library      nody_version, nody_supported, nody_lanes
  *
  * WORDS.
  *     character    a Unicode scalar value: 0 to 10FFFF, without D800 to DFFF
@@ -56,7 +68,10 @@
 #define NODY_VERSION (NODY_VERSION_MAJOR * 1000000 + NODY_VERSION_MINOR * 1000 + NODY_VERSION_PATCH)
 
 #ifdef __cplusplus
+#define NODY_CAST(type, pointer) reinterpret_cast<type>(pointer)
 extern "C" {
+#else
+#define NODY_CAST(type, pointer) ((type)(pointer))
 #endif
 
 /* Each enum has one byte, with every compiler. In C++11, C23 and later it is a type of its own. In older versions it is another
@@ -127,7 +142,8 @@ typedef struct {
 
 /* A recoder. It holds up to three bytes of input from one call to the next. It has read these bytes but not recoded them yet,
  * because the rest of a character has not come, or because the output did not fit into the room. A strict call also holds bytes
- * if it has to see the next ones to tell the kind of a fault. nody_recoder_held gives the bytes. `replaced` is the number of
+ * if it has to see the next ones to tell the kind of a fault. In big-endian UTF-16 a single byte is held, and a leading surrogate
+ * before it, even if the byte cannot complete a pair. nody_recoder_held gives the bytes. `replaced` is the number of
  * faults that became U+FFFD. nody_recoder_finish does not reset it. The count stops at UINT64_MAX. You may read it, and set it to
  * 0. Leave the other fields alone. */
 typedef struct {
@@ -395,7 +411,7 @@ nody_status_t nody_recode(nody_form_t from, nody_form_t to, const uint8_t *in, s
 
 /* Recodes a whole input, but stops at the first fault.
  *
- * from, to, in, len, out, room: as for nody_recode. With three bytes of room for each byte of input the room is always enough.
+ * from, to, in, len, out, room: as for nody_recode. With two bytes of room for each byte of input the room is always enough.
  * read: receives how many bytes of the input were recoded. These are valid.
  * written: receives how many bytes were written. The places after them keep what they had.
  * fault: receives the fault. Its `back` is 0.
@@ -418,8 +434,8 @@ nody_status_t nody_recode_strict(nody_form_t from, nody_form_t to, const uint8_t
  *
  * from, to: the forms. in, len: the input.
  * Result: the number of bytes.
- * Errors: SIZE_MAX if a size_t cannot hold the number, or a form is above 2. Cost: linear. It recodes, in parts, into a kilobyte
- * of the stack.
+ * Errors: SIZE_MAX if a size_t cannot hold the number, or a form is above 2. Cost: linear. It recodes in parts, into
+ * room on the stack.
  *
  *     size_t room = nody_recoded_len(NODY_FORM_UTF8, NODY_FORM_UTF16LE, bytes, len);
  */
@@ -450,12 +466,12 @@ size_t nody_recoded_len_max(nody_form_t from, nody_form_t to, size_t len);
  *     if (!units || nody_utf8_to_utf16(bytes, len, units, size / 2, &count) != NODY_STATUS_DONE) return failed();
  */
 static inline nody_status_t nody_utf8_to_utf16(const uint8_t *in, size_t len, uint16_t *out, size_t room, size_t *written) {
-    nody_status_t status = nody_recode(NODY_FORM_UTF8, NODY_FORM_UTF16_NATIVE, in, len, (uint8_t *)out, 2 * room, written);
+    nody_status_t status = nody_recode(NODY_FORM_UTF8, NODY_FORM_UTF16_NATIVE, in, len, NODY_CAST(uint8_t *, out), 2 * room, written);
     *written /= 2;
     return status;
 }
 static inline nody_status_t nody_utf16_to_utf8(const uint16_t *in, size_t len, uint8_t *out, size_t room, size_t *written) {
-    return nody_recode(NODY_FORM_UTF16_NATIVE, NODY_FORM_UTF8, (const uint8_t *)in, 2 * len, out, room, written);
+    return nody_recode(NODY_FORM_UTF16_NATIVE, NODY_FORM_UTF8, NODY_CAST(const uint8_t *, in), 2 * len, out, room, written);
 }
 
 /* ---- Input that comes in parts ---------------------------------------------------------------------------------------------- */
@@ -566,7 +582,8 @@ nody_status_t nody_recoder_finish_strict(nody_recoder_t *recoder, uint8_t *out, 
  * subpart. In E2 82 41 it is E2 82, so E2 82 41 becomes U+FFFD A. Any other invalid byte is a subpart of its own.
  * E0 80 becomes U+FFFD U+FFFD: no character begins with E0 80, so E0 is one maximal subpart, and 80 another. The Unicode standard
  * recommends this (chapter 3, "U+FFFD Substitution of Maximal Subparts"). Browsers, Python's errors="replace" and Rust's
- * from_utf8_lossy do it. In UTF-16, and in valid input, this call and nody_recoder_feed write the same.
+ * from_utf8_lossy do it. In UTF-16 this call and nody_recoder_feed write the same, but for one end: a leading surrogate and a single
+ * byte after it are one subpart, if the input ends there. In valid input they write the same.
  *
  * recoder: the recoder. `recoder->replaced` does not change. You may mix calls of this, of nody_recoder_feed and of
  * nody_recoder_feed_strict. End the input by nody_recoder_finish_lossy.
@@ -582,7 +599,8 @@ nody_status_t nody_recoder_finish_strict(nody_recoder_t *recoder, uint8_t *out, 
 nody_status_t nody_recoder_feed_lossy(nody_recoder_t *recoder, const uint8_t *in, size_t in_len, uint8_t *out, size_t room,
                                       size_t *read, size_t *written);
 
-/* Ends the input after nody_recoder_feed_lossy. If the recoder holds the front of a character of UTF-8, that becomes one U+FFFD.
+/* Ends the input after nody_recoder_feed_lossy. If the recoder holds the front of a character, that becomes one U+FFFD, in each
+ * form.
  *
  * recoder: the recoder. `recoder->replaced` does not change.
  * out, room, written: as for nody_recoder_finish.
@@ -652,8 +670,23 @@ static inline const char *nody_kind_sentence(nody_kind_t kind) {
     return sentence->text;
 }
 
+#undef NODY_CAST
 #ifdef __cplusplus
 }
+#endif
+
+/* From C++11 on, a stream shows these constants as numbers. In C++98 they are of the type uint8_t: there write +kind. */
+#if defined(__cplusplus) && __cplusplus >= 201103L
+#define NODY_SHOWN(name) \
+    template <typename Out> auto operator<<(Out &out, name value) -> decltype(static_cast<void>(out.put(typename Out::char_type())), out) { \
+        return out << static_cast<int>(value), out; \
+    }
+extern "C++" {
+NODY_SHOWN(nody_kind_t)
+NODY_SHOWN(nody_form_t)
+NODY_SHOWN(nody_status_t)
+}
+#undef NODY_SHOWN
 #endif
 
 #endif

@@ -1,8 +1,57 @@
 /* What this processor has: whether the library runs on it, and which code the calls take that validate and recode. */
 #include "noddychest.h"
 
-#ifdef __x86_64__
+#if defined(__x86_64__) || defined(_M_X64)
+
+/* How the compiler asks the processor, and calls something when the library is loaded. By its number that comes before the constructors
+ * of a program, which mostly have none. */
+#if defined(_MSC_VER) && !defined(__clang__)
+#include <intrin.h>
+#define HIDDEN
+#define SECTION(name)
+#define AT_LOAD static void __cdecl
+#pragma section(".CRT$XCT", read)
+
+static void ask(unsigned leaf, unsigned *eax, unsigned *ebx, unsigned *ecx, unsigned *edx) {
+    int answer[4];
+    __cpuid(answer, (int)(leaf & 0x80000000));
+    if ((unsigned)answer[0] < leaf) return;
+    __cpuidex(answer, (int)leaf, 0);
+    *eax = (unsigned)answer[0];
+    *ebx = (unsigned)answer[1];
+    *ecx = (unsigned)answer[2];
+    *edx = (unsigned)answer[3];
+}
+
+static unsigned kept_registers(void) {
+    return (unsigned)_xgetbv(0);
+}
+#else
 #include <cpuid.h>
+/* (Windows' format of objects knows no hidden names: there the list of what a DLL exports does the same. On macOS a linker drops functions
+ * by their names, without sections) */
+#ifdef _WIN32
+#define HIDDEN
+#else
+#define HIDDEN __attribute__((visibility("hidden")))
+#endif
+#ifdef __APPLE__
+#define SECTION(name)
+#else
+#define SECTION(name) __attribute__((section(".text." #name)))
+#endif
+#define AT_LOAD __attribute__((constructor(1000))) static void
+
+static void ask(unsigned leaf, unsigned *eax, unsigned *ebx, unsigned *ecx, unsigned *edx) {
+    __get_cpuid_count(leaf, 0, eax, ebx, ecx, edx);
+}
+
+static unsigned kept_registers(void) {
+    unsigned eax, edx;
+    __asm__("xgetbv" : "=a"(eax), "=d"(edx) : "c"(0));
+    return eax;
+}
+#endif
 
 /* x86-64-v2: SSE3, SSSE3, CMPXCHG16B, SSE4.1, SSE4.2 and POPCNT of the leaf 1, and LAHF of the leaf 0x80000001, all in ECX. */
 enum { V2_LEAF_1 = 0x982201, V2_LEAF_80000001 = 1 };
@@ -13,7 +62,7 @@ enum { V3_LEAF_1 = 0x38401000, V3_LEAF_80000001 = 0x20, V3_LEAF_7 = 0x128, V3_KE
 
 static unsigned missing(unsigned leaf, unsigned needed) {
     unsigned eax, ebx, ecx = 0, edx;
-    __get_cpuid(leaf, &eax, &ebx, &ecx, &edx);
+    ask(leaf, &eax, &ebx, &ecx, &edx);
     return needed & ~ecx;
 }
 
@@ -24,26 +73,29 @@ int nody_supported(void) {
 static int has_v3(void) {
     unsigned eax, ebx = 0, ecx, edx;
     if (!nody_supported() || missing(1, V3_LEAF_1) || missing(0x80000001, V3_LEAF_80000001)) return 0;
-    __get_cpuid_count(7, 0, &eax, &ebx, &ecx, &edx);
-    if (V3_LEAF_7 & ~ebx) return 0;
-    __asm__("xgetbv" : "=a"(eax), "=d"(edx) : "c"(0));
-    return (eax & V3_KEPT) == V3_KEPT;
+    ask(7, &eax, &ebx, &ecx, &edx);
+    return !(V3_LEAF_7 & ~ebx) && (kept_registers() & V3_KEPT) == V3_KEPT;
 }
 
 /* 1 once it was seen, when the library is loaded, that the processor has x86-64-v3. Before that 0, which is right too. */
 static unsigned char is_v3;
 
-/* (by its number it comes before the constructors of a program, which mostly have none) */
-__attribute__((constructor(1000))) static void choose(void) {
+AT_LOAD choose(void) {
     is_v3 = (unsigned char)has_v3();
 }
+
+#if defined(_MSC_VER) && !defined(__clang__)
+/* (the linker keeps it, though nothing names it) */
+__declspec(allocate(".CRT$XCT")) void(__cdecl *const nody_choose_at_load)(void) = choose;
+#pragma comment(linker, "/include:nody_choose_at_load")
+#endif
 
 /* A call whose code is there twice, in generated/noddychest-x86_64.s and generated/noddychest-x86_64-v3.s. scripts/generate gives
  * the two these names, by the lines below. Each call has a section of its own, so that a linker can drop it with its code. */
 #define CHOSEN(type, name, parameters, arguments) \
-    __attribute__((visibility("hidden"))) type name##_v2 parameters; \
-    __attribute__((visibility("hidden"))) type name##_v3 parameters; \
-    __attribute__((section(".text." #name))) type name parameters { \
+    HIDDEN type name##_v2 parameters; \
+    HIDDEN type name##_v3 parameters; \
+    SECTION(name) type name parameters { \
         return is_v3 ? name##_v3 arguments : name##_v2 arguments; \
     }
 

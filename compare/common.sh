@@ -1,4 +1,5 @@
 # What the scripts of this folder share that ask the Rust crate. They set `name` to their own.
+unset CDPATH
 compare_folder=$(cd "$(dirname "${BASH_SOURCE[0]}")" && pwd)
 root_folder=$(dirname "$compare_folder")
 source "$root_folder/scripts/build.sh"

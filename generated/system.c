@@ -11,11 +11,18 @@
 #include <string.h>
 #include <sys/types.h>
 
-/* Whether there is memory, and where. It goes back in two registers. Without memory the address is no block, and not NULL. */
+/* Whether there is memory, and where. It goes back in two registers, on Windows too, whose own calls have no such answers. Without
+ * memory the address is no block, and not NULL. */
 struct tried {
     bool is_there;
     void *block;
 };
+
+#ifdef _WIN32
+#define IN_REGISTERS __attribute__((sysv_abi))
+#else
+#define IN_REGISTERS
+#endif
 
 static struct tried tried(void *block) {
     static char nothing;
@@ -25,11 +32,11 @@ static struct tried tried(void *block) {
 
 /* The C library aligns a block for any type, and `align` is at most that. A block of no bytes has `align` bytes, since NULL
  * may stand for one of none. Where rattle_realloc finds no memory, the old block stays as it was. */
-struct tried rattle_alloc(size_t size, size_t align) {
+IN_REGISTERS struct tried rattle_alloc(size_t size, size_t align) {
     return tried(malloc(size ? size : align));
 }
 
-struct tried rattle_realloc(void *block, size_t kept, size_t size, size_t align) {
+IN_REGISTERS struct tried rattle_realloc(void *block, size_t kept, size_t size, size_t align) {
     (void)kept;
     return tried(realloc(block, size ? size : align));
 }
@@ -72,7 +79,43 @@ const unsigned *noddychest_features(unsigned number) {
 
 int noddychest_main(void);
 
+#ifdef _WIN32
+#include <fcntl.h>
+#include <io.h>
+
+/* Windows' C library counts the bytes of a call in an `unsigned`, and its answer is an `int`. Fewer than asked is always right. */
+enum { MOST = 1 << 30 };
+
+static unsigned at_most(size_t len) {
+    return len < MOST ? (unsigned)len : MOST;
+}
+
+ssize_t noddychest_read(int file, void *into, size_t room) {
+    return _read(file, into, at_most(room));
+}
+
+ssize_t noddychest_write(int file, const void *from, size_t len) {
+    return _write(file, from, at_most(len));
+}
+
+/* There is no SIGPIPE: a write to a closed pipe fails by an error anyway. */
+void *noddychest_signal(int number, void *handler) {
+    (void)number;
+    (void)handler;
+    return NULL;
+}
+
+/* Else the C library would change line feeds, and end the input at a byte 1A. */
+static void set_binary(void) {
+    for (int file = 0; file < 3; file++) _setmode(file, _O_BINARY);
+}
+#else
+static void set_binary(void) {
+}
+#endif
+
 int main(int argc, char **argv) {
+    set_binary();
     count = (size_t)argc;
     words = argv;
     return noddychest_main();

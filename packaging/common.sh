@@ -8,12 +8,13 @@ version() {
     awk '/^#define NODY_VERSION_(MAJOR|MINOR|PATCH) / { out = out dot $3; dot = "." } END { print out }' c/noddychest.h
 }
 
-# The second of which packages say that they were made: of the last commit, or where there is none that of the header's file.
+# The second of which packages say that they were made: of the last commit, or where git tells none, as in a folder of another user,
+# that of the header's file.
 epoch() {
     if [ -n "${SOURCE_DATE_EPOCH-}" ]; then
         echo "$SOURCE_DATE_EPOCH"
-    elif [ -e .git ] && has git; then
-        git log -1 --format=%ct
+    elif [ -e .git ] && has git && git log -1 --format=%ct 2>/dev/null; then
+        :
     else
         stat -c %Y c/noddychest.h
     fi
@@ -49,13 +50,9 @@ installed() {
         LDFLAGS="-Wl,-z,relro,-z,now $6" PREFIX="$4" LIBDIR="$5" DESTDIR="$3" install >&2
 }
 
-# Man pages, completions and licences, which make does not install: `install_texts DESTDIR PREFIX`.
-install_texts() {
-    mkdir -p "$1$2/share/man/man1" "$1$2/share/bash-completion/completions"
-    for it in nody-pieces nody-recode; do
-        sed "s/@VERSION@/$(version)/; s/@DATE@/$(LC_ALL=C date -u -d "@$(epoch)" '+%B %Y')/" packaging/man/$it.1 | gzip -9n >"$1$2/share/man/man1/$it.1.gz"
-        cp packaging/completions/$it "$1$2/share/bash-completion/completions/$it"
-    done
+# Packs the man pages that make installed: `pack_pages DESTDIR PREFIX`.
+pack_pages() {
+    gzip -9n "$1$2"/share/man/man1/*.1
 }
 
 # The same times and modes for all files of a folder.

@@ -1,5 +1,6 @@
 # Proves and builds what a crate makes, where it is not there or older than a source. Sourced by the scripts
 # that need a program or a static library; they set `name`, with which their messages begin.
+unset CDPATH
 top_folder=$(cd "$(dirname "${BASH_SOURCE[0]}")/.." && pwd)
 
 # Whether the file is missing, or older than some source of the crates.

@@ -6,6 +6,14 @@ import re
 TOP = os.path.dirname(os.path.dirname(os.path.abspath(__file__)))
 
 
+WORDS = ("none one two three four five six seven eight nine ten eleven twelve thirteen fourteen fifteen sixteen seventeen eighteen nineteen "
+         "twenty").split()
+
+
+def in_words(count):
+    return WORDS[count] if count < len(WORDS) else str(count)
+
+
 def lines_of(path):
     with open(f"{TOP}/{path}", encoding="utf-8") as file:
         return file.read().splitlines()
@@ -73,7 +81,7 @@ def kinds():
     """How many kinds of errors there are, in words."""
     variants = [re.findall(r"^    ([A-Z]\w+),$", re.search(rf"pub enum {name} \{{\n(.*?)\n}}", "\n".join(lines_of(path)), re.S)[1], re.M)
                 for name, path in (("Utf8ErrorKind", "crates/utf_base/src/errors.rt"), ("Utf16PairError", "crates/utf_base/src/errors/units.rt"))]
-    return {9: "nine", 10: "ten", 11: "eleven"}[sum(map(len, variants))]
+    return in_words(sum(map(len, variants)))
 
 
 def version():
@@ -97,15 +105,70 @@ def statuses():
 def damage():
     """How many bytes before a change, and after it, a piece begins that stays, in words."""
     reach = int(re.search(r"DamageIsLocal utf8 fault_kind (\d)", "\n".join(lines_of("crates/utf_base/src/laws.rt")))[1])
-    words = ("none", "one", "two", "three", "four", "five")
-    return words[reach], words[reach - 1]
+    return in_words(reach), in_words(reach - 1)
 
 
 def changes():
     """How many kinds of changes ARCHITECTURE tells the files of, in words."""
     lines = lines_of("docs/ARCHITECTURE.md")
     count = next(k for k, it in enumerate(lines[lines.index("| change | files |") + 2 :]) if not it.startswith("|"))
-    return {12: "twelve", 13: "thirteen", 14: "fourteen", 15: "fifteen", 16: "sixteen", 17: "seventeen", 18: "eighteen"}[count]
+    return in_words(count)
+
+
+def libraries():
+    """How many libraries there are up to `cuts`, in words."""
+    used = {name: rest.split() for name, _, rest in (it.partition(":") for it in lines_of("crates.txt") if not it.startswith("#"))}
+    found = {"cuts"}
+    while (more := found | {it for name in found for it in used[name] if it in used}) != found:
+        found = more
+    return in_words(len(found))
+
+
+def wrong_bodies():
+    """How many wrong bodies there are, in whole hundreds."""
+    found = [it for at, _, files in os.walk(f"{TOP}/crates") for it in files if it.endswith(".edit")]
+    return f"{len(found) // 100 * 100:,}"
+
+
+def worst_of_c():
+    """The highest ratio of any call from C to any peer."""
+    found = []
+    for words in map(str.split, lines_of("bench/stored/c")):
+        sides = {name: float(it) for name, it in zip(words[2::2], words[3::2])}
+        theirs = [it for name, it in sides.items() if name != "rattle" and not name.startswith("nody")]
+        found += [it / min(theirs) for name, it in sides.items() if theirs and name.startswith("nody")]
+    return f"{max(found):.2f}"
+
+
+def chosen():
+    """How many calls the library for C has twice, in words. (`nody_lanes` tells of them.)"""
+    named = [it for it in lines_of("c/processor.c") if it.startswith("CHOSEN(")]
+    return in_words(len(named) - 1)
+
+
+def files_of_forms():
+    """Files of `recoding`: in src; in specs those that go form by form, and all; of lemmas the same."""
+    files = {part: [f"{at}/{it}" for at, _, names in os.walk(f"{TOP}/crates/recoding/{part}") for it in names
+                    if it.endswith((".rt", ".antt")) and it not in ("Lib.antt", "Answers.antt", "Invariants.antt", "Proof.antt")] for part in ("src", "specs", "proofs")}
+    by_form = {part: sum("Utf16Be" in "\n".join(lines_of(os.path.relpath(it, TOP))) for it in listed) for part, listed in files.items()}
+    return in_words(by_form["specs"]), str(len(files["src"])), str(by_form["specs"]), str(len(files["specs"])), str(by_form["proofs"]), str(len(files["proofs"]))
+
+
+def lines_of_python():
+    """The lines of C and Python of that package, in whole hundreds."""
+    files = [f"{at}/{it}" for at, _, names in os.walk(f"{TOP}/python/src") for it in names if it.endswith((".c", ".h", ".py"))]
+    return f"{round(sum(len(lines_of(os.path.relpath(it, TOP))) for it in files), -2):,}"
+
+
+def one_meaning():
+    """How many names are declared in several files, with one meaning."""
+    return str(sum(it.startswith(("function ", "word ")) for it in lines_of("scripts/twice.txt")))
+
+
+def excused():
+    """How many calls no wrong body turns, in words."""
+    listed = re.search(r"^EXCUSED = \{\n(.*?)^\}", "\n".join(lines_of("scripts/refusals")), re.S | re.M)[1]
+    return in_words(len(re.findall(r'^    \("', listed, re.M)))
 
 
 def is_within(numbers, bound, words):
@@ -119,13 +182,23 @@ FIGURES = {
         (r"in ([\d,]+) random inputs each", lambda: (of_peers(),)),
         (r"says why \| one of (\w+) kinds", lambda: (kinds(),)),
         (r"\| (\d) \| wrong arguments \| wrong arguments \|\n\| (\d) \| reading, writing or memory failed", statuses),
-        (r"\| ([\d.]+), not released yet", lambda: (version(),)),
+        (r"Version ([\d.]+), not released yet", lambda: (version(),)),
         (r"Reading mixed text takes about ([\d.]+) nanoseconds a byte", lambda: (f"{rows('run', 2)[('forward', 'mix')]['ours']:.1f}",)),
+        (r"\| split into pieces, from C, one at a time \|.*\| \**([\d.]+)\** \|", lambda: (worst_of_c(),)),
+        (r"works in parts, in less than ([\d.]+) MiB of memory", lambda: (most_memory(),)),
+        (r"each of more than ([\d,]+) samples of", lambda: (wrong_bodies(),)),
     ],
     "docs/GUIDE.md": [(r"in about ([\d.]+) nanoseconds a byte", lambda: (f"{rows('valid', 2)[('utf8', 'japanese')]['ours']:.2f}",))],
     "docs/THE-CUT.md": [(r"in ([\d,]+) random inputs each", lambda: (of_peers(),)), (r"at least (\w+) bytes before them, or at least (\w+) after", damage)],
-    "CONTRIBUTING.md": [(r"`logic (\w+)`", lambda: (logic(),)), (r"has the files of (\w+) changes", lambda: (changes(),))],
-    "docs/CONFORMANCE.md": [(r"recodes (\d+) blocks", lambda: (blocks(),))],
+    "CONTRIBUTING.md": [(r"`logic (\w+)`", lambda: (logic(),)), (r"has the files of (\w+) changes", lambda: (changes(),)),
+                        (r"The first check of all (\w+) libraries", lambda: (libraries(),))],
+    "python/README.md": [(r"The package itself, ([\d,]+) lines of C and Python", lambda: (lines_of_python(),))],
+    "docs/ARCHITECTURE.md": [(r"in (\w+) files that `git grep -l Utf16Be` names\. So UTF-32LE would touch \d+ files of (\d+) in `src`, (\d+) of (\d+) in `specs` and (\d+) of (\d+) lemma",
+                              lambda: files_of_forms())],
+    "docs/CONFORMANCE.md": [(r"recodes (\d+) blocks", lambda: (blocks(),)), (r"package for Python: ([\d,]+) lines of C and Python", lambda: (lines_of_python(),))],
+    "docs/DECISIONS.md": [(r"and each of (\w+) calls is a function of `c/processor.c`", lambda: (chosen(),)),
+                          (r"and (\w+) calls that `scripts/refusals` lists", lambda: (excused(),))],
+    "docs/DEFINITIONS.md": [(r"has those that are: (\d+) names", lambda: (one_meaning(),))],
     "docs/BENCHMARKS.md": [
         (r"bytes takes at most (.+?) of encode_unicode's instructions, and (.+)\.", lambda: (
             is_within(ratios("instructions", 2, "rust", lambda it, _: it == "forward"), 1 / 3, "a third"), is_within(ratios("instructions", 2, "rust"), 1, "no work takes more"))),

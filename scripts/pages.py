@@ -7,7 +7,7 @@ TOP = os.path.dirname(os.path.dirname(os.path.abspath(__file__)))
 # Made by scripts from the sources and from logs.
 GENERATED = ("docs/API.md", "docs/CONTRACTS.md", "docs/WRONG-BODIES.md")
 # What people read who use the project: it is in the words that they search for. The others keep to the glossary.
-FOR_USERS = ("README.md", "CHANGELOG.md", "docs/API.md", "docs/BENCHMARKS.md", "docs/GUIDE.md", "docs/PROVING.md", "docs/THE-CUT.md", "docs/DIFFERENCES.md",
+FOR_USERS = ("README.md", "CHANGELOG.md", "SECURITY.md", "docs/API.md", "docs/BENCHMARKS.md", "docs/GUIDE.md", "docs/PROVING.md", "docs/THE-CUT.md", "docs/DIFFERENCES.md",
              "c/README.md", "page/README.md", "python/README.md", "rust/README.md", "js/README.md", "packaging/README.md")
 
 # Those of the packages, whose own tests run their blocks.

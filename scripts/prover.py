@@ -8,7 +8,10 @@ import shutil
 import subprocess
 import sys
 import threading
+import time
 
+# The most jobs that one check gets where processors are idle. It takes less time by the clock, and more of the processors.
+MOST_JOBS = 4
 TOP = os.path.dirname(os.path.dirname(os.path.abspath(__file__)))
 
 
@@ -55,8 +58,16 @@ def below(crates):
 
 
 def are_of_rt_ci(libraries):
-    """Whether they are all those that `rt ci` built, which fit one another alone and which `rt lib` would build anew."""
-    return all(os.path.isdir(it.rlib) and not os.path.exists(f"{os.path.dirname(it.rlib)}/stamp") for it in libraries)
+    """Whether they are all those that `rt ci` built of these texts, which fit one another alone and which `rt lib` would build anew."""
+    is_of_it = lambda it: os.path.isdir(it.rlib) and not os.path.exists(f"{os.path.dirname(it.rlib)}/stamp")
+    return all(is_of_it(it) and is_built_of(it) for it in libraries)
+
+
+def is_built_of(crate):
+    """Whether nothing of the crate's texts is newer than its library."""
+    found = [at for part in ("src", "specs", "proofs") for at, _, _ in os.walk(f"{crate.folder}/{part}")]
+    found += [f"{at}/{it}" for at in found for it in os.listdir(at)]
+    return all(os.stat(it).st_mtime <= os.stat(crate.rlib).st_mtime for it in found)
 
 
 def build(crate, jobs):
@@ -88,3 +99,19 @@ class Processors:
             with self.changed:
                 self.free += jobs
                 self.changed.notify_all()
+
+    @contextlib.contextmanager
+    def shared(self, work, most=MOST_JOBS):
+        """Waits for a processor, takes those too that nothing waits for, and gives how many these are."""
+        with self.taken(1, work):
+            # (what can begin at the same time asks meanwhile)
+            time.sleep(0.5)
+            with self.changed:
+                more = 0 if self.waiting else min(self.free, most - 1)
+                self.free -= more
+            try:
+                yield 1 + more
+            finally:
+                with self.changed:
+                    self.free += more
+                    self.changed.notify_all()

@@ -316,7 +316,7 @@ static void replaced(void) {
     expect(nody_recoder_feed(&none, in, 7, out, 32, &read, &written) == NODY_STATUS_REFUSED && nody_recoder_finish(&none, out, 32, &written) == NODY_STATUS_REFUSED && none.replaced == 7, "no recoder counts nothing");
 }
 
-/* One U+FFFD for each maximal subpart: what Python's bytes.decode("utf-8", "replace") gives for the same bytes, cut at each place. */
+/* One U+FFFD for each maximal subpart: what Python's bytes.decode with "replace" gives for the same bytes, cut at each place. */
 static void lossy(void) {
     static const struct {
         const char *in, *want;
@@ -327,6 +327,21 @@ static void lossy(void) {
         {"\xed\xa0\x80\xff\xf4\x90", "\xef\xbf\xbd\xef\xbf\xbd\xef\xbf\xbd\xef\xbf\xbd\xef\xbf\xbd\xef\xbf\xbd"},
         {"a\xf1\x80\x80" "b\xc0\xaf" "c", "a\xef\xbf\xbd" "b\xef\xbf\xbd\xef\xbf\xbd" "c"},
         {"\xe2\x82\xac\xf0\x9f\x82\xa0", "\xe2\x82\xac\xf0\x9f\x82\xa0"},
+    };
+    /* what bytes.decode("utf-16-le", "replace") gives, as UTF-8; in "utf-16-be" the bytes of each unit are the other way round */
+    static const struct {
+        size_t len, need;
+        uint8_t in[8];
+        const char *want;
+    } ends[] = {
+        {3, 3, {0x00, 0xd8, 0x00}, "\xef\xbf\xbd"},
+        {3, 6, {0x00, 0xdc, 0x00}, "\xef\xbf\xbd\xef\xbf\xbd"},
+        {3, 4, {0x41, 0x00, 0x00}, "A\xef\xbf\xbd"},
+        {5, 6, {0x00, 0xd8, 0x00, 0xd8, 0x00}, "\xef\xbf\xbd\xef\xbf\xbd"},
+        {5, 7, {0x00, 0xd8, 0x41, 0x00, 0x41}, "\xef\xbf\xbd" "A\xef\xbf\xbd"},
+        {5, 7, {0x00, 0xd8, 0x00, 0xdc, 0x00}, "\xf0\x90\x80\x80\xef\xbf\xbd"},
+        {1, 3, {0xd8}, "\xef\xbf\xbd"},
+        {2, 3, {0x00, 0xd8}, "\xef\xbf\xbd"},
     };
     nody_recoder_t none = nody_recoder(3, 0), small = nody_recoder(NODY_FORM_UTF8, NODY_FORM_UTF8), units = nody_recoder(NODY_FORM_UTF16LE, NODY_FORM_UTF8);
     static const uint8_t le[] = {0x00, 0xdc, 0x41, 0x00, 0x3c, 0xd8, 0x21};
@@ -346,7 +361,18 @@ static void lossy(void) {
     expect(nody_recoder_feed_lossy(&small, (const uint8_t *)"\xe2\x82" "A", 3, out, 3, &read, &written) == NODY_STATUS_FULL && written == 3, "no room for the A");
     expect(nody_recoder_feed_lossy(&small, (const uint8_t *)"\xe2\x82" "A" + read, 3 - read, out, 1, &read, &written) == NODY_STATUS_DONE && written == 1 && out[0] == 'A', "room for it");
     expect(nody_recoder_feed_lossy(&small, (const uint8_t *)"\xe2\x82", 2, out, 0, &read, &written) == NODY_STATUS_DONE && read == 2 && nody_recoder_finish_lossy(&small, out, 2, &written) == NODY_STATUS_FULL && written == 0 && small.count == 2, "no room for the end");
-    expect(nody_recoder_feed_lossy(&units, le, 7, out, 32, &read, &written) == NODY_STATUS_DONE && written == 4 && nody_recoder_finish_lossy(&units, out, 32, &written) == NODY_STATUS_DONE && written == 6 && units.replaced == 0, "of UTF-16 as nody_recoder_feed");
+    expect(nody_recoder_feed_lossy(&units, le, 7, out, 32, &read, &written) == NODY_STATUS_DONE && written == 4 && nody_recoder_finish_lossy(&units, out, 32, &written) == NODY_STATUS_DONE && written == 3 && units.replaced == 0, "a leading surrogate and half a unit");
+    for (size_t i = 0; i < sizeof ends / sizeof *ends; i++)
+        for (size_t at = 0; at <= ends[i].len; at++)
+            for (nody_form_t form = NODY_FORM_UTF16LE; form <= NODY_FORM_UTF16BE; form++) {
+                nody_recoder_t recoder = nody_recoder(form, NODY_FORM_UTF8);
+                uint8_t in[8];
+                for (size_t k = 0; k < ends[i].len; k++) in[k] = ends[i].in[form == NODY_FORM_UTF16BE && (k | 1) < ends[i].len ? k ^ 1 : k];
+                nody_recoder_feed_lossy(&recoder, in, at, out, 32, &read, &written);
+                nody_recoder_feed_lossy(&recoder, in + at, ends[i].len - at, out + written, 32 - written, &read, &more);
+                nody_recoder_finish_lossy(&recoder, out + written + more, 32 - written - more, &last);
+                expect(written + more + last == ends[i].need && memcmp(out, ends[i].want, ends[i].need) == 0, "the end of UTF-16, lossily");
+            }
     expect(nody_recoder_feed_lossy(&none, le, 7, out, 32, &read, &written) == NODY_STATUS_REFUSED && read == 0 && written == 0 && nody_recoder_finish_lossy(&none, out, 32, &written) == NODY_STATUS_REFUSED, "no recoder, lossily");
 }
 
@@ -367,6 +393,111 @@ static void threads(void) {
     expect(sum == 0, "eight threads");
 }
 
+/* How much of the stack the calls take. */
+
+enum { STACK = 5120, /* (as noddychest.h says) */ PAINTED = 1 << 18, TEXT = 8192 };
+
+static unsigned char painted[PAINTED] __attribute__((aligned(4096))), texts[6][3][3 * TEXT], made[9 * TEXT];
+static size_t lens[6][3];
+
+/* Texts of ASCII, of two, three and four bytes a character, of all of them, and damaged: in each form. */
+static void make_texts(void) {
+    static const char *const unit[] = {"text ", "\xd1\x82\xd0\xb5", "\xe6\x96\x87\xe5", "\xf0\x9f\x98\x80", "a\xd1\x82\xe6\x96\x87\xf0\x9f\x98\x80", "text\xe6\x96\xff"};
+    for (int i = 0; i < 6; i++) {
+        size_t len = strlen(unit[i]);
+        if (i == 2) len--;
+        for (size_t at = 0; at < TEXT; at++) texts[i][0][at] = (unsigned char)unit[i][at % len];
+        lens[i][0] = TEXT;
+        for (uint8_t form = 1; form < 3; form++) nody_recode(0, form, texts[i][0], TEXT, texts[i][form], sizeof texts[i][form], &lens[i][form]);
+        if (i == 5)
+            for (uint8_t form = 1; form < 3; form++) texts[i][form][2 - form + 100] = 0xd8;
+    }
+}
+
+static void *takes_nothing(void *unused) {
+    return unused;
+}
+
+static void take_units(const uint16_t *units, size_t len) {
+    nody_units_t left = nody_units(units, len), back = left;
+    nody_piece_t pieces[4];
+    nody_utf16_pieces(&left, pieces, 4);
+    nody_utf16_next(&left);
+    nody_utf16_next_back(&back);
+    nody_utf16_valid_up_to(units, len);
+    nody_utf16_char_count(units, len);
+    nody_utf16_boundary_before(units, len, len / 2);
+    nody_utf16_boundary_after(units, len, len / 2);
+}
+
+static void take_bytes(const uint8_t *bytes, size_t len) {
+    nody_bytes_t left = nody_bytes(bytes, len), back = left;
+    nody_piece_t pieces[4];
+    nody_utf8_pieces(&left, pieces, 4);
+    nody_utf8_next(&left);
+    nody_utf8_next_back(&back);
+    nody_utf8_streamed_at(bytes, len, 1);
+    nody_utf8_valid_up_to(bytes, len);
+    nody_utf8_char_count(bytes, len);
+}
+
+static void recode_each_way(uint8_t from, uint8_t to, const uint8_t *in, size_t len) {
+    nody_recoder_t a = nody_recoder(from, to), b = a, c = a;
+    nody_fault_t fault;
+    size_t read, written;
+    nody_recode(from, to, in, len, made, sizeof made, &written);
+    nody_recoded_len(from, to, in, len);
+    nody_recode_strict(from, to, in, len, made, sizeof made, &read, &written, &fault);
+    for (size_t cut = len - 7; cut <= len; cut += 7) {
+        size_t start = cut == len ? len - 7 : 0;
+        nody_recoder_feed(&a, in + start, cut - start, made, sizeof made, &read, &written);
+        nody_recoder_feed_strict(&b, in + start, cut - start, made, sizeof made, &read, &written, &fault);
+        nody_recoder_feed_lossy(&c, in + start, cut - start, made, sizeof made, &read, &written);
+    }
+    nody_recoder_finish(&a, made, sizeof made, &written);
+    nody_recoder_finish_strict(&b, made, sizeof made, &written, &fault);
+    nody_recoder_finish_lossy(&c, made, sizeof made, &written);
+    nody_utf16_bytes_valid_up_to(from, in, len);
+    nody_shard_end(from, in, len, len / 2);
+    nody_boundary_after(from, in, len, len / 2);
+}
+
+static void *takes_all(void *unused) {
+    static uint16_t units[3 * TEXT];
+    for (int i = 0; i < 6; i++) {
+        take_bytes(texts[i][0], lens[i][0]);
+        memcpy(units, texts[i][1], lens[i][1]);
+        take_units(units, lens[i][1] / 2);
+        for (uint8_t from = 0; from < 3; from++)
+            for (uint8_t to = 0; to < 3; to++) recode_each_way(from, to, texts[i][from], lens[i][from]);
+    }
+    return unused;
+}
+
+/* How many bytes of a stack that was painted before have another colour after a thread. */
+static size_t taken_by(void *(*calls)(void *)) {
+    pthread_t thread;
+    pthread_attr_t attributes;
+    size_t clean = 0;
+    memset(painted, GUARD, PAINTED);
+    pthread_attr_init(&attributes);
+    expect(pthread_attr_setstack(&attributes, painted, PAINTED) == 0, "a stack of ours");
+    expect(pthread_create(&thread, &attributes, calls, NULL) == 0, "a thread on it");
+    pthread_join(thread, NULL);
+    pthread_attr_destroy(&attributes);
+    while (clean < PAINTED && painted[clean] == GUARD) clean++;
+    return PAINTED - clean;
+}
+
+static void stack(void) {
+    size_t idle, busy;
+    make_texts();
+    idle = taken_by(takes_nothing);
+    busy = taken_by(takes_all);
+    if (getenv("SHOW_STACK")) printf("%zu bytes of the stack\n", busy - idle);
+    expect(busy - idle <= STACK, "what the calls take of the stack");
+}
+
 int main(int argc, char **argv) {
     nothing();
     cursors();
@@ -382,6 +513,7 @@ int main(int argc, char **argv) {
     if (argc == 2) {
         scalars();
         threads();
+        stack();
     }
     return tell();
 }

@@ -214,8 +214,10 @@ static int is_recoded_in(nody_form_t from, nody_form_t to, const uint8_t *in, si
     return 0;
 }
 
-/* How many bytes the maximal subpart has that begins the bytes, where no character does: the longest front of a code, or one. */
+/* How many bytes the maximal subpart has that begins the bytes, where no character does: the longest front of a code, or one. Of UTF-16
+ * it is a unit or an odd byte, or a leading surrogate with an odd byte that ends the input. */
 static size_t subpart_len(nody_form_t form, const uint8_t *b, size_t len) {
+    if (form != NODY_FORM_UTF8 && len == 3 && (b[form == NODY_FORM_UTF16LE] & 0xFC) == 0xD8) return 3;
     if (form != NODY_FORM_UTF8) return len < 2 ? 1 : 2;
     for (size_t n = len < 3 ? len : 3; n > 1; n--)
         if (is_open(form, b, n)) return n;

@@ -105,7 +105,7 @@ function readOtherwise() {
 function withNames(text, canFocus) {
     return text.split(ERROR_NAMES).filter((it) => it).map((part) => {
         if (!ERROR_NAMES.test(part)) return document.createTextNode(part);
-        return element("abbr", "name", { title: why(part), ...(canFocus ? { tabindex: "0", "aria-label": `${part}: ${why(part)}`, role: "note" } : {}) }, part);
+        return element("abbr", "name", { title: why(codec, part), ...(canFocus ? { tabindex: "0", "aria-label": `${part}: ${why(codec, part)}`, role: "note" } : {}) }, part);
     });
 }
 
@@ -349,7 +349,7 @@ function step(letter) {
     const end = letter === "F" ? "Front" : "Back";
     let told = `${end}: nothing is left.`;
     if (piece.kind !== NONE) {
-        told = `${end}: ${sentence(piece, codec.names, codec.bytes)}`;
+        told = `${end}: ${sentence(piece, codec)}`;
         const whole = cut.at(piece.place);
         if (whole.kind !== piece.kind) told += ` Of all bytes, from the front, it is ${codec.names[whole.kind]}.`;
         taken += letter;
@@ -463,7 +463,7 @@ function makeLegend() {
     say("", "A", "A character of one byte.");
     say("long", "é", "A character of two to four bytes.");
     say("fault", "✕", "An invalid byte, one at a time. Two letters name its error:");
-    for (const name of codec.names.slice(1, 8)) say("fault", shortKind(name), element("b", "", {}, name), `: ${why(name)}`);
+    for (const name of codec.names.slice(1, 8)) say("fault", shortKind(name), element("b", "", {}, name), `: ${why(codec, name)}`);
     say("changed", "A", "Underlined: new since a byte was changed.");
     say("taken", "A", "Hatched: taken from the front or the back.");
     const more = element("li");

@@ -108,7 +108,7 @@ export class View {
             block.setAttribute("role", "option");
             block.setAttribute("aria-selected", String(is_chosen));
             block.setAttribute("aria-label", this.said([piece, other]));
-            block.title = is_fault ? `${codec.names[piece.kind]}: ${why(codec.names[piece.kind])}` : describe(piece.scalar);
+            block.title = is_fault ? `${codec.names[piece.kind]}: ${why(codec, codec.names[piece.kind])}` : describe(piece.scalar);
         } else {
             block.setAttribute("aria-hidden", "true");
         }
@@ -124,8 +124,8 @@ export class View {
 
     // What is said of a piece that was read.
     said([piece, other]) {
-        const { names, bytes } = this.codec;
-        return sentence(piece, names, bytes) + (piece.kind === other.kind ? "" : otherwise(names[other.kind], this.isByByte));
+        const { names } = this.codec;
+        return sentence(piece, this.codec) + (piece.kind === other.kind ? "" : otherwise(names[other.kind], this.isByByte));
     }
 
     isTaken(piece) {

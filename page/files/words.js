@@ -6,22 +6,15 @@ export const hexOf = (bytes) => Array.from(bytes, hexByte).join(" ");
 export const codePoint = (scalar) => scalar.toString(16).toUpperCase().padStart(4, "0");
 export const counted = (count, one, more = `${one}s`) => `${count.toLocaleString("en")} ${count === 1 ? one : more}`;
 
-// For each error what is wrong with a byte, and the section of RFC 3629 that says so.
-const ERRORS = {
-    TooFewBytes: ["begins a character, but fewer bytes are left than it needs", 4],
-    NonUtf8Byte: ["never occurs in UTF-8: 0xC0, 0xC1 and 0xF5 to 0xFF are unused", 1],
-    UnexpectedContinuationByte: ["is a continuation byte (0x80 to 0xBF) where a character should begin", 3],
-    InterruptedSequence: ["begins a character, but a byte after it is no continuation byte", 4],
-    OverlongEncoding: ["begins an overlong encoding: the same value fits in fewer bytes", 3],
-    Utf16ReservedCodepoint: ["begins the encoding of a surrogate (U+D800 to U+DFFF), which UTF-8 must not contain", 3],
-    TooHighCodepoint: ["begins a value above U+10FFFF, the highest that Unicode has", 3],
+// For each error the section of RFC 3629 that says what is wrong.
+const SECTIONS = {
+    TooFewBytes: 4, NonUtf8Byte: 1, UnexpectedContinuationByte: 3, InterruptedSequence: 4, OverlongEncoding: 3, Utf16ReservedCodepoint: 3, TooHighCodepoint: 3,
 };
-export const ERROR_NAMES = new RegExp(`\\b(${Object.keys(ERRORS).join("|")})\\b`);
+export const ERROR_NAMES = new RegExp(`\\b(${Object.keys(SECTIONS).join("|")})\\b`);
 
-// The sentence of an error, of the byte that has it or of any.
-export function why(name, subject = "The byte") {
-    const [reason, section] = ERRORS[name];
-    return `${subject} ${reason} (RFC 3629, section ${section}).`;
+// What is wrong with a byte that has this error: the module's sentence, without the name before its colon.
+export function why({ names, sentences }, name) {
+    return `${sentences[names.indexOf(name)].replace(/^.*?: /, "")} (RFC 3629, section ${SECTIONS[name]}).`;
 }
 
 // What the other way of reading names an invalid byte.
@@ -68,7 +61,8 @@ export function glyph(scalar) {
     return /[\p{C}\p{Z}]/u.test(text) ? "·" : text;
 }
 
-export function sentence(piece, names, bytes) {
-    if (piece.kind !== OK) return `Offset ${piece.place}: ${names[piece.kind]}. ${why(names[piece.kind], `0x${hexByte(bytes[piece.place]).toUpperCase()}`)}`;
+export function sentence(piece, codec) {
+    const name = codec.names[piece.kind];
+    if (piece.kind !== OK) return `Offset ${piece.place}: ${name}. 0x${hexByte(codec.bytes[piece.place]).toUpperCase()}: ${why(codec, name)}`;
     return `Offset ${piece.place}: ${glyph(piece.scalar)} U+${codePoint(piece.scalar)}, ${counted(piece.len, "byte")}, ${describe(piece.scalar)}.`;
 }

@@ -1,136 +1,65 @@
 /* What of the package has to be fast, over the calls of noddychest.h. The package itself, and what users read, is in
  * src/noddychest. Forms and kinds cross as numbers; pieces are made as the named tuple that the package hands in.
  *
- * The interpreter's lock is held, but where `bytes`, which nobody can change, are recoded. */
-#define _GNU_SOURCE
-#define PY_SSIZE_T_CLEAN
-#include <Python.h>
+ * The interpreter's lock is let go while 64 KiB or more are read, and the buffer is held meanwhile. Nothing is kept but in objects, so
+ * each interpreter has its own. */
+#include "views.h"
+
+#include "lengths.h"
+
 #include <dlfcn.h>
 #include <string.h>
 
-#include "more.h"
-
-#if PY_VERSION_HEX < 0x030A0000
-static inline PyObject *Py_NewRef(PyObject *object) {
-    Py_INCREF(object);
-    return object;
-}
-#endif
-
 #define BLOCK 256         /* pieces that cross at once */
-#define LARGE (64 * 1024) /* from here on other threads run while bytes are recoded */
-
-/* ---- arguments ---- */
-
-/* For "O&": any bytes-like object, at its size in bytes, without copying. One whose bytes do not lie one after another is refused
- * by itself. */
-static int take_bytes(PyObject *data, void *into) {
-    Py_buffer *view = into;
-    if (data == NULL) {
-        PyBuffer_Release(view);
-        return 1;
-    }
-    if (!PyObject_CheckBuffer(data)) {
-        PyErr_Format(PyExc_TypeError, "a bytes-like object is required, not %R%s", (PyObject *)Py_TYPE(data),
-                     PyUnicode_Check(data) ? ": encode the text first" : "");
-        return 0;
-    }
-    return PyObject_GetBuffer(data, view, PyBUF_SIMPLE) ? 0 : Py_CLEANUP_SUPPORTED;
-}
-
-static int take_form(PyObject *number, void *into) {
-    long form = PyLong_AsLong(number);
-    if (form == -1 && PyErr_Occurred())
-        return 0;
-    if (form < NODY_FORM_UTF8 || form > NODY_FORM_UTF16BE) {
-        PyErr_SetString(PyExc_ValueError, "no form of text");
-        return 0;
-    }
-    *(nody_form_t *)into = (nody_form_t)form;
-    return 1;
-}
-
-/* Places are given by the package, or by error handlers, and are never trusted. */
-static int is_place(Py_ssize_t place, Py_ssize_t len) {
-    if (place >= 0 && place <= len)
-        return 1;
-    PyErr_SetString(PyExc_IndexError, "the offset is outside of the bytes");
-    return 0;
-}
+#define SKIPPED (1 << 20) /* the bytes over which faults are looked for at once */
+#define SMALL (64 * 1024) /* an input up to here gets room for the most that it can become */
 
 /* ---- bytes that are made ---- */
 
-/* _PyBytes_Resize() shortens bytes in place. It is in every CPython, but not in the stable ABI; so it is looked for when the module
- * is loaded, and where it is gone the bytes are copied. */
+/* _PyBytes_Resize() changes the length of bytes in place. It is in every CPython, but not in the stable ABI; so it is looked for when
+ * the module is loaded, and where it is gone the bytes are copied. */
 static int (*resize)(PyObject **bytes, Py_ssize_t len);
 
-static PyObject *shortened(PyObject *made, Py_ssize_t len) {
+static PyObject *resized(PyObject *made, Py_ssize_t len) {
+    Py_ssize_t old = PyBytes_Size(made);
     PyObject *copy;
-    if (PyBytes_Size(made) == len)
+    if (old == len)
         return made;
     if (resize != NULL) {
         resize(&made, len);
         return made;
     }
-    copy = PyBytes_FromStringAndSize(PyBytes_AsString(made), len);
+    copy = PyBytes_FromStringAndSize(NULL, len);
+    if (copy != NULL)
+        memcpy(PyBytes_AsString(copy), PyBytes_AsString(made), (size_t)(len < old ? len : old));
     Py_DECREF(made);
     return copy;
 }
 
-/* ---- faults ---- */
+/* ---- many pieces ---- */
 
-static uint16_t unit_at(nody_form_t form, const uint8_t *bytes) {
-    int low = form == NODY_FORM_UTF16LE ? 0 : 1;
-    return (uint16_t)(bytes[low] | bytes[!low] << 8);
-}
-
-static size_t valid_up_to(nody_form_t form, const uint8_t *bytes, size_t len) {
-    return form == NODY_FORM_UTF8 ? nody_utf8_valid_up_to(bytes, len) : utf16_bytes_valid_up_to(form, bytes, len);
-}
-
-/* How many bytes a fault has: one, or those of a unit, or the half that is left of one. */
-static size_t fault_len(nody_form_t form, size_t left) {
-    return form == NODY_FORM_UTF8 || left < 2 ? 1 : 2;
-}
-
-/* What is wrong where a fault stands: as a reader that has all bytes names it, or one that gets them one at a time. */
-enum Reader { WHOLE, STREAMED };
-static nody_kind_t fault_kind(enum Reader reader, nody_form_t form, const uint8_t *bytes, size_t len) {
-    uint16_t units[2];
-    size_t count = len / 2 < 2 ? len / 2 : 2;
-    if (form == NODY_FORM_UTF8)
-        return reader == WHOLE ? nody_utf8_first(bytes, len).kind : nody_utf8_streamed_at(bytes, len, 0).kind;
-    for (size_t i = 0; i < count; i++)
+/* Up to BLOCK pieces from the front of UTF-16; answers how many. */
+static size_t pieces_utf16(nody_form_t form, const uint8_t *bytes, size_t len, nody_piece_t *block) {
+    uint16_t units[BLOCK];
+    size_t size = len / 2 < BLOCK ? len / 2 : BLOCK, count;
+    nody_units_t left = nody_units(units, size);
+    for (size_t i = 0; i < size; i++)
         units[i] = unit_at(form, bytes + 2 * i);
-    return count == 0 ? NODY_KIND_INCOMPLETE : nody_utf16_first(units, count).kind;
+    count = nody_utf16_pieces(&left, block, BLOCK);
+    if (count > 1 && block[count - 1].kind == NODY_KIND_INCOMPLETE && size < len / 2)
+        count--; /* (it is judged with what follows) */
+    for (size_t i = 0; i < count; i++)
+        block[i].len *= 2;
+    return count;
 }
 
-/* How many bytes at the end, fewer than a code has, begin one. A surrogate in three bytes counts as a code: the error handler
- * `surrogatepass` has to see all of it. */
-static size_t held_utf8(const uint8_t *bytes, size_t len) {
-    for (size_t count = 1; count <= 3 && count <= len; count++) {
-        const uint8_t *tail = bytes + len - count;
-        if ((tail[0] & 0xC0) == 0x80)
-            continue;
-        for (int last = 0x80; last <= 0xBF; last += 0x3F) {
-            uint8_t code[4];
-            nody_piece_t piece;
-            memset(code, last, sizeof code);
-            memcpy(code, tail, count);
-            piece = nody_utf8_first(code, sizeof code);
-            if (count < (piece.kind == NODY_KIND_UTF16_RESERVED_CODEPOINT ? 3 : piece.len))
-                return count;
-        }
-        return 0;
-    }
-    return 0;
-}
-
-static size_t held(nody_form_t form, const uint8_t *bytes, size_t len) {
-    size_t half = len % 2;
+static size_t first_pieces(nody_form_t form, const uint8_t *bytes, size_t len, nody_piece_t *block) {
+    nody_bytes_t left = nody_bytes(bytes, len);
     if (form == NODY_FORM_UTF8)
-        return held_utf8(bytes, len);
-    return len < 2 || (unit_at(form, bytes + len - half - 2) & 0xFC00) != 0xD800 ? half : half + 2;
+        return nody_utf8_pieces(&left, block, BLOCK);
+    if (len == 1)
+        block[0] = first_piece(form, bytes, len);
+    return len == 1 ? 1 : pieces_utf16(form, bytes, len, block);
 }
 
 /* ---- functions ---- */
@@ -145,221 +74,341 @@ static PyObject *kind_sentence(PyObject *module, PyObject *kind) {
     (void)module;
     if (PyErr_Occurred())
         return NULL;
-    return PyUnicode_FromString(sentence_of((nody_kind_t)(number < 256 ? number : 255)));
+    return PyUnicode_FromString(nody_kind_sentence((nody_kind_t)(number < 256 ? number : 255)));
 }
 
 /* fault(form, data): the offset, the length and the kind of the first fault, or None. */
 static PyObject *fault(PyObject *module, PyObject *args) {
     Py_buffer view;
+    Window window;
     nody_form_t form;
-    const uint8_t *bytes;
-    size_t at, len;
-    PyObject *answer;
+    PyObject *answer = NULL;
     (void)module;
     if (!PyArg_ParseTuple(args, "O&O&:fault", take_form, &form, take_bytes, &view))
         return NULL;
-    bytes = view.buf, len = (size_t)view.len;
-    at = valid_up_to(form, bytes, len);
-    answer = at == len ? Py_NewRef(Py_None)
-                       : Py_BuildValue("nnI", (Py_ssize_t)at, (Py_ssize_t)fault_len(form, len - at),
-                                       (unsigned)fault_kind(WHOLE, form, bytes + at, len - at));
-    PyBuffer_Release(&view);
-    return answer;
-}
-
-/* text(form, data, at, end): the characters from `at` up to the first fault, or up to `end`; where that is, and the length and the
- * kind of the fault, which are 0 at the end. */
-static PyObject *text(PyObject *module, PyObject *args) {
-    Py_buffer view;
-    nody_form_t form;
-    Py_ssize_t at, end, stop;
-    PyObject *made = NULL;
-    (void)module;
-    if (!PyArg_ParseTuple(args, "O&O&nn:text", take_form, &form, take_bytes, &view, &at, &end))
-        return NULL;
-    if (is_place(end, view.len) && is_place(at, end)) {
-        const uint8_t *bytes = view.buf;
-        int order = form == NODY_FORM_UTF16LE ? -1 : 1;
-        size_t len = 0;
-        nody_kind_t kind = 0;
-        stop = at + (Py_ssize_t)valid_up_to(form, bytes + at, (size_t)(view.len - at));
-        if (stop < end) {
-            len = fault_len(form, (size_t)(view.len - stop));
-            kind = fault_kind(STREAMED, form, bytes + stop, (size_t)(view.len - stop));
-        } else {
-            stop = end;
-        }
-        made = form == NODY_FORM_UTF8 ? PyUnicode_DecodeUTF8((const char *)bytes + at, stop - at, "strict")
-                                      : PyUnicode_DecodeUTF16((const char *)bytes + at, stop - at, "strict", &order);
-        if (made != NULL)
-            made = Py_BuildValue("NnnI", made, stop, (Py_ssize_t)len, (unsigned)kind);
+    if (open_window(&window, &view)) {
+        Fault found = first_fault(&window, WHOLE, form, &view);
+        answer = found.kind == NODY_KIND_NONE
+                     ? Py_NewRef(Py_None)
+                     : Py_BuildValue("nnI", (Py_ssize_t)found.at, (Py_ssize_t)found.len, (unsigned)found.kind);
+        close_window(&window);
     }
     PyBuffer_Release(&view);
-    return made;
+    return answer;
 }
 
-/* held(form, data): how many bytes at the end may yet become a character. */
-static PyObject *held_count(PyObject *module, PyObject *args) {
-    Py_buffer view;
-    nody_form_t form;
-    size_t count;
-    (void)module;
-    if (!PyArg_ParseTuple(args, "O&O&:held", take_form, &form, take_bytes, &view))
-        return NULL;
-    count = held(form, view.buf, (size_t)view.len);
-    PyBuffer_Release(&view);
-    return PyLong_FromSize_t(count);
-}
-
-/* boundary(data, at) */
+/* boundary(form, data, at, after): an offset beyond any length counts as the length. */
 static PyObject *boundary(PyObject *module, PyObject *args) {
     Py_buffer view;
+    nody_form_t form;
+    PyObject *number, *answer = NULL;
     Py_ssize_t at;
-    PyObject *answer = NULL;
+    int after;
     (void)module;
-    if (!PyArg_ParseTuple(args, "O&n:boundary", take_bytes, &view, &at))
+    if (!PyArg_ParseTuple(args, "O&O&Op:boundary", take_form, &form, take_bytes, &view, &number, &after))
         return NULL;
-    if (is_place(at < view.len ? at : view.len, view.len))
-        answer = PyLong_FromSize_t(nody_shard_end(NODY_FORM_UTF8, view.buf, (size_t)view.len, (size_t)at));
+    at = PyNumber_AsSsize_t(number, NULL);
+    if (!PyErr_Occurred() && is_place(at < view.len ? at : view.len, view.len))
+        answer = PyLong_FromSize_t(after ? nody_boundary_after(form, view.buf, (size_t)view.len, (size_t)at)
+                                         : nody_boundary_before(form, view.buf, (size_t)view.len, (size_t)at));
     PyBuffer_Release(&view);
     return answer;
 }
 
-/* char_count(data): how many pieces there are. */
-static PyObject *char_count(PyObject *module, PyObject *data) {
+/* check(data): refuses what is no bytes-like object. */
+static PyObject *check(PyObject *module, PyObject *data) {
     Py_buffer view;
-    nody_bytes_t left;
-    nody_piece_t block[BLOCK];
-    size_t count = 0, here;
     (void)module;
     if (!take_bytes(data, &view))
         return NULL;
-    left = nody_bytes(view.buf, (size_t)view.len);
-    while ((here = nody_utf8_pieces(&left, block, BLOCK)) > 0)
-        count += here;
     PyBuffer_Release(&view);
-    return PyLong_FromSize_t(count);
+    return Py_NewRef(Py_None);
 }
 
-/* index(data, every): how many pieces there are, and the offset of each that has a multiple of `every` before it. */
+static size_t count_pieces(nody_form_t form, const uint8_t *bytes, size_t len) {
+    nody_piece_t block[BLOCK];
+    size_t count = 0;
+    if (form == NODY_FORM_UTF8)
+        return nody_utf8_char_count(bytes, len);
+    for (size_t at = 0; at < len;) {
+        size_t here = first_pieces(form, bytes + at, len - at, block);
+        for (size_t i = 0; i < here; i++)
+            at += block[i].len;
+        count += here;
+    }
+    return count;
+}
+
+/* char_count(form, data): how many pieces there are. */
+static PyObject *char_count(PyObject *module, PyObject *args) {
+    Py_buffer view;
+    nody_form_t form;
+    Window window;
+    PyObject *answer = NULL;
+    (void)module;
+    if (!PyArg_ParseTuple(args, "O&O&:char_count", take_form, &form, take_bytes, &view))
+        return NULL;
+    if (open_window(&window, &view)) {
+        size_t len = (size_t)view.len, count = 0;
+        PyThreadState *thread = let_lock_go(len);
+        for (size_t at = 0; at < len; at += window.len) {
+            next_window(&window, form, (const uint8_t *)view.buf + at, len - at);
+            count += count_pieces(form, window.bytes, window.len);
+        }
+        take_lock(thread);
+        answer = PyLong_FromSize_t(count);
+        close_window(&window);
+    }
+    PyBuffer_Release(&view);
+    return answer;
+}
+
+/* Pieces that are counted, and the offset of each that has a multiple of `every` before it. */
+typedef struct {
+    nody_form_t form;
+    uint64_t offset;
+    size_t count, every, marked, room;
+    uint8_t *marks;
+} Index;
+
+static void index_window(Index *index, const Window *window) {
+    nody_piece_t block[BLOCK];
+    for (size_t at = 0; at < window->len;) {
+        size_t here = first_pieces(index->form, window->bytes + at, window->len - at, block);
+        for (size_t i = 0; i < here; i++) {
+            if (index->count++ % index->every == 0 && index->marked < index->room)
+                memcpy(index->marks + sizeof index->offset * index->marked++, &index->offset, sizeof index->offset);
+            index->offset += block[i].len;
+            at += block[i].len;
+        }
+    }
+}
+
+/* index(form, data, every): how many pieces there are, and those offsets. */
 static PyObject *index_pieces(PyObject *module, PyObject *args) {
     Py_buffer view;
+    nody_form_t form;
     Py_ssize_t every;
+    Window window;
     PyObject *marks = NULL;
     (void)module;
-    if (!PyArg_ParseTuple(args, "O&n:index", take_bytes, &view, &every))
+    if (!PyArg_ParseTuple(args, "O&O&n:index", take_form, &form, take_bytes, &view, &every))
         return NULL;
-    if (every < 1)
+    if (every < 1) {
         PyErr_SetString(PyExc_ValueError, "every has to be at least 1");
-    else
-        marks = PyBytes_FromStringAndSize(NULL, (view.len / every + 1) * (Py_ssize_t)sizeof(uint64_t));
-    if (marks != NULL) {
-        uint8_t *to = (uint8_t *)PyBytes_AsString(marks);
-        nody_bytes_t left = nody_bytes(view.buf, (size_t)view.len);
-        nody_piece_t block[BLOCK];
-        uint64_t offset = 0;
-        Py_ssize_t count = 0, marked = 0, here;
-        while ((here = (Py_ssize_t)nody_utf8_pieces(&left, block, BLOCK)) > 0) {
-            for (Py_ssize_t i = 0; i < here; i++) {
-                if (count++ % every == 0)
-                    memcpy(to + sizeof offset * (size_t)marked++, &offset, sizeof offset);
-                offset += block[i].len;
+    } else if (open_window(&window, &view)) {
+        size_t len = (size_t)view.len;
+        Index index = {form, 0, 0, (size_t)every, 0, len / (size_t)every + 1, NULL};
+        marks = PyBytes_FromStringAndSize(NULL, (Py_ssize_t)(index.room * sizeof index.offset));
+        if (marks != NULL) {
+            PyThreadState *thread;
+            index.marks = (uint8_t *)PyBytes_AsString(marks);
+            thread = let_lock_go(len);
+            for (size_t at = 0; at < len; at += window.len) {
+                next_window(&window, form, (const uint8_t *)view.buf + at, len - at);
+                index_window(&index, &window);
             }
+            take_lock(thread);
+            marks = resized(marks, (Py_ssize_t)(index.marked * sizeof index.offset));
         }
-        marks = shortened(marks, marked * (Py_ssize_t)sizeof offset);
         if (marks != NULL)
-            marks = Py_BuildValue("nN", count, marks);
+            marks = Py_BuildValue("nN", (Py_ssize_t)index.count, marks);
+        close_window(&window);
     }
     PyBuffer_Release(&view);
     return marks;
 }
 
+/* recoded_len(from, to, data): how many bytes recode makes. */
+static PyObject *recoded_len(PyObject *module, PyObject *args) {
+    Py_buffer view;
+    nody_form_t from, to;
+    Window window;
+    PyObject *answer = NULL;
+    (void)module;
+    if (!PyArg_ParseTuple(args, "O&O&O&:recoded_len", take_form, &from, take_form, &to, take_bytes, &view))
+        return NULL;
+    if (open_window(&window, &view)) {
+        size_t len = (size_t)view.len, sum = 0;
+        PyThreadState *thread = let_lock_go(len);
+        for (size_t at = 0; at < len; at += window.len) {
+            next_window(&window, from, (const uint8_t *)view.buf + at, len - at);
+            sum += nody_recoded_len(from, to, window.bytes, window.len);
+        }
+        take_lock(thread);
+        answer = PyLong_FromSize_t(sum);
+        close_window(&window);
+    }
+    PyBuffer_Release(&view);
+    return answer;
+}
+
 /* ---- recoding ---- */
 
-/* Empty bytes with room for whatever so many bytes are recoded as. */
-static PyObject *room_for(nody_form_t from, nody_form_t to, size_t len) {
-    size_t room = nody_recoded_len_max(from, to, len);
-    if (room > (size_t)PY_SSIZE_T_MAX - 64)
-        return PyErr_NoMemory();
-    return PyBytes_FromStringAndSize(NULL, (Py_ssize_t)room);
-}
+/* What is done with faults: one U+FFFD for each, a stop at the first, or one U+FFFD for each maximal subpart. The numbers are those of
+ * the package. */
+enum Errors { EACH, STRICT, MAXIMAL };
 
-/* Feeds a part, strictly where there is room for a fault. */
-static nody_status_t feed(nody_recoder_t *recoder, const uint8_t *in, size_t len, uint8_t *out, size_t room, size_t *read, size_t *written,
-                          nody_fault_t *fault) {
-    return fault ? nody_recoder_feed_strict(recoder, in, len, out, room, read, written, fault)
-                 : nody_recoder_feed(recoder, in, len, out, room, read, written);
-}
+/* Bytes that are being recoded: the input, how far it was read, and what was made of it. */
+typedef struct {
+    nody_recoder_t recoder;
+    enum Errors errors;
+    Window window;
+    const uint8_t *in;
+    size_t len, read;
+    PyObject *made;
+    size_t room, written;
+    nody_fault_t *fault;
+} Recoding;
 
-static nody_status_t finish(nody_recoder_t *recoder, uint8_t *out, size_t room, size_t *written, nody_fault_t *fault) {
-    return fault ? nody_recoder_finish_strict(recoder, out, room, written, fault) : nody_recoder_finish(recoder, out, room, written);
-}
-
-/* Feeds all of the view, and finishes where that is asked for; answers the bytes that come of it. With room for a fault it goes up to
- * the first one, and `*read` says how many bytes were read then. */
-static PyObject *fed(nody_recoder_t *recoder, const Py_buffer *view, int is_last, size_t *read, nody_fault_t *fault) {
-    size_t len = (size_t)view->len, written = 0, more = 0, room;
-    nody_status_t status = NODY_STATUS_DONE;
-    PyObject *made = room_for(recoder->from, recoder->to, len + recoder->count);
-    uint8_t *out;
-    *read = 0;
-    if (made == NULL)
-        return NULL;
-    out = (uint8_t *)PyBytes_AsString(made);
-    room = (size_t)PyBytes_Size(made);
-    if (len >= LARGE && view->obj != NULL && PyBytes_CheckExact(view->obj)) {
-        Py_BEGIN_ALLOW_THREADS
-        status = feed(recoder, view->buf, len, out, room, read, &written, fault);
-        Py_END_ALLOW_THREADS
-    } else if (len) {
-        status = feed(recoder, view->buf, len, out, room, read, &written, fault);
+/* Makes room for more: never a tenth more than all will have. Answers 0 with an error. */
+static int make_room(Recoding *it) {
+    size_t left = it->len - it->read, room = nody_recoded_len_max(it->recoder.from, it->recoder.to, left);
+    if (it->len > SMALL) {
+        PyThreadState *thread = let_lock_go(left);
+        room = least_recoded(it->recoder.from, it->recoder.to, it->in + it->read, left);
+        take_lock(thread);
     }
-    if (is_last && status == NODY_STATUS_DONE)
-        status = finish(recoder, out + written, room - written, &more, fault);
-    if (status != NODY_STATUS_DONE && status != NODY_STATUS_FAULT) {
-        Py_DECREF(made);
-        PyErr_SetString(PyExc_SystemError, "the room for recoded bytes was too small");
-        return NULL;
+    if (it->made != NULL)
+        room += (it->written + room) / 16;
+    if (room > (size_t)PY_SSIZE_T_MAX - it->written - 128) {
+        PyErr_NoMemory();
+        return 0;
     }
-    return shortened(made, (Py_ssize_t)(written + more));
+    it->room = it->written + room + 64; /* (what is held, and the end, have room too) */
+    it->made = it->made == NULL ? PyBytes_FromStringAndSize(NULL, (Py_ssize_t)it->room) : resized(it->made, (Py_ssize_t)it->room);
+    return it->made != NULL;
 }
 
-/* recode(from, to, data, strict): the bytes that come of it, or the offset, the length and the kind of the first fault. */
+/* Feeds the next part. */
+static nody_status_t feed_part(Recoding *it, const uint8_t *in, size_t len, uint8_t *out) {
+    size_t read, written, room = it->room - it->written;
+    nody_status_t status;
+    out += it->written;
+    if (it->errors == STRICT)
+        status = nody_recoder_feed_strict(&it->recoder, in, len, out, room, &read, &written, it->fault);
+    else if (it->errors == MAXIMAL)
+        status = nody_recoder_feed_lossy(&it->recoder, in, len, out, room, &read, &written);
+    else
+        status = nody_recoder_feed(&it->recoder, in, len, out, room, &read, &written);
+    it->read += read, it->written += written;
+    return status;
+}
+
+/* Feeds all that is left, as far as there is room. */
+static nody_status_t feed(Recoding *it) {
+    uint8_t *out = (uint8_t *)PyBytes_AsString(it->made);
+    PyThreadState *thread = let_lock_go(it->len - it->read);
+    nody_status_t status;
+    do {
+        next_window(&it->window, it->recoder.from, it->in + it->read, it->len - it->read);
+        status = feed_part(it, it->window.bytes, it->window.len, out);
+    } while (status == NODY_STATUS_DONE && it->read < it->len);
+    take_lock(thread);
+    return status;
+}
+
+static nody_status_t finish(Recoding *it) {
+    uint8_t *out = (uint8_t *)PyBytes_AsString(it->made) + it->written;
+    size_t written, room = it->room - it->written;
+    nody_status_t status;
+    if (it->errors == STRICT)
+        status = nody_recoder_finish_strict(&it->recoder, out, room, &written, it->fault);
+    else if (it->errors == MAXIMAL)
+        status = nody_recoder_finish_lossy(&it->recoder, out, room, &written);
+    else
+        status = nody_recoder_finish(&it->recoder, out, room, &written);
+    it->written += written;
+    return status;
+}
+
+/* Goes a step on, as often as there has to be more room. */
+static int goes(Recoding *it, nody_status_t (*step)(Recoding *)) {
+    nody_status_t status;
+    do {
+        status = step(it);
+    } while (status == NODY_STATUS_FULL && make_room(it));
+    if (status == NODY_STATUS_REFUSED)
+        PyErr_SetString(PyExc_SystemError, "the recoder is damaged");
+    return status == NODY_STATUS_DONE || status == NODY_STATUS_FAULT;
+}
+
+/* For "O&". */
+static int take_errors(PyObject *number, void *into) {
+    long errors = PyLong_AsLong(number);
+    if (errors == -1 && PyErr_Occurred())
+        return 0;
+    if (errors < EACH || errors > MAXIMAL) {
+        PyErr_SetString(PyExc_ValueError, "no way with errors has this number");
+        return 0;
+    }
+    *(enum Errors *)into = (enum Errors)errors;
+    return 1;
+}
+
+/* Feeds all of a view to a recoder, and finishes where that is asked for; answers the bytes that come of it. Where faults are refused
+ * it goes up to the first one, and `read` says how many bytes were read then. */
+static PyObject *fed(nody_recoder_t *recoder, enum Errors errors, const Py_buffer *view, int is_last, size_t *read, nody_fault_t *fault) {
+    Recoding it = {*recoder, errors, {NULL, NULL, 0, 0, 0}, view->buf, (size_t)view->len, 0, NULL, 0, 0, fault};
+    PyObject *made = NULL;
+    *fault = (nody_fault_t){0, 0, NODY_KIND_NONE};
+    if (!open_window(&it.window, view))
+        return NULL;
+    if (make_room(&it) && goes(&it, feed) && (!is_last || fault->kind != NODY_KIND_NONE || goes(&it, finish)))
+        made = resized(it.made, (Py_ssize_t)it.written);
+    else
+        Py_XDECREF(it.made);
+    close_window(&it.window);
+    *recoder = it.recoder, *read = it.read;
+    return made;
+}
+
+/* recode(from, to, data, errors): the bytes that come of it, or the offset, the length and the kind of the first fault, and the data as
+ * `bytes`. */
 static PyObject *recode(PyObject *module, PyObject *args) {
     Py_buffer view;
     nody_form_t from, to;
     nody_recoder_t recoder;
-    nody_fault_t fault = {0, 0, NODY_KIND_NONE};
+    nody_fault_t fault;
+    enum Errors errors;
     size_t read;
-    int strict;
-    PyObject *made;
+    PyObject *data, *made;
     (void)module;
-    if (!PyArg_ParseTuple(args, "O&O&O&p:recode", take_form, &from, take_form, &to, take_bytes, &view, &strict))
+    if (!PyArg_ParseTuple(args, "O&O&OO&:recode", take_form, &from, take_form, &to, &data, take_errors, &errors) ||
+        !take_bytes(data, &view))
         return NULL;
     recoder = nody_recoder(from, to);
-    made = fed(&recoder, &view, 1, &read, strict ? &fault : NULL);
+    made = fed(&recoder, errors, &view, 1, &read, &fault);
+    if (made != NULL && fault.kind != NODY_KIND_NONE) {
+        Py_DECREF(made);
+        made = bytes_of(data, &view);
+        if (made != NULL)
+            made = Py_BuildValue("nnIN", (Py_ssize_t)(read - fault.back), (Py_ssize_t)fault.len, (unsigned)fault.kind, made);
+    }
     PyBuffer_Release(&view);
-    if (made == NULL || fault.kind == NODY_KIND_NONE)
-        return made;
-    Py_DECREF(made);
-    return Py_BuildValue("nnI", (Py_ssize_t)(read - fault.back), (Py_ssize_t)fault.len, (unsigned)fault.kind);
+    return made;
 }
 
 typedef struct {
     PyObject_HEAD
     nody_recoder_t recoder;
+    enum Errors errors;
     Py_ssize_t fed; /* bytes that were fed */
+    char busy;      /* 1 while a call goes on: it lets the lock go */
 } Recoder;
 
 static PyObject *recoder_new(PyTypeObject *type, PyObject *args, PyObject *names) {
     nody_form_t from, to;
+    enum Errors errors;
     Recoder *self;
     (void)names;
-    if (!PyArg_ParseTuple(args, "O&O&:Recoder", take_form, &from, take_form, &to))
+    if (!PyArg_ParseTuple(args, "O&O&O&:Recoder", take_form, &from, take_form, &to, take_errors, &errors))
         return NULL;
     self = (Recoder *)PyType_GenericAlloc(type, 0);
-    if (self != NULL)
+    if (self != NULL) {
         self->recoder = nody_recoder(from, to);
+        self->errors = errors;
+    }
     return (PyObject *)self;
 }
 
@@ -370,27 +419,81 @@ static void plain_dealloc(PyObject *self) {
     Py_DECREF(type);
 }
 
-/* step(data, finish, strict): the bytes that come of it; where faults are refused and there is one, its offset, length and kind, what
- * was held before, and its place counted from there; nothing changes then. */
+/* The bytes that come of a step. The recoder changes only if they are made, and no fault is refused. */
+static PyObject *stepped(Recoder *self, const Py_buffer *view, int is_last) {
+    nody_recoder_t before = self->recoder, after = self->recoder;
+    nody_fault_t fault;
+    size_t read, place;
+    PyObject *made = fed(&after, self->errors, view, is_last, &read, &fault), *all;
+    if (made == NULL)
+        return NULL;
+    if (fault.kind == NODY_KIND_NONE) {
+        self->recoder = after;
+        self->fed += view->len;
+        return made;
+    }
+    Py_DECREF(made);
+    place = before.count + read - fault.back;
+    all = PyBytes_FromStringAndSize(NULL, before.count + view->len);
+    if (all == NULL)
+        return NULL;
+    memcpy(PyBytes_AsString(all), before.held, before.count);
+    memcpy(PyBytes_AsString(all) + before.count, view->buf, (size_t)view->len);
+    return Py_BuildValue("nnINn", self->fed - before.count + (Py_ssize_t)place, (Py_ssize_t)fault.len, (unsigned)fault.kind, all,
+                         (Py_ssize_t)place);
+}
+
+/* step(data, finish): the bytes that come of it; where faults are refused and there is one, its offset, length and kind, what
+ * was held before together with the data, and its place in there; nothing changes then. One call goes at a time: making a view of the
+ * data may run code that feeds this recoder, and that has ended before. */
 static PyObject *recoder_step(PyObject *object, PyObject *args) {
     Recoder *self = (Recoder *)object;
-    nody_recoder_t before = self->recoder, after = self->recoder;
-    nody_fault_t fault = {0, 0, NODY_KIND_NONE};
     Py_buffer view;
-    size_t read;
-    int finish, strict;
-    PyObject *made;
-    if (!PyArg_ParseTuple(args, "O&pp:step", take_bytes, &view, &finish, &strict))
+    int is_last;
+    PyObject *made = NULL;
+    if (!PyArg_ParseTuple(args, "O&p:step", take_bytes, &view, &is_last))
         return NULL;
-    made = fed(&after, &view, finish, &read, strict ? &fault : NULL);
-    if (made != NULL && fault.kind != NODY_KIND_NONE) {
-        size_t place = before.count + read - fault.back;
+    if (__atomic_exchange_n(&self->busy, 1, __ATOMIC_ACQUIRE)) {
+        PyErr_SetString(PyExc_RuntimeError, "this Recoder is in use by another call: give each thread its own");
+    } else {
+        made = stepped(self, &view, is_last);
+        __atomic_store_n(&self->busy, 0, __ATOMIC_RELEASE);
+    }
+    PyBuffer_Release(&view);
+    return made;
+}
+
+/* state(): the bytes that are held, how many faults were replaced, and how many bytes were fed. */
+static PyObject *recoder_state(PyObject *object, PyObject *nothing) {
+    const Recoder *self = (Recoder *)object;
+    (void)nothing;
+    return Py_BuildValue("y#Kn", (const char *)self->recoder.held, (Py_ssize_t)self->recoder.count,
+                         (unsigned long long)self->recoder.replaced, self->fed);
+}
+
+/* set_state(held, replaced, fed), of a recoder that is new. What is held is fed: so a state that none can have is refused. */
+static PyObject *recoder_set_state(PyObject *object, PyObject *args) {
+    Recoder *self = (Recoder *)object;
+    nody_recoder_t recoder = nody_recoder(self->recoder.from, self->recoder.to);
+    nody_fault_t fault;
+    Py_buffer view;
+    unsigned long long replaced;
+    Py_ssize_t total;
+    size_t read;
+    PyObject *made;
+    if (!PyArg_ParseTuple(args, "O&Kn:set_state", take_bytes, &view, &replaced, &total))
+        return NULL;
+    made = view.len > 3 ? Py_NewRef(Py_None) : fed(&recoder, self->errors, &view, 0, &read, &fault);
+    if (made != NULL && recoder.count == view.len && total >= view.len) {
+        recoder.replaced = replaced;
+        self->recoder = recoder;
+        self->fed = total;
         Py_DECREF(made);
-        made = Py_BuildValue("nnIy#n", self->fed - before.count + (Py_ssize_t)place, (Py_ssize_t)fault.len, (unsigned)fault.kind,
-                             (const char *)before.held, (Py_ssize_t)before.count, (Py_ssize_t)place);
+        made = Py_NewRef(Py_None);
     } else if (made != NULL) {
-        self->recoder = after;
-        self->fed += view.len;
+        Py_DECREF(made);
+        made = NULL;
+        PyErr_SetString(PyExc_ValueError, "no Recoder has this state");
     }
     PyBuffer_Release(&view);
     return made;
@@ -399,12 +502,6 @@ static PyObject *recoder_step(PyObject *object, PyObject *args) {
 static PyObject *recoder_faults(PyObject *self, void *closure) {
     (void)closure;
     return PyLong_FromUnsignedLongLong(((Recoder *)self)->recoder.replaced);
-}
-
-static PyObject *recoder_held(PyObject *self, void *closure) {
-    const nody_recoder_t *recoder = &((Recoder *)self)->recoder;
-    (void)closure;
-    return PyBytes_FromStringAndSize((const char *)recoder->held, recoder->count);
 }
 
 /* ---- pieces ---- */
@@ -421,14 +518,21 @@ typedef struct {
     PyObject *chars[256];
 } Maker;
 
+/* The version of the interpreter, which may be later than that of its headers. */
+static unsigned long version(void) {
+#if defined(Py_LIMITED_API)
+    return Py_Version;
+#else
+    return PY_VERSION_HEX;
+#endif
+}
+
 /* A tuple of 3.14 keeps its hash, so another piece must not come into it; without the lock nobody knows who has it. */
 static int takes_back(void) {
 #if defined(Py_GIL_DISABLED)
     return 0;
-#elif defined(Py_LIMITED_API)
-    return Py_Version < 0x030E0000;
 #else
-    return PY_VERSION_HEX < 0x030E0000;
+    return version() < 0x030E0000;
 #endif
 }
 
@@ -508,8 +612,9 @@ typedef struct {
     PyObject_HEAD
     Py_buffer view;
     Maker maker;
-    nody_bytes_t left;
-    size_t offset; /* of the next piece of the block */
+    nody_form_t form;
+    size_t offset; /* of the next piece; from the back, its end */
+    size_t read;   /* where the next block begins */
     int back;
     size_t at, count;
     nody_piece_t block[BLOCK];
@@ -522,14 +627,15 @@ static void run_dealloc(PyObject *object) {
     plain_dealloc(object);
 }
 
-/* Run(data, type, errors, at, back): from the offset on, or all from the back. */
+/* Run(form, data, type, errors, at, back): from the offset on, or all from the back. */
 static PyObject *run_new(PyTypeObject *type, PyObject *args, PyObject *names) {
     PyObject *data, *pieces, *errors;
+    nody_form_t form;
     Py_ssize_t at;
     int back;
     Run *self;
     (void)names;
-    if (!PyArg_ParseTuple(args, "OOOnp:Run", &data, &pieces, &errors, &at, &back))
+    if (!PyArg_ParseTuple(args, "O&OOOnp:Run", take_form, &form, &data, &pieces, &errors, &at, &back))
         return NULL;
     self = (Run *)PyType_GenericAlloc(type, 0);
     if (self == NULL)
@@ -538,30 +644,38 @@ static PyObject *run_new(PyTypeObject *type, PyObject *args, PyObject *names) {
         Py_DECREF(self);
         return NULL;
     }
-    self->offset = (size_t)at;
+    self->form = form;
     self->back = back;
-    self->left = nody_bytes((const uint8_t *)self->view.buf + at, (size_t)(self->view.len - at));
+    self->offset = back ? (size_t)self->view.len : (size_t)at;
+    self->read = self->offset;
     return (PyObject *)self;
+}
+
+static PyObject *run_back(Run *self) {
+    const uint8_t *bytes = self->view.buf;
+    nody_piece_t piece = last_piece(self->form, bytes, self->offset);
+    if (piece.kind == NODY_KIND_NONE)
+        return NULL;
+    self->offset -= piece.len;
+    if (piece.kind != NODY_KIND_OK)
+        piece = first_piece(self->form, bytes + self->offset, (size_t)self->view.len - self->offset);
+    return make_piece(&self->maker, self->offset, piece);
 }
 
 static PyObject *run_next(PyObject *object) {
     Run *self = (Run *)object;
     nody_piece_t piece;
     size_t offset = self->offset;
-    if (self->back) {
-        piece = nody_utf8_next_back(&self->left);
-        if (piece.kind == NODY_KIND_NONE)
-            return NULL;
-        offset = self->left.len;
-        if (piece.kind != NODY_KIND_OK)
-            piece = nody_utf8_first((const uint8_t *)self->view.buf + offset, (size_t)self->view.len - offset);
-        return make_piece(&self->maker, offset, piece);
-    }
+    if (self->back)
+        return run_back(self);
     if (self->at == self->count) {
+        const uint8_t *left = (const uint8_t *)self->view.buf + self->read;
         self->at = 0;
-        self->count = nody_utf8_pieces(&self->left, self->block, BLOCK);
+        self->count = first_pieces(self->form, left, (size_t)self->view.len - self->read, self->block);
         if (self->count == 0)
             return NULL;
+        for (size_t i = 0; i < self->count; i++)
+            self->read += self->block[i].len;
     }
     piece = self->block[self->at++];
     self->offset += piece.len;
@@ -573,8 +687,8 @@ typedef struct {
     PyObject_HEAD
     Py_buffer view;
     Maker maker;
-    nody_bytes_t left;
-    size_t offset; /* where what is left begins */
+    nody_form_t form;
+    size_t start, end; /* where what is left lies */
 } Ends;
 
 static void ends_dealloc(PyObject *object) {
@@ -586,9 +700,10 @@ static void ends_dealloc(PyObject *object) {
 
 static PyObject *ends_new(PyTypeObject *type, PyObject *args, PyObject *names) {
     PyObject *data, *pieces, *errors;
+    nody_form_t form;
     Ends *self;
     (void)names;
-    if (!PyArg_ParseTuple(args, "OOO:Ends", &data, &pieces, &errors))
+    if (!PyArg_ParseTuple(args, "O&OOO:Ends", take_form, &form, &data, &pieces, &errors))
         return NULL;
     self = (Ends *)PyType_GenericAlloc(type, 0);
     if (self == NULL)
@@ -597,37 +712,121 @@ static PyObject *ends_new(PyTypeObject *type, PyObject *args, PyObject *names) {
         Py_DECREF(self);
         return NULL;
     }
-    self->left = nody_bytes(self->view.buf, (size_t)self->view.len);
+    self->form = form;
+    self->end = (size_t)self->view.len;
     return (PyObject *)self;
 }
 
 static PyObject *ends_next(PyObject *object) {
     Ends *self = (Ends *)object;
-    size_t offset = self->offset;
-    nody_piece_t piece = nody_utf8_next(&self->left);
+    size_t offset = self->start;
+    nody_piece_t piece = first_piece(self->form, (const uint8_t *)self->view.buf + offset, self->end - offset);
     if (piece.kind == NODY_KIND_NONE)
         return NULL;
-    self->offset += piece.len;
+    self->start += piece.len;
     return make_piece(&self->maker, offset, piece);
 }
 
 static PyObject *ends_next_back(PyObject *object, PyObject *nothing) {
     Ends *self = (Ends *)object;
-    nody_piece_t piece = nody_utf8_next_back(&self->left);
+    nody_piece_t piece = last_piece(self->form, (const uint8_t *)self->view.buf + self->start, self->end - self->start);
     (void)nothing;
     if (piece.kind == NODY_KIND_NONE)
         return Py_NewRef(Py_None);
-    return make_piece(&self->maker, self->offset + self->left.len, piece);
+    self->end -= piece.len;
+    return make_piece(&self->maker, self->end, piece);
 }
 
 static PyObject *ends_start(PyObject *self, void *closure) {
     (void)closure;
-    return PyLong_FromSize_t(((Ends *)self)->offset);
+    return PyLong_FromSize_t(((Ends *)self)->start);
 }
 
 static PyObject *ends_end(PyObject *self, void *closure) {
     (void)closure;
-    return PyLong_FromSize_t(((Ends *)self)->offset + ((Ends *)self)->left.len);
+    return PyLong_FromSize_t(((Ends *)self)->end);
+}
+
+/* ---- faults alone ---- */
+
+/* The faults of some bytes. Text between them is skipped as validation goes over it, window by window. */
+typedef struct {
+    PyObject_HEAD
+    Py_buffer view;
+    Maker maker;
+    Window window;
+    nody_form_t form;
+    size_t begin; /* where the window begins */
+    size_t at;    /* how far it was read */
+    char busy;
+} Faults;
+
+static void faults_dealloc(PyObject *object) {
+    Faults *self = (Faults *)object;
+    close_window(&self->window);
+    maker_end(&self->maker);
+    PyBuffer_Release(&self->view);
+    plain_dealloc(object);
+}
+
+/* Faults(form, data, type, errors) */
+static PyObject *faults_new(PyTypeObject *type, PyObject *args, PyObject *names) {
+    PyObject *data, *pieces, *errors;
+    nody_form_t form;
+    Faults *self;
+    (void)names;
+    if (!PyArg_ParseTuple(args, "O&OOO:Faults", take_form, &form, &data, &pieces, &errors))
+        return NULL;
+    self = (Faults *)PyType_GenericAlloc(type, 0);
+    if (self == NULL)
+        return NULL;
+    if (!take_bytes(data, &self->view) || !open_window(&self->window, &self->view) || !maker_begin(&self->maker, pieces, errors)) {
+        Py_DECREF(self);
+        return NULL;
+    }
+    self->form = form;
+    self->window.most = SKIPPED;
+    return (PyObject *)self;
+}
+
+/* The next fault of the window, or NODY_KIND_NONE. */
+static nody_piece_t next_in_window(Faults *self, size_t *offset) {
+    nody_piece_t piece = {0, 0, NODY_KIND_NONE};
+    const Window *window = &self->window;
+    self->at += nody_utf16_bytes_valid_up_to(self->form, window->bytes + self->at, window->len - self->at);
+    if (self->at == window->len)
+        return piece;
+    piece = first_piece(self->form, window->bytes + self->at, window->seen - self->at);
+    *offset = self->begin + self->at;
+    self->at += piece.len;
+    return piece;
+}
+
+/* Goes on from window to window, and lets the lock go from the second on. */
+static nody_piece_t next_fault(Faults *self, size_t *offset) {
+    size_t len = (size_t)self->view.len;
+    nody_piece_t piece = next_in_window(self, offset);
+    PyThreadState *thread = piece.kind == NODY_KIND_NONE ? let_lock_go(len - self->begin - self->window.len) : NULL;
+    while (piece.kind == NODY_KIND_NONE && self->begin + self->window.len < len) {
+        self->begin += self->window.len, self->at = 0;
+        next_window(&self->window, self->form, (const uint8_t *)self->view.buf + self->begin, len - self->begin);
+        piece = next_in_window(self, offset);
+    }
+    take_lock(thread);
+    return piece;
+}
+
+static PyObject *faults_next(PyObject *object) {
+    Faults *self = (Faults *)object;
+    nody_piece_t piece;
+    size_t offset = 0;
+    if (__atomic_exchange_n(&self->busy, 1, __ATOMIC_ACQUIRE)) {
+        PyErr_SetString(PyExc_RuntimeError, "this iterator is in use by another call: give each thread its own");
+        return NULL;
+    }
+    piece = next_fault(self, &offset);
+    __atomic_store_n(&self->busy, 0, __ATOMIC_RELEASE);
+    return piece.kind == NODY_KIND_NONE ? NULL : make_piece(&self->maker, offset, piece);
 }
 
 /* ---- the module ---- */
@@ -647,9 +846,18 @@ static PyType_Slot ends_slots[] = {{Py_tp_new, ends_new},         {Py_tp_dealloc
                                    {0, NULL}};
 static PyType_Spec ends_spec = {"noddychest._noddychest.Ends", sizeof(Ends), 0, Py_TPFLAGS_DEFAULT | Py_TPFLAGS_BASETYPE, ends_slots};
 
-static PyMethodDef recoder_methods[] = {{"step", recoder_step, METH_VARARGS, NULL}, {NULL, NULL, 0, NULL}};
-static PyGetSetDef recoder_members[] = {
-    {"faults", recoder_faults, NULL, NULL, NULL}, {"held", recoder_held, NULL, NULL, NULL}, {NULL, NULL, NULL, NULL, NULL}};
+static PyType_Slot faults_slots[] = {{Py_tp_new, faults_new},
+                                     {Py_tp_dealloc, faults_dealloc},
+                                     {Py_tp_iter, PyObject_SelfIter},
+                                     {Py_tp_iternext, faults_next},
+                                     {0, NULL}};
+static PyType_Spec faults_spec = {"noddychest._noddychest.Faults", sizeof(Faults), 0, Py_TPFLAGS_DEFAULT, faults_slots};
+
+static PyMethodDef recoder_methods[] = {{"step", recoder_step, METH_VARARGS, NULL},
+                                        {"state", recoder_state, METH_NOARGS, NULL},
+                                        {"set_state", recoder_set_state, METH_VARARGS, NULL},
+                                        {NULL, NULL, 0, NULL}};
+static PyGetSetDef recoder_members[] = {{"faults", recoder_faults, NULL, NULL, NULL}, {NULL, NULL, NULL, NULL, NULL}};
 static PyType_Slot recoder_slots[] = {{Py_tp_new, recoder_new},
                                       {Py_tp_dealloc, plain_dealloc},
                                       {Py_tp_methods, recoder_methods},
@@ -657,18 +865,25 @@ static PyType_Slot recoder_slots[] = {{Py_tp_new, recoder_new},
                                       {0, NULL}};
 static PyType_Spec recoder_spec = {"noddychest._noddychest.Recoder", sizeof(Recoder), 0, Py_TPFLAGS_DEFAULT, recoder_slots};
 
-static PyMethodDef functions[] = {{"supported", supported, METH_NOARGS, NULL},    {"kind_sentence", kind_sentence, METH_O, NULL},
-                                  {"fault", fault, METH_VARARGS, NULL},           {"text", text, METH_VARARGS, NULL},
-                                  {"held", held_count, METH_VARARGS, NULL},       {"boundary", boundary, METH_VARARGS, NULL},     {"char_count", char_count, METH_O, NULL},
-                                  
-                                  {"index", index_pieces, METH_VARARGS, NULL},    {"recode", recode, METH_VARARGS, NULL},
+static PyMethodDef functions[] = {{"supported", supported, METH_NOARGS, NULL},
+                                  {"kind_sentence", kind_sentence, METH_O, NULL},
+                                  {"fault", fault, METH_VARARGS, NULL},
+                                  {"boundary", boundary, METH_VARARGS, NULL},
+                                  {"check", check, METH_O, NULL},
+                                  {"char_count", char_count, METH_VARARGS, NULL},
+                                  {"index", index_pieces, METH_VARARGS, NULL},
+                                  {"recoded_len", recoded_len, METH_VARARGS, NULL},
+                                  {"recode", recode, METH_VARARGS, NULL},
+                                  {"decode", decode, METH_VARARGS, NULL},
+                                  {"replaced", replaced, METH_VARARGS, NULL},
+                                  {"handled", handled, METH_VARARGS, NULL},
                                   {NULL, NULL, 0, NULL}};
 
 static int begin_module(PyObject *module) {
-    PyType_Spec *specs[] = {&run_spec, &ends_spec, &recoder_spec};
-    const char *names[] = {"Run", "Ends", "Recoder"};
+    PyType_Spec *specs[] = {&run_spec, &ends_spec, &faults_spec, &recoder_spec};
+    const char *names[] = {"Run", "Ends", "Faults", "Recoder"};
     *(void **)&resize = dlsym(RTLD_DEFAULT, "_PyBytes_Resize");
-    for (int i = 0; i < 3; i++) {
+    for (int i = 0; i < 4; i++) {
         PyObject *type = PyType_FromSpec(specs[i]);
         if (type == NULL || PyModule_AddObject(module, names[i], type) < 0) {
             Py_XDECREF(type);
@@ -678,9 +893,21 @@ static int begin_module(PyObject *module) {
     return 0;
 }
 
-static PyModuleDef_Slot module_slots[] = {{Py_mod_exec, begin_module}, {0, NULL}};
-static struct PyModuleDef module_def = {PyModuleDef_HEAD_INIT, "_noddychest", NULL, 0, functions, module_slots, NULL, NULL, NULL};
+/* From 3.12 on a module says that each interpreter may load it, also one with a lock of its own. Older ones refuse the slot, which
+ * they do not know, so there are two definitions; one wheel serves both. (The numbers are those of the stable ABI, whose headers of
+ * 3.11 lack them.) */
+#ifndef Py_mod_multiple_interpreters
+#define Py_mod_multiple_interpreters 3
+#define Py_MOD_PER_INTERPRETER_GIL_SUPPORTED ((void *)2)
+#endif
+
+static PyModuleDef_Slot old_slots[] = {{Py_mod_exec, begin_module}, {0, NULL}};
+static PyModuleDef_Slot new_slots[] = {{Py_mod_exec, begin_module},
+                                       {Py_mod_multiple_interpreters, Py_MOD_PER_INTERPRETER_GIL_SUPPORTED},
+                                       {0, NULL}};
+static struct PyModuleDef old_module = {PyModuleDef_HEAD_INIT, "_noddychest", NULL, 0, functions, old_slots, NULL, NULL, NULL};
+static struct PyModuleDef new_module = {PyModuleDef_HEAD_INIT, "_noddychest", NULL, 0, functions, new_slots, NULL, NULL, NULL};
 
 PyMODINIT_FUNC PyInit__noddychest(void) {
-    return PyModuleDef_Init(&module_def);
+    return PyModuleDef_Init(version() < 0x030C0000 ? &old_module : &new_module);
 }

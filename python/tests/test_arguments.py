@@ -6,7 +6,7 @@ import tempfile
 import unittest
 
 import noddychest
-from noddychest import Decoder, Recoder, boundary, char_count, first_fault, is_valid, pieces, recode
+from noddychest import Decoder, Recoder, boundary, char_count, faults, first_fault, is_valid, pieces, recode, recoded_len
 
 CALLS = [
     pieces,
@@ -16,6 +16,11 @@ CALLS = [
     is_valid,
     char_count,
     lambda data: boundary(data, 1),
+    lambda data: faults(data, "utf16le"),
+    lambda data: pieces(data, "utf16be"),
+    lambda data: Decoder(data, "utf16be"),
+    lambda data: recoded_len(data, "utf8", "utf16be"),
+    lambda data: recode(data, "utf8", "utf8", "maximal"),
     lambda data: recode(data, "utf8", "utf16le"),
     lambda data: recode(data, "utf16le", "utf8", "strict"),
     Recoder("utf8", "utf8").feed,
@@ -76,7 +81,15 @@ class BytesLike(unittest.TestCase):
     def test_offsets(self):
         self.assertRaises(IndexError, boundary, b"abc", -1)
         self.assertRaises(TypeError, boundary, b"abc", 1.5)
-        self.assertEqual(boundary(b"abc", 2**40), 3)
+        for at in (3, 4, 2**31, 2**32, 2**40, 2**63 - 1, 2**63, 2**64, 10**30):
+            self.assertEqual(boundary(b"abc", at), 3)
+            self.assertEqual(boundary("é".encode(), at), 2)
+            self.assertEqual(boundary(b"", at), 0)
+        for at in (-1, -(2**31), -(2**63), -(2**63) - 1, -(10**30)):
+            self.assertRaises(IndexError, boundary, b"abc", at)
+        self.assertRaises(TypeError, boundary, b"abc", "1")
+        self.assertRaises(TypeError, boundary, b"abc", None)
+        self.assertEqual(boundary("é".encode(), True), 0)
 
 
 class Lifetime(unittest.TestCase):

@@ -5,6 +5,7 @@ import itertools
 import os
 import random
 import tempfile
+import time
 import unittest
 
 import noddychest
@@ -198,6 +199,228 @@ class Streams(unittest.TestCase):
         parts = [bytes([it]) for it in "né€😀".encode()]
         self.assertEqual("".join(codecs.iterdecode(parts, "noddychest-utf8")), "né€😀")
         self.assertEqual(b"".join(codecs.iterencode("né", "noddychest-utf16be")), b"\0n\0\xe9")
+
+
+class Offsets(unittest.TestCase):
+    """`offset` counts from the first byte of all input, wherever it was cut; `start` lies in `object`."""
+
+    def raised(self, work):
+        with self.assertRaises(FaultError) as raised:
+            work()
+        fault = raised.exception
+        self.assertEqual(fault.end - fault.start, len(fault.object[fault.start:fault.end]))
+        return fault
+
+    def inputs(self):
+        for name, encoding in outside.CODECS.items():
+            unit = "a".encode(encoding)
+            wrong = b"\xff" if encoding == "utf-8" else "\udc00".encode(encoding, "surrogatepass")
+            for count in (0, 1, 8191, 8192, 8193, 100_001):
+                yield name, "é".encode(encoding) + unit * count, wrong
+
+    def test_files(self):
+        with tempfile.TemporaryDirectory() as folder:
+            path = os.path.join(folder, "text")
+            for name, before, wrong in self.inputs():
+                with open(path, "wb") as file:
+                    file.write(before + wrong + before)
+                for newline in (None, ""):
+                    with open(path, encoding=name, newline=newline) as file:
+                        self.assertEqual(self.raised(file.read).offset, len(before))
+                    with open(path, encoding=name, newline=newline) as file:
+                        self.assertEqual(self.raised(lambda: [*iter(lambda: file.read(1000), "")]).offset, len(before))
+                with codecs.open(path, encoding=name) as file:
+                    self.assertEqual(self.raised(lambda: [*iter(lambda: file.read(100), "")]).offset, len(before))
+                    file.seek(0)
+                    self.assertEqual(self.raised(file.read).offset, len(before))
+
+    def test_files_that_tell_and_seek(self):
+        lines = "".join(f"Zeile {at} größer\n" for at in range(2000)).encode()
+        with tempfile.TemporaryDirectory() as folder:
+            path = os.path.join(folder, "text")
+            with open(path, "wb") as file:
+                file.write(lines + b"\xff\n" + lines)
+            for newline in (None, ""):
+                with open(path, encoding="noddychest-utf8", newline=newline) as file:
+
+                    def read():
+                        while file.readline():
+                            file.tell()
+
+                    self.assertEqual(self.raised(read).offset, len(lines))
+                    file.seek(0)
+                    self.assertEqual(self.raised(read).offset, len(lines))
+                    file.seek(0)
+                    file.readline()
+                    place = file.tell()
+                    file.readline()
+                    file.seek(place)
+                    self.assertEqual(file.readline(), "Zeile 1 größer\n")
+
+    def test_iterdecode(self):
+        for name, before, wrong in self.inputs():
+            data = before + wrong
+            for size in (1, 7, 4096):
+                parts = [data[at:at + size] for at in range(0, len(data), size)]
+                if len(parts) <= 20_000:
+                    self.assertEqual(self.raised(lambda: [*codecs.iterdecode(parts, name)]).offset, len(before))
+
+    def test_incremental(self):
+        for data in outside.inputs(2000, 12, seed=22):
+            for name, encoding in outside.CODECS.items():
+                try:
+                    data.decode(name)
+                    continue
+                except FaultError as fault:
+                    first = fault.offset
+                for parts in splits(data):
+                    decoder = codecs.getincrementaldecoder(name)()
+                    with self.assertRaises(FaultError) as raised:
+                        for at, part in enumerate(parts):
+                            decoder.decode(part, at == len(parts) - 1)
+                    self.assertEqual(raised.exception.offset, first, (parts, name))
+
+    def test_states(self):
+        decoder = codecs.getincrementaldecoder("noddychest-utf8")()
+        decoder.decode(b"abc\xe2\x82")
+        state = decoder.getstate()
+        self.assertEqual((state, type(state)), ((b"\xe2\x82", 0), tuple))
+        for _ in range(2):
+            decoder.setstate(state)
+            self.assertEqual(self.raised(lambda: decoder.decode(b"\xacx\xff")).offset, 7)
+        decoder.setstate((b"\xe2\x82", 0))  # one that another decoder has: it counts from there
+        self.assertEqual(self.raised(lambda: decoder.decode(b"\xacx\xff")).offset, 4)
+        decoder.reset()
+        self.assertEqual(self.raised(lambda: decoder.decode(b"\xff")).offset, 0)
+
+    def test_handlers_see_it(self):
+        seen = []
+        codecs.register_error("noddychest.offset", lambda error: (seen.append((error.offset, error.error)) or "", error.end))
+        data = b"a\xffb\xe2\x82c\xed\xa0"
+        data.decode("noddychest-utf8", "noddychest.offset")
+        whole, seen[:] = list(seen), []
+        "".join(codecs.iterdecode([bytes([it]) for it in data], "noddychest-utf8", "noddychest.offset"))
+        self.assertEqual([it[0] for it in whole], [1, 3, 4, 6, 7])
+        self.assertEqual(seen, whole)
+
+
+class OwnHandlers(unittest.TestCase):
+    """The interpreter's own handlers are not asked fault by fault. The text is the same, and it takes at most three times as long as
+    with the interpreter's codec."""
+
+    INVALID = [bytes(range(128, 256)) * 8000, b"\xff" * 1_000_000, b"a\x80" * 500_000, b"\xed\xa0\x80" * 333_333]
+
+    def test_as_asked(self):
+        for errors in ("ignore", "replace", "backslashreplace", "surrogateescape"):
+            own = codecs.lookup_error(errors)
+            codecs.register_error("noddychest.asked", lambda error: own(error))
+            for data in [*outside.inputs(4000, 30, seed=23), *(it[:3001] for it in self.INVALID), *self.mixed()]:
+                for name in outside.CODECS:
+                    self.assertEqual(told(data, name, errors), told(data, name, "noddychest.asked"), (data[:50], name, errors))
+
+    def mixed(self):
+        source = random.Random(24)
+        for _ in range(150):
+            parts = []
+            for _ in range(source.randint(1, 8)):
+                parts.append(source.choice(["a", "é", "€", "😀"]).encode() * source.choice([1, 15, 16, 17, 63, 64, 65, 500, 5000]))
+                parts.append(source.choice([b"\xff", b"\xe2\x82", b"\x80", b""]) * source.choice([1, 2, 33, 600, 5000]))
+            yield b"".join(parts)
+            yield b"".join(parts) + b"\0\xd8" * 700 + "é".encode("utf-16-le") * 300 + b"\xd8"
+
+    def test_other_handlers_under_their_names_are_asked(self):
+        own = codecs.lookup_error("ignore")
+        codecs.register_error("ignore", lambda error: ("[mine]", error.end))
+        try:
+            self.assertEqual(b"a\xff\xff".decode("noddychest-utf8", "ignore"), "a[mine][mine]")
+        finally:
+            codecs.register_error("ignore", own)
+        codecs.register_error("noddychest.renamed", own)
+        self.assertEqual(b"a\xff\xff".decode("noddychest-utf8", "noddychest.renamed"), "a")
+
+    def test_time(self):
+        for data in self.INVALID:
+            for errors in ("ignore", "replace", "backslashreplace", "surrogateescape", "noddychest.count"):
+                ratios = []
+                while len(ratios) < 6 and (not ratios or min(ratios) > 3):
+                    ratios.append(taken(data, "noddychest-utf8", errors) / taken(data, "utf-8", errors))
+                self.assertLessEqual(min(ratios), 3, (data[:4], errors))
+
+
+def taken(data, encoding, errors):
+    """The fewest seconds of processor time, of three runs, or of one that is long."""
+    times = []
+    while len(times) < 3 and sum(times) < 0.1:
+        begun = time.process_time()
+        data.decode(encoding, errors)
+        times.append(time.process_time() - begun)
+    return min(times)
+
+
+def told(data, encoding, errors):
+    try:
+        return data.decode(encoding, errors)
+    except UnicodeDecodeError as error:
+        return error.start, error.end, error.reason
+
+
+class WeirdHandlers(unittest.TestCase):
+    def test_names(self):
+        for errors in ("", "\0", "STRICT", "ignore ", "\udc80", "x" * 100_000):
+            self.assertRaises((LookupError, UnicodeEncodeError, ValueError), codecs.decode, b"\xff", "noddychest-utf8", errors or "\1")
+        for errors in (5, b"ignore", ["x"], object()):
+            self.assertRaises(TypeError, codecs.decode, b"\xff", "noddychest-utf8", errors)
+            self.assertRaises(TypeError, codecs.getincrementaldecoder("noddychest-utf8")(errors).decode, b"\xff")
+
+    def test_handlers(self):
+        class Odd:
+            __hash__ = None
+            __name__ = "ignore_errors"
+            __module__ = None
+
+            def __call__(self, error):
+                return "odd", error.end
+
+        codecs.register_error("noddychest.odd", Odd())
+        self.assertEqual(b"a\xff".decode("noddychest-utf8", "noddychest.odd"), "aodd")
+
+        class Text(str):
+            pass
+
+        class Number(int):
+            pass
+
+        codecs.register_error("noddychest.subclasses", lambda error: (Text("t" * 100), Number(error.end)))
+        self.assertEqual(b"\xff".decode("noddychest-utf8", "noddychest.subclasses"), "t" * 100)
+        codecs.register_error("noddychest.huge", lambda error: ("", 10**30))
+        codecs.register_error("noddychest.low", lambda error: ("", -(10**30)))
+        for errors in ("noddychest.huge", "noddychest.low"):
+            self.assertRaises(IndexError, b"\xff".decode, "noddychest-utf8", errors)
+        codecs.register_error("noddychest.surrogates", lambda error: ("\ud800" * 70, error.end))
+        self.assertEqual(b"\xffa\xff".decode("noddychest-utf8", "noddychest.surrogates"), "\ud800" * 70 + "a" + "\ud800" * 70)
+
+    def test_handler_that_decodes(self):
+        def deep(error):
+            return error.object[error.end:error.end + 1].decode("noddychest-utf8", "ignore"), error.end
+
+        codecs.register_error("noddychest.deep", deep)
+        self.assertEqual(b"\xffa\xff\xff".decode("noddychest-utf8", "noddychest.deep"), "aa")
+
+    def test_handler_that_shrinks_the_bytes(self):
+        def shrink(error):
+            error.object = error.object[:1]
+            return "", 1
+
+        codecs.register_error("noddychest.shrink", shrink)
+        self.assertEqual((b"\xff" * 100_000).decode("noddychest-utf8", "noddychest.shrink"), "")
+
+    def test_handler_that_raises(self):
+        codecs.register_error("noddychest.raise", lambda error: 1 / 0)
+        self.assertRaises(ZeroDivisionError, b"a\xff".decode, "noddychest-utf8", "noddychest.raise")
+        seen = []
+        codecs.register_error("noddychest.keep", lambda error: (seen.append(error) or "", error.end))
+        b"a\xff\xff".decode("noddychest-utf8", "noddychest.keep")
+        self.assertEqual((seen[0] is seen[1], seen[1].encoding), (True, "noddychest-utf8"))
 
 
 def fed(decoder, parts):

@@ -1,8 +1,10 @@
 """Pieces, the decoder from both ends, and the calls about whole bytes."""
 import collections.abc
 import itertools
+import os
 import pickle
 import random
+import re
 import sys
 import unittest
 
@@ -209,6 +211,17 @@ class Errors(unittest.TestCase):
     def test_are_an_enum(self):
         self.assertEqual([kind.value for kind in ErrorKind], list(range(1, 11)))
         self.assertEqual(len({kind.reason for kind in ErrorKind}), 10)
+
+    def test_reasons_are_those_of_the_library(self):
+        """The package has no sentences of its own: they are in the proved code, and come by its call."""
+        path = os.path.join(outside.TOP, "crates", "c_api", "src", "kinds.rt")
+        if not os.path.exists(path):
+            self.skipTest("the sentences are in the repository")
+        with open(path, encoding="utf-8") as file:
+            texts = [it.replace("\\0", "") for it in re.findall(r'text: \*b"(.*)"', file.read())]
+        names = [text.lower() for text in texts[:12]]
+        self.assertEqual([kind.reason for kind in ErrorKind], texts[12:][1:11])
+        self.assertEqual([kind.name.replace("_", "").lower() for kind in ErrorKind], names[1:11])
 
 
 if __name__ == "__main__":

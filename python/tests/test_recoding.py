@@ -12,6 +12,14 @@ FORMS = {"utf8": "utf-8", "utf16le": "utf-16-le", "utf16be": "utf-16-be"}
 PAIRS = [(source, to) for source in FORMS for to in FORMS]
 
 
+# What "é" is in each encoding, and its names: those of browsers (https://encoding.spec.whatwg.org/#names-and-labels), and Python's.
+NAMES = {
+    "c3a9": "unicode-1-1-utf-8 unicode11utf8 unicode20utf8 utf-8 utf8 x-unicode20utf8 utf_8".split(),
+    "e900": "csunicode iso-10646-ucs-2 ucs-2 unicode unicodefeff utf-16 utf-16le utf16le utf_16_le utf-16-le utf_16le utf16_le".split(),
+    "00e9": "unicodefffe utf-16be utf16be utf_16_be utf-16-be utf_16be utf16_be".split(),
+}
+
+
 def faults(data, form):
     return [at for at, char, _ in outside.cut(data, FORMS[form]) if char is None]
 
@@ -80,7 +88,12 @@ class AtOnce(unittest.TestCase):
 
     def test_names(self):
         self.assertEqual(recode(b"a", "UTF-8", "utf_16_le"), b"a\0")
-        for wrong in ("utf7", "", "utf16", 8, None):
+        for made, names in NAMES.items():
+            for name in names:
+                for it in (name, name.upper(), name.title(), f" {name}\t\n"):
+                    self.assertEqual(recode("é".encode("utf-16-le"), "utf-16le", it).hex(), made, it)
+                    self.assertEqual(Recoder(it, "utf8").feed(bytes.fromhex(made)), "é".encode(), it)
+        for wrong in ("utf7", "", "utf16", 8, None, b"utf8", [], "utf8\0", "utf-8-sig", "latin-1", "utf8\u00a0", "utf-16lé"):
             self.assertRaises(LookupError, recode, b"", wrong, "utf8")
             self.assertRaises(LookupError, recode, b"", "utf8", wrong)
         self.assertRaises(LookupError, recode, b"", "utf8", "utf8", "nonsense")

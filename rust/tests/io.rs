@@ -5,7 +5,10 @@ mod common;
 use common::Chance;
 use noddychest::io::{RecodingReader, RecodingWriter};
 use noddychest::{recode, recode_strict, Fault, Form, Recoder};
+use std::cell::RefCell;
 use std::io::{Error, ErrorKind, Read, Result, Write};
+use std::panic::{catch_unwind, AssertUnwindSafe};
+use std::rc::Rc;
 
 /// Gives and takes a few bytes at a time, and fails now and then.
 struct Halting {
@@ -147,4 +150,84 @@ fn after_a_fault_both_go_on() {
     assert!(writer.finish().is_err());
     writer.finish().expect("no fault");
     assert_eq!(writer.into_inner(), b"ab");
+}
+
+/// Keeps what is written where it outlives the writer, up to a number of calls; after these it fails, or panics.
+#[derive(Clone)]
+struct Shared {
+    bytes: Rc<RefCell<Vec<u8>>>,
+    calls: usize,
+    panics: bool,
+}
+
+impl Shared {
+    fn new(calls: usize, panics: bool) -> Shared {
+        Shared { bytes: Rc::default(), calls, panics }
+    }
+}
+
+impl Write for Shared {
+    fn write(&mut self, part: &[u8]) -> Result<usize> {
+        if self.calls == 0 {
+            assert!(!self.panics, "no more calls");
+            return Err(ErrorKind::BrokenPipe.into());
+        }
+        self.calls -= 1;
+        self.bytes.borrow_mut().extend(part);
+        Ok(part.len())
+    }
+
+    fn flush(&mut self) -> Result<()> {
+        panic!("nobody asked for it");
+    }
+}
+
+/// What a writer has written of these bytes once it was dropped.
+fn dropped(recoder: Recoder, bytes: &[u8]) -> Vec<u8> {
+    let shared = Shared::new(9, false);
+    let mut writer = RecodingWriter::new(shared.clone(), recoder);
+    while writer.write_all(bytes).is_err() {}
+    drop(writer);
+    shared.bytes.take()
+}
+
+#[test]
+fn a_dropped_writer_writes_what_it_has() {
+    assert_eq!(dropped(Recoder::new(Form::Utf8, Form::Utf16Le), b"a\xC3\xA9"), b"a\0\xE9\0");
+    assert_eq!(dropped(Recoder::new(Form::Utf8, Form::Utf8), b"a\xE2\x82"), "a\u{FFFD}\u{FFFD}".as_bytes());
+    assert_eq!(dropped(Recoder::strict(Form::Utf8, Form::Utf8), b"ab\xE2\x82"), b"ab");
+    let shared = Shared::new(9, false);
+    let mut writer = RecodingWriter::new(shared.clone(), Recoder::strict(Form::Utf8, Form::Utf8));
+    assert_eq!(writer.write(b"ab\xFFcd").expect("the front"), 3);
+    drop(writer);
+    assert_eq!(shared.bytes.take(), b"ab");
+}
+
+#[test]
+fn a_writer_that_was_taken_apart_or_finished_writes_nothing_when_dropped() {
+    let mut writer = RecodingWriter::new(Vec::new(), Recoder::new(Form::Utf8, Form::Utf8));
+    writer.write_all(b"lost\xC3").expect("all");
+    assert!(writer.into_inner().is_empty());
+    let mut out = Vec::new();
+    let mut writer = RecodingWriter::new(&mut out, Recoder::new(Form::Utf8, Form::Utf8));
+    writer.write_all(b"once\xC3").expect("all");
+    writer.finish().expect("all");
+    drop(writer);
+    assert_eq!(out, "once\u{FFFD}".as_bytes());
+}
+
+#[test]
+fn a_dropped_writer_ignores_errors_and_writes_nothing_after_a_panic_of_the_inner_one() {
+    let failing = Shared::new(0, false);
+    let mut writer = RecodingWriter::new(failing.clone(), Recoder::new(Form::Utf8, Form::Utf8));
+    writer.write_all(b"gathered").expect("all");
+    drop(writer);
+    assert!(failing.bytes.take().is_empty());
+    let panicking = Shared::new(0, true);
+    let mut writer = RecodingWriter::new(panicking.clone(), Recoder::new(Form::Utf8, Form::Utf8));
+    writer.write_all(b"gathered").expect("all");
+    // (a second panic, while the first unwinds, would end the process)
+    let told = catch_unwind(AssertUnwindSafe(move || writer.flush()));
+    assert!(told.is_err());
+    assert!(panicking.bytes.take().is_empty());
 }

@@ -16,8 +16,9 @@ use Rattle.cuts.specs.Fed.{IsFed}
 use Rattle.c_api.specs.declared.recodings.NodyRecoder.{NodyRecoder}
 use Rattle.c_api.specs.Whole.{IsLongerThan, IsFrontOfRecoded, IsRecodedLen}
 use Rattle.recoding.proofs.BoundLemmas.{recoded_bound}
+use Rattle.recoding.proofs.Earliest.{read_are_scalars}
 use Rattle.recoding.proofs.EnoughRoom.{feeds_in_room, room_is_left, finishes_in_room}
-use Rattle.recoding.proofs.FedParts.{nothing_is_fed, part_is_fed, fed_is_front, fed_is_recoded}
+use Rattle.recoding.proofs.FedParts.{nothing_is_fed, part_is_fed, fed_is_recoded}
 use Rattle.recoding.proofs.Growing.{recoded_once, recoded_nothing}
 
 -- room for one output is room for all, since there is no other
@@ -38,8 +39,16 @@ module _ (from to : Form) (s : Recoding) (bytes old new : List ℕ) (read wrote 
 
   pub fed_front : IsFrontOfRecoded from to bytes (take wrote new)
   fed_front out r =
-      let fed : IsFed from to (take read bytes) (take wrote new) s = record { once = f.feeds [] } in
-      fed_is_front from to (take read bytes) (drop read bytes) (take wrote new) out s fed (subst (λ xs. IsRecoded from to xs out) (sym (take-append-drop read bytes)) r)
+      let once = f.feeds [] in
+      let tail = recoded_once from to (s.held ++ drop read bytes) in
+      let all : IsRecoded from to (take read bytes ++ drop read bytes) (once.grows.grown ++ tail.0) = once.grows.continues (drop read bytes) tail.0 tail.1 in
+      let here : IsRecoded from to bytes (once.grows.grown ++ tail.0) = subst (λ xs. IsRecoded from to xs (once.grows.grown ++ tail.0)) (take-append-drop read bytes) all in
+      let only = recoded_once from to bytes in
+      let same : out ≡ once.grows.grown ++ tail.0 = only.2 out r ∙ sym (only.2 _ here) in (
+        tail.1.0,
+        read_are_scalars from (s.held ++ drop read bytes) tail.1.0 tail.1.1,
+        same ∙ ap (λ xs. xs ++ tail.0) (sym once.grows.appended) ∙ ap (λ xs. take wrote new ++ xs) tail.1.2,
+      )
 
   -- And where all was read.
   module _ (t : Recoding) (rest after : List ℕ) (last : ℕ) (all : read ≡ length bytes) (g : FinishesInto s rest after last t) where
@@ -71,7 +80,9 @@ module _ (from to : Form) (s : Recoding) (bytes old new : List ℕ) (read wrote 
         let here : IsRecoded from to bytes (once.grows.grown ++ (take last after ++ tail.0)) = rw (append-nil bytes) at all in
         let only = recoded_once from to bytes in
         let same : out ≡ once.grows.grown ++ (take last after ++ tail.0) = only.2 out r ∙ sym (only.2 _ here) in
-        (tail.0, same ∙ ap (λ xs. xs ++ (take last after ++ tail.0)) (sym once.grows.appended) ∙ sym (append_assoc (take wrote new) (take last after) tail.0))
+        let joined : out ≡ (take wrote new ++ take last after) ++ tail.0 =
+        same ∙ ap (λ xs. xs ++ (take last after ++ tail.0)) (sym once.grows.appended) ∙ sym (append_assoc (take wrote new) (take last after) tail.0) in
+        (tail.1.0, read_are_scalars from t.held tail.1.0 tail.1.1, joined ∙ ap (λ xs. (take wrote new ++ take last after) ++ xs) tail.1.2)
 
 -- Bytes that are fed in parts, of which only the number of bytes that come is kept.
 

@@ -8,7 +8,7 @@ use Rattle.cuts.specs.declared.Outcome.{Outcome}
 use Rattle.cuts.specs.declared.Outcome.TheVariants.{AllRead, Full, Faulty}
 use Rattle.cuts.specs.declared.StrictProgress.{StrictProgress}
 use Rattle.cuts.specs.Recoded.{Recoding, fresh}
-use Rattle.cuts.specs.Rooms.{IsAmple}
+use Rattle.cuts.specs.Rooms.{IsAmpleForText}
 use Rattle.cuts.specs.Strict.{RecodesText, BeginsFault, EndsInFault, EndsFeed, EndsFinish, FeedsStrictly, FinishesStrictly}
 use Rattle.c_api.specs.Whole.{EndsWhole, RecodesStrictly, fault_unread, unrecoded}
 use Rattle.c_api.proofs.WholeRuns.{length_both, written_both, kept_both}
@@ -155,7 +155,7 @@ room_is_short from to bytes old new p f e =
     let long = subst (λ o. EndsWhole from to o (drop p.read bytes) (length old - p.written)) e f.ends in
     omega (arith, few_written to long.scalar, long.longer, f.recodes.fits)
 
-pub room_is_enough : (from to : Form) (bytes old new : List ℕ) (p : StrictProgress) → RecodesStrictly from to bytes old new p → length new ≡ length old → IsAmple (length old) (length bytes)
+pub room_is_enough : (from to : Form) (bytes old new : List ℕ) (p : StrictProgress) → RecodesStrictly from to bytes old new p → length new ≡ length old → IsAmpleForText (length old) (length bytes)
     → p.outcome ≡ Full → ⊥
 room_is_enough from to bytes old new p f same enough e =
     enough_room f.recodes same enough (subst (λ o. EndsWhole from to o (drop p.read bytes) (length old - p.written)) e f.ends)

@@ -209,7 +209,7 @@ sentence_at =
     spelled (codes "too high: the value is above 10FFFF") ∷
     spelled (codes "unexpected trailing surrogate: no leading one stands before it") ∷
     spelled (codes "unmatched leading surrogate: no trailing one follows it") ∷
-    spelled (codes "incomplete: the input ends after a leading surrogate") ∷
+    spelled (codes "incomplete: the input ends inside a character of UTF-16") ∷
     spelled (codes "nothing is left") ∷ []
 
 abbrev pub sentence_of : ℕ → List ℕ

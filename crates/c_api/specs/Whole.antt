@@ -1,19 +1,20 @@
 -- What a whole input is recoded as, for calls that are given all of it.
-use Rattle.std.specs.Prelude.{◌≡◌, ℕ, ◌-◌, ◌<◌, ◌≤◌, ◌^◌, List, [], ◌++◌, length, drop, min}
+use Rattle.std.specs.Prelude.{◌≡◌, ℕ, ◌-◌, ◌<◌, ◌≤◌, ◌^◌, List, All, [], ◌++◌, length, drop, flat_map, min}
+use Rattle.utf_base.specs.Scalar.{IsScalar}
 use Rattle.cuts.specs.declared.Form.{Form}
 use Rattle.cuts.specs.declared.Outcome.{Outcome}
 use Rattle.cuts.specs.declared.Outcome.TheVariants.{AllRead, Full, Faulty}
 use Rattle.cuts.specs.declared.StrictProgress.{StrictProgress}
-use Rattle.cuts.specs.Recoded.{IsRecoded}
+use Rattle.cuts.specs.Recoded.{IsRecoded, written}
 use Rattle.cuts.specs.Strict.{RecodesText, IsTooLong, EndsInFault}
 
 -- what the bytes are recoded as has more bytes than that
 abbrev pub IsLongerThan : Form → Form → List ℕ → ℕ → Type 0
 IsLongerThan from to bytes room = (out : List ℕ) → IsRecoded from to bytes out → room < length out
 
--- what the bytes are recoded as begins with these
+-- What the bytes are recoded as begins with these, and then come the codes of characters: so these end after a whole character.
 abbrev pub IsFrontOfRecoded : Form → Form → List ℕ → List ℕ → Type 0
-IsFrontOfRecoded from to bytes front = (out : List ℕ) → IsRecoded from to bytes out → (rest : List ℕ) × (out ≡ front ++ rest)
+IsFrontOfRecoded from to bytes front = (out : List ℕ) → IsRecoded from to bytes out → (ss : List ℕ) × All IsScalar ss × (out ≡ front ++ flat_map (written to) ss)
 
 -- what the bytes are recoded as has so many bytes, or more than a `usize` can count, all whose bits are then set
 abbrev pub IsRecodedLen : Form → Form → List ℕ → ℕ → Type 0

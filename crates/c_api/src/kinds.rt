@@ -137,7 +137,7 @@ static SENTENCES: [NodySentence; 12] = [
         text: *b"unmatched leading surrogate: no trailing one follows it\0\0\0\0\0\0\0\0\0",
     },
     NodySentence {
-        text: *b"incomplete: the input ends after a leading surrogate\0\0\0\0\0\0\0\0\0\0\0\0",
+        text: *b"incomplete: the input ends inside a character of UTF-16\0\0\0\0\0\0\0\0\0",
     },
     NodySentence {
         text: *b"nothing is left\0\0\0\0\0\0\0\0\0\0\0\0\0\0\0\0\0\0\0\0\0\0\0\0\0\0\0\0\0\0\0\0\0\0\0\0\0\0\0\0\0\0\0\0\0\0\0\0\0",

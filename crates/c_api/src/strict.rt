@@ -1,6 +1,6 @@
 //! Recoding into room of the caller's that stops at the first fault.
 ghost use Rattle.std.specs.Prelude.{◌≡◌, ◌≢◌, ◌+◌, ◌*◌, ◌<◌, length};
-ghost use Rattle.cuts.specs.Rooms.{ComesNearer, IsAmple};
+ghost use Rattle.cuts.specs.Rooms.{ComesNearer, IsAmpleForText};
 ghost use Rattle.cuts.specs.Strict.{FeedsStrictly, FinishesStrictly};
 ghost use Rattle.c_api.specs.Api.{IfRecoder, IsRecoder, TellsOutcome, fault_as, no_fault, told};
 
@@ -70,7 +70,7 @@ pub extern "C" fn nody_recoder_feed_strict(
     ensures all { IsRecoder recoder.old → result ≡ 0 → read.new ≡ length part.now }
     ensures short { IsRecoder recoder.old → result ≡ 1 → length room.old < written.new + 4 }
     ensures enough { IsRecoder recoder.old →
-        IsAmple (length room.old) (recoder.old.count + length part.now) → result ≢ 1 }
+        IsAmpleForText (length room.old) (recoder.old.count + length part.now) → result ≢ 1 }
     ensures nearer { IfRecoder recoder.old recoder.new (ComesNearer part.now room.old read.new) }
     ensures uncounted { recoder.new.replaced ≡ recoder.old.replaced }
     ensures refused { result ≡ 2 → (recoder.new ≡ recoder.old) × (room.new ≡ room.old) }
@@ -110,7 +110,7 @@ pub extern "C" fn nody_recoder_finish_strict(
         0 written.new result fault.new) }
     ensures all { IsRecoder recoder.old → result ≡ 0 → recoder.new.count ≡ 0 }
     ensures short { IsRecoder recoder.old → result ≡ 1 → length room.old < written.new + 4 }
-    ensures enough { IsRecoder recoder.old → IsAmple (length room.old) recoder.old.count → result ≢ 1 }
+    ensures enough { IsRecoder recoder.old → IsAmpleForText (length room.old) recoder.old.count → result ≢ 1 }
     ensures uncounted { recoder.new.replaced ≡ recoder.old.replaced }
     ensures refused { result ≡ 2 → (recoder.new ≡ recoder.old) × (room.new ≡ room.old) }
     ensures none { result ≡ 2 → (written.new ≡ 0) × (fault.new ≡ no_fault) }

@@ -1,5 +1,5 @@
 //! Recoding of a whole input in one call.
-ghost use Rattle.std.specs.Prelude.{◌≡◌, ◌-◌, ◌<◌, ◌≤◌, ◌^◌, length, take, drop};
+ghost use Rattle.std.specs.Prelude.{◌≡◌, ◌+◌, ◌-◌, ◌<◌, ◌≤◌, ◌^◌, length, take, drop};
 ghost use Rattle.cuts.specs.Recoded.{IsRecoded};
 ghost use Rattle.c_api.specs.Whole.{IsLongerThan, IsFrontOfRecoded, IsRecodedLen};
 ghost use Rattle.c_api.specs.Api.{IfForms, IsForm, form_of};
@@ -27,6 +27,7 @@ pub extern "C" fn nody_recode(
     ensures full { result ≡ 1 → IsLongerThan (form_of from) (form_of to) bytes.now (length room.old) }
     ensures front { result ≡ 1 →
         IsFrontOfRecoded (form_of from) (form_of to) bytes.now (take written.new room.new) }
+    ensures short { result ≡ 1 → length room.old < written.new + 4 }
     ensures status { IsForm from → IsForm to → result < 2 }
     ensures refused { result ≡ 2 → (written.new ≡ 0) × (room.new ≡ room.old) }
     ensures from { ¬ IsForm from → result ≡ 2 }

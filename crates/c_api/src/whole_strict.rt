@@ -1,7 +1,7 @@
 //! Recoding of a whole input in one call, up to its first fault.
 ghost use Rattle.std.specs.Prelude.{◌≡◌, ◌≢◌, ◌+◌, ◌-◌, ◌*◌, ◌<◌, ◌≤◌, length};
 ghost use Rattle.c_api.specs.Api.{IfForms, IsForm, TellsOutcome, no_fault};
-ghost use Rattle.cuts.specs.Rooms.{IsAmple};
+ghost use Rattle.cuts.specs.Rooms.{IsAmpleForText};
 ghost use Rattle.c_api.specs.Whole.{RecodesStrictly, fault_unread, unrecoded};
 
 use crate::recodings::{REFUSED, form_of};
@@ -25,7 +25,7 @@ pub extern "C" fn nody_recode_strict(
         read.new written.new result fault.new) }
     ensures all { result ≡ 0 → read.new ≡ length bytes.now }
     ensures short { result ≡ 1 → length room.old < written.new + 4 }
-    ensures enough { IsAmple (length room.old) (length bytes.now) → result ≢ 1 }
+    ensures enough { IsAmpleForText (length room.old) (length bytes.now) → result ≢ 1 }
     ensures refused { result ≡ 2 → (read.new ≡ 0) × (written.new ≡ 0) × (room.new ≡ room.old) }
     ensures none { result ≡ 2 → fault.new ≡ no_fault }
     ensures are_forms { IsForm from → IsForm to → result ≢ 2 }
@@ -51,7 +51,7 @@ fn recode_strictly(from: Form, to: Form, bytes: &[u8], room: &mut [u8]) -> Stric
     ensures recodes { RecodesStrictly from to bytes.now room.old room.new result }
     ensures all { result.outcome ≡ Outcome.AllRead → result.read ≡ length bytes.now }
     ensures short { result.outcome ≡ Outcome.Full → length room.old < result.written + 4 }
-    ensures enough { IsAmple (length room.old) (length bytes.now) → result.outcome ≢ Outcome.Full }
+    ensures enough { IsAmpleForText (length room.old) (length bytes.now) → result.outcome ≢ Outcome.Full }
 {
     let mut recoder = Recoder::new(from, to);
     let fed = recoder.feed_strict_into(bytes, room);

@@ -64,10 +64,6 @@ placed_down xs a n b t down room =
     rw (first_two (take t xs) (take n (drop a xs)) zs t n front mid, later, there, past_two (take t xs) (take n (drop a xs)) zs t n b front mid, drop-drop b (t + n) xs, together xs a n b, append_assoc, append_assoc, sum)
     refl
 
--- none are moved
-pub copy_none : {X : Type 0} (xs : List X) (a t : ℕ) → copy_within xs a a t ≡ xs
-copy_none xs a t = grind (arith, common_steps)
-
 -- those of the second part to a place after, and then those of the first
 pub copied_up : {X : Type 0} (xs : List X) (a b n t : ℕ) → a ≤ t → t + (b + n) ≤ length xs
     → copy_within (copy_within xs (a + b) (a + b + n) (t + b)) a (a + b) t ≡ copy_within xs a (a + b + n) t

@@ -9,7 +9,10 @@ use Rattle.utf_base.specs.Front.{BeginsWith}
 use Rattle.utf_base.specs.Kinds.{fault_kind}
 use Rattle.utf_base.specs.Piece.{Inside, Stands}
 use Rattle.utf_base.specs.declared.errors.Utf8ErrorKind.{Utf8ErrorKind}
-use Rattle.encode_unicode.proofs.ForCallers.{utf8_is_code, front_char, length_utf8, no_code_where_fault, same_char}
+use Rattle.utf_base.proofs.Cuts.{front_char}
+use Rattle.utf_base.proofs.FrontLemmas.{no_code_where_fault}
+use Rattle.utf_base.proofs.Standing.{same_char}
+use Rattle.utf_base.proofs.Utf8Code.{utf8_is_code, length_utf8}
 use Rattle.cuts.specs.PieceBoundaries.{IsBetween, IsCodeOver, IsEndFrom, IsFirstBetween, IsLastBetween}
 
 -- no code that begins from the place i on and before j lies over p

@@ -12,8 +12,8 @@ use Rattle.utf_base.proofs.Utf8Code.{length_utf8}
 use Rattle.encode_unicode.specs.Mergers.{merged}
 use Rattle.encode_unicode.specs.Pieces.{LiesWithin, pieces}
 use Rattle.encode_unicode.specs.Window.{Item}
-use Rattle.encode_unicode.proofs.AsciiPieces.{merged_alike}
-use Rattle.encode_unicode.proofs.Joined.{some_utf8}
+use Rattle.encode_unicode.proofs.ForCallers.{merged_alike}
+use Rattle.utf_base.proofs.JoinedLengths.{some_utf8}
 use Rattle.cuts.specs.ForwardRuns.{IsForwardRun, faulty_item_count}
 use Rattle.cuts.specs.Items.{piece_of}
 use Rattle.cuts.specs.WellFormed.{IsFirstFault}

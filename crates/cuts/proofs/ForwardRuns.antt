@@ -15,7 +15,7 @@ use Rattle.utf_base.proofs.Utf8Code.{utf8_is_code}
 use Rattle.utf_base.proofs.Utf16Code.{utf16_is_code}
 use Rattle.encode_unicode.specs.Window.{Window, Placed, Item, UnitItem, elements, whole_window, without_front, GivesFrontOf, GivesFront, GivesFrontUnits, GivesNone, IsFrontOf}
 use Rattle.encode_unicode.specs.Pieces.{pieces, pieces_left}
-use Rattle.encode_unicode.proofs.ItemCodes.{begins_taken, begins_there}
+use Rattle.utf_base.proofs.FrontCodes.{begins_taken, begins_there}
 use Rattle.encode_unicode.proofs.Listed.{decoder_listed}
 use Rattle.cuts.specs.Items.{IsRun}
 use Rattle.cuts.specs.ForwardRuns.{IsForwardRun}

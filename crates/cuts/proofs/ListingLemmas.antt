@@ -8,7 +8,7 @@ use Rattle.cuts.specs.ForwardRuns.{is_fault}
 use Rattle.cuts.specs.Layouts.{WritesListing, WritesListingFront}
 use Rattle.cuts.specs.Listings.{listing}
 use Rattle.cuts.proofs.ForwardRuns.{IsRunSoFar, IsRunSoFar-none, IsRunSoFar-push, IsForwardRun-all, item_some, GoesOn-always}
-use Rattle.cuts.proofs.Fronts.{AppendsFront-none, AppendsFront-all, AppendsFront-first}
+use Rattle.cuts.proofs.Fronts.{AppendsFront-none, AppendsFront-first}
 use Rattle.cuts.proofs.LineLemmas.{AppendsFront-held, HoldsLines, HoldsLines-none, HoldsLines-push, HoldsLines-sent, Sends, WritesLines-held, flat_map-append}
 
 -- a test counts one at most
@@ -74,11 +74,6 @@ pub WritesListingFront-failed : {xs : List ℕ} {old mid new : Option (List ℕ)
     → IsListedSoFar xs old mid held faults w → AppendsFront mid new held → WritesListingFront xs old new
 WritesListingFront-failed {xs} {old} {mid} {new} {held} {faults} {w} f front =
     WritesListingFront-so_far xs old new f.items w f.run (AppendsFront-held item_line is_fault f.items old mid new held faults f.lines front)
-
--- the whole listing is a front of it
-pub WritesListingFront-all : (xs : List ℕ) (old new : Option (List ℕ)) (faults : ℕ) → WritesListing xs old new faults → WritesListingFront xs old new
-WritesListingFront-all xs old new faults h =
-    record { entries = h.entries; run = h.run; written = AppendsFront-all old new (listing h.entries) h.lines.written }
 
 -- and so is nothing
 pub WritesListingFront-none : (xs : List ℕ) (held : Option (List ℕ)) → WritesListingFront xs held held

@@ -1,6 +1,6 @@
 -- A run of a program, and then a flush of its output.
 use Rattle.std.proofs.Common.{◌≡◌, ℕ, ◌<◌, ◌≤◌, inl, inr, ⊎_elim, List, Option, ap, sym, ◌∙◌, subst, arith, flat_map}
-use Rattle.std.specs.Prelude.{take, ⊤}
+use Rattle.std.specs.Prelude.{take}
 use Rattle.std.proofs.lemmas.Bool.{cases_lt}
 use Rattle.std.specs.Io.KnownBytes.{Keeps}
 use Rattle.std.proofs.KnownBytes.{Appends-kept}
@@ -89,8 +89,3 @@ ends_early {name} says out {mid} {new} {f} {h} {status} early unbroken silent ot
       told = same.0 ∙ ends.told;
     })
     (cases_lt status 2)
-
--- the same where nothing is said of the output
-pub of_any_output : {name : List ℕ} {reads writes : Stop → Type 0} {says : List ℕ → Type 0} {status : ℕ} → EndsEarly name reads writes says status
-    → EndsEarly name reads (λ reason. ⊤) says status
-of_any_output ends = record { reason = ends.reason; input = ends.input; output = tt; line = ends.line; told = ends.told }

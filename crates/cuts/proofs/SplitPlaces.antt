@@ -7,8 +7,7 @@ use Rattle.std.specs.Prelude.{IfSome, if◌then◌else◌}
 use Rattle.std.specs.Iterator.{YieldsLast}
 use Rattle.std.specs.Iterator.Runs.{EveryRun}
 use Rattle.std.specs.List.{All, join_with_byte}
-use Rattle.encode_unicode.proofs.AsciiPieces.{ascii_before, ascii_after}
-use Rattle.encode_unicode.proofs.PieceRuns.{listed_run, listed_run_back}
+use Rattle.encode_unicode.proofs.ForCallers.{ascii_before, ascii_after, listed_run, listed_run_back}
 use Rattle.encode_unicode.specs.AsciiBytes.{IsAsciiAt}
 use Rattle.encode_unicode.specs.Pieces.{Gives, GivesReversed}
 use Rattle.encode_unicode.specs.Sources.{IsListed}

@@ -12,7 +12,7 @@ use Rattle.recoding.specs.Recoded.{Recoding, fresh}
 use Rattle.recoding.specs.Strict.{Transcodes, FeedsStrictly, EndsFeed, kind_of}
 use Rattle.recoding.proofs.StrictSteps.{fault_few}
 use Rattle.recoding.proofs.TextRuns.{Transcodes-none, Transcodes-then}
-use Rattle.cuts.specs.StrictRelayed.{BeginsTranscoded, HoldsText, StopsFaulty, WritesText, PassesText, PassesTextFront, PassesTextLast, StopsText, IsFollowed}
+use Rattle.cuts.specs.StrictRelayed.{BeginsTranscoded, StopsFaulty, WritesText, PassesText, PassesTextFront, PassesTextLast, StopsText, IsFollowed}
 use Rattle.cuts.specs.declared.programs.strict.FaultAt.{FaultAt}
 use Rattle.cuts.proofs.Fronts.{AppendsFront-all, AppendsFront-then}
 
@@ -151,29 +151,6 @@ module _ {from to : Form} {in_old in_mid out_old out_mid : Option (List ℕ)} {f
       bytes_of_input None b xs h i = tt
       bytes_of_input (Some zs) None xs h i = absurd h
       bytes_of_input (Some zs) (Some us) xs h i = sym (h ∙ ap (λ w. xs ++ w) i ∙ append-nil xs)
-
-  -- so many reads found no end in fewer bytes, so one failed
-  pub IsTextRelayed-long : (most : ℕ) → most ≤ n → IfSome in_old (λ xs. length xs < most → f < g)
-  IsTextRelayed-long most le = by_bytes in_old in_mid (now.text ++ r.held) now.read now.paced
-    where
-      by_bytes : (a b : Option (List ℕ)) (xs : List ℕ) → Consumes a b xs → (f < g) ⊎ (n ≤ length xs) → IfSome a (λ ys. length ys < most → f < g)
-      by_bytes None b xs h paced = tt
-      by_bytes (Some zs) None xs h paced = absurd h
-      by_bytes (Some zs) (Some us) xs h paced = λ few.
-          let e = ap length h in
-          ⊎_elim (λ (failed : f < g). failed) (λ (each : n ≤ length xs). absurd (omega (arith, length-append xs us))) paced
-
-  -- a read failed, so no more was written
-  pub HoldsText-now : (in_new : Option (List ℕ)) → Keeps in_mid in_new → HoldsText from to in_old in_new out_old out_mid
-  HoldsText-now in_new keeps = record {
-    text = now.text;
-    held = r.held;
-    grown = now.grown;
-    few = now.few;
-    read = Consumes-kept in_old in_mid in_new (now.text ++ r.held) now.read keeps;
-    transcodes = now.transcodes;
-    written = now.written;
-  }
 
   pub BeginsText-now : (in_new : Option (List ℕ)) → Keeps in_mid in_new → BeginsTranscoded from to in_old in_new out_old out_mid
   BeginsText-now in_new keeps = record {

@@ -1,6 +1,6 @@
 -- The run over bytes of which a part was replaced: old pieces before it, new ones, and old ones after it. They meet at
 -- fixed places.
-use Rattle.std.proofs.Common.{◌≡◌, ℕ, suc, ◌+◌, ◌-◌, ◌^◌, ◌<◌, ◌≤◌, List, [], ◌∷◌, ◌++◌, length, get_or, take, drop, map, arith, refl, ap, ap₂, sym, ◌∙◌, ⊎_elim, append_assoc, length-take, length-drop, Ok, Err, Result, Some, true, false, true≢false, ltb, ltb-true, ltb-false}
+use Rattle.std.proofs.Common.{◌≡◌, ℕ, suc, ◌+◌, ◌-◌, ◌<◌, ◌≤◌, List, [], ◌∷◌, ◌++◌, length, get_or, take, drop, map, arith, refl, ap, ap₂, sym, ◌∙◌, ⊎_elim, append_assoc, length-take, length-drop, Ok, Err, Result, Some, true, false, true≢false, ltb, ltb-true, ltb-false}
 use Rattle.std.proofs.lemmas.Bool.{cases_lt}
 use Rattle.std.proofs.lemmas.Grind.{common_steps}
 use Rattle.std.proofs.lemmas.List.{map-append, take-append-drop, take-map, drop-map, get_or-map, get_or-take, get_or-drop, length-map, length-take-le}
@@ -361,18 +361,6 @@ splice_nothing xs s = sym (take-append-drop s xs)
 pub same_bytes : (xs new : List ℕ) (s e : ℕ) → s ≡ e → length new ≡ 0 → xs ≡ splice xs s e new
 same_bytes xs [] s e same none = rw same (splice_nothing xs e)
 same_bytes xs (y ∷ new) s e same none = absurd (omega arith)
-
-pub WereReplaced-nothing : (xs : List ℕ) (s : ℕ) (items : List Item) → s ≤ length xs → length xs + 3 < 2 ^ 64 → IsForwardRun xs items → WereReplaced xs s s s items
-WereReplaced-nothing xs s items within small run = record {
-  old = xs;
-  new = [];
-  ordered = omega arith;
-  within = within;
-  small = small;
-  ends = omega arith;
-  replaced = splice_nothing xs s;
-  run = run;
-}
 
 pub StayAround-same : (items : List Item) (s e t : ℕ) → e ≡ t → StayAround items items s e t
 StayAround-same items s e t same x = (

@@ -16,7 +16,7 @@ use Rattle.utf_base.proofs.JoinedCodes.{no_fault_in_joined_codes}
 use Rattle.utf_base.proofs.StdText.{utf8_is_text}
 use Rattle.utf_base.proofs.Utf8Code.{utf8_is_code}
 use Rattle.encode_unicode.specs.Window.{Item}
-use Rattle.encode_unicode.proofs.TextScalars.{joined_from_text}
+use Rattle.utf_base.proofs.TextScalars.{joined_from_text}
 use Rattle.cuts.specs.Layouts.{WritesListing}
 use Rattle.cuts.specs.Items.{piece_of, answers_of}
 use Rattle.cuts.specs.ForwardRuns.{IsForwardRun, faulty_item_count}

@@ -21,7 +21,7 @@ use Rattle.utf_base.proofs.Utf8Code.{utf8_is_code}
 use Rattle.encode_unicode.specs.BackPieces.{AreTurned, ending_at, pieces_back, pieces_back_by}
 use Rattle.encode_unicode.specs.Pieces.{pieces}
 use Rattle.encode_unicode.specs.Window.{Item, as_piece}
-use Rattle.encode_unicode.proofs.BackPieces.{back_more, back_none, some_end_bytes}
+use Rattle.encode_unicode.proofs.ForCallers.{back_more, back_none, some_end_bytes}
 use Rattle.cuts.proofs.ForwardRuns.{pieces_are_the_run}
 
 -- the last piece of what is left

@@ -1,5 +1,5 @@
 -- The first fault of bytes that are UTF-16.
-use Rattle.std.proofs.Common.{◌≡◌, ℕ, ◌+◌, ◌*◌, ◌/◌, ◌<◌, ◌≤◌, ⊎_elim, Bool, List, [], ◌∷◌, length, get_or, drop, arith, refl, sym, ◌∙◌, Some, length-drop}
+use Rattle.std.proofs.Common.{◌≡◌, ℕ, ◌+◌, ◌*◌, ◌/◌, ◌<◌, ◌≤◌, ⊎_elim, Bool, List, [], ◌∷◌, length, get_or, drop, arith, refl, Some, length-drop}
 use Rattle.std.proofs.lemmas.Bool.{cases_lt}
 use Rattle.std.proofs.lemmas.List.{take_rest}
 use Rattle.utf_base.specs.Code.{utf16}
@@ -43,13 +43,6 @@ in_two u v ys s h =
     stands_in_part utf16 (u ∷ v ∷ ys) 0 2 0 0 s refl (omega arith) h (omega arith)
 
 module _ (high : Bool) (w : List ℕ) where
-  pub one_begins : (s n : ℕ) → 2 ≤ length w → length w < 4 → BeginsWith utf16 (unit_of high (get_or w 0 0) (get_or w 1 0) ∷ []) s n → BeginsUnits high w 2
-  one_begins s n some few (h, e) =
-      let within = h.within in
-      let least = utf16_is_code.some s h.scalar in
-      let one : n ≡ 1 = omega arith in
-      record { char = s; begins = rw (one_unit high w some few) (h, sym one ∙ e); even = refl; within = some; least = omega arith }
-
   pub none_begins : (k : Utf16SliceError) → 2 ≤ length w → length w < 4 → slice_fault (unit_of high (get_or w 0 0) (get_or w 1 0) ∷ []) ≡ Some k → NoUnitsBegin high w
   none_begins k some few e _ = rw (one_unit high w some few) (λ s h. no_units_where_fault _ k s e h)
 

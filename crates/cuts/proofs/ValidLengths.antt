@@ -17,7 +17,7 @@ use Rattle.utf_base.proofs.FrontLemmas.{code_where_no_fault}
 use Rattle.utf_base.proofs.UnitLemmas.{units_where_no_kind}
 use Rattle.encode_unicode.specs.Pieces.{pieces, pieces_by, unit_pieces}
 use Rattle.encode_unicode.specs.Window.{Placed, Item, as_piece}
-use Rattle.encode_unicode.proofs.PieceRuns.{some_bytes, some_units}
+use Rattle.encode_unicode.proofs.ForCallers.{some_bytes, some_units}
 use Rattle.cuts.specs.WellFormed.{IsFirstFault, valid_len}
 use Rattle.recoding.proofs.FirstFaults.{IsGoodTo, good_front, good_bytes, good_units, good_all, first_fault, first_pair_fault}
 

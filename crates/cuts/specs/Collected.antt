@@ -3,13 +3,8 @@ use Rattle.std.specs.Prelude.{◌≡◌, ℕ, List, map, Option, Result, Ok}
 use Rattle.utf_base.specs.Code.{utf16}
 use Rattle.utf_base.specs.CutLaws.{IsJoined}
 use Rattle.utf_base.specs.Units.{unit_fault_kind}
-use Rattle.encode_unicode.specs.Sources.{IsListed}
 use Rattle.encode_unicode.specs.Window.{Placed, UnitItem}
 use Rattle.cuts.specs.Items.{IsRun, answers_of}
-
--- P holds of whatever lists the states of a source still give
-abbrev pub WhateverIsLeft : {S A : Type 0} → (S → Option A → S → Type 0) → ((S → List A) → Type 0) → Type 0
-WhateverIsLeft {S} {A} steps P = (rest : S → List A) → IsListed steps rest → P rest
 
 -- the items are the pieces of the units in order, the faults with their forward kinds
 abbrev pub IsUnitRun : List ℕ → List UnitItem → Type 0

@@ -86,12 +86,14 @@ FlushFailsOrStays old new CannotWrite = (old.failures < new.failures) ⊎ (old.o
 FlushFailsOrStays old new NoMemory = new ≡ old
 
 -- Where reads are counted and a program could not read, one of them failed, but for a reader of as many bytes as there are
--- reads; where it ended for another reason, no read failed. `source` is all that the trait `Source` tells of a reader.
+-- reads; where it ended for another reason, no read failed; and where it could not write, it had read all. `source` is all that
+-- the trait `Source` tells of a reader.
 abbrev pub ReadsUntil : {R : Type 0} → Source.Ghosts R → R → R → Stop → Type 0
 ReadsUntil source old new CannotRead =
     IsTrue source.is_counted → IfSome (source.remaining old) (λ xs. length xs < 2 ^ 64 - 1 → source.failures old < source.failures new)
 ReadsUntil source old new WrongArguments = IsTrue source.is_counted → NoFailedRead (source.reads old) (source.reads new)
-ReadsUntil source old new CannotWrite = IsTrue source.is_counted → NoFailedRead (source.reads old) (source.reads new)
+ReadsUntil source old new CannotWrite =
+    (IsTrue source.is_counted → NoFailedRead (source.reads old) (source.reads new)) × IsDrained (source.remaining old) (source.remaining new)
 ReadsUntil source old new NoMemory = IsTrue source.is_counted → NoFailedRead (source.reads old) (source.reads new)
 
 -- the same of a reader whose reads are counted

@@ -1,10 +1,12 @@
 -- Bytes recoded on their way from a reader to a writer.
-use Rattle.std.specs.Prelude.{◌≡◌, ℕ, ◌≤◌, List, [], length, Option, IfSome}
+use Rattle.std.specs.Prelude.{◌≡◌, ℕ, ◌≤◌, List, [], length, Option, IfSome, codes}
 use Rattle.std.specs.Io.KnownBytes.{Appends, Consumes}
 use Rattle.recoding.specs.declared.form.Form.{Form}
 use Rattle.cuts.specs.Failures.{AppendsFront}
 use Rattle.recoding.specs.RecodedBytes.{recoded}
 use Rattle.recoding.specs.Recoded.{Recoding, IsRecoded, Continues, Feeds, Finishes}
+use Rattle.cuts.specs.declared.programs.recode_stream.RecodeFault.{RecodeFault}
+use Rattle.cuts.specs.declared.programs.recode_stream.RecodeFault.TheVariants.{Read, Write, Memory}
 
 -- known bytes grew by what the whole input is recoded as
 pub record WritesRecoded (from to : Form) (input old new : Option (List ℕ)) : Type 0 where
@@ -51,3 +53,9 @@ PassesFront r part old new s = (grown : List ℕ) × Feeds r part [] grown s × 
 
 abbrev pub PassesLastFront : Recoding → Option (List ℕ) → Option (List ℕ) → Type 0
 PassesLastFront r old new = (grown : List ℕ) × Finishes r [] grown × AppendsFront old new grown
+
+-- what is said of why `recode` ended early
+abbrev pub recode_fault_text : RecodeFault → List ℕ
+recode_fault_text Read = codes "cannot read"
+recode_fault_text Write = codes "cannot write"
+recode_fault_text Memory = codes "no memory"

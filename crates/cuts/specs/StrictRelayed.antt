@@ -1,5 +1,5 @@
 -- Text recoded on its way from a reader to a writer, to the first fault.
-use Rattle.std.specs.Prelude.{◌≡◌, ℕ, ◌+◌, ◌^◌, ◌<◌, ◌≤◌, List, [], ◌++◌, length, drop, Option, Some, IfSome}
+use Rattle.std.specs.Prelude.{◌≡◌, ℕ, ◌+◌, ◌^◌, ◌<◌, ◌≤◌, List, [], ◌++◌, length, drop, Option, Some, IfSome, codes}
 use Rattle.std.specs.Io.KnownBytes.{Appends, Consumes}
 use Rattle.recoding.specs.declared.form.Form.{Form}
 use Rattle.recoding.specs.Recoded.{Recoding}
@@ -98,3 +98,9 @@ pub record StopsText (r : Recoding) (part : List ℕ) (Follows : List ℕ → Ty
   pub written : Appends old new grown
   pub offset : before + length part < 2 ^ 64 → x.offset + length r.held ≡ before + length text
   pub kind : (later : List ℕ) → Follows later → kind_of r.from (rest ++ later) ≡ Some x.kind
+
+-- what is said of why `recode_strict` ended early
+abbrev pub strict_error_text : StrictError → List ℕ
+strict_error_text Read = codes "cannot read"
+strict_error_text Write = codes "cannot write"
+strict_error_text (Faulty x) = codes "faulty input"

@@ -189,6 +189,7 @@ impl<'a> Iterator for SplitAscii<'a> {
     fn size_hint(&self) -> (usize, Option<usize>)
         ensures lower { IsWithinCount result.0 (item_count (λ left. left) self.now) }
         ensures upper { IfSome result.1 (UpTo (item_count (λ left. left) self.now)) }
+        ensures some { 0 < length self.now → result.0 ≡ 1 }
     {
         if self.done {
             return (0, Some(0));

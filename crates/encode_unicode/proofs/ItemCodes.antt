@@ -3,17 +3,13 @@ use Rattle.std.proofs.Common.{◌≡◌, ℕ, ◌+◌, ◌-◌, ◌<◌, ◌≤�
 use Rattle.std.proofs.lemmas.Grind.{common_steps}
 use Rattle.std.proofs.lemmas.List.{take_all}
 use Rattle.std.specs.Prelude.{Result, Ok, Err, slice_range}
-use Rattle.utf_base.specs.Front.{BeginsWith, IsFrontLen}
+use Rattle.utf_base.specs.Front.{IsFrontLen}
 use Rattle.utf_base.specs.Ends.{EndsWith}
 use Rattle.utf_chars.proofs.Ranges.{range_after}
 use Rattle.encode_unicode.specs.Window.{IsBackOf, GivesBackOf, as_piece}
 
 module _ (code : ℕ → List ℕ) where
-  -- the code that begins a list
-  pub begins_taken : (w : List ℕ) (s n : ℕ) → BeginsWith code w s n → take n w ≡ code s
-  begins_taken w s n h = let e : n ≡ 0 + length (code s) - 0 = omega (arith, h.1) in ap (λ k. take k w) e ∙ h.0.equal
-
-  -- and the one that ends it
+  -- the code that ends a list
   pub ends_taken : (w : List ℕ) (s n : ℕ) → EndsWith code w s n → drop (length w - n) w ≡ code s
   ends_taken w s n h =
       let within = h.0.within in
@@ -21,14 +17,7 @@ module _ (code : ℕ → List ℕ) where
       sym (ap (λ k. take k (drop (length w - n) w)) e ∙ take_all _ (drop (length w - n) w) (omega arith)) ∙ h.0.equal
 
   module _ (whole : List ℕ) (i j : ℕ) where
-    -- they stand at the item's place in the whole list
-    pub begins_there : (s n : ℕ) → i < j → n ≤ length (slice_range whole i j) → BeginsWith code (slice_range whole i j) s n → slice_range whole i (i + n) ≡ code s
-    begins_there s n some fits h =
-        let e : i + n - i ≡ n = omega arith in
-        let len : length (slice_range whole i j) ≤ j - i = grind (arith, common_steps) in
-        let same : take n (slice_range whole i j) ≡ take n (drop i whole) = grind (arith, common_steps) in
-        ap (λ k. take k (drop i whole)) e ∙ sym same ∙ begins_taken (slice_range whole i j) s n h
-
+    -- it stands at the item's place in the whole list
     pub ends_there : (s n : ℕ) → i < j → j ≤ length whole → n ≤ length (slice_range whole i j) → EndsWith code (slice_range whole i j) s n → slice_range whole (j - n) (j - n + n) ≡ code s
     ends_there s n some fits short h =
         let len : length (slice_range whole i j) ≡ j - i = grind (arith, common_steps) in

@@ -10,7 +10,6 @@ pub mod TableWalks
 pub mod Collected
 pub mod ForCallers
 pub mod HintLemmas
-pub mod Joined
 pub mod Listed
 pub mod Refills
 pub mod SecondUnits
@@ -30,4 +29,3 @@ pub mod MergerHints
 pub mod Wholes
 pub mod PieceCounts
 pub mod ChainEnds
-pub mod TextScalars

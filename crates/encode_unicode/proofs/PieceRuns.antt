@@ -6,7 +6,7 @@ use Rattle.std.proofs.iter.runs.Lists.{Everywhere}
 use Rattle.std.proofs.iter.runs.Made.{took, each}
 use Rattle.std.proofs.iter.runs.Sources.{as_is, as_is_back, from_back, from_front}
 use Rattle.std.specs.List.{flat_map, fold, last_or}
-use Rattle.std.specs.Prelude.{IfOk, encode_utf8_all, slice_index, slice_range, option_map}
+use Rattle.std.specs.Prelude.{IfOk, slice_index, slice_range, option_map}
 use Rattle.std.specs.Str.{chars, IsCharBoundary, IsUtf8}
 use Rattle.std.proofs.lemmas.Grind.{common_steps}
 use Rattle.std.proofs.lemmas.Str.{IsUtf8-append, chars-append, chars-nil, chars_past_char, encodes-chars}
@@ -23,9 +23,9 @@ use Rattle.utf_base.specs.Kinds.{back_kind, fault_kind, value}
 use Rattle.utf_base.proofs.DecodedLemmas.{answer_of_bytes, decoded_code}
 use Rattle.utf_base.proofs.FrontLemmas.{code_where_no_fault}
 use Rattle.utf_base.proofs.Utf8Code.{utf8_is_code, length_utf8}
-use Rattle.utf_base.proofs.StdText.{utf8_is_std, utf8_is_text}
+use Rattle.utf_base.proofs.StdText.{encodes_are_codes, utf8_is_std, utf8_is_text}
 use Rattle.utf_chars.proofs.Ranges.{range_after}
-use Rattle.encode_unicode.proofs.Joined.{some_utf8}
+use Rattle.utf_base.proofs.JoinedLengths.{some_utf8}
 use Rattle.encode_unicode.proofs.RunTests.{tells, tells_back}
 use Rattle.encode_unicode.specs.Pieces.{Gives, GivesReversed, LengthsFit, LiesWithin, LiesInText, LiesInTextWindow, LiesInWindow, PiecesFit, pieces, unit_pieces, pieces_by, pieces_left, unit_pieces_left, placed_chars, chars_left, placed_chars_left}
 use Rattle.encode_unicode.specs.Sources.{IsListed, IsListedBack}
@@ -177,10 +177,6 @@ scalars_last w None v h = no_chars_back w v h
 scalars_last w (Some s) v h = last_char w v v.back s h
 
 -- what std encodes are the codes
-pub encodes_are_codes : (cs : List ℕ) → encode_utf8_all cs ≡ flat_map utf8 cs
-encodes_are_codes [] = refl
-encodes_are_codes (c ∷ cs) = rw (encodes_are_codes cs, utf8_is_std c) refl
-
 -- the codes of the characters of a text are the text
 pub codes_of_text : (text : List ℕ) → IsUtf8 text → flat_map utf8 (chars text) ≡ text
 codes_of_text text h = sym (encodes_are_codes (chars text)) ∙ encodes-chars text h

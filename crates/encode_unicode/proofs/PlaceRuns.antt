@@ -10,10 +10,11 @@ use Rattle.std.specs.List.{flat_map}
 use Rattle.std.specs.Prelude.{IfSome, slice_get}
 use Rattle.std.specs.Str.{IsUtf8, all_scalars, chars}
 use Rattle.utf_base.specs.Code.{utf8}
+use Rattle.utf_base.proofs.StdText.{encodes_are_codes}
 use Rattle.encode_unicode.specs.Pieces.{HasFirstChars, LeavesBack, LeavesFront, StandAfterChars, placed_chars, placed_chars_left}
 use Rattle.encode_unicode.specs.TextWindow.{BackPlaced, NextPlaced}
 use Rattle.encode_unicode.specs.Window.{Window, NextBackGives, NextBackGivesUnits, NextGives, NextGivesUnits, whole_window, without_back, without_front}
-use Rattle.encode_unicode.proofs.PieceRuns.{chars_of_text, codes_of_text, encodes_are_codes, placed_listed}
+use Rattle.encode_unicode.proofs.PieceRuns.{chars_of_text, codes_of_text, placed_listed}
 use Rattle.encode_unicode.proofs.SeenRuns.{length-placed, passed}
 
 -- Windows.

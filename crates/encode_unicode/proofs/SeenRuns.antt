@@ -8,7 +8,7 @@ use Rattle.encode_unicode.specs.Pieces.{GaveAll, GiveAtMost, chars_left, pieces,
 use Rattle.encode_unicode.specs.Sources.{IsListed}
 use Rattle.encode_unicode.specs.TextWindow.{NextPlaced, NextScalar}
 use Rattle.encode_unicode.specs.Window.{Window, NextGives, NextGivesUnits, whole_window}
-use Rattle.encode_unicode.proofs.Joined.{some_utf8}
+use Rattle.utf_base.proofs.JoinedLengths.{some_utf8}
 use Rattle.encode_unicode.proofs.PieceCounts.{pieces_within, unit_pieces_within}
 use Rattle.encode_unicode.proofs.PieceRuns.{chars_of_text, codes_of_text, decoder_listed, placed_listed, scalars_listed, unit_decoder_listed}
 

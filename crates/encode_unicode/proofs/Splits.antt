@@ -7,7 +7,7 @@ use Rattle.std.specs.List.{flat_map}
 use Rattle.std.specs.Prelude.{Option, IfSome, Bool, true, false, nat_lt, ◌^◌, if◌then◌else◌}
 use Rattle.utf_chars.specs.Taking.{BoundsLength}
 use Rattle.encode_unicode.specs.Sources.{Splitting, SplitterNext, IsHintOf, SplitsHint, unsent, split_upper, split_hint}
-use Rattle.encode_unicode.proofs.Joined.{joined_bounds}
+use Rattle.utf_base.proofs.JoinedLengths.{joined_bounds}
 
 module _ {S : Type 0} (code : ℕ → List ℕ) (steps : S → Option ℕ → S → Type 0) where
   -- the first element of the code of the next item

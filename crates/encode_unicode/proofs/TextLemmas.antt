@@ -18,7 +18,7 @@ use Rattle.utf_chars.proofs.TextLemmas.{boundary_after}
 use Rattle.utf_base.specs.Decoded.{decoded_bytes}
 use Rattle.encode_unicode.proofs.TextEnds.{last_is_read}
 use Rattle.encode_unicode.specs.TextWindow.{IsKeptWindow, IsLastCode, IsTextWindow, GivesFirstChar, GivesLastChar, BoundsScalars}
-use Rattle.encode_unicode.proofs.Joined.{joined_bounds, some_utf8}
+use Rattle.utf_base.proofs.JoinedLengths.{joined_bounds, some_utf8}
 
 text_window : (xs : List ℕ) (i j : ℕ) → IsUtf8 xs → i ≤ j → IsCharBoundary xs i → IsCharBoundary xs j → IsTextWindow (record { whole = xs; front = i; back = j })
 text_window xs i j h le front back = record { text = IsUtf8-between xs i j h le front back; front = front; back = back }

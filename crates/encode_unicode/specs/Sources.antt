@@ -14,6 +14,10 @@ IsListed {S} {A} steps rest = (s : S) (r : Option A) (t : S) → steps s r t →
 abbrev pub IsListedBack : {S A : Type 0} → (S → Option A → S → Type 0) → (S → List A) → Type 0
 IsListedBack {S} {A} back rest = (s : S) (r : Option A) (t : S) → back s r t → YieldsLast rest s r t × (r ≡ last_or None (rest s))
 
+-- P holds of whatever lists the states of a source still give
+abbrev pub WhateverIsLeft : {S A : Type 0} → (S → Option A → S → Type 0) → ((S → List A) → Type 0) → Type 0
+WhateverIsLeft {S} {A} steps P = (rest : S → List A) → IsListed steps rest → P rest
+
 -- each clone of the source s still gives what s does
 abbrev pub GivesTheSame : {S A : Type 0} → (S → S → Type 0) → (S → List A) → S → Type 0
 GivesTheSame {S} is_clone rest s = (copy : S) → is_clone s copy → rest copy ≡ rest s

@@ -1,5 +1,5 @@
 //! What a merger of bytes has left.
-ghost use Rattle.std.specs.Prelude.{◌≡◌, [], codes, List, ℕ, IfOk, IfSome, IsOk, false};
+ghost use Rattle.std.specs.Prelude.{◌≡◌, [], codes, List, ℕ, IfErr, IfOk, IfSome, IsOk, false};
 ghost use Rattle.std.specs.Iterator.{UpTo};
 ghost use Rattle.std.specs.Iterator.SizeHint.{IsWithinCount};
 ghost use Rattle.utf_chars.specs.DebugTexts.{debug_numbers};
@@ -87,6 +87,7 @@ impl<I: Iterator<Item = u8>> RemainingBytes<I> {
         ensures held { IfOk result (λ m. m.held ≡ self.now.held) }
         ensures ended { IfOk result (λ m. m.ended ≡ self.now.ended) }
         ensures same { IfOk result (HasSameUnread I.is_clone self.now) }
+        ensures fails { IfErr result (λ _. ¬ (I.is_infallible self.now.source)) }
         ensures succeeds { I.is_infallible self.now.source → IsOk result }
     {
         Ok(RemainingBytes {

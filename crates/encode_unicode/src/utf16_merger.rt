@@ -1,5 +1,5 @@
 //! Characters, and what is wrong, from the units of an iterator.
-ghost use Rattle.std.specs.Prelude.{◌≡◌, ◌<◌, codes, ℕ, List, [], length, IsOk, IfOk, IfSome, true, false};
+ghost use Rattle.std.specs.Prelude.{◌≡◌, ◌<◌, codes, ℕ, List, [], length, IsOk, IfErr, IfOk, IfSome, true, false};
 ghost use Rattle.std.specs.Iterator.{UpTo};
 ghost use Rattle.std.specs.Iterator.SizeHint.{IsWithinCount};
 ghost use Rattle.utf_base.specs.Code.{utf16};
@@ -145,6 +145,7 @@ impl<I: Iterator<Item = u16>> Utf16CharMerger<I> {
         ensures held { IfOk result (λ m. m.held ≡ self.now.held) }
         ensures ended { IfOk result (λ m. m.ended ≡ self.now.ended) }
         ensures same { IfOk result (HasSameUnread I.is_clone self.now) }
+        ensures fails { IfErr result (λ _. ¬ (I.is_infallible self.now.source)) }
         ensures succeeds { I.is_infallible self.now.source → IsOk result }
     {
         Ok(Utf16CharMerger {
@@ -303,6 +304,7 @@ impl<I: Iterator<Item = u16>> RemainingUnits<I> {
         ensures held { IfOk result (λ m. m.held ≡ self.now.held) }
         ensures ended { IfOk result (λ m. m.ended ≡ self.now.ended) }
         ensures same { IfOk result (HasSameUnread I.is_clone self.now) }
+        ensures fails { IfErr result (λ _. ¬ (I.is_infallible self.now.source)) }
         ensures succeeds { I.is_infallible self.now.source → IsOk result }
     {
         Ok(RemainingUnits {

@@ -1,5 +1,5 @@
 //! Characters as the units of their codes in UTF-16.
-ghost use Rattle.std.specs.Prelude.{◌≡◌, ◌+◌, ◌*◌, codes, ℕ, List, length, IsOk, IfOk, IfSome};
+ghost use Rattle.std.specs.Prelude.{◌≡◌, ◌+◌, ◌*◌, codes, ℕ, List, length, IsOk, IfErr, IfOk, IfSome};
 ghost use Rattle.std.specs.Iterator.{count_map, UpTo};
 ghost use Rattle.std.specs.Iterator.SizeHint.{IsWithinCount};
 ghost use Rattle.utf_base.specs.Code.{utf16};
@@ -98,6 +98,7 @@ impl<I: Iterator<Item = Utf16Char>> Utf16CharSplitter<I> {
         ensures source { IfOk result (λ s. I.is_clone self.now.source s.source) }
         ensures begun { IfOk result (λ s. s.begun ≡ self.now.begun) }
         ensures same { IfOk result (HasSameUnsent utf16 I.is_clone self.now) }
+        ensures fails { IfErr result (λ _. ¬ (I.is_infallible self.now.source)) }
         ensures succeeds { I.is_infallible self.now.source → IsOk result }
     {
         Ok(Utf16CharSplitter {

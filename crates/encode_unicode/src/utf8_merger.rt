@@ -1,5 +1,5 @@
 //! Characters, and what is wrong, from the bytes of an iterator.
-ghost use Rattle.std.specs.Prelude.{◌≡◌, ◌<◌, ◌≤◌, ℕ, List, [], ◌∷◌, codes, true, IsOk, IfOk, IfSome, false};
+ghost use Rattle.std.specs.Prelude.{◌≡◌, ◌<◌, ◌≤◌, ℕ, List, [], ◌∷◌, codes, true, IsOk, IfErr, IfOk, IfSome, false};
 ghost use Rattle.std.specs.Iterator.{UpTo};
 ghost use Rattle.std.specs.Iterator.SizeHint.{IsWithinCount};
 ghost use Rattle.utf_base.specs.Code.{utf8};
@@ -146,6 +146,7 @@ impl<I: Iterator<Item = u8>> Utf8CharMerger<I> {
         ensures held { IfOk result (λ m. m.held ≡ self.now.held) }
         ensures ended { IfOk result (λ m. m.ended ≡ self.now.ended) }
         ensures same { IfOk result (HasSameUnread I.is_clone self.now) }
+        ensures fails { IfErr result (λ _. ¬ (I.is_infallible self.now.source)) }
         ensures succeeds { I.is_infallible self.now.source → IsOk result }
     {
         Ok(Utf8CharMerger {

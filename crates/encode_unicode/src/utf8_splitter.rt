@@ -1,5 +1,5 @@
 //! Characters as the bytes of their codes in UTF-8.
-ghost use Rattle.std.specs.Prelude.{◌≡◌, ◌≤◌, ◌+◌, ◌*◌, codes, ℕ, List, [], length, drop, IsOk, IfOk, IfSome, Ok};
+ghost use Rattle.std.specs.Prelude.{◌≡◌, ◌≤◌, ◌+◌, ◌*◌, codes, ℕ, List, [], length, drop, IsOk, IfErr, IfOk, IfSome, Ok};
 ghost use Rattle.std.specs.Iterator.{count_map, UpTo};
 ghost use Rattle.std.specs.Iterator.SizeHint.{IsWithinCount};
 ghost use Rattle.utf_base.specs.Code.{utf8};
@@ -130,6 +130,7 @@ impl<I: Iterator<Item = Utf8Char>> Utf8CharSplitter<I> {
         ensures source { IfOk result (λ s. I.is_clone self.now.source s.source) }
         ensures begun { IfOk result (λ s. s.begun ≡ self.now.begun) }
         ensures same { IfOk result (HasSameUnsent utf8 I.is_clone self.now) }
+        ensures fails { IfErr result (λ _. ¬ (I.is_infallible self.now.source)) }
         ensures succeeds { I.is_infallible self.now.source → IsOk result }
     {
         Ok(Utf8CharSplitter {

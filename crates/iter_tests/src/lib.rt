@@ -4,6 +4,8 @@
 #[cfg(test)]
 mod adapters;
 #[cfg(test)]
+mod clones;
+#[cfg(test)]
 mod codes;
 #[cfg(test)]
 mod collected;

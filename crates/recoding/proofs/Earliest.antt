@@ -1,7 +1,8 @@
 -- Nothing can be put out before a recoder puts it out that holds the front of a code.
-use Rattle.std.proofs.Common.{◌≡◌, ℕ, ◌+◌, ◌-◌, ◌*◌, ◌/◌, ◌%◌, ◌<◌, ◌≤◌, ⊎_elim, Bool, true, false, List, [], ◌∷◌, ◌++◌, length, get_or, take, drop, map, flat_map, arith, refl, ap, sym, ◌∙◌, Some, None, Option, lit<, take-append-drop, append_assoc, length-append, length-drop}
+use Rattle.std.proofs.Common.{◌≡◌, ℕ, suc, ◌+◌, ◌-◌, ◌*◌, ◌/◌, ◌%◌, ◌<◌, ◌≤◌, ⊎_elim, Bool, true, false, List, [], ◌∷◌, ◌++◌, length, get_or, take, drop, map, flat_map, arith, refl, ap, sym, ◌∙◌, Some, None, Option, lit<, take-append-drop, append_assoc, length-append, length-drop}
 use Rattle.std.proofs.lemmas.Bool.{cases_lt}
 use Rattle.std.proofs.lemmas.List.{append-nil, drop_all, get_or_append_left, get_or-append_right, take-append-le}
+use Rattle.std.proofs.lemmas.List.Elements.{All-append, All-cons, All-nil}
 use Rattle.std.proofs.Math.Seq.{take-append_seam, drop-append_seam}
 use Rattle.std.specs.Prelude.{All, unwrap_or}
 use Rattle.utf_base.specs.Scalar.{IsScalar}
@@ -49,6 +50,29 @@ first_read : (from : Form) (bytes : List ℕ) (t : ℕ) (ts : List ℕ) → Read
 first_read Utf8 bytes t ts h = first_shown utf8 bytes t ts h
 first_read Utf16Le bytes t ts h = first_of_units false bytes t ts h
 first_read Utf16Be bytes t ts h = first_of_units true bytes t ts h
+
+-- and so is all that is shown
+
+pieces_are_scalars : (code : ℕ → List ℕ) (xs : List ℕ) (ps : List Piece) → All (λ x. IsPiece code xs x) ps → All IsScalar (map shown ps)
+pieces_are_scalars code xs [] h = All-nil IsScalar
+pieces_are_scalars code xs (x ∷ ps) h =
+    All-cons IsScalar (shown x) (map shown ps) (scalar_of_piece code xs x.start x.len x.char (h 0 x (omega arith))) (pieces_are_scalars code xs ps (λ k d lt. h (suc k) d (omega arith)))
+
+shown_are_scalars : (code : ℕ → List ℕ) (xs ss : List ℕ) → Shows code xs ss → All IsScalar ss
+shown_are_scalars code xs ss (ps, cut, e) = rw e (pieces_are_scalars code xs ps (λ k d lt. (cut.pieces k d lt).0))
+
+odd_is_scalar : (bytes : List ℕ) → All IsScalar (odd_end bytes)
+odd_is_scalar [] = All-nil IsScalar
+odd_is_scalar (a ∷ []) = All-cons IsScalar 0xFFFD [] replacement (All-nil IsScalar)
+odd_is_scalar (a ∷ b ∷ bytes) = odd_is_scalar bytes
+
+units_are_scalars : (high : Bool) (bytes ss : List ℕ) → ShowsUnits high bytes ss → All IsScalar ss
+units_are_scalars high bytes ss (ts, h, e) = rw e (All-append IsScalar ts (odd_end bytes) (shown_are_scalars utf16 (units_of high bytes) ts h) (odd_is_scalar bytes))
+
+pub read_are_scalars : (from : Form) (bytes ss : List ℕ) → Reads from bytes ss → All IsScalar ss
+read_are_scalars Utf8 bytes ss h = shown_are_scalars utf8 bytes ss h
+read_are_scalars Utf16Le bytes ss h = units_are_scalars false bytes ss h
+read_are_scalars Utf16Be bytes ss h = units_are_scalars true bytes ss h
 
 -- No code begins inside another.
 

@@ -10,7 +10,7 @@ use Rattle.utf_base.proofs.Utf8Code.{utf8_is_code}
 use Rattle.utf_base.proofs.Utf16Code.{utf16_is_code}
 use Rattle.utf_lanes.specs.UnitBlocks.{AreCodes}
 use Rattle.recoding.proofs.FirstFaults.{IsGoodTo, good_front, good_step}
-use Rattle.encode_unicode.proofs.TextScalars.{joined_from_text}
+use Rattle.utf_base.proofs.TextScalars.{joined_from_text}
 
 module _ (code : ℕ → List ℕ) (is_code : IsCode code) where
   good_codes : (cs xs : List ℕ) (i n : ℕ) → IsGoodTo code xs i → All IsScalar cs → n ≤ length (drop i xs) → take n (drop i xs) ≡ flat_map code cs → IsGoodTo code xs (i + n)

@@ -8,6 +8,7 @@ pub mod EnoughRoom
 pub mod FedParts
 pub mod FirstFaults
 pub mod LossyPieces
+pub mod OddParts
 pub mod FirstPieces
 pub mod Forms
 pub mod FrontBytes

@@ -17,10 +17,10 @@ use Rattle.utf_base.proofs.SubpartLemmas.{parts_become_the_cut}
 use Rattle.utf_base.proofs.UnitLemmas.{utf16_finds}
 use Rattle.utf_base.proofs.Utf8Code.{utf8_is_code}
 use Rattle.utf_base.proofs.Utf16Code.{length_utf16, utf16_is_code}
-use Rattle.utf_lanes.specs.BytePairs.{units_of}
+use Rattle.utf_lanes.specs.BytePairs.{bytes_of, units_of}
 use Rattle.recoding.specs.declared.form.Form.{Form}
 use Rattle.recoding.specs.declared.form.Form.TheVariants.{Utf8, Utf16Le, Utf16Be}
-use Rattle.recoding.specs.Lossy.{BeginsSubpart, IsLossy, ReadsParts, ShowsUnitParts}
+use Rattle.recoding.specs.Lossy.{BeginsSubpart, IsLossy, ReadsParts, ShowsUnitParts, odd_part}
 use Rattle.recoding.specs.LossyBytes.{AddsEach, LossyIsOne, LossyJoinsFaults, LossyPartsAreOne, LossyUnitsAreRecoded, TextIsLossy, lossy, lossy_outcome, shown_by_parts}
 use Rattle.recoding.specs.Recoded.{fresh, IsProperFront, Reads, Recoding, ShowsUnits, odd_end, written}
 use Rattle.recoding.specs.RecodedBytes.{recoded}
@@ -29,7 +29,9 @@ use Rattle.recoding.proofs.FrontBytes.{replacement}
 use Rattle.recoding.proofs.HeldFronts.{no_code_in_front}
 use Rattle.utf_base.proofs.PartLists.{part_shows_first, parts_show_none, parts_show_one, parts_show_some}
 use Rattle.recoding.proofs.RecodedLists.{same_list}
-use Rattle.recoding.proofs.TextLaws.{text_shows}
+use Rattle.recoding.proofs.CopiedUnits.{all_written, codes_show}
+use Rattle.recoding.proofs.OddParts.{odd_part_of_text}
+use Rattle.recoding.proofs.TextLaws.{units_of_bytes}
 
 -- Of units a maximal subpart is one.
 
@@ -57,36 +59,19 @@ same_parts xs [] each = refl
 same_parts xs (x ∷ parts) each =
     ap₂ (λ ys zs. ys ++ zs) (same_part xs x.start x.len x.char (each 0 x (omega arith))) (same_parts xs parts (λ k d lt. each (suc k) d (omega arith)))
 
-units_show : (xs ss : List ℕ) → ShowsParts utf16 xs ss → Shows utf16 xs ss
+pub units_show : (xs ss : List ℕ) → ShowsParts utf16 xs ss → Shows utf16 xs ss
 units_show xs ss (parts, h, e) = (parts, rw (same_parts xs parts h.each) at (parts_become_the_cut utf16 utf16_is_code xs parts h), e)
 
-units_in_parts : (xs ss : List ℕ) → Shows utf16 xs ss → ShowsParts utf16 xs ss
+pub units_in_parts : (xs ss : List ℕ) → Shows utf16 xs ss → ShowsParts utf16 xs ss
 units_in_parts xs ss h =
     let r = parts_show_some utf16 utf16_is_code utf16_finds xs in
     let same : ss ≡ r.0 = shows_one utf16 utf16_is_code xs ss r.0 h (units_show xs r.0 r.1) in
     subst (λ ts. ShowsParts utf16 xs ts) (sym same) r.1
 
-unit_bytes_show : (high : Bool) (bytes ss : List ℕ) → ShowsUnitParts high bytes ss → ShowsUnits high bytes ss
-unit_bytes_show high bytes ss (ts, r, e) = (ts, units_show (units_of high bytes) ts r, e)
-
-unit_bytes_in_parts : (high : Bool) (bytes ss : List ℕ) → ShowsUnits high bytes ss → ShowsUnitParts high bytes ss
-unit_bytes_in_parts high bytes ss (ts, r, e) = (ts, units_in_parts (units_of high bytes) ts r, e)
-
--- A form in which both are the same.
-pub record ReadsAlike (from : Form) : Type 0 where
-  pub parts : (bytes ss : List ℕ) → Reads from bytes ss → ReadsParts from bytes ss
-  pub pieces : (bytes ss : List ℕ) → ReadsParts from bytes ss → Reads from bytes ss
-
-pub alike_le : ReadsAlike Utf16Le
-alike_le = record { parts = unit_bytes_in_parts false; pieces = unit_bytes_show false }
-
-pub alike_be : ReadsAlike Utf16Be
-alike_be = record { parts = unit_bytes_in_parts true; pieces = unit_bytes_show true }
-
 -- There is one list.
 
 unit_parts_one : (high : Bool) (bytes ss ts : List ℕ) → ShowsUnitParts high bytes ss → ShowsUnitParts high bytes ts → ss ≡ ts
-unit_parts_one high bytes ss ts (xs, a, e) (ys, b, f) = e ∙ ap (λ zs. zs ++ odd_end bytes) (parts_show_one utf16 utf16_is_code (units_of high bytes) xs ys a b) ∙ sym f
+unit_parts_one high bytes ss ts (xs, a, e) (ys, b, f) = e ∙ ap (λ zs. zs ++ odd_part high bytes) (parts_show_one utf16 utf16_is_code (units_of high bytes) xs ys a b) ∙ sym f
 
 parts_one : (from : Form) (bytes ss ts : List ℕ) → ReadsParts from bytes ss → ReadsParts from bytes ts → ss ≡ ts
 parts_one Utf8 bytes ss ts a b = parts_show_one utf8 utf8_is_code bytes ss ts a b
@@ -127,24 +112,6 @@ pub lossy_last : (from to : Form) (w : List ℕ) (s n : ℕ) → Ends (ReadsPart
 lossy_last from to w s n d =
     let r = lossy_is from to (drop n w) in
     sym (same_lossy from to w (written to s ++ lossy from to (drop n w)) (s ∷ r.0, d.first r.0 r.1, ap (λ xs. written to s ++ xs) r.2))
-
-pub Decides-alike : (from : Form) (w : List ℕ) (s n : ℕ) → ReadsAlike from → Decides (Reads from) w s n → Decides (ReadsParts from) w s n
-Decides-alike from w s n same d = record {
-  some = d.some;
-  within = d.within;
-  scalar = d.scalar;
-  wide = d.wide;
-  first = λ later ss r. same.parts (w ++ later) (s ∷ ss) (d.first later ss (same.pieces (drop n w ++ later) ss r));
-}
-
-pub Ends-alike : (from : Form) (w : List ℕ) (s n : ℕ) → ReadsAlike from → Ends (Reads from) w s n → Ends (ReadsParts from) w s n
-Ends-alike from w s n same d = record {
-  some = d.some;
-  within = d.within;
-  scalar = d.scalar;
-  wide = d.wide;
-  first = λ ss r. same.parts w (s ∷ ss) (d.first ss (same.pieces (drop n w) ss r));
-}
 
 pub Decides-subpart : (w : List ℕ) (n : ℕ) → n ≤ length w → BeginsSubpart w n → Decides (ReadsParts Utf8) w 0xFFFD n
 Decides-subpart w n le h = record {
@@ -193,13 +160,18 @@ text_in_parts (s ∷ cs) all later ss h =
     let at_rest : ShowsParts utf8 (drop (length (utf8 s)) (utf8 s ++ rest)) (cs ++ ss) = rw (drop_at (utf8 s) rest (length (utf8 s)) refl) next in
     rw whole (part_shows_first utf8 (utf8 s ++ rest) (length (utf8 s)) (Some s) (cs ++ ss) (omega (arith, length-append (utf8 s) rest)) (stands, refl) at_rest)
 
-text_alike : (from : Form) → ReadsAlike from → (cs : List ℕ) → All IsScalar cs → ShowsEach (ReadsParts from) (flat_map (written from) cs) cs
-text_alike from same cs all later ss h = same.parts (flat_map (written from) cs ++ later) (cs ++ ss) (text_shows from cs all later ss (same.pieces later ss h))
+units_in_text : (high : Bool) (cs : List ℕ) → All IsScalar cs → ShowsEach (ShowsUnitParts high) (flat_map (bytes_of high) (flat_map utf16 cs)) cs
+units_in_text high cs all later ss (ts, r, f) = (
+  cs ++ ts,
+  rw (units_of_bytes high (flat_map utf16 cs) later)
+      (units_in_parts (flat_map utf16 cs ++ units_of high later) (cs ++ ts) (codes_show cs (units_of high later) ts all (units_show (units_of high later) ts r))),
+  ap (λ xs. cs ++ xs) f ∙ sym (append_assoc cs ts (odd_part high later)) ∙ ap (λ o. (cs ++ ts) ++ o) (sym (odd_part_of_text high cs later all)),
+)
 
 pub text_shows_parts : (from : Form) (cs : List ℕ) → All IsScalar cs → ShowsEach (ReadsParts from) (flat_map (written from) cs) cs
 text_shows_parts Utf8 cs all = text_in_parts cs all
-text_shows_parts Utf16Le cs all = text_alike Utf16Le alike_le cs all
-text_shows_parts Utf16Be cs all = text_alike Utf16Be alike_be cs all
+text_shows_parts Utf16Le cs all = rw (all_written false Utf16Le cs refl) (units_in_text false cs all)
+text_shows_parts Utf16Be cs all = rw (all_written true Utf16Be cs refl) (units_in_text true cs all)
 
 pub text_is_lossy : TextIsLossy
 text_is_lossy from to text out later t =
@@ -210,13 +182,16 @@ text_is_lossy from to text out later t =
 
 -- The laws.
 
-same_where_alike : (from to : Form) → ReadsAlike from → (bytes : List ℕ) → lossy from to bytes ≡ recoded from to bytes
-same_where_alike from to same bytes =
-    let r = lossy_is from to bytes in
-    same_list from to bytes (lossy from to bytes) (r.0, same.pieces bytes r.0 r.1, r.2)
+units_alike : (high : Bool) (bytes ss : List ℕ) → odd_part high bytes ≡ odd_end bytes → ShowsUnitParts high bytes ss → ShowsUnits high bytes ss
+units_alike high bytes ss same (ts, r, e) = (ts, units_show (units_of high bytes) ts r, e ∙ ap (λ o. ts ++ o) same)
 
 pub lossy_units_are_recoded : LossyUnitsAreRecoded
-lossy_units_are_recoded to bytes = (same_where_alike Utf16Le to alike_le bytes, same_where_alike Utf16Be to alike_be bytes)
+lossy_units_are_recoded to bytes =
+    let le = lossy_is Utf16Le to bytes in
+    let be = lossy_is Utf16Be to bytes in (
+      λ same. same_list Utf16Le to bytes (lossy Utf16Le to bytes) (le.0, units_alike false bytes le.0 same le.1, le.2),
+      λ same. same_list Utf16Be to bytes (lossy Utf16Be to bytes) (be.0, units_alike true bytes be.0 same be.1, be.2),
+    )
 
 pub lossy_joins_faults : LossyJoinsFaults
 lossy_joins_faults to bytes =

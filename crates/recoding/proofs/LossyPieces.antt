@@ -4,11 +4,11 @@ use Rattle.std.specs.Option.{option_map}
 use Rattle.std.proofs.lemmas.Bool.{cases_lt}
 use Rattle.std.proofs.lemmas.List.{append-nil, drop_all}
 use Rattle.std.proofs.lemmas.List.Elements.{All-cons, All-nil}
-use Rattle.utf_base.specs.Code.{utf8}
+use Rattle.utf_base.specs.Code.{utf8, utf16}
 use Rattle.utf_base.specs.Kinds.{fault_kind}
 use Rattle.utf_base.specs.Scalar.{IsScalar}
 use Rattle.utf_base.specs.Shown.{IsDecided}
-use Rattle.utf_base.specs.Units.{unit_fault_kind}
+use Rattle.utf_base.specs.Units.{is_leading_surrogate, unit_fault_kind}
 use Rattle.utf_base.specs.declared.errors.Utf8ErrorKind.{Utf8ErrorKind}
 use Rattle.utf_base.specs.declared.errors.Utf8ErrorKind.TheVariants.{TooFewBytes}
 use Rattle.utf_base.specs.declared.errors.units.Utf16PairError.{Utf16PairError}
@@ -21,13 +21,19 @@ use Rattle.recoding.specs.declared.faults.FaultKind.{FaultKind}
 use Rattle.recoding.specs.declared.faults.FaultKind.TheVariants as kind
 use Rattle.recoding.specs.declared.form.Form.{Form}
 use Rattle.recoding.specs.declared.form.Form.TheVariants.{Utf8, Utf16Le, Utf16Be}
-use Rattle.recoding.specs.Lossy.{BeginsNoCode, ReadsParts}
+use Rattle.recoding.specs.Lossy.{BeginsNoCode, ReadsParts, ShowsUnitParts}
 use Rattle.recoding.specs.Recoded.{Lacks, ShowsUnits, written}
 use Rattle.recoding.specs.NextScalars.{Decides, Ends, HasByteOrder, Waits}
 use Rattle.recoding.specs.Strict.{AwaitsKind, BeginsChar, BeginsFault}
-use Rattle.recoding.proofs.FrontBytes.{Waits-byte, Waits-leading, fault_shows_units, replacement, units_two}
+use Rattle.recoding.proofs.FrontBytes.{first_unit, lacks_second, replacement, units_two}
+use Rattle.utf_base.proofs.LaterLemmas.{no_code_at_last}
 use Rattle.recoding.proofs.HeldFronts.{leading_by_itself, two_do_not_lack}
-use Rattle.recoding.proofs.LossyLists.{Decides-alike, Ends-alike, alike_be, alike_le, text_shows_parts}
+use Rattle.recoding.proofs.LossyLists.{Ends-front, text_shows_parts, units_in_parts, units_show}
+use Rattle.recoding.proofs.OddParts.{odd_part_two}
+use Rattle.utf_base.proofs.PartLists.{parts_show_none, parts_show_one}
+use Rattle.utf_base.proofs.Rests.{fault_shows_first}
+use Rattle.utf_base.proofs.Utf16Code.{utf16_is_code}
+use Rattle.utf_base.specs.Subparts.{ShowsParts}
 use Rattle.recoding.proofs.TextRuns.{wide_written}
 
 -- A character.
@@ -72,58 +78,93 @@ some_where_no_code (a ∷ w) none = omega arith
 no_unit_kind : (k : FaultKind) (e : Option Utf16PairError) → e ≡ None → option_map kind.Utf16 e ≡ Some k → ⊥
 no_unit_kind k e none some = let h : option_map kind.Utf16 None ≡ Some k = rw none at some in cc
 
+lacks_where_awaited : (e : Option Utf16PairError) → option_map kind.Utf16 e ≡ Some (kind.Utf16 Incomplete) → e ≡ Some Incomplete
+lacks_where_awaited None h = cc
+lacks_where_awaited (Some k) h = let same : k ≡ Incomplete = cc in ap Some same
+
+two_units_lack : (high : Bool) (w : List ℕ) → 2 ≤ length w → unit_fault_kind (units_of high (w ++ (0 ∷ 0 ∷ []))) ≡ Some Incomplete → ⊥
+two_units_lack high [] two h = absurd (omega arith)
+two_units_lack high (a ∷ []) two h = absurd (omega arith)
+two_units_lack high (a ∷ b ∷ []) two h = two_do_not_lack _ _ _ h
+two_units_lack high (a ∷ b ∷ c ∷ []) two h = two_do_not_lack _ _ _ h
+two_units_lack high (a ∷ b ∷ c ∷ d ∷ w) two h = two_do_not_lack _ _ _ h
+
+-- a leading surrogate is a fault whatever follows it only where a unit does already
+unit_follows : (high : Bool) (w : List ℕ) (k : FaultKind) → 2 ≤ length w → ((later : List ℕ) → option_map kind.Utf16 (unit_fault_kind (units_of high (w ++ later))) ≡ Some k)
+    → is_leading_surrogate (first_unit high w) ≡ true → 4 ≤ length w
+unit_follows high w k two kinds l =
+    ⊎_elim
+    (λ (few : length w < 4).
+    let here : option_map kind.Utf16 (unit_fault_kind (units_of high w)) ≡ Some (kind.Utf16 Incomplete) = ap (option_map kind.Utf16) (lacks_second high w two few l) in
+    let same : Some k ≡ Some (kind.Utf16 Incomplete) = sym (rw (append-nil w) at (kinds [])) ∙ here in
+    absurd (two_units_lack high w two (lacks_where_awaited _ (kinds (0 ∷ 0 ∷ []) ∙ same))))
+    (λ (four : 4 ≤ length w). four)
+    (cases_lt (length w) 4)
+
 unit_fault : (high : Bool) (w : List ℕ) (k : FaultKind) → 2 ≤ length w → ((later : List ℕ) → option_map kind.Utf16 (unit_fault_kind (units_of high (w ++ later))) ≡ Some k)
-    → Decides (ShowsUnits high) w 0xFFFD 2
-unit_fault high w k two kinds =
-    fault_shows_units high w two
-    (λ later s h. no_unit_kind k (unit_fault_kind (units_of high (w ++ later))) (units_code_or_one_kind.fault (units_of high (w ++ later)) s (rw (units_two high w later two) h)) (kinds later))
+    → Decides (ShowsUnitParts high) w 0xFFFD 2
+unit_fault high w k two kinds = record {
+  some = omega arith;
+  within = two;
+  scalar = replacement;
+  wide = λ h. omega arith;
+  first = λ later ss (ts, r, f).
+      let rest = units_of high (drop 2 w ++ later) in
+      let shown = fault_shows_first utf16 utf16_is_code (first_unit high w ∷ []) rest ts (lit< tt)
+      (λ s h. no_unit_kind k (unit_fault_kind (units_of high (w ++ later))) (units_code_or_one_kind.fault (units_of high (w ++ later)) s (rw (units_two high w later two) h)) (kinds later))
+      (units_show rest ts r) in (
+        0xFFFD ∷ ts,
+        rw (units_two high w later two) (units_in_parts (first_unit high w ∷ rest) (0xFFFD ∷ ts) shown),
+        ap (λ xs. 0xFFFD ∷ xs) (f ∙ ap (λ o. ts ++ o) (sym (odd_part_two high w later two (unit_follows high w k two kinds)))),
+      );
+}
 
 pub Decides-units : (from : Form) (w : List ℕ) (k : FaultKind) (n : ℕ) → (from ≡ Utf8 → ⊥) → BeginsFault from w k n → Decides (ReadsParts from) w 0xFFFD n
 Decides-units Utf8 w k n other f = absurd (other refl)
 Decides-units Utf16Le w k n other f =
     let two : n ≡ 2 = f.len in
     let within = f.within in
-    rw two (Decides-alike Utf16Le w 0xFFFD 2 alike_le (unit_fault false w k (omega arith) f.kind))
+    rw two (unit_fault false w k (omega arith) f.kind)
 Decides-units Utf16Be w k n other f =
     let two : n ≡ 2 = f.len in
     let within = f.within in
-    rw two (Decides-alike Utf16Be w 0xFFFD 2 alike_be (unit_fault true w k (omega arith) f.kind))
-
-lacks_where_awaited : (e : Option Utf16PairError) → option_map kind.Utf16 e ≡ Some (kind.Utf16 Incomplete) → e ≡ Some Incomplete
-lacks_where_awaited None h = cc
-lacks_where_awaited (Some k) h = let same : k ≡ Incomplete = cc in ap Some same
+    rw two (unit_fault true w k (omega arith) f.kind)
 
 pub lacks_units : (from : Form) (w : List ℕ) → (from ≡ Utf8 → ⊥) → AwaitsKind from w → Lacks from w
 lacks_units Utf8 w other a = absurd (other refl)
 lacks_units Utf16Le w other a = lacks_where_awaited _ a.kind
 lacks_units Utf16Be w other a = lacks_where_awaited _ a.kind
 
--- And so are too few bytes of it at the end.
+-- And so are too few bytes of it at the end, all of them.
 
-waits_for_units : (high : Bool) (from : Form) (w : List ℕ) → HasByteOrder high from → unit_fault_kind (units_of high w) ≡ Some Incomplete → Waits from w
-waits_for_units high from [] form h = Waits-byte high from [] form (lit< tt)
-waits_for_units high from (a ∷ []) form h = Waits-byte high from (a ∷ []) form (lit< tt)
-waits_for_units high from (a ∷ b ∷ []) form h = Waits-leading high from (a ∷ b ∷ []) form (lit< tt) (lit< tt) (leading_by_itself (unit_of high a b) h)
-waits_for_units high from (a ∷ b ∷ c ∷ []) form h = Waits-leading high from (a ∷ b ∷ c ∷ []) form (lit< tt) (lit< tt) (leading_by_itself (unit_of high a b) h)
-waits_for_units high from (a ∷ b ∷ c ∷ d ∷ w) form h = absurd (two_do_not_lack _ _ _ h)
+leading_alone : (high : Bool) (u : ℕ) → is_leading_surrogate u ≡ true → ShowsParts utf16 (u ∷ []) (0xFFFD ∷ [])
+leading_alone high u l = units_in_parts (u ∷ []) (0xFFFD ∷ []) (fault_shows_first utf16 utf16_is_code (u ∷ []) [] [] (lit< tt) (λ s h. no_code_at_last u s l h) (units_show [] [] (parts_show_none utf16)))
 
-same_drop : (w : List ℕ) → drop (min 2 (length w)) w ≡ drop 2 w
-same_drop w =
-    ⊎_elim
-    (λ (lt : length w < 2). drop_all (min 2 (length w)) w (omega arith) ∙ sym (drop_all 2 w (omega arith)))
-    (λ (ge : 2 ≤ length w). let two : min 2 (length w) ≡ 2 = omega arith in ap (λ k. drop k w) two)
-    (cases_lt (length w) 2)
+units_end : (high : Bool) (w : List ℕ) → 0 < length w → unit_fault_kind (units_of high w) ≡ Some Incomplete → ShowsUnitParts high w (0xFFFD ∷ [])
+units_end high [] some h = absurd (omega arith)
+units_end high (a ∷ []) some h = ([], parts_show_none utf16, refl)
+units_end high (a ∷ b ∷ []) some h = (0xFFFD ∷ [], leading_alone high (unit_of high a b) (leading_by_itself (unit_of high a b) h), refl)
+units_end high (a ∷ b ∷ c ∷ []) some h =
+    let l = leading_by_itself (unit_of high a b) h in
+    (0xFFFD ∷ [], leading_alone high (unit_of high a b) l, rw l refl)
+units_end high (a ∷ b ∷ c ∷ d ∷ w) some h = absurd (two_do_not_lack _ _ _ h)
 
-ends_in_unit : (high : Bool) (w : List ℕ) → 0 < length w → ((ss : List ℕ) → ShowsUnits high (drop 2 w) ss → ShowsUnits high w (0xFFFD ∷ ss)) → Ends (ShowsUnits high) w 0xFFFD (min 2 (length w))
-ends_in_unit high w some last = record {
-  some = omega arith;
+all_at_end : (high : Bool) (w : List ℕ) → 0 < length w → unit_fault_kind (units_of high w) ≡ Some Incomplete → Ends (ShowsUnitParts high) w 0xFFFD (length w)
+all_at_end high w some h = record {
+  some = some;
   within = omega arith;
   scalar = replacement;
   wide = λ high. absurd (omega arith);
-  first = λ ss r. last ss (rw (same_drop w) at r);
+  first = λ ss r.
+      let none : drop (length w) w ≡ [] = drop_all (length w) w (omega arith) in
+      let nothing : ss ≡ [] = nothing_shown high ss (subst (λ xs. ShowsUnitParts high xs ss) none r) in
+      rw nothing (units_end high w some h);
 }
+  where
+    nothing_shown : (high : Bool) (ss : List ℕ) → ShowsUnitParts high [] ss → ss ≡ []
+    nothing_shown high ss (ts, r, f) = f ∙ ap (λ xs. xs ++ []) (parts_show_one utf16 utf16_is_code [] ts [] r (parts_show_none utf16))
 
-pub Ends-units : (from : Form) (w : List ℕ) → (from ≡ Utf8 → ⊥) → 0 < length w → Lacks from w → Ends (ReadsParts from) w 0xFFFD (min 2 (length w))
-Ends-units Utf8 w other some h = absurd (other refl)
-Ends-units Utf16Le w other some h = Ends-alike Utf16Le w 0xFFFD (min 2 (length w)) alike_le (ends_in_unit false w some ((waits_for_units false Utf16Le w refl h).last some))
-Ends-units Utf16Be w other some h = Ends-alike Utf16Be w 0xFFFD (min 2 (length w)) alike_be (ends_in_unit true w some ((waits_for_units true Utf16Be w refl h).last some))
+pub Ends-few : (from : Form) (w : List ℕ) → 0 < length w → Lacks from w → Ends (ReadsParts from) w 0xFFFD (length w)
+Ends-few Utf8 w some h = Ends-front w some h
+Ends-few Utf16Le w some h = all_at_end false w some h
+Ends-few Utf16Be w some h = all_at_end true w some h

@@ -4,7 +4,7 @@ use Rattle.std.proofs.Math.Seq.{drop-append-add}
 use Rattle.std.proofs.lemmas.Bool.{cases_lt}
 use Rattle.std.proofs.lemmas.List.{drop_all, drop-drop, take_all, drop-append-le, take-append-le}
 use Rattle.recoding.specs.Recoded.{Recoding, written}
-use Rattle.recoding.specs.Rooms.{Fills, ComesNearer, IsAmpleFor}
+use Rattle.recoding.specs.Rooms.{Fills, ComesNearer, IsAmpleForText}
 use Rattle.recoding.specs.NextScalars.{fault_len}
 use Rattle.recoding.specs.Strict.{BeginsChar, BeginsFault, EndsInFault, IsTooLong, RecodesText, RunsStrictly, IsLonger, EndsFeed, EndsHeld, FeedsStrictly, FinishesStrictly, PassesHeld, EndsRun}
 use Rattle.recoding.specs.declared.faults.FaultKind.{FaultKind}
@@ -17,7 +17,7 @@ use Rattle.recoding.specs.declared.strict.HeldRun.{HeldRun}
 use Rattle.recoding.specs.declared.strict_runs.StrictRun.{StrictRun}
 use Rattle.recoding.proofs.FrontBytes.{fault_is_some}
 use Rattle.recoding.proofs.RoomRuns.{few_written}
-use Rattle.recoding.proofs.TextRuns.{RecodesText-run, RunsStrictly-char, code_room, text_room}
+use Rattle.recoding.proofs.TextRuns.{RecodesText-run, RunsStrictly-char, code_doubles, text_doubles, text_room}
 
 -- A front of two lists, one after the other.
 pub drop_both : (n : ℕ) (xs ys : List ℕ) → drop n (xs ++ ys) ≡ drop n xs ++ drop (n - length xs) ys
@@ -79,8 +79,8 @@ RecodesText-char f len d fills = RecodesText-run f len (RunsStrictly-char d fill
 
 -- How much room a call takes.
 
--- Three bytes of room for each byte are enough.
-pub enough_room : {from to : Form} {all left old new : List ℕ} {wrote : ℕ} → RecodesText from to all left old new wrote → length new ≡ length old → 3 * length all ≤ length old
+-- Two bytes of room for each byte are enough.
+pub enough_room : {from to : Form} {all left old new : List ℕ} {wrote : ℕ} → RecodesText from to all left old new wrote → length new ≡ length old → 2 * length all ≤ length old
     → IsTooLong from to left (length old - wrote) → ⊥
 enough_room {from} {to} {all} {left} {old} {new} {wrote} text len enough long =
     let c = long.begins in
@@ -88,9 +88,9 @@ enough_room {from} {to} {all} {left} {old} {new} {wrote} text len enough long =
       arith,
       ap length text.parts,
       length-append text.text left,
-      text_room text.transcodes,
+      text_doubles text.transcodes,
       front_len wrote new (omega (arith, text.fits)),
-      code_room from to long.scalar c.scalar,
+      code_doubles from to long.scalar c.scalar,
       ap length c.code,
       front_len long.len left c.within,
       c.within,
@@ -116,7 +116,7 @@ module _ (r : Recoding) (part old new : List ℕ) (s : Recoding) where
       omega (arith, few_written r.to long.scalar, long.longer, f.recodes.fits)
 
   -- There was none for what is left.
-  pub room_is_enough : (p : StrictProgress) → FeedsStrictly r part old new p s → length new ≡ length old → IsAmpleFor (length old) r part → p.outcome ≡ Full → ⊥
+  pub room_is_enough : (p : StrictProgress) → FeedsStrictly r part old new p s → length new ≡ length old → IsAmpleForText (length old) (length r.held + length part) → p.outcome ≡ Full → ⊥
   room_is_enough p f len enough e =
       let ends = subst (λ o. EndsFeed r.from r.to o f.fault s.held (drop p.read part) (length old - p.written)) e f.ends in
       enough_room (rw ends.0 at f.recodes) len (omega (arith, length-append r.held part)) ends.1

@@ -1,10 +1,11 @@
 -- Text recoded, and no fault: step by step.
-use Rattle.std.proofs.Common.{◌≡◌, ℕ, suc, lit<, ◌∷◌, length-append, ◌+◌, ◌-◌, ◌*◌, ◌/◌, ◌≤◌, Bool, List, [], ◌++◌, length, get_or, take, drop, flat_map, arith, refl, ap, ap₂, sym, ◌∙◌, append_assoc, length-drop, length-take, take-append-drop, Fits, w8, IsUtf8}
+use Rattle.std.proofs.Common.{◌≡◌, ℕ, suc, lit<, ◌∷◌, length-append, ◌+◌, ◌-◌, ◌*◌, ◌/◌, ◌<◌, ◌≤◌, ⊎_elim, Bool, List, [], ◌++◌, length, get_or, take, drop, flat_map, arith, refl, ap, ap₂, sym, ◌∙◌, append_assoc, length-drop, length-take, take-append-drop, Fits, w8, IsUtf8}
 use Rattle.std.specs.Prelude.{All}
+use Rattle.std.proofs.lemmas.Bool.{cases_lt}
 use Rattle.std.proofs.lemmas.List.{append-nil, take_all, take_rest, take-take}
 use Rattle.std.proofs.lemmas.List.Concat.{flat_map-append}
 use Rattle.std.proofs.lemmas.List.Elements.{All-append, All-nil, All-cons}
-use Rattle.encode_unicode.proofs.TextScalars.{joined_from_text}
+use Rattle.utf_base.proofs.TextScalars.{joined_from_text}
 use Rattle.utf_base.specs.Scalar.{IsScalar}
 use Rattle.utf_lanes.specs.BytePairs.{units_of, bytes_of, turned}
 use Rattle.utf_lanes.specs.Utf8ToUtf16.{utf16_bytes}
@@ -22,9 +23,9 @@ use Rattle.recoding.proofs.CopiedUnits.{all_written, coded_bytes, front_fits, in
 use Rattle.recoding.proofs.GivenRuns.{given_codes}
 use Rattle.recoding.proofs.RoomLemmas.{drop_later, take_more}
 use Rattle.recoding.proofs.Growing.{length_written}
-use Rattle.recoding.proofs.RoomRuns.{Fills-then, some_written}
+use Rattle.recoding.proofs.RoomRuns.{Fills-then, few_written, some_written}
 use Rattle.utf_base.proofs.Utf8Code.{utf8-4}
-use Rattle.utf_base.proofs.Utf16Code.{utf16-2}
+use Rattle.utf_base.proofs.Utf16Code.{utf16-1, utf16-2}
 
 -- The same text in two forms.
 
@@ -75,6 +76,41 @@ codes_room from to (s ∷ ss) all =
 
 pub text_room : {from to : Form} {text out : List ℕ} → Transcodes from to text out → length out ≤ 3 * length text
 text_room {from} {to} t = omega (arith, codes_room from to t.scalars t.all, ap length t.codes, ap length t.made)
+
+-- Text at most doubles.
+
+two_written : (from : Form) (s : ℕ) → (from ≡ Utf8 → ⊥) → 2 ≤ length (written from s)
+two_written Utf8 s other = absurd (other refl)
+two_written Utf16Le s other = ⊎_elim (λ (low : s < 0x1_0000). rw (utf16-1 s low) (lit< tt)) (λ (high : 0x1_0000 ≤ s). wide_written Utf16Le s high) (cases_lt s 0x1_0000)
+two_written Utf16Be s other = ⊎_elim (λ (low : s < 0x1_0000). rw (utf16-1 s low) (lit< tt)) (λ (high : 0x1_0000 ≤ s). wide_written Utf16Be s high) (cases_lt s 0x1_0000)
+
+units_double : (to : Form) (s : ℕ) → IsScalar s → (s < 0x1_0000 → length (written to s) ≡ 2) → length (written to s) ≤ 2 * length (written Utf8 s)
+units_double to s scalar one =
+    ⊎_elim
+    (λ (low : s < 0x1_0000). omega (arith, one low, some_written Utf8 s scalar))
+    (λ (high : 0x1_0000 ≤ s). omega (arith, few_written to s, wide_written Utf8 s high))
+    (cases_lt s 0x1_0000)
+
+pub code_doubles : (from to : Form) (s : ℕ) → IsScalar s → length (written to s) ≤ 2 * length (written from s)
+code_doubles Utf8 Utf8 s scalar = omega arith
+code_doubles Utf8 Utf16Le s scalar = units_double Utf16Le s scalar (λ low. rw (utf16-1 s low) refl)
+code_doubles Utf8 Utf16Be s scalar = units_double Utf16Be s scalar (λ low. rw (utf16-1 s low) refl)
+code_doubles Utf16Le to s scalar = omega (arith, few_written to s, two_written Utf16Le s (λ same. cc))
+code_doubles Utf16Be to s scalar = omega (arith, few_written to s, two_written Utf16Be s (λ same. cc))
+
+codes_double : (from to : Form) (ss : List ℕ) → All IsScalar ss → length (flat_map (written to) ss) ≤ 2 * length (flat_map (written from) ss)
+codes_double from to [] all = omega arith
+codes_double from to (s ∷ ss) all =
+    omega (
+      arith,
+      code_doubles from to s (all 0 s (omega arith)),
+      codes_double from to ss (λ k d lt. all (suc k) d (omega arith)),
+      length-append (written to s) (flat_map (written to) ss),
+      length-append (written from s) (flat_map (written from) ss),
+    )
+
+pub text_doubles : {from to : Form} {text out : List ℕ} → Transcodes from to text out → length out ≤ 2 * length text
+text_doubles {from} {to} t = omega (arith, codes_double from to t.scalars t.all, ap length t.codes, ap length t.made)
 
 -- Appended to any output.
 

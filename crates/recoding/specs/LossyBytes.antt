@@ -13,7 +13,7 @@ use Rattle.utf_lanes.specs.BytePairs.{units_of}
 use Rattle.recoding.specs.declared.form.TheConstants.{WIDEST}
 use Rattle.recoding.specs.declared.form.Form.{Form}
 use Rattle.recoding.specs.declared.form.Form.TheVariants.{Utf8, Utf16Le, Utf16Be}
-use Rattle.recoding.specs.Lossy.{IsLossy, ReadsParts}
+use Rattle.recoding.specs.Lossy.{IsLossy, ReadsParts, odd_part}
 use Rattle.recoding.specs.Recoded.{Recoding, fresh, most_held, odd_end, written}
 use Rattle.recoding.specs.RecodedBytes.{recoded}
 use Rattle.recoding.specs.Rooms.{BeginsLonger}
@@ -24,8 +24,8 @@ use Rattle.utf_base.proofs.PartLists.{parts_show_some}
 -- the list that the parts of bytes show as text of that form: `parts_show_some` says that there is one
 unfoldable pub shown_by_parts : Form → List ℕ → List ℕ
 shown_by_parts Utf8 bytes = (parts_show_some utf8 utf8_is_code utf8_finds bytes).0
-shown_by_parts Utf16Le bytes = (parts_show_some utf16 utf16_is_code utf16_finds (units_of false bytes)).0 ++ odd_end bytes
-shown_by_parts Utf16Be bytes = (parts_show_some utf16 utf16_is_code utf16_finds (units_of true bytes)).0 ++ odd_end bytes
+shown_by_parts Utf16Le bytes = (parts_show_some utf16 utf16_is_code utf16_finds (units_of false bytes)).0 ++ odd_part false bytes
+shown_by_parts Utf16Be bytes = (parts_show_some utf16 utf16_is_code utf16_finds (units_of true bytes)).0 ++ odd_part true bytes
 
 -- the codes of these scalars: what the bytes become, with one U+FFFD for each maximal subpart
 unfoldable pub lossy : Form → Form → List ℕ → List ℕ
@@ -141,9 +141,13 @@ abbrev pub LossyPartsAreOne : Type 0
 LossyPartsAreOne =
     (from to : Form) (parts : List (List ℕ)) (out : List ℕ) → AddsEach (fresh from to) parts [] out → out ≡ lossy from to (concat parts)
 
--- of UTF-16 each maximal subpart is one unit, or an odd byte: so it is the same as where each fault is replaced
+-- Of UTF-16 each maximal subpart is one unit, or an odd byte, but for a leading surrogate and an odd byte at the end. So where the bytes
+-- do not end so, it is the same as where each fault is replaced.
 abbrev pub LossyUnitsAreRecoded : Type 0
-LossyUnitsAreRecoded = (to : Form) (bytes : List ℕ) → (lossy Utf16Le to bytes ≡ recoded Utf16Le to bytes) × (lossy Utf16Be to bytes ≡ recoded Utf16Be to bytes)
+LossyUnitsAreRecoded =
+    (to : Form) (bytes : List ℕ)
+    → (odd_part false bytes ≡ odd_end bytes → lossy Utf16Le to bytes ≡ recoded Utf16Le to bytes)
+    × (odd_part true bytes ≡ odd_end bytes → lossy Utf16Be to bytes ≡ recoded Utf16Be to bytes)
 
 -- and so is that of text, which has none, whatever follows it
 abbrev pub TextIsLossy : Type 0

@@ -76,6 +76,10 @@ IsAmple room count = WIDEST * count ≤ room
 abbrev pub IsAmpleFor : ℕ → Recoding → List ℕ → Type 0
 IsAmpleFor room r part = IsAmple room (length r.held + length part)
 
+-- the room is surely enough for text of so many bytes, which at most doubles
+abbrev pub IsAmpleForText : ℕ → ℕ → Type 0
+IsAmpleForText room count = 2 * count ≤ room
+
 -- what is left of a list's capacity is surely enough for all that so many bytes are recoded as
 abbrev pub HasRoomFor : {Z : Type 0} → Vec ℕ Z → ℕ → Type 0
 HasRoomFor out count = vec_len out + WIDEST * count ≤ vec_capacity out

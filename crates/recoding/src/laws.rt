@@ -44,7 +44,7 @@ pub fn parts_are_one_part()
 /// A recoder holds nothing that is decided. What `feed` and `feed_into` hold becomes U+FFFD where nothing follows,
 /// and another character where the rest of its code does.
 ///
-/// Of UTF-16 with the high byte first, half a unit is held too where no code begins with it.
+/// Of UTF-16 with the high byte first, half a unit is held too where no code begins with it, and a leading surrogate before it.
 pub fn held_is_undecided()
     ensures fronts { FrontsAreUndecided }
     ensures text { LackingTextIsUndecided }
@@ -97,7 +97,8 @@ pub fn lossy_parts_are_one_part()
 {}
 
 /// One U+FFFD for each maximal subpart, or one for each of its bytes: the same characters and maximal subparts show both.
-/// Of UTF-16 both are the same, and so they are over text, whatever follows it.
+/// Of UTF-16 both are the same, but for an odd byte after a leading surrogate at the end. Over text they are the same, whatever
+/// follows it.
 pub fn lossy_joins_faults()
     ensures joins { LossyJoinsFaults }
     ensures units { LossyUnitsAreRecoded }

@@ -22,8 +22,9 @@ impl Recoder {
     /// A maximal subpart is the longest start, one to three bytes, of a well-formed sequence that
     /// is not completed: `E2 82 41` becomes one U+FFFD and an `A`. A byte with which no such
     /// sequence begins is a maximal subpart alone: `E0 80` becomes two U+FFFD, since no well-formed
-    /// sequence begins with `E0 80`. In UTF-16 it is a lone surrogate or an odd last byte. So in
-    /// UTF-16, and in valid input, this call and `feed_into` write the same.
+    /// sequence begins with `E0 80`. In UTF-16 it is a lone surrogate or an odd last byte. But a
+    /// leading surrogate and an odd byte that end the input are one, as in browsers and Python. In
+    /// all other UTF-16, and in valid input, this call and `feed_into` write the same.
     ///
     /// Bytes that may still become a character are held, at most three. Everything before them
     /// comes out. `read`, `written` and `is_full` are as those of `feed_into`, and `replaced` is 0:
@@ -98,8 +99,8 @@ impl Recoder {
         ended(read, 0, false, false)
     }
 
-    /// `finish_into` after `feed_lossy_into`. If the recoder holds the front of a character of
-    /// UTF-8, that becomes one U+FFFD. `read` and `replaced` are 0.
+    /// `finish_into` after `feed_lossy_into`. If the recoder holds the front of a character, that
+    /// becomes one U+FFFD, in each form. `read` and `replaced` are 0.
     ///
     /// If `is_full` is false, nothing is held any more. If it is true, the next character did not
     /// fit: call this again, with new room. Room for four bytes is enough for any character.

@@ -100,16 +100,13 @@ fn third_continues(bytes: &[u8]) -> bool
     bytes.len() >= 3 && is_continuation(bytes[2])
 }
 
-// The part that begins some bytes which nothing follows: where they are too few for a code, all of UTF-8, and of UTF-16 a unit.
+// The part that begins some bytes which nothing follows: all of them where they are too few for a code.
 pub(crate) fn last_lossy_piece(from: Form, bytes: &[u8]) -> LossyPiece
     requires { 0 < length bytes.now }
     ensures { Ends (ReadsParts from) bytes.now (scalar_of result) (len_of result) }
 {
     match first_lossy_piece(from, bytes) {
         Some(part) => part,
-        None => match from {
-            Form::Utf8 => LossyPiece::Subpart(bytes.len()),
-            _ => LossyPiece::Subpart(2usize.min(bytes.len())),
-        },
+        None => LossyPiece::Subpart(bytes.len()),
     }
 }

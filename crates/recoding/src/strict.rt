@@ -2,7 +2,7 @@
 ghost use Rattle.std.specs.Prelude.{◌≡◌, ◌≢◌, ◌+◌, ◌-◌, ◌<◌, ◌≤◌, [], length, drop, Some};
 ghost use Rattle.recoding.specs.FirstFaults.{TellsFirst, TellsFirstAtEnd};
 ghost use Rattle.recoding.specs.Recoded.{most_held};
-ghost use Rattle.recoding.specs.Rooms.{ComesNearer, IsAmple, IsAmpleFor};
+ghost use Rattle.recoding.specs.Rooms.{ComesNearer, IsAmpleForText};
 ghost use Rattle.recoding.specs.Strict.{EndsRun, FeedsStrictly, FinishesStrictly, IsFirstPiece, PassesHeld};
 
 use crate::faults::{Fault, FaultKind, Outcome, StrictProgress};
@@ -35,14 +35,15 @@ impl Recoder {
     ///
     /// `Outcome::AllRead`: the whole part was read. `Outcome::Full`: the next character did not fit. With room for four
     /// bytes, each call that is given a byte reads or writes something, or passes an invalid byte that was held. With
-    /// three bytes of room for each byte that is held or in the part, the room is never full.
+    /// two bytes of room for each byte that is held or in the part, the room is never full.
     ///
     /// Cost: O(n) in what is read and written.
     pub fn feed_strict_into(&mut self, part: &[u8], room: &mut [u8]) -> StrictProgress
         ensures feeds { FeedsStrictly self.old part.now room.old room.new result self.new }
         ensures read { result.outcome ≡ Outcome.AllRead → result.read ≡ length part.now }
         ensures short { result.outcome ≡ Outcome.Full → length room.old < result.written + 4 }
-        ensures enough { IsAmpleFor (length room.old) self.old part.now → result.outcome ≢ Outcome.Full }
+        ensures enough { IsAmpleForText (length room.old) (length self.old.held + length part.now) →
+            result.outcome ≢ Outcome.Full }
         ensures nearer { ComesNearer part.now room.old result.read self.old self.new }
         ensures first { TellsFirst self.old part.now result self.new }
     {
@@ -134,13 +135,13 @@ impl Recoder {
     /// `Incomplete`. To go on after it, call this again.
     ///
     /// `Outcome::AllRead`: nothing is held any more. `Outcome::Full`: the next character did not fit. Room for four
-    /// bytes is enough for any character, and room for nine for all.
+    /// bytes is enough for any character, and room for six for all.
     pub fn finish_strict_into(&mut self, room: &mut [u8]) -> StrictProgress
         ensures finishes { FinishesStrictly self.old room.old room.new result self.new }
         ensures read { result.read ≡ 0 }
         ensures all { result.outcome ≡ Outcome.AllRead → self.new.held ≡ [] }
         ensures short { result.outcome ≡ Outcome.Full → length room.old < result.written + 4 }
-        ensures enough { IsAmple (length room.old) (length self.old.held) → result.outcome ≢ Outcome.Full }
+        ensures enough { IsAmpleForText (length room.old) (length self.old.held) → result.outcome ≢ Outcome.Full }
         ensures first { TellsFirstAtEnd self.old result }
     {
         let (from, to) = self.forms();

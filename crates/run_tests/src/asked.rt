@@ -1,9 +1,10 @@
-//! The callers in `uses` that ask a decoder again, that loop over one, that recode by way of packets, and that look for
-//! ASCII bytes and for boundaries. Expected values as Python's `bytes` and `str` give them.
+//! The callers in `uses` and `uses_runs` that ask a decoder again, that loop over one, that recode by way of packets,
+//! and that look for ASCII bytes and for boundaries. Expected values as Python's `bytes` and `str` give them.
 use cuts::{Form, Recoder};
 use encode_unicode::Utf8Char;
 use std::test::Fail;
-use uses::{asked, boundaries, damage, loops, merges, rooms};
+use uses::{asked, damage, loops};
+use uses_runs::{boundaries, faults, rooms};
 
 // "a", "€", half of one, a quote, "b" and "🂠".
 fn damaged() -> &'static [u8] {
@@ -50,7 +51,7 @@ fn ascii_is_found_in_damage(rt: HostRuntime) {
     assert!(rt; !damage::is_quote(damaged(), 12));
     assert!(rt; damage::after_comma(b"\xc3,\xa9") == Some(2));
     assert!(rt; damage::after_comma(damaged()).is_none());
-    assert!(rt; merges::is_text("é🂠".as_bytes()) && !merges::is_text(damaged()));
+    assert!(rt; faults::is_merged_text("é🂠".as_bytes()) && !faults::is_merged_text(damaged()));
 }
 
 #[test]

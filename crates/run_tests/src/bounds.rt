@@ -2,9 +2,9 @@
 
 use cuts::Form;
 use std::test::Fail;
-use uses::bounds::{count_pieces, lossy_text};
-use uses::equals::{decode_alike, merge_alike};
-use uses::parts::recode_parts;
+use uses_runs::bounds::{count_pieces, lossy_text};
+use uses_runs::equals::{decode_alike, merge_alike};
+use uses_runs::parts::recode_parts;
 
 #[test]
 fn a_lossy_text_has_three_bytes_for_each_fault(rt: HostRuntime) -> Result<(), Fail> {

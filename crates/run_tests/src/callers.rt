@@ -1,19 +1,21 @@
-//! The callers in `uses`, over a damaged log, units with surrogates that stand alone, and a text of several scripts.
+//! The callers in `uses` and `uses_runs`, over a damaged log, units with surrogates that stand alone, and a text of
+//! several scripts.
 use cuts::{Form, Recoder};
 use encode_unicode::error::{Utf8ErrorKind, Utf16PairError};
 use encode_unicode::{U16IterExt, Utf8Char};
 use std::process::Abort;
 use std::test::Fail;
+use uses::backward;
 use uses::cases::are_alike;
 use uses::chains::{last_line, trimmed, units_needed};
 use uses::merged::split_piece;
-use uses::parts::{append_shards, count_two, feed_line, recode_in_parts, recode_ring};
 use uses::recoders::recode;
 use uses::records::{Ending, first_record, next_record};
-use uses::rooms::{feed_packet, send_end};
 use uses::tables::{count_characters, hash_characters};
 use uses::tokens::tokens;
-use uses::{backward, cursor};
+use uses_runs::parts::{append_shards, count_two, feed_line, recode_in_parts, recode_ring};
+use uses_runs::rooms::{feed_packet, send_end};
+use uses_runs::{cursor, faults};
 
 fn log() -> &'static [u8] {
     b"12:01 caf\xc3\xa9\n12:02 \xe2\x82 7\n\n\xff\xc3\n\xf0\x9f\x82\xa0\xf0\x9f\n"
@@ -225,7 +227,7 @@ fn a_character_that_is_cut_off_is_sent_at_the_end(rt: HostRuntime) -> Result<(),
 #[test]
 fn chains_from_the_back_give_the_same_pieces(rt: HostRuntime) {
     let bytes = b"a\xff\xe2\x82\xac\xe2\x82";
-    assert!(rt; backward::fault_count(bytes) == 3);
+    assert!(rt; faults::fault_count(bytes) == 3);
     let last = backward::last_fault(bytes).map(|x| x.0);
     assert!(rt; last == Some(6));
     assert!(rt; backward::faults_at_end(bytes) == Some(2));

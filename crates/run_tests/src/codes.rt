@@ -1,10 +1,11 @@
-//! The callers in `uses` that speak of codes, of faults, of two parts and of the pieces of a table.
+//! The callers in `uses` and `uses_runs` that speak of codes, of faults, of two parts and of the pieces of a table.
 use cuts::{Form, PieceTable};
 use encode_unicode::{Utf8Char, Utf16Char};
 use std::test::Fail;
-use uses::parts::recode_two;
 use uses::tokens::{key_and_value, line, words};
-use uses::{chains, codes, editor, merges};
+use uses::{chains, codes, merges};
+use uses_runs::parts::recode_two;
+use uses_runs::{editor, faults};
 
 // Six pieces, two of them faults, as the README shows them.
 fn damaged() -> &'static [u8] {
@@ -49,7 +50,7 @@ fn chains_find_the_faults(rt: HostRuntime) {
     assert!(rt; chains::fault_count(damaged()) == 2);
     assert!(rt; chains::faults_by_fold(damaged()) == 2);
     assert!(rt; chains::characters_before(damaged()) == Some(2));
-    assert!(rt; chains::first_fault_place(damaged()) == 3);
+    assert!(rt; faults::first_fault_place(damaged()) == 3);
     assert!(rt; chains::before_fault(damaged()) == b"h\xc3\xa9".as_slice());
     assert!(rt; chains::has_fault(damaged()) && !chains::has_no_fault(damaged()));
     assert!(rt; chains::bytes_covered(damaged()) == 10);
@@ -74,11 +75,11 @@ fn mergers_are_asked_in_chains(rt: HostRuntime) {
 #[test]
 fn text_has_characters_alone(rt: HostRuntime) {
     let text = b"h\xc3\xa9";
-    assert!(rt; chains::is_text(text) && !chains::is_text(damaged()));
-    assert!(rt; chains::has_characters_alone(text));
-    assert!(rt; !chains::has_characters_alone(damaged()));
-    assert!(rt; chains::is_well_formed(text));
-    assert!(rt; !chains::is_well_formed(damaged()));
+    assert!(rt; faults::is_text(text) && !faults::is_text(damaged()));
+    assert!(rt; faults::has_characters_alone(text));
+    assert!(rt; !faults::has_characters_alone(damaged()));
+    assert!(rt; faults::is_well_formed(text));
+    assert!(rt; !faults::is_well_formed(damaged()));
 }
 
 #[test]

@@ -1,8 +1,9 @@
-//! The callers in `uses` that cut at the offset of a piece, of a character or of a fault. Expected values as Python's `bytes`,
-//! `str` and decoders give them.
+//! The callers in `uses` and `uses_runs` that cut at the offset of a piece, of a character or of a fault. Expected
+//! values as Python's `bytes`, `str` and decoders give them.
 use cuts::Form;
 use std::test::Fail;
-use uses::{asked, bounds, chains, fronts, merges, strict, texts};
+use uses::{asked, chains, merges, texts};
+use uses_runs::{bounds, fronts, strict};
 
 #[test]
 fn slices_begin_where_the_decoder_stands(rt: HostRuntime) {

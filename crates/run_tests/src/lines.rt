@@ -2,7 +2,7 @@
 //! of Rust gives them; counts by hand.
 use cuts::{Span, SplitAscii, SplitLines, char_count, fault_count, lines, split_ascii};
 use std::test::Fail;
-use uses::fields;
+use uses_runs::fields;
 
 fn is_at(span: Option<Span<'_>>, start: usize, bytes: &[u8]) -> bool {
     span.is_some_and(|span| span.start() == start && span.as_bytes() == bytes)

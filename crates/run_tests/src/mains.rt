@@ -1,7 +1,7 @@
 //! The programs over words and streams, and words that cannot be had.
 use crate::programs::words_of;
 use cuts::Counted;
-use cuts::programs::mains::{pieces, pieces_buffered, recode, words};
+use cuts::programs::mains::{pieces, recode, words};
 use fakes::fuse::Fuse;
 use std::env::{Env, FillError};
 use std::io;
@@ -63,13 +63,6 @@ fn pieces_runs_on_its_words(rt: HostRuntime) -> Result<(), Fail> {
         let words = Ok(words_of(rt.alloc(), texts)?);
         assert!(rt; pieces(rt.alloc(), words, &mut input, &mut out, &mut stderr) == status);
         assert!(rt; out.into_inner().written.as_slice() == output.as_bytes());
-        assert!(rt; stderr.written.as_slice() == said.as_bytes());
-
-        let mut input = Fuse::over(rt.alloc(), b"A");
-        let writer = Fuse::ample(rt.alloc());
-        let mut stderr = Fuse::ample(rt.alloc());
-        let words = Ok(words_of(rt.alloc(), texts)?);
-        assert!(rt; pieces_buffered(rt.alloc(), words, &mut input, writer, &mut stderr) == status);
         assert!(rt; stderr.written.as_slice() == said.as_bytes());
     }
     Ok(())

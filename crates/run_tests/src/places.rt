@@ -1,14 +1,14 @@
-//! The callers in `uses` that look for places in damaged bytes, and that make texts of texts.
+//! The callers in `uses` and `uses_runs` that look for places in damaged bytes, and that make texts of texts.
 use cuts::boundaries::{ceil, floor, following, previous, truncated};
 use std::process::Abort;
 use std::test::Fail;
-use uses::blocks::count_block;
-use uses::listed::{pieces_of_both, turned_by_units};
 use uses::needles::find_ascii;
-use uses::shown::{lossy, valid_front};
-use uses::strings::closing_quote;
 use uses::texts::{joined_units, raised, reversed, shortened};
-use uses::wire::first_text;
+use uses_runs::blocks::count_block;
+use uses_runs::listed::{pieces_of_both, turned_by_units};
+use uses_runs::shown::{lossy, valid_front};
+use uses_runs::strings::closing_quote;
+use uses_runs::wire::first_text;
 
 fn damaged() -> &'static [u8] {
     b"a\xe2\x82\xac\xe2\x82\"b\xf0\x9f\x82\xa0"

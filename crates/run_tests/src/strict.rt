@@ -6,7 +6,7 @@ use fakes::fuse::{Failure, Fuse, Plan};
 use std::alloc::{AllocError, Global};
 use std::io::ErrorKind;
 use std::test::Fail;
-use uses::strict::{feed_strictly, finish_strictly};
+use uses_runs::strict::{feed_strictly, finish_strictly};
 
 // An input, where it is faulty and why, and the text before that in the other form.
 type Row = (
@@ -268,8 +268,17 @@ fn a_strict_run_tells_what_failed(rt: HostRuntime) -> Result<(), Fail> {
     let mut full = Counted::new(Fuse::failing(rt.alloc(), 1, Failure::Nothing));
     let answer = recode_strict(&mut input, &mut full, Form::Utf8, LE);
     assert!(rt; answer == Err(StrictError::Write));
-    let text = format!(in rt.alloc(); "{}", StrictError::Write)?;
-    assert!(rt; text.as_str() == "cannot write");
+    let fault = FaultAt {
+        offset: 7,
+        kind: FaultKind::Utf8(Utf8ErrorKind::NonUtf8Byte),
+    };
+    for (error, text) in [
+        (StrictError::Read, "cannot read"),
+        (StrictError::Write, "cannot write"),
+        (StrictError::Faulty(fault), "faulty input"),
+    ] {
+        assert!(rt; format!(in rt.alloc(); "{error}")?.as_str() == text);
+    }
     Ok(())
 }
 

@@ -5,6 +5,7 @@ use cuts::PieceTable;
 use encode_unicode::{Steps, Utf8Char};
 use fakes::budget::Budget;
 use std::alloc::{AllocError, Allocator};
+use std::process::Abort;
 use std::test::Fail;
 
 // One byte becomes two, in at most eight steps, whatever the table.
@@ -42,6 +43,61 @@ fn a_table_has_a_million_bytes(rt: HostRuntime) -> Result<(), Fail> {
     assert!(rt; table.bytes().len() == 1_000_001 && table.pieces().len() == 1_000_000);
     let last = (999_999, Ok(Utf8Char::new('\u{e9}')), 2);
     assert!(rt; table.pieces().last() == Some(&last));
+    Ok(())
+}
+
+// So many characters of two bytes take the place of some bytes of a table of ten thousand, whose pieces are then those that std finds.
+fn takes_many<A: Allocator + Copy>(
+    rt: &impl Abort,
+    alloc: A,
+    range: (usize, usize),
+    count: usize,
+) -> Result<(), Fail>
+    requires ordered { range.0 ≤ range.1 }
+    requires within { range.1 ≤ 10000 }
+    requires countable { count ≤ 1000000 }
+{
+    let (start, end) = range;
+    let mut new = String::new(alloc);
+    for _ in 0..count {
+        new.push('\u{e9}')?;
+    }
+    let mut table = PieceTable::new(alloc, &[b'a'; 10_000])?;
+    let answer = table.replace(start, end, new.as_bytes(), &mut Steps::new());
+    assert!(rt; answer.is_ok(), "{count} characters from {start} to {end}");
+    assert!(rt;
+        table
+            .bytes()
+            .get(start..)
+            .is_some_and(|rest| rest.starts_with(new.as_bytes()))
+    );
+    are_those_of_std(rt, &table, 10_000 - (end - start) + count);
+    Ok(())
+}
+
+fn are_those_of_std<A: Allocator + Copy>(rt: &impl Abort, table: &PieceTable<A>, count: usize) {
+    assert!(rt; table.pieces().len() == count);
+    let text = str::from_utf8(table.bytes()).unwrap_or("");
+    assert!(rt; text.len() == table.bytes().len());
+    for (item, (place, c)) in table.pieces().iter().zip(text.char_indices()) {
+        assert!(rt; *item == (place, Ok(Utf8Char::new(c)), c.len_utf8()));
+    }
+}
+
+// Memory is there, and no number of bytes is too many for it.
+#[test]
+fn many_bytes_are_replaced_by_many(rt: HostRuntime) -> Result<(), Fail> {
+    for count in [0, 1, 2_047, 2_048, 2_049, 32_767, 32_768, 500_000] {
+        for range in [
+            (0, 0),
+            (5_000, 5_000),
+            (10_000, 10_000),
+            (100, 9_900),
+            (0, 10_000),
+        ] {
+            takes_many(&rt, rt.alloc(), range, count)?;
+        }
+    }
     Ok(())
 }
 

@@ -14,9 +14,8 @@ use Rattle.encode_unicode.specs.TextWindow.{NextScalar}
 use Rattle.encode_unicode.specs.Units.{unit_fault_kind}
 use Rattle.encode_unicode.specs.Window.{Window, elements, whole_window}
 use Rattle.encode_unicode.specs.declared.error.Utf16PairError.{Utf16PairError}
-use Rattle.encode_unicode.proofs.ForCallers.{codes_of_text, utf16_is_code, same_char, stands_first, no_units_where_kind}
+use Rattle.encode_unicode.proofs.ForCallers.{all_scalar, codes_of_text, utf16_is_code, same_char, stands_first, no_units_where_kind}
 use Rattle.encode_unicode.proofs.Listed.{scalars_listed, splitter_listed}
-use Rattle.encode_unicode.proofs.TextScalars.{all_scalar}
 
 -- the units that a splitter over the characters of a text still gives
 abbrev pub units_left : Splitting Window → List ℕ

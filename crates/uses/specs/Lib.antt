@@ -1,14 +1,6 @@
-pub mod Counts
-pub mod Cursor
 pub mod Initials
-pub mod Parts
 pub mod Records
 pub mod Tables
 pub mod Tokens
-pub mod Editor
-pub mod Strings
-pub mod Shown
 pub mod Needles
-pub mod Wire
-pub mod Blocks
 pub mod Cases

@@ -10,27 +10,11 @@ pub fn array_and_back(c: Utf8Char) -> Utf8Char
     Utf8Char::from_array(c.to_array().0).unwrap()
 }
 
-/// By the view.
-pub fn view_and_back(c: Utf8Char) -> Utf8Char
-    ensures { result ≡ c }
-{
-    let (same, _) = Utf8Char::from_slice_start(c.as_bytes()).unwrap();
-    same
-}
-
 /// By a text.
 pub fn text_and_back(c: Utf8Char) -> Utf8Char
     ensures { result ≡ c }
 {
     c.as_str().parse().unwrap()
-}
-
-/// By a text, to the other form.
-pub fn text_to_units(c: Utf8Char) -> Utf16Char
-    ensures { result ≡ c }
-{
-    let (same, _) = Utf16Char::from_str_start(c.as_str()).unwrap();
-    same
 }
 
 /// By a buffer.
@@ -50,40 +34,12 @@ pub fn tuple_and_back(c: Utf16Char) -> Utf16Char
     Utf16Char::from_tuple(c.to_tuple()).unwrap()
 }
 
-/// By two units.
-pub fn units_and_back(c: Utf16Char) -> Utf16Char
-    ensures { result ≡ c }
-{
-    Utf16Char::from_array(c.to_array()).unwrap()
-}
-
 /// By a slice of units.
 pub fn unit_view_and_back(c: Utf16Char) -> Utf16Char
     ensures { result ≡ c }
 {
     let (same, _) = Utf16Char::from_slice_start(c.as_units()).unwrap();
     same
-}
-
-/// A `char`, by each code.
-pub fn char_by_tuple(c: char) -> char
-    ensures { result ≡ c }
-{
-    char::from_utf16_tuple(c.to_utf16_tuple()).unwrap()
-}
-
-/// A `char`, by two units.
-pub fn char_by_units(c: char) -> char
-    ensures { result ≡ c }
-{
-    char::from_utf16_array(c.to_utf16_array()).unwrap()
-}
-
-/// A `char`, by its bytes.
-pub fn char_by_array(c: char) -> char
-    ensures { result ≡ c }
-{
-    char::from_utf8_array(c.to_utf8_array().0).unwrap()
 }
 
 /// A `char`, by the bytes of its code.
@@ -108,26 +64,6 @@ pub fn forms_agree(bytes: &[u8]) -> bool
 {
     match Utf8Char::from_slice_start(bytes) {
         Ok(first) => Utf8Char::from_slice_start_unchecked(bytes) == first,
-        Err(_) => true,
-    }
-}
-
-/// The checked and the unchecked call of one array of units.
-pub fn array_forms_agree(units: [u16; 2]) -> bool
-    ensures { IsTrue result }
-{
-    match char::from_utf16_array(units) {
-        Ok(c) => char::from_utf16_array_unchecked(units) == c,
-        Err(_) => true,
-    }
-}
-
-/// The checked and the unchecked call of one tuple.
-pub fn tuple_forms_agree(units: (u16, Option<u16>)) -> bool
-    ensures { IsTrue result }
-{
-    match char::from_utf16_tuple(units) {
-        Ok(c) => char::from_utf16_tuple_unchecked(units) == c,
         Err(_) => true,
     }
 }

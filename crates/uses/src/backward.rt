@@ -2,9 +2,7 @@
 ghost use Rattle.std.specs.Prelude.{◌≡◌, None, count_by, is_err, is_ok, position};
 ghost use Rattle.std.specs.List.{find, last_or, list_all};
 ghost use Rattle.encode_unicode.specs.BackPieces.{pieces_back, unit_pieces_back};
-ghost use Rattle.encode_unicode.specs.Pieces.{pieces};
 
-use cuts::laws;
 use encode_unicode::error::Utf8Error;
 use encode_unicode::{U8SliceExt, U16SliceExt, Utf8Char};
 
@@ -20,18 +18,6 @@ pub fn faults_at_end(bytes: &[u8]) -> Option<usize>
     ensures { result ≡ position (λ x. is_ok x.1) (pieces_back bytes.now) }
 {
     bytes.utf8char_indices().rev().position(|x| x.1.is_ok())
-}
-
-/// How many pieces of the bytes are faults, which is the same from either end.
-pub fn fault_count(bytes: &[u8]) -> usize
-    ensures { result ≡ count_by (λ x. is_err x.1) (pieces bytes.now) }
-{
-    laws::pieces_back_are_the_pieces(bytes);
-    bytes
-        .utf8char_indices()
-        .rev()
-        .filter(|x| x.1.is_err())
-        .count()
 }
 
 /// Whether no piece is a fault, asked from the back.

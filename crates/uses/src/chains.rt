@@ -1,13 +1,10 @@
 //! Chains over a decoder: what a chain answers is said of `pieces`, the list of what the decoder gives.
-ghost use Rattle.std.specs.Prelude.{◌≡◌, ◌+◌, ◌↔◌, IsTrue, None, cond, count_by, IfSome, ◌≤◌, is_err, is_ok, max, nat_eq, not, position, reverse, slice_get, take};
+ghost use Rattle.std.specs.Prelude.{◌≡◌, ◌+◌, None, cond, count_by, IfSome, ◌≤◌, is_err, is_ok, max, nat_eq, not, position, reverse, slice_get};
 ghost use Rattle.std.specs.List.{filter_map, find, fold, last_or, list_all, list_any};
 ghost use Rattle.std.specs.Result.{result_ok};
-ghost use Rattle.std.specs.Str.{IsUtf8, chars};
-ghost use Rattle.cuts.specs.WellFormed.{IsFirstFault};
-ghost use Rattle.encode_unicode.specs.Code.{utf8};
+ghost use Rattle.std.specs.Str.{chars};
 ghost use Rattle.encode_unicode.specs.Pieces.{pieces, placed_chars};
 
-use cuts::{laws, valid_up_to};
 use encode_unicode::error::Utf8Error;
 use encode_unicode::laws::{lengths_are_bounded, runs_are_bounded};
 use encode_unicode::{StrExt, U8SliceExt, Utf8Char};
@@ -17,13 +14,6 @@ pub fn fault_count(bytes: &[u8]) -> usize
     ensures { result ≡ count_by (λ x. is_err x.1) (pieces bytes.now) }
 {
     bytes.utf8char_indices().filter(|x| x.1.is_err()).count()
-}
-
-/// The first fault, with its place.
-pub fn first_fault(bytes: &[u8]) -> Option<(usize, Result<Utf8Char, Utf8Error>, usize)>
-    ensures { result ≡ find (λ x. is_err x.1) (pieces bytes.now) }
-{
-    bytes.utf8char_indices().find(|x| x.1.is_err())
 }
 
 /// How many characters stand before the first fault.
@@ -138,39 +128,10 @@ pub fn units_needed(text: &str) -> usize {
     text.utf16chars().map(|c| c.len()).sum()
 }
 
-/// How many bytes the text has, character by character.
-pub fn bytes_needed(text: &str) -> usize {
-    text.utf8chars().map(|c| c.len()).sum()
-}
-
 /// How many bytes the pieces have together. The law says that the sum fits.
 pub fn bytes_covered(bytes: &[u8]) -> usize {
     lengths_are_bounded();
     bytes.utf8char_indices().map(|x| x.2).sum()
-}
-
-/// Whether the bytes are UTF-8.
-pub fn is_text(bytes: &[u8]) -> bool
-    ensures { IsTrue result ↔ IsUtf8 bytes.now }
-{
-    laws::pieces_are_the_run();
-    laws::text_has_no_fault();
-    fault_count(bytes) == 0
-}
-
-/// The same, by the pieces themselves.
-pub fn has_characters_alone(bytes: &[u8]) -> bool
-    ensures { IsTrue result ↔ IsUtf8 bytes.now }
-{
-    laws::text_is_all_characters(bytes);
-    bytes.utf8char_indices().all(|item| item.1.is_ok())
-}
-
-/// The same, by how far the bytes are well-formed.
-pub fn is_well_formed(bytes: &[u8]) -> bool
-    ensures { IsTrue result ↔ IsUtf8 bytes.now }
-{
-    valid_up_to(bytes) == bytes.len()
 }
 
 /// How many line feeds the text has.
@@ -206,14 +167,7 @@ pub fn faults_by_fold(bytes: &[u8]) -> usize
         .fold(0, |count, x| if x.1.is_err() { count + 1 } else { count })
 }
 
-/// The last character of the text, from its front.
-pub fn last_character(text: &str) -> Option<Utf8Char>
-    ensures { result ≡ last_or None (chars text.now) }
-{
-    text.utf8chars().last()
-}
-
-/// The same from its back.
+/// The last character of the text, from its back.
 pub fn last_from_back(text: &str) -> Option<Utf8Char>
     ensures { result ≡ last_or None (chars text.now) }
 {
@@ -225,19 +179,6 @@ pub fn last_piece(bytes: &[u8]) -> Option<(usize, Result<Utf8Char, Utf8Error>, u
     ensures { result ≡ last_or None (pieces bytes.now) }
 {
     bytes.utf8char_indices().last()
-}
-
-/// How many bytes stand before the first fault, which are text.
-pub fn first_fault_place(bytes: &[u8]) -> usize
-    ensures first { IsFirstFault utf8 bytes.now result }
-    ensures text { IsUtf8 (take result bytes.now) }
-{
-    laws::pieces_are_the_run();
-    laws::text_has_no_fault();
-    match first_fault(bytes) {
-        Some((place, _, _)) => place,
-        None => bytes.len(),
-    }
 }
 
 /// The bytes before the first fault, by `filter` and `next`.

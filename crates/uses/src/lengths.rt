@@ -11,13 +11,6 @@ pub fn last_byte(c: Utf8Char) -> u8 {
     buffer[len - 1]
 }
 
-/// The last unit of the code of a character.
-pub fn last_unit(c: Utf16Char) -> u16 {
-    let mut buffer = [0; 2];
-    let len = c.to_slice(&mut buffer);
-    buffer[len - 1]
-}
-
 /// The last byte of the code, as it is lent from the character.
 pub fn last_of_view(c: Utf8Char) -> u8 {
     let code = c.as_bytes();
@@ -27,19 +20,6 @@ pub fn last_of_view(c: Utf8Char) -> u8 {
 /// The first byte of a text of one character.
 pub fn first_of_text(c: Utf8Char) -> u8 {
     c.as_str().as_bytes()[0]
-}
-
-/// The last byte of the code that an array begins with.
-pub fn last_of_array(c: char) -> u8 {
-    let (array, len) = c.to_utf8_array();
-    array[len - 1]
-}
-
-/// How many bytes an ASCII character has, and 0 for another.
-pub fn ascii_len(c: Utf8Char) -> usize
-    ensures { result ≤ 1 }
-{
-    if c.is_ascii() { c.as_bytes().len() } else { 0 }
 }
 
 /// The byte that an ASCII character is.

@@ -1,15 +1,12 @@
 //! Chains over mergers: what a chain answers is said of `merged`, the list of a merger's answers for some bytes.
-ghost use Rattle.std.specs.Prelude.{◌≡◌, ◌↔◌, IfOk, IsTrue, List, ℕ, count_by, flat_map, is_err, is_ok, length, position, slice_get, string_bytes};
+ghost use Rattle.std.specs.Prelude.{◌≡◌, IfOk, List, ℕ, count_by, flat_map, is_err, is_ok, length, position, slice_get, string_bytes};
 ghost use Rattle.std.specs.Iterator.{IsFinite};
 ghost use Rattle.std.specs.List.{find, list_all, list_any};
-ghost use Rattle.std.specs.Str.{IsUtf8};
 ghost use Rattle.encode_unicode.specs.Code.{utf8};
 ghost use Rattle.encode_unicode.specs.Mergers.{merged, merged_units};
-ghost use Rattle.cuts.specs.Collected.{WhateverIsLeft};
 ghost use Rattle.encode_unicode.specs.Pieces.{characters, unit_characters};
-ghost use Rattle.encode_unicode.specs.Sources.{IsListed};
+ghost use Rattle.encode_unicode.specs.Sources.{IsListed, WhateverIsLeft};
 
-use cuts::laws::merged_is_all_characters;
 use encode_unicode::error::{Utf8Error, Utf16PairError};
 use encode_unicode::laws::merged_are_the_characters;
 use encode_unicode::{U8IterExt, U16IterExt, Utf8Char, Utf8CharIterExt, Utf16Char};
@@ -47,14 +44,6 @@ pub fn all_characters<I: Iterator<Item = u8>>(source: I) -> bool
     ensures { WhateverIsLeft I.next_gives (λ rest. result ≡ list_all (λ r. is_ok r) (merged (rest source))) }
 {
     source.to_utf8chars().all(|r| r.is_ok())
-}
-
-/// Whether the bytes are UTF-8, by a merger.
-pub fn is_text(bytes: &[u8]) -> bool
-    ensures { IsTrue result ↔ IsUtf8 bytes.now }
-{
-    merged_is_all_characters(bytes);
-    bytes.iter().copied().to_utf8chars().all(|r| r.is_ok())
 }
 
 /// How many characters stand before the first faulty unit.

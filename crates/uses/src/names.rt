@@ -1,10 +1,5 @@
-//! The names that `cuts` and `encode_unicode` have for their callers: one that is gone fails the check.
+//! The names that `encode_unicode` has for its callers: one that is gone fails the check.
 
-pub use cuts::{
-    Counted, End, Form, Item, PieceTable, RecodeFault, Recoder, Unfinished, UnitItem,
-    forward_utf16, merge_utf8, merge_utf16, recode, run_pieces, run_recode, walk_utf8, walk_utf16,
-    write_listing, write_merged, write_walk,
-};
 pub use encode_unicode::error::{
     CodepointError, EmptyStrError, FromStrError, NonAsciiError, NonBmpError, Utf8Error,
     Utf8ErrorKind, Utf16ArrayError, Utf16FirstUnitError, Utf16PairError, Utf16SliceError,

@@ -2,7 +2,7 @@
 ghost use Rattle.std.specs.Prelude.{◌≡◌, false, IfOk, string_bytes};
 ghost use Rattle.std.specs.Iterator.{IsFinite};
 ghost use Rattle.encode_unicode.specs.Mergers.{unread, unread_count};
-ghost use Rattle.cuts.specs.Collected.{WhateverIsLeft};
+ghost use Rattle.encode_unicode.specs.Sources.{WhateverIsLeft};
 ghost use Rattle.uses.specs.Records.{IsRecord};
 
 use encode_unicode::U16IterExt;

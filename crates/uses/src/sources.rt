@@ -1,7 +1,7 @@
 //! Sources of any kind: closures that capture, what is lent, and what is decoded alike from a part of a list.
 ghost use Rattle.std.specs.Prelude.{◌≡◌, IfSome};
 
-use encode_unicode::{CharExt, U8IterExt, Utf8Char, Utf8CharIterExt, Utf16Char};
+use encode_unicode::{U8IterExt, Utf8Char, Utf8CharIterExt};
 
 /// The first character of bytes that are masked. No byte after it is read.
 pub fn first_unmasked(bytes: &[u8], mask: u8) -> Option<Utf8Char> {
@@ -44,30 +44,4 @@ pub fn first_by_itself(bytes: &[u8]) -> Option<(Utf8Char, Utf8Char)>
     let (c, len) = Utf8Char::from_slice_start(bytes).ok()?;
     let (same, _) = Utf8Char::from_slice_start_unchecked(&bytes[..len]);
     Some((c, same))
-}
-
-/// The same of units.
-pub fn first_pair_by_itself(units: &[u16]) -> Option<(Utf16Char, Utf16Char)>
-    ensures { IfSome result (λ x. x.0 ≡ x.1) }
-{
-    let (c, len) = Utf16Char::from_slice_start(units).ok()?;
-    let (same, _) = Utf16Char::from_slice_start_unchecked(&units[..len]);
-    Some((c, same))
-}
-
-/// The character that ends some bytes, from its own bytes alone.
-pub fn last_by_itself(bytes: &[u8]) -> Option<(Utf8Char, Utf8Char)>
-    ensures { IfSome result (λ x. x.0 ≡ x.1) }
-{
-    let (c, len) = Utf8Char::from_slice_end(bytes).ok()?;
-    let (same, _) = Utf8Char::from_slice_start_unchecked(&bytes[bytes.len() - len..]);
-    Some((c, same))
-}
-
-/// As a `char`.
-pub fn first_char_by_itself(bytes: &[u8]) -> Option<(char, char)>
-    ensures { IfSome result (λ x. x.0 ≡ x.1) }
-{
-    let (c, len) = char::from_utf8_slice_start(bytes).ok()?;
-    Some((c, char::from_utf8_exact_slice_unchecked(&bytes[..len])))
 }

@@ -4,15 +4,7 @@ ghost use Rattle.std.specs.Prelude.{◌≡◌};
 
 use encode_unicode::{CharExt, U16UtfExt, Utf8Char, Utf16Char};
 
-/// A unit that was seen to be no surrogate.
-pub fn from_unit(unit: u16) -> Option<Utf16Char> {
-    if unit & 0xf800 == 0xd800 {
-        return None;
-    }
-    Some(Utf16Char::from_tuple_unchecked((unit, None)))
-}
-
-/// The same, by ranges.
+/// A unit that was seen to be no surrogate, by ranges.
 pub fn from_unit_by_range(unit: u16) -> Option<Utf16Char> {
     if unit < 0xd800 || unit >= 0xe000 {
         Some(Utf16Char::from_tuple_unchecked((unit, None)))
@@ -38,22 +30,7 @@ pub fn from_pair(first: u16, second: u16) -> Option<Utf16Char> {
     }
 }
 
-/// The same as an array, by ranges.
-pub fn array_of_pair(first: u16, second: u16) -> Option<Utf16Char> {
-    if 0xd800 <= first && first < 0xdc00 && 0xdc00 <= second && second < 0xe000 {
-        Some(Utf16Char::from_array_unchecked([first, second]))
-    } else {
-        None
-    }
-}
-
-/// After the checked call took the tuple.
-pub fn tuple_twice(units: (u16, Option<u16>)) -> Option<Utf16Char> {
-    Utf16Char::from_tuple(units).ok()?;
-    Some(Utf16Char::from_tuple_unchecked(units))
-}
-
-/// The same of `char`.
+/// A `char`, after the checked call took the tuple.
 pub fn char_of_tuple_twice(units: (u16, Option<u16>)) -> Option<char> {
     match char::from_utf16_tuple(units) {
         Ok(_) => Some(char::from_utf16_tuple_unchecked(units)),
@@ -66,36 +43,6 @@ pub fn own_tuple(c: Utf16Char) -> Utf16Char
     ensures { result ≡ c }
 {
     Utf16Char::from_tuple_unchecked(c.to_tuple())
-}
-
-/// A character's own units, and zero.
-pub fn own_units(c: Utf16Char) -> Utf16Char
-    ensures { result ≡ c }
-{
-    Utf16Char::from_array_unchecked(c.to_array())
-}
-
-/// The own units of a `char`.
-pub fn own_units_of_char(c: char) -> char
-    ensures { result ≡ c }
-{
-    char::from_utf16_tuple_unchecked(c.to_utf16_tuple())
-}
-
-/// A character's own bytes, and zeros.
-pub fn own_array(c: Utf8Char) -> Utf8Char
-    ensures { result ≡ c }
-{
-    let (array, _) = c.to_array();
-    Utf8Char::from_array_unchecked(array)
-}
-
-/// The own bytes of a `char`, and zeros.
-pub fn own_array_of_char(c: char) -> Utf8Char
-    ensures { result ≡ c }
-{
-    let (array, _) = c.to_utf8_array();
-    Utf8Char::from_array_unchecked(array)
 }
 
 /// An array that was seen to be the one that its character has.
@@ -123,14 +70,6 @@ pub fn own_bytes(c: Utf8Char) -> Utf8Char
     same
 }
 
-/// The same of units.
-pub fn own_view(c: Utf16Char) -> Utf16Char
-    ensures { result ≡ c }
-{
-    let (same, _) = Utf16Char::from_slice_start_unchecked(c.as_units());
-    same
-}
-
 /// After the checked call took the units.
 pub fn units_twice(units: &[u16]) -> Option<(Utf16Char, usize)> {
     Utf16Char::from_slice_start(units).ok()?;
@@ -152,26 +91,10 @@ pub fn own_exact(c: Utf8Char) -> char
     char::from_utf8_exact_slice_unchecked(c.as_bytes())
 }
 
-/// The same of a `char`.
-pub fn own_exact_of_char(c: char) -> char
-    ensures { result ≡ c }
-{
-    let (array, len) = c.to_utf8_array();
-    char::from_utf8_exact_slice_unchecked(&array[..len])
-}
-
 /// After the checked call took the byte.
 pub fn ascii_twice(byte: u8) -> Option<Utf8Char> {
     Utf8Char::from_ascii(byte).ok()?;
     Some(Utf8Char::from_ascii_unchecked(byte))
-}
-
-/// The byte of an ASCII character.
-pub fn own_ascii(c: Utf8Char) -> Option<Utf8Char> {
-    if !c.is_ascii() {
-        return None;
-    }
-    Some(Utf8Char::from_ascii_unchecked(c.as_bytes()[0]))
 }
 
 /// After the checked call took the unit.

@@ -1,8 +1,8 @@
 -- Codes of scalars, joined, are the UTF8-octets of RFC 3629, section 4, and what std calls text.
-use Rattle.std.proofs.Common.{◌≡◌, ℕ, suc, ◌<◌, List, [], ◌∷◌, ◌++◌, refl, ap, ap₂, sym, ◌∙◌, arith, true, flat_map}
+use Rattle.std.proofs.Common.{◌≡◌, ℕ, suc, List, [], ◌∷◌, ◌++◌, refl, ap, ap₂, sym, ◌∙◌, arith, true, flat_map}
 use Rattle.std.proofs.lemmas.Grind.{common_steps}
 use Rattle.std.proofs.lemmas.List.Elements.{All-cons, All-nil}
-use Rattle.std.specs.Prelude.{All, map, encode_utf8_all}
+use Rattle.std.specs.Prelude.{All, map}
 use Rattle.std.specs.Char.{IsScalar as IsStdScalar}
 use Rattle.std.specs.Str.{IsUtf8, all_scalars}
 use Rattle.utf_base.specs.Scalar.{IsScalar}

@@ -31,3 +31,6 @@ pub mod GrammarTexts
 pub mod SurrogateLemmas
 pub mod SubpartLemmas
 pub mod PartLists
+pub mod FrontCodes
+pub mod JoinedLengths
+pub mod TextScalars

@@ -1,6 +1,7 @@
 -- The code of a scalar is std's, so it is text.
 use Rattle.std.proofs.Common.{◌≡◌, ℕ, ◌⊎◌, inl, inr, List, [], ◌∷◌, ◌++◌, refl, ap, sym, ◌∙◌, arith}
 use Rattle.std.proofs.lemmas.List.{append-nil}
+use Rattle.std.specs.List.{flat_map}
 use Rattle.std.specs.Str.{IsUtf8}
 use Rattle.std.specs.Prelude.{encode_utf8_all}
 use Rattle.std.proofs.lemmas.Grind.{common_steps}
@@ -13,6 +14,11 @@ use Rattle.utf_base.proofs.Standing.{stands_first}
 pub utf8_is_std : (s : ℕ) → encode_utf8 s ≡ utf8 s
 unfolding utf8 encode_utf8
 utf8_is_std s = refl
+
+-- of a list of scalars, too
+pub encodes_are_codes : (cs : List ℕ) → encode_utf8_all cs ≡ flat_map utf8 cs
+encodes_are_codes [] = refl
+encodes_are_codes (c ∷ cs) = rw (encodes_are_codes cs, utf8_is_std c) refl
 
 pub scalar_for_std : (s : ℕ) → IsScalar s → IsStdScalar s
 scalar_for_std s h = grind (arith, common_steps)

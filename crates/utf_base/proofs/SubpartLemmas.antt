@@ -1,13 +1,13 @@
 -- Maximal subparts are runs of single faults.
-use Rattle.std.proofs.Common.{◌≡◌, ℕ, zero, suc, ◌+◌, ◌-◌, ◌<◌, ◌≤◌, ⊎_elim, List, [], ◌∷◌, ◌++◌, length, get_or, take, arith, refl, ap, sym, ◌∙◌, subst, Some, None, Option, flat_map}
+use Rattle.std.proofs.Common.{◌≡◌, ℕ, zero, suc, ◌+◌, ◌-◌, ◌<◌, ◌≤◌, ⊎_elim, List, [], ◌∷◌, length, get_or, take, arith, refl, ap, sym, ◌∙◌, subst, Some, None, Option, flat_map}
 use Rattle.std.proofs.lemmas.Grind.{common_steps}
 use Rattle.std.proofs.lemmas.Bool.{cases_lt}
 use Rattle.std.specs.Prelude.{All, slice_range}
 use Rattle.utf_base.specs.Code.{IsCode}
 use Rattle.utf_base.specs.CutLaws.{Follow}
 use Rattle.utf_base.specs.Piece.{Covered, Inside, IsCutBetween, IsPiece, IsPieceAt, Piece, Stands, end_of}
-use Rattle.utf_base.specs.Subparts.{IsFrontOfCode, IsMaximalSubpart, IsPart, PartsBecomeTheCut, SubpartsAreFaults, faults_from, pieces_of}
-use Rattle.utf_base.proofs.Cuts.{char_at, cut_append, cut_none, cut_one, fault_at, front_fault}
+use Rattle.utf_base.specs.Subparts.{IsMaximalSubpart, IsPart, PartsBecomeTheCut, SubpartsAreFaults, faults_from, pieces_of}
+use Rattle.utf_base.proofs.Cuts.{cut_append, cut_none, cut_one, fault_at, front_fault}
 use Rattle.utf_base.proofs.Standing.{Stands-at, outside_after, outside_end, outside_front, stands_in_whole}
 
 -- No code begins within a maximal subpart.

@@ -1,12 +1,12 @@
 -- The steps of RFC 2781 make the units of a scalar, and find it again.
-use Rattle.std.proofs.Common.{◌≡◌, ℕ, ◌+◌, ◌-◌, ◌*◌, ◌/◌, ◌%◌, ◌<◌, ◌≤◌, ⊎_elim, List, [], ◌∷◌, length, refl, ap, sym, ◌∙◌, arith, Some, None}
+use Rattle.std.proofs.Common.{◌≡◌, ℕ, ◌+◌, ◌-◌, ◌/◌, ◌%◌, ◌<◌, ◌≤◌, ⊎_elim, List, [], ◌∷◌, length, ap, sym, ◌∙◌, arith, Some, None}
 use Rattle.std.proofs.lemmas.Grind.{common_steps}
 use Rattle.std.proofs.lemmas.Bool.{cases_lt}
 use Rattle.utf_base.specs.Scalar.{IsScalar, IsUnits}
 use Rattle.utf_base.specs.Code.{utf16}
 use Rattle.utf_base.specs.GrammarLaws.{UnitsAreDecoded, UnitsAreEncoded}
 use Rattle.utf_base.specs.Piece.{Stands}
-use Rattle.utf_base.specs.SurrogatePairs.{IsEncodedAs, IsPairOf, decoded_by_steps}
+use Rattle.utf_base.specs.SurrogatePairs.{IsEncodedAs, decoded_by_steps}
 use Rattle.utf_base.specs.Units.{slice_fault, unit_value}
 use Rattle.utf_base.proofs.Standing.{same_char}
 use Rattle.utf_base.proofs.UnitLemmas.{units_code_or_one_fault}

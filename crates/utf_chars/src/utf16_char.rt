@@ -511,7 +511,7 @@ impl From<char> for Utf16Char {
 impl From<Utf16Char> for char {
     ghost from_gives = { λ c r. r ≡ c };
 
-    /// The same character, kept as UTF-16.
+    /// The same character, as a `char`.
     #[inline(always)]
     fn from(c: Utf16Char) -> char {
         c.to_char()

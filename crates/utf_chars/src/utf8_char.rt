@@ -570,7 +570,7 @@ impl From<char> for Utf8Char {
 impl From<Utf8Char> for char {
     ghost from_gives = { λ c r. r ≡ c };
 
-    /// The same character, kept as UTF-8.
+    /// The same character, as a `char`.
     #[inline(always)]
     fn from(c: Utf8Char) -> char {
         c.to_char()

@@ -1,4 +1,4 @@
-"""Cuts any bytes into characters and single faulty bytes, and recodes UTF-8 and UTF-16.
+"""Splits damaged UTF-8 and UTF-16 into characters and single invalid bytes, and converts between the two.
 
 >>> import noddychest
 >>> for piece in noddychest.pieces(b"h\\xc3\\xa9\\xe2\\x82A"):
@@ -13,14 +13,28 @@ b'f\\x00\\xfd\\xffb\\x00'
 >>> b"h\\xc3\\xa9\\xe2\\x82A".decode("noddychest-utf8", "backslashreplace")
 'hé\\\\xe2\\\\x82A'
 
-Bytes are any bytes-like object: `bytes`, `bytearray`, `memoryview`, `array.array`, `mmap.mmap`. They are not copied, and count at
-their size in bytes. A `str` is a TypeError, and bytes that do not lie one after another in memory are a BufferError.
+Data is any bytes-like object: `bytes`, `bytearray`, `memoryview`, `array.array`, `mmap.mmap`. It is not copied as a whole, and counts
+at its size in bytes. A `str` is a TypeError, and bytes that do not lie one after another in memory are a BufferError.
 
 Importing the package registers the codecs `noddychest-utf8`, `noddychest-utf16le` and `noddychest-utf16be`.
 """
 from ._version import __version__
-from ._pieces import Decoder, ErrorKind, FaultError, Piece, Pieces, boundary, char_count, first_fault, is_valid, pieces
-from ._recoding import Recoder, recode
+from ._pieces import (
+    Decoder,
+    ErrorKind,
+    FaultError,
+    Piece,
+    Pieces,
+    boundary,
+    boundary_after,
+    boundary_before,
+    char_count,
+    faults,
+    first_fault,
+    is_valid,
+    pieces,
+)
+from ._recoding import Recoder, recode, recoded_len
 from . import _codecs
 
 __all__ = [
@@ -32,11 +46,15 @@ __all__ = [
     "Recoder",
     "__version__",
     "boundary",
+    "boundary_after",
+    "boundary_before",
     "char_count",
+    "faults",
     "first_fault",
     "is_valid",
     "pieces",
     "recode",
+    "recoded_len",
 ]
 
 for _it in (Decoder, ErrorKind, FaultError, Piece, Pieces, Recoder):

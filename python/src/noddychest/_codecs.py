@@ -1,19 +1,25 @@
-"""The codecs. Where faults are, and what is wrong there, is what the proved library says; a stretch without faults becomes a `str`,
-and a `str` becomes bytes, by the interpreter's own codec."""
+"""The codecs. Which bytes are invalid, and why, is what the proved library says; a stretch of valid text becomes a `str`, and a `str`
+becomes bytes, by the interpreter's own codec."""
 from __future__ import annotations
 
 import codecs
+import threading
+import types
 from typing import TYPE_CHECKING, Any, Optional
 
 from . import _noddychest
-from ._pieces import ErrorKind, fault_error
-from ._recoding import STANDARD
+from ._names import STANDARD, plain
+from ._pieces import ERRORS, REASONS, fault_error
 
 if TYPE_CHECKING:
     from _typeshed import ReadableBuffer
 
 NAMES = ("noddychest-utf8", "noddychest-utf16le", "noddychest-utf16be")  # by the numbers of the C library
 _ENCODERS = (codecs.utf_8_encode, codecs.utf_16_le_encode, codecs.utf_16_be_encode)
+
+# The interpreter's own handlers of errors that are not asked fault by fault, since what they do is known. What is registered under a
+# name may be another one, so they are told by what they are. The last is of UTF-8 alone.
+_OWN = {"ignore_errors": 0, "replace_errors": 1, "backslashreplace_errors": 2, "surrogateescape": 3}
 
 
 def _encode(form: int, text: str, errors: Optional[str]) -> tuple[bytes, int]:
@@ -25,72 +31,117 @@ def _encode(form: int, text: str, errors: Optional[str]) -> tuple[bytes, int]:
         raise
 
 
-def _ask(form: int, errors: str, fault: UnicodeDecodeError) -> tuple[str, int]:
-    """What the handler of errors puts in place of a fault, and where to go on. `surrogatepass` knows encodings by name."""
-    fault.encoding = STANDARD[form] if errors == "surrogatepass" else NAMES[form]
+def _own_way(handler: Any, form: int) -> Optional[int]:
+    """The number of what an own handler does, or None for one that has to be asked."""
+    is_own = type(handler) is types.BuiltinFunctionType and handler.__module__ is None
+    way = _OWN.get(handler.__name__) if is_own else None
+    return None if way == 3 and form != 0 else way
+
+
+def _decode(form: int, data: ReadableBuffer, errors: Optional[str], final: bool, before: int = 0) -> tuple[str, int]:
+    """The text, and how many bytes of it were read: what may yet become a character is left, unless no more follows. `before` is the
+    number of bytes of all input that were read before."""
+    made: Any = _noddychest.decode(form, data, final)
+    if len(made) == 2:
+        return made[0], made[1]
+    text, at, length, kind, source, end = made
+    handler = codecs.lookup_error(errors or "strict")
+    way = _own_way(handler, form)
+    if way is not None:
+        return _noddychest.replaced(form, source, at, end, way, text), end
+    error = fault_error(NAMES[form], source, at, length, kind, offset=before + at)
+    if errors == "surrogatepass":  # it knows encodings by name
+        error.encoding = STANDARD[form]
     try:
-        answer: Any = codecs.lookup_error(errors)(fault)
+        return _noddychest.handled(form, source, at, end, before, text, error, handler, ERRORS, REASONS)
     finally:
-        fault.encoding = NAMES[form]
-    if not (isinstance(answer, tuple) and len(answer) == 2 and isinstance(answer[0], str) and isinstance(answer[1], int)):
-        raise TypeError("decoding error handler must return (str, int) tuple")
-    if not isinstance(fault.object, bytes):
-        raise TypeError("exception attribute object must be bytes")
-    at = answer[1] + len(fault.object) if answer[1] < 0 else answer[1]
-    if not 0 <= at <= len(fault.object):
-        raise IndexError(f"position {answer[1]} from error handler out of bounds")
-    return answer[0], at
+        error.encoding = NAMES[form]
 
 
-def _decode(form: int, data: ReadableBuffer, errors: Optional[str], final: bool) -> tuple[str, int]:
-    """The text, and how many bytes of it were read: what may yet become a character is left, unless no more follows."""
-    size = memoryview(data).nbytes
-    end = size if final else size - _noddychest.held(form, data)
-    part, at, length, kind = _noddychest.text(form, data, 0, end)
-    if at == end:
-        return part, end
-    source = bytes(data)
-    if errors == "replace":
-        return _noddychest.recode(form, 0, source[:end], False).decode(), end
-    fault = fault_error(NAMES[form], source, at, length, kind, offset=at)
-    parts = [part]
-    while True:
-        fault.start, fault.end, fault.offset, fault.error = at, at + length, at, ErrorKind(kind)
-        fault.reason = fault.error.reason
-        part, at = _ask(form, errors or "strict", fault)
-        parts.append(part)
-        if fault.object is not source:  # a handler may put other bytes there
-            source, end = fault.object, len(fault.object)
-        if at >= end:
-            return "".join(parts), at
-        part, at, length, kind = _noddychest.text(form, source, at, end)
-        parts.append(part)
-        if at == end:
-            return "".join(parts), at
+class _Held(bytes):
+    """The bytes that a decoder holds, as a part of its state, with the number of bytes that were read before them. A file asks for the
+    state and gives it back when it tells its position, and puts plain bytes there when it seeks."""
+
+    before = 0
 
 
-def _codec(form: int) -> codecs.CodecInfo:
+class _Decoder(codecs.BufferedIncrementalDecoder):
+    """Decodes parts. It takes one call at a time, also where a handler of errors calls it."""
+
+    form: int
+
+    def __init__(self, errors: str = "strict") -> None:
+        super().__init__(errors)
+        self._before = 0
+        self._lock = threading.Lock()
+
+    def decode(self, input: ReadableBuffer, final: bool = False) -> str:
+        if not self._lock.acquire(False):
+            raise RuntimeError("this decoder is in use by another call: give each thread its own")
+        try:
+            return super().decode(input, final)
+        finally:
+            self._lock.release()
+
+    def _buffer_decode(self, input: ReadableBuffer, errors: str, final: bool) -> tuple[str, int]:
+        text, read = _decode(self.form, input, errors, final, self._before)
+        self._before += read
+        return text, read
+
+    def reset(self) -> None:
+        super().reset()
+        self._before = 0
+
+    def getstate(self) -> tuple[bytes, int]:
+        held = _Held(self.buffer)
+        held.before = self._before
+        return held, 0
+
+    def setstate(self, state: tuple[bytes, int]) -> None:
+        super().setstate(state)
+        self._before = getattr(state[0], "before", 0)
+
+    def __getstate__(self) -> dict[str, Any]:
+        return {name: it for name, it in self.__dict__.items() if name != "_lock"}
+
+    def __setstate__(self, state: dict[str, Any]) -> None:
+        self.__dict__.update(state, _lock=threading.Lock())
+
+
+class _Reader(codecs.StreamReader):
+    form: int
+    _before = 0
+
+    def decode(self, input: ReadableBuffer, errors: str = "strict") -> tuple[str, int]:
+        text, read = _decode(self.form, input, errors, False, self._before)
+        self._before += read
+        return text, read
+
+    def reset(self) -> None:
+        super().reset()
+        self._before = 0
+
+
+def _codec(number: int) -> codecs.CodecInfo:
     def encode(input: str, errors: str = "strict") -> tuple[bytes, int]:
-        return _encode(form, input, errors)
+        return _encode(number, input, errors)
 
     def decode(input: ReadableBuffer, errors: str = "strict") -> tuple[str, int]:
-        return _decode(form, input, errors, True)
+        return _decode(number, input, errors, True)
 
     class IncrementalEncoder(codecs.IncrementalEncoder):
         def encode(self, input: str, final: bool = False) -> bytes:
-            return _encode(form, input, self.errors)[0]
+            return _encode(number, input, self.errors)[0]
 
-    class IncrementalDecoder(codecs.BufferedIncrementalDecoder):
-        def _buffer_decode(self, input: ReadableBuffer, errors: str, final: bool) -> tuple[str, int]:
-            return _decode(form, input, errors, final)
+    class IncrementalDecoder(_Decoder):
+        form = number
 
     class StreamWriter(codecs.StreamWriter):
         def encode(self, input: str, errors: str = "strict") -> tuple[bytes, int]:
-            return _encode(form, input, errors)
+            return _encode(number, input, errors)
 
-    class StreamReader(codecs.StreamReader):
-        def decode(self, input: bytes, errors: str = "strict") -> tuple[str, int]:
-            return _decode(form, input, errors, False)
+    class StreamReader(_Reader):
+        form = number
 
     return codecs.CodecInfo(
         encode=encode,
@@ -99,15 +150,14 @@ def _codec(form: int) -> codecs.CodecInfo:
         incrementaldecoder=IncrementalDecoder,
         streamwriter=StreamWriter,
         streamreader=StreamReader,
-        name=NAMES[form],
+        name=NAMES[number],
     )
 
 
 def _find(name: str) -> Optional[codecs.CodecInfo]:
     """Names are also found with other signs between their words, as `noddychest-utf-8` and `noddychest_utf_16_le`."""
-    plain = name.lower().replace("-", "").replace("_", "").replace(" ", "")
     for form, known in enumerate(NAMES):
-        if plain == known.replace("-", ""):
+        if plain(name) == plain(known):
             return _codec(form)
     return None
 

@@ -1,4 +1,4 @@
-"""Pieces of UTF-8, from the front and from both ends."""
+"""Pieces of text, from the front and from both ends, and the invalid ones alone."""
 from __future__ import annotations
 
 import array
@@ -9,6 +9,7 @@ from collections.abc import Iterator, Sequence
 from typing import TYPE_CHECKING, NamedTuple, Optional, Union, overload
 
 from . import _noddychest
+from ._names import form_of
 
 if TYPE_CHECKING:
     from _typeshed import ReadableBuffer
@@ -21,10 +22,10 @@ _EVERY = 64
 
 
 class ErrorKind(enum.Enum):
-    """What is wrong with a faulty byte, or in UTF-16 with a faulty unit.
+    """The reason why a byte is invalid; in UTF-16, why a 16-bit unit is, or a single byte at the end.
 
     >>> ErrorKind.OVERLONG_ENCODING.reason
-    'the value fits in fewer bytes'
+    'overlong encoding: the value has a shorter code'
     """
 
     TOO_FEW_BYTES = 1
@@ -40,16 +41,18 @@ class ErrorKind(enum.Enum):
 
     @property
     def reason(self) -> str:
-        """The error in words."""
-        return _noddychest.kind_sentence(self.value)
+        """The reason in words."""
+        return REASONS[self.value]
 
 
-# The error of each number of the C library. 0 is a character, and 11 that nothing is left.
-_ERRORS: tuple[Optional[ErrorKind], ...] = (None, *ErrorKind, None)
+# The error of each number of the C library, and the reason in words, which is what its nody_kind_sentence says. 0 is a character, and
+# 11 that nothing is left.
+ERRORS: tuple[Optional[ErrorKind], ...] = (None, *ErrorKind, None)
+REASONS = tuple(map(_noddychest.kind_sentence, range(len(ERRORS))))
 
 
 class Piece(NamedTuple):
-    """A character, or a single faulty byte: one in which no character stands.
+    """A character, or a single invalid byte; in UTF-16 a character, a lone surrogate, or a single byte at the end.
 
     >>> Piece(0, "é", 2, None)
     Piece(offset=0, char='é', length=2, error=None)
@@ -58,16 +61,17 @@ class Piece(NamedTuple):
     offset: int
     """Where it begins, in bytes."""
     char: Optional[str]
-    """The character, or None for a faulty byte."""
+    """The character, or None for an invalid byte."""
     length: int
-    """How many bytes it has: 1 to 4, and 1 for a faulty byte."""
+    """How many bytes it has: 1 to 4; 1 for an invalid byte, and 2 for a lone surrogate of UTF-16."""
     error: Optional[ErrorKind]
-    """What is wrong, or None for a character."""
+    """The reason why the byte is invalid, or None for a character."""
 
 
 class FaultError(UnicodeDecodeError):
-    """Bytes are ill-formed. Beside `start`, `end` and `reason` it has `offset`, which counts from the first byte of all input, and
-    `error`.
+    """An invalid byte was met; in UTF-16, a lone surrogate, or a single byte at the end. Beside what a UnicodeDecodeError has, it has
+    `offset` and `error`. `start` and `end` lie in `object`, which may be a part of the input. `offset` counts from the first byte of
+    all input, also of a stream.
 
     >>> try:
     ...     b"ab\\xff".decode("noddychest-utf8")
@@ -80,19 +84,19 @@ class FaultError(UnicodeDecodeError):
     error: ErrorKind
 
 
-def fault_error(encoding: str, data: ReadableBuffer, start: int, length: int, kind: int, offset: int) -> FaultError:
+def fault_error(encoding: str, data: bytes, start: int, length: int, kind: int, offset: int) -> FaultError:
     error = ErrorKind(kind)
-    fault = FaultError(encoding, bytes(data), start, start + length, error.reason)
+    fault = FaultError(encoding, data, start, start + length, error.reason)
     fault.offset, fault.error = offset, error
     return fault
 
 
 class Pieces(Sequence[Piece]):
-    """The pieces of UTF-8 in order, as a sequence. Nothing is copied: the bytes must stay the same for as long as this is used, and
+    """The pieces of text in order, as a sequence. The bytes are not copied: they must stay the same for as long as this is used, and
     a `bytearray` cannot be resized until then.
 
-    Going over it from either end costs no more than the pieces that are taken. `len()` and an index go over all bytes once; after
-    that an index steps over at most 63 pieces. A slice is a list.
+    Iterating from either end costs no more than the pieces that are taken. The first `len()` or index reads all bytes once; after that
+    an index steps over at most 63 pieces. A slice is a list.
 
     >>> cut = Pieces(b"a\\xffb")
     >>> len(cut), cut[1], cut[-1].char
@@ -101,10 +105,11 @@ class Pieces(Sequence[Piece]):
     [2, 1, 0]
     """
 
-    __slots__ = ("_count", "_data", "_marks", "__weakref__")
+    __slots__ = ("_count", "_data", "_form", "_marks", "__weakref__")
 
-    def __init__(self, data: ReadableBuffer) -> None:
-        _noddychest.held(0, data)  # refuses what is no bytes-like object
+    def __init__(self, data: ReadableBuffer, encoding: str = "utf8") -> None:
+        self._form = form_of(encoding)
+        _noddychest.check(data)  # (its TypeError says more than that of memoryview)
         self._data = memoryview(data)
         self._count = -1
         self._marks = array.array("Q")
@@ -113,17 +118,17 @@ class Pieces(Sequence[Piece]):
         return f"<{type(self).__name__} of {self._data.nbytes} bytes>"
 
     def __iter__(self) -> Iterator[Piece]:
-        return _noddychest.Run(self._data, Piece, _ERRORS, 0, False)
+        return _noddychest.Run(self._form, self._data, Piece, ERRORS, 0, False)
 
     def __reversed__(self) -> Iterator[Piece]:
-        return _noddychest.Run(self._data, Piece, _ERRORS, 0, True)
+        return _noddychest.Run(self._form, self._data, Piece, ERRORS, 0, True)
 
     def __bool__(self) -> bool:
         return self._data.nbytes > 0
 
     def __len__(self) -> int:
         if self._count < 0:
-            count, marks = _noddychest.index(self._data, _EVERY)
+            count, marks = _noddychest.index(self._form, self._data, _EVERY)
             self._marks = array.array("Q", marks)
             self._count = count
         return self._count
@@ -147,25 +152,38 @@ class Pieces(Sequence[Piece]):
         if not places:
             return []
         mark, before = divmod(places.start, _EVERY)
-        run = _noddychest.Run(self._data, Piece, _ERRORS, self._marks[mark], False)
+        run = _noddychest.Run(self._form, self._data, Piece, ERRORS, self._marks[mark], False)
         found = list(itertools.islice(run, before, before + places.stop - places.start, places.step))
         if len(found) != len(places):
             raise RuntimeError("the bytes were changed since their pieces were counted")
         return found
 
 
-def pieces(data: ReadableBuffer) -> Pieces:
-    """The pieces of UTF-8: each character, and each faulty byte by itself. They lie one after another, and are all of the bytes.
+def pieces(data: ReadableBuffer, encoding: str = "utf8") -> Pieces:
+    """The pieces of UTF-8 or UTF-16: each character, and each invalid byte by itself. No byte is left out, and none is in two pieces.
+    Offsets and lengths count bytes.
 
     >>> [piece.char for piece in pieces(b"\\xf0\\x9f\\x98\\x80\\xf0\\x9f")]
     ['😀', None, None]
+    >>> [(piece.offset, piece.char or piece.error.name) for piece in pieces(b"a\\0\\0\\xdc!", "utf16le")]
+    [(0, 'a'), (2, 'UNEXPECTED_TRAILING_SURROGATE'), (4, 'INCOMPLETE')]
     """
-    return Pieces(data)
+    return Pieces(data, encoding)
+
+
+def faults(data: ReadableBuffer, encoding: str = "utf8") -> Iterator[Piece]:
+    """The invalid bytes alone: an iterator over those of `pieces(data)` that have an error. Valid text is skipped as fast as it is
+    validated.
+
+    >>> [(piece.offset, piece.error.name) for piece in faults(b"a\\xffb\\xe2\\x82")]
+    [(1, 'NON_UTF8_BYTE'), (3, 'TOO_FEW_BYTES'), (4, 'UNEXPECTED_CONTINUATION_BYTE')]
+    """
+    return _noddychest.Faults(form_of(encoding), data, Piece, ERRORS)
 
 
 class Decoder(_noddychest.Ends):
-    """An iterator that takes pieces of UTF-8 from both ends, in any order: each piece comes once. What is wrong with a faulty byte
-    is judged by the bytes that are left. `start` and `end` are the offsets between which they lie.
+    """An iterator that takes pieces of text from both ends, in any order: each piece comes once. Why a byte is invalid is judged by
+    the bytes that are left, which lie between the offsets `start` and `end`.
 
     >>> decoder = Decoder(b"a\\xc3\\xa9b")
     >>> next(decoder).char, decoder.next_back().char, next(decoder).char, decoder.next_back()
@@ -176,53 +194,71 @@ class Decoder(_noddychest.Ends):
 
     __slots__ = ()
 
-    def __new__(cls, data: ReadableBuffer) -> Decoder:
-        return super().__new__(cls, data, Piece, _ERRORS)
+    def __new__(cls, data: ReadableBuffer, encoding: str = "utf8") -> Decoder:
+        return super().__new__(cls, form_of(encoding), data, Piece, ERRORS)
 
     def next_back(self) -> Optional[Piece]:
-        """The piece at the end of what is left, which then is gone; None where nothing is left."""
+        """Takes the last piece of what is left. None if nothing is left."""
         return super().next_back()
 
     def __reversed__(self) -> Iterator[Piece]:
-        """Takes the pieces from the back; what is left is shared with this decoder."""
+        """An iterator that takes the pieces of this decoder from the back."""
         return iter(self.next_back, None)
 
 
-def first_fault(data: ReadableBuffer) -> Optional[Piece]:
-    """The first faulty byte of UTF-8, or None where there is none.
+def first_fault(data: ReadableBuffer, encoding: str = "utf8") -> Optional[Piece]:
+    """The first invalid byte, or None if there is none.
 
     >>> first_fault(b"ab\\xffc")
     Piece(offset=2, char=None, length=1, error=<ErrorKind.NON_UTF8_BYTE: 2>)
     >>> first_fault(b"abc") is None
     True
     """
-    found = _noddychest.fault(0, data)
-    return None if found is None else Piece(found[0], None, found[1], _ERRORS[found[2]])
+    found = _noddychest.fault(form_of(encoding), data)
+    return None if found is None else Piece(found[0], None, found[1], ERRORS[found[2]])
 
 
-def is_valid(data: ReadableBuffer) -> bool:
-    """Whether all of the bytes are UTF-8.
+def is_valid(data: ReadableBuffer, encoding: str = "utf8") -> bool:
+    """Whether the bytes are valid in an encoding.
 
     >>> is_valid("é".encode()), is_valid("é".encode("latin-1"))
     (True, False)
     """
-    return _noddychest.fault(0, data) is None
+    return _noddychest.fault(form_of(encoding), data) is None
 
 
-def char_count(data: ReadableBuffer) -> int:
-    """How many characters there are, where each faulty byte counts as one: as many as are shown where each is one U+FFFD.
+def char_count(data: ReadableBuffer, encoding: str = "utf8") -> int:
+    """How many characters there are, if each invalid byte counts as one.
 
     >>> char_count("né".encode() + b"\\xe2\\x82")
     4
     """
-    return _noddychest.char_count(data)
+    return _noddychest.char_count(form_of(encoding), data)
+
+
+def boundary_before(data: ReadableBuffer, at: int, encoding: str = "utf8") -> int:
+    """The last offset up to `at` that is not inside a character: there you can divide the text. It is at most three bytes before `at`.
+    If `at` is the length or more, it is the length. A negative offset is an IndexError.
+
+    >>> boundary_before("a😀".encode(), 4)
+    1
+    """
+    return _noddychest.boundary(form_of(encoding), data, operator.index(at), False)
+
+
+def boundary_after(data: ReadableBuffer, at: int, encoding: str = "utf8") -> int:
+    """The first offset from `at` on that is not inside a character, at most three bytes after `at`; else as boundary_before.
+
+    >>> boundary_after("a😀".encode(), 2)
+    5
+    """
+    return _noddychest.boundary(form_of(encoding), data, operator.index(at), True)
 
 
 def boundary(data: ReadableBuffer, at: int) -> int:
-    """The last offset up to `at` that is no place inside a character: UTF-8 may be cut there. It is at most three bytes before
-    `at`, and the length where `at` is no less. A negative offset is an IndexError.
+    """boundary_before of UTF-8.
 
     >>> boundary("a😀".encode(), 4)
     1
     """
-    return _noddychest.boundary(data, operator.index(at))
+    return boundary_before(data, at)

@@ -1,85 +1,105 @@
-"""Text in UTF-8 and both forms of UTF-16, recoded."""
+"""Conversion between UTF-8 and UTF-16."""
 from __future__ import annotations
 
-from typing import TYPE_CHECKING
+from typing import TYPE_CHECKING, Any
 
 from . import _noddychest
+from ._names import STANDARD, form_of
 from ._pieces import fault_error
 
 if TYPE_CHECKING:
     from _typeshed import ReadableBuffer
 
-_FORMS = {"utf8": 0, "utf16le": 1, "utf16be": 2}
-STANDARD = ("utf-8", "utf-16-le", "utf-16-be")  # by the numbers of the C library
+_ERRORS = {"replace": 0, "strict": 1, "maximal": 2}
 
 
-def _form(name: str) -> int:
-    found = _FORMS.get(name.lower().replace("-", "").replace("_", "")) if isinstance(name, str) else None
+def _way(errors: str) -> int:
+    found = _ERRORS.get(errors) if isinstance(errors, str) else None
     if found is None:
-        raise LookupError(f"unknown form of text: {name!r}; there are 'utf8', 'utf16le' and 'utf16be'")
+        raise LookupError(f"unknown errors: {errors!r}; there are 'replace', 'strict' and 'maximal'")
     return found
 
 
-def _is_strict(errors: str) -> bool:
-    if errors not in ("replace", "strict"):
-        raise LookupError(f"unknown way with errors: {errors!r}; there are 'replace' and 'strict'")
-    return errors == "strict"
-
-
 def recode(data: ReadableBuffer, from_: str, to: str, errors: str = "replace") -> bytes:
-    """The text in another form. Forms are `utf8`, `utf16le` and `utf16be`; no byte order mark is looked for, and none is added.
+    """Converts text from one encoding to another. The encodings are `utf8`, `utf16le` and `utf16be`, also as `UTF-8`, `utf_16_le` and
+    the other names that browsers take. (There `utf-16` is little-endian.) No byte order mark is looked for, and none is added.
 
-    With `replace` each fault becomes one U+FFFD: in UTF-8 a fault is one byte, in UTF-16 one unit or half a unit at the end. With
-    `strict` the first fault raises FaultError.
+    With `replace` each invalid byte becomes one U+FFFD, and so do each lone surrogate of UTF-16 and a single byte at its end. With
+    `strict` the first of them raises FaultError. With `maximal` one U+FFFD stands for each maximal subpart, which is one to three bytes
+    that begin a character and do not end it, as browsers and Python's own codecs have it.
 
     >>> recode("né".encode(), "utf8", "utf16be")
     b'\\x00n\\x00\\xe9'
     >>> recode(b"a\\xffb", "utf8", "utf8")
     b'a\\xef\\xbf\\xbdb'
-    >>> recode(b"a\\0\\0", "utf16le", "utf8", "strict")
+    >>> len(recode(b"\\xe2\\x82", "utf8", "utf16le")), len(recode(b"\\xe2\\x82", "utf8", "utf16le", "maximal"))
+    (4, 2)
+    >>> recode(b"a\\xc0\\xaf", "UTF-8", "UTF-16LE", "strict")
     Traceback (most recent call last):
-    noddychest.FaultError: 'utf-16-le' codec can't decode byte 0x00 in position 2: the input ends after a leading surrogate, or inside a unit
+    noddychest.FaultError: 'utf-8' codec can't decode byte 0xc0 in position 1: invalid byte: C0, C1 and F5 to FF never occur in UTF-8
     """
-    source, target = _form(from_), _form(to)
-    made = _noddychest.recode(source, target, data, _is_strict(errors))
+    source, target = form_of(from_), form_of(to)
+    made = _noddychest.recode(source, target, data, _way(errors))
     if isinstance(made, bytes):
         return made
-    offset, length, kind = made
-    raise fault_error(STANDARD[source], data, offset, length, kind, offset=offset)
+    offset, length, kind, all_bytes = made
+    raise fault_error(STANDARD[source], all_bytes, offset, length, kind, offset=offset)
+
+
+def recoded_len(data: ReadableBuffer, from_: str, to: str) -> int:
+    """How many bytes `recode` makes of the data, with `replace`. It takes up to twice as long as `recode`, and no memory.
+
+    >>> recoded_len("né".encode(), "utf8", "utf16be")
+    4
+    """
+    return _noddychest.recoded_len(form_of(from_), form_of(to), data)
 
 
 class Recoder:
-    """Recodes text that comes in parts. What comes out is the same however it was cut into parts. With `strict` a part that has a
-    fault raises FaultError, once its kind is known, and the recoder is as it was before.
+    """Converts text that comes in parts. The output does not depend on how the input was divided into parts. With `strict` a part with
+    an invalid byte raises FaultError, once the reason is decided, and the recoder is as it was before. `maximal` is as in `recode`.
+
+    A Recoder takes one call at a time. If another thread calls it meanwhile, that raises RuntimeError, and no input is lost. `copy.copy`
+    and `pickle` make a recoder that goes on by itself from the same state.
 
     >>> recoder = Recoder("utf8", "utf16be")
     >>> recoder.feed(b"n\\xc3"), recoder.feed(b"\\xa9\\xff"), recoder.feed(b"\\xe2"), recoder.finish(), recoder.faults
     (b'\\x00n', b'\\x00\\xe9\\xff\\xfd', b'', b'\\xff\\xfd', 2)
     """
 
-    __slots__ = ("_from", "_strict", "_recoder", "__weakref__")
+    __slots__ = ("_from", "_to", "_errors", "_recoder", "__weakref__")
 
     def __init__(self, from_: str, to: str, errors: str = "replace") -> None:
-        self._from = _form(from_)
-        self._strict = _is_strict(errors)
-        self._recoder = _noddychest.Recoder(self._from, _form(to))
+        self._from, self._to, self._errors = form_of(from_), form_of(to), _way(errors)
+        self._recoder = _noddychest.Recoder(self._from, self._to, self._errors)
+
+    def __getstate__(self) -> tuple[Any, ...]:
+        return self._from, self._to, self._errors, self._recoder.state(), getattr(self, "__dict__", None)
+
+    def __setstate__(self, state: tuple[Any, ...]) -> None:
+        self._from, self._to, self._errors, inner, more = state
+        self._recoder = _noddychest.Recoder(self._from, self._to, self._errors)
+        self._recoder.set_state(*inner)
+        if more:  # (what a subclass has)
+            self.__dict__.update(more)
 
     def feed(self, data: ReadableBuffer) -> bytes:
-        """Reads a part, and answers what is decided by it. At most three bytes are held until more comes."""
+        """Reads a part, and returns what comes of it. At most three bytes are held until more comes."""
         return self._step(data, False)
 
     def finish(self) -> bytes:
-        """Answers what is held, when no more input follows. After that the recoder holds nothing, and may be fed again."""
+        """Ends the input, and returns what comes of the bytes that are held. After that you may feed the recoder again."""
         return self._step(b"", True)
 
     def _step(self, data: ReadableBuffer, finish: bool) -> bytes:
-        made = self._recoder.step(data, finish, self._strict)
+        made = self._recoder.step(data, finish)
         if isinstance(made, bytes):
             return made
-        offset, length, kind, before, start = made
-        raise fault_error(STANDARD[self._from], before + bytes(data), start, length, kind, offset=offset)
+        offset, length, kind, part, start = made
+        raise fault_error(STANDARD[self._from], part, start, length, kind, offset=offset)
 
     @property
     def faults(self) -> int:
-        """How many faults were replaced until now."""
+        """How many invalid bytes (in UTF-16 lone surrogates, or single bytes at the end) were replaced by U+FFFD so far. With
+        `maximal` they are not counted."""
         return self._recoder.faults

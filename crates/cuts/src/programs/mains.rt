@@ -1,5 +1,5 @@
 //! The programs `pieces` and `recode`, over any streams: all that `main` of each does.
-ghost use Rattle.std.specs.Prelude.{◌≡◌, ◌≢◌, ◌+◌, ◌<◌, ◌≤◌, [], ◌∷◌, ℕ, List, IsTrue, codes, map, drop, string_bytes, IfOk, IfErr, IsOkAnd, ⊤};
+ghost use Rattle.std.specs.Prelude.{◌≡◌, ◌≢◌, ◌+◌, ◌<◌, ◌≤◌, [], ◌∷◌, ℕ, List, IsTrue, codes, map, drop, string_bytes, IfOk, IfErr, IsOkAnd};
 ghost use Rattle.std.specs.IoError.{error_kind};
 ghost use Rattle.cuts.specs.Arguments.{Asked, HaveArguments, WordsAsk, WordsAreWrong, AreNotHad, WordsAskForms, WordsNameNoForms};
 ghost use Rattle.cuts.specs.Endings.{IsDrained, TellsAsked, BeginsAsked, ReadsUntil, CountsUntil, FlushFailsOrStays, FailsOrIsQuiet, Says, EndsEarly};
@@ -15,7 +15,7 @@ use crate::streams::{Sink, Source};
 use recoding::form::Form;
 use std::alloc::Global;
 use std::env::Env;
-use std::io::{BufWriter, ErrorKind, Read, Write};
+use std::io::{ErrorKind, Read, Write};
 use std::{env, io};
 
 /// Runs the program `pieces` over the words that it was started with and over its streams, and
@@ -60,39 +60,6 @@ pub fn pieces<R: Source, W: Write, E: Sink>(
         }
         Err(_) => Stop::NoMemory.report(pieces_program::PROGRAM, stderr),
     }
-}
-
-/// `pieces`, with a buffer before the writer.
-///
-/// Where there is no memory for the buffer, nothing is read, and the program ends as where there is
-/// none for the words. Its contract does not say what the writer was given; that of `pieces` does.
-///
-/// Cost: O(n), allocates for the whole input.
-pub fn pieces_buffered<R: Source, W: Write + Drop, E: Sink>(
-    alloc: Global,
-    words: io::Result<Vec<String>>,
-    input: &mut R,
-    writer: W,
-    stderr: &mut E,
-) -> u8
-    ensures drained { result < 2 → IsDrained (R.remaining input.old) (R.remaining input.new) }
-    ensures unbroken { result < 2 → IsTrue R.is_counted →
-        NoFailedRead (R.reads input.old) (R.reads input.new) }
-    ensures in_time { IsTrue R.is_counted → NoReadAfterEnd (R.reads input.old) (R.reads input.new) }
-    ensures silent { result < 2 → stderr.new ≡ stderr.old }
-    ensures early { 2 ≤ result → EndsEarly (codes "pieces") (ReadsUntil R.Source input.old input.new) (λ _. ⊤)
-        (Says E.Sink stderr.old stderr.new) result }
-    ensures wrong { WordsAreWrong words → 2 ≤ result }
-    ensures untouched { WordsAreWrong words → input.new ≡ input.old }
-    ensures right { (asked : Asked) → WordsAsk words asked → result ≢ 2 }
-    ensures not_had { AreNotHad words → result ≡ 3 }
-    ensures unstarted { AreNotHad words → input.new ≡ input.old }
-    ensures known { result < 4 }
-{
-    let Ok(buffer) = BufWriter::new(alloc, writer) else {
-        return Stop::NoMemory.report(pieces_program::PROGRAM, stderr);
-    };
-    pieces(alloc, words, input, &mut Counted::new(buffer), stderr)
 }
 
 /// Runs the program `recode` over the words that it was started with and over its streams, and

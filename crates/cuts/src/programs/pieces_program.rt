@@ -154,7 +154,8 @@ fn write_asked<A: Allocator + Copy, W: Write>(
     }
 }
 
-// Writes the listing of the bytes.
+// Writes the listing of the bytes. It is not in line, so that its loop has all registers.
+#[inline(never)]
 fn list_bytes<W: Write>(bytes: &[u8], out: &mut Counted<W>) -> Result<usize, Stop>
     ensures lines { IfOk result (Known W.contents (WritesRun forward_layout bytes.now) out.old out.new) }
     ensures front { Known W.contents (WritesRunFront forward_layout bytes.now) out.old out.new }
@@ -169,7 +170,8 @@ fn list_bytes<W: Write>(bytes: &[u8], out: &mut Counted<W>) -> Result<usize, Sto
     }
 }
 
-// Writes the lines of what a merger answers over the bytes, once it has them all.
+// Writes the lines of what a merger answers over the bytes, once it has them all. It is not in line either.
+#[inline(never)]
 fn merge_bytes<A: Allocator, W: Write>(
     alloc: A,
     bytes: &[u8],

@@ -1,7 +1,7 @@
 //! Recoding from a reader to a writer.
 ghost use Rattle.std.specs.Prelude.{◌≡◌, ◌≢◌, ◌-◌, ◌^◌, ◌<◌, [], length, Some, IfSome, OnOk};
 ghost use Rattle.cuts.specs.Endings.{IsDrained};
-ghost use Rattle.cuts.specs.RecodeStream.{AppendsRecoded, WritesRecoded, BeginsRecoded, HoldsBack, Passes, PassesFront, PassesLast, PassesLastFront};
+ghost use Rattle.cuts.specs.RecodeStream.{AppendsRecoded, WritesRecoded, BeginsRecoded, HoldsBack, Passes, PassesFront, PassesLast, PassesLastFront, recode_fault_text};
 ghost use Rattle.cuts.specs.Failures.{Known, Pipes, NoFailedRead, NoReadAfterEnd};
 
 use crate::counted::Counted;
@@ -9,22 +9,49 @@ use crate::streams::write_whole;
 use recoding::form::Form;
 use recoding::recoder::Recoder;
 use std::alloc::Allocator;
+use std::error::Error;
+use std::fmt;
 use std::io::{ErrorKind, Read, Write};
-use thiserror::Error;
 
 /// Why `recode` ended before the end of the input.
-#[derive(Clone, Copy, Debug, PartialEq, Eq, Drop, Error)]
+#[derive(Clone, Copy, Debug, PartialEq, Eq, Drop)]
 pub enum RecodeFault {
     /// The reader gave an error, or no end in `u64::MAX` reads.
-    #[error("cannot read")]
     Read,
     /// The writer gave an error, or took nothing.
-    #[error("cannot write")]
     Write,
     /// Memory was refused.
-    #[error("no memory")]
     Memory,
 }
+
+impl RecodeFault {
+    // What is said of it.
+    fn text(self) -> &'static str
+        ensures { result.now ≡ recode_fault_text self }
+    {
+        match self {
+            RecodeFault::Read => "cannot read",
+            RecodeFault::Write => "cannot write",
+            RecodeFault::Memory => "no memory",
+        }
+    }
+}
+
+impl fmt::Display for RecodeFault {
+    ghost use Rattle.std.specs.Prelude.{Some};
+    ghost use Rattle.cuts.specs.RecodeStream.{recode_fault_text};
+
+    ghost output = { λ e. Some (recode_fault_text e) };
+
+    ghost styled_output = { λ e _. Some (recode_fault_text e) };
+
+    /// Writes the reason in a few words. Width and fill are ignored.
+    fn fmt<W: fmt::Write>(&self, f: &mut fmt::Formatter<W>) -> fmt::Result {
+        f.write_str(self.text())
+    }
+}
+
+impl Error for RecodeFault {}
 
 // How many bytes are read at a time.
 const PART: usize = 65536;

@@ -1,7 +1,7 @@
 //! Strict recoding from a reader to a writer: to the first faulty byte.
 ghost use Rattle.std.specs.Prelude.{◌≡◌, ◌≢◌, ◌+◌, ◌-◌, ◌*◌, ◌^◌, ◌<◌, ◌≤◌, [], length, IfSome, IfErr, OnOk};
 ghost use Rattle.cuts.specs.Endings.{IsDrained};
-ghost use Rattle.cuts.specs.StrictRelayed.{BeginsTranscoded, EndsText, HoldsText, IfFaulty, IsFollowed, PassesText, PassesTextFront, PassesTextLast, StopsFaulty, StopsText, WritesText};
+ghost use Rattle.cuts.specs.StrictRelayed.{BeginsTranscoded, EndsText, HoldsText, IfFaulty, IsFollowed, PassesText, PassesTextFront, PassesTextLast, StopsFaulty, StopsText, WritesText, strict_error_text};
 ghost use Rattle.cuts.specs.Failures.{Known, Pipes, NoFailedRead, NoReadAfterEnd};
 
 use crate::counted::Counted;
@@ -9,8 +9,9 @@ use crate::streams::write_whole;
 use recoding::faults::{Fault, FaultKind, Outcome};
 use recoding::form::Form;
 use recoding::recoder::Recoder;
+use std::error::Error;
+use std::fmt;
 use std::io::{ErrorKind, Read, Write};
-use thiserror::Error;
 
 /// Where the first invalid bytes of an input are, and why they are invalid.
 #[derive(Clone, Copy, Debug, PartialEq, Eq, Drop)]
@@ -22,24 +23,50 @@ pub struct FaultAt {
 }
 
 /// Why `recode_strict` ended before the end of the input.
-#[derive(Clone, Copy, Debug, PartialEq, Eq, Drop, Error)]
+#[derive(Clone, Copy, Debug, PartialEq, Eq, Drop)]
 pub enum StrictError {
     /// The reader gave an error, or no end in `u64::MAX` reads.
-    #[error("cannot read")]
     Read,
     /// The writer gave an error, or took nothing.
-    #[error("cannot write")]
     Write,
     /// The input is invalid.
-    #[error("faulty input")]
     Faulty(FaultAt),
 }
+
+impl StrictError {
+    // What is said of it.
+    fn text(self) -> &'static str
+        ensures { result.now ≡ strict_error_text self }
+    {
+        match self {
+            StrictError::Read => "cannot read",
+            StrictError::Write => "cannot write",
+            StrictError::Faulty(_) => "faulty input",
+        }
+    }
+}
+
+impl fmt::Display for StrictError {
+    ghost use Rattle.std.specs.Prelude.{Some};
+    ghost use Rattle.cuts.specs.StrictRelayed.{strict_error_text};
+
+    ghost output = { λ e. Some (strict_error_text e) };
+
+    ghost styled_output = { λ e _. Some (strict_error_text e) };
+
+    /// Writes the reason in a few words. Width and fill are ignored.
+    fn fmt<W: fmt::Write>(&self, f: &mut fmt::Formatter<W>) -> fmt::Result {
+        f.write_str(self.text())
+    }
+}
+
+impl Error for StrictError {}
 
 // How many bytes are read at a time.
 const PART: usize = 16384;
 
-// Room for all that a part becomes, and what is held before it.
-const ROOM: usize = 3 * (PART + 3);
+// Room for all that a part becomes, and what is held before it: text at most doubles.
+const ROOM: usize = 2 * (PART + 3);
 
 /// Converts all that the reader gives from one form into another, part by part, and stops at the
 /// first invalid byte or lone surrogate. (`recode` replaces each by U+FFFD instead.)
@@ -98,7 +125,7 @@ fn pass_part<W: Write>(
     room: &mut [u8],
     out: &mut Counted<W>,
 ) -> Result<(), StrictError>
-    requires room { 3 * (length recoder.old.held + length part.now) ≤ length room.old }
+    requires room { 2 * (length recoder.old.held + length part.now) ≤ length room.old }
     requires before { length recoder.old.held ≤ offset }
     ensures passes { OnOk result
         (Known W.contents (PassesText recoder.old part.now) out.old out.new recoder.new) }
@@ -127,7 +154,7 @@ fn pass_end<W: Write>(
     room: &mut [u8],
     out: &mut Counted<W>,
 ) -> Result<(), StrictError>
-    requires room { 3 * length recoder.old.held ≤ length room.old }
+    requires room { 2 * length recoder.old.held ≤ length room.old }
     requires before { length recoder.old.held ≤ offset }
     ensures passes { OnOk result (Known W.contents (PassesTextLast recoder.old) out.old out.new) }
     ensures faulty { IfErr result

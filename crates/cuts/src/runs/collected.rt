@@ -5,9 +5,9 @@ ghost use Rattle.utf_base.specs.Code.{utf8, utf16};
 ghost use Rattle.utf_base.specs.Kinds.{merger_kind};
 ghost use Rattle.utf_base.specs.Units.{unit_fault_kind};
 ghost use Rattle.encode_unicode.specs.Pieces.{unit_pieces};
-ghost use Rattle.encode_unicode.specs.Sources.{WhereEmpty};
+ghost use Rattle.encode_unicode.specs.Sources.{WhateverIsLeft, WhereEmpty};
 ghost use Rattle.encode_unicode.specs.Window.{UnitItem};
-ghost use Rattle.cuts.specs.Collected.{WhateverIsLeft, IsUnitRun, IsMergedRun, IsJoinedExactly};
+ghost use Rattle.cuts.specs.Collected.{IsUnitRun, IsMergedRun, IsJoinedExactly};
 ghost use Rattle.cuts.specs.Items.{answers_of};
 
 use crate::runs::items::UnitItem;

@@ -22,7 +22,7 @@ pub returns-in-Ok-clause-early : goal.returns-in-Ok-clause-early
 returns-in-Ok-clause-early g c =
     let run = c.run_pieces-status.ensures in
     let end = c.finish_run.ensures in
-    ends_early (Says g.E.Sink) _ run.early run.unbroken run.silent run.other_calls end.early end.whole end.never_fewer end.failed end.line
+    ends_early (Says g.E.Sink) _ run.early (λ few. (run.unbroken few, run.drained few)) run.silent run.other_calls end.early end.whole end.never_fewer end.failed end.line
 
 pub returns-in-Err-clause-front : goal.returns-in-Err-clause-front
 returns-in-Err-clause-front g c asked words = BeginsAsked-none asked _ _

@@ -8,7 +8,7 @@ invariant-loop g l = record {
   relayed : IsTextRelayed l.fn.from l.fn.to (g.R.Read.remaining l.fn.input.inner) (g.R.Read.remaining l.input.inner)
       (g.W.Write.contents l.fn.out.inner) (g.W.Write.contents l.out.inner) l.fn.input.failures l.input.failures l.counter l.recoder l.offset;
   part : length l.part ≡ 16384;
-  room : length l.room ≡ 49161;
+  room : length l.room ≡ 32774;
   never_fewer : l.fn.input.failures ≤ l.input.failures;
   quiet : l.out.failures ≡ l.fn.out.failures;
   unbroken : NoFailedRead l.fn.input.reads l.input.reads;

@@ -1,7 +1,7 @@
 use Rattle.std.proofs.Common.{◌∷◌, Some, length, ap, arith, refl}
 use Rattle.utf_base.specs.Code.{utf16}
 use Rattle.utf_base.proofs.Utf16Code.{length_utf16}
-use Rattle.encode_unicode.proofs.Joined.{some_utf16}
+use Rattle.utf_base.proofs.JoinedLengths.{some_utf16}
 use Rattle.encode_unicode.proofs.Splits.{sent_next, nearer_by_next}
 use Rattle.encode_unicode.proofs.utf16_splitter.Utf16CharSplitterIterator.next.Goals as goal
 

@@ -1,6 +1,6 @@
 use Rattle.utf_base.specs.Code.{utf16}
 use Rattle.utf_base.proofs.Utf16Code.{length_utf16}
-use Rattle.encode_unicode.proofs.Joined.{some_utf16}
+use Rattle.utf_base.proofs.JoinedLengths.{some_utf16}
 use Rattle.encode_unicode.proofs.Splits.{splits_hint}
 use Rattle.encode_unicode.proofs.utf16_splitter.Utf16CharSplitterIterator.size_hint.Goals as goal
 

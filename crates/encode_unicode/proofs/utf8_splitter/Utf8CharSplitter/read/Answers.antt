@@ -4,7 +4,7 @@ use borrow.Rule.Slice.PartMut.{put_mid}
 use Rattle.std.specs.List.{flat_map}
 use Rattle.utf_base.specs.Code.{utf8}
 use Rattle.encode_unicode.specs.Sources.{Splitting, unsent}
-use Rattle.encode_unicode.proofs.Joined.{some_utf8}
+use Rattle.utf_base.proofs.JoinedLengths.{some_utf8}
 use Rattle.encode_unicode.proofs.Refills.{refilled, refilled_from, less_left}
 use Rattle.encode_unicode.proofs.utf8_splitter.Utf8CharSplitter.read.Goals as goal
 

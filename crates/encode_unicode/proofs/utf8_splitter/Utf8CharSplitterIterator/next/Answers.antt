@@ -1,6 +1,6 @@
 use Rattle.utf_base.specs.Code.{utf8}
 use Rattle.utf_base.proofs.Utf8Code.{length_utf8}
-use Rattle.encode_unicode.proofs.Joined.{some_utf8}
+use Rattle.utf_base.proofs.JoinedLengths.{some_utf8}
 use Rattle.encode_unicode.proofs.Splits.{sent_next, nearer_by_next}
 use Rattle.encode_unicode.proofs.utf8_splitter.Utf8CharSplitterIterator.next.Goals as goal
 

@@ -1,0 +1,6 @@
+pub mod CursorLemmas
+pub mod EditorLemmas
+pub mod StringLemmas
+pub mod ShownLemmas
+pub mod SourceLemmas
+mod RoomLemmas

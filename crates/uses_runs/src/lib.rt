@@ -1,0 +1,22 @@
+//! Callers of `cuts`, over whole runs, proved from its contracts and those of `encode_unicode` alone.
+#![tactic(auto)]
+
+pub mod blocks;
+pub mod boundaries;
+pub mod bounds;
+pub mod cursor;
+pub mod editor;
+pub mod equals;
+pub mod faults;
+pub mod fields;
+pub mod fronts;
+pub mod listed;
+pub mod lossy;
+pub mod names;
+pub mod parts;
+pub mod rooms;
+pub mod runs;
+pub mod shown;
+pub mod strict;
+pub mod strings;
+pub mod wire;

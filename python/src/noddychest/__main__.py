@@ -1,0 +1,135 @@
+"""Checks, splits and converts files: python3 -m noddychest check|pieces|recode.
+
+Exit status: 0 if all input is valid (after `recode` without `--errors strict` also if it is not), 1 if it is not, 2 for wrong arguments,
+3 if a file cannot be read or written."""
+from __future__ import annotations
+
+import argparse
+import os
+import sys
+from collections.abc import Iterator
+from typing import BinaryIO
+
+from . import FaultError, Piece, Recoder, boundary_before, faults, pieces
+from ._names import form_of
+
+_SIZE = 1 << 20
+
+
+def _encoding(name: str) -> str:
+    try:
+        form_of(name)
+    except LookupError as error:
+        raise argparse.ArgumentTypeError(str(error)) from None
+    return name
+
+
+def _arguments() -> argparse.ArgumentParser:
+    what, _, statuses = (__doc__ or "").partition("\n\n")
+    parser = argparse.ArgumentParser(prog="python3 -m noddychest", description=what, epilog=statuses)
+    jobs = parser.add_subparsers(dest="job", required=True)
+    check = jobs.add_parser("check", help="says where input is invalid, and why")
+    check.add_argument("file", nargs="*", default=["-"], metavar="FILE", help="standard input, if there is none, or for -")
+    split = jobs.add_parser("pieces", help="lists each character and each invalid byte")
+    convert = jobs.add_parser("recode", help="converts to another encoding, on standard output")
+    for it in (split, convert):
+        it.add_argument("file", nargs="?", default="-", metavar="FILE", help="standard input, if there is none, or for -")
+    for it in (check, split):
+        it.add_argument("--encoding", type=_encoding, default="utf8", metavar="NAME", help="utf8, utf16le or utf16be")
+    convert.add_argument("--from", dest="from_", type=_encoding, required=True, metavar="NAME", help="utf8, utf16le or utf16be")
+    convert.add_argument("--to", type=_encoding, required=True, metavar="NAME")
+    convert.add_argument("--errors", choices=["replace", "strict", "maximal"], default="replace")
+    return parser
+
+
+def _open(name: str) -> BinaryIO:
+    return open(sys.stdin.fileno() if name == "-" else name, "rb", closefd=name != "-")
+
+
+def _parts(file: BinaryIO) -> Iterator[bytes]:
+    return iter(lambda: file.read1(_SIZE), b"")  # type: ignore[attr-defined]
+
+
+def _blocks(file: BinaryIO, encoding: str) -> Iterator[tuple[int, bytes, int]]:
+    """Bytes, the offset at which they begin, and how many of them are to be taken: four more are there to tell why one is invalid."""
+    offset, data = 0, b""
+    for part in _parts(file):
+        data += part
+        cut = boundary_before(data, max(len(data) - 4, 0), encoding)
+        yield offset, data, cut
+        offset, data = offset + cut, data[cut:]
+    yield offset, data, len(data)
+
+
+def _taken(found: Iterator[Piece], offset: int, cut: int) -> Iterator[Piece]:
+    for piece in found:
+        if piece.offset >= cut:
+            return
+        yield piece._replace(offset=offset + piece.offset)
+
+
+def _check(name: str, encoding: str) -> int:
+    status = 0
+    with _open(name) as file:
+        for offset, data, cut in _blocks(file, encoding):
+            for piece in _taken(faults(data, encoding), offset, cut):
+                status = 1
+                print(f"{name}: offset {piece.offset}: {piece.error.reason if piece.error else ''}")
+    return status
+
+
+def _pieces(name: str, encoding: str) -> int:
+    status = 0
+    with _open(name) as file:
+        for offset, data, cut in _blocks(file, encoding):
+            for piece in _taken(iter(pieces(data, encoding)), offset, cut):
+                if piece.error is not None:
+                    status = 1
+                    print(piece.offset, piece.length, piece.error.name.replace("_", " ").title().replace(" ", ""))
+                elif piece.char is not None:
+                    print(f"{piece.offset} {piece.length} {ord(piece.char):06x}")
+    return status
+
+
+def _recode(name: str, from_: str, to: str, errors: str) -> int:
+    recoder, before, out = Recoder(from_, to, errors), 0, sys.stdout.buffer
+    with _open(name) as file:
+        try:
+            for part in _parts(file):
+                try:
+                    out.write(recoder.feed(part))
+                except FaultError as fault:  # what stands before it is written
+                    out.write(recoder.feed(part[:max(fault.offset - before, 0)]))
+                    raise
+                before += len(part)
+            out.write(recoder.finish())
+        except FaultError as fault:
+            out.flush()
+            print(f"{name}: offset {fault.offset}: {fault.error.reason}", file=sys.stderr)
+            return 1
+    return 0
+
+
+def _run(asked: argparse.Namespace) -> int:
+    if asked.job == "check":
+        status = max(_check(name, asked.encoding) for name in asked.file)
+    elif asked.job == "pieces":
+        status = _pieces(asked.file, asked.encoding)
+    else:
+        status = _recode(asked.file, asked.from_, asked.to, asked.errors)
+    sys.stdout.flush()
+    return status
+
+
+def main() -> int:
+    asked = _arguments().parse_args()
+    try:
+        return _run(asked)
+    except OSError as error:
+        print(f"noddychest: {error}", file=sys.stderr)
+        os.dup2(os.open(os.devnull, os.O_WRONLY), 1)  # (nothing more is written at the end)
+        return 3
+
+
+if __name__ == "__main__":
+    sys.exit(main())

@@ -1,0 +1,29 @@
+"""Names of encodings."""
+from __future__ import annotations
+
+_FORMS = {"utf8": 0, "utf16le": 1, "utf16be": 2}
+STANDARD = ("utf-8", "utf-16-le", "utf-16-be")  # by the numbers of the C library
+
+# The other labels that browsers take for these encodings (encoding.spec.whatwg.org), as far as they are not the three above with other
+# signs between their words.
+_LABELS = {
+    "unicode-1-1-utf-8": 0, "unicode11utf8": 0, "unicode20utf8": 0, "x-unicode20utf8": 0,
+    "csunicode": 1, "iso-10646-ucs-2": 1, "ucs-2": 1, "unicode": 1, "unicodefeff": 1, "utf-16": 1,
+    "unicodefffe": 2,
+}  # fmt: skip
+
+
+def plain(name: str) -> str:
+    """A name without what may stand between its words."""
+    return name.lower().replace("-", "").replace("_", "").replace(" ", "")
+
+
+def form_of(name: str) -> int:
+    """The number of an encoding, by a name of it."""
+    found = _FORMS.get(name) if isinstance(name, str) else None
+    if found is None and isinstance(name, str):
+        label = name.strip("\t\n\f\r ").lower()
+        found = _FORMS.get(plain(label), _LABELS.get(label.replace("_", "-")))
+    if found is None:
+        raise LookupError(f"unknown encoding: {name!r}; there are 'utf8', 'utf16le' and 'utf16be'")
+    return found

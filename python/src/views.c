@@ -1,0 +1,152 @@
+/* The arguments of calls, the interpreter's lock, and the bytes that are read: see views.h. */
+#include "views.h"
+
+#include <stdlib.h>
+#include <string.h>
+
+#define LARGE (64 * 1024)  /* from here on other threads run */
+#define WINDOW (32 * 1024) /* the bytes that are copied at once */
+#define AHEAD 4            /* more bytes that are copied, to see what a fault at the end of a window is */
+
+int take_bytes(PyObject *data, void *into) {
+    Py_buffer *view = into;
+    if (data == NULL) {
+        PyBuffer_Release(view);
+        return 1;
+    }
+    if (!PyObject_CheckBuffer(data)) {
+        PyErr_Format(PyExc_TypeError, "a bytes-like object is required, not %R%s", (PyObject *)Py_TYPE(data),
+                     PyUnicode_Check(data) ? ": encode the text first" : "");
+        return 0;
+    }
+    return PyObject_GetBuffer(data, view, PyBUF_SIMPLE) ? 0 : Py_CLEANUP_SUPPORTED;
+}
+
+int take_form(PyObject *number, void *into) {
+    long form = PyLong_AsLong(number);
+    if (form == -1 && PyErr_Occurred())
+        return 0;
+    if (form < NODY_FORM_UTF8 || form > NODY_FORM_UTF16BE) {
+        PyErr_SetString(PyExc_ValueError, "no encoding has this number");
+        return 0;
+    }
+    *(nody_form_t *)into = (nody_form_t)form;
+    return 1;
+}
+
+int is_place(Py_ssize_t place, Py_ssize_t len) {
+    if (place >= 0 && place <= len)
+        return 1;
+    PyErr_SetString(PyExc_IndexError, "the offset is outside of the bytes");
+    return 0;
+}
+
+PyObject *bytes_of(PyObject *data, const Py_buffer *view) {
+    return PyBytes_CheckExact(data) ? Py_NewRef(data) : PyBytes_FromStringAndSize(view->buf, view->len);
+}
+
+PyThreadState *let_lock_go(size_t len) {
+    return len >= LARGE ? PyEval_SaveThread() : NULL;
+}
+
+void take_lock(PyThreadState *thread) {
+    if (thread != NULL)
+        PyEval_RestoreThread(thread);
+}
+
+/* Whether nobody can change the bytes of a view: they are those of a `bytes`, or of a memoryview of one. Answers -1 if an error is
+ * set. */
+static int is_steady(const Py_buffer *view) {
+    PyObject *owner;
+    int steady;
+    if (view->obj == NULL || !PyMemoryView_Check(view->obj))
+        return view->obj != NULL && PyBytes_CheckExact(view->obj);
+    owner = PyObject_GetAttrString(view->obj, "obj");
+    if (owner == NULL)
+        return -1;
+    steady = PyBytes_CheckExact(owner);
+    Py_DECREF(owner);
+    return steady;
+}
+
+int open_window(Window *window, const Py_buffer *view) {
+    int steady = is_steady(view);
+    memset(window, 0, sizeof *window);
+    if (steady)
+        return steady > 0;
+    window->copy = malloc((view->len < WINDOW ? (size_t)view->len : WINDOW) + AHEAD);
+    if (window->copy == NULL)
+        PyErr_NoMemory();
+    return window->copy != NULL;
+}
+
+void close_window(Window *window) {
+    free(window->copy);
+}
+
+void next_window(Window *window, nody_form_t form, const uint8_t *left, size_t len) {
+    window->bytes = left, window->len = window->seen = len;
+    if (window->copy == NULL && window->most > 0)
+        window->len = nody_boundary_before(form, left, len, window->most);
+    if (window->copy == NULL)
+        return;
+    window->seen = len < WINDOW + AHEAD ? len : WINDOW + AHEAD;
+    memcpy(window->copy, left, window->seen);
+    window->bytes = window->copy;
+    window->len = window->seen == len ? len : nody_boundary_before(form, window->copy, window->seen, WINDOW);
+}
+
+static nody_piece_t in_bytes(nody_piece_t piece) {
+    piece.len *= 2;
+    return piece;
+}
+
+/* Up to two units, from the front of some bytes; answers how many. */
+static size_t two_units(nody_form_t form, const uint8_t *bytes, size_t len, uint16_t *units) {
+    size_t count = len / 2 < 2 ? len / 2 : 2;
+    for (size_t i = 0; i < count; i++)
+        units[i] = unit_at(form, bytes + 2 * i);
+    return count;
+}
+
+static const nody_piece_t half = {1, 0, NODY_KIND_INCOMPLETE}; /* a single byte at the end of UTF-16 */
+
+nody_piece_t first_piece(nody_form_t form, const uint8_t *bytes, size_t len) {
+    uint16_t units[2] = {0, 0};
+    if (form == NODY_FORM_UTF8)
+        return nody_utf8_first(bytes, len);
+    return len == 1 ? half : in_bytes(nody_utf16_first(units, two_units(form, bytes, len, units)));
+}
+
+nody_piece_t last_piece(nody_form_t form, const uint8_t *bytes, size_t len) {
+    uint16_t units[2] = {0, 0};
+    size_t tail = len < 4 ? len : 4;
+    if (form == NODY_FORM_UTF8)
+        return nody_utf8_last(bytes, len);
+    return len % 2 == 1 ? half : in_bytes(nody_utf16_last(units, two_units(form, bytes + len - tail, tail, units)));
+}
+
+Fault find_fault(Window *window, enum Reader reader, nody_form_t form, const Py_buffer *view, size_t at) {
+    size_t len = (size_t)view->len;
+    while (at < len) {
+        size_t valid;
+        next_window(window, form, (const uint8_t *)view->buf + at, len - at);
+        valid = nody_utf16_bytes_valid_up_to(form, window->bytes, window->len);
+        if (valid < window->len) {
+            const uint8_t *bytes = window->bytes + valid;
+            size_t left = window->seen - valid;
+            int is_streamed = reader == STREAMED && form == NODY_FORM_UTF8;
+            nody_piece_t piece = is_streamed ? nody_utf8_streamed_at(bytes, left, 0) : first_piece(form, bytes, left);
+            return (Fault){at + valid, piece.len, piece.kind};
+        }
+        at += window->len;
+    }
+    return (Fault){len, 0, NODY_KIND_NONE};
+}
+
+Fault first_fault(Window *window, enum Reader reader, nody_form_t form, const Py_buffer *view) {
+    PyThreadState *thread = let_lock_go((size_t)view->len);
+    Fault fault = find_fault(window, reader, form, view, 0);
+    take_lock(thread);
+    return fault;
+}

@@ -1,0 +1,87 @@
+/* What all of the module shares: the arguments of calls, the interpreter's lock, and the bytes that are read. */
+#ifndef VIEWS_H
+#define VIEWS_H
+
+#define PY_SSIZE_T_CLEAN
+#include <Python.h>
+
+#include "noddychest.h"
+
+#if PY_VERSION_HEX < 0x030A0000
+static inline PyObject *Py_NewRef(PyObject *object) {
+    Py_INCREF(object);
+    return object;
+}
+#endif
+
+/* ---- arguments ---- */
+
+/* For "O&". take_bytes takes any bytes-like object, at its size in bytes, without copying. One whose bytes do not lie one after
+ * another is refused by itself. */
+int take_bytes(PyObject *data, void *view);
+int take_form(PyObject *number, void *form);
+
+/* Whether a place is from 0 up to `len`; else an IndexError is set. Places are given by the package, or by handlers of errors, and
+ * are never trusted. */
+int is_place(Py_ssize_t place, Py_ssize_t len);
+
+/* The bytes of an argument as `bytes`: itself, or a copy. */
+PyObject *bytes_of(PyObject *data, const Py_buffer *view);
+
+/* ---- the interpreter's lock ---- */
+
+/* Lets other threads run, if so many bytes take long enough. Pass the result to take_lock. */
+PyThreadState *let_lock_go(size_t len);
+void take_lock(PyThreadState *thread);
+
+/* ---- bytes that are read ---- */
+
+/* Bytes are read in windows. Those of a `bytes` object cannot change, so one window has them all. All others may be changed by
+ * another thread or process at any time, and the library counts on bytes that stay as they are: their windows are copies. */
+typedef struct {
+    uint8_t *copy;        /* room for a copy; NULL if none is needed */
+    const uint8_t *bytes; /* the window */
+    size_t len;
+    size_t seen; /* its length together with the bytes after it that are there too: 4 or more, or all that are left */
+    size_t most; /* how long the next one may be; 0 for any length */
+} Window;
+
+/* Answers 0 with a MemoryError if there is no room for the copies. */
+int open_window(Window *window, const Py_buffer *view);
+void close_window(Window *window);
+
+/* The next window of the bytes that are left. It ends at a boundary, so the pieces of all windows are those of the whole. */
+void next_window(Window *window, nody_form_t form, const uint8_t *left, size_t len);
+
+/* ---- pieces and faults ---- */
+
+/* The first and the last piece of some bytes, with its length in bytes; NODY_KIND_NONE if there are none. */
+nody_piece_t first_piece(nody_form_t form, const uint8_t *bytes, size_t len);
+nody_piece_t last_piece(nody_form_t form, const uint8_t *bytes, size_t len);
+
+/* A fault: its place, its length, and its kind; NODY_KIND_NONE where there is none. */
+typedef struct {
+    size_t at, len;
+    nody_kind_t kind;
+} Fault;
+
+/* What is wrong where a fault stands: as a reader that has all bytes names it, or one that gets them one at a time. */
+enum Reader { WHOLE, STREAMED };
+
+/* The first fault from a place on, or none at the end. first_fault lets the lock go; find_fault needs none. */
+Fault first_fault(Window *window, enum Reader reader, nody_form_t form, const Py_buffer *view);
+Fault find_fault(Window *window, enum Reader reader, nody_form_t form, const Py_buffer *view, size_t at);
+
+/* The unit at the first two of some bytes. */
+static inline uint16_t unit_at(nody_form_t form, const uint8_t *bytes) {
+    int low = form == NODY_FORM_UTF16LE ? 0 : 1;
+    return (uint16_t)(bytes[low] | bytes[!low] << 8);
+}
+
+/* ---- what decoding.c has ---- */
+
+PyObject *decode(PyObject *module, PyObject *args);
+PyObject *replaced(PyObject *module, PyObject *args);
+PyObject *handled(PyObject *module, PyObject *args);
+
+#endif

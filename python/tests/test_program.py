@@ -1,0 +1,108 @@
+"""`python3 -m noddychest`: what it prints, how it ends, and that it reads by parts."""
+import os
+import subprocess
+import sys
+import tempfile
+import unittest
+
+from noddychest import ErrorKind, pieces, recode
+
+import outside
+
+SAMPLE = b"h\xc3\xa9\xe2\x82A\xf0\x9f\x98\x80"
+# What ./pieces prints for it (README.md of the repository).
+LISTING = "0 1 000068\n1 2 0000e9\n3 1 InterruptedSequence\n4 1 UnexpectedContinuationByte\n5 1 000041\n6 4 01f600\n"
+
+
+def ran(*words, given=b"", **more):
+    it = subprocess.run([sys.executable, "-m", "noddychest", *words], input=given, stdout=subprocess.PIPE, stderr=subprocess.PIPE, **more)
+    return it.returncode, it.stdout, it.stderr.decode()
+
+
+class Program(unittest.TestCase):
+    def setUp(self):
+        folder = tempfile.TemporaryDirectory()
+        self.addCleanup(folder.cleanup)
+        self.folder = folder.name
+
+    def file(self, data):
+        path = os.path.join(self.folder, "file")
+        with open(path, "wb") as file:
+            file.write(data)
+        return path
+
+    def test_pieces(self):
+        self.assertEqual(ran("pieces", given=SAMPLE), (1, LISTING.encode(), ""))
+        self.assertEqual(ran("pieces", self.file(SAMPLE)), (1, LISTING.encode(), ""))
+        self.assertEqual(ran("pieces", "--encoding", "UTF-16BE", given="é😀".encode("utf-16-be")), (0, b"0 2 0000e9\n2 4 01f600\n", ""))
+        self.assertEqual(ran("pieces"), (0, b"", ""))
+
+    def test_check(self):
+        reason = ErrorKind.INTERRUPTED_SEQUENCE.reason, ErrorKind.UNEXPECTED_CONTINUATION_BYTE.reason
+        path, good = self.file(SAMPLE), os.path.join(self.folder, "good")
+        with open(good, "wb") as file:
+            file.write("é".encode() * 10)
+        text = f"{path}: offset 3: {reason[0]}\n{path}: offset 4: {reason[1]}\n"
+        self.assertEqual(ran("check", good, path), (1, text.encode(), ""))
+        self.assertEqual(ran("check", good), (0, b"", ""))
+        self.assertEqual(ran("check", given=SAMPLE), (1, text.replace(path, "-").encode(), ""))
+
+    def test_long_input(self):
+        """The parts in which it reads are not to be seen."""
+        for wrong in (b"\xe2\x82", b"\xf0\x9f\x98\x80", b"\xf4\x90\x80\x80", b"\xff"):
+            for shift in (-4, -3, -1, 0, 2):
+                data = b"a" * ((1 << 20) + shift) + wrong + "é".encode() * 3000 + b"\xe2\x82"
+                path = self.file(data)
+                _, out, _ = ran("check", path)
+                expected = [f"{path}: offset {it.offset}: {it.error.reason}" for it in pieces(data) if it.error]
+                self.assertEqual(out.decode().splitlines(), expected)
+
+    def test_recode(self):
+        for errors in ("replace", "maximal"):
+            expected = recode(SAMPLE, "utf8", "utf16le", errors)
+            self.assertEqual(ran("recode", "--from", "utf-8", "--to", "UTF-16LE", "--errors", errors, given=SAMPLE), (0, expected, ""))
+        data = "é😀".encode() * 300_000
+        status, out, _ = ran("recode", "--from", "utf8", "--to", "utf16be", self.file(data))
+        self.assertEqual((status, out), (0, ("é😀" * 300_000).encode("utf-16-be")))
+        for before in (b"", b"ab", "é".encode() * 700_000):
+            status, out, err = ran("recode", "--from", "utf8", "--to", "utf8", "--errors", "strict", given=before + b"\xffb")
+            self.assertEqual((status, out, err), (1, before, f"-: offset {len(before)}: {ErrorKind.NON_UTF8_BYTE.reason}\n"))
+
+    def test_wrong_arguments(self):
+        for words in ([], ["nonsense"], ["recode"], ["check", "--encoding", "latin-1"], ["recode", "--from", "utf8", "--to", "utf8", "-x"]):
+            status, out, err = ran(*words)
+            self.assertEqual((status, out), (2, b""), words)
+            self.assertIn("usage: python3 -m noddychest", err)
+        status, out, _ = ran("--help")
+        self.assertEqual((status, b"Exit status" in out), (0, True))
+
+    def test_files_that_fail(self):
+        for words in (["check", self.folder], ["pieces", self.folder + "/none"], ["recode", "--from", "utf8", "--to", "utf8", "/none"]):
+            status, out, err = ran(*words)
+            self.assertEqual((status, out), (3, b""), words)
+            self.assertRegex(err, r"^noddychest: .*\n$")
+
+    @unittest.skipUnless(os.path.exists("/dev/full"), "there is no /dev/full")
+    def test_writes_that_fail(self):
+        with open("/dev/full", "wb") as full:
+            for words in (["pieces"], ["check"], ["recode", "--from", "utf8", "--to", "utf8"]):
+                it = subprocess.run([sys.executable, "-m", "noddychest", *words], input=b"\xff" * 10, stdout=full, stderr=subprocess.PIPE)
+                self.assertEqual((it.returncode, it.stderr.count(b"\n")), (3, 1), (words, it.stderr))
+
+
+class Readme(unittest.TestCase):
+    def test_sample(self):
+        path = os.path.join(outside.TOP, "python", "README.md")
+        if not os.path.exists(path):
+            self.skipTest("README.md is in the repository")
+        with open(path, encoding="utf-8") as file:
+            sample = file.read().partition("```python new\n")[2].partition("```")[0]
+        with tempfile.TemporaryDirectory() as folder:
+            open(os.path.join(folder, "log.txt"), "wb").close()
+            it = subprocess.run([sys.executable, "-c", sample], cwd=folder, stdout=subprocess.PIPE, check=True)
+        self.assertEqual(it.stdout.decode().splitlines()[:2], ["0 1 h", "1 2 é"])
+
+
+if __name__ == "__main__":
+    outside.cut(b"")
+    unittest.main()
