@@ -42,6 +42,11 @@
 //! - `trusted`: for targets of 64 bits, no test of what the proofs rule out.
 //! - `c`: the functions of the library for C, for the package `noddychest-c`.
 //!
+//! # Platforms
+//!
+//! It is written for every target of rustc, and was run on Linux on x86-64.
+//! On ARM64 the library for C was run in an emulator (QEMU) alone, and the packages for Python and Rust were not run.
+//!
 //! [`String::from_utf8_lossy`]: https://doc.rust-lang.org/std/string/struct.String.html#method.from_utf8_lossy
 #![cfg_attr(not(feature = "std"), no_std)]
 #![cfg_attr(not(feature = "std"), allow(rustdoc::broken_intra_doc_links))]
