@@ -143,8 +143,8 @@ impl<R: Read> Read for RecodingReader<R> {
 
 /// Writes to a writer what it is given, in another form.
 ///
-/// It gathers 8 KiB before it writes. Call [`finish`](RecodingWriter::finish) at the end: it writes what is held. A writer that is
-/// dropped without it writes what it has, and no error is told, as with [`BufWriter`](std::io::BufWriter). Where a strict
+/// It gathers 8 KiB before it writes. Call [`finish`](RecodingWriter::finish) at the end: it writes what is gathered and held. Dropped
+/// without it the writer writes that too, as [`BufWriter`](std::io::BufWriter) does, and then nobody hears of an error. Where a strict
 /// recoder meets invalid text, the error has the kind [`InvalidData`](std::io::ErrorKind::InvalidData) and a [`Fault`] in it. Since a
 /// call of `write` that fails must have taken nothing, it comes from the call that follows: the next `write`, `flush` or `finish`.
 ///
@@ -161,13 +161,13 @@ impl<R: Read> Read for RecodingReader<R> {
 /// ```
 #[derive(Debug)]
 pub struct RecodingWriter<W: Write> {
-    /// The writer, until it is taken.
+    /// There until `into_inner` takes it.
     inner: Option<W>,
     recoder: Recoder,
     /// What was recoded, and from where on it was not written yet.
     made: Block,
     fault: Option<Fault>,
-    /// Whether a call of the writer has begun and not ended: where it panics, nothing is written again.
+    /// While the inner writer writes: where that panics, nothing is written once more.
     is_writing: bool,
 }
 
@@ -197,7 +197,18 @@ impl<W: Write> RecodingWriter<W> {
     pub fn finish(&mut self) -> Result<()> {
         self.tell()?;
         self.write_rest()?;
-        self.call(W::flush)
+        self.flush_inner()
+    }
+
+    /// The writer. What is held or gathered is lost: call [`finish`](RecodingWriter::finish) before.
+    ///
+    /// ```
+    /// use noddychest::{io::RecodingWriter, Form, Recoder};
+    /// let writer = RecodingWriter::new(Vec::new(), Recoder::new(Form::Utf8, Form::Utf8));
+    /// assert!(writer.into_inner().is_empty());
+    /// ```
+    pub fn into_inner(mut self) -> W {
+        self.inner.take().expect("nothing else takes it")
     }
 
     /// Writes what was gathered, and then what the recoder holds.
@@ -215,30 +226,11 @@ impl<W: Write> RecodingWriter<W> {
         }
     }
 
-    /// The writer. What is held or gathered is lost: call [`finish`](RecodingWriter::finish) before.
-    ///
-    /// ```
-    /// use noddychest::{io::RecodingWriter, Form, Recoder};
-    /// let writer = RecodingWriter::new(Vec::new(), Recoder::new(Form::Utf8, Form::Utf8));
-    /// assert!(writer.into_inner().is_empty());
-    /// ```
-    pub fn into_inner(mut self) -> W {
-        self.inner.take().expect("the writer is there until it is taken")
-    }
-
-    /// One call of the writer.
-    fn call<T>(&mut self, call: impl FnOnce(&mut W) -> Result<T>) -> Result<T> {
-        self.is_writing = true;
-        let answer = self.inner.as_mut().map_or_else(|| Err(ErrorKind::NotFound.into()), call);
-        self.is_writing = false;
-        answer
-    }
-
     /// Writes what was gathered.
     fn drain(&mut self) -> Result<()> {
-        while !self.made.left().is_empty() {
+        while let (Some(inner), false) = (&mut self.inner, self.made.left().is_empty()) {
             self.is_writing = true;
-            let written = self.inner.as_mut().map_or(Ok(0), |inner| inner.write(self.made.left()));
+            let written = inner.write(self.made.left());
             self.is_writing = false;
             match written {
                 Ok(0) => return Err(ErrorKind::WriteZero.into()),
@@ -249,6 +241,10 @@ impl<W: Write> RecodingWriter<W> {
         }
         (self.made.begin, self.made.end) = (0, 0);
         Ok(())
+    }
+
+    fn flush_inner(&mut self) -> Result<()> {
+        self.inner.as_mut().map_or(Ok(()), W::flush)
     }
 
     /// Recodes what it can of a part, and answers how much of it was read.
@@ -289,7 +285,7 @@ impl<W: Write> Write for RecodingWriter<W> {
         // (a character for which there was no room)
         self.feed(&[]);
         self.drain()?;
-        self.call(W::flush)
+        self.flush_inner()
     }
 }
 

@@ -32,15 +32,20 @@
 //!
 //! Every answer of the source is machine-proved. The source is Rust with contracts; a script takes the contracts away, and what is left
 //! is compiled here by rustc. That script, and what stands around that text, are tested and not proved. By default every index is
-//! tested, so memory safety rests on rustc alone. The feature `trusted` leaves those tests out; memory safety then rests on the proofs and
-//! on the script too.
+//! tested, so memory safety rests on rustc and on the few places that are `unsafe`, which the package's `UNSAFE.md` lists. The feature
+//! `trusted` leaves those tests out; memory safety then rests on the proofs and on the script too.
 //!
 //! # Features
 //!
-//! - `std` (on by default): the adapters of [`io`], `Read`, and AVX2 where the processor has it.
+//! - `std` (on by default): the adapters of [`io`], `Read`, and on x86-64 SSSE3 where the processor has it.
 //! - `alloc`: [`recode`] and its kin, [`PieceTable`], and what gives a `Vec` or a `String`. All else needs `core` alone.
 //! - `trusted`: for targets of 64 bits, no test of what the proofs rule out.
 //! - `c`: the functions of the library for C, for the package `noddychest-c`.
+//!
+//! # Platforms
+//!
+//! It is written for every target of rustc, and was run on Linux on x86-64.
+//! On ARM64 the library for C was run in an emulator (QEMU) alone, and the packages for Python and Rust were not run.
 //!
 //! [`String::from_utf8_lossy`]: https://doc.rust-lang.org/std/string/struct.String.html#method.from_utf8_lossy
 #![cfg_attr(not(feature = "std"), no_std)]

@@ -28,7 +28,8 @@ fn decoded(form: Form, bytes: &[u8]) -> Vec<Answer> {
     match form {
         Form::Utf8 => of_utf8(bytes),
         Form::Utf16Le => of_utf16(bytes, u16::from_le_bytes),
-        _ => of_utf16(bytes, u16::from_be_bytes),
+        Form::Utf16Be => of_utf16(bytes, u16::from_be_bytes),
+        _ => unreachable!("{form} is new"),
     }
 }
 
@@ -37,7 +38,8 @@ fn encoded(form: Form, text: impl Iterator<Item = char>) -> Vec<u8> {
     match form {
         Form::Utf8 => text.into_bytes(),
         Form::Utf16Le => text.encode_utf16().flat_map(u16::to_le_bytes).collect(),
-        _ => text.encode_utf16().flat_map(u16::to_be_bytes).collect(),
+        Form::Utf16Be => text.encode_utf16().flat_map(u16::to_be_bytes).collect(),
+        _ => unreachable!("{form} is new"),
     }
 }
 
@@ -63,7 +65,8 @@ fn text_of(form: Form, chance: &mut Chance, most: usize) -> Vec<u8> {
     let mut out = match form {
         Form::Utf8 => chance.bytes(most),
         Form::Utf16Le => chance.units(most).into_iter().flat_map(u16::to_le_bytes).collect(),
-        _ => chance.units(most).into_iter().flat_map(u16::to_be_bytes).collect(),
+        Form::Utf16Be => chance.units(most).into_iter().flat_map(u16::to_be_bytes).collect(),
+        _ => unreachable!("{form} is new"),
     };
     if chance.below(4) == 0 {
         out.pop();
