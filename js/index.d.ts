@@ -1,8 +1,14 @@
-/** Any bytes. They are read, never changed and never kept. A string is a `TypeError`. */
+/** Any bytes, also of another realm. They are read, never changed and never kept. A string is a `TypeError`; bytes whose buffer is detached, too. */
 export type Bytes = ArrayBufferView | ArrayBufferLike;
 
-/** The encodings; case does not matter. No byte order mark is looked for, and none is added. */
-export type Encoding = "utf-8" | "utf-16le" | "utf-16be";
+/** The encodings. No byte order mark is looked for, and none is added. Case does not matter; `"UTF-16"` is little-endian, as `TextDecoder` has it. */
+export type Encoding = Label | Uppercase<Label>;
+
+/** The labels of the Encoding Standard for them, and `"utf16le"` and `"utf16be"`. */
+type Label =
+    | "utf-8" | "utf8" | "unicode-1-1-utf-8" | "unicode11utf8" | "unicode20utf8" | "x-unicode20utf8"
+    | "utf-16le" | "utf16le" | "utf-16" | "unicode" | "unicodefeff" | "csunicode" | "iso-10646-ucs-2" | "ucs-2"
+    | "utf-16be" | "utf16be" | "unicodefffe";
 
 /** Why a byte is invalid. */
 export type ErrorName =
@@ -39,7 +45,10 @@ export interface InvalidByte {
 
 export type Piece = Character | InvalidByte;
 
-/** The pieces of UTF-8 from the front, one after the other without a gap: characters, and single invalid bytes. O(n). */
+/**
+ * The pieces of UTF-8 from the front, one after the other without a gap: characters, and single invalid bytes. O(n). A step throws a
+ * `TypeError` where pieces are left and the buffer was detached, or made smaller, since the first one.
+ */
 export function pieces(data: Bytes): Generator<Piece, void, undefined>;
 
 /**
@@ -86,6 +95,8 @@ export class InvalidInputError extends TypeError {
     /** How many bytes are invalid: 1 in UTF-8; in UTF-16 2, or 1 where the text ends inside a unit. */
     readonly length: number;
     readonly error: ErrorName | UnitErrorName;
+    /** The same three. Of an error `structuredClone` and `postMessage` keep the message, which has the offset, and in most engines the cause. */
+    readonly cause: { offset: number; length: number; error: ErrorName | UnitErrorName };
 }
 
 /**

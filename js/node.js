@@ -1,8 +1,2 @@
-// Under Node the module is read from its file.
-import { readFileSync } from "node:fs";
-import { use } from "./api.js";
-
-const { instance } = await WebAssembly.instantiate(readFileSync(new URL("noddychest.wasm", import.meta.url)));
-use(instance);
-
-export { Decoder, InvalidInputError, Recoder, firstInvalid, isValid, pieces, piecesBack, recode, recoderStream } from "./api.js";
+// Under Node `import` and `require` give the same calls: those of node.cjs, which ./commonjs makes of api.js and codec.js.
+export { Decoder, InvalidInputError, Recoder, firstInvalid, isValid, pieces, piecesBack, recode, recoderStream } from "./node.cjs";

@@ -41,7 +41,8 @@ test("packed, installed offline and imported", { skip: needs("npm") }, () => {
         writeFileSync(`${folder}/package.json`, "{}");
         npm("install", `./${packed.filename}`);
         writeFileSync(`${folder}/used.mjs`, 'import { firstInvalid } from "noddychest"; console.log(firstInvalid(Uint8Array.of(65, 255)).error);');
-        assert.equal(execFileSync(process.execPath, ["used.mjs"], { cwd: folder, encoding: "utf8" }), "NonUtf8Byte\n");
+        writeFileSync(`${folder}/used.cjs`, 'console.log(require("noddychest").firstInvalid(Uint8Array.of(65, 255)).error);');
+        for (const it of ["used.mjs", "used.cjs"]) assert.equal(execFileSync(process.execPath, [it], { cwd: folder, encoding: "utf8" }), "NonUtf8Byte\n");
     } finally {
         rmSync(folder, { recursive: true });
     }
@@ -55,7 +56,7 @@ test("the types are those of the calls", { skip: needs("tsc") }, () => {
 test("what is exported is what the types declare", async () => {
     const declared = [...readFileSync(at("../index.d.ts"), "utf8").matchAll(/export (?:function|class|const) (\w+)/g)].map((it) => it[1]);
     assert.deepEqual(Object.keys(await import("noddychest")).sort(), declared.sort());
-    const told = (name) => readFileSync(at(`../${name}`), "utf8").match(/export \{.*\} from .*/)[0];
+    const told = (name) => readFileSync(at(`../${name}`), "utf8").match(/export \{(.*)\} from .*/)[1];
     assert.equal(told("web.js"), told("node.js"));
 });
 

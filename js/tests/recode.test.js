@@ -148,9 +148,25 @@ test("fatal: a recoder that threw is as it was before", () => {
     assert.throws(() => recode(ofHex("61ff"), "utf-8", "utf-8", { fatal: true }), { name: "InvalidInputError", message: "noddychest: invalid UTF-8 at offset 1: NonUtf8Byte" });
 });
 
+test("encodings by the labels of the Encoding Standard, and by those of the programs, in any case", () => {
+    const labels = ["utf-8", "utf8", "unicode-1-1-utf-8", "unicode11utf8", "unicode20utf8", "x-unicode20utf8",
+        "utf-16le", "utf-16", "unicode", "unicodefeff", "csunicode", "iso-10646-ucs-2", "ucs-2", "utf-16be", "unicodefffe"];
+    const given = ofHex("e9000041c3a9");
+    for (const label of labels) {
+        for (const it of [label, label.toUpperCase(), ` ${label}\n`]) {
+            const { encoding } = new TextDecoder(it);
+            assert.equal(hexOf(recode(given, it, "UTF-8")), hexOf(recode(given, encoding, "utf-8")), it);
+            assert.equal(hexOf(recode(given, "utf8", it)), hexOf(recode(given, "utf-8", encoding)), it);
+        }
+    }
+    for (const [name, label] of Object.entries(NAMES)) assert.equal(hexOf(recode(given, "utf-8", name.toUpperCase())), hexOf(recode(given, "utf-8", label)));
+});
+
 test("unknown encodings and strings", () => {
-    assert.throws(() => recode(new Uint8Array(1), "latin1", "utf-8"), RangeError);
-    assert.throws(() => new Recoder("utf-8", "utf-16"), RangeError);
+    const told = (label) => ({ name: "RangeError", message: `noddychest: the encoding ${label} is not one of utf-8, utf-16le, utf-16be` });
+    assert.throws(() => recode(new Uint8Array(1), "latin1", "utf-8"), told("latin1"));
+    for (const it of ["utf-32", "", "utf 8", "utf-8\u00a0", "utf\u20118", null, undefined, 8, {}]) assert.throws(() => new Recoder("utf-8", it), told(String(it)));
+    assert.throws(() => new Recoder(Symbol("utf-8"), "utf-8"), told("Symbol(utf-8)"));
     assert.throws(() => recode("text", "utf-8", "utf-8"), TypeError);
     assert.throws(() => new Recoder("utf-8", "utf-8").feed("text"), TypeError);
 });

@@ -10,7 +10,8 @@ for (const piece of pieces(bytes)) {
 }
 const back: Piece[] = [...piecesBack(new DataView(bytes.buffer))];
 const name: ErrorName | undefined = firstInvalid(bytes.buffer)?.error;
-const encoding: Encoding = "utf-16le";
+const encodings: Encoding[] = ["utf-16le", "UTF-8", "utf8", "utf16le", "UTF-16BE"];
+const [encoding] = encodings;
 const made: Uint8Array = recode(bytes, "utf-8", encoding);
 const recoder = new Recoder("utf-16be", "utf-8");
 const parts: Uint8Array[] = [recoder.feed(made), recoder.finish()];
@@ -22,7 +23,7 @@ const strict = new Recoder("utf-8", "utf-16le", { fatal: true });
 try {
     console.log(strict.feed(bytes), recode(bytes, "utf-8", "utf-8", { fatal: true }), recoderStream("utf-8", "utf-8", { fatal: true }));
 } catch (error) {
-    if (error instanceof InvalidInputError) console.log(error.offset + error.length, error.error === "Incomplete", error.message);
+    if (error instanceof InvalidInputError) console.log(error.offset + error.length + error.cause.offset, error.error === "Incomplete", error.message);
 }
 // @ts-expect-error: no such option
 recode(bytes, "utf-8", "utf-8", { strict: true });

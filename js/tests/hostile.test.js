@@ -1,0 +1,212 @@
+// What callers do that nobody should: bytes that go away, of other realms, or that lie; options that run code.
+import assert from "node:assert/strict";
+import { spawnSync } from "node:child_process";
+import { createRequire } from "node:module";
+import test from "node:test";
+import vm from "node:vm";
+import { MessageChannel, receiveMessageOnPort } from "node:worker_threads";
+import { Decoder, InvalidInputError, Recoder, firstInvalid, isValid, pieces, piecesBack, recode, recoderStream } from "noddychest";
+import { chances, damaged, hexOf, ofHex } from "./help.js";
+
+const GONE = { name: "TypeError", message: /^noddychest: the bytes are gone: their buffer was detached, or made smaller$/ };
+const canResize = "resize" in ArrayBuffer.prototype;
+const OLD = "this node has no resizable buffers";
+
+// Takes the memory of some bytes away, as postMessage does with what is transferred.
+function detach(bytes) {
+    const { port1, port2 } = new MessageChannel();
+    port1.postMessage(null, [bytes.buffer ?? bytes]);
+    port1.close();
+    port2.close();
+}
+
+// Each way to ask for all pieces, as a function that gives the next one, or null.
+const WAYS = {
+    pieces: (bytes) => nextOf(pieces(bytes)),
+    piecesBack: (bytes) => nextOf(piecesBack(bytes)),
+    "Decoder, from the front": (bytes) => stepsOf(new Decoder(bytes), "next"),
+    "Decoder, from the back": (bytes) => stepsOf(new Decoder(bytes), "nextBack"),
+};
+const nextOf = (iterator) => () => iterator.next().value ?? null;
+const stepsOf = (decoder, name) => () => decoder[name]();
+
+for (const [name, way] of Object.entries(WAYS)) {
+    test(`${name}: bytes that are detached on the way`, () => {
+        for (const [size, steps] of [[3, 1], [3, 2], [5000, 1], [5000, 4500], [20000, 9000]]) {
+            const bytes = new Uint8Array(size).fill(0x61);
+            const next = way(bytes);
+            for (let i = 0; i < steps; i++) assert.equal(next().char, "a");
+            detach(bytes);
+            assert.throws(next, GONE, `${size} bytes after ${steps}`);
+        }
+    });
+
+    test(`${name}: after the last piece the bytes may go`, () => {
+        const bytes = ofHex("61c3a9ff");
+        const next = way(bytes);
+        for (let i = 0; i < 3; i++) assert.ok(next());
+        if (!name.startsWith("Decoder")) {
+            detach(bytes);
+            assert.equal(next(), null);
+        }
+    });
+
+    test(`${name}: a buffer that grows, and one that is made smaller`, { skip: canResize ? false : OLD }, () => {
+        for (const give of [(it) => it, (it) => new Uint8Array(it), (it) => new Uint8Array(it, 0, 9000), (it) => new DataView(it)]) {
+            const buffer = new ArrayBuffer(9000, { maxByteLength: 20000 });
+            const next = way(give(buffer));
+            next();
+            buffer.resize(20000);
+            for (let i = 1; i < 8999; i++) assert.equal(next().char, "\0");
+            buffer.resize(8999);
+            assert.throws(next, GONE);
+        }
+    });
+}
+
+test("bytes that are gone already are refused, and are not empty text", () => {
+    const views = [(it) => it, (it) => new Uint8Array(it), (it) => new Uint8Array(it, 2, 0), (it) => new DataView(it, 1), (it) => new Uint16Array(it)];
+    for (const give of views) {
+        const buffer = new ArrayBuffer(8);
+        const data = give(buffer);
+        detach(buffer);
+        for (const call of [isValid, firstInvalid, (it) => new Decoder(it), (it) => [...pieces(it)], (it) => [...piecesBack(it)], (it) => recode(it, "utf8", "utf8")]) {
+            assert.throws(() => call(data), GONE);
+        }
+    }
+    for (const it of [new DataView(new ArrayBuffer(0)), new Uint8Array(0), new ArrayBuffer(0), new DataView(new ArrayBuffer(4), 4)]) assert.equal(isValid(it), true);
+});
+
+test("a view that lies outside of its buffer is refused", { skip: canResize ? false : OLD }, () => {
+    for (const give of [(it) => new Uint8Array(it, 4), (it) => new Uint8Array(it, 4, 2), (it) => new DataView(it, 4, 2), (it) => new DataView(it, 4)]) {
+        const buffer = new ArrayBuffer(8, { maxByteLength: 8 });
+        const data = give(buffer);
+        buffer.resize(3);
+        assert.throws(() => isValid(data), GONE);
+        assert.throws(() => new Recoder("utf8", "utf8").feed(data), GONE);
+        buffer.resize(8);
+        assert.equal(isValid(data), true);
+    }
+});
+
+test("a recoder that met bytes that are gone goes on", () => {
+    const recoder = new Recoder("utf-8", "utf-16be");
+    recoder.feed(ofHex("e282"));
+    const bytes = ofHex("ac");
+    detach(bytes);
+    assert.throws(() => recoder.feed(bytes), GONE);
+    assert.equal(hexOf(recoder.feed(ofHex("ac"))), "20ac");
+});
+
+test("bytes of another realm", () => {
+    const far = (code) => vm.runInNewContext(code);
+    const given = ["new Uint8Array([65, 255]).buffer", "new Uint8Array([65, 255])", "new DataView(new Uint8Array([65, 255]).buffer)", "new Uint16Array([0xff41])"];
+    if (typeof SharedArrayBuffer === "function") given.push("const it = new SharedArrayBuffer(2); new Uint8Array(it).set([65, 255]); it");
+    for (const it of given) {
+        assert.equal(firstInvalid(far(it)).offset, 1, it);
+        assert.deepEqual([...pieces(far(it))].map((piece) => piece.error), [null, "NonUtf8Byte"], it);
+        assert.equal(hexOf(recode(far(it), "utf8", "utf16be")), "0041fffd", it);
+    }
+    for (const it of ["[65]", "'text'", "({ byteLength: 2 })", "new Map()"]) assert.throws(() => isValid(far(it)), { name: "TypeError", message: /bytes are a Uint8Array/ });
+});
+
+test("shared memory, and one that grows", () => {
+    const shared = new SharedArrayBuffer(3);
+    new Uint8Array(shared).set([0x41, 0xc3, 0xa9]);
+    assert.equal([...pieces(shared)].map((it) => it.char).join(""), "Aé");
+    assert.equal(hexOf(recode(new DataView(shared, 1), "utf8", "utf16be")), "00e9");
+    if (!("grow" in SharedArrayBuffer.prototype)) return;
+    const growing = new SharedArrayBuffer(3, { maxByteLength: 9 });
+    const found = pieces(new Uint8Array(growing));
+    found.next();
+    growing.grow(9);
+    assert.equal([...found].length, 2);
+});
+
+test("bytes that lie about themselves, or run code when asked, are read as they are", () => {
+    class Lying extends Uint8Array {
+        static get [Symbol.species]() {
+            return assert.fail("code of the caller ran");
+        }
+        get length() {
+            return assert.fail("code of the caller ran");
+        }
+        subarray() {
+            return assert.fail("code of the caller ran");
+        }
+    }
+    for (const name of ["buffer", "byteOffset", "byteLength", "values", Symbol.iterator, Symbol.toStringTag]) Object.defineProperty(Lying.prototype, name, { get: () => assert.fail("code of the caller ran") });
+    const bytes = new Lying(3);
+    Uint8Array.prototype.set.call(bytes, [0x41, 0xc3, 0xa9]);
+    assert.equal([...pieces(bytes)].length, 2);
+    assert.equal(hexOf(recode(bytes, "utf8", "utf16le")), "4100e900");
+    assert.equal(new Decoder(bytes).nextBack().char, "é");
+    for (const it of [new Proxy(new Uint8Array(2), {}), Object.create(Uint8Array.prototype), { __proto__: ArrayBuffer.prototype, byteLength: 10 ** 30 }, { length: 10 ** 30 }, Symbol("bytes"), 10n ** 30n]) {
+        assert.throws(() => isValid(it), { name: "TypeError", message: /bytes are a Uint8Array/ });
+    }
+});
+
+test("other calls between two pieces, and from within options and labels, change nothing", () => {
+    const bytes = damaged(chances(9), 9000);
+    const [want, have, other] = [[...pieces(bytes)], [], new Recoder("utf8", "utf16le")];
+    for (const it of pieces(bytes)) {
+        have.push(it);
+        if (have.length % 7 === 0) other.feed(bytes.subarray(it.offset, it.offset + 9)), isValid(bytes.subarray(5)), pieces(bytes).next(), new Decoder(bytes).nextBack();
+    }
+    assert.deepEqual(have, want);
+    const busy = (value) => (recode(bytes, "utf16be", "utf8"), [...pieces(ofHex("e282"))], value);
+    const label = { toString: () => busy("utf-8") };
+    const recoder = new Recoder(label, { toString: () => busy("utf-16be") }, { get fatal() { return busy(false); } });
+    assert.equal(hexOf(recoder.feed(ofHex("e282"))) + hexOf(recoder.feed(ofHex("ac"))), "20ac");
+    let asked = 0;
+    assert.throws(() => recode(ofHex("ff"), "utf8", "utf8", { get fatal() { return ++asked === 1; } }), InvalidInputError);
+    assert.equal(asked, 1);
+});
+
+test("options that are none throw a sentence", () => {
+    const told = (it) => ({ name: "TypeError", message: `noddychest: options are an object, as { fatal: true }, or left out, and not ${it}` });
+    for (const [given, name] of [[null, "null"], [true, "a boolean"], ["fatal", "a string"], [1, "a number"], [Symbol("fatal"), "a symbol"], [1n, "a bigint"]]) {
+        assert.throws(() => new Recoder("utf8", "utf8", given), told(name));
+        assert.throws(() => recode(new Uint8Array(1), "utf8", "utf8", given), told(name));
+        assert.throws(() => recoderStream("utf8", "utf8", given), told(name));
+    }
+    for (const given of [undefined, {}, { fatal: undefined }, { fatal: 0 }, Object.create(null)]) assert.equal(recode(ofHex("ff"), "utf8", "utf8", given).length, 3);
+});
+
+test("an error says where also after it was cloned or sent", () => {
+    const error = (() => {
+        try {
+            return recode(ofHex("41000041dc00"), "utf16be", "utf8", { fatal: true });
+        } catch (it) {
+            return it;
+        }
+    })();
+    const want = { offset: 4, length: 2, error: "UnexpectedTrailingSurrogate" };
+    assert.deepEqual({ ...error.cause }, want);
+    assert.equal(Object.keys(error).includes("cause"), false);
+    const { port1, port2 } = new MessageChannel();
+    port1.postMessage(error);
+    const sent = receiveMessageOnPort(port2).message;
+    port1.close();
+    for (const it of typeof structuredClone === "function" ? [sent, structuredClone(error)] : [sent]) {
+        assert.equal(it.message, "noddychest: invalid UTF-16BE at offset 4: UnexpectedTrailingSurrogate");
+        assert.ok(it instanceof Error);
+        if (Number(process.versions.node.split(".")[0]) >= 20) assert.deepEqual(it.cause, want);
+    }
+});
+
+test("require gives the same calls as import", () => {
+    const all = createRequire(import.meta.url)("noddychest");
+    assert.equal(all.InvalidInputError, InvalidInputError);
+    assert.equal(all.pieces, pieces);
+    const ran = spawnSync(process.execPath, ["-e", 'console.log(require("noddychest").firstInvalid(Buffer.from([65, 255])).error)'], { cwd: new URL("..", import.meta.url), encoding: "utf8" });
+    assert.equal(ran.stdout, "NonUtf8Byte\n", ran.stderr);
+});
+
+test("text that is longer than the module's memory, and offsets in it", () => {
+    const bytes = new Uint8Array(40_000_000).fill(0x61);
+    bytes[39_999_998] = 0xe2;
+    assert.equal(firstInvalid(bytes).offset, 39_999_998);
+    assert.throws(() => recode(bytes, "utf8", "utf16le", { fatal: true }), { offset: 39_999_998, error: "TooFewBytes" });
+    assert.equal(recode(bytes, "utf8", "utf8").length, 40_000_002);
+});
