@@ -422,7 +422,9 @@ class Eraser(Text):
                 self.uses.add(f"crate::support::memory::{word}")
             if self.text(a) != "::" or b in ("::", "."):
                 continue
-            if word == "crate":
+            if (word, self.text(self.next(a))) in rules.OLDER:
+                self.said[i] = rules.OLDER[word, self.text(self.next(a))]
+            elif word == "crate":
                 self.said[i] = f"crate::proved::{self.crate}"
             elif word in rules.CRATES:
                 self.said[i] = f"crate::proved::{word}"

@@ -28,6 +28,9 @@ GATED = {"io": {"Read", "Result", "ErrorKind"}}
 PRELUDE = {"Vec", "String"}
 NOT_THERE = {"Arc", "Box", "Cow", "HashMap", "Rc", "ToOwned", "ToString", "to_owned", "to_string", "to_vec"}
 
+# Functions of a primitive type that Rust has there since 1.87, and before that in a module.
+OLDER = {("str", "from_utf8_unchecked"): "core::str"}
+
 # Words that no erased text holds. (`invariant` is a ghost member, which goes with its `ghost`.)
 GHOST_WORDS = {"assumption", "decreases", "ensures", "ghost", "ground", "invariant", "requires"}
 

@@ -73,6 +73,7 @@ WRITTEN = [
      "/// A call.\n///\n/// # Safety\n///\n/// It is small.\n#[inline]\npub unsafe fn f_unchecked(x: u8)\n{}\nfn g() { unsafe { a::f_unchecked(1) }; }\n"),
     ('// "it\'s" // \'\nconst C: [char; 2] = [\'\\\'\', \'"\'];\nconst S: &str = r#"ghost "{" "#;\n', None),
     ("fn f<'a>(x: &'a [u8]) -> u8 { x[0] /* ghost /* { */ */ }\n", None),
+    ("fn f() { str::from_utf8_unchecked(x) }\n", "fn f() { core::str::from_utf8_unchecked(x) }\n"),
     ("fn f() -> io::Result<u8> {}\n", '#[cfg(feature = "std")]\nfn f() -> io::Result<u8> {}\n'),
 ]
 

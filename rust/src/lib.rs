@@ -70,6 +70,7 @@ mod piece;
 #[allow(dead_code, unused_imports, unused_labels, unused_variables)]
 #[rustfmt::skip]
 #[allow(missing_debug_implementations, clippy::all, clippy::pedantic, clippy::undocumented_unsafe_blocks)]
+#[warn(clippy::incompatible_msrv)]
 mod proved;
 #[cfg(feature = "alloc")]
 mod recode;
