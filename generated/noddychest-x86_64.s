@@ -32915,7 +32915,7 @@ nody_recoder_finish_lossy:              # @nody_recoder_finish_lossy
 	movzbl	%cl, %eax
 	cmpl	$1, %eax
 	jne	.LBB105_24
-# %bb.18:                               # %arm.2.i15.i.i.i.i
+# %bb.18:                               # %arm.2.i10.i.i.i.i
                                         #   in Loop: Header=BB105_16 Depth=1
 	cmpq	$1, %r15
 	je	.LBB105_23
@@ -32934,7 +32934,7 @@ nody_recoder_finish_lossy:              # @nody_recoder_finish_lossy
                                         #   in Loop: Header=BB105_16 Depth=1
 	cmpl	$56320, %esi                    # imm = 0xDC00
 	je	.LBB105_57
-# %bb.21:                               # %arm.7.i46.i.i.i.i
+# %bb.21:                               # %arm.7.i41.i.i.i.i
                                         #   in Loop: Header=BB105_16 Depth=1
 	movzbl	%r12b, %eax
 	orl	%eax, %edx
@@ -32942,16 +32942,14 @@ nody_recoder_finish_lossy:              # @nody_recoder_finish_lossy
 	xorl	%ecx, %ecx
 	jmp	.LBB105_57
 	.p2align	4
-.LBB105_22:                             # %arm.3.i9.i.i.i.i
+.LBB105_22:                             # %arm.3.i4.i.i.i.i
                                         #   in Loop: Header=BB105_16 Depth=1
 	cmpq	$1, %r15
 	jne	.LBB105_30
-.LBB105_23:                             # %arm.6.i.i.i.i
+.LBB105_23:                             # %.thread509.i.i.i.i
                                         #   in Loop: Header=BB105_16 Depth=1
-	cmpq	$2, %r15
-	movl	$2, %ebp
-	cmovbq	%r15, %rbp
 	movl	$65533, %edi                    # imm = 0xFFFD
+	movq	%r15, %rbp
 	jmp	.LBB105_58
 	.p2align	4
 .LBB105_24:                             # %join.5.i.i.i
@@ -33009,7 +33007,7 @@ nody_recoder_finish_lossy:              # @nody_recoder_finish_lossy
 	orl	%ecx, %eax
 	shll	$6, %eax
 	jmp	.LBB105_42
-.LBB105_30:                             # %join.3.i163.i.i.i.i
+.LBB105_30:                             # %join.3.i158.i.i.i.i
                                         #   in Loop: Header=BB105_16 Depth=1
 	movzbl	%r12b, %esi
 	shll	$8, %esi
@@ -33021,11 +33019,11 @@ nody_recoder_finish_lossy:              # @nody_recoder_finish_lossy
 	movb	$1, %cl
 	cmpl	$55296, %esi                    # imm = 0xD800
 	je	.LBB105_39
-# %bb.31:                               # %join.3.i163.i.i.i.i
+# %bb.31:                               # %join.3.i158.i.i.i.i
                                         #   in Loop: Header=BB105_16 Depth=1
 	cmpl	$56320, %esi                    # imm = 0xDC00
 	je	.LBB105_57
-# %bb.32:                               # %arm.7.i190.i.i.i.i
+# %bb.32:                               # %arm.7.i185.i.i.i.i
                                         #   in Loop: Header=BB105_16 Depth=1
 	movzwl	%dx, %eax
 	xorl	%ecx, %ecx
@@ -33039,7 +33037,7 @@ nody_recoder_finish_lossy:              # @nody_recoder_finish_lossy
                                         #   in Loop: Header=BB105_16 Depth=1
 	testb	%r12b, %r12b
 	js	.LBB105_89
-# %bb.35:                               # %"utf_chars::codes::utf8::decode_start.exit.i.thread395.i.i.i.i"
+# %bb.35:                               # %"utf_chars::codes::utf8::decode_start.exit.i.thread390.i.i.i.i"
                                         #   in Loop: Header=BB105_16 Depth=1
 	movl	$1, %ebp
 	xorl	%ecx, %ecx
@@ -33049,7 +33047,7 @@ nody_recoder_finish_lossy:              # @nody_recoder_finish_lossy
 	cmpl	$13, %eax
 	movl	(%rsp), %r14d                   # 4-byte Reload
 	jne	.LBB105_45
-# %bb.37:                               # %"utf_chars::codes::utf8::decode_start.exit.i.thread413.i.i.i.i"
+# %bb.37:                               # %"utf_chars::codes::utf8::decode_start.exit.i.thread408.i.i.i.i"
                                         #   in Loop: Header=BB105_16 Depth=1
 	movl	%r12d, %eax
 	andb	$31, %al
@@ -33067,7 +33065,7 @@ nody_recoder_finish_lossy:              # @nody_recoder_finish_lossy
 	cmpq	$4, %r15
 	jb	.LBB105_23
 	jmp	.LBB105_57
-.LBB105_39:                             # %join.6.i200.i.i.i.i
+.LBB105_39:                             # %join.6.i195.i.i.i.i
                                         #   in Loop: Header=BB105_16 Depth=1
 	cmpq	$4, %r15
 	jb	.LBB105_23
@@ -33078,7 +33076,7 @@ nody_recoder_finish_lossy:              # @nody_recoder_finish_lossy
 	andl	$252, %edi
 	cmpl	$220, %edi
 	jne	.LBB105_57
-# %bb.41:                               # %arm.14.i235.i.i.i.i
+# %bb.41:                               # %arm.14.i230.i.i.i.i
                                         #   in Loop: Header=BB105_16 Depth=1
 	movzwl	%si, %eax
 	andl	$1023, %edx                     # imm = 0x3FF
@@ -33087,7 +33085,7 @@ nody_recoder_finish_lossy:              # @nody_recoder_finish_lossy
 	shll	$8, %eax
 	addl	%edx, %eax
 	addl	$65536, %eax                    # imm = 0x10000
-.LBB105_42:                             # %"recoding::lossy_pieces::first_lossy_piece.exit.thread.i.i.i.i"
+.LBB105_42:                             # %.thread515.i.i.i.i
                                         #   in Loop: Header=BB105_16 Depth=1
 	movl	$4, %ebp
 	xorl	%ecx, %ecx
@@ -33134,19 +33132,19 @@ nody_recoder_finish_lossy:              # @nody_recoder_finish_lossy
                                         #   in Loop: Header=BB105_16 Depth=1
 	cmpb	$-65, %bl
 	jg	.LBB105_57
-# %bb.49:                               # %then.1.i269.i.i.i.i
+# %bb.49:                               # %then.1.i264.i.i.i.i
                                         #   in Loop: Header=BB105_16 Depth=1
 	movzbl	%r12b, %edx
 	addl	$-224, %edx
 	cmpl	$20, %edx
 	ja	.LBB105_55
-# %bb.50:                               # %then.1.i269.i.i.i.i
+# %bb.50:                               # %then.1.i264.i.i.i.i
                                         #   in Loop: Header=BB105_16 Depth=1
 	leaq	.LJTI105_0(%rip), %rsi
 	movslq	(%rsi,%rdx,4), %rdx
 	addq	%rsi, %rdx
 	notrack		jmpq	*%rdx
-.LBB105_51:                             # %arm.4.i276.i.i.i.i
+.LBB105_51:                             # %arm.4.i271.i.i.i.i
                                         #   in Loop: Header=BB105_16 Depth=1
 	cmpb	$-97, %bl
 	ja	.LBB105_55
@@ -33156,21 +33154,21 @@ nody_recoder_finish_lossy:              # @nody_recoder_finish_lossy
 	cmpb	$-112, %bl
 	jae	.LBB105_55
 	jmp	.LBB105_57
-.LBB105_53:                             # %arm.5.i274.i.i.i.i
+.LBB105_53:                             # %arm.5.i269.i.i.i.i
                                         #   in Loop: Header=BB105_16 Depth=1
 	cmpb	$-96, %bl
 	jb	.LBB105_55
 	jmp	.LBB105_57
-.LBB105_54:                             # %arm.7.i270.i.i.i.i
+.LBB105_54:                             # %arm.7.i265.i.i.i.i
                                         #   in Loop: Header=BB105_16 Depth=1
 	cmpb	$-112, %bl
 	jae	.LBB105_57
-.LBB105_55:                             # %join.3.i253.i.i.i.i
+.LBB105_55:                             # %join.3.i248.i.i.i.i
                                         #   in Loop: Header=BB105_16 Depth=1
 	movl	$2, %ebp
 	cmpq	$3, %r15
 	jb	.LBB105_57
-# %bb.56:                               # %then.1.i281.i.i.i.i
+# %bb.56:                               # %then.1.i276.i.i.i.i
                                         #   in Loop: Header=BB105_16 Depth=1
 	xorl	%ebp, %ebp
 	cmpb	$-64, %r14b
@@ -33224,11 +33222,11 @@ nody_recoder_finish_lossy:              # @nody_recoder_finish_lossy
 	subq	%rax, %rcx
 	cmpq	$4, %rcx
 	jb	.LBB105_69
-# %bb.64:                               # %then.1.i.i22.i.i.i
+# %bb.64:                               # %then.1.i.i21.i.i.i
                                         #   in Loop: Header=BB105_16 Depth=1
 	cmpl	$65535, %edi                    # imm = 0xFFFF
 	ja	.LBB105_71
-# %bb.65:                               # %arm.1.i.i36.i.i.i
+# %bb.65:                               # %arm.1.i.i35.i.i.i
                                         #   in Loop: Header=BB105_16 Depth=1
 	rolw	$8, %di
 .LBB105_66:                             # %arm.1.i.i.i.i.i
@@ -33243,7 +33241,7 @@ nody_recoder_finish_lossy:              # @nody_recoder_finish_lossy
 	leaq	8(%rsp), %rsi
 	callq	"recoding::text::Utf8Text::put_fitting::<#3e183921f4cc9ca8>"
 	jmp	.LBB105_70
-.LBB105_68:                             # %join.3.i.i12.i.i.i
+.LBB105_68:                             # %join.3.i.i11.i.i.i
                                         #   in Loop: Header=BB105_16 Depth=1
 	leaq	8(%rsp), %rsi
 	callq	"recoding::text::Text::put_at_end::<#e2a3195756031b62>"
@@ -33257,7 +33255,7 @@ nody_recoder_finish_lossy:              # @nody_recoder_finish_lossy
 	testb	%al, %al
 	jne	.LBB105_74
 	jmp	.LBB105_84
-.LBB105_71:                             # %arm.2.i.i24.i.i.i
+.LBB105_71:                             # %arm.2.i.i23.i.i.i
                                         #   in Loop: Header=BB105_16 Depth=1
 	movl	%edi, %ecx
 	shrl	$10, %ecx
@@ -35199,7 +35197,7 @@ nody_recoded_len_v2:                    # @nody_recoded_len_v2
 	.type	.Lstatic.4,@object              # @static.4
 	.section	.rodata..Lstatic.4,"a",@progbits
 .Lstatic.4:
-	.asciz	"a character\000\000\000\000\000\000\000\000\000\000\000\000\000\000\000\000\000\000\000\000\000\000\000\000\000\000\000\000\000\000\000\000\000\000\000\000\000\000\000\000\000\000\000\000\000\000\000\000\000\000\000\000\000too few bytes: the input ends inside a character\000\000\000\000\000\000\000\000\000\000\000\000\000\000\000\000invalid byte: C0, C1 and F5 to FF never occur in UTF-8\000\000\000\000\000\000\000\000\000\000unexpected continuation byte: no character begins with it\000\000\000\000\000\000\000interrupted sequence: a continuation byte is missing\000\000\000\000\000\000\000\000\000\000\000\000overlong encoding: the value has a shorter code\000\000\000\000\000\000\000\000\000\000\000\000\000\000\000\000\000surrogate: the value is one of D800 to DFFF\000\000\000\000\000\000\000\000\000\000\000\000\000\000\000\000\000\000\000\000\000too high: the value is above 10FFFF\000\000\000\000\000\000\000\000\000\000\000\000\000\000\000\000\000\000\000\000\000\000\000\000\000\000\000\000\000unexpected trailing surrogate: no leading one stands before it\000\000unmatched leading surrogate: no trailing one follows it\000\000\000\000\000\000\000\000\000incomplete: the input ends after a leading surrogate\000\000\000\000\000\000\000\000\000\000\000\000nothing is left\000\000\000\000\000\000\000\000\000\000\000\000\000\000\000\000\000\000\000\000\000\000\000\000\000\000\000\000\000\000\000\000\000\000\000\000\000\000\000\000\000\000\000\000\000\000\000\000"
+	.asciz	"a character\000\000\000\000\000\000\000\000\000\000\000\000\000\000\000\000\000\000\000\000\000\000\000\000\000\000\000\000\000\000\000\000\000\000\000\000\000\000\000\000\000\000\000\000\000\000\000\000\000\000\000\000\000too few bytes: the input ends inside a character\000\000\000\000\000\000\000\000\000\000\000\000\000\000\000\000invalid byte: C0, C1 and F5 to FF never occur in UTF-8\000\000\000\000\000\000\000\000\000\000unexpected continuation byte: no character begins with it\000\000\000\000\000\000\000interrupted sequence: a continuation byte is missing\000\000\000\000\000\000\000\000\000\000\000\000overlong encoding: the value has a shorter code\000\000\000\000\000\000\000\000\000\000\000\000\000\000\000\000\000surrogate: the value is one of D800 to DFFF\000\000\000\000\000\000\000\000\000\000\000\000\000\000\000\000\000\000\000\000\000too high: the value is above 10FFFF\000\000\000\000\000\000\000\000\000\000\000\000\000\000\000\000\000\000\000\000\000\000\000\000\000\000\000\000\000unexpected trailing surrogate: no leading one stands before it\000\000unmatched leading surrogate: no trailing one follows it\000\000\000\000\000\000\000\000\000incomplete: the input ends inside a character of UTF-16\000\000\000\000\000\000\000\000\000nothing is left\000\000\000\000\000\000\000\000\000\000\000\000\000\000\000\000\000\000\000\000\000\000\000\000\000\000\000\000\000\000\000\000\000\000\000\000\000\000\000\000\000\000\000\000\000\000\000\000"
 	.size	.Lstatic.4, 768
 
 	.type	.Lstatic.5,@object              # @static.5

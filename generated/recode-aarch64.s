@@ -3356,7 +3356,7 @@
 	ldrb	w19, [x10]
 	ldrb	w24, [x10, #1]
 	ldrb	w23, [x10, #2]
-	ldrb	w1, [x10, #3]
+	ldrb	w2, [x10, #3]
 	ldrb	w16, [x10, #4]
 	ldrb	w15, [x10, #5]
 	sub	x11, x8, x9
@@ -3369,8 +3369,8 @@
 	ldrb	w20, [x10, #11]
 	ldrb	w21, [x10, #12]
 	ldrb	w17, [x10, #13]
-	ldrb	w18, [x10, #14]
-	ldrb	w0, [x10, #15]
+	ldrb	w0, [x10, #14]
+	ldrb	w1, [x10, #15]
 	b.ls	.LBB11_40
 .LBB11_38:                              // %join.3.i115
                                         //   in Loop: Header=BB11_37 Depth=3
@@ -3383,7 +3383,7 @@
 	strb	wzr, [x11, #3]
 	strb	w23, [x11, #4]
 	strb	wzr, [x11, #5]
-	strb	w1, [x11, #6]
+	strb	w2, [x11, #6]
 	strb	wzr, [x11, #7]
 	strb	w16, [x11, #8]
 	strb	wzr, [x11, #9]
@@ -3405,9 +3405,9 @@
 	strb	wzr, [x11, #25]
 	strb	w17, [x11, #26]
 	strb	wzr, [x11, #27]
-	strb	w18, [x11, #28]
+	strb	w0, [x11, #28]
 	strb	wzr, [x11, #29]
-	strb	w0, [x11, #30]
+	strb	w1, [x11, #30]
 	strb	wzr, [x11, #31]
 	stp	x10, x9, [x22]
 	str	x8, [x22, #16]
@@ -3421,10 +3421,10 @@
 	b	.LBB11_42
 .LBB11_40:                              // %"std_alloc::vec::Vec::grow::<#4f156eae334c09a3>.exit.i"
                                         //   in Loop: Header=BB11_37 Depth=3
-	stp	w1, w0, [sp, #12]               // 8-byte Folded Spill
-	mov	x0, x22
+	stp	w2, w1, [sp, #12]               // 8-byte Folded Spill
 	mov	w1, #32                         // =0x20
-	stp	w18, w17, [sp, #20]             // 8-byte Folded Spill
+	stp	w0, w17, [sp, #20]              // 8-byte Folded Spill
+	mov	x0, x22
 	str	w16, [sp, #28]                  // 4-byte Spill
 	str	w15, [sp, #64]                  // 4-byte Spill
 	str	w14, [sp, #80]                  // 4-byte Spill
@@ -3437,11 +3437,11 @@
 	ldp	x9, x8, [x22, #8]
 	ldur	w12, [x29, #-64]                // 4-byte Folded Reload
 	ldp	w17, w16, [sp, #24]             // 8-byte Folded Reload
-	ldp	w0, w18, [sp, #16]              // 8-byte Folded Reload
+	ldp	w1, w0, [sp, #16]               // 8-byte Folded Reload
 	ldur	w13, [x29, #-80]                // 4-byte Folded Reload
 	ldr	w14, [sp, #80]                  // 4-byte Reload
 	ldr	w15, [sp, #64]                  // 4-byte Reload
-	ldr	w1, [sp, #12]                   // 4-byte Reload
+	ldr	w2, [sp, #12]                   // 4-byte Reload
 	b	.LBB11_38
 .LBB11_42:                              // %"recoding::ascii_to_utf16::put_lanes::<#08490fc390149e2d>.exit"
                                         //   in Loop: Header=BB11_3 Depth=2
@@ -7159,7 +7159,7 @@
 	ldrb	w28, [x10]
 	ldrb	w24, [x10, #1]
 	ldrb	w23, [x10, #2]
-	ldrb	w1, [x10, #3]
+	ldrb	w2, [x10, #3]
 	ldrb	w16, [x10, #4]
 	ldrb	w15, [x10, #5]
 	sub	x11, x8, x9
@@ -7172,8 +7172,8 @@
 	ldrb	w20, [x10, #11]
 	ldrb	w21, [x10, #12]
 	ldrb	w17, [x10, #13]
-	ldrb	w18, [x10, #14]
-	ldrb	w0, [x10, #15]
+	ldrb	w0, [x10, #14]
+	ldrb	w1, [x10, #15]
 	b.ls	.LBB19_40
 .LBB19_38:                              // %join.3.i100
                                         //   in Loop: Header=BB19_37 Depth=3
@@ -7187,7 +7187,7 @@
 	strb	wzr, [x11, #4]
 	strb	w23, [x11, #5]
 	strb	wzr, [x11, #6]
-	strb	w1, [x11, #7]
+	strb	w2, [x11, #7]
 	strb	wzr, [x11, #8]
 	strb	w16, [x11, #9]
 	strb	wzr, [x11, #10]
@@ -7209,9 +7209,9 @@
 	strb	wzr, [x11, #26]
 	strb	w17, [x11, #27]
 	strb	wzr, [x11, #28]
-	strb	w18, [x11, #29]
+	strb	w0, [x11, #29]
 	strb	wzr, [x11, #30]
-	strb	w0, [x11, #31]
+	strb	w1, [x11, #31]
 	stp	x10, x9, [x22]
 	str	x8, [x22, #16]
 .LBB19_39:                              // %"std_alloc::vec::Vec::extend_from_slice::<#ab92407b68d5c920>.exit"
@@ -7224,10 +7224,10 @@
 	b	.LBB19_42
 .LBB19_40:                              // %"std_alloc::vec::Vec::grow::<#4f156eae334c09a3>.exit.i"
                                         //   in Loop: Header=BB19_37 Depth=3
-	stp	w1, w0, [sp, #12]               // 8-byte Folded Spill
-	mov	x0, x22
+	stp	w2, w1, [sp, #12]               // 8-byte Folded Spill
 	mov	w1, #32                         // =0x20
-	stp	w18, w17, [sp, #20]             // 8-byte Folded Spill
+	stp	w0, w17, [sp, #20]              // 8-byte Folded Spill
+	mov	x0, x22
 	str	w16, [sp, #28]                  // 4-byte Spill
 	str	w15, [sp, #64]                  // 4-byte Spill
 	str	w14, [sp, #80]                  // 4-byte Spill
@@ -7240,11 +7240,11 @@
 	ldp	x9, x8, [x22, #8]
 	ldur	w12, [x29, #-64]                // 4-byte Folded Reload
 	ldp	w17, w16, [sp, #24]             // 8-byte Folded Reload
-	ldp	w0, w18, [sp, #16]              // 8-byte Folded Reload
+	ldp	w1, w0, [sp, #16]               // 8-byte Folded Reload
 	ldur	w13, [x29, #-80]                // 4-byte Folded Reload
 	ldr	w14, [sp, #80]                  // 4-byte Reload
 	ldr	w15, [sp, #64]                  // 4-byte Reload
-	ldr	w1, [sp, #12]                   // 4-byte Reload
+	ldr	w2, [sp, #12]                   // 4-byte Reload
 	b	.LBB19_38
 .LBB19_42:                              // %"recoding::ascii_to_utf16::put_lanes::<#d518d3e4565fea18>.exit"
                                         //   in Loop: Header=BB19_3 Depth=2
@@ -10834,19 +10834,19 @@
 	ldrb	w16, [x15]
 	ldrb	w17, [x15, #2]
 	add	x10, x10, #16
-	ldrb	w18, [x15, #4]
+	ldrb	w0, [x15, #4]
 	orr	x16, x16, x17, lsl #8
 	ldrb	w17, [x15, #6]
-	orr	x16, x16, x18, lsl #16
-	ldrb	w18, [x15, #8]
+	orr	x16, x16, x0, lsl #16
+	ldrb	w0, [x15, #8]
 	orr	x16, x16, x17, lsl #24
 	ldrb	w17, [x15, #10]
-	orr	x16, x16, x18, lsl #32
-	ldrb	w18, [x15, #12]
+	orr	x16, x16, x0, lsl #32
+	ldrb	w0, [x15, #12]
 	ldrb	w15, [x15, #14]
 	orr	x16, x16, x17, lsl #40
 	ldr	x17, [x22]
-	orr	x16, x16, x18, lsl #48
+	orr	x16, x16, x0, lsl #48
 	orr	x15, x16, x15, lsl #56
 	str	x15, [x17, x14]
 	and	x15, x11, #0xfffffffffffffff0
@@ -10961,10 +10961,10 @@
 	strb	w17, [x16, x15]
 	mov	w16, #128                       // =0x80
 	mov	w17, w12
-	ldr	x18, [x22]
+	ldr	x0, [x22]
 	bfxil	w16, w14, #12, #6
 	bfi	w17, w13, #8, #2
-	add	x13, x18, x15
+	add	x13, x0, x15
 	bfi	w17, w11, #10, #10
 	strb	w16, [x13, #1]
 	mov	w11, #128                       // =0x80
@@ -13146,19 +13146,19 @@
 	ldrb	w16, [x15, #1]
 	ldrb	w17, [x15, #3]
 	add	x10, x10, #16
-	ldrb	w18, [x15, #5]
+	ldrb	w0, [x15, #5]
 	orr	x16, x16, x17, lsl #8
 	ldrb	w17, [x15, #7]
-	orr	x16, x16, x18, lsl #16
-	ldrb	w18, [x15, #9]
+	orr	x16, x16, x0, lsl #16
+	ldrb	w0, [x15, #9]
 	orr	x16, x16, x17, lsl #24
 	ldrb	w17, [x15, #11]
-	orr	x16, x16, x18, lsl #32
-	ldrb	w18, [x15, #13]
+	orr	x16, x16, x0, lsl #32
+	ldrb	w0, [x15, #13]
 	ldrb	w15, [x15, #15]
 	orr	x16, x16, x17, lsl #40
 	ldr	x17, [x22]
-	orr	x16, x16, x18, lsl #48
+	orr	x16, x16, x0, lsl #48
 	orr	x15, x16, x15, lsl #56
 	str	x15, [x17, x14]
 	and	x15, x11, #0xfffffffffffffff0
@@ -13273,10 +13273,10 @@
 	strb	w17, [x16, x15]
 	mov	w16, #128                       // =0x80
 	mov	w17, w12
-	ldr	x18, [x22]
+	ldr	x0, [x22]
 	bfxil	w16, w14, #12, #6
 	bfi	w17, w13, #8, #2
-	add	x13, x18, x15
+	add	x13, x0, x15
 	bfi	w17, w11, #10, #10
 	strb	w16, [x13, #1]
 	mov	w11, #128                       // =0x80
@@ -15060,7 +15060,7 @@
 	bl	memcpy
 	ldur	x16, [x29, #-16]                // 8-byte Folded Reload
 	ldurh	w8, [x29, #-4]
-	sub	x18, x29, #8
+	sub	x0, x29, #8
 	ldur	w9, [x29, #-8]
 	mov	w17, w19
 	mov	x26, xzr
@@ -15090,7 +15090,7 @@
 .LBB41_6:                               // %join.5.i.i
                                         // =>This Inner Loop Header: Depth=1
 	cmp	w28, #2
-	add	x23, x18, x27
+	add	x23, x0, x27
 	sub	x21, x1, x27
 	b.eq	.LBB41_13
 // %bb.7:                               // %join.5.i.i
@@ -15351,9 +15351,9 @@
 	bl	"utf_chars::codes::utf8::missing_after"
 	ldr	x1, [sp]                        // 8-byte Reload
 	ldur	x16, [x29, #-16]                // 8-byte Folded Reload
-	sub	x18, x29, #8
-	ldr	w17, [sp, #12]                  // 4-byte Reload
 	cmp	x21, x0
+	ldr	w17, [sp, #12]                  // 4-byte Reload
+	sub	x0, x29, #8
 	b.ls	.LBB41_51
 // %bb.47:                              // %join.3.i126.i.i
                                         //   in Loop: Header=BB41_6 Depth=1
@@ -15392,9 +15392,10 @@
 	b	.LBB41_17
 .LBB41_51:                              // %join.5.i.i.i
                                         //   in Loop: Header=BB41_6 Depth=1
-	add	x0, x18, x27
+	sub	x8, x29, #8
 	mov	x22, x1
 	sub	x1, x1, x27
+	add	x0, x8, x27
 	mov	w21, w17
 	bl	"recoding::next_scalar::is_front_of_code"
 	tbnz	w0, #0, .LBB41_83
@@ -15404,7 +15405,7 @@
 	mov	w19, #65533                     // =0xfffd
 	mov	w8, #1                          // =0x1
 	mov	w17, w21
-	sub	x18, x29, #8
+	sub	x0, x29, #8
 	mov	x1, x22
 	cbnz	w21, .LBB41_63
 	b	.LBB41_17
