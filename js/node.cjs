@@ -37,7 +37,8 @@ class Codec {
         this.made = this.part + PART;
         this.start = this.made + PART_ROOM;
         this.len = 0;
-        this.names = Array.from({ length: NONE + 1 }, (_, kind) => this.kindName(kind));
+        this.names = this.textsOfKinds(calls.nody_put_kind_name);
+        this.sentences = this.textsOfKinds(calls.nody_put_kind_sentence);
     }
 
     // Takes these bytes in place of those before.
@@ -71,12 +72,14 @@ class Codec {
         return { place, len: this.number(address), scalar: view.getUint32(address + 8, true), kind: view.getUint8(address + 12) };
     }
 
-    // What the module calls a kind of error.
-    kindName(kind) {
+    // What a call of the module tells of each kind of error: its name, or its sentence, in ASCII up to a zero.
+    textsOfKinds(call) {
         this.view.setBigUint64(this.answer, BigInt(this.room), true);
-        this.calls.nody_put_kind_name(kind, BigInt(this.answer));
-        const text = this.number(this.answer);
-        return String.fromCharCode(...this.memory.subarray(text, text + 32)).replace(/\0+$/, "");
+        return Array.from({ length: NONE + 1 }, (_, kind) => {
+            call(kind, BigInt(this.answer));
+            const text = this.number(this.answer);
+            return String.fromCharCode(...this.memory.subarray(text, this.memory.indexOf(0, text)));
+        });
     }
 
     // Puts into the room the pieces that begin at `front`, so many at most; returns how many and where they end.
