@@ -395,7 +395,10 @@ static void threads(void) {
 
 /* How much of the stack the calls take. */
 
-enum { STACK = 5120, /* (as noddychest.h says) */ PAINTED = 1 << 18, TEXT = 8192 };
+#ifndef STACK
+#define STACK 5120 /* as noddychest.h says; a library that another compiler makes may take more */
+#endif
+enum { PAINTED = 1 << 18, TEXT = 8192 };
 
 static unsigned char painted[PAINTED] __attribute__((aligned(4096))), texts[6][3][3 * TEXT], made[9 * TEXT];
 static size_t lens[6][3];
