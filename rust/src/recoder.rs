@@ -76,11 +76,28 @@ impl core::fmt::Display for UnknownForm {
 
 impl core::error::Error for UnknownForm {}
 
+/// The labels of the [Encoding Standard](https://encoding.spec.whatwg.org/#names-and-labels) for each form, and its own name.
+const LABELS: [(Form, &[&str]); 3] = [
+    (Form::Utf8, &["utf8", "utf-8", "unicode-1-1-utf-8", "unicode11utf8", "unicode20utf8", "x-unicode20utf8"]),
+    (Form::Utf16Le, &["utf16le", "utf-16le", "utf-16", "unicode", "unicodefeff", "csunicode", "iso-10646-ucs-2", "ucs-2"]),
+    (Form::Utf16Be, &["utf16be", "utf-16be", "unicodefffe"]),
+];
+
+/// Takes the labels of the Encoding Standard, as `UTF-8` and `utf-16le`, and the names `utf8`, `utf16le` and `utf16be`: in upper or lower
+/// case, with ASCII white space around them.
+///
+/// ```
+/// use noddychest::Form;
+/// assert_eq!("UTF-16BE".parse(), Ok(Form::Utf16Be));
+/// assert!("latin1".parse::<Form>().is_err());
+/// ```
 impl core::str::FromStr for Form {
     type Err = UnknownForm;
 
     fn from_str(name: &str) -> Result<Form, UnknownForm> {
-        Form::ALL.into_iter().find(|it| it.name() == name).ok_or(UnknownForm(()))
+        let label = name.trim_matches(|it: char| it.is_ascii_whitespace());
+        let is_named = |names: &[&str]| names.iter().any(|it| it.eq_ignore_ascii_case(label));
+        LABELS.into_iter().find(|it| is_named(it.1)).map(|it| it.0).ok_or(UnknownForm(()))
     }
 }
 

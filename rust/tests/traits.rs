@@ -55,3 +55,22 @@ fn clones_go_on_by_themselves() {
     assert_eq!(&room[..2], "é".as_bytes());
     assert_eq!(other.finish(&mut room).written, 3);
 }
+
+/// The labels of the Encoding Standard (encoding.spec.whatwg.org, "Names and labels"), in any case, and the names of the programs.
+#[test]
+fn forms_have_labels() {
+    let labels = [
+        ("utf8 utf-8 UTF-8 Utf8 unicode-1-1-utf-8 unicode11utf8 unicode20utf8 x-unicode20utf8", Form::Utf8),
+        ("utf16le utf-16le UTF-16LE UTF-16 unicode unicodefeff csUnicode ISO-10646-UCS-2 ucs-2", Form::Utf16Le),
+        ("utf16be UTF-16BE unicodeFFFE", Form::Utf16Be),
+    ];
+    for (names, form) in labels {
+        for name in names.split(' ') {
+            assert_eq!(name.parse(), Ok(form), "{name}");
+            assert_eq!(format!("\t {name}\n").parse(), Ok(form), "{name}");
+        }
+    }
+    for name in ["", " ", "utf", "utf-", "utf 8", "latin1", "utf-32", "utf8\u{a0}", "ut\u{17f}8"] {
+        assert!(name.parse::<Form>().is_err(), "{name}");
+    }
+}
