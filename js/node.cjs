@@ -1,6 +1,7 @@
 // Written by js/commonjs: codec.js and api.js as one CommonJS module, which reads the module of WebAssembly from its file.
 "use strict";
-// The calls of the proved module, as plain numbers. This is the one file that knows their names and what stands where.
+// The calls of the proved module, as plain numbers. This is the one file that knows their names and what stands where. There are two
+// modules with the same calls: one with vectors, and one for who has none.
 //
 // The module's memory has a fixed size of 16 MiB. After its own stack and constants stand, from __heap_base on: a cursor, an answer,
 // two lengths, a recoder and a fault; room for pieces; a part that is recoded and room for what it becomes; and the caller's bytes.
@@ -21,13 +22,21 @@ const PART_ROOM = 4 * PART;
 const RECODER = 16;
 // Where its count of replaced bytes stands.
 const REPLACED = 8;
+// A module of one function, which has a vector.
+const PROBE = [0, 97, 115, 109, 1, 0, 0, 0, 1, 5, 1, 96, 0, 1, 123, 3, 2, 1, 0, 10, 10, 1, 8, 0, 65, 0, 253, 15, 253, 98, 11];
+
+// Whether the module with vectors runs here.
+const hasVectors = () => WebAssembly.validate(Uint8Array.from(PROBE));
 
 class Codec {
     constructor(calls) {
         this.calls = calls;
         this.memory = new Uint8Array(calls.memory.buffer);
         this.view = new DataView(calls.memory.buffer);
-        this.cursor = Math.ceil(Number(calls.__heap_base.value) / PIECE) * PIECE;
+        const end = calls.__heap_base.value;
+        // (the module without vectors was lowered from addresses of 64 bits, and takes them as such)
+        this.address = typeof end === "bigint" ? BigInt : Number;
+        this.cursor = Math.ceil(Number(end) / PIECE) * PIECE;
         this.answer = this.cursor + 16;
         this.numbers = this.answer + 16;
         this.recoder = this.numbers + 16;
@@ -76,7 +85,7 @@ class Codec {
     textsOfKinds(call) {
         this.view.setBigUint64(this.answer, BigInt(this.room), true);
         return Array.from({ length: NONE + 1 }, (_, kind) => {
-            call(kind, BigInt(this.answer));
+            call(kind, this.address(this.answer));
             const text = this.number(this.answer);
             return String.fromCharCode(...this.memory.subarray(text, this.memory.indexOf(0, text)));
         });
@@ -85,7 +94,7 @@ class Codec {
     // Puts into the room the pieces that begin at `front`, so many at most; returns how many and where they end.
     run(front, most = ROOM) {
         this.setCursor(front, this.len);
-        const count = this.calls.nody_utf8_pieces(BigInt(this.cursor), BigInt(this.room), BigInt(Math.min(most, ROOM)));
+        const count = this.calls.nody_utf8_pieces(this.address(this.cursor), this.address(this.room), BigInt(Math.min(most, ROOM)));
         return { count: Number(count), end: this.number(this.cursor) - this.start };
     }
 
@@ -122,7 +131,7 @@ class Codec {
         this.setCursor(left.front, left.back);
         const isFirst = letter === "F";
         const [call, begin] = [isFirst ? this.calls.nody_utf8_next : this.calls.nody_utf8_next_back, left.front];
-        call(BigInt(this.answer), BigInt(this.cursor));
+        call(this.address(this.answer), this.address(this.cursor));
         left.front = this.number(this.cursor) - this.start;
         left.back = left.front + this.number(this.cursor + 8);
         return this.pieceAt(this.answer, isFirst ? begin : left.back);
@@ -130,23 +139,23 @@ class Codec {
 
     // The piece that begins at an offset, as a decoder that gets one byte at a time names it.
     streamedAt(place) {
-        this.calls.nody_utf8_streamed_at(BigInt(this.answer), BigInt(this.start), BigInt(this.len), BigInt(place));
+        this.calls.nody_utf8_streamed_at(this.address(this.answer), this.address(this.start), BigInt(this.len), BigInt(place));
         return this.pieceAt(this.answer, place);
     }
 
     // The offset of the first invalid byte from an offset on at which a piece begins, or the length where there is none.
     validUpTo(front = 0) {
-        return front + Number(this.calls.nody_utf8_valid_up_to(BigInt(this.start + front), BigInt(this.len - front)));
+        return front + Number(this.calls.nody_utf8_valid_up_to(this.address(this.start + front), BigInt(this.len - front)));
     }
 
     // The last offset, up to `at`, that lies in no character.
     boundary(at) {
-        return Number(this.calls.nody_shard_end(0, BigInt(this.start), BigInt(this.len), BigInt(at)));
+        return Number(this.calls.nody_shard_end(0, this.address(this.start), BigInt(this.len), BigInt(at)));
     }
 
     // A recoder that holds nothing, as the bytes of its struct.
     newRecoder(from, to) {
-        this.calls.nody_recoder(BigInt(this.recoder), from, to);
+        this.calls.nody_recoder(this.address(this.recoder), from, to);
         return this.memory.slice(this.recoder, this.recoder + RECODER);
     }
 
@@ -160,14 +169,14 @@ class Codec {
     // is passed over.)
     feed(state, source, chunks, { most = Infinity, isFatal = false } = {}) {
         const call = isFatal ? this.calls.nody_recoder_feed_strict : this.calls.nody_recoder_feed;
-        const [recoder, numbers, fault] = [BigInt(this.recoder), BigInt(this.numbers), BigInt(this.fault)];
-        const [part, made, room] = [BigInt(this.part), BigInt(this.made), BigInt(PART_ROOM)];
+        const [recoder, read, written, fault] = [this.recoder, this.numbers, this.numbers + 8, this.fault].map(this.address);
+        const [part, made, room] = [this.address(this.part), this.address(this.made), BigInt(PART_ROOM)];
         this.memory.set(state, this.recoder);
         let [at, status] = [0, 0];
         for (let total = 0; at < source.length && total < most && status !== FAULT; ) {
             const taken = source.subarray(at, at + PART);
             this.memory.set(taken, this.part);
-            status = call(recoder, part, BigInt(taken.length), made, room, numbers, numbers + 8n, fault);
+            status = call(recoder, part, BigInt(taken.length), made, room, read, written, fault);
             at += this.number(this.numbers);
             total += this.keep(chunks, this.number(this.numbers + 8));
         }
@@ -180,7 +189,8 @@ class Codec {
     finish(state, chunks, isFatal = false) {
         const call = isFatal ? this.calls.nody_recoder_finish_strict : this.calls.nody_recoder_finish;
         this.memory.set(state, this.recoder);
-        const status = call(BigInt(this.recoder), BigInt(this.made), BigInt(PART_ROOM), BigInt(this.numbers), BigInt(this.fault));
+        const [recoder, made, numbers, fault] = [this.recoder, this.made, this.numbers, this.fault].map(this.address);
+        const status = call(recoder, made, BigInt(PART_ROOM), numbers, fault);
         this.keep(chunks, this.number(this.numbers));
         state.set(this.memory.subarray(this.recoder, this.recoder + RECODER));
         return this.faultBefore(status, 0);
@@ -468,7 +478,7 @@ function recoderStream(from, to, options) {
     });
 }
 
-const file = require("node:path").join(__dirname, "noddychest.wasm");
+const file = require("node:path").join(__dirname, hasVectors() ? "noddychest-simd.wasm" : "noddychest.wasm");
 use(new WebAssembly.Instance(new WebAssembly.Module(require("node:fs").readFileSync(file))));
 
 module.exports = { Decoder, InvalidInputError, Recoder, firstInvalid, isValid, pieces, piecesBack, recode, recoderStream };

@@ -1,8 +1,10 @@
 // In a browser the module is fetched from beside this file; bundlers know this form of an address.
 import { use } from "./api.js";
+import { hasVectors } from "./codec.js";
 
-const answer = await fetch(new URL("noddychest.wasm", import.meta.url));
-if (!answer.ok) throw new Error(`noddychest: noddychest.wasm did not load (${answer.status})`);
+const address = hasVectors() ? new URL("noddychest-simd.wasm", import.meta.url) : new URL("noddychest.wasm", import.meta.url);
+const answer = await fetch(address);
+if (!answer.ok) throw new Error(`noddychest: ${address} did not load (${answer.status})`);
 const { instance } = await WebAssembly.instantiate(await answer.arrayBuffer());
 use(instance);
 

@@ -1,26 +1,41 @@
-// Prints for how many of 60,000 inputs the module with 64-bit memories and the lowered one answer otherwise. A node that has
-// such memories runs it.
+// Prints for how many of so many inputs two modules answer otherwise: both.js ONE OTHER COUNT. Each input is recoded between all forms,
+// lossy and strict, at once and in two parts, and split from the front, from both ends and at each place.
 import { readFileSync } from "node:fs";
 import { Codec, joined } from "../codec.js";
 import { chances, damaged } from "./help.js";
 
 const load = async (path) => new Codec((await WebAssembly.instantiate(readFileSync(new URL(path, import.meta.url)))).instance.exports);
-const codecs = await Promise.all(["../../generated/noddychest.wasm", "../noddychest.wasm"].map(load));
+const codecs = await Promise.all(process.argv.slice(2, 4).map(load));
+const count = Number(process.argv[4]);
 const chance = chances(5);
 
-function told(codec, bytes, word, from, to) {
+// What a recoder makes of two parts, and where a strict one stops.
+function inParts(codec, bytes, cut, from, to, isFatal) {
+    const [state, chunks] = [codec.newRecoder(from, to), []];
+    const stops = [bytes.subarray(0, cut), bytes.subarray(cut)].map((part) => codec.feed(state, part, chunks, { isFatal }));
+    return [stops, codec.finish(state, chunks, isFatal), codec.replacedBy(state), [...joined(chunks)]];
+}
+
+const FORMS = [0, 1, 2];
+
+function told(codec, bytes, word, cut) {
     codec.fill(bytes);
     const [run, left] = [codec.pieces(0, bytes.length), { front: 0, back: bytes.length }];
     const walk = [...word].map((it) => codec.step(it, left));
     const streamed = run.map((it) => codec.streamedAt(it.place));
     const ends = [codec.validUpTo(), codec.boundary(bytes.length >> 1)];
-    return JSON.stringify([run, walk, streamed, ends, codec.names, [...joined(codec.recode(from, to, bytes))]]);
+    const pairs = FORMS.flatMap((from) => FORMS.map((to) => [from, to]));
+    const recoded = pairs.map(([from, to]) => [false, true].map((isFatal) => inParts(codec, bytes, cut, from, to, isFatal)));
+    const whole = pairs.map(([from, to]) => [...joined(codec.recode(from, to, bytes))]);
+    return JSON.stringify([run, walk, streamed, ends, codec.names, recoded, whole]);
 }
 
+const text = new TextEncoder().encode("Hello, world. Grüße, déjà vu. Съешь ещё булок. 天地玄黄宇宙洪荒. 😀🎉🌍 नमस्ते. ".repeat(16));
 let differ = 0;
-for (let i = 0; i < 60000; i++) {
-    const bytes = damaged(chance, chance(i % 100 ? 24 : 3000));
-    const given = [bytes, Array.from({ length: 6 }, () => "FB"[chance(2)]).join(""), chance(3), chance(3)];
+for (let i = 0; i < count; i++) {
+    const rare = i % 3 ? undefined : damaged(chance, chance(9));
+    const bytes = rare ? Uint8Array.from([...text.subarray(chance(300), 300 + chance(900)), ...rare, ...text.subarray(0, chance(400))]) : damaged(chance, chance(i % 100 ? 24 : 3000));
+    const given = [bytes, Array.from({ length: 6 }, () => "FB"[chance(2)]).join(""), chance(bytes.length + 1)];
     differ += told(codecs[0], ...given) !== told(codecs[1], ...given);
 }
-console.log(`${differ} of 60000 differ`);
+console.log(`${differ} of ${count} differ`);

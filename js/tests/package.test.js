@@ -5,6 +5,7 @@ import { mkdtempSync, readFileSync, rmSync, writeFileSync } from "node:fs";
 import { tmpdir } from "node:os";
 import { fileURLToPath } from "node:url";
 import test from "node:test";
+import { hasVectors } from "../codec.js";
 
 const at = (path) => fileURLToPath(new URL(path, import.meta.url));
 const has = (command) => spawnSync(command, ["--version"]).status === 0;
@@ -13,12 +14,42 @@ const MEMORY64 = "process.exit(WebAssembly.validate(new Uint8Array([0, 0x61, 0x7
 const words = [[], ["--experimental-wasm-memory64"]].find((it) => spawnSync(process.execPath, [...it, "-e", MEMORY64]).status === 0);
 
 test("the module asks for nothing", () => {
-    const module = new WebAssembly.Module(readFileSync(at("../noddychest.wasm")));
-    assert.deepEqual(WebAssembly.Module.imports(module), []);
+    for (const it of ["../noddychest.wasm", "../noddychest-simd.wasm"]) {
+        if (it.includes("simd") && !hasVectors()) continue;
+        assert.deepEqual(WebAssembly.Module.imports(new WebAssembly.Module(readFileSync(at(it)))), []);
+    }
 });
 
 test("the lowered module answers as the one with 64-bit memories does", { skip: words ? false : "no node here with 64-bit memories" }, () => {
-    assert.equal(execFileSync(process.execPath, [...words, at("both.js")], { encoding: "utf8" }), "0 of 60000 differ\n");
+    const given = [at("both.js"), "../../generated/noddychest.wasm", "../noddychest.wasm", "6000"];
+    assert.equal(execFileSync(process.execPath, [...words, ...given], { encoding: "utf8" }), "0 of 6000 differ\n");
+});
+
+test("the module with vectors answers as the one without does", { skip: hasVectors() ? false : "no vectors in this node" }, () => {
+    const given = [at("both.js"), "../noddychest.wasm", "../noddychest-simd.wasm", "6000"];
+    assert.equal(execFileSync(process.execPath, given, { encoding: "utf8" }), "0 of 6000 differ\n");
+});
+
+test("multi3.c multiplies as the compiler does", { skip: needs("cc") }, () => {
+    const folder = mkdtempSync(`${tmpdir()}/noddychest-`);
+    try {
+        writeFileSync(`${folder}/try.c`, `#define __multi3 product\n#include "${at("../../generated/multi3.c")}"
+static half seed = 1;
+static half next(void) { half it = seed = seed * 6364136223846793005u + 1442695040888963407u; return it % 5 == 0 ? -(it >> 61) : it % 5 == 1 ? it >> 32 : it ^ it >> 29; }
+int main(void) {
+    for (int i = 0; i < 3000000; i++) {
+        half a = next(), b = next(), c = next(), d = next();
+        unsigned __int128 want = ((unsigned __int128)b << 64 | a) * ((unsigned __int128)d << 64 | c);
+        whole have = product(a, b, c, d);
+        if (have.low != (half)want || have.high != (half)(want >> 64)) return 1;
+    }
+    return 0;
+}\n`);
+        execFileSync("cc", ["-O1", "-o", `${folder}/try`, `${folder}/try.c`]);
+        execFileSync(`${folder}/try`);
+    } finally {
+        rmSync(folder, { recursive: true });
+    }
 });
 
 test("licences are those of the repository", () => {
