@@ -1,5 +1,5 @@
 // The page: what a person does, and what it then asks the module.
-import { Codec, FORMS, MOST, NONE, OK, SEEN, joined } from "./codec.js";
+import { Codec, FORMS, MOST, NONE, OK, SEEN, hasVectors, joined } from "./codec.js";
 import { Cut } from "./cut.js";
 import { bytesOf, offsetOf } from "./input.js";
 import { others } from "./others.js";
@@ -533,7 +533,7 @@ async function load(address) {
 
 async function start() {
     try {
-        codec = await load("noddychest.wasm");
+        codec = await load(hasVectors() ? "noddychest-simd.wasm" : "noddychest.wasm");
     } catch (error) {
         $("trouble").textContent = `The module did not load (${error.message}). Load the page again, and where that does not help, run page/build and serve page/out.`;
         return;
