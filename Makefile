@@ -19,12 +19,13 @@
 #   make check-cmake tests the build by CMake, and programs that find what it installs
 #   make check-windows
 #                    tests what `make CC=x86_64-w64-mingw32-gcc` builds, under wine
+#   make check-macho assembles for macOS, and compares that with the code for Linux instruction for instruction
 #   make clean       removes what was built
 #
 # CC, CPPFLAGS, CFLAGS and LDFLAGS are as usual; `make CC=aarch64-linux-gnu-gcc` builds for ARM. `make CC=x86_64-w64-mingw32-gcc` builds for
 # Windows: libnoddychest.a, noddychest.dll with its import library libnoddychest.dll.a, pieces.exe and recode.exe. On a Mac there come
-# libnoddychest.1.dylib, libnoddychest.a and the programs, for the other processor with CFLAGS='-O2 -arch x86_64' (python3 is needed). BUILD is the folder of what
-# is made. RUN stands before each program that `make check` runs, as `make check RUN=qemu-aarch64-static`; LANES is what nody_lanes()
+# libnoddychest.1.dylib, libnoddychest.a and the programs, for the other processor with CFLAGS='-O2 -arch x86_64' (python3 is needed).
+# BUILD is the folder of what is made. RUN stands before each program that `make check` runs, as `make check RUN=qemu-aarch64-static`; LANES is what nody_lanes()
 # has to answer there, 16 or 32.
 
 BUILD ?= build
