@@ -9,7 +9,7 @@ use Rattle.utf_base.specs.Scalar.{IsScalar}
 use Rattle.utf_base.specs.Units.{is_leading_surrogate, is_trailing_surrogate, is_surrogate}
 use Rattle.utf_base.proofs.Utf16Code.{pair_is_code, unit_is_code}
 use Rattle.utf_lanes.specs.BytePairs.{unit_of, units_of}
-use Rattle.utf_lanes.specs.UnitBlocks.{AllPaired, AreCodes}
+use Rattle.utf_lanes.specs.UnitBlocks.{AllPaired, AreCodes, AreFirstPaired}
 use Rattle.utf_lanes.proofs.UnitPairs.{unit_at}
 
 -- one more code
@@ -121,13 +121,13 @@ module _ (us : List ℕ) (fits : (k : ℕ) → get_or us k 0 < 0x1_0000) (first 
 
 -- The units of a front of the bytes.
 
-units_length : (high : Bool) (bytes : List ℕ) (n : ℕ) → 2 * n ≤ length bytes → n ≤ length (units_of high bytes)
+pub units_length : (high : Bool) (bytes : List ℕ) (n : ℕ) → 2 * n ≤ length bytes → n ≤ length (units_of high bytes)
 units_length high bytes zero le = omega arith
 units_length high [] (suc n) le = absurd (omega arith)
 units_length high (a ∷ []) (suc n) le = absurd (omega arith)
 units_length high (a ∷ b ∷ bytes) (suc n) le = let more = units_length high bytes n (omega arith) in omega arith
 
-units_front : (high : Bool) (bytes : List ℕ) (n : ℕ) → take n (units_of high bytes) ≡ units_of high (take (2 * n) bytes)
+pub units_front : (high : Bool) (bytes : List ℕ) (n : ℕ) → take n (units_of high bytes) ≡ units_of high (take (2 * n) bytes)
 units_front high bytes zero = refl
 units_front high [] (suc n) = let two : 2 * suc n ≡ suc (suc (2 * n)) = omega arith in rw two refl
 units_front high (a ∷ []) (suc n) = let two : 2 * suc n ≡ suc (suc (2 * n)) = omega arith in rw two refl
@@ -144,7 +144,7 @@ units_fit high (a ∷ b ∷ bytes) fits zero = unit_below high a b (fits 0).fits
 units_fit high (a ∷ b ∷ bytes) fits (suc k) = units_fit high bytes (λ j. fits (suc (suc j))) k
 
 -- the last unit before a place, as the code makes it
-before_end : (high : Bool) (bytes : List ℕ) (e : ℕ) → 1 ≤ e → 2 * e ≤ length bytes
+pub before_end : (high : Bool) (bytes : List ℕ) (e : ℕ) → 1 ≤ e → 2 * e ≤ length bytes
     → get_or (units_of high bytes) (e - 1) 0 ≡ unit_of high (get_or bytes (2 * e - 2) 0) (get_or bytes (2 * e - 1) 0)
 before_end high bytes e some le =
     let first : 2 * (e - 1) ≡ 2 * e - 2 = omega arith in
@@ -186,3 +186,17 @@ module _ (high : Bool) (bytes front : List ℕ) (count : ℕ) (few : count ≤ 8
       let pair : is_leading_surrogate (get_or (units_of high (take 16 bytes)) k 0) ≡ is_trailing_surrogate (get_or (units_of high (take 16 bytes)) (k + 1) 0)
       = subst (λ j. is_leading_surrogate (get_or (units_of high (take 16 bytes)) k 0) ≡ is_trailing_surrogate (get_or (0 ∷ units_of high (take 16 bytes)) j 0)) next (shifted (suc k) (omega arith) (omega arith)) in
       rw (same k (omega arith), same (k + 1) (omega arith)) at pair
+
+-- and so they are judged where they pair
+pub after_a_nul_pairs : (high : Bool) (bytes front : List ℕ) (count : ℕ) → count ≤ 8 → front ≡ 0 ∷ 0 ∷ take 16 bytes → AreFirstPaired (units_of high bytes) count → AllPaired (units_of high front) 1 (1 + count)
+after_a_nul_pairs high bytes front count few is pairs =
+    subst (λ us. AllPaired us 1 (1 + count)) (sym (ap (units_of high) is ∙ after_a_nul high (take 16 bytes))) shifted_back
+  where
+    at : (k : ℕ) → k < 8 → get_or (units_of high (take 16 bytes)) k 0 ≡ get_or (units_of high bytes) k 0
+    at k lt = ap (λ us. get_or us k 0) (sym (units_front high bytes 8)) ∙ get_or-take 8 (units_of high bytes) k 0 lt
+
+    shifted_back : AllPaired (0 ∷ units_of high (take 16 bytes)) 1 (1 + count)
+    shifted_back zero least most = rw (at 0 (omega arith)) (sym (pairs.first (omega arith)))
+    shifted_back (suc k) least most =
+        let next : suc k + 1 ≡ suc (k + 1) = omega arith in
+        rw (next, at k (omega arith), at (k + 1) (omega arith)) (pairs.paired k (omega arith) (omega arith))

@@ -1,5 +1,5 @@
 -- A few bytes as one vector: the first and the last of them, and where those are put.
-use Rattle.std.proofs.Common.{◌≡◌, ℕ, suc, ◌+◌, ◌-◌, ◌*◌, ◌/◌, ◌<◌, ◌≤◌, Bool, true, cond, ◌&&◌, ◌||◌, eqb, ltb, List, [], ◌∷◌, ◌++◌, length, get_or, take, replicate, arith, refl, sym, ap, subst, ◌∙◌, inl, inr, w8, eqb-true, ltb-true, length-take}
+use Rattle.std.proofs.Common.{◌≡◌, ◌↔◌, ℕ, suc, ◌+◌, ◌-◌, ◌*◌, ◌/◌, ◌<◌, ◌≤◌, Bool, true, cond, ◌&&◌, ◌||◌, eqb, ltb, List, [], ◌∷◌, ◌++◌, length, get_or, take, replicate, arith, refl, sym, ap, subst, ◌∙◌, inl, inr, w8, eqb-true, ltb-true, length-take}
 use Rattle.std.proofs.lemmas.Bool.{and_parts, cases_lt, lt-ltb, le-ltb}
 use Rattle.std.proofs.lemmas.List.{ext_get_or, get_or_append_left, get_or-append_right, get_or-replicate, get_or-take, length-replicate, length-append}
 use Rattle.std.proofs.lemmas.Simd.{Each1-from_get_or, swz_l, SwzOk, SwzOk-from_Each1, length-swz_l, get_or-swz_l, get_or-swz_l_below, get_or-chunk}
@@ -99,12 +99,13 @@ module _ (table : List (List ℕ)) (right : ArePast table) (i : ℕ) (few : i < 
 -- Lanes after NULs.
 pub past_follow : (here first second third : List ℕ) → ((k : ℕ) → k < 16 → get_or first k 0 ≡ get_or (0 ∷ 0 ∷ 0 ∷ here) (k + 2) 0)
     → ((k : ℕ) → k < 16 → get_or second k 0 ≡ get_or (0 ∷ 0 ∷ 0 ∷ here) (k + 1) 0) → ((k : ℕ) → k < 16 → get_or third k 0 ≡ get_or (0 ∷ 0 ∷ 0 ∷ here) k 0)
-    → (k : ℕ) → k < 16 → Follows (get_or third k 0) (get_or second k 0) (get_or first k 0) (get_or here k 0) → AllMayFollow (0 ∷ 0 ∷ 0 ∷ here) (3 + k) (3 + k + 1)
-past_follow here first second third f g h k lt follows j least most =
-    let at : k ≡ j = omega arith in
+    → (k : ℕ) → k < 16 → Follows (get_or third k 0) (get_or second k 0) (get_or first k 0) (get_or here k 0) ↔ AllMayFollow (0 ∷ 0 ∷ 0 ∷ here) (3 + k) (3 + k + 1)
+past_follow here first second third f g h k lt =
     let last : k + 3 ≡ suc (suc (suc k)) = omega arith in
-    let same : get_or (0 ∷ 0 ∷ 0 ∷ here) (k + 3) 0 ≡ get_or here k 0 = ap (λ n. get_or (0 ∷ 0 ∷ 0 ∷ here) n 0) last in
-    rw (f k lt, g k lt, h k lt, ← same, at) at follows
+    let same : get_or (0 ∷ 0 ∷ 0 ∷ here) (k + 3) 0 ≡ get_or here k 0 = ap (λ n. get_or (0 ∷ 0 ∷ 0 ∷ here) n 0) last in (
+      λ follows j least most. let at : k ≡ j = omega arith in rw (f k lt, g k lt, h k lt, ← same, at) at follows,
+      λ all. rw (f k lt, g k lt, h k lt, ← same) (all k (omega arith) (omega arith)),
+    )
 
 -- Where all lanes are ASCII, all bytes are: each is in some lane.
 pub ends_ascii : (w : ℕ) (v bytes : List ℕ) → w ≤ length bytes → length bytes ≤ w + w → w ≤ 8 → ((k : ℕ) → k < w + w → get_or v k 0 ≡ get_or bytes (end_place w (length bytes) k) 0)
@@ -119,4 +120,13 @@ ends_ascii w v bytes enough few narrow lanes low k least most =
           let at : length bytes - w + (r - w) ≡ k = omega arith in
           let same : get_or v r 0 ≡ get_or bytes k 0 = rw (le-ltb r w (omega arith), at) at (lanes r (omega arith)) in
           rw same at (low r (omega arith)))
+    ]
+
+-- Where all bytes are ASCII, the lanes that have them are.
+pub ascii_ends : (w : ℕ) (v bytes : List ℕ) → w ≤ length bytes → ((k : ℕ) → k < w + w → get_or v k 0 ≡ get_or bytes (end_place w (length bytes) k) 0)
+    → AreAscii bytes 0 (length bytes) → (k : ℕ) → k < w + w → get_or v k 0 < 0x80
+ascii_ends w v bytes enough lanes ascii k lt =
+    elim (cases_lt k w) [
+      | inl less ↦ (let same = rw (lt-ltb k w less) at (lanes k lt) in rw same (ascii k (omega arith) (omega arith)))
+      | inr more ↦ (let same = rw (le-ltb k w more) at (lanes k lt) in rw same (ascii (length bytes - w + (k - w)) (omega arith) (omega arith)))
     ]

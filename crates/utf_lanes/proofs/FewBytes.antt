@@ -51,7 +51,7 @@ module _ (xs : List ℕ) where
       let whole : take (length xs) ended ≡ xs = take_at xs (0 ∷ []) (length xs) refl in
       rw whole at (judged_text ended p (length xs) three le (omega (arith, long)) (rw front text) (begins p le first) (rw nul (λ high. absurd (omega arith))) (all_follow p all closed))
 
-nuls_ascii : (m : ℕ) → IsAscii (replicate m 0)
+pub nuls_ascii : (m : ℕ) → IsAscii (replicate m 0)
 nuls_ascii zero i = lit< tt
 nuls_ascii (suc m) zero = lit< tt
 nuls_ascii (suc m) (suc i) = nuls_ascii m i
@@ -114,7 +114,7 @@ module _ (xs : List ℕ) where
       let here : (i : ℕ) → i < 19 → get_or (0 ∷ 0 ∷ 0 ∷ take 16 xs) i 0 ≡ get_or (0 ∷ 0 ∷ 0 ∷ xs) i 0 = λ i lt. get_or-take 19 (0 ∷ 0 ∷ 0 ∷ xs) i 0 lt in
       rw (here k (omega arith), here (k + 1) (omega arith), here (k + 2) (omega arith), here (k + 3) (omega arith)) at (all k least (omega arith))
 
-  at_byte : (k : ℕ) → get_or (0 ∷ 0 ∷ 0 ∷ xs) (k + 3) 0 ≡ get_or xs k 0
+  pub at_byte : (k : ℕ) → get_or (0 ∷ 0 ∷ 0 ∷ xs) (k + 3) 0 ≡ get_or xs k 0
   at_byte k = let at : k + 3 ≡ suc (suc (suc k)) = omega arith in ap (λ n. get_or (0 ∷ 0 ∷ 0 ∷ xs) n 0) at
 
   pub follows_later : (i j : ℕ) → 3 ≤ i → AllMayFollow xs i j → AllMayFollow (0 ∷ 0 ∷ 0 ∷ xs) (i + 3) (j + 3)
@@ -124,6 +124,17 @@ module _ (xs : List ℕ) where
       let three : k - 3 + 2 + 3 ≡ k + 2 = omega arith in
       let four : k - 3 + 3 + 3 ≡ k + 3 = omega arith in
       rw (← at_byte (k - 3), ← at_byte (k - 3 + 1), ← at_byte (k - 3 + 2), ← at_byte (k - 3 + 3), four, one, two, three) at (all (k - 3) (omega arith) (omega arith))
+
+  pub first_follows : (n : ℕ) → n ≤ 16 → AllMayFollow (0 ∷ 0 ∷ 0 ∷ xs) 3 (n + 3) → AllMayFollow (0 ∷ 0 ∷ 0 ∷ take 16 xs) 3 (3 + n)
+  first_follows n few all k least most =
+      let here : (i : ℕ) → i < 19 → get_or (0 ∷ 0 ∷ 0 ∷ take 16 xs) i 0 ≡ get_or (0 ∷ 0 ∷ 0 ∷ xs) i 0 = λ i lt. get_or-take 19 (0 ∷ 0 ∷ 0 ∷ xs) i 0 lt in
+      rw (here k (omega arith), here (k + 1) (omega arith), here (k + 2) (omega arith), here (k + 3) (omega arith)) (all k least (omega arith))
+
+  pub later_follows : (n : ℕ) → AllMayFollow (0 ∷ 0 ∷ 0 ∷ xs) 3 (n + 3) → AllMayFollow xs 3 n
+  later_follows n all k least most =
+      let one : k + 1 + 3 ≡ k + 3 + 1 = omega arith in
+      let two : k + 2 + 3 ≡ k + 3 + 2 = omega arith in
+      rw (← at_byte k, ← at_byte (k + 1), ← at_byte (k + 2), ← at_byte (k + 3), one, two) (all (k + 3) (omega arith) (omega arith))
 
   -- to a place at which a code begins
   pub text_to : (p end : ℕ) → p < end → end ≤ length xs → Begins xs p → AllMayFollow (0 ∷ 0 ∷ 0 ∷ xs) 3 (end + 3) → IsUtf8 (take p xs)

@@ -1,8 +1,8 @@
 -- The lanes of a vector, as many as it has, and what they say of the bytes that were loaded.
-use Rattle.std.proofs.Common.{◌≡◌, ℕ, ◌+◌, ◌-◌, ◌/◌, ◌%◌, ◌^◌, ◌<◌, ◌≤◌, Bool, true, false, not, cond, eqb, leb, ltb, List, map, length, get_or, replicate, bit_and, bit_or, bit_xor, refl, sym, ap, ◌∙◌, inl, inr, arith, lit<, w8, Fits, eqb-true, leb-false, ltb-true, ltb-false}
-use Rattle.std.proofs.lemmas.Bool.{cases_lt}
-use Rattle.std.proofs.lemmas.List.Sums.{prefix_len_passes, prefix_len-le-length}
-use Rattle.std.proofs.lemmas.Nat.{and_le_r, le_or_l, le_or_r}
+use Rattle.std.proofs.Common.{◌≡◌, ◌↔◌, ℕ, ◌+◌, ◌-◌, ◌/◌, ◌%◌, ◌^◌, ◌<◌, ◌≤◌, Bool, true, false, not, cond, eqb, leb, ltb, List, [], ◌∷◌, suc, map, length, get_or, replicate, bit_and, bit_or, bit_xor, refl, sym, ap, ap₂, ◌∙◌, subst, true≢false, inl, inr, arith, lit<, w8, Fits, eqb-true, eq-eqb, leb-false, ltb-true, ltb-false}
+use Rattle.std.proofs.lemmas.Bool.{cases_lt, lt-leb}
+use Rattle.std.proofs.lemmas.List.Sums.{prefix_len_passes, prefix_len_stops, prefix_len-le-length}
+use Rattle.std.proofs.lemmas.Nat.{and_le_r, le_or_l, le_or_r, or_lt}
 use Rattle.std.proofs.lemmas.Nat.Bits.{and_pow, bit_at_or}
 use Rattle.std.proofs.lemmas.Simd.{Each1-get_or, length-zip2, get_or-zip2, get_or-replicate, get_or-chunk, length-chunk, length-sel_l, get_or-sel_l, tops_compared, bitmask_splat, zip2_splat, zip2_splat_left, leading_from_mask_l, trailing_mask_l, length-replicate}
 use Rattle.std.specs.List.{prefix_len}
@@ -137,10 +137,19 @@ has_to_fourth a b A B high =
 
 lane_follows : (a b : ℕ) {c d left : ℕ} → a < 256 → b < 256 → IsPair c d left → bit_xor (has_to a b) left ≡ 0 → Follows a b c d
 lane_follows a b A B pair none = record {
-  early = λ low middle. pair.early (rw (has_to_not a b low middle) at none);
-  third = λ high. pair.late (rw (has_to_third a b A B high) at none);
-  fourth = λ high. pair.late (rw (has_to_fourth a b A B high) at none);
+  early = λ low middle. pair.early.0 (rw (has_to_not a b low middle) at none);
+  third = λ high. pair.late.0 (rw (has_to_third a b A B high) at none);
+  fourth = λ high. pair.late.0 (rw (has_to_fourth a b A B high) at none);
 }
+
+follows_lane : (a b : ℕ) {c d left : ℕ} → a < 256 → b < 256 → IsPair c d left → Follows a b c d → bit_xor (has_to a b) left ≡ 0
+follows_lane a b A B pair f = elim (cases_lt a 0xF0) [
+  | inr high ↦ rw (has_to_fourth a b A B high) (pair.late.1 (f.fourth high))
+  | inl low ↦ elim (cases_lt b 0xE0) [
+    | inr high ↦ rw (has_to_third a b A B high) (pair.late.1 (f.third high))
+    | inl middle ↦ rw (has_to_not a b low middle) (pair.early.1 (f.early low middle))
+  ]
+]
 
 -- The lanes of the bytes two and three places before.
 
@@ -174,26 +183,41 @@ module _ {n : ℕ} (third second : List ℕ) (T : IsVector n third) (S : IsVecto
       ) refl
 
   pub faultless_follows : (first here : List ℕ) → ArePairsLeft first here left → ZeroLanesFollow third second first here faults
-  faultless_follows first here pairs k less none =
+  faultless_follows first here pairs k less =
       let lt : k < n = omega (arith, faults_len) in
-      lane_follows _ _ (lane_fits third k T lt) (lane_fits second k S lt) (pairs k (omega (arith, long))) (sym (fault_at k lt) ∙ none)
+      let pair = pairs k (omega (arith, long)) in (
+        λ none. lane_follows _ _ (lane_fits third k T lt) (lane_fits second k S lt) pair (sym (fault_at k lt) ∙ none),
+        λ follows. fault_at k lt ∙ follows_lane _ _ (lane_fits third k T lt) (lane_fits second k S lt) pair follows,
+      )
 
 -- Four loads, each one byte before the last.
 module _ (n : ℕ) (bytes : List ℕ) (place : ℕ) (start : 3 ≤ place) where
-  pub loaded_follow : (k : ℕ) → k < n → Follows (get_or (chunk (place - 3) n bytes) k 0) (get_or (chunk (place - 2) n bytes) k 0) (get_or (chunk (place - 1) n bytes) k 0) (get_or (chunk place n bytes) k 0)
-      → AllMayFollow bytes (place + k) (place + k + 1)
-  loaded_follow k lt follows j least most =
+  abbrev loaded : ℕ → Type 0
+  loaded k = Follows (get_or (chunk (place - 3) n bytes) k 0) (get_or (chunk (place - 2) n bytes) k 0) (get_or (chunk (place - 1) n bytes) k 0) (get_or (chunk place n bytes) k 0)
+
+  loaded_at : (k j : ℕ) → k < n → place + k ≡ j + 3 → loaded k ≡ Follows (get_or bytes j 0) (get_or bytes (j + 1) 0) (get_or bytes (j + 2) 0) (get_or bytes (j + 3) 0)
+  loaded_at k j lt three =
       let zero : place - 3 + k ≡ j = omega arith in
       let one : place - 2 + k ≡ j + 1 = omega arith in
       let two : place - 1 + k ≡ j + 2 = omega arith in
-      let three : place + k ≡ j + 3 = omega arith in
-      rw (get_or-chunk (place - 3) n bytes k 0 lt, get_or-chunk (place - 2) n bytes k 0 lt, get_or-chunk (place - 1) n bytes k 0 lt, get_or-chunk place n bytes k 0 lt, zero, one, two, three) at follows
+      rw (get_or-chunk (place - 3) n bytes k 0 lt, get_or-chunk (place - 2) n bytes k 0 lt, get_or-chunk (place - 1) n bytes k 0 lt, get_or-chunk place n bytes k 0 lt, zero, one, two, three) refl
+
+  pub loaded_follow : (k : ℕ) → k < n → loaded k ↔ AllMayFollow bytes (place + k) (place + k + 1)
+  loaded_follow k lt = (
+    λ follows j least most. subst (λ t. t) (loaded_at k j lt (omega arith)) follows,
+    λ all. subst (λ t. t) (sym (loaded_at k (place + k - 3) lt (omega arith))) (all (place + k - 3) (omega arith) (omega arith)),
+  )
 
 -- Masks.
 
 not_not : (b : Bool) → not (not b) ≡ true → b ≡ true
 not_not true e = refl
 not_not false e = e
+
+-- where no lane passes a test, no bit is set
+pub mask_none : (p : ℕ → Bool) (v : List ℕ) → ((k : ℕ) → k < length v → p (get_or v k 0) ≡ false) → mask_l (map p v) ≡ 0
+mask_none p [] none = refl
+mask_none p (x ∷ v) none = rw (none 0 (omega arith), mask_none p v (λ k lt. none (suc k) (omega arith))) refl
 
 -- before the first lane that is not 0, each is
 pub zero_before : (v : List ℕ) (k : ℕ) → k < prefix_len (λ x. not (not (eqb x 0))) v → get_or v k 0 ≡ 0
@@ -211,12 +235,29 @@ module _ {n : ℕ} (v : List ℕ) (few : n ≤ 64) (long : length v ≡ n) where
       let all = leading_from_mask_l (λ x. not (eqb x 0)) v (sym differ_mask_is ∙ none) in
       zero_before v k (omega (arith, all, long))
 
+  pub all_same : ((k : ℕ) → k < n → get_or v k 0 ≡ 0) → differ_mask n v ≡ 0
+  all_same each = differ_mask_is ∙ mask_none (λ x. not (eqb x 0)) v (λ k lt. ap not (eq-eqb (get_or v k 0) 0 (each k (omega (arith, long)))))
+
   pub first_differs : (r : ℕ) → (differ_mask n v ≡ 0 → ⊥) → r ≡ count_trailing_zeros 64 (differ_mask n v) → (r ≤ n) × ((k : ℕ) → k < r → get_or v k 0 ≡ 0)
   first_differs r some e =
       let mask = differ_mask_is in
       let first = trailing_mask_l (λ x. not (eqb x 0)) 64 v (omega (arith, long)) (omega (arith, mask)) in
       let at : r ≡ prefix_len (λ x. not (not (eqb x 0))) v = rw mask at e ∙ first in
       (omega (arith, at, prefix_len-le-length (λ x. not (not (eqb x 0))) v, long), λ k lt. zero_before v k (omega (arith, at)))
+
+  -- and it is not 0
+  pub differs_first : (r : ℕ) → (differ_mask n v ≡ 0 → ⊥) → r ≡ count_trailing_zeros 64 (differ_mask n v) → (r < n) × (get_or v r 0 ≡ 0 → ⊥)
+  differs_first r some e =
+      let mask = differ_mask_is in
+      let first = trailing_mask_l (λ x. not (eqb x 0)) 64 v (omega (arith, long)) (omega (arith, mask)) in
+      let at : r ≡ prefix_len (λ x. not (not (eqb x 0))) v = rw mask at e ∙ first in
+      let each = first_differs r some e in
+      let less : r < n = elim (cases_lt r n) [ inl lt ↦ lt | inr ge ↦ absurd (some (all_same (λ k lt. each.1 k (omega arith)))) ] in (
+        less,
+        λ zero.
+            let stops : not (not (eqb (get_or v r 0) 0)) ≡ false = ap (λ k. not (not (eqb (get_or v k 0) 0))) at ∙ prefix_len_stops (λ x. not (not (eqb x 0))) v 0 (omega (arith, at, long)) in
+            true≢false (sym (ap (λ t. not (not t)) (eq-eqb (get_or v r 0) 0 zero)) ∙ stops),
+      )
 
 abbrev at_most : ℕ → ℕ → ℕ
 at_most a b = cond (leb a b) 255 0
@@ -232,13 +273,20 @@ not_reached y x e = leb-false y x (flip (leb y x) e)
     flip true e = sym e
     flip false e = refl
 
-pub none_reach : {n : ℕ} (y : ℕ) (v : List ℕ) → n ≤ 64 → length v ≡ n → reach_mask n y v ≡ 0 → (k : ℕ) → k < n → get_or v k 0 < y
-none_reach {n} y v few long none k lt =
-    let turned : zip2 at_most (replicate n y) v ≡ zip2 (λ a b. at_most b a) v (replicate n y)
-    = zip2_splat_left at_most y n v long ∙ sym (zip2_splat (λ a b. at_most b a) v n y long) in
-    let mask : reach_mask n y v ≡ mask_l (map (λ x. leb y x) v) = rw turned (bitmask_splat w8 (λ a b. leb b a) v n y long few) in
-    let all : prefix_len (λ x. not (leb y x)) v ≡ length v = leading_from_mask_l (λ x. leb y x) v (sym mask ∙ none) in
-    not_reached y (get_or v k 0) (prefix_len_passes (λ x. not (leb y x)) v k 0 (omega (arith, all, long)))
+module _ {n : ℕ} (y : ℕ) (v : List ℕ) (few : n ≤ 64) (long : length v ≡ n) where
+  reach_mask_is : reach_mask n y v ≡ mask_l (map (λ x. leb y x) v)
+  reach_mask_is =
+      let turned : zip2 at_most (replicate n y) v ≡ zip2 (λ a b. at_most b a) v (replicate n y)
+      = zip2_splat_left at_most y n v long ∙ sym (zip2_splat (λ a b. at_most b a) v n y long) in
+      rw turned (bitmask_splat w8 (λ a b. leb b a) v n y long few)
+
+  pub none_reach : reach_mask n y v ≡ 0 → (k : ℕ) → k < n → get_or v k 0 < y
+  none_reach none k lt =
+      let all : prefix_len (λ x. not (leb y x)) v ≡ length v = leading_from_mask_l (λ x. leb y x) v (sym reach_mask_is ∙ none) in
+      not_reached y (get_or v k 0) (prefix_len_passes (λ x. not (leb y x)) v k 0 (omega (arith, all, long)))
+
+  pub reach_none : ((k : ℕ) → k < n → get_or v k 0 < y) → reach_mask n y v ≡ 0
+  reach_none low = reach_mask_is ∙ mask_none (λ x. leb y x) v (λ k lt. lt-leb y (get_or v k 0) (low k (omega (arith, long))))
 
 -- Some vectors at once: no lane of one is greater than that of all.
 
@@ -261,6 +309,13 @@ module _ {n : ℕ} (p q : List ℕ) (few : n ≤ 64) (lp : length p ≡ n) (lq :
       let le = either_le p q lp lq k lt in
       (omega (arith, le.0), omega (arith, le.1))
 
+  low_both : ((k : ℕ) → k < n → (get_or p k 0 < 0x80) × (get_or q k 0 < 0x80)) → reach_mask n 0x80 (zip2 bit_or p q) ≡ 0
+  low_both low = reach_none 0x80 (zip2 bit_or p q) few (wide bit_or p q lp lq)
+      (λ k lt. let or = or_lt 7 (get_or p k 0) (get_or q k 0) (low k lt).0 (low k lt).1 in omega (arith, lane bit_or p q lp lq k lt, or))
+
+  pub zero_both : ((k : ℕ) → k < n → (get_or p k 0 ≡ 0) × (get_or q k 0 ≡ 0)) → differ_mask n (zip2 bit_or p q) ≡ 0
+  zero_both zero = all_same (zip2 bit_or p q) few (wide bit_or p q lp lq) (λ k lt. lane bit_or p q lp lq k lt ∙ ap₂ bit_or (zero k lt).0 (zero k lt).1)
+
 pub all_zero : {n : ℕ} (p q r s : List ℕ) → n ≤ 64 → length p ≡ n → length q ≡ n → length r ≡ n → length s ≡ n → differ_mask n (zip2 bit_or (zip2 bit_or p q) (zip2 bit_or r s)) ≡ 0
     → (k : ℕ) → k < n → (get_or p k 0 ≡ 0) × (get_or q k 0 ≡ 0) × (get_or r k 0 ≡ 0) × (get_or s k 0 ≡ 0)
 all_zero p q r s few lp lq lr ls none k lt =
@@ -278,6 +333,13 @@ loads_low n bytes place few within none k lt =
       | inl a ↦ rw (get_or-chunk place n bytes k 0 a) at (low k a).0
       | inr a ↦ (let at : place + n + (k - n) ≡ place + k = omega arith in rw (get_or-chunk (place + n) n bytes (k - n) 0 (omega arith), at) at (low (k - n) (omega arith)).1)
     ]
+
+pub low_loads : (n : ℕ) (bytes : List ℕ) (place : ℕ) → n ≤ 64 → place + (n + n) ≤ length bytes → ((k : ℕ) → k < n + n → get_or bytes (place + k) 0 < 0x80)
+    → reach_mask n 0x80 (zip2 bit_or (chunk place n bytes) (chunk (place + n) n bytes)) ≡ 0
+low_loads n bytes place few within low =
+    low_both (chunk place n bytes) (chunk (place + n) n bytes) few (length-chunk place n bytes (omega arith)) (length-chunk (place + n) n bytes (omega arith)) (λ k lt.
+    let at : place + n + k ≡ place + (n + k) = omega arith in
+    (rw (get_or-chunk place n bytes k 0 lt) (low k (omega arith)), rw (get_or-chunk (place + n) n bytes k 0 lt, at) (low (n + k) (omega arith))))
 
 -- Bytes that may follow, one part after another.
 

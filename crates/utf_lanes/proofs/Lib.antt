@@ -16,11 +16,13 @@ pub mod LaterPlaces
 pub mod LookUps
 pub mod NoneBegins
 pub mod PairTables
+pub mod PairedCodes
 pub mod PairedUnits
 pub mod PassedLanes
 pub mod SameLanes
 pub mod SlotLanes
 pub mod SwappedBytes
+pub mod TextFollows
 pub mod TextUnits
 pub mod UnitBytes
 pub mod UnitLanes

@@ -1,6 +1,6 @@
 -- Three tables that judge a byte after the one before it, computed at each byte and each upper half of the next.
-use Rattle.std.proofs.Common.{◌≡◌, ℕ, zero, suc, ◌-◌, ◌/◌, ◌<◌, Bool, true, not, ◌&&◌, ◌||◌, eqb, ltb, leb, List, get_or, bit_and, bit_xor, arith, subst, inl, inr, eq-zero-or-pos, ltb-true, leb-true, eq-eqb}
-use Rattle.std.proofs.lemmas.Bool.{and_parts, or_cases}
+use Rattle.std.proofs.Common.{◌≡◌, ℕ, zero, suc, ◌-◌, ◌/◌, ◌<◌, Bool, true, false, not, if◌then◌else◌, ◌&&◌, ◌||◌, eqb, ltb, leb, List, get_or, bit_and, bit_xor, arith, refl, sym, ◌∙◌, subst, inl, inr, eq-zero-or-pos, ltb-true, leb-true, eqb-true, eq-eqb, ne_eqb, le-leb, lt-ltb}
+use Rattle.std.proofs.lemmas.Bool.{and_from, and_parts, cases_eq, cases_lt, or_cases, or_left, or_right}
 use Rattle.utf_lanes.specs.TextBlocks.{IsContinuation, MayBegin, MayFollow, IsPair}
 
 abbrev pub each_below : (ℕ → Bool) → ℕ → Bool
@@ -34,19 +34,28 @@ late_half c h = (leb 0x80 c && ltb c 0xC0) && (leb 8 h && ltb h 12)
 abbrev left_of : List ℕ → List ℕ → List ℕ → ℕ → ℕ → ℕ
 left_of high low here c h = bit_and (bit_and (get_or high (c / 16) 0) (get_or low (bit_and c 15) 0)) (get_or here h 0)
 
+abbrev agrees : Bool → Bool → Bool
+agrees a b = if a then b else not b
+
 abbrev is_right : List ℕ → List ℕ → List ℕ → ℕ → ℕ → Bool
 is_right high low here c h =
-    (not (eqb (bit_xor 0 (left_of high low here c h)) 0) || early_half c h) && (not (eqb (bit_xor 0x80 (left_of high low here c h)) 0) || late_half c h)
+    agrees (eqb (bit_xor 0 (left_of high low here c h)) 0) (early_half c h) && agrees (eqb (bit_xor 0x80 (left_of high low here c h)) 0) (late_half c h)
 
 -- the tables are right at each byte and each upper half
 abbrev pub AreRight : List ℕ → List ℕ → List ℕ → Type 0
 AreRight high low here = each_below (λ c. each_below (is_right high low here c) 16) 256 ≡ true
 
-implied : (x : ℕ) (b : Bool) → (not (eqb x 0) || b) ≡ true → x ≡ 0 → b ≡ true
-implied x b h e = rw (eq-eqb x 0 e) at h
+the_same : (a b : Bool) → agrees a b ≡ true → a ≡ b
+the_same true true e = refl
+the_same true false e = sym e
+the_same false true e = e
+the_same false false e = refl
 
 implied_at : (c n : ℕ) (b : Bool) → (not (eqb c n) || b) ≡ true → c ≡ n → b ≡ true
 implied_at c n b h e = rw (eq-eqb c n e) at h
+
+holds_at : (c n : ℕ) (b : Bool) → (c ≡ n → b ≡ true) → (not (eqb c n) || b) ≡ true
+holds_at c n b f = elim (cases_eq c n) [ inl e ↦ rw (eq-eqb c n e) (f e) | inr other ↦ rw (ne_eqb c n other) refl ]
 
 module _ (c d : ℕ) where
   from_second : second_half c (d / 16) ≡ true → MayBegin c d
@@ -95,12 +104,40 @@ module _ (c d : ℕ) where
       let high = ltb-true (d / 16) 12 r.1 in
       ((leb-true 0x80 c q.0, ltb-true c 0xC0 q.1), (omega arith, omega arith))
 
+  to_second : MayBegin c d → second_half c (d / 16) ≡ true
+  to_second m =
+      let second = m.second in
+      and_from _ _ (and_from _ _ (le-leb 0xC2 c m.least) (lt-ltb c 0xF5 m.most))
+      (and_from _ _ (and_from _ _ (le-leb 8 (d / 16) (omega arith)) (lt-ltb (d / 16) 12 (omega arith)))
+      (and_from _ _
+      (and_from _ _ (holds_at c 0xE0 _ (λ at. let g = m.three at in le-leb 10 (d / 16) (omega arith))) (holds_at c 0xED _ (λ at. let g = m.surrogate at in lt-ltb (d / 16) 10 (omega arith))))
+      (and_from _ _ (holds_at c 0xF0 _ (λ at. let g = m.four at in le-leb 9 (d / 16) (omega arith))) (holds_at c 0xF4 _ (λ at. let g = m.high at in lt-ltb (d / 16) 9 (omega arith))))))
+
+  to_early : MayFollow c d → early_half c (d / 16) ≡ true
+  to_early m = elim (cases_lt c 0xC0) [
+    | inl low ↦ or_left _ _ (and_from _ _ (lt-ltb c 0xC0 low) (elim (cases_lt d 0x80) [
+      | inl ascii ↦ or_left _ _ (lt-ltb (d / 16) 8 (omega arith))
+      | inr high ↦ (let g = m.first low high in or_right _ _ (le-leb 12 (d / 16) (omega arith)))
+    ]))
+    | inr high ↦ or_right _ _ (and_from _ _ (le-leb 0xC0 c high) (to_second (m.second high)))
+  ]
+
+  to_late : IsContinuation c × IsContinuation d → late_half c (d / 16) ≡ true
+  to_late m =
+      let first = m.0 in
+      let second = m.1 in
+      and_from _ _ (and_from _ _ (le-leb 0x80 c first.0) (lt-ltb c 0xC0 first.1)) (and_from _ _ (le-leb 8 (d / 16) (omega arith)) (lt-ltb (d / 16) 12 (omega arith)))
+
 -- so they judge each byte after each
 pub tables_judge : (high low here : List ℕ) → AreRight high low here → (c d : ℕ) → c < 256 → d < 256 → IsPair c d (left_of high low here c (d / 16))
 tables_judge high low here right c d C D =
     let e = at_each (is_right high low here c) 16 (at_each (λ x. each_below (is_right high low here x) 16) 256 right c C) (d / 16) (omega arith) in
-    let p = and_parts (not (eqb (bit_xor 0 (left_of high low here c (d / 16))) 0) || early_half c (d / 16)) _ e in
+    let none = bit_xor 0 (left_of high low here c (d / 16)) in
+    let last = bit_xor 0x80 (left_of high low here c (d / 16)) in
+    let p = and_parts (agrees (eqb none 0) (early_half c (d / 16))) _ e in
+    let early = the_same (eqb none 0) (early_half c (d / 16)) p.0 in
+    let late = the_same (eqb last 0) (late_half c (d / 16)) p.1 in
     record {
-      early = λ z. from_early c d (implied _ _ p.0 z);
-      late = λ z. from_late c d (implied _ _ p.1 z);
+      early = (λ z. from_early c d (sym early ∙ eq-eqb none 0 z), λ m. eqb-true none 0 (early ∙ to_early c d m));
+      late = (λ z. from_late c d (sym late ∙ eq-eqb last 0 z), λ m. eqb-true last 0 (late ∙ to_late c d m));
     }

@@ -1,11 +1,12 @@
 -- Units that pair with the one before them: what lanes say of them, and that they are codes.
-use Rattle.std.proofs.Common.{◌≡◌, ℕ, zero, suc, ◌+◌, ◌-◌, ◌*◌, ◌/◌, ◌<◌, ◌≤◌, Bool, true, false, cond, eqb, ◌∷◌, [], List, length, get_or, bit_and, bit_xor, refl, sym, ap, inl, inr, arith, lit<, w8, Fits, eqb-true}
+use Rattle.std.proofs.Common.{◌≡◌, ℕ, zero, suc, ◌+◌, ◌-◌, ◌*◌, ◌/◌, ◌<◌, ◌≤◌, Bool, true, false, cond, eqb, ◌∷◌, [], List, length, get_or, bit_and, bit_xor, refl, sym, ap, ◌∙◌, ◌%◌, inl, inr, arith, lit<, w8, Fits, eqb-true}
 use Rattle.std.proofs.lemmas.Bool.{cases_lt}
 use Rattle.std.proofs.lemmas.Grind.{common_steps}
+use Rattle.std.proofs.lemmas.Nat.{and_le_r}
 use Rattle.std.proofs.lemmas.Simd.{get_or-chunk, length-chunk}
 use lib.Lanes.{zip2, chunk}
 use Rattle.utf_base.specs.Units.{is_leading_surrogate, is_trailing_surrogate}
-use Rattle.utf_lanes.specs.BytePairs.{unit_of, units_of, high_byte, high_place}
+use Rattle.utf_lanes.specs.BytePairs.{unit_of, units_of, high_byte, low_byte, high_place}
 use Rattle.utf_lanes.specs.Lanes.{AreLanes, ones_where}
 use Rattle.utf_lanes.specs.UnitBlocks.{AllPaired, ZerosPair}
 use Rattle.utf_lanes.proofs.LaneLemmas.{lane}
@@ -39,6 +40,12 @@ agree false false e = refl
 agree true false e = cc
 agree false true e = cc
 
+none_left : (s t : Bool) → s ≡ t → bit_xor (cond t 255 0) (cond s 255 0) ≡ 0
+none_left true true e = refl
+none_left false false e = refl
+none_left true false e = cc
+none_left false true e = cc
+
 place_below : (h : Bool) → high_place h < 2
 place_below true = lit< tt
 place_below false = lit< tt
@@ -65,28 +72,44 @@ module _ (high : Bool) (bytes : List ℕ) (fits : (k : ℕ) → Fits w8 (get_or 
     abbrev before : List ℕ
     before = zip2 bit_and (chunk (2 * place - 2) 16 bytes) bits
 
+    -- what the two lanes of a high byte leave
+    abbrev left : ℕ → ℕ
+    left j = bit_xor (cond (is_trailing_surrogate (get_or (units_of high bytes) (j + 1) 0)) 255 0) (cond (is_leading_surrogate (get_or (units_of high bytes) j 0)) 255 0)
+
     masked : (n i k : ℕ) → n + 16 ≤ length bytes → i ≡ 2 * k + high_place high → k < 8 → i < 16 → get_or (zip2 bit_and (chunk n 16 bytes) bits) i 0 ≡ bit_and (get_or bytes (n + i) 0) 0xFC
     masked n i k room at lt inside =
         rw (lane bit_and (chunk n 16 bytes) bits (length-chunk n 16 bytes room) long i inside, get_or-chunk n 16 bytes i 0 inside) (ap (bit_and (get_or bytes (n + i) 0)) (rw (sym at) at (upper_six k lt)))
 
-    pub lanes_pair : {xs ys : List ℕ} → AreLanes xs (ones_where 255 here 0xDC) → AreLanes ys (ones_where 255 before 0xD8) → ZerosPair (units_of high bytes) place (high_byte high (zip2 bit_xor xs ys))
-    lanes_pair {xs} {ys} x y k lt none j least most =
-        let below = place_below high in
-        let i = 2 * k + high_place high in
-        let inside : i < 16 = omega arith in
-        let t = trails_at high (j + 1) (2 * place + i) (omega arith) (omega arith) in
-        let l = leads_at high j (2 * place - 2 + i) (omega arith) (omega arith) in
-        let e : bit_xor (cond (is_trailing_surrogate (get_or (units_of high bytes) (j + 1) 0)) 255 0) (cond (is_leading_surrogate (get_or (units_of high bytes) j 0)) 255 0) ≡ 0
-        = rw (
-          lane bit_xor xs ys x.wide y.wide i inside,
-          x.each i inside,
-          y.each i inside,
-          masked (2 * place) i k (omega arith) refl lt inside,
-          masked (2 * place - 2) i k (omega arith) refl lt inside,
-          t,
-          l,
-        ) at none in
-        agree _ _ e
+    module _ {xs ys : List ℕ} (x : AreLanes xs (ones_where 255 here 0xDC)) (y : AreLanes ys (ones_where 255 before 0xD8)) where
+      lane_leaves : (k j : ℕ) → k < 8 → place + k ≡ j + 1 → high_byte high (zip2 bit_xor xs ys) k ≡ left j
+      lane_leaves k j lt at =
+          let below = place_below high in
+          let i = 2 * k + high_place high in
+          let inside : i < 16 = omega arith in
+          rw (
+            lane bit_xor xs ys x.wide y.wide i inside,
+            x.each i inside,
+            y.each i inside,
+            masked (2 * place) i k (omega arith) refl lt inside,
+            masked (2 * place - 2) i k (omega arith) refl lt inside,
+            trails_at high (j + 1) (2 * place + i) (omega arith) (omega arith),
+            leads_at high j (2 * place - 2 + i) (omega arith) (omega arith),
+          ) refl
+
+      pub lanes_pair : ZerosPair (units_of high bytes) place (high_byte high (zip2 bit_xor xs ys))
+      lanes_pair k lt = (
+        λ none j least most. agree _ _ (sym (lane_leaves k j lt (omega arith)) ∙ none),
+        λ pair. lane_leaves k (place + k - 1) lt (omega arith) ∙ none_left _ _ (pair (place + k - 1) (omega arith) (omega arith)),
+      )
+
+      -- the lanes of low bytes are 0
+      pub low_lanes : ((k : ℕ) → k < 8 → low_byte high bits k ≡ 0) → (k : ℕ) → k < 8 → low_byte high (zip2 bit_xor xs ys) k ≡ 0
+      low_lanes none k lt =
+          let i = 2 * k + (1 - high_place high) in
+          let inside : i < 16 = omega arith in
+          let nothing : (n : ℕ) → n + 16 ≤ length bytes → get_or (zip2 bit_and (chunk n 16 bytes) bits) i 0 ≡ 0
+          = λ n room. let most = and_le_r (get_or (chunk n 16 bytes) i 0) (get_or bits i 0) in omega (arith, lane bit_and (chunk n 16 bytes) bits (length-chunk n 16 bytes room) long i inside, most, none k lt) in
+          rw (lane bit_xor xs ys x.wide y.wide i inside, x.each i inside, y.each i inside, nothing (2 * place) (omega arith), nothing (2 * place - 2) (omega arith)) refl
 
 -- Units that pair, one part after another.
 
@@ -103,4 +126,20 @@ pair_more us i j n m at front each = rw at at (pair_on us i j (j + n) front (pai
 -- none before the first lane that is not 0
 pub pair_before : (high : Bool) (us v : List ℕ) (i r : ℕ) → r ≤ 16 → ((k : ℕ) → k < r → get_or v k 0 ≡ 0)
     → ZerosPair us i (high_byte high v) → AllPaired us i (i + r / 2)
-pair_before high us v i r most none each = pair_lanes us i (r / 2) (λ k lt. let below = place_below high in each k (omega arith) (none (2 * k + high_place high) (omega arith)))
+pair_before high us v i r most none each = pair_lanes us i (r / 2) (λ k lt. let below = place_below high in (each k (omega arith)).0 (none (2 * k + high_place high) (omega arith)))
+
+-- all before the first lane that is not 0
+pub pair_first : (high : Bool) (us v : List ℕ) (i r n : ℕ) → n ≤ 8 → (get_or v r 0 ≡ 0 → ⊥) → ZerosPair us i (high_byte high v) → ((k : ℕ) → k < 8 → low_byte high v k ≡ 0) → AllPaired us i (i + n) → n ≤ r / 2
+pair_first high us v i r n few some each none pairs = elim (cases_lt (r / 2) n) [
+  | inr ge ↦ ge
+  | inl lt ↦
+      let k = r / 2 in
+      let below = place_below high in
+      elim (cases_lt (r % 2) (high_place high)) [
+        | inl less ↦ (let at : 2 * k + (1 - high_place high) ≡ r = omega arith in absurd (some (rw at at (none k (omega arith)))))
+        | inr more ↦ elim (cases_lt (high_place high) (r % 2)) [
+          | inl less ↦ (let at : 2 * k + (1 - high_place high) ≡ r = omega arith in absurd (some (rw at at (none k (omega arith)))))
+          | inr same ↦ (let at : 2 * k + high_place high ≡ r = omega arith in absurd (some (rw at at ((each k (omega arith)).1 (λ j least most. pairs j (omega arith) (omega arith))))))
+        ]
+      ]
+]

@@ -1,5 +1,5 @@
 -- Units as pairs of bytes, and the bytes of each swapped.
-use Rattle.std.specs.Prelude.{ℕ, ◌+◌, ◌*◌, ◌/◌, ◌%◌, Bool, if◌then◌else◌, List, [], ◌∷◌, slice_index}
+use Rattle.std.specs.Prelude.{ℕ, ◌+◌, ◌-◌, ◌*◌, ◌/◌, ◌%◌, Bool, if◌then◌else◌, List, [], ◌∷◌, slice_index}
 
 -- A unit and two bytes, of which the high one is the first or the second.
 abbrev pub unit_of : Bool → ℕ → ℕ → ℕ
@@ -25,6 +25,10 @@ high_place high_first = if high_first then 0 else 1
 -- the high byte of the unit number k
 abbrev pub high_byte : Bool → List ℕ → ℕ → ℕ
 high_byte high_first bytes k = slice_index bytes (2 * k + high_place high_first)
+
+-- the low byte of the unit number k
+abbrev pub low_byte : Bool → List ℕ → ℕ → ℕ
+low_byte high_first bytes k = slice_index bytes (2 * k + (1 - high_place high_first))
 
 -- the bytes of each pair swapped; an odd last byte is left out
 abbrev pub swapped : List ℕ → List ℕ

@@ -1,5 +1,5 @@
 -- Text judged by each byte and the three before it.
-use Rattle.std.specs.Prelude.{◌≡◌, ℕ, ◌+◌, ◌<◌, ◌≤◌, List, length, slice_index, bit_xor}
+use Rattle.std.specs.Prelude.{◌≡◌, ◌↔◌, ℕ, ◌+◌, ◌<◌, ◌≤◌, List, length, slice_index, bit_xor}
 
 -- a continuation byte
 abbrev pub IsContinuation : ℕ → Type 0
@@ -30,23 +30,23 @@ pub record Follows (a b c d : ℕ) : Type 0 where
 abbrev pub AllMayFollow : List ℕ → ℕ → ℕ → Type 0
 AllMayFollow xs i j = (k : ℕ) → i ≤ k + 3 → k + 3 < j → Follows (slice_index xs k) (slice_index xs (k + 1)) (slice_index xs (k + 2)) (slice_index xs (k + 3))
 
--- a lane that is 0 tells so of the byte of its number, counted from the place i on
+-- a lane is 0 just where this holds of the byte of its number, counted from the place i on
 abbrev pub ZerosFollow : List ℕ → ℕ → List ℕ → Type 0
-ZerosFollow xs i v = (k : ℕ) → k < length v → slice_index v k ≡ 0 → AllMayFollow xs (i + k) (i + k + 1)
+ZerosFollow xs i v = (k : ℕ) → k < length v → slice_index v k ≡ 0 ↔ AllMayFollow xs (i + k) (i + k + 1)
 
--- a lane that is 0 tells that the byte in that lane of the last vector may follow those of the three others
+-- a lane is 0 just where the byte in that lane of the last vector may follow those of the three others
 abbrev pub ZeroLanesFollow : List ℕ → List ℕ → List ℕ → List ℕ → List ℕ → Type 0
 ZeroLanesFollow third second first here v =
-    (k : ℕ) → k < length v → slice_index v k ≡ 0 → Follows (slice_index third k) (slice_index second k) (slice_index first k) (slice_index here k)
+    (k : ℕ) → k < length v → slice_index v k ≡ 0 ↔ Follows (slice_index third k) (slice_index second k) (slice_index first k) (slice_index here k)
 
 -- the three bytes before the place ask for no more
 abbrev pub EndsCharacter : List ℕ → ℕ → Type 0
 EndsCharacter xs i = (k : ℕ) → k + 3 ≡ i → (slice_index xs k < 0xF0) × (slice_index xs (k + 1) < 0xE0) × (slice_index xs (k + 2) < 0xC0)
 
--- what look-ups leave of the byte d after the byte c: nothing only where d may follow, 0x80 only where both continue
+-- what look-ups leave of the byte d after the byte c: nothing just where d may follow, 0x80 just where both continue
 pub record IsPair (c d left : ℕ) : Type 0 where
-  pub early : bit_xor 0 left ≡ 0 → MayFollow c d
-  pub late : bit_xor 0x80 left ≡ 0 → IsContinuation c × IsContinuation d
+  pub early : bit_xor 0 left ≡ 0 ↔ MayFollow c d
+  pub late : bit_xor 0x80 left ≡ 0 ↔ IsContinuation c × IsContinuation d
 
 -- each lane of `left` is what look-ups leave of the byte in that lane of `here`, after the one in that of `before`
 abbrev pub ArePairsLeft : List ℕ → List ℕ → List ℕ → Type 0

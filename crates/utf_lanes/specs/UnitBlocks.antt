@@ -1,5 +1,5 @@
 -- Units judged by each one and the one before it.
-use Rattle.std.specs.Prelude.{◌≡◌, ℕ, ◌+◌, ◌<◌, ◌≤◌, Bool, List, All, flat_map, slice_index, ◌*◌, length}
+use Rattle.std.specs.Prelude.{◌≡◌, ◌↔◌, ℕ, ◌+◌, ◌<◌, ◌≤◌, Bool, false, List, All, flat_map, slice_index, ◌*◌, length}
 use Rattle.utf_base.specs.Scalar.{IsScalar}
 use Rattle.utf_base.specs.Code.{utf16}
 use Rattle.utf_base.specs.Units.{is_leading_surrogate, is_trailing_surrogate}
@@ -9,9 +9,14 @@ use Rattle.utf_lanes.specs.BytePairs.{units_of}
 abbrev pub AllPaired : List ℕ → ℕ → ℕ → Type 0
 AllPaired us i j = (k : ℕ) → i ≤ k + 1 → k + 1 < j → is_leading_surrogate (slice_index us k) ≡ is_trailing_surrogate (slice_index us (k + 1))
 
--- a lane that is 0 tells so of the unit of its number, counted from the place i on
+-- the first n units so pair, and the first of all ends none
+pub record AreFirstPaired (us : List ℕ) (n : ℕ) : Type 0 where
+  pub first : 0 < n → is_trailing_surrogate (slice_index us 0) ≡ false
+  pub paired : AllPaired us 1 n
+
+-- a lane is 0 just where this holds of the unit of its number, counted from the place i on
 abbrev pub ZerosPair : List ℕ → ℕ → (ℕ → ℕ) → Type 0
-ZerosPair us i lane = (k : ℕ) → k < 8 → lane k ≡ 0 → AllPaired us (i + k) (i + k + 1)
+ZerosPair us i lane = (k : ℕ) → k < 8 → lane k ≡ 0 ↔ AllPaired us (i + k) (i + k + 1)
 
 -- the units are the codes of some scalars
 pub record AreCodes (us : List ℕ) : Type 0 where

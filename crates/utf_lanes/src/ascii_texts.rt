@@ -9,7 +9,8 @@ use std::simd::prelude::*;
 /// Whether all bytes are ASCII.
 #[inline(always)]
 pub fn is_ascii(bytes: &[u8]) -> bool
-    ensures { IsTrue result → AreAscii bytes.now 0 (length bytes.now) }
+    ensures ascii { IsTrue result → AreAscii bytes.now 0 (length bytes.now) }
+    ensures all { AreAscii bytes.now 0 (length bytes.now) → IsTrue result }
 {
     if bytes.len() <= 16 {
         return is_ascii_few(bytes);
@@ -22,7 +23,8 @@ pub fn is_ascii(bytes: &[u8]) -> bool
 #[inline(always)]
 fn is_ascii_few(bytes: &[u8]) -> bool
     requires { length bytes.now ≤ 16 }
-    ensures { IsTrue result → AreAscii bytes.now 0 (length bytes.now) }
+    ensures ascii { IsTrue result → AreAscii bytes.now 0 (length bytes.now) }
+    ensures all { AreAscii bytes.now 0 (length bytes.now) → IsTrue result }
 {
     if bytes.len() < 4 {
         return is_ascii_each(bytes);
@@ -36,7 +38,8 @@ fn is_ascii_few(bytes: &[u8]) -> bool
 // Whether all lanes are ASCII.
 #[inline(always)]
 fn are_low(lanes: u8x16) -> bool
-    ensures { IsTrue result → (k : ℕ) → k < 16 → slice_index lanes k < 0x80 }
+    ensures low { IsTrue result → (k : ℕ) → k < 16 → slice_index lanes k < 0x80 }
+    ensures all { ((k : ℕ) → k < 16 → slice_index lanes k < 0x80) → IsTrue result }
 {
     lanes.simd_ge(u8x16::splat(0x80)).to_bitmask() == 0
 }
@@ -44,7 +47,8 @@ fn are_low(lanes: u8x16) -> bool
 // The same of a few bytes, one by one.
 #[inline(always)]
 pub(crate) fn is_ascii_each(bytes: &[u8]) -> bool
-    ensures { IsTrue result → AreAscii bytes.now 0 (length bytes.now) }
+    ensures ascii { IsTrue result → AreAscii bytes.now 0 (length bytes.now) }
+    ensures all { AreAscii bytes.now 0 (length bytes.now) → IsTrue result }
 {
     let mut place = 0;
     while place < bytes.len() {
@@ -62,7 +66,8 @@ fn is_ascii_from(bytes: &[u8], start: usize) -> bool
     requires long { 16 ≤ length bytes.now }
     requires within { start ≤ length bytes.now }
     requires ascii { AreAscii bytes.now 0 start }
-    ensures { IsTrue result → AreAscii bytes.now 0 (length bytes.now) }
+    ensures ascii { IsTrue result → AreAscii bytes.now 0 (length bytes.now) }
+    ensures all { AreAscii bytes.now 0 (length bytes.now) → IsTrue result }
 {
     let mut place = start;
     while 16 <= bytes.len() - place {
@@ -78,7 +83,8 @@ fn is_ascii_from(bytes: &[u8], start: usize) -> bool
 #[inline(always)]
 fn is_ascii_16(bytes: &[u8], place: usize) -> bool
     requires { place + 16 ≤ length bytes.now }
-    ensures { IsTrue result → AreAscii bytes.now place (place + 16) }
+    ensures ascii { IsTrue result → AreAscii bytes.now place (place + 16) }
+    ensures all { AreAscii bytes.now place (place + 16) → IsTrue result }
 {
     u8x16::from_slice(&bytes[place..])
         .simd_ge(u8x16::splat(0x80))
@@ -90,7 +96,8 @@ fn is_ascii_16(bytes: &[u8], place: usize) -> bool
 #[inline(always)]
 pub fn is_ascii_block(bytes: &[u8], place: usize) -> bool
     requires { place + 64 ≤ length bytes.now }
-    ensures { IsTrue result → (k : ℕ) → k < 64 → slice_index bytes.now (place + k) < 0x80 }
+    ensures ascii { IsTrue result → (k : ℕ) → k < 64 → slice_index bytes.now (place + k) < 0x80 }
+    ensures all { ((k : ℕ) → k < 64 → slice_index bytes.now (place + k) < 0x80) → IsTrue result }
 {
     let either = u8x32::from_slice(&bytes[place..]) | u8x32::from_slice(&bytes[place + 32..]);
     either.simd_ge(u8x32::splat(0x80)).to_bitmask() == 0

@@ -37,6 +37,7 @@ pub(crate) fn fours(bytes: &[u8]) -> u8x16
     requires { 4 ≤ length bytes.now }
     ensures len { length result ≡ 16 }
     ensures lanes { (k : ℕ) → k < 8 → slice_index result k ≡ end_byte 4 bytes.now k }
+    ensures twice { (k : ℕ) → k < 8 → slice_index result (8 + k) ≡ slice_index result k }
 {
     let first = u8x4::from_slice(bytes);
     let last = u8x4::from_slice(&bytes[bytes.len() - 4..]);

@@ -12,6 +12,7 @@ use utf_base::traits::U16UtfExt;
 pub fn paired_len(units: &[u16]) -> usize
     ensures within { result ≤ length units.now }
     ensures codes { AreCodes (take result units.now) }
+    ensures near { (n : ℕ) → n ≤ length units.now → AreCodes (take n units.now) → n ≤ result + 32 }
 {
     if units.is_empty() || is_trailing_surrogate(units[0]) {
         return 0;
@@ -31,6 +32,7 @@ fn paired_end(units: &[u16]) -> usize
     ensures least { 1 ≤ result }
     ensures within { result ≤ length units.now }
     ensures paired { AllPaired units.now 1 result }
+    ensures near { (n : ℕ) → n ≤ length units.now → AllPaired units.now 1 n → n < result + 32 }
 {
     let mut place = 1;
     while 32 <= units.len() - place {
@@ -47,7 +49,8 @@ fn paired_end(units: &[u16]) -> usize
 fn is_paired_block(units: &[u16], place: usize) -> bool
     requires start { 1 ≤ place }
     requires within { place + 32 ≤ length units.now }
-    ensures { IsTrue result → AllPaired units.now place (place + 32) }
+    ensures paired { IsTrue result → AllPaired units.now place (place + 32) }
+    ensures all { AllPaired units.now place (place + 32) → IsTrue result }
 {
     let first = unpaired(units, place) | unpaired(units, place + 8);
     let second = unpaired(units, place + 16) | unpaired(units, place + 24);

@@ -4,6 +4,7 @@
 //! the two before that tell whether a code of three or four bytes has to go on (Keiser and Lemire, "Validating
 //! UTF-8 in less than one instruction per byte", 2021).
 ghost use Rattle.std.specs.Prelude.{◌≡◌, ℕ, ◌+◌, ◌<◌, ◌≤◌, ◌∷◌, length, take, slice_index, IsTrue, IsUtf8};
+ghost use Rattle.utf_lanes.specs.AsciiTexts.{AreAscii};
 ghost use Rattle.utf_lanes.specs.TextBlocks.{AllMayFollow, ArePairsLeft, EndsCharacter, ZeroLanesFollow, ZerosFollow};
 
 use crate::ascii_texts::{ascii_end, ascii_wide_end, is_ascii_block, is_ascii_each};
@@ -104,6 +105,10 @@ const HERE_HIGH: [u8; 16] = [
 pub fn text_len(bytes: &[u8]) -> usize
     ensures within { result ≤ length bytes.now }
     ensures text { IsUtf8 (take result bytes.now) }
+    ensures all { 4 ≤ length bytes.now → IsUtf8 bytes.now → result ≡ length bytes.now }
+    ensures ascii { AreAscii bytes.now 0 (length bytes.now) → result ≡ length bytes.now }
+    ensures near { 19 ≤ length bytes.now → (n : ℕ) → n ≤ length bytes.now → IsUtf8 (take n bytes.now) →
+        n ≤ result + 4 }
 {
     if bytes.len() < 19 {
         return few_len(bytes);
@@ -120,6 +125,8 @@ pub fn text_len(bytes: &[u8]) -> usize
 fn few_len(bytes: &[u8]) -> usize
     ensures within { result ≤ length bytes.now }
     ensures text { IsUtf8 (take result bytes.now) }
+    ensures all { 4 ≤ length bytes.now → IsUtf8 bytes.now → result ≡ length bytes.now }
+    ensures ascii { length bytes.now < 4 → AreAscii bytes.now 0 (length bytes.now) → result ≡ length bytes.now }
 {
     let start = last_start(bytes);
     if are_text(&bytes[start..]) {
@@ -133,6 +140,9 @@ fn few_len(bytes: &[u8]) -> usize
 fn last_start(bytes: &[u8]) -> usize
     ensures within { result ≤ length bytes.now }
     ensures text { IsUtf8 (take result bytes.now) }
+    ensures none { length bytes.now ≤ 16 → result ≡ 0 }
+    ensures some { 4 ≤ length bytes.now → result + 4 ≤ length bytes.now }
+    ensures few { IsUtf8 bytes.now → length bytes.now ≤ result + 16 }
 {
     if bytes.len() <= 16 {
         return 0;
@@ -143,7 +153,9 @@ fn last_start(bytes: &[u8]) -> usize
 /// Whether the bytes are text, judged at once; no where they are more than sixteen.
 #[inline(always)]
 pub fn are_text(bytes: &[u8]) -> bool
-    ensures { IsTrue result → IsUtf8 bytes.now }
+    ensures text { IsTrue result → IsUtf8 bytes.now }
+    ensures all { 4 ≤ length bytes.now → length bytes.now ≤ 16 → IsUtf8 bytes.now → IsTrue result }
+    ensures ascii { length bytes.now < 4 → AreAscii bytes.now 0 (length bytes.now) → IsTrue result }
 {
     if bytes.len() < 4 {
         return is_ascii_each(bytes);
@@ -159,6 +171,8 @@ pub fn are_text(bytes: &[u8]) -> bool
 fn few_chars(bytes: &[u8], least: usize) -> usize
     ensures within { result ≤ length bytes.now }
     ensures text { IsUtf8 (take result bytes.now) }
+    ensures most { result < least + 4 }
+    ensures all { IsUtf8 bytes.now → least + 3 ≤ length bytes.now → least ≤ result }
 {
     let mut place = 0;
     while place < least {
@@ -176,6 +190,7 @@ fn valid_len(bytes: &[u8]) -> usize
     requires { 19 ≤ length bytes.now }
     ensures within { result ≤ length bytes.now }
     ensures follow { AllMayFollow (0 ∷ 0 ∷ 0 ∷ bytes.now) 3 (result + 3) }
+    ensures all { (n : ℕ) → n ≤ length bytes.now → AllMayFollow (0 ∷ 0 ∷ 0 ∷ bytes.now) 3 (n + 3) → n ≤ result }
 {
     let count = first_fault(faults_at_front(u8x16::from_slice(bytes)));
     if count < 16 {
@@ -284,6 +299,7 @@ fn valid_len_by_lanes(bytes: &[u8], start: usize) -> usize
     requires within { start ≤ length bytes.now }
     ensures within { result ≤ length bytes.now }
     ensures follow { AllMayFollow bytes.now start result }
+    ensures all { (n : ℕ) → n ≤ length bytes.now → AllMayFollow bytes.now 3 n → n ≤ result }
 {
     let mut place = start;
     while place < bytes.len() {
@@ -303,7 +319,8 @@ fn valid_len_by_lanes(bytes: &[u8], start: usize) -> usize
 fn follows_block(bytes: &[u8], place: usize) -> bool
     requires start { 3 ≤ place }
     requires within { place + 64 ≤ length bytes.now }
-    ensures { IsTrue result → AllMayFollow bytes.now place (place + 64) }
+    ensures follow { IsTrue result → AllMayFollow bytes.now place (place + 64) }
+    ensures all { AllMayFollow bytes.now place (place + 64) → IsTrue result }
 {
     let either = faults_at::<32>(bytes, place) | faults_at::<32>(bytes, place + 32);
     either.simd_ne(u8x32::splat(0)).to_bitmask() == 0
@@ -314,7 +331,8 @@ fn follows_block(bytes: &[u8], place: usize) -> bool
 pub fn ends_character(bytes: &[u8], place: usize) -> bool
     requires start { 3 ≤ place }
     requires within { place ≤ length bytes.now }
-    ensures { IsTrue result → EndsCharacter bytes.now place }
+    ensures closed { IsTrue result → EndsCharacter bytes.now place }
+    ensures all { EndsCharacter bytes.now place → IsTrue result }
 {
     bytes[place - 1] < 0xc0 && bytes[place - 2] < 0xe0 && bytes[place - 3] < 0xf0
 }
@@ -326,6 +344,7 @@ fn valid_lanes(bytes: &[u8], place: usize) -> usize
     requires within { place + 16 ≤ length bytes.now }
     ensures most { result ≤ 16 }
     ensures follow { AllMayFollow bytes.now place (place + result) }
+    ensures all { (n : ℕ) → n ≤ 16 → AllMayFollow bytes.now place (place + n) → n ≤ result }
 {
     first_fault(faults_at::<16>(bytes, place))
 }
@@ -335,6 +354,7 @@ fn valid_lanes(bytes: &[u8], place: usize) -> usize
 fn first_fault(faults: u8x16) -> usize
     ensures most { result ≤ 16 }
     ensures none { (k : ℕ) → k < result → slice_index faults k ≡ 0 }
+    ensures all { (n : ℕ) → n ≤ 16 → ((k : ℕ) → k < n → slice_index faults k ≡ 0) → n ≤ result }
 {
     let wrong = faults.simd_ne(u8x16::splat(0)).to_bitmask();
     if wrong == 0 {
@@ -411,6 +431,7 @@ fn last_code_start(bytes: &[u8], end: usize) -> usize
     requires follow { AllMayFollow (0 ∷ 0 ∷ 0 ∷ bytes.now) 3 (end + 3) }
     ensures within { result ≤ length bytes.now }
     ensures text { IsUtf8 (take result bytes.now) }
+    ensures near { end ≤ result + 4 }
 {
     let mut place = end;
     while 0 < place {

@@ -5,8 +5,8 @@
 ghost use Rattle.std.specs.Prelude.{◌≡◌, ℕ, ◌+◌, ◌-◌, ◌*◌, ◌<◌, ◌≤◌, ◌∷◌, IsTrue, false, length, take, slice_index};
 ghost use Rattle.utf_base.specs.Units.{is_trailing_surrogate};
 ghost use Rattle.utf_lanes.specs.Lanes.{AreLanes, ones_where};
-ghost use Rattle.utf_lanes.specs.UnitBlocks.{AllPaired, AreCodes, PairsTo, ZerosPair};
-ghost use Rattle.utf_lanes.specs.BytePairs.{high_byte, units_of};
+ghost use Rattle.utf_lanes.specs.UnitBlocks.{AllPaired, AreCodes, AreFirstPaired, PairsTo, ZerosPair};
+ghost use Rattle.utf_lanes.specs.BytePairs.{high_byte, low_byte, units_of};
 
 use crate::byte_pairs::unit;
 use std::simd::prelude::*;
@@ -27,6 +27,8 @@ const HIGH_IS_SECOND: [u8; 16] = [
 pub fn units_len(high_first: bool, bytes: &[u8]) -> usize
     ensures within { 2 * result ≤ length bytes.now }
     ensures codes { AreCodes (units_of high_first (take (2 * result) bytes.now)) }
+    ensures all { 16 ≤ length bytes.now → (n : ℕ) → 2 * n ≤ length bytes.now →
+        AreCodes (units_of high_first (take (2 * n) bytes.now)) → n ≤ result }
 {
     if bytes.len() < 16 {
         return 0;
@@ -52,6 +54,7 @@ fn paired_end(high_first: bool, bytes: &[u8]) -> usize
     ensures first { 0 < result →
         is_trailing_surrogate (slice_index (units_of high_first bytes.now) 0) ≡ false }
     ensures paired { AllPaired (units_of high_first bytes.now) 1 result }
+    ensures all { (n : ℕ) → 2 * n ≤ length bytes.now → AreFirstPaired (units_of high_first bytes.now) n → n ≤ result }
 {
     let count = paired_lanes(high_first, &padded_units(bytes), 1);
     if count < 8 {
@@ -95,6 +98,7 @@ fn paired_lane_by_lane(high_first: bool, bytes: &[u8], start: usize) -> usize
     requires within { 2 * start ≤ length bytes.now }
     ensures within { 2 * result ≤ length bytes.now }
     ensures paired { AllPaired (units_of high_first bytes.now) start result }
+    ensures all { (n : ℕ) → 2 * n ≤ length bytes.now → AllPaired (units_of high_first bytes.now) 1 n → n ≤ result }
 {
     let units = bytes.len() / 2;
     let mut place = start;
@@ -128,6 +132,7 @@ fn paired_lanes(high_first: bool, bytes: &[u8], place: usize) -> usize
     requires within { 2 * place + 16 ≤ length bytes.now }
     ensures most { result ≤ 8 }
     ensures paired { AllPaired (units_of high_first bytes.now) place (place + result) }
+    ensures all { (n : ℕ) → n ≤ 8 → AllPaired (units_of high_first bytes.now) place (place + n) → n ≤ result }
 {
     let wrong = unpaired(high_first, bytes, place)
         .simd_ne(u8x16::splat(0))
@@ -146,6 +151,7 @@ fn unpaired(high_first: bool, bytes: &[u8], place: usize) -> u8x16
     requires within { 2 * place + 16 ≤ length bytes.now }
     ensures len { length result ≡ 16 }
     ensures lanes { ZerosPair (units_of high_first bytes.now) place (high_byte high_first result) }
+    ensures others { (k : ℕ) → k < 8 → low_byte high_first result k ≡ 0 }
 {
     let bits = upper_bits(high_first);
     let here = u8x16::from_slice(&bytes[2 * place..]) & bits;
@@ -158,6 +164,7 @@ fn unpaired(high_first: bool, bytes: &[u8], place: usize) -> u8x16
 fn upper_bits(high_first: bool) -> u8x16
     ensures len { length result ≡ 16 }
     ensures lanes { (k : ℕ) → k < 8 → high_byte high_first result k ≡ 0xFC }
+    ensures others { (k : ℕ) → k < 8 → low_byte high_first result k ≡ 0 }
 {
     if high_first {
         u8x16::from_array(HIGH_IS_FIRST)

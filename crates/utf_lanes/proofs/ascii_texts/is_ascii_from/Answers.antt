@@ -6,13 +6,16 @@ use Rattle.utf_lanes.proofs.ascii_texts.is_ascii_from.Goals as goal
 pub loop-place-preserved : goal.loop-place-preserved
 loop-place-preserved c =
     let place = c.loop-place.place in
-    let block = c.is_ascii_16.ensures c.if-not-is_ascii_16.false in
+    let block = c.is_ascii_16.ensures.ascii c.if-not-is_ascii_16.false in
     (omega arith, ascii_on c.args.bytes.now 0 place (place + 16) c.loop-place.invariant.1 block)
 
-pub returns : goal.returns
-returns c holds k ge lt =
+pub returns-clause-ascii : goal.returns-clause-ascii
+returns-clause-ascii c holds k ge lt =
     let place = c.loop-place.place in
     elim (cases_lt k place) [
       | inl before ↦ c.loop-place.invariant.1 k ge before
-      | inr after ↦ c.is_ascii_16-2.ensures holds k (omega arith) (omega arith)
+      | inr after ↦ c.is_ascii_16-2.ensures.ascii holds k (omega arith) (omega arith)
     ]
+
+pub returns-clause-all : goal.returns-clause-all
+returns-clause-all c ascii = c.is_ascii_16-2.ensures.all (λ k ge lt. ascii k (omega arith) (omega arith))

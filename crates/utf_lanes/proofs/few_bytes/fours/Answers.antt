@@ -1,7 +1,10 @@
-use Rattle.std.proofs.Common.{lit<}
+use Rattle.std.proofs.Common.{lit<, refl}
 use Rattle.utf_lanes.proofs.BlockUnits.{below_8}
 use Rattle.utf_lanes.proofs.EndLanes.{ends_at}
 use Rattle.utf_lanes.proofs.few_bytes.fours.Goals as goal
+
+pub returns-clause-twice : goal.returns-clause-twice
+returns-clause-twice c = below_8 _ refl refl refl refl refl refl refl refl
 
 pub returns-clause-lanes : goal.returns-clause-lanes
 returns-clause-lanes c =

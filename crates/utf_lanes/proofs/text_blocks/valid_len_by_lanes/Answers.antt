@@ -14,3 +14,13 @@ loop-place-preserved c =
         | inr new ↦ c.valid_lanes-count.ensures.follow k (omega arith) (omega arith)
       ],
     )
+
+pub returns-then-count-lt16-clause-all : goal.returns-then-count-lt16-clause-all
+returns-then-count-lt16-clause-all c n within all =
+    let block = c.min-block.result in
+    let count = c.valid_lanes-count.result in
+    let few = c.if-count-lt16.true in
+    elim (cases_lt (block + count) n) [
+      | inr ge ↦ ge
+      | inl lt ↦ (let more = c.valid_lanes-count.ensures.all (count + 1) (omega arith) (λ k least most. all k (omega arith) (omega arith)) in absurd (omega arith))
+    ]

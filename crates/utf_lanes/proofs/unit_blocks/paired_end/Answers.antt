@@ -1,6 +1,8 @@
-use Rattle.std.proofs.Common.{arith}
+use Rattle.std.proofs.Common.{◌+◌, arith, inl, inr}
+use Rattle.std.proofs.lemmas.Bool.{cases_lt}
+use Rattle.utf_lanes.specs.UnitBlocks.{AreFirstPaired}
 use Rattle.utf_lanes.specs.BytePairs.{units_of}
-use Rattle.utf_lanes.proofs.CodedUnits.{first_after_a_nul, pairs_after_a_nul}
+use Rattle.utf_lanes.proofs.CodedUnits.{first_after_a_nul, pairs_after_a_nul, after_a_nul_pairs}
 use Rattle.utf_lanes.proofs.UnitPairs.{pair_on}
 use Rattle.utf_lanes.proofs.unit_blocks.paired_end.Goals as goal
 
@@ -25,3 +27,17 @@ returns-clause-paired c =
     let lanes = c.paired_lanes-count.ensures in
     let first = pairs_after_a_nul c.args.high_first c.args.bytes.now c.padded_units.result c.paired_lanes-count.result lanes.most c.padded_units.ensures lanes.paired in
     pair_on us 1 c.paired_wide.result c.paired_lane_by_lane.result (pair_on us 1 8 c.paired_wide.result (λ k ge lt. first k ge (omega arith)) c.paired_wide.ensures.paired) c.paired_lane_by_lane.ensures.paired
+
+pub returns-then-count-lt8-clause-all : goal.returns-then-count-lt8-clause-all
+returns-then-count-lt8-clause-all c n within pairs =
+    let count = c.paired_lanes-count.result in
+    elim (cases_lt count n) [
+      | inr ge ↦ ge
+      | inl lt ↦
+          let less : AreFirstPaired (units_of c.args.high_first c.args.bytes.now) (count + 1) = record { first = λ some. pairs.first (omega arith); paired = λ k least most. pairs.paired k least (omega arith) } in
+          let more = c.paired_lanes-count.ensures.all (count + 1) (omega arith) (after_a_nul_pairs c.args.high_first c.args.bytes.now c.padded_units.result (count + 1) (omega arith) c.padded_units.ensures less) in
+          absurd (omega arith)
+    ]
+
+pub returns-clause-all : goal.returns-clause-all
+returns-clause-all c n within pairs = c.paired_lane_by_lane.ensures.all n within pairs.paired

@@ -19,3 +19,13 @@ loop-place-preserved c =
         | inr new ↦ c.paired_lanes-count.ensures.paired k (omega arith) (omega arith)
       ];
     }
+
+pub returns-then-count-lt8-clause-all : goal.returns-then-count-lt8-clause-all
+returns-then-count-lt8-clause-all c n within pairs =
+    let block = c.min-block.result in
+    let count = c.paired_lanes-count.result in
+    let few = c.if-count-lt8.true in
+    elim (cases_lt (block + count) n) [
+      | inr ge ↦ ge
+      | inl lt ↦ (let more = c.paired_lanes-count.ensures.all (count + 1) (omega arith) (λ k least most. pairs k (omega arith) (omega arith)) in absurd (omega arith))
+    ]

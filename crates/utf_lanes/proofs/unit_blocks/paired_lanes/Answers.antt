@@ -1,7 +1,7 @@
 use Rattle.std.proofs.Common.{◌≡◌, arith, refl, lit<}
 use Rattle.utf_lanes.specs.BytePairs.{units_of}
-use Rattle.utf_lanes.proofs.LaneLemmas.{differ_mask, none_differs, first_differs}
-use Rattle.utf_lanes.proofs.UnitPairs.{pair_before}
+use Rattle.utf_lanes.proofs.LaneLemmas.{differ_mask, differs_first, none_differs, first_differs}
+use Rattle.utf_lanes.proofs.UnitPairs.{pair_before, pair_first}
 use Rattle.utf_lanes.proofs.unit_blocks.paired_lanes.Goals as goal
 
 pub returns-then-wrong-eq0-clause-paired : goal.returns-then-wrong-eq0-clause-paired
@@ -19,3 +19,8 @@ pub returns-else-wrong-eq0-clause-paired : goal.returns-else-wrong-eq0-clause-pa
 returns-else-wrong-eq0-clause-paired c =
     let first = first_differs c.unpaired.result (lit< tt) c.unpaired.ensures.len _ c.if-wrong-eq0.false refl in
     pair_before c.args.high_first (units_of c.args.high_first c.args.bytes.now) c.unpaired.result c.args.place _ first.0 first.1 c.unpaired.ensures.lanes
+
+pub returns-else-wrong-eq0-clause-all : goal.returns-else-wrong-eq0-clause-all
+returns-else-wrong-eq0-clause-all c n few pairs =
+    let first = differs_first c.unpaired.result (lit< tt) c.unpaired.ensures.len _ c.if-wrong-eq0.false refl in
+    pair_first c.args.high_first (units_of c.args.high_first c.args.bytes.now) c.unpaired.result c.args.place _ n few first.1 c.unpaired.ensures.lanes c.unpaired.ensures.others pairs

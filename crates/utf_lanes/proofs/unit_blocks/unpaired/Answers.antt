@@ -1,6 +1,6 @@
 use Rattle.std.proofs.Common.{bit_xor}
 use Rattle.utf_lanes.proofs.LaneLemmas.{wide}
-use Rattle.utf_lanes.proofs.UnitPairs.{lanes_pair}
+use Rattle.utf_lanes.proofs.UnitPairs.{lanes_pair, low_lanes}
 use Rattle.utf_lanes.proofs.unit_blocks.unpaired.Goals as goal
 
 pub returns-clause-len : goal.returns-clause-len
@@ -10,3 +10,8 @@ pub returns-clause-lanes : goal.returns-clause-lanes
 returns-clause-lanes c =
     lanes_pair c.args.high_first c.args.bytes.now c.type_inv.bytes c.args.place c.requires.start c.requires.within c.upper_bits-bits.result c.upper_bits-bits.ensures.len c.upper_bits-bits.ensures.lanes
     c.where_equal.ensures c.where_equal-2.ensures
+
+pub returns-clause-others : goal.returns-clause-others
+returns-clause-others c =
+    low_lanes c.args.high_first c.args.bytes.now c.type_inv.bytes c.args.place c.requires.start c.requires.within c.upper_bits-bits.result c.upper_bits-bits.ensures.len c.upper_bits-bits.ensures.lanes
+    c.where_equal.ensures c.where_equal-2.ensures c.upper_bits-bits.ensures.others
