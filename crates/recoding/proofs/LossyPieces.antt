@@ -130,11 +130,6 @@ Decides-units Utf16Be w k n other f =
     let within = f.within in
     rw two (unit_fault true w k (omega arith) f.kind)
 
-pub lacks_units : (from : Form) (w : List ℕ) → (from ≡ Utf8 → ⊥) → AwaitsKind from w → Lacks from w
-lacks_units Utf8 w other a = absurd (other refl)
-lacks_units Utf16Le w other a = lacks_where_awaited _ a.kind
-lacks_units Utf16Be w other a = lacks_where_awaited _ a.kind
-
 -- And so are too few bytes of it at the end, all of them.
 
 leading_alone : (high : Bool) (u : ℕ) → is_leading_surrogate u ≡ true → ShowsParts utf16 (u ∷ []) (0xFFFD ∷ [])

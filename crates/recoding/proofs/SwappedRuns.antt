@@ -8,10 +8,6 @@ length_swapped [] k h = refl
 length_swapped (a ∷ []) k h = absurd (omega arith)
 length_swapped (a ∷ b ∷ v) k h = let more = length_swapped v (k - 1) (omega arith) in omega arith
 
-pub length_turned : (swaps : Bool) (v : List ℕ) (k : ℕ) → length v ≡ 2 * k → length (turned swaps v) ≡ length v
-length_turned true v k h = length_swapped v k h
-length_turned false v k h = refl
-
 -- as many bytes as stood there
 pub length_swapped_front : (xs : List ℕ) (p : ℕ) → p % 2 ≡ 0 → p ≤ length xs → length (swapped (take p xs)) ≡ p
 length_swapped_front xs p even within =

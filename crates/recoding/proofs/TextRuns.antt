@@ -235,14 +235,6 @@ RunsStrictly-of {old} {new} {place} a b e f h run =
       transcodes = run.transcodes;
     }
 
-pub RunsStrictly-none : {from to : Form} {bytes old : List ℕ} {place : ℕ} → place ≤ length old → RunsStrictly from to bytes old old place 0 place
-RunsStrictly-none {from} {to} {bytes} {old} {place} fits = record {
-  within = omega arith;
-  grown = [];
-  fills = record { ordered = omega arith; fits = fits; front = sym (append-nil (take place old)); rest = refl };
-  transcodes = Transcodes-none from to;
-}
-
 -- one character
 pub RunsStrictly-char : {from to : Form} {bytes old new : List ℕ} {place s n end : ℕ} → BeginsChar from bytes s n → Fills old new place end (written to s)
     → RunsStrictly from to bytes old new place n end
@@ -266,9 +258,6 @@ RunsStrictly-then {bytes} {old} {mid} {new} {place} {read} {wrote} {more} {end} 
     }
 
 -- The text of a call so far, and what is left.
-
-pub RecodesText-none : (from to : Form) (all old : List ℕ) → RecodesText from to all all old old 0
-RecodesText-none from to all old = record { text = []; parts = refl; transcodes = Transcodes-none from to; fits = omega arith; rest = refl }
 
 pub RecodesText-run : {from to : Form} {all left old mid new : List ℕ} {wrote read end : ℕ} → RecodesText from to all left old mid wrote → length mid ≡ length old
     → RunsStrictly from to left mid new wrote read end → RecodesText from to all (drop read left) old new end

@@ -56,9 +56,6 @@ pub record NoneBefore (IsEnd : ℕ → Type 0) (len at place : ℕ) : Type 0 whe
   pub end : len ≤ at → place ≡ len
   pub none : (m : ℕ) → at ≤ m → m < place → IsEnd m → ⊥
 
-pub none_first : (IsEnd : ℕ → Type 0) (len at place : ℕ) → place ≤ at → place ≤ len → (at ≤ len → at ≤ place) → (len ≤ at → place ≡ len) → NoneBefore IsEnd len at place
-none_first IsEnd len at place before within least end = record { within = within; least = least; end = end; none = λ m lo hi out. omega arith }
-
 -- Where the last such end up to the place is before it, the place is none, and that end is before `at`.
 pub none_next : (IsEnd : ℕ → Type 0) (len at place n : ℕ) → NoneBefore IsEnd len at place → place < len → n < place
     → ((m : ℕ) → m ≤ len → m ≤ place → IsEnd m → m ≤ n) → NoneBefore IsEnd len at (place + 1)
@@ -78,16 +75,6 @@ none_next IsEnd len at place n before lt less last =
 pub before_at : (IsEnd : ℕ → Type 0) (len at place n : ℕ) → NoneBefore IsEnd len at place → n < place → IsEnd n → n < at
 before_at IsEnd len at place n before less out =
     ⊎_elim (λ (lt : n < at). lt) (λ (le : at ≤ n). absurd (before.none n le less out)) (cases_lt n at)
-
-pub first_from : (IsEnd : ℕ → Type 0) (len at place : ℕ) → NoneBefore IsEnd len at place → IsEnd place → IsFirstFrom IsEnd len at place
-first_from IsEnd len at place before out = record {
-  within = before.within;
-  after = before.least;
-  end = before.end;
-  outside = out;
-  first = λ m within lo end.
-      ⊎_elim (λ (lt : m < place). absurd (before.none m lo lt end)) (λ (le : place ≤ m). le) (cases_lt m place);
-}
 
 -- The place is before the end of the list, where the last such end up to it is before it.
 pub within_end : (IsEnd : ℕ → Type 0) (len place n : ℕ) → place ≤ len → n < place → IsEnd len → ((m : ℕ) → m ≤ len → m ≤ place → IsEnd m → m ≤ n) → place < len

@@ -81,8 +81,3 @@ HasByteOrder high_first Utf16Be = high_first ≡ true
 -- the form that has units in that order
 abbrev pub utf16_form : Bool → Form
 utf16_form big_endian = if big_endian then Utf16Be else Utf16Le
-
--- One of the two forms has units, or both have.
-abbrev pub HaveUnits : Form → Form → Type 0
-HaveUnits Utf8 Utf8 = ⊥
-HaveUnits from to = Unit {0}

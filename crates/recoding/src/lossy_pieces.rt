@@ -44,11 +44,11 @@ pub(crate) fn first_lossy_piece(from: Form, bytes: &[u8]) -> Option<LossyPiece>
         FirstPiece::Char(c, len) => Some(LossyPiece::Char(c, len)),
         FirstPiece::Fault(_, len) => match from {
             Form::Utf8 => Some(LossyPiece::Subpart(subpart_len(bytes))),
-            _ => Some(LossyPiece::Subpart(len)),
+            Form::Utf16Le | Form::Utf16Be => Some(LossyPiece::Subpart(len)),
         },
         FirstPiece::Undecided => match from {
             Form::Utf8 => subpart_of_few(bytes),
-            _ => None,
+            Form::Utf16Le | Form::Utf16Be => None,
         },
     }
 }

@@ -1,3 +1,4 @@
+use Rattle.std.proofs.Common.{rules}
 use Rattle.recoding.proofs.LossyPieces.{Decides-char, Decides-units, no_code_where_begun}
 use Rattle.recoding.proofs.LossyLists.{Decides-subpart}
 use Rattle.recoding.proofs.lossy_pieces.first_lossy_piece.Goals as goal
@@ -11,5 +12,5 @@ returns-in-Char-clause-some c = Decides-char _ _ _ _ c.in-Char.ensures
 pub returns-in-Utf8-clause-some : goal.returns-in-Utf8-clause-some
 returns-in-Utf8-clause-some c = rw c.in-Utf8.is (Decides-subpart _ _ c.subpart_len.ensures.within c.subpart_len.ensures.subpart)
 
-pub returns-in_default-clause-some : goal.returns-in_default-clause-some
-returns-in_default-clause-some c = Decides-units _ _ _ _ c.in_default.not-Utf8 c.in-Fault.ensures
+pub returns-in-Utf16Le : goal.returns-in-Utf16Le
+returns-in-Utf16Le c = record { some = Decides-units _ _ _ _ (λ e. search rules) c.in-Fault.ensures; lacks = search rules; few = search rules }

@@ -10,5 +10,5 @@ pub returns-then-is_ascii : goal.returns-then-is_ascii
 returns-then-is_ascii g c =
     let bytes = c.args.bytes.now in
     let n = c.min-most.result in
-    let text : IsUtf8 (take n bytes) = ascii_text (take n bytes) (c.is_ascii.ensures c.if-is_ascii.true) in
+    let text : IsUtf8 (take n bytes) = ascii_text (take n bytes) (c.is_ascii.ensures.ascii c.if-is_ascii.true) in
     PutsText-text (omega arith) text c.put.ensures

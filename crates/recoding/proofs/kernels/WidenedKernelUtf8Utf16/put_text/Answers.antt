@@ -12,7 +12,7 @@ pub returns-then-most-lt32-2 : goal.returns-then-most-lt32-2
 returns-then-most-lt32-2 g c = PutsText-part c.min-most.result c.put_few.ensures
 
 pub returns-then-is_ascii : goal.returns-then-is_ascii
-returns-then-is_ascii g c = PutsText-widened _ (is_utf16 _) (omega arith) (c.is_ascii.ensures c.if-is_ascii.true) c.put_ascii_as_utf16.ensures
+returns-then-is_ascii g c = PutsText-widened _ (is_utf16 _) (omega arith) (c.is_ascii.ensures.ascii c.if-is_ascii.true) c.put_ascii_as_utf16.ensures
 
 pub put_judged-requires : goal.put_judged-requires
 put_judged-requires g c =
