@@ -6,7 +6,13 @@ pub mod EqualRuns
 pub mod ForwardRuns
 pub mod Walks
 pub mod WellFormed
+pub mod ShardRuns
+pub mod ByteOrderMarks
 pub mod Tables
+pub mod Counts
+pub mod Chunks
+pub mod CountedChunks
+pub mod ChunkEdits
 pub mod Failures
 pub mod RecodeStream
 pub mod StrictRelayed
@@ -16,6 +22,8 @@ pub mod Lines
 pub mod Written
 pub mod Layouts
 pub mod Listings
+pub mod Located
+pub mod LocatedLaws
 pub mod Endings
 pub use Rattle.recoding.specs.Recoded
 pub use Rattle.recoding.specs.RecodedBytes

@@ -1,7 +1,7 @@
 //! The laws of whole runs over bytes, and those of recoding.
 //!
 //! Each function does nothing: its contract is the law.
-ghost use Rattle.std.specs.Prelude.{◌≡◌, ◌↔◌, is_ok};
+ghost use Rattle.std.specs.Prelude.{◌≡◌, ◌↔◌, is_ok, length};
 ghost use Rattle.std.specs.Bool.{IsTrue};
 ghost use Rattle.std.specs.List.{list_all};
 ghost use Rattle.std.specs.Str.{IsUtf8};
@@ -10,6 +10,8 @@ ghost use Rattle.encode_unicode.specs.Mergers.{merged};
 ghost use Rattle.encode_unicode.specs.Pieces.{pieces};
 ghost use Rattle.cuts.specs.ForwardRuns.{PiecesAreTheRun, TextHasNoFault, faulty_item_count};
 ghost use Rattle.cuts.specs.EqualRuns.{OneRun, OneMergedRun};
+ghost use Rattle.cuts.specs.ShardRuns.{ShardCountsAdd, ShardItemsJoin, ShardPiecesJoin, faults, line_feed_count};
+ghost use Rattle.cuts.specs.LocatedLaws.{LocatedAreMerged, NoPieceComesEarlier, PartsAreLocated};
 ghost use Rattle.cuts.specs.Splits.{OneSplit};
 ghost use Rattle.utf_base.specs.Code.{utf8, utf16};
 ghost use Rattle.utf_base.specs.Kinds.{fault_kind, merger_kind};
@@ -61,4 +63,32 @@ pub fn pieces_back_are_the_pieces(bytes: &[u8])
 #[tactic(auto, using(crate::proofs::SplitLemmas::one_split))]
 pub fn split_is_unique()
     ensures { OneSplit }
+{}
+
+/// Bytes may be cut into shards where no character lies over the place, as `shard_end` finds one. What decoders give of the
+/// shards, one after another and with offsets in the whole, has the pieces that one gives of the whole. Where each shard is
+/// given with the three bytes after it, and what begins in those is left out, errors have the same kinds too. So the invalid
+/// bytes of the shards, with their offsets and kinds, are those of the whole.
+#[tactic(auto, using(crate::proofs::ShardPieces::bytes_join, crate::proofs::ShardPieces::faults_join, crate::proofs::ShardPieces::pieces_join))]
+pub fn shard_pieces_join()
+    ensures alone { ShardPiecesJoin utf8 pieces }
+    ensures items { ShardItemsJoin utf8 pieces 3 }
+    ensures faults { ShardItemsJoin utf8 faults 3 }
+{}
+
+/// How many pieces such shards have, how many invalid bytes, and how many line feeds, adds up to how many the whole has.
+#[tactic(auto, using(crate::proofs::ShardCounts::pieces_add, crate::proofs::ShardCounts::faults_add, crate::proofs::ShardCounts::line_feeds_add))]
+pub fn shard_counts_add()
+    ensures pieces { ShardCountsAdd utf8 (λ w. length (pieces w)) }
+    ensures faults { ShardCountsAdd utf8 (λ w. faulty_item_count (pieces w)) }
+    ensures lines { ShardCountsAdd utf8 line_feed_count }
+{}
+
+/// The pieces that a `Decoder` gives. Of UTF-8 they are what a merger answers for the whole input. However the input is cut into
+/// parts, they are those of the parts, joined. What a decoder holds is not decided: none that is right whatever follows gives a
+/// piece more.
+pub fn pieces_of_parts()
+    ensures merged { LocatedAreMerged }
+    ensures parts { PartsAreLocated }
+    ensures earliest { NoPieceComesEarlier }
 {}

@@ -6,6 +6,7 @@
 //! - Boundaries: `boundaries` finds the character boundaries next to any byte.
 //! - Parts: `split_ascii` gives the parts between ASCII separators, `lines` the lines, each with its offset; `fault_count` and
 //!   `char_count` count.
+//! - Input in parts: `Decoder` gives the pieces of all of it, each with its offset.
 //! - Tables: `PieceTable` keeps the pieces of bytes that are edited.
 //! - Recoding: `Recoder` takes text in parts, `recode` from a reader to a writer, and `recode_strict` to the first fault; `room_for` says how much comes of some
 //!   bytes at most, `shard_end` and `boundary_after` where a large input may be cut; `front_of_text` gives one character.
@@ -16,17 +17,28 @@
 
 pub(crate) mod block_moves;
 pub mod boundaries;
+pub mod buffers;
 pub mod byte_lines;
+pub mod byte_order_mark;
 pub mod counted;
+pub mod decoder;
+pub(crate) mod first_pieces;
 pub mod laws;
+pub mod located;
+pub(crate) mod piece_runs;
 pub mod piece_table;
 pub mod programs;
 pub mod runs;
 pub mod splits;
 pub mod streams;
 
+pub use buffers::counts::Counts;
+pub use buffers::text_buffer::TextBuffer;
 pub use byte_lines::{SplitLines, lines};
+pub use byte_order_mark::form_of_bom;
 pub use counted::Counted;
+pub use decoder::{Decoder, Fed};
+pub use located::{FromPiece, LocatedPiece};
 pub use piece_table::PieceTable;
 pub use programs::listing::{write_listing, write_merged, write_walk};
 pub use programs::pieces_program::run_pieces;

@@ -211,7 +211,7 @@ fn put_pieces<A: Allocator>(
 
 // Puts `new` in place of the items from `start` to `end`. It fails only where room for it is missing,
 // and then changes nothing.
-fn splice_in<T: Copy + Drop, A: Allocator>(
+pub(crate) fn splice_in<T: Copy + Drop, A: Allocator>(
     items: &mut Vec<T, A>,
     start: usize,
     end: usize,

@@ -15,6 +15,7 @@ use uses::tables::{count_characters, hash_characters};
 use uses::tokens::tokens;
 use uses_runs::parts::{append_shards, count_two, feed_line, recode_in_parts, recode_ring};
 use uses_runs::rooms::{feed_packet, send_end};
+use uses_runs::shards::{faults_in_shards, pieces_in_shards};
 use uses_runs::{cursor, faults};
 
 fn log() -> &'static [u8] {
@@ -211,6 +212,18 @@ fn a_ring_and_shards_are_recoded_as_one_text(rt: HostRuntime) -> Result<(), Fail
         assert!(rt; out.as_slice() == want.as_slice(), "cut at {at}");
     }
     Ok(())
+}
+
+// By hand: "a", a fault, "€", three faults, "!" and two faults.
+#[test]
+fn shards_have_as_many_pieces_as_the_whole(rt: HostRuntime) {
+    let bytes = b"a\xff\xe2\x82\xac\xf0\x9f\x98!\xe2\x82";
+    for at in 0..=12 {
+        let faults = faults_in_shards(bytes, at);
+        assert!(rt; faults.0.wrapping_add(faults.1) == 6, "cut at {at}");
+        let pieces = pieces_in_shards(bytes, at);
+        assert!(rt; pieces.0.wrapping_add(pieces.1) == 9, "cut at {at}");
+    }
 }
 
 #[test]

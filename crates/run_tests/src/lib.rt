@@ -7,9 +7,13 @@ mod asked;
 #[cfg(test)]
 mod bounds;
 #[cfg(test)]
+mod buffers;
+#[cfg(test)]
 mod callers;
 #[cfg(test)]
 mod codes;
+#[cfg(test)]
+mod decoders;
 #[cfg(test)]
 mod first_faults;
 #[cfg(test)]

@@ -15,29 +15,29 @@ pub fn line_count(bytes: &[u8]) -> usize
     lines(bytes).count()
 }
 
-/// How many fields a record of CSV without quotes has.
-pub fn field_count(record: &[u8]) -> usize
-    ensures { result ≡ length (split_by 44 record.now) }
+/// How many fields a row of CSV without quotes has.
+pub fn field_count(row: &[u8]) -> usize
+    ensures { result ≡ length (split_by 44 row.now) }
 {
-    split_ascii(record, b',').count()
+    split_ascii(row, b',').count()
 }
 
-/// The fields of a record of CSV without quotes.
-pub fn fields<A: Allocator>(alloc: A, record: &[u8]) -> Result<Vec<Span<'_>, A>, AllocError>
-    ensures { IfOk result (λ fields. fields.items ≡ split_by 44 record.now) }
+/// The fields of a row of CSV without quotes.
+pub fn fields<A: Allocator>(alloc: A, row: &[u8]) -> Result<Vec<Span<'_>, A>, AllocError>
+    ensures { IfOk result (λ fields. fields.items ≡ split_by 44 row.now) }
 {
     let mut fields = Vec::new(alloc);
-    for field in split_ascii(record, b',') {
+    for field in split_ascii(row, b',') {
         fields.push(field)?;
     }
     Ok(fields)
 }
 
-/// The first field of a record.
-pub fn first_field(record: &[u8]) -> Option<Span<'_>>
-    ensures { result ≡ slice_get (split_by 44 record.now) 0 }
+/// The first field of a row.
+pub fn first_field(row: &[u8]) -> Option<Span<'_>>
+    ensures { result ≡ slice_get (split_by 44 row.now) 0 }
 {
-    split_ascii(record, b',').next()
+    split_ascii(row, b',').next()
 }
 
 /// How many words stand between spaces.
@@ -73,17 +73,17 @@ pub fn first_damaged_line(bytes: &[u8]) -> Option<Span<'_>>
     lines(bytes).find(|line| fault_count(line.as_bytes()) != 0)
 }
 
-/// The field at that place of a record.
-pub fn field(record: &[u8], number: usize) -> Option<Span<'_>>
-    ensures lies { IfSome result (LiesBetween record.now) }
-    ensures there { result ≡ slice_get (split_by 44 record.now) number }
+/// The field at that place of a row.
+pub fn field(row: &[u8], number: usize) -> Option<Span<'_>>
+    ensures lies { IfSome result (LiesBetween row.now) }
+    ensures there { result ≡ slice_get (split_by 44 row.now) number }
 {
-    split_ascii(record, b',').nth(number)
+    split_ascii(row, b',').nth(number)
 }
 
-/// The last field of a record.
-pub fn last_field(record: &[u8]) -> Option<Span<'_>>
-    ensures { result ≡ last_or None (split_by 44 record.now) }
+/// The last field of a row.
+pub fn last_field(row: &[u8]) -> Option<Span<'_>>
+    ensures { result ≡ last_or None (split_by 44 row.now) }
 {
-    split_ascii(record, b',').last()
+    split_ascii(row, b',').last()
 }

@@ -4,6 +4,7 @@
 pub mod blocks;
 pub mod boundaries;
 pub mod bounds;
+pub mod buffers;
 pub mod cursor;
 pub mod editor;
 pub mod equals;
@@ -16,6 +17,7 @@ pub mod names;
 pub mod parts;
 pub mod rooms;
 pub mod runs;
+pub mod shards;
 pub mod shown;
 pub mod strict;
 pub mod strings;

@@ -1,0 +1,212 @@
+-- Steps of a decoder: one piece of what is held, the rest of a part, and the end.
+use Rattle.std.proofs.Common.{◌≡◌, ℕ, ◌+◌, ◌-◌, ◌<◌, ◌≤◌, ⊎_elim, List, [], ◌∷◌, ◌++◌, length, take, drop, map, set, arith, refl, ap, sym, subst, ◌∙◌, append_assoc, length-append, length-drop, length-set, length-take}
+use Rattle.std.proofs.lemmas.Bool.{cases_lt}
+use Rattle.std.proofs.lemmas.List.{append-nil, drop-append-le, drop_all, drop-drop, drop-set-lt, map-append, take_all, take-append-drop, take_more_set}
+use Rattle.std.proofs.Math.ListN.{drop_of_length-le}
+use Rattle.std.proofs.Math.Seq.{drop-append-add}
+use Rattle.recoding.specs.declared.form.Form.{Form}
+use Rattle.cuts.specs.declared.located.LocatedPiece.{LocatedPiece}
+use Rattle.cuts.specs.declared.located.Spot.{Spot}
+use Rattle.cuts.specs.Located.{Begins, BeginsSome, Decoding, FeedsPieces, FeedsRest, FinishesPieces, IsOpen, Locates, Puts, Told, WritesPieces, at_offset, first_told, located, wrapped}
+use Rattle.cuts.proofs.LocatedLemmas.{Begins-before, Locates-none, Locates-one, Locates-then, first_some, located_first}
+
+-- without n elements at the front
+drop_both : (n : ℕ) (xs ys : List ℕ) → drop n (xs ++ ys) ≡ drop n xs ++ drop (n - length xs) ys
+drop_both n xs ys =
+    ⊎_elim
+    (λ (lt : n < length xs).
+    let none : n - length xs ≡ 0 = omega arith in
+    let le : n ≤ length xs = omega arith in
+    drop-append-le n xs ys le ∙ ap (λ k. drop n xs ++ drop k ys) (sym none))
+    (λ (ge : length xs ≤ n).
+    let k = n - length xs in
+    let e : n ≡ length xs + k = omega arith in
+    ap (λ m. drop m (xs ++ ys)) e ∙ drop-append-add xs ys k ∙ ap (λ z. z ++ drop k ys) (sym (drop_of_length-le xs ge)))
+    (cases_lt n (length xs))
+
+WritesPieces-none : {P : Type 0} (made : LocatedPiece → P) (room : List P) → WritesPieces made [] room room 0
+WritesPieces-none made room = record { fits = omega arith; front = refl; rest = refl; len = refl }
+
+WritesPieces-one : {P : Type 0} {made : LocatedPiece → P} {given : List LocatedPiece} {old room : List P} {wrote : ℕ} {piece : P} (x : LocatedPiece) → WritesPieces made given old room wrote
+    → wrote < length room → piece ≡ made x → WritesPieces made (given ++ x ∷ []) old (set room wrote piece) (wrote + 1)
+WritesPieces-one {made = made} {given = given} {old = old} {room = room} {wrote = wrote} {piece = piece} x h lt is =
+    let len = h.len in
+    record {
+      fits = omega arith;
+      front = take_more_set room wrote piece lt ∙ ap (λ ps. ps ++ piece ∷ []) h.front ∙ ap (λ p. map made given ++ p ∷ []) is ∙ sym (map-append made given (x ∷ []));
+      rest = drop-set-lt (wrote + 1) room wrote piece (omega arith) ∙ sym (drop-drop 1 wrote room) ∙ ap (drop 1) h.rest ∙ drop-drop 1 wrote old;
+      len = length-set room wrote piece ∙ len;
+    }
+
+pub FeedsPieces-none : {P : Type 0} (made : LocatedPiece → P) (d : Decoding) (part : List ℕ) (room : List P) → length d.held ≤ 3 → FeedsPieces made d part room room 0 0 d
+FeedsPieces-none made d part room few = record {
+  given = [];
+  locates = Locates-none d.form d.offset (d.held ++ part);
+  writes = WritesPieces-none made room;
+  within = omega arith;
+  form = refl;
+  few = few;
+}
+
+-- what begins the held bytes and three more begins them and all of the part
+pub joined_begin : {form : Form} {joined : List ℕ} {x : Told} (held rest : List ℕ) → joined ≡ held ++ take 3 rest → Begins form joined x → Begins form (held ++ rest) x
+joined_begin {form} {joined} {x} held rest e b =
+    let all : (held ++ take 3 rest) ++ drop 3 rest ≡ held ++ rest = append_assoc held (take 3 rest) (drop 3 rest) ∙ ap (λ z. held ++ z) (take-append-drop 3 rest) in
+    subst (λ v. Begins form v x) all (Begins-before (drop 3 rest) (subst (λ v. Begins form v x) e b))
+
+-- one piece more, of what is held and some of the part
+pub FeedsPieces-one : {P : Type 0} {made : LocatedPiece → P} {d s t : Decoding} {part joined : List ℕ} {old room : List P} {read wrote : ℕ} {piece : P} (x : Told) (more : ℕ)
+    → FeedsPieces made d part old room read wrote s → joined ≡ s.held ++ take 3 (drop read part) → Begins d.form joined x → wrote < length room → piece ≡ made (at_offset s.offset x)
+    → t ≡ record { form = s.form; held = drop x.1 s.held; offset = wrapped (s.offset + x.1) } → more ≡ x.1 - length s.held
+    → FeedsPieces made d part old (set room wrote piece) (read + more) (wrote + 1) t
+FeedsPieces-one {P} {made} {d} {s} {t} {part} {joined} {old} {room} {read} {wrote} {piece} x more h e b lt is passed rest =
+    let begins = joined_begin s.held (drop read part) e b in
+    let within = b.within in
+    let some = b.some in
+    let few = h.few in
+    let read_within = h.within in
+    let len : length joined ≡ length s.held + length (take 3 (drop read part)) = ap length e ∙ length-append s.held (take 3 (drop read part)) in
+    let three = length-take 3 (drop read part) in
+    let left_len = length-drop read part in
+    let left : drop x.1 (s.held ++ drop read part) ≡ drop x.1 s.held ++ drop (read + more) part
+    = drop_both x.1 s.held (drop read part) ∙ ap (λ k. drop x.1 s.held ++ drop k (drop read part)) (sym rest) ∙ ap (λ z. drop x.1 s.held ++ z) (drop-drop more read part) in
+    let held : t.held ≡ drop x.1 s.held = ap (λ (z : Decoding). z.held) passed in
+    let offset : t.offset ≡ wrapped (s.offset + x.1) = ap (λ (z : Decoding). z.offset) passed in
+    let form : t.form ≡ s.form = ap (λ (z : Decoding). z.form) passed in
+    let one : Locates d.form s.offset (s.held ++ drop read part) (at_offset s.offset x ∷ []) (wrapped (s.offset + x.1)) (drop x.1 s.held ++ drop (read + more) part)
+    = subst (λ z. Locates d.form s.offset (s.held ++ drop read part) (at_offset s.offset x ∷ []) (wrapped (s.offset + x.1)) z) left (Locates-one s.offset begins) in
+    record {
+      given = h.given ++ at_offset s.offset x ∷ [];
+      locates = rw (held, offset) (Locates-then h.locates one);
+      writes = WritesPieces-one (at_offset s.offset x) h.writes lt is;
+      within = omega arith;
+      form = form ∙ h.form;
+      few = rw held (omega (arith, length-drop x.1 s.held));
+    }
+
+-- what follows decides of all that is left, which is held then
+pub all_joined : {joined : List ℕ} (held part : List ℕ) (read : ℕ) → joined ≡ held ++ take 3 (drop read part) → 0 < length held → length joined ≤ 3 → joined ≡ held ++ drop read part
+all_joined {joined} held part read e some few =
+    let len : length joined ≡ length held + length (take 3 (drop read part)) = ap length e ∙ length-append held (take 3 (drop read part)) in
+    let three = length-take 3 (drop read part) in
+    let all : take 3 (drop read part) ≡ drop read part = take_all 3 (drop read part) (omega arith) in
+    e ∙ ap (λ z. held ++ z) all
+
+pub FeedsPieces-all : {P : Type 0} {made : LocatedPiece → P} {d s t : Decoding} {part joined : List ℕ} {old room : List P} {read wrote : ℕ}
+    → FeedsPieces made d part old room read wrote s → joined ≡ s.held ++ drop read part → length joined ≤ 3 → t ≡ record { form = s.form; held = joined; offset = s.offset }
+    → FeedsPieces made d part old room (length part) wrote t
+FeedsPieces-all {P} {made} {d} {s} {t} {part} {joined} h e few is =
+    let held : t.held ≡ joined = ap (λ (z : Decoding). z.held) is in
+    let offset : t.offset ≡ s.offset = ap (λ (z : Decoding). z.offset) is in
+    let form : t.form ≡ s.form = ap (λ (z : Decoding). z.form) is in
+    let none : drop (length part) part ≡ [] = drop_all (length part) part (omega arith) in
+    record {
+      given = h.given;
+      locates = rw (none, held, offset, append-nil joined) (subst (λ z. Locates d.form d.offset (d.held ++ part) h.given s.offset z) (sym e) h.locates);
+      writes = h.writes;
+      within = omega arith;
+      form = form ∙ h.form;
+      few = rw held few;
+    }
+
+-- The rest of a part.
+
+pub FeedsRest-full : {P : Type 0} {made : LocatedPiece → P} {d t : Decoding} {part : List ℕ} {old new : List P} {from at : Spot} → from.offset ≡ d.offset
+    → Puts made d.form part old new from at → t ≡ record { form = d.form; held = []; offset = at.offset } → FeedsRest made d part old new from at.read at.written t
+FeedsRest-full {P} {made} {d} {t} {part} {old} {new} {from} {at} start h is =
+    let held : t.held ≡ [] = ap (λ (z : Decoding). z.held) is in
+    let offset : t.offset ≡ at.offset = ap (λ (z : Decoding). z.offset) is in
+    record {
+      given = h.given;
+      locates = rw (held, offset, ← start) h.locates;
+      front = h.front;
+      rest = h.rest;
+      len = h.len;
+      fits = h.fits;
+      on = h.on;
+      within = h.within;
+      form = ap (λ (z : Decoding). z.form) is;
+      few = rw held (omega arith);
+    }
+
+pub FeedsRest-held : {P : Type 0} {made : LocatedPiece → P} {d t : Decoding} {part : List ℕ} {old new : List P} {from at : Spot} → from.offset ≡ d.offset
+    → Puts made d.form part old new from at → length part ≤ at.read + 3 → t ≡ record { form = d.form; held = drop at.read part; offset = at.offset }
+    → FeedsRest made d part old new from (length part) at.written t
+FeedsRest-held {P} {made} {d} {t} {part} {old} {new} {from} {at} start h few is =
+    let held : t.held ≡ drop at.read part = ap (λ (z : Decoding). z.held) is in
+    let offset : t.offset ≡ at.offset = ap (λ (z : Decoding). z.offset) is in
+    let end : drop (length part) part ≡ [] = drop_all (length part) part (omega arith) in
+    let left = length-drop at.read part in
+    record {
+      given = h.given;
+      locates = rw (end, held, offset, append-nil (drop at.read part), ← start) h.locates;
+      front = h.front;
+      rest = h.rest;
+      len = h.len;
+      fits = h.fits;
+      on = h.on;
+      within = omega arith;
+      form = ap (λ (z : Decoding). z.form) is;
+      few = rw held (omega arith);
+    }
+
+pub FeedsPieces-rest : {P : Type 0} {made : LocatedPiece → P} {d s e : Decoding} {part : List ℕ} {old room new : List P} {first then read wrote : ℕ} {from : Spot}
+    → FeedsPieces made d part old room first then s → s.held ≡ [] → from.read ≡ first → from.written ≡ then → FeedsRest made s part room new from read wrote e
+    → FeedsPieces made d part old new read wrote e
+FeedsPieces-rest {P} {made} {d} {s} {e} {part} {old} {room} {new} {first} {then} {read} {wrote} {from} h none at_read at_written b =
+    let len = h.writes.len in
+    let fits = b.fits in
+    let all : s.held ++ drop first part ≡ drop first part = ap (λ z. z ++ drop first part) none in
+    let start : Locates d.form d.offset (d.held ++ part) h.given s.offset (drop first part) = subst (λ z. Locates d.form d.offset (d.held ++ part) h.given s.offset z) all h.locates in
+    let more : Locates d.form s.offset (drop first part) b.given e.offset (e.held ++ drop read part)
+    = subst (λ f. Locates f s.offset (drop first part) b.given e.offset (e.held ++ drop read part)) h.form
+    (subst (λ k. Locates s.form s.offset (drop k part) b.given e.offset (e.held ++ drop read part)) at_read b.locates) in
+    let k = wrote - then in
+    let on = b.on in
+    let more_wrote : wrote ≡ then + k = omega arith in
+    record {
+      given = h.given ++ b.given;
+      locates = Locates-then start more;
+      writes = record {
+        fits = omega arith;
+        front = b.front ∙ ap (λ j. take j room ++ map made b.given) at_written ∙ ap (λ ps. ps ++ map made b.given) h.writes.front ∙ sym (map-append made h.given b.given);
+        rest = b.rest ∙ rw more_wrote (sym (drop-drop k then room) ∙ ap (drop k) h.writes.rest ∙ drop-drop k then old);
+        len = b.len ∙ len;
+      };
+      within = b.within;
+      form = b.form ∙ h.form;
+      few = b.few;
+    }
+
+pub FeedsPieces-front : {P : Type 0} {made : LocatedPiece → P} {d e : Decoding} {part : List ℕ} {old new : List P} {read wrote : ℕ} {from : Spot}
+    → d.held ≡ [] → from.read ≡ 0 → from.written ≡ 0 → FeedsRest made d part old new from read wrote e → FeedsPieces made d part old new read wrote e
+FeedsPieces-front {P} {made} {d} {e} {part} {old} none at_read at_written b =
+    FeedsPieces-rest (FeedsPieces-none made d part old (rw none (omega arith))) none at_read at_written b
+
+-- The end.
+
+pub FinishesPieces-none : {P : Type 0} (made : LocatedPiece → P) (d : Decoding) (room : List P) → FinishesPieces made d room room 0 d
+FinishesPieces-none made d room = record { given = []; locates = refl; writes = WritesPieces-none made room; form = refl; few = omega arith }
+
+pub FinishesPieces-one : {P : Type 0} {made : LocatedPiece → P} {d s t : Decoding} {old room : List P} {wrote : ℕ} {piece : P} (x : Told) → FinishesPieces made d old room wrote s
+    → x ≡ first_told d.form s.held → 0 < length s.held → wrote < length room → piece ≡ made (at_offset s.offset x)
+    → t ≡ record { form = s.form; held = drop x.1 s.held; offset = wrapped (s.offset + x.1) } → FinishesPieces made d old (set room wrote piece) (wrote + 1) t
+FinishesPieces-one {P} {made} {d} {s} {t} {old} {room} {wrote} {piece} x h told some lt is passed =
+    let held : t.held ≡ drop x.1 s.held = ap (λ (z : Decoding). z.held) passed in
+    let offset : t.offset ≡ wrapped (s.offset + x.1) = ap (λ (z : Decoding). z.offset) passed in
+    let form : t.form ≡ s.form = ap (λ (z : Decoding). z.form) passed in
+    let same : first_told s.form s.held ≡ x = ap (λ f. first_told f s.held) h.form ∙ sym told in
+    let first : located s.form s.offset s.held ≡ at_offset s.offset x ∷ located s.form (wrapped (s.offset + x.1)) (drop x.1 s.held)
+    = located_first s.form s.offset s.held some ∙ ap (λ (y : Told). at_offset s.offset y ∷ located s.form (wrapped (s.offset + y.1)) (drop y.1 s.held)) same in
+    let few = h.few in
+    record {
+      given = h.given ++ at_offset s.offset x ∷ [];
+      locates = h.locates ∙ ap (λ ps. h.given ++ ps) first ∙ sym (append_assoc h.given (at_offset s.offset x ∷ []) (located s.form (wrapped (s.offset + x.1)) (drop x.1 s.held)))
+          ∙ rw (form, offset, held) refl;
+      writes = WritesPieces-one (at_offset s.offset x) h.writes lt is;
+      form = form ∙ h.form;
+      few = rw held (omega (arith, length-drop x.1 s.held));
+    }
+
+pub IsOpen-as : {form : Form} {w : List ℕ} (t : Decoding) → t.form ≡ form → t.held ≡ w → IsOpen form w → IsOpen t.form t.held
+IsOpen-as {form} {w} t f e h = rw (f, e) h

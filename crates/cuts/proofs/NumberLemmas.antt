@@ -1,0 +1,219 @@
+-- How many pieces begin before a place, counted by chunks.
+use Rattle.std.proofs.Common.{◌≡◌, ℕ, ◌+◌, ◌-◌, ◌<◌, ◌≤◌, ◌⊎◌, List, [], ◌∷◌, ◌++◌, length, get_or, take, drop, map, arith, refl, ap, sym, ◌∙◌, subst, ⊎_elim, inl, inr, min, append_assoc, length-drop, Some, None, Option, length-append}
+use Rattle.std.proofs.lemmas.Bool.{cases_lt}
+use Rattle.std.proofs.lemmas.List.{get_or-map, get_or_append_left, get_or-append_right, length-map, length-take-le, take-append-drop, take_all, take_at, drop_all, drop-append-le, take-append-le}
+use Rattle.std.proofs.lemmas.List.Folds.{concat-append}
+use Rattle.std.proofs.Math.Seq.{take-append-add, drop-append-add}
+use Rattle.std.specs.List.{concat, AllWithin}
+use Rattle.std.specs.Prelude.{slice_range}
+use Rattle.utf_base.specs.Code.{utf8}
+use Rattle.utf_base.specs.Piece.{Inside, Piece, IsPieceAt}
+use Rattle.utf_base.proofs.CutChanges.{moved}
+use Rattle.utf_base.proofs.Standing.{not_inside}
+use Rattle.utf_base.proofs.Utf8Code.{utf8_is_code}
+use Rattle.encode_unicode.specs.Pieces.{pieces}
+use Rattle.encode_unicode.specs.Window.{Item}
+use Rattle.cuts.specs.Chunks.{EndOutside, IsSpot}
+use Rattle.cuts.specs.Items.{piece_of}
+use Rattle.cuts.specs.PieceBoundaries.{IsFirstBetween}
+use Rattle.cuts.specs.Tables.{IsSplitAt}
+use Rattle.cuts.proofs.ForwardRuns.{pieces_are_the_run}
+use Rattle.cuts.proofs.ChunkLists.{concat-take-more, next_spot}
+use Rattle.cuts.proofs.CountLemmas.{pieces_joined, count_joined, pieces_few}
+use Rattle.cuts.proofs.JoinedPieces.{inside_front, inside_rest, inside_before, inside_following}
+
+-- no code lies over the place where a piece begins
+begins_outside : (xs : List ℕ) (p n : ℕ) (char : Option ℕ) → IsPieceAt utf8 xs p n char → Inside utf8 xs p → ⊥
+begins_outside xs p n (Some s) h i = not_inside utf8 utf8_is_code xs p s h.0 i
+begins_outside xs p n None h i = h.2 (record { from = i.from; char = i.char; stands = i.stands; begins = omega (arith, i.begins); ends = i.ends })
+
+-- the pieces of a front that ends at a boundary are the first ones, and the others begin from there on
+module _ (xs : List ℕ) (b : ℕ) (le : b ≤ length xs) (out : Inside utf8 xs b → ⊥) where
+  first_pieces : map piece_of (pieces xs) ≡ map piece_of (pieces (take b xs)) ++ map (moved 0 b) (map piece_of (pieces (drop b xs)))
+  first_pieces =
+      let whole : take b xs ++ drop b xs ≡ xs = take-append-drop b xs in
+      let of_a : length (take b xs) ≡ b = length-take-le b xs le in
+      let joined = pieces_joined (take b xs) (drop b xs) (λ i. out (subst (λ ys. Inside utf8 ys b) whole (rw of_a at i))) in
+      ap (λ ys. map piece_of (pieces ys)) (sym whole) ∙ (joined ∙ ap (λ n. map piece_of (pieces (take b xs)) ++ map (moved 0 n) (map piece_of (pieces (drop b xs)))) of_a)
+
+  count_is : length (pieces xs) ≡ length (pieces (take b xs)) + length (pieces (drop b xs))
+  count_is =
+      omega (
+        arith,
+        ap length first_pieces,
+        length-map (pieces xs) piece_of,
+        length-map (pieces (take b xs)) piece_of,
+        length-map (pieces (drop b xs)) piece_of,
+        length-map (map piece_of (pieces (drop b xs))) (moved 0 b),
+        length-append (map piece_of (pieces (take b xs))) (map (moved 0 b) (map piece_of (pieces (drop b xs)))),
+      )
+
+  piece_begins_at : (n : ℕ) (d : Item) → n < length (pieces xs) → (get_or (map piece_of (pieces (take b xs)) ++ map (moved 0 b) (map piece_of (pieces (drop b xs)))) n (piece_of d)).start ≡ (get_or (pieces xs) n d).0
+  piece_begins_at n d lt =
+      ap (λ (y : Piece). y.start) (ap (λ ps. get_or ps n (piece_of d)) (sym first_pieces) ∙ get_or-map piece_of (pieces xs) n d (piece_of d) lt)
+
+  begins_in_front : (n : ℕ) (d : Item) → n < length (pieces (take b xs)) → (get_or (pieces xs) n d).0 < b
+  begins_in_front n d lt =
+      let ps = map piece_of (pieces (take b xs)) in
+      let qs = map (moved 0 b) (map piece_of (pieces (drop b xs))) in
+      let len : length ps ≡ length (pieces (take b xs)) = length-map (pieces (take b xs)) piece_of in
+      let lt' : n < length ps = omega arith in
+      let place = piece_begins_at n d (omega (arith, count_is)) in
+      let first = ap (λ (y : Piece). y.start) (get_or_append_left ps qs (piece_of d) n lt') in
+      let before = ((pieces_are_the_run (take b xs)).cut.pieces n (piece_of d) lt').2 in
+      omega (arith, length-take-le b xs le)
+
+  begins_in_rest : (n : ℕ) (d : Item) → length (pieces (take b xs)) ≤ n → n < length (pieces xs) → b ≤ (get_or (pieces xs) n d).0
+  begins_in_rest n d ge lt =
+      let ps = map piece_of (pieces (take b xs)) in
+      let rs = map piece_of (pieces (drop b xs)) in
+      let len : length ps ≡ length (pieces (take b xs)) = length-map (pieces (take b xs)) piece_of in
+      let of_r : length rs ≡ length (pieces (drop b xs)) = length-map (pieces (drop b xs)) piece_of in
+      let place = piece_begins_at n d lt in
+      let past : length ps ≤ n = omega arith in
+      let in_rest : n - length ps < length rs = omega (arith, count_is) in
+      let later = ap (λ (y : Piece). y.start) (get_or-append_right ps (map (moved 0 b) rs) (length ps) n (piece_of d) refl past) in
+      let at = ap (λ (y : Piece). y.start) (get_or-map (moved 0 b) rs (n - length ps) (piece_of d) (piece_of d) in_rest) in
+      omega arith
+
+  -- so where m lies after all that begin before this boundary, they are as many as begin before m
+  pub split_at_boundary : (m : ℕ) → (m ≤ b) ⊎ (b ≡ length xs) → ((n : ℕ) → m ≤ n → n < b → Inside utf8 xs n) → IsSplitAt (pieces xs) m (length (pieces (take b xs)))
+  split_at_boundary m far over = record {
+    within = omega (arith, count_is);
+    before = λ n d lo hi.
+        let x = get_or (pieces xs) n d in
+        let first : x.0 < b = begins_in_front n d hi in
+        let lt : n < length (map piece_of (pieces xs)) = omega (arith, count_is, length-map (pieces xs) piece_of) in
+        let is : get_or (map piece_of (pieces xs)) n (piece_of d) ≡ piece_of x = get_or-map piece_of (pieces xs) n d (piece_of d) (omega (arith, count_is)) in
+        let piece : IsPieceAt utf8 xs x.0 x.2 (piece_of x).char = rw is at (((pieces_are_the_run xs).cut.pieces n (piece_of d) lt).0) in
+        ⊎_elim (λ (lt : x.0 < m). lt) (λ (ge : m ≤ x.0). absurd (begins_outside xs x.0 x.2 (piece_of x).char piece (over x.0 ge first))) (cases_lt x.0 m);
+    following = λ n d lo hi.
+        let later : b ≤ (get_or (pieces xs) n d).0 = begins_in_rest n d lo hi in
+        ⊎_elim
+        (λ (le : m ≤ b). omega arith)
+        (λ (end : b ≡ length xs).
+        let x = get_or (pieces xs) n d in
+        let lt : n < length (map piece_of (pieces xs)) = omega (arith, length-map (pieces xs) piece_of) in
+        let is : (get_or (map piece_of (pieces xs)) n (piece_of d)).start ≡ x.0 = ap (λ (y : Piece). y.start) (get_or-map piece_of (pieces xs) n d (piece_of d) hi) in
+        let within = ((pieces_are_the_run xs).cut.pieces n (piece_of d) lt).2 in
+        absurd (omega arith))
+        far;
+  }
+
+-- A chunk of the whole.
+pub record ChunkAt (chunks : List (List ℕ)) (k p : ℕ) (x : List ℕ) : Type 0 where
+  pub ends : EndOutside chunks
+  pub spot : IsSpot chunks k p
+  pub lt : k < length chunks
+  pub is : x ≡ get_or chunks k x
+
+module _ (chunks : List (List ℕ)) (k p : ℕ) (x : List ℕ) (at : ChunkAt chunks k p x) where
+  chunk_whole : (concat (take k chunks) ++ x) ++ concat (drop (k + 1) chunks) ≡ concat chunks
+  chunk_whole =
+      ap (λ ys. ys ++ concat (drop (k + 1) chunks)) (sym (concat-take-more chunks k x at.lt at.is))
+      ∙ (sym (concat-append (take (k + 1) chunks) (drop (k + 1) chunks)) ∙ ap concat (take-append-drop (k + 1) chunks))
+
+  chunk_front_len : length (concat (take k chunks)) ≡ p
+  chunk_front_len = sym at.spot.begins
+
+  chunk_end_len : length (concat (take k chunks) ++ x) ≡ p + length x
+  chunk_end_len = omega (arith, length-append (concat (take k chunks)) x, chunk_front_len)
+
+  chunk_end_outside : Inside utf8 ((concat (take k chunks) ++ x) ++ concat (drop (k + 1) chunks)) (length (concat (take k chunks) ++ x)) → ⊥
+  chunk_end_outside i = at.ends.outside (k + 1) (rw (concat-take-more chunks k x at.lt at.is) (rw chunk_whole at i))
+
+  chunk_front_outside : Inside utf8 (concat (take k chunks) ++ x) (length (concat (take k chunks))) → ⊥
+  chunk_front_outside i =
+      at.ends.outside k (rw chunk_whole at (inside_front utf8 (concat (take k chunks) ++ x) (concat (drop (k + 1) chunks)) (length (concat (take k chunks))) i))
+
+  -- a code lies over a place of the chunk where one lies over it in the whole
+  pub inside_chunk : (n : ℕ) → n ≤ length x → Inside utf8 (concat chunks) (p + n) → Inside utf8 x n
+  inside_chunk n le i =
+      let j = inside_before utf8 (concat (take k chunks) ++ x) (concat (drop (k + 1) chunks)) chunk_end_outside (p + n) (omega (arith, chunk_end_len)) (rw chunk_whole i) in
+      inside_following utf8 (concat (take k chunks)) x chunk_front_outside n (rw chunk_front_len j)
+
+  pub inside_of_chunk : (n : ℕ) → Inside utf8 x n → Inside utf8 (concat chunks) (p + n)
+  inside_of_chunk n i =
+      rw (chunk_front_len, chunk_whole) at
+      (inside_front utf8 (concat (take k chunks) ++ x) (concat (drop (k + 1) chunks)) (length (concat (take k chunks)) + n) (inside_rest utf8 (concat (take k chunks)) x n i))
+
+  chunk_within : p + length x ≤ length (concat chunks)
+  chunk_within = omega (arith, ap length chunk_whole, length-append (concat (take k chunks) ++ x) (concat (drop (k + 1) chunks)), chunk_end_len)
+
+  take_to_chunk : (n : ℕ) → n ≤ length x → take (p + n) (concat chunks) ≡ concat (take k chunks) ++ take n x
+  take_to_chunk n le =
+      let front : take (p + n) (concat (take k chunks) ++ x) ≡ concat (take k chunks) ++ take n x
+      = ap (λ m. take (m + n) (concat (take k chunks) ++ x)) (sym chunk_front_len) ∙ take-append-add (concat (take k chunks)) x n in
+      ap (take (p + n)) (sym chunk_whole) ∙ (take-append-le (p + n) (concat (take k chunks) ++ x) (concat (drop (k + 1) chunks)) (omega (arith, chunk_end_len)) ∙ front)
+
+  -- how many pieces begin before a place m of the chunk; in the last chunk also where m lies after it
+  number_in_chunk : (m at n : ℕ) → p ≤ m → at ≡ min (m - p) (length x) → (m < p + length x) ⊎ (p + length x ≡ length (concat chunks)) → IsFirstBetween x at n
+      → IsSplitAt (pieces (concat chunks)) m (length (pieces (concat (take k chunks))) + length (pieces (take n x)))
+  number_in_chunk m at n lo near last first =
+      let within : n ≤ length x = first.between.within in
+      let after : at ≤ n = first.after in
+      let b = p + n in
+      let le : b ≤ length (concat chunks) = omega (arith, chunk_within) in
+      let out : Inside utf8 (concat chunks) b → ⊥ = λ i. first.between.outside (inside_chunk n within i) in
+      let P = concat (take k chunks) in
+      let parts : (P ++ take n x) ++ drop n x ≡ P ++ x = append_assoc P (take n x) (drop n x) ∙ ap (λ ys. P ++ ys) (take-append-drop n x) in
+      let seam : Inside utf8 (P ++ take n x) (length P) → ⊥
+      = λ i. chunk_front_outside (subst (λ ys. Inside utf8 ys (length P)) parts (inside_front utf8 (P ++ take n x) (drop n x) (length P) i)) in
+      let count : length (pieces (take b (concat chunks))) ≡ length (pieces P) + length (pieces (take n x))
+      = ap (λ ys. length (pieces ys)) (take_to_chunk n within) ∙ count_joined P (take n x) seam in
+      let far : (m ≤ b) ⊎ (b ≡ length (concat chunks)) =
+      ⊎_elim
+      (λ (lt : m - p < length x). inl (omega arith))
+      (λ (ge : length x ≤ m - p). ⊎_elim (λ (lt : m < p + length x). inl (omega arith)) (λ (end : p + length x ≡ length (concat chunks)). inr (omega arith)) last)
+      (cases_lt (m - p) (length x)) in
+      let over : (q : ℕ) → m ≤ q → q < b → Inside utf8 (concat chunks) q = λ q ge lt.
+      let place : p + (q - p) ≡ q = omega arith in
+      rw place at (inside_of_chunk (q - p) (first.first (q - p) (omega arith) (omega arith))) in
+      rw count at (split_at_boundary (concat chunks) b le out m far over)
+
+  -- the chunk has the byte at m, or is the last
+  chunk_last : (m : ℕ) → (k + 1 < length chunks → m < length (concat (take (k + 1) chunks))) → (m < p + length x) ⊎ (p + length x ≡ length (concat chunks))
+  chunk_last m has =
+      let end = (next_spot chunks k p x at.spot at.lt at.is).begins in
+      ⊎_elim
+      (λ (some : k + 1 < length chunks). let below = has some in inl (omega arith))
+      (λ (none : length chunks ≤ k + 1). inr (omega (arith, ap (λ cs. length (concat cs)) (take_all (k + 1) chunks none))))
+      (cases_lt (k + 1) (length chunks))
+
+  pub number_found : (m n : ℕ) → p ≤ m → (k + 1 < length chunks → m < length (concat (take (k + 1) chunks))) → IsFirstBetween x (min (length x) (m - p)) n
+      → IsSplitAt (pieces (concat chunks)) m (length (pieces (concat (take k chunks))) + length (pieces (take n x)))
+  number_found m n lo has first = number_in_chunk m (min (length x) (m - p)) n lo (omega arith) (chunk_last m has) first
+
+  -- what is left of the chunk begins what is left of the whole
+  pub rest_of_chunk : (m : ℕ) → p ≤ m → drop (min (length x) (m - p)) x ≡ take (length (drop (min (length x) (m - p)) x)) (drop m (concat chunks))
+  rest_of_chunk m lo =
+      let P = concat (take k chunks) in
+      let Q = concat (drop (k + 1) chunks) in
+      let j = min (length x) (m - p) in
+      ⊎_elim
+      (λ (past : p + length x < m).
+      let none : drop j x ≡ [] = drop_all j x (omega arith) in
+      rw none refl)
+      (λ (within : m ≤ p + length x).
+      let place : m ≡ length P + j = omega (arith, chunk_front_len) in
+      let whole : concat chunks ≡ P ++ (x ++ Q) = sym chunk_whole ∙ append_assoc P x Q in
+      let left : drop m (concat chunks) ≡ drop j x ++ Q
+      = ap (λ n. drop n (concat chunks)) place ∙ (ap (drop (length P + j)) whole ∙ (drop-append-add P (x ++ Q) j ∙ drop-append-le j x Q (omega arith))) in
+      sym (ap (take (length (drop j x))) left ∙ take_at (drop j x) Q (length (drop j x)) refl))
+      (cases_lt (p + length x) m)
+
+  pub some_of_chunk : (m : ℕ) → p ≤ m → (k + 1 < length chunks → m < length (concat (take (k + 1) chunks))) → m < length (concat chunks) → 0 < length (drop (min (length x) (m - p)) x)
+  some_of_chunk m lo has lt =
+      let len = length-drop (min (length x) (m - p)) x in
+      ⊎_elim (λ (here : m < p + length x). omega arith) (λ (end : p + length x ≡ length (concat chunks)). omega arith) (chunk_last m has)
+
+-- where there is no chunk, there is nothing
+pub none_found : (chunks : List (List ℕ)) (m : ℕ) → length chunks ≡ 0 → IsSplitAt (pieces (concat chunks)) m 0
+none_found [] m none =
+    let few = pieces_few [] in
+    record { within = omega arith; before = λ n d lo hi. absurd (omega arith); following = λ n d lo hi. absurd (omega arith) }
+none_found (x ∷ chunks) m none = absurd (omega arith)
+
+pub nothing_left : (chunks : List (List ℕ)) → length chunks ≡ 0 → length (concat chunks) ≡ 0
+nothing_left [] none = refl
+nothing_left (x ∷ chunks) none = absurd (omega arith)

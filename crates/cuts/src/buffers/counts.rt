@@ -1,0 +1,61 @@
+//! How much there is of what a text is measured in.
+ghost use Rattle.std.specs.Prelude.{◌≡◌};
+ghost use Rattle.cuts.specs.Counts.{counts_of, sum_of, exchange_of, IsSmall, AreAmong};
+
+use crate::runs::counts::{char_count, fault_count};
+
+/// How many bytes, characters, invalid bytes and line feeds some bytes have.
+#[derive(Clone, Copy, Debug, PartialEq, Eq, Drop)]
+pub struct Counts {
+    /// The bytes.
+    pub bytes: usize,
+    /// The pieces: each character is one, and so is each invalid byte.
+    pub pieces: usize,
+    /// The invalid bytes.
+    pub faults: usize,
+    /// The line feeds.
+    pub line_feeds: usize,
+}
+
+impl Counts {
+    /// How many some bytes have.
+    ///
+    /// Cost: O(n).
+    pub fn of(bytes: &[u8]) -> Counts
+        ensures { result ≡ counts_of bytes.now }
+    {
+        Counts {
+            bytes: bytes.len(),
+            pieces: char_count(bytes),
+            faults: fault_count(bytes),
+            line_feeds: bytes.iter().filter(|byte| **byte == b'\n').count(),
+        }
+    }
+
+    // Those of two parts together.
+    pub(crate) fn plus(self, other: Counts) -> Counts
+        requires { IsSmall (sum_of self other) }
+        ensures { result ≡ sum_of self other }
+    {
+        Counts {
+            bytes: self.bytes + other.bytes,
+            pieces: self.pieces + other.pieces,
+            faults: self.faults + other.faults,
+            line_feeds: self.line_feeds + other.line_feeds,
+        }
+    }
+
+    // Those of a whole where one part came in place of another.
+    pub(crate) fn exchange(self, gone: Counts, come: Counts) -> Counts
+        requires part { AreAmong gone self }
+        requires small { IsSmall (exchange_of self gone come) }
+        ensures { result ≡ exchange_of self gone come }
+    {
+        Counts {
+            bytes: self.bytes - gone.bytes + come.bytes,
+            pieces: self.pieces - gone.pieces + come.pieces,
+            faults: self.faults - gone.faults + come.faults,
+            line_feeds: self.line_feeds - gone.line_feeds + come.line_feeds,
+        }
+    }
+}

@@ -1,0 +1,284 @@
+//! A text that is edited: each edit costs about the same, however long the text is.
+ghost use Rattle.std.specs.List.{concat, splice};
+ghost use Rattle.std.specs.Prelude.{◌≡◌, ◌+◌, ◌^◌, ◌<◌, ◌≤◌, [], length, take, drop, IfOk, OnOk, OnErr};
+ghost use Rattle.encode_unicode.specs.Pieces.{pieces};
+ghost use Rattle.cuts.specs.Chunks.{EndOutside};
+ghost use Rattle.cuts.specs.Counts.{counts_of};
+ghost use Rattle.cuts.specs.CountedChunks.{IsCounted};
+ghost use Rattle.cuts.specs.ChunkEdits.{Surrounds};
+ghost use Rattle.cuts.specs.Tables.{IsSplitAt};
+
+use crate::buffers::chunk::Chunk;
+use crate::buffers::counts::Counts;
+use crate::buffers::dividing::{ROOM, divide, joined_bytes, total};
+use crate::buffers::lookups::{chunk_from, pieces_before};
+use crate::buffers::spots::{Spot, find, find_end};
+use crate::piece_table::splice_in;
+use std::alloc::{AllocError, Allocator};
+use std::marker::Model;
+
+/// A text that is edited, of which it is known at any time how many characters, invalid bytes and
+/// lines it has. Contracts see its bytes.
+///
+/// The bytes are kept in chunks of some kilobytes. An edit changes one or two of them, and no other
+/// byte is read or moved.
+#[derive(Drop)]
+pub struct TextBuffer<A: Allocator + Copy> {
+    chunks: Vec<Chunk<A>, A>,
+    counts: Counts,
+}
+
+impl<A: Allocator + Copy> Model for TextBuffer<A> {
+    ghost use Rattle.std.specs.Prelude.{ℕ, List};
+    ghost use Rattle.std.specs.List.{concat};
+    ghost use Rattle.cuts.specs.CountedChunks.{IsCounted};
+
+    ghost Value = { List ℕ };
+
+    ghost view = { λ t. concat t.chunks.items };
+
+    ghost invariant = { λ t. IsCounted t.chunks.items t.counts };
+}
+
+impl<A: Allocator + Copy> TextBuffer<A> {
+    /// A buffer of a copy of the bytes. The error is that memory was refused.
+    ///
+    /// Cost: O(n), allocates.
+    pub fn of(alloc: A, bytes: &[u8]) -> Result<TextBuffer<A>, AllocError>
+        ensures { IfOk result (λ text. text ≡ bytes.now) }
+    {
+        let chunks = divide(alloc, bytes)?;
+        let counts = total(&chunks);
+        Ok(TextBuffer { chunks, counts })
+    }
+
+    /// How many bytes the text has.
+    pub fn len(&self) -> usize
+        ensures { result ≡ length self.now }
+    {
+        self.counts.bytes
+    }
+
+    /// How many bytes, pieces, invalid bytes and line feeds the text has. A piece is a character or
+    /// one invalid byte.
+    pub fn counts(&self) -> Counts
+        ensures { result ≡ counts_of self.now }
+    {
+        let TextBuffer { counts, .. } = self;
+        *counts
+    }
+
+    /// The bytes from this offset on, as far as they lie in one chunk. If the offset is below the
+    /// length, there is a byte at least. To read all, go on at the offset plus their number.
+    ///
+    /// Cost: a step for each 4,096 bytes of the text.
+    pub fn chunk_at(&self, offset: usize) -> &[u8]
+        ensures bytes { result.now ≡ take (length result.now) (drop offset self.now) }
+        ensures some { offset < length self.now → 0 < length result.now }
+    {
+        chunk_from(&self.chunks, offset)
+    }
+
+    /// How many pieces begin before this offset. If a piece begins at the offset, this is its number,
+    /// counted from 0.
+    ///
+    /// Cost: a step for each 4,096 bytes of the text, and at most 4,096 bytes are decoded.
+    pub fn number_of(&self, offset: usize) -> usize
+        ensures { IsSplitAt (pieces self.now) offset result }
+    {
+        pieces_before(&self.chunks, offset)
+    }
+
+    /// A copy of the bytes. The error is that memory was refused.
+    ///
+    /// Cost: O(n), allocates.
+    pub fn to_vec(&self, alloc: A) -> Result<Vec<u8, A>, AllocError>
+        ensures { IfOk result (λ bytes. bytes.items ≡ self.now) }
+    {
+        joined_bytes(alloc, &self.chunks)
+    }
+
+    /// Replaces the bytes from `start` up to `end`, `end` not included, by `new`.
+    ///
+    /// The error is that memory was refused, or that a `usize` cannot count the bytes. The text is
+    /// then as it was.
+    ///
+    /// Condition: `start` is at most `end`, and `end` at most the length.
+    ///
+    /// Cost: O(n) for n bytes that go or come, and the search for the chunk, which takes a step for
+    /// each 4,096 bytes of the text; allocates.
+    pub fn replace(&mut self, start: usize, end: usize, new: &[u8]) -> Result<(), AllocError>
+        requires ordered { start ≤ end }
+        requires within { end ≤ length self.old }
+        ensures ok { OnOk result (self.new ≡ splice self.old start end new.now) }
+        ensures err { OnErr result (self.new ≡ self.old) }
+    {
+        let edit = reach(&self.chunks, start, end);
+        replace_reached(&mut self.chunks, &mut self.counts, edit, new)
+    }
+
+    /// Inserts the bytes at this offset. Errors and cost are as those of `replace`.
+    ///
+    /// Condition: the offset is at most the length.
+    pub fn insert(&mut self, offset: usize, new: &[u8]) -> Result<(), AllocError>
+        requires { offset ≤ length self.old }
+        ensures ok { OnOk result (self.new ≡ splice self.old offset offset new.now) }
+        ensures err { OnErr result (self.new ≡ self.old) }
+    {
+        self.replace(offset, offset, new)
+    }
+
+    /// Removes the bytes from `start` up to `end`, `end` not included. Errors and cost are as those
+    /// of `replace`.
+    ///
+    /// Condition: `start` is at most `end`, and `end` at most the length.
+    pub fn remove(&mut self, start: usize, end: usize) -> Result<(), AllocError>
+        requires ordered { start ≤ end }
+        requires within { end ≤ length self.old }
+        ensures ok { OnOk result (self.new ≡ splice self.old start end []) }
+        ensures err { OnErr result (self.new ≡ self.old) }
+    {
+        self.replace(start, end, &[])
+    }
+}
+
+// A part that is replaced, and the chunks that an edit of it reaches: from `first` up to `last`.
+#[derive(Clone, Copy, Drop)]
+pub(crate) struct Edit {
+    pub first: Spot,
+    pub last: Spot,
+    pub start: usize,
+    pub end: usize,
+}
+
+// The chunks that an edit of this part reaches.
+fn reach<A: Allocator>(chunks: &[Chunk<A>], start: usize, end: usize) -> Edit
+    requires ordered { start ≤ end }
+    requires within { end ≤ length (concat chunks.now) }
+    requires small { length (concat chunks.now) < 2 ^ 64 }
+    ensures surrounds { Surrounds chunks.now result }
+    ensures part { (result.start ≡ start) × (result.end ≡ end) }
+{
+    let first = find(chunks, start.saturating_sub(3));
+    let last = find_end(chunks, first, end.saturating_add(3));
+    Edit {
+        first,
+        last,
+        start,
+        end,
+    }
+}
+
+// Replaces a part of the text, in one chunk where that has room for it.
+fn replace_reached<A: Allocator + Copy>(
+    chunks: &mut Vec<Chunk<A>, A>,
+    counts: &mut Counts,
+    edit: Edit,
+    new: &[u8],
+) -> Result<(), AllocError>
+    requires counted { IsCounted chunks.old.items counts.old }
+    requires surrounds { Surrounds chunks.old.items edit }
+    ensures counted { IsCounted chunks.new.items counts.new }
+    ensures ok { OnOk result (concat chunks.new.items ≡
+        splice (concat chunks.old.items) edit.start edit.end new.now) }
+    ensures err { OnErr result (concat chunks.new.items ≡ concat chunks.old.items) }
+{
+    let left = counts.bytes - (edit.end - edit.start);
+    if usize::MAX - left < new.len() {
+        return Err(AllocError);
+    }
+    let reached = edit.last.place - edit.first.place;
+    if edit.last.number - edit.first.number == 1 && reached <= ROOM && new.len() <= ROOM - reached {
+        return replace_within(chunks, counts, edit, new);
+    }
+    replace_chunks(chunks, counts, edit, new)
+}
+
+// Replaces a part of one chunk.
+fn replace_within<A: Allocator>(
+    chunks: &mut Vec<Chunk<A>, A>,
+    counts: &mut Counts,
+    edit: Edit,
+    new: &[u8],
+) -> Result<(), AllocError>
+    requires counted { IsCounted chunks.old.items counts.old }
+    requires surrounds { Surrounds chunks.old.items edit }
+    requires one { edit.last.number ≡ edit.first.number + 1 }
+    requires fits { length (splice (concat chunks.old.items) edit.start edit.end new.now) < 2 ^ 64 }
+    ensures counted { IsCounted chunks.new.items counts.new }
+    ensures ok { OnOk result (concat chunks.new.items ≡
+        splice (concat chunks.old.items) edit.start edit.end new.now) }
+    ensures err { OnErr result (concat chunks.new.items ≡ concat chunks.old.items) }
+{
+    let chunk = &mut chunks[edit.first.number];
+    let gone = chunk.counts();
+    chunk.replace(
+        edit.start - edit.first.place,
+        edit.end - edit.first.place,
+        new,
+    )?;
+    let come = chunk.counts();
+    *counts = counts.exchange(gone, come);
+    Ok(())
+}
+
+// Puts new chunks in place of those that the edit reaches.
+fn replace_chunks<A: Allocator + Copy>(
+    chunks: &mut Vec<Chunk<A>, A>,
+    counts: &mut Counts,
+    edit: Edit,
+    new: &[u8],
+) -> Result<(), AllocError>
+    requires counted { IsCounted chunks.old.items counts.old }
+    requires surrounds { Surrounds chunks.old.items edit }
+    requires fits { length (splice (concat chunks.old.items) edit.start edit.end new.now) < 2 ^ 64 }
+    ensures counted { IsCounted chunks.new.items counts.new }
+    ensures ok { OnOk result (concat chunks.new.items ≡
+        splice (concat chunks.old.items) edit.start edit.end new.now) }
+    ensures err { OnErr result (concat chunks.new.items ≡ concat chunks.old.items) }
+{
+    let alloc = *chunks.allocator();
+    let reached = &chunks.as_slice()[edit.first.number..edit.last.number];
+    let gone = total(reached);
+    let start = edit.start - edit.first.place;
+    let end = edit.end - edit.first.place;
+    let made = remake(alloc, reached, start, end, new)?;
+    let come = total(made.as_slice());
+    put_chunks(chunks, edit.first.number, edit.last.number, made)?;
+    *counts = counts.exchange(gone, come);
+    Ok(())
+}
+
+// New chunks of the bytes of some, of which a part is replaced.
+fn remake<A: Allocator + Copy>(
+    alloc: A,
+    reached: &[Chunk<A>],
+    start: usize,
+    end: usize,
+    new: &[u8],
+) -> Result<Vec<Chunk<A>, A>, AllocError>
+    requires ordered { start ≤ end }
+    requires within { end ≤ length (concat reached.now) }
+    ensures bytes { IfOk result (λ made. concat made.items ≡ splice (concat reached.now) start end new.now) }
+    ensures ends { IfOk result (λ made. EndOutside made.items) }
+{
+    let mut bytes = joined_bytes(alloc, reached)?;
+    splice_in(&mut bytes, start, end, new)?;
+    divide(alloc, bytes.as_slice())
+}
+
+// Puts chunks in place of those from `start` up to `end`. It fails only before it changes anything.
+fn put_chunks<A: Allocator + Copy>(
+    chunks: &mut Vec<Chunk<A>, A>,
+    start: usize,
+    end: usize,
+    made: Vec<Chunk<A>, A>,
+) -> Result<(), AllocError>
+    requires ordered { start ≤ end }
+    requires within { end ≤ length chunks.old.items }
+    ensures ok { OnOk result (chunks.new.items ≡ splice chunks.old.items start end made.items) }
+    ensures err { OnErr result (chunks.new.items ≡ chunks.old.items) }
+{
+    chunks.splice(start..end, made)?;
+    Ok(())
+}

@@ -1,0 +1,163 @@
+//! Runs that put the pieces of bytes into a room: ASCII in blocks, other text character by character, and the rest with care.
+ghost use Rattle.std.specs.Prelude.{◌≡◌, ◌+◌, ◌<◌, ◌≤◌, ◌^◌, length, drop, IsTrue, IsFalse};
+ghost use Rattle.utf_lanes.specs.AsciiTexts.{AreAscii};
+ghost use Rattle.recoding.specs.declared.form.Form.TheVariants.{Utf8};
+ghost use Rattle.cuts.specs.Located.{Begins, BeginsSome, IsOpen, IsWithin, Puts, at_offset, told_of};
+
+use crate::first_pieces::{Front, front_of};
+use crate::located::{FromPiece, Spot};
+use recoding::form::Form;
+use utf_lanes::ascii_texts::is_ascii;
+use utf_lanes::text_front::front_of_text;
+
+// How many bytes of ASCII are put at once.
+const BLOCK: usize = 8;
+
+// How many pieces are put with care before text is looked for again.
+const STRIDE: usize = 32;
+
+// How far a run came, and why it run_ended, if it did: the room is full before a piece, or what follows decides of what is left.
+#[derive(Clone, Copy, Drop)]
+pub(crate) struct Reached {
+    pub(crate) at: Spot,
+    pub(crate) is_full: bool,
+    pub(crate) is_waiting: bool,
+}
+
+// What is made of a piece.
+#[inline(always)]
+pub(crate) fn made_of<P: FromPiece>(offset: u64, front: Front) -> P
+    requires { (told_of front).1 ≤ 4 }
+    ensures { result ≡ P.made (at_offset offset (told_of front)) }
+{
+    match front {
+        Front::Char(c, len) => P::from_character(offset, c, len),
+        Front::Fault(kind, len) => P::from_fault(offset, kind, len),
+    }
+}
+
+// Puts the pieces that begin the bytes from a spot on, as far as there is room and no later byte decides of them.
+pub(crate) fn put_run<P: FromPiece>(form: Form, bytes: &[u8], room: &mut [P], from: Spot) -> Reached
+    requires { IsWithin from bytes.now room.old }
+    ensures puts { Puts P.made form bytes.now room.old room.new from result.at }
+    ensures full { IsTrue result.is_full → result.at.written ≡ length room.old }
+    ensures begins { IsTrue result.is_full → BeginsSome form (drop result.at.read bytes.now) }
+    ensures few { IsFalse result.is_full → length bytes.now ≤ result.at.read + 3 }
+    ensures waits { IsFalse result.is_full → result.at.read < length bytes.now →
+        IsOpen form (drop result.at.read bytes.now) }
+{
+    let mut at = from;
+    loop {
+        at = put_located_text(form, bytes, room, at);
+        let few = put_few_pieces(form, bytes, room, at);
+        at = few.at;
+        if few.is_full || few.is_waiting {
+            return few;
+        }
+    }
+}
+
+// The same of a few pieces.
+#[inline(always)]
+fn put_few_pieces<P: FromPiece>(form: Form, bytes: &[u8], room: &mut [P], from: Spot) -> Reached
+    requires { IsWithin from bytes.now room.old }
+    ensures puts { Puts P.made form bytes.now room.old room.new from result.at }
+    ensures full { IsTrue result.is_full → result.at.written ≡ length room.old }
+    ensures begins { IsTrue result.is_full → BeginsSome form (drop result.at.read bytes.now) }
+    ensures few { IsTrue result.is_waiting → length bytes.now ≤ result.at.read + 3 }
+    ensures waits { IsTrue result.is_waiting → result.at.read < length bytes.now →
+        IsOpen form (drop result.at.read bytes.now) }
+    ensures moves { IsFalse result.is_full → IsFalse result.is_waiting → from.read < result.at.read }
+{
+    let mut at = from;
+    for count in 0..STRIDE {
+        let Some(front) = front_of(form, &bytes[at.read..]) else {
+            return run_ended(at, false, true);
+        };
+        if at.written == room.len() {
+            return run_ended(at, true, false);
+        }
+        room[at.written] = made_of(at.offset, front);
+        at = at.after(front.len());
+    }
+    run_ended(at, false, false)
+}
+
+#[inline(always)]
+fn run_ended(at: Spot, is_full: bool, is_waiting: bool) -> Reached
+    ensures { result ≡ record { at = at; is_full = is_full; is_waiting = is_waiting } }
+{
+    Reached {
+        at,
+        is_full,
+        is_waiting,
+    }
+}
+
+// Puts the characters of text that begin the bytes, as far as they are found quickly.
+#[inline(always)]
+fn put_located_text<P: FromPiece>(form: Form, bytes: &[u8], room: &mut [P], from: Spot) -> Spot
+    requires { IsWithin from bytes.now room.old }
+    ensures { Puts P.made form bytes.now room.old room.new from result }
+{
+    match form {
+        Form::Utf8 => {
+            let at = put_located_ascii(bytes, room, from);
+            put_located_characters(bytes, room, at)
+        }
+        _ => from,
+    }
+}
+
+// Puts the ASCII characters that begin the bytes of UTF-8, as far as they go in blocks.
+#[inline(always)]
+fn put_located_ascii<P: FromPiece>(bytes: &[u8], room: &mut [P], from: Spot) -> Spot
+    requires { IsWithin from bytes.now room.old }
+    ensures { Puts P.made Utf8 bytes.now room.old room.new from result }
+{
+    let mut at = from;
+    while BLOCK <= bytes.len() - at.read && BLOCK <= room.len() - at.written {
+        if !is_ascii(&bytes[at.read..at.read + BLOCK]) {
+            return at;
+        }
+        at = put_ascii_block(bytes, room, at);
+    }
+    at
+}
+
+// The same of one block.
+#[inline(always)]
+fn put_ascii_block<P: FromPiece>(bytes: &[u8], room: &mut [P], from: Spot) -> Spot
+    requires read { from.read + 8 ≤ length bytes.now }
+    requires written { from.written + 8 ≤ length room.old }
+    requires ascii { AreAscii bytes.now from.read (from.read + 8) }
+    ensures puts { Puts P.made Utf8 bytes.now room.old room.new from result }
+    ensures moves { result.read ≡ from.read + 8 }
+{
+    let mut at = from;
+    for count in 0..BLOCK {
+        room[at.written] = P::from_ascii(at.offset, bytes[at.read]);
+        at = at.after(1);
+    }
+    at
+}
+
+// Puts the characters that begin the bytes of UTF-8, up to what is none. There are no more than a character for each four bytes: so
+// one count bounds both.
+#[inline(always)]
+fn put_located_characters<P: FromPiece>(bytes: &[u8], room: &mut [P], from: Spot) -> Spot
+    requires { IsWithin from bytes.now room.old }
+    ensures { Puts P.made Utf8 bytes.now room.old room.new from result }
+{
+    let most = (room.len() - from.written).min((bytes.len() - from.read) / 4);
+    let end = from.written + most;
+    let mut at = from;
+    while at.written < end {
+        let Some((c, len)) = front_of_text(&bytes[at.read..at.read + 4]) else {
+            return at;
+        };
+        room[at.written] = P::from_character(at.offset, c, len);
+        at = at.after(len);
+    }
+    at
+}

@@ -1,0 +1,90 @@
+//! Pieces of input that comes in parts: the answers of a merger of the Rust crate for the whole, with their offsets summed by hand.
+use cuts::{Decoder, FaultKind, Fed, Form, LocatedPiece, form_of_bom};
+use encode_unicode::error::{Utf8ErrorKind, Utf16PairError};
+
+fn empty() -> [LocatedPiece; 3] {
+    [is_char(0, 1, 'x'); 3]
+}
+
+fn is_char(offset: u64, len: usize, c: char) -> LocatedPiece {
+    LocatedPiece {
+        offset,
+        len,
+        answer: Ok(c),
+    }
+}
+
+fn is_fault(offset: u64, len: usize, kind: FaultKind) -> LocatedPiece {
+    LocatedPiece {
+        offset,
+        len,
+        answer: Err(kind),
+    }
+}
+
+fn came(read: usize, written: usize, is_full: bool) -> Fed {
+    Fed {
+        read,
+        written,
+        is_full,
+    }
+}
+
+// e2 82 | ac 41 f0 | 41: the euro sign lies over two parts, and f0 is told by the 41 of the third.
+#[test]
+fn characters_lie_over_parts(rt: HostRuntime) {
+    let mut decoder = Decoder::new(Form::Utf8);
+    let mut room = empty();
+    assert!(rt; decoder.feed(b"\xe2\x82", &mut room) == came(2, 0, false));
+    assert!(rt; decoder.held() == b"\xe2\x82".as_slice());
+    assert!(rt; decoder.feed(b"\xacA\xf0", &mut room) == came(3, 2, false));
+    assert!(rt; room[0] == is_char(0, 3, '€') && room[1] == is_char(3, 1, 'A'));
+    assert!(rt; decoder.feed(b"A", &mut room) == came(1, 2, false));
+    let kind = FaultKind::Utf8(Utf8ErrorKind::InterruptedSequence);
+    assert!(rt; room[0] == is_fault(4, 1, kind) && room[1] == is_char(5, 1, 'A'));
+    assert!(rt; decoder.finish(&mut room) == came(0, 0, false) && decoder.offset() == 6);
+}
+
+// e2 82 at the end is two pieces, and with room for one each call gives one.
+#[test]
+fn a_full_room_keeps_the_others(rt: HostRuntime) {
+    let mut decoder = Decoder::new(Form::Utf8);
+    let mut room = [is_char(0, 1, 'x'); 1];
+    assert!(rt; decoder.feed(b"\xe2\x82", &mut room) == came(2, 0, false));
+    assert!(rt; decoder.finish(&mut room) == came(0, 1, true));
+    assert!(rt; room[0] == is_fault(0, 1, FaultKind::Utf8(Utf8ErrorKind::TooFewBytes)));
+    assert!(rt; decoder.finish(&mut room) == came(0, 1, false));
+    let kind = FaultKind::Utf8(Utf8ErrorKind::UnexpectedContinuationByte);
+    assert!(rt; room[0] == is_fault(1, 1, kind));
+}
+
+// d8 3d de | 00 d8 3d 00: a pair over two parts; then a leading surrogate and an odd byte end the input.
+#[test]
+fn units_lie_over_parts(rt: HostRuntime) {
+    let mut decoder = Decoder::new(Form::Utf16Be);
+    let mut room = empty();
+    assert!(rt; decoder.feed(b"\xd8\x3d\xde", &mut room) == came(3, 0, false));
+    assert!(rt; decoder.feed(b"\x00\xd8\x3d\x00", &mut room) == came(4, 1, false));
+    assert!(rt; room[0] == is_char(0, 4, '\u{1f600}'));
+    assert!(rt; decoder.finish(&mut room) == came(0, 2, false));
+    let kind = FaultKind::Utf16(Utf16PairError::Incomplete);
+    assert!(rt; room[0] == is_fault(4, 2, kind) && room[1] == is_fault(6, 1, kind));
+}
+
+// The last offset that 64 bits count is followed by 0.
+#[test]
+fn offsets_wrap(rt: HostRuntime) {
+    let mut decoder = Decoder::holding(Form::Utf8, b"", u64::MAX);
+    let mut room = empty();
+    assert!(rt; decoder.feed(b"ab", &mut room) == came(2, 2, false));
+    assert!(rt; room[0] == is_char(u64::MAX, 1, 'a') && room[1] == is_char(0, 1, 'b'));
+}
+
+// The marks of the Unicode standard, section 23.8; what is no whole mark, or not at the front, tells nothing.
+#[test]
+fn marks_tell_the_form(rt: HostRuntime) {
+    assert!(rt; form_of_bom(b"\xef\xbb\xbfa") == Some((Form::Utf8, 3)));
+    assert!(rt; form_of_bom(b"\xff\xfea\x00") == Some((Form::Utf16Le, 2)));
+    assert!(rt; form_of_bom(b"\xfe\xff") == Some((Form::Utf16Be, 2)));
+    assert!(rt; form_of_bom(b"\xef\xbb") == None && form_of_bom(b"a\xff\xfe") == None);
+}

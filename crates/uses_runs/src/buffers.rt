@@ -1,0 +1,42 @@
+//! An editor's text: an edit, what the status line shows after it, and a view's way through the bytes.
+ghost use Rattle.std.specs.List.{splice};
+ghost use Rattle.std.specs.Prelude.{◌≡◌, ◌≤◌, ◌<◌, length, take, slice_index, IfOk, OnErr, OnOk};
+ghost use Rattle.cuts.specs.Counts.{counts_of};
+
+use cuts::{Counts, TextBuffer};
+use std::alloc::{AllocError, Allocator};
+
+/// Replaces a part of a text, and tells what the text has then: for a status line with the number of
+/// lines, characters and errors.
+pub fn replace_and_count<A: Allocator + Copy>(
+    text: &mut TextBuffer<A>,
+    start: usize,
+    end: usize,
+    new: &[u8],
+) -> Result<Counts, AllocError>
+    requires ordered { start ≤ end }
+    requires within { end ≤ length text.old }
+    ensures counts { IfOk result (λ counts. counts ≡ counts_of (splice text.old start end new.now)) }
+    ensures err { OnErr result (text.new ≡ text.old) }
+{
+    text.replace(start, end, new)?;
+    Ok(text.counts())
+}
+
+/// Adds bytes at the end: as a viewer of a log that grows does.
+pub fn append<A: Allocator + Copy>(text: &mut TextBuffer<A>, new: &[u8]) -> Result<(), AllocError>
+    ensures ok { OnOk result (take (length text.old) text.new ≡ text.old) }
+    ensures err { OnErr result (text.new ≡ text.old) }
+{
+    let end = text.len();
+    text.insert(end, new)
+}
+
+/// The byte at an offset.
+pub fn byte_at<A: Allocator + Copy>(text: &TextBuffer<A>, offset: usize) -> u8
+    requires { offset < length text.now }
+    ensures { result ≡ slice_index text.now offset }
+{
+    let bytes = text.chunk_at(offset);
+    bytes[0]
+}
