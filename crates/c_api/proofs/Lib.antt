@@ -1,5 +1,6 @@
 pub mod Counted
 pub mod AsciiPieces
+pub mod AsciiTold
 pub mod Each
 pub mod Fronts
 pub mod Merged

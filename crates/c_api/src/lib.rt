@@ -9,6 +9,7 @@ mod boundaries;
 mod characters;
 mod counts;
 mod cursors;
+mod decoders;
 mod kinds;
 mod lossy;
 mod piece;

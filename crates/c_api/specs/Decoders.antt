@@ -1,0 +1,35 @@
+-- What C sees of a decoder and of a piece with its offset.
+use Rattle.std.specs.Prelude.{ℕ, ◌≤◌, take, Result, Ok, Err}
+use Rattle.cuts.specs.declared.FaultKind.{FaultKind}
+use Rattle.cuts.specs.declared.LocatedPiece.{LocatedPiece}
+use Rattle.cuts.specs.Located.{Decoding}
+use Rattle.cuts.specs.Recoded.{most_held}
+use Rattle.c_api.specs.Api.{IsForm, fault_number, form_of}
+use Rattle.c_api.specs.declared.decoders.NodyDecoder.{NodyDecoder}
+use Rattle.c_api.specs.declared.decoders.NodyLocated.{NodyLocated}
+use Rattle.c_api.specs.declared.decoders.NodyTold.{NodyTold}
+
+-- a scalar has the kind 0, and a fault its number and no scalar
+abbrev pub told_for_c : Result ℕ FaultKind → ℕ → NodyTold
+told_for_c (Ok s) n = record { scalar = s; len = n; kind = 0 }
+told_for_c (Err k) n = record { scalar = 0; len = n; kind = fault_number k }
+
+abbrev pub located_for_c : LocatedPiece → NodyLocated
+located_for_c p = record { offset = p.offset; told = told_for_c p.answer p.len }
+
+-- what an ASCII character is
+abbrev pub ascii_told_of : ℕ → NodyTold
+ascii_told_of byte = record { scalar = byte; len = 1; kind = 0 }
+
+-- The struct is a decoder.
+pub record IsDecoder (d : NodyDecoder) : Type 0 where
+  pub form : IsForm d.form
+  pub few : d.count ≤ most_held
+
+-- the decoder that it is
+abbrev pub decoder_of : NodyDecoder → Decoding
+decoder_of d = record { form = form_of d.form; held = take d.count d.held; offset = d.offset }
+
+-- what holds of the decoders that the struct was and is, where it was one
+abbrev pub IfDecoder : NodyDecoder → NodyDecoder → (Decoding → Decoding → Type 0) → Type 0
+IfDecoder old new holds = IsDecoder old → holds (decoder_of old) (decoder_of new)
