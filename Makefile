@@ -1,10 +1,10 @@
-# Builds the library for C and both programs from the assembly in generated/, by a C compiler alone.
+# Builds the library for C and its programs from the assembly in generated/ and from c/, by a C compiler alone.
 #
-#   make             build/: libnoddychest.a, libnoddychest.so.1, pieces and recode
+#   make             build/: libnoddychest.a, libnoddychest.so.1, pieces, recode and nody
 #   make check       tests all of it; the last line is 'N passed, M failed'
 #   make check-python  installs the package for Python into a folder that goes away again, and tests it there
 #   make install     puts it below PREFIX, which has to be given, as PREFIX=/usr/local, in DESTDIR where that is given, with the man
-#                    pages of the programs, which are nody-pieces and nody-recode there, and says what it wrote
+#                    pages of the programs, which are nody-pieces, nody-recode and nody there, and says what it wrote
 #   make uninstall   takes it away again, for the same PREFIX and DESTDIR
 #   make dist        packs the sources, and what make builds of them, in build/dist
 #   make dist-windows
@@ -49,11 +49,14 @@ MACHINE := $(shell $(CC) -dumpmachine 2>/dev/null)
 TEXT = cp
 PROTECTED = -fcf-protection
 DYNAMIC = $(IN)/libnoddychest.so.1
+# (nody asks for POSIX)
+NODY = $(IN)/nody
 ifneq ($(findstring mingw,$(MACHINE)),)
 SYSTEM = -windows
 EXE = .exe
 PROTECTED =
 DYNAMIC = $(IN)/noddychest.dll
+NODY =
 endif
 ifneq ($(findstring apple,$(MACHINE)),)
 TEXT = scripts/macho
@@ -61,7 +64,7 @@ PROTECTED =
 DYNAMIC = $(IN)/libnoddychest.1.dylib
 endif
 
-all: $(IN)/libnoddychest.a $(DYNAMIC) $(IN)/pieces$(EXE) $(IN)/recode$(EXE)
+all: $(IN)/libnoddychest.a $(DYNAMIC) $(IN)/pieces$(EXE) $(IN)/recode$(EXE) $(NODY)
 
 # The processor, and with what all is compiled: another compiler, or other flags, make all anew.
 $(IN)/target: always
@@ -150,6 +153,9 @@ $(IN)/pieces$(EXE): $(IN)/pieces.o $(IN)/system.o
 
 $(IN)/recode$(EXE): $(IN)/recode.o $(IN)/system.o
 	$(CC) $(CFLAGS) $(LDFLAGS) -o "$@" "$(BUILD)/recode.o" "$(BUILD)/system.o"
+
+$(IN)/nody: $(wildcard c/nody/*) c/noddychest.h $(IN)/libnoddychest.a
+	$(COMPILE) -std=c99 -Ic -o "$@" c/nody/*.c "$(BUILD)/libnoddychest.a" -pthread $(LDFLAGS)
 
 check: all
 	@COMPILE='$(COMPILE)' LDFLAGS='$(LDFLAGS)' RUN='$(RUN)' LANES='$(LANES)' sh c/tests/all "$(BUILD)"

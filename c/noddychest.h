@@ -8,13 +8,15 @@
  *
  * CALLS. A call that begins with nody_utf8_ has a twin for units that begins with nody_utf16_; nody_utf8_streamed_at has none.
  *     valid?       nody_utf8_valid_up_to, nody_utf16_bytes_valid_up_to
- *     one piece    nody_utf8_first, nody_utf8_last, nody_utf8_encode, nody_utf8_streamed_at
+ *     one piece    nody_utf8_first, nody_utf8_last, nody_utf8_encode
  *     all pieces   nody_bytes or nody_units, then nody_utf8_next, nody_utf8_next_back, nody_utf8_pieces; nody_utf8_char_count
- *     divide       nody_boundary_before, nody_boundary_after, nody_utf16_boundary_before, nody_utf16_boundary_after, nody_shard_end
+ *     divide       nody_boundary_before, nody_boundary_after, nody_utf16_boundary_before, nody_utf16_boundary_after
  *     recode       nody_recoded_len, nody_recoded_len_max, nody_recode, nody_recode_strict, nody_utf8_to_utf16, nody_utf16_to_utf8
- *     in parts     nody_recoder, nody_recoder_feed, nody_recoder_finish, nody_recoder_held; the same with _strict and _lossy
+ *     in parts     nody_recoder, nody_recoder_feed, nody_recoder_finish, nody_recoder_held; the same with _strict and _lossy;
+ *                  nody_decoder, nody_decoder_feed, nody_decoder_finish: the pieces, with their offsets
  *     words        nody_kind_name, nody_kind_sentence
  *     library      nody_version, nody_supported, nody_lanes
+ *     rarely       nody_shard_end (nody_boundary_before under another name), nody_utf8_streamed_at
  *
  * WORDS.
  *     character    a Unicode scalar value: 0 to 10FFFF, without D800 to DFFF
@@ -42,9 +44,9 @@
  * number is 0, the pointer may be NULL. Else it must be valid for that many bytes, units or pieces. What a call writes must not
  * overlap what it reads. Any other pointer that a call takes must not be NULL. No call writes out of bounds.
  *
- * STRUCTS. Make a cursor (nody_bytes_t, nody_units_t) by nody_bytes or nody_units, and a recoder (nody_recoder_t) by
- * nody_recoder. If you fill a cursor yourself, its pointer must not be NULL, even if `len` is 0, and must be valid for `len`. Do
- * not fill a recoder yourself: the calls then refuse it, or write bytes that have no meaning. They stay within bounds.
+ * STRUCTS. Make a cursor (nody_bytes_t, nody_units_t) by nody_bytes or nody_units, a recoder (nody_recoder_t) by nody_recoder, and
+ * a decoder (nody_decoder_t) by nody_decoder. If you fill a cursor yourself, its pointer must not be NULL, even if `len` is 0, and must be valid for `len`. Do
+ * not fill a recoder or a decoder yourself: the calls then refuse it, or write what has no meaning. They stay within bounds.
  *
  * ERRORS. A call fails only as its comment says. None sets errno. On x86-64 call nody_supported first.
  *
@@ -115,8 +117,8 @@ NODY_ENUM(nody_form_t) {
 /* The result of a call that writes into a room. */
 NODY_ENUM(nody_status_t) {
     NODY_STATUS_DONE = 0,    /* the call read all of the input, and wrote all that it had to write */
-    NODY_STATUS_FULL = 1,    /* the next character does not fit into the room that is left */
-    NODY_STATUS_REFUSED = 2, /* a form, or the `count` of a recoder, is too great. Nothing was read or written */
+    NODY_STATUS_FULL = 1,    /* the next character, or piece, does not fit into the room that is left */
+    NODY_STATUS_REFUSED = 2, /* a form, or the `count` of a recoder or decoder, is too great. Nothing was read or written */
     NODY_STATUS_FAULT = 3    /* a strict call stopped at a fault. All before the fault was written */
 };
 
@@ -154,6 +156,25 @@ typedef struct {
     uint64_t replaced; /* how many faults nody_recoder_feed and nody_recoder_finish replaced since nody_recoder */
 } nody_recoder_t;
 
+/* A decoder of input that comes in parts. It holds up to three bytes of input from one call to the next: those that
+ * were read, but whose piece is not known yet, or did not fit into the room. `offset` is the offset of the first of them or, if
+ * none is held, of the next byte. You may read it. You may set it before the first call, to count from another number than 0.
+ * Leave the other fields alone. */
+typedef struct {
+    nody_form_t form;
+    uint8_t count;
+    uint8_t held[3];
+    uint64_t offset;
+} nody_decoder_t;
+
+/* A piece with its offset. */
+typedef struct {
+    uint64_t offset;  /* of its first byte in all of the input, in bytes, in UTF-16 too; modulo 2^64 */
+    uint32_t scalar;  /* the number of the character; 0 for a fault */
+    uint8_t len;      /* in bytes. Character: 1 to 4. Fault: 1 in UTF-8, 2 for a lone surrogate, 1 for a single byte at the end of UTF-16 */
+    nody_kind_t kind; /* NODY_KIND_OK, or the reason of the fault */
+} nody_located_t;
+
 /* The fault at which a strict call stopped. If the call met no fault, the kind is NODY_KIND_NONE, and len and back are 0.
  * nody_recode_strict reads the bytes before the fault, and no more. The other strict calls read the fault too, and sometimes
  * bytes after it; `back` counts all of these. To get the offset of the fault in the whole input, add up `*read` of all calls so
@@ -172,39 +193,6 @@ typedef struct {
 typedef struct {
     char text[64];
 } nody_sentence_t;
-
-/* ---- The library ------------------------------------------------------------------------------------------------------------ */
-
-/* The version of the library.
- *
- * Result: major * 1000000 + minor * 1000 + patch. A program needs a library of the same major version as its header, and of the
- * same or a higher minor version.
- * Errors: none. Cost: constant.
- *
- *     uint32_t version = nody_version();
- *     if (version / 1000000 != NODY_VERSION_MAJOR || version / 1000 < NODY_VERSION / 1000) return other_version();
- */
-uint32_t nody_version(void);
-
-/* Whether the library runs on this processor. On x86-64 it needs x86-64-v2.
- *
- * Result: 0 if it does not, another number if it does. No other call tests this: on a processor without x86-64-v2 the signal
- * SIGILL may end your program.
- * Errors: none. Cost: constant.
- *
- *     if (!nody_supported()) return use_another_library();
- */
-int nody_supported(void);
-
-/* How many bytes validation looks at at once. It tells which code the library has chosen for this processor.
- *
- * Result: 32 on x86-64 if the processor has x86-64-v3 (AVX2 and what comes with it), else 16. Recoding is faster with 32 too. What
- * the calls answer is the same. The library asks the processor once, when it is loaded. Before that the result is 16.
- * Errors: none. Cost: constant.
- *
- *     printf("%d bytes at once\n", nody_lanes());
- */
-int nody_lanes(void);
 
 /* ---- One character ---------------------------------------------------------------------------------------------------------- */
 
@@ -245,19 +233,6 @@ nody_piece_t nody_utf16_last(const uint16_t *units, size_t len);
  */
 size_t nody_utf8_encode(uint32_t scalar, uint8_t *out, size_t room);
 size_t nody_utf16_encode(uint32_t scalar, uint16_t *out, size_t room);
-
-/* The piece that begins at an offset, with the kind that the Rust crate encode_unicode reports when it decodes an iterator of
- * bytes. Its decoder takes one byte at a time. It reports a wrong byte at once, before it can know how much input is left.
- *
- * bytes, len: the input. place: the offset.
- * Result: what nody_utf8_first gives for the bytes from `place` on, but for one case. If fewer bytes are left than the first byte
- * needs, and one of the bytes after the first is not 80 to BF, the kind is NODY_KIND_INTERRUPTED_SEQUENCE, and not
- * NODY_KIND_TOO_FEW_BYTES. If `place` is len or more, the kind is NODY_KIND_NONE.
- * Errors: none. Cost: constant.
- *
- *     nody_kind_t kind = nody_utf8_streamed_at((const uint8_t *)"\xf0\x9f!", 3, 0).kind; // NODY_KIND_INTERRUPTED_SEQUENCE
- */
-nody_piece_t nody_utf8_streamed_at(const uint8_t *bytes, size_t len, size_t place);
 
 /* ---- All characters --------------------------------------------------------------------------------------------------------- */
 
@@ -377,17 +352,6 @@ size_t nody_boundary_after(nody_form_t form, const uint8_t *bytes, size_t len, s
  */
 size_t nody_utf16_boundary_before(const uint16_t *units, size_t len, size_t at);
 size_t nody_utf16_boundary_after(const uint16_t *units, size_t len, size_t at);
-
-/* Where a shard of a large input may end. This is nody_boundary_before under another name. If each shard ends where this call
- * says, and the last one at len, you may recode each by itself, also on several machines, and join the outputs.
- *
- * from: the form of the input. bytes, len: the input. at: about where the shard should end.
- * Result: where it ends, at most three bytes before `at`. If `at` is len or more, it is len.
- * Errors: SIZE_MAX if the form is above 2. Cost: constant: it looks at six bytes around `at`.
- *
- *     size_t end = i + 1 < count ? nody_shard_end(NODY_FORM_UTF8, bytes, len, (i + 1) * (len / count)) : len;
- */
-size_t nody_shard_end(nody_form_t from, const uint8_t *bytes, size_t len, size_t at);
 
 /* ---- A whole input recoded -------------------------------------------------------------------------------------------------- */
 
@@ -625,6 +589,63 @@ nody_status_t nody_recoder_finish_lossy(nody_recoder_t *recoder, uint8_t *out, s
  */
 size_t nody_recoder_held(const nody_recoder_t *recoder, uint8_t *out, size_t room);
 
+/* ---- Pieces of input in parts ----------------------------------------------------------------------------------------------- */
+
+/* Makes a decoder, which gives the pieces of input that comes in parts, each with its offset.
+ *
+ * form: the form of the input.
+ * Result: the decoder. It holds nothing, and counts offsets from 0. If the form is above 2, the other calls refuse it. It has 16
+ * bytes, and you may copy it: both copies then go on by themselves.
+ * Errors: none. Cost: constant.
+ *
+ *     nody_decoder_t decoder = nody_decoder(NODY_FORM_UTF8);
+ */
+nody_decoder_t nody_decoder(nody_form_t form);
+
+/* Feeds the next part of the input. The pieces do not depend on how the input is divided into parts, nor on the room.
+ *
+ * They are those that nody_utf8_pieces gives of the whole input, with the same kinds but for one case. A decoder names a byte that
+ * breaks a character as soon as it sees that byte. So for the first byte of F0 41, at the end of the input, the kind is
+ * NODY_KIND_INTERRUPTED_SEQUENCE, and not NODY_KIND_TOO_FEW_BYTES (as nody_utf8_streamed_at has it).
+ *
+ * decoder: the decoder. It holds the last bytes of the part, at most three, as long as the bytes after them decide which piece
+ * they begin, and no byte that is decided.
+ * in, in_len: the part. It may end anywhere, also inside a character or a unit, and may be empty.
+ * out, room: where to write pieces, and how many. Places after those that were written keep what they had.
+ * read: receives how many bytes of the part were read. Bytes that the decoder now holds are included.
+ * written: receives how many pieces were written.
+ * Result:
+ *   NODY_STATUS_DONE: the whole part was read.
+ *   NODY_STATUS_FULL: the room is full, and the next piece is known already. Empty `out`, and call again with the bytes of the part
+ *   after `*read`, even if there are none. With room for a piece, each call that is given a byte reads or writes something.
+ * Errors: NODY_STATUS_REFUSED, with 0 in `*read` and `*written`, if the form is above 2, or `count` is above 3 (only in a
+ * struct that nody_decoder did not make). Cost: linear in what is read.
+ *
+ *     do {
+ *         status = nody_decoder_feed(&decoder, in + place, len - place, pieces, 256, &read, &written);
+ *         for (size_t k = 0; k < written; k++)
+ *             if (pieces[k].kind != NODY_KIND_OK) report(pieces[k].offset, nody_kind_sentence(pieces[k].kind));
+ *         place += read;
+ *     } while (status == NODY_STATUS_FULL);
+ */
+nody_status_t nody_decoder_feed(nody_decoder_t *decoder, const uint8_t *in, size_t in_len, nody_located_t *out, size_t room,
+                                size_t *read, size_t *written);
+
+/* Ends the input: gives the pieces of what the decoder holds. These are faults, of the kind NODY_KIND_TOO_FEW_BYTES or, in UTF-16,
+ * NODY_KIND_INCOMPLETE, and continuation bytes after the first one.
+ *
+ * decoder: the decoder. Its offset goes on from the end of the input. For other input make another decoder.
+ * out, room, written: as for nody_decoder_feed. Room for three pieces is always enough.
+ * Result:
+ *   NODY_STATUS_DONE: all was written. The decoder holds nothing.
+ *   NODY_STATUS_FULL: the room is full, and something is still held. Empty `out`, and call this again.
+ * Errors: NODY_STATUS_REFUSED, with 0 in `*written`, as for nody_decoder_feed. Cost: constant.
+ *
+ *     nody_located_t last[3];
+ *     if (nody_decoder_finish(&decoder, last, 3, &written) != NODY_STATUS_DONE) return failed();
+ */
+nody_status_t nody_decoder_finish(nody_decoder_t *decoder, nody_located_t *out, size_t room, size_t *written);
+
 /* ---- Kinds in words --------------------------------------------------------------------------------------------------------- */
 
 /* Writes the address of the name of a kind, or of a sentence about it. From C and C++ call nody_kind_name and nody_kind_sentence
@@ -669,6 +690,65 @@ static inline const char *nody_kind_sentence(nody_kind_t kind) {
     nody_put_kind_sentence(kind, &sentence);
     return sentence->text;
 }
+
+/* ---- The library ------------------------------------------------------------------------------------------------------------ */
+
+/* The version of the library.
+ *
+ * Result: major * 1000000 + minor * 1000 + patch. A program needs a library of the same major version as its header, and of the
+ * same or a higher minor version.
+ * Errors: none. Cost: constant.
+ *
+ *     uint32_t version = nody_version();
+ *     if (version / 1000000 != NODY_VERSION_MAJOR || version / 1000 < NODY_VERSION / 1000) return other_version();
+ */
+uint32_t nody_version(void);
+
+/* Whether the library runs on this processor. On x86-64 it needs x86-64-v2.
+ *
+ * Result: 0 if it does not, another number if it does. No other call tests this: on a processor without x86-64-v2 the signal
+ * SIGILL may end your program.
+ * Errors: none. Cost: constant.
+ *
+ *     if (!nody_supported()) return use_another_library();
+ */
+int nody_supported(void);
+
+/* How many bytes validation looks at at once. It tells which code the library has chosen for this processor.
+ *
+ * Result: 32 on x86-64 if the processor has x86-64-v3 (AVX2 and what comes with it), else 16. Recoding is faster with 32 too. What
+ * the calls answer is the same. The library asks the processor once, when it is loaded. Before that the result is 16.
+ * Errors: none. Cost: constant.
+ *
+ *     printf("%d bytes at once\n", nody_lanes());
+ */
+int nody_lanes(void);
+
+/* ---- Rarely needed ---------------------------------------------------------------------------------------------------------- */
+
+/* nody_boundary_before under another name, for inputs that are divided among workers; new programs need it not. If each shard ends
+ * where this call says, and the last one at len, you may recode each by itself, also on several machines, and join the outputs.
+ *
+ * from: the form of the input. bytes, len: the input. at: about where the shard should end.
+ * Result: where it ends, at most three bytes before `at`. If `at` is len or more, it is len.
+ * Errors: SIZE_MAX if the form is above 2. Cost: constant: it looks at six bytes around `at`.
+ *
+ *     size_t end = i + 1 < count ? nody_shard_end(NODY_FORM_UTF8, bytes, len, (i + 1) * (len / count)) : len;
+ */
+size_t nody_shard_end(nody_form_t from, const uint8_t *bytes, size_t len, size_t at);
+
+/* The piece that begins at an offset, with the kind that the Rust crate encode_unicode reports when it decodes an iterator of
+ * bytes. Its decoder takes one byte at a time. It reports a wrong byte at once, before it can know how much input is left.
+ *
+ * bytes, len: the input. place: the offset.
+ * Result: what nody_utf8_first gives for the bytes from `place` on, but for one case. If fewer bytes are left than the first byte
+ * needs, and one of the bytes after the first is not 80 to BF, the kind is NODY_KIND_INTERRUPTED_SEQUENCE, and not
+ * NODY_KIND_TOO_FEW_BYTES. If `place` is len or more, the kind is NODY_KIND_NONE.
+ * Errors: none. Cost: constant.
+ *
+ *     nody_kind_t kind = nody_utf8_streamed_at((const uint8_t *)"\xf0\x9f!", 3, 0).kind; // NODY_KIND_INTERRUPTED_SEQUENCE
+ */
+nody_piece_t nody_utf8_streamed_at(const uint8_t *bytes, size_t len, size_t place);
 
 #undef NODY_CAST
 #ifdef __cplusplus

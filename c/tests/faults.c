@@ -4,6 +4,7 @@
  *   unread N        of each N reads the last is interrupted, before it moves a byte
  *   unwritten N     the same of writes
  * `make check` gives the calls of the program these names. */
+#define _XOPEN_SOURCE 700
 #include <errno.h>
 #include <stdlib.h>
 #include <string.h>
@@ -12,6 +13,7 @@
 void *faulty_malloc(size_t size);
 void *faulty_realloc(void *block, size_t size);
 ssize_t faulty_read(int file, void *bytes, size_t len);
+ssize_t faulty_pread(int file, void *bytes, size_t len, off_t at);
 ssize_t faulty_write(int file, const void *bytes, size_t len);
 
 /* The number that stands after the word, or 0 where FAULT has another. */
@@ -49,6 +51,10 @@ static size_t most_of(size_t len) {
 
 ssize_t faulty_read(int file, void *bytes, size_t len) {
     return is_interrupted("unread ") ? -1 : read(file, bytes, most_of(len));
+}
+
+ssize_t faulty_pread(int file, void *bytes, size_t len, off_t at) {
+    return is_interrupted("unread ") ? -1 : pread(file, bytes, most_of(len), at);
 }
 
 ssize_t faulty_write(int file, const void *bytes, size_t len) {

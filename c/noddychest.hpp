@@ -1,0 +1,486 @@
+// Noddychest for C++17 and later: noddychest.h with the types of C++. Header only, over the same library.
+//
+// WORDS are those of noddychest.h: a piece is a character, or a fault: one invalid byte, or one invalid unit of UTF-16.
+//
+// CALLS, all in the namespace nody.
+//     all pieces   pieces, pieces_back: ranges for `for`, over UTF-8 (std::string_view) or units of UTF-16 (std::u16string_view)
+//     valid?       valid, valid_up_to, first_fault
+//     count        count
+//     divide       boundary_before, boundary_after
+//     recode       recode, recode_strict, to_utf8, to_utf16, recoded_len
+//     in parts     recoder
+//     words        name, sentence
+//
+// BYTES. Text in bytes is taken as nody::bytes, which is made of a std::string_view, a std::string, a literal, and in C++20 of a
+// std::u8string_view and a std::span of std::byte, of char or of unsigned char. Like a view it holds nothing: what it shows has to live as
+// long as it is used.
+//
+// ERRORS. What is invalid is no exception: it is told by std::optional and by enums. Calls that make a std::string throw what that
+// throws (std::bad_alloc, std::length_error); the others are noexcept. Offsets and lengths count bytes, or units where the text is in
+// units.
+#ifndef NODDYCHEST_HPP
+#define NODDYCHEST_HPP
+
+#include "noddychest.h"
+
+#include <cstddef>
+#include <cstdint>
+#include <iterator>
+#include <optional>
+#include <stdexcept>
+#include <string>
+#include <string_view>
+#include <type_traits>
+#include <utility>
+#if defined(__has_include)
+#if (__cplusplus >= 202002L || (defined(_MSVC_LANG) && _MSVC_LANG >= 202002L)) && __has_include(<span>)
+#include <ranges>
+#include <span>
+#define NODY_HAS_SPAN 1
+#endif
+#endif
+
+namespace nody {
+
+// What a piece is: a character, or the reason why a byte or a unit is invalid. noddychest.h says when each is.
+enum class kind : std::uint8_t {
+    ok = NODY_KIND_OK,
+    too_few_bytes = NODY_KIND_TOO_FEW_BYTES,
+    non_utf8_byte = NODY_KIND_NON_UTF8_BYTE,
+    unexpected_continuation_byte = NODY_KIND_UNEXPECTED_CONTINUATION_BYTE,
+    interrupted_sequence = NODY_KIND_INTERRUPTED_SEQUENCE,
+    overlong_encoding = NODY_KIND_OVERLONG_ENCODING,
+    utf16_reserved_codepoint = NODY_KIND_UTF16_RESERVED_CODEPOINT,
+    too_high_codepoint = NODY_KIND_TOO_HIGH_CODEPOINT,
+    unexpected_trailing_surrogate = NODY_KIND_UNEXPECTED_TRAILING_SURROGATE,
+    unmatched_leading_surrogate = NODY_KIND_UNMATCHED_LEADING_SURROGATE,
+    incomplete = NODY_KIND_INCOMPLETE,
+};
+
+// The encoding of text in bytes.
+enum class form : std::uint8_t {
+    utf8 = NODY_FORM_UTF8,
+    utf16le = NODY_FORM_UTF16LE,
+    utf16be = NODY_FORM_UTF16BE,
+    utf16_native = NODY_FORM_UTF16_NATIVE,
+};
+
+// Whether a call that fills a room wrote all.
+enum class status : std::uint8_t {
+    done = NODY_STATUS_DONE,   // all of the input was read, and what comes of it written
+    full = NODY_STATUS_FULL,   // the next character does not fit
+    refused = NODY_STATUS_REFUSED, // a form is none of enum form
+    fault = NODY_STATUS_FAULT, // a strict call stopped at a fault
+};
+
+// The name of a kind, such as "OverlongEncoding", and a sentence about it.
+inline std::string_view name(kind it) noexcept { return nody_kind_name(static_cast<nody_kind_t>(it)); }
+inline std::string_view sentence(kind it) noexcept { return nody_kind_sentence(static_cast<nody_kind_t>(it)); }
+
+// A character or a fault, and where it is.
+struct piece {
+    std::size_t offset = 0;
+    std::size_t length = 0;
+    char32_t scalar = 0; // the number of the character; 0 for a fault
+    nody::kind kind = nody::kind::ok;
+
+    constexpr bool is_ok() const noexcept { return kind == nody::kind::ok; }
+    friend constexpr bool operator==(const piece &a, const piece &b) noexcept {
+        return a.offset == b.offset && a.length == b.length && a.scalar == b.scalar && a.kind == b.kind;
+    }
+    friend constexpr bool operator!=(const piece &a, const piece &b) noexcept { return !(a == b); }
+};
+
+// A fault at which a strict call stopped.
+struct fault {
+    std::uint64_t offset = 0; // in bytes, from the first byte of all input
+    std::size_t length = 0;
+    nody::kind kind = nody::kind::ok;
+};
+
+// Text in bytes, whatever type it has.
+class bytes {
+public:
+    constexpr bytes() noexcept = default;
+    constexpr bytes(const std::uint8_t *data, std::size_t size) noexcept : data_(data), size_(size) {}
+    bytes(std::string_view text) noexcept : bytes(text.data(), text.size()) {}
+    bytes(const std::string &text) noexcept : bytes(text.data(), text.size()) {}
+    bytes(const char *text) noexcept : bytes(std::string_view(text)) {}
+    bytes(const char *data, std::size_t size) noexcept : data_(reinterpret_cast<const std::uint8_t *>(data)), size_(size) {}
+    bytes(const std::byte *data, std::size_t size) noexcept : data_(reinterpret_cast<const std::uint8_t *>(data)), size_(size) {}
+#ifdef NODY_HAS_SPAN
+    template <class T, std::size_t N, class = std::enable_if_t<sizeof(T) == 1 && std::is_trivial_v<T>>>
+    bytes(std::span<T, N> text) noexcept : data_(reinterpret_cast<const std::uint8_t *>(text.data())), size_(text.size()) {}
+    bytes(std::u8string_view text) noexcept : data_(reinterpret_cast<const std::uint8_t *>(text.data())), size_(text.size()) {}
+#endif
+    constexpr const std::uint8_t *data() const noexcept { return data_; }
+    constexpr std::size_t size() const noexcept { return size_; }
+
+private:
+    const std::uint8_t *data_ = nullptr;
+    std::size_t size_ = 0;
+};
+
+namespace detail {
+
+inline nody_form_t c(form it) noexcept { return static_cast<nody_form_t>(it); }
+
+inline std::uint8_t *room_of(std::string &text) noexcept { return reinterpret_cast<std::uint8_t *>(text.data()); }
+
+// How UTF-8, and units of UTF-16, are taken piece by piece.
+struct utf8 {
+    using view = std::string_view;
+    using cursor = nody_bytes_t;
+    static cursor open(view text) noexcept { return nody_bytes(reinterpret_cast<const std::uint8_t *>(text.data()), text.size()); }
+    static nody_piece_t next(cursor *left) noexcept { return nody_utf8_next(left); }
+    static nody_piece_t next_back(cursor *left) noexcept { return nody_utf8_next_back(left); }
+};
+
+struct utf16 {
+    using view = std::u16string_view;
+    using cursor = nody_units_t;
+    // (char16_t is another type than uint16_t, with the same values; the library was compiled apart, and reads what is there)
+    static cursor open(view text) noexcept { return nody_units(reinterpret_cast<const std::uint16_t *>(text.data()), text.size()); }
+    static nody_piece_t next(cursor *left) noexcept { return nody_utf16_next(left); }
+    static nody_piece_t next_back(cursor *left) noexcept { return nody_utf16_next_back(left); }
+};
+
+inline piece at(const nody_piece_t &it, std::size_t offset) noexcept {
+    return {offset, it.len, static_cast<char32_t>(it.scalar), static_cast<kind>(it.kind)};
+}
+
+// A place in a range of pieces, which holds the piece that is there.
+template <class Code, bool is_back> class iterator {
+public:
+    using iterator_category = std::input_iterator_tag;
+#ifdef NODY_HAS_SPAN
+    using iterator_concept = std::forward_iterator_tag;
+#endif
+    using value_type = piece;
+    using difference_type = std::ptrdiff_t;
+    using pointer = const piece *;
+    using reference = const piece &;
+
+    iterator() noexcept : iterator(typename Code::view()) {}
+    explicit iterator(typename Code::view text) noexcept : left_(Code::open(text)), whole_(text.size()) { take(); }
+    reference operator*() const noexcept { return piece_; }
+    pointer operator->() const noexcept { return &piece_; }
+    iterator &operator++() noexcept {
+        take();
+        return *this;
+    }
+    iterator operator++(int) noexcept {
+        iterator before = *this;
+        take();
+        return before;
+    }
+    // Two places of one range are equal where as much is left, the piece itself included.
+    friend bool operator==(const iterator &a, const iterator &b) noexcept { return a.left_.len + a.piece_.length == b.left_.len + b.piece_.length; }
+    friend bool operator!=(const iterator &a, const iterator &b) noexcept { return !(a == b); }
+
+private:
+    void take() noexcept {
+        nody_piece_t here = is_back ? Code::next_back(&left_) : Code::next(&left_);
+        piece_ = at(here, is_back ? left_.len : whole_ - left_.len - here.len);
+    }
+    typename Code::cursor left_;
+    std::size_t whole_;
+    piece piece_;
+};
+
+template <class Code, bool is_back> class range {
+public:
+    explicit range(typename Code::view text) noexcept : text_(text) {}
+    iterator<Code, is_back> begin() const noexcept { return iterator<Code, is_back>(text_); }
+    iterator<Code, is_back> end() const noexcept { return {}; }
+
+private:
+    typename Code::view text_;
+};
+
+// Calls that would keep a view of a temporary string are refused.
+template <class Text, class String> using if_temporary = std::enable_if_t<std::is_same_v<Text, String>>;
+
+} // namespace detail
+
+// ---- All pieces
+
+// The pieces of UTF-8, or of units of UTF-16, from the front.
+//
+//     for (const nody::piece &it : nody::pieces(text))
+//         if (!it.is_ok()) report(it.offset, nody::sentence(it.kind));
+//
+// A temporary string is refused: the range has only a view of it.
+inline detail::range<detail::utf8, false> pieces(std::string_view text) noexcept { return detail::range<detail::utf8, false>(text); }
+inline detail::range<detail::utf16, false> pieces(std::u16string_view text) noexcept { return detail::range<detail::utf16, false>(text); }
+template <class Text, class = detail::if_temporary<Text, std::string>> void pieces(Text &&) = delete;
+template <class Text, class = detail::if_temporary<Text, std::u16string>, class = void> void pieces(Text &&) = delete;
+
+// The same pieces from the back. Where a fault lies is the same; its kind is judged without the bytes after it.
+inline detail::range<detail::utf8, true> pieces_back(std::string_view text) noexcept { return detail::range<detail::utf8, true>(text); }
+inline detail::range<detail::utf16, true> pieces_back(std::u16string_view text) noexcept { return detail::range<detail::utf16, true>(text); }
+template <class Text, class = detail::if_temporary<Text, std::string>> void pieces_back(Text &&) = delete;
+template <class Text, class = detail::if_temporary<Text, std::u16string>, class = void> void pieces_back(Text &&) = delete;
+
+// ---- Whether text is valid
+
+// The offset of the first fault, or the length of the text where it has none.
+inline std::size_t valid_up_to(std::string_view text) noexcept {
+    return nody_utf8_valid_up_to(reinterpret_cast<const std::uint8_t *>(text.data()), text.size());
+}
+inline std::size_t valid_up_to(std::u16string_view text) noexcept {
+    return nody_utf16_valid_up_to(reinterpret_cast<const std::uint16_t *>(text.data()), text.size());
+}
+inline std::size_t valid_up_to(form from, bytes text) noexcept { return nody_utf16_bytes_valid_up_to(detail::c(from), text.data(), text.size()); }
+
+inline bool valid(std::string_view text) noexcept { return valid_up_to(text) == text.size(); }
+inline bool valid(std::u16string_view text) noexcept { return valid_up_to(text) == text.size(); }
+inline bool valid(form from, bytes text) noexcept { return valid_up_to(from, text) == text.size(); }
+
+// The first fault, or nothing where the text is valid.
+//
+//     if (auto it = nody::first_fault(text)) report(it->offset, nody::sentence(it->kind));
+inline std::optional<piece> first_fault(std::string_view text) noexcept {
+    std::size_t offset = valid_up_to(text);
+    if (offset == text.size()) return std::nullopt;
+    return detail::at(nody_utf8_first(reinterpret_cast<const std::uint8_t *>(text.data()) + offset, text.size() - offset), offset);
+}
+inline std::optional<piece> first_fault(std::u16string_view text) noexcept {
+    std::size_t offset = valid_up_to(text);
+    if (offset == text.size()) return std::nullopt;
+    return detail::at(nody_utf16_first(reinterpret_cast<const std::uint16_t *>(text.data()) + offset, text.size() - offset), offset);
+}
+
+// The number of pieces.
+inline std::size_t count(std::string_view text) noexcept {
+    return nody_utf8_char_count(reinterpret_cast<const std::uint8_t *>(text.data()), text.size());
+}
+inline std::size_t count(std::u16string_view text) noexcept {
+    return nody_utf16_char_count(reinterpret_cast<const std::uint16_t *>(text.data()), text.size());
+}
+
+// ---- Where text may be divided
+
+// The last boundary up to an offset, and the first one from it on. noddychest.h says what a boundary is.
+//
+//     std::string_view short_name = name.substr(0, nody::boundary_before(nody::form::utf8, name, 255));
+inline std::size_t boundary_before(form from, bytes text, std::size_t offset) noexcept {
+    return nody_boundary_before(detail::c(from), text.data(), text.size(), offset);
+}
+inline std::size_t boundary_after(form from, bytes text, std::size_t offset) noexcept {
+    return nody_boundary_after(detail::c(from), text.data(), text.size(), offset);
+}
+inline std::size_t boundary_before(std::u16string_view text, std::size_t offset) noexcept {
+    return nody_utf16_boundary_before(reinterpret_cast<const std::uint16_t *>(text.data()), text.size(), offset);
+}
+inline std::size_t boundary_after(std::u16string_view text, std::size_t offset) noexcept {
+    return nody_utf16_boundary_after(reinterpret_cast<const std::uint16_t *>(text.data()), text.size(), offset);
+}
+
+// ---- Recoding
+
+// How many bytes recode gives; nothing where a std::size_t cannot hold the number.
+inline std::optional<std::size_t> recoded_len(form from, form to, bytes text) noexcept {
+    std::size_t len = nody_recoded_len(detail::c(from), detail::c(to), text.data(), text.size());
+    return len == SIZE_MAX ? std::nullopt : std::optional<std::size_t>(len);
+}
+
+namespace detail {
+
+inline std::size_t most_of(form from, form to, std::size_t len) {
+    std::size_t most = nody_recoded_len_max(c(from), c(to), len);
+    if (most == SIZE_MAX) throw std::length_error("nody: the text is too long");
+    return most;
+}
+
+inline std::size_t len_of(form from, form to, bytes text) {
+    std::optional<std::size_t> len = recoded_len(from, to, text);
+    if (!len) throw std::length_error("nody: the text is too long");
+    return *len;
+}
+
+// Makes the string longer by as much as there may come, and then as long as what came.
+template <class Write> auto append(std::string &out, std::size_t most, Write write) {
+    std::size_t had = out.size(), written = 0;
+    out.resize(had + most);
+    auto told = write(room_of(out) + had, most, &written);
+    out.resize(had + written);
+    return told;
+}
+
+} // namespace detail
+
+// Recodes all of a text. Each fault becomes one U+FFFD.
+//
+//     std::string utf16 = nody::recode(nody::form::utf8, nody::form::utf16be, text);
+inline std::string recode(form from, form to, bytes text) {
+    std::string out;
+    detail::append(out, detail::len_of(from, to, text), [&](std::uint8_t *into, std::size_t room, std::size_t *written) {
+        return nody_recode(detail::c(from), detail::c(to), text.data(), text.size(), into, room, written);
+    });
+    return out;
+}
+
+// Recodes a text up to its first fault, and adds that to `out`. The answer is the fault, or nothing where all is valid.
+//
+//     std::string out;
+//     if (auto it = nody::recode_strict(nody::form::utf8, nody::form::utf16le, text, out)) report(it->offset, nody::sentence(it->kind));
+inline std::optional<fault> recode_strict(form from, form to, bytes text, std::string &out) {
+    std::size_t read = 0;
+    nody_fault_t found = {0, 0, NODY_KIND_NONE};
+    detail::append(out, detail::most_of(from, to, text.size()), [&](std::uint8_t *into, std::size_t room, std::size_t *written) {
+        return nody_recode_strict(detail::c(from), detail::c(to), text.data(), text.size(), into, room, &read, written, &found);
+    });
+    if (found.kind == NODY_KIND_NONE) return std::nullopt;
+    return fault{read, found.len, static_cast<kind>(found.kind)};
+}
+
+// Text in the other code, with U+FFFD for each fault.
+//
+//     std::u16string wide = nody::to_utf16("na\xC3\xAFve");
+inline std::u16string to_utf16(std::string_view text) {
+    std::size_t count = 0;
+    std::u16string out(detail::len_of(form::utf8, form::utf16_native, text) / 2, u'\0');
+    nody_utf8_to_utf16(reinterpret_cast<const std::uint8_t *>(text.data()), text.size(), reinterpret_cast<std::uint16_t *>(out.data()), out.size(), &count);
+    return out;
+}
+inline std::string to_utf8(std::u16string_view text) {
+    std::size_t count = 0;
+    std::string out(detail::len_of(form::utf16_native, form::utf8, {reinterpret_cast<const std::byte *>(text.data()), 2 * text.size()}), '\0');
+    nody_utf16_to_utf8(reinterpret_cast<const std::uint16_t *>(text.data()), text.size(), detail::room_of(out), out.size(), &count);
+    return out;
+}
+
+// Recodes input that comes in parts. What comes of it does not depend on how it is divided. A recoder is moved, and copied only by copy():
+// two of them would go on from the same bytes. One that was moved from is as new.
+//
+//     nody::recoder recoder(nody::form::utf8, nody::form::utf16le);
+//     std::string out;
+//     while (read_some(part)) recoder.feed(part, out);
+//     recoder.finish(out);
+class recoder {
+public:
+    // What a call that fills a room did.
+    struct progress {
+        nody::status status;
+        std::size_t read, written;
+    };
+
+    recoder(form from, form to) noexcept : state_(nody_recoder(detail::c(from), detail::c(to))) {}
+    recoder(const recoder &) = delete;
+    recoder &operator=(const recoder &) = delete;
+    recoder(recoder &&other) noexcept : state_(other.state_), read_(other.read_) { other.reset(); }
+    recoder &operator=(recoder &&other) noexcept {
+        nody_recoder_t state = other.state_;
+        std::uint64_t read = other.read_;
+        other.reset();
+        state_ = state;
+        read_ = read;
+        return *this;
+    }
+    ~recoder() = default;
+
+    [[nodiscard]] recoder copy() const noexcept { return recoder(state_, read_); }
+
+    // Forgets what is held, and counts anew.
+    void reset() noexcept {
+        state_ = nody_recoder(state_.from, state_.to);
+        read_ = 0;
+    }
+
+    // Adds to `out` what comes of a part, and at the end of the input what comes of the bytes that are held.
+    void feed(bytes part, std::string &out) {
+        std::size_t read = 0;
+        append(part.size(), out, [&](std::uint8_t *into, std::size_t room, std::size_t *written) {
+            return nody_recoder_feed(&state_, part.data(), part.size(), into, room, &read, written);
+        });
+        read_ += read;
+    }
+    void finish(std::string &out) {
+        append(0, out, [&](std::uint8_t *into, std::size_t room, std::size_t *written) { return nody_recoder_finish(&state_, into, room, written); });
+    }
+
+    // The same, with one U+FFFD for each maximal subpart, as browsers and Python write.
+    void feed_lossy(bytes part, std::string &out) {
+        std::size_t read = 0;
+        append(part.size(), out, [&](std::uint8_t *into, std::size_t room, std::size_t *written) {
+            return nody_recoder_feed_lossy(&state_, part.data(), part.size(), into, room, &read, written);
+        });
+        read_ += read;
+    }
+    void finish_lossy(std::string &out) {
+        append(0, out, [&](std::uint8_t *into, std::size_t room, std::size_t *written) { return nody_recoder_finish_lossy(&state_, into, room, written); });
+    }
+
+    // The same up to the first fault, which is the answer. To go on after it, feed what follows the first `*read` bytes of the part. At the
+    // end of the input call finish_strict until it tells of none.
+    std::optional<fault> feed_strict(bytes part, std::string &out, std::size_t *read = nullptr) {
+        nody_fault_t found = {0, 0, NODY_KIND_NONE};
+        std::size_t taken = 0;
+        append(part.size(), out, [&](std::uint8_t *into, std::size_t room, std::size_t *written) {
+            return nody_recoder_feed_strict(&state_, part.data(), part.size(), into, room, &taken, written, &found);
+        });
+        read_ += taken;
+        if (read) *read = taken;
+        return told(found);
+    }
+    std::optional<fault> finish_strict(std::string &out) {
+        nody_fault_t found = {0, 0, NODY_KIND_NONE};
+        append(0, out, [&](std::uint8_t *into, std::size_t room, std::size_t *written) { return nody_recoder_finish_strict(&state_, into, room, written, &found); });
+        return told(found);
+    }
+
+    // Into a room, without memory: where it is full, empty it, and feed the rest of the part.
+    progress feed_into(bytes part, std::uint8_t *out, std::size_t room) noexcept {
+        progress it = {status::done, 0, 0};
+        it.status = static_cast<status>(nody_recoder_feed(&state_, part.data(), part.size(), out, room, &it.read, &it.written));
+        read_ += it.read;
+        return it;
+    }
+    progress finish_into(std::uint8_t *out, std::size_t room) noexcept {
+        progress it = {status::done, 0, 0};
+        it.status = static_cast<status>(nody_recoder_finish(&state_, out, room, &it.written));
+        return it;
+    }
+
+    // How many faults feed and finish replaced, how many bytes were read, and how many of these are held.
+    std::uint64_t replaced() const noexcept { return state_.replaced; }
+    std::uint64_t read() const noexcept { return read_; }
+    std::size_t held() const noexcept {
+        std::uint8_t room[3];
+        return nody_recoder_held(&state_, room, sizeof room);
+    }
+
+private:
+    recoder(const nody_recoder_t &state, std::uint64_t read) noexcept : state_(state), read_(read) {}
+
+    // (three bytes may be held. The string is made before anything is read, so that nothing is lost where there is no memory)
+    template <class Write> void append(std::size_t len, std::string &out, Write write) {
+        if (len > SIZE_MAX - sizeof state_.held) throw std::length_error("nody: the part is too long");
+        detail::append(out, detail::most_of(static_cast<form>(state_.from), static_cast<form>(state_.to), len + sizeof state_.held), write);
+    }
+
+    std::optional<fault> told(const nody_fault_t &found) const noexcept {
+        if (found.kind == NODY_KIND_NONE) return std::nullopt;
+        return fault{read_ - found.back, found.len, static_cast<kind>(found.kind)};
+    }
+
+    nody_recoder_t state_;
+    std::uint64_t read_ = 0;
+};
+
+// ---- The library
+
+// Whether the library runs on this processor, and its version: major * 1000000 + minor * 1000 + patch.
+inline bool supported() noexcept { return nody_supported() != 0; }
+inline std::uint32_t version() noexcept { return nody_version(); }
+
+} // namespace nody
+
+#ifdef NODY_HAS_SPAN
+template <class Code, bool is_back> inline constexpr bool std::ranges::enable_borrowed_range<nody::detail::range<Code, is_back>> = true;
+template <class Code, bool is_back> inline constexpr bool std::ranges::enable_view<nody::detail::range<Code, is_back>> = true;
+#undef NODY_HAS_SPAN
+#endif
+
+#endif

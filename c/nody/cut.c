@@ -1,0 +1,125 @@
+/* Where a block may be cut, and the pieces of a block: in UTF-8, and in UTF-16 of both byte orders.
+ *
+ * All that knows how pieces are found stands here, over the calls of noddychest.h. */
+#include "nody.h"
+
+#include <string.h>
+
+static uint16_t unit_at(nody_form_t form, const uint8_t *bytes) {
+    unsigned low = form == NODY_FORM_UTF16LE ? bytes[0] : bytes[1], high = form == NODY_FORM_UTF16LE ? bytes[1] : bytes[0];
+    return (uint16_t)(high << 8 | low);
+}
+
+static bool is_leading(uint16_t unit) {
+    return (unit & 0xFC00) == 0xD800;
+}
+
+static bool is_trailing(uint16_t unit) {
+    return (unit & 0xFC00) == 0xDC00;
+}
+
+/* How many bytes decide what a piece is, by its first. */
+static size_t deciding_len(uint8_t first) {
+    if (first < 0xC2 || first > 0xF4) return 1;
+    return first < 0xE0 ? 2 : first < 0xF0 ? 3 : 4;
+}
+
+/* How many bytes at the end, at most three, are pieces that later bytes may change: characters that are not complete, and invalid
+ * bytes whose kind depends on what follows. */
+size_t undecided_len(nody_form_t form, const uint8_t *bytes, size_t len) {
+    size_t odd = len % 2;
+    if (form != NODY_FORM_UTF8) return len >= 2 && is_leading(unit_at(form, bytes + len - odd - 2)) ? 2 + odd : odd;
+    for (size_t left = len < MOST_HELD ? len : MOST_HELD; left > 0; left--)
+        if (deciding_len(bytes[len - left]) > left) return left;
+    return 0;
+}
+
+/* Where a block may be cut, at `at` or at most three bytes before: nowhere inside a piece, or inside a maximal subpart. It is told by these
+ * bytes, whatever lies before and after them. */
+size_t cut_before(nody_form_t form, const uint8_t *bytes, size_t len, size_t at) {
+    if (at >= len) return len;
+    if (form != NODY_FORM_UTF8) return at >= 2 && is_leading(unit_at(form, bytes + at - 2)) ? at - 2 : at;
+    for (size_t back = 0; back <= MOST_HELD && back <= at; back++)
+        if ((bytes[at - back] & 0xC0) != 0x80) return at - back;
+    return at;
+}
+
+/* The first piece, with its length in bytes in each form. */
+nody_piece_t piece_at(nody_form_t form, const uint8_t *bytes, size_t len) {
+    uint16_t units[2];
+    if (form == NODY_FORM_UTF8) return nody_utf8_first(bytes, len);
+    nody_piece_t piece = {len, 0, len ? NODY_KIND_INCOMPLETE : NODY_KIND_NONE};
+    if (len < 2) return piece;
+    units[0] = unit_at(form, bytes);
+    units[1] = len < 4 ? 0 : unit_at(form, bytes + 2);
+    piece = nody_utf16_first(units, len < 4 ? 1 : 2);
+    piece.len *= 2;
+    return piece;
+}
+
+size_t valid_up_to(nody_form_t form, const uint8_t *bytes, size_t len) {
+    return form == NODY_FORM_UTF8 ? nody_utf8_valid_up_to(bytes, len) : nody_utf16_bytes_valid_up_to(form, bytes, len);
+}
+
+/* The number of pieces of bytes that begin and end between pieces. */
+size_t count_pieces(nody_form_t form, const uint8_t *bytes, size_t len) {
+    size_t pairs = 0;
+    bool is_after_leading = false;
+    if (form == NODY_FORM_UTF8) return nody_utf8_char_count(bytes, len);
+    for (size_t i = 0; i + 1 < len; i += 2) {
+        uint16_t unit = unit_at(form, bytes + i);
+        pairs += is_after_leading && is_trailing(unit);
+        is_after_leading = is_leading(unit);
+    }
+    return len / 2 + len % 2 - pairs;
+}
+
+/* Sixteen bytes at once, which gcc and clang make of any processor's vectors. */
+enum { LANES = 16, MOST_ROUNDS = 255 };
+typedef uint8_t lanes __attribute__((vector_size(LANES)));
+
+/* Counts a byte in so many rounds of lanes, at most as many as a lane can count. */
+static size_t count_in_lanes(const uint8_t *bytes, size_t rounds, uint8_t wanted) {
+    lanes counts = {0}, all = counts + wanted, here;
+    size_t count = 0;
+    for (size_t i = 0; i < rounds; i++) {
+        memcpy(&here, bytes + LANES * i, LANES);
+        counts -= (lanes)(here == all);
+    }
+    for (size_t i = 0; i < LANES; i++) count += counts[i];
+    return count;
+}
+
+static size_t count_bytes(const uint8_t *bytes, size_t len, uint8_t wanted) {
+    size_t count = 0;
+    while (len >= LANES) {
+        size_t rounds = len / LANES < MOST_ROUNDS ? len / LANES : MOST_ROUNDS;
+        count += count_in_lanes(bytes, rounds, wanted);
+        bytes += LANES * rounds;
+        len -= LANES * rounds;
+    }
+    for (size_t i = 0; i < len; i++) count += bytes[i] == wanted;
+    return count;
+}
+
+size_t count_line_feeds(nody_form_t form, const uint8_t *bytes, size_t len) {
+    size_t count = 0;
+    if (form == NODY_FORM_UTF8) return count_bytes(bytes, len, '\n');
+    for (size_t i = 0; i + 1 < len; i += 2) count += unit_at(form, bytes + i) == '\n';
+    return count;
+}
+
+/* The length of the byte order mark that the input begins with, and its form; 0 where there is none. */
+size_t form_of_bom(const uint8_t *bytes, size_t len, nody_form_t *form) {
+    static const struct {
+        nody_form_t form;
+        uint8_t len;
+        uint8_t bytes[3];
+    } marks[] = {{NODY_FORM_UTF8, 3, {0xEF, 0xBB, 0xBF}}, {NODY_FORM_UTF16LE, 2, {0xFF, 0xFE, 0}}, {NODY_FORM_UTF16BE, 2, {0xFE, 0xFF, 0}}};
+    for (size_t i = 0; i < sizeof marks / sizeof *marks; i++)
+        if (len >= marks[i].len && memcmp(bytes, marks[i].bytes, marks[i].len) == 0) {
+            *form = marks[i].form;
+            return marks[i].len;
+        }
+    return 0;
+}

@@ -1,0 +1,272 @@
+/* nody: checks, lists, counts and converts text in UTF-8 and UTF-16, whatever is wrong with it. The man page has the words. */
+#include "nody.h"
+
+#include <errno.h>
+#include <fcntl.h>
+#include <getopt.h>
+#include <signal.h>
+#include <stdio.h>
+#include <stdlib.h>
+#include <string.h>
+#include <unistd.h>
+
+enum { CHECK = 1, LIST = 2, COUNT = 4, AT = 8, RECODE = 16 };
+
+static const struct {
+    const char *name;
+    int bit;
+    enum status (*run)(struct run *run);
+    const char *usage;
+} commands[] = {
+    {"check", CHECK, run_check, "[--from ENCODING] [--quiet] [--max N] [--json] [--follow] [--jobs N] [FILE..]"},
+    {"list", LIST, run_list, "[--from ENCODING] [--quiet] [--json] [FILE..]"},
+    {"count", COUNT, run_count, "[--from ENCODING] [--quiet] [--json] [--jobs N] [FILE..]"},
+    {"at", AT, NULL, "[--from ENCODING] [--json] FILE OFFSET"},
+    {"recode", RECODE, run_recode,
+     "[--from ENCODING] [--to ENCODING] [--errors replace|maximal|strict] [--quiet] [--jobs N] [-o FILE] [FILE]\n"
+     "       nody recode --in-place [OPTION..] FILE.."},
+};
+enum { COMMANDS = sizeof commands / sizeof *commands };
+
+static const struct option options[] = {
+    {"from", required_argument, NULL, 'f'},  {"to", required_argument, NULL, 't'},   {"errors", required_argument, NULL, 'e'},
+    {"quiet", no_argument, NULL, 'q'},       {"max", required_argument, NULL, 'm'},  {"json", no_argument, NULL, 'J'},
+    {"follow", no_argument, NULL, 'F'},      {"jobs", required_argument, NULL, 'j'}, {"output", required_argument, NULL, 'o'},
+    {"in-place", no_argument, NULL, 'i'},    {"help", no_argument, NULL, 'h'},       {"version", no_argument, NULL, 'V'},
+    {NULL, 0, NULL, 0},
+};
+
+/* The commands that take an option. */
+static int takers_of(int option) {
+    switch (option) {
+    case 'f': case 'h': return CHECK | LIST | COUNT | AT | RECODE;
+    case 'q': return CHECK | LIST | COUNT | RECODE;
+    case 'J': return CHECK | LIST | COUNT | AT;
+    case 'j': return CHECK | COUNT | RECODE;
+    case 'm': case 'F': return CHECK;
+    default: return RECODE;
+    }
+}
+
+static struct output out;
+
+void complain(const char *name, const char *why) {
+    fprintf(stderr, "nody: %s: %s\n", name, why);
+}
+
+/* What kept a run from its end. A closed pipe is not told of: nobody reads there. */
+enum status tell_failure(struct run *run) {
+    const struct source *source = &run->source;
+    hide_progress();
+    if (run->out->error) return HAS_FAILED;
+    flush_output(run->out);
+    if (source->error) complain(source->name, strerror(source->error));
+    else if (run->has_no_memory) complain(source->name, "there is no memory");
+    else if (source->is_shorter && source->is_followed) complain(source->name, "it became shorter, and is read from its front again");
+    else if (source->is_shorter) complain(source->name, "it became shorter while it was read");
+    return source->error || run->has_no_memory || (source->is_shorter && !source->is_followed) ? HAS_FAILED : IS_VALID;
+}
+
+static void show_usage(FILE *to, int which) {
+    fprintf(to, "usage: nody %s %s\n", commands[which].name, commands[which].usage);
+}
+
+static void show_help(int which) {
+    for (int i = 0; i < COMMANDS; i++)
+        if (which < 0 || which == i) show_usage(stdout, i);
+    puts("ENCODING is utf-8 (which nody takes where none is told), utf-16le, utf-16be or another label of the Encoding Standard; with --from\n"
+         "also bom: what the byte order mark says, and UTF-8 where there is none. man nody has more.");
+}
+
+static int number_of_command(const char *name) {
+    for (int i = 0; i < COMMANDS; i++)
+        if (strcmp(commands[i].name, name) == 0) return i;
+    return -1;
+}
+
+/* A number from `least` on, in decimal, or in hexadecimal after 0x. */
+static bool is_number(const char *word, uint64_t least, uint64_t *number) {
+    bool is_hex = word[0] == '0' && (word[1] == 'x' || word[1] == 'X');
+    const char *digits = is_hex ? "0123456789abcdefABCDEF" : "0123456789", *front = word + (is_hex ? 2 : 0);
+    if (!*front || front[strspn(front, digits)]) return false;
+    errno = 0;
+    *number = strtoull(front, NULL, is_hex ? 16 : 10);
+    return errno == 0 && *number >= least;
+}
+
+static bool is_errors(const char *word, enum errors *errors) {
+    static const char *const names[] = {"replace", "maximal", "strict"};
+    for (int i = 0; i < 3; i++)
+        if (strcmp(word, names[i]) == 0) {
+            *errors = (enum errors)i;
+            return true;
+        }
+    return false;
+}
+
+/* Takes an option with a value; false where the value is none. */
+static bool takes_value(struct request *request, int option, const char *value) {
+    uint64_t number;
+    switch (option) {
+    case 'f': return (request->is_by_bom = strcmp(value, "bom") == 0) || form_of_label(value, &request->from);
+    case 't': return form_of_label(value, &request->to);
+    case 'e': return is_errors(value, &request->errors);
+    case 'm': return is_number(value, 1, &request->most);
+    case 'j':
+        if (!is_number(value, 1, &number)) return false;
+        request->jobs = number < 1000 ? (size_t)number : 1000;
+        return true;
+    default: request->into = value; return true;
+    }
+}
+
+static void take_flag(struct request *request, int option) {
+    switch (option) {
+    case 'q': request->is_quiet = true; break;
+    case 'J': request->is_json = true; break;
+    case 'F': request->is_followed = true; break;
+    default: request->is_in_place = true; break;
+    }
+}
+
+static const char *name_of_option(int option) {
+    int i = 0;
+    while (options[i].val != option) i++;
+    return options[i].name;
+}
+
+/* Takes the options; false where one is wrong, which is then said. */
+static bool takes_options(struct request *request, int which, int argc, char **argv) {
+    for (int option; (option = getopt_long(argc, argv, ":o:qh", options, NULL)) != -1;) {
+        if (option == '?' || option == ':') {
+            fprintf(stderr, "nody: %s: %s\n", argv[optind - 1], option == '?' ? "there is no such option" : "the option needs a value");
+            return false;
+        }
+        if (!(takers_of(option) & commands[which].bit)) {
+            fprintf(stderr, "nody: %s does not take --%s\n", commands[which].name, name_of_option(option));
+            return false;
+        }
+        if (option == 'h') {
+            show_help(which);
+            exit(IS_VALID);
+        }
+        if (!optarg) take_flag(request, option);
+        else if (!takes_value(request, option, optarg)) {
+            fprintf(stderr, "nody: --%s does not take '%s'\n", name_of_option(option), optarg);
+            return false;
+        }
+    }
+    return true;
+}
+
+/* What is wrong with the options and files together, or NULL. */
+static const char *wrong_with(const struct request *request, int bit, int count, char **files) {
+    bool has_input = false;
+    for (int i = 0; i < count; i++) has_input |= strcmp(files[i], "-") == 0;
+    if (bit == AT && count != 2) return "at takes a FILE and an OFFSET";
+    if (request->is_followed && count > 1) return "--follow takes one FILE";
+    if (request->is_in_place && request->into) return "--in-place and -o do not go together";
+    if (request->is_in_place && (count == 0 || has_input)) return "--in-place takes files";
+    if (bit == RECODE && !request->is_in_place && count > 1) return "recode takes one FILE, and more with --in-place";
+    return NULL;
+}
+
+/* Runs a command on one input, and says whether that has to be read again: it is followed, and became shorter. */
+static bool run_once(const struct request *request, int which, const char *name, uint64_t offset, enum status *status) {
+    struct run run;
+    enum status here = HAS_FAILED;
+    memset(&run, 0, sizeof run);
+    run.request = request;
+    run.out = &out;
+    if (open_source(&run.source, name, request)) {
+        start_progress(request->is_quiet);
+        here = commands[which].run ? commands[which].run(&run) : run_at(&run, offset);
+    } else {
+        flush_output(&out);
+        complain(name, strerror(run.source.error));
+    }
+    close_source(&run.source);
+    if (here > *status) *status = here;
+    return run.source.is_followed && run.source.is_shorter && !out.error;
+}
+
+/* Ends with what was written: a closed pipe ends the program without a word. */
+static enum status end_output(enum status status) {
+    if (flush_output(&out)) return status;
+    if (out.error != EPIPE) complain("cannot write", strerror(out.error));
+    return HAS_FAILED;
+}
+
+static enum status run_all(const struct request *request, int which, int count, char **files) {
+    static char *input[] = {"-"};
+    enum status status = IS_VALID;
+    uint64_t offset = 0;
+    if (commands[which].bit == AT && !is_number(files[--count], 0, &offset)) {
+        complain(files[count], "an OFFSET is a number, in decimal or as 0x1f");
+        return IS_WRONG;
+    }
+    if (count == 0) files = input;
+    for (int i = 0; (i == 0 || i < count) && !out.error; i++) {
+        while (run_once(request, which, files[i], offset, &status)) {
+        }
+    }
+    return end_output(status);
+}
+
+/* Closed streams are opened, so that no file gets their numbers; to read or to write them still fails. */
+static void open_streams(void) {
+    for (int file = 0; file < 3; file++)
+        if (fcntl(file, F_GETFD) < 0 && open("/dev/null", file == 0 ? O_WRONLY : O_RDONLY) != file) exit(HAS_FAILED);
+}
+
+static void set_signals(bool is_followed) {
+    struct sigaction action;
+    signal(SIGPIPE, SIG_IGN);
+    signal(SIGXFSZ, SIG_IGN);
+    memset(&action, 0, sizeof action);
+    sigemptyset(&action.sa_mask);
+    action.sa_handler = end_followed;
+    if (is_followed) {
+        sigaction(SIGINT, &action, NULL);
+        sigaction(SIGTERM, &action, NULL);
+    }
+}
+
+static int show_alone(const char *word) {
+    uint32_t version = nody_version();
+    if (strcmp(word, "--version") == 0) printf("nody %u.%u.%u\n", version / 1000000, version / 1000 % 1000, version % 1000);
+    else show_help(-1);
+    return fflush(stdout) == 0 ? IS_VALID : HAS_FAILED;
+}
+
+/* Takes the words after the command; false where they are wrong, which is then said. */
+static bool takes_words(struct request *request, int which, int argc, char **argv) {
+    optind = 2;
+    bool is_right = takes_options(request, which, argc, argv);
+    const char *wrong = is_right ? wrong_with(request, commands[which].bit, argc - optind, argv + optind) : NULL;
+    if (wrong) fprintf(stderr, "nody: %s\n", wrong);
+    if (!is_right || wrong) show_usage(stderr, which);
+    return is_right && !wrong;
+}
+
+int main(int argc, char **argv) {
+    struct request request = {NODY_FORM_UTF8, NODY_FORM_UTF8, false, REPLACE, false, false, false, false, UINT64_MAX, 0, NULL};
+    const char *word = argc > 1 ? argv[1] : "";
+    open_streams();
+    if (strcmp(word, "--version") == 0 || strcmp(word, "--help") == 0 || strcmp(word, "-h") == 0) return show_alone(word);
+    int which = number_of_command(word);
+    if (which < 0) {
+        fputs("usage: nody check|list|count|at|recode [OPTION..] [FILE..]; nody --help says more\n", stderr);
+        return IS_WRONG;
+    }
+    if (!takes_words(&request, which, argc, argv)) return IS_WRONG;
+    if (!nody_supported() || !open_output(&out, STDOUT_FILENO)) {
+        fputs(nody_supported() ? "nody: there is no memory\n" : "nody: this processor lacks x86-64-v2\n", stderr);
+        return HAS_FAILED;
+    }
+    if (commands[which].bit & (LIST | AT)) request.jobs = 1;
+    set_signals(request.is_followed);
+    enum status status = run_all(&request, which, argc - optind, argv + optind);
+    close_output(&out);
+    return (int)status;
+}

@@ -1,0 +1,672 @@
+#!/usr/bin/env python3
+"""Runs `nody` as people do, and holds what it says against Python's own decoder.
+
+usage: c/tests/nody.py BUILD [COMPILER]
+
+BUILD has what make built. The program is compiled again with blocks of a few bytes, so that they end everywhere, and with sanitizers. Texts of
+each form, damaged at random, go through all commands, in one thread and in three. Then what fails: arguments, files, full disks, closed
+pipes, signals, reads that are interrupted. It needs Linux; what needs root, or a tool that is not there, is left out, and named. The
+last line is 'N passed, M failed'.
+"""
+import codecs
+import json
+import os
+import pty
+import random
+import re
+import resource
+import shutil
+import signal
+import subprocess
+import sys
+import tempfile
+import time
+from concurrent.futures import ThreadPoolExecutor
+
+C = os.path.dirname(os.path.dirname(os.path.abspath(__file__)))
+SOURCES = sorted(f"{C}/nody/{it}" for it in os.listdir(f"{C}/nody") if it.endswith(".c"))
+WARNINGS = ["-Wall", "-Wextra", "-Wpedantic", "-Wconversion", "-Werror"]
+SANITIZERS = ["-g", "-fsanitize=address,undefined", "-fno-sanitize-recover=all"]
+FORMS = {"utf-8": "UTF-8", "utf-16le": "UTF-16LE", "utf-16be": "UTF-16BE"}
+# How many bytes a block has, and whether the program then has sanitizers.
+BLOCKS = {1: True, 2: False, 3: False, 4: True, 5: False, 7: False}
+# What damaged text is made of.
+PARTS = {
+    "utf-8": [b"a", b"\n", b"text ", "é".encode(), "€".encode(), "\U0001f600".encode(), b"\xc3", b"\xa9", b"\xe2", b"\x82", b"\xe0\x80", b"\xed\xa0",
+              b"\xf0\x9f", b"\xf0\x9f\x98", b"\xf4\x90\x80\x80", b"\xff", b"\xc0", b"\xef\xbb\xbf", b"\x80\x80\x80\x80"],
+    "utf-16le": [b"a\0", b"\n\0", "é€".encode("utf-16-le"), "\U0001f600".encode("utf-16-le"), b"\x3d\xd8", b"\x00\xde", b"\xff\xfe", b"\x0a\x0a", b"x"],
+    "utf-16be": [b"\0a", b"\0\n", "é€".encode("utf-16-be"), "\U0001f600".encode("utf-16-be"), b"\xd8\x3d", b"\xde\x00", b"\xfe\xff", b"\x0a\x0a", b"x"],
+}
+passed = failed = 0
+
+
+def expect(holds, what):
+    global passed, failed
+    passed, failed = passed + bool(holds), failed + (not holds)
+    if not holds and failed <= 20:
+        print(f"nody.py: FAILED: {what}"[:700], flush=True)
+    return holds
+
+
+# ---- What is right, by Python's decoder and the table of errors in README.md
+
+
+def one_byte(error):
+    return "\ufffd", error.start + 1
+
+
+codecs.register_error("one", one_byte)
+
+
+def kind_of_utf8(data, at):
+    first, rest = data[at], data[at + 1 : at + 4]
+    if first & 0xC0 == 0x80:
+        return "UnexpectedContinuationByte"
+    if first in (0xC0, 0xC1) or first > 0xF4:
+        return "NonUtf8Byte"
+    more = 1 if first < 0xE0 else 2 if first < 0xF0 else 3
+    if len(rest) < more:
+        return "TooFewBytes"
+    if any(it & 0xC0 != 0x80 for it in rest[:more]):
+        return "InterruptedSequence"
+    value = first & (0x3F >> more)
+    for it in rest[:more]:
+        value = value << 6 | it & 0x3F
+    return "TooHighCodepoint" if value > 0x10FFFF else "Utf16ReservedCodepoint" if 0xD800 <= value < 0xE000 else "OverlongEncoding"
+
+
+def pieces_of_utf8(data):
+    """Offset, length, and the character or the name of the error."""
+    wrong, at, found = [], 0, []
+    codecs.register_error("note", lambda error: (wrong.append(error.start), ("", error.start + 1))[1])
+    data.decode("utf-8", "note")
+    for stop in [*wrong, len(data)]:
+        for char in data[at:stop].decode("utf-8"):
+            found.append((at, len(char.encode()), char))
+            at += len(char.encode())
+        if stop < len(data):
+            found.append((stop, 1, kind_of_utf8(data, stop)))
+            at = stop + 1
+    return found
+
+
+def pieces_of_utf16(data, order):
+    units, found, i = [int.from_bytes(data[k : k + 2], order) for k in range(0, len(data) - 1, 2)], [], 0
+    while i < len(units):
+        unit, follows = units[i], units[i + 1] if i + 1 < len(units) else None
+        if unit & 0xFC00 == 0xD800 and follows is not None and follows & 0xFC00 == 0xDC00:
+            found.append((2 * i, 4, chr(0x10000 + ((unit & 0x3FF) << 10) + (follows & 0x3FF))))
+            i += 2
+            continue
+        is_lead, is_trail = unit & 0xFC00 == 0xD800, unit & 0xFC00 == 0xDC00
+        lone = "Incomplete" if follows is None else "UnmatchedLeadingSurrogate"
+        found.append((2 * i, 2, "UnexpectedTrailingSurrogate" if is_trail else lone if is_lead else chr(unit)))
+        i += 1
+    return found + ([(len(data) - 1, 1, "Incomplete")] if len(data) % 2 else [])
+
+
+def pieces_of(data, form):
+    return pieces_of_utf8(data) if form == "utf-8" else pieces_of_utf16(data, "little" if form == "utf-16le" else "big")
+
+
+def is_error(piece):
+    return len(piece[2]) > 1
+
+
+def places_of(pieces):
+    """The line and column of each piece."""
+    line, column, places = 1, 1, []
+    for _, _, what in pieces:
+        places.append((line, column))
+        line, column = (line + 1, 1) if what == "\n" else (line, column + 1)
+    return places
+
+
+def recoded(data, form, to, errors):
+    """What recode writes, and where it stops."""
+    pieces, name = pieces_of(data, form), to.replace("utf-16", "utf-16-")
+    if errors == "maximal":
+        return data.decode(form.replace("utf-16", "utf-16-"), "replace").encode(name)
+    if errors == "strict":
+        pieces = pieces[: next((i for i, it in enumerate(pieces) if is_error(it)), len(pieces))]
+    return "".join("\ufffd" if is_error(it) else it[2] for it in pieces).encode(name)
+
+
+# ---- Running it
+
+
+def run(words, data=b"", **more):
+    ran = subprocess.run(words, input=data if "stdin" not in more else None, capture_output="stdout" not in more, timeout=120, **more)
+    return ran.returncode, ran.stdout, ran.stderr
+
+
+def says(words, status, output=None, error=None, data=b"", **more):
+    """One test: how it ends, and what it writes; error is what standard error contains, or b"" for nothing."""
+    got = run(words, data, **more)
+    right = got[0] == status and (output is None or got[1] == output)
+    right = right and (error is None or (got[2] == b"" if error == b"" else error in got[2]))
+    return expect(right, f"{words[1:]} on {data[:60]!r}: {got[0]} {got[1][-300:]!r} {got[2][-600:]!r}, not {status} {output and output[-300:]!r} {error!r}")
+
+
+def sentences(program):
+    """The reasons by their names, as the program tells them."""
+    samples = [b"\x80", b"\xff", b"\xe2\x82", b"\xe2A\x82", b"\xe0\x80\xaf", b"\xed\xa0\x80", b"\xf4\x90\x80\x80"]
+    pairs = [b"\x00\xde", b"\x3d\xd8A\0", b"\x3d\xd8"]
+    told = {}
+    for form, data in [("utf-8", it) for it in samples] + [("utf-16le", it) for it in pairs]:
+        line = json.loads(run([program, "check", "--json", "--max", "1", "--from", form], data)[1].split(b"\n")[0])
+        told[line["kind"]] = line["reason"]
+        expect(line["kind"] == pieces_of(data, form)[0][2], f"the kind of {data!r} is {line['kind']}")
+    return told
+
+
+def noun(form, count):
+    return f"invalid {'byte' if form == 'utf-8' else 'unit'}{'' if count == 1 else 's'}"
+
+
+def wanted_check(name, data, form, reasons):
+    pieces = pieces_of(data, form)
+    wrong = [(place, it) for place, it in zip(places_of(pieces), pieces) if is_error(it)]
+    lines = [f"{name}:{line}:{column}: offset {it[0]}: {reasons[it[2]]}\n" for (line, column), it in wrong]
+    lines.append(f"{name}: not valid {FORMS[form]}: {len(wrong)} {noun(form, len(wrong))}\n" if wrong else f"{name}: valid {FORMS[form]}\n")
+    return int(bool(wrong)), "".join(lines).encode()
+
+
+def is_shown(char):
+    at = ord(char)
+    return not (at < 0x20 or 0x7F <= at < 0xA0 or at in (0xFEFF, 0x61C) or 0x200B <= at <= 0x200F or 0x2028 <= at <= 0x202E or 0x2060 <= at <= 0x206F)
+
+
+def line_of(data, piece, reasons):
+    offset, length, what = piece
+    told = f"{what}: {reasons[what]}" if is_error(piece) else f"U+{ord(what):04X} {what if is_shown(what) else ''}"
+    return f"{offset} {length} {data[offset : offset + length].hex()} {told}\n"
+
+
+def wanted_count(name, data, form, reasons):
+    pieces = pieces_of(data, form)
+    wrong = [it[2] for it in pieces if is_error(it)]
+    counts = [len(data), len(pieces) - len(wrong), sum(it[2] == "\n" for it in pieces)]
+    nouns = [f"{count} {what}{'' if count == 1 else 's'}" for count, what in zip(counts, ("byte", "character", "line"))]
+    order = ["TooFewBytes", "NonUtf8Byte", "UnexpectedContinuationByte", "InterruptedSequence", "OverlongEncoding", "Utf16ReservedCodepoint",
+             "TooHighCodepoint", "UnexpectedTrailingSurrogate", "UnmatchedLeadingSurrogate", "Incomplete"]
+    kinds = "".join(f"    {wrong.count(it)} {it}: {reasons[it]}\n" for it in order if it in wrong)
+    return int(bool(wrong)), f"{name}: {', '.join(nouns)}, {len(wrong)} {noun(form, len(wrong))}\n{kinds}".encode()
+
+
+def wanted_at(data, form, offset, reasons):
+    pieces = pieces_of(data, form)
+    here = next(i for i, it in enumerate(pieces) if it[0] + it[1] > offset)
+    around = range(max(here - 3, 0), min(here + 4, len(pieces)))
+    lines = [("> " if i == here else "  ") + line_of(data, pieces[i], reasons) for i in around]
+    return int(is_error(pieces[here])), "".join(lines).encode()
+
+
+def try_text(program, name, data, form, reasons, jobs, chance):
+    """All commands on one text, in a file or from a pipe."""
+    with open(name, "wb") as file:
+        file.write(data)
+    here = ["--from", form] if form != "utf-8" or chance.random() < 0.5 else []
+    some = ["--jobs", str(jobs)]
+    for given, shown, piped in ((name, name, b""), ("-", "-", data)):
+        says([program, "check", *here, *some, given], *wanted_check(shown, data, form, reasons), b"", piped)
+        says([program, "count", *here, *some, given], *wanted_count(shown, data, form, reasons), b"", piped)
+        pieces = pieces_of(data, form)
+        listed = "".join(line_of(data, it, reasons) for it in pieces).encode()
+        says([program, "list", *here, given], int(any(map(is_error, pieces))), listed, b"", piped)
+        for offset in sorted(chance.sample(range(len(data)), min(2, len(data)))):
+            says([program, "at", *here, given, str(offset)], *wanted_at(data, form, offset, reasons), b"", piped)
+        try_recode(program, given, shown, piped, data, form, reasons, here + some, chance)
+
+
+def try_recode(program, given, shown, piped, data, form, reasons, words, chance):
+    to, wrong = chance.choice([*FORMS]), [it for it in pieces_of(data, form) if is_error(it)]
+    status, told = wanted_check(shown, data, form, reasons)
+    asked = [program, "recode", *words, "--to", to]
+    count = f"nody: {shown}: {len(wrong)} {noun(form, len(wrong))} became U+FFFD\n".encode() if wrong else b""
+    got = run([*asked, given], piped)
+    expect(got == (0, recoded(data, form, to, "replace"), count), f"recode {form} {to} of {data!r}: {got}")
+    says([*asked, "--errors", "maximal", given], 0, recoded(data, form, to, "maximal"), b"", piped)
+    got = run([*asked, "--errors", "strict", given], piped)
+    first = told.splitlines(True)[0] if wrong else b""
+    expect(got == (status, recoded(data, form, to, "strict"), first), f"recode strictly {form} {to} of {data!r}: {got}")
+
+
+def texts(form, chance, count, most):
+    for _ in range(count):
+        text = b"".join(chance.choices(PARTS[form], k=chance.randrange(most)))
+        yield text[chance.randrange(3) :] if chance.random() < 0.2 else text
+
+
+def check_texts(folder, programs, reasons):
+    """Each program on its own texts, in several threads of ours."""
+    def one(job):
+        number, program, form = job
+        chance = random.Random(1000 * number + len(form))
+        for data in [b"", *texts(form, chance, 2, 12), *texts(form, chance, 2, 60)]:
+            try_text(program, f"{folder}/text-{number}", data, form, reasons, chance.choice((1, 2, 3)), chance)
+
+    jobs = [(i, program, form) for i, (program, form) in enumerate((program, form) for program in programs for form in FORMS)]
+    with ThreadPoolExecutor(3) as pool:
+        list(pool.map(one, jobs))
+
+
+def check_large(folder, program, reasons):
+    """Texts of a few megabytes, with whole blocks, in one thread and in several."""
+    chance = random.Random(67)
+    for form in FORMS:
+        text = "naïve €uro \U0001f600 and so on\n".encode(form.replace("utf-16", "utf-16-"))
+        data = b"".join(chance.choices([text, *PARTS[form]], weights=[300] + [1] * len(PARTS[form]), k=60000))
+        name = f"{folder}/large"
+        with open(name, "wb") as file:
+            file.write(data)
+        status, want = wanted_check(name, data, form, reasons)
+        for jobs in ([], ["--jobs", "1"], ["--jobs", "7"]):
+            says([program, "check", "--from", form, *jobs, name], status, want, b"")
+            says([program, "count", "--from", form, *jobs, name], *wanted_count(name, data, form, reasons), b"")
+            for errors in ("replace", "maximal"):
+                says([program, "recode", "--from", form, "--to", "utf-16be", "--errors", errors, "--quiet", *jobs, name], 0, recoded(data, form, "utf-16be", errors), b"")
+        says([program, "check", "--from", form, "-"], status, want.replace(name.encode(), b"-"), b"", data)
+        for offset in (0, 100, len(data) // 2, len(data) - 1):
+            says([program, "at", "--from", form, name, hex(offset)], *wanted_at(data, form, offset, reasons), b"")
+
+
+# ---- Options
+
+
+def check_options(folder, program, reasons):
+    name, data = f"{folder}/options", b"\xff\n\xfe\n\xfd\n"
+    with open(name, "wb") as file:
+        file.write(data)
+    lines = wanted_check(name, data, "utf-8", reasons)[1].splitlines(True)
+    says([program, "check", "--quiet", name], 1, b"", b"")
+    says([program, "check", "-q", "-"], 0, b"", b"", b"text")
+    says([program, "check", "--max", "2", name], 1, b"".join(lines[:2]) + f"{name}: not valid UTF-8: stopped after 2 invalid bytes\n".encode(), b"")
+    says([program, "check", name, "--max=0x1", name], 1, 2 * (lines[0] + f"{name}: not valid UTF-8: stopped after 1 invalid byte\n".encode()), b"")
+    told = [json.loads(it) for it in run([program, "check", "--json", name])[1].splitlines()]
+    expect([(it["line"], it["column"], it["offset"], it["length"], it["kind"]) for it in told[:-1]] == [(i + 1, 1, 2 * i, 1, "NonUtf8Byte") for i in range(3)], f"{told}")
+    expect(told[-1] == {"file": name, "encoding": "UTF-8", "valid": False, "invalid": 3, "complete": True}, f"{told[-1]}")
+    told = json.loads(run([program, "count", "--json", name])[1])
+    expect(told == {"file": name, "encoding": "UTF-8", "bytes": 6, "characters": 3, "lines": 3, "invalid": 3, "kinds": {"NonUtf8Byte": 3}}, f"{told}")
+    told = [json.loads(it) for it in run([program, "list", "--json", name])[1].splitlines()]
+    expect(told[0]["bytes"] == "ff" and told[0]["kind"] == "NonUtf8Byte" and told[1] == {"offset": 1, "length": 1, "bytes": "0a", "scalar": 10}, f"{told}")
+    expect(len(run([program, "at", "--json", name, "5"])[1].splitlines()) == 4, "at --json")
+    odd = os.fsencode(folder) + b"/\"\\\n\xff"
+    shutil.copy(name, odd)
+    expect(json.loads(run([program, "count", "--json", odd])[1])["file"] == os.fsdecode(folder) + "/\"\\\n\ufffd", "a file of a strange name in JSON")
+    check_origin(folder, program, reasons)
+    check_marks(program)
+    check_words(program, name)
+
+
+def check_origin(folder, program, reasons):
+    """Standard input that is a file, of which the front was read already."""
+    name, data = f"{folder}/origin", b"read already " + b"caf\xc3\xa9 \xff text\n" * 50000
+    with open(name, "wb") as file:
+        file.write(data)
+    for words, want in ((["check"], wanted_check("-", data[13:], "utf-8", reasons)), (["at", "-", "1000"], wanted_at(data[13:], "utf-8", 1000, reasons)),
+                        (["recode", "-q", "--to", "utf-16le"], (0, recoded(data[13:], "utf-8", "utf-16le", "replace")))):
+        with open(name, "rb", buffering=0) as file:
+            file.read(13)
+            says([program, *words], *want, b"", stdin=file)
+
+
+def check_marks(program):
+    """Byte order marks, and the labels of encodings."""
+    for mark, form, text in ((b"\xef\xbb\xbf", "UTF-8", "é€\n".encode()), (b"\xff\xfe", "UTF-16LE", "é€\n".encode("utf-16-le")),
+                             (b"\xfe\xff", "UTF-16BE", "é€\n".encode("utf-16-be")), (b"", "UTF-8", "é€\n".encode())):
+        says([program, "check", "--from", "bom"], 0, f"-: valid {form}\n".encode(), b"", mark + text)
+        says([program, "recode", "--from=bom", "--to", "UTF-8"], 0, "é€\n".encode(), b"", mark + text)
+        says([program, "recode", "--from=bom", "--to", "unicodeFFFE"], 0, "é€\n".encode("utf-16-be"), b"", mark + text)
+    for data in (b"", b"\xef", b"\xff", b"\xef\xbb"):
+        says([program, "recode", "--from=bom", "-q"], 0, b"\xef\xbf\xbd" * len(data), b"", data)
+    labels = {"utf-8": "utf8 UTF-8 unicode-1-1-utf-8 unicode11utf8 unicode20utf8 x-unicode20utf8", "utf-16-le": "csunicode iso-10646-ucs-2 ucs-2 unicode unicodefeff utf-16 utf-16le UTF16LE",
+              "utf-16-be": "unicodefffe utf-16be utf16be"}
+    for codec, words in labels.items():
+        for word in [*words.split(), f" \t{words.split()[0].title()}\r"]:
+            says([program, "recode", "--to", word], 0, "é".encode(codec), b"", "é".encode())
+
+
+def check_words(program, name):
+    """What is wrong is said in a line, with how it should be."""
+    for words in (["check", "--max", "0"], ["check", "--max", "x"], ["check", "--max", "-1"], ["check", "--max", "99999999999999999999"], ["check", "--max"],
+                  ["check", "--to", "utf-8"], ["list", "--max", "1"], ["check", "--from", "latin1"], ["check", "--from", ""], ["recode", "--to", "bom"],
+                  ["recode", "--errors", "ignore"], ["recode", "--in-place"], ["recode", "--in-place", "-"], ["recode", "--in-place", "-o", "x", name],
+                  ["recode", name, name], ["at", name], ["at", name, "0", "0"], ["check", "--follow", name, name], ["check", "-x"], ["check", "--jobs", "0"], ["recode", "--json"]):
+        says([program, *words], 2, b"", b"usage: nody ")
+    for words in ([], ["chek"], ["-q"]):
+        says([program, *words], 2, b"", b"usage: nody check|list")
+    for offset in ("", "x", "1x", "0x", "-1", "99999999999999999999"):
+        says([program, "at", name, "--", offset], 2, b"", b"an OFFSET is a number")
+    says([program, "at", name, "6"], 2, b"", b"it ends before this offset")
+    says([program, "at", name, "18446744073709551615"], 2, b"", b"it ends before this offset")
+    expect(re.fullmatch(rb"nody \d+\.\d+\.\d+\n", run([program, "--version"])[1]), "--version")
+    expect(run([program, "--help"])[1].count(b"usage: nody ") == 5 and run([program, "at", "--help"])[1].count(b"usage: nody ") == 1, "--help")
+
+
+# ---- What fails
+
+
+def check_failures(folder, program):
+    valid, missing = f"{folder}/valid", f"{folder}/missing"
+    with open(valid, "wb") as file:
+        file.write(b"text\n")
+    line = f"{valid}: valid UTF-8\n".encode()
+    for command in ("check", "count", "list"):
+        got = run([program, command, missing, folder, valid])
+        expect(got[0] == 3 and got[2] == f"nody: {missing}: No such file or directory\nnody: {folder}: Is a directory\n".encode(), f"{command}: {got}")
+        expect(got[1] == run([program, command, valid])[1] != b"", f"{command} after files that cannot be read: {got}")
+    says([program, "at", folder, "0"], 3, b"", b"Is a directory")
+    says([program, "check", "/dev/null"], 0, b"/dev/null: valid UTF-8\n", b"")
+    for words in (["check", valid], ["list", valid], ["count", valid], ["at", valid, "0"], ["recode", valid]):
+        with open("/dev/full", "wb") as full:
+            ran = subprocess.run([program, *words], stdout=full, stderr=subprocess.PIPE)
+        expect((ran.returncode, ran.stderr) == (3, b"nody: cannot write: No space left on device\n"), f"{words} to a full device: {ran}")
+        reader, writer = os.pipe()
+        os.close(reader)
+        ran = subprocess.run([program, *words], stdout=writer, stderr=subprocess.PIPE)
+        os.close(writer)
+        expect((ran.returncode, ran.stderr) == (3, b""), f"{words} to a closed pipe: {ran}")
+        ran = subprocess.run(["sh", "-c", '"$@" >&-', "sh", program, *words], stderr=subprocess.PIPE)
+        expect(ran.returncode == 3 and b"cannot write" in ran.stderr, f"{words} to a closed stream: {ran}")
+        if words[0] != "at":
+            ran = subprocess.run(["sh", "-c", '"$@" <&-', "sh", program, words[0]], capture_output=True)
+            expect(ran.returncode == 3 and b"nody: -: Bad file descriptor" in ran.stderr, f"{words} of a closed stream: {ran}")
+    says([program, "recode", valid, "-o", "/dev/full"], 3, b"", b"nody: /dev/full: No space left on device\n")
+    says([program, "recode", valid, "-o", f"{folder}/none/x"], 3, b"", b"No such file or directory")
+    says([program, "check", valid, missing], 3, line, b"No such file")
+    check_unreadable(folder, program, valid)
+    check_endless(program)
+
+
+def check_unreadable(folder, program, valid):
+    """A file and a folder that others may not touch."""
+    if os.geteuid() != 0:
+        print("nody.py: left out: files of others, which takes root")
+        return
+    for it in (folder, os.path.dirname(folder)):
+        os.chmod(it, 0o755)
+    secret = f"{folder}/secret"
+    shutil.copy(valid, secret)
+    os.chmod(secret, 0o600)
+    says([program, "check", secret, valid], 3, f"{valid}: valid UTF-8\n".encode(), f"nody: {secret}: Permission denied\n".encode(), user=65534)
+    says([program, "recode", "--in-place", valid], 3, b"", b"Permission denied", user=65534)
+    with open(valid, "rb") as file:
+        expect(file.read() == b"text\n", "a file in a folder that is not ours")
+
+
+def check_endless(program):
+    """An endless device, which an invalid byte ends, or whoever reads."""
+    ran = subprocess.run(f"'{program}' check --max 3 /dev/urandom", shell=True, capture_output=True, timeout=60)
+    expect(ran.returncode == 1 and ran.stdout.count(b"\n") == 4, f"check /dev/urandom: {ran}")
+    ran = subprocess.run(f"'{program}' list /dev/urandom | head -n 3", shell=True, capture_output=True, timeout=60)
+    expect(ran.stdout.count(b"\n") == 3 and ran.stderr == b"", f"list /dev/urandom: {ran}")
+    ran = subprocess.run(f"'{program}' recode --jobs 3 /dev/zero | head -c 10000000 | wc -c", shell=True, capture_output=True, timeout=60)
+    expect(ran.stdout.strip() == b"10000000" and ran.stderr == b"", f"recode /dev/zero: {ran}")
+
+
+# ---- Files that are replaced
+
+
+def contents(name):
+    with open(name, "rb") as file:
+        return file.read()
+
+
+def check_replaced(folder, program):
+    place = f"{folder}/replaced"
+    os.mkdir(place)
+    name, link, out = f"{place}/text", f"{place}/link", f"{place}/out"
+    data = "é€\xff".encode("latin-1", "replace") + "é".encode()
+    with open(name, "wb") as file:
+        file.write(data)
+    os.chmod(name, 0o640)
+    os.symlink("text", link)
+    says([program, "recode", "--in-place", "--errors", "strict", name], 1, b"", b"text:1:1: offset 0: ")
+    expect(contents(name) == data, "a file that is recoded strictly stays, where it is not valid")
+    says([program, "recode", "--in-place", "--to", "utf-16le", link], 0, b"", b"became U+FFFD")
+    expect(contents(name) == recoded(data, "utf-8", "utf-16le", "replace") and os.path.islink(link), "in place through a link")
+    expect(os.stat(name).st_mode & 0o7777 == 0o640, "the mode of a file that is recoded in place")
+    says([program, "recode", "--from", "utf-16", name, "-o", out], 0, b"", b"")
+    expect(contents(out) == recoded(data, "utf-8", "utf-8", "replace"), "-o")
+    mask = os.umask(0o027)
+    says([program, "recode", "-o", f"{place}/new", out], 0, b"", b"")
+    os.umask(mask)
+    expect(os.stat(f"{place}/new").st_mode & 0o7777 == 0o640, "the mode of a new file")
+    says([program, "recode", "--to", "utf-16be", "-o", out, out], 0, b"", b"")
+    expect(contents(out) == recoded(data, "utf-8", "utf-16be", "replace"), "-o on the input itself")
+    says([program, "recode", "--in-place", place, f"{place}/none", name, "--from", "utf-16"], 3, b"", b"Is a directory")
+    expect(contents(name) == recoded(data, "utf-8", "utf-8", "replace"), "in place, after files that cannot be")
+    expect(sorted(os.listdir(place)) == ["link", "new", "out", "text"], f"what is left: {os.listdir(place)}")
+    check_limits(place, program)
+
+
+def check_limits(place, program):
+    """A disk that is full, and a file that may not grow so far: what was there stays, and nothing else."""
+    name, data = f"{place}/text", b"text\xff\n" * 100000
+    with open(name, "wb") as file:
+        file.write(data)
+    had = sorted(os.listdir(place))
+    limited = lambda: resource.setrlimit(resource.RLIMIT_FSIZE, (300000, 300000))
+    says([program, "recode", "--in-place", name], 3, b"", b"File too large", preexec_fn=limited)
+    expect(contents(name) == data and sorted(os.listdir(place)) == had, "in place over the limit of a file's size")
+    disk = f"{place}/disk"
+    os.mkdir(disk)
+    if subprocess.run(["mount", "-t", "tmpfs", "-o", "size=1m", "none", disk], capture_output=True).returncode:
+        print("nody.py: left out: a full disk, which takes a mount")
+        return
+    try:
+        shutil.copy(name, f"{disk}/text")
+        for words in (["--in-place", f"{disk}/text"], [f"{disk}/text", "-o", f"{disk}/out"]):
+            says([program, "recode", *words], 3, b"", b"No space left on device")
+            expect(contents(f"{disk}/text") == data and os.listdir(disk) == ["text"], f"recode {words} on a full disk")
+    finally:
+        subprocess.run(["umount", disk], check=False)
+
+
+def check_killed(folder, program):
+    """A program that is ended at any time leaves the old file or the new one; a signal that it can see also takes away what is not whole."""
+    place, chance = f"{folder}/killed", random.Random(9)
+    os.mkdir(place)
+    name, old = f"{place}/text", b"caf\xc3\xa9 \xff text\n" * 300000
+    new = recoded(old[:13], "utf-8", "utf-16le", "replace") * 300000
+    seen, took = {"old": 0, "new": 0}, 0
+    for i in range(60):
+        with open(name, "wb") as file:
+            file.write(old)
+        ran = subprocess.Popen([program, "recode", "--to", "utf-16le", "--in-place", "--quiet", name])
+        if i == 0: # (as long as it takes where nothing ends it)
+            took = time.time()
+            ran.wait()
+            took = time.time() - took
+        time.sleep(chance.random() * 1.5 * took)
+        ran.send_signal(signal.SIGKILL if i % 2 else signal.SIGTERM)
+        ran.wait()
+        is_old, is_new = contents(name) == old, contents(name) == new
+        seen["new" if is_new else "old"] += 1
+        expect(is_old or is_new, "a file that is not whole has the final name")
+        left = [it for it in os.listdir(place) if it != "text"]
+        expect(i % 2 or not left, f"SIGTERM left {left}")
+        for it in left:
+            os.remove(f"{place}/{it}")
+    print(f"nody.py: of 60 that were ended {seen['old']} left the old file, {seen['new']} the new one")
+
+
+def check_changed(folder, program):
+    """A file that another program changes, or makes shorter, while it is read."""
+    name = f"{folder}/changing"
+    with open(name, "wb") as file:
+        file.write(b"text\n" * 1000)
+    stopper = f"{folder}/stop.c"
+    with open(stopper, "w", encoding="ascii") as file:
+        file.write('#define _GNU_SOURCE\n#include <dlfcn.h>\n#include <stdlib.h>\n#include <unistd.h>\n#include <stdio.h>\n'
+                   'ssize_t read(int file, void *to, size_t room) { static int calls; ssize_t (*real)(int, void *, size_t);\n'
+                   '*(void **)&real = dlsym(RTLD_NEXT, "read"); if (calls++ == 1) system(getenv("BETWEEN")); return real(file, to, room); }\n')
+    shared = f"{folder}/stop.so"
+    if not expect(run(["cc", "-shared", "-fPIC", stopper, "-o", shared, "-ldl"])[0] == 0, "stop.c"):
+        return
+    env = dict(os.environ, LD_PRELOAD=shared)
+    says([program, "check", "--jobs", "1", name], 3, None, b"it became shorter while it was read", env=dict(env, BETWEEN=f"truncate -s 10 {name}"))
+    says([program, "recode", "--jobs", "1", "--in-place", name], 3, None, b"it changed while it was read", env=dict(env, BETWEEN=f"echo >>{name}"))
+    says([program, "check", "--jobs", "1", name], 0, None, b"", env=dict(env, BETWEEN=f"rm {name}"))
+
+
+# ---- Reads that fail, memory, threads
+
+
+def check_faults(folder, programs, compiler, build):
+    """Reads and writes that move little, or are interrupted, change nothing; memory that is refused ends with 3, and says so."""
+    data = b"caf\xc3\xa9 \xff text\n\xe2\x82" * 40
+    name = f"{folder}/faulty-text"
+    with open(name, "wb") as file:
+        file.write(data)
+    flags = [f"-D{it}=faulty_{it}" for it in ("read", "write", "pread", "malloc", "realloc")]
+    faults = f"{folder}/faults.o"
+    if not expect(run([compiler, *SANITIZERS, "-c", f"{C}/tests/faults.c", "-o", faults])[0] == 0, "faults.c"):
+        return
+    for block in (4, 4096):
+        program = f"{folder}/faulty-{block}"
+        if not compiles(compiler, program, block, build, [*SANITIZERS, *flags, faults]):
+            return
+        for words in (["check", name], ["count", name], ["list", name], ["recode", "--to", "utf-16le", name], ["check", "--jobs", "3", name]):
+            want = run([programs[0], *words])
+            for fault in ("short 1", "short 3", "unread 2", "unread 3", "unwritten 2"):
+                got = run([program, *words], env=dict(os.environ, FAULT=fault))
+                expect(got == want, f"{words} with {fault}: {got}, not {want}")
+            for number in range(1, 8):
+                got = run([program, *words], env=dict(os.environ, FAULT=f"memory {number}"))
+                expect(got == want or (got[0] == 3 and b"there is no memory" in got[2]), f"{words} without memory {number}: {got}")
+
+
+def check_races(folder, compiler, build):
+    """Threads under the sanitizer for them."""
+    program = f"{folder}/threads"
+    if run([compiler, "-fsanitize=thread", "-x", "c", "-", "-o", f"{folder}/try"], b"int main(void) { return 0; }\n")[0] != 0:
+        print("nody.py: left out: the sanitizer of threads is not there")
+        return
+    if compiles(compiler, program, 64, build, ["-g", "-O1", "-fsanitize=thread"]):
+        data = b"caf\xc3\xa9 \xff text\n\xe2\x82" * 400
+        name = f"{folder}/raced"
+        with open(name, "wb") as file:
+            file.write(data)
+        for words in (["check"], ["count"], ["recode"], ["recode", "--errors", "strict"], ["check", "--max", "5"]):
+            for given, piped in ((name, b""), ("-", data)):
+                got = run([program, *words, "--jobs", "4", given], piped)
+                expect(b"ThreadSanitizer" not in got[2] and got[0] < 3, f"{words} in threads: {got[0]} {got[2][:1500]!r}")
+
+
+# ---- Files that grow, terminals
+
+
+def reads(file, count, seconds=10):
+    """So many lines of what a program writes, or what came of them in that time."""
+    got, end = b"", time.time() + seconds
+    os.set_blocking(file.fileno(), False)
+    while got.count(b"\n") < count and time.time() < end:
+        got += file.read() or b""
+        time.sleep(0.02)
+    return got
+
+
+def check_follow(folder, program, reasons):
+    name = f"{folder}/growing"
+    with open(name, "wb") as file:
+        file.write(b"one\n\xff\ncaf\xc3")
+    ran = subprocess.Popen([program, "check", "--follow", name], stdout=subprocess.PIPE, stderr=subprocess.PIPE)
+    want = f"{name}:2:1: offset 4: {reasons['NonUtf8Byte']}\n"
+    expect(reads(ran.stdout, 1) == want.encode(), "--follow tells of what is there")
+    with open(name, "ab") as file:
+        file.write(b"\xa9 \xe2\x82A")
+    want = f"{name}:3:6: offset 12: {reasons['InterruptedSequence']}\n{name}:3:7: offset 13: {reasons['UnexpectedContinuationByte']}\n"
+    expect(reads(ran.stdout, 2) == want.encode(), "--follow tells of what is added")
+    with open(name, "wb") as file:
+        file.write(b"\x80\n")
+    time.sleep(0.5)
+    told = reads(ran.stdout, 2)
+    expect(told.endswith(f"{name}:1:1: offset 0: {reasons['UnexpectedContinuationByte']}\n".encode()), f"--follow begins again: {told}")
+    with open(name, "ab") as file:
+        file.write(b"\xe2")
+    time.sleep(0.5)
+    ran.send_signal(signal.SIGINT)
+    told, said = ran.communicate(timeout=10)
+    want = f"{name}:2:1: offset 2: {reasons['TooFewBytes']}\n{name}: not valid UTF-8: 2 invalid bytes\n"
+    expect(ran.returncode == 1 and told == want.encode(), f"SIGINT ends --follow: {ran.returncode} {told}")
+    expect(said == f"nody: {name}: it became shorter, and is read from its front again\n".encode(), f"--follow says {said}")
+
+
+def check_slow(program):
+    """From a pipe each invalid byte is told of at once."""
+    ran = subprocess.Popen([program, "check"], stdin=subprocess.PIPE, stdout=subprocess.PIPE)
+    for i in range(3):
+        ran.stdin.write(b"\xff\n")
+        ran.stdin.flush()
+        expect(reads(ran.stdout, 1).startswith(b"-:%d:1: " % (i + 1)), "a pipe that goes on")
+    ran.stdin.close()
+    ran.wait()
+
+
+def told_on(main):
+    """All that came to a terminal whose other end is closed."""
+    said = b""
+    with open(main, "rb", buffering=0) as file:
+        try:
+            while part := file.read(1 << 16):
+                said += part
+        except OSError:
+            pass
+    return said
+
+
+def check_progress(program):
+    """On a terminal there is a progress bar after a second, which goes again; with --quiet there is none."""
+    for words, is_there in (([], True), (["--quiet"], False)):
+        main, terminal = pty.openpty()
+        ran = subprocess.Popen([program, "check", *words], stdin=subprocess.PIPE, stdout=subprocess.PIPE, stderr=terminal)
+        for _ in range(16):
+            ran.stdin.write(b"text\n" * 1000)
+            ran.stdin.flush()
+            time.sleep(0.1)
+        ran.stdin.close()
+        ran.wait()
+        os.close(terminal)
+        said = told_on(main)
+        expect((b"\r-: " in said and said.endswith(b"\r\x1b[K")) if is_there else said == b"", f"progress {words}: {said}")
+
+
+def compiles(compiler, program, block, build, flags):
+    words = [compiler, "-std=c99", *WARNINGS, f"-DBLOCK={block}", f"-I{C}", *flags, *SOURCES, f"{build}/libnoddychest.a", "-pthread", "-o", program]
+    ran = subprocess.run(words, capture_output=True, text=True)
+    return expect(ran.returncode == 0, f"{compiler}: nody with blocks of {block}: {ran.stderr[-1500:]}")
+
+
+def main():
+    if len(sys.argv) not in (2, 3) or sys.argv[1].startswith("-"):
+        print(__doc__)
+        return 0 if sys.argv[1:] in (["--help"], ["-h"]) else 2
+    build, compiler = os.path.abspath(sys.argv[1]), sys.argv[2] if len(sys.argv) > 2 else "cc"
+    with tempfile.TemporaryDirectory() as folder:
+        built, programs = f"{build}/nody", [f"{folder}/nody-{it}" for it in BLOCKS]
+        with ThreadPoolExecutor(2) as pool:
+            made = list(pool.map(lambda it: compiles(compiler, it[0], it[1], build, ["-O1", *SANITIZERS] if BLOCKS[it[1]] else ["-O1"]), zip(programs, BLOCKS)))
+        if all(made):
+            reasons = sentences(built)
+            check_texts(folder, programs, reasons)
+            check_large(folder, built, reasons)
+            for it in (built, programs[3]):
+                with tempfile.TemporaryDirectory(dir=folder) as place:
+                    check_options(place, it, reasons)
+                    check_failures(place, it)
+                    check_replaced(place, it)
+            check_killed(folder, built)
+            check_changed(folder, f"{folder}/plain") if compiles(compiler, f"{folder}/plain", 256, build, ["-O1"]) else None
+            check_faults(folder, [built], compiler, build)
+            check_races(folder, compiler, build)
+            check_follow(folder, built, reasons)
+            check_slow(built)
+            check_progress(built)
+    print(f"{passed} passed, {failed} failed")
+    return int(failed > 0)
+
+
+if __name__ == "__main__":
+    sys.exit(main())
