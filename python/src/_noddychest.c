@@ -8,10 +8,11 @@
 #include "lengths.h"
 
 #include <dlfcn.h>
+#include <stdlib.h>
 #include <string.h>
 
 #define BLOCK 256         /* pieces that cross at once */
-#define SKIPPED (1 << 20) /* the bytes over which faults are looked for at once */
+#define COUNTED (1 << 17) /* the bytes that are validated, and counted then */
 #define SMALL (64 * 1024) /* an input up to here gets room for the most that it can become */
 
 /* ---- bytes that are made ---- */
@@ -126,39 +127,65 @@ static PyObject *check(PyObject *module, PyObject *data) {
 }
 
 static size_t count_pieces(nody_form_t form, const uint8_t *bytes, size_t len) {
-    nody_piece_t block[BLOCK];
     size_t count = 0;
-    if (form == NODY_FORM_UTF8)
-        return nody_utf8_char_count(bytes, len);
     for (size_t at = 0; at < len;) {
-        size_t here = first_pieces(form, bytes + at, len - at, block);
-        for (size_t i = 0; i < here; i++)
-            at += block[i].len;
-        count += here;
+        size_t valid = valid_up_to(form, bytes + at, len - at);
+        count += valid_chars(form, bytes + at, valid);
+        at += valid;
+        if (at < len) {
+            count++;
+            at += fault_len(form, len - at);
+        }
     }
     return count;
+}
+
+/* Counts all pieces of a view, and its line ends where these are asked for. Answers 0 with an error. */
+static int count_all(nody_form_t form, const Py_buffer *view, size_t *pieces, size_t *lines) {
+    Window window;
+    size_t len = (size_t)view->len;
+    PyThreadState *thread;
+    if (!open_window(&window, view))
+        return 0;
+    window.most = COUNTED;
+    thread = let_lock_go(len);
+    for (size_t at = 0; at < len; at += window.len) {
+        next_window(&window, form, (const uint8_t *)view->buf + at, len - at);
+        *pieces += count_pieces(form, window.bytes, window.len);
+        if (lines != NULL)
+            *lines += line_count(form, window.bytes, window.len);
+    }
+    take_lock(thread);
+    close_window(&window);
+    return 1;
 }
 
 /* char_count(form, data): how many pieces there are. */
 static PyObject *char_count(PyObject *module, PyObject *args) {
     Py_buffer view;
     nody_form_t form;
-    Window window;
+    size_t pieces = 0;
     PyObject *answer = NULL;
     (void)module;
     if (!PyArg_ParseTuple(args, "O&O&:char_count", take_form, &form, take_bytes, &view))
         return NULL;
-    if (open_window(&window, &view)) {
-        size_t len = (size_t)view.len, count = 0;
-        PyThreadState *thread = let_lock_go(len);
-        for (size_t at = 0; at < len; at += window.len) {
-            next_window(&window, form, (const uint8_t *)view.buf + at, len - at);
-            count += count_pieces(form, window.bytes, window.len);
-        }
-        take_lock(thread);
-        answer = PyLong_FromSize_t(count);
-        close_window(&window);
-    }
+    if (count_all(form, &view, &pieces, NULL))
+        answer = PyLong_FromSize_t(pieces);
+    PyBuffer_Release(&view);
+    return answer;
+}
+
+/* counts(form, data): how many pieces there are, and how many line ends. */
+static PyObject *counts(PyObject *module, PyObject *args) {
+    Py_buffer view;
+    nody_form_t form;
+    size_t pieces = 0, lines = 0;
+    PyObject *answer = NULL;
+    (void)module;
+    if (!PyArg_ParseTuple(args, "O&O&:counts", take_form, &form, take_bytes, &view))
+        return NULL;
+    if (count_all(form, &view, &pieces, &lines))
+        answer = Py_BuildValue("nn", (Py_ssize_t)pieces, (Py_ssize_t)lines);
     PyBuffer_Release(&view);
     return answer;
 }
@@ -754,16 +781,13 @@ typedef struct {
     PyObject_HEAD
     Py_buffer view;
     Maker maker;
-    Window window;
-    nody_form_t form;
-    size_t begin; /* where the window begins */
-    size_t at;    /* how far it was read */
+    Search search;
     char busy;
 } Faults;
 
 static void faults_dealloc(PyObject *object) {
     Faults *self = (Faults *)object;
-    close_window(&self->window);
+    close_window(&self->search.window);
     maker_end(&self->maker);
     PyBuffer_Release(&self->view);
     plain_dealloc(object);
@@ -780,38 +804,22 @@ static PyObject *faults_new(PyTypeObject *type, PyObject *args, PyObject *names)
     self = (Faults *)PyType_GenericAlloc(type, 0);
     if (self == NULL)
         return NULL;
-    if (!take_bytes(data, &self->view) || !open_window(&self->window, &self->view) || !maker_begin(&self->maker, pieces, errors)) {
+    if (!take_bytes(data, &self->view) || !open_search(&self->search, form, &self->view) ||
+        !maker_begin(&self->maker, pieces, errors)) {
         Py_DECREF(self);
         return NULL;
     }
-    self->form = form;
-    self->window.most = SKIPPED;
     return (PyObject *)self;
 }
 
-/* The next fault of the window, or NODY_KIND_NONE. */
-static nody_piece_t next_in_window(Faults *self, size_t *offset) {
-    nody_piece_t piece = {0, 0, NODY_KIND_NONE};
-    const Window *window = &self->window;
-    self->at += nody_utf16_bytes_valid_up_to(self->form, window->bytes + self->at, window->len - self->at);
-    if (self->at == window->len)
-        return piece;
-    piece = first_piece(self->form, window->bytes + self->at, window->seen - self->at);
-    *offset = self->begin + self->at;
-    self->at += piece.len;
-    return piece;
-}
-
 /* Goes on from window to window, and lets the lock go from the second on. */
-static nody_piece_t next_fault(Faults *self, size_t *offset) {
-    size_t len = (size_t)self->view.len;
-    nody_piece_t piece = next_in_window(self, offset);
-    PyThreadState *thread = piece.kind == NODY_KIND_NONE ? let_lock_go(len - self->begin - self->window.len) : NULL;
-    while (piece.kind == NODY_KIND_NONE && self->begin + self->window.len < len) {
-        self->begin += self->window.len, self->at = 0;
-        next_window(&self->window, self->form, (const uint8_t *)self->view.buf + self->begin, len - self->begin);
-        piece = next_in_window(self, offset);
-    }
+static nody_piece_t next_fault(Search *search, size_t *offset) {
+    nody_piece_t piece = next_in_window(search, offset);
+    PyThreadState *thread;
+    if (piece.kind != NODY_KIND_NONE)
+        return piece;
+    thread = let_lock_go(search->len - search->begin - search->window.len);
+    piece = next_found(search, offset);
     take_lock(thread);
     return piece;
 }
@@ -824,9 +832,108 @@ static PyObject *faults_next(PyObject *object) {
         PyErr_SetString(PyExc_RuntimeError, "this iterator is in use by another call: give each thread its own");
         return NULL;
     }
-    piece = next_fault(self, &offset);
+    piece = next_fault(&self->search, &offset);
     __atomic_store_n(&self->busy, 0, __ATOMIC_RELEASE);
     return piece.kind == NODY_KIND_NONE ? NULL : make_piece(&self->maker, offset, piece);
+}
+
+/* Faults as arrays: offsets of 64 bits, lengths and kinds of 8. Their room comes from malloc, which needs no lock. */
+typedef struct {
+    uint64_t *offsets;
+    uint8_t *lens, *kinds;
+    size_t count, room;
+} Arrays;
+
+static int grow_arrays(Arrays *arrays) {
+    size_t room = arrays->room < 1024 ? 1024 : arrays->room + arrays->room / 2;
+    void *offsets = realloc(arrays->offsets, room * sizeof *arrays->offsets), *lens, *kinds;
+    if (offsets != NULL)
+        arrays->offsets = offsets;
+    lens = realloc(arrays->lens, room);
+    if (lens != NULL)
+        arrays->lens = lens;
+    kinds = realloc(arrays->kinds, room);
+    if (kinds != NULL)
+        arrays->kinds = kinds;
+    if (offsets == NULL || lens == NULL || kinds == NULL)
+        return 0;
+    arrays->room = room;
+    return 1;
+}
+
+/* Puts the faults that begin before `end`, at their offsets and `base` more. Answers 0 without memory. */
+static int put_faults(Arrays *arrays, Search *search, size_t end, uint64_t base) {
+    size_t offset;
+    for (;;) {
+        nody_piece_t piece = next_found(search, &offset);
+        if (piece.kind == NODY_KIND_NONE || offset >= end)
+            return 1;
+        if (arrays->count == arrays->room && !grow_arrays(arrays))
+            return 0;
+        arrays->offsets[arrays->count] = base + offset;
+        arrays->lens[arrays->count] = (uint8_t)piece.len;
+        arrays->kinds[arrays->count++] = (uint8_t)piece.kind;
+    }
+}
+
+/* fault_arrays(form, data, end, base): the faults of data[:end], told apart by all of the data, as three `bytes`. */
+static PyObject *fault_arrays(PyObject *module, PyObject *args) {
+    Py_buffer view;
+    nody_form_t form;
+    Search search;
+    Arrays arrays = {NULL, NULL, NULL, 0, 0};
+    Py_ssize_t end;
+    unsigned long long base;
+    PyObject *made = NULL;
+    (void)module;
+    if (!PyArg_ParseTuple(args, "O&O&nK:fault_arrays", take_form, &form, take_bytes, &view, &end, &base))
+        return NULL;
+    if (is_place(end, view.len) && open_search(&search, form, &view)) {
+        PyThreadState *thread = let_lock_go((size_t)end);
+        int is_made = put_faults(&arrays, &search, (size_t)end, base);
+        Py_ssize_t count = (Py_ssize_t)arrays.count;
+        take_lock(thread);
+        made = is_made ? Py_BuildValue("y#y#y#", arrays.count ? (char *)arrays.offsets : "", count * 8, arrays.count ? (char *)arrays.lens : "",
+                                       count, arrays.count ? (char *)arrays.kinds : "", count)
+                       : PyErr_NoMemory();
+        free(arrays.offsets);
+        free(arrays.lens);
+        free(arrays.kinds);
+        close_window(&search.window);
+    }
+    PyBuffer_Release(&view);
+    return made;
+}
+
+/* kind_counts(form, data, end): how many faults of each kind data[:end] has, told apart by all of the data. */
+static PyObject *kind_counts(PyObject *module, PyObject *args) {
+    Py_buffer view;
+    nody_form_t form;
+    Search search;
+    Py_ssize_t end;
+    size_t found[NODY_KIND_NONE + 1] = {0}, offset;
+    PyObject *made = NULL;
+    (void)module;
+    if (!PyArg_ParseTuple(args, "O&O&n:kind_counts", take_form, &form, take_bytes, &view, &end))
+        return NULL;
+    if (is_place(end, view.len) && open_search(&search, form, &view)) {
+        PyThreadState *thread = let_lock_go((size_t)end);
+        nody_piece_t piece;
+        while ((piece = next_found(&search, &offset)).kind != NODY_KIND_NONE && offset < (size_t)end)
+            found[piece.kind]++;
+        take_lock(thread);
+        made = PyTuple_New(NODY_KIND_NONE);
+        for (int i = 0; i < NODY_KIND_NONE && made != NULL; i++) {
+            PyObject *number = PyLong_FromSize_t(found[i]);
+            if (number == NULL || PyTuple_SetItem(made, i, number) < 0) {
+                Py_DECREF(made);
+                made = NULL;
+            }
+        }
+        close_window(&search.window);
+    }
+    PyBuffer_Release(&view);
+    return made;
 }
 
 /* ---- the module ---- */
@@ -871,6 +978,9 @@ static PyMethodDef functions[] = {{"supported", supported, METH_NOARGS, NULL},
                                   {"boundary", boundary, METH_VARARGS, NULL},
                                   {"check", check, METH_O, NULL},
                                   {"char_count", char_count, METH_VARARGS, NULL},
+                                  {"counts", counts, METH_VARARGS, NULL},
+                                  {"fault_arrays", fault_arrays, METH_VARARGS, NULL},
+                                  {"kind_counts", kind_counts, METH_VARARGS, NULL},
                                   {"index", index_pieces, METH_VARARGS, NULL},
                                   {"recoded_len", recoded_len, METH_VARARGS, NULL},
                                   {"recode", recode, METH_VARARGS, NULL},

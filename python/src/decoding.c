@@ -2,13 +2,16 @@
  * handlers do, without asking them one by one. */
 #include "views.h"
 
+#include "lengths.h"
+
+#include <stdlib.h>
 #include <string.h>
 
-#define LEAST 8       /* bytes that are looked at one by one; while there are faults up to CHUNK */
-#define CHUNK 512
-#define LONGEST 4     /* the most characters that a byte becomes: \xff */
-#define ROOM 4096     /* characters that wait to become a string */
-#define SHORT 64      /* strings up to this length wait one by one */
+#define ROOM 4096 /* characters that wait to become a string */
+#define SHORT 64  /* strings up to this length wait one by one */
+#define CLOSE 4   /* after so many faults with fewer bytes between them a chunk is recoded at once */
+#define CHUNK 512 /* about how many bytes this has */
+#define WIDEST 16 /* the most bytes that stand for a fault: \xd8\x00 in UTF-16 */
 
 /* wchar_t has to have room for any character, and then a string may have lone surrogates too. */
 typedef char wide_enough[sizeof(wchar_t) == 4 ? 1 : -1];
@@ -110,7 +113,7 @@ static size_t held(nody_form_t form, const uint8_t *bytes, size_t len) {
 }
 
 /* decode(form, data, final): the text, and how many bytes were read: what may yet become a character is left, unless no more
- * follows. Where there is a fault in these: the text before it, its place, length and kind, all bytes, and how many are read. */
+ * follows. Where there is a fault in these: its place, length and kind, all bytes, and how many are read. */
 PyObject *decode(PyObject *module, PyObject *args) {
     PyObject *form_number, *data, *text, *source, *made = NULL;
     Py_buffer view;
@@ -124,13 +127,10 @@ PyObject *decode(PyObject *module, PyObject *args) {
         size_t end = (size_t)view.len - (final ? 0 : held(form, view.buf, (size_t)view.len));
         Fault fault = first_fault(&window, STREAMED, form, &view);
         size_t stop = fault.at < end ? fault.at : end;
-        text = text_of(form, view.buf, stop);
-        if (text != NULL && stop == end)
+        if (stop == end && (text = text_of(form, view.buf, end)) != NULL)
             made = Py_BuildValue("Nn", text, (Py_ssize_t)end);
-        else if (text != NULL && (source = bytes_of(data, &view)) == NULL)
-            Py_DECREF(text);
-        else if (text != NULL)
-            made = Py_BuildValue("NnnINn", text, (Py_ssize_t)stop, (Py_ssize_t)fault.len, (unsigned)fault.kind, source, (Py_ssize_t)end);
+        else if (stop < end && (source = bytes_of(data, &view)) != NULL)
+            made = Py_BuildValue("nnINn", (Py_ssize_t)stop, (Py_ssize_t)fault.len, (unsigned)fault.kind, source, (Py_ssize_t)end);
         close_window(&window);
     }
     PyBuffer_Release(&view);
@@ -139,100 +139,149 @@ PyObject *decode(PyObject *module, PyObject *args) {
 
 /* ---- as the interpreter's own handlers ---- */
 
-/* What is put in place of a fault: nothing, U+FFFD, its bytes as \xff, or one lone surrogate for each byte, of UTF-8 only. */
+/* What is put in place of a fault: nothing, U+FFFD, its bytes as \xff, or a lone surrogate for each byte, of UTF-8 only. For the last
+ * the interpreter's codec is asked: it puts these for all bytes that are in no character, however it divides them into faults. */
 enum Way { IGNORE, REPLACE, BACKSLASH, ESCAPE };
 
-static void put_fault(Text *text, enum Way way, const uint8_t *bytes, size_t len) {
-    wchar_t *to = text->room + text->count;
-    if (way == REPLACE)
-        *to++ = 0xFFFD;
-    for (size_t i = 0; i < len; i++) {
-        if (way == ESCAPE)
-            *to++ = 0xDC00 + bytes[i];
-        if (way == BACKSLASH) {
-            *to++ = '\\', *to++ = 'x';
-            *to++ = "0123456789abcdef"[bytes[i] >> 4], *to++ = "0123456789abcdef"[bytes[i] & 15];
-        }
+/* Bytes that grow. Their room comes from malloc, which needs no lock. */
+typedef struct {
+    uint8_t *bytes;
+    size_t len, room;
+} Made;
+
+static int has_room(Made *made, size_t more) {
+    size_t room = made->len + more + made->room / 2;
+    uint8_t *bytes;
+    if (more <= made->room - made->len)
+        return 1;
+    bytes = realloc(made->bytes, room);
+    if (bytes != NULL)
+        made->bytes = bytes, made->room = room;
+    return bytes != NULL;
+}
+
+static void put_bytes(Made *made, const void *bytes, size_t len) {
+    memcpy(made->bytes + made->len, bytes, len);
+    made->len += len;
+}
+
+/* Bytes with faults, and the valid bytes that are made of them. */
+typedef struct {
+    nody_form_t form;
+    enum Way way;
+    const uint8_t *bytes;
+    size_t len;
+    Made made;
+} Mending;
+
+static int put_valid(Mending *it, const uint8_t *bytes, size_t len) {
+    if (!has_room(&it->made, len + WIDEST))
+        return 0;
+    put_bytes(&it->made, bytes, len);
+    return 1;
+}
+
+/* Puts a character of 7 bits. */
+static void put_ascii(Mending *it, char character) {
+    uint8_t unit[2] = {0, 0};
+    unit[it->form == NODY_FORM_UTF16BE] = (uint8_t)character;
+    put_bytes(&it->made, unit, it->form == NODY_FORM_UTF8 ? 1 : 2);
+}
+
+/* Puts what stands for a fault: put_valid kept room for it. */
+static void put_fault(Mending *it, const uint8_t *fault, size_t len) {
+    static const char *const fffd[] = {"\xEF\xBF\xBD", "\xFD\xFF", "\xFF\xFD"};
+    if (it->way == REPLACE)
+        put_bytes(&it->made, fffd[it->form], it->form == NODY_FORM_UTF8 ? 3 : 2);
+    for (size_t i = 0; i < len && it->way == BACKSLASH; i++) {
+        put_ascii(it, '\\');
+        put_ascii(it, 'x');
+        put_ascii(it, "0123456789abcdef"[fault[i] >> 4]);
+        put_ascii(it, "0123456789abcdef"[fault[i] & 15]);
     }
-    text->count = (size_t)(to - text->room);
 }
 
-/* How many bytes a character has. */
-static size_t code_len(nody_form_t form, uint32_t scalar) {
-    if (form != NODY_FORM_UTF8)
-        return scalar < 0x10000 ? 2 : 4;
-    return scalar < 0x80 ? 1 : scalar < 0x800 ? 2 : scalar < 0x10000 ? 3 : 4;
+/* Whether U+FFFD stands at the front of UTF-8. */
+static int is_fffd(const uint8_t *bytes, size_t len) {
+    return len > 2 && memcmp(bytes, "\xEF\xBF\xBD", 3) == 0;
 }
 
-/* Whether U+FFFD stands here. */
-static int is_fffd(nody_form_t form, const uint8_t *bytes, size_t len) {
-    return form == NODY_FORM_UTF8 ? len > 2 && memcmp(bytes, "\xEF\xBF\xBD", 3) == 0 : len > 1 && unit_at(form, bytes) == 0xFFFD;
-}
-
-/* Puts the pieces of some bytes, given what they are as UTF-16; answers how many faults there are. U+FFFD stands for a fault where the
- * bytes have none. */
-static size_t put_pieces(Text *text, enum Way way, nody_form_t form, const uint8_t *bytes, size_t len, const uint8_t *units, size_t size) {
-    size_t faults = 0, at = 0;
-    for (size_t i = 0; i < size; i += 2) {
-        uint32_t scalar = unit_at(NODY_FORM_UTF16LE, units + i);
-        if (scalar == 0xFFFD && !is_fffd(form, bytes + at, len - at)) {
-            size_t fault = form == NODY_FORM_UTF8 || len - at < 2 ? 1 : 2;
-            put_fault(text, way, bytes + at, fault);
-            at += fault, faults++;
-            continue;
-        }
-        if ((scalar & 0xFC00) == 0xD800)
-            scalar = 0x10000 + ((scalar & 0x3FF) << 10) + (unit_at(NODY_FORM_UTF16LE, units + (i += 2)) & 0x3FF);
-        text->room[text->count++] = (wchar_t)scalar;
-        at += code_len(form, scalar);
+/* How many bytes of UTF-8 are the same as in its text with a U+FFFD for each fault: up to the first fault, or all. */
+static size_t same_bytes(const uint8_t *bytes, size_t len, const uint8_t *text, size_t size) {
+    for (size_t at = 0; at < size; at++) {
+        const uint8_t *next = text[at] == 0xEF ? text + at : memchr(text + at, 0xEF, size - at);
+        if (next == NULL)
+            return size;
+        at = (size_t)(next - text);
+        if (is_fffd(next, size - at) && !is_fffd(bytes + at, len - at))
+            return at;
     }
-    return faults;
+    return size;
 }
 
-/* Puts about `size` bytes, up to CHUNK; answers how many. */
-static size_t put_chunk(Text *text, enum Way way, nody_form_t form, const uint8_t *bytes, size_t len, size_t size, size_t *faults) {
-    uint8_t units[2 * CHUNK + 2];
-    size_t end = nody_boundary_before(form, bytes, len, size), written;
-    nody_recode(form, NODY_FORM_UTF16LE, bytes, end, units, sizeof units, &written);
-    *faults = put_pieces(text, way, form, bytes, end, units, written);
-    return end;
-}
-
-/* Puts all bytes: chunks that grow while there are faults, and what has none as a whole. */
-static int put_replaced(Text *text, enum Way way, nody_form_t form, const uint8_t *bytes, size_t len) {
-    size_t size = LEAST, faults, valid;
-    for (size_t at = 0; at < len;) {
-        if (text->count > ROOM - CHUNK * LONGEST && !flush(text))
+/* Puts a chunk of UTF-8; `end` gets where it ends. */
+static int put_chunk(Mending *it, size_t begin, size_t *end) {
+    const uint8_t *bytes = it->bytes + begin;
+    uint8_t text[3 * CHUNK];
+    size_t len = nody_boundary_before(it->form, bytes, it->len - begin, CHUNK), size, at = 0;
+    nody_recode(it->form, it->form, bytes, len, text, sizeof text, &size);
+    *end = begin + len;
+    if (it->way == REPLACE)
+        return put_valid(it, text, size);
+    for (size_t i = 0; i < size; at += 1, i += 3) {
+        size_t same = same_bytes(bytes + at, len - at, text + i, size - i);
+        if (!put_valid(it, text + i, same))
             return 0;
-        at += put_chunk(text, way, form, bytes + at, len - at, size, &faults);
-        if (faults > 0) {
-            size = size < CHUNK ? 2 * size : CHUNK;
-            continue;
-        }
-        size = LEAST;
-        valid = nody_utf16_bytes_valid_up_to(form, bytes + at, len - at);
-        if (valid > SHORT && !put(text, text_of(form, bytes + at, valid)))
-            return 0;
-        at += valid > SHORT ? valid : 0;
+        at += same, i += same;
+        if (i < size)
+            put_fault(it, bytes + at, 1);
     }
     return 1;
 }
 
-/* replaced(form, source, at, end, way, before): the text before, and that of source[at:end] with each fault put in a way. */
+/* Puts all bytes, of which the first are known to be valid. Answers 0 without memory. */
+static int mend(Mending *it, size_t valid) {
+    size_t at = 0, close = 0, fault;
+    while (put_valid(it, it->bytes + at, valid)) {
+        at += valid;
+        if (at == it->len)
+            return 1;
+        fault = fault_len(it->form, it->len - at);
+        put_fault(it, it->bytes + at, fault);
+        at += fault;
+        close = valid < CLOSE ? close + 1 : 0;
+        if (close >= CLOSE && it->form == NODY_FORM_UTF8 && !put_chunk(it, at, &at))
+            return 0;
+        valid = valid_up_to(it->form, it->bytes + at, it->len - at);
+    }
+    return 0;
+}
+
+static PyObject *mended(Mending *it, size_t valid) {
+    PyThreadState *thread = let_lock_go(it->len);
+    int is_made = has_room(&it->made, it->len + it->len / 16 + WIDEST) && mend(it, valid);
+    PyObject *text;
+    take_lock(thread);
+    text = is_made ? text_of(it->form, it->made.bytes, it->made.len) : PyErr_NoMemory();
+    free(it->made.bytes);
+    return text;
+}
+
+/* replaced(form, source, valid, end, way): the text of source[:end] with each fault put in a way; its first bytes are known to be valid. */
 PyObject *replaced(PyObject *module, PyObject *args) {
-    PyObject *source, *before;
-    Text text;
-    nody_form_t form;
-    Py_ssize_t at, end;
-    int way, is_made;
+    PyObject *source;
+    Mending it;
+    Py_ssize_t valid, end;
+    int way;
     (void)module;
-    if (!PyArg_ParseTuple(args, "O&SnniU:replaced", take_form, &form, &source, &at, &end, &way, &before))
+    memset(&it, 0, sizeof it);
+    if (!PyArg_ParseTuple(args, "O&Snni:replaced", take_form, &it.form, &source, &valid, &end, &way))
         return NULL;
-    if (!is_place(end, PyBytes_Size(source)) || !is_place(at, end) || !begin_text(&text))
+    if (!is_place(end, PyBytes_Size(source)) || !is_place(valid, end))
         return NULL;
-    is_made = put(&text, Py_NewRef(before)) &&
-              put_replaced(&text, (enum Way)way, form, (const uint8_t *)PyBytes_AsString(source) + at, (size_t)(end - at));
-    return end_text(&text, is_made);
+    it.way = (enum Way)way;
+    it.bytes = (const uint8_t *)PyBytes_AsString(source), it.len = (size_t)end;
+    return it.way == ESCAPE ? PyUnicode_DecodeUTF8(PyBytes_AsString(source), end, "surrogateescape") : mended(&it, (size_t)valid);
 }
 
 /* ---- handlers that are asked ---- */
@@ -326,19 +375,19 @@ static int put_handled(Text *text, Asking *asking) {
     return 1;
 }
 
-/* handled(form, source, at, end, before, text, error, handler, kinds, reasons): the text so far, and that of source[at:end] with each
- * fault put through a handler; and where the handler let it end. The error gets the place and the kind of each fault; its offset
- * counts `before` too. */
+/* handled(form, source, valid, end, before, error, handler, kinds, reasons): the text of source[:end] with each fault put through a
+ * handler, and where the handler let it end; its first bytes are known to be valid. The error gets the place and the kind of each
+ * fault; its offset counts `before` too. */
 PyObject *handled(PyObject *module, PyObject *args) {
     static const char *const names[3] = {"offset", "error", "reason"};
-    PyObject *so_far, *made = NULL;
+    PyObject *made = NULL;
     Asking asking;
     Text text;
     int is_made = 1;
     (void)module;
     memset(&asking, 0, sizeof asking);
-    if (!PyArg_ParseTuple(args, "O&SnnnUO!OO!O!:handled", take_form, &asking.form, &asking.source, &asking.at, &asking.end, &asking.before,
-                          &so_far, (PyTypeObject *)PyExc_UnicodeDecodeError, &asking.error, &asking.handler, &PyTuple_Type, &asking.kinds,
+    if (!PyArg_ParseTuple(args, "O&SnnnO!OO!O!:handled", take_form, &asking.form, &asking.source, &asking.at, &asking.end, &asking.before,
+                          (PyTypeObject *)PyExc_UnicodeDecodeError, &asking.error, &asking.handler, &PyTuple_Type, &asking.kinds,
                           &PyTuple_Type, &asking.reasons))
         return NULL;
     if (!is_place(asking.end, PyBytes_Size(asking.source)) || !is_place(asking.at, asking.end) || !begin_text(&text))
@@ -346,7 +395,8 @@ PyObject *handled(PyObject *module, PyObject *args) {
     Py_INCREF(asking.source);
     for (int i = 0; i < 3; i++)
         is_made = (asking.names[i] = PyUnicode_InternFromString(names[i])) != NULL && is_made;
-    is_made = is_made && put(&text, Py_NewRef(so_far)) && put_handled(&text, &asking);
+    is_made = is_made && put(&text, text_of(asking.form, (const uint8_t *)PyBytes_AsString(asking.source), (size_t)asking.at)) &&
+              put_handled(&text, &asking);
     made = end_text(&text, is_made);
     for (int i = 0; i < 3; i++)
         Py_XDECREF(asking.names[i]);

@@ -1,74 +1,17 @@
-/* How many bytes an input becomes at least, whatever is invalid in it: exactly so many, if it is valid and has few characters above
- * U+FFFF. Room for so many is asked for first. Blocks have narrow sums, so that compilers count many bytes at once. */
+/* Lengths and counts of text, many bytes at once. */
 #ifndef LENGTHS_H
 #define LENGTHS_H
 
-#include <string.h>
-
 #include "noddychest.h"
 
-#ifdef __x86_64__
-#define WITH_AVX2 __attribute__((target("avx2")))
-#endif
+/* How many bytes an input becomes at least, whatever is invalid in it: exactly so many, if it is valid and has few characters above
+ * U+FFFF. Room for so many is asked for first. */
+size_t least_recoded(nody_form_t from, nody_form_t to, const uint8_t *in, size_t len);
 
-enum { COUNTED = 128 }; /* bytes or units of a block */
+/* How many characters valid text has: as many as it has bytes or units that begin one. */
+size_t valid_chars(nody_form_t form, const uint8_t *bytes, size_t len);
 
-/* Counts in blocks, and the rest by itself. */
-#define COUNT(in, len, size, Sum, of)                       \
-    size_t count = 0, at = 0;                               \
-    for (; at + (size) * COUNTED <= (len); at += (size) * COUNTED) { \
-        Sum sum = 0;                                        \
-        for (size_t i = 0; i < COUNTED; i++)                \
-            sum = (Sum)(sum + of((in) + at + (size) * i));  \
-        count += sum;                                       \
-    }                                                       \
-    for (; at + (size) <= (len); at += (size))              \
-        count += of((in) + at);                             \
-    return count
-
-/* Whether a byte continues no character. Each such byte becomes one unit, or more. */
-static inline uint8_t is_front(const uint8_t *byte) {
-    return (int8_t)*byte >= -0x40;
-}
-
-/* How many bytes of UTF-8 a unit becomes, or more; a surrogate counts as half of four. */
-static inline uint16_t unit_len(uint16_t unit) {
-    return (uint16_t)(1 + (unit >= 0x80) + (unit >= 0x800) - ((unit & 0xF800) == 0xD800));
-}
-
-static inline uint16_t same_len(const uint8_t *bytes) {
-    uint16_t unit;
-    memcpy(&unit, bytes, sizeof unit);
-    return unit_len(unit);
-}
-
-static inline uint16_t swapped_len(const uint8_t *bytes) {
-    uint16_t unit;
-    memcpy(&unit, bytes, sizeof unit);
-    return unit_len((uint16_t)(unit << 8 | unit >> 8));
-}
-
-#define COUNTS(suffix, attribute)                                                                        \
-    attribute static size_t fronts##suffix(const uint8_t *in, size_t len) { COUNT(in, len, 1, uint8_t, is_front); }     \
-    attribute static size_t same_lens##suffix(const uint8_t *in, size_t len) { COUNT(in, len, 2, uint16_t, same_len); } \
-    attribute static size_t swapped_lens##suffix(const uint8_t *in, size_t len) { COUNT(in, len, 2, uint16_t, swapped_len); }
-
-COUNTS(, )
-#ifdef WITH_AVX2
-COUNTS(_wide, WITH_AVX2)
-#define COUNTED_BY(name, in, len) (nody_lanes() == 32 ? name##_wide(in, len) : name(in, len))
-#else
-#define COUNTED_BY(name, in, len) name(in, len)
-#endif
-
-static size_t least_recoded(nody_form_t from, nody_form_t to, const uint8_t *in, size_t len) {
-    size_t count;
-    if ((from == NODY_FORM_UTF8) == (to == NODY_FORM_UTF8))
-        return len;
-    if (from != NODY_FORM_UTF8)
-        return from == NODY_FORM_UTF16_NATIVE ? COUNTED_BY(same_lens, in, len) : COUNTED_BY(swapped_lens, in, len);
-    count = COUNTED_BY(fronts, in, len);
-    return 2 * (count < len / 3 ? len / 3 : count); /* (three bytes become one unit, or more) */
-}
+/* How many of the characters are U+000A, also in text that is not valid. */
+size_t line_count(nody_form_t form, const uint8_t *bytes, size_t len);
 
 #endif

@@ -59,6 +59,14 @@ void next_window(Window *window, nody_form_t form, const uint8_t *left, size_t l
 nody_piece_t first_piece(nody_form_t form, const uint8_t *bytes, size_t len);
 nody_piece_t last_piece(nody_form_t form, const uint8_t *bytes, size_t len);
 
+/* How far some bytes are valid. */
+size_t valid_up_to(nody_form_t form, const uint8_t *bytes, size_t len);
+
+/* How many bytes a fault has that stands at the front of so many. */
+static inline size_t fault_len(nody_form_t form, size_t len) {
+    return form == NODY_FORM_UTF8 || len < 2 ? 1 : 2;
+}
+
 /* A fault: its place, its length, and its kind; NODY_KIND_NONE where there is none. */
 typedef struct {
     size_t at, len;
@@ -71,6 +79,23 @@ enum Reader { WHOLE, STREAMED };
 /* The first fault from a place on, or none at the end. first_fault lets the lock go; find_fault needs none. */
 Fault first_fault(Window *window, enum Reader reader, nody_form_t form, const Py_buffer *view);
 Fault find_fault(Window *window, enum Reader reader, nody_form_t form, const Py_buffer *view, size_t at);
+
+/* A search for faults, one after another, window by window. */
+typedef struct {
+    nody_form_t form;
+    const uint8_t *bytes;
+    size_t len;
+    Window window;
+    size_t begin; /* where the window begins */
+    size_t at;    /* how far it was read */
+} Search;
+
+/* Answers 0 with a MemoryError if there is no room for the copies. The window is closed by the caller. */
+int open_search(Search *search, nody_form_t form, const Py_buffer *view);
+
+/* The next fault and its offset, or NODY_KIND_NONE: in this window, or in all bytes. */
+nody_piece_t next_in_window(Search *search, size_t *offset);
+nody_piece_t next_found(Search *search, size_t *offset);
 
 /* The unit at the first two of some bytes. */
 static inline uint16_t unit_at(nody_form_t form, const uint8_t *bytes) {

@@ -1,6 +1,8 @@
 """Runs all tests and the examples of the documentation over the package that is installed. The last line is 'N passed, M failed'.
 
-usage: python3 python/tests        pytest python/tests runs the same tests, without the examples
+usage: python3 python/tests [NAME..]       pytest python/tests runs the same tests, without the examples
+
+NAME is a module of tests, or a class or a test in one, as test_shards.Arrays; with names the examples are left out.
 """
 import doctest
 import importlib
@@ -20,7 +22,9 @@ class Counted(unittest.TextTestResult):
         self.passed += 1
 
 
-def suite(folder):
+def suite(folder, names):
+    if names:
+        return unittest.defaultTestLoader.loadTestsFromNames(names)
     tests = unittest.TestSuite([unittest.defaultTestLoader.discover(folder)])
     modules = [importlib.import_module(f"noddychest.{it.name}") for it in pkgutil.iter_modules(noddychest.__path__)]
     for module in [noddychest, *modules]:
@@ -32,7 +36,7 @@ def suite(folder):
 def main():
     folder = os.path.dirname(os.path.abspath(__file__))
     sys.path.insert(0, folder)
-    result = unittest.TextTestRunner(sys.stdout, resultclass=Counted).run(suite(folder))
+    result = unittest.TextTestRunner(sys.stdout, resultclass=Counted).run(suite(folder, sys.argv[1:]))
     for test, why in result.skipped:
         print(f"left out: {test}: {why}")
     failed = len({getattr(test, "test_case", test).id() for test, _ in [*result.failures, *result.errors]})

@@ -47,6 +47,12 @@ def inputs(count, longest, seed=1):
         yield bytes(data)
 
 
+def damaged(line, every, size):
+    """Text of about so many bytes, in which each so many of them have one that is invalid."""
+    text = line * (size // len(line) + 1)
+    return b"".join(text[at:at + every - 1] + b"\xff" for at in range(0, size, every))
+
+
 def rows(name):
     """The lines of one of the repository's lists of vectors, or None where only the package is there."""
     path = os.path.join(TOP, "crates", "conformance", "data", name)

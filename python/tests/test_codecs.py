@@ -341,10 +341,20 @@ class OwnHandlers(unittest.TestCase):
     def test_time(self):
         for data in self.INVALID:
             for errors in ("ignore", "replace", "backslashreplace", "surrogateescape", "noddychest.count"):
-                ratios = []
-                while len(ratios) < 6 and (not ratios or min(ratios) > 3):
-                    ratios.append(taken(data, "noddychest-utf8", errors) / taken(data, "utf-8", errors))
-                self.assertLessEqual(min(ratios), 3, (data[:4], errors))
+                self.check_time(data, errors)
+
+    def test_time_of_sparse_faults(self):
+        for line in ("the quick brown fox ", "съешь же ещё ", "我能吞下玻璃", "Größe 漢字 😀 and words "):
+            for every in (2, 4, 10, 30, 100, 1000, 10_000):
+                data = outside.damaged(line.encode(), every, 300_000)
+                for errors in ("ignore", "replace", "backslashreplace", "surrogateescape"):
+                    self.check_time(data, errors)
+
+    def check_time(self, data, errors):
+        ratios = []
+        while len(ratios) < 8 and (not ratios or min(ratios) > 3):
+            ratios.append(taken(data, "noddychest-utf8", errors) / taken(data, "utf-8", errors))
+        self.assertLessEqual(min(ratios), 3, (data[:20], errors))
 
 
 def taken(data, encoding, errors):

@@ -107,6 +107,37 @@ class Pieces(unittest.TestCase):
             self.assertRaises(TypeError, call, "text", "utf16le")
 
 
+class Blocks(unittest.TestCase):
+    """Text is validated and counted in blocks: their ends are not to be seen, wherever the bytes lie in memory."""
+
+    def places(self, data):
+        yield data
+        yield memoryview(b"_" + data)[1:]
+        yield bytearray(b"_" + data)[1:]
+
+    def test_first_fault(self):
+        for form, wrong in (("utf8", b"\xff"), ("utf16le", b"\0\xdc"), ("utf16be", b"\xdc\0"), ("utf16le", b"\x3d\xd8"), ("utf16be", b"\xd8\x3d")):
+            for before in [*range(70), *range(120, 132), *range(250, 260), 4095, 4096, 4097, 8191, 16_400]:
+                text = "a" * before + "😀" * 40
+                data = text.encode(FORMS[form])
+                for it in self.places(data + wrong + data):
+                    self.assertEqual((first_fault(it, form).offset, is_valid(it, form)), (len(data), False), (form, before))
+                for it in self.places(data):
+                    self.assertEqual((first_fault(it, form), is_valid(it, form)), (None, True), (form, before))
+
+    def test_counts(self):
+        source = random.Random(31)
+        for _ in range(300):
+            text = "".join(source.choice("aé€😀") * source.choice([1, 3, 40, 127, 128, 129, 300]) for _ in range(source.randint(1, 6)))
+            for form, encoding in FORMS.items():
+                data = text.encode(encoding)
+                for it in self.places(data):
+                    self.assertEqual(char_count(it, form), len(text))
+                at = source.randrange(len(data) + 1)
+                for it in self.places(data[:at] + b"\xff" * source.randint(1, 3) + data[at:]):
+                    self.assertEqual(char_count(it, form), len(pieces(it, form)))
+
+
 class Faults(unittest.TestCase):
     def test_is_an_iterator(self):
         found = faults(b"a\xff\xfe")

@@ -1,5 +1,6 @@
 """`python3 -m noddychest`: what it prints, how it ends, and that it reads by parts."""
 import os
+import re
 import subprocess
 import sys
 import tempfile
@@ -68,6 +69,24 @@ class Program(unittest.TestCase):
             status, out, err = ran("recode", "--from", "utf8", "--to", "utf8", "--errors", "strict", given=before + b"\xffb")
             self.assertEqual((status, out, err), (1, before, f"-: offset {len(before)}: {ErrorKind.NON_UTF8_BYTE.reason}\n"))
 
+    def test_jobs(self):
+        path, out = self.file(SAMPLE * 600_000), os.path.join(self.folder, "out")
+        expected = recode(SAMPLE * 600_000, "utf8", "utf16le")
+        for words in (["--jobs", "3"], [], ["--jobs", "2", "--resume"]):
+            self.assertEqual(ran("recode", "--from", "utf8", "--to", "utf16le", "-o", out, *words, path), (0, b"", ""))
+            with open(out, "rb") as file:
+                self.assertEqual(file.read(), expected)
+        self.assertEqual(sorted(os.listdir(self.folder)), ["file", "out"])
+        status, _, err = ran("recode", "--from", "utf8", "--to", "utf16le", "-o", out, "--errors", "strict", "--jobs", "2", path)
+        self.assertEqual((status, err), (1, f"{path}: offset 3: {ErrorKind.INTERRUPTED_SEQUENCE.reason}\n"))
+        path = self.file(b"a" * 3_000_000 + SAMPLE * 3 + b"\xe2")
+        self.assertEqual(ran("check", "--jobs", "3", path), ran("check", path))
+        self.assertEqual(ran("check", "--jobs", "3", path, "/none")[0], 3)
+        self.assertEqual(ran("recode", "--from", "utf8", "--to", "utf8", "-o", self.folder, path)[0], 3)
+        for words in (["recode", "--from", "utf8", "--to", "utf8", "--jobs", "2"], ["recode", "--from", "utf8", "--to", "utf8", "--resume"],
+                      ["check", "--jobs", "0"], ["check", "--jobs", "x"], ["recode", "--from", "utf8", "--to", "utf8", "-o", out]):
+            self.assertEqual(ran(*words)[0], 2, words)
+
     def test_wrong_arguments(self):
         for words in ([], ["nonsense"], ["recode"], ["check", "--encoding", "latin-1"], ["recode", "--from", "utf8", "--to", "utf8", "-x"]):
             status, out, err = ran(*words)
@@ -91,16 +110,33 @@ class Program(unittest.TestCase):
 
 
 class Readme(unittest.TestCase):
-    def test_sample(self):
+    def test_samples(self):
         path = os.path.join(outside.TOP, "python", "README.md")
         if not os.path.exists(path):
             self.skipTest("README.md is in the repository")
         with open(path, encoding="utf-8") as file:
-            sample = file.read().partition("```python new\n")[2].partition("```")[0]
+            samples = [it.partition("```")[0] for it in file.read().split("```python new\n")[1:]]
+        printed = []
+        for sample in samples:
+            with tempfile.TemporaryDirectory() as folder:
+                open(os.path.join(folder, "log.txt"), "wb").close()
+                it = subprocess.run([sys.executable, "-c", sample], cwd=folder, stdout=subprocess.PIPE, check=True)
+            printed.append(it.stdout.decode().splitlines()[:2])
+        self.assertEqual(printed, [["0 1 h", "1 2 é"], []])
+
+    def test_comments(self):
+        """What the samples say comes of a line comes of it."""
+        path = os.path.join(outside.TOP, "python", "README.md")
+        if not os.path.exists(path):
+            self.skipTest("README.md is in the repository")
+        with open(path, encoding="utf-8") as file:
+            sample = file.read().split("```python new\n")[2].partition("```")[0]
+        given = re.findall(r"^(parallel\.\S.*?) +# (.*)$", sample, re.M)
+        before = sample[:sample.index(given[0][0])]
+        program = before + "".join(f"print({call})\n" for call, _ in given)
         with tempfile.TemporaryDirectory() as folder:
-            open(os.path.join(folder, "log.txt"), "wb").close()
-            it = subprocess.run([sys.executable, "-c", sample], cwd=folder, stdout=subprocess.PIPE, check=True)
-        self.assertEqual(it.stdout.decode().splitlines()[:2], ["0 1 h", "1 2 é"])
+            it = subprocess.run([sys.executable, "-c", program], cwd=folder, stdout=subprocess.PIPE, check=True)
+        self.assertEqual(it.stdout.decode().splitlines(), [answer for _, answer in given])
 
 
 if __name__ == "__main__":

@@ -305,8 +305,10 @@ class ChangingBuffers(unittest.TestCase):
         def grow():
             while time.monotonic() < end:
                 try:
-                    data.append(97)
-                    del data[-1]
+                    if len(data) == size:
+                        data.append(97)
+                    else:
+                        del data[-1]
                 except BufferError:
                     pass
 

@@ -32,32 +32,42 @@ from ._pieces import (
     faults,
     first_fault,
     is_valid,
+    offsets,
     pieces,
 )
 from ._recoding import Recoder, recode, recoded_len
+from ._shards import ChangedError, Counts, Faults, Recoded, Shard, faults_array, shards
 from . import _codecs
 
 __all__ = [
+    "ChangedError",
+    "Counts",
     "Decoder",
     "ErrorKind",
     "FaultError",
+    "Faults",
     "Piece",
     "Pieces",
+    "Recoded",
     "Recoder",
+    "Shard",
     "__version__",
     "boundary",
     "boundary_after",
     "boundary_before",
     "char_count",
     "faults",
+    "faults_array",
     "first_fault",
     "is_valid",
+    "offsets",
     "pieces",
     "recode",
     "recoded_len",
+    "shards",
 ]
 
-for _it in (Decoder, ErrorKind, FaultError, Piece, Pieces, Recoder):
+for _it in (ChangedError, Counts, Decoder, ErrorKind, FaultError, Faults, Piece, Pieces, Recoded, Recoder, Shard):
     _it.__module__ = __name__  # where users find them
 
 _codecs.register()

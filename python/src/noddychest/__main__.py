@@ -8,10 +8,11 @@ import argparse
 import os
 import sys
 from collections.abc import Iterator
-from typing import BinaryIO
+from io import BufferedReader
 
-from . import FaultError, Piece, Recoder, boundary_before, faults, pieces
+from . import FaultError, Piece, Recoder, Shard, boundary_before, faults, parallel, pieces, shards
 from ._names import form_of
+from ._shards import taken
 
 _SIZE = 1 << 20
 
@@ -39,18 +40,28 @@ def _arguments() -> argparse.ArgumentParser:
     convert.add_argument("--from", dest="from_", type=_encoding, required=True, metavar="NAME", help="utf8, utf16le or utf16be")
     convert.add_argument("--to", type=_encoding, required=True, metavar="NAME")
     convert.add_argument("--errors", choices=["replace", "strict", "maximal"], default="replace")
+    for it in (check, convert):
+        it.add_argument("--jobs", type=_jobs, default=1, metavar="N", help="how many threads read at once (1)")
+    convert.add_argument("-o", "--output", metavar="OUT", help="a file, which is replaced once all is written; --jobs needs it, and FILE")
+    convert.add_argument("--resume", action="store_true", help="goes on where such a run, that was interrupted, came to; needs --output")
     return parser
 
 
-def _open(name: str) -> BinaryIO:
+def _jobs(word: str) -> int:
+    if not word.isascii() or not word.isdigit() or int(word) < 1:
+        raise argparse.ArgumentTypeError("a number from 1 on is required")
+    return int(word)
+
+
+def _open(name: str) -> BufferedReader:
     return open(sys.stdin.fileno() if name == "-" else name, "rb", closefd=name != "-")
 
 
-def _parts(file: BinaryIO) -> Iterator[bytes]:
-    return iter(lambda: file.read1(_SIZE), b"")  # type: ignore[attr-defined]
+def _parts(file: BufferedReader) -> Iterator[bytes]:
+    return iter(lambda: file.read1(_SIZE), b"")
 
 
-def _blocks(file: BinaryIO, encoding: str) -> Iterator[tuple[int, bytes, int]]:
+def _blocks(file: BufferedReader, encoding: str) -> Iterator[tuple[int, bytes, int]]:
     """Bytes, the offset at which they begin, and how many of them are to be taken: four more are there to tell why one is invalid."""
     offset, data = 0, b""
     for part in _parts(file):
@@ -61,20 +72,21 @@ def _blocks(file: BinaryIO, encoding: str) -> Iterator[tuple[int, bytes, int]]:
     yield offset, data, len(data)
 
 
-def _taken(found: Iterator[Piece], offset: int, cut: int) -> Iterator[Piece]:
-    for piece in found:
-        if piece.offset >= cut:
-            return
-        yield piece._replace(offset=offset + piece.offset)
-
-
-def _check(name: str, encoding: str) -> int:
-    status = 0
+def _faults(name: str, encoding: str, jobs: int) -> Iterator[Piece]:
+    if jobs > 1 and name != "-":
+        for found in parallel.each(Shard.faults_array, shards(name, parallel.SIZE, encoding), jobs, True):
+            yield from found.pieces()
+        return
     with _open(name) as file:
         for offset, data, cut in _blocks(file, encoding):
-            for piece in _taken(faults(data, encoding), offset, cut):
-                status = 1
-                print(f"{name}: offset {piece.offset}: {piece.error.reason if piece.error else ''}")
+            yield from taken(faults(data, encoding), offset, cut)
+
+
+def _check(name: str, encoding: str, jobs: int) -> int:
+    status = 0
+    for piece in _faults(name, encoding, jobs):
+        status = 1
+        print(f"{name}: offset {piece.offset}: {piece.error.reason if piece.error else ''}")
     return status
 
 
@@ -82,7 +94,7 @@ def _pieces(name: str, encoding: str) -> int:
     status = 0
     with _open(name) as file:
         for offset, data, cut in _blocks(file, encoding):
-            for piece in _taken(iter(pieces(data, encoding)), offset, cut):
+            for piece in taken(iter(pieces(data, encoding)), offset, cut):
                 if piece.error is not None:
                     status = 1
                     print(piece.offset, piece.length, piece.error.name.replace("_", " ").title().replace(" ", ""))
@@ -110,11 +122,22 @@ def _recode(name: str, from_: str, to: str, errors: str) -> int:
     return 0
 
 
+def _recode_into(asked: argparse.Namespace) -> int:
+    try:
+        parallel.recode(asked.file, asked.output, asked.from_, asked.to, asked.jobs, errors=asked.errors, resume=asked.resume)
+    except FaultError as fault:
+        print(f"{asked.file}: offset {fault.offset}: {fault.error.reason}", file=sys.stderr)
+        return 1
+    return 0
+
+
 def _run(asked: argparse.Namespace) -> int:
     if asked.job == "check":
-        status = max(_check(name, asked.encoding) for name in asked.file)
+        status = max(_check(name, asked.encoding, asked.jobs) for name in asked.file)
     elif asked.job == "pieces":
         status = _pieces(asked.file, asked.encoding)
+    elif asked.output is not None:
+        status = _recode_into(asked)
     else:
         status = _recode(asked.file, asked.from_, asked.to, asked.errors)
     sys.stdout.flush()
@@ -122,7 +145,12 @@ def _run(asked: argparse.Namespace) -> int:
 
 
 def main() -> int:
-    asked = _arguments().parse_args()
+    parser = _arguments()
+    asked = parser.parse_args()
+    if asked.job == "recode" and asked.output is None and (asked.jobs > 1 or asked.resume):
+        parser.error("--jobs and --resume need --output")
+    if asked.job == "recode" and asked.output is not None and asked.file == "-":
+        parser.error("--output needs a FILE")
     try:
         return _run(asked)
     except OSError as error:

@@ -44,16 +44,16 @@ def _decode(form: int, data: ReadableBuffer, errors: Optional[str], final: bool,
     made: Any = _noddychest.decode(form, data, final)
     if len(made) == 2:
         return made[0], made[1]
-    text, at, length, kind, source, end = made
+    at, length, kind, source, end = made
     handler = codecs.lookup_error(errors or "strict")
     way = _own_way(handler, form)
     if way is not None:
-        return _noddychest.replaced(form, source, at, end, way, text), end
+        return _noddychest.replaced(form, source, at, end, way), end
     error = fault_error(NAMES[form], source, at, length, kind, offset=before + at)
     if errors == "surrogatepass":  # it knows encodings by name
         error.encoding = STANDARD[form]
     try:
-        return _noddychest.handled(form, source, at, end, before, text, error, handler, ERRORS, REASONS)
+        return _noddychest.handled(form, source, at, end, before, error, handler, ERRORS, REASONS)
     finally:
         error.encoding = NAMES[form]
 

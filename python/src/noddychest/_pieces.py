@@ -14,6 +14,8 @@ from ._names import form_of
 if TYPE_CHECKING:
     from _typeshed import ReadableBuffer
 
+    from ._shards import Shard
+
 if not _noddychest.supported():
     raise ImportError("noddychest needs a processor with x86-64-v2 (SSE4.2 and POPCNT), and this one has less")
 
@@ -89,6 +91,15 @@ def fault_error(encoding: str, data: bytes, start: int, length: int, kind: int, 
     fault = FaultError(encoding, data, start, start + length, error.reason)
     fault.offset, fault.error = offset, error
     return fault
+
+
+def shard_of(data: object) -> Shard:
+    """A tuple that stands in place of data, which has to be a shard. (What has bytes is no tuple.)"""
+    from ._shards import Shard
+
+    if not isinstance(data, Shard):
+        raise TypeError(f"a bytes-like object or a Shard is required, not {type(data)!r}")
+    return data
 
 
 class Pieces(Sequence[Piece]):
@@ -171,13 +182,29 @@ def pieces(data: ReadableBuffer, encoding: str = "utf8") -> Pieces:
     return Pieces(data, encoding)
 
 
-def faults(data: ReadableBuffer, encoding: str = "utf8") -> Iterator[Piece]:
+def offsets(data: ReadableBuffer, encoding: str = "utf8") -> array.array[int]:
+    """The offset of each piece, as an array of 64-bit numbers that numpy and Arrow take without a copy: `numpy.asarray(offsets(data))`.
+
+    Data is any bytes-like object. Errors: LookupError for an unknown encoding, TypeError for what is no data. Cost: it reads the data piece
+    by piece, and takes 16 bytes of memory for each byte of data meanwhile.
+
+    >>> offsets("aé€".encode() + b"\\xff")
+    array('Q', [0, 1, 3, 6])
+    """
+    found = array.array("Q")
+    found.frombytes(_noddychest.index(form_of(encoding), data, 1)[1])
+    return found
+
+
+def faults(data: Union[ReadableBuffer, Shard], encoding: str = "utf8") -> Iterator[Piece]:
     """The invalid bytes alone: an iterator over those of `pieces(data)` that have an error. Valid text is skipped as fast as it is
-    validated.
+    validated. A Shard has an encoding of its own, and its offsets count in the whole source.
 
     >>> [(piece.offset, piece.error.name) for piece in faults(b"a\\xffb\\xe2\\x82")]
     [(1, 'NON_UTF8_BYTE'), (3, 'TOO_FEW_BYTES'), (4, 'UNEXPECTED_CONTINUATION_BYTE')]
     """
+    if isinstance(data, tuple):
+        return shard_of(data).faults()
     return _noddychest.Faults(form_of(encoding), data, Piece, ERRORS)
 
 
@@ -206,33 +233,39 @@ class Decoder(_noddychest.Ends):
         return iter(self.next_back, None)
 
 
-def first_fault(data: ReadableBuffer, encoding: str = "utf8") -> Optional[Piece]:
-    """The first invalid byte, or None if there is none.
+def first_fault(data: Union[ReadableBuffer, Shard], encoding: str = "utf8") -> Optional[Piece]:
+    """The first invalid byte, or None if there is none. Data may be a Shard, as for `faults`.
 
     >>> first_fault(b"ab\\xffc")
     Piece(offset=2, char=None, length=1, error=<ErrorKind.NON_UTF8_BYTE: 2>)
     >>> first_fault(b"abc") is None
     True
     """
+    if isinstance(data, tuple):
+        return shard_of(data).first_fault()
     found = _noddychest.fault(form_of(encoding), data)
     return None if found is None else Piece(found[0], None, found[1], ERRORS[found[2]])
 
 
-def is_valid(data: ReadableBuffer, encoding: str = "utf8") -> bool:
-    """Whether the bytes are valid in an encoding.
+def is_valid(data: Union[ReadableBuffer, Shard], encoding: str = "utf8") -> bool:
+    """Whether the bytes are valid in an encoding. Data may be a Shard, as for `faults`.
 
     >>> is_valid("é".encode()), is_valid("é".encode("latin-1"))
     (True, False)
     """
+    if isinstance(data, tuple):
+        return shard_of(data).first_fault() is None
     return _noddychest.fault(form_of(encoding), data) is None
 
 
-def char_count(data: ReadableBuffer, encoding: str = "utf8") -> int:
-    """How many characters there are, if each invalid byte counts as one.
+def char_count(data: Union[ReadableBuffer, Shard], encoding: str = "utf8") -> int:
+    """How many characters there are, if each invalid byte counts as one. Data may be a Shard, as for `faults`.
 
     >>> char_count("né".encode() + b"\\xe2\\x82")
     4
     """
+    if isinstance(data, tuple):
+        return shard_of(data).char_count()
     return _noddychest.char_count(form_of(encoding), data)
 
 

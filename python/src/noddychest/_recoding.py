@@ -1,14 +1,16 @@
 """Conversion between UTF-8 and UTF-16."""
 from __future__ import annotations
 
-from typing import TYPE_CHECKING, Any
+from typing import TYPE_CHECKING, Any, Union
 
 from . import _noddychest
 from ._names import STANDARD, form_of
-from ._pieces import fault_error
+from ._pieces import fault_error, shard_of
 
 if TYPE_CHECKING:
     from _typeshed import ReadableBuffer
+
+    from ._shards import Shard
 
 _ERRORS = {"replace": 0, "strict": 1, "maximal": 2}
 
@@ -20,13 +22,23 @@ def _way(errors: str) -> int:
     return found
 
 
-def recode(data: ReadableBuffer, from_: str, to: str, errors: str = "replace") -> bytes:
+def _shard_in(data: object, from_: str) -> Shard:
+    """A shard in place of data, which has to be in this encoding."""
+    shard = shard_of(data)
+    if form_of(shard.encoding) != form_of(from_):
+        raise ValueError(f"the shard is in {shard.encoding!r}, not in {from_!r}")
+    return shard
+
+
+def recode(data: Union[ReadableBuffer, Shard], from_: str, to: str, errors: str = "replace") -> bytes:
     """Converts text from one encoding to another. The encodings are `utf8`, `utf16le` and `utf16be`, also as `UTF-8`, `utf_16_le` and
     the other names that browsers take. (There `utf-16` is little-endian.) No byte order mark is looked for, and none is added.
 
     With `replace` each invalid byte becomes one U+FFFD, and so do each lone surrogate of UTF-16 and a single byte at its end. With
     `strict` the first of them raises FaultError. With `maximal` one U+FFFD stands for each maximal subpart, which is one to three bytes
     that begin a character and do not end it, as browsers and Python's own codecs have it.
+
+    Data may be a Shard: what comes of all shards, joined, is what comes of the whole.
 
     >>> recode("né".encode(), "utf8", "utf16be")
     b'\\x00n\\x00\\xe9'
@@ -38,6 +50,8 @@ def recode(data: ReadableBuffer, from_: str, to: str, errors: str = "replace") -
     Traceback (most recent call last):
     noddychest.FaultError: 'utf-8' codec can't decode byte 0xc0 in position 1: invalid byte: C0, C1 and F5 to FF never occur in UTF-8
     """
+    if isinstance(data, tuple):
+        return _shard_in(data, from_).recode(to, errors)
     source, target = form_of(from_), form_of(to)
     made = _noddychest.recode(source, target, data, _way(errors))
     if isinstance(made, bytes):
@@ -46,12 +60,15 @@ def recode(data: ReadableBuffer, from_: str, to: str, errors: str = "replace") -
     raise fault_error(STANDARD[source], all_bytes, offset, length, kind, offset=offset)
 
 
-def recoded_len(data: ReadableBuffer, from_: str, to: str) -> int:
-    """How many bytes `recode` makes of the data, with `replace`. It takes up to twice as long as `recode`, and no memory.
+def recoded_len(data: Union[ReadableBuffer, Shard], from_: str, to: str) -> int:
+    """How many bytes `recode` makes of the data, with `replace`. It takes up to twice as long as `recode`, and no memory. Data may be a
+    Shard.
 
     >>> recoded_len("né".encode(), "utf8", "utf16be")
     4
     """
+    if isinstance(data, tuple):
+        return _shard_in(data, from_).recoded_len(to)
     return _noddychest.recoded_len(form_of(from_), form_of(to), data)
 
 

@@ -1,0 +1,377 @@
+"""Large texts in shards: parts that are read apart, and whose answers put together are those of the whole."""
+from __future__ import annotations
+
+import array
+import contextlib
+import importlib
+import os
+import stat
+from collections.abc import Callable, Iterator
+from typing import TYPE_CHECKING, Any, NamedTuple, Optional, Protocol, Union
+
+from . import _noddychest
+from ._names import STANDARD, form_of
+from ._pieces import ErrorKind, Piece, boundary_before, fault_error
+from ._pieces import faults as _faults
+
+if TYPE_CHECKING:
+    from _typeshed import ReadableBuffer
+
+    Source = Union[str, os.PathLike[str], ReadableBuffer]
+
+BLOCK = 1 << 20
+_AHEAD = 3  # so many bytes behind a shard tell where it ends, and why its last bytes are invalid
+
+
+class ChangedError(OSError):
+    """A source was changed while its shards were read: it has another length or time of change, or it is not there any more. What was
+    made of it is of no use."""
+
+
+class Faults(NamedTuple):
+    """Invalid bytes as three arrays, which numpy and Arrow take without a copy: `numpy.asarray(found.offsets)`.
+
+    >>> found = faults_array(b"a\\xffb\\xe2\\x82")
+    >>> found.offsets.tolist(), [ErrorKind(it).name for it in found.kinds]
+    ([1, 3, 4], ['NON_UTF8_BYTE', 'TOO_FEW_BYTES', 'UNEXPECTED_CONTINUATION_BYTE'])
+    """
+
+    offsets: array.array[int]
+    """Where each begins, in bytes: 64-bit numbers that go up."""
+    lengths: array.array[int]
+    """How many bytes each has: 1, or 2 for a lone surrogate of UTF-16. Numbers of 8 bits."""
+    kinds: array.array[int]
+    """The number of the ErrorKind of each. Numbers of 8 bits."""
+
+    def pieces(self) -> Iterator[Piece]:
+        """The same as pieces, one by one."""
+        for offset, length, kind in zip(self.offsets, self.lengths, self.kinds):
+            yield Piece(offset, None, length, ErrorKind(kind))
+
+    def extend(self, more: Faults) -> None:
+        """Puts the faults of the next shard after these."""
+        for mine, others in zip(self, more):
+            mine.extend(others)
+
+
+def no_faults() -> Faults:
+    return Faults(array.array("Q"), array.array("B"), array.array("B"))
+
+
+def faults_array(data: Union[ReadableBuffer, Shard], encoding: str = "utf8") -> Faults:
+    """The invalid bytes that `faults(data)` gives, as arrays: about a hundred times as fast, if there are many, and 10 bytes for each.
+
+    Data is any bytes-like object, or a Shard: then offsets count in the whole source, and the encoding is that of the shard.
+    Errors: LookupError for an unknown encoding, TypeError for what is no data. Cost: that of validation, and about 20 ns for each.
+
+    >>> faults_array(b"ab\\xff").offsets
+    array('Q', [2])
+    """
+    if isinstance(data, Shard):
+        return data.faults_array()
+    form = form_of(encoding)
+    _noddychest.check(data)
+    with memoryview(data) as view:
+        return _arrays(form, view, view.nbytes, 0)
+
+
+def _arrays(form: int, data: ReadableBuffer, end: int, base: int) -> Faults:
+    found = no_faults()
+    for made, its in zip(found, _noddychest.fault_arrays(form, data, end, base)):
+        made.frombytes(its)
+    return found
+
+
+class Counts(NamedTuple):
+    """What a text has: see Shard.counts and parallel.count. The sum of two is that of both texts, one after the other."""
+
+    size: int = 0
+    """How many bytes."""
+    characters: int = 0
+    """How many characters, without the invalid bytes."""
+    lines: int = 0
+    """How many line ends: characters U+000A."""
+    kinds: tuple[int, ...] = (0,) * len(ErrorKind)
+    """How many faults of each ErrorKind, in their order."""
+
+    @property
+    def faults(self) -> int:
+        """How many invalid bytes; in UTF-16, lone surrogates, or single bytes at the end."""
+        return sum(self.kinds)
+
+    def plus(self, more: Counts) -> Counts:
+        """Both together."""
+        kinds = tuple(a + b for a, b in zip(self.kinds, more.kinds))
+        return Counts(self.size + more.size, self.characters + more.characters, self.lines + more.lines, kinds)
+
+
+class Recoded(NamedTuple):
+    """What recoding made: see parallel.recode."""
+
+    read: int
+    """How many bytes were read."""
+    written: int
+    """How many bytes came of them."""
+    replaced: int
+    """How many faults became U+FFFD. With `maximal` they are not counted, and it is 0."""
+
+
+# ---- sources ----
+
+
+class _Reading(Protocol):
+    """An open source."""
+
+    def stamp(self) -> tuple[int, str]: ...
+    def read(self, start: int, end: int) -> ReadableBuffer: ...
+    def close(self) -> None: ...
+
+
+class _Buffer:
+    """Bytes in memory."""
+
+    def __init__(self, view: memoryview) -> None:
+        self._view = view
+
+    def stamp(self) -> tuple[int, str]:
+        return self._view.nbytes, ""
+
+    def read(self, start: int, end: int) -> ReadableBuffer:
+        return self._view[start:end]
+
+    def close(self) -> None:
+        pass
+
+
+class _File:
+    """A file. Many read it at once."""
+
+    def __init__(self, path: str) -> None:
+        self._path = path
+        self._file = os.open(path, os.O_RDONLY | os.O_CLOEXEC)
+        if not stat.S_ISREG(os.fstat(self._file).st_mode):
+            os.close(self._file)
+            raise OSError(f"{path}: shards are of files that can be read at any place, and this is none")
+
+    def stamp(self) -> tuple[int, str]:
+        about = os.fstat(self._file)
+        return about.st_size, str(about.st_mtime_ns)
+
+    def read(self, start: int, end: int) -> ReadableBuffer:
+        found = os.pread(self._file, end - start, start)
+        while len(found) < end - start:
+            more = os.pread(self._file, end - start - len(found), start + len(found))
+            if not more:
+                break
+            found += more
+        return found
+
+    def close(self) -> None:
+        os.close(self._file)
+
+
+class _Url:
+    """What fsspec opens. Each read asks for its range."""
+
+    def __init__(self, url: str) -> None:
+        core: Any = importlib.import_module("fsspec.core")
+        self._system, self._path = core.url_to_fs(url)
+        self._system.invalidate_cache()
+
+    def stamp(self) -> tuple[int, str]:
+        about = self._system.info(self._path)
+        changed = [str(about[it]) for it in ("ETag", "etag", "mtime", "last_modified", "LastModified", "updated", "created") if it in about]
+        return int(about["size"]), " ".join(changed)
+
+    def read(self, start: int, end: int) -> ReadableBuffer:
+        found: bytes = self._system.cat_file(self._path, start=start, end=end)
+        return found
+
+    def close(self) -> None:
+        pass
+
+
+def _open(source: Union[str, memoryview]) -> _Reading:
+    if isinstance(source, memoryview):
+        return _Buffer(source)
+    if "://" in source:
+        return _Url(source)
+    return _File(source)
+
+
+@contextlib.contextmanager
+def opened(source: Union[str, memoryview]) -> Iterator[_Reading]:
+    it = _open(source)
+    try:
+        yield it
+    finally:
+        it.close()
+
+
+# ---- shards ----
+
+
+class Shard(NamedTuple):
+    """A part of a large text, that is read apart from the others: see shards(). It has no bytes itself, so it can be sent to another
+    process, which reads them. (One of a buffer can not.)
+
+    `faults`, `faults_array`, `recode`, `recoded_len`, `char_count`, `first_fault` and `is_valid` take a shard in place of data. What they
+    answer for all shards, put together, is what they answer for the whole. They raise ChangedError if the source is not as it was when
+    shards() was called, and OSError if it cannot be read.
+    """
+
+    source: Union[str, memoryview]
+    """The path or the URL, or the bytes."""
+    start: int
+    """Where it begins in the source, in bytes."""
+    end: int
+    """Where it ends."""
+    encoding: str
+    """The encoding of the source."""
+    stamp: tuple[int, str]
+    """The length of the source, and what tells whether it was changed."""
+
+    def blocks(self, size: int = BLOCK) -> Iterator[tuple[int, ReadableBuffer, int]]:
+        """The bytes in blocks of about `size`: the offset of each, its bytes with up to three more that lie behind it, and how many are
+        its own. Each ends where a shard may end."""
+        form, start, total, size = form_of(self.encoding), self.start, self.stamp[0], max(size, 2 * _AHEAD)
+        with opened(self.source) as source:
+            self._check(source.stamp())
+            while start < self.end:
+                end = min(start + size, self.end)
+                data = source.read(start, min(end + _AHEAD, total))
+                if len(memoryview(data)) != min(end + _AHEAD, total) - start:
+                    self._check((-1, ""))
+                cut = end - start if end == self.end else _cut(data, end - start, form)
+                yield start, data, cut
+                start += cut
+            self._check(source.stamp())
+
+    def _check(self, stamp: tuple[int, str]) -> None:
+        if tuple(stamp) != tuple(self.stamp):
+            raise ChangedError(f"{self.source if isinstance(self.source, str) else 'the buffer'} was changed while it was read")
+
+    def faults(self) -> Iterator[Piece]:
+        """The invalid bytes, with their offsets in the whole source, and their kinds there."""
+        for offset, data, cut in self.blocks():
+            yield from taken(_faults(data, self.encoding), offset, cut)
+
+    def faults_array(self) -> Faults:
+        """The same as arrays: 10 bytes for each."""
+        form, found = form_of(self.encoding), no_faults()
+        for offset, data, cut in self.blocks():
+            found.extend(_arrays(form, data, cut, offset))
+        return found
+
+    def first_fault(self) -> Optional[Piece]:
+        """The first invalid byte, or None."""
+        return next(self.faults(), None)
+
+    def recode_into(self, write: Callable[[bytes], object], to: str, errors: str = "replace", size: int = BLOCK) -> Recoded:
+        """Recodes the shard, and calls `write` with the parts of what comes of it, in order. Memory: some times `size`.
+
+        Errors: with `strict` a FaultError, with the offset of the first invalid byte of this shard in the whole source."""
+        from ._recoding import Recoder
+
+        recoder, made = Recoder(self.encoding, to, errors), 0
+        try:
+            for _, data, cut in self.blocks(size):
+                part = recoder.feed(memoryview(data)[:cut])
+                made += len(part)
+                write(part)
+            part = recoder.finish()
+        except UnicodeDecodeError:
+            self._raise_fault()
+        write(part)
+        return Recoded(self.end - self.start, made + len(part), recoder.faults)
+
+    def _raise_fault(self) -> None:
+        """A shard that ends inside of what would be a character knows the reason by the bytes behind it."""
+        for offset, data, cut in self.blocks():
+            for it in taken(_faults(data, self.encoding), offset, cut):
+                kind = it.error.value if it.error else 0
+                raise fault_error(STANDARD[form_of(self.encoding)], bytes(data), it.offset - offset, it.length, kind, it.offset) from None
+        self._check((-1, ""))
+
+    def recode(self, to: str, errors: str = "replace") -> bytes:
+        """What comes of the shard in another encoding."""
+        parts: list[bytes] = []
+        self.recode_into(parts.append, to, errors)
+        return b"".join(parts)
+
+    def recoded_len(self, to: str) -> int:
+        """How many bytes recode() makes, with `replace`."""
+        form, target = form_of(self.encoding), form_of(to)
+        return sum(_noddychest.recoded_len(form, target, memoryview(data)[:cut]) for _, data, cut in self.blocks())
+
+    def char_count(self) -> int:
+        """How many characters there are, if each invalid byte counts as one."""
+        form = form_of(self.encoding)
+        return sum(_noddychest.char_count(form, memoryview(data)[:cut]) for _, data, cut in self.blocks())
+
+    def counts(self) -> Counts:
+        """Bytes, characters, line ends, and faults of each kind."""
+        form, all_of_it = form_of(self.encoding), Counts()
+        for _, data, cut in self.blocks():
+            kinds = _noddychest.kind_counts(form, data, cut)[1:]
+            count, lines = _noddychest.counts(form, memoryview(data)[:cut])
+            all_of_it = all_of_it.plus(Counts(cut, count - sum(kinds), lines, kinds))
+        return all_of_it
+
+
+def taken(found: Iterator[Piece], offset: int, cut: int) -> Iterator[Piece]:
+    """The pieces that begin before `cut`, with their offsets in the whole."""
+    for piece in found:
+        if piece.offset >= cut:
+            return
+        yield piece._replace(offset=offset + piece.offset)
+
+
+def _cut(data: ReadableBuffer, at: int, form: int) -> int:
+    """The last place up to `at` where a shard may end: no character lies over it, and no row of invalid bytes that `maximal` makes one
+    U+FFFD. In UTF-8 such a row goes on with a byte from 80 to BF; and one that follows three others belongs to no character."""
+    view = memoryview(data).cast("B")
+    if form == 0:
+        for it in range(at, max(at - _AHEAD, 0) - 1, -1):
+            if it < len(view) and view[it] & 0xC0 != 0x80:
+                return boundary_before(view, it)
+    return boundary_before(view, at, STANDARD[form])
+
+
+def shards(source: Source, size: int, encoding: str = "utf8") -> list[Shard]:
+    """Divides a large text into shards that can be read and recoded apart, in any order, by many threads, processes or machines.
+
+    source: a path; a URL, with `://`, which fsspec opens; or any bytes-like object, which is not copied. size: about how many bytes each
+    shard has, at least 1. encoding: the encoding of the source.
+    Result: the shards in order; together they are the whole source. An empty source has none. A shard ends at most three bytes before a
+    multiple of `size`, where no character lies over it, and no row of invalid bytes that `maximal` makes one U+FFFD.
+    Errors: ValueError for a size below 1, OSError if the source is no regular file or cannot be read, ImportError for a URL without fsspec.
+    Cost: it reads seven bytes for each shard.
+
+    >>> [(it.start, it.end) for it in shards("aé€".encode(), 2)]
+    [(0, 1), (1, 3), (3, 6)]
+    >>> b"".join(it.recode("utf16be") for it in shards("aé€".encode(), 2)) == "aé€".encode("utf-16-be")
+    True
+    """
+    form = form_of(encoding)
+    if size < 1:
+        raise ValueError("a shard has to have at least 1 byte")
+    place: Union[str, memoryview]
+    if isinstance(source, (str, os.PathLike)):
+        place = os.fspath(source)
+    else:
+        _noddychest.check(source)  # (its errors say more than those of memoryview)
+        place = memoryview(source).cast("B")
+    ends = [0]
+    with opened(place) as it:
+        stamp = it.stamp()
+        total = stamp[0]
+        for at in range(size, total, size):
+            end = at - at % 2 if form else at
+            front = max(end - 4, 0)
+            window = it.read(front, min(end + _AHEAD, total))
+            end = front + _cut(window, min(end - front, len(memoryview(window))), form)
+            if end > ends[-1] and (form == 0 or end + 1 < total):
+                ends.append(end)
+    ends += [total] if total > 0 else []
+    return [Shard(place, start, end, encoding, stamp) for start, end in zip(ends, ends[1:])]
