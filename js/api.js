@@ -1,5 +1,5 @@
 // The calls of the package, over a module that node.js or web.js has loaded. index.d.ts says what they take and return.
-import { Codec, FORMS, NONE, OK, SEEN, joined } from "./codec.js";
+import { Codec, FORMS, INCOMPLETE, MAXIMAL, NONE, OK, REPLACE, SEEN, STRICT, TOO_FEW, UTF16LE, UTF8, joined } from "./codec.js";
 
 // Bytes whose pieces are asked for at once.
 const BLOCK = 4096;
@@ -70,12 +70,25 @@ function formOf(label) {
     return form;
 }
 
-// Whether such options ask to throw.
-function asksToThrow(options = {}) {
+// What options ask to do with invalid bytes. `fatal: true` is how TextDecoder says "strict".
+const WAYS = { replace: REPLACE, maximal: MAXIMAL, strict: STRICT };
+
+function wayOf(options = {}) {
     if (options === null || (typeof options !== "object" && typeof options !== "function")) {
         throw new TypeError(`noddychest: options are an object, as { fatal: true }, or left out, and not ${options === null ? "null" : `a ${typeof options}`}`);
     }
-    return Boolean(options.fatal);
+    const { errors, fatal } = options;
+    if (errors === undefined) return fatal ? STRICT : REPLACE;
+    const name = String(errors);
+    if (!Object.keys(WAYS).includes(name)) throw new RangeError(`noddychest: errors is "replace", "maximal" or "strict", and not ${name}`);
+    if (fatal && WAYS[name] !== STRICT) throw new TypeError(`noddychest: fatal is the same as errors: "strict", and here errors is "${name}"`);
+    return WAYS[name];
+}
+
+// An offset that a caller gives.
+function offsetOf(at) {
+    if (Number.isSafeInteger(at) && at >= 0) return at;
+    throw new RangeError(`noddychest: an offset is a whole number from 0 on, and not ${String(at)}`);
 }
 
 // A piece of the codec, which began at the offset `base`, as callers see it.
@@ -84,20 +97,25 @@ function shown({ place, len, scalar, kind }, base) {
     return { offset: base + place, length: len, char: isValid ? String.fromCodePoint(scalar) : null, error: isValid ? null : codec.names[kind] };
 }
 
-export function* pieces(data) {
-    const bytes = bytesOf(data);
+// The pieces of some bytes that begin before `end`, with offsets from `base` on.
+function* piecesIn(bytes, form, base = 0, end = bytes.length) {
     const { length } = bytes;
-    for (let at = 0; at < length; ) {
+    for (let at = 0; at < end; ) {
         hold(bytes.length === length);
         const isLast = length - at <= BLOCK;
-        codec.fill(bytes.subarray(at, at + BLOCK));
+        codec.fill(bytes.subarray(at, at + BLOCK), form);
+        const stop = Math.min(isLast ? codec.len : BLOCK - SEEN + 1, end - at);
         const { count } = codec.run(0);
         const block = [];
         let place = 0;
-        for (let i = 0; i < count && (isLast || place <= BLOCK - SEEN); i++) {
+        for (let i = 0; i < count && place < stop; i++) {
             const piece = codec.inRoom(i, place);
-            block.push(shown(piece, at));
+            block.push(shown(piece, base + at));
             place += piece.len;
+        }
+        if (place < stop) {
+            block.push(shown(codec.lastByte(place), base + at));
+            place++;
         }
         at += place;
         for (const it of block) {
@@ -107,13 +125,38 @@ export function* pieces(data) {
     }
 }
 
-export function* piecesBack(data) {
-    const bytes = bytesOf(data);
+// The invalid ones of them, of which about so many are looked for at once.
+function* faultsIn(bytes, form, { base = 0, end = bytes.length, most = BLOCK } = {}) {
+    const { length } = bytes;
+    let [begin, front, filled, limit] = [0, 0, 0, 0];
+    while (begin + front < end) {
+        hold(bytes.length === length);
+        if (!codec.holds(filled) || front === limit) {
+            [begin, front] = [begin + front, 0];
+            filled = codec.fill(bytes.subarray(begin, begin + MEGABYTE), form);
+            // (a piece is judged by the bytes after it: those at the end of this window come again)
+            limit = begin + codec.len === length ? codec.len : codec.boundary(codec.len - SEEN);
+        }
+        const block = [];
+        const told = codec.faults(front, most, (place, len, kind) => place < limit && begin + place < end && block.push(shown({ place, len, scalar: 0, kind }, base + begin)));
+        front = Math.min(told, limit);
+        for (const it of block) {
+            hold(bytes.length === length);
+            yield it;
+        }
+    }
+}
+
+export const pieces = (data, encoding = "utf-8") => piecesIn(bytesOf(data), formOf(encoding));
+
+export const piecesBack = (data, encoding = "utf-8") => piecesBefore(bytesOf(data), formOf(encoding));
+
+function* piecesBefore(bytes, form) {
     const { length } = bytes;
     for (let back = length; back > 0; ) {
         hold(bytes.length === length);
-        const base = Math.max(back - BLOCK, 0);
-        codec.fill(bytes.subarray(base, back));
+        const base = startBefore(back, BLOCK, form);
+        codec.fill(bytes.subarray(base, back), form);
         const [block, left] = [[], { front: 0, back: codec.len }];
         while (left.back > 0 && (base === 0 || left.back >= SEEN)) block.push(shown(codec.step("B", left), base));
         back = base + left.back;
@@ -124,20 +167,28 @@ export function* piecesBack(data) {
     }
 }
 
+// Where a window of about so many bytes before an offset begins: not inside a unit.
+function startBefore(back, size, form) {
+    const start = Math.max(back - size, 0);
+    return form === UTF8 ? start : start - (start % 2);
+}
+
 export class Decoder {
     #bytes;
+    #form;
     #length;
     #front = 0;
     #back;
 
-    constructor(data) {
+    constructor(data, encoding = "utf-8") {
         this.#bytes = bytesOf(data);
+        this.#form = formOf(encoding);
         this.#back = this.#length = this.#bytes.length;
     }
 
     // One piece, of the bytes near that end alone.
     #step(letter, from, to) {
-        codec.fill(this.#part(from, to));
+        codec.fill(this.#part(from, to), this.#form);
         const left = { front: 0, back: codec.len };
         const piece = codec.step(letter, left);
         if (piece.kind === NONE) return null;
@@ -151,7 +202,7 @@ export class Decoder {
     }
 
     nextBack() {
-        return this.#step("B", Math.max(this.#back - SEEN, this.#front), this.#back);
+        return this.#step("B", Math.max(startBefore(this.#back, SEEN, this.#form), this.#front), this.#back);
     }
 
     // (code that V8 optimized may see the old length of an array that was detached, and then this throws)
@@ -169,31 +220,56 @@ export class Decoder {
     }
 }
 
-export function firstInvalid(data) {
-    const bytes = bytesOf(data);
+export const faults = (data, encoding = "utf-8") => faultsIn(bytesOf(data), formOf(encoding));
+
+export const firstFault = (data, encoding = "utf-8") => faultsIn(bytesOf(data), formOf(encoding), { most: 1 }).next().value ?? null;
+
+export const isValid = (data, encoding) => firstFault(data, encoding) === null;
+
+// The sum of what a call tells of windows that end at boundaries, one after the other.
+function summed(bytes, form, call) {
+    let sum = 0;
     for (let at = 0; at < bytes.length; ) {
-        const isLast = bytes.length - at <= MEGABYTE;
-        codec.fill(bytes.subarray(at, at + MEGABYTE));
-        const found = codec.validUpTo();
-        if (found < codec.len && (isLast || found <= MEGABYTE - SEEN)) return shown(codec.pieces(found, found + 1)[0], at);
-        if (isLast) return null;
-        at += found;
+        codec.fill(bytes.subarray(at, at + MEGABYTE), form);
+        const end = at + codec.len === bytes.length ? codec.len : codec.boundary(codec.len - SEEN);
+        sum += call(bytes.subarray(at, at + end), end);
+        at += end;
     }
-    return null;
+    return sum;
 }
 
-export const isValid = (data) => firstInvalid(data) === null;
+export const charCount = (data, encoding = "utf-8") => summed(bytesOf(data), formOf(encoding), (_, end) => codec.countBetween(0, end));
+
+export function recodedLength(data, from, to) {
+    const [form, target] = [formOf(from), formOf(to)];
+    return summed(bytesOf(data), form, (part) => {
+        codec.fill(part, form);
+        return codec.recodedLength(target);
+    });
+}
+
+// The boundary near an offset: the bytes near it decide.
+function boundaryOf(data, at, encoding, isAfter) {
+    const [bytes, form, place] = [bytesOf(data), formOf(encoding), offsetOf(at)];
+    if (place >= bytes.length) return bytes.length;
+    const start = startBefore(place, 2 * SEEN, form);
+    codec.fill(bytes.subarray(start, place + 2 * SEEN), form);
+    return start + codec.boundary(place - start, isAfter);
+}
+
+export const boundaryBefore = (data, at, encoding = "utf-8") => boundaryOf(data, at, encoding, false);
+export const boundaryAfter = (data, at, encoding = "utf-8") => boundaryOf(data, at, encoding, true);
 
 // That text which had to be valid is not. A TypeError, as TextDecoder throws. (Of an error structuredClone and postMessage keep the
 // message and the cause alone.)
-export class InvalidInputError extends TypeError {
-    constructor({ place, len, kind }, form, base) {
-        const told = { offset: base + place, length: len, error: codec.names[kind] };
-        super(`noddychest: invalid ${FORMS[form].toUpperCase()} at offset ${told.offset}: ${told.error}`, { cause: told });
+export class FaultError extends TypeError {
+    constructor({ offset, length, error }, form) {
+        const told = { offset, length, error };
+        super(`noddychest: invalid ${FORMS[form].toUpperCase()} at offset ${offset}: ${error}`, { cause: told });
         // (where an Error takes no cause yet)
         if (!this.cause) Object.defineProperty(this, "cause", { value: told, configurable: true, writable: true });
         Object.assign(this, told);
-        this.name = "InvalidInputError";
+        this.name = "FaultError";
     }
 }
 
@@ -205,37 +281,37 @@ export function recode(data, from, to, options) {
 
 export class Recoder {
     #from;
-    #isFatal;
+    #way;
     #state;
     #count = 0;
 
     constructor(from, to, options) {
         const forms = [formOf(from), formOf(to)];
         this.#from = forms[0];
-        this.#isFatal = asksToThrow(options);
+        this.#way = wayOf(options);
         this.#state = codec.newRecoder(...forms);
     }
 
-    get replaced() {
+    get faults() {
         return codec.replacedBy(this.#state);
     }
 
     // Keeps the state after a call, or throws where that met an invalid byte, and then nothing has changed.
     #keep(state, fault) {
-        if (fault) throw new InvalidInputError(fault, this.#from, this.#count);
+        if (fault) throw new FaultError(shown(fault, this.#count), this.#from);
         this.#state = state;
     }
 
     feed(data) {
         const [bytes, chunks, state] = [bytesOf(data), [], this.#state.slice()];
-        this.#keep(state, codec.feed(state, bytes, chunks, { isFatal: this.#isFatal }).fault);
+        this.#keep(state, codec.feed(state, bytes, chunks, { mode: this.#way }).fault);
         this.#count += bytes.length;
         return joined(chunks);
     }
 
     finish() {
         const [chunks, state] = [[], this.#state.slice()];
-        this.#keep(state, codec.finish(state, chunks, this.#isFatal));
+        this.#keep(state, codec.finish(state, chunks, this.#way));
         return joined(chunks);
     }
 }
@@ -247,4 +323,79 @@ export function recoderStream(from, to, options) {
         transform: (part, controller) => void put(recoder.feed(part), controller),
         flush: (controller) => void put(recoder.finish(), controller),
     });
+}
+
+// The text of whole pieces, in one way or another.
+function textOf(bytes, form, way) {
+    return new TextDecoder("utf-16le", { ignoreBOM: true }).decode(joined(codec.recode(form, UTF16LE, bytes, { mode: way })));
+}
+
+export function decode(data, encoding = "utf-8", options) {
+    const [form, way, bytes] = [formOf(encoding), wayOf(options), bytesOf(data)];
+    const found = [...faultsIn(bytes, form, way === STRICT ? { most: 1 } : {})];
+    if (way === STRICT && found.length) throw new FaultError(found[0], form);
+    return { text: textOf(bytes, form, way === STRICT ? REPLACE : way), faults: found };
+}
+
+// The parts of a stream, or of anything that one can go through. A stream that is left before its end is told so.
+async function* partsOf(stream) {
+    if (typeof stream?.getReader !== "function") {
+        if (ArrayBuffer.isView(stream) || (!stream?.[Symbol.asyncIterator] && !stream?.[Symbol.iterator])) throw new TypeError("noddychest: a stream is a ReadableStream, or another iterable, of bytes in parts");
+        yield* stream;
+        return;
+    }
+    const reader = stream.getReader();
+    let isOver = false;
+    try {
+        for (;;) {
+            const { done, value } = await reader.read();
+            isOver = done;
+            if (done) return;
+            yield value;
+        }
+    } finally {
+        if (!isOver) await reader.cancel().catch(() => {});
+        reader.releaseLock();
+    }
+}
+
+// How many of some bytes are decided, when more may follow: all but the beginning of a character at the end, with what is after it. Three
+// at most are not.
+function decidedOf(bytes, form) {
+    const start = startBefore(bytes.length, 2 * SEEN, form);
+    codec.fill(bytes.subarray(start), form);
+    const open = codec.pieces(0, codec.len).find((it) => it.place > codec.len - SEEN && (it.kind === TOO_FEW || it.kind === INCOMPLETE));
+    return open ? start + open.place : bytes.length;
+}
+
+// The input of a stream in windows: the bytes, how many of them are decided, and the offset at which they begin.
+async function* windowsOf(stream, form) {
+    let [base, held] = [0, new Uint8Array(0)];
+    for await (const part of partsOf(stream)) {
+        const bytes = joined([held, bytesOf(part)]);
+        const end = decidedOf(bytes, form);
+        if (end) yield { bytes, end, base };
+        [base, held] = [base + end, bytes.slice(end)];
+    }
+    if (held.length) yield { bytes: held, end: held.length, base };
+}
+
+export async function* streamPieces(stream, encoding = "utf-8") {
+    const form = formOf(encoding);
+    for await (const { bytes, end, base } of windowsOf(stream, form)) yield* piecesIn(bytes, form, base, end);
+}
+
+export async function* streamFaults(stream, encoding = "utf-8") {
+    const form = formOf(encoding);
+    for await (const { bytes, end, base } of windowsOf(stream, form)) yield* faultsIn(bytes, form, { base, end });
+}
+
+export async function* streamText(stream, encoding = "utf-8", options) {
+    const [form, way] = [formOf(encoding), wayOf(options)];
+    for await (const { bytes, end, base } of windowsOf(stream, form)) {
+        const found = [...faultsIn(bytes, form, { base, end, ...(way === STRICT ? { most: 1 } : {}) })];
+        const stop = way === STRICT && found.length ? found[0].offset - base : end;
+        if (stop) yield { offset: base, text: textOf(bytes.subarray(0, stop), form, way === STRICT ? REPLACE : way), faults: way === STRICT ? [] : found };
+        if (stop < end) throw new FaultError(found[0], form);
+    }
 }

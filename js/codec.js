@@ -1,18 +1,30 @@
 // The calls of the proved module, as plain numbers. This is the one file that knows their names and what stands where. There are two
 // modules with the same calls: one with vectors, and one for who has none.
 //
+// Offsets and lengths are in bytes, in UTF-16 too. UTF-16 stands in the module's memory little-endian; of big-endian input the bytes
+// are kept beside it as they came.
+//
 // The module's memory has a fixed size of 16 MiB. After its own stack and constants stand, from __heap_base on: a cursor, an answer,
 // two lengths, a recoder and a fault; room for pieces; a part that is recoded and room for what it becomes; and the caller's bytes.
 
 export const OK = 0;
+// The kinds that more bytes may change: of a character that the end cuts off, in UTF-8 and in UTF-16.
+export const TOO_FEW = 1;
+export const INCOMPLETE = 10;
 export const NONE = 11;
 // The status of a strict call that stopped at an invalid byte, or unit.
 const FAULT = 3;
 export const FORMS = ["utf-8", "utf-16le", "utf-16be"];
+export const [UTF8, UTF16LE, UTF16BE] = [0, 1, 2];
 // The most bytes that can be filled in at once.
 export const MOST = 10 * 1024 * 1024;
 // A piece depends on no more bytes than these from its first on, or up to its last.
 export const SEEN = 4;
+// What a recoder does with invalid bytes: one U+FFFD for each; one for each maximal subpart; or it stops at the first one.
+export const [REPLACE, MAXIMAL, STRICT] = [0, 1, 2];
+const MODES = ["", "_lossy", "_strict"];
+// Pieces that are asked for at once where invalid bytes are rare.
+const FEW = 32;
 const PIECE = 16;
 const ROOM = 4096;
 const PART = 65536;
@@ -43,20 +55,45 @@ export class Codec {
         this.part = this.room + ROOM * PIECE;
         this.made = this.part + PART;
         this.start = this.made + PART_ROOM;
-        this.len = 0;
+        this.filled = 0;
+        this.fill(new Uint8Array(0));
         this.names = this.textsOfKinds(calls.nody_put_kind_name);
         this.sentences = this.textsOfKinds(calls.nody_put_kind_sentence);
     }
 
-    // Takes these bytes in place of those before.
-    fill(bytes) {
+    // Takes these bytes in place of those before. Returns a number that `holds` knows until others are taken.
+    fill(bytes, form = UTF8) {
         this.memory.set(bytes, this.start);
         this.len = bytes.length;
+        this.form = form;
+        this.unit = form === UTF8 ? 1 : 2;
+        this.original = null;
+        if (form === UTF16BE) {
+            this.original = new Uint8Array(bytes);
+            swap(this.memory, this.start, bytes.length);
+        }
+        return ++this.filled;
     }
 
-    // The bytes where they stand.
+    // Whether the bytes of that call of `fill` still stand here.
+    holds(filled) {
+        return this.filled === filled;
+    }
+
+    // The bytes as they came.
     get bytes() {
-        return this.memory.subarray(this.start, this.start + this.len);
+        return this.original ?? this.memory.subarray(this.start, this.start + this.len);
+    }
+
+    setByte(place, byte) {
+        if (this.original) this.original[place] = byte;
+        const isLast = place === this.len - 1 && this.len % 2 === 1;
+        this.memory[this.start + (this.original && !isLast ? place ^ 1 : place)] = byte;
+    }
+
+    // The length up to the last whole unit.
+    get whole() {
+        return this.len - (this.len % this.unit);
     }
 
     // A length or an address, of which the upper half is zero in a memory of 16 MiB.
@@ -69,14 +106,24 @@ export class Codec {
         const { view, cursor } = this;
         view.setUint32(cursor, this.start + front, true);
         view.setUint32(cursor + 4, 0, true);
-        view.setUint32(cursor + 8, back - front, true);
+        view.setUint32(cursor + 8, (back - front) / this.unit, true);
         view.setUint32(cursor + 12, 0, true);
     }
 
     // The piece that stands at an address, and begins at an offset of the bytes.
     pieceAt(address, place) {
         const { view } = this;
-        return { place, len: this.number(address), scalar: view.getUint32(address + 8, true), kind: view.getUint8(address + 12) };
+        return { place, len: this.lengthAt(address), scalar: view.getUint32(address + 8, true), kind: view.getUint8(address + 12) };
+    }
+
+    // The length in bytes of the piece that stands at an address.
+    lengthAt(address) {
+        return this.number(address) * this.unit;
+    }
+
+    // The single byte at the end of UTF-16, or, where the input ends before it, no piece.
+    lastByte(place) {
+        return place < this.len ? { place, len: 1, scalar: 0, kind: INCOMPLETE } : { place, len: 0, scalar: 0, kind: NONE };
     }
 
     // What a call of the module tells of each kind of error: its name, or its sentence, in ASCII up to a zero.
@@ -89,10 +136,12 @@ export class Codec {
         });
     }
 
-    // Puts into the room the pieces that begin at `front`, so many at most; returns how many and where they end.
+    // Puts into the room the pieces that begin at `front`, so many at most; returns how many and where they end. The single byte at
+    // the end of UTF-16 is in no room.
     run(front, most = ROOM) {
-        this.setCursor(front, this.len);
-        const count = this.calls.nody_utf8_pieces(this.address(this.cursor), this.address(this.room), BigInt(Math.min(most, ROOM)));
+        const call = this.form === UTF8 ? this.calls.nody_utf8_pieces : this.calls.nody_utf16_pieces;
+        this.setCursor(front, Math.max(front, this.whole));
+        const count = call(this.address(this.cursor), this.address(this.room), BigInt(Math.min(most, ROOM)));
         return { count: Number(count), end: this.number(this.cursor) - this.start };
     }
 
@@ -111,44 +160,100 @@ export class Codec {
     // The pieces from an offset at which one begins, as far as they begin before another, and end after a third.
     pieces(front, before, after = front) {
         const found = [];
-        while (front < Math.min(before, this.len)) {
-            const { count, end } = this.run(front, before - front);
-            for (let at = this.room, last = at + count * PIECE, place = front; at < last; at += PIECE) {
-                if (before <= place) return found;
-                const next = place + this.number(at);
+        const last = Math.min(before, this.whole);
+        for (let place = front; place < last; ) {
+            const { count, end } = this.run(place, before - place);
+            for (let at = this.room, stop = at + count * PIECE; at < stop && place < before; at += PIECE) {
+                const next = place + this.lengthAt(at);
                 if (after < next) found.push(this.pieceAt(at, place));
                 place = next;
             }
-            front = end;
+            place = Math.max(place, end);
+        }
+        if (this.whole < Math.min(before, this.len)) found.push(this.lastByte(this.whole));
+        return found;
+    }
+
+    // The invalid bytes from an offset on at which a piece begins, so many at most, each told as its offset, length and kind, and the
+    // offset up to which all were told. Valid text is skipped as fast as it is validated.
+    faults(front, most, tell) {
+        let [at, size] = [front, FEW];
+        for (let left = most; at < this.whole; ) {
+            if (size === FEW) at = this.validUpTo(at);
+            if (at >= this.whole || left <= 0) break;
+            const { count, end } = this.run(at, Math.min(size, left));
+            const found = this.tellFaults(count, at, tell);
+            left -= found;
+            // (where invalid bytes are dense, more pieces are asked for at once)
+            size = found > count / 8 ? Math.min(2 * size, ROOM) : FEW;
+            at = end;
+        }
+        if (at < this.whole || this.whole === this.len || most <= 0) return at;
+        tell(this.whole, 1, INCOMPLETE);
+        return this.len;
+    }
+
+    tellFaults(count, place, tell) {
+        let found = 0;
+        for (let at = this.room, end = at + count * PIECE; at < end; at += PIECE) {
+            const [len, kind] = [this.lengthAt(at), this.memory[at + 12]];
+            if (kind !== OK) {
+                tell(place, len, kind);
+                found++;
+            }
+            place += len;
         }
         return found;
     }
 
     // One piece from the front ("F") or the back ("B") of what is left, which then leaves it.
     step(letter, left) {
-        this.setCursor(left.front, left.back);
         const isFirst = letter === "F";
-        const [call, begin] = [isFirst ? this.calls.nody_utf8_next : this.calls.nody_utf8_next_back, left.front];
-        call(this.address(this.answer), this.address(this.cursor));
+        const { front, back } = left;
+        const end = Math.min(back, Math.max(this.whole, front));
+        if (end < back && (front === end || !isFirst)) {
+            left.back = end;
+            return this.lastByte(end);
+        }
+        this.setCursor(front, end);
+        const { calls } = this;
+        if (this.form === UTF8) (isFirst ? calls.nody_utf8_next : calls.nody_utf8_next_back)(this.address(this.answer), this.address(this.cursor));
+        else (isFirst ? calls.nody_utf16_next : calls.nody_utf16_next_back)(this.address(this.answer), this.address(this.cursor));
         left.front = this.number(this.cursor) - this.start;
-        left.back = left.front + this.number(this.cursor + 8);
-        return this.pieceAt(this.answer, isFirst ? begin : left.back);
+        if (!isFirst) left.back = left.front + this.lengthAt(this.cursor + 8);
+        return this.pieceAt(this.answer, isFirst ? front : left.back);
     }
 
-    // The piece that begins at an offset, as a decoder that gets one byte at a time names it.
+    // The piece that begins at an offset, as a decoder that gets one byte at a time names it. (In UTF-16 none names it otherwise.)
     streamedAt(place) {
+        if (this.form !== UTF8) return this.pieces(place, place + 1)[0] ?? this.lastByte(this.len);
         this.calls.nody_utf8_streamed_at(this.address(this.answer), this.address(this.start), BigInt(this.len), BigInt(place));
         return this.pieceAt(this.answer, place);
     }
 
     // The offset of the first invalid byte from an offset on at which a piece begins, or the length where there is none.
     validUpTo(front = 0) {
-        return front + Number(this.calls.nody_utf8_valid_up_to(this.address(this.start + front), BigInt(this.len - front)));
+        const call = this.form === UTF8 ? this.calls.nody_utf8_valid_up_to : this.calls.nody_utf16_valid_up_to;
+        const units = BigInt(Math.max(this.whole - front, 0) / this.unit);
+        return front + this.unit * Number(call(this.address(this.start + front), units));
     }
 
-    // The last offset, up to `at`, that lies in no character.
-    boundary(at) {
-        return Number(this.calls.nody_shard_end(0, this.address(this.start), BigInt(this.len), BigInt(at)));
+    // How many pieces there are from one boundary on and before another.
+    countBetween(front, back) {
+        const call = this.form === UTF8 ? this.calls.nody_utf8_char_count : this.calls.nody_utf16_char_count;
+        const whole = Math.max(Math.min(back, this.whole) - front, 0);
+        return Number(call(this.address(this.start + front), BigInt(whole / this.unit))) + (back - front - whole);
+    }
+
+    // The last offset up to `at`, or the first one from there on, that lies in no character and no unit.
+    boundary(at, isAfter = false) {
+        const call = isAfter ? this.calls.nody_boundary_after : this.calls.nody_boundary_before;
+        return Number(call(Math.min(this.form, UTF16LE), this.address(this.start), BigInt(this.len), BigInt(at)));
+    }
+
+    // How many bytes these become in another form.
+    recodedLength(to) {
+        return Number(this.calls.nody_recoded_len(Math.min(this.form, UTF16LE), to, this.address(this.start), BigInt(this.len)));
     }
 
     // A recoder that holds nothing, as the bytes of its struct.
@@ -162,11 +267,11 @@ export class Codec {
         return Number(new DataView(state.buffer).getBigUint64(REPLACED, true));
     }
 
-    // Feeds bytes to a recoder, and puts what comes of them into `chunks`, up to about so many bytes, or, where it is fatal, up to the
-    // first invalid byte. Returns how many were fed, and that byte or null. (The call that replaces takes one argument less: the last
+    // Feeds bytes to a recoder, and puts what comes of them into `chunks`, up to about so many bytes, or, where it is strict, up to the
+    // first invalid byte. Returns how many were fed, and that byte or null. (Calls that are not strict take one argument less: the last
     // is passed over.)
-    feed(state, source, chunks, { most = Infinity, isFatal = false } = {}) {
-        const call = isFatal ? this.calls.nody_recoder_feed_strict : this.calls.nody_recoder_feed;
+    feed(state, source, chunks, { most = Infinity, mode = REPLACE } = {}) {
+        const call = this.calls[`nody_recoder_feed${MODES[mode]}`];
         const [recoder, read, written, fault] = [this.recoder, this.numbers, this.numbers + 8, this.fault].map(this.address);
         const [part, made, room] = [this.address(this.part), this.address(this.made), BigInt(PART_ROOM)];
         this.memory.set(state, this.recoder);
@@ -182,10 +287,10 @@ export class Codec {
         return { at, fault: this.faultBefore(status, at) };
     }
 
-    // What a recoder still holds, as no more input follows. Returns the first invalid byte, where it is fatal, or null; its place counts
+    // What a recoder still holds, as no more input follows. Returns the first invalid byte, where it is strict, or null; its place counts
     // from the end of the input.
-    finish(state, chunks, isFatal = false) {
-        const call = isFatal ? this.calls.nody_recoder_finish_strict : this.calls.nody_recoder_finish;
+    finish(state, chunks, mode = REPLACE) {
+        const call = this.calls[`nody_recoder_finish${MODES[mode]}`];
         this.memory.set(state, this.recoder);
         const [recoder, made, numbers, fault] = [this.recoder, this.made, this.numbers, this.fault].map(this.address);
         const status = call(recoder, made, BigInt(PART_ROOM), numbers, fault);
@@ -207,11 +312,16 @@ export class Codec {
     }
 
     // These bytes in another form, as chunks; about so many bytes of them where there are more.
-    recode(from, to, source, most = Infinity) {
+    recode(from, to, source, { most = Infinity, mode = REPLACE } = {}) {
         const [chunks, state] = [[], this.newRecoder(from, to)];
-        if (this.feed(state, source, chunks, { most }).at === source.length) this.finish(state, chunks);
+        if (this.feed(state, source, chunks, { most, mode }).at === source.length) this.finish(state, chunks, mode);
         return chunks;
     }
+}
+
+// Exchanges the bytes of each whole unit of some memory.
+function swap(memory, start, len) {
+    for (let at = start, end = start + len - 1; at < end; at += 2) [memory[at], memory[at + 1]] = [memory[at + 1], memory[at]];
 }
 
 // Chunks, one after the other.

@@ -10,7 +10,7 @@ type Label =
     | "utf-16le" | "utf16le" | "utf-16" | "unicode" | "unicodefeff" | "csunicode" | "iso-10646-ucs-2" | "ucs-2"
     | "utf-16be" | "utf16be" | "unicodefffe";
 
-/** Why a byte is invalid. */
+/** Why a byte is invalid; in UTF-16, why a unit of 16 bits is, or a single byte at the end. */
 export type ErrorName =
     /** Fewer bytes are left than the first byte asks for. */
     | "TooFewBytes"
@@ -25,7 +25,13 @@ export type ErrorName =
     /** The value is a surrogate, U+D800 to U+DFFF. */
     | "Utf16ReservedCodepoint"
     /** The value is above U+10FFFF. */
-    | "TooHighCodepoint";
+    | "TooHighCodepoint"
+    /** UTF-16: 0xDC00 to 0xDFFF where a character should begin. */
+    | "UnexpectedTrailingSurrogate"
+    /** UTF-16: 0xD800 to 0xDBFF, and the next unit is not 0xDC00 to 0xDFFF. */
+    | "UnmatchedLeadingSurrogate"
+    /** UTF-16: 0xD800 to 0xDBFF is the last unit, or the text ends inside a unit. */
+    | "Incomplete";
 
 /** A character: `length` is 1 to 4 bytes. */
 export interface Character {
@@ -35,31 +41,32 @@ export interface Character {
     error: null;
 }
 
-/** A single invalid byte: `length` is 1. */
-export interface InvalidByte {
+/** A single invalid byte; in UTF-16 a lone surrogate of two bytes, or a single byte at the end. Offsets and lengths count bytes. */
+export interface Fault {
     offset: number;
-    length: 1;
+    length: 1 | 2;
     char: null;
     error: ErrorName;
 }
 
-export type Piece = Character | InvalidByte;
+export type Piece = Character | Fault;
 
 /**
- * The pieces of UTF-8 from the front, one after the other without a gap: characters, and single invalid bytes. O(n). A step throws a
- * `TypeError` where pieces are left and the buffer was detached, or made smaller, since the first one.
+ * The pieces of text from the front, one after the other without a gap: characters, and single invalid bytes. The encoding is UTF-8
+ * where none is given. O(n). A step throws a `TypeError` where pieces are left and the buffer was detached, or made smaller, since the
+ * first one. Pieces are looked for 4 KiB ahead: bytes that change meanwhile may be seen as they were.
  */
-export function pieces(data: Bytes): Generator<Piece, void, undefined>;
+export function pieces(data: Bytes, encoding?: Encoding): Generator<Piece, void, undefined>;
 
 /**
  * The same pieces from the back, the last one first. Errors are named by the bytes that are left: the first byte of a damaged
  * character is `TooFewBytes`, since what follows it was taken before. O(n).
  */
-export function piecesBack(data: Bytes): Generator<Piece, void, undefined>;
+export function piecesBack(data: Bytes, encoding?: Encoding): Generator<Piece, void, undefined>;
 
 /** Takes pieces from both ends, in any order, until they meet; each piece comes once. Each call is O(1). */
 export class Decoder {
-    constructor(data: Bytes);
+    constructor(data: Bytes, encoding?: Encoding);
     /** The next piece from the front, or null where nothing is left. */
     next(): Piece | null;
     /** The next piece from the back, or null where nothing is left. */
@@ -68,45 +75,62 @@ export class Decoder {
     get remaining(): Uint8Array;
 }
 
-/** The first invalid byte of UTF-8, or null where there is none. O(n). */
-export function firstInvalid(data: Bytes): InvalidByte | null;
+/** The invalid bytes alone, in order. Text between them is skipped as fast as `isValid` goes through it. O(n). */
+export function faults(data: Bytes, encoding?: Encoding): Generator<Fault, void, undefined>;
 
-/** Whether all of it is valid UTF-8. O(n). */
-export function isValid(data: Bytes): boolean;
+/** The first invalid byte, or null where there is none. O(n). */
+export function firstFault(data: Bytes, encoding?: Encoding): Fault | null;
 
-/** Why a unit of UTF-16 is invalid. */
-export type UnitErrorName =
-    /** 0xDC00 to 0xDFFF where a character should begin. */
-    | "UnexpectedTrailingSurrogate"
-    /** 0xD800 to 0xDBFF, and the next unit is not 0xDC00 to 0xDFFF. */
-    | "UnmatchedLeadingSurrogate"
-    /** 0xD800 to 0xDBFF is the last unit, or the text ends inside a unit. */
-    | "Incomplete";
+/** Whether all of it is valid. O(n). */
+export function isValid(data: Bytes, encoding?: Encoding): boolean;
+
+/** How many pieces there are: characters, and invalid bytes. O(n). */
+export function charCount(data: Bytes, encoding?: Encoding): number;
+
+/**
+ * The last offset up to `at` that is inside of no character, and in UTF-16 of no unit; the length where `at` is beyond it. Text that is
+ * divided there gives the same pieces. What is no whole number from 0 on is a `RangeError`. O(1).
+ */
+export function boundaryBefore(data: Bytes, at: number, encoding?: Encoding): number;
+
+/** The first such offset from `at` on. O(1). */
+export function boundaryAfter(data: Bytes, at: number, encoding?: Encoding): number;
 
 export interface RecodeOptions {
-    /** Throw an `InvalidInputError` at the first invalid byte, or unit, and replace none; false by default. */
+    /**
+     * What to do with invalid bytes: put one U+FFFD, the replacement character, for each, which is what happens where nothing is given;
+     * put one for each maximal subpart, as `TextDecoder` does; or throw a `FaultError` at the first one.
+     */
+    errors?: "replace" | "maximal" | "strict";
+    /** The same as `errors: "strict"`, by the name that `TextDecoder` has for it; false by default. */
     fatal?: boolean;
 }
 
 /** That text which had to be valid is not. */
-export class InvalidInputError extends TypeError {
+export class FaultError extends TypeError {
     /** Where it begins, in bytes from the front of all that was given. */
     readonly offset: number;
     /** How many bytes are invalid: 1 in UTF-8; in UTF-16 2, or 1 where the text ends inside a unit. */
     readonly length: number;
-    readonly error: ErrorName | UnitErrorName;
+    readonly error: ErrorName;
     /** The same three. Of an error `structuredClone` and `postMessage` keep the message, which has the offset, and in most engines the cause. */
-    readonly cause: { offset: number; length: number; error: ErrorName | UnitErrorName };
+    readonly cause: { offset: number; length: number; error: ErrorName };
 }
 
 /**
- * The text in another encoding; each invalid byte, or unit, becomes one U+FFFD, the replacement character, or with `fatal` throws an
- * `InvalidInputError`. From an encoding to the same one it repairs. An unknown encoding is a `RangeError`. O(n).
+ * The text in another encoding. From an encoding to the same one it repairs. An unknown encoding, or another word for `errors`, is a
+ * `RangeError`. O(n).
  */
 export function recode(data: Bytes, from: Encoding, to: Encoding, options?: RecodeOptions): Uint8Array;
 
+/** How many bytes `recode` gives, with one U+FFFD for each invalid byte. O(n). */
+export function recodedLength(data: Bytes, from: Encoding, to: Encoding): number;
+
+/** The text as a string, and the list of what was wrong, one entry for each invalid byte. A byte order mark stays in the text. O(n). */
+export function decode(data: Bytes, encoding?: Encoding, options?: RecodeOptions): { text: string; faults: Fault[] };
+
 /**
- * Recodes text that comes in parts. However it is cut into parts, the joined output is that of `recode` on the whole. With `fatal` a
+ * Recodes text that comes in parts. However it is cut into parts, the joined output is that of `recode` on the whole. With `strict` a
  * call throws once it is decided that a byte is invalid, and why; the recoder is then as it was before that call.
  */
 export class Recoder {
@@ -116,11 +140,30 @@ export class Recoder {
     /** What the bytes that are still held become: call it once, after the last part. */
     finish(): Uint8Array;
     /**
-     * How many invalid bytes, or units, were replaced by U+FFFD so far: 0 where `fatal` is true. A U+FFFD in the input does not count.
-     * A number, not a BigInt: exact up to `Number.MAX_SAFE_INTEGER`.
+     * How many invalid bytes, or units, were replaced by U+FFFD so far: with `maximal` and `strict` it is 0. A U+FFFD in the input does
+     * not count. A number, not a BigInt: exact up to `Number.MAX_SAFE_INTEGER`.
      */
-    readonly replaced: number;
+    readonly faults: number;
 }
 
 /** A `Recoder` as a stream, for `body.pipeThrough(..)`. It needs Node 18 or a browser. */
 export function recoderStream(from: Encoding, to: Encoding, options?: RecodeOptions): TransformStream<Bytes, Uint8Array>;
+
+/** Bytes in parts: a `ReadableStream`, as `response.body` and `file.stream()` are, a stream of Node, or any other iterable of bytes. */
+export type Parts = ReadableStream<Bytes> | AsyncIterable<Bytes> | Iterable<Bytes>;
+
+/**
+ * The pieces of input in parts, for `for await`: those that `pieces` gives for the whole, with offsets from its first byte, however it
+ * is divided. At most three bytes of a part are held until the next one comes. Each part is copied. A stream that is left before its
+ * end is cancelled.
+ */
+export function streamPieces(parts: Parts, encoding?: Encoding): AsyncGenerator<Piece, void, undefined>;
+
+/** The invalid ones alone. Text between them is skipped as fast as `isValid` goes through it. */
+export function streamFaults(parts: Parts, encoding?: Encoding): AsyncGenerator<Fault, void, undefined>;
+
+/**
+ * The text of input in parts: for each part the offset at which its text begins, the text, and what was wrong in it. Joined, the texts
+ * are what `decode` gives for the whole. With `strict` the text before the first invalid byte comes, and then a `FaultError` is thrown.
+ */
+export function streamText(parts: Parts, encoding?: Encoding, options?: RecodeOptions): AsyncGenerator<{ offset: number; text: string; faults: Fault[] }, void, undefined>;

@@ -3,18 +3,30 @@
 // The calls of the proved module, as plain numbers. This is the one file that knows their names and what stands where. There are two
 // modules with the same calls: one with vectors, and one for who has none.
 //
+// Offsets and lengths are in bytes, in UTF-16 too. UTF-16 stands in the module's memory little-endian; of big-endian input the bytes
+// are kept beside it as they came.
+//
 // The module's memory has a fixed size of 16 MiB. After its own stack and constants stand, from __heap_base on: a cursor, an answer,
 // two lengths, a recoder and a fault; room for pieces; a part that is recoded and room for what it becomes; and the caller's bytes.
 
 const OK = 0;
+// The kinds that more bytes may change: of a character that the end cuts off, in UTF-8 and in UTF-16.
+const TOO_FEW = 1;
+const INCOMPLETE = 10;
 const NONE = 11;
 // The status of a strict call that stopped at an invalid byte, or unit.
 const FAULT = 3;
 const FORMS = ["utf-8", "utf-16le", "utf-16be"];
+const [UTF8, UTF16LE, UTF16BE] = [0, 1, 2];
 // The most bytes that can be filled in at once.
 const MOST = 10 * 1024 * 1024;
 // A piece depends on no more bytes than these from its first on, or up to its last.
 const SEEN = 4;
+// What a recoder does with invalid bytes: one U+FFFD for each; one for each maximal subpart; or it stops at the first one.
+const [REPLACE, MAXIMAL, STRICT] = [0, 1, 2];
+const MODES = ["", "_lossy", "_strict"];
+// Pieces that are asked for at once where invalid bytes are rare.
+const FEW = 32;
 const PIECE = 16;
 const ROOM = 4096;
 const PART = 65536;
@@ -45,20 +57,45 @@ class Codec {
         this.part = this.room + ROOM * PIECE;
         this.made = this.part + PART;
         this.start = this.made + PART_ROOM;
-        this.len = 0;
+        this.filled = 0;
+        this.fill(new Uint8Array(0));
         this.names = this.textsOfKinds(calls.nody_put_kind_name);
         this.sentences = this.textsOfKinds(calls.nody_put_kind_sentence);
     }
 
-    // Takes these bytes in place of those before.
-    fill(bytes) {
+    // Takes these bytes in place of those before. Returns a number that `holds` knows until others are taken.
+    fill(bytes, form = UTF8) {
         this.memory.set(bytes, this.start);
         this.len = bytes.length;
+        this.form = form;
+        this.unit = form === UTF8 ? 1 : 2;
+        this.original = null;
+        if (form === UTF16BE) {
+            this.original = new Uint8Array(bytes);
+            swap(this.memory, this.start, bytes.length);
+        }
+        return ++this.filled;
     }
 
-    // The bytes where they stand.
+    // Whether the bytes of that call of `fill` still stand here.
+    holds(filled) {
+        return this.filled === filled;
+    }
+
+    // The bytes as they came.
     get bytes() {
-        return this.memory.subarray(this.start, this.start + this.len);
+        return this.original ?? this.memory.subarray(this.start, this.start + this.len);
+    }
+
+    setByte(place, byte) {
+        if (this.original) this.original[place] = byte;
+        const isLast = place === this.len - 1 && this.len % 2 === 1;
+        this.memory[this.start + (this.original && !isLast ? place ^ 1 : place)] = byte;
+    }
+
+    // The length up to the last whole unit.
+    get whole() {
+        return this.len - (this.len % this.unit);
     }
 
     // A length or an address, of which the upper half is zero in a memory of 16 MiB.
@@ -71,14 +108,24 @@ class Codec {
         const { view, cursor } = this;
         view.setUint32(cursor, this.start + front, true);
         view.setUint32(cursor + 4, 0, true);
-        view.setUint32(cursor + 8, back - front, true);
+        view.setUint32(cursor + 8, (back - front) / this.unit, true);
         view.setUint32(cursor + 12, 0, true);
     }
 
     // The piece that stands at an address, and begins at an offset of the bytes.
     pieceAt(address, place) {
         const { view } = this;
-        return { place, len: this.number(address), scalar: view.getUint32(address + 8, true), kind: view.getUint8(address + 12) };
+        return { place, len: this.lengthAt(address), scalar: view.getUint32(address + 8, true), kind: view.getUint8(address + 12) };
+    }
+
+    // The length in bytes of the piece that stands at an address.
+    lengthAt(address) {
+        return this.number(address) * this.unit;
+    }
+
+    // The single byte at the end of UTF-16, or, where the input ends before it, no piece.
+    lastByte(place) {
+        return place < this.len ? { place, len: 1, scalar: 0, kind: INCOMPLETE } : { place, len: 0, scalar: 0, kind: NONE };
     }
 
     // What a call of the module tells of each kind of error: its name, or its sentence, in ASCII up to a zero.
@@ -91,10 +138,12 @@ class Codec {
         });
     }
 
-    // Puts into the room the pieces that begin at `front`, so many at most; returns how many and where they end.
+    // Puts into the room the pieces that begin at `front`, so many at most; returns how many and where they end. The single byte at
+    // the end of UTF-16 is in no room.
     run(front, most = ROOM) {
-        this.setCursor(front, this.len);
-        const count = this.calls.nody_utf8_pieces(this.address(this.cursor), this.address(this.room), BigInt(Math.min(most, ROOM)));
+        const call = this.form === UTF8 ? this.calls.nody_utf8_pieces : this.calls.nody_utf16_pieces;
+        this.setCursor(front, Math.max(front, this.whole));
+        const count = call(this.address(this.cursor), this.address(this.room), BigInt(Math.min(most, ROOM)));
         return { count: Number(count), end: this.number(this.cursor) - this.start };
     }
 
@@ -113,44 +162,100 @@ class Codec {
     // The pieces from an offset at which one begins, as far as they begin before another, and end after a third.
     pieces(front, before, after = front) {
         const found = [];
-        while (front < Math.min(before, this.len)) {
-            const { count, end } = this.run(front, before - front);
-            for (let at = this.room, last = at + count * PIECE, place = front; at < last; at += PIECE) {
-                if (before <= place) return found;
-                const next = place + this.number(at);
+        const last = Math.min(before, this.whole);
+        for (let place = front; place < last; ) {
+            const { count, end } = this.run(place, before - place);
+            for (let at = this.room, stop = at + count * PIECE; at < stop && place < before; at += PIECE) {
+                const next = place + this.lengthAt(at);
                 if (after < next) found.push(this.pieceAt(at, place));
                 place = next;
             }
-            front = end;
+            place = Math.max(place, end);
+        }
+        if (this.whole < Math.min(before, this.len)) found.push(this.lastByte(this.whole));
+        return found;
+    }
+
+    // The invalid bytes from an offset on at which a piece begins, so many at most, each told as its offset, length and kind, and the
+    // offset up to which all were told. Valid text is skipped as fast as it is validated.
+    faults(front, most, tell) {
+        let [at, size] = [front, FEW];
+        for (let left = most; at < this.whole; ) {
+            if (size === FEW) at = this.validUpTo(at);
+            if (at >= this.whole || left <= 0) break;
+            const { count, end } = this.run(at, Math.min(size, left));
+            const found = this.tellFaults(count, at, tell);
+            left -= found;
+            // (where invalid bytes are dense, more pieces are asked for at once)
+            size = found > count / 8 ? Math.min(2 * size, ROOM) : FEW;
+            at = end;
+        }
+        if (at < this.whole || this.whole === this.len || most <= 0) return at;
+        tell(this.whole, 1, INCOMPLETE);
+        return this.len;
+    }
+
+    tellFaults(count, place, tell) {
+        let found = 0;
+        for (let at = this.room, end = at + count * PIECE; at < end; at += PIECE) {
+            const [len, kind] = [this.lengthAt(at), this.memory[at + 12]];
+            if (kind !== OK) {
+                tell(place, len, kind);
+                found++;
+            }
+            place += len;
         }
         return found;
     }
 
     // One piece from the front ("F") or the back ("B") of what is left, which then leaves it.
     step(letter, left) {
-        this.setCursor(left.front, left.back);
         const isFirst = letter === "F";
-        const [call, begin] = [isFirst ? this.calls.nody_utf8_next : this.calls.nody_utf8_next_back, left.front];
-        call(this.address(this.answer), this.address(this.cursor));
+        const { front, back } = left;
+        const end = Math.min(back, Math.max(this.whole, front));
+        if (end < back && (front === end || !isFirst)) {
+            left.back = end;
+            return this.lastByte(end);
+        }
+        this.setCursor(front, end);
+        const { calls } = this;
+        if (this.form === UTF8) (isFirst ? calls.nody_utf8_next : calls.nody_utf8_next_back)(this.address(this.answer), this.address(this.cursor));
+        else (isFirst ? calls.nody_utf16_next : calls.nody_utf16_next_back)(this.address(this.answer), this.address(this.cursor));
         left.front = this.number(this.cursor) - this.start;
-        left.back = left.front + this.number(this.cursor + 8);
-        return this.pieceAt(this.answer, isFirst ? begin : left.back);
+        if (!isFirst) left.back = left.front + this.lengthAt(this.cursor + 8);
+        return this.pieceAt(this.answer, isFirst ? front : left.back);
     }
 
-    // The piece that begins at an offset, as a decoder that gets one byte at a time names it.
+    // The piece that begins at an offset, as a decoder that gets one byte at a time names it. (In UTF-16 none names it otherwise.)
     streamedAt(place) {
+        if (this.form !== UTF8) return this.pieces(place, place + 1)[0] ?? this.lastByte(this.len);
         this.calls.nody_utf8_streamed_at(this.address(this.answer), this.address(this.start), BigInt(this.len), BigInt(place));
         return this.pieceAt(this.answer, place);
     }
 
     // The offset of the first invalid byte from an offset on at which a piece begins, or the length where there is none.
     validUpTo(front = 0) {
-        return front + Number(this.calls.nody_utf8_valid_up_to(this.address(this.start + front), BigInt(this.len - front)));
+        const call = this.form === UTF8 ? this.calls.nody_utf8_valid_up_to : this.calls.nody_utf16_valid_up_to;
+        const units = BigInt(Math.max(this.whole - front, 0) / this.unit);
+        return front + this.unit * Number(call(this.address(this.start + front), units));
     }
 
-    // The last offset, up to `at`, that lies in no character.
-    boundary(at) {
-        return Number(this.calls.nody_shard_end(0, this.address(this.start), BigInt(this.len), BigInt(at)));
+    // How many pieces there are from one boundary on and before another.
+    countBetween(front, back) {
+        const call = this.form === UTF8 ? this.calls.nody_utf8_char_count : this.calls.nody_utf16_char_count;
+        const whole = Math.max(Math.min(back, this.whole) - front, 0);
+        return Number(call(this.address(this.start + front), BigInt(whole / this.unit))) + (back - front - whole);
+    }
+
+    // The last offset up to `at`, or the first one from there on, that lies in no character and no unit.
+    boundary(at, isAfter = false) {
+        const call = isAfter ? this.calls.nody_boundary_after : this.calls.nody_boundary_before;
+        return Number(call(Math.min(this.form, UTF16LE), this.address(this.start), BigInt(this.len), BigInt(at)));
+    }
+
+    // How many bytes these become in another form.
+    recodedLength(to) {
+        return Number(this.calls.nody_recoded_len(Math.min(this.form, UTF16LE), to, this.address(this.start), BigInt(this.len)));
     }
 
     // A recoder that holds nothing, as the bytes of its struct.
@@ -164,11 +269,11 @@ class Codec {
         return Number(new DataView(state.buffer).getBigUint64(REPLACED, true));
     }
 
-    // Feeds bytes to a recoder, and puts what comes of them into `chunks`, up to about so many bytes, or, where it is fatal, up to the
-    // first invalid byte. Returns how many were fed, and that byte or null. (The call that replaces takes one argument less: the last
+    // Feeds bytes to a recoder, and puts what comes of them into `chunks`, up to about so many bytes, or, where it is strict, up to the
+    // first invalid byte. Returns how many were fed, and that byte or null. (Calls that are not strict take one argument less: the last
     // is passed over.)
-    feed(state, source, chunks, { most = Infinity, isFatal = false } = {}) {
-        const call = isFatal ? this.calls.nody_recoder_feed_strict : this.calls.nody_recoder_feed;
+    feed(state, source, chunks, { most = Infinity, mode = REPLACE } = {}) {
+        const call = this.calls[`nody_recoder_feed${MODES[mode]}`];
         const [recoder, read, written, fault] = [this.recoder, this.numbers, this.numbers + 8, this.fault].map(this.address);
         const [part, made, room] = [this.address(this.part), this.address(this.made), BigInt(PART_ROOM)];
         this.memory.set(state, this.recoder);
@@ -184,10 +289,10 @@ class Codec {
         return { at, fault: this.faultBefore(status, at) };
     }
 
-    // What a recoder still holds, as no more input follows. Returns the first invalid byte, where it is fatal, or null; its place counts
+    // What a recoder still holds, as no more input follows. Returns the first invalid byte, where it is strict, or null; its place counts
     // from the end of the input.
-    finish(state, chunks, isFatal = false) {
-        const call = isFatal ? this.calls.nody_recoder_finish_strict : this.calls.nody_recoder_finish;
+    finish(state, chunks, mode = REPLACE) {
+        const call = this.calls[`nody_recoder_finish${MODES[mode]}`];
         this.memory.set(state, this.recoder);
         const [recoder, made, numbers, fault] = [this.recoder, this.made, this.numbers, this.fault].map(this.address);
         const status = call(recoder, made, BigInt(PART_ROOM), numbers, fault);
@@ -209,11 +314,16 @@ class Codec {
     }
 
     // These bytes in another form, as chunks; about so many bytes of them where there are more.
-    recode(from, to, source, most = Infinity) {
+    recode(from, to, source, { most = Infinity, mode = REPLACE } = {}) {
         const [chunks, state] = [[], this.newRecoder(from, to)];
-        if (this.feed(state, source, chunks, { most }).at === source.length) this.finish(state, chunks);
+        if (this.feed(state, source, chunks, { most, mode }).at === source.length) this.finish(state, chunks, mode);
         return chunks;
     }
+}
+
+// Exchanges the bytes of each whole unit of some memory.
+function swap(memory, start, len) {
+    for (let at = start, end = start + len - 1; at < end; at += 2) [memory[at], memory[at + 1]] = [memory[at + 1], memory[at]];
 }
 
 // Chunks, one after the other.
@@ -299,12 +409,25 @@ function formOf(label) {
     return form;
 }
 
-// Whether such options ask to throw.
-function asksToThrow(options = {}) {
+// What options ask to do with invalid bytes. `fatal: true` is how TextDecoder says "strict".
+const WAYS = { replace: REPLACE, maximal: MAXIMAL, strict: STRICT };
+
+function wayOf(options = {}) {
     if (options === null || (typeof options !== "object" && typeof options !== "function")) {
         throw new TypeError(`noddychest: options are an object, as { fatal: true }, or left out, and not ${options === null ? "null" : `a ${typeof options}`}`);
     }
-    return Boolean(options.fatal);
+    const { errors, fatal } = options;
+    if (errors === undefined) return fatal ? STRICT : REPLACE;
+    const name = String(errors);
+    if (!Object.keys(WAYS).includes(name)) throw new RangeError(`noddychest: errors is "replace", "maximal" or "strict", and not ${name}`);
+    if (fatal && WAYS[name] !== STRICT) throw new TypeError(`noddychest: fatal is the same as errors: "strict", and here errors is "${name}"`);
+    return WAYS[name];
+}
+
+// An offset that a caller gives.
+function offsetOf(at) {
+    if (Number.isSafeInteger(at) && at >= 0) return at;
+    throw new RangeError(`noddychest: an offset is a whole number from 0 on, and not ${String(at)}`);
 }
 
 // A piece of the codec, which began at the offset `base`, as callers see it.
@@ -313,20 +436,25 @@ function shown({ place, len, scalar, kind }, base) {
     return { offset: base + place, length: len, char: isValid ? String.fromCodePoint(scalar) : null, error: isValid ? null : codec.names[kind] };
 }
 
-function* pieces(data) {
-    const bytes = bytesOf(data);
+// The pieces of some bytes that begin before `end`, with offsets from `base` on.
+function* piecesIn(bytes, form, base = 0, end = bytes.length) {
     const { length } = bytes;
-    for (let at = 0; at < length; ) {
+    for (let at = 0; at < end; ) {
         hold(bytes.length === length);
         const isLast = length - at <= BLOCK;
-        codec.fill(bytes.subarray(at, at + BLOCK));
+        codec.fill(bytes.subarray(at, at + BLOCK), form);
+        const stop = Math.min(isLast ? codec.len : BLOCK - SEEN + 1, end - at);
         const { count } = codec.run(0);
         const block = [];
         let place = 0;
-        for (let i = 0; i < count && (isLast || place <= BLOCK - SEEN); i++) {
+        for (let i = 0; i < count && place < stop; i++) {
             const piece = codec.inRoom(i, place);
-            block.push(shown(piece, at));
+            block.push(shown(piece, base + at));
             place += piece.len;
+        }
+        if (place < stop) {
+            block.push(shown(codec.lastByte(place), base + at));
+            place++;
         }
         at += place;
         for (const it of block) {
@@ -336,13 +464,38 @@ function* pieces(data) {
     }
 }
 
-function* piecesBack(data) {
-    const bytes = bytesOf(data);
+// The invalid ones of them, of which about so many are looked for at once.
+function* faultsIn(bytes, form, { base = 0, end = bytes.length, most = BLOCK } = {}) {
+    const { length } = bytes;
+    let [begin, front, filled, limit] = [0, 0, 0, 0];
+    while (begin + front < end) {
+        hold(bytes.length === length);
+        if (!codec.holds(filled) || front === limit) {
+            [begin, front] = [begin + front, 0];
+            filled = codec.fill(bytes.subarray(begin, begin + MEGABYTE), form);
+            // (a piece is judged by the bytes after it: those at the end of this window come again)
+            limit = begin + codec.len === length ? codec.len : codec.boundary(codec.len - SEEN);
+        }
+        const block = [];
+        const told = codec.faults(front, most, (place, len, kind) => place < limit && begin + place < end && block.push(shown({ place, len, scalar: 0, kind }, base + begin)));
+        front = Math.min(told, limit);
+        for (const it of block) {
+            hold(bytes.length === length);
+            yield it;
+        }
+    }
+}
+
+const pieces = (data, encoding = "utf-8") => piecesIn(bytesOf(data), formOf(encoding));
+
+const piecesBack = (data, encoding = "utf-8") => piecesBefore(bytesOf(data), formOf(encoding));
+
+function* piecesBefore(bytes, form) {
     const { length } = bytes;
     for (let back = length; back > 0; ) {
         hold(bytes.length === length);
-        const base = Math.max(back - BLOCK, 0);
-        codec.fill(bytes.subarray(base, back));
+        const base = startBefore(back, BLOCK, form);
+        codec.fill(bytes.subarray(base, back), form);
         const [block, left] = [[], { front: 0, back: codec.len }];
         while (left.back > 0 && (base === 0 || left.back >= SEEN)) block.push(shown(codec.step("B", left), base));
         back = base + left.back;
@@ -353,20 +506,28 @@ function* piecesBack(data) {
     }
 }
 
+// Where a window of about so many bytes before an offset begins: not inside a unit.
+function startBefore(back, size, form) {
+    const start = Math.max(back - size, 0);
+    return form === UTF8 ? start : start - (start % 2);
+}
+
 class Decoder {
     #bytes;
+    #form;
     #length;
     #front = 0;
     #back;
 
-    constructor(data) {
+    constructor(data, encoding = "utf-8") {
         this.#bytes = bytesOf(data);
+        this.#form = formOf(encoding);
         this.#back = this.#length = this.#bytes.length;
     }
 
     // One piece, of the bytes near that end alone.
     #step(letter, from, to) {
-        codec.fill(this.#part(from, to));
+        codec.fill(this.#part(from, to), this.#form);
         const left = { front: 0, back: codec.len };
         const piece = codec.step(letter, left);
         if (piece.kind === NONE) return null;
@@ -380,7 +541,7 @@ class Decoder {
     }
 
     nextBack() {
-        return this.#step("B", Math.max(this.#back - SEEN, this.#front), this.#back);
+        return this.#step("B", Math.max(startBefore(this.#back, SEEN, this.#form), this.#front), this.#back);
     }
 
     // (code that V8 optimized may see the old length of an array that was detached, and then this throws)
@@ -398,31 +559,56 @@ class Decoder {
     }
 }
 
-function firstInvalid(data) {
-    const bytes = bytesOf(data);
+const faults = (data, encoding = "utf-8") => faultsIn(bytesOf(data), formOf(encoding));
+
+const firstFault = (data, encoding = "utf-8") => faultsIn(bytesOf(data), formOf(encoding), { most: 1 }).next().value ?? null;
+
+const isValid = (data, encoding) => firstFault(data, encoding) === null;
+
+// The sum of what a call tells of windows that end at boundaries, one after the other.
+function summed(bytes, form, call) {
+    let sum = 0;
     for (let at = 0; at < bytes.length; ) {
-        const isLast = bytes.length - at <= MEGABYTE;
-        codec.fill(bytes.subarray(at, at + MEGABYTE));
-        const found = codec.validUpTo();
-        if (found < codec.len && (isLast || found <= MEGABYTE - SEEN)) return shown(codec.pieces(found, found + 1)[0], at);
-        if (isLast) return null;
-        at += found;
+        codec.fill(bytes.subarray(at, at + MEGABYTE), form);
+        const end = at + codec.len === bytes.length ? codec.len : codec.boundary(codec.len - SEEN);
+        sum += call(bytes.subarray(at, at + end), end);
+        at += end;
     }
-    return null;
+    return sum;
 }
 
-const isValid = (data) => firstInvalid(data) === null;
+const charCount = (data, encoding = "utf-8") => summed(bytesOf(data), formOf(encoding), (_, end) => codec.countBetween(0, end));
+
+function recodedLength(data, from, to) {
+    const [form, target] = [formOf(from), formOf(to)];
+    return summed(bytesOf(data), form, (part) => {
+        codec.fill(part, form);
+        return codec.recodedLength(target);
+    });
+}
+
+// The boundary near an offset: the bytes near it decide.
+function boundaryOf(data, at, encoding, isAfter) {
+    const [bytes, form, place] = [bytesOf(data), formOf(encoding), offsetOf(at)];
+    if (place >= bytes.length) return bytes.length;
+    const start = startBefore(place, 2 * SEEN, form);
+    codec.fill(bytes.subarray(start, place + 2 * SEEN), form);
+    return start + codec.boundary(place - start, isAfter);
+}
+
+const boundaryBefore = (data, at, encoding = "utf-8") => boundaryOf(data, at, encoding, false);
+const boundaryAfter = (data, at, encoding = "utf-8") => boundaryOf(data, at, encoding, true);
 
 // That text which had to be valid is not. A TypeError, as TextDecoder throws. (Of an error structuredClone and postMessage keep the
 // message and the cause alone.)
-class InvalidInputError extends TypeError {
-    constructor({ place, len, kind }, form, base) {
-        const told = { offset: base + place, length: len, error: codec.names[kind] };
-        super(`noddychest: invalid ${FORMS[form].toUpperCase()} at offset ${told.offset}: ${told.error}`, { cause: told });
+class FaultError extends TypeError {
+    constructor({ offset, length, error }, form) {
+        const told = { offset, length, error };
+        super(`noddychest: invalid ${FORMS[form].toUpperCase()} at offset ${offset}: ${error}`, { cause: told });
         // (where an Error takes no cause yet)
         if (!this.cause) Object.defineProperty(this, "cause", { value: told, configurable: true, writable: true });
         Object.assign(this, told);
-        this.name = "InvalidInputError";
+        this.name = "FaultError";
     }
 }
 
@@ -434,37 +620,37 @@ function recode(data, from, to, options) {
 
 class Recoder {
     #from;
-    #isFatal;
+    #way;
     #state;
     #count = 0;
 
     constructor(from, to, options) {
         const forms = [formOf(from), formOf(to)];
         this.#from = forms[0];
-        this.#isFatal = asksToThrow(options);
+        this.#way = wayOf(options);
         this.#state = codec.newRecoder(...forms);
     }
 
-    get replaced() {
+    get faults() {
         return codec.replacedBy(this.#state);
     }
 
     // Keeps the state after a call, or throws where that met an invalid byte, and then nothing has changed.
     #keep(state, fault) {
-        if (fault) throw new InvalidInputError(fault, this.#from, this.#count);
+        if (fault) throw new FaultError(shown(fault, this.#count), this.#from);
         this.#state = state;
     }
 
     feed(data) {
         const [bytes, chunks, state] = [bytesOf(data), [], this.#state.slice()];
-        this.#keep(state, codec.feed(state, bytes, chunks, { isFatal: this.#isFatal }).fault);
+        this.#keep(state, codec.feed(state, bytes, chunks, { mode: this.#way }).fault);
         this.#count += bytes.length;
         return joined(chunks);
     }
 
     finish() {
         const [chunks, state] = [[], this.#state.slice()];
-        this.#keep(state, codec.finish(state, chunks, this.#isFatal));
+        this.#keep(state, codec.finish(state, chunks, this.#way));
         return joined(chunks);
     }
 }
@@ -478,7 +664,82 @@ function recoderStream(from, to, options) {
     });
 }
 
+// The text of whole pieces, in one way or another.
+function textOf(bytes, form, way) {
+    return new TextDecoder("utf-16le", { ignoreBOM: true }).decode(joined(codec.recode(form, UTF16LE, bytes, { mode: way })));
+}
+
+function decode(data, encoding = "utf-8", options) {
+    const [form, way, bytes] = [formOf(encoding), wayOf(options), bytesOf(data)];
+    const found = [...faultsIn(bytes, form, way === STRICT ? { most: 1 } : {})];
+    if (way === STRICT && found.length) throw new FaultError(found[0], form);
+    return { text: textOf(bytes, form, way === STRICT ? REPLACE : way), faults: found };
+}
+
+// The parts of a stream, or of anything that one can go through. A stream that is left before its end is told so.
+async function* partsOf(stream) {
+    if (typeof stream?.getReader !== "function") {
+        if (ArrayBuffer.isView(stream) || (!stream?.[Symbol.asyncIterator] && !stream?.[Symbol.iterator])) throw new TypeError("noddychest: a stream is a ReadableStream, or another iterable, of bytes in parts");
+        yield* stream;
+        return;
+    }
+    const reader = stream.getReader();
+    let isOver = false;
+    try {
+        for (;;) {
+            const { done, value } = await reader.read();
+            isOver = done;
+            if (done) return;
+            yield value;
+        }
+    } finally {
+        if (!isOver) await reader.cancel().catch(() => {});
+        reader.releaseLock();
+    }
+}
+
+// How many of some bytes are decided, when more may follow: all but the beginning of a character at the end, with what is after it. Three
+// at most are not.
+function decidedOf(bytes, form) {
+    const start = startBefore(bytes.length, 2 * SEEN, form);
+    codec.fill(bytes.subarray(start), form);
+    const open = codec.pieces(0, codec.len).find((it) => it.place > codec.len - SEEN && (it.kind === TOO_FEW || it.kind === INCOMPLETE));
+    return open ? start + open.place : bytes.length;
+}
+
+// The input of a stream in windows: the bytes, how many of them are decided, and the offset at which they begin.
+async function* windowsOf(stream, form) {
+    let [base, held] = [0, new Uint8Array(0)];
+    for await (const part of partsOf(stream)) {
+        const bytes = joined([held, bytesOf(part)]);
+        const end = decidedOf(bytes, form);
+        if (end) yield { bytes, end, base };
+        [base, held] = [base + end, bytes.slice(end)];
+    }
+    if (held.length) yield { bytes: held, end: held.length, base };
+}
+
+async function* streamPieces(stream, encoding = "utf-8") {
+    const form = formOf(encoding);
+    for await (const { bytes, end, base } of windowsOf(stream, form)) yield* piecesIn(bytes, form, base, end);
+}
+
+async function* streamFaults(stream, encoding = "utf-8") {
+    const form = formOf(encoding);
+    for await (const { bytes, end, base } of windowsOf(stream, form)) yield* faultsIn(bytes, form, { base, end });
+}
+
+async function* streamText(stream, encoding = "utf-8", options) {
+    const [form, way] = [formOf(encoding), wayOf(options)];
+    for await (const { bytes, end, base } of windowsOf(stream, form)) {
+        const found = [...faultsIn(bytes, form, { base, end, ...(way === STRICT ? { most: 1 } : {}) })];
+        const stop = way === STRICT && found.length ? found[0].offset - base : end;
+        if (stop) yield { offset: base, text: textOf(bytes.subarray(0, stop), form, way === STRICT ? REPLACE : way), faults: way === STRICT ? [] : found };
+        if (stop < end) throw new FaultError(found[0], form);
+    }
+}
+
 const file = require("node:path").join(__dirname, hasVectors() ? "noddychest-simd.wasm" : "noddychest.wasm");
 use(new WebAssembly.Instance(new WebAssembly.Module(require("node:fs").readFileSync(file))));
 
-module.exports = { Decoder, InvalidInputError, Recoder, firstInvalid, isValid, pieces, piecesBack, recode, recoderStream };
+module.exports = { Decoder, FaultError, Recoder, boundaryAfter, boundaryBefore, charCount, decode, faults, firstFault, isValid, pieces, piecesBack, recode, recodedLength, recoderStream, streamFaults, streamPieces, streamText };

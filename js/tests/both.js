@@ -1,7 +1,7 @@
 // Prints for how many of so many inputs two modules answer otherwise: both.js ONE OTHER COUNT. Each input is recoded between all forms,
 // lossy and strict, at once and in two parts, and split from the front, from both ends and at each place.
 import { readFileSync } from "node:fs";
-import { Codec, joined } from "../codec.js";
+import { Codec, MAXIMAL, REPLACE, STRICT, joined } from "../codec.js";
 import { chances, damaged } from "./help.js";
 
 const load = async (path) => new Codec((await WebAssembly.instantiate(readFileSync(new URL(path, import.meta.url)))).instance.exports);
@@ -10,10 +10,10 @@ const count = Number(process.argv[4]);
 const chance = chances(5);
 
 // What a recoder makes of two parts, and where a strict one stops.
-function inParts(codec, bytes, cut, from, to, isFatal) {
+function inParts(codec, bytes, cut, from, to, mode) {
     const [state, chunks] = [codec.newRecoder(from, to), []];
-    const stops = [bytes.subarray(0, cut), bytes.subarray(cut)].map((part) => codec.feed(state, part, chunks, { isFatal }));
-    return [stops, codec.finish(state, chunks, isFatal), codec.replacedBy(state), [...joined(chunks)]];
+    const stops = [bytes.subarray(0, cut), bytes.subarray(cut)].map((part) => codec.feed(state, part, chunks, { mode }));
+    return [stops, codec.finish(state, chunks, mode), codec.replacedBy(state), [...joined(chunks)]];
 }
 
 const FORMS = [0, 1, 2];
@@ -25,7 +25,7 @@ function told(codec, bytes, word, cut) {
     const streamed = run.map((it) => codec.streamedAt(it.place));
     const ends = [codec.validUpTo(), codec.boundary(bytes.length >> 1)];
     const pairs = FORMS.flatMap((from) => FORMS.map((to) => [from, to]));
-    const recoded = pairs.map(([from, to]) => [false, true].map((isFatal) => inParts(codec, bytes, cut, from, to, isFatal)));
+    const recoded = pairs.map(([from, to]) => [REPLACE, MAXIMAL, STRICT].map((mode) => inParts(codec, bytes, cut, from, to, mode)));
     const whole = pairs.map(([from, to]) => [...joined(codec.recode(from, to, bytes))]);
     return JSON.stringify([run, walk, streamed, ends, codec.names, recoded, whole]);
 }

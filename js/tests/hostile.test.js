@@ -5,7 +5,7 @@ import { createRequire } from "node:module";
 import test from "node:test";
 import vm from "node:vm";
 import { MessageChannel, receiveMessageOnPort } from "node:worker_threads";
-import { Decoder, InvalidInputError, Recoder, firstInvalid, isValid, pieces, piecesBack, recode, recoderStream } from "noddychest";
+import { Decoder, FaultError, Recoder, boundaryAfter, boundaryBefore, charCount, decode, faults, firstFault, isValid, pieces, piecesBack, recode, recodedLength, recoderStream, streamPieces } from "noddychest";
 import { chances, damaged, hexOf, ofHex } from "./help.js";
 
 const GONE = { name: "TypeError", message: /^noddychest: the bytes are gone: their buffer was detached, or made smaller$/ };
@@ -64,13 +64,52 @@ for (const [name, way] of Object.entries(WAYS)) {
     });
 }
 
+test("faults: bytes that are detached on the way, a buffer that grows, and one that is made smaller", () => {
+    for (const [size, steps] of [[3, 1], [9000, 1], [9000, 5000], [3_000_000, 1], [3_000_000, 5000]]) {
+        const bytes = new Uint8Array(size).fill(0xff);
+        const found = faults(bytes);
+        for (let i = 0; i < steps; i++) assert.equal(found.next().value.offset, i);
+        detach(bytes);
+        assert.throws(() => found.next(), GONE, `${size} bytes after ${steps}`);
+    }
+    const bytes = ofHex("ffff");
+    const found = [...faults(bytes)];
+    detach(bytes);
+    assert.equal(found.length, 2);
+    if (!canResize) return;
+    const buffer = new ArrayBuffer(9000, { maxByteLength: 20000 });
+    new Uint8Array(buffer).fill(0xff);
+    const some = faults(buffer, "utf-16le");
+    assert.equal(some.next().value, undefined);
+    const others = faults(buffer);
+    others.next();
+    buffer.resize(20000);
+    for (let i = 1; i < 8999; i++) assert.equal(others.next().value.offset, i);
+    buffer.resize(8999);
+    assert.throws(() => others.next(), GONE);
+});
+
+test("a part of a stream that is detached after it was read", async () => {
+    const parts = [ofHex("41e2"), ofHex("82ac")];
+    const found = [];
+    for await (const it of streamPieces(parts)) {
+        found.push(it.char);
+        if (found.length === 1) detach(parts[0]);
+    }
+    assert.deepEqual(found, ["A", "€"]);
+    const gone = ofHex("41");
+    detach(gone);
+    await assert.rejects(streamPieces([gone]).next(), GONE);
+});
+
 test("bytes that are gone already are refused, and are not empty text", () => {
     const views = [(it) => it, (it) => new Uint8Array(it), (it) => new Uint8Array(it, 2, 0), (it) => new DataView(it, 1), (it) => new Uint16Array(it)];
     for (const give of views) {
         const buffer = new ArrayBuffer(8);
         const data = give(buffer);
         detach(buffer);
-        for (const call of [isValid, firstInvalid, (it) => new Decoder(it), (it) => [...pieces(it)], (it) => [...piecesBack(it)], (it) => recode(it, "utf8", "utf8")]) {
+        const calls = [isValid, firstFault, charCount, decode, faults, pieces, piecesBack, (it) => boundaryBefore(it, 1), (it) => boundaryAfter(it, 1)];
+        for (const call of [...calls, (it) => new Decoder(it), (it) => recode(it, "utf8", "utf8"), (it) => recodedLength(it, "utf8", "utf8")]) {
             assert.throws(() => call(data), GONE);
         }
     }
@@ -103,9 +142,10 @@ test("bytes of another realm", () => {
     const given = ["new Uint8Array([65, 255]).buffer", "new Uint8Array([65, 255])", "new DataView(new Uint8Array([65, 255]).buffer)", "new Uint16Array([0xff41])"];
     if (typeof SharedArrayBuffer === "function") given.push("const it = new SharedArrayBuffer(2); new Uint8Array(it).set([65, 255]); it");
     for (const it of given) {
-        assert.equal(firstInvalid(far(it)).offset, 1, it);
+        assert.equal(firstFault(far(it)).offset, 1, it);
         assert.deepEqual([...pieces(far(it))].map((piece) => piece.error), [null, "NonUtf8Byte"], it);
         assert.equal(hexOf(recode(far(it), "utf8", "utf16be")), "0041fffd", it);
+        assert.deepEqual([decode(far(it)).text, [...faults(far(it))].length, charCount(far(it)), boundaryBefore(far(it), 1), recodedLength(far(it), "utf8", "utf16le")], ["A\ufffd", 1, 2, 1, 4], it);
     }
     for (const it of ["[65]", "'text'", "({ byteLength: 2 })", "new Map()"]) assert.throws(() => isValid(far(it)), { name: "TypeError", message: /bytes are a Uint8Array/ });
 });
@@ -115,6 +155,7 @@ test("shared memory, and one that grows", () => {
     new Uint8Array(shared).set([0x41, 0xc3, 0xa9]);
     assert.equal([...pieces(shared)].map((it) => it.char).join(""), "Aé");
     assert.equal(hexOf(recode(new DataView(shared, 1), "utf8", "utf16be")), "00e9");
+    assert.deepEqual([decode(shared).text, charCount(shared), [...faults(new DataView(shared, 2))].length, boundaryBefore(shared, 2), decode(shared, "utf-16be").faults.length], ["Aé", 2, 1, 1, 1]);
     if (!("grow" in SharedArrayBuffer.prototype)) return;
     const growing = new SharedArrayBuffer(3, { maxByteLength: 9 });
     const found = pieces(new Uint8Array(growing));
@@ -141,6 +182,7 @@ test("bytes that lie about themselves, or run code when asked, are read as they 
     assert.equal([...pieces(bytes)].length, 2);
     assert.equal(hexOf(recode(bytes, "utf8", "utf16le")), "4100e900");
     assert.equal(new Decoder(bytes).nextBack().char, "é");
+    assert.deepEqual([decode(bytes).text, [...faults(bytes)].length, charCount(bytes), boundaryAfter(bytes, 2), firstFault(bytes, "utf-16be").offset], ["Aé", 0, 2, 3, 2]);
     for (const it of [new Proxy(new Uint8Array(2), {}), Object.create(Uint8Array.prototype), { __proto__: ArrayBuffer.prototype, byteLength: 10 ** 30 }, { length: 10 ** 30 }, Symbol("bytes"), 10n ** 30n]) {
         assert.throws(() => isValid(it), { name: "TypeError", message: /bytes are a Uint8Array/ });
     }
@@ -159,7 +201,7 @@ test("other calls between two pieces, and from within options and labels, change
     const recoder = new Recoder(label, { toString: () => busy("utf-16be") }, { get fatal() { return busy(false); } });
     assert.equal(hexOf(recoder.feed(ofHex("e282"))) + hexOf(recoder.feed(ofHex("ac"))), "20ac");
     let asked = 0;
-    assert.throws(() => recode(ofHex("ff"), "utf8", "utf8", { get fatal() { return ++asked === 1; } }), InvalidInputError);
+    assert.throws(() => recode(ofHex("ff"), "utf8", "utf8", { get fatal() { return ++asked === 1; } }), FaultError);
     assert.equal(asked, 1);
 });
 
@@ -197,16 +239,20 @@ test("an error says where also after it was cloned or sent", () => {
 
 test("require gives the same calls as import", () => {
     const all = createRequire(import.meta.url)("noddychest");
-    assert.equal(all.InvalidInputError, InvalidInputError);
+    assert.equal(all.FaultError, FaultError);
     assert.equal(all.pieces, pieces);
-    const ran = spawnSync(process.execPath, ["-e", 'console.log(require("noddychest").firstInvalid(Buffer.from([65, 255])).error)'], { cwd: new URL("..", import.meta.url), encoding: "utf8" });
+    const ran = spawnSync(process.execPath, ["-e", 'console.log(require("noddychest").firstFault(Buffer.from([65, 255])).error)'], { cwd: new URL("..", import.meta.url), encoding: "utf8" });
     assert.equal(ran.stdout, "NonUtf8Byte\n", ran.stderr);
 });
 
 test("text that is longer than the module's memory, and offsets in it", () => {
     const bytes = new Uint8Array(40_000_000).fill(0x61);
     bytes[39_999_998] = 0xe2;
-    assert.equal(firstInvalid(bytes).offset, 39_999_998);
+    assert.equal(firstFault(bytes).offset, 39_999_998);
     assert.throws(() => recode(bytes, "utf8", "utf16le", { fatal: true }), { offset: 39_999_998, error: "TooFewBytes" });
     assert.equal(recode(bytes, "utf8", "utf8").length, 40_000_002);
+    assert.deepEqual([...faults(bytes)].map((it) => it.offset), [39_999_998]);
+    assert.deepEqual([charCount(bytes), recodedLength(bytes, "utf8", "utf8"), boundaryBefore(bytes, 39_999_999)], [40_000_000, 40_000_002, 39_999_999]);
+    const { text, faults: wrong } = decode(bytes);
+    assert.deepEqual([text.length, text[text.length - 1], wrong.length], [40_000_000, "a", 1]);
 });

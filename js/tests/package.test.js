@@ -71,8 +71,8 @@ test("packed, installed offline and imported", { skip: needs("npm") }, () => {
         assert.deepEqual(packed.files.map((it) => it.path).sort(), [...named, "README.md", "package.json"].sort());
         writeFileSync(`${folder}/package.json`, "{}");
         npm("install", `./${packed.filename}`);
-        writeFileSync(`${folder}/used.mjs`, 'import { firstInvalid } from "noddychest"; console.log(firstInvalid(Uint8Array.of(65, 255)).error);');
-        writeFileSync(`${folder}/used.cjs`, 'console.log(require("noddychest").firstInvalid(Uint8Array.of(65, 255)).error);');
+        writeFileSync(`${folder}/used.mjs`, 'import { firstFault } from "noddychest"; console.log(firstFault(Uint8Array.of(65, 255)).error);');
+        writeFileSync(`${folder}/used.cjs`, 'console.log(require("noddychest").firstFault(Uint8Array.of(65, 255)).error);');
         for (const it of ["used.mjs", "used.cjs"]) assert.equal(execFileSync(process.execPath, [it], { cwd: folder, encoding: "utf8" }), "NonUtf8Byte\n");
     } finally {
         rmSync(folder, { recursive: true });
@@ -85,7 +85,7 @@ test("the types are those of the calls", { skip: needs("tsc") }, () => {
 });
 
 test("what is exported is what the types declare", async () => {
-    const declared = [...readFileSync(at("../index.d.ts"), "utf8").matchAll(/export (?:function|class|const) (\w+)/g)].map((it) => it[1]);
+    const declared = [...readFileSync(at("../index.d.ts"), "utf8").matchAll(/^export (?:function|class|const) (\w+)/gm)].map((it) => it[1]);
     assert.deepEqual(Object.keys(await import("noddychest")).sort(), declared.sort());
     const told = (name) => readFileSync(at(`../${name}`), "utf8").match(/export \{(.*)\} from .*/)[1];
     assert.equal(told("web.js"), told("node.js"));

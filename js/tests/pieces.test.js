@@ -1,6 +1,6 @@
 import assert from "node:assert/strict";
 import test from "node:test";
-import { Decoder, firstInvalid, isValid, pieces, piecesBack } from "noddychest";
+import { Decoder, firstFault, isValid, pieces, piecesBack } from "noddychest";
 import { chances, damaged, ofHex, rows } from "./help.js";
 
 const told = (it) => (it ? `${it.offset} ${it.length} ${it.error ?? it.char.codePointAt(0).toString(16).padStart(6, "0")}` : "none");
@@ -10,7 +10,7 @@ test("the example of the README", () => {
     const bytes = ofHex("68c3a9e28241f09f9880");
     assert.deepEqual(whole(bytes).map(told), ["0 1 000068", "1 2 0000e9", "3 1 InterruptedSequence", "4 1 UnexpectedContinuationByte", "5 1 000041", "6 4 01f600"]);
     assert.deepEqual(whole(bytes)[1], { offset: 1, length: 2, char: "é", error: null });
-    assert.deepEqual(firstInvalid(bytes), { offset: 3, length: 1, char: null, error: "InterruptedSequence" });
+    assert.deepEqual(firstFault(bytes), { offset: 3, length: 1, char: null, error: "InterruptedSequence" });
 });
 
 test("the stored vectors, forward and by a word of both ends", () => {
@@ -39,7 +39,7 @@ test("pieces joined are the bytes, characters are those of TextDecoder, and both
         assert.equal(at, bytes.length);
         assert.deepEqual([...piecesBack(bytes)].reverse().map((it) => [it.offset, it.char]), found.map((it) => [it.offset, it.char]));
         const first = found.find((it) => it.error) ?? null;
-        assert.deepEqual(firstInvalid(bytes), first);
+        assert.deepEqual(firstFault(bytes), first);
         let isText = true;
         try {
             new TextDecoder("utf-8", { fatal: true }).decode(bytes);
@@ -66,13 +66,13 @@ test("blocks leave no trace: each piece of long inputs is that of the bytes near
 
 test("the first invalid byte on both sides of a megabyte", () => {
     const bytes = new Uint8Array((1 << 20) + 40).fill(0x61);
-    assert.equal(firstInvalid(bytes), null);
+    assert.equal(firstFault(bytes), null);
     for (let at = (1 << 20) - 8; at < (1 << 20) + 8; at++) {
         const [valid, broken] = [bytes.slice(), bytes.slice()];
         valid.set([0xf0, 0x9f, 0x98, 0x80], at);
         broken.set([0xf0, 0x9f, 0x98], at);
         assert.equal(isValid(valid), true);
-        assert.deepEqual(firstInvalid(broken), { offset: at, length: 1, char: null, error: "InterruptedSequence" });
+        assert.deepEqual(firstFault(broken), { offset: at, length: 1, char: null, error: "InterruptedSequence" });
     }
 });
 
@@ -91,8 +91,8 @@ test("any bytes, at their real place; no strings", () => {
         assert.equal(whole(it).map((piece) => piece.char).join(""), "Aé");
     }
     assert.equal(whole(new Uint16Array(ofHex("4142c3a9").buffer)).length, 3);
-    assert.deepEqual([whole(new ArrayBuffer(0)), firstInvalid(new Uint8Array(0)), isValid(new Uint8Array(0))], [[], null, true]);
+    assert.deepEqual([whole(new ArrayBuffer(0)), firstFault(new Uint8Array(0)), isValid(new Uint8Array(0))], [[], null, true]);
     for (const it of ["text", [65], null, undefined, 65]) assert.throws(() => whole(it), TypeError);
     assert.throws(() => new Decoder("text"), TypeError);
-    assert.throws(() => firstInvalid("text"), TypeError);
+    assert.throws(() => firstFault("text"), TypeError);
 });

@@ -1,6 +1,6 @@
 import assert from "node:assert/strict";
 import test from "node:test";
-import { InvalidInputError, Recoder, firstInvalid, isValid, pieces, recode, recoderStream } from "noddychest";
+import { FaultError, Recoder, firstFault, isValid, pieces, recode, recoderStream } from "noddychest";
 import { chances, damaged, hexOf, ofHex, rows } from "./help.js";
 
 const NAMES = { utf8: "utf-8", utf16le: "utf-16le", utf16be: "utf-16be" };
@@ -10,15 +10,15 @@ test("a recoder counts what it replaced", () => {
     const recoder = new Recoder("utf-8", "utf-16le");
     const counts = ["61c3", "ff62", "efbfbd", "e282"].map((part) => {
         recoder.feed(ofHex(part));
-        return recoder.replaced;
+        return recoder.faults;
     });
     // (C3 and FF are invalid, EF BF BD is U+FFFD, and E2 82 waits for the end)
     assert.deepEqual(counts, [0, 2, 2, 2]);
     recoder.finish();
-    assert.equal(recoder.replaced, 4);
+    assert.equal(recoder.faults, 4);
     const strict = new Recoder("utf-8", "utf-8", { fatal: true });
-    assert.throws(() => strict.feed(ofHex("ff")), InvalidInputError);
-    assert.equal(strict.replaced, 0);
+    assert.throws(() => strict.feed(ofHex("ff")), FaultError);
+    assert.equal(strict.faults, 0);
 });
 
 test("the stored recodings", () => {
@@ -87,7 +87,7 @@ function told(call) {
     try {
         return hexOf(call());
     } catch (error) {
-        assert.ok(error instanceof InvalidInputError && error instanceof TypeError, String(error));
+        assert.ok(error instanceof FaultError && error instanceof TypeError, String(error));
         return [error.offset, error.length, error.error];
     }
 }
@@ -97,7 +97,7 @@ test("fatal: the first invalid byte throws, however the text is cut", () => {
     for (let i = 0; i < 1500; i++) {
         const bytes = damaged(chance, chance(14));
         const to = FORMS[chance(3)];
-        const found = firstInvalid(bytes);
+        const found = firstFault(bytes);
         const want = found ? [found.offset, 1, found.error] : hexOf(recode(bytes, "utf-8", to));
         assert.deepEqual(told(() => recode(bytes, "utf-8", to, { fatal: true })), want);
         for (let cut = 0; cut <= bytes.length; cut++) {
@@ -145,7 +145,7 @@ test("fatal: a recoder that threw is as it was before", () => {
     for (let i = 0; i < 2; i++) assert.deepEqual(told(() => recoder.feed(ofHex("62"))), [1, 1, "InterruptedSequence"]);
     assert.deepEqual(told(() => recoder.finish()), [1, 1, "TooFewBytes"]);
     assert.equal(hexOf(recoder.feed(ofHex("a9"))) + hexOf(recoder.finish()), "00e9");
-    assert.throws(() => recode(ofHex("61ff"), "utf-8", "utf-8", { fatal: true }), { name: "InvalidInputError", message: "noddychest: invalid UTF-8 at offset 1: NonUtf8Byte" });
+    assert.throws(() => recode(ofHex("61ff"), "utf-8", "utf-8", { fatal: true }), { name: "FaultError", message: "noddychest: invalid UTF-8 at offset 1: NonUtf8Byte" });
 });
 
 test("encodings by the labels of the Encoding Standard, and by those of the programs, in any case", () => {

@@ -1,6 +1,6 @@
 // Read by tsc alone: each call as a caller with types writes it, and what has to be refused.
-import { Decoder, InvalidInputError, Recoder, firstInvalid, isValid, pieces, piecesBack, recode, recoderStream } from "noddychest";
-import type { Encoding, ErrorName, Piece } from "noddychest";
+import { Decoder, FaultError, Recoder, boundaryAfter, boundaryBefore, charCount, decode, faults, firstFault, isValid, pieces, piecesBack, recode, recodedLength, recoderStream, streamFaults, streamPieces, streamText } from "noddychest";
+import type { Encoding, ErrorName, Fault, Piece } from "noddychest";
 
 const bytes = new Uint8Array([0xe2]);
 for (const piece of pieces(bytes)) {
@@ -9,13 +9,23 @@ for (const piece of pieces(bytes)) {
     console.log(offset, told);
 }
 const back: Piece[] = [...piecesBack(new DataView(bytes.buffer))];
-const name: ErrorName | undefined = firstInvalid(bytes.buffer)?.error;
+const name: ErrorName | undefined = firstFault(bytes.buffer)?.error;
 const encodings: Encoding[] = ["utf-16le", "UTF-8", "utf8", "utf16le", "UTF-16BE"];
 const [encoding] = encodings;
 const made: Uint8Array = recode(bytes, "utf-8", encoding);
 const recoder = new Recoder("utf-16be", "utf-8");
 const parts: Uint8Array[] = [recoder.feed(made), recoder.finish()];
-const replaced: number = recoder.replaced;
+const replaced: number = recoder.faults;
+const listed: Fault[] = [...faults(bytes, "utf-16be")];
+const numbers: number[] = [charCount(bytes), boundaryBefore(bytes, 1, "utf-16le"), boundaryAfter(bytes, 1), recodedLength(bytes, "utf-8", "utf-16le"), listed.length];
+const { text, faults: wrong }: { text: string; faults: Fault[] } = decode(bytes, "utf-8", { errors: "maximal" });
+export async function read(stream: ReadableStream<Uint8Array>): Promise<string> {
+    let all = text + wrong.length + numbers.join();
+    for await (const piece of streamPieces(stream)) all += piece.char ?? piece.error;
+    for await (const fault of streamFaults([bytes], "utf-16le")) all += fault.offset;
+    for await (const part of streamText(stream, "utf-8", { errors: "strict" })) all += part.text + part.offset + part.faults.length;
+    return all;
+}
 const decoder = new Decoder(bytes);
 const left: [Piece | null, Piece | null, Uint8Array] = [decoder.next(), decoder.nextBack(), decoder.remaining];
 console.log(back, name, parts, replaced, left, isValid(bytes), recoderStream("utf-8", "utf-8").readable);
@@ -23,8 +33,10 @@ const strict = new Recoder("utf-8", "utf-16le", { fatal: true });
 try {
     console.log(strict.feed(bytes), recode(bytes, "utf-8", "utf-8", { fatal: true }), recoderStream("utf-8", "utf-8", { fatal: true }));
 } catch (error) {
-    if (error instanceof InvalidInputError) console.log(error.offset + error.length + error.cause.offset, error.error === "Incomplete", error.message);
+    if (error instanceof FaultError) console.log(error.offset + error.length + error.cause.offset, error.error === "Incomplete", error.message);
 }
+// @ts-expect-error: no such way
+recode(bytes, "utf-8", "utf-8", { errors: "ignore" });
 // @ts-expect-error: no such option
 recode(bytes, "utf-8", "utf-8", { strict: true });
 // @ts-expect-error: a string is no bytes

@@ -1,0 +1,186 @@
+// Invalid bytes alone, UTF-16, boundaries, counts, maximal subparts and strings with the list of what was wrong.
+import assert from "node:assert/strict";
+import { readFileSync } from "node:fs";
+import test from "node:test";
+import { Codec, UTF16LE, UTF8 } from "../codec.js";
+import { Decoder, FaultError, Recoder, boundaryAfter, boundaryBefore, charCount, decode, faults, firstFault, isValid, pieces, piecesBack, recode, recodedLength } from "noddychest";
+import { chances, damaged, hexOf, ofHex } from "./help.js";
+
+const FORMS = ["utf-8", "utf-16le", "utf-16be"];
+
+// The pieces of UTF-16 by hand: [offset, length, character or error].
+function unitsOf(bytes, isBig) {
+    const found = [];
+    const unit = (at) => (at + 1 < bytes.length ? (isBig ? (bytes[at] << 8) | bytes[at + 1] : bytes[at] | (bytes[at + 1] << 8)) : null);
+    for (let at = 0; at < bytes.length; ) {
+        const [one, two] = [unit(at), unit(at + 2)];
+        const [isLead, isPair] = [one >= 0xd800 && one < 0xdc00, two >= 0xdc00 && two < 0xe000];
+        if (one === null) found.push([at, 1, "Incomplete"]);
+        else if (isLead && isPair) found.push([at, 4, String.fromCharCode(one, two)]);
+        else if (isLead) found.push([at, 2, two === null ? "Incomplete" : "UnmatchedLeadingSurrogate"]);
+        else if (one >= 0xdc00 && one < 0xe000) found.push([at, 2, "UnexpectedTrailingSurrogate"]);
+        else found.push([at, 2, String.fromCharCode(one)]);
+        at += found[found.length - 1][1];
+    }
+    return found;
+}
+
+const told = ({ offset, length, char, error }) => [offset, length, char ?? error];
+
+// Bytes in which surrogates are frequent.
+function units(chance, len) {
+    const found = [];
+    while (found.length < len) found.push([0xd8, 0xdb, 0xdc, 0xdf, 0x00, 0x41, 0xe0, 0xff][chance(8)]);
+    return Uint8Array.from(found);
+}
+
+test("the pieces of UTF-16 in both orders, from the front, the back and both ends", () => {
+    const chance = chances(11);
+    for (let i = 0; i < 3000; i++) {
+        const [bytes, isBig] = [units(chance, chance(i % 100 ? 24 : 9000)), chance(2) === 1];
+        const [encoding, want] = [isBig ? "utf-16be" : "utf-16le", unitsOf(bytes, isBig)];
+        assert.deepEqual([...pieces(bytes, encoding)].map(told), want, `${encoding} ${hexOf(bytes)}`);
+        assert.deepEqual([...piecesBack(bytes, encoding)].reverse().map((it) => [it.offset, it.length, it.char]), want.map(([at, len, it]) => [at, len, /^[A-Z]\w{5}/.test(it) ? null : it]));
+        const decoder = new Decoder(bytes, encoding);
+        const found = [];
+        for (let piece; (piece = chance(2) ? decoder.next() : decoder.nextBack()); ) found.push([piece.offset, piece.length, piece.char]);
+        assert.deepEqual(found.sort((one, other) => one[0] - other[0]), want.map(([at, len, it]) => [at, len, /^[A-Z]\w{5}/.test(it) ? null : it]));
+        assert.equal(charCount(bytes, encoding), want.length);
+    }
+});
+
+test("faults are the invalid ones of all pieces", () => {
+    const chance = chances(12);
+    for (let i = 0; i < 2000; i++) {
+        const encoding = FORMS[chance(3)];
+        const bytes = (chance(2) ? damaged : units)(chance, chance(i % 50 ? 40 : 20000));
+        const want = [...pieces(bytes, encoding)].filter((it) => it.error);
+        assert.deepEqual([...faults(bytes, encoding)], want);
+        assert.deepEqual(firstFault(bytes, encoding), want[0] ?? null);
+        assert.equal(isValid(bytes, encoding), want.length === 0);
+        assert.equal(charCount(bytes, encoding), [...pieces(bytes, encoding)].length);
+    }
+});
+
+test("faults on both sides of a megabyte, sparse and dense", () => {
+    for (const unit of [1, 2]) {
+        const encoding = unit === 1 ? "utf-8" : "utf-16be";
+        for (let shift = -6; shift < 6; shift++) {
+            const bytes = new Uint8Array((2 << 20) + 11).fill(0x61);
+            const at = (1 << 20) + shift * unit;
+            bytes.set(unit === 1 ? [0xe2, 0x82, 0xf0, 0x9f, 0x98, 0x61, 0xff] : [0xd8, 0x3d, 0xd8, 0x3d, 0xde, 0x00, 0xdc, 0x00], at);
+            const want = (unit === 1 ? [0, 1, 2, 3, 4, 6] : [0, 6]).map((it) => at + it);
+            const have = [...faults(bytes, encoding)].map((it) => it.offset);
+            assert.deepEqual(unit === 1 ? have : have.slice(0, -1), want);
+            if (unit === 2) assert.equal(have[have.length - 1], bytes.length - 1);
+        }
+    }
+    const dense = new Uint8Array((1 << 20) + 100).fill(0xff);
+    let [count, next] = [0, 0];
+    for (const { offset } of faults(dense)) count += offset === next++ ? 1 : 0;
+    assert.equal(count, dense.length);
+});
+
+test("text between invalid bytes is validated, and not split", async () => {
+    const { exports: calls } = (await WebAssembly.instantiate(readFileSync(new URL("../noddychest.wasm", import.meta.url)))).instance;
+    for (const [encoding, name] of [[UTF8, "utf8"], [UTF16LE, "utf16"]]) {
+        let asked = 0;
+        const counted = (...given) => {
+            const count = calls[`nody_${name}_pieces`](...given);
+            asked += Number(count);
+            return count;
+        };
+        const codec = new Codec({ ...calls, [`nody_${name}_pieces`]: counted });
+        const bytes = new Uint8Array(1_000_000).fill(0x61);
+        for (let at = 5000; at < bytes.length; at += 10_000) bytes.set([0xff, 0xdc], at);
+        codec.fill(bytes, encoding);
+        let told = 0;
+        codec.faults(0, Infinity, () => told++);
+        assert.equal(told, encoding === UTF8 ? 200 : 100);
+        // (32 pieces for each of the hundred places, of half a million or a million)
+        assert.equal(asked, 3200);
+    }
+});
+
+test("other calls between two faults change nothing", () => {
+    const bytes = damaged(chances(13), 30000);
+    const [want, have] = [[...faults(bytes)], []];
+    for (const it of faults(bytes)) {
+        have.push(it);
+        if (have.length % 999 === 0) isValid(bytes.subarray(7)), [...faults(bytes.subarray(0, 99), "utf-16le")], recode(bytes.subarray(0, 9), "utf-8", "utf-8");
+    }
+    assert.deepEqual(have, want);
+});
+
+test("a boundary is no offset inside of a piece", () => {
+    const chance = chances(14);
+    for (let i = 0; i < 400; i++) {
+        const encoding = FORMS[chance(3)];
+        const bytes = (chance(2) ? damaged : units)(chance, chance(30));
+        const starts = [...[...pieces(bytes, encoding)].map((it) => it.offset), bytes.length];
+        for (let at = 0; at <= bytes.length + 2; at++) {
+            assert.equal(boundaryBefore(bytes, at, encoding), at > bytes.length ? bytes.length : Math.max(...starts.filter((it) => it <= at)), `${encoding} ${hexOf(bytes)} at ${at}`);
+            assert.equal(boundaryAfter(bytes, at, encoding), at > bytes.length ? bytes.length : Math.min(...starts.filter((it) => it >= at)));
+        }
+    }
+    for (const at of [-1, 0.5, NaN, Infinity, "1", 1n, undefined, null]) assert.throws(() => boundaryBefore(ofHex("41"), at), { name: "RangeError", message: /an offset is a whole number/ });
+});
+
+test("how many bytes recode gives", () => {
+    const chance = chances(15);
+    for (let i = 0; i < 600; i++) {
+        const [from, to] = [FORMS[chance(3)], FORMS[chance(3)]];
+        const bytes = (chance(2) ? damaged : units)(chance, chance(50));
+        assert.equal(recodedLength(bytes, from, to), recode(bytes, from, to).length);
+    }
+    const long = damaged(chances(16), (2 << 20) + 77);
+    for (const from of FORMS) {
+        for (const to of FORMS) assert.equal(recodedLength(long, from, to), recode(long, from, to).length);
+        assert.equal(charCount(long, from), [...pieces(long, from)].length);
+    }
+});
+
+// What TextDecoder shows. (It takes the single byte at the end of UTF-16 and a leading surrogate before it as one.)
+const shownBy = (bytes, encoding) => new TextDecoder(encoding, { ignoreBOM: true }).decode(bytes);
+
+test("maximal subparts: as TextDecoder shows them, at once and in parts", () => {
+    const chance = chances(17);
+    for (let i = 0; i < 4000; i++) {
+        const encoding = FORMS[chance(3)];
+        const bytes = (chance(2) ? damaged : units)(chance, chance(20));
+        const want = shownBy(bytes, encoding);
+        assert.equal(Buffer.from(recode(bytes, encoding, "utf-8", { errors: "maximal" })).toString(), want, `${encoding} ${hexOf(bytes)}`);
+        assert.equal(decode(bytes, encoding, { errors: "maximal" }).text, want);
+        const recoder = new Recoder(encoding, "utf-8", { errors: "maximal" });
+        const parts = [];
+        for (let at = 0, len; at < bytes.length; at += len) parts.push(recoder.feed(bytes.subarray(at, at + (len = 1 + chance(4)))));
+        assert.equal(Buffer.concat([...parts, recoder.finish()]).toString(), want);
+    }
+});
+
+test("a string with the list of what was wrong", () => {
+    assert.deepEqual(decode(ofHex("68c3a9e28241")), { text: "hé\ufffd\ufffdA", faults: [
+        { offset: 3, length: 1, char: null, error: "InterruptedSequence" }, { offset: 4, length: 1, char: null, error: "UnexpectedContinuationByte" }] });
+    assert.equal(decode(ofHex("68c3a9e28241"), "utf-8", { errors: "maximal" }).text, "hé\ufffdA");
+    assert.deepEqual(decode(ofHex("efbbbf41efbfbd")), { text: "\ufeffA\ufffd", faults: [] });
+    assert.deepEqual(decode(ofHex("00dc4100"), "utf-16le").faults.map(told), [[0, 2, "UnexpectedTrailingSurrogate"]]);
+    for (const options of [{ errors: "strict" }, { fatal: true }, { errors: "strict", fatal: true }]) {
+        assert.throws(() => decode(ofHex("41ff"), "utf-8", options), (it) => it instanceof FaultError && it.offset === 1 && it.error === "NonUtf8Byte");
+        assert.deepEqual(decode(ofHex("41"), "utf-8", options), { text: "A", faults: [] });
+    }
+    const chance = chances(18);
+    for (let i = 0; i < 500; i++) {
+        const encoding = FORMS[chance(3)];
+        const bytes = damaged(chance, chance(i % 50 ? 40 : 90000));
+        const { text, faults: found } = decode(bytes, encoding);
+        assert.equal(text, [...pieces(bytes, encoding)].map((it) => it.char ?? "\ufffd").join(""));
+        assert.deepEqual(found, [...faults(bytes, encoding)]);
+    }
+});
+
+test("words for errors that are none", () => {
+    for (const call of [(it) => recode(ofHex("41"), "utf8", "utf8", it), (it) => new Recoder("utf8", "utf8", it), (it) => decode(ofHex("41"), "utf8", it)]) {
+        for (const it of ["ignore", "", "STRICT", "toString", null, 1]) assert.throws(() => call({ errors: it }), { name: "RangeError", message: `noddychest: errors is "replace", "maximal" or "strict", and not ${it}` });
+        assert.throws(() => call({ errors: "replace", fatal: true }), { name: "TypeError", message: /fatal is the same as errors: "strict"/ });
+    }
+});
