@@ -60,6 +60,8 @@ class Eraser(Text):
                 self.narrow(it)
             if key in self.project.consts:
                 self.make_const(it, key)
+            if key in rules.CHOSEN:
+                self.choose(it, key)
 
         if self.name in rules.OPENED:
             self.open(*rules.OPENED[self.name])
@@ -111,6 +113,9 @@ class Eraser(Text):
             return
         if it.inside and it.inside.kind == "impl of a trait":
             self.stop(it.at, f"{it.name} asks for `{it.requires[0]}`, and is a method of {it.inside.name}, which any code may call")
+        if it.inside and it.inside.kind == "trait" and f"{self.name}:{it.inside.name}" in rules.OWN_TRAITS:
+            self.project.seen.add(f"{self.name}:{it.inside.name}")
+            return
         if it.inside and it.inside.kind == "trait":
             self.stop(it.at, f"{it.name} asks for `{it.requires[0]}`, and is a method of a public trait: call it .._unchecked, or make the trait pub(crate)")
         if key in rules.ASSERTED:
@@ -135,6 +140,13 @@ class Eraser(Text):
         if it.inside and it.inside.kind != "impl":
             self.stop(it.at, f"{it.name} cannot be const: it is a method of a trait")
         self.front[it.at] = "const " + self.front.get(it.at, "")
+
+    def choose(self, it, key):
+        """Which copy answers is asked first (wide.py)."""
+        self.project.seen.add(key)
+        length, answer = rules.CHOSEN[key]
+        path = f"crate::proved::{self.name.removesuffix('.rt').replace('/', '::wide::')}::{it.name}"
+        self.back[it.body] = f"\n    crate::support::processor::wide!({length}, {answer.replace('OTHER', path)});"
 
     def opening(self, i):
         """The bracket that the one at i closes."""

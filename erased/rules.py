@@ -3,8 +3,9 @@
 # The crates that become modules, each after those that it uses.
 CRATES = ["utf_base", "utf_chars", "encode_unicode", "utf_lanes", "recoding", "cuts", "c_api"]
 
-# The modules that are left out, since they need Rattle's runtime: what the programs do, and streams that are counted.
-LEFT_OUT = {"cuts/programs", "cuts/streams", "cuts/counted"}
+# The modules that are left out: what the programs do and streams that are counted need Rattle's runtime, and a text that is edited is not
+# in the crate yet.
+LEFT_OUT = {"cuts/programs", "cuts/streams", "cuts/counted", "cuts/buffers"}
 
 # Attributes that Rust has too, and those that are Rattle's alone and go.
 ATTRIBUTES = {"cold", "derive", "inline", "must_use", "non_exhaustive", "repr"}
@@ -61,6 +62,9 @@ OWN = {
     "utf_chars/utf16_char.rt": {"eq_char", "eq_utf8", "eq_u8", "eq_u16", "cmp_char", "cmp_utf8", "as_units"},
 }
 
+# Public traits whose methods ask something of their callers: only the proved text calls them, and no hand-written file may name them.
+OWN_TRAITS = {"cuts/located.rt:FromPiece"}
+
 # Fields that the hand-written text reads: whether a merger holds a unit.
 OPENED = {"encode_unicode/utf16_merger.rt": ("Utf16CharMerger", "held")}
 
@@ -73,5 +77,23 @@ WRITTEN = {
     "& 'static NodyName": "&NodyName { text: [0; 32] }",
     "& 'static NodySentence": "&NodySentence { text: [0; 64] }",
 }
-CHANGED = {"NodyRecoder"}
+CHANGED = {"NodyDecoder", "NodyRecoder"}
 LENT = {"NodyBytes": ("bytes", "u8"), "NodyUnits": ("units", "u16")}
+
+# What goes by lanes: of these files there is a copy for processors with AVX2 (wide.py), over the types of all other files.
+WIDE = ("utf_lanes/",) + tuple(f"recoding/{it}.rt" for it in (
+    "ascii_to_utf16", "codes", "copied", "engine", "fills", "form_calls", "kernels", "output", "recoder_rooms", "recoder_runs", "room",
+    "strict_runs", "swapped", "text", "units_ahead", "utf16_to_utf8", "utf8_to_utf16",
+))
+# The functions that ask which copy answers: how long the input is, and what the other copy answers.
+CHOSEN = {
+    "utf_lanes/text_blocks.rt:text_len": ("bytes.len()", "OTHER(bytes)"),
+    "utf_lanes/unit_blocks.rt:units_len": ("bytes.len()", "OTHER(high_first, bytes)"),
+    "utf_lanes/paired_units.rt:paired_len": ("units.len()", "OTHER(units)"),
+    "recoding/recoder_rooms.rt:recode_into": ("bytes.len()", "OTHER(from, to, bytes, room, place)"),
+    "recoding/recoder_runs.rt:recode_whole": (
+        "bytes.len()",
+        "{ let did = OTHER(from, to, bytes, out); Run { read: did.read, replaced: did.replaced } }",
+    ),
+    "recoding/strict_runs.rt:run_in_blocks": ("bytes.len()", "OTHER(from, to, bytes, room, place)"),
+}

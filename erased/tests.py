@@ -8,6 +8,7 @@ sys.path.insert(0, os.path.dirname(os.path.abspath(__file__)))
 from eraser import Eraser, Project  # noqa: E402
 from shape import Text  # noqa: E402
 from tokens import Stop, tokens  # noqa: E402
+from wide import widened  # noqa: E402
 
 # What stops the eraser: why, the text, and where it stands if that matters.
 REFUSED = [
@@ -87,6 +88,25 @@ TRUSTED = [
     ("fn f() { self.bytes[0] + self.bytes[k] }\n", "use crate::support::trust::At;\nfn f() { self.bytes[0] + self.bytes[At(k)] }\n"),
 ]
 
+# And in the copy for AVX2: what is put in line stays, and of each other function there is one for that processor.
+FOR_AVX2 = '#[target_feature(enable = "avx2,bmi1,bmi2,lzcnt,popcnt")]\n'
+ASKED = "    // SAFETY: who comes here has asked whether the processor has it.\n"
+WIDENED = [
+    ("#[inline(always)]\nfn f(x: u8) -> u8 {\n    x\n}\n", None),
+    ("#[inline]\nfn f(x: u8) {}\n", "#[inline(always)]\nfn f(x: u8) {}\n"),
+    ("impl T for S {\n    #[inline(never)]\n    fn f(x: u8) {}\n}\n", None),
+    ("// It is.\n#[cold]\n#[inline(never)]\npub(crate) fn f<'a, O: Put<A, B>, const N: usize>(x: &'a [u8], out: &mut O) -> (u8, u8)\nwhere\n    O: Copy,\n{\n    x\n}\n",
+     "// It is.\n#[inline(always)]\npub(crate) fn f<'a, O: Put<A, B>, const N: usize>(x: &'a [u8], out: &mut O) -> (u8, u8)\nwhere\n    O: Copy,\n{\n"
+     f"{ASKED}    unsafe {{ f_apart::<O, N>(x, out) }}\n}}\n\n#[cold]\n#[inline(never)]\n{FOR_AVX2}"
+     "unsafe fn f_apart<'a, O: Put<A, B>, const N: usize>(x: &'a [u8], out: &mut O) -> (u8, u8)\nwhere\n    O: Copy,\n{\n    x\n}\n"),
+    ("use crate::proved::utf_lanes::text_blocks::text_len;\nuse crate::proved::recoding::form::Form;\n"
+     "use crate::support::simd::prelude::*;\n",
+     "use crate::proved::utf_lanes::wide::text_blocks::text_len;\nuse crate::proved::recoding::form::Form;\n"
+     "use crate::support::simd::wide::*;\n"),
+]
+# Where which copy answers is asked, one function of each text is asked for it, and the copy asks no more.
+ASKS = "pub fn text_len(bytes: &[u8]) -> usize\n{\n    0\n}\n"
+
 
 def made(text, name="utf_base/a.rt", is_trusted=False, consts=()):
     project = Project(set(consts))
@@ -110,8 +130,30 @@ def writes(text, wanted, is_trusted=False):
     return None if have == (text if wanted is None else wanted) else f"it writes {have!r}"
 
 
+def widens(text, wanted):
+    have = widened(text, "utf_lanes/a.rt")
+    return None if have == (text if wanted is None else wanted) else f"it writes {have!r}"
+
+
+def copies_no_group():
+    try:
+        return f"it writes {widened('use crate::proved::recoding::{engine::run};', 'utf_lanes/a.rt')!r}"
+    except Stop as stop:
+        return None if "names several files at once" in str(stop) else f"it says {stop}"
+
+
+def asks():
+    name, call = "utf_lanes/text_blocks.rt", "crate::support::processor::wide!("
+    have = made(ASKS, name)
+    copy = widened(have, name)
+    is_right = have.count(call) == 1 and "utf_lanes::wide::text_blocks::text_len(bytes)" in have and call not in copy
+    return None if is_right else f"it writes {have!r} and {copy!r}"
+
+
 def main():
     tried = [(why, refuses(why, *rest)) for why, *rest in REFUSED]
+    tried += [(text, widens(text, wanted)) for text, wanted in WIDENED]
+    tried += [("which copy answers is asked once", asks()), ("a group of files is not copied", copies_no_group())]
     tried += [(text, writes(text, wanted)) for text, wanted in WRITTEN]
     tried += [(text, writes(text, wanted, True)) for text, wanted in TRUSTED]
     tried += [("tokens are all of a text", None if "".join(it.text for it in tokens(text, "")) == text else "lost") for text, _ in WRITTEN]

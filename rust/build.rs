@@ -12,6 +12,7 @@ fn stop(what: &str) -> ! {
 
 fn main() {
     println!("cargo:rerun-if-changed=build.rs");
+    println!("cargo:rustc-check-cfg=cfg(noddychest_narrow)");
     let here = env::var("CARGO_MANIFEST_DIR").unwrap_or_default();
     let (top, made) = (Path::new(&here).join(".."), Path::new(&here).join("src/proved"));
     let script = top.join("scripts/erase");

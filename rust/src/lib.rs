@@ -37,7 +37,7 @@
 //!
 //! # Features
 //!
-//! - `std` (on by default): the adapters of [`io`], `Read`, and on x86-64 SSSE3 where the processor has it.
+//! - `std` (on by default): the adapters of [`io`], `Read`, and on x86-64 AVX2 or SSSE3 where the processor has it.
 //! - `alloc`: [`recode`] and its kin, [`PieceTable`], and what gives a `Vec` or a `String`. All else needs `core` alone.
 //! - `trusted`: for targets of 64 bits, no test of what the proofs rule out.
 //! - `c`: the functions of the library for C, for the package `noddychest-c`.

@@ -9,8 +9,7 @@ pub(crate) mod c;
 pub(crate) mod io;
 #[cfg_attr(not(feature = "alloc"), path = "no_memory.rs")]
 pub(crate) mod memory;
-#[cfg(feature = "c")]
-mod processor;
+pub(crate) mod processor;
 pub(crate) mod simd;
 #[cfg(feature = "trusted")]
 pub(crate) mod trust;

@@ -1,13 +1,49 @@
-//! What `c/processor.c` says of the processor beside the assembly: here each call takes what the processor has, and needs nothing.
+//! Which of the two copies of the proved text goes over a long input: on x86-64 with std, where the processor has AVX2 and what came with
+//! it (x86-64-v3), the one that is compiled for that. Compiled with `--cfg noddychest_narrow`, there is one copy alone, for tests of it.
 
-/// Whether the library runs on this processor: always.
+/// Whether the processor has what the copy for x86-64-v3 takes.
+#[cfg(all(target_arch = "x86_64", feature = "std", not(noddychest_narrow)))]
+#[inline(always)]
+pub(crate) fn is_wide() -> bool {
+    use std::arch::is_x86_feature_detected as has;
+    has!("avx2") && has!("bmi1") && has!("bmi2") && has!("lzcnt") && has!("popcnt")
+}
+
+#[cfg(not(all(target_arch = "x86_64", feature = "std", not(noddychest_narrow))))]
+pub(crate) fn is_wide() -> bool {
+    false
+}
+
+/// The fewest bytes for which the processor is asked.
+pub(crate) const LONG: usize = 64;
+
+/// Where the input is long and the processor has it, the function that this stands in answers what the copy of it for x86-64-v3 does.
+macro_rules! wide {
+    ($len:expr, $answer:expr) => {
+        #[cfg(all(target_arch = "x86_64", feature = "std", not(noddychest_narrow)))]
+        {
+            if crate::support::processor::LONG <= $len && crate::support::processor::is_wide() {
+                return $answer;
+            }
+        }
+    };
+}
+pub(crate) use wide;
+
+/// Whether the library for C runs on this processor: always.
+#[cfg(feature = "c")]
 #[export_name = "nody_supported"]
 extern "C" fn supported() -> i32 {
     1
 }
 
 /// How many lanes the calls go by that validate and recode.
+#[cfg(feature = "c")]
 #[export_name = "nody_lanes"]
 extern "C" fn lanes() -> i32 {
-    16
+    if is_wide() {
+        32
+    } else {
+        16
+    }
 }

@@ -3,9 +3,68 @@
 //! A vector is an array, and a call goes over it by blocks of sixteen bytes: through the vectors of the processor, where it has those that
 //! are needed, and else lane by lane. The calls that the proofs ask for are those of Rattle's std, at the conditions that are asserted here
 //! in debug: all lanes are shifted by the same number, and a place of sixteen is below 16 or from 128 on.
+//!
+//! On x86-64 there is a second set of these types, in `wide`, whose calls go by thirty-two bytes where a vector has as many: for the copy
+//! of the proved text that runs where the processor has AVX2.
 #![allow(non_camel_case_types)]
 use core::ops::{Add, BitAnd, BitOr, BitXor, Shl, Shr};
 
+// Calls of two blocks, of which each is one instruction: for the modules below.
+#[cfg(any(target_arch = "x86_64", all(target_arch = "aarch64", target_endian = "little")))]
+macro_rules! instructions {
+    ($($name:ident = $by:ident;)*) => { $(
+        #[inline(always)]
+        pub(crate) fn $name(a: Block, b: Block) -> Block {
+            // SAFETY: see the module.
+            unsafe { $by(a, b) }
+        }
+    )* };
+}
+
+// The other calls, at either width of x86-64: by these instructions.
+#[cfg(target_arch = "x86_64")]
+macro_rules! others_of_x86 {
+    ($and:ident, $and_not:ident, $or:ident, $high_bits:ident, $splat:ident, $left:ident, $right:ident) => {
+        #[inline(always)]
+        pub(crate) fn select(mask: Block, a: Block, b: Block) -> Block {
+            // SAFETY: see the module.
+            unsafe { $or($and(mask, a), $and_not(mask, b)) }
+        }
+
+        #[inline(always)]
+        pub(crate) fn high_bits(a: Block) -> u64 {
+            // SAFETY: see the module.
+            u64::from(unsafe { $high_bits(a) } as u32)
+        }
+
+        #[inline(always)]
+        pub(crate) fn splat(a: u8) -> Block {
+            // SAFETY: see the module.
+            unsafe { $splat(a as i8) }
+        }
+
+        #[inline(always)]
+        pub(crate) fn right(a: Block, n: u8) -> Block {
+            and(right_16(a, u16::from(n)), splat((0xFF_u32 >> n) as u8))
+        }
+
+        #[inline(always)]
+        pub(crate) fn left(a: Block, n: u8) -> Block {
+            // SAFETY: see the module.
+            let moved = unsafe { $left(a, _mm_cvtsi32_si128(i32::from(n))) };
+            and(moved, splat((0xFF_u32 << n) as u8))
+        }
+
+        #[inline(always)]
+        pub(crate) fn right_16(a: Block, n: u16) -> Block {
+            // SAFETY: see the module.
+            unsafe { $right(a, _mm_cvtsi32_si128(i32::from(n))) }
+        }
+    };
+}
+
+#[cfg(target_arch = "x86_64")]
+mod avx2;
 #[cfg(any(
     test,
     all(target_arch = "x86_64", not(target_feature = "ssse3")),
@@ -37,29 +96,45 @@ use neon as by;
 use simd128 as by;
 #[cfg(target_arch = "x86_64")]
 use sse2 as by;
+// Elsewhere nothing is of the second set, and what it would go by is only named.
+#[cfg(target_arch = "x86_64")]
+use avx2 as by_32;
+#[cfg(not(target_arch = "x86_64"))]
+use by as by_32;
 
-pub(crate) mod prelude {
-    pub(crate) use super::{u16x8, u8x16, u8x32, u8x4, u8x64, u8x8, Simd};
+macro_rules! names {
+    ($by_32:literal) => {
+        pub type u8x4 = super::Simd<u8, 4, $by_32>;
+        pub type u8x8 = super::Simd<u8, 8, $by_32>;
+        pub type u8x16 = super::Simd<u8, 16, $by_32>;
+        pub type u8x32 = super::Simd<u8, 32, $by_32>;
+        pub type u8x64 = super::Simd<u8, 64, $by_32>;
+        pub type u16x8 = super::Simd<u16, 8, $by_32>;
+        pub type Simd<T, const N: usize> = super::Simd<T, N, $by_32>;
+    };
 }
 
-/// So many lanes.
+pub(crate) mod prelude {
+    names!(false);
+}
+
+/// The second set, with the same names.
+pub(crate) mod wide {
+    names!(true);
+}
+
+/// So many lanes. `BY_32` tells the two sets apart.
 #[derive(Clone, Copy)]
 #[repr(transparent)]
-pub struct Simd<T, const N: usize>([T; N]);
+pub struct Simd<T, const N: usize, const BY_32: bool = false>([T; N]);
 
 /// All bits of a lane, or none.
 #[derive(Clone, Copy)]
 #[repr(transparent)]
-pub struct Mask<T, const N: usize>([T; N]);
-
-pub type u8x4 = Simd<u8, 4>;
-pub type u8x8 = Simd<u8, 8>;
-pub type u8x16 = Simd<u8, 16>;
-pub type u8x32 = Simd<u8, 32>;
-pub type u8x64 = Simd<u8, 64>;
-pub type u16x8 = Simd<u16, 8>;
+pub struct Mask<T, const N: usize, const BY_32: bool = false>([T; N]);
 
 use by::Block;
+use by_32::Block as Block32;
 
 #[inline(always)]
 fn block_of(bytes: &[u8; 16]) -> Block {
@@ -77,6 +152,15 @@ fn is_one_shift<T: Copy + PartialEq + Into<u32>>(by: &[T], end: u32) {
     if cfg!(debug_assertions) {
         test(by, end);
     }
+}
+
+/// What is there, as the proofs say of each slice that a vector is taken of or put in: so it is not tested in the trusted mode.
+#[inline(always)]
+fn surely<T>(it: Option<T>) -> T {
+    #[cfg(feature = "trusted")]
+    return crate::support::trust::ByProof::by_proof(it);
+    #[cfg(not(feature = "trusted"))]
+    it.unwrap()
 }
 
 /// That each place is below 16, or from 128 on.
@@ -129,10 +213,13 @@ impl<const M: usize, const N: usize, P: Places<M>> Rows<M, N, P> {
         }
         (some, rows)
     };
+    // Whether thirty-two lanes are made of as many, and each sixteen of the sixteen in the same place; and then the places for both vectors.
+    const WITHIN: bool = M == 32 && N == 32 && !(Self::SOME[0][1] || Self::SOME[0][3] || Self::SOME[1][0] || Self::SOME[1][2]);
+    const BOTH_32: [[[u8; 16]; 2]; 2] = [[Self::ROWS[0][0], Self::ROWS[1][1]], [Self::ROWS[0][2], Self::ROWS[1][3]]];
 }
 
 // The blocks of a vector, those past its end being 0.
-impl<T: Copy, const N: usize> Simd<T, N> {
+impl<T: Copy, const N: usize, const BY_32: bool> Simd<T, N, BY_32> {
     #[inline(always)]
     fn block(&self, k: usize) -> Block {
         let size = size_of::<[T; N]>();
@@ -167,15 +254,22 @@ impl<T: Copy, const N: usize> Simd<T, N> {
 
     const BLOCKS: usize = size_of::<[T; N]>().div_ceil(16);
 
+    // How many blocks of thirty-two bytes a vector is: none where it goes by sixteen.
+    const BLOCKS_32: usize =
+        if BY_32 && size_of::<[T; N]>() % size_of::<Block32>() == 0 { size_of::<[T; N]>() / size_of::<Block32>() } else { 0 };
+
     #[inline(always)]
-    fn each(self, other: Self, f: impl Fn(Block, Block) -> Block) -> Self {
-        let mut out = self;
-        let mut k = 0;
-        while k < Self::BLOCKS {
-            out.put(k, f(self.block(k), other.block(k)));
-            k += 1;
-        }
-        out
+    fn block_32(&self, k: usize) -> Block32 {
+        assert!(k < Self::BLOCKS_32);
+        // SAFETY: so many bytes are there, and a block takes any bits.
+        unsafe { self.0.as_ptr().cast::<Block32>().add(k).read_unaligned() }
+    }
+
+    #[inline(always)]
+    fn put_32(&mut self, k: usize, block: Block32) {
+        assert!(k < Self::BLOCKS_32);
+        // SAFETY: there is room for so many bytes, and lanes take any bits.
+        unsafe { self.0.as_mut_ptr().cast::<Block32>().add(k).write_unaligned(block) }
     }
 
     #[inline(always)]
@@ -195,88 +289,124 @@ impl<T: Copy, const N: usize> Simd<T, N> {
 
     #[inline(always)]
     pub fn from_slice(slice: &[T]) -> Self {
-        Simd(*slice.first_chunk::<N>().unwrap())
+        Simd(*surely(slice.first_chunk::<N>()))
     }
 
     #[inline(always)]
     pub fn copy_to_slice(self, slice: &mut [T]) {
-        *slice.first_chunk_mut::<N>().unwrap() = self.0;
+        *surely(slice.first_chunk_mut::<N>()) = self.0;
     }
+}
+
+// A vector of what is said of the blocks of two, at either width. (No closure: it would be compiled for any processor. And no loop where
+// there is one block: a compiler would have to take it away each time.)
+macro_rules! each {
+    ($one:expr, $two:expr, |$a:ident, $b:ident| $made:expr) => {{
+        let (one, two) = ($one, $two);
+        let mut out = one;
+        if Self::BLOCKS_32 == 1 {
+            use by_32::*;
+            let ($a, $b) = (one.block_32(0), two.block_32(0));
+            out.put_32(0, $made);
+        } else if Self::BLOCKS_32 == 2 {
+            use by_32::*;
+            let ($a, $b) = (one.block_32(0), two.block_32(0));
+            out.put_32(0, $made);
+            let ($a, $b) = (one.block_32(1), two.block_32(1));
+            out.put_32(1, $made);
+        } else if Self::BLOCKS == 1 {
+            use by::*;
+            let ($a, $b) = (one.block(0), two.block(0));
+            out.put(0, $made);
+        } else {
+            let mut k = 0;
+            while k < Self::BLOCKS {
+                use by::*;
+                let ($a, $b) = (one.block(k), two.block(k));
+                out.put(k, $made);
+                k += 1;
+            }
+        }
+        out
+    }};
 }
 
 macro_rules! by_bits {
     ($($tr:ident $call:ident $by:ident),*) => { $(
-        impl<T: Copy, const N: usize> $tr for Simd<T, N> {
+        impl<T: Copy, const N: usize, const BY_32: bool> $tr for Simd<T, N, BY_32> {
             type Output = Self;
             #[inline(always)]
             fn $call(self, other: Self) -> Self {
-                self.each(other, by::$by)
+                each!(self, other, |a, b| $by(a, b))
             }
         }
     )* };
 }
 by_bits!(BitAnd bitand and, BitOr bitor or, BitXor bitxor xor);
 
-impl<const N: usize> Add for Simd<u8, N> {
+impl<const N: usize, const BY_32: bool> Add for Simd<u8, N, BY_32> {
     type Output = Self;
     #[inline(always)]
     fn add(self, other: Self) -> Self {
-        self.each(other, by::add)
+        each!(self, other, |a, b| add(a, b))
     }
 }
 
 // All lanes are shifted by the same number, which is below eight (or sixteen): no other shift occurs.
-impl<const N: usize> Shr for Simd<u8, N> {
+impl<const N: usize, const BY_32: bool> Shr for Simd<u8, N, BY_32> {
     type Output = Self;
     #[inline(always)]
     fn shr(self, by: Self) -> Self {
         is_one_shift(&by.0, 8);
-        self.each(self, |a, _| by::right(a, by.0[0]))
+        let n = by.0[0];
+        each!(self, self, |a, _b| right(a, n))
     }
 }
 
-impl<const N: usize> Shl for Simd<u8, N> {
+impl<const N: usize, const BY_32: bool> Shl for Simd<u8, N, BY_32> {
     type Output = Self;
     #[inline(always)]
     fn shl(self, by: Self) -> Self {
         is_one_shift(&by.0, 8);
-        self.each(self, |a, _| by::left(a, by.0[0]))
+        let n = by.0[0];
+        each!(self, self, |a, _b| left(a, n))
     }
 }
 
-impl<const N: usize> Shr for Simd<u16, N> {
+impl<const N: usize, const BY_32: bool> Shr for Simd<u16, N, BY_32> {
     type Output = Self;
     #[inline(always)]
     fn shr(self, by: Self) -> Self {
         is_one_shift(&by.0, 16);
-        self.each(self, |a, _| by::right_16(a, by.0[0]))
+        let n = by.0[0];
+        each!(self, self, |a, _b| right_16(a, n))
     }
 }
 
-impl<const N: usize> Simd<u8, N> {
+impl<const N: usize, const BY_32: bool> Simd<u8, N, BY_32> {
     #[inline(always)]
     pub fn saturating_sub(self, other: Self) -> Self {
-        self.each(other, by::sub_or_0)
+        each!(self, other, |a, b| sub_or_0(a, b))
     }
     #[inline(always)]
     pub fn simd_max(self, other: Self) -> Self {
-        self.each(other, by::max)
+        each!(self, other, |a, b| max(a, b))
     }
     #[inline(always)]
-    pub fn simd_eq(self, other: Self) -> Mask<u8, N> {
-        Mask(self.each(other, by::eq).0)
+    pub fn simd_eq(self, other: Self) -> Mask<u8, N, BY_32> {
+        Mask(each!(self, other, |a, b| eq(a, b)).0)
     }
     #[inline(always)]
-    pub fn simd_ne(self, other: Self) -> Mask<u8, N> {
-        Mask(self.each(other, |a, b| by::xor(by::eq(a, b), by::splat(255))).0)
+    pub fn simd_ne(self, other: Self) -> Mask<u8, N, BY_32> {
+        Mask(each!(self, other, |a, b| xor(eq(a, b), splat(255))).0)
     }
     #[inline(always)]
-    pub fn simd_ge(self, other: Self) -> Mask<u8, N> {
-        Mask(self.each(other, |a, b| by::eq(by::max(a, b), a)).0)
+    pub fn simd_ge(self, other: Self) -> Mask<u8, N, BY_32> {
+        Mask(each!(self, other, |a, b| eq(max(a, b), a)).0)
     }
     #[inline(always)]
-    pub fn simd_lt(self, other: Self) -> Mask<u8, N> {
-        Mask(self.each(other, |a, b| by::xor(by::eq(by::max(a, b), a), by::splat(255))).0)
+    pub fn simd_lt(self, other: Self) -> Mask<u8, N, BY_32> {
+        Mask(each!(self, other, |a, b| xor(eq(max(a, b), a), splat(255))).0)
     }
 
     /// What stands at each place, of sixteen: no place is from 16 to 127, and from 128 on it is 0.
@@ -284,7 +414,9 @@ impl<const N: usize> Simd<u8, N> {
     pub fn swizzle_dyn(self, places: Self) -> Self {
         const { assert!(N == 16) };
         are_places(&places.0);
-        self.each(places, by::at)
+        let mut out = self;
+        out.put(0, Self::at(self.block(0), places.block(0)));
+        out
     }
 
     /// The same in each sixteen lanes.
@@ -292,12 +424,28 @@ impl<const N: usize> Simd<u8, N> {
     pub fn swizzle_dyn_within<const K: usize>(self, places: Self) -> Self {
         const { assert!(K == 16) };
         are_places(&places.0);
-        self.each(places, by::at)
+        each!(self, places, |a, b| at(a, b))
+    }
+
+    // What sixteen bytes have at sixteen places.
+    #[inline(always)]
+    fn at(a: Block, places: Block) -> Block {
+        #[cfg(target_arch = "x86_64")]
+        if BY_32 {
+            return by_32::at_16(a, places);
+        }
+        by::at(a, places)
     }
 
     #[inline(always)]
-    fn picked<const M: usize, P: Places<M>>(self, other: Self) -> Simd<u8, M> {
+    fn picked<const M: usize, P: Places<M>>(self, other: Self) -> Simd<u8, M, BY_32> {
         let mut out = Simd([0u8; M]);
+        #[cfg(target_arch = "x86_64")]
+        if BY_32 && Rows::<M, N, P>::WITHIN {
+            let [first, second] = Rows::<M, N, P>::BOTH_32.map(|rows| Simd::<[u8; 16], 2, true>(rows).block_32(0));
+            out.put_32(0, by_32::or(by_32::at(self.block_32(0), first), by_32::at(other.block_32(0), second)));
+            return out;
+        }
         let mut to = 0;
         while to < M.div_ceil(16) {
             let mut made: Option<Block> = None;
@@ -307,7 +455,7 @@ impl<const N: usize> Simd<u8, N> {
                     let row = block_of(&Rows::<M, N, P>::ROWS[to][from]);
                     let half = N.div_ceil(16);
                     let block = if from < half { self.block(from) } else { other.block(from - half) };
-                    let more = by::at(block, row);
+                    let more = Self::at(block, row);
                     made = Some(match made {
                         None => more,
                         Some(made) => by::or(made, more),
@@ -322,12 +470,12 @@ impl<const N: usize> Simd<u8, N> {
     }
 
     #[inline(always)]
-    pub fn shuffle<const M: usize, P: Places<M>>(self, other: Self, _: P) -> Simd<u8, M> {
+    pub fn shuffle<const M: usize, P: Places<M>>(self, other: Self, _: P) -> Simd<u8, M, BY_32> {
         self.picked::<M, P>(other)
     }
 
     #[inline(always)]
-    pub fn swizzle<const M: usize, P: Places<M>>(self, _: P) -> Simd<u8, M> {
+    pub fn swizzle<const M: usize, P: Places<M>>(self, _: P) -> Simd<u8, M, BY_32> {
         self.picked::<M, P>(self)
     }
 
@@ -353,7 +501,10 @@ impl<const N: usize> Simd<u8, N> {
     #[inline(always)]
     pub fn deinterleave(self, other: Self) -> (Self, Self) {
         const { assert!(N == 16) };
-        (self.each(other, by::evens), self.each(other, by::odds))
+        let (mut even, mut odd) = (self, self);
+        even.put(0, by::evens(self.block(0), other.block(0)));
+        odd.put(0, by::odds(self.block(0), other.block(0)));
+        (even, odd)
     }
 
     #[inline(always)]
@@ -362,30 +513,39 @@ impl<const N: usize> Simd<u8, N> {
     }
 
     #[inline(always)]
-    pub fn extract<const START: usize, const LEN: usize>(self) -> Simd<u8, LEN> {
+    pub fn extract<const START: usize, const LEN: usize>(self) -> Simd<u8, LEN, BY_32> {
         Simd(*self.0[START..].first_chunk::<LEN>().unwrap())
     }
 }
 
-impl<const N: usize> Simd<u16, N> {
+impl<const N: usize, const BY_32: bool> Simd<u16, N, BY_32> {
     #[inline(always)]
-    pub fn simd_eq(self, other: Self) -> Mask<u16, N> {
-        Mask(self.each(other, by::eq_16).0)
+    pub fn simd_eq(self, other: Self) -> Mask<u16, N, BY_32> {
+        Mask(each!(self, other, |a, b| eq_16(a, b)).0)
     }
     #[inline(always)]
-    pub fn simd_ne(self, other: Self) -> Mask<u16, N> {
-        Mask(self.each(other, |a, b| by::xor(by::eq_16(a, b), by::splat(255))).0)
+    pub fn simd_ne(self, other: Self) -> Mask<u16, N, BY_32> {
+        Mask(each!(self, other, |a, b| xor(eq_16(a, b), splat(255))).0)
     }
 }
 
-impl<T: Copy, const N: usize> Mask<T, N> {
+impl<T: Copy, const N: usize, const BY_32: bool> Mask<T, N, BY_32> {
+    const BLOCKS: usize = Simd::<T, N, BY_32>::BLOCKS;
+    const BLOCKS_32: usize = Simd::<T, N, BY_32>::BLOCKS_32;
+
     #[inline(always)]
-    pub fn select(self, yes: Simd<T, N>, no: Simd<T, N>) -> Simd<T, N> {
-        let mut out = yes;
-        let mut k = 0;
-        while k < Simd::<T, N>::BLOCKS {
-            out.put(k, by::select(Simd(self.0).block(k), yes.block(k), no.block(k)));
+    pub fn select(self, yes: Simd<T, N, BY_32>, no: Simd<T, N, BY_32>) -> Simd<T, N, BY_32> {
+        let mask = Simd::<T, N, BY_32>(self.0);
+        let (mut out, mut k) = (yes, 0);
+        while k < Self::BLOCKS_32 {
+            out.put_32(k, by_32::select(mask.block_32(k), yes.block_32(k), no.block_32(k)));
             k += 1;
+        }
+        if Self::BLOCKS_32 == 0 {
+            while k < Self::BLOCKS {
+                out.put(k, by::select(mask.block(k), yes.block(k), no.block(k)));
+                k += 1;
+            }
         }
         out
     }
@@ -393,11 +553,17 @@ impl<T: Copy, const N: usize> Mask<T, N> {
     /// A bit for each lane. Of lanes of two bytes there are two bits: such a mask is only compared with 0 here.
     #[inline(always)]
     pub fn to_bitmask(self) -> u64 {
-        let mut all = 0;
-        let mut k = 0;
-        while k < Simd::<T, N>::BLOCKS {
-            all |= by::high_bits(Simd(self.0).block(k)) << (16 * k);
+        let lanes = Simd::<T, N, BY_32>(self.0);
+        let (mut all, mut k) = (0, 0);
+        while k < Self::BLOCKS_32 {
+            all |= by_32::high_bits(lanes.block_32(k)) << (32 * k);
             k += 1;
+        }
+        if Self::BLOCKS_32 == 0 {
+            while k < Self::BLOCKS {
+                all |= by::high_bits(lanes.block(k)) << (16 * k);
+                k += 1;
+            }
         }
         all
     }

@@ -5,17 +5,7 @@ use core::arch::aarch64::*;
 
 pub(crate) type Block = uint8x16_t;
 
-macro_rules! each {
-    ($($name:ident = $by:ident;)*) => { $(
-        #[inline(always)]
-        pub(crate) fn $name(a: Block, b: Block) -> Block {
-            // SAFETY: see the module.
-            unsafe { $by(a, b) }
-        }
-    )* };
-}
-
-each! {
+instructions! {
     and = vandq_u8;
     or = vorrq_u8;
     xor = veorq_u8;

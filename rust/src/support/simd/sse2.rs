@@ -6,17 +6,7 @@ use core::arch::x86_64::*;
 
 pub(crate) type Block = __m128i;
 
-macro_rules! each {
-    ($($name:ident = $by:ident;)*) => { $(
-        #[inline(always)]
-        pub(crate) fn $name(a: Block, b: Block) -> Block {
-            // SAFETY: see the module.
-            unsafe { $by(a, b) }
-        }
-    )* };
-}
-
-each! {
+instructions! {
     and = _mm_and_si128;
     or = _mm_or_si128;
     xor = _mm_xor_si128;
@@ -28,6 +18,8 @@ each! {
     low_by_turns = _mm_unpacklo_epi8;
     high_by_turns = _mm_unpackhi_epi8;
 }
+
+others_of_x86!(_mm_and_si128, _mm_andnot_si128, _mm_or_si128, _mm_movemask_epi8, _mm_set1_epi8, _mm_sll_epi16, _mm_srl_epi16);
 
 #[cfg(target_feature = "ssse3")]
 #[inline(always)]
@@ -65,42 +57,6 @@ fn bytes_of(a: Block) -> [u8; 16] {
     // SAFETY: there is room for sixteen bytes.
     unsafe { _mm_storeu_si128(out.as_mut_ptr().cast(), a) };
     out
-}
-
-#[inline(always)]
-pub(crate) fn select(mask: Block, a: Block, b: Block) -> Block {
-    // SAFETY: see the module.
-    unsafe { _mm_or_si128(_mm_and_si128(mask, a), _mm_andnot_si128(mask, b)) }
-}
-
-#[inline(always)]
-pub(crate) fn high_bits(a: Block) -> u64 {
-    // SAFETY: see the module.
-    u64::from(unsafe { _mm_movemask_epi8(a) } as u32)
-}
-
-#[inline(always)]
-pub(crate) fn splat(a: u8) -> Block {
-    // SAFETY: see the module.
-    unsafe { _mm_set1_epi8(a as i8) }
-}
-
-#[inline(always)]
-pub(crate) fn right(a: Block, n: u8) -> Block {
-    and(right_16(a, u16::from(n)), splat((0xFF_u32 >> n) as u8))
-}
-
-#[inline(always)]
-pub(crate) fn left(a: Block, n: u8) -> Block {
-    // SAFETY: see the module.
-    let moved = unsafe { _mm_sll_epi16(a, _mm_cvtsi32_si128(i32::from(n))) };
-    and(moved, splat((0xFF_u32 << n) as u8))
-}
-
-#[inline(always)]
-pub(crate) fn right_16(a: Block, n: u16) -> Block {
-    // SAFETY: see the module.
-    unsafe { _mm_srl_epi16(a, _mm_cvtsi32_si128(i32::from(n))) }
 }
 
 #[inline(always)]

@@ -2,7 +2,7 @@
 use super::{block_of, by, lane_by_lane, Simd};
 
 fn bytes_of(block: by::Block) -> [u8; 16] {
-    let mut out = Simd([0u8; 16]);
+    let mut out: Simd<u8, 16> = Simd([0; 16]);
     out.put(0, block);
     out.0
 }
@@ -79,6 +79,103 @@ fn all_shifts() {
         }
         for n in 0..16 {
             assert_eq!(bytes_of(by::right_16(block_of(&x), n)), lane_by_lane::right_16(x, n));
+        }
+    }
+}
+
+/// The second set of vectors beside the first, on each call and width that the proved text takes.
+#[cfg(all(target_arch = "x86_64", feature = "std", not(noddychest_narrow)))]
+mod both_sets {
+    use super::super::{Places, Simd};
+    use super::some;
+
+    type Wide<const N: usize> = Simd<u8, N, true>;
+    type Narrow<const N: usize> = Simd<u8, N>;
+
+    fn lanes<const N: usize>(seed: &mut u64) -> [u8; N] {
+        let mut out = [0; N];
+        for part in out.chunks_mut(16) {
+            part.copy_from_slice(&some(seed)[..part.len()]);
+        }
+        out
+    }
+
+    fn calls<const N: usize>(seed: &mut u64) {
+        let (x, mut y) = (lanes::<N>(seed), lanes::<N>(seed));
+        for k in 0..N {
+            if y[k] % 3 == 0 {
+                y[k] = x[k];
+            }
+        }
+        let (a, b, c, d) = (Wide::from_array(x), Wide::from_array(y), Narrow::from_array(x), Narrow::from_array(y));
+        macro_rules! same {
+            ($($made:expr, $want:expr;)*) => { $( assert_eq!($made.to_array(), $want.to_array(), stringify!($made)); )* };
+        }
+        same! {
+            a & b, c & d;
+            a | b, c | d;
+            a ^ b, c ^ d;
+            a + b, c + d;
+            a.saturating_sub(b), c.saturating_sub(d);
+            a.simd_max(b), c.simd_max(d);
+            a.simd_eq(b).select(a, b), c.simd_eq(d).select(c, d);
+        }
+        assert_eq!(a.simd_eq(b).to_bitmask(), c.simd_eq(d).to_bitmask());
+        assert_eq!(a.simd_ne(b).to_bitmask(), c.simd_ne(d).to_bitmask());
+        assert_eq!(a.simd_ge(b).to_bitmask(), c.simd_ge(d).to_bitmask());
+        assert_eq!(a.simd_lt(b).to_bitmask(), c.simd_lt(d).to_bitmask());
+        for n in 0..8 {
+            same! {
+                a >> Wide::splat(n), c >> Narrow::splat(n);
+                a << Wide::splat(n), c << Narrow::splat(n);
+            }
+        }
+        let places = y.map(|it| if it < 128 { it % 16 } else { it });
+        same!(a.swizzle_dyn_within::<16>(Wide::from_array(places)), c.swizzle_dyn_within::<16>(Narrow::from_array(places)););
+        let ((first, second), (third, fourth)) = (a.interleave(b), c.interleave(d));
+        same!(first, third; second, fourth;);
+        same!(a.rotate_elements_right::<1>(), c.rotate_elements_right::<1>(););
+    }
+
+    /// Places of which each sixteen are of the sixteen in the same place, and places that are anywhere.
+    struct Within;
+    struct Anywhere;
+
+    const fn places(is_within: bool) -> [usize; 32] {
+        let (mut out, mut k) = ([0; 32], 0);
+        while k < 32 {
+            let (side, lane) = (if k % 3 == 0 { 32 } else { 0 }, k * 7 % 16);
+            out[k] = if is_within { side + k / 16 * 16 + lane } else { k * 37 % 64 };
+            k += 1;
+        }
+        out
+    }
+
+    impl Places<32> for Within {
+        const LIST: [usize; 32] = places(true);
+    }
+    impl Places<32> for Anywhere {
+        const LIST: [usize; 32] = places(false);
+    }
+
+    #[test]
+    fn same_answers() {
+        if !crate::support::processor::is_wide() {
+            return;
+        }
+        let mut seed = 3;
+        for _ in 0..2_000 {
+            calls::<16>(&mut seed);
+            calls::<32>(&mut seed);
+            calls::<64>(&mut seed);
+            let (x, y) = (lanes::<32>(&mut seed), lanes::<32>(&mut seed));
+            let (a, b, c, d) = (Wide::from_array(x), Wide::from_array(y), Narrow::from_array(x), Narrow::from_array(y));
+            assert_eq!(a.shuffle(b, Within).to_array(), c.shuffle(d, Within).to_array());
+            assert_eq!(a.shuffle(b, Anywhere).to_array(), c.shuffle(d, Anywhere).to_array());
+            assert_eq!(a.extract::<16, 16>().to_array(), c.extract::<16, 16>().to_array());
+            let want: [u8; 32] =
+                core::array::from_fn(|k| if Within::LIST[k] < 32 { x[Within::LIST[k]] } else { y[Within::LIST[k] - 32] });
+            assert_eq!(a.shuffle(b, Within).to_array(), want);
         }
     }
 }

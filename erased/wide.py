@@ -1,0 +1,78 @@
+"""The copy of the proved text for x86-64-v3: of the files that go by lanes, in `CRATE/wide/`, over vectors that go by thirty-two bytes.
+
+A processor is asked once, where a long input comes (`rules.CHOSEN`, the macro `wide!`). From there on all is compiled for AVX2: what is put in
+line by its attribute is so as it stands, and each other function becomes one for that processor, which a function of the same name calls.
+"""
+import re
+
+import rules
+from exports import parameters
+from shape import Text
+from tokens import Stop
+
+GATE = '#[cfg(all(target_arch = "x86_64", feature = "std", not(noddychest_narrow)))]\n'
+FEATURES = "avx2,bmi1,bmi2,lzcnt,popcnt"
+
+
+def is_wide(name):
+    return any(name.startswith(it) for it in rules.WIDE)
+
+
+def widened(text, name):
+    """The copy of an erased file."""
+    made = Text(text, name)
+    for it in made.functions():
+        if not it.inside and made.text(it.body) == "{":
+            attributes = attributes_of(made, it)
+            inline = next((at for at, _, words in attributes if words == "#[inline]"), None)
+            if inline is not None and f"{name}:{it.name}" not in rules.CHOSEN:
+                made.said[made.closing(made.next(inline))] = "(always)]"
+            elif "#[inline(always)]" not in (words for _, _, words in attributes):
+                apart(made, it, attributes)
+    return paths("".join(made.front.get(k, "") + made.said.get(k, "" if made.gone[k] else x.text) + made.back.get(k, "")
+                         for k, x in enumerate(made.t)), name)
+
+
+def attributes_of(text, it):
+    """Those above a function: where each begins and ends, and what it is."""
+    found, k = [], it.start
+    while text.text(end := text.before(k)) == "]":
+        k = end
+        while text.text(k) != "#":
+            k -= 1
+        found.insert(0, (k, end, "".join(x.text for x in text.t[k:end + 1])))
+    return found
+
+
+def apart(text, it, attributes):
+    """`fn f(..) { body }` becomes one that calls `f_apart`, which has that body and is compiled for the processor."""
+    left = text.next(it.word)
+    generics = []
+    if text.text(left) == "<":
+        end = text.closing_angle(left)
+        generics = [it[0].removeprefix("const ") for it in parameters(text, left, end) if not it[0].startswith("'")]
+        left = text.next(end)
+    names = [name.removeprefix("mut ") for name, _ in parameters(text, left, text.closing(left))]
+    head = "".join(x.text for x in text.t[it.at:it.body]).rstrip().replace(f"fn {it.name}", f"unsafe fn {it.name}_apart", 1)
+    call = f"{it.name}_apart{'::<' + ', '.join(generics) + '>' if generics else ''}({', '.join(names)})"
+    moved = "".join(f"{words}\n" for _, _, words in attributes)
+    text.back[it.body] = (f"\n    // SAFETY: who comes here has asked whether the processor has it.\n    unsafe {{ {call} }}\n}}\n\n"
+                          f'{moved}#[target_feature(enable = "{FEATURES}")]\n{head}\n{{')
+    for start, end, _ in attributes:
+        for k in range(start, text.next(end) if text.next(end) <= it.at else end + 1):
+            text.gone[k] = True
+    text.front[it.start] = "#[inline(always)]\n"
+    if f"{text.name}:{it.name}" in rules.CHOSEN and it.start == it.at:
+        text.front[it.start] += "pub(crate) "
+
+
+def paths(text, name):
+    """The copy names its own files, and the vectors of thirty-two bytes; and it asks for no other copy."""
+    if found := re.search(r"crate::proved::(\w+::)?\{", text):
+        raise Stop(f"{name}: `{found[0]}` names several files at once, of which some may have a copy")
+    text = re.sub(r"\n *crate::support::processor::wide!\(.*", "", text)
+    text = text.replace("crate::support::simd::prelude", "crate::support::simd::wide")
+
+    def other(found):
+        return f"crate::proved::{found[1]}::wide::{found[2]}" if is_wide(f"{found[1]}/{found[2]}.rt") else found[0]
+    return re.sub(r"crate::proved::(\w+)::(\w+)", other, text)
