@@ -173,10 +173,10 @@ class Node:
     PAGE = """
 import { readFileSync } from "node:fs";
 const [folder] = process.argv.slice(-1);
-const [{ Codec }, { Cut }, { bytesOf }, { others }] = await Promise.all(["codec", "cut", "input", "others"].map((it) => import(`${folder}/${it}.js`)));
+const [{ Codec }, { Cut }, { bytesOf }, { others }, { Survey }] = await Promise.all(["codec", "cut", "input", "others", "survey"].map((it) => import(`${folder}/${it}.js`)));
 const { instance } = await WebAssembly.instantiate(readFileSync(`${folder}/noddychest.wasm`));
 const codec = new Codec(instance.exports);
-globalThis.window = { noddychest: { codec, cut: new Cut(codec), bytesOf, others } };
+globalThis.window = { noddychest: { codec, cut: new Cut(codec), Survey, bytesOf, others: (bytes, form) => others(codec, bytes, form) } };
 """
 
     def __init__(self, folder):

@@ -19,7 +19,7 @@ export class Cut {
     // Goes over all bytes. Tells how far it is now and then, and stops where it is told to.
     async make(tell) {
         this.clear();
-        for (let at = 0, runs = 1; at < this.codec.len; runs++) {
+        for (let at = 0, runs = 1; at < this.codec.whole; runs++) {
             const { count, end } = this.codec.run(at);
             this.count += count;
             this.faults += this.codec.faultsInRoom(count);
@@ -27,6 +27,9 @@ export class Cut {
             at = end;
             if (runs % RUNS_AT_ONCE === 0 && !(await tell(at / this.codec.len))) return;
         }
+        // (the single byte at the end of UTF-16)
+        const rest = this.codec.len - this.codec.whole;
+        [this.count, this.faults] = [this.count + rest, this.faults + rest];
     }
 
     // The last mark at or before a place.
@@ -72,7 +75,7 @@ export class Cut {
         while (last < this.marks.length && this.marks[last] <= place + NEAR) last++;
         const end = last < this.marks.length ? this.marks[last] : codec.len;
         const before = codec.pieces(this.marks[first], end);
-        codec.bytes[place] = byte;
+        codec.setByte(place, byte);
         const now = codec.pieces(this.marks[first], end);
         const starts = new Set(now.map((it) => it.place));
         const kept = this.marks.slice(first + 1, last).filter((it) => starts.has(it));

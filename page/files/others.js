@@ -1,47 +1,42 @@
-// What other decoders show for the same bytes. Browsers, Python and Rust's from_utf8_lossy replace each maximal subpart by one U+FFFD:
-// the bytes that could still have become a character (WHATWG, Encoding Standard, UTF-8 decoder). Go replaces each invalid byte.
+// What other decoders show for the same bytes. Browsers, Python and Rust's from_utf8_lossy replace each maximal subpart by one U+FFFD,
+// the bytes that could still have become a character; Go, and Noddychest, replace each invalid byte.
+import { MAXIMAL, OK, REPLACE, UTF16LE, joined } from "./codec.js";
 
-// For a first byte: how many follow, and between what the first of them has to be.
-function asked(byte) {
-    if (byte < 0x80) return [0];
-    if (byte >= 0xc2 && byte <= 0xdf) return [1, 0x80, 0xbf];
-    if (byte >= 0xe0 && byte <= 0xef) return [2, byte === 0xe0 ? 0xa0 : 0x80, byte === 0xed ? 0x9f : 0xbf];
-    if (byte >= 0xf0 && byte <= 0xf4) return [3, byte === 0xf0 ? 0x90 : 0x80, byte === 0xf4 ? 0x8f : 0xbf];
-    return null;
-}
+// How many bytes before and after the chosen one are shown.
+const AROUND = 48;
 
-// How many bytes stand together at a place, and whether they are a character.
-function subpart(bytes, at) {
-    const first = asked(bytes[at]);
-    if (!first) return [1, false];
-    let [, low, high] = first;
-    for (let i = 1; i <= first[0]; i++) {
-        const byte = bytes[at + i];
-        if (byte === undefined || byte < low || high < byte) return [i, false];
-        [low, high] = [0x80, 0xbf];
-    }
-    return [first[0] + 1, true];
-}
-
-function character(bytes, at, len) {
-    let scalar = len === 1 ? bytes[at] : bytes[at] & (0x7f >> len);
-    for (let i = 1; i < len; i++) scalar = (scalar << 6) | (bytes[at + i] & 0x3f);
-    return String.fromCodePoint(scalar);
-}
+const decoder = new TextDecoder("utf-16le", { ignoreBOM: true });
+const textOf = (codec, bytes, form, mode) => decoder.decode(joined(codec.recode(form, UTF16LE, bytes, { mode })));
+const replacements = (text) => text.split("\ufffd").length - 1;
 
 // The text that decoders show by either rule, and how many U+FFFD each put in.
-export function others(bytes) {
-    const shown = { subparts: { text: "", count: 0 }, singles: { text: "", count: 0 } };
-    const put = (it, text, count) => {
-        it.text += text;
-        it.count += count;
-    };
-    for (let at = 0; at < bytes.length; ) {
-        const [len, isValid] = subpart(bytes, at);
-        const text = isValid ? character(bytes, at, len) : "\ufffd";
-        put(shown.subparts, text, isValid ? 0 : 1);
-        put(shown.singles, isValid ? text : "\ufffd".repeat(len), isValid ? 0 : len);
-        at += len;
+export function others(codec, bytes, form = 0) {
+    const [singles, subparts] = [REPLACE, MAXIMAL].map((mode) => textOf(codec, bytes, form, mode));
+    const [chunks, state] = [[], codec.newRecoder(form, UTF16LE)];
+    codec.feed(state, bytes, chunks);
+    codec.finish(state, chunks);
+    const count = codec.replacedBy(state);
+    // (a U+FFFD of the text itself is none that was put in)
+    return { singles: { text: singles, count }, subparts: { text: subparts, count: replacements(subparts) - replacements(singles) + count } };
+}
+
+// The pieces near an offset, cut in three: before it, the chosen character or the invalid bytes that stand side by side there, and
+// after it; each as decoders show it.
+export function othersNear(codec, cut, at) {
+    const { bytes, form, len } = codec;
+    const pieces = len ? cut.between(Math.max(at - AROUND, 0), Math.min(at + AROUND, len)) : [];
+    // (a run of invalid bytes that goes on before is shown from a byte on at which none of its subparts is cut)
+    const first = pieces.findIndex((it) => it.kind === OK || it.place === 0 || (bytes[it.place] & 0xc0) !== 0x80);
+    const shown = pieces.slice(Math.max(first, 0));
+    let from = shown.findIndex((it) => at < it.place + it.len);
+    let to = from + 1;
+    if (from >= 0 && shown[from].kind !== OK) {
+        while (from > 0 && shown[from - 1].kind !== OK) from--;
+        while (to < shown.length && shown[to].kind !== OK) to++;
     }
-    return shown;
+    const place = (i) => shown[i]?.place ?? (shown.length ? shown[shown.length - 1].place + shown[shown.length - 1].len : 0);
+    const edges = [place(0), place(Math.max(from, 0)), place(Math.max(to, 0)), place(shown.length)];
+    const part = (i, mode) => textOf(codec, bytes.slice(edges[i], edges[i + 1]), form, mode);
+    const told = (mode) => [0, 1, 2].map((i) => part(i, mode));
+    return { singles: told(REPLACE), subparts: told(MAXIMAL), isCut: [edges[0] > 0, edges[3] < len] };
 }

@@ -1,17 +1,24 @@
 // The page: what a person does, and what it then asks the module.
-import { Codec, FORMS, MOST, NONE, OK, SEEN, hasVectors, joined } from "./codec.js";
+import { Codec, FORMS, MOST, NONE, OK, SEEN, UTF16BE, UTF16LE, UTF8, hasVectors, joined } from "./codec.js";
 import { Cut } from "./cut.js";
-import { bytesOf, offsetOf } from "./input.js";
-import { others } from "./others.js";
+import { Faults, saveAs } from "./faults.js";
+import { Helper } from "./helper.js";
+import { READERS, bytesOf, looksLikeBytes, offsetOf } from "./input.js";
+import { IN_LINK, linkOf, linked } from "./link.js";
+import { others, othersNear } from "./others.js";
+import { Survey } from "./survey.js";
 import { View, element } from "./view.js";
-import { ERROR_NAMES, counted, hexByte, hexOf, readByByte, sentence, shortKind, why } from "./words.js";
+import { ERROR_NAMES, counted, hexByte, hexOf, offsetText, offsets, readByByte, sentence, shortKind, why } from "./words.js";
 
-// Bytes that the boxes show, the link keeps, and the recoded forms and other decoders show.
+// Bytes that the boxes show, and the recoded forms; that are gone over at once, without the worker; and of a large file at a time.
 const IN_BOXES = 16384;
-const IN_LINK = 2048;
 const SHOWN = 256;
+const AT_ONCE = 1 << 18;
+const PART = 4 << 20;
 const IN_TEXT = 1 << 20;
 const ANSWERS = 200;
+// How far before the end of a part a character is looked for after which it may end.
+const EDGE = 64;
 
 const TO_CHANGE = "Change one byte: what it changes in the split is marked above.";
 const TO_TAKE = "Ask for a character or invalid byte from either end.";
@@ -33,18 +40,44 @@ const EXAMPLES = [
 ];
 
 const $ = (id) => document.getElementById(id);
-let codec, cut, view;
+let codec, cut, view, helper, list;
 let turn = 0;
-// The first digit typed over a byte; the letters that were taken from both ends; what Undo does, the last one last.
-let [typed, taken, undoable] = ["", "", []];
-// Whether an example is shown, and whether text may be typed over invalid bytes.
-let [isExample, mayEdit] = [false, false];
+// The first digit typed over a byte; the letters that were taken from both ends; what Undo and Redo do, the last one last.
+let [typed, taken, undoable, redoable] = ["", "", [], []];
+// Whether an example is shown, whether text may be typed over what the box cannot show, and whether digits change bytes.
+let [isExample, mayEdit, isEditing] = [false, false, false];
+// The name of the file that is shown; the file itself where it is too large to be shown whole; what the list of all bytes told; and
+// the address that was followed, as long as its bytes are shown.
+let [name, large, surveyed, followed] = ["", null, null, ""];
 
-// Takes new bytes; a box that a person types in stays as it is.
-async function take(bytes, { from, word = "", isByByte = $("by-byte").checked, example = false, undo = [], note = "" } = {}) {
+const formName = () => FORMS[codec.form].toUpperCase();
+const total = () => (large ? large.size : codec.len);
+
+// Takes new bytes; a box that a person types in stays as it is. What else is known of them: `from`, the box; their form; what the
+// link keeps; whether they are an example; what Undo and Redo do; what to say; the name of their file, and the file itself where it is
+// shown in parts, with the offset at which this part begins; the place to show; and whether the list is that of the file already.
+async function take(bytes, given = {}) {
     const mine = ++turn;
-    codec.fill(bytes);
-    $("reading").hidden = bytes.length <= IN_BOXES;
+    codec.fill(bytes, given.form ?? codec.form);
+    [name, large, followed] = [given.called ?? "", given.file ?? null, ""];
+    offsets.base = given.base ?? 0;
+    if (!(await makeCut(mine))) return;
+    showBoxes(given);
+    showControls(given);
+    begin();
+    $("word").value = given.word ?? "";
+    view.layOut();
+    // (an example shows first what it is about)
+    view.choose(given.at ?? (given.example && cut.faults ? codec.validUpTo() : 0));
+    if (given.word) walk();
+    if (!given.keepList) surveyAll();
+    afterChange();
+}
+
+// Goes over the bytes; answers whether nothing else was asked for meanwhile.
+async function makeCut(mine) {
+    const isQuick = codec.len <= IN_BOXES;
+    $("reading").hidden = isQuick;
     cut.clear();
     const finished = cut.make(async (part) => {
         $("bar").value = part;
@@ -53,40 +86,53 @@ async function take(bytes, { from, word = "", isByByte = $("by-byte").checked, e
     });
     Object.assign(view, { at: 0, left: null, changed: new Set() });
     view.scroll.scrollTop = 0;
-    if (bytes.length > IN_BOXES) view.layOut();
+    if (!isQuick) view.layOut();
     await finished;
-    if (mine !== turn) return;
-    $("reading").hidden = true;
+    if (mine === turn) $("reading").hidden = true;
+    return mine === turn;
+}
+
+// The boxes, and what stands below them.
+function showBoxes({ from, note = "", took = "" }) {
     if (from !== "text") {
         showText();
         mayEdit = false;
     }
     if (from !== "hex") showHex();
+    showTook(from === "hex" ? took : "");
     $("file-note").textContent = note;
-    for (const id of ["hex-trouble", "copied", "went"]) $(id).textContent = "";
+    for (const id of ["hex-trouble", "copied", "went", "text-note"]) $(id).textContent = "";
     $("hex").setAttribute("aria-invalid", "false");
-    $("text-warning").hidden = true;
-    $("by-byte").checked = view.isByByte = isByByte;
-    $("damaged").textContent = TO_CHANGE;
+    for (const id of ["text-warning", "text-offer"]) $(id).hidden = true;
+}
+
+// What can be done with the bytes, and how they are read.
+function showControls({ isByByte = $("by-byte").checked, example = false, undo = [], redo = [] }) {
+    const { form } = codec;
+    $("form").value = form;
+    $("text-form").textContent = formName();
+    $("by-byte-row").hidden = form !== UTF8;
+    $("by-byte").checked = view.isByByte = isByByte && form === UTF8;
+    $("damaged").textContent = large ? "A file that is shown in parts is not changed here." : TO_CHANGE;
+    $("parts").hidden = !large;
     isExample = example;
-    setUndo(undo);
-    begin();
-    $("word").value = word;
-    view.layOut();
-    // (an example shows first what it is about)
-    view.choose(example && cut.faults ? codec.validUpTo() : 0);
-    if (word) walk();
-    afterChange();
+    setUndo(undo, redo);
+    setEditing(isEditing && !large);
 }
 
 // What follows every change of the bytes.
 function afterChange() {
-    const bytes = `${counted(codec.len, "byte")}: ${counted(cut.count - cut.faults, "character")}`;
-    $("totals").textContent = `${bytes} and ${cut.faults ? counted(cut.faults, "invalid byte") : "no invalid byte"}.`;
+    showTotals();
     showRead();
     showOthers();
     recode();
     keepInLink();
+}
+
+function showTotals() {
+    const [count, faults] = large ? [surveyed?.count, surveyed?.faults] : [cut.count, cut.faults];
+    const told = count === undefined ? "" : `: ${counted(count - faults, "character")} and ${faults ? counted(faults, "invalid byte") : "no invalid byte"}`;
+    $("totals").textContent = `${counted(total(), "byte")}${told}.`;
 }
 
 function showRead() {
@@ -101,6 +147,21 @@ function readOtherwise() {
     view.tell(view.at);
 }
 
+// Where the chosen byte lies. What this is written on stays in view.
+function showHere() {
+    const size = total();
+    const line = large || !codec.len ? "" : lineAt(view.at);
+    const where = codec.len ? `offset ${offsetText(view.at)} of ${offsets.isHex ? `0x${size.toString(16)}` : size}${line}` : NO_BYTES;
+    const bar = element("span", "file", {}, name);
+    $("here").replaceChildren(...(name ? [bar, " "] : []), where[0].toUpperCase() + where.slice(1));
+}
+
+function lineAt(place) {
+    const survey = new Survey(codec, codec.form);
+    survey.walk(0, cut.at(place).place);
+    return `, line ${survey.line}, column ${survey.column}`;
+}
+
 // A text in which each name of an error tells its sentence on hover and, where it can have the focus, on focus.
 function withNames(text, canFocus) {
     return text.split(ERROR_NAMES).filter((it) => it).map((part) => {
@@ -109,80 +170,168 @@ function withNames(text, canFocus) {
     });
 }
 
+// Boxes.
+
 // The text of a piece, for boxes.
 const textOf = (piece) => (piece.kind === OK ? String.fromCodePoint(piece.scalar) : "\ufffd");
+const isLong = () => codec.len > IN_BOXES || large;
 
 function showText() {
-    const is_long = codec.len > IN_BOXES;
-    $("text").value = is_long ? "" : cut.between(0, codec.len).map(textOf).join("");
-    $("text").placeholder = is_long ? "More than this box shows." : "";
+    $("text").value = isLong() ? "" : cut.between(0, codec.len).map(textOf).join("");
+    $("text").placeholder = isLong() ? "More than this box shows." : "";
 }
 
 function showHex() {
-    const is_long = codec.len > IN_BOXES;
-    $("hex").value = is_long ? "" : hexOf(codec.bytes);
-    $("hex").placeholder = is_long ? "More than this box shows." : "";
+    $("hex").value = isLong() ? "" : hexOf(codec.bytes);
+    $("hex").placeholder = isLong() ? "More than this box shows." : "";
+    $("reader").value = "";
+}
+
+function showTook(took) {
+    $("took").textContent = took && `Taken for ${took}.`;
+    $("took-row").hidden = !took;
 }
 
 function typeHex() {
-    const { bytes, told, note } = bytesOf($("hex").value);
+    const { bytes, told, note, took } = bytesOf($("hex").value, $("reader").value);
     $("hex").setAttribute("aria-invalid", String(!bytes));
-    if (bytes) take(bytes, { from: "hex", note });
-    else $("hex-trouble").textContent = told;
+    if (bytes) return take(bytes, { from: "hex", note, took });
+    $("hex-trouble").textContent = told;
+    $("took").textContent = "";
+    // (what cannot be read may be read otherwise)
+    $("took-row").hidden = false;
 }
 
 // Of more bytes than fit their first ones, up to the end of a character; and what to say of it.
-function fitted(bytes, name = "It") {
+function fitted(bytes, form) {
     if (bytes.length <= MOST) return { bytes, note: "" };
-    codec.fill(bytes.subarray(0, MOST + SEEN));
+    codec.fill(bytes.subarray(0, MOST + SEEN), form);
     const end = codec.boundary(MOST);
-    return { bytes: bytes.slice(0, end), note: `${name} is longer than 10 MB: its first ${counted(end, "byte")} are shown.` };
+    return { bytes: bytes.slice(0, end), note: `The text is longer than 10 MB: its first ${counted(end, "byte")} are shown.` };
 }
 
-// The text's own units, least byte first, recoded to UTF-8 by the module.
-function typeText() {
-    const text = $("text").value;
+// The bytes of text: its units, least byte first, recoded by the module. UTF-8 has no bytes for a lone surrogate; UTF-16 keeps it.
+function encoded(text, form) {
     const units = new Uint16Array(Math.min(text.length, MOST + SEEN));
     for (let i = 0; i < units.length; i++) units[i] = text.charCodeAt(i);
-    // (what was typed over a byte goes with the bytes; what text replaced stays)
-    const undo = cut.faults && codec.len <= IN_BOXES ? [...undoable, codec.bytes.slice()] : undoable.filter((it) => it instanceof Uint8Array);
-    const { bytes, note } = fitted(joined(codec.recode(1, 0, new Uint8Array(units.buffer), MOST + SEEN)), "The text");
-    // (browsers lay out a long text for seconds: the box then shows none)
-    const isLong = text.length > IN_TEXT;
-    if (isLong) $("text").value = "";
-    take(bytes, { from: isLong ? "" : "text", note, undo });
+    const bytes = new Uint8Array(units.buffer);
+    if (form === UTF16LE) return { bytes, lost: 0 };
+    if (form === UTF16BE) return { bytes: bytes.map((_, i) => bytes[i ^ 1]), lost: 0 };
+    const [chunks, state] = [[], codec.newRecoder(UTF16LE, UTF8)];
+    if (codec.feed(state, bytes, chunks, { most: MOST + SEEN }).at === bytes.length) codec.finish(state, chunks);
+    return { bytes: joined(chunks), lost: codec.replacedBy(state) };
 }
 
-// Before text is typed among invalid bytes, which the box shows as U+FFFD, a person is asked; not where all of it is replaced.
-function guardText(event) {
+// Takes text as it was typed, pasted or dropped, also what the box shows otherwise: a CR, and a lone surrogate.
+async function takeText(text, { from = "text", form = codec.form } = {}) {
+    // (what was typed over a byte goes with the bytes; what text replaced stays)
+    const undo = cut.faults && codec.len <= IN_BOXES ? [...undoable, codec.bytes.slice()] : undoable.filter((it) => it instanceof Uint8Array);
+    const made = encoded(text, form);
+    const { bytes, note } = fitted(made.bytes, form);
+    // (browsers lay out a long text for seconds: the box then shows none)
+    const isHuge = text.length > IN_TEXT;
+    if (isHuge) $("text").value = "";
+    await take(bytes, { from: isHuge ? "" : from, form, note, undo });
+    const returns = (text.match(/\r/g) ?? []).length;
+    const lost = made.lost && `${counted(made.lost, "lone surrogate")}, which UTF-8 cannot have, became U+FFFD. `;
+    const kept = returns && `${counted(returns, "carriage return")} (CR) of the text ${returns === 1 ? "is" : "are"} kept; the box does not show ${returns === 1 ? "it" : "them"}.`;
+    $("text-note").replaceChildren(lost || "", ...(lost ? [asUtf16(text)] : []), kept || "");
+    $("text-offer").hidden = text.length > IN_BOXES || !looksLikeBytes(text);
+}
+
+function asUtf16(text) {
+    const button = element("button", "", { type: "button" }, "Take it as UTF-16");
+    button.addEventListener("click", () => takeText(text, { from: "", form: UTF16LE }));
+    return button;
+}
+
+const typeText = () => takeText($("text").value);
+
+// What pasted text is, before the box makes an LF of each CR, and U+FFFD of each lone surrogate.
+function pasteText(event) {
+    const pasted = event.clipboardData?.getData("text/plain") ?? "";
+    const box = $("text");
+    if (!/\r|[\ud800-\udfff]/.test(pasted) || (isGuarded() && !mayEdit)) return;
+    event.preventDefault();
+    takeText(box.value.slice(0, box.selectionStart) + pasted + box.value.slice(box.selectionEnd), { from: "" });
+}
+
+// Whether the box shows something else than the bytes, and not all of it is replaced.
+function isGuarded() {
     const box = $("text");
     const isWhole = box.value && box.selectionStart === 0 && box.selectionEnd === box.value.length;
-    if (!cut.faults || mayEdit || isWhole) return;
+    return !isWhole && (cut.faults > 0 || isLong() || codec.bytes.includes(0x0d));
+}
+
+// Before text is typed where the box shows something else than the bytes, a person is asked.
+function guardText(event) {
+    if (!isGuarded() || mayEdit) return;
     event.preventDefault();
-    $("text-warned").textContent = codec.len > IN_BOXES ? "Typing here replaces the bytes that are shown below."
-        : `The box shows ${counted(cut.faults, "invalid byte")} as U+FFFD. Editing the text replaces ${cut.faults === 1 ? "it" : "them"} by U+FFFD itself, ef bf bd. Undo brings the bytes back.`;
+    const one = cut.faults === 1;
+    $("text-warned").textContent = isLong() ? "Typing here replaces the bytes that are shown below."
+        : cut.faults ? `The box shows ${counted(cut.faults, "invalid byte")} as U+FFFD. Editing the text replaces ${one ? "it" : "them"} by U+FFFD itself, ef bf bd. Undo brings the bytes back.`
+        : "The text has carriage returns (CR), which the box does not show. Editing the text takes them out.";
     $("text-warning").hidden = false;
+}
+
+// Files.
+
+// Reads a Blob, and tells how far it is; null where something else was asked for meanwhile.
+async function read(blob) {
+    const mine = ++turn;
+    const bytes = new Uint8Array(blob.size);
+    $("reading").hidden = false;
+    for (let at = 0; at < bytes.length; at += 1 << 20) {
+        bytes.set(new Uint8Array(await blob.slice(at, at + (1 << 20)).arrayBuffer()), at);
+        $("bar").value = at / bytes.length;
+        if (mine !== turn) return null;
+    }
+    return bytes;
 }
 
 async function open(file) {
     if (!file) return;
-    const mine = ++turn;
-    const size = Math.min(file.size, MOST + SEEN);
-    const bytes = new Uint8Array(size);
-    $("reading").hidden = false;
+    if (file.size > MOST) return showPart(file, 0, false);
     try {
-        for (let at = 0; at < size; at += 1 << 20) {
-            bytes.set(new Uint8Array(await file.slice(at, Math.min(at + (1 << 20), size)).arrayBuffer()), at);
-            $("bar").value = at / size;
-            if (mine !== turn) return;
-        }
+        const bytes = await read(file);
+        if (bytes) await take(bytes, { from: "file", called: file.name, note: `${file.name}.` });
     } catch {
-        $("reading").hidden = true;
-        $("file-note").textContent = `${file.name} could not be read.`;
-        return;
+        tellUnread(file);
     }
-    const { bytes: first, note } = fitted(bytes);
-    await take(first, { from: "file", note: `${file.name}. ${note}`.trim() });
+}
+
+// Where a part of a large file ends that should end about there: after a character, where one is near, so that all invalid bytes of the
+// part have the reason that they have in the file.
+async function edgeOf(file, at, form) {
+    if (at <= 0 || at >= file.size) return Math.max(Math.min(at, file.size), 0);
+    const from = at - EDGE;
+    codec.fill(new Uint8Array(await file.slice(from, at + SEEN).arrayBuffer()), form);
+    const near = codec.pieces(codec.boundary(SEEN), EDGE).filter((it) => it.kind === OK && it.place + it.len <= EDGE);
+    const last = near[near.length - 1];
+    return from + (last ? last.place + last.len : codec.boundary(EDGE));
+}
+
+// Shows the part of a large file that has an offset.
+async function showPart(file, place, keepList = true, form = codec.form) {
+    const mine = ++turn;
+    try {
+        let number = Math.floor(place / PART);
+        let [start, end] = [await edgeOf(file, number * PART, form), await edgeOf(file, (number + 1) * PART, form)];
+        // (the offset may lie between the end of a part and where it should be)
+        if (end <= place) [number, start, end] = [number + 1, end, await edgeOf(file, (number + 2) * PART, form)];
+        const bytes = mine === turn && (await read(file.slice(start, end)));
+        if (!bytes) return;
+        const note = `${file.name}: part ${(number + 1).toLocaleString("en")} of ${Math.ceil(file.size / PART).toLocaleString("en")} is shown, offsets ${start} to ${end - 1}. The list below is of the whole file.`;
+        await take(bytes, { from: "file", form, called: file.name, file, base: start, note, at: place - start, keepList });
+        [$("earlier").disabled, $("later").disabled] = [start === 0, end >= file.size];
+    } catch {
+        tellUnread(file);
+    }
+}
+
+function tellUnread(file) {
+    $("reading").hidden = true;
+    $("file-note").textContent = `${file.name} could not be read.`;
 }
 
 // A file is opened wherever it is dropped. Text that is dropped into a box is the box's; elsewhere it is taken as typed.
@@ -195,23 +344,52 @@ function dropped(event) {
     } else if (!event.target.closest?.("textarea, input")) {
         event.preventDefault();
         const text = given.getData("text/plain");
-        if (!text) return;
-        $("text").value = text;
-        typeText();
+        if (text) takeText(text, { from: "" });
     }
+}
+
+// The list of all invalid bytes. Short input is gone over at once, long input by the worker.
+async function surveyAll() {
+    const [mine, form] = [turn, codec.form];
+    surveyed = null;
+    if (!large && codec.len <= AT_ONCE) {
+        const survey = new Survey(codec, form);
+        survey.take(codec.bytes, true);
+        helper.stop("survey");
+        return showSurvey(survey.result);
+    }
+    list.clear();
+    $("surveying").hidden = false;
+    $("surveyed").value = 0;
+    $("faults-note").textContent = "";
+    try {
+        const source = large ?? new Blob([codec.bytes]);
+        const found = await helper.ask("survey", { form, source }, (part) => ($("surveyed").value = part));
+        if (found && (mine === turn || source === large)) showSurvey(found);
+    } catch (error) {
+        $("surveying").hidden = true;
+        $("faults-note").textContent = `The bytes could not be gone over: ${error.message}.`;
+    }
+}
+
+function showSurvey(found) {
+    surveyed = found;
+    $("surveying").hidden = true;
+    list.show(found, name);
+    showTotals();
+    showOthers();
 }
 
 // Links.
 
 function keepInLink() {
-    const parts = codec.len <= IN_LINK ? [`hex=${hexOf(codec.bytes).replaceAll(" ", "")}`] : [];
-    if (parts.length && taken && taken.length <= IN_LINK) parts.push(`word=${taken}`);
-    if (parts.length && view.isByByte) parts.push("read=bytes");
-    history.replaceState(null, "", parts.length ? `#${parts.join("&")}` : location.pathname + location.search);
+    if (followed && followed === location.hash) return;
+    const kept = large ? "" : linkOf({ bytes: codec.bytes, form: codec.form, word: taken, isByByte: view.isByByte });
+    history.replaceState(null, "", kept || location.pathname + location.search);
 }
 
 async function copyLink() {
-    if (codec.len > IN_LINK) return ($("copied").textContent = "A link keeps no more than 2 kB of input.");
+    if (large || codec.len > IN_LINK) return ($("copied").textContent = "A link keeps no more than 48 kB of input.");
     let isCopied = true;
     try {
         await navigator.clipboard.writeText(location.href);
@@ -228,76 +406,122 @@ async function copyLink() {
 
 // Shows what the address says, or an example.
 async function followLink() {
-    const said = new URLSearchParams(location.hash.slice(1));
-    const { bytes, told } = bytesOf(said.get("hex") ?? "");
-    const word = (said.get("word") ?? "").toUpperCase().replace(/[^FB]/g, "").slice(0, IN_LINK);
-    const isByByte = said.get("read") === "bytes";
-    await (said.has("hex") && bytes ? take(bytes, { word, isByByte }) : take(Uint8Array.from(EXAMPLES[0][1]), { example: true }));
+    const hash = location.hash;
+    const said = linked(hash);
+    const { bytes, told, word, isByByte, form } = said ?? {};
+    await (bytes ? take(bytes, { form, word, isByByte }) : take(Uint8Array.from(EXAMPLES[0][1]), { form: UTF8, example: true }));
     if (told) $("hex-trouble").textContent = `The link has no good bytes: an example is shown. ${told.split(".")[0]}.`;
+    // (an address that keeps more than the page puts into one stays, as long as its bytes do)
+    if (bytes && codec.len > IN_LINK && !location.hash) {
+        followed = hash;
+        history.replaceState(null, "", hash);
+    }
 }
 
 // Places.
 
-function goTo(event) {
+const range = () => (total() ? `Offsets go from ${offsets.isHex ? "0x0" : 0} to ${offsets.isHex ? `0x${(total() - 1).toString(16)}` : total() - 1}.` : NO_BYTES);
+
+// Shows an offset of the whole input.
+async function show(offset) {
+    const place = offset - offsets.base;
+    if (place >= 0 && place < codec.len) view.choose(place);
+    else if (large) await showPart(large, offset);
+}
+
+async function goTo(event) {
     event.preventDefault();
-    const place = offsetOf($("offset").value);
-    if (place < codec.len) view.choose(place);
-    $("went").textContent = place < codec.len ? "" : codec.len ? `Offsets go from 0 to ${codec.len - 1}.` : NO_BYTES;
-    if (place < codec.len) $("pieces").focus({ preventScroll: true });
+    const offset = offsetOf($("offset").value);
+    const isThere = offset < total();
+    if (isThere) await show(offset);
+    $("went").textContent = isThere ? "" : range();
+    if (isThere) $("pieces").focus({ preventScroll: true });
 }
 
 // From the chosen place on, and after the end from the front again.
-function nextFault() {
-    const found = cut.nextFault(view.at) ?? (codec.len ? codec.validUpTo() : 0);
-    const isThere = found < codec.len;
-    $("went").textContent = !isThere ? "There is no invalid byte." : found === view.at ? "There is no other invalid byte." : found < view.at ? "The first one again: there is none after it." : "";
-    if (isThere) view.choose(found);
+async function nextFault() {
+    const here = offsets.base + view.at;
+    const inPart = cut.nextFault(view.at);
+    let found = inPart === null ? null : offsets.base + inPart;
+    if (found === null && large && !surveyed) return ($("went").textContent = "The file is still gone over; there is none after it in this part.");
+    if (found === null) found = large ? list.after(here) ?? list.after(-1) : codec.len && codec.validUpTo() < codec.len ? codec.validUpTo() : null;
+    const told = found === null ? "There is no invalid byte." : found === here ? "There is no other invalid byte." : found < here ? "The first one again: there is none after it." : "";
+    const shown = found === null ? null : show(found);
+    $("went").textContent = told;
+    await shown;
+    $("went").textContent = told;
 }
 
 // Damage.
 
-function setUndo(entries) {
-    undoable = entries;
-    $("undo").disabled = !entries.length;
+function setUndo(undo, redo = []) {
+    [undoable, redoable] = [undo, redo];
+    $("undo").disabled = !undo.length;
+    $("redo").disabled = !redo.length;
 }
 
-function change(place, byte, isUndo) {
-    if (!$("reading").hidden) return;
-    if (!isUndo) setUndo([...undoable, { place, byte: codec.bytes[place] }]);
+function setEditing(isOn) {
+    isEditing = isOn;
+    $("edit").setAttribute("aria-pressed", String(isOn));
+    $("edit").disabled = Boolean(large);
+    $("scroll").classList.toggle("editing", isOn);
+    dropDigit();
+}
+
+function change(place, byte, told = "") {
+    if (!$("reading").hidden || large) return;
     const changed = cut.change(place, byte);
     const near = cut.between(Math.max(place - 3, 0), place + 4).filter((it) => place - 3 <= it.place).length;
     view.changed = new Set(changed.map((it) => it.place));
     begin();
-    isExample = mayEdit = false;
+    [isExample, mayEdit, followed] = [false, false, ""];
     if (codec.len <= IN_BOXES) {
         showText();
         showHex();
+        showTook("");
     }
     view.choose(place);
     const count = changed.length === 1 ? "1 block is new" : `${changed.length} blocks are new`;
-    const told = `${count}. There are never more than the ${near} that begin within three bytes before and after.`;
-    $("damaged").textContent = isUndo ? `Undone: offset ${place} is ${hexByte(byte)} again. ${told}` : told;
+    $("damaged").textContent = `${told}${count}. There are never more than the ${near} that begin within three bytes before and after.`;
+    surveyAll();
     afterChange();
 }
 
-function undo() {
-    const last = undoable[undoable.length - 1];
+// A change by a person: Undo takes it back, and what was undone before cannot be done again.
+function changeAnew(place, byte) {
+    if (large || !$("reading").hidden) return;
+    setUndo([...undoable, { place, byte: codec.bytes[place] }]);
+    change(place, byte);
+}
+
+// Does what stands last in one of both lists, and puts what takes it back into the other.
+function stepBack(isUndo) {
+    const [from, to] = isUndo ? [undoable, redoable] : [redoable, undoable];
+    const last = from[from.length - 1];
     if (!last || !$("reading").hidden) return;
-    const rest = undoable.slice(0, -1);
-    if (last instanceof Uint8Array) take(last, { undo: rest });
-    else {
-        setUndo(rest);
-        change(last.place, last.byte, true);
-    }
+    const isBytes = last instanceof Uint8Array;
+    const lists = [from.slice(0, -1), [...to, isBytes ? codec.bytes.slice() : { place: last.place, byte: codec.bytes[last.place] }]];
+    const [undo, redo] = isUndo ? lists : lists.reverse();
+    if (isBytes) return take(last, { undo, redo });
+    setUndo(undo, redo);
+    change(last.place, last.byte, `${isUndo ? "Undone" : "Done again"}: offset ${offsetText(last.place)} is ${hexByte(last.byte)}${isUndo ? " again" : ""}. `);
+}
+
+function clear() {
+    const bytes = codec.bytes.slice();
+    const undo = !large && bytes.length && bytes.length <= IN_BOXES ? [...undoable, bytes] : [];
+    take(new Uint8Array(0), { undo });
+    $("text").focus();
 }
 
 function changeByForm(event) {
     event.preventDefault();
     const place = offsetOf($("place").value);
-    const { bytes } = bytesOf($("byte").value);
-    if (!(place < codec.len)) $("damaged").textContent = codec.len ? `Offsets go from 0 to ${codec.len - 1}.` : NO_BYTES;
+    const { bytes } = bytesOf($("byte").value, "hexadecimal");
+    if (large) return;
+    if (!(place < codec.len)) $("damaged").textContent = range();
     else if (bytes?.length !== 1) $("damaged").textContent = "A byte has two hexadecimal digits.";
-    else change(place, bytes[0]);
+    else changeAnew(place, bytes[0]);
 }
 
 // The first of two digits goes with the byte that it was typed over.
@@ -306,23 +530,28 @@ function dropDigit() {
     typed = "";
 }
 
+function typeDigit(key) {
+    if (!isEditing) return ($("damaged").textContent = "Nothing was changed: turn “Edit bytes” on to type over bytes.");
+    const digits = typed + key;
+    if (digits.length === 2) {
+        typed = "";
+        changeAnew(view.at, parseInt(digits, 16));
+    } else {
+        typed = digits;
+        $("damaged").textContent = `The first digit is ${typed}; type the second.`;
+    }
+}
+
 function typeOver(event) {
+    const key = event.key;
     if (event.ctrlKey || event.metaKey) {
-        if (event.key.toLowerCase() !== "z" || event.altKey || event.shiftKey) return;
-        undo();
+        if (event.altKey || !/^[zy]$/i.test(key)) return;
+        stepBack(/^z$/i.test(key) && !event.shiftKey);
     } else if (event.altKey) return;
-    else if (/^(Arrow\w+|Page\w+|Home|End)$/.test(event.key)) view.move(event.key);
-    else if (/^n$/i.test(event.key)) nextFault();
-    else if (/^[0-9a-f]$/i.test(event.key) && codec.len) {
-        const digits = typed + event.key;
-        if (digits.length === 2) {
-            typed = "";
-            change(view.at, parseInt(digits, 16));
-        } else {
-            typed = digits;
-            $("damaged").textContent = `The first digit is ${typed}; type the second.`;
-        }
-    } else if (event.key === "Escape") dropDigit();
+    else if (/^(Arrow\w+|Page\w+|Home|End)$/.test(key)) view.move(key);
+    else if (/^n$/i.test(key)) nextFault();
+    else if (/^[0-9a-f]$/i.test(key) && codec.len) typeDigit(key);
+    else if (key === "Escape") dropDigit();
     else return;
     event.preventDefault();
 }
@@ -339,8 +568,8 @@ function begin() {
 
 function showLeft() {
     const { front, back } = view.left ?? { front: 0, back: codec.len };
-    const offsets = back - front === 1 ? `offset ${front}` : `offsets ${front}–${back - 1}`;
-    $("left").textContent = front < back ? `Remaining: ${counted(back - front, "byte")} (${offsets}).` : "Remaining: no byte.";
+    const told = back - front === 1 ? `offset ${offsetText(front)}` : `offsets ${offsetText(front)}–${offsetText(back - 1)}`;
+    $("left").textContent = front < back ? `Remaining: ${counted(back - front, "byte")} (${told}).` : "Remaining: no byte.";
 }
 
 function step(letter) {
@@ -355,10 +584,10 @@ function step(letter) {
         taken += letter;
     }
     $("answered").replaceChildren(...withNames(told, true));
-    const list = $("answers");
-    if (list.children.length < ANSWERS) {
-        list.append(element("li"));
-        list.lastChild.append(...withNames(told, false));
+    const answers = $("answers");
+    if (answers.children.length < ANSWERS) {
+        answers.append(element("li"));
+        answers.lastChild.append(...withNames(told, false));
     }
     return piece;
 }
@@ -385,71 +614,96 @@ function walk() {
     view.draw();
 }
 
-// What others show, and recoding: of long inputs the first characters and invalid bytes that are whole.
+// What others show, near the chosen byte, and recoding.
+
+let othersLater = null;
+
+function showOthers() {
+    if (othersLater !== null) cancelAnimationFrame(othersLater);
+    othersLater = requestAnimationFrame(drawOthers);
+}
+
+// What decoders call themselves, by form, for each invalid byte and for each maximal subpart.
+const DECODERS = {
+    singles: ["Here, and Go (range over a string)", "Here"],
+    subparts: ["Browsers (TextDecoder), Python (errors='replace'), Rust (from_utf8_lossy)", "Browsers (TextDecoder), Python (errors='replace'), Rust (String::from_utf16_lossy)"],
+};
+
+// A text in one line, with its emoji in colour: a control character is an arrow or a dot.
+function inLine(text) {
+    const plain = text.replace(/\n/g, "↵").replace(/[\0-\x1f]/g, "·");
+    return plain.split(/(\p{Emoji_Presentation}+)/u).map((it, i) => (i % 2 ? element("span", "emoji-text", {}, it) : it));
+}
+
+function drawOthers() {
+    othersLater = null;
+    const near = othersNear(codec, cut, view.at);
+    const counts = { singles: large ? surveyed?.faults : cut.faults, subparts: surveyed?.subparts };
+    const row = (who, texts, count) => {
+        // (on a small screen its rows are no boxes of a table: so they have their roles by name)
+        const made = element("tr", "", { role: "row" });
+        const shown = element("td", "text", { role: "cell" });
+        const [before, chosen, after] = texts.map(inLine);
+        const mark = element("mark");
+        mark.append(...chosen);
+        shown.append(near.isCut[0] ? "…" : "", ...before, mark, ...after, near.isCut[1] ? "…" : "");
+        made.append(element("th", "", { scope: "row", role: "rowheader" }, who), shown, element("td", "", { role: "cell" }, count === undefined ? "…" : count.toLocaleString("en")));
+        return made;
+    };
+    const isSame = counts.singles === counts.subparts && near.singles.join() === near.subparts.join();
+    const form = Math.min(codec.form, 1);
+    $("others-rows").replaceChildren(...(isSame ? [row("All of them", near.singles, counts.singles)] : ["singles", "subparts"].map((it) => row(DECODERS[it][form], near[it], counts[it]))));
+    const differ = counts.singles === counts.subparts ? "Both put in one U+FFFD for each invalid byte."
+        : "The characters are the same; one U+FFFD stands for each invalid byte, or for as many as could have begun a character.";
+    $("others-note").textContent = isSame ? "All decoders show the same text." : differ;
+}
 
 function firstShown() {
     const last = codec.len > SHOWN ? cut.at(SHOWN).place : codec.len;
-    return codec.bytes.subarray(0, last);
-}
-
-function showOthers() {
-    const part = firstShown();
-    const { subparts, singles } = others(part);
-    const row = (who, { text, count }) => {
-        const made = element("tr");
-        made.append(element("th", "", { scope: "row" }, who), element("td", "text", {}, text), element("td", "", {}, String(count)));
-        return made;
-    };
-    $("others-rows").replaceChildren(
-        row("Here, and Go (range over a string)", singles),
-        row("Browsers (TextDecoder), Python (errors='replace'), Rust (from_utf8_lossy)", subparts));
-    const many = part.length < codec.len ? ` The first ${part.length} bytes are shown.` : "";
-    const differ = singles.count === subparts.count ? "Both put in one U+FFFD for each invalid byte."
-        : "The characters are the same; one U+FFFD stands for each invalid byte, or for as many as could have begun a character.";
-    $("others-note").textContent = (cut.faults ? differ : "All decoders show the same text.") + many;
+    return codec.bytes.slice(0, last);
 }
 
 function recode() {
     const part = firstShown();
-    const text = cut.between(0, part.length).map(textOf).join("");
     FORMS.forEach((_, form) => {
-        const made = joined(codec.recode(0, form, part));
+        const made = joined(codec.recode(codec.form, form, part));
         $(`hex-${form}`).textContent = made.length ? hexOf(made) : "no bytes";
-        $(`text-${form}`).textContent = text;
-        $(`more-${form}`).textContent = part.length < codec.len ? `The first ${part.length} bytes are shown; all are saved.` : `${counted(made.length, "byte")}.`;
+        $(`more-${form}`).textContent = part.length < total() ? `The first ${part.length} bytes are shown; all are saved.` : `${counted(made.length, "byte")}.`;
     });
 }
 
-function save(form) {
-    const address = URL.createObjectURL(new Blob(codec.recode(0, form, codec.bytes), { type: "application/octet-stream" }));
-    const link = element("a", "", { href: address, download: `recoded.${FORMS[form]}.txt` });
-    document.body.append(link);
-    link.click();
-    link.remove();
-    setTimeout(() => URL.revokeObjectURL(address), 60000);
+async function save(form) {
+    const file = name ? `${name.replace(/\.[^.]*$/, "")}.${FORMS[form]}${name.match(/\.[^.]*$/)?.[0] ?? ""}` : `recoded.${FORMS[form]}.txt`;
+    if (!large) return saveAs(file, codec.recode(codec.form, form, codec.bytes), "application/octet-stream");
+    $("saving").hidden = false;
+    try {
+        const made = await helper.ask("recode", { form: codec.form, to: form, source: large }, (part) => ($("saved").value = part));
+        if (made) saveAs(file, [made], "application/octet-stream");
+    } catch (error) {
+        $("file-note").textContent = `It could not be recoded: ${error.message}.`;
+    }
+    $("saving").hidden = true;
 }
 
 // What is made once.
 
-const shown = (id, form, what) => element("pre", "", { id: `${id}-${form}`, "aria-label": `${FORMS[form].toUpperCase()}, ${what}`, role: "group" });
-
 function makeForms() {
     FORMS.forEach((form, number) => {
         const column = element("div");
-        const name = form.toUpperCase();
-        const title = element("h3", "", {}, name);
-        const button = element("button", "", { type: "button", "aria-label": `Save as ${name}` }, "Save");
+        const told = form.toUpperCase();
+        const title = element("h3", "", {}, told);
+        const button = element("button", "", { type: "button", "aria-label": `Save as ${told}` }, "Save");
         button.addEventListener("click", () => save(number));
         title.append(button);
-        column.append(title, shown("hex", number, "bytes"), shown("text", number, "text"), element("p", "note", { id: `more-${number}` }));
+        column.append(title, element("pre", "", { id: `hex-${number}`, "aria-label": `${told}, bytes`, role: "group", tabindex: "0" }), element("p", "note", { id: `more-${number}` }));
         $("recoded").append(column);
     });
 }
 
 function makeExamples() {
-    for (const [name, bytes, how] of EXAMPLES) {
-        const button = element("button", "", { type: "button" }, name);
-        button.addEventListener("click", () => take(Uint8Array.from(bytes), { ...how, example: true }));
+    for (const [told, bytes, how] of EXAMPLES) {
+        const button = element("button", "chip", { type: "button" }, told);
+        button.addEventListener("click", () => take(Uint8Array.from(bytes), { form: UTF8, ...how, example: true }));
         $("examples").append(button);
     }
 }
@@ -463,12 +717,16 @@ function makeLegend() {
     say("", "A", "A character of one byte.");
     say("long", "é", "A character of two to four bytes.");
     say("fault", "✕", "An invalid byte, one at a time. Two letters name its error:");
-    for (const name of codec.names.slice(1, 8)) say("fault", shortKind(name), element("b", "", {}, name), `: ${why(codec, name)}`);
+    for (const it of codec.names.slice(1, 11)) say("fault", shortKind(it), element("b", "", {}, it), `: ${why(codec, it)}`);
     say("changed", "A", "Underlined: new since a byte was changed.");
     say("taken", "A", "Hatched: taken from the front or the back.");
     const more = element("li");
     more.append("The exact words: ", element("a", "", { href: "definitions.html" }, "definitions"), " and ", element("a", "", { href: "https://www.rfc-editor.org/rfc/rfc3629" }, "RFC 3629"), ".");
     $("legend").append(more);
+}
+
+function makeReaders() {
+    for (const it in READERS) $("reader").append(element("option", "", { value: it }, it === "dump" ? "a dump" : it));
 }
 
 // In an example a first click into the text chooses all of it, so that what is pasted takes its place.
@@ -479,31 +737,63 @@ function chooseExample() {
     $("text").addEventListener("focus", () => isExample && $("text").select());
 }
 
+// Reads the same bytes in another encoding.
+function changeForm() {
+    const form = Number($("form").value);
+    if (large) showPart(large, offsets.base + view.at, false, form);
+    else take(codec.bytes.slice(), { form, called: name, undo: undoable, redo: redoable, at: Math.min(view.at, Math.max(codec.len - 1, 0)) });
+}
+
+function tellInHex() {
+    offsets.isHex = $("in-hex").checked;
+    view.draw();
+    view.tell(view.at);
+    list.draw();
+    showRead();
+    showLeft();
+    showHere();
+}
+
 function listen() {
-    $("text").addEventListener("beforeinput", guardText);
-    $("text").addEventListener("input", typeText);
-    $("edit-anyway").addEventListener("click", () => {
+    const on = (id, event, call) => $(id).addEventListener(event, call);
+    on("text", "beforeinput", guardText);
+    on("text", "paste", pasteText);
+    on("text", "input", typeText);
+    on("edit-anyway", "click", () => {
         [mayEdit, $("text-warning").hidden] = [true, true];
         $("text").focus();
     });
-    $("hex").addEventListener("input", typeHex);
-    $("file").addEventListener("change", () => open($("file").files[0]).then(() => ($("file").value = "")));
-    $("copy").addEventListener("click", copyLink);
-    $("go").addEventListener("submit", goTo);
-    $("next").addEventListener("click", nextFault);
-    $("damage").addEventListener("submit", changeByForm);
-    $("undo").addEventListener("click", undo);
-    $("pieces").addEventListener("keydown", typeOver);
-    $("pieces").addEventListener("blur", dropDigit);
-    $("by-byte").addEventListener("change", readOtherwise);
-    $("front").addEventListener("click", () => stepOnce("F"));
-    $("back").addEventListener("click", () => stepOnce("B"));
-    $("again").addEventListener("click", () => {
+    on("as-bytes", "click", () => {
+        [$("hex").value, $("reader").value] = [$("text").value, ""];
+        typeHex();
+        $("hex").focus();
+    });
+    on("hex", "input", typeHex);
+    on("reader", "change", typeHex);
+    on("file", "change", () => open($("file").files[0]).then(() => ($("file").value = "")));
+    on("clear", "click", clear);
+    on("copy", "click", copyLink);
+    on("form", "change", changeForm);
+    on("in-hex", "change", tellInHex);
+    on("go", "submit", goTo);
+    on("next", "click", nextFault);
+    on("earlier", "click", () => showPart(large, offsets.base - 1));
+    on("later", "click", () => showPart(large, offsets.base + codec.len));
+    on("edit", "click", () => setEditing(!isEditing));
+    on("damage", "submit", changeByForm);
+    on("undo", "click", () => stepBack(true));
+    on("redo", "click", () => stepBack(false));
+    on("pieces", "keydown", typeOver);
+    on("pieces", "blur", dropDigit);
+    on("by-byte", "change", readOtherwise);
+    on("front", "click", () => stepOnce("F"));
+    on("back", "click", () => stepOnce("B"));
+    on("again", "click", () => {
         begin();
         keepInLink();
         view.draw();
     });
-    $("walk").addEventListener("submit", (event) => {
+    on("walk", "submit", (event) => {
         event.preventDefault();
         walk();
     });
@@ -522,18 +812,35 @@ function pointAt(place) {
     dropDigit();
     $("place").value = place;
     $("byte").value = codec.len ? hexByte(codec.bytes[place]) : "";
+    showHere();
+    showOthers();
+}
+
+// What the page in one file has in it, or null.
+function inside(address) {
+    const part = document.getElementById(address);
+    return part && Uint8Array.from(atob(part.textContent), (it) => it.charCodeAt(0));
 }
 
 async function load(address) {
+    const bytes = inside(address);
+    if (bytes) return WebAssembly.compile(bytes);
     const answer = await fetch(address);
     if (!answer.ok) throw new Error(`the server answered ${answer.status}`);
-    const { instance } = await WebAssembly.instantiate(await answer.arrayBuffer());
-    return new Codec(instance.exports);
+    return WebAssembly.compile(await answer.arrayBuffer());
+}
+
+function makeWorker() {
+    const text = inside("worker.js");
+    if (!text) return new Worker(new URL("worker.js", import.meta.url), { type: "module" });
+    return new Worker(URL.createObjectURL(new Blob([text], { type: "text/javascript" })));
 }
 
 async function start() {
+    let module;
     try {
-        codec = await load(hasVectors() ? "noddychest-simd.wasm" : "noddychest.wasm");
+        module = await load(hasVectors() ? "noddychest-simd.wasm" : "noddychest.wasm");
+        codec = new Codec((await WebAssembly.instantiate(module)).exports);
     } catch (error) {
         $("trouble").textContent = `The module did not load (${error.message}). Load the page again, and where that does not help, run page/build and serve page/out.`;
         return;
@@ -542,12 +849,17 @@ async function start() {
     $("main").hidden = false;
     cut = new Cut(codec);
     view = new View(codec, cut, pointAt);
+    helper = new Helper(module, makeWorker);
+    list = new Faults(codec, (offset) => show(offset).then(() => $("pieces").focus({ preventScroll: true })));
     makeForms();
     makeExamples();
+    // (on a small screen the bytes come first)
+    $("examples-box").open = innerWidth > 640;
     makeLegend();
+    makeReaders();
     listen();
     await followLink();
-    window.noddychest = { codec, cut, view, bytesOf, others };
+    window.noddychest = { codec, cut, view, helper, list, Survey, bytesOf, others: (bytes, form) => others(codec, bytes, form) };
     document.documentElement.dataset.ready = "yes";
 }
 

@@ -1,6 +1,6 @@
 // The grid of bytes and pieces. What is in view alone is drawn.
 import { OK } from "./codec.js";
-import { codePoint, describe, glyph, hexByte, otherwise, sentence, shortKind, why } from "./words.js";
+import { codePoint, describe, glyph, hexByte, isEmoji, offsetText, otherwise, sentence, shortKind, why } from "./words.js";
 
 const ROW = 66;
 // Browsers draw nothing below some tens of millions of pixels; higher grids scroll by more than a row at a time.
@@ -68,7 +68,7 @@ export class View {
 
     line(at) {
         const line = element("div", "bytes", { role: "presentation" });
-        line.append(element("span", "offset", { "aria-hidden": "true" }, String(at)));
+        line.append(element("span", "offset", { "aria-hidden": "true" }, offsetText(at)));
         return line;
     }
 
@@ -103,7 +103,8 @@ export class View {
         block.append(hexes);
         if (is_first) {
             const name = is_fault ? shortKind(codec.names[piece.kind]) : codePoint(piece.scalar);
-            block.append(element("span", is_fault || piece.scalar > 0x20 ? "glyph" : "glyph named", {}, is_fault ? "✕" : glyph(piece.scalar)), element("span", "small", {}, name));
+            const glyphs = is_fault ? "glyph" : piece.scalar <= 0x20 ? "glyph named" : isEmoji(piece.scalar) ? "glyph emoji" : "glyph";
+            block.append(element("span", glyphs, {}, is_fault ? "✕" : glyph(piece.scalar)), element("span", "small", {}, name));
             block.id = `p${piece.place}`;
             block.setAttribute("role", "option");
             block.setAttribute("aria-selected", String(is_chosen));
