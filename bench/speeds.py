@@ -6,7 +6,7 @@ TOP = Path(__file__).resolve().parent.parent
 STORED = TOP / "bench/stored"
 NAMES = {"rust": "encode_unicode", "std": "std", "bstr": "bstr", "encoding_rs": "encoding_rs", "iconv": "iconv(3)", "simdutf8": "simdutf8 with AVX2",
          "simdutf8_16": "simdutf8, 16-byte lanes", "icu": "ICU", "utf8proc": "utf8proc", "simdutf": "simdutf with AVX2"}
-# The inputs of the table in README.md, in words.
+# The inputs of the tables in README.md and of the summary, in words.
 TEXTS = {"ascii": "ASCII", "latin": "Latin script", "cyrillic": "Cyrillic", "arabic": "Arabic", "chinese": "Chinese", "japanese": "Japanese",
          "three-byte": "characters of three bytes"}
 FORMS = {"utf8": "UTF-8", "utf16le": "UTF-16LE", "utf16be": "UTF-16BE", "utf16": "UTF-16"}
@@ -138,11 +138,27 @@ def programs():
     return table(["program", "beside", "ratio", "no slower"], lines)
 
 
+def checking():
+    """What bench/nody took of valid text, and nody and cat of damaged text. (The others stop at the first fault, and file looks at the front alone.)"""
+    lines = []
+    for line in (STORED / "nody").read_text(encoding="utf-8").splitlines():
+        cells = [it.strip() for it in line.strip("|").split("|")]
+        if not line.startswith("| ") or cells[0] == "input" or cells[1] == "`file`":
+            continue
+        text = cells[0].partition(",")[0]
+        if text != "damaged" or cells[1] == "`cat`" or cells[1].startswith("`nody check") and "quiet" not in cells[1]:
+            lines.append([TEXTS.get(text, text), *cells[1:5]])
+    return table(["input", "command", "seconds", "of the processor", "GB in a second"], lines)
+
+
 # What c/bench/run does, and whose call it is there.
 OF_C = {"utf8-to-utf16le": ("UTF-8 to UTF-16LE, `nody_recoder_feed`", "nody"), "utf16le-to-utf8": ("UTF-16LE to UTF-8, `nody_recoder_feed`", "nody"),
         "valid-up-to": ("validate UTF-8, `nody_utf8_valid_up_to`", "nody"), "decode": ("every piece, `nody_utf8_next`", "nody_utf8_next"),
         "decode first": ("every piece, `nody_utf8_first`", "nody_utf8_first"), "decode at once": ("every piece, `nody_utf8_pieces`", "nody_utf8_pieces")}
-# Those of README.md, in its words.
+# The same in the words of README.md, called from C alone: the rows that a first reader asks for, all with Chinese text.
+IN_SHORT = {"decode at once": ("split into pieces, many at a time", "icu"), "valid-up-to": ("validate UTF-8", "simdutf"),
+            "utf8-to-utf16le": ("UTF-8 to UTF-16", "simdutf"), "utf16le-to-utf8": ("UTF-16 to UTF-8", "simdutf")}
+# Those of the summary, in its words.
 OF_C_IN_SHORT = {"decode": "split into pieces, from C, one at a time", "decode at once": "split into pieces, from C, many at a time",
                  "valid-up-to": "validate UTF-8, from C", "utf8-to-utf16le": "UTF-8 to UTF-16, from C", "utf16le-to-utf8": "UTF-16 to UTF-8, from C"}
 PEERS_OF_C = ("icu", "iconv", "utf8proc", "simdutf")
@@ -221,8 +237,21 @@ def worst_cells(task, text, row, side):
     return [task, f"{text} (our worst)", NAMES[side], f"{row.numbers['ours']:.2f} ns", f"{row.numbers[side]:.2f} ns", marked_ratio(row.ratio(side))]
 
 
+def in_short():
+    """The table of README.md: four rows called from C, and our worst."""
+    lines = []
+    for work, (task, side) in IN_SHORT.items():
+        row = next(it for it in rows_of_c(work) if it.key[1] == "chinese")
+        lines.append([task, "Chinese", NAMES[side], f"{row.numbers['ours']:.2f} ns", f"{row.numbers[side]:.2f} ns", marked_ratio(row.ratio(side))])
+    row, side = worst([it for work in OF_C_IN_SHORT for it in rows_of_c(work)])
+    lines.append(worst_cells(OF_C_IN_SHORT[row.key[0]].replace(", from C", ""), TEXTS.get(row.key[1], row.key[1]), row, side))
+    told = ("Nanoseconds for a byte, called from C. The ratio is our time divided by theirs: above 1 we are slower. The last row is, of all calls from C, "
+            "the input and the library for which our ratio is highest.\n\n")
+    return told + table(["task", "input", "compared with", "Noddychest", "theirs", "ratio"], lines)
+
+
 def summary():
-    """The table of README.md: the rows that a first reader asks for, and of each group that loses the worst."""
+    """The first table of docs/BENCHMARKS.md: the rows that a first reader asks for, and of each group that loses the worst."""
     asked = [("split into pieces, forward", "mixed text", "run", ("forward", "mix"), "bstr"),
              ("split into pieces, forward", "ASCII", "run", ("forward", "ascii"), "bstr"),
              ("split into pieces, forward", "mixed text, damaged", "run", ("forward", "damaged"), "rust"),

@@ -1,5 +1,5 @@
 #!/usr/bin/env python3
-"""The definitions of docs/DEFINITIONS.md as a plain program, to hold the proved ones against.
+"""The definitions of docs/rattle/DEFINITIONS.md as a plain program, to hold the proved ones against.
 
 usage: compare/reference.py forward | merge | ends WORD | recode FROM TO   < BYTES
 

@@ -140,6 +140,12 @@ def worst_of_c():
     return f"{max(found):.2f}"
 
 
+def beside_pieces(work):
+    """The time of a work of the library for C, for each text, beside that of nody_utf8_pieces."""
+    told = {(words[0], words[1]): dict(zip(words[2::2], words[3::2])) for words in map(str.split, lines_of("bench/stored/c"))}
+    return [float(it["nody"]) / float(told["decode", text]["nody_utf8_pieces"]) for (of, text), it in told.items() if of == work]
+
+
 def chosen():
     """How many calls the library for C has twice, in words. (`nody_lanes` tells of them.)"""
     named = [it for it in lines_of("c/processor.c") if it.startswith("CHOSEN(")]
@@ -179,26 +185,24 @@ def is_within(numbers, bound, words):
 # Of each document: a pattern that stands there once, and what its groups have to be.
 FIGURES = {
     "README.md": [
-        (r"in ([\d,]+) random inputs each", lambda: (of_peers(),)),
-        (r"says why \| one of (\w+) kinds", lambda: (kinds(),)),
-        (r"\| (\d) \| wrong arguments \| wrong arguments \|\n\| (\d) \| reading, writing or memory failed", statuses),
         (r"Version ([\d.]+), not released yet", lambda: (version(),)),
-        (r"Reading mixed text takes about ([\d.]+) nanoseconds a byte", lambda: (f"{rows('run', 2)[('forward', 'mix')]['ours']:.1f}",)),
-        (r"\| split into pieces, from C, one at a time \|.*\| \**([\d.]+)\** \|", lambda: (worst_of_c(),)),
-        (r"works in parts, in less than ([\d.]+) MiB of memory", lambda: (most_memory(),)),
-        (r"each of more than ([\d,]+) samples of", lambda: (wrong_bodies(),)),
+        (r"\(our worst\) \|.*\| \**([\d.]+)\** \|", lambda: (worst_of_c(),)),
     ],
-    "docs/GUIDE.md": [(r"in about ([\d.]+) nanoseconds a byte", lambda: (f"{rows('valid', 2)[('utf8', 'japanese')]['ours']:.2f}",))],
+    "docs/COMPARISON.md": [(r"in ([\d,]+) random inputs each", lambda: (of_peers(),)), (r"says why \| one of (\w+) kinds", lambda: (kinds(),))],
+    "docs/guide/costs.md": [(r"From C it takes (.+) of the time of going through", lambda: (is_within(beside_pieces("valid-up-to"), 0.1, "less than a tenth"),))],
+    "docs/PROGRAMS.md": [(r"\| (\d) \| wrong arguments \| wrong arguments \|\n\| (\d) \| reading, writing or memory failed", statuses),
+                         (r"works in parts, in less than ([\d.]+) MiB of memory", lambda: (most_memory(),))],
+    "docs/rattle/GUIDE.md": [(r"in about ([\d.]+) nanoseconds a byte", lambda: (f"{rows('valid', 2)[('utf8', 'japanese')]['ours']:.2f}",))],
     "docs/THE-CUT.md": [(r"in ([\d,]+) random inputs each", lambda: (of_peers(),)), (r"at least (\w+) bytes before them, or at least (\w+) after", damage)],
     "CONTRIBUTING.md": [(r"`logic (\w+)`", lambda: (logic(),)), (r"has the files of (\w+) changes", lambda: (changes(),)),
-                        (r"The first check of all (\w+) libraries", lambda: (libraries(),))],
+                        (r"The first check of all (\w+) libraries", lambda: (libraries(),)), (r"each of more than ([\d,]+) samples of", lambda: (wrong_bodies(),))],
     "python/README.md": [(r"The package itself, ([\d,]+) lines of C and Python", lambda: (lines_of_python(),))],
     "docs/ARCHITECTURE.md": [(r"in (\w+) files that `git grep -l Utf16Be` names\. So UTF-32LE would touch \d+ files of (\d+) in `src`, (\d+) of (\d+) in `specs` and (\d+) of (\d+) lemma",
                               lambda: files_of_forms())],
-    "docs/CONFORMANCE.md": [(r"recodes (\d+) blocks", lambda: (blocks(),)), (r"package for Python: ([\d,]+) lines of C and Python", lambda: (lines_of_python(),))],
+    "docs/rattle/CONFORMANCE.md": [(r"recodes (\d+) blocks", lambda: (blocks(),))],
     "docs/DECISIONS.md": [(r"and each of (\w+) calls is a function of `c/processor.c`", lambda: (chosen(),)),
                           (r"and (\w+) calls that `scripts/refusals` lists", lambda: (excused(),))],
-    "docs/DEFINITIONS.md": [(r"has those that are: (\d+) names", lambda: (one_meaning(),))],
+    "docs/rattle/DEFINITIONS.md": [(r"has those that are: (\d+) names", lambda: (one_meaning(),))],
     "docs/BENCHMARKS.md": [
         (r"bytes takes at most (.+?) of encode_unicode's instructions, and (.+)\.", lambda: (
             is_within(ratios("instructions", 2, "rust", lambda it, _: it == "forward"), 1 / 3, "a third"), is_within(ratios("instructions", 2, "rust"), 1, "no work takes more"))),

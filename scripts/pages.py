@@ -4,11 +4,19 @@ import os
 import re
 
 TOP = os.path.dirname(os.path.dirname(os.path.abspath(__file__)))
+
+
+def below(folder):
+    """Every document of a folder and its folders, as a path from the top."""
+    found = [os.path.relpath(f"{at}/{it}", TOP) for at, _, files in os.walk(f"{TOP}/{folder}") for it in files if it.endswith(".md")]
+    return tuple(sorted(found))
+
+
 # Made by scripts from the sources and from logs.
-GENERATED = ("docs/API.md", "docs/CONTRACTS.md", "docs/WRONG-BODIES.md")
+GENERATED = ("docs/rattle/API.md", *below("docs/rattle/api"), *below("docs/rattle/made"))
 # What people read who use the project: it is in the words that they search for. The others keep to the glossary.
-FOR_USERS = ("README.md", "CHANGELOG.md", "SECURITY.md", "docs/API.md", "docs/BENCHMARKS.md", "docs/GUIDE.md", "docs/PROVING.md", "docs/THE-CUT.md", "docs/DIFFERENCES.md",
-             "c/README.md", "page/README.md", "python/README.md", "rust/README.md", "js/README.md", "packaging/README.md")
+FOR_USERS = ("README.md", "CHANGELOG.md", "SECURITY.md", "docs/BENCHMARKS.md", "docs/COMPARISON.md", "docs/DIFFERENCES.md", "docs/PROGRAMS.md", "docs/QUESTIONS.md", "docs/THE-CUT.md",
+             *below("docs/guide"), "docs/rattle/API.md", *below("docs/rattle/api"), "docs/rattle/GUIDE.md", "docs/rattle/PROVING.md", "c/README.md", "page/README.md", "python/README.md", "rust/README.md", "js/README.md", "packaging/README.md")
 
 # Those of the packages, whose own tests run their blocks.
 OF_PACKAGES = ("python/README.md", "rust/README.md", "js/README.md", "packaging/README.md")
@@ -16,9 +24,8 @@ OF_PACKAGES = ("python/README.md", "rust/README.md", "js/README.md", "packaging/
 
 def pages():
     """Every document, as a path from the top."""
-    docs = [f"docs/{it}" for it in os.listdir(f"{TOP}/docs") if it.endswith(".md")]
     of_parts = [f"{it}/README.md" for it in ("c", "page", "python", "rust", "js", "packaging") if os.path.isfile(f"{TOP}/{it}/README.md")]
-    return sorted([it for it in os.listdir(TOP) if it.endswith(".md")]) + sorted(docs) + of_parts
+    return sorted([it for it in os.listdir(TOP) if it.endswith(".md")]) + list(below("docs")) + of_parts
 
 
 def read(page):

@@ -160,6 +160,11 @@ def ghosts_of(lines, number):
     return found
 
 
+def is_open(lines):
+    """Whether a brace is not closed yet."""
+    return sum(it.count("{") - it.count("}") for it in lines) > 0
+
+
 def read_rest(function, lines, number):
     """Reads the signature, the clauses and the body of the function that begins at this line."""
     indent, signature, at = indent_of(lines[number]), [], number
@@ -167,7 +172,7 @@ def read_rest(function, lines, number):
         text = lines[at].strip()
         if re.match(r"(requires|ensures|ghost)\b", text):
             clause = [text]
-            while at + 1 < len(lines) and indent_of(lines[at + 1]) > indent + 4 and lines[at + 1].strip():
+            while at + 1 < len(lines) and lines[at + 1].strip() and (indent_of(lines[at + 1]) > indent + 4 or is_open(clause)):
                 at += 1
                 clause.append(lines[at].strip())
             function.clauses.append(" ".join(clause).rstrip(";"))

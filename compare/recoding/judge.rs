@@ -1,5 +1,5 @@
 //! What recoding has to give, by std alone: one U+FFFD for each faulty byte of UTF-8, for each faulty unit of UTF-16, and
-//! for an odd byte at the end of units, as docs/DEFINITIONS.md says.
+//! for an odd byte at the end of units, as docs/rattle/DEFINITIONS.md says.
 
 /// What the bytes are recoded as.
 pub fn recode(from: usize, to: usize, src: &[u8]) -> Vec<u8> {
