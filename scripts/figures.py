@@ -2,6 +2,7 @@
 import math
 import os
 import re
+import runpy
 
 TOP = os.path.dirname(os.path.dirname(os.path.abspath(__file__)))
 
@@ -54,8 +55,24 @@ def grown(head):
     return [tuple(map(float, it.split()[:2])) for it in lines[start + 1 : stop]]
 
 
-def blocks():
-    return next(it[1] for line in lines_of("crates/run_rows/stdout") if (it := re.match(r"blocks recoded in parts: (\d+) rows", line)))
+def rows_run(what):
+    """How many rows crates/run_rows runs for that."""
+    return next(it[1] for line in lines_of("crates/run_rows/stdout") if (it := re.match(rf"{what}: (\d+) rows", line)))
+
+
+def strict_inputs():
+    return next(it[1] for line in lines_of("crates/run_tests/src/strict.rt") if (it := re.match(r"fn rows\(\) -> \[Row; (\d+)\]", line)))
+
+
+def answers_in_pairs():
+    """How many calls of the library for C answer a struct of 16 bytes, in words."""
+    return in_words(sum(it.startswith(("call nody_piece_t ", "call nody_recoder_t ", "call nody_decoder_t ")) for it in lines_of("c/symbols.txt")))
+
+
+def erased():
+    """How many crates scripts/erase takes, and how many of their functions ask for AVX2, in words; and how many lines it has."""
+    rules, files = runpy.run_path(f"{TOP}/erased/rules.py"), ["scripts/erase", *(f"erased/{it}.py" for it in ("eraser", "exports", "rules", "shape", "tokens", "wide"))]
+    return in_words(len(rules["CRATES"])), in_words(len(rules["CHOSEN"])).capitalize(), f"{sum(len(lines_of(it)) for it in files):,}"
 
 
 def bytes_per_second(most):
@@ -124,10 +141,13 @@ def libraries():
     return in_words(len(found))
 
 
-def wrong_bodies():
-    """How many wrong bodies there are, in whole hundreds."""
-    found = [it for at, _, files in os.walk(f"{TOP}/crates") for it in files if it.endswith(".edit")]
-    return f"{len(found) // 100 * 100:,}"
+def wrong_bodies(folder=""):
+    """How many wrong bodies stand below a folder of that name, or below any."""
+    return sum(it.endswith(".edit") for at, _, files in os.walk(f"{TOP}/crates") if f"{at}/".endswith(f"{folder}/") for it in files)
+
+
+def in_hundreds(count):
+    return f"{count // 100 * 100:,}"
 
 
 def worst_of_c():
@@ -195,11 +215,17 @@ FIGURES = {
     "docs/rattle/GUIDE.md": [(r"in about ([\d.]+) nanoseconds a byte", lambda: (f"{rows('valid', 2)[('utf8', 'japanese')]['ours']:.2f}",))],
     "docs/THE-CUT.md": [(r"in ([\d,]+) random inputs each", lambda: (of_peers(),)), (r"at least (\w+) bytes before them, or at least (\w+) after", damage)],
     "CONTRIBUTING.md": [(r"`logic (\w+)`", lambda: (logic(),)), (r"has the files of (\w+) changes", lambda: (changes(),)),
-                        (r"The first check of all (\w+) libraries", lambda: (libraries(),)), (r"each of more than ([\d,]+) samples of", lambda: (wrong_bodies(),))],
+                        (r"The first check of all (\w+) libraries", lambda: (libraries(),)), (r"each of more than ([\d,]+) samples of", lambda: (in_hundreds(wrong_bodies()),)),
+                        (r"compares more than ([\d,]+) wrong bodies with", lambda: (in_hundreds(wrong_bodies("/more-must-fail")),)),
+                        (r"tries its (\d+) \|", lambda: (str(wrong_bodies("/utf_base/more-must-fail")),))],
     "python/README.md": [(r"The package itself, ([\d,]+) lines of C and Python", lambda: (lines_of_python(),))],
     "docs/ARCHITECTURE.md": [(r"in (\w+) files that `git grep -l Utf16Be` names\. So UTF-32LE would touch \d+ files of (\d+) in `src`, (\d+) of (\d+) in `specs` and (\d+) of (\d+) lemma",
-                              lambda: files_of_forms())],
-    "docs/rattle/CONFORMANCE.md": [(r"recodes (\d+) blocks", lambda: (blocks(),))],
+                              lambda: files_of_forms()),
+                             (r"it makes of (\w+) crates the plain Rust", lambda: erased()[:1])],
+    "docs/rattle/CONFORMANCE.md": [(r"recodes (\d+) blocks", lambda: (rows_run("blocks recoded in parts"),)), (r"In (\d+) rows more it asks", lambda: (rows_run("held before more is fed"),)),
+                                   (r"has (\d+) inputs in `crates/run_tests/src/strict.rt`", lambda: (strict_inputs(),))],
+    "erased/README.md": [(r"makes of (\w+) crates(?s:.*)\n.*?(\w+) functions ask, (?s:.*)The eraser has ([\d,]+) lines", erased)],
+    "generated/README.md": [(r"(\w+) calls that answer in two registers", lambda: (answers_in_pairs(),))],
     "docs/DECISIONS.md": [(r"and each of (\w+) calls is a function of `c/processor.c`", lambda: (chosen(),)),
                           (r"and (\w+) calls that `scripts/refusals` lists", lambda: (excused(),))],
     "docs/rattle/DEFINITIONS.md": [(r"has those that are: (\d+) names", lambda: (one_meaning(),))],

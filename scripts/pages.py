@@ -24,7 +24,7 @@ OF_PACKAGES = ("python/README.md", "rust/README.md", "js/README.md", "packaging/
 
 def pages():
     """Every document, as a path from the top."""
-    of_parts = [f"{it}/README.md" for it in ("c", "page", "python", "rust", "js", "packaging") if os.path.isfile(f"{TOP}/{it}/README.md")]
+    of_parts = [f"{it}/README.md" for it in ("c", "page", "python", "rust", "js", "packaging", "erased", "generated") if os.path.isfile(f"{TOP}/{it}/README.md")]
     return sorted([it for it in os.listdir(TOP) if it.endswith(".md")]) + list(below("docs")) + of_parts
 
 

@@ -21,7 +21,8 @@ SEEN, ELSE = {"proofs, wrong bodies, tests and programs": 2400, "work to keep": 
 # What scripts/keep says of all crates, and scripts/wrong-bodies of one.
 COUNTED = re.compile(r"\S+: (\w+): .*; (\d+) of (\d+) done")
 # The package of Debian that has each command; a command of the kit or of rustup has none.
-PACKAGES = {"cc": "gcc", "make": "make", "valgrind": "valgrind", "clang": "clang", "python3": "python3", "cargo": None, "rustc": None, "rt": None}
+PACKAGES = {"cc": "gcc", "gcc": "gcc", "make": "make", "valgrind": "valgrind", "clang": "clang", "python3": "python3", "isutf8": "moreutils", "uconv": "icu-devtools",
+            "aarch64-linux-gnu-gcc": "gcc-aarch64-linux-gnu", "qemu-aarch64-static": "qemu-user-static", "cargo": None, "rustc": None, "rt": None}
 
 
 class Step:

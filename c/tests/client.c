@@ -444,6 +444,36 @@ static void take_bytes(const uint8_t *bytes, size_t len) {
     nody_utf8_char_count(bytes, len);
 }
 
+/* One piece, its names, and what tells of the library. */
+static void take_one(const uint8_t *bytes, const uint16_t *units, size_t len) {
+    uint16_t pair[2];
+    const nody_name_t *name;
+    const nody_sentence_t *sentence;
+    nody_piece_t first = nody_utf8_first(bytes, len), last = nody_utf16_last(units, len);
+    nody_utf8_last(bytes, len);
+    nody_utf16_first(units, len);
+    nody_utf8_encode(first.scalar, made, sizeof made);
+    nody_utf16_encode(last.scalar, pair, 2);
+    nody_put_kind_name(first.kind, &name);
+    nody_put_kind_sentence(last.kind, &sentence);
+    nody_version();
+    nody_supported();
+    nody_lanes();
+}
+
+static void decode_in_parts(uint8_t form, const uint8_t *in, size_t len) {
+    static nody_located_t pieces[2 * TEXT];
+    size_t read, written, most = sizeof pieces / sizeof *pieces;
+    nody_decoder_t decoder = nody_decoder(form);
+    nody_recoder_t recoder = nody_recoder(form, form);
+    nody_decoder_feed(&decoder, in, len - 7, pieces, most, &read, &written);
+    nody_decoder_feed(&decoder, in + len - 7, 6, pieces, most, &read, &written);
+    nody_decoder_finish(&decoder, pieces, most, &written);
+    nody_recoder_feed(&recoder, in, 1, made, nody_recoded_len_max(form, form, 1), &read, &written);
+    nody_recoder_held(&recoder, made, sizeof made);
+    nody_boundary_before(form, in, len, len / 2);
+}
+
 static void recode_each_way(uint8_t from, uint8_t to, const uint8_t *in, size_t len) {
     nody_recoder_t a = nody_recoder(from, to), b = a, c = a;
     nody_fault_t fault;
@@ -471,8 +501,11 @@ static void *takes_all(void *unused) {
         take_bytes(texts[i][0], lens[i][0]);
         memcpy(units, texts[i][1], lens[i][1]);
         take_units(units, lens[i][1] / 2);
-        for (uint8_t from = 0; from < 3; from++)
+        take_one(texts[i][0], units, 4);
+        for (uint8_t from = 0; from < 3; from++) {
+            decode_in_parts(from, texts[i][from], lens[i][from]);
             for (uint8_t to = 0; to < 3; to++) recode_each_way(from, to, texts[i][from], lens[i][from]);
+        }
     }
     return unused;
 }

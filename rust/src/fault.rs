@@ -23,6 +23,17 @@ use core::ops::Range;
 /// assert_eq!(kind(b"\xED\xA0\x80"), Some(FaultKind::Utf16ReservedCodepoint));
 /// assert_eq!(kind(b"\xF4\x90\x80\x80"), Some(FaultKind::TooHighCodepoint));
 /// ```
+///
+/// More may come, so a `match` needs an arm `_`. This does not compile:
+///
+/// ```compile_fail,E0004
+/// use noddychest::FaultKind::{self, *};
+/// let is_of_utf8 = |kind: FaultKind| match kind {
+///     TooFewBytes | NonUtf8Byte | UnexpectedContinuationByte | InterruptedSequence => true,
+///     OverlongEncoding | Utf16ReservedCodepoint | TooHighCodepoint => true,
+///     UnexpectedTrailingSurrogate | UnmatchedLeadingSurrogate | Incomplete => false,
+/// };
+/// ```
 #[derive(Clone, Copy, Debug, PartialEq, Eq, PartialOrd, Ord, Hash)]
 #[non_exhaustive]
 #[repr(u8)]

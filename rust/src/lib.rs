@@ -45,7 +45,7 @@
 //! # Platforms
 //!
 //! It is written for every target of rustc, and was run on Linux on x86-64.
-//! On ARM64 the library for C was run in an emulator (QEMU) alone, and the packages for Python and Rust were not run.
+//! On ARM64 the library for C, the programs and the Rust crate's calls for C ran in QEMU alone, and the package for Python never ran.
 //!
 //! [`String::from_utf8_lossy`]: https://doc.rust-lang.org/std/string/struct.String.html#method.from_utf8_lossy
 #![cfg_attr(not(feature = "std"), no_std)]

@@ -10,6 +10,16 @@ use crate::Fault;
 /// assert_eq!("utf16le".parse(), Ok(Form::Utf16Le));
 /// assert_eq!(Form::Utf16Le.to_string(), "utf16le");
 /// ```
+///
+/// More may come, so a `match` needs an arm `_`. This does not compile:
+///
+/// ```compile_fail,E0004
+/// use noddychest::Form;
+/// let width = |form: Form| match form {
+///     Form::Utf8 => 1,
+///     Form::Utf16Le | Form::Utf16Be => 2,
+/// };
+/// ```
 #[derive(Clone, Copy, Debug, PartialEq, Eq, Hash)]
 #[non_exhaustive]
 #[repr(u8)]
@@ -107,6 +117,16 @@ impl core::str::FromStr for Form {
 /// use noddychest::{Form, Recoder, Status};
 /// let mut recoder = Recoder::new(Form::Utf8, Form::Utf16Le);
 /// assert_eq!(recoder.feed(b"abc", &mut [0; 4]).status, Status::Full);
+/// ```
+///
+/// More may come, so a `match` needs an arm `_`. This does not compile:
+///
+/// ```compile_fail,E0004
+/// use noddychest::Status;
+/// let is_over = |status: Status| match status {
+///     Status::Done | Status::Fault(_) => true,
+///     Status::Full => false,
+/// };
 /// ```
 #[derive(Clone, Copy, Debug, PartialEq, Eq, Hash)]
 #[non_exhaustive]
