@@ -10,7 +10,9 @@
  *     valid?       nody_utf8_valid_up_to, nody_utf16_bytes_valid_up_to
  *     one piece    nody_utf8_first, nody_utf8_last, nody_utf8_encode
  *     all pieces   nody_bytes or nody_units, then nody_utf8_next, nody_utf8_next_back, nody_utf8_pieces; nody_utf8_char_count
- *     divide       nody_boundary_before, nody_boundary_after, nody_utf16_boundary_before, nody_utf16_boundary_after
+ *     all faults   nody_bytes or nody_units, then nody_utf8_faults
+ *     divide       nody_boundary_before, nody_boundary_after, nody_utf16_boundary_before, nody_utf16_boundary_after, nody_undecided_len
+ *     which form   nody_form_of_bom
  *     recode       nody_recoded_len, nody_recoded_len_max, nody_recode, nody_recode_strict, nody_utf8_to_utf16, nody_utf16_to_utf8
  *     in parts     nody_recoder, nody_recoder_feed, nody_recoder_finish, nody_recoder_held; the same with _strict and _lossy;
  *                  nody_decoder, nody_decoder_feed, nody_decoder_finish: the pieces, with their offsets
@@ -100,7 +102,8 @@ NODY_ENUM(nody_kind_t) {
     NODY_KIND_NONE = 11                          /* no piece: nothing is left */
 };
 
-/* The encoding of text in bytes. A byte order mark is the character U+FEFF. No call looks for one, adds one or takes one away. */
+/* The encoding of text in bytes. A byte order mark is the character U+FEFF at the front. nody_form_of_bom looks for one. No other call
+ * does, and none adds one or takes one away. */
 NODY_ENUM(nody_form_t) {
     NODY_FORM_UTF8 = 0,
     NODY_FORM_UTF16LE = 1, /* little-endian: the low byte of each unit comes first */
@@ -167,11 +170,11 @@ typedef struct {
     uint64_t offset;
 } nody_decoder_t;
 
-/* A piece with its offset. */
+/* A piece with its offset. Offsets and lengths are in bytes, in UTF-16 too; only nody_utf16_faults counts units. */
 typedef struct {
-    uint64_t offset;  /* of its first byte in all of the input, in bytes, in UTF-16 too; modulo 2^64 */
+    uint64_t offset;  /* of its first byte in all of the input; modulo 2^64 */
     uint32_t scalar;  /* the number of the character; 0 for a fault */
-    uint8_t len;      /* in bytes. Character: 1 to 4. Fault: 1 in UTF-8, 2 for a lone surrogate, 1 for a single byte at the end of UTF-16 */
+    uint8_t len;      /* character: 1 to 4; fault: 1 in UTF-8, 2 for a lone surrogate, 1 for a single byte at the end of UTF-16 */
     nody_kind_t kind; /* NODY_KIND_OK, or the reason of the fault */
 } nody_located_t;
 
@@ -326,6 +329,25 @@ nody_piece_t nody_utf16_next_back(nody_units_t *left);
 size_t nody_utf8_pieces(nody_bytes_t *left, nody_piece_t *out, size_t room);
 size_t nody_utf16_pieces(nody_units_t *left, nody_piece_t *out, size_t room);
 
+/* The next faults, many at once, each with its offset: all that is invalid, and no character. Text between them is passed as fast as
+ * nody_utf8_valid_up_to goes over it. The faults are those of nody_utf8_pieces, with the same kinds.
+ *
+ * left: the cursor. After the call it begins with the first fault that did not fit, or has nothing left.
+ * offset: in and out. The offset of the first byte, or unit, of the cursor: 0 for the front of the input. The call adds what it
+ * passed. In nody_utf16_faults offsets and lengths are in units.
+ * out, room: where to write faults, and how many. Places after them keep what they had.
+ * Result: how many faults were written: `room`, or fewer if nothing is left after them.
+ * Errors: none. Cost: linear in what is passed, in blocks where it is text.
+ *
+ *     nody_bytes_t left = nody_bytes(bytes, len);
+ *     nody_located_t faults[64];
+ *     uint64_t offset = 0;
+ *     while ((count = nody_utf8_faults(&left, &offset, faults, 64)) > 0)
+ *         for (size_t k = 0; k < count; k++) report(faults[k].offset, nody_kind_sentence(faults[k].kind));
+ */
+size_t nody_utf8_faults(nody_bytes_t *left, uint64_t *offset, nody_located_t *out, size_t room);
+size_t nody_utf16_faults(nody_units_t *left, uint64_t *offset, nody_located_t *out, size_t room);
+
 /* ---- Where text may be divided ---------------------------------------------------------------------------------------------- */
 
 /* The boundary near an offset: nody_boundary_before gives the last one up to `at`, nody_boundary_after the first one from `at` on.
@@ -352,6 +374,34 @@ size_t nody_boundary_after(nody_form_t form, const uint8_t *bytes, size_t len, s
  */
 size_t nody_utf16_boundary_before(const uint16_t *units, size_t len, size_t at);
 size_t nody_utf16_boundary_after(const uint16_t *units, size_t len, size_t at);
+
+/* How many bytes at the end of some bytes depend on the bytes that follow. Keep them back if you read a large input in blocks, and put
+ * them before the next block. It is how many bytes a decoder holds that was fed these bytes alone (nody_decoder_feed).
+ *
+ * They are the front of a character, or faults whose kind the next bytes decide: of ED A0 both are, although no third byte makes it a
+ * character. All pieces before them are known. Their kinds are those of a decoder: of F0 41 the first byte is
+ * NODY_KIND_INTERRUPTED_SEQUENCE whatever follows, and the result is 0. If no byte follows, all that is left are faults.
+ *
+ * form: the form of the input. bytes, len: the input, or a part of it that begins at a boundary.
+ * Result: 0 to 3.
+ * Errors: SIZE_MAX if the form is above 2: test for it before you use the result. Cost: constant.
+ *
+ *     size_t whole = len - nody_undecided_len(NODY_FORM_UTF8, block, len); // of 61 E2 82 it is 1
+ */
+size_t nody_undecided_len(nody_form_t form, const uint8_t *bytes, size_t len);
+
+/* The form of an input that begins with a byte order mark, and the length of the mark. UTF-8 has EF BB BF, little-endian UTF-16 FF FE,
+ * and big-endian UTF-16 FE FF. Little-endian UTF-32 begins with FF FE too: this call takes it for UTF-16.
+ *
+ * bytes, len: the input. Its first three bytes are enough.
+ * form: receives the form if there is a mark. Else it stays as it was: put the form there that you take then.
+ * Result: the length of the mark in bytes, 2 or 3; 0 if the input begins with none.
+ * Errors: none. Cost: constant.
+ *
+ *     nody_form_t form = NODY_FORM_UTF8;
+ *     size_t mark = nody_form_of_bom(in, len, &form); // the text is in + mark, of len - mark bytes
+ */
+size_t nody_form_of_bom(const uint8_t *bytes, size_t len, nody_form_t *form);
 
 /* ---- A whole input recoded -------------------------------------------------------------------------------------------------- */
 

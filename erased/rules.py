@@ -69,7 +69,7 @@ OWN_TRAITS = {"cuts/located.rt:FromPiece"}
 OPENED = {"encode_unicode/utf16_merger.rt": ("Utf16CharMerger", "held")}
 
 # Types that calls of C are passed by value, and those of what such a call writes: what stands there before it, since C's memory may hold
-# nothing yet.
+# nothing yet. What a call may leave as it is, C has filled before.
 BY_VALUE = {"u8", "u32", "usize"}
 WRITTEN = {
     "usize": "0",
@@ -77,7 +77,7 @@ WRITTEN = {
     "& 'static NodyName": "&NodyName { text: [0; 32] }",
     "& 'static NodySentence": "&NodySentence { text: [0; 64] }",
 }
-CHANGED = {"NodyDecoder", "NodyRecoder"}
+CHANGED = {"NodyDecoder", "NodyRecoder", "u8", "u64"}
 LENT = {"NodyBytes": ("bytes", "u8"), "NodyUnits": ("units", "u16")}
 
 # What goes by lanes: of these files there is a copy for processors with AVX2 (wide.py), over the types of all other files.

@@ -45,7 +45,7 @@ REFUSED = [
     ("a clone that is more than", "impl S {\n    fn clone(&self) -> Result<S, AllocError> { return Err(AllocError); }\n}"),
     ("places of lanes that are no list of numbers", "fn f() { a.swizzle([n, 1]); }"),
     ("C passes no `& str`", '#[unsafe(no_mangle)]\npub extern "C" fn f(x: &str) {}'),
-    ("C passes no `& mut u64`", '#[unsafe(no_mangle)]\npub extern "C" fn f(x: &mut u64) {}'),
+    ("C passes no `& mut u32`", '#[unsafe(no_mangle)]\npub extern "C" fn f(x: &mut u32) {}'),
     ("an `extern` of another form", '#[unsafe(no_mangle)]\nextern "C" fn f(x: u8) {}'),
     ("an `extern` function with another attribute first", '#[inline]\npub extern "C" fn f(x: u8) {}'),
     ("Utf16CharMerger has no field held", "struct Utf16CharMerger {\n    other: u8,\n}", "encode_unicode/utf16_merger.rt"),

@@ -238,6 +238,64 @@ static void boundaries(void) {
     expect(nody_utf16_boundary_before(NULL, 0, 0) == 0 && nody_boundary_after(NODY_FORM_UTF8, NULL, 0, 1) == 0, "in nothing");
 }
 
+/* Faults alone. What is left begins with the first that did not fit. */
+static void faults(void) {
+    static const uint8_t in[] = {'a', 0xff, 0xe2, 0x82, 'b', 0xf0, 0x9f, 0x98, 0x80, 0xf0, 0x9f};
+    static const uint16_t units[] = {0x41, 0xdc00, 0xd83d, 0xde00, 0xd800, 0x42, 0xd83d};
+    static const uint64_t at[] = {1, 2, 3, 9, 10};
+    static const nody_kind_t kinds[] = {NODY_KIND_NON_UTF8_BYTE, NODY_KIND_INTERRUPTED_SEQUENCE, NODY_KIND_UNEXPECTED_CONTINUATION_BYTE,
+                                        NODY_KIND_TOO_FEW_BYTES, NODY_KIND_UNEXPECTED_CONTINUATION_BYTE};
+    nody_bytes_t left = nody_bytes(in, sizeof in), none = nody_bytes(NULL, 0);
+    nody_units_t back = nody_units(units, 7);
+    nody_located_t found[6];
+    uint64_t offset = 100;
+    memset(found, 77, sizeof found);
+    expect(nody_utf8_faults(&left, &offset, found, 0) == 0 && offset == 101 && left.bytes == in + 1 && left.len == 10, "no room for a fault");
+    expect(nody_utf8_faults(&left, &offset, found, 2) == 2 && offset == 103 && left.bytes == in + 3 && left.len == 8, "room for two faults");
+    expect(nody_utf8_faults(&left, &offset, found + 2, 4) == 3 && offset == 100 + sizeof in && left.len == 0, "the other faults");
+    for (size_t i = 0; i < 5; i++)
+        expect(found[i].offset == 100 + at[i] && found[i].kind == kinds[i] && found[i].len == 1 && found[i].scalar == 0, "a fault with its offset");
+    expect(found[5].len == 77 && nody_utf8_faults(&left, &offset, found, 6) == 0 && nody_utf8_faults(&none, &offset, NULL, 0) == 0, "no more faults");
+    offset = 0;
+    expect(nody_utf16_faults(&back, &offset, found, 2) == 2 && offset == 6 && back.units == units + 6 && back.len == 1, "faults of units");
+    expect(found[0].offset == 1 && found[0].kind == NODY_KIND_UNEXPECTED_TRAILING_SURROGATE && found[0].len == 1, "a trailing surrogate");
+    expect(found[1].offset == 4 && found[1].kind == NODY_KIND_UNMATCHED_LEADING_SURROGATE && found[1].len == 1, "a leading surrogate");
+    expect(nody_utf16_faults(&back, &offset, found, 2) == 1 && offset == 7 && found[0].offset == 6 && found[0].kind == NODY_KIND_INCOMPLETE, "the last unit");
+}
+
+/* How many bytes later ones decide. RFC 3629 has what begins a character; the pairs are from the Unicode standard, section 3.9. */
+static void undecided(void) {
+    static const struct {
+        const char *bytes;
+        size_t len, utf8, utf16le, utf16be;
+    } ends[] = {
+        {"", 0, 0, 0, 0}, {"a", 1, 0, 1, 1}, {"\xE2", 1, 1, 1, 1}, {"a\xE2\x82", 3, 2, 1, 1}, {"a\xE2\x82\xAC", 4, 0, 0, 0}, {"\xE2" "A", 2, 0, 0, 0},
+        {"\xF0\x9F\x98", 3, 3, 1, 1}, {"\xF0\x9F\x98\x80", 4, 0, 0, 0}, {"\xF0\x41", 2, 0, 0, 0}, {"\xED\xA0", 2, 2, 0, 0}, {"\x80\x80\x80", 3, 0, 1, 1},
+        {"\xC3\xF4\x80", 3, 2, 1, 1}, {"\xC1", 1, 0, 1, 1}, {"\xF5", 1, 0, 1, 1}, {"\x3D\xD8", 2, 1, 2, 0}, {"\xD8\x3D", 2, 0, 0, 2},
+        {"\x3D\xD8\x00", 3, 0, 3, 1}, {"\x3D\xD8\x00\xDE", 4, 1, 0, 0}, {"\xD8\x3D\xDE", 3, 1, 1, 3}, {"\xD8\x3D\xDE\x00", 4, 0, 0, 0}, {"\x00\xDC", 2, 1, 0, 0},
+    };
+    for (size_t i = 0; i < sizeof ends / sizeof *ends; i++) {
+        const uint8_t *bytes = (const uint8_t *)ends[i].bytes;
+        expect(nody_undecided_len(NODY_FORM_UTF8, bytes, ends[i].len) == ends[i].utf8, "an undecided end");
+        expect(nody_undecided_len(NODY_FORM_UTF16LE, bytes, ends[i].len) == ends[i].utf16le, "an undecided end in little-endian UTF-16");
+        expect(nody_undecided_len(NODY_FORM_UTF16BE, bytes, ends[i].len) == ends[i].utf16be, "an undecided end in big-endian UTF-16");
+    }
+    expect(nody_undecided_len(NODY_FORM_UTF8, NULL, 0) == 0 && nody_undecided_len(3, NULL, 0) == SIZE_MAX, "an end of nothing, and in no form");
+}
+
+/* The byte order marks of the Unicode standard, section 23.8. */
+static void marks(void) {
+    nody_form_t form = 9;
+    expect(nody_form_of_bom((const uint8_t *)"\xEF\xBB\xBF" "a", 4, &form) == 3 && form == NODY_FORM_UTF8, "the mark of UTF-8");
+    expect(nody_form_of_bom((const uint8_t *)"\xFF\xFE" "a", 3, &form) == 2 && form == NODY_FORM_UTF16LE, "the mark of little-endian UTF-16");
+    expect(nody_form_of_bom((const uint8_t *)"\xFE\xFF", 2, &form) == 2 && form == NODY_FORM_UTF16BE, "the mark of big-endian UTF-16");
+    expect(nody_form_of_bom((const uint8_t *)"\xFF\xFE\0\0", 4, &form) == 2 && form == NODY_FORM_UTF16LE, "the mark of UTF-32");
+    form = 9;
+    expect(nody_form_of_bom((const uint8_t *)"\xEF\xBB", 2, &form) == 0 && form == 9, "the front of a mark");
+    expect(nody_form_of_bom((const uint8_t *)"\xFE\xFE\xFF", 3, &form) == 0 && form == 9, "a mark that is not at the front");
+    expect(nody_form_of_bom(NULL, 0, &form) == 0 && form == 9, "no mark in nothing");
+}
+
 /* Which kind wins, what a kind is called, and the version. */
 static void words(void) {
     static const uint8_t short_surrogate[] = {0xed, 0xa0}, overlong[] = {0xe0, 0x80, 0x41}, euro[] = {0xe2, 0x82};
@@ -424,11 +482,15 @@ static void *takes_nothing(void *unused) {
 static void take_units(const uint16_t *units, size_t len) {
     nody_units_t left = nody_units(units, len), back = left;
     nody_piece_t pieces[4];
+    nody_located_t found[4];
+    uint64_t offset = 0;
     nody_utf16_pieces(&left, pieces, 4);
     nody_utf16_next(&left);
     nody_utf16_next_back(&back);
     nody_utf16_valid_up_to(units, len);
     nody_utf16_char_count(units, len);
+    back = nody_units(units, len);
+    nody_utf16_faults(&back, &offset, found, 4);
     nody_utf16_boundary_before(units, len, len / 2);
     nody_utf16_boundary_after(units, len, len / 2);
 }
@@ -436,12 +498,16 @@ static void take_units(const uint16_t *units, size_t len) {
 static void take_bytes(const uint8_t *bytes, size_t len) {
     nody_bytes_t left = nody_bytes(bytes, len), back = left;
     nody_piece_t pieces[4];
+    nody_located_t found[4];
+    uint64_t offset = 0;
     nody_utf8_pieces(&left, pieces, 4);
     nody_utf8_next(&left);
     nody_utf8_next_back(&back);
     nody_utf8_streamed_at(bytes, len, 1);
     nody_utf8_valid_up_to(bytes, len);
     nody_utf8_char_count(bytes, len);
+    back = nody_bytes(bytes, len);
+    nody_utf8_faults(&back, &offset, found, 4);
 }
 
 /* One piece, its names, and what tells of the library. */
@@ -477,6 +543,7 @@ static void decode_in_parts(uint8_t form, const uint8_t *in, size_t len) {
 static void recode_each_way(uint8_t from, uint8_t to, const uint8_t *in, size_t len) {
     nody_recoder_t a = nody_recoder(from, to), b = a, c = a;
     nody_fault_t fault;
+    nody_form_t told = from;
     size_t read, written;
     nody_recode(from, to, in, len, made, sizeof made, &written);
     nody_recoded_len(from, to, in, len);
@@ -493,6 +560,8 @@ static void recode_each_way(uint8_t from, uint8_t to, const uint8_t *in, size_t 
     nody_utf16_bytes_valid_up_to(from, in, len);
     nody_shard_end(from, in, len, len / 2);
     nody_boundary_after(from, in, len, len / 2);
+    nody_undecided_len(from, in, len / 2 + 1);
+    nody_form_of_bom(in, len, &told);
 }
 
 static void *takes_all(void *unused) {
@@ -540,6 +609,9 @@ int main(int argc, char **argv) {
     streamed();
     whole_inputs();
     boundaries();
+    faults();
+    undecided();
+    marks();
     words();
     strictly();
     replaced();

@@ -183,6 +183,7 @@ static void check_divisions(nody_form_t form, const uint8_t *bytes, size_t len, 
                 struct run run = started(form, 0);
                 feed(&run, bytes, i, room);
                 expect(holds_shortest(&run, form), "what is held is not decided", number);
+                expect(nody_undecided_len(form, bytes, i) == run.decoder.count, "as many bytes are undecided", number);
                 feed(&run, bytes + i, j - i, room);
                 feed(&run, bytes + j, len - j, room);
                 finish(&run, room);
@@ -233,6 +234,7 @@ static void check_random(unsigned long rounds) {
             if (part > len - place) part = len - place;
             feed(&run, bytes + place, part, room);
             place += part;
+            expect(nody_undecided_len(form, bytes, place) == run.decoder.count, "as many bytes are undecided as are held", round);
         }
         finish(&run, room);
         check_done(&run, form, offset, bytes, len, "random parts", round);

@@ -426,11 +426,57 @@ static int are_boundaries(nody_form_t form, const uint8_t *in, size_t len, const
     return 1;
 }
 
+/* How many bytes at the end depend on what follows: the front of a character, after which nothing but its continuation bytes came. */
+static size_t undecided(nody_form_t form, const uint8_t *in, size_t len) {
+    size_t odd = len % 2;
+    if (form != NODY_FORM_UTF8) return len >= 2 && (in[len - odd - (form == NODY_FORM_UTF16BE ? 2 : 1)] & 0xFC) == 0xD8 ? 2 + odd : odd;
+    for (size_t left = len < 3 ? len : 3; left > 0; left--) {
+        uint8_t first = in[len - left];
+        size_t needs = first < 0xC2 || first > 0xF4 ? 1 : first < 0xE0 ? 2 : first < 0xF0 ? 3 : 4, more = 1;
+        while (more < left && (in[len - left + more] & 0xC0) == 0x80) more++;
+        if (needs > left && more == left) return left;
+    }
+    return 0;
+}
+
+static int is_mark(const uint8_t *in, size_t len) {
+    static const uint8_t utf8[] = {0xEF, 0xBB, 0xBF}, le[] = {0xFF, 0xFE}, be[] = {0xFE, 0xFF};
+    nody_form_t form = NODY_FORM_UTF16BE;
+    size_t mark = nody_form_of_bom(in, len, &form);
+    if (len >= 3 && memcmp(in, utf8, 3) == 0) return mark == 3 && form == NODY_FORM_UTF8;
+    if (len >= 2 && memcmp(in, le, 2) == 0) return mark == 2 && form == NODY_FORM_UTF16LE;
+    return mark == (len >= 2 && memcmp(in, be, 2) == 0 ? 2 : 0) && form == NODY_FORM_UTF16BE;
+}
+
+/* The faults alone, with rooms for one to three, and from an offset at which 64 bits end. */
+static int are_faults(const uint8_t *in, size_t len, const nody_piece_t *all, size_t count) {
+    for (size_t room = 1; room < 4; room++) {
+        nody_bytes_t left = nody_bytes(in, len);
+        nody_located_t found[4];
+        uint64_t offset = UINT64_MAX - 1, place = offset;
+        size_t have = 0, next = 0;
+        for (size_t i = 0; i < count; place += all[i++].len) {
+            if (all[i].kind == NODY_KIND_OK) continue;
+            if (next == have) {
+                next = 0;
+                memset(found, 77, sizeof found);
+                have = nody_utf8_faults(&left, &offset, found, room);
+                if (have == 0 || have > room || found[have].len != 77 || found[room].len != 77) return 0;
+            }
+            if (found[next].offset != place || found[next].kind != all[i].kind || found[next].len != 1 || found[next].scalar != 0) return 0;
+            next++;
+        }
+        if (next != have || nody_utf8_faults(&left, &offset, found, room) != 0 || left.len != 0 || offset != place) return 0;
+    }
+    return 1;
+}
+
 static int are_pieces(const uint8_t *in, size_t len, const cut_text *pieces) {
     nody_bytes_t front = nody_bytes(in, len), back = front;
     nody_piece_t all[MOST];
     nody_bytes_t left = front;
     if (nody_utf8_pieces(&left, all, MOST) != pieces->count || nody_utf8_char_count(in, len) != pieces->count) return 0;
+    if (!are_faults(in, len, all, pieces->count)) return 0;
     for (size_t i = 0; i < pieces->count; i++) {
         const cut_piece *it = &pieces->piece[i], *last = &pieces->piece[pieces->count - 1 - i];
         nody_piece_t next = nody_utf8_next(&front), end = nody_utf8_next_back(&back), here = nody_utf8_streamed_at(in, len, it->start);
@@ -452,6 +498,7 @@ static void all_of(const uint8_t *bytes, size_t len) {
             say(form, form, in, len);
             expect(nody_utf16_bytes_valid_up_to(form, in, len) == pieces.valid, "valid up to", shown);
             expect(are_boundaries(form, in, len, &pieces), "boundaries", shown);
+            expect(nody_undecided_len(form, in, len) == undecided(form, in, len) && is_mark(in, len), "undecided bytes, and a mark", shown);
             if (form == NODY_FORM_UTF8) expect(are_pieces(in, len, &pieces) && nody_utf8_valid_up_to(in, len) == pieces.valid, "pieces", shown);
             recodings(form, in, len, &pieces);
         }

@@ -1,3 +1,4 @@
 pub mod Api
 pub mod Decoders
+pub mod FaultCalls
 pub mod Whole

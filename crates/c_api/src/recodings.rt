@@ -42,6 +42,18 @@ pub(crate) fn form_of(number: u8) -> Form
     }
 }
 
+// The number of a form.
+pub(crate) fn number_of_form(form: Form) -> u8
+    ensures is_form { IsForm result }
+    ensures form { form_of result ≡ form }
+{
+    match form {
+        Form::Utf8 => 0,
+        Form::Utf16Le => 1,
+        Form::Utf16Be => 2,
+    }
+}
+
 // Whether the struct is a recoder.
 pub(crate) fn is_recoder(recoder: &NodyRecoder) -> bool
     ensures yes { result ≡ true → IsRecoder recoder.now }

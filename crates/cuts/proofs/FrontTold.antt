@@ -1,6 +1,7 @@
 -- The piece that begins some bytes, from what a decoding of them answers.
-use Rattle.std.proofs.Common.{◌≡◌, ◌≢◌, ℕ, ◌+◌, ◌*◌, ◌<◌, ◌≤◌, ⊎_elim, Bool, true, false, List, [], ◌∷◌, ◌++◌, length, get_or, drop, min, Option, Some, None, Result, Ok, Err, arith, refl, ap, sym, ◌∙◌, length-append}
+use Rattle.std.proofs.Common.{◌≡◌, ◌≢◌, ℕ, ◌+◌, ◌*◌, ◌<◌, ◌≤◌, ⊎_elim, Bool, eqb, true, false, List, [], ◌∷◌, ◌++◌, length, get_or, drop, min, Option, Some, None, Result, Ok, Err, arith, refl, ap, sym, ◌∙◌, length-append}
 use Rattle.std.proofs.lemmas.Bool.{cases_lt}
+use Rattle.std.proofs.lemmas.Grind.{common_steps}
 use Rattle.std.proofs.lemmas.List.{append-nil}
 use Rattle.std.specs.Option.{option_map}
 use Rattle.utf_base.specs.Code.{utf8, utf16}
@@ -8,7 +9,7 @@ use Rattle.utf_base.specs.Decoded.{decoded_pairs}
 use Rattle.utf_base.specs.Front.{BeginsWith}
 use Rattle.utf_base.specs.Kinds.{fault_kind, is_broken}
 use Rattle.utf_base.specs.Scalar.{IsScalar}
-use Rattle.utf_base.specs.Units.{is_leading_surrogate, is_trailing_surrogate, unit_fault_kind}
+use Rattle.utf_base.specs.Units.{is_leading_surrogate, is_trailing_surrogate, unit_fault_kind, unit_value}
 use Rattle.utf_base.specs.declared.errors.Utf8ErrorKind.{Utf8ErrorKind}
 use Rattle.utf_base.specs.declared.errors.Utf8ErrorKind.TheVariants.{TooFewBytes, InterruptedSequence}
 use Rattle.utf_base.specs.declared.errors.units.Utf16PairError.{Utf16PairError}
@@ -128,6 +129,12 @@ two_lack high (a ∷ b ∷ []) h e = absurd (omega arith)
 two_lack high (a ∷ b ∷ c ∷ []) h e = absurd (omega arith)
 two_lack high (a ∷ b ∷ c ∷ d ∷ w) h e = two_do_not_lack _ _ _ e
 
+plain_pairs : (u : ℕ) (us : List ℕ) → is_trailing_surrogate u ≡ false → is_leading_surrogate u ≡ false → decoded_pairs (u ∷ us) ≡ Ok (u, 1)
+unfolding decoded_pairs unit_fault_kind unit_value
+plain_pairs u us t l =
+    let not_empty : eqb (length (u ∷ us)) 0 ≡ false = grind (arith, common_steps) in
+    rw (not_empty, t, l) refl
+
 module _ (high : Bool) (from : Form) (form : HasByteOrder high from) where
   told_by : (w : List ℕ) (r : Result (ℕ × ℕ) Utf16PairError) → decoded_pairs (units_of high w) ≡ r → first_told from w ≡ in_bytes w (told_as kind.Utf16 (as_piece r))
   told_by w r h = told_units high from w form ∙ ap (λ x. in_bytes w (told_as kind.Utf16 (as_piece x))) h
@@ -145,6 +152,19 @@ module _ (high : Bool) (from : Form) (form : HasByteOrder high from) where
         let known : decoded_pairs (units_of high (w ++ later)) ≡ Ok (s, length (utf16 s)) = decoded_pairs_code (units_of high (w ++ later)) s (stands_first utf16 (units_of high (w ++ later)) us s scalar all) in
         let len : min (2 * length (utf16 s)) (length (w ++ later)) ≡ 2 = omega arith in
         told_by (w ++ later) (Ok (s, length (utf16 s))) known ∙ ap (λ m. (Ok s, m)) len;
+  }
+
+  -- a unit that is no surrogate, by its number
+  pub plain_begins : (w : List ℕ) → 2 ≤ length w → is_trailing_surrogate (first_unit high w) ≡ false → is_leading_surrogate (first_unit high w) ≡ false → Begins from w (Ok (first_unit high w), 2)
+  plain_begins w two t l = record {
+    some = omega arith;
+    few = omega arith;
+    within = two;
+    first = λ later.
+        let long : 2 ≤ length (w ++ later) = omega (arith, length-append w later) in
+        let len : min (2 * 1) (length (w ++ later)) ≡ 2 = omega arith in
+        told_by (w ++ later) (Ok (first_unit high w, 1)) (ap decoded_pairs (units_two high w later two) ∙ plain_pairs (first_unit high w) (units_of high (drop 2 w ++ later)) t l)
+        ∙ ap (λ m. (Ok (first_unit high w), m)) len;
   }
 
   pub pair_begins : (w : List ℕ) (s : ℕ) → 4 ≤ length w → IsScalar s → first_unit high w ∷ second_unit high w ∷ [] ≡ utf16 s → Begins from w (Ok s, 4)

@@ -24,6 +24,8 @@ pub mod Layouts
 pub mod Listings
 pub mod Located
 pub mod LocatedLaws
+pub mod UndecidedEnds
+pub mod FaultLists
 pub mod Endings
 pub use Rattle.recoding.specs.Recoded
 pub use Rattle.recoding.specs.RecodedBytes

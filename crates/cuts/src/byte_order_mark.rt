@@ -1,5 +1,5 @@
 //! The byte order mark, by which some texts tell their form.
-ghost use Rattle.std.specs.Prelude.{IfNone, IfSome};
+ghost use Rattle.std.specs.Prelude.{◌≤◌, IfNone, IfSome};
 ghost use Rattle.cuts.specs.ByteOrderMarks.{BeginsWithMark, HasNoMark};
 
 use recoding::form::Form;
@@ -10,6 +10,7 @@ use recoding::form::Form;
 /// UTF-32 with the low byte first begins with the mark of UTF-16, and is told as that.
 pub fn form_of_bom(bytes: &[u8]) -> Option<(Form, usize)>
     ensures some { IfSome result (λ x. BeginsWithMark x.0 bytes.now x.1) }
+    ensures len { IfSome result (λ x. 2 ≤ x.1) }
     ensures none { IfNone result (HasNoMark bytes.now) }
 {
     if bytes.starts_with(&[0xef, 0xbb, 0xbf]) {

@@ -37,7 +37,7 @@ impl Model for Decoder {
     ghost invariant = { λ d. d.count ≤ 3 };
 }
 
-/// How far a call of a `Decoder` came.
+/// How far a call of a `Decoder`, or of `faults_into`, came.
 #[derive(Clone, Copy, Debug, PartialEq, Eq, Drop)]
 pub struct Fed {
     /// How many bytes of the part were read.

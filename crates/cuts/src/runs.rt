@@ -2,6 +2,7 @@
 
 pub mod collected;
 pub mod counts;
+pub mod fault_lists;
 pub mod items;
 pub mod unit_bytes;
 pub mod walks;

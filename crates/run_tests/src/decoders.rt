@@ -1,5 +1,8 @@
 //! Pieces of input that comes in parts: the answers of a merger of the Rust crate for the whole, with their offsets summed by hand.
-use cuts::{Decoder, FaultKind, Fed, Form, LocatedPiece, form_of_bom};
+use cuts::{
+    Decoder, FaultKind, Fed, Form, LocatedPiece, faults_into, form_of_bom, undecided_len,
+    unit_faults_into,
+};
 use encode_unicode::error::{Utf8ErrorKind, Utf16PairError};
 
 fn empty() -> [LocatedPiece; 3] {
@@ -87,4 +90,68 @@ fn marks_tell_the_form(rt: HostRuntime) {
     assert!(rt; form_of_bom(b"\xff\xfea\x00") == Some((Form::Utf16Le, 2)));
     assert!(rt; form_of_bom(b"\xfe\xff") == Some((Form::Utf16Be, 2)));
     assert!(rt; form_of_bom(b"\xef\xbb") == None && form_of_bom(b"a\xff\xfe") == None);
+}
+
+// What begins a character, by RFC 3629 and, for pairs, by the Unicode standard, section 3.9: each with how many bytes wait for more.
+#[test]
+fn the_front_of_a_character_is_undecided(rt: HostRuntime) {
+    assert!(rt;
+        undecided_len(Form::Utf8, b"a\xe2\x82") == 2
+            && undecided_len(Form::Utf8, b"a\xe2\x82\xac") == 0
+    );
+    assert!(rt;
+        undecided_len(Form::Utf8, b"abcd\xf0\x9f\x98") == 3
+            && undecided_len(Form::Utf8, b"\xf0A") == 0
+    );
+    assert!(rt;
+        undecided_len(Form::Utf8, b"\xed\xa0") == 2
+            && undecided_len(Form::Utf8, b"\x80\x80\x80") == 0
+    );
+    assert!(rt;
+        undecided_len(Form::Utf16Le, b"a\x00\x3d\xd8") == 2
+            && undecided_len(Form::Utf16Le, b"a\x00\x3d\xd8\x00") == 3
+    );
+    assert!(rt;
+        undecided_len(Form::Utf16Be, b"\xd8\x3d\xde\x00") == 0
+            && undecided_len(Form::Utf16Be, b"\x00") == 1
+    );
+    assert!(rt; undecided_len(Form::Utf16Be, b"") == 0);
+}
+
+// a ff e2 82 b f0: four faults, by the kinds of a decoder of the Rust crate, with room for three of them.
+#[test]
+fn faults_come_with_their_offsets(rt: HostRuntime) {
+    let mut room = empty();
+    let bytes = b"a\xff\xe2\x82b\xf0";
+    assert!(rt; faults_into(bytes, 10, &mut room) == came(5, 3, true));
+    assert!(rt; room[0] == is_fault(11, 1, FaultKind::Utf8(Utf8ErrorKind::NonUtf8Byte)));
+    assert!(rt; room[1] == is_fault(12, 1, FaultKind::Utf8(Utf8ErrorKind::InterruptedSequence)));
+    assert!(rt;
+        room[2]
+            == is_fault(
+                13,
+                1,
+                FaultKind::Utf8(Utf8ErrorKind::UnexpectedContinuationByte)
+            )
+    );
+    assert!(rt; faults_into(&bytes[5..], 15, &mut room) == came(1, 1, false));
+    assert!(rt; room[0] == is_fault(15, 1, FaultKind::Utf8(Utf8ErrorKind::TooFewBytes)));
+    assert!(rt; faults_into(b"abc", 0, &mut room) == came(3, 0, false));
+}
+
+#[test]
+fn faults_of_units_count_units(rt: HostRuntime) {
+    let mut room = empty();
+    assert!(rt;
+        unit_faults_into(&[0x41, 0xdc00, 0xd83d, 0xde00, 0xd800], 0, &mut room) == came(5, 2, false)
+    );
+    assert!(rt;
+        room[0]
+            == is_fault(
+                1,
+                1,
+                FaultKind::Utf16(Utf16PairError::UnexpectedTrailingSurrogate)
+            )
+    );
+    assert!(rt; room[1] == is_fault(4, 1, FaultKind::Utf16(Utf16PairError::Incomplete)));
 }

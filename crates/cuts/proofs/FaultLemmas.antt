@@ -1,0 +1,236 @@
+-- Lists of faults: what a character and a fault at the front leave of them, and what text does.
+use Rattle.std.proofs.Common.{◌≡◌, ℕ, zero, suc, ◌+◌, ◌-◌, ◌<◌, ◌≤◌, Bool, true, false, List, [], ◌∷◌, ◌++◌, length, length-append, length-drop, length-set, filter, is_err, map, min, set, take, drop, cond, Result, Ok, Err, arith, refl, ap, sym, ◌∙◌, append_assoc}
+use Rattle.std.proofs.Math.Seq.{drop-append_seam, take-append_seam}
+use Rattle.std.proofs.lemmas.List.{drop-drop, drop-set-lt, drop_all, map-append, take_more_set, take_rest}
+use Rattle.std.specs.Prelude.{slice_range}
+use Rattle.utf_base.specs.Decoded.{decoded, decoded_pairs}
+use Rattle.utf_base.specs.Front.{IsFrontLen}
+use Rattle.encode_unicode.specs.Pieces.{pieces_by}
+use Rattle.encode_unicode.specs.Window.{Placed, Window, as_piece, elements, whole_window}
+use Rattle.cuts.specs.FaultLists.{BeginsWithFault, FindsFaults, unit_faults}
+use Rattle.cuts.specs.ShardRuns.{faults, moved}
+use Rattle.cuts.specs.WellFormed.{valid_len}
+
+-- The faults of a list whose first element stands at a place, by what a decoding answers.
+abbrev pub faults_by : {E : Type 0} → (List ℕ → Result (ℕ × ℕ) E) → ℕ → List ℕ → List (Placed E)
+faults_by answer place w = filter (λ x. is_err x.1) (pieces_by answer (length w) place w)
+
+module _ {E : Type 0} (answer : List ℕ → Result (ℕ × ℕ) E) (some : (xs : List ℕ) → 1 ≤ (as_piece (answer xs)).1) where
+  same_by : (n m place : ℕ) (w : List ℕ) → length w ≤ n → length w ≤ m → pieces_by answer n place w ≡ pieces_by answer m place w
+  unfolding pieces_by
+  same_by zero zero place w h k = refl
+  same_by zero (suc m) place [] h k = refl
+  same_by zero (suc m) place (b ∷ w) h k = absurd (omega arith)
+  same_by (suc n) zero place [] h k = refl
+  same_by (suc n) zero place (b ∷ w) h k = absurd (omega arith)
+  same_by (suc n) (suc m) place [] h k = refl
+  same_by (suc n) (suc m) place (b ∷ w) h k =
+      let x = as_piece (answer (b ∷ w)) in
+      let one = some (b ∷ w) in
+      let left = length-drop x.1 (b ∷ w) in
+      ap (λ ps. (place, x.0, x.1) ∷ ps) (same_by n m (place + x.1) (drop x.1 (b ∷ w)) (omega arith) (omega arith))
+
+  -- one piece, and then those of what it leaves
+  pieces_first : (place : ℕ) (w : List ℕ) → 0 < length w
+      → pieces_by answer (length w) place w ≡ (place, (as_piece (answer w)).0, (as_piece (answer w)).1) ∷ pieces_by answer (length (drop (as_piece (answer w)).1 w)) (place + (as_piece (answer w)).1) (drop (as_piece (answer w)).1 w)
+  unfolding pieces_by
+  pieces_first place [] h = absurd (omega arith)
+  pieces_first place (b ∷ w) h =
+      let x = as_piece (answer (b ∷ w)) in
+      let one = some (b ∷ w) in
+      let left = length-drop x.1 (b ∷ w) in
+      ap (λ ps. (place, x.0, x.1) ∷ ps) (same_by (length w) (length (drop x.1 (b ∷ w))) (place + x.1) (drop x.1 (b ∷ w)) (omega arith) (omega arith))
+
+  pieces_known : (place : ℕ) (w : List ℕ) (x : Result ℕ E × ℕ) → 0 < length w → as_piece (answer w) ≡ x
+      → pieces_by answer (length w) place w ≡ (place, x.0, x.1) ∷ pieces_by answer (length (drop x.1 w)) (place + x.1) (drop x.1 w)
+  pieces_known place w x h e = pieces_first place w h ∙ ap (λ (y : Result ℕ E × ℕ). (place, y.0, y.1) ∷ pieces_by answer (length (drop y.1 w)) (place + y.1) (drop y.1 w)) e
+
+  pub faults_none : (place : ℕ) → faults_by answer place [] ≡ []
+  unfolding pieces_by
+  faults_none place = refl
+
+  pub char_step : (place : ℕ) (w : List ℕ) (s n : ℕ) → 0 < length w → as_piece (answer w) ≡ (Ok s, n) → faults_by answer place w ≡ faults_by answer (place + n) (drop n w)
+  char_step place w s n h e = ap (filter (λ x. is_err x.1)) (pieces_known place w (Ok s, n) h e)
+
+  pub fault_step : (place : ℕ) (w : List ℕ) (k : E) (n : ℕ) → 0 < length w → as_piece (answer w) ≡ (Err k, n) → faults_by answer place w ≡ (place, Err k, n) ∷ faults_by answer (place + n) (drop n w)
+  fault_step place w k n h e = ap (filter (λ x. is_err x.1)) (pieces_known place w (Err k, n) h e)
+
+  -- text has none
+  text_step_by : (fuel place p : ℕ) (w : List ℕ) (n : ℕ) → length w ≤ fuel → n ≡ valid_len (pieces_by answer (length w) p w) → faults_by answer place w ≡ faults_by answer (place + n) (drop n w)
+  text_step_by fuel place p [] n le e = faults_none place ∙ sym (ap (faults_by answer (place + n)) (drop_nothing n) ∙ faults_none (place + n))
+    where
+      drop_nothing : (n : ℕ) → drop {A = ℕ} n [] ≡ []
+      drop_nothing n = drop_all n [] (omega arith)
+  text_step_by zero place p (b ∷ w) n le e = absurd (omega arith)
+  text_step_by (suc fuel) place p (b ∷ w) n le e = by (as_piece (answer (b ∷ w))) refl (some (b ∷ w)) (λ place p v n. text_step_by fuel place p v n)
+    where
+      by : (x : Result ℕ E × ℕ) → as_piece (answer (b ∷ w)) ≡ x → 1 ≤ x.1
+          → ((place p : ℕ) (v : List ℕ) (n : ℕ) → length v ≤ fuel → n ≡ valid_len (pieces_by answer (length v) p v) → faults_by answer place v ≡ faults_by answer (place + n) (drop n v))
+          → faults_by answer place (b ∷ w) ≡ faults_by answer (place + n) (drop n (b ∷ w))
+      by (Ok s, m) h one shorter =
+          let k = valid_len (pieces_by answer (length (drop m (b ∷ w))) (p + m) (drop m (b ∷ w))) in
+          let sum : n ≡ m + k = e ∙ ap valid_len (pieces_known p (b ∷ w) (Ok s, m) (omega arith) h) in
+          let rest = shorter (place + m) (p + m) (drop m (b ∷ w)) k (omega (arith, length-drop m (b ∷ w))) refl in
+          let at : place + m + k ≡ place + n = omega arith in
+          char_step place (b ∷ w) s m (omega arith) h ∙ rest ∙ ap (λ v. faults_by answer (place + m + k) v) (drop-drop k m (b ∷ w) ∙ ap (λ j. drop j (b ∷ w)) (sym sum)) ∙ ap (λ j. faults_by answer j (drop n (b ∷ w))) at
+      by (Err f, m) h one shorter =
+          let none : n ≡ 0 = e ∙ ap valid_len (pieces_known p (b ∷ w) (Err f, m) (omega arith) h) in
+          let at : place ≡ place + n = omega arith in
+          ap (λ j. faults_by answer j (b ∷ w)) at ∙ ap (λ j. faults_by answer (place + n) (drop j (b ∷ w))) (sym none)
+
+  -- the same list at another place
+  pieces_on : (i n place : ℕ) (w : List ℕ) → pieces_by answer n (i + place) w ≡ map (moved i) (pieces_by answer n place w)
+  unfolding pieces_by
+  pieces_on i zero place w = refl
+  pieces_on i (suc n) place [] = refl
+  pieces_on i (suc n) place (b ∷ w) =
+      let x = as_piece (answer (b ∷ w)) in
+      let at : i + place + x.1 ≡ i + (place + x.1) = omega arith in
+      ap (λ ps. (i + place, x.0, x.1) ∷ ps) (ap (λ j. pieces_by answer n j (drop x.1 (b ∷ w))) at ∙ pieces_on i n (place + x.1) (drop x.1 (b ∷ w)))
+
+filter_moved : {E : Type 0} (i : ℕ) (items : List (Placed E)) → filter (λ x. is_err x.1) (map (moved i) items) ≡ map (moved i) (filter (λ x. is_err x.1) items)
+filter_moved i [] = refl
+filter_moved {E} i (x ∷ items) = by (is_err x.1) (filter_moved i items)
+  where
+    by : (b : Bool) → filter (λ x. is_err x.1) (map (moved i) items) ≡ map (moved i) (filter (λ x. is_err x.1) items)
+        → cond b (moved i x ∷ filter (λ x. is_err x.1) (map (moved i) items)) (filter (λ x. is_err x.1) (map (moved i) items)) ≡ map (moved i) (cond b (x ∷ filter (λ x. is_err x.1) items) (filter (λ x. is_err x.1) items))
+    by true e = ap (λ ys. moved i x ∷ ys) e
+    by false e = e
+
+-- A run that looks for faults: so many are written, and it has come so far.
+pub record IsSoFar {E P : Type 0} (made : Placed E → P) (answer : List ℕ → Result (ℕ × ℕ) E) (xs : List ℕ) (old new : List P) (read wrote : ℕ) : Type 0 where
+  pub found : List (Placed E)
+  pub all : faults_by answer 0 xs ≡ found ++ faults_by answer read (drop read xs)
+  pub count : length found ≡ wrote
+  pub front : take wrote new ≡ map made found
+  pub rest : drop wrote new ≡ drop wrote old
+  pub len : length new ≡ length old
+  pub within : read ≤ length xs
+  pub fits : wrote ≤ length old
+
+module _ {E P : Type 0} (made : Placed E → P) (answer : List ℕ → Result (ℕ × ℕ) E) (some : (xs : List ℕ) → 1 ≤ (as_piece (answer xs)).1) (xs : List ℕ) (old : List P) where
+  -- after a character, and the text after it
+  pub so_far_text : (new : List P) (read wrote s m n : ℕ) → IsSoFar made answer xs old new read wrote → read < length xs → m ≤ length (drop read xs) → as_piece (answer (drop read xs)) ≡ (Ok s, m)
+      → n ≤ length (drop (read + m) xs) → n ≡ valid_len (pieces_by answer (length (drop (read + m) xs)) 0 (drop (read + m) xs)) → IsSoFar made answer xs old new (read + (m + n)) wrote
+  so_far_text new read wrote s m n h lt fits known most e =
+      let left = length-drop read xs in
+      let left_then = length-drop (read + m) xs in
+      let within = h.within in
+      let at : read + m + n ≡ read + (m + n) = omega arith in
+      let char = char_step answer some read (drop read xs) s m (omega arith) known ∙ ap (faults_by answer (read + m)) (drop-drop m read xs) in
+      let text = text_step_by answer some (length (drop (read + m) xs)) (read + m) 0 (drop (read + m) xs) n (omega arith) e ∙ ap (faults_by answer (read + m + n)) (drop-drop n (read + m) xs) in
+      record {
+        found = h.found;
+        all = h.all ∙ ap (λ ys. h.found ++ ys) (char ∙ text ∙ ap (λ j. faults_by answer j (drop j xs)) at);
+        count = h.count;
+        front = h.front;
+        rest = h.rest;
+        len = h.len;
+        within = omega arith;
+        fits = h.fits;
+      }
+
+  -- after a fault, which is written
+  pub so_far_fault : (new : List P) (read wrote n : ℕ) (k : E) (piece : P) → IsSoFar made answer xs old new read wrote → read < length xs → as_piece (answer (drop read xs)) ≡ (Err k, n) → n ≤ length (drop read xs)
+      → wrote < length new → piece ≡ made (read, Err k, n) → IsSoFar made answer xs old (set new wrote piece) (read + n) (wrote + 1)
+  so_far_fault new read wrote n k piece h lt known fits room is =
+      let left = length-drop read xs in
+      let len = h.len in
+      let count = h.count in
+      let fault = fault_step answer some read (drop read xs) k n (omega arith) known ∙ ap (λ v. (read, Err k, n) ∷ faults_by answer (read + n) v) (drop-drop n read xs) in
+      record {
+        found = h.found ++ (read, Err k, n) ∷ [];
+        all = h.all ∙ ap (λ ys. h.found ++ ys) fault ∙ sym (append_assoc h.found ((read, Err k, n) ∷ []) (faults_by answer (read + n) (drop (read + n) xs)));
+        count = length-append h.found ((read, Err k, n) ∷ []) ∙ omega arith;
+        front = take_more_set new wrote piece room ∙ ap (λ ps. ps ++ piece ∷ []) h.front ∙ ap (λ p. map made h.found ++ p ∷ []) is ∙ sym (map-append made h.found ((read, Err k, n) ∷ []));
+        rest = drop-set-lt (wrote + 1) new wrote piece (omega arith) ∙ sym (drop-drop 1 wrote new) ∙ ap (drop 1) h.rest ∙ drop-drop 1 wrote old;
+        len = length-set new wrote piece ∙ len;
+        within = omega arith;
+        fits = omega arith;
+      }
+
+  -- where it ends: at the end of the list, or before a fault for which there is no room
+  module _ (faults : List ℕ → List (Placed E)) (is : (w : List ℕ) → faults w ≡ faults_by answer 0 w) where
+    left_faults : (read : ℕ) → faults_by answer read (drop read xs) ≡ map (moved read) (faults (drop read xs))
+    left_faults read =
+        let w = drop read xs in
+        let at : read ≡ read + 0 = omega arith in
+        ap (λ j. faults_by answer j w) at ∙ ap (filter (λ x. is_err x.1)) (pieces_on answer some read (length w) 0 w) ∙ filter_moved read (pieces_by answer (length w) 0 w) ∙ ap (map (moved read)) (sym (is w))
+
+    finds : (new : List P) (read wrote : ℕ) → IsSoFar made answer xs old new read wrote → wrote ≡ min (length old) (wrote + length (faults_by answer read (drop read xs)))
+        → (read < length xs → BeginsWithFault faults (drop read xs)) → FindsFaults made faults xs old new read wrote
+    finds new read wrote h count stops =
+        let all : faults xs ≡ h.found ++ faults_by answer read (drop read xs) = is xs ∙ h.all in
+        let sum : length (faults xs) ≡ wrote + length (faults_by answer read (drop read xs)) = ap length all ∙ length-append h.found (faults_by answer read (drop read xs)) ∙ ap (λ n. n + length (faults_by answer read (drop read xs))) h.count in
+        let front : take wrote (faults xs) ≡ h.found = ap (take wrote) all ∙ ap (λ n. take n (h.found ++ faults_by answer read (drop read xs))) (sym h.count) ∙ take-append_seam h.found (faults_by answer read (drop read xs)) in
+        let back : drop wrote (faults xs) ≡ faults_by answer read (drop read xs) = ap (drop wrote) all ∙ ap (λ n. drop n (h.found ++ faults_by answer read (drop read xs))) (sym h.count) ∙ drop-append_seam h.found (faults_by answer read (drop read xs)) in
+        record {
+          count = count ∙ ap (min (length old)) (sym sum);
+          front = h.front ∙ ap (map made) (sym front);
+          rest = h.rest;
+          len = h.len;
+          within = h.within;
+          left = back ∙ left_faults read;
+          stops = stops;
+        }
+
+    pub finds_all : (new : List P) (read wrote : ℕ) → IsSoFar made answer xs old new read wrote → length xs ≤ read → FindsFaults made faults xs old new read wrote
+    finds_all new read wrote h end =
+        let none : drop read xs ≡ [] = drop_all read xs end in
+        let no_fault : length (faults_by answer read (drop read xs)) ≡ 0 = ap (λ w. length (faults_by answer read w)) none ∙ ap length (faults_none answer some read) in
+        let fits = h.fits in
+        finds new read wrote h (omega arith) (λ lt. absurd (omega arith))
+
+    pub finds_full : (new : List P) (read wrote n : ℕ) (k : E) → IsSoFar made answer xs old new read wrote → read < length xs → as_piece (answer (drop read xs)) ≡ (Err k, n) → wrote ≡ length new → FindsFaults made faults xs old new read wrote
+    finds_full new read wrote n k h lt known full =
+        let len = h.len in
+        let some_left : 0 < length (drop read xs) = omega (arith, length-drop read xs) in
+        finds new read wrote h (omega arith)
+        (λ _. record { first = (0, Err k, n); rest = faults_by answer (0 + n) (drop n (drop read xs)); all = is (drop read xs) ∙ fault_step answer some 0 (drop read xs) k n some_left known; place = refl })
+
+-- What a decoder of the rest of a list answers, and how far that is text, said of the rest.
+
+pub front_known : {E : Type 0} (answer : List ℕ → Result (ℕ × ℕ) E) (xs : List ℕ) (place : ℕ) (w : Window) (r : Result ℕ E) (n : ℕ) → w ≡ whole_window (slice_range xs place (length xs))
+    → (r, n) ≡ as_piece (answer (elements w)) → as_piece (answer (drop place xs)) ≡ (r, n)
+front_known answer xs place w r n is known =
+    let v = slice_range xs place (length xs) in
+    ap (λ y. as_piece (answer y)) (sym (ap elements is ∙ take_rest v 0 ∙ take_rest xs place)) ∙ sym known
+
+pub front_fits : (most : ℕ) (xs : List ℕ) (place : ℕ) (w : Window) (n : ℕ) → w ≡ whole_window (slice_range xs place (length xs)) → IsFrontLen most (elements w) n → n ≤ length (drop place xs)
+front_fits most xs place w n is h =
+    let v = slice_range xs place (length xs) in
+    let within = h.2 in
+    let e = ap length (ap elements is ∙ take_rest v 0 ∙ take_rest xs place) in
+    omega arith
+
+pub front_some : (xs : List ℕ) (place : ℕ) (w : Window) → w ≡ whole_window (slice_range xs place (length xs)) → w.front < w.back → place < length xs
+front_some xs place w is lt =
+    let front = ap (λ (u : Window). u.front) is in
+    let back = ap (λ (u : Window). u.back) is in
+    let e = ap length (take_rest xs place) in
+    omega (arith, length-drop place xs)
+
+pub front_none : (xs : List ℕ) (place : ℕ) (w : Window) → w ≡ whole_window (slice_range xs place (length xs)) → w.front ≡ w.back → length xs ≤ place
+front_none xs place w is same =
+    let front = ap (λ (u : Window). u.front) is in
+    let back = ap (λ (u : Window). u.back) is in
+    let e = ap length (take_rest xs place) in
+    omega (arith, length-drop place xs)
+
+pub text_known : {E : Type 0} (answer : List ℕ → Result (ℕ × ℕ) E) (xs : List ℕ) (place n : ℕ)
+    → n ≡ valid_len (pieces_by answer (length (elements (whole_window (slice_range xs place (length xs))))) 0 (elements (whole_window (slice_range xs place (length xs)))))
+    → n ≡ valid_len (pieces_by answer (length (drop place xs)) 0 (drop place xs))
+text_known answer xs place n e =
+    let v = slice_range xs place (length xs) in
+    e ∙ ap (λ y. valid_len (pieces_by answer (length y) 0 y)) (take_rest v 0 ∙ take_rest xs place)
+
+pub text_fits : (xs : List ℕ) (place n : ℕ) → n ≤ length (slice_range xs place (length xs)) → n ≤ length (drop place xs)
+text_fits xs place n h = rw (take_rest xs place) at h
+
+-- Bytes, and units.
+
+pub faults_are : (w : List ℕ) → faults w ≡ faults_by decoded 0 w
+faults_are w = ap (faults_by decoded 0) (take_rest w 0)
+
+pub unit_faults_are : (w : List ℕ) → unit_faults w ≡ faults_by decoded_pairs 0 w
+unit_faults_are w = ap (faults_by decoded_pairs 0) (take_rest w 0)
