@@ -7,6 +7,45 @@ const LF = 10;
 const LISTED = 1000000;
 // U+FFFD in UTF-8.
 const REPLACEMENT = 3;
+// An A in each form: it stands between runs of invalid bytes, which no maximal subpart goes over.
+const BETWEEN = [[65], [65, 0], [0, 65]];
+
+// How many maximal subparts invalid bytes are. Those that stand side by side, however slices cut them, go to a recoder one after another;
+// so it is called once for a slice, and not for each of some millions of runs.
+class Subparts {
+    constructor(codec, form) {
+        Object.assign(this, { codec, between: BETWEEN[form], state: codec.newRecoder(form, UTF8), end: 0, length: 0, count: 0, runs: 0, room: new Uint8Array(64) });
+    }
+
+    add(place, bytes, at, len) {
+        const between = this.runs && place === this.end ? [] : this.between;
+        if (this.length + between.length + len > this.room.length) this.grow();
+        if (between.length) this.runs++;
+        for (const it of between) this.room[this.length++] = it;
+        for (let i = 0; i < len; i++) this.room[this.length++] = bytes[at + i];
+        this.end = place + len;
+    }
+
+    grow() {
+        const grown = new Uint8Array(2 * this.room.length);
+        grown.set(this.room);
+        this.room = grown;
+    }
+
+    // Recodes what was added. Each A is a byte of what comes of it.
+    take(isLast) {
+        const chunks = [];
+        this.codec.feed(this.state, this.room.subarray(0, this.length), chunks, { mode: MAXIMAL });
+        if (isLast) this.codec.finish(this.state, chunks, MAXIMAL);
+        for (const it of chunks) this.count += it.length;
+        this.length = 0;
+    }
+
+    // Of all that was added, after the last take.
+    get all() {
+        return (this.count - this.runs) / REPLACEMENT;
+    }
+}
 
 // Invalid bytes in order, as columns of numbers.
 class Listed {
@@ -33,7 +72,7 @@ class Listed {
 
 export class Survey {
     constructor(codec, form) {
-        Object.assign(this, { codec, form, base: 0, count: 0, faults: 0, subparts: 0, line: 1, column: 1, kinds: new Array(NONE + 1).fill(0), list: new Listed(64), run: null });
+        Object.assign(this, { codec, form, base: 0, count: 0, faults: 0, line: 1, column: 1, kinds: new Array(NONE + 1).fill(0), list: new Listed(64), subparts: new Subparts(codec, form) });
     }
 
     // Goes over a slice; returns how many of its bytes. The others have to come again, before more.
@@ -41,7 +80,7 @@ export class Survey {
         const { codec } = this;
         codec.fill(bytes, this.form);
         const end = isLast ? codec.len : codec.boundary(Math.max(codec.len - SEEN, 0));
-        let [place, runStart] = [0, 0];
+        let place = 0;
         codec.faults(0, Infinity, (at, len, kind) => {
             if (at >= end) return;
             if (this.list.length < LISTED) {
@@ -49,16 +88,13 @@ export class Survey {
                 place = at;
                 this.list.add(this.base + at, this.line, this.column, len, len === 2 ? (bytes[at] << 8) | bytes[at + 1] : bytes[at], kind);
             }
-            if (this.run !== null && this.run !== this.base + at) this.endRun(runStart);
-            if (this.run === null) [this.run, runStart] = [this.base + at, at];
-            this.run += len;
+            this.subparts.add(this.base + at, bytes, at, len);
             this.faults++;
             this.kinds[kind]++;
         });
         if (this.list.length < LISTED) this.walk(place, end);
         this.count += codec.countBetween(0, end);
-        if (this.run !== null && (isLast || this.run < this.base + end)) this.endRun(runStart);
-        else if (this.run !== null) this.feedRun(runStart, end, false);
+        this.subparts.take(isLast);
         this.base += end;
         return end;
     }
@@ -77,24 +113,8 @@ export class Survey {
         this.column += codec.countBetween(Math.max(begin, from), to);
     }
 
-    // Invalid bytes that stand side by side, which decoders that go by maximal subparts take together.
-    feedRun(from, to, isLast) {
-        const chunks = [];
-        this.recoder ??= this.codec.newRecoder(this.form, UTF8);
-        this.codec.feed(this.recoder, this.codec.bytes.slice(from, to), chunks, { mode: MAXIMAL });
-        if (isLast) this.codec.finish(this.recoder, chunks, MAXIMAL);
-        for (const it of chunks) this.subparts += it.length / REPLACEMENT;
-    }
-
-    endRun(from) {
-        const to = Math.max(this.run - this.base, from);
-        if (to - from === 1 && !this.recoder) this.subparts++;
-        else this.feedRun(from, to, true);
-        [this.run, this.recoder] = [null, null];
-    }
-
     get result() {
-        const { count, faults, subparts, kinds, line, list } = this;
+        const { count, faults, subparts: { all: subparts }, kinds, line, list } = this;
         const columns = Object.fromEntries(list.fields.map((name) => [name, list[name].slice(0, list.length)]));
         return { count, faults, subparts, kinds, line, list: { length: list.length, ...columns } };
     }
