@@ -21,4 +21,5 @@ pub mod shards;
 pub mod shown;
 pub mod strict;
 pub mod strings;
+pub mod undecided;
 pub mod wire;

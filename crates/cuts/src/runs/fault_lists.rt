@@ -1,4 +1,4 @@
-//! The invalid bytes of a slice, and the lone surrogates of units: each with its offset, many at once.
+//! The faults of bytes, and of units: each with its offset, many at once.
 ghost use Rattle.std.specs.Prelude.{◌≡◌, IsFalse, IsTrue, length};
 ghost use Rattle.recoding.specs.declared.faults.FaultKind.TheVariants as kind;
 ghost use Rattle.cuts.specs.FaultLists.{FindsFaults, fault_at, unit_faults};
