@@ -1,4 +1,4 @@
-//! The invalid bytes of a text in chunks, from a place on.
+//! The faults of a text in chunks, from a place on.
 ghost use Rattle.std.specs.List.{concat};
 ghost use Rattle.std.specs.Prelude.{◌≡◌, ◌^◌, ◌<◌, MatchOption, length};
 ghost use Rattle.cuts.specs.Chunks.{EndOutside};
@@ -10,7 +10,7 @@ use crate::buffers::spots::find;
 use crate::runs::well_formed::valid_up_to;
 use std::alloc::Allocator;
 
-// The first invalid byte at this place or after it. Chunks that have none are not read.
+// The first fault at this place or after it. Chunks that have none are not read.
 pub fn fault_from<A: Allocator>(chunks: &[Chunk<A>], at: usize) -> Option<usize>
     requires ends { EndOutside chunks.now }
     requires fits { length (concat chunks.now) < 2 ^ 64 }

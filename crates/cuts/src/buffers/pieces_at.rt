@@ -1,4 +1,4 @@
-//! The pieces of a text in chunks. A piece lies in one chunk, but what an invalid byte is called, its kind, may depend on the
+//! The pieces of a text in chunks. A piece lies in one chunk, but the kind of a fault may depend on the
 //! three bytes after it, and these may lie in later chunks.
 ghost use Rattle.std.specs.List.{concat};
 ghost use Rattle.std.specs.Prelude.{◌≡◌, ◌+◌, ◌^◌, ◌<◌, ◌≤◌, Contains, MatchOption, length, take, drop, slice_get};

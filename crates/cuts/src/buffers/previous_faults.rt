@@ -1,4 +1,4 @@
-//! The invalid bytes of a text in chunks, from a place back.
+//! The faults of a text in chunks, from a place back.
 ghost use Rattle.std.specs.List.{concat};
 ghost use Rattle.std.specs.Prelude.{◌≡◌, ◌^◌, ◌<◌, MatchOption, length};
 ghost use Rattle.cuts.specs.Chunks.{EndOutside};
@@ -10,7 +10,7 @@ use crate::buffers::spots::{find, find_end};
 use encode_unicode::Utf8Char;
 use std::alloc::Allocator;
 
-// The last invalid byte before this place. Chunks that have none are not read.
+// The last fault before this place. Chunks that have none are not read.
 pub fn fault_before<A: Allocator>(chunks: &[Chunk<A>], at: usize) -> Option<usize>
     requires ends { EndOutside chunks.now }
     requires fits { length (concat chunks.now) < 2 ^ 64 }
@@ -40,7 +40,7 @@ fn chunk_fault_before<A: Allocator>(chunk: &Chunk<A>, at: usize) -> Option<usize
     last_fault(&bytes[..ceil(bytes, bytes.len().min(at))])
 }
 
-// The last invalid byte of some bytes.
+// The last fault of some bytes.
 fn last_fault(bytes: &[u8]) -> Option<usize>
     ensures { MatchOption result (HasNoFaultBefore bytes.now (length bytes.now))
         (IsPreviousFault bytes.now (length bytes.now)) }
