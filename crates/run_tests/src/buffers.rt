@@ -113,7 +113,12 @@ fn lines_and_pieces_are_found_by_number_and_by_offset(rt: HostRuntime) -> Result
     for _ in 0..3 {
         for _ in 0..50 {
             let end = text.len();
-            put(&mut text, end, end, "\u{e9}".repeat(rt.alloc(), 100)?.as_bytes())?;
+            put(
+                &mut text,
+                end,
+                end,
+                "\u{e9}".repeat(rt.alloc(), 100)?.as_bytes(),
+            )?;
         }
         let end = text.len();
         put(&mut text, end, end, b"\n")?;
