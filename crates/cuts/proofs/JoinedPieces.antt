@@ -109,7 +109,7 @@ module _ (code : ℕ → List ℕ) (a b : List ℕ) (seam : Inside code (a ++ b)
         ends = omega (arith, i.ends);
       }
 
-  piece_from_front : (p n : ℕ) (char : Option ℕ) → p < length a → IsPieceAt code a p n char → IsPieceAt code (a ++ b) p n char
+  pub piece_from_front : (p n : ℕ) (char : Option ℕ) → p < length a → IsPieceAt code a p n char → IsPieceAt code (a ++ b) p n char
   piece_from_front p n (Some s) lt h = (front_in_whole code a b p s h.0, h.1)
   piece_from_front p n None lt h = (
     omega (arith, length-append a b),
@@ -124,7 +124,7 @@ module _ (code : ℕ → List ℕ) (a b : List ℕ) (seam : Inside code (a ++ b)
         }),
   )
 
-  piece_of_front : (p n : ℕ) (char : Option ℕ) → p < length a → IsPieceAt code (a ++ b) p n char → IsPieceAt code a p n char
+  pub piece_of_front : (p n : ℕ) (char : Option ℕ) → p < length a → IsPieceAt code (a ++ b) p n char → IsPieceAt code a p n char
   piece_of_front p n (Some s) lt h = (whole_in_front code a b p s h.0 (ends_in_front p s h.0 lt), h.1)
   piece_of_front p n None lt h = (
     lt,
@@ -132,7 +132,7 @@ module _ (code : ℕ → List ℕ) (a b : List ℕ) (seam : Inside code (a ++ b)
     λ v. h.2 (record { from = v.from; char = v.char; stands = front_in_whole code a b v.from v.char v.stands; begins = v.begins; ends = v.ends }),
   )
 
-  piece_from_rest : (p n : ℕ) (char : Option ℕ) → IsPieceAt code b p n char → IsPieceAt code (a ++ b) (length a + p) n char
+  pub piece_from_rest : (p n : ℕ) (char : Option ℕ) → IsPieceAt code b p n char → IsPieceAt code (a ++ b) (length a + p) n char
   piece_from_rest p n (Some s) h = (rest_in_whole code a b p (length a + p) s refl h.0, h.1)
   piece_from_rest p n None h =
       let lt = h.0 in (
@@ -149,7 +149,7 @@ module _ (code : ℕ → List ℕ) (a b : List ℕ) (seam : Inside code (a ++ b)
             }),
       )
 
-  piece_of_rest : (p n : ℕ) (char : Option ℕ) → IsPieceAt code (a ++ b) (length a + p) n char → IsPieceAt code b p n char
+  pub piece_of_rest : (p n : ℕ) (char : Option ℕ) → IsPieceAt code (a ++ b) (length a + p) n char → IsPieceAt code b p n char
   piece_of_rest p n (Some s) h = (whole_in_rest code a b p (length a + p) s refl h.0, h.1)
   piece_of_rest p n None h =
       let lt = h.0 in (

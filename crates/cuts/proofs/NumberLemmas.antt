@@ -23,7 +23,7 @@ use Rattle.cuts.proofs.CountLemmas.{pieces_joined, count_joined, pieces_few}
 use Rattle.cuts.proofs.JoinedPieces.{inside_front, inside_rest, inside_before, inside_following}
 
 -- no code lies over the place where a piece begins
-begins_outside : (xs : List ℕ) (p n : ℕ) (char : Option ℕ) → IsPieceAt utf8 xs p n char → Inside utf8 xs p → ⊥
+pub begins_outside : (xs : List ℕ) (p n : ℕ) (char : Option ℕ) → IsPieceAt utf8 xs p n char → Inside utf8 xs p → ⊥
 begins_outside xs p n (Some s) h i = not_inside utf8 utf8_is_code xs p s h.0 i
 begins_outside xs p n None h i = h.2 (record { from = i.from; char = i.char; stands = i.stands; begins = omega (arith, i.begins); ends = i.ends })
 
@@ -108,21 +108,21 @@ pub record ChunkAt (chunks : List (List ℕ)) (k p : ℕ) (x : List ℕ) : Type 
   pub is : x ≡ get_or chunks k x
 
 module _ (chunks : List (List ℕ)) (k p : ℕ) (x : List ℕ) (at : ChunkAt chunks k p x) where
-  chunk_whole : (concat (take k chunks) ++ x) ++ concat (drop (k + 1) chunks) ≡ concat chunks
+  pub chunk_whole : (concat (take k chunks) ++ x) ++ concat (drop (k + 1) chunks) ≡ concat chunks
   chunk_whole =
       ap (λ ys. ys ++ concat (drop (k + 1) chunks)) (sym (concat-take-more chunks k x at.lt at.is))
       ∙ (sym (concat-append (take (k + 1) chunks) (drop (k + 1) chunks)) ∙ ap concat (take-append-drop (k + 1) chunks))
 
-  chunk_front_len : length (concat (take k chunks)) ≡ p
+  pub chunk_front_len : length (concat (take k chunks)) ≡ p
   chunk_front_len = sym at.spot.begins
 
-  chunk_end_len : length (concat (take k chunks) ++ x) ≡ p + length x
+  pub chunk_end_len : length (concat (take k chunks) ++ x) ≡ p + length x
   chunk_end_len = omega (arith, length-append (concat (take k chunks)) x, chunk_front_len)
 
-  chunk_end_outside : Inside utf8 ((concat (take k chunks) ++ x) ++ concat (drop (k + 1) chunks)) (length (concat (take k chunks) ++ x)) → ⊥
+  pub chunk_end_outside : Inside utf8 ((concat (take k chunks) ++ x) ++ concat (drop (k + 1) chunks)) (length (concat (take k chunks) ++ x)) → ⊥
   chunk_end_outside i = at.ends.outside (k + 1) (rw (concat-take-more chunks k x at.lt at.is) (rw chunk_whole at i))
 
-  chunk_front_outside : Inside utf8 (concat (take k chunks) ++ x) (length (concat (take k chunks))) → ⊥
+  pub chunk_front_outside : Inside utf8 (concat (take k chunks) ++ x) (length (concat (take k chunks))) → ⊥
   chunk_front_outside i =
       at.ends.outside k (rw chunk_whole at (inside_front utf8 (concat (take k chunks) ++ x) (concat (drop (k + 1) chunks)) (length (concat (take k chunks))) i))
 
@@ -137,10 +137,10 @@ module _ (chunks : List (List ℕ)) (k p : ℕ) (x : List ℕ) (at : ChunkAt chu
       rw (chunk_front_len, chunk_whole) at
       (inside_front utf8 (concat (take k chunks) ++ x) (concat (drop (k + 1) chunks)) (length (concat (take k chunks)) + n) (inside_rest utf8 (concat (take k chunks)) x n i))
 
-  chunk_within : p + length x ≤ length (concat chunks)
+  pub chunk_within : p + length x ≤ length (concat chunks)
   chunk_within = omega (arith, ap length chunk_whole, length-append (concat (take k chunks) ++ x) (concat (drop (k + 1) chunks)), chunk_end_len)
 
-  take_to_chunk : (n : ℕ) → n ≤ length x → take (p + n) (concat chunks) ≡ concat (take k chunks) ++ take n x
+  pub take_to_chunk : (n : ℕ) → n ≤ length x → take (p + n) (concat chunks) ≡ concat (take k chunks) ++ take n x
   take_to_chunk n le =
       let front : take (p + n) (concat (take k chunks) ++ x) ≡ concat (take k chunks) ++ take n x
       = ap (λ m. take (m + n) (concat (take k chunks) ++ x)) (sym chunk_front_len) ∙ take-append-add (concat (take k chunks)) x n in
@@ -172,7 +172,7 @@ module _ (chunks : List (List ℕ)) (k p : ℕ) (x : List ℕ) (at : ChunkAt chu
       rw count at (split_at_boundary (concat chunks) b le out m far over)
 
   -- the chunk has the byte at m, or is the last
-  chunk_last : (m : ℕ) → (k + 1 < length chunks → m < length (concat (take (k + 1) chunks))) → (m < p + length x) ⊎ (p + length x ≡ length (concat chunks))
+  pub chunk_last : (m : ℕ) → (k + 1 < length chunks → m < length (concat (take (k + 1) chunks))) → (m < p + length x) ⊎ (p + length x ≡ length (concat chunks))
   chunk_last m has =
       let end = (next_spot chunks k p x at.spot at.lt at.is).begins in
       ⊎_elim

@@ -21,7 +21,7 @@ same_answer kind xs p q (Err k) (Err l) place e h g =
     let same : k ≡ l = cc in
     ap Err same
 
-same_item : {E : Type 0} (kind : List ℕ → Option E) (xs : List ℕ) (x y : Placed E) → piece_of x ≡ piece_of y → HasKind kind xs x → HasKind kind xs y → x ≡ y
+pub same_item : {E : Type 0} (kind : List ℕ → Option E) (xs : List ℕ) (x y : Placed E) → piece_of x ≡ piece_of y → HasKind kind xs x → HasKind kind xs y → x ≡ y
 same_item kind xs x y e h g =
     let place : x.0 ≡ y.0 = ap (λ p. p.start) e in
     let len : x.2 ≡ y.2 = ap (λ p. p.len) e in

@@ -13,6 +13,8 @@ pub mod Counts
 pub mod Chunks
 pub mod CountedChunks
 pub mod ChunkEdits
+pub mod Measures
+pub mod TextLookups
 pub mod Failures
 pub mod RecodeStream
 pub mod StrictRelayed

@@ -2,6 +2,11 @@
 pub(crate) mod chunk;
 pub mod counts;
 pub(crate) mod dividing;
+pub(crate) mod line_feeds;
 pub(crate) mod lookups;
+pub(crate) mod measures;
+pub(crate) mod next_faults;
+pub(crate) mod pieces_at;
+pub(crate) mod previous_faults;
 pub(crate) mod spots;
 pub mod text_buffer;

@@ -1,9 +1,12 @@
 //! An editor's text: an edit, what the status line shows after it, and a view's way through the bytes.
 ghost use Rattle.std.specs.List.{splice};
-ghost use Rattle.std.specs.Prelude.{◌≡◌, ◌≤◌, ◌<◌, length, take, slice_index, IfOk, OnErr, OnOk};
+ghost use Rattle.std.specs.Prelude.{◌≡◌, ◌+◌, ◌≤◌, ◌<◌, length, take, slice_index, Contains, IfOk, IfSome, OnErr, OnOk};
+ghost use Rattle.encode_unicode.specs.Pieces.{pieces};
 ghost use Rattle.cuts.specs.Counts.{counts_of};
+ghost use Rattle.cuts.specs.ShardRuns.{line_feed_count};
+ghost use Rattle.cuts.specs.TextLookups.{IsLineStart};
 
-use cuts::{Counts, TextBuffer};
+use cuts::{Counts, Item, TextBuffer};
 use std::alloc::{AllocError, Allocator};
 
 /// Replaces a part of a text, and tells what the text has then: for a status line with the number of
@@ -39,4 +42,24 @@ pub fn byte_at<A: Allocator + Copy>(text: &TextBuffer<A>, offset: usize) -> u8
 {
     let bytes = text.chunk_at(offset);
     bytes[0]
+}
+
+/// Where a view goes that is asked for a line: to where the line begins, or to the end if there are too
+/// few lines.
+pub fn go_to_line<A: Allocator + Copy>(text: &TextBuffer<A>, line: usize) -> usize
+    ensures within { result ≤ length text.now }
+    ensures line { line ≤ line_feed_count text.now → IsLineStart text.now line result }
+{
+    match text.offset_of_line(line) {
+        Some(offset) => offset,
+        None => text.len(),
+    }
+}
+
+/// The next error from an offset on, with what is wrong: for a key that goes from error to error.
+pub fn next_error<A: Allocator + Copy>(text: &TextBuffer<A>, offset: usize) -> Option<Item>
+    ensures { IfSome result (λ x. Contains (pieces text.now) x × (offset < x.0 + x.2)) }
+{
+    let place = text.next_fault(offset)?;
+    text.piece_at(place)
 }

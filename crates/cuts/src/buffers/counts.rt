@@ -1,6 +1,7 @@
 //! How much there is of what a text is measured in.
 ghost use Rattle.std.specs.Prelude.{◌≡◌};
 ghost use Rattle.cuts.specs.Counts.{counts_of, sum_of, exchange_of, IsSmall, AreAmong};
+ghost use Rattle.cuts.specs.ShardRuns.{line_feed_count as feed_count};
 
 use crate::runs::counts::{char_count, fault_count};
 
@@ -28,7 +29,7 @@ impl Counts {
             bytes: bytes.len(),
             pieces: char_count(bytes),
             faults: fault_count(bytes),
-            line_feeds: bytes.iter().filter(|byte| **byte == b'\n').count(),
+            line_feeds: line_feed_count(bytes),
         }
     }
 
@@ -58,4 +59,11 @@ impl Counts {
             line_feeds: self.line_feeds - gone.line_feeds + come.line_feeds,
         }
     }
+}
+
+// How many line feeds the bytes have.
+pub(crate) fn line_feed_count(bytes: &[u8]) -> usize
+    ensures { result ≡ feed_count bytes.now }
+{
+    bytes.iter().filter(|byte| **byte == b'\n').count()
 }

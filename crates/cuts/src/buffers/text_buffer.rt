@@ -1,19 +1,27 @@
 //! A text that is edited: each edit costs about the same, however long the text is.
 ghost use Rattle.std.specs.List.{concat, splice};
-ghost use Rattle.std.specs.Prelude.{◌≡◌, ◌+◌, ◌^◌, ◌<◌, ◌≤◌, [], length, take, drop, IfOk, OnOk, OnErr};
+ghost use Rattle.std.specs.Prelude.{◌≡◌, ◌+◌, ◌^◌, ◌<◌, ◌≤◌, [], length, take, drop, slice_get, option_map, Contains, MatchOption, IfOk, OnOk, OnErr};
 ghost use Rattle.encode_unicode.specs.Pieces.{pieces};
+ghost use Rattle.encode_unicode.specs.Window.{Item as AnItem};
 ghost use Rattle.cuts.specs.Chunks.{EndOutside};
 ghost use Rattle.cuts.specs.Counts.{counts_of};
 ghost use Rattle.cuts.specs.CountedChunks.{IsCounted};
 ghost use Rattle.cuts.specs.ChunkEdits.{Surrounds};
+ghost use Rattle.cuts.specs.ShardRuns.{line_feed_count};
 ghost use Rattle.cuts.specs.Tables.{IsSplitAt};
+ghost use Rattle.cuts.specs.TextLookups.{HasNoFaultBefore, HasNoFaultFrom, HasPlace, IsLineStart, IsNextFault, IsPreviousFault};
 
 use crate::buffers::chunk::Chunk;
 use crate::buffers::counts::Counts;
 use crate::buffers::dividing::{ROOM, divide, joined_bytes, total};
-use crate::buffers::lookups::{chunk_from, pieces_before};
+use crate::buffers::line_feeds::{feeds_before, line_start};
+use crate::buffers::lookups::{chunk_from, pieces_before, place_of};
+use crate::buffers::next_faults::fault_from;
+use crate::buffers::pieces_at::{nth_piece, piece_over};
+use crate::buffers::previous_faults::fault_before;
 use crate::buffers::spots::{Spot, find, find_end};
 use crate::piece_table::splice_in;
+use crate::runs::items::Item;
 use std::alloc::{AllocError, Allocator};
 use std::marker::Model;
 
@@ -87,6 +95,74 @@ impl<A: Allocator + Copy> TextBuffer<A> {
         ensures { IsSplitAt (pieces self.now) offset result }
     {
         pieces_before(&self.chunks, offset)
+    }
+
+    /// The offset of the piece with this number, counted from 0. `None` if the text has no more pieces.
+    ///
+    /// Cost: a step for each 4,096 bytes of the text, and at most 4,096 bytes are decoded.
+    pub fn offset_of(&self, number: usize) -> Option<usize>
+        ensures { result ≡ option_map (λ (x : AnItem). x.0) (slice_get (pieces self.now) number) }
+    {
+        place_of(&self.chunks, number)
+    }
+
+    /// The piece with this number, counted from 0: (offset, character or error, length). The error is
+    /// what a decoder of the whole text gives there. `None` if the text has no more pieces.
+    ///
+    /// Cost: as that of `offset_of`.
+    pub fn piece(&self, number: usize) -> Option<Item>
+        ensures { result ≡ slice_get (pieces self.now) number }
+    {
+        nth_piece(&self.chunks, number)
+    }
+
+    /// The piece that has the byte at this offset: (offset of the piece, character or error, length).
+    /// `None` if the offset is the length or more.
+    ///
+    /// Cost: a step for each 4,096 bytes of the text.
+    pub fn piece_at(&self, offset: usize) -> Option<Item>
+        ensures { MatchOption result (length self.now ≤ offset)
+            (λ x. Contains (pieces self.now) x × HasPlace offset x) }
+    {
+        piece_over(&self.chunks, offset)
+    }
+
+    /// How many line feeds are before this offset: the number of its line, counted from 0.
+    ///
+    /// Cost: a step for each 4,096 bytes of the text, and at most 4,096 bytes are read.
+    pub fn line_of(&self, offset: usize) -> usize
+        ensures { result ≡ line_feed_count (take offset self.now) }
+    {
+        feeds_before(&self.chunks, offset)
+    }
+
+    /// The offset at which the line with this number begins, counted from 0. Each line feed ends a line,
+    /// and begins another just after it. `None` if the text has fewer line feeds than `line`.
+    ///
+    /// Cost: as that of `line_of`.
+    pub fn offset_of_line(&self, line: usize) -> Option<usize>
+        ensures { MatchOption result (line_feed_count self.now < line) (IsLineStart self.now line) }
+    {
+        line_start(&self.chunks, line)
+    }
+
+    /// The offset of the first invalid byte at this offset or after it. `None` if there is none.
+    ///
+    /// Cost: a step for each 4,096 bytes of the text. Of parts of 4,096 bytes only the one with the
+    /// answer is read, and the one with the offset.
+    pub fn next_fault(&self, offset: usize) -> Option<usize>
+        ensures { MatchOption result (HasNoFaultFrom self.now offset) (IsNextFault self.now offset) }
+    {
+        fault_from(&self.chunks, offset)
+    }
+
+    /// The offset of the last invalid byte before this offset. `None` if there is none.
+    ///
+    /// Cost: as that of `next_fault`.
+    pub fn previous_fault(&self, offset: usize) -> Option<usize>
+        ensures { MatchOption result (HasNoFaultBefore self.now offset) (IsPreviousFault self.now offset) }
+    {
+        fault_before(&self.chunks, offset)
     }
 
     /// A copy of the bytes. The error is that memory was refused.

@@ -1,0 +1,30 @@
+-- What is numbered in a text, counted by chunks.
+use Rattle.std.proofs.Common.{◌≡◌, ℕ, ◌+◌, ◌<◌, ◌≤◌, List, [], length, get_or, take, arith, refl, ap, ◌∙◌}
+use Rattle.std.proofs.lemmas.List.{take_all}
+use Rattle.std.specs.List.{concat}
+use Rattle.cuts.specs.declared.buffers.counts.Counts.{Counts}
+use Rattle.cuts.specs.declared.buffers.measures.Measure.{Measure}
+use Rattle.cuts.specs.declared.buffers.measures.Measure.TheVariants.{Pieces, LineFeeds}
+use Rattle.cuts.specs.Chunks.{EndOutside}
+use Rattle.cuts.specs.Counts.{counts_of, sum_of}
+use Rattle.cuts.specs.Measures.{measure_of}
+use Rattle.cuts.proofs.ChunkEditLemmas.{chunk_counts}
+use Rattle.cuts.proofs.CountLemmas.{pieces_few}
+
+measure_of_sum : (m : Measure) (a b : Counts) → measure_of m (sum_of a b) ≡ measure_of m a + measure_of m b
+measure_of_sum Pieces a b = refl
+measure_of_sum LineFeeds a b = refl
+
+-- of nothing
+pub measure_none : (m : Measure) → 0 ≡ measure_of m (counts_of [])
+measure_none Pieces = let few = pieces_few [] in omega arith
+measure_none LineFeeds = refl
+
+-- one chunk more
+pub measure_more : (chunks : List (List ℕ)) (m : Measure) (k : ℕ) (x : List ℕ) → EndOutside chunks → k < length chunks → x ≡ get_or chunks k x
+    → measure_of m (counts_of (concat (take (k + 1) chunks))) ≡ measure_of m (counts_of (concat (take k chunks))) + measure_of m (counts_of x)
+measure_more chunks m k x ends lt is = ap (measure_of m) (chunk_counts chunks k x ends lt is) ∙ measure_of_sum m (counts_of (concat (take k chunks))) (counts_of x)
+
+-- all chunks
+pub measure_all : (chunks : List (List ℕ)) (m : Measure) (k : ℕ) → length chunks ≤ k → measure_of m (counts_of (concat (take k chunks))) ≡ measure_of m (counts_of (concat chunks))
+measure_all chunks m k le = ap (λ cs. measure_of m (counts_of (concat cs))) (take_all k chunks le)

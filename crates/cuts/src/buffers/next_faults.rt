@@ -1,0 +1,46 @@
+//! The faults of a text in chunks, from a place on.
+ghost use Rattle.std.specs.List.{concat};
+ghost use Rattle.std.specs.Prelude.{◌≡◌, ◌^◌, ◌<◌, MatchOption, length};
+ghost use Rattle.cuts.specs.Chunks.{EndOutside};
+ghost use Rattle.cuts.specs.TextLookups.{HasNoFaultFrom, IsNextFault};
+
+use crate::boundaries::ceil;
+use crate::buffers::chunk::Chunk;
+use crate::buffers::spots::find;
+use crate::runs::well_formed::valid_up_to;
+use std::alloc::Allocator;
+
+// The first fault at this place or after it. Chunks that have none are not read.
+pub fn fault_from<A: Allocator>(chunks: &[Chunk<A>], at: usize) -> Option<usize>
+    requires ends { EndOutside chunks.now }
+    requires fits { length (concat chunks.now) < 2 ^ 64 }
+    ensures { MatchOption result (HasNoFaultFrom (concat chunks.now) at)
+        (IsNextFault (concat chunks.now) at) }
+{
+    let mut spot = find(chunks, at);
+    while spot.number < chunks.len() {
+        let chunk = &chunks[spot.number];
+        if let Some(place) = chunk_fault_from(chunk, at.saturating_sub(spot.place)) {
+            return Some(spot.place + place);
+        }
+        spot.place += chunk.len();
+        spot.number += 1;
+    }
+    None
+}
+
+// The same of one chunk.
+fn chunk_fault_from<A: Allocator>(chunk: &Chunk<A>, at: usize) -> Option<usize>
+    ensures { MatchOption result (HasNoFaultFrom chunk.now at) (IsNextFault chunk.now at) }
+{
+    if chunk.counts().faults == 0 {
+        return None;
+    }
+    let bytes = chunk.bytes();
+    let from = ceil(bytes, bytes.len().min(at));
+    let place = from + valid_up_to(&bytes[from..]);
+    if place == bytes.len() {
+        return None;
+    }
+    Some(place)
+}
