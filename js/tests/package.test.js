@@ -6,10 +6,9 @@ import { tmpdir } from "node:os";
 import { fileURLToPath } from "node:url";
 import test from "node:test";
 import { hasVectors } from "../codec.js";
+import { needs } from "./help.js";
 
 const at = (path) => fileURLToPath(new URL(path, import.meta.url));
-const has = (command) => spawnSync(command, ["--version"]).status === 0;
-const needs = (command) => (has(command) ? false : `no ${command} here`);
 const MEMORY64 = "process.exit(WebAssembly.validate(new Uint8Array([0, 0x61, 0x73, 0x6d, 1, 0, 0, 0, 5, 3, 1, 4, 1])) ? 0 : 1)";
 const words = [[], ["--experimental-wasm-memory64"]].find((it) => spawnSync(process.execPath, [...it, "-e", MEMORY64]).status === 0);
 
