@@ -90,10 +90,11 @@ test("what is exported is what the types declare", async () => {
     assert.equal(told("web.js"), told("node.js"));
 });
 
-test("the README's example prints what it says", () => {
+test("the README's examples print what they say", () => {
     const text = readFileSync(at("../README.md"), "utf8");
-    const code = text.match(/```js[^\n]*\n([^]*?)```/)[1];
-    const said = [...code.matchAll(/^\/\/ (.*)$/gm)].map((it) => it[1]).join("\n");
-    const ran = execFileSync(process.execPath, ["--input-type=module", "-e", code], { cwd: at(".."), encoding: "utf8" });
-    assert.equal(ran.trimEnd(), said);
+    for (const [, code] of text.matchAll(/```js[^\n]*\n([^]*?)```/g)) {
+        const said = [...code.matchAll(/^\/\/ (.*)$/gm)].map((it) => it[1]).join("\n");
+        const ran = execFileSync(process.execPath, ["--input-type=module", "-e", code], { cwd: at(".."), encoding: "utf8" });
+        assert.equal(ran.trimEnd(), said);
+    }
 });
