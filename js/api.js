@@ -1,9 +1,10 @@
 // The calls of the package, over a module that node.js or web.js has loaded. index.d.ts says what they take and return.
-import { Codec, FORMS, INCOMPLETE, MAXIMAL, NONE, OK, REPLACE, SEEN, STRICT, TOO_FEW, UTF16LE, UTF8, joined } from "./codec.js";
+import { Codec, FEW, FORMS, INCOMPLETE, MAXIMAL, NONE, NO_PIECES, OK, REPLACE, ROOM, SEEN, STRICT, TOO_FEW, UTF16LE, UTF8, joined } from "./codec.js";
 
 // Bytes whose pieces are asked for at once.
 const BLOCK = 4096;
 const MEGABYTE = 1 << 20;
+const NO_BYTES = new Uint8Array(0);
 let codec;
 
 export function use(instance) {
@@ -63,6 +64,7 @@ const LABELS = [
 ];
 
 function formOf(label) {
+    if (ArrayBuffer.isView(label)) throw new TypeError('noddychest: an encoding is a string, as "utf-8", and no bytes');
     const told = String(label);
     const name = told.replace(/^[\t\n\f\r ]+|[\t\n\f\r ]+$/g, "").toLowerCase();
     const form = LABELS.findIndex((it) => it.includes(name));
@@ -70,14 +72,17 @@ function formOf(label) {
     return form;
 }
 
+// Options, which are to be an object.
+function objectOf(options, example) {
+    if (options !== null && (typeof options === "object" || typeof options === "function")) return options;
+    throw new TypeError(`noddychest: options are an object, as ${example}, or left out, and not ${options === null ? "null" : `a ${typeof options}`}`);
+}
+
 // What options ask to do with invalid bytes. `fatal: true` is how TextDecoder says "strict".
 const WAYS = { replace: REPLACE, maximal: MAXIMAL, strict: STRICT };
 
 function wayOf(options = {}) {
-    if (options === null || (typeof options !== "object" && typeof options !== "function")) {
-        throw new TypeError(`noddychest: options are an object, as { fatal: true }, or left out, and not ${options === null ? "null" : `a ${typeof options}`}`);
-    }
-    const { errors, fatal } = options;
+    const { errors, fatal } = objectOf(options, "{ fatal: true }");
     if (errors === undefined) return fatal ? STRICT : REPLACE;
     const name = String(errors);
     if (!Object.keys(WAYS).includes(name)) throw new RangeError(`noddychest: errors is "replace", "maximal" or "strict", and not ${name}`);
@@ -173,7 +178,7 @@ function startBefore(back, size, form) {
     return form === UTF8 ? start : start - (start % 2);
 }
 
-export class Decoder {
+export class Ends {
     #bytes;
     #form;
     #length;
@@ -323,6 +328,145 @@ export function recoderStream(from, to, options) {
         transform: (part, controller) => void put(recoder.feed(part), controller),
         flush: (controller) => void put(recoder.finish(), controller),
     });
+}
+
+// The offset from which options ask to count.
+function startOf(options = {}) {
+    const { offset = 0 } = objectOf(options, "{ offset: 0 }");
+    return offsetOf(offset);
+}
+
+// A part of the input that a decoder reads, or the end of the input, which has no bytes.
+class Part {
+    constructor(bytes, isEnd) {
+        Object.assign(this, { bytes, isEnd, at: 0, isOver: false, base: 0, filled: 0, next: null });
+    }
+
+    // Copies what is left to read, so that it does not matter what becomes of the caller's buffer.
+    keep() {
+        this.bytes = new Uint8Array(this.bytes.subarray(this.at));
+        [this.base, this.at] = [this.base - this.at, 0];
+    }
+
+    // The place in the module's memory where the rest stands, of which so many bytes are put there at once.
+    stand(size) {
+        if (!codec.holds(this.filled) || this.at === this.base + codec.len) {
+            this.base = this.at;
+            this.filled = codec.fill(this.bytes.subarray(this.at, this.at + size));
+        }
+        return this.at - this.base;
+    }
+}
+
+// A decoder has parts that are not read to their end, linked by `next`; the state of the module's decoder; and a row of pieces that this
+// gave and nobody has taken. All iterators take from there, so that each piece is given once, in order, whoever asks.
+export class Decoder {
+    #form;
+    #state;
+    #row = NO_PIECES;
+    #front = null;
+    #last = null;
+    // The offset at which all that was fed ends.
+    #end;
+    // Pieces that are asked for at once where invalid bytes are looked for.
+    #most = FEW;
+
+    constructor(encoding = "utf-8", options) {
+        this.#form = formOf(encoding);
+        this.#end = startOf(options);
+        this.#state = codec.newDecoder(this.#form, this.#end);
+    }
+
+    get encoding() {
+        return FORMS[this.#form];
+    }
+
+    get offset() {
+        return this.#row.isTaken ? this.#state.offset : this.#row.offset;
+    }
+
+    get held() {
+        return this.#end - this.offset;
+    }
+
+    feed(part) {
+        return this.#put(new Part(bytesOf(part), false), false);
+    }
+
+    finish() {
+        return this.#put(new Part(NO_BYTES, true), false);
+    }
+
+    feedFaults(part) {
+        return this.#put(new Part(bytesOf(part), false), true);
+    }
+
+    finishFaults() {
+        return this.#put(new Part(NO_BYTES, true), true);
+    }
+
+    // Reads a part up to its first pieces, and keeps the rest. (So what has no invalid bytes is not copied, where they are looked for.)
+    #put(part, isFaults) {
+        const [{ length }, before] = [part.bytes, [this.#state, this.#row, this.#most]];
+        if (length > Number.MAX_SAFE_INTEGER - this.#end) throw new RangeError(`noddychest: offsets go up to ${Number.MAX_SAFE_INTEGER}, and this part ends beyond`);
+        if (!this.#front) this.#readUntilSome(part, isFaults);
+        try {
+            if (!part.isOver) part.keep();
+        } catch (error) {
+            [this.#state, this.#row, this.#most] = before;
+            throw error;
+        }
+        if (!part.isOver) this.#add(part);
+        this.#end += length;
+        return this.#taken(isFaults);
+    }
+
+    #add(part) {
+        if (this.#front) this.#last.next = part;
+        else this.#front = part;
+        this.#last = part;
+    }
+
+    *#taken(isFaults) {
+        for (let it; (it = this.#next(isFaults)); ) yield shown(it, 0);
+    }
+
+    #next(isFaults) {
+        for (;;) {
+            if (isFaults) this.#row.passText();
+            if (!this.#row.isTaken) return this.#row.take();
+            if (!this.#front) return null;
+            this.#readUntilSome(this.#front, isFaults);
+            if (this.#front.isOver) this.#front = this.#front.next;
+        }
+    }
+
+    #readUntilSome(part, isFaults) {
+        while (this.#row.isTaken && !part.isOver) this.#read(part, isFaults);
+    }
+
+    #read(part, isFaults) {
+        if (isFaults && this.#most === FEW && !this.#state.held && !part.isEnd) this.#skip(part);
+        const told = part.isEnd ? codec.decodeLast(this.#state) : codec.decode(this.#state, part.stand(isFaults ? MEGABYTE : BLOCK), isFaults ? this.#most : ROOM);
+        [this.#state, this.#row] = [told.state, told.row];
+        part.at += told.read;
+        part.isOver = part.at === part.bytes.length && !told.isFull;
+        if (isFaults) this.#passText();
+    }
+
+    // (where invalid bytes are dense, more pieces are asked for at once)
+    #passText() {
+        const { faults, count } = this.#row;
+        this.#most = faults > count / 8 ? Math.min(2 * this.#most, ROOM) : FEW;
+        this.#row.passText();
+    }
+
+    // Passes valid text over: a decoder that holds nothing may as well begin after it.
+    #skip(part) {
+        const len = codec.validFrom(this.#form, part.stand(MEGABYTE));
+        part.at += len;
+        if (len) this.#state = codec.newDecoder(this.#form, this.#state.offset + len);
+    }
 }
 
 // The text of whole pieces, in one way or another.

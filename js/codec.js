@@ -5,15 +5,15 @@
 // are kept beside it as they came.
 //
 // The module's memory has a fixed size of 16 MiB. After its own stack and constants stand, from __heap_base on: a cursor, an answer,
-// two lengths, a recoder and a fault; room for pieces; a part that is recoded and room for what it becomes; and the caller's bytes.
+// two lengths, a recoder or decoder and a fault; room for pieces; a part that is recoded and room for what it becomes; and the caller's bytes.
 
 export const OK = 0;
 // The kinds that more bytes may change: of a character that the end cuts off, in UTF-8 and in UTF-16.
 export const TOO_FEW = 1;
 export const INCOMPLETE = 10;
 export const NONE = 11;
-// The status of a strict call that stopped at an invalid byte, or unit.
-const FAULT = 3;
+// The status of a call whose room is full, and of a strict one that stopped at an invalid byte, or unit.
+const [FULL, FAULT] = [1, 3];
 export const FORMS = ["utf-8", "utf-16le", "utf-16be"];
 export const [UTF8, UTF16LE, UTF16BE] = [0, 1, 2];
 // The most bytes that can be filled in at once.
@@ -24,14 +24,16 @@ export const SEEN = 4;
 export const [REPLACE, MAXIMAL, STRICT] = [0, 1, 2];
 const MODES = ["", "_lossy", "_strict"];
 // Pieces that are asked for at once where invalid bytes are rare.
-const FEW = 32;
+export const FEW = 32;
 const PIECE = 16;
-const ROOM = 4096;
+export const ROOM = 4096;
 const PART = 65536;
 const PART_ROOM = 4 * PART;
-const RECODER = 16;
-// Where its count of replaced bytes stands.
+// The size of a recoder, and of a decoder; and where the count of replaced bytes stands in the one, and in the other how many bytes it
+// holds, and its offset.
+const STATE = 16;
 const REPLACED = 8;
+const [HELD, OFFSET] = [1, 8];
 // A module of one function, which has a vector.
 const PROBE = [0, 97, 115, 109, 1, 0, 0, 0, 1, 5, 1, 96, 0, 1, 123, 3, 2, 1, 0, 10, 10, 1, 8, 0, 65, 0, 253, 15, 253, 98, 11];
 
@@ -49,8 +51,8 @@ export class Codec {
         this.cursor = Math.ceil(Number(end) / PIECE) * PIECE;
         this.answer = this.cursor + 16;
         this.numbers = this.answer + 16;
-        this.recoder = this.numbers + 16;
-        this.fault = this.recoder + 16;
+        this.state = this.numbers + 16;
+        this.fault = this.state + 16;
         this.room = this.fault + 32;
         this.part = this.room + ROOM * PIECE;
         this.made = this.part + PART;
@@ -258,8 +260,8 @@ export class Codec {
 
     // A recoder that holds nothing, as the bytes of its struct.
     newRecoder(from, to) {
-        this.calls.nody_recoder(this.address(this.recoder), from, to);
-        return this.memory.slice(this.recoder, this.recoder + RECODER);
+        this.calls.nody_recoder(this.address(this.state), from, to);
+        return this.memory.slice(this.state, this.state + STATE);
     }
 
     // How many invalid bytes, or units, a recoder has replaced.
@@ -272,9 +274,9 @@ export class Codec {
     // is passed over.)
     feed(state, source, chunks, { most = Infinity, mode = REPLACE } = {}) {
         const call = this.calls[`nody_recoder_feed${MODES[mode]}`];
-        const [recoder, read, written, fault] = [this.recoder, this.numbers, this.numbers + 8, this.fault].map(this.address);
+        const [recoder, read, written, fault] = [this.state, this.numbers, this.numbers + 8, this.fault].map(this.address);
         const [part, made, room] = [this.address(this.part), this.address(this.made), BigInt(PART_ROOM)];
-        this.memory.set(state, this.recoder);
+        this.memory.set(state, this.state);
         let [at, status] = [0, 0];
         for (let total = 0; at < source.length && total < most && status !== FAULT; ) {
             const taken = source.subarray(at, at + PART);
@@ -283,7 +285,7 @@ export class Codec {
             at += this.number(this.numbers);
             total += this.keep(chunks, this.number(this.numbers + 8));
         }
-        state.set(this.memory.subarray(this.recoder, this.recoder + RECODER));
+        state.set(this.memory.subarray(this.state, this.state + STATE));
         return { at, fault: this.faultBefore(status, at) };
     }
 
@@ -291,11 +293,11 @@ export class Codec {
     // from the end of the input.
     finish(state, chunks, mode = REPLACE) {
         const call = this.calls[`nody_recoder_finish${MODES[mode]}`];
-        this.memory.set(state, this.recoder);
-        const [recoder, made, numbers, fault] = [this.recoder, this.made, this.numbers, this.fault].map(this.address);
+        this.memory.set(state, this.state);
+        const [recoder, made, numbers, fault] = [this.state, this.made, this.numbers, this.fault].map(this.address);
         const status = call(recoder, made, BigInt(PART_ROOM), numbers, fault);
         this.keep(chunks, this.number(this.numbers));
-        state.set(this.memory.subarray(this.recoder, this.recoder + RECODER));
+        state.set(this.memory.subarray(this.state, this.state + STATE));
         return this.faultBefore(status, 0);
     }
 
@@ -304,6 +306,47 @@ export class Codec {
         const { fault } = this;
         if (status !== FAULT) return null;
         return { place: read - this.number(fault + 8), len: this.number(fault), kind: this.view.getUint8(fault + 16) };
+    }
+
+    // A decoder that holds nothing, and counts from an offset.
+    newDecoder(form, offset) {
+        this.calls.nody_decoder(this.address(this.state), form);
+        this.view.setBigUint64(this.state + OFFSET, BigInt(offset), true);
+        return this.decoder();
+    }
+
+    // The decoder that stands here: the bytes of its struct, how many bytes it holds, and the offset of the first of these or of the next.
+    decoder() {
+        const { memory, state } = this;
+        return { bytes: memory.slice(state, state + STATE), held: memory[state + HELD], offset: wide(this.view, state + OFFSET) };
+    }
+
+    // Lets a decoder read on from a place of the bytes, as far as so many pieces go. Returns how it is then, how many bytes it read,
+    // whether more pieces are known, and the pieces.
+    decode({ bytes }, from, most) {
+        const [decoder, part, room, read, written] = [this.state, this.start + from, this.room, this.numbers, this.numbers + 8].map(this.address);
+        this.memory.set(bytes, this.state);
+        const status = this.calls.nody_decoder_feed(decoder, part, BigInt(this.len - from), room, BigInt(most), read, written);
+        return { state: this.decoder(), read: this.number(this.numbers), isFull: status === FULL, row: this.row() };
+    }
+
+    // The same of what a decoder holds, as its input has ended.
+    decodeLast({ bytes }) {
+        const [decoder, room, written] = [this.state, this.room, this.numbers + 8].map(this.address);
+        this.memory.set(bytes, this.state);
+        this.calls.nody_decoder_finish(decoder, room, BigInt(ROOM), written);
+        return { state: this.decoder(), read: 0, isFull: false, row: this.row() };
+    }
+
+    // The pieces in the room.
+    row() {
+        const count = this.number(this.numbers + 8);
+        return count ? new Row(this.memory.slice(this.room, this.room + count * PIECE)) : NO_PIECES;
+    }
+
+    // How many bytes from a place on are valid in a form. (They have to stand as they came: `fill` was given no form.)
+    validFrom(form, from) {
+        return Number(this.calls.nody_utf16_bytes_valid_up_to(form, this.address(this.start + from), BigInt(this.len - from)));
     }
 
     keep(chunks, count) {
@@ -318,6 +361,51 @@ export class Codec {
         return chunks;
     }
 }
+
+// A number below 2^53 of 64 bits.
+const wide = (view, at) => view.getUint32(at, true) + view.getUint32(at + 4, true) * 2 ** 32;
+
+// Pieces with their offsets, as copies of what a decoder gave, of which the first ones were taken.
+class Row {
+    constructor(bytes) {
+        this.view = new DataView(bytes.buffer);
+        this.end = bytes.length;
+        this.at = 0;
+    }
+
+    get isTaken() {
+        return this.at === this.end;
+    }
+
+    // The offset of the next one.
+    get offset() {
+        return wide(this.view, this.at);
+    }
+
+    get count() {
+        return (this.end - this.at) / PIECE;
+    }
+
+    // How many of those that are left are invalid bytes.
+    get faults() {
+        let faults = 0;
+        for (let { at } = this; at < this.end; at += PIECE) faults += this.view.getUint8(at + 13) !== OK;
+        return faults;
+    }
+
+    take() {
+        const { view, at } = this;
+        this.at += PIECE;
+        return { place: wide(view, at), len: view.getUint8(at + 12), scalar: view.getUint32(at + 8, true), kind: view.getUint8(at + 13) };
+    }
+
+    // Takes those before the next invalid byte.
+    passText() {
+        while (this.at < this.end && this.view.getUint8(this.at + 13) === OK) this.at += PIECE;
+    }
+}
+
+export const NO_PIECES = new Row(new Uint8Array(0));
 
 // Exchanges the bytes of each whole unit of some memory.
 function swap(memory, start, len) {

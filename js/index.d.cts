@@ -66,7 +66,7 @@ export function pieces(data: Bytes, encoding?: Encoding): Generator<Piece, void,
 export function piecesBack(data: Bytes, encoding?: Encoding): Generator<Piece, void, undefined>;
 
 /** Takes pieces from both ends, in any order, until they meet; each piece comes once. Each call is O(1). */
-export class Decoder {
+export class Ends {
     constructor(data: Bytes, encoding?: Encoding);
     /** The next piece from the front, or null where nothing is left. */
     next(): Piece | null;
@@ -145,6 +145,37 @@ export class Recoder {
      * not count. A number, not a BigInt: exact up to `Number.MAX_SAFE_INTEGER`.
      */
     readonly faults: number;
+}
+
+/**
+ * Gives the pieces of input that comes in parts, with offsets from the first byte of all. They do not depend on how the input is divided,
+ * and are those that `pieces` gives for the whole but for the kind in one case: a byte that breaks a character is named when it comes. So
+ * at the end of the input the first byte of `F0 41` is `InterruptedSequence` here, and `TooFewBytes` there.
+ *
+ * The generators make pieces as they are asked for, 4,096 at most before; the part itself is copied, and may be changed, or sent away, once
+ * a call has returned. Each piece is given once, in order, by whichever generator of the decoder is asked: what one of them left, since it
+ * was not gone through to its end, the next one gives first. So a decoder may be fed between two pieces.
+ *
+ * A part that is no bytes, or whose buffer was detached, is a `TypeError`, and one that ends beyond `Number.MAX_SAFE_INTEGER` a
+ * `RangeError`; the decoder is then as it was. Offsets are exact.
+ */
+export class Decoder {
+    /** `offset` is the offset of the first byte, 0 by default: a whole number from 0 on, or a `RangeError` is thrown. */
+    constructor(encoding?: Encoding, options?: { offset?: number });
+    /** The pieces that are decided with this part. Bytes that may still become a character wait for the next one, at most three. O(n). */
+    feed(part: Bytes): Generator<Piece, void, undefined>;
+    /** The same, of which it gives the invalid bytes alone: text is passed over as fast as `isValid` goes through it. O(n). */
+    feedFaults(part: Bytes): Generator<Fault, void, undefined>;
+    /** Ends the input: the pieces of what waits, which are invalid. What is fed after that is other input, and offsets go on. */
+    finish(): Generator<Piece, void, undefined>;
+    /** The same, without characters that no generator has given yet. */
+    finishFaults(): Generator<Fault, void, undefined>;
+    /** The offset of the next piece that will be given. */
+    readonly offset: number;
+    /** How many bytes were fed from there on: at most three, once the generators were gone through. */
+    readonly held: number;
+    /** The name of the encoding, as the Encoding Standard has it, in lower case. */
+    readonly encoding: "utf-8" | "utf-16le" | "utf-16be";
 }
 
 /** A `Recoder` as a stream, for `body.pipeThrough(..)`. It needs Node 18 or a browser. */

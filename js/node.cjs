@@ -7,15 +7,15 @@
 // are kept beside it as they came.
 //
 // The module's memory has a fixed size of 16 MiB. After its own stack and constants stand, from __heap_base on: a cursor, an answer,
-// two lengths, a recoder and a fault; room for pieces; a part that is recoded and room for what it becomes; and the caller's bytes.
+// two lengths, a recoder or decoder and a fault; room for pieces; a part that is recoded and room for what it becomes; and the caller's bytes.
 
 const OK = 0;
 // The kinds that more bytes may change: of a character that the end cuts off, in UTF-8 and in UTF-16.
 const TOO_FEW = 1;
 const INCOMPLETE = 10;
 const NONE = 11;
-// The status of a strict call that stopped at an invalid byte, or unit.
-const FAULT = 3;
+// The status of a call whose room is full, and of a strict one that stopped at an invalid byte, or unit.
+const [FULL, FAULT] = [1, 3];
 const FORMS = ["utf-8", "utf-16le", "utf-16be"];
 const [UTF8, UTF16LE, UTF16BE] = [0, 1, 2];
 // The most bytes that can be filled in at once.
@@ -31,9 +31,11 @@ const PIECE = 16;
 const ROOM = 4096;
 const PART = 65536;
 const PART_ROOM = 4 * PART;
-const RECODER = 16;
-// Where its count of replaced bytes stands.
+// The size of a recoder, and of a decoder; and where the count of replaced bytes stands in the one, and in the other how many bytes it
+// holds, and its offset.
+const STATE = 16;
 const REPLACED = 8;
+const [HELD, OFFSET] = [1, 8];
 // A module of one function, which has a vector.
 const PROBE = [0, 97, 115, 109, 1, 0, 0, 0, 1, 5, 1, 96, 0, 1, 123, 3, 2, 1, 0, 10, 10, 1, 8, 0, 65, 0, 253, 15, 253, 98, 11];
 
@@ -51,8 +53,8 @@ class Codec {
         this.cursor = Math.ceil(Number(end) / PIECE) * PIECE;
         this.answer = this.cursor + 16;
         this.numbers = this.answer + 16;
-        this.recoder = this.numbers + 16;
-        this.fault = this.recoder + 16;
+        this.state = this.numbers + 16;
+        this.fault = this.state + 16;
         this.room = this.fault + 32;
         this.part = this.room + ROOM * PIECE;
         this.made = this.part + PART;
@@ -260,8 +262,8 @@ class Codec {
 
     // A recoder that holds nothing, as the bytes of its struct.
     newRecoder(from, to) {
-        this.calls.nody_recoder(this.address(this.recoder), from, to);
-        return this.memory.slice(this.recoder, this.recoder + RECODER);
+        this.calls.nody_recoder(this.address(this.state), from, to);
+        return this.memory.slice(this.state, this.state + STATE);
     }
 
     // How many invalid bytes, or units, a recoder has replaced.
@@ -274,9 +276,9 @@ class Codec {
     // is passed over.)
     feed(state, source, chunks, { most = Infinity, mode = REPLACE } = {}) {
         const call = this.calls[`nody_recoder_feed${MODES[mode]}`];
-        const [recoder, read, written, fault] = [this.recoder, this.numbers, this.numbers + 8, this.fault].map(this.address);
+        const [recoder, read, written, fault] = [this.state, this.numbers, this.numbers + 8, this.fault].map(this.address);
         const [part, made, room] = [this.address(this.part), this.address(this.made), BigInt(PART_ROOM)];
-        this.memory.set(state, this.recoder);
+        this.memory.set(state, this.state);
         let [at, status] = [0, 0];
         for (let total = 0; at < source.length && total < most && status !== FAULT; ) {
             const taken = source.subarray(at, at + PART);
@@ -285,7 +287,7 @@ class Codec {
             at += this.number(this.numbers);
             total += this.keep(chunks, this.number(this.numbers + 8));
         }
-        state.set(this.memory.subarray(this.recoder, this.recoder + RECODER));
+        state.set(this.memory.subarray(this.state, this.state + STATE));
         return { at, fault: this.faultBefore(status, at) };
     }
 
@@ -293,11 +295,11 @@ class Codec {
     // from the end of the input.
     finish(state, chunks, mode = REPLACE) {
         const call = this.calls[`nody_recoder_finish${MODES[mode]}`];
-        this.memory.set(state, this.recoder);
-        const [recoder, made, numbers, fault] = [this.recoder, this.made, this.numbers, this.fault].map(this.address);
+        this.memory.set(state, this.state);
+        const [recoder, made, numbers, fault] = [this.state, this.made, this.numbers, this.fault].map(this.address);
         const status = call(recoder, made, BigInt(PART_ROOM), numbers, fault);
         this.keep(chunks, this.number(this.numbers));
-        state.set(this.memory.subarray(this.recoder, this.recoder + RECODER));
+        state.set(this.memory.subarray(this.state, this.state + STATE));
         return this.faultBefore(status, 0);
     }
 
@@ -306,6 +308,47 @@ class Codec {
         const { fault } = this;
         if (status !== FAULT) return null;
         return { place: read - this.number(fault + 8), len: this.number(fault), kind: this.view.getUint8(fault + 16) };
+    }
+
+    // A decoder that holds nothing, and counts from an offset.
+    newDecoder(form, offset) {
+        this.calls.nody_decoder(this.address(this.state), form);
+        this.view.setBigUint64(this.state + OFFSET, BigInt(offset), true);
+        return this.decoder();
+    }
+
+    // The decoder that stands here: the bytes of its struct, how many bytes it holds, and the offset of the first of these or of the next.
+    decoder() {
+        const { memory, state } = this;
+        return { bytes: memory.slice(state, state + STATE), held: memory[state + HELD], offset: wide(this.view, state + OFFSET) };
+    }
+
+    // Lets a decoder read on from a place of the bytes, as far as so many pieces go. Returns how it is then, how many bytes it read,
+    // whether more pieces are known, and the pieces.
+    decode({ bytes }, from, most) {
+        const [decoder, part, room, read, written] = [this.state, this.start + from, this.room, this.numbers, this.numbers + 8].map(this.address);
+        this.memory.set(bytes, this.state);
+        const status = this.calls.nody_decoder_feed(decoder, part, BigInt(this.len - from), room, BigInt(most), read, written);
+        return { state: this.decoder(), read: this.number(this.numbers), isFull: status === FULL, row: this.row() };
+    }
+
+    // The same of what a decoder holds, as its input has ended.
+    decodeLast({ bytes }) {
+        const [decoder, room, written] = [this.state, this.room, this.numbers + 8].map(this.address);
+        this.memory.set(bytes, this.state);
+        this.calls.nody_decoder_finish(decoder, room, BigInt(ROOM), written);
+        return { state: this.decoder(), read: 0, isFull: false, row: this.row() };
+    }
+
+    // The pieces in the room.
+    row() {
+        const count = this.number(this.numbers + 8);
+        return count ? new Row(this.memory.slice(this.room, this.room + count * PIECE)) : NO_PIECES;
+    }
+
+    // How many bytes from a place on are valid in a form. (They have to stand as they came: `fill` was given no form.)
+    validFrom(form, from) {
+        return Number(this.calls.nody_utf16_bytes_valid_up_to(form, this.address(this.start + from), BigInt(this.len - from)));
     }
 
     keep(chunks, count) {
@@ -320,6 +363,51 @@ class Codec {
         return chunks;
     }
 }
+
+// A number below 2^53 of 64 bits.
+const wide = (view, at) => view.getUint32(at, true) + view.getUint32(at + 4, true) * 2 ** 32;
+
+// Pieces with their offsets, as copies of what a decoder gave, of which the first ones were taken.
+class Row {
+    constructor(bytes) {
+        this.view = new DataView(bytes.buffer);
+        this.end = bytes.length;
+        this.at = 0;
+    }
+
+    get isTaken() {
+        return this.at === this.end;
+    }
+
+    // The offset of the next one.
+    get offset() {
+        return wide(this.view, this.at);
+    }
+
+    get count() {
+        return (this.end - this.at) / PIECE;
+    }
+
+    // How many of those that are left are invalid bytes.
+    get faults() {
+        let faults = 0;
+        for (let { at } = this; at < this.end; at += PIECE) faults += this.view.getUint8(at + 13) !== OK;
+        return faults;
+    }
+
+    take() {
+        const { view, at } = this;
+        this.at += PIECE;
+        return { place: wide(view, at), len: view.getUint8(at + 12), scalar: view.getUint32(at + 8, true), kind: view.getUint8(at + 13) };
+    }
+
+    // Takes those before the next invalid byte.
+    passText() {
+        while (this.at < this.end && this.view.getUint8(this.at + 13) === OK) this.at += PIECE;
+    }
+}
+
+const NO_PIECES = new Row(new Uint8Array(0));
 
 // Exchanges the bytes of each whole unit of some memory.
 function swap(memory, start, len) {
@@ -343,6 +431,7 @@ function joined(chunks) {
 // Bytes whose pieces are asked for at once.
 const BLOCK = 4096;
 const MEGABYTE = 1 << 20;
+const NO_BYTES = new Uint8Array(0);
 let codec;
 
 function use(instance) {
@@ -402,6 +491,7 @@ const LABELS = [
 ];
 
 function formOf(label) {
+    if (ArrayBuffer.isView(label)) throw new TypeError('noddychest: an encoding is a string, as "utf-8", and no bytes');
     const told = String(label);
     const name = told.replace(/^[\t\n\f\r ]+|[\t\n\f\r ]+$/g, "").toLowerCase();
     const form = LABELS.findIndex((it) => it.includes(name));
@@ -409,14 +499,17 @@ function formOf(label) {
     return form;
 }
 
+// Options, which are to be an object.
+function objectOf(options, example) {
+    if (options !== null && (typeof options === "object" || typeof options === "function")) return options;
+    throw new TypeError(`noddychest: options are an object, as ${example}, or left out, and not ${options === null ? "null" : `a ${typeof options}`}`);
+}
+
 // What options ask to do with invalid bytes. `fatal: true` is how TextDecoder says "strict".
 const WAYS = { replace: REPLACE, maximal: MAXIMAL, strict: STRICT };
 
 function wayOf(options = {}) {
-    if (options === null || (typeof options !== "object" && typeof options !== "function")) {
-        throw new TypeError(`noddychest: options are an object, as { fatal: true }, or left out, and not ${options === null ? "null" : `a ${typeof options}`}`);
-    }
-    const { errors, fatal } = options;
+    const { errors, fatal } = objectOf(options, "{ fatal: true }");
     if (errors === undefined) return fatal ? STRICT : REPLACE;
     const name = String(errors);
     if (!Object.keys(WAYS).includes(name)) throw new RangeError(`noddychest: errors is "replace", "maximal" or "strict", and not ${name}`);
@@ -512,7 +605,7 @@ function startBefore(back, size, form) {
     return form === UTF8 ? start : start - (start % 2);
 }
 
-class Decoder {
+class Ends {
     #bytes;
     #form;
     #length;
@@ -664,6 +757,145 @@ function recoderStream(from, to, options) {
     });
 }
 
+// The offset from which options ask to count.
+function startOf(options = {}) {
+    const { offset = 0 } = objectOf(options, "{ offset: 0 }");
+    return offsetOf(offset);
+}
+
+// A part of the input that a decoder reads, or the end of the input, which has no bytes.
+class Part {
+    constructor(bytes, isEnd) {
+        Object.assign(this, { bytes, isEnd, at: 0, isOver: false, base: 0, filled: 0, next: null });
+    }
+
+    // Copies what is left to read, so that it does not matter what becomes of the caller's buffer.
+    keep() {
+        this.bytes = new Uint8Array(this.bytes.subarray(this.at));
+        [this.base, this.at] = [this.base - this.at, 0];
+    }
+
+    // The place in the module's memory where the rest stands, of which so many bytes are put there at once.
+    stand(size) {
+        if (!codec.holds(this.filled) || this.at === this.base + codec.len) {
+            this.base = this.at;
+            this.filled = codec.fill(this.bytes.subarray(this.at, this.at + size));
+        }
+        return this.at - this.base;
+    }
+}
+
+// A decoder has parts that are not read to their end, linked by `next`; the state of the module's decoder; and a row of pieces that this
+// gave and nobody has taken. All iterators take from there, so that each piece is given once, in order, whoever asks.
+class Decoder {
+    #form;
+    #state;
+    #row = NO_PIECES;
+    #front = null;
+    #last = null;
+    // The offset at which all that was fed ends.
+    #end;
+    // Pieces that are asked for at once where invalid bytes are looked for.
+    #most = FEW;
+
+    constructor(encoding = "utf-8", options) {
+        this.#form = formOf(encoding);
+        this.#end = startOf(options);
+        this.#state = codec.newDecoder(this.#form, this.#end);
+    }
+
+    get encoding() {
+        return FORMS[this.#form];
+    }
+
+    get offset() {
+        return this.#row.isTaken ? this.#state.offset : this.#row.offset;
+    }
+
+    get held() {
+        return this.#end - this.offset;
+    }
+
+    feed(part) {
+        return this.#put(new Part(bytesOf(part), false), false);
+    }
+
+    finish() {
+        return this.#put(new Part(NO_BYTES, true), false);
+    }
+
+    feedFaults(part) {
+        return this.#put(new Part(bytesOf(part), false), true);
+    }
+
+    finishFaults() {
+        return this.#put(new Part(NO_BYTES, true), true);
+    }
+
+    // Reads a part up to its first pieces, and keeps the rest. (So what has no invalid bytes is not copied, where they are looked for.)
+    #put(part, isFaults) {
+        const [{ length }, before] = [part.bytes, [this.#state, this.#row, this.#most]];
+        if (length > Number.MAX_SAFE_INTEGER - this.#end) throw new RangeError(`noddychest: offsets go up to ${Number.MAX_SAFE_INTEGER}, and this part ends beyond`);
+        if (!this.#front) this.#readUntilSome(part, isFaults);
+        try {
+            if (!part.isOver) part.keep();
+        } catch (error) {
+            [this.#state, this.#row, this.#most] = before;
+            throw error;
+        }
+        if (!part.isOver) this.#add(part);
+        this.#end += length;
+        return this.#taken(isFaults);
+    }
+
+    #add(part) {
+        if (this.#front) this.#last.next = part;
+        else this.#front = part;
+        this.#last = part;
+    }
+
+    *#taken(isFaults) {
+        for (let it; (it = this.#next(isFaults)); ) yield shown(it, 0);
+    }
+
+    #next(isFaults) {
+        for (;;) {
+            if (isFaults) this.#row.passText();
+            if (!this.#row.isTaken) return this.#row.take();
+            if (!this.#front) return null;
+            this.#readUntilSome(this.#front, isFaults);
+            if (this.#front.isOver) this.#front = this.#front.next;
+        }
+    }
+
+    #readUntilSome(part, isFaults) {
+        while (this.#row.isTaken && !part.isOver) this.#read(part, isFaults);
+    }
+
+    #read(part, isFaults) {
+        if (isFaults && this.#most === FEW && !this.#state.held && !part.isEnd) this.#skip(part);
+        const told = part.isEnd ? codec.decodeLast(this.#state) : codec.decode(this.#state, part.stand(isFaults ? MEGABYTE : BLOCK), isFaults ? this.#most : ROOM);
+        [this.#state, this.#row] = [told.state, told.row];
+        part.at += told.read;
+        part.isOver = part.at === part.bytes.length && !told.isFull;
+        if (isFaults) this.#passText();
+    }
+
+    // (where invalid bytes are dense, more pieces are asked for at once)
+    #passText() {
+        const { faults, count } = this.#row;
+        this.#most = faults > count / 8 ? Math.min(2 * this.#most, ROOM) : FEW;
+        this.#row.passText();
+    }
+
+    // Passes valid text over: a decoder that holds nothing may as well begin after it.
+    #skip(part) {
+        const len = codec.validFrom(this.#form, part.stand(MEGABYTE));
+        part.at += len;
+        if (len) this.#state = codec.newDecoder(this.#form, this.#state.offset + len);
+    }
+}
+
 // The text of whole pieces, in one way or another.
 function textOf(bytes, form, way) {
     return new TextDecoder("utf-16le", { ignoreBOM: true }).decode(joined(codec.recode(form, UTF16LE, bytes, { mode: way })));
@@ -742,4 +974,4 @@ async function* streamText(stream, encoding = "utf-8", options) {
 const file = require("node:path").join(__dirname, hasVectors() ? "noddychest-simd.wasm" : "noddychest.wasm");
 use(new WebAssembly.Instance(new WebAssembly.Module(require("node:fs").readFileSync(file))));
 
-module.exports = { Decoder, FaultError, Recoder, boundaryAfter, boundaryBefore, charCount, decode, faults, firstFault, isValid, pieces, piecesBack, recode, recodedLength, recoderStream, streamFaults, streamPieces, streamText };
+module.exports = { Decoder, Ends, FaultError, Recoder, boundaryAfter, boundaryBefore, charCount, decode, faults, firstFault, isValid, pieces, piecesBack, recode, recodedLength, recoderStream, streamFaults, streamPieces, streamText };

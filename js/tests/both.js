@@ -1,5 +1,5 @@
 // Prints for how many of so many inputs two modules answer otherwise: both.js ONE OTHER COUNT. Each input is recoded between all forms,
-// lossy and strict, at once and in two parts, and split from the front, from both ends and at each place.
+// lossy and strict, at once and in two parts, and split from the front, from both ends, at each place and in two parts.
 import { readFileSync } from "node:fs";
 import { Codec, MAXIMAL, REPLACE, STRICT, joined } from "../codec.js";
 import { chances, damaged } from "./help.js";
@@ -16,6 +16,22 @@ function inParts(codec, bytes, cut, from, to, mode) {
     return [stops, codec.finish(state, chunks, mode), codec.replacedBy(state), [...joined(chunks)]];
 }
 
+// The pieces that a decoder gives of two parts, some at a time, and what it is like after each call.
+function located(codec, bytes, cut, form, most) {
+    const found = [];
+    const put = ({ state, read, isFull, row }) => {
+        found.push(state.held, state.offset, read, isFull, Buffer.from(row.view.buffer).toString("latin1"));
+        return { state, read, isFull };
+    };
+    let did = { state: codec.newDecoder(form, 2 ** 32 - 9) };
+    for (const part of [bytes.subarray(0, cut), bytes.subarray(cut)]) {
+        codec.fill(part);
+        for (let from = 0, isFull = true; isFull; [from, isFull] = [from + did.read, did.isFull]) did = put(codec.decode(did.state, from, most));
+    }
+    put(codec.decodeLast(did.state));
+    return found;
+}
+
 const FORMS = [0, 1, 2];
 
 function told(codec, bytes, word, cut) {
@@ -27,7 +43,8 @@ function told(codec, bytes, word, cut) {
     const pairs = FORMS.flatMap((from) => FORMS.map((to) => [from, to]));
     const recoded = pairs.map(([from, to]) => [REPLACE, MAXIMAL, STRICT].map((mode) => inParts(codec, bytes, cut, from, to, mode)));
     const whole = pairs.map(([from, to]) => [...joined(codec.recode(from, to, bytes))]);
-    return JSON.stringify([run, walk, streamed, ends, codec.names, recoded, whole]);
+    const parts = FORMS.map((form) => located(codec, bytes, cut, form, 1 + (bytes.length % 40)));
+    return JSON.stringify([run, walk, streamed, ends, codec.names, recoded, whole, parts]);
 }
 
 const text = new TextEncoder().encode("Hello, world. Grüße, déjà vu. Съешь ещё булок. 天地玄黄宇宙洪荒. 😀🎉🌍 नमस्ते. ".repeat(16));

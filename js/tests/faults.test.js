@@ -3,7 +3,7 @@ import assert from "node:assert/strict";
 import { readFileSync } from "node:fs";
 import test from "node:test";
 import { Codec, UTF16LE, UTF8 } from "../codec.js";
-import { Decoder, FaultError, Recoder, boundaryAfter, boundaryBefore, charCount, decode, faults, firstFault, isValid, pieces, piecesBack, recode, recodedLength } from "noddychest";
+import { Ends, FaultError, Recoder, boundaryAfter, boundaryBefore, charCount, decode, faults, firstFault, isValid, pieces, piecesBack, recode, recodedLength } from "noddychest";
 import { chances, damaged, hexOf, ofHex } from "./help.js";
 
 const FORMS = ["utf-8", "utf-16le", "utf-16be"];
@@ -41,9 +41,9 @@ test("the pieces of UTF-16 in both orders, from the front, the back and both end
         const [encoding, want] = [isBig ? "utf-16be" : "utf-16le", unitsOf(bytes, isBig)];
         assert.deepEqual([...pieces(bytes, encoding)].map(told), want, `${encoding} ${hexOf(bytes)}`);
         assert.deepEqual([...piecesBack(bytes, encoding)].reverse().map((it) => [it.offset, it.length, it.char]), want.map(([at, len, it]) => [at, len, /^[A-Z]\w{5}/.test(it) ? null : it]));
-        const decoder = new Decoder(bytes, encoding);
+        const ends = new Ends(bytes, encoding);
         const found = [];
-        for (let piece; (piece = chance(2) ? decoder.next() : decoder.nextBack()); ) found.push([piece.offset, piece.length, piece.char]);
+        for (let piece; (piece = chance(2) ? ends.next() : ends.nextBack()); ) found.push([piece.offset, piece.length, piece.char]);
         assert.deepEqual(found.sort((one, other) => one[0] - other[0]), want.map(([at, len, it]) => [at, len, /^[A-Z]\w{5}/.test(it) ? null : it]));
         assert.equal(charCount(bytes, encoding), want.length);
     }

@@ -1,10 +1,14 @@
-// What the tests share: stored vectors, and inputs by chance in which damage is frequent.
+// What the tests share: stored vectors, inputs by chance in which damage is frequent, and whether a command is there.
+import { spawnSync } from "node:child_process";
 import { readFileSync } from "node:fs";
 
 const top = new URL("../../", import.meta.url);
 
 export const rows = (name) =>
     readFileSync(new URL(`crates/conformance/data/${name}`, top), "ascii").split("\n").filter((it) => it && !it.startsWith("#")).map((it) => it.split("|"));
+
+// Why a test that asks for a command is left out, or false.
+export const needs = (command) => (spawnSync(command, ["--version"]).status === 0 ? false : `no ${command} here`);
 
 export const ofHex = (text) => Uint8Array.from(text.match(/../g) ?? [], (it) => parseInt(it, 16));
 export const hexOf = (bytes) => Buffer.from(bytes).toString("hex");

@@ -5,7 +5,7 @@ import { createRequire } from "node:module";
 import test from "node:test";
 import vm from "node:vm";
 import { MessageChannel, receiveMessageOnPort } from "node:worker_threads";
-import { Decoder, FaultError, Recoder, boundaryAfter, boundaryBefore, charCount, decode, faults, firstFault, isValid, pieces, piecesBack, recode, recodedLength, recoderStream, streamPieces } from "noddychest";
+import { Ends, FaultError, Recoder, boundaryAfter, boundaryBefore, charCount, decode, faults, firstFault, isValid, pieces, piecesBack, recode, recodedLength, recoderStream, streamPieces } from "noddychest";
 import { chances, damaged, hexOf, ofHex } from "./help.js";
 
 const GONE = { name: "TypeError", message: /^noddychest: the bytes are gone: their buffer was detached, or made smaller$/ };
@@ -24,11 +24,11 @@ function detach(bytes) {
 const WAYS = {
     pieces: (bytes) => nextOf(pieces(bytes)),
     piecesBack: (bytes) => nextOf(piecesBack(bytes)),
-    "Decoder, from the front": (bytes) => stepsOf(new Decoder(bytes), "next"),
-    "Decoder, from the back": (bytes) => stepsOf(new Decoder(bytes), "nextBack"),
+    "Ends, from the front": (bytes) => stepsOf(new Ends(bytes), "next"),
+    "Ends, from the back": (bytes) => stepsOf(new Ends(bytes), "nextBack"),
 };
 const nextOf = (iterator) => () => iterator.next().value ?? null;
-const stepsOf = (decoder, name) => () => decoder[name]();
+const stepsOf = (ends, name) => () => ends[name]();
 
 for (const [name, way] of Object.entries(WAYS)) {
     test(`${name}: bytes that are detached on the way`, () => {
@@ -45,7 +45,7 @@ for (const [name, way] of Object.entries(WAYS)) {
         const bytes = ofHex("61c3a9ff");
         const next = way(bytes);
         for (let i = 0; i < 3; i++) assert.ok(next());
-        if (!name.startsWith("Decoder")) {
+        if (!name.startsWith("Ends")) {
             detach(bytes);
             assert.equal(next(), null);
         }
@@ -109,7 +109,7 @@ test("bytes that are gone already are refused, and are not empty text", () => {
         const data = give(buffer);
         detach(buffer);
         const calls = [isValid, firstFault, charCount, decode, faults, pieces, piecesBack, (it) => boundaryBefore(it, 1), (it) => boundaryAfter(it, 1)];
-        for (const call of [...calls, (it) => new Decoder(it), (it) => recode(it, "utf8", "utf8"), (it) => recodedLength(it, "utf8", "utf8")]) {
+        for (const call of [...calls, (it) => new Ends(it), (it) => recode(it, "utf8", "utf8"), (it) => recodedLength(it, "utf8", "utf8")]) {
             assert.throws(() => call(data), GONE);
         }
     }
@@ -181,7 +181,7 @@ test("bytes that lie about themselves, or run code when asked, are read as they 
     Uint8Array.prototype.set.call(bytes, [0x41, 0xc3, 0xa9]);
     assert.equal([...pieces(bytes)].length, 2);
     assert.equal(hexOf(recode(bytes, "utf8", "utf16le")), "4100e900");
-    assert.equal(new Decoder(bytes).nextBack().char, "é");
+    assert.equal(new Ends(bytes).nextBack().char, "é");
     assert.deepEqual([decode(bytes).text, [...faults(bytes)].length, charCount(bytes), boundaryAfter(bytes, 2), firstFault(bytes, "utf-16be").offset], ["Aé", 0, 2, 3, 2]);
     for (const it of [new Proxy(new Uint8Array(2), {}), Object.create(Uint8Array.prototype), { __proto__: ArrayBuffer.prototype, byteLength: 10 ** 30 }, { length: 10 ** 30 }, Symbol("bytes"), 10n ** 30n]) {
         assert.throws(() => isValid(it), { name: "TypeError", message: /bytes are a Uint8Array/ });
@@ -193,7 +193,7 @@ test("other calls between two pieces, and from within options and labels, change
     const [want, have, other] = [[...pieces(bytes)], [], new Recoder("utf8", "utf16le")];
     for (const it of pieces(bytes)) {
         have.push(it);
-        if (have.length % 7 === 0) other.feed(bytes.subarray(it.offset, it.offset + 9)), isValid(bytes.subarray(5)), pieces(bytes).next(), new Decoder(bytes).nextBack();
+        if (have.length % 7 === 0) other.feed(bytes.subarray(it.offset, it.offset + 9)), isValid(bytes.subarray(5)), pieces(bytes).next(), new Ends(bytes).nextBack();
     }
     assert.deepEqual(have, want);
     const busy = (value) => (recode(bytes, "utf16be", "utf8"), [...pieces(ofHex("e282"))], value);

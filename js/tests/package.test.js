@@ -6,10 +6,9 @@ import { tmpdir } from "node:os";
 import { fileURLToPath } from "node:url";
 import test from "node:test";
 import { hasVectors } from "../codec.js";
+import { needs } from "./help.js";
 
 const at = (path) => fileURLToPath(new URL(path, import.meta.url));
-const has = (command) => spawnSync(command, ["--version"]).status === 0;
-const needs = (command) => (has(command) ? false : `no ${command} here`);
 const MEMORY64 = "process.exit(WebAssembly.validate(new Uint8Array([0, 0x61, 0x73, 0x6d, 1, 0, 0, 0, 5, 3, 1, 4, 1])) ? 0 : 1)";
 const words = [[], ["--experimental-wasm-memory64"]].find((it) => spawnSync(process.execPath, [...it, "-e", MEMORY64]).status === 0);
 
@@ -91,10 +90,11 @@ test("what is exported is what the types declare", async () => {
     assert.equal(told("web.js"), told("node.js"));
 });
 
-test("the README's example prints what it says", () => {
+test("the README's examples print what they say", () => {
     const text = readFileSync(at("../README.md"), "utf8");
-    const code = text.match(/```js[^\n]*\n([^]*?)```/)[1];
-    const said = [...code.matchAll(/^\/\/ (.*)$/gm)].map((it) => it[1]).join("\n");
-    const ran = execFileSync(process.execPath, ["--input-type=module", "-e", code], { cwd: at(".."), encoding: "utf8" });
-    assert.equal(ran.trimEnd(), said);
+    for (const [, code] of text.matchAll(/```js[^\n]*\n([^]*?)```/g)) {
+        const said = [...code.matchAll(/^\/\/ (.*)$/gm)].map((it) => it[1]).join("\n");
+        const ran = execFileSync(process.execPath, ["--input-type=module", "-e", code], { cwd: at(".."), encoding: "utf8" });
+        assert.equal(ran.trimEnd(), said);
+    }
 });

@@ -1,6 +1,6 @@
 import assert from "node:assert/strict";
 import test from "node:test";
-import { Decoder, firstFault, isValid, pieces, piecesBack } from "noddychest";
+import { Ends, firstFault, isValid, pieces, piecesBack } from "noddychest";
 import { chances, damaged, ofHex, rows } from "./help.js";
 
 const told = (it) => (it ? `${it.offset} ${it.length} ${it.error ?? it.char.codePointAt(0).toString(16).padStart(6, "0")}` : "none");
@@ -19,8 +19,8 @@ test("the stored vectors, forward and by a word of both ends", () => {
     for (const [hex, forward, , word, walk] of listed) {
         const bytes = ofHex(hex);
         assert.equal(whole(bytes).map(told).join(";"), forward);
-        const decoder = new Decoder(bytes);
-        assert.equal([...word].map((it) => told(it === "F" ? decoder.next() : decoder.nextBack())).join(";"), walk);
+        const ends = new Ends(bytes);
+        assert.equal([...word].map((it) => told(it === "F" ? ends.next() : ends.nextBack())).join(";"), walk);
     }
 });
 
@@ -55,10 +55,10 @@ test("blocks leave no trace: each piece of long inputs is that of the bytes near
     const chance = chances(2);
     for (let i = 0; i < 20; i++) {
         const bytes = damaged(chance, 4090 + chance(12) + 4096 * chance(3));
-        const [forward, decoder] = [whole(bytes), new Decoder(bytes)];
-        for (const it of forward) assert.deepEqual(decoder.next(), it);
-        assert.equal(decoder.next(), null);
-        const again = new Decoder(bytes);
+        const [forward, ends] = [whole(bytes), new Ends(bytes)];
+        for (const it of forward) assert.deepEqual(ends.next(), it);
+        assert.equal(ends.next(), null);
+        const again = new Ends(bytes);
         for (const it of piecesBack(bytes)) assert.deepEqual(again.nextBack(), it);
         assert.equal(again.remaining.length, 0);
     }
@@ -79,10 +79,10 @@ test("the first invalid byte on both sides of a megabyte", () => {
 test("two iterators at the same time, and what is left between both ends", () => {
     const [one, other] = [pieces(ofHex("41c3a9ff")), piecesBack(ofHex("e282acff"))];
     assert.deepEqual([one.next(), other.next(), one.next(), other.next()].map((it) => told(it.value)), ["0 1 000041", "3 1 NonUtf8Byte", "1 2 0000e9", "0 3 0020ac"]);
-    const decoder = new Decoder(ofHex("41c3a9ff"));
-    decoder.nextBack();
-    decoder.next();
-    assert.deepEqual([...decoder.remaining], [0xc3, 0xa9]);
+    const ends = new Ends(ofHex("41c3a9ff"));
+    ends.nextBack();
+    ends.next();
+    assert.deepEqual([...ends.remaining], [0xc3, 0xa9]);
 });
 
 test("any bytes, at their real place; no strings", () => {
@@ -93,6 +93,6 @@ test("any bytes, at their real place; no strings", () => {
     assert.equal(whole(new Uint16Array(ofHex("4142c3a9").buffer)).length, 3);
     assert.deepEqual([whole(new ArrayBuffer(0)), firstFault(new Uint8Array(0)), isValid(new Uint8Array(0))], [[], null, true]);
     for (const it of ["text", [65], null, undefined, 65]) assert.throws(() => whole(it), TypeError);
-    assert.throws(() => new Decoder("text"), TypeError);
+    assert.throws(() => new Ends("text"), TypeError);
     assert.throws(() => firstFault("text"), TypeError);
 });

@@ -1,5 +1,5 @@
 // Read by tsc alone: each call as a caller with types writes it, and what has to be refused.
-import { Decoder, FaultError, Recoder, boundaryAfter, boundaryBefore, charCount, decode, faults, firstFault, isValid, pieces, piecesBack, recode, recodedLength, recoderStream, streamFaults, streamPieces, streamText } from "noddychest";
+import { Decoder, Ends, FaultError, Recoder, boundaryAfter, boundaryBefore, charCount, decode, faults, firstFault, isValid, pieces, piecesBack, recode, recodedLength, recoderStream, streamFaults, streamPieces, streamText } from "noddychest";
 import type { Encoding, ErrorName, Fault, Piece } from "noddychest";
 
 const bytes = new Uint8Array([0xe2]);
@@ -26,8 +26,14 @@ export async function read(stream: ReadableStream<Uint8Array>): Promise<string> 
     for await (const part of streamText(stream, "utf-8", { errors: "strict" })) all += part.text + part.offset + part.faults.length;
     return all;
 }
-const decoder = new Decoder(bytes);
-const left: [Piece | null, Piece | null, Uint8Array] = [decoder.next(), decoder.nextBack(), decoder.remaining];
+const ends = new Ends(bytes);
+const left: [Piece | null, Piece | null, Uint8Array] = [ends.next(), ends.nextBack(), ends.remaining];
+const decoder = new Decoder("utf-16be", { offset: 2 ** 40 });
+const inParts: Piece[] = [...decoder.feed(bytes), ...decoder.feed(bytes.buffer), ...decoder.finish()];
+const wrongInParts: Fault[] = [...new Decoder().feedFaults(bytes), ...decoder.finishFaults()];
+const place: number = decoder.offset + decoder.held + inParts.length + wrongInParts.length;
+const told: "utf-8" | "utf-16le" | "utf-16be" = decoder.encoding;
+console.log(place, told);
 console.log(back, name, parts, replaced, left, isValid(bytes), recoderStream("utf-8", "utf-8").readable);
 const strict = new Recoder("utf-8", "utf-16le", { fatal: true });
 try {
@@ -41,5 +47,11 @@ recode(bytes, "utf-8", "utf-8", { errors: "ignore" });
 recode(bytes, "utf-8", "utf-8", { strict: true });
 // @ts-expect-error: a string is no bytes
 isValid("text");
+// @ts-expect-error: bytes are no encoding
+new Decoder(bytes);
+// @ts-expect-error: an offset is no BigInt
+new Decoder("utf-8", { offset: 1n });
+// @ts-expect-error: what a decoder tells is not set
+decoder.offset = 1;
 // @ts-expect-error: no such encoding
 recode(bytes, "latin1", "utf-8");
