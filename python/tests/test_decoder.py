@@ -386,7 +386,7 @@ class Threads(unittest.TestCase):
                 for call in (lambda: taken.append(next(running)), lambda: taken.extend(decoder.feed(b"b"))):
                     try:
                         call()
-                    except RuntimeError:
+                    except (RuntimeError, StopIteration):
                         pass
 
         for _ in range(200):
