@@ -2,6 +2,7 @@
 import array
 import copy
 import ctypes
+import doctest
 import gc
 import io
 import itertools
@@ -652,6 +653,15 @@ class Streams(unittest.TestCase):
             for wrong in (b"abc", ["text"], io.StringIO("text"), [97]):
                 with self.assertRaisesRegex(TypeError, "bytes-like object"):
                     list(stream(wrong))
+
+
+class Examples(unittest.TestCase):
+    def test_of_methods(self):
+        """(Those of classes and functions are run with the modules.)"""
+        names, runner = {"Decoder": Decoder}, doctest.DocTestRunner()
+        for it in (Decoder.feed, Decoder.feed_faults):
+            example, = doctest.DocTestFinder().find(it, it.__name__, globs=dict(names))
+            self.assertEqual((runner.run(example).failed, len(example.examples) > 1), (0, True))
 
 
 if __name__ == "__main__":

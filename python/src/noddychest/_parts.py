@@ -73,7 +73,7 @@ class Decoder:
         memory. An iterator takes 8 kB. It goes over the bytes of the part, which are not copied and have to stay the same until it has
         ended; a `bytearray` cannot be resized until then.
 
-        The part is read whether its pieces are asked for or not. So you may leave an iterator before its end, or feed the next part and
+        The part counts as read, whether its pieces are asked for or not. So you may leave an iterator before its end, or feed the next part and
         go on with it afterwards.
 
         >>> decoder = Decoder()
