@@ -99,28 +99,26 @@ static nody_decoder_t after(nody_decoder_t decoder, const Py_buffer *view) {
     return decoder;
 }
 
-/* Puts the faults that begin in held bytes into the block. Answers where in the part the last piece ends that begins there. */
-static size_t begin_block(Part *self) {
-    uint64_t first = self->decoder.offset, reach = 0;
+/* Puts the faults of held bytes, and of the next few that tell them, into the block. */
+static void begin_block(Part *self) {
     uint8_t copy[TOLD];
-    size_t held = self->decoder.count, len = (size_t)self->view.len < TOLD ? (size_t)self->view.len : TOLD, read, count;
+    size_t len = (size_t)self->view.len < TOLD ? (size_t)self->view.len : TOLD, read, count;
     memcpy(copy, self->view.buf, len);
     count = fed(&self->decoder, copy, len, self->block, self->room, &read);
-    for (size_t i = 0; i < count && self->block[i].offset - first < held; i++) {
-        reach = self->block[i].offset - first + self->block[i].len;
+    for (size_t i = 0; i < count; i++)
         if (self->block[i].kind != NODY_KIND_OK)
             self->block[self->count++] = self->block[i];
-    }
-    return reach > held ? (size_t)(reach - held) : 0;
 }
 
-/* Begins to look for faults, up to the offset from which on nothing is told yet. */
+/* Begins to look for faults: from the part's first piece that is not told yet, up to the offset from which on none is. */
 static int begin_faults(Part *self, uint64_t end) {
-    uint64_t part = self->decoder.offset + self->decoder.count;
-    size_t from;
+    uint64_t part = self->decoder.offset + self->decoder.count, from = 0;
     if (!open_search(&self->search, STREAMED, self->decoder.form, &self->view))
         return 0;
-    from = self->decoder.count > 0 ? begin_block(self) : 0;
+    if (self->decoder.count > 0) {
+        begin_block(self);
+        from = self->decoder.offset - part <= TOLD ? self->decoder.offset - part : 0; /* (0 where it still holds what it held) */
+    }
     self->search.bytes += from, self->search.len -= from;
     self->base = part + from;
     self->end = end - self->base <= self->search.len ? (size_t)(end - self->base) : 0;
