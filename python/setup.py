@@ -68,8 +68,8 @@ setup(
     ext_modules=[
         Extension(
             "noddychest._noddychest",
-            sources=["src/_noddychest.c", "src/views.c", "src/lengths.c", "src/decoding.c", "library/processor.c"],
-            depends=["src/views.h", "src/lengths.h", "src/exports.map", "library/noddychest.h", *(f"library/{it}" for it in ALL_ASSEMBLY)],
+            sources=["src/_noddychest.c", "src/views.c", "src/lengths.c", "src/decoding.c", "src/maker.c", "src/parts.c", "library/processor.c"],
+            depends=["src/views.h", "src/maker.h", "src/lengths.h", "src/exports.map", "library/noddychest.h", *(f"library/{it}" for it in ALL_ASSEMBLY)],
             include_dirs=["src", "library"],
             define_macros=[("Py_LIMITED_API", "0x030B0000")] if STABLE else [],
             extra_compile_args=["-O3"],

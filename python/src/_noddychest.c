@@ -3,6 +3,7 @@
  *
  * The interpreter's lock is let go while 64 KiB or more are read, and the buffer is held meanwhile. Nothing is kept but in objects, so
  * each interpreter has its own. */
+#include "maker.h"
 #include "views.h"
 
 #include "lengths.h"
@@ -439,13 +440,6 @@ static PyObject *recoder_new(PyTypeObject *type, PyObject *args, PyObject *names
     return (PyObject *)self;
 }
 
-static void plain_dealloc(PyObject *self) {
-    PyTypeObject *type = Py_TYPE(self);
-    freefunc release = (freefunc)PyType_GetSlot(type, Py_tp_free);
-    release(self);
-    Py_DECREF(type);
-}
-
 /* The bytes that come of a step. The recoder changes only if they are made, and no fault is refused. */
 static PyObject *stepped(Recoder *self, const Py_buffer *view, int is_last) {
     nody_recoder_t before = self->recoder, after = self->recoder;
@@ -532,106 +526,6 @@ static PyObject *recoder_faults(PyObject *self, void *closure) {
 }
 
 /* ---- pieces ---- */
-
-/* Makes pieces. As zip() and enumerate() do, it takes back a tuple that nobody else has any more, and puts the next piece into it:
- * that doubles the speed of a loop over pieces. A caller has one piece while it asks for the next, so two go round. */
-typedef struct {
-    PyObject *type, *errors, *lengths[5];
-    PyObject *given[2];
-    size_t lens[2];
-    nody_kind_t kinds[2];
-    int turn;
-    uint32_t scalars[256]; /* characters that were made, each at its last eight bits */
-    PyObject *chars[256];
-} Maker;
-
-/* The version of the interpreter, which may be later than that of its headers. */
-static unsigned long version(void) {
-#if defined(Py_LIMITED_API)
-    return Py_Version;
-#else
-    return PY_VERSION_HEX;
-#endif
-}
-
-/* A tuple of 3.14 keeps its hash, so another piece must not come into it; without the lock nobody knows who has it. */
-static int takes_back(void) {
-#if defined(Py_GIL_DISABLED)
-    return 0;
-#else
-    return version() < 0x030E0000;
-#endif
-}
-
-static int maker_begin(Maker *maker, PyObject *type, PyObject *errors) {
-    if (!PyType_Check(type) || !PyType_IsSubtype((PyTypeObject *)type, &PyTuple_Type) || !PyTuple_Check(errors) ||
-        PyTuple_Size(errors) <= NODY_KIND_NONE) {
-        PyErr_SetString(PyExc_TypeError, "the type of pieces and a tuple of errors are required");
-        return 0;
-    }
-    maker->type = Py_NewRef(type);
-    maker->errors = Py_NewRef(errors);
-    for (int i = 0; i < 5; i++)
-        if ((maker->lengths[i] = PyLong_FromLong(i)) == NULL)
-            return 0;
-    return 1;
-}
-
-static void maker_end(Maker *maker) {
-    Py_XDECREF(maker->type);
-    Py_XDECREF(maker->errors);
-    for (int i = 0; i < 5; i++)
-        Py_XDECREF(maker->lengths[i]);
-    for (int i = 0; i < 2; i++)
-        Py_XDECREF(maker->given[i]);
-    for (int i = 0; i < 256; i++)
-        Py_XDECREF(maker->chars[i]);
-}
-
-static PyObject *character(Maker *maker, uint32_t scalar) {
-    unsigned place = scalar & 255;
-    if (maker->chars[place] == NULL || maker->scalars[place] != scalar) {
-        PyObject *made = PyUnicode_FromOrdinal((int)scalar), *old = maker->chars[place];
-        if (made == NULL)
-            return NULL;
-        maker->chars[place] = made;
-        maker->scalars[place] = scalar;
-        Py_XDECREF(old);
-    }
-    return Py_NewRef(maker->chars[place]);
-}
-
-static PyObject *make_piece(Maker *maker, size_t offset, nody_piece_t piece) {
-    int turn = maker->turn ^= 1;
-    PyObject **given = &maker->given[turn], *place, *it, *tuple;
-    int fresh = *given == NULL || Py_REFCNT(*given) != 1;
-    place = PyLong_FromSize_t(offset);
-    it = piece.kind == NODY_KIND_OK ? character(maker, piece.scalar) : Py_NewRef(Py_None);
-    tuple = fresh ? PyType_GenericAlloc((PyTypeObject *)maker->type, 4) : *given;
-    if (place == NULL || it == NULL || tuple == NULL) {
-        Py_XDECREF(place);
-        Py_XDECREF(it);
-        if (fresh)
-            Py_XDECREF(tuple);
-        return NULL;
-    }
-    PyTuple_SetItem(tuple, 0, place);
-    PyTuple_SetItem(tuple, 1, it);
-    if (fresh || piece.len != maker->lens[turn] || piece.kind != maker->kinds[turn]) {
-        PyTuple_SetItem(tuple, 2, Py_NewRef(maker->lengths[piece.len]));
-        PyTuple_SetItem(tuple, 3, Py_NewRef(PyTuple_GetItem(maker->errors, piece.kind)));
-        maker->lens[turn] = piece.len;
-        maker->kinds[turn] = piece.kind;
-    }
-    if (!fresh)
-        return Py_NewRef(tuple);
-    PyObject_GC_UnTrack(tuple); /* nothing in a piece leads back to it; a list of a million is then no work for the collector */
-    if (takes_back()) {
-        Py_XDECREF(*given);
-        *given = Py_NewRef(tuple);
-    }
-    return tuple;
-}
 
 /* The pieces of some bytes, in order. They cross in blocks; those from the back one by one, each with the error that the forward
  * cut names. */
@@ -804,24 +698,12 @@ static PyObject *faults_new(PyTypeObject *type, PyObject *args, PyObject *names)
     self = (Faults *)PyType_GenericAlloc(type, 0);
     if (self == NULL)
         return NULL;
-    if (!take_bytes(data, &self->view) || !open_search(&self->search, form, &self->view) ||
+    if (!take_bytes(data, &self->view) || !open_search(&self->search, WHOLE, form, &self->view) ||
         !maker_begin(&self->maker, pieces, errors)) {
         Py_DECREF(self);
         return NULL;
     }
     return (PyObject *)self;
-}
-
-/* Goes on from window to window, and lets the lock go from the second on. */
-static nody_piece_t next_fault(Search *search, size_t *offset) {
-    nody_piece_t piece = next_in_window(search, offset);
-    PyThreadState *thread;
-    if (piece.kind != NODY_KIND_NONE)
-        return piece;
-    thread = let_lock_go(search->len - search->begin - search->window.len);
-    piece = next_found(search, offset);
-    take_lock(thread);
-    return piece;
 }
 
 static PyObject *faults_next(PyObject *object) {
@@ -888,7 +770,7 @@ static PyObject *fault_arrays(PyObject *module, PyObject *args) {
     (void)module;
     if (!PyArg_ParseTuple(args, "O&O&nK:fault_arrays", take_form, &form, take_bytes, &view, &end, &base))
         return NULL;
-    if (is_place(end, view.len) && open_search(&search, form, &view)) {
+    if (is_place(end, view.len) && open_search(&search, WHOLE, form, &view)) {
         PyThreadState *thread = let_lock_go((size_t)end);
         int is_made = put_faults(&arrays, &search, (size_t)end, base);
         Py_ssize_t count = (Py_ssize_t)arrays.count;
@@ -916,7 +798,7 @@ static PyObject *kind_counts(PyObject *module, PyObject *args) {
     (void)module;
     if (!PyArg_ParseTuple(args, "O&O&n:kind_counts", take_form, &form, take_bytes, &view, &end))
         return NULL;
-    if (is_place(end, view.len) && open_search(&search, form, &view)) {
+    if (is_place(end, view.len) && open_search(&search, WHOLE, form, &view)) {
         PyThreadState *thread = let_lock_go((size_t)end);
         nody_piece_t piece;
         while ((piece = next_found(&search, &offset)).kind != NODY_KIND_NONE && offset < (size_t)end)
@@ -990,10 +872,10 @@ static PyMethodDef functions[] = {{"supported", supported, METH_NOARGS, NULL},
                                   {NULL, NULL, 0, NULL}};
 
 static int begin_module(PyObject *module) {
-    PyType_Spec *specs[] = {&run_spec, &ends_spec, &faults_spec, &recoder_spec};
-    const char *names[] = {"Run", "Ends", "Faults", "Recoder"};
+    PyType_Spec *specs[] = {&run_spec, &ends_spec, &faults_spec, &part_spec, &recoder_spec};
+    const char *names[] = {"Run", "Ends", "Faults", "Part", "Recoder"};
     *(void **)&resize = dlsym(RTLD_DEFAULT, "_PyBytes_Resize");
-    for (int i = 0; i < 4; i++) {
+    for (int i = 0; i < 5; i++) {
         PyObject *type = PyType_FromSpec(specs[i]);
         if (type == NULL || PyModule_AddObject(module, names[i], type) < 0) {
             Py_XDECREF(type);

@@ -48,6 +48,13 @@ PyObject *bytes_of(PyObject *data, const Py_buffer *view) {
     return PyBytes_CheckExact(data) ? Py_NewRef(data) : PyBytes_FromStringAndSize(view->buf, view->len);
 }
 
+void plain_dealloc(PyObject *self) {
+    PyTypeObject *type = Py_TYPE(self);
+    freefunc release = (freefunc)PyType_GetSlot(type, Py_tp_free);
+    release(self);
+    Py_DECREF(type);
+}
+
 PyThreadState *let_lock_go(size_t len) {
     return len >= LARGE ? PyEval_SaveThread() : NULL;
 }
@@ -163,6 +170,11 @@ size_t valid_up_to(nody_form_t form, const uint8_t *bytes, size_t len) {
     return form == NODY_FORM_UTF16_NATIVE && (uintptr_t)bytes % 2 == 0 ? ordered_up_to(bytes, len) : unordered_up_to(form, bytes, len);
 }
 
+/* The fault at the front of some bytes, as a reader names it. */
+static nody_piece_t named(enum Reader reader, nody_form_t form, const uint8_t *bytes, size_t len) {
+    return reader == STREAMED && form == NODY_FORM_UTF8 ? nody_utf8_streamed_at(bytes, len, 0) : first_piece(form, bytes, len);
+}
+
 Fault find_fault(Window *window, enum Reader reader, nody_form_t form, const Py_buffer *view, size_t at) {
     size_t len = (size_t)view->len;
     while (at < len) {
@@ -170,10 +182,7 @@ Fault find_fault(Window *window, enum Reader reader, nody_form_t form, const Py_
         next_window(window, form, (const uint8_t *)view->buf + at, len - at);
         valid = valid_up_to(form, window->bytes, window->len);
         if (valid < window->len) {
-            const uint8_t *bytes = window->bytes + valid;
-            size_t left = window->seen - valid;
-            int is_streamed = reader == STREAMED && form == NODY_FORM_UTF8;
-            nody_piece_t piece = is_streamed ? nody_utf8_streamed_at(bytes, left, 0) : first_piece(form, bytes, left);
+            nody_piece_t piece = named(reader, form, window->bytes + valid, window->seen - valid);
             return (Fault){at + valid, piece.len, piece.kind};
         }
         at += window->len;
@@ -188,9 +197,9 @@ Fault first_fault(Window *window, enum Reader reader, nody_form_t form, const Py
     return fault;
 }
 
-int open_search(Search *search, nody_form_t form, const Py_buffer *view) {
+int open_search(Search *search, enum Reader reader, nody_form_t form, const Py_buffer *view) {
     memset(search, 0, sizeof *search);
-    search->form = form;
+    search->form = form, search->reader = reader;
     search->bytes = view->buf, search->len = (size_t)view->len;
     if (!open_window(&search->window, view))
         return 0;
@@ -205,7 +214,7 @@ nody_piece_t next_in_window(Search *search, size_t *offset) {
         search->at += valid_up_to(search->form, window->bytes + search->at, window->len - search->at);
     if (search->at == window->len)
         return piece;
-    piece = first_piece(search->form, window->bytes + search->at, window->seen - search->at);
+    piece = named(search->reader, search->form, window->bytes + search->at, window->seen - search->at);
     *offset = search->begin + search->at;
     search->at += piece.len;
     return piece;
@@ -218,5 +227,16 @@ nody_piece_t next_found(Search *search, size_t *offset) {
         next_window(&search->window, search->form, search->bytes + search->begin, search->len - search->begin);
         piece = next_in_window(search, offset);
     }
+    return piece;
+}
+
+nody_piece_t next_fault(Search *search, size_t *offset) {
+    nody_piece_t piece = next_in_window(search, offset);
+    PyThreadState *thread;
+    if (piece.kind != NODY_KIND_NONE)
+        return piece;
+    thread = let_lock_go(search->len - search->begin - search->window.len);
+    piece = next_found(search, offset);
+    take_lock(thread);
     return piece;
 }

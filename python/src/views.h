@@ -28,6 +28,9 @@ int is_place(Py_ssize_t place, Py_ssize_t len);
 /* The bytes of an argument as `bytes`: itself, or a copy. */
 PyObject *bytes_of(PyObject *data, const Py_buffer *view);
 
+/* Frees an object that has nothing but itself to free. */
+void plain_dealloc(PyObject *self);
+
 /* ---- the interpreter's lock ---- */
 
 /* Lets other threads run, if so many bytes take long enough. Pass the result to take_lock. */
@@ -83,6 +86,7 @@ Fault find_fault(Window *window, enum Reader reader, nody_form_t form, const Py_
 /* A search for faults, one after another, window by window. */
 typedef struct {
     nody_form_t form;
+    enum Reader reader;
     const uint8_t *bytes;
     size_t len;
     Window window;
@@ -91,11 +95,14 @@ typedef struct {
 } Search;
 
 /* Answers 0 with a MemoryError if there is no room for the copies. The window is closed by the caller. */
-int open_search(Search *search, nody_form_t form, const Py_buffer *view);
+int open_search(Search *search, enum Reader reader, nody_form_t form, const Py_buffer *view);
 
-/* The next fault and its offset, or NODY_KIND_NONE: in this window, or in all bytes. */
+/* The next fault and its offset, or NODY_KIND_NONE: in this window, or in all bytes. No lock is let go. */
 nody_piece_t next_in_window(Search *search, size_t *offset);
 nody_piece_t next_found(Search *search, size_t *offset);
+
+/* The next one in all bytes; from the second window on the lock is let go. */
+nody_piece_t next_fault(Search *search, size_t *offset);
 
 /* The unit at the first two of some bytes. */
 static inline uint16_t unit_at(nody_form_t form, const uint8_t *bytes) {
@@ -108,5 +115,9 @@ static inline uint16_t unit_at(nody_form_t form, const uint8_t *bytes) {
 PyObject *decode(PyObject *module, PyObject *args);
 PyObject *replaced(PyObject *module, PyObject *args);
 PyObject *handled(PyObject *module, PyObject *args);
+
+/* ---- what parts.c has ---- */
+
+extern PyType_Spec part_spec;
 
 #endif

@@ -6,25 +6,27 @@ import tempfile
 import unittest
 
 import noddychest
-from noddychest import Decoder, Recoder, boundary, char_count, faults, first_fault, is_valid, pieces, recode, recoded_len
+from noddychest import Decoder, Ends, Recoder, boundary, char_count, faults, first_fault, is_valid, pieces, recode, recoded_len
 
 CALLS = [
     pieces,
     lambda data: list(pieces(data)),
-    Decoder,
+    Ends,
     first_fault,
     is_valid,
     char_count,
     lambda data: boundary(data, 1),
     lambda data: faults(data, "utf16le"),
     lambda data: pieces(data, "utf16be"),
-    lambda data: Decoder(data, "utf16be"),
+    lambda data: Ends(data, "utf16be"),
     lambda data: recoded_len(data, "utf8", "utf16be"),
     lambda data: recode(data, "utf8", "utf8", "maximal"),
     lambda data: recode(data, "utf8", "utf16le"),
     lambda data: recode(data, "utf16le", "utf8", "strict"),
     Recoder("utf8", "utf8").feed,
     Recoder("utf8", "utf8", "strict").feed,
+    Decoder().feed,
+    Decoder("utf16le").feed_faults,
 ]
 
 
@@ -41,7 +43,7 @@ class BytesLike(unittest.TestCase):
                 with self.subTest(type=type(it)):
                     self.assertEqual(list(pieces(it)), list(pieces(data)))
                     self.assertEqual(list(pieces(it)[2:5]), list(pieces(data)[2:5]))
-                    self.assertEqual([*Decoder(it)], [*Decoder(data)])
+                    self.assertEqual([*Ends(it)], [*Ends(data)])
                     self.assertEqual(first_fault(it), first_fault(data))
                     self.assertEqual((is_valid(it), char_count(it), boundary(it, 12)), (False, 11, 11))
                     self.assertEqual(recode(it, "utf8", "utf16be"), recode(data, "utf8", "utf16be"))
@@ -61,7 +63,7 @@ class BytesLike(unittest.TestCase):
         for it in (b"", bytearray(), memoryview(b""), array.array("I"), memoryview(array.array("Q"))):
             self.assertEqual((list(pieces(it)), first_fault(it), is_valid(it), char_count(it), boundary(it, 0)), ([], None, True, 0, 0))
             self.assertEqual([recode(it, a, b) for a in ("utf8", "utf16le") for b in ("utf8", "utf16be")], [b""] * 4)
-            self.assertEqual([*Decoder(it), *reversed(Decoder(it))], [])
+            self.assertEqual([*Ends(it), *reversed(Ends(it))], [])
             self.assertEqual(bytes(it).decode("noddychest-utf8"), "")
 
     def test_others_are_type_errors(self):

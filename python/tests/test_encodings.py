@@ -4,7 +4,7 @@ import time
 import tracemalloc
 import unittest
 
-from noddychest import (Decoder, ErrorKind, boundary_after, boundary_before, char_count, faults, first_fault, is_valid, pieces, recode,
+from noddychest import (Ends, ErrorKind, boundary_after, boundary_before, char_count, faults, first_fault, is_valid, pieces, recode,
                         recoded_len)
 
 import outside
@@ -59,26 +59,26 @@ class Pieces(unittest.TestCase):
             expected = outside.cut(data, "utf-16-le")
             self.assertEqual([it[:3] for it in pieces(data, "utf16le")], expected)
             self.assertEqual(list(reversed(pieces(data, "utf16le"))), list(pieces(data, "utf16le"))[::-1])
-            front, back, decoder = [], [], Decoder(data, "utf16le")
+            front, back, ends = [], [], Ends(data, "utf16le")
             while len(front) + len(back) < len(expected):
                 if (len(front) + len(data)) % 2 and len(front) <= len(back):
-                    front.append(next(decoder))
+                    front.append(next(ends))
                 else:
-                    back.insert(0, decoder.next_back())
-                self.assertEqual((decoder.start, decoder.end), (sum(it.length for it in front), len(data) - sum(it.length for it in back)))
+                    back.insert(0, ends.next_back())
+                self.assertEqual((ends.start, ends.end), (sum(it.length for it in front), len(data) - sum(it.length for it in back)))
             self.assertEqual([it[:3] for it in front + back], expected)
-            self.assertEqual((next(decoder, None), decoder.next_back()), (None, None))
+            self.assertEqual((next(ends, None), ends.next_back()), (None, None))
 
     def test_random_ends(self):
         source = random.Random(32)
         for data in outside.inputs(2000, 30, seed=33):
             for form, encoding in FORMS.items():
-                decoder, front, back = Decoder(data, form), [], []
-                while decoder.start < decoder.end:
+                ends, front, back = Ends(data, form), [], []
+                while ends.start < ends.end:
                     if source.random() < 0.5:
-                        front.append(next(decoder))
+                        front.append(next(ends))
                     else:
-                        back.insert(0, decoder.next_back())
+                        back.insert(0, ends.next_back())
                 self.assertEqual([it[:3] for it in front + back], outside.cut(data, encoding))
 
     def test_indexes(self):
@@ -101,7 +101,7 @@ class Pieces(unittest.TestCase):
             self.assertRaises(LookupError, call, b"abc", 1, "latin-1")
 
     def test_names_are_refused(self):
-        for call in (pieces, faults, first_fault, is_valid, char_count, Decoder):
+        for call in (pieces, faults, first_fault, is_valid, char_count, Ends):
             self.assertRaises(LookupError, call, b"", "latin-1")
             self.assertRaises(LookupError, call, b"", None)
             self.assertRaises(TypeError, call, "text", "utf16le")

@@ -18,6 +18,11 @@ for _ in range(30):
     recoder = Recoder("utf8", "utf8", "strict")
     recoder.feed(b"\\xc3")
     assert copy.copy(recoder).feed(b"\\xa9") == b"\\xc3\\xa9"
+    decoder = Decoder(offset=5)
+    kept = decoder.feed(b"a\\xc3")
+    assert [it.offset for it in copy.copy(decoder).finish()] == [6] and [it.char for it in decoder.feed(b"\\xa9")] == ["é"]
+    assert [it.error for it in decoder.feed_faults(b"\\xff")] == [ErrorKind.NON_UTF8_BYTE] and next(kept).char == "a"
+    assert [it.offset for it in stream_faults([b"a" * 100_000, b"\\xff"])] == [100_000]
     try:
         recoder.feed(b"\\xff")
     except FaultError as fault:
@@ -86,10 +91,12 @@ class Interpreters(unittest.TestCase):
 
         create, run, destroy = FOUND
         kinds, run_here = noddychest.ErrorKind, iter(noddychest.pieces(b"ab\xff"))
+        part_here = noddychest.Decoder().feed_faults(b"ab\xff")
         it = create()
         run(it, self.CODE)
         destroy(it)
         self.assertEqual([piece.error for piece in run_here], [None, None, kinds.NON_UTF8_BYTE])
+        self.assertEqual([piece.error for piece in part_here], [kinds.NON_UTF8_BYTE])
 
 
 if __name__ == "__main__":

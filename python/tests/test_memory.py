@@ -7,8 +7,8 @@ import sys
 import tracemalloc
 import unittest
 
-from noddychest import (Decoder, ErrorKind, Piece, Recoder, boundary, char_count, faults, first_fault, is_valid, pieces, recode,
-                        recoded_len)
+from noddychest import (Decoder, Ends, ErrorKind, Piece, Recoder, boundary, char_count, faults, first_fault, is_valid, pieces, recode,
+                        recoded_len, stream_faults, stream_pieces)
 
 FORMS = {"utf8": "utf-8", "utf16le": "utf-16-le", "utf16be": "utf-16-be"}
 SIZE = 1_200_000
@@ -81,10 +81,18 @@ def failing(work):
     return call
 
 
+def in_parts(decoder, name):
+    feed = getattr(decoder, name)
+    return [*feed(b"a\xff\xe2"), *feed(bytearray(b"\x82")), *feed(b"\xac!"), *feed(b"\xf0"), *decoder.finish()]
+
+
 CALLS = {
     "pieces": lambda: (list(pieces(b"a\xff\xe2\x82")), pieces(bytearray(5))[2], list(reversed(pieces(b"abc\0", "utf16le")))),
     "pieces that are left": lambda: next(iter(pieces(b"abc"))),
-    "Decoder": lambda: (next(Decoder(b"a\xff")), Decoder(bytearray(3), "utf16le").next_back()),
+    "Decoder": lambda: [it for name in ("feed", "feed_faults") for it in in_parts(Decoder(), name)],
+    "Decoder that is left": lambda: (next(Decoder().feed(b"abc")), Decoder().feed_faults(bytearray(b"\xff")), copy.copy(Decoder("utf16le"))),
+    "streams": lambda: (list(stream_pieces([b"a\xe2", b"\xff"])), list(stream_faults([bytearray(b"\xff")]))),
+    "Ends": lambda: (next(Ends(b"a\xff")), Ends(bytearray(3), "utf16le").next_back()),
     "faults": lambda: (list(faults(b"a\xff\xe2")), list(faults(bytearray(b"\xff")))),
     "counts": lambda: (char_count(bytearray(9)), first_fault(memoryview(b"\xff")), is_valid(b""), boundary(b"abc", 10**30)),
     "recode": lambda: (recode(b"\xff" * 100, "utf8", "utf16le"), recode(bytearray(70_000), "utf8", "utf8")),
@@ -99,6 +107,8 @@ CALLS = {
     "strict parts": failing(lambda: Recoder("utf8", "utf8", "strict").feed(b"a\xff")),
     "strict decoding": failing(lambda: b"a\xff".decode("noddychest-utf8")),
     "handlers": failing(lambda: b"a\xff".decode("noddychest-utf8", "noddychest.none")),
+    "wrong parts": failing(lambda: Decoder().feed(memoryview(b"abcd")[::2])),
+    "states of decoders": failing(lambda: Decoder().__setstate__((0, 0, b"ab", None))),
     "states": failing(lambda: Recoder("utf8", "utf8").__setstate__((0, 0, 0, (b"ab", 0, 2), None))),
 }
 codecs.register_error("noddychest.leak", lambda error: ("x" * 70, error.end))

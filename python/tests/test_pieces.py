@@ -1,4 +1,4 @@
-"""Pieces, the decoder from both ends, and the calls about whole bytes."""
+"""Pieces, from both ends, and the calls about whole bytes."""
 import collections.abc
 import itertools
 import os
@@ -9,7 +9,7 @@ import sys
 import unittest
 
 import noddychest
-from noddychest import Decoder, ErrorKind, Piece, boundary, char_count, first_fault, is_valid, pieces
+from noddychest import Ends, ErrorKind, Piece, boundary, char_count, first_fault, is_valid, pieces
 
 import outside
 
@@ -88,8 +88,8 @@ class Cut(unittest.TestCase):
         for data, forward, _, word, walked in rows:
             data = bytes.fromhex(data)
             self.assertEqual(list(pieces(data)), [named(it) for it in forward.split(";") if it], data)
-            decoder = Decoder(data)
-            answers = [next(decoder, None) if letter == "F" else decoder.next_back() for letter in word]
+            ends = Ends(data)
+            answers = [next(ends, None) if letter == "F" else ends.next_back() for letter in word]
             self.assertEqual(answers, [named(it) for it in walked.split(";") if it], data)
 
 
@@ -161,7 +161,7 @@ class Tuples(unittest.TestCase):
 
     def test_nothing_leaks(self):
         def work():
-            for make in (iter, reversed, Decoder, lambda it: reversed(Decoder(it))):
+            for make in (iter, reversed, Ends, lambda it: reversed(Ends(it))):
                 data = self.DATA if make not in (iter, reversed) else pieces(self.DATA)
                 list(make(data))
                 next(make(data))
@@ -182,28 +182,28 @@ class BothEnds(unittest.TestCase):
     def test_in_any_order(self):
         source = random.Random(4)
         for data in outside.inputs(3000, 20, seed=5):
-            expected, decoder, front, back = outside.cut(data), Decoder(data), [], []
-            while decoder.start < decoder.end:
+            expected, ends, front, back = outside.cut(data), Ends(data), [], []
+            while ends.start < ends.end:
                 if source.random() < 0.5:
-                    front.append(next(decoder))
+                    front.append(next(ends))
                 else:
-                    back.insert(0, decoder.next_back())
-                self.assertEqual(decoder.start, sum(it.length for it in front))
-                self.assertEqual(decoder.end, len(data) - sum(it.length for it in back))
+                    back.insert(0, ends.next_back())
+                self.assertEqual(ends.start, sum(it.length for it in front))
+                self.assertEqual(ends.end, len(data) - sum(it.length for it in back))
             self.assertEqual([it[:3] for it in front + back], expected)
-            self.assertIsNone(next(decoder, None))
-            self.assertIsNone(decoder.next_back())
+            self.assertIsNone(next(ends, None))
+            self.assertIsNone(ends.next_back())
 
     def test_judged_by_what_is_left(self):
-        decoder = Decoder(b"\xe2\x82A")
-        self.assertEqual(decoder.next_back().char, "A")
-        self.assertEqual(next(decoder).error, ErrorKind.TOO_FEW_BYTES)
+        ends = Ends(b"\xe2\x82A")
+        self.assertEqual(ends.next_back().char, "A")
+        self.assertEqual(next(ends).error, ErrorKind.TOO_FEW_BYTES)
         self.assertEqual(next(iter(pieces(b"\xe2\x82A"))).error, ErrorKind.INTERRUPTED_SEQUENCE)
 
     def test_reversed_takes_from_the_same(self):
-        decoder = Decoder(b"abcd")
-        back = reversed(decoder)
-        self.assertEqual([next(decoder).char, next(back).char, next(back).char, next(decoder).char], list("adcb"))
+        ends = Ends(b"abcd")
+        back = reversed(ends)
+        self.assertEqual([next(ends).char, next(back).char, next(back).char, next(ends).char], list("adcb"))
         self.assertIsNone(next(back, None))
 
 

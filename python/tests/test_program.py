@@ -122,7 +122,7 @@ class Readme(unittest.TestCase):
                 open(os.path.join(folder, "log.txt"), "wb").close()
                 it = subprocess.run([sys.executable, "-c", sample], cwd=folder, stdout=subprocess.PIPE, check=True)
             printed.append(it.stdout.decode().splitlines()[:2])
-        self.assertEqual(printed, [["0 1 h", "1 2 é"], []])
+        self.assertEqual(printed, [["0 1 h", "1 2 é"], ["0 h", "1 é"], []])
 
     def test_comments(self):
         """What the samples say comes of a line comes of it."""
@@ -130,7 +130,7 @@ class Readme(unittest.TestCase):
         if not os.path.exists(path):
             self.skipTest("README.md is in the repository")
         with open(path, encoding="utf-8") as file:
-            sample = file.read().split("```python new\n")[2].partition("```")[0]
+            sample = file.read().split("```python new\n")[3].partition("```")[0]
         given = re.findall(r"^(parallel\.\S.*?) +# (.*)$", sample, re.M)
         before = sample[:sample.index(given[0][0])]
         program = before + "".join(f"print({call})\n" for call, _ in given)

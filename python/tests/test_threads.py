@@ -11,7 +11,7 @@ import time
 import unittest
 
 import noddychest
-from noddychest import Decoder, FaultError, Recoder, char_count, faults, first_fault, is_valid, pieces, recode, recoded_len
+from noddychest import Decoder, Ends, FaultError, Recoder, char_count, faults, first_fault, is_valid, pieces, recode, recoded_len
 
 SIZE = 32 << 20
 TRIES = 100
@@ -100,7 +100,8 @@ class OneCallAtATime(unittest.TestCase):
                 return memoryview(self.answers.pop(0) if self.answers else b"")
 
         for first in (b"ab\xffcd", b"abcd", b"\xff" * 100):
-            for call in (first_fault, is_valid, char_count, Decoder, lambda it: list(pieces(it)), lambda it: recode(it, "utf8", "utf16le"),
+            for call in (first_fault, is_valid, char_count, Ends, lambda it: list(pieces(it)), lambda it: list(Decoder().feed(it)),
+                         lambda it: list(Decoder().feed_faults(it)), lambda it: recode(it, "utf8", "utf16le"),
                          lambda it: recode(it, "utf8", "utf8", "strict"), Recoder("utf8", "utf8", "strict").feed,
                          lambda it: codecs.decode(it, "noddychest-utf8", "ignore"), lambda it: codecs.decode(it, "noddychest-utf8")):
                 other = Other()
@@ -190,7 +191,7 @@ class Copies(unittest.TestCase):
 
     def test_others_raise(self):
         """What goes over bytes has no copies: they would share what is left."""
-        for it in (Decoder(b"abc"), iter(pieces(b"abc")), reversed(pieces(b"abc")), faults(b"abc")):
+        for it in (Ends(b"abc"), iter(pieces(b"abc")), reversed(pieces(b"abc")), faults(b"abc")):
             self.assertRaises(TypeError, copy.copy, it)
             self.assertRaises(TypeError, pickle.dumps, it)
         self.assertEqual(list(copy.copy(pieces(b"abc"))), list(pieces(b"abc")))
@@ -253,6 +254,7 @@ class LockIsLetGo(unittest.TestCase):
             "strict": lambda it: recode(it, "utf8", "utf8", "strict"),
             "feed": lambda it: Recoder("utf8", "utf8").feed(it),
             "decode": lambda it: codecs.decode(it, "noddychest-utf8"),
+            "feed_faults": lambda it: list(Decoder().feed_faults(it)),
         }
         for it in (data, bytearray(data), memoryview(data), memoryview(bytearray(data))[2:], mapped):
             for name, call in calls.items():
@@ -325,6 +327,10 @@ class ChangingBuffers(unittest.TestCase):
                     wrong.append(form)
                 if not all(piece.offset <= size for run in (iter, reversed) for piece in itertools.islice(run(pieces(it, form)), 1000)):
                     wrong.append(form)
+                decoder = Decoder(form)
+                for found in (decoder.feed(it), decoder.feed_faults(it)):
+                    if not all(piece.offset <= 2 * size + 3 for piece in itertools.islice(found, 1000)):
+                        wrong.append(form)
                 try:
                     recode(it, form, to, "strict")
                 except FaultError as error:

@@ -19,8 +19,9 @@ at its size in bytes. A `str` is a TypeError, and bytes that do not lie one afte
 Importing the package registers the codecs `noddychest-utf8`, `noddychest-utf16le` and `noddychest-utf16be`.
 """
 from ._version import __version__
+from ._parts import Decoder, stream_faults, stream_pieces
 from ._pieces import (
-    Decoder,
+    Ends,
     ErrorKind,
     FaultError,
     Piece,
@@ -43,6 +44,7 @@ __all__ = [
     "ChangedError",
     "Counts",
     "Decoder",
+    "Ends",
     "ErrorKind",
     "FaultError",
     "Faults",
@@ -65,9 +67,11 @@ __all__ = [
     "recode",
     "recoded_len",
     "shards",
+    "stream_faults",
+    "stream_pieces",
 ]
 
-for _it in (ChangedError, Counts, Decoder, ErrorKind, FaultError, Faults, Piece, Pieces, Recoded, Recoder, Shard):
+for _it in (ChangedError, Counts, Decoder, Ends, ErrorKind, FaultError, Faults, Piece, Pieces, Recoded, Recoder, Shard):
     _it.__module__ = __name__  # where users find them
 
 _codecs.register()

@@ -208,20 +208,20 @@ def faults(data: Union[ReadableBuffer, Shard], encoding: str = "utf8") -> Iterat
     return _noddychest.Faults(form_of(encoding), data, Piece, ERRORS)
 
 
-class Decoder(_noddychest.Ends):
+class Ends(_noddychest.Ends):
     """An iterator that takes pieces of text from both ends, in any order: each piece comes once. Why a byte is invalid is judged by
     the bytes that are left, which lie between the offsets `start` and `end`.
 
-    >>> decoder = Decoder(b"a\\xc3\\xa9b")
-    >>> next(decoder).char, decoder.next_back().char, next(decoder).char, decoder.next_back()
+    >>> ends = Ends(b"a\\xc3\\xa9b")
+    >>> next(ends).char, ends.next_back().char, next(ends).char, ends.next_back()
     ('a', 'b', 'é', None)
-    >>> [piece.char for piece in reversed(Decoder(b"abc"))]
+    >>> [piece.char for piece in reversed(Ends(b"abc"))]
     ['c', 'b', 'a']
     """
 
     __slots__ = ()
 
-    def __new__(cls, data: ReadableBuffer, encoding: str = "utf8") -> Decoder:
+    def __new__(cls, data: ReadableBuffer, encoding: str = "utf8") -> Ends:
         return super().__new__(cls, form_of(encoding), data, Piece, ERRORS)
 
     def next_back(self) -> Optional[Piece]:
@@ -229,7 +229,7 @@ class Decoder(_noddychest.Ends):
         return super().next_back()
 
     def __reversed__(self) -> Iterator[Piece]:
-        """An iterator that takes the pieces of this decoder from the back."""
+        """An iterator that takes the pieces from the back."""
         return iter(self.next_back, None)
 
 

@@ -1,0 +1,95 @@
+/* Pieces as Python has them: see maker.h. */
+#include "maker.h"
+
+#define CHARACTERS 256
+
+unsigned long version(void) {
+#if defined(Py_LIMITED_API)
+    return Py_Version;
+#else
+    return PY_VERSION_HEX;
+#endif
+}
+
+/* A tuple of 3.14 keeps its hash, so another piece must not come into it; without the lock nobody knows who has it. */
+static int takes_back(void) {
+#if defined(Py_GIL_DISABLED)
+    return 0;
+#else
+    return version() < 0x030E0000;
+#endif
+}
+
+int maker_begin(Maker *maker, PyObject *type, PyObject *errors) {
+    if (!PyType_Check(type) || !PyType_IsSubtype((PyTypeObject *)type, &PyTuple_Type) || !PyTuple_Check(errors) ||
+        PyTuple_Size(errors) <= NODY_KIND_NONE) {
+        PyErr_SetString(PyExc_TypeError, "the type of pieces and a tuple of errors are required");
+        return 0;
+    }
+    maker->type = Py_NewRef(type);
+    maker->errors = Py_NewRef(errors);
+    for (int i = 0; i < 5; i++)
+        if ((maker->lengths[i] = PyLong_FromLong(i)) == NULL)
+            return 0;
+    return 1;
+}
+
+void maker_end(Maker *maker) {
+    Py_XDECREF(maker->type);
+    Py_XDECREF(maker->errors);
+    for (int i = 0; i < 5; i++)
+        Py_XDECREF(maker->lengths[i]);
+    for (int i = 0; i < 2; i++)
+        Py_XDECREF(maker->given[i]);
+    for (int i = 0; i < CHARACTERS && maker->chars != NULL; i++)
+        Py_XDECREF(maker->chars[i].string);
+    PyMem_Free(maker->chars);
+}
+
+static PyObject *character(Maker *maker, uint32_t scalar) {
+    Character *it;
+    if (maker->chars == NULL && (maker->chars = PyMem_Calloc(CHARACTERS, sizeof *it)) == NULL)
+        return PyErr_NoMemory();
+    it = &maker->chars[scalar % CHARACTERS];
+    if (it->string == NULL || it->scalar != scalar) {
+        PyObject *made = PyUnicode_FromOrdinal((int)scalar), *old = it->string;
+        if (made == NULL)
+            return NULL;
+        it->string = made;
+        it->scalar = scalar;
+        Py_XDECREF(old);
+    }
+    return Py_NewRef(it->string);
+}
+
+PyObject *make_piece(Maker *maker, size_t offset, nody_piece_t piece) {
+    int turn = maker->turn ^= 1;
+    PyObject **given = &maker->given[turn], *place, *it, *tuple;
+    int fresh = *given == NULL || Py_REFCNT(*given) != 1;
+    place = PyLong_FromSize_t(offset);
+    it = piece.kind == NODY_KIND_OK ? character(maker, piece.scalar) : Py_NewRef(Py_None);
+    tuple = fresh ? PyType_GenericAlloc((PyTypeObject *)maker->type, 4) : *given;
+    if (place == NULL || it == NULL || tuple == NULL) {
+        Py_XDECREF(place);
+        Py_XDECREF(it);
+        if (fresh)
+            Py_XDECREF(tuple);
+        return NULL;
+    }
+    PyTuple_SetItem(tuple, 0, place);
+    PyTuple_SetItem(tuple, 1, it);
+    if (fresh || piece.len != maker->lens[turn] || piece.kind != maker->kinds[turn]) {
+        PyTuple_SetItem(tuple, 2, Py_NewRef(maker->lengths[piece.len]));
+        PyTuple_SetItem(tuple, 3, Py_NewRef(PyTuple_GetItem(maker->errors, piece.kind)));
+        maker->lens[turn] = piece.len;
+        maker->kinds[turn] = piece.kind;
+    }
+    if (!fresh)
+        return Py_NewRef(tuple);
+    PyObject_GC_UnTrack(tuple); /* nothing in a piece leads back to it; a list of a million is then no work for the collector */
+    if (takes_back()) {
+        Py_XDECREF(*given);
+        *given = Py_NewRef(tuple);
+    }
+    return tuple;
+}

@@ -1,0 +1,168 @@
+"""Pieces of input that comes in parts."""
+from __future__ import annotations
+
+import functools
+import itertools
+import operator
+import threading
+from collections.abc import Callable, Iterable, Iterator
+from typing import TYPE_CHECKING, Any, Protocol, TypeVar, Union
+
+from . import _noddychest
+from ._names import STANDARD, form_of
+from ._pieces import ERRORS, Piece
+
+if TYPE_CHECKING:
+    from _typeshed import ReadableBuffer
+
+_PIECES, _FAULTS, _LAST = 1, 2, 3  # what a part is asked for, by the numbers of the extension
+_BLOCK = 1 << 16
+_Made = TypeVar("_Made")
+
+
+class Decoder:
+    """Gives the pieces of input that comes in parts, each with its offset from the first byte of all input. The pieces do not depend on
+    how the input is divided into parts.
+
+    encoding: the encoding of the input. offset: that of its first byte, for input that begins inside a file.
+    Errors: LookupError for an unknown encoding, ValueError for an offset below 0 or above 2**64 - 1.
+
+    The pieces are those of `pieces(data)` for the whole input, and so are the reasons, but for one case. A Decoder names a byte that
+    breaks a character as soon as it sees that: so of F0 41 at the end of the input the first byte is an INTERRUPTED_SEQUENCE, and not
+    TOO_FEW_BYTES.
+
+    A Decoder takes one call at a time. If another thread calls it meanwhile, that raises RuntimeError, and no input is lost. `copy.copy`
+    and `pickle` make a decoder that goes on by itself from the same state.
+
+    >>> decoder = Decoder("utf8")
+    >>> for part in [b"a\\xe2\\x82", b"\\xac\\xff", b"\\xf0"]:
+    ...     print([(piece.offset, piece.char or piece.error.name) for piece in decoder.feed(part)])
+    [(0, 'a')]
+    [(1, '€'), (4, 'NON_UTF8_BYTE')]
+    []
+    >>> decoder.offset, decoder.held, decoder.finish()
+    (5, b'\\xf0', [Piece(offset=5, char=None, length=1, error=<ErrorKind.TOO_FEW_BYTES: 1>)])
+    """
+
+    __slots__ = ("_form", "_state", "_lock", "__weakref__")
+
+    def __init__(self, encoding: str = "utf8", offset: int = 0) -> None:
+        self._begin(form_of(encoding), operator.index(offset), b"")
+
+    def _begin(self, form: int, offset: int, held: bytes) -> None:
+        if not 0 <= offset < 1 << 64:
+            raise ValueError("the offset has to be from 0 to 2**64 - 1")
+        self._form, self._lock = form, threading.Lock()
+        self._state = _noddychest.Part(form, b"", Piece, ERRORS).begin(_PIECES, offset, held)
+
+    def __getstate__(self) -> tuple[Any, ...]:
+        return self._form, *self._state, getattr(self, "__dict__", None)
+
+    def __setstate__(self, state: tuple[Any, ...]) -> None:
+        form, offset, held, more = state
+        self._begin(form, offset, held)
+        if more:  # (what a subclass has)
+            self.__dict__.update(more)
+
+    def feed(self, data: ReadableBuffer) -> Iterator[Piece]:
+        """Reads a part, and gives an iterator over the pieces that it completes. At most three bytes, whose piece the next part decides,
+        are held until that comes.
+
+        Data is any bytes-like object. Errors: TypeError for what is none.
+        Cost: the call itself takes the same time for each length; a piece is made when it is asked for, and one that is not kept takes no
+        memory. An iterator takes 8 kB. It goes over the bytes of the part, which are not copied and have to stay the same until it has
+        ended; a `bytearray` cannot be resized until then.
+
+        The part counts as read, whether its pieces are asked for or not. So you may leave an iterator before its end, or feed the next part and
+        go on with it afterwards.
+
+        >>> decoder = Decoder()
+        >>> first, second = decoder.feed(b"n\\xc3"), decoder.feed(b"\\xa9!")
+        >>> [piece.offset for piece in second], [piece.offset for piece in first]
+        ([1, 3], [0])
+        """
+        return self._step(data, _PIECES, iter)
+
+    def feed_faults(self, data: ReadableBuffer) -> Iterator[Piece]:
+        """Reads a part as `feed` does, and gives an iterator over the invalid bytes alone. Valid text is skipped as fast as it is
+        validated; while it is, from 64 KiB on, other threads run.
+
+        >>> decoder = Decoder()
+        >>> faults = [*decoder.feed_faults(b"a\\xffb\\xe2\\x82"), *decoder.feed_faults(b"c"), *decoder.finish()]
+        >>> [(piece.offset, piece.error.name) for piece in faults]
+        [(1, 'NON_UTF8_BYTE'), (3, 'INTERRUPTED_SEQUENCE'), (4, 'UNEXPECTED_CONTINUATION_BYTE')]
+        """
+        return self._step(data, _FAULTS, iter)
+
+    def finish(self) -> list[Piece]:
+        """Ends the input, and returns the pieces of what is held: at most three, which are all invalid. After that you may feed the
+        decoder again, and offsets go on; for other input make another one."""
+        return self._step(b"", _LAST, list)
+
+    def _step(self, data: ReadableBuffer, asked: int, given: Callable[[Iterator[Piece]], _Made]) -> _Made:
+        part = _noddychest.Part(self._form, data, Piece, ERRORS)
+        if not self._lock.acquire(False):
+            raise RuntimeError("this Decoder is in use by another call: give each thread its own")
+        try:
+            state = part.begin(asked, *self._state)
+            made = given(part)
+            self._state = state  # (once nothing can fail any more)
+        finally:
+            self._lock.release()
+        return made
+
+    @property
+    def encoding(self) -> str:
+        """The encoding, by Python's name: `utf-8`, `utf-16-le` or `utf-16-be`."""
+        return STANDARD[self._form]
+
+    @property
+    def offset(self) -> int:
+        """The offset of the first byte that is held or, if none is, of the next one that is fed."""
+        return self._state[0]
+
+    @property
+    def held(self) -> bytes:
+        """The bytes that are held: at most three, of which the next part decides what they are."""
+        return self._state[1]
+
+
+class _Readable(Protocol):
+    """A binary file."""
+
+    def read(self, size: int, /) -> bytes: ...
+
+
+Parts = Union["Iterable[ReadableBuffer]", _Readable]
+
+
+def _stream(decoder: Decoder, fed: Callable[[ReadableBuffer], Iterator[Piece]], parts: Parts) -> Iterator[Piece]:
+    read = getattr(parts, "read1", None) or getattr(parts, "read", None)
+    each = iter(functools.partial(read, _BLOCK), b"") if read is not None else iter(parts)  # type: ignore[arg-type]
+    last = (decoder.finish() for _ in range(1))  # (once all parts were fed)
+    return itertools.chain.from_iterable(itertools.chain(map(fed, each), last))
+
+
+def stream_pieces(parts: Parts, encoding: str = "utf8") -> Iterator[Piece]:
+    """The pieces of input in parts, from the first to the last: what a Decoder gives for all of them.
+
+    parts: a binary file, which is read in blocks of 64 KiB or of what there is, or else any iterable of bytes-like objects.
+    Errors: LookupError for an unknown encoding, TypeError for what is no such thing, and what the file or the iterable raises.
+    Cost: one part is in memory at a time, and a piece is made when it is asked for.
+
+    >>> [(piece.offset, piece.char) for piece in stream_pieces([b"n\\xc3", b"\\xa9!"])]
+    [(0, 'n'), (1, 'é'), (3, '!')]
+    """
+    decoder = Decoder(encoding)
+    return _stream(decoder, decoder.feed, parts)
+
+
+def stream_faults(parts: Parts, encoding: str = "utf8") -> Iterator[Piece]:
+    """The invalid bytes alone, of input in parts; else as `stream_pieces`. Valid text is skipped as fast as it is validated.
+
+    >>> import io
+    >>> [(piece.offset, piece.error.name) for piece in stream_faults(io.BytesIO(b"ab\\xff"))]
+    [(2, 'NON_UTF8_BYTE')]
+    """
+    decoder = Decoder(encoding)
+    return _stream(decoder, decoder.feed_faults, parts)

@@ -1,0 +1,220 @@
+/* The pieces of a part of input, over the library's decoder.
+ *
+ * What a decoder has between parts is kept by the package: an offset, and the bytes that are held. What it has after a part is told by
+ * the last bytes of that alone. So a part is read when its pieces are asked for, and the next one may be fed before. */
+#include "maker.h"
+#include "views.h"
+
+#include <string.h>
+
+#define BLOCK 256 /* pieces that cross at once, at most */
+#define HELD 3    /* the bytes that are held, at most */
+#define TOLD 3    /* so many more bytes tell each piece that begins in bytes that are held */
+#define TAIL 4    /* the bytes at the end of a part that tell what is held: three, and in UTF-16 whole units */
+
+/* What a part is asked for: its pieces, its faults alone, or what ends the input; before it is, nothing. The numbers are those of the
+ * package. */
+enum Asked { NOTHING, PIECES, FAULTS, LAST };
+
+/* The pieces of a part. They are put into the block many at a time, and faults one by one. */
+typedef struct {
+    PyObject_HEAD
+    Py_buffer view;
+    Maker maker;
+    nody_decoder_t decoder; /* before the bytes that are not read yet */
+    enum Asked asked;
+    size_t read;   /* how many bytes of the part were read */
+    Search search; /* for faults */
+    uint64_t base; /* the offset of the first byte that is searched */
+    size_t end;    /* how far that goes: faults from there on are not told yet */
+    char busy;     /* 1 while a call goes on: it lets the lock go */
+    nody_located_t *block;
+    size_t room, at, count;
+} Part;
+
+static void part_dealloc(PyObject *object) {
+    Part *self = (Part *)object;
+    close_window(&self->search.window);
+    PyMem_Free(self->block);
+    maker_end(&self->maker);
+    PyBuffer_Release(&self->view);
+    plain_dealloc(object);
+}
+
+/* Part(form, data, type, errors): it gives nothing before begin. */
+static PyObject *part_new(PyTypeObject *type, PyObject *args, PyObject *names) {
+    PyObject *data, *pieces, *errors;
+    nody_form_t form;
+    Part *self;
+    (void)names;
+    if (!PyArg_ParseTuple(args, "O&OOO:Part", take_form, &form, &data, &pieces, &errors))
+        return NULL;
+    self = (Part *)PyType_GenericAlloc(type, 0);
+    if (self == NULL)
+        return NULL;
+    if (!take_bytes(data, &self->view) || !maker_begin(&self->maker, pieces, errors)) {
+        Py_DECREF(self);
+        return NULL;
+    }
+    self->decoder = nody_decoder(form);
+    return (PyObject *)self;
+}
+
+/* Feeds bytes to a decoder; what comes of them, at most so many pieces, goes to `out`. Answers how many. */
+static size_t fed(nody_decoder_t *decoder, const void *bytes, size_t len, nody_located_t *out, size_t room, size_t *read) {
+    size_t count;
+    nody_decoder_feed(decoder, bytes, len, out, room, read, &count);
+    return count;
+}
+
+/* Gives a decoder an offset and the bytes that are held, as parts before left them; they are fed, so none that cannot be is taken. */
+static int take_state(nody_decoder_t *decoder, PyObject *offset, const char *held, Py_ssize_t len) {
+    nody_decoder_t made = nody_decoder(decoder->form);
+    nody_located_t piece;
+    size_t read;
+    made.offset = PyLong_AsUnsignedLongLong(offset);
+    if (PyErr_Occurred())
+        return 0;
+    if (len > HELD || fed(&made, held, (size_t)len, &piece, 1, &read) > 0 || made.count != len) {
+        PyErr_SetString(PyExc_ValueError, "no Decoder has this state");
+        return 0;
+    }
+    *decoder = made;
+    return 1;
+}
+
+/* The decoder after all of a part. Of a long one only the end is read: where a character begins is seen without what is before it. */
+static nody_decoder_t after(nody_decoder_t decoder, const Py_buffer *view) {
+    nody_located_t pieces[HELD + TAIL];
+    uint8_t tail[TAIL];
+    size_t len = (size_t)view->len, all = decoder.count + len, count = len, read;
+    if (len > TAIL) {
+        uint64_t offset = decoder.offset;
+        count = TAIL - all % 2;
+        decoder = nody_decoder(decoder.form);
+        decoder.offset = offset + all - count;
+    }
+    memcpy(tail, (const uint8_t *)view->buf + len - count, count);
+    fed(&decoder, tail, count, pieces, HELD + TAIL, &read);
+    return decoder;
+}
+
+/* Puts the faults of held bytes, and of the next few that tell them, into the block. */
+static void begin_block(Part *self) {
+    uint8_t copy[TOLD];
+    size_t len = (size_t)self->view.len < TOLD ? (size_t)self->view.len : TOLD, read, count;
+    memcpy(copy, self->view.buf, len);
+    count = fed(&self->decoder, copy, len, self->block, self->room, &read);
+    for (size_t i = 0; i < count; i++)
+        if (self->block[i].kind != NODY_KIND_OK)
+            self->block[self->count++] = self->block[i];
+}
+
+/* Begins to look for faults: from the part's first piece that is not told yet, up to the offset from which on none is. */
+static int begin_faults(Part *self, uint64_t end) {
+    uint64_t part = self->decoder.offset + self->decoder.count, from = 0;
+    if (!open_search(&self->search, STREAMED, self->decoder.form, &self->view))
+        return 0;
+    if (self->decoder.count > 0) {
+        begin_block(self);
+        from = self->decoder.offset - part <= TOLD ? self->decoder.offset - part : 0; /* (0 where it still holds what it held) */
+    }
+    self->search.bytes += from, self->search.len -= from;
+    self->base = part + from;
+    self->end = end - self->base <= self->search.len ? (size_t)(end - self->base) : 0;
+    return 1;
+}
+
+/* Makes the block: room for all pieces of a short part and, of faults, for those that are found in held bytes and three more. */
+static int make_block(Part *self, enum Asked asked) {
+    size_t all = HELD + (size_t)self->view.len;
+    self->room = asked == FAULTS ? HELD + TOLD : all < BLOCK ? all : BLOCK;
+    self->block = PyMem_Malloc(self->room * sizeof *self->block);
+    if (self->block == NULL)
+        PyErr_NoMemory();
+    return self->block != NULL;
+}
+
+/* begin(asked, offset, held): what comes of the part, if those are left of the parts before. Answers what is left of it: the same two. */
+static PyObject *part_begin(PyObject *object, PyObject *args) {
+    Part *self = (Part *)object;
+    int asked;
+    PyObject *offset;
+    const char *held;
+    Py_ssize_t len;
+    nody_decoder_t left;
+    if (!PyArg_ParseTuple(args, "iOy#:begin", &asked, &offset, &held, &len))
+        return NULL;
+    if (self->block != NULL || asked < PIECES || asked > LAST) {
+        PyErr_SetString(PyExc_ValueError, "a part begins once, and is asked for something");
+        return NULL;
+    }
+    if (!take_state(&self->decoder, offset, held, len) || !make_block(self, (enum Asked)asked))
+        return NULL;
+    left = after(self->decoder, &self->view);
+    if (asked == FAULTS && !begin_faults(self, left.offset))
+        return NULL;
+    self->asked = (enum Asked)asked;
+    if (asked == LAST)
+        return Py_BuildValue("Ky#", (unsigned long long)(left.offset + left.count), "", (Py_ssize_t)0);
+    return Py_BuildValue("Ky#", (unsigned long long)left.offset, (const char *)left.held, (Py_ssize_t)left.count);
+}
+
+/* Reads on from a copy: the bytes may be changed by others. */
+static size_t next_pieces(Part *self) {
+    uint8_t copy[4 * BLOCK];
+    size_t left = (size_t)self->view.len - self->read, len = left < sizeof copy ? left : sizeof copy, read, count;
+    memcpy(copy, (const uint8_t *)self->view.buf + self->read, len);
+    count = fed(&self->decoder, copy, len, self->block, self->room, &read);
+    self->read += read;
+    if (count == 0 && self->asked == LAST)
+        nody_decoder_finish(&self->decoder, self->block, self->room, &count);
+    return count;
+}
+
+static size_t next_faults(Part *self) {
+    size_t at = 0;
+    nody_piece_t piece = next_fault(&self->search, &at);
+    self->block[0] = (nody_located_t){self->base + at, 0, (uint8_t)piece.len, piece.kind};
+    return piece.kind != NODY_KIND_NONE && at < self->end;
+}
+
+/* The next piece, or NULL. It is taken once it is made: so it is not lost where there was no memory. */
+static PyObject *next_made(Part *self) {
+    const nody_located_t *it = self->block + self->at;
+    PyObject *made;
+    if (self->at == self->count && self->asked != NOTHING) {
+        self->count = self->asked == FAULTS ? next_faults(self) : next_pieces(self);
+        self->at = 0;
+        it = self->block;
+    }
+    if (self->at == self->count)
+        return NULL;
+    made = make_piece(&self->maker, it->offset, (nody_piece_t){it->len, it->scalar, it->kind});
+    self->at += made != NULL;
+    return made;
+}
+
+static PyObject *part_next(PyObject *object) {
+    Part *self = (Part *)object;
+    PyObject *made;
+    int is_over;
+    if (__atomic_exchange_n(&self->busy, 1, __ATOMIC_ACQUIRE)) {
+        PyErr_SetString(PyExc_RuntimeError, "this iterator is in use by another call: give each thread its own");
+        return NULL;
+    }
+    made = next_made(self);
+    is_over = made == NULL && self->at == self->count && self->asked != NOTHING;
+    if (is_over)
+        self->asked = NOTHING;
+    __atomic_store_n(&self->busy, 0, __ATOMIC_RELEASE);
+    if (is_over)
+        PyBuffer_Release(&self->view); /* (so that a buffer may be filled anew while this is still there) */
+    return made;
+}
+
+static PyMethodDef part_methods[] = {{"begin", part_begin, METH_VARARGS, NULL}, {NULL, NULL, 0, NULL}};
+static PyType_Slot part_slots[] = {{Py_tp_new, part_new},         {Py_tp_dealloc, part_dealloc},
+                                   {Py_tp_iter, PyObject_SelfIter}, {Py_tp_iternext, part_next},
+                                   {Py_tp_methods, part_methods}, {0, NULL}};
+PyType_Spec part_spec = {"noddychest._noddychest.Part", sizeof(Part), 0, Py_TPFLAGS_DEFAULT, part_slots};
