@@ -58,10 +58,13 @@ extern crate alloc;
 compile_error!("the feature `trusted` is for targets of 64 bits: in the proofs a `usize` has 64");
 
 mod bytes;
+mod decoder;
 pub mod encode_unicode;
 mod fault;
 #[cfg(feature = "std")]
 pub mod io;
+#[cfg(feature = "std")]
+pub mod parallel;
 pub mod parts;
 mod piece;
 /// What `scripts/erase` made of the proved text. (It keeps laws, which are functions that do nothing, and what only the programs use.)
@@ -81,11 +84,14 @@ mod support;
 mod table;
 pub mod units;
 
-pub use bytes::{boundary_after, boundary_before, char_count, first, last, pieces, streamed_at, valid_up_to, Pieces};
+pub use bytes::{
+    boundary_after, boundary_before, char_count, faults, first, last, pieces, streamed_at, valid_up_to, Faults, Pieces,
+};
+pub use decoder::Decoder;
 pub use fault::{Fault, FaultKind};
 pub use piece::Piece;
 #[cfg(feature = "alloc")]
-pub use recode::{recode, recode_strict, try_recode};
+pub use recode::{decode, decode_lossy, decode_strict, recode, recode_lossy, recode_strict, try_recode};
 pub use recoder::{recoded_len_max, shard_end, Form, Progress, Recoder, Status, UnknownForm};
 pub use support::alloc::AllocError;
 #[cfg(feature = "alloc")]
