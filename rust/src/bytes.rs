@@ -97,7 +97,7 @@ pub fn valid_up_to(bytes: &[u8]) -> usize {
 /// ```
 #[must_use = "iterators do nothing unless consumed"]
 pub fn faults(bytes: &[u8]) -> Faults<'_> {
-    Faults { pieces: pieces(bytes) }
+    Faults { pieces: pieces(bytes), few: Few::default() }
 }
 
 /// How many characters there are, where each invalid byte counts as one: as many as [`pieces`] gives, and as many as are shown where
@@ -239,15 +239,43 @@ impl DoubleEndedIterator for Pieces<'_> {
 
 impl FusedIterator for Pieces<'_> {}
 
-/// How many pieces are looked at one by one before text is passed: where one byte is invalid, others are near.
-const FEW: usize = 8;
+/// How many pieces are looked at one by one before text is passed, which costs something by itself: the more, the more of them were
+/// invalid.
+#[derive(Clone, Debug)]
+pub(crate) struct Few(usize);
 
-/// The first fault of what a few pieces in turn have, and text that is passed.
-pub(crate) fn next_fault<I: Iterator<Item = Piece>>(pieces: &mut I, pass_text: impl Fn(&mut I) -> Option<()>) -> Option<Fault> {
+impl Few {
+    const LEAST: usize = 8;
+    pub(crate) const MOST: usize = 64;
+
+    pub(crate) fn number(&self) -> usize {
+        self.0
+    }
+
+    /// That one of the last few was found, or none.
+    pub(crate) fn note(&mut self, is_found: bool) {
+        self.0 = if is_found { Few::MOST.min(2 * self.0) } else { Few::LEAST };
+    }
+}
+
+impl Default for Few {
+    fn default() -> Few {
+        Few(Few::LEAST)
+    }
+}
+
+/// The next fault of some pieces, by a call that passes text at their front, and answers nothing where nothing is left.
+#[inline]
+pub(crate) fn next_fault<I: Iterator<Item = Piece>>(
+    pieces: &mut I,
+    few: &mut Few,
+    pass_text: impl Fn(&mut I) -> Option<()>,
+) -> Option<Fault> {
     loop {
-        let few = pieces.by_ref().take(FEW).find_map(|piece| piece.fault());
-        if few.is_some() {
-            return few;
+        let fault = pieces.by_ref().take(few.number()).find_map(|piece| piece.fault());
+        few.note(fault.is_some());
+        if fault.is_some() {
+            return fault;
         }
         pass_text(pieces)?;
     }
@@ -264,6 +292,7 @@ pub(crate) fn next_fault<I: Iterator<Item = Piece>>(pieces: &mut I, pass_text: i
 #[derive(Clone, Debug)]
 pub struct Faults<'a> {
     pieces: Pieces<'a>,
+    few: Few,
 }
 
 impl<'a> Faults<'a> {
@@ -303,7 +332,7 @@ impl Iterator for Faults<'_> {
 
     #[inline]
     fn next(&mut self) -> Option<Fault> {
-        next_fault(&mut self.pieces, Pieces::pass_text)
+        next_fault(&mut self.pieces, &mut self.few, Pieces::pass_text)
     }
 
     fn size_hint(&self) -> (usize, Option<usize>) {

@@ -17,6 +17,9 @@ use std::num::NonZeroUsize;
 use std::sync::{Condvar, Mutex, MutexGuard, PoisonError};
 use std::thread;
 
+#[cfg(test)]
+mod tests;
+
 /// About how many bytes a shard has: few enough to stay in a processor's own memory with what comes of them.
 const SHARD: usize = 128 * 1024;
 /// So many bytes after a shard tell why its last ones are invalid.
@@ -181,7 +184,11 @@ impl<'a, T> Shard<'_, 'a, T> {
     /// Adds to what is put together, after all shards before this one.
     fn in_turn<A>(self, add: impl FnOnce(&mut T) -> A) -> A {
         let state = self.line.lock();
-        let mut state = self.line.changed.wait_while(state, |it| it.turn != self.number && !it.is_broken).unwrap_or_else(PoisonError::into_inner);
+        let mut state = self
+            .line
+            .changed
+            .wait_while(state, |it| it.turn != self.number && !it.is_broken)
+            .unwrap_or_else(PoisonError::into_inner);
         assert!(!state.is_broken, "another thread ended in the middle");
         let answer = add(&mut state.whole);
         state.turn += 1;

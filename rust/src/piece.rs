@@ -51,12 +51,15 @@ impl Piece<u64> {
     /// As the proved text has it.
     #[inline(always)]
     pub(crate) fn of(piece: &cuts::LocatedPiece) -> Piece<u64> {
-        let cuts::LocatedPiece { offset, len, answer } = *piece;
-        let result = match answer {
-            Ok(c) => Ok(c),
-            Err(kind) => Err(Fault::new(offset, len as u8, kind.into())),
-        };
-        Piece { offset, len, result }
+        match piece.answer {
+            Ok(c) => Piece { offset: piece.offset, len: piece.len, result: Ok(c) },
+            Err(kind) => Piece::of_fault(piece, kind),
+        }
+    }
+
+    #[cold]
+    fn of_fault(piece: &cuts::LocatedPiece, kind: cuts::FaultKind) -> Piece<u64> {
+        Piece { offset: piece.offset, len: piece.len, result: Err(Fault::new(piece.offset, piece.len as u8, kind.into())) }
     }
 
     /// Its place in all that was fed.

@@ -9,7 +9,7 @@
 //! assert_eq!(text, "f😀\u{FFFD}");
 //! ```
 
-use crate::bytes::next_fault;
+use crate::bytes::{next_fault, Few};
 use crate::proved::cuts;
 use crate::proved::encode_unicode::iterator::Utf16CharDecoder;
 use crate::{Fault, Piece};
@@ -83,7 +83,7 @@ pub fn valid_up_to(units: &[u16]) -> usize {
 /// ```
 #[must_use = "iterators do nothing unless consumed"]
 pub fn faults(units: &[u16]) -> Faults<'_> {
-    Faults { pieces: pieces(units) }
+    Faults { pieces: pieces(units), few: Few::default() }
 }
 
 /// How many characters there are, where each invalid unit counts as one.
@@ -209,6 +209,7 @@ impl FusedIterator for Pieces<'_> {}
 #[derive(Clone, Debug)]
 pub struct Faults<'a> {
     pieces: Pieces<'a>,
+    few: Few,
 }
 
 impl<'a> Faults<'a> {
@@ -248,7 +249,7 @@ impl Iterator for Faults<'_> {
 
     #[inline]
     fn next(&mut self) -> Option<Fault> {
-        next_fault(&mut self.pieces, Pieces::pass_text)
+        next_fault(&mut self.pieces, &mut self.few, Pieces::pass_text)
     }
 
     fn size_hint(&self) -> (usize, Option<usize>) {

@@ -1,14 +1,14 @@
 //! The pieces of what a reader gives.
 
+use crate::bytes::Few;
 use crate::decoder::BLANK;
 use crate::proved::{cuts, utf_lanes};
 use crate::{Fault, Form, Piece};
 use std::io::{BufRead, ErrorKind, Result};
 use std::iter::FusedIterator;
 
-/// How many pieces are gathered at once, and of faults how many are looked at before text is passed.
-const ROOM: usize = 64;
-const FEW: usize = 16;
+/// How many pieces are gathered at once.
+const ROOM: usize = Few::MOST;
 
 /// All pieces of what a reader gives, each with its offset from the first byte that is read: those of a [`Decoder`](crate::Decoder).
 ///
@@ -23,7 +23,7 @@ const FEW: usize = 16;
 /// ```
 #[must_use = "iterators do nothing unless consumed"]
 pub fn pieces<R: BufRead>(reader: R, form: Form) -> Pieces<R> {
-    Pieces { source: Source::new(reader, form, ROOM) }
+    Pieces { source: Source::new(reader, form) }
 }
 
 /// The invalid bytes alone, each as [`pieces`] gives it. What is text between them is passed as fast as it is validated. It needs the
@@ -39,7 +39,7 @@ pub fn pieces<R: BufRead>(reader: R, form: Form) -> Pieces<R> {
 /// ```
 #[must_use = "iterators do nothing unless consumed"]
 pub fn faults<R: BufRead>(reader: R, form: Form) -> Faults<R> {
-    Faults { source: Source::new(reader, form, FEW) }
+    Faults { source: Source::new(reader, form), few: Few::default(), is_found: false }
 }
 
 /// A reader, and the pieces that were gathered of it and not given yet.
@@ -53,46 +53,45 @@ struct Source<R> {
     has_ended: bool,
 }
 
-impl<R: BufRead> Source<R> {
-    fn new(reader: R, form: Form, room: usize) -> Source<R> {
-        let room = vec![BLANK; room].into_boxed_slice();
+impl<R> Source<R> {
+    fn new(reader: R, form: Form) -> Source<R> {
+        let room = vec![BLANK; ROOM].into_boxed_slice();
         Source { reader, decoder: cuts::Decoder::new(form.proved()), room, begin: 0, end: 0, has_ended: false }
     }
 
-    /// The next piece, where text at the front of what is read is passed as far as a function says.
-    fn next(&mut self, text_len: fn(cuts::Form, &[u8]) -> usize) -> Option<Result<Piece<u64>>> {
-        loop {
-            if let Some(piece) = self.room[self.begin..self.end].first() {
-                self.begin += 1;
-                return Some(Ok(Piece::of(piece)));
-            }
-            if self.has_ended {
-                return None;
-            }
-            if let Err(error) = self.gather(text_len) {
-                return Some(Err(error));
-            }
-        }
+    /// The next piece of those that were gathered.
+    #[inline(always)]
+    fn take(&mut self) -> Option<Piece<u64>> {
+        let piece = self.room[..self.end].get(self.begin)?;
+        self.begin += 1;
+        Some(Piece::of(piece))
     }
+}
 
-    /// Gathers pieces of what the reader gives next; at its end those of what is held.
-    fn gather(&mut self, text_len: fn(cuts::Form, &[u8]) -> usize) -> Result<()> {
+impl<R: BufRead> Source<R> {
+    /// Gathers so many pieces at most of what the reader gives next, after text is passed as far as a function says; at the end those of
+    /// what is held, and then nothing.
+    #[inline(never)]
+    fn gather(&mut self, most: usize, text_len: fn(cuts::Form, &[u8]) -> usize) -> Option<Result<()>> {
         (self.begin, self.end) = (0, 0);
+        if self.has_ended {
+            return None;
+        }
         let part = match self.reader.fill_buf() {
             Ok(part) => part,
-            Err(error) if error.kind() == ErrorKind::Interrupted => return Ok(()),
-            Err(error) => return Err(error),
+            Err(error) if error.kind() == ErrorKind::Interrupted => return Some(Ok(())),
+            Err(error) => return Some(Err(error)),
         };
         if part.is_empty() {
             self.has_ended = true;
             self.end = self.decoder.finish(&mut self.room).written;
-            return Ok(());
+            return Some(Ok(()));
         }
         let len = passed(&mut self.decoder, part, text_len);
-        let did = self.decoder.feed(&part[len..], &mut self.room);
+        let did = self.decoder.feed(&part[len..], &mut self.room[..most]);
         self.end = did.written;
         self.reader.consume(len + did.read);
-        Ok(())
+        Some(Ok(()))
     }
 }
 
@@ -153,8 +152,16 @@ impl<R> Pieces<R> {
 impl<R: BufRead> Iterator for Pieces<R> {
     type Item = Result<Piece<u64>>;
 
+    #[inline]
     fn next(&mut self) -> Option<Result<Piece<u64>>> {
-        self.source.next(nothing)
+        loop {
+            if let Some(piece) = self.source.take() {
+                return Some(Ok(piece));
+            }
+            if let Err(error) = self.source.gather(ROOM, nothing)? {
+                return Some(Err(error));
+            }
+        }
     }
 }
 
@@ -171,6 +178,9 @@ impl<R: BufRead> FusedIterator for Pieces<R> {}
 #[derive(Debug)]
 pub struct Faults<R> {
     source: Source<R>,
+    few: Few,
+    /// Whether one was found among the pieces that were gathered last.
+    is_found: bool,
 }
 
 impl<R> Faults<R> {
@@ -190,9 +200,14 @@ impl<R: BufRead> Iterator for Faults<R> {
 
     fn next(&mut self) -> Option<Result<Fault<u64>>> {
         loop {
-            match self.source.next(text_len)? {
-                Ok(piece) if piece.result.is_ok() => {}
-                found => return Some(found.map(|piece| piece.result.expect_err("no character"))),
+            let fault = std::iter::from_fn(|| self.source.take()).find_map(|piece| piece.fault());
+            self.is_found |= fault.is_some();
+            if fault.is_some() {
+                return fault.map(Ok);
+            }
+            self.few.note(std::mem::take(&mut self.is_found));
+            if let Err(error) = self.source.gather(self.few.number(), text_len)? {
+                return Some(Err(error));
             }
         }
     }
