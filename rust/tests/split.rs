@@ -4,6 +4,7 @@ mod common;
 
 use common::{long_text_of, of_hex, of_units, of_utf8, rows, Chance, End, Told};
 use noddychest::{units, Fault, Form, Piece};
+use std::fmt::Debug;
 
 /// What std says of UTF-8: each character, and each byte that is none of one.
 fn by_std(bytes: &[u8]) -> Vec<(usize, usize, Option<char>)> {
@@ -39,13 +40,13 @@ fn seen(piece: Piece) -> (usize, usize, Option<char>) {
 }
 
 /// Faults as they are told, each in its place; what is left after each is what follows it.
-fn hold_told(faults: impl Iterator<Item = Fault>, want: &[Told], whole: &str) {
+fn hold_told(faults: impl Iterator<Item = Fault>, want: &[Told], whole: &dyn Debug) {
     let want = want.iter().filter_map(|(at, len, answer)| answer.err().map(|kind| (*at..at + len, kind)));
-    assert!(faults.map(|it| (it.range(), it.kind())).eq(want), "{whole}");
+    assert!(faults.map(|it| (it.range(), it.kind())).eq(want), "{whole:x?}");
 }
 
 fn hold_faults(bytes: &[u8]) {
-    hold_told(noddychest::faults(bytes), &of_utf8(bytes, End::OfSlice), &format!("{bytes:x?}"));
+    hold_told(noddychest::faults(bytes), &of_utf8(bytes, End::OfSlice), &bytes);
     assert!(noddychest::faults(bytes).eq(noddychest::pieces(bytes).filter_map(|it| it.fault())));
     let mut faults = noddychest::Faults::from(bytes);
     while let Some(fault) = faults.next() {
@@ -57,7 +58,7 @@ fn hold_faults(bytes: &[u8]) {
 }
 
 fn hold_unit_faults(units: &[u16]) {
-    hold_told(units::faults(units), &of_units(units), &format!("{units:x?}"));
+    hold_told(units::faults(units), &of_units(units), &units);
     let mut faults = units::Faults::from(units);
     while let Some(fault) = faults.next() {
         assert_eq!((faults.offset(), faults.as_slice()), (fault.range().end, &units[fault.range().end..]));
