@@ -2,7 +2,7 @@
 //! together in order. The answers are those of one thread.
 //!
 //! `jobs` is how many threads work, with the one that calls; `None` is one for each processor. Where the system gives fewer, those do all
-//! of it. Beside the input and the answer, each job needs the memory of one shard and of what comes of it: less than 1 MB.
+//! of it. Beside the input and the answer, each job needs the memory of what comes of one shard, which has 128 KiB.
 //!
 //! ```
 //! use noddychest::{parallel, Form};
