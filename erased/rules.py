@@ -13,7 +13,7 @@ GHOST_ATTRIBUTES = {"tactic", "rattlefmt"}
 # What may be derived. `Drop` is Rattle's word for a type whose values may be dropped, and goes.
 DERIVES = {"Clone", "Copy", "Debug", "Default", "Eq", "Hash", "Ord", "PartialEq", "PartialOrd"}
 # Types that Rust's users expect to be cloned too: the derive takes the place of `Drop`.
-CLONED = {("recoding/recoder.rt", "Recoder")}
+CLONED = {("cuts/decoder.rt", "Decoder"), ("recoding/recoder.rt", "Recoder")}
 # Macros of std that mean in Rust what they mean in Rattle.
 MACROS = {"assert", "assert_eq", "assert_ne", "debug_assert", "macro_rules", "matches", "panic", "unreachable", "write"}
 

@@ -4,7 +4,7 @@ use crate::proved::cuts;
 use crate::proved::encode_unicode::error::Utf8Error;
 use crate::proved::encode_unicode::iterator::{Utf8CharDecoder, Utf8CharMerger};
 use crate::proved::encode_unicode::{CharExt, Utf8Char};
-use crate::{Form, Piece};
+use crate::{Fault, Form, Piece};
 use core::iter::FusedIterator;
 
 /// All pieces of the bytes: characters, and single bytes that are invalid.
@@ -87,6 +87,17 @@ pub(crate) fn of_kind(result: Result<Utf8Char, Utf8Error>) -> Result<Utf8Char, c
 #[must_use]
 pub fn valid_up_to(bytes: &[u8]) -> usize {
     cuts::valid_up_to(bytes)
+}
+
+/// The invalid bytes alone, each as [`pieces`] gives it. What is text between them is passed as fast as it is validated.
+///
+/// ```
+/// let faults = noddychest::faults(b"ok\xFF, but \xE2\x82");
+/// assert_eq!(faults.map(|fault| fault.offset()).collect::<Vec<_>>(), [2, 9, 10]);
+/// ```
+#[must_use = "iterators do nothing unless consumed"]
+pub fn faults(bytes: &[u8]) -> Faults<'_> {
+    Faults { pieces: pieces(bytes), few: Few::default() }
 }
 
 /// How many characters there are, where each invalid byte counts as one: as many as [`pieces`] gives, and as many as are shown where
@@ -184,6 +195,14 @@ impl<'a> Pieces<'a> {
     pub fn offset(&self) -> usize {
         self.offset
     }
+
+    /// Passes the text at the front; `None` where nothing is left.
+    fn pass_text(&mut self) -> Option<()> {
+        let len = cuts::valid_up_to(self.left);
+        self.left = &self.left[len..];
+        self.offset += len;
+        (!self.left.is_empty()).then_some(())
+    }
 }
 
 impl<'a> From<&'a [u8]> for Pieces<'a> {
@@ -219,3 +238,106 @@ impl DoubleEndedIterator for Pieces<'_> {
 }
 
 impl FusedIterator for Pieces<'_> {}
+
+/// How many pieces are looked at one by one before text is passed, which costs something by itself: the more, the more of them were
+/// invalid.
+#[derive(Clone, Debug)]
+pub(crate) struct Few(usize);
+
+impl Few {
+    const LEAST: usize = 8;
+    pub(crate) const MOST: usize = 64;
+
+    pub(crate) fn number(&self) -> usize {
+        self.0
+    }
+
+    /// That one of the last few was found, or none.
+    pub(crate) fn note(&mut self, is_found: bool) {
+        self.0 = if is_found { Few::MOST.min(2 * self.0) } else { Few::LEAST };
+    }
+}
+
+impl Default for Few {
+    fn default() -> Few {
+        Few(Few::LEAST)
+    }
+}
+
+/// The next fault of some pieces, by a call that passes text at their front, and answers nothing where nothing is left.
+#[inline]
+pub(crate) fn next_fault<I: Iterator<Item = Piece>>(
+    pieces: &mut I,
+    few: &mut Few,
+    pass_text: impl Fn(&mut I) -> Option<()>,
+) -> Option<Fault> {
+    loop {
+        let fault = pieces.by_ref().take(few.number()).find_map(|piece| piece.fault());
+        few.note(fault.is_some());
+        if fault.is_some() {
+            return fault;
+        }
+        pass_text(pieces)?;
+    }
+}
+
+/// The invalid bytes of some bytes, from the front. [`faults`] makes it.
+///
+/// ```
+/// let mut faults = noddychest::faults(b"caf\xE9 noir");
+/// assert_eq!(faults.next().unwrap().to_string(), "invalid UTF-8 at offset 3: InterruptedSequence");
+/// assert_eq!(faults.as_slice(), b" noir");
+/// assert_eq!(faults.next(), None);
+/// ```
+#[derive(Clone, Debug)]
+pub struct Faults<'a> {
+    pieces: Pieces<'a>,
+    few: Few,
+}
+
+impl<'a> Faults<'a> {
+    /// The bytes after the last fault that was given, or all.
+    ///
+    /// ```
+    /// let mut faults = noddychest::faults(b"a\xFFb");
+    /// faults.next();
+    /// assert_eq!(faults.as_slice(), b"b");
+    /// ```
+    #[must_use]
+    pub fn as_slice(&self) -> &'a [u8] {
+        self.pieces.as_slice()
+    }
+
+    /// The offset of what [`as_slice`](Faults::as_slice) gives.
+    ///
+    /// ```
+    /// let mut faults = noddychest::faults(b"a\xFFb");
+    /// faults.next();
+    /// assert_eq!(faults.offset(), 2);
+    /// ```
+    #[must_use]
+    pub fn offset(&self) -> usize {
+        self.pieces.offset()
+    }
+}
+
+impl<'a> From<&'a [u8]> for Faults<'a> {
+    fn from(bytes: &'a [u8]) -> Faults<'a> {
+        faults(bytes)
+    }
+}
+
+impl Iterator for Faults<'_> {
+    type Item = Fault;
+
+    #[inline]
+    fn next(&mut self) -> Option<Fault> {
+        next_fault(&mut self.pieces, &mut self.few, Pieces::pass_text)
+    }
+
+    fn size_hint(&self) -> (usize, Option<usize>) {
+        (0, Some(self.pieces.left.len()))
+    }
+}
+
+impl FusedIterator for Faults<'_> {}

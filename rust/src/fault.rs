@@ -3,7 +3,7 @@
 use crate::proved::cuts;
 use crate::proved::encode_unicode::error::{Utf16PairError, Utf8ErrorKind};
 use core::fmt;
-use core::ops::Range;
+use core::ops::{Add, Range};
 
 /// Why a byte, or a unit of UTF-16, is invalid.
 ///
@@ -168,15 +168,17 @@ impl fmt::Display for FaultKind {
 /// let fault = text(b"caf\xE9 noir").unwrap_err();
 /// assert_eq!(fault.to_string(), "invalid UTF-8 at offset 3: InterruptedSequence");
 /// ```
+///
+/// `O` is what the offset is counted in, as for a [`Piece`](crate::Piece).
 #[derive(Clone, Copy, Debug, PartialEq, Eq, Hash)]
-pub struct Fault {
-    offset: usize,
+pub struct Fault<O = usize> {
+    offset: O,
     len: u8,
     kind: FaultKind,
 }
 
-impl Fault {
-    pub(crate) fn new(offset: usize, len: u8, kind: FaultKind) -> Fault {
+impl<O: Copy> Fault<O> {
+    pub(crate) fn new(offset: O, len: u8, kind: FaultKind) -> Fault<O> {
         Fault { offset, len, kind }
     }
 
@@ -191,34 +193,37 @@ impl Fault {
         self.kind
     }
 
-    /// Where it begins: in bytes or in units, from the front of what was split, or of what a recoder was fed.
+    /// Where it begins: in bytes or in units, from the front of what was split, or of all that a recoder or a decoder was fed.
     ///
     /// ```
     /// let fault = noddychest::pieces(b"ab\xFF").find_map(|piece| piece.fault());
     /// assert_eq!(fault.unwrap().offset(), 2);
     /// ```
-    pub fn offset(&self) -> usize {
+    pub fn offset(&self) -> O {
         self.offset
     }
 
-    /// Its place: one byte, or one unit. Where a recoder reads UTF-16 in bytes it has two, or one where half a unit ends the text.
+    /// Its place: one byte, or one unit. Where UTF-16 is read in bytes it has two, or one where half a unit ends the text.
     ///
     /// ```
     /// let bytes = b"ab\xFF";
     /// let fault = noddychest::pieces(bytes).find_map(|piece| piece.fault()).unwrap();
     /// assert_eq!(&bytes[fault.range()], b"\xFF");
     /// ```
-    pub fn range(&self) -> Range<usize> {
-        self.offset..self.offset + usize::from(self.len)
+    pub fn range(&self) -> Range<O>
+    where
+        O: Add<Output = O> + From<u8>,
+    {
+        self.offset..self.offset + O::from(self.len)
     }
 }
 
 /// Writes the offset and the kind, as `invalid UTF-8 at offset 2: NonUtf8Byte`.
-impl fmt::Display for Fault {
+impl<O: fmt::Display> fmt::Display for Fault<O> {
     fn fmt(&self, f: &mut fmt::Formatter<'_>) -> fmt::Result {
         let code = if self.kind.is_of_utf16() { "UTF-16" } else { "UTF-8" };
         write!(f, "invalid {code} at offset {}: {}", self.offset, self.kind)
     }
 }
 
-impl core::error::Error for Fault {}
+impl<O: fmt::Debug + fmt::Display> core::error::Error for Fault<O> {}

@@ -1,4 +1,4 @@
-//! Adapters that recode what is read from a reader, or written to a writer.
+//! Adapters that recode what is read from a reader, or written to a writer, and the pieces of what a reader gives.
 //!
 //! ```
 //! use noddychest::io::RecodingReader;
@@ -12,8 +12,12 @@
 //! # Ok::<(), std::io::Error>(())
 //! ```
 
+mod decoding;
+
 use crate::{Fault, Recoder, Status};
 use std::io::{Error, ErrorKind, Read, Result, Write};
+
+pub use decoding::{faults, pieces, Faults, Pieces};
 
 const BLOCK: usize = 8192;
 /// No call of a recoder needs more room than this to go on, or to finish.

@@ -2,8 +2,9 @@
 //!
 //! [`pieces`] splits any bytes into characters and single invalid bytes, each with its offset, its length and the reason why it is
 //! invalid. From the front, from the back, from both ends or in parts, the split is the same. [`Recoder`] converts between UTF-8 and
-//! both byte orders of UTF-16, and either replaces what is invalid by U+FFFD or stops at it. [`encode_unicode`] has the whole API of
-//! the crate of that name: characters kept as UTF-8 or UTF-16, and iterators over any source.
+//! both byte orders of UTF-16, and either replaces what is invalid by U+FFFD or stops at it. [`faults`] lists what is invalid alone, and
+//! [`Decoder`] splits input that comes in parts. [`encode_unicode`] has the whole API of the crate of that name: characters kept as UTF-8 or
+//! UTF-16, and iterators over any source.
 //!
 //! ```
 //! use noddychest::{pieces, FaultKind};
@@ -26,7 +27,8 @@
 //! # One U+FFFD for each invalid byte
 //!
 //! An invalid byte is a piece of its own. [`String::from_utf8_lossy`] and browsers take up to three bytes of a truncated character
-//! as one error, so they show fewer U+FFFD for the same input. Which bytes are valid is the same.
+//! as one error, so they show fewer U+FFFD for the same input; [`recode_lossy`] and [`Recoder::lossy`] write what they do. Which bytes are
+//! valid is the same.
 //!
 //! # What is proved
 //!
@@ -37,8 +39,8 @@
 //!
 //! # Features
 //!
-//! - `std` (on by default): the adapters of [`io`], `Read`, and on x86-64 AVX2 or SSSE3 where the processor has it.
-//! - `alloc`: [`recode`] and its kin, [`PieceTable`], and what gives a `Vec` or a `String`. All else needs `core` alone.
+//! - `std` (on by default): [`io`] and [`parallel`], `Read`, and on x86-64 AVX2 or SSSE3 where the processor has it.
+//! - `alloc`: [`recode`] and its kin, [`PieceTable`], and what gives or takes a `Vec` or a `String`. All else needs `core` alone.
 //! - `trusted`: for targets of 64 bits, no test of what the proofs rule out.
 //! - `c`: the functions of the library for C, for the package `noddychest-c`.
 //!
@@ -58,10 +60,13 @@ extern crate alloc;
 compile_error!("the feature `trusted` is for targets of 64 bits: in the proofs a `usize` has 64");
 
 mod bytes;
+mod decoder;
 pub mod encode_unicode;
 mod fault;
 #[cfg(feature = "std")]
 pub mod io;
+#[cfg(feature = "std")]
+pub mod parallel;
 pub mod parts;
 mod piece;
 /// What `scripts/erase` made of the proved text. (It keeps laws, which are functions that do nothing, and what only the programs use.)
@@ -81,11 +86,14 @@ mod support;
 mod table;
 pub mod units;
 
-pub use bytes::{boundary_after, boundary_before, char_count, first, last, pieces, streamed_at, valid_up_to, Pieces};
+pub use bytes::{
+    boundary_after, boundary_before, char_count, faults, first, last, pieces, streamed_at, valid_up_to, Faults, Pieces,
+};
+pub use decoder::Decoder;
 pub use fault::{Fault, FaultKind};
 pub use piece::Piece;
 #[cfg(feature = "alloc")]
-pub use recode::{recode, recode_strict, try_recode};
+pub use recode::{decode, decode_lossy, decode_strict, recode, recode_lossy, recode_strict, try_recode};
 pub use recoder::{recoded_len_max, shard_end, Form, Progress, Recoder, Status, UnknownForm};
 pub use support::alloc::AllocError;
 #[cfg(feature = "alloc")]

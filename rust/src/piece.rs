@@ -1,22 +1,27 @@
 //! A piece of the split.
 
+use crate::proved::cuts;
 use crate::{Fault, FaultKind};
 use core::ops::Range;
 
 /// A character, or a single byte or unit that is invalid.
+///
+/// `O` is what the offset is counted in: a `usize` in a slice, and a `u64` in input that comes in parts, of which more may come than
+/// there is memory.
 ///
 /// ```
 /// let piece = noddychest::first("é".as_bytes()).unwrap();
 /// assert_eq!((piece.offset, piece.len, piece.result), (0, 2, Ok('é')));
 /// ```
 #[derive(Clone, Copy, Debug, PartialEq, Eq, Hash)]
-pub struct Piece {
-    /// Where it begins: in bytes, or in units of UTF-16, from the front of what was split.
-    pub offset: usize,
-    /// How many bytes or units it has: 1 to 4 bytes, or 1 or 2 units. What is invalid has one.
+pub struct Piece<O = usize> {
+    /// Where it begins: in bytes, or in units of UTF-16, from the front of what was split, or of all that a decoder was fed.
+    pub offset: O,
+    /// How many bytes or units it has: 1 to 4 bytes, or 1 or 2 units. What is invalid has one; where UTF-16 is read in bytes it has
+    /// two, or one where half a unit ends the text.
     pub len: usize,
     /// The character, or what is wrong.
-    pub result: Result<char, Fault>,
+    pub result: Result<char, Fault<O>>,
 }
 
 impl Piece {
@@ -40,7 +45,37 @@ impl Piece {
     pub fn range(&self) -> Range<usize> {
         self.offset..self.offset + self.len
     }
+}
 
+impl Piece<u64> {
+    /// As the proved text has it.
+    #[inline(always)]
+    pub(crate) fn of(piece: &cuts::LocatedPiece) -> Piece<u64> {
+        match piece.answer {
+            Ok(c) => Piece { offset: piece.offset, len: piece.len, result: Ok(c) },
+            Err(kind) => Piece::of_fault(piece, kind),
+        }
+    }
+
+    #[cold]
+    fn of_fault(piece: &cuts::LocatedPiece, kind: cuts::FaultKind) -> Piece<u64> {
+        Piece { offset: piece.offset, len: piece.len, result: Err(Fault::new(piece.offset, piece.len as u8, kind.into())) }
+    }
+
+    /// Its place in all that was fed.
+    ///
+    /// ```
+    /// use noddychest::{Decoder, Form, Piece};
+    /// let mut room = [Piece::default(); 4];
+    /// let did = Decoder::new(Form::Utf16Le).feed(b"a\0b\0c", &mut room);
+    /// assert_eq!((did.written, room[1].range()), (2, 2..4));
+    /// ```
+    pub fn range(&self) -> Range<u64> {
+        self.offset..self.offset + self.len as u64
+    }
+}
+
+impl<O: Copy> Piece<O> {
     /// The character, or `None` where it is invalid.
     ///
     /// ```
@@ -57,7 +92,19 @@ impl Piece {
     /// let faults = noddychest::pieces(b"a\xFFb\xFE").filter_map(|piece| piece.fault());
     /// assert_eq!(faults.map(|fault| fault.offset()).collect::<Vec<_>>(), [1, 3]);
     /// ```
-    pub fn fault(&self) -> Option<Fault> {
+    pub fn fault(&self) -> Option<Fault<O>> {
         self.result.err()
+    }
+}
+
+/// The character U+0000 at the offset 0, to make a room of.
+///
+/// ```
+/// let room = [noddychest::Piece::<u64>::default(); 16];
+/// assert_eq!(room[0].char(), Some('\0'));
+/// ```
+impl<O: Default> Default for Piece<O> {
+    fn default() -> Piece<O> {
+        Piece { offset: O::default(), len: 1, result: Ok('\0') }
     }
 }

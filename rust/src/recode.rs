@@ -1,10 +1,14 @@
-//! Recoding of a whole text.
+//! Recoding of a whole text, and into a `Vec` or a `String` that grows.
 
 use crate::proved::cuts;
 use crate::support::memory;
-use crate::{AllocError, Fault, Form, Recoder, Status};
+use crate::{AllocError, Fault, Form, Progress, Recoder, Status};
 use alloc::alloc::{handle_alloc_error, Layout};
+use alloc::string::String;
 use alloc::vec::Vec;
+
+/// How much is recoded at once where it goes to a `String`.
+const BLOCK: usize = 1024;
 
 /// What the bytes are in another form; each invalid byte (of UTF-16 each unit) becomes one U+FFFD.
 ///
@@ -28,10 +32,28 @@ pub fn recode(from: Form, to: Form, bytes: &[u8]) -> Vec<u8> {
 /// ```
 pub fn try_recode(from: Form, to: Form, bytes: &[u8]) -> Result<Vec<u8>, AllocError> {
     let mut out = Vec::new();
-    let mut recoder = cuts::Recoder::new(from.proved(), to.proved());
-    recoder.feed(bytes, memory::Vec::of(&mut out))?;
-    recoder.finish(memory::Vec::of(&mut out))?;
+    append_recoded(from, to, bytes, &mut out)?;
     Ok(out)
+}
+
+/// Appends what the bytes are in another form.
+pub(crate) fn append_recoded(from: Form, to: Form, bytes: &[u8], out: &mut Vec<u8>) -> Result<(), AllocError> {
+    let mut recoder = cuts::Recoder::new(from.proved(), to.proved());
+    recoder.feed(bytes, memory::Vec::of(out))?;
+    recoder.finish(memory::Vec::of(out))?;
+    Ok(())
+}
+
+/// What the bytes are in another form; each maximal subpart becomes one U+FFFD, as [`Recoder::lossy`] says it.
+///
+/// ```
+/// use noddychest::{recode, recode_lossy, Form};
+/// assert_eq!(recode_lossy(Form::Utf8, Form::Utf8, b"\xE2\x82A"), "\u{FFFD}A".as_bytes());
+/// assert_eq!(recode(Form::Utf8, Form::Utf8, b"\xE2\x82A"), "\u{FFFD}\u{FFFD}A".as_bytes());
+/// ```
+#[must_use]
+pub fn recode_lossy(from: Form, to: Form, bytes: &[u8]) -> Vec<u8> {
+    recode_by(Recoder::lossy(from, to), bytes).unwrap_or_else(|fault| unreachable!("{fault}: only a strict recoder stops"))
 }
 
 /// What the bytes are in another form, or the first of them that is invalid.
@@ -43,22 +65,169 @@ pub fn try_recode(from: Form, to: Form, bytes: &[u8]) -> Result<Vec<u8>, AllocEr
 /// assert_eq!((fault.offset(), fault.kind()), (2, FaultKind::NonUtf8Byte));
 /// ```
 pub fn recode_strict(from: Form, to: Form, bytes: &[u8]) -> Result<Vec<u8>, Fault> {
-    let (mut recoder, mut out) = (Recoder::strict(from, to), Vec::new());
-    let (mut rest, mut is_fed, mut written) = (bytes, false, 0);
+    recode_by(Recoder::strict(from, to), bytes)
+}
+
+fn recode_by(mut recoder: Recoder, bytes: &[u8]) -> Result<Vec<u8>, Fault> {
+    let mut out = Vec::new();
+    refused(recoder.feed_to_vec(bytes, &mut out))?;
+    refused(recoder.finish_to_vec(&mut out))?;
+    Ok(out)
+}
+
+fn refused(did: Progress) -> Result<(), Fault> {
+    match did.status {
+        Status::Fault(fault) => Err(fault),
+        _ => Ok(()),
+    }
+}
+
+/// The text of the bytes; each invalid byte (of UTF-16 each unit) becomes one U+FFFD.
+///
+/// ```
+/// use noddychest::{decode, Form};
+/// assert_eq!(decode(Form::Utf16Le, b"\xAC\x20\x00\xDE"), "€\u{FFFD}");
+/// ```
+#[must_use]
+pub fn decode(form: Form, bytes: &[u8]) -> String {
+    text(recode(form, Form::Utf8, bytes))
+}
+
+/// The text of the bytes; each maximal subpart becomes one U+FFFD. Of UTF-8 it is what [`String::from_utf8_lossy`] gives.
+///
+/// ```
+/// use noddychest::{decode_lossy, Form};
+/// assert_eq!(decode_lossy(Form::Utf8, b"\xF0\x9F\x98!"), String::from_utf8_lossy(b"\xF0\x9F\x98!"));
+/// ```
+#[must_use]
+pub fn decode_lossy(form: Form, bytes: &[u8]) -> String {
+    text(recode_lossy(form, Form::Utf8, bytes))
+}
+
+/// The text of the bytes, or the first of them that is invalid.
+///
+/// ```
+/// use noddychest::{decode_strict, Form};
+/// assert_eq!(decode_strict(Form::Utf16Be, b"\0o\0k").as_deref(), Ok("ok"));
+/// assert_eq!(decode_strict(Form::Utf8, b"ok\xFF").unwrap_err().offset(), 2);
+/// ```
+pub fn decode_strict(form: Form, bytes: &[u8]) -> Result<String, Fault> {
+    recode_strict(form, Form::Utf8, bytes).map(text)
+}
+
+fn text(bytes: Vec<u8>) -> String {
+    String::from_utf8(bytes).expect("what is recoded to UTF-8 is UTF-8")
+}
+
+/// Into room that grows.
+impl Recoder {
+    /// Feeds a part of the text, and appends what comes of it. It is never [`Status::Full`], and reads the whole part, but where a strict
+    /// recoder stops at a [`Status::Fault`].
+    ///
+    /// ```
+    /// use noddychest::{Form, Recoder};
+    /// let (mut recoder, mut out) = (Recoder::new(Form::Utf8, Form::Utf16Be), Vec::new());
+    /// for part in [&b"caf\xC3"[..], b"\xA9\xFF"] {
+    ///     assert_eq!(recoder.feed_to_vec(part, &mut out).read, part.len());
+    /// }
+    /// assert_eq!(recoder.finish_to_vec(&mut out).written, 0);
+    /// assert_eq!(out, b"\0c\0a\0f\0\xE9\xFF\xFD");
+    /// ```
+    pub fn feed_to_vec(&mut self, part: &[u8], out: &mut Vec<u8>) -> Progress {
+        let mut rest = part;
+        append(out, part.len(), |room| {
+            let did = self.feed(rest, room);
+            rest = &rest[did.read..];
+            did
+        })
+    }
+
+    /// Appends what is held, when no more follows. It is never [`Status::Full`]. Of a strict recoder see [`finish`](Recoder::finish).
+    ///
+    /// ```
+    /// use noddychest::{Form, Recoder};
+    /// let (mut recoder, mut out) = (Recoder::new(Form::Utf8, Form::Utf8), Vec::new());
+    /// assert_eq!(recoder.feed_to_vec(b"a\xC3", &mut out).written, 1);
+    /// assert_eq!(recoder.finish_to_vec(&mut out).written, 3);
+    /// assert_eq!(out, "a\u{FFFD}".as_bytes());
+    /// ```
+    pub fn finish_to_vec(&mut self, out: &mut Vec<u8>) -> Progress {
+        append(out, 0, |room| self.finish(room))
+    }
+
+    /// [`feed_to_vec`](Recoder::feed_to_vec) into a string.
+    ///
+    /// # Panics
+    ///
+    /// If the recoder writes another form than UTF-8.
+    ///
+    /// ```
+    /// use noddychest::{Form, Recoder};
+    /// let (mut recoder, mut text) = (Recoder::lossy(Form::Utf8, Form::Utf8), String::from("> "));
+    /// for part in [&b"caf\xC3"[..], b"\xA9\xE2\x82!"] {
+    ///     assert_eq!(recoder.feed_to_string(part, &mut text).read, part.len());
+    /// }
+    /// assert_eq!(recoder.finish_to_string(&mut text).written, 0);
+    /// assert_eq!(text, "> café\u{FFFD}!");
+    /// ```
+    pub fn feed_to_string(&mut self, part: &[u8], out: &mut String) -> Progress {
+        let mut rest = part;
+        self.expect_utf8();
+        append_text(out, |room| {
+            let did = self.feed(rest, room);
+            rest = &rest[did.read..];
+            did
+        })
+    }
+
+    /// [`finish_to_vec`](Recoder::finish_to_vec) into a string.
+    ///
+    /// # Panics
+    ///
+    /// If the recoder writes another form than UTF-8.
+    ///
+    /// ```
+    /// use noddychest::{Form, Recoder};
+    /// let (mut recoder, mut text) = (Recoder::new(Form::Utf16Le, Form::Utf8), String::new());
+    /// assert_eq!(recoder.feed_to_string(b"a\0\x3D\xD8", &mut text).written, 1);
+    /// assert_eq!(recoder.finish_to_string(&mut text).written, 3);
+    /// assert_eq!(text, "a\u{FFFD}");
+    /// ```
+    pub fn finish_to_string(&mut self, out: &mut String) -> Progress {
+        self.expect_utf8();
+        append_text(out, |room| self.finish(room))
+    }
+
+    fn expect_utf8(&self) {
+        assert!(self.to() == Form::Utf8, "a string takes UTF-8, and this recoder writes {}", self.to());
+    }
+}
+
+/// Appends what steps write, of which each goes on with the rest of a part of so many bytes.
+fn append(out: &mut Vec<u8>, len: usize, mut step: impl FnMut(&mut [u8]) -> Progress) -> Progress {
+    let (begin, mut end, mut read) = (out.len(), out.len(), 0);
     loop {
         // (text of one form is about as long in another; where it is longer the room grows as vectors do)
-        out.resize(written + rest.len() + 16, 0);
-        let did = if is_fed { recoder.finish(&mut out[written..]) } else { recoder.feed(rest, &mut out[written..]) };
-        rest = &rest[did.read..];
-        written += did.written;
-        match did.status {
-            Status::Fault(fault) => return Err(fault),
-            Status::Done if is_fed => {
-                out.truncate(written);
-                return Ok(out);
-            }
-            Status::Done => is_fed = true,
-            Status::Full => {}
+        out.resize(end + (len - read) + 16, 0);
+        let did = step(&mut out[end..]);
+        read += did.read;
+        end += did.written;
+        if did.status != Status::Full {
+            out.truncate(end);
+            return Progress { read, written: end - begin, status: did.status };
+        }
+    }
+}
+
+/// The same to a string, by steps that write UTF-8.
+fn append_text(out: &mut String, mut step: impl FnMut(&mut [u8]) -> Progress) -> Progress {
+    let (mut room, begin, mut read) = ([0; BLOCK], out.len(), 0);
+    loop {
+        let did = step(&mut room);
+        read += did.read;
+        out.push_str(core::str::from_utf8(&room[..did.written]).expect("a recoder to UTF-8 writes whole characters"));
+        if did.status != Status::Full {
+            return Progress { read, written: out.len() - begin, status: did.status };
         }
     }
 }

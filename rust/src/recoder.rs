@@ -61,6 +61,14 @@ impl Form {
             Form::Utf16Be => cuts::Form::Utf16Be,
         }
     }
+
+    pub(crate) fn of(form: cuts::Form) -> Form {
+        match form {
+            cuts::Form::Utf8 => Form::Utf8,
+            cuts::Form::Utf16Le => Form::Utf16Le,
+            cuts::Form::Utf16Be => Form::Utf16Be,
+        }
+    }
 }
 
 impl core::fmt::Display for Form {
@@ -111,7 +119,7 @@ impl core::str::FromStr for Form {
     }
 }
 
-/// How a call of a [`Recoder`] ended.
+/// How a call of a [`Recoder`] or a [`Decoder`](crate::Decoder) ended.
 ///
 /// ```
 /// use noddychest::{Form, Recoder, Status};
@@ -133,14 +141,15 @@ impl core::str::FromStr for Form {
 pub enum Status {
     /// The whole part was read, or all that was held was written.
     Done,
-    /// The next character does not fit in the room that is left. Call again with the rest of the part, and with more room.
+    /// The next character, or the next piece, does not fit in the room that is left. Call again with the rest of the part, and with more
+    /// room.
     Full,
     /// Of a strict recoder: here the text is invalid. All before it was written, it was read, and nothing was written for it. To go
     /// on after it call again with the rest of the part; to refuse the text do not.
     Fault(Fault),
 }
 
-/// What one call of a [`Recoder`] did.
+/// What one call of a [`Recoder`] or a [`Decoder`](crate::Decoder) did.
 ///
 /// ```
 /// use noddychest::{Form, Recoder};
@@ -154,7 +163,7 @@ pub enum Status {
 pub struct Progress {
     /// How many bytes of the part were read.
     pub read: usize,
-    /// How many bytes at the front of the room were written.
+    /// How many bytes at the front of the room were written, or how many pieces.
     pub written: usize,
     /// Why the call ended.
     pub status: Status,
@@ -165,7 +174,8 @@ pub struct Progress {
 /// What comes out is the same however the text is cut into parts, also where a part ends in the middle of a character. It holds
 /// at most three bytes between calls, allocates nothing, and may be cloned.
 ///
-/// [`new`](Recoder::new) replaces each invalid byte (of UTF-16 each unit) by one U+FFFD. [`strict`](Recoder::strict) stops at it.
+/// [`new`](Recoder::new) replaces each invalid byte (of UTF-16 each unit) by one U+FFFD, and [`lossy`](Recoder::lossy) each maximal
+/// subpart, as browsers do. [`strict`](Recoder::strict) stops at what is invalid.
 ///
 /// ```
 /// use noddychest::{Form, Recoder, Status};
@@ -185,8 +195,16 @@ pub struct Progress {
 pub struct Recoder {
     inner: cuts::Recoder,
     forms: (Form, Form),
-    is_strict: bool,
+    errors: Errors,
     offset: usize,
+}
+
+/// What becomes of what is invalid.
+#[derive(Clone, Copy, Debug)]
+enum Errors {
+    Replace,
+    Maximal,
+    Strict,
 }
 
 impl Recoder {
@@ -201,7 +219,25 @@ impl Recoder {
     #[must_use]
     pub fn new(from: Form, to: Form) -> Recoder {
         let inner = cuts::Recoder::new(from.proved(), to.proved());
-        Recoder { inner, forms: (from, to), is_strict: false, offset: 0 }
+        Recoder { inner, forms: (from, to), errors: Errors::Replace, offset: 0 }
+    }
+
+    /// A recoder that writes one U+FFFD for each *maximal subpart*, as browsers, Python's own codecs and
+    /// [`String::from_utf8_lossy`] do: for the one to three bytes that begin a character and do not end it, and for any other invalid
+    /// byte. In UTF-16 it writes what [`new`](Recoder::new) writes, but that a leading surrogate and half a unit that end the text become
+    /// one U+FFFD.
+    ///
+    /// ```
+    /// use noddychest::{Form, Recoder};
+    /// let mut room = [0; 8];
+    /// let did = Recoder::lossy(Form::Utf8, Form::Utf8).feed(b"\xE2\x82A", &mut room);
+    /// assert_eq!(&room[..did.written], "\u{FFFD}A".as_bytes());
+    /// ```
+    ///
+    /// [`String::from_utf8_lossy`]: https://doc.rust-lang.org/std/string/struct.String.html#method.from_utf8_lossy
+    #[must_use]
+    pub fn lossy(from: Form, to: Form) -> Recoder {
+        Recoder { errors: Errors::Maximal, ..Recoder::new(from, to) }
     }
 
     /// A recoder that stops at what is invalid, and says where it is and why: in the places and with the kinds that a decoder of the
@@ -222,7 +258,7 @@ impl Recoder {
     /// ```
     #[must_use]
     pub fn strict(from: Form, to: Form) -> Recoder {
-        Recoder { is_strict: true, ..Recoder::new(from, to) }
+        Recoder { errors: Errors::Strict, ..Recoder::new(from, to) }
     }
 
     /// The form that it reads.
@@ -260,8 +296,8 @@ impl Recoder {
         self.inner.held()
     }
 
-    /// How many invalid bytes (of UTF-16 units) it has replaced by U+FFFD so far. A U+FFFD in the text does not count, and a strict
-    /// recoder replaces none. After [`finish`](Recoder::finish) is done, it is the number for the whole text.
+    /// How many invalid bytes (of UTF-16 units) it has replaced by U+FFFD so far. A U+FFFD in the text does not count; a strict recoder
+    /// replaces none, and a lossy one does not count. After [`finish`](Recoder::finish) is done, it is the number for the whole text.
     ///
     /// ```
     /// use noddychest::{Form, Recoder};
@@ -296,11 +332,13 @@ impl Recoder {
     /// assert_eq!(out, "€€".as_bytes());
     /// ```
     pub fn feed(&mut self, part: &[u8], room: &mut [u8]) -> Progress {
-        let did = if self.is_strict {
-            let did = self.inner.feed_strict_into(part, room);
-            self.told(did)
-        } else {
-            relayed(self.inner.feed_into(part, room))
+        let did = match self.errors {
+            Errors::Replace => relayed(self.inner.feed_into(part, room)),
+            Errors::Maximal => relayed(self.inner.feed_lossy_into(part, room)),
+            Errors::Strict => {
+                let did = self.inner.feed_strict_into(part, room);
+                self.told(did)
+            }
         };
         self.offset += did.read;
         did
@@ -319,11 +357,13 @@ impl Recoder {
     /// assert_eq!(&room[..did.written], "\u{FFFD}\u{FFFD}".as_bytes());
     /// ```
     pub fn finish(&mut self, room: &mut [u8]) -> Progress {
-        if self.is_strict {
-            let did = self.inner.finish_strict_into(room);
-            self.told(did)
-        } else {
-            relayed(self.inner.finish_into(room))
+        match self.errors {
+            Errors::Replace => relayed(self.inner.finish_into(room)),
+            Errors::Maximal => relayed(self.inner.finish_lossy_into(room)),
+            Errors::Strict => {
+                let did = self.inner.finish_strict_into(room);
+                self.told(did)
+            }
         }
     }
 
@@ -340,7 +380,7 @@ impl Recoder {
     }
 }
 
-/// What a call did that replaces.
+/// What a call did that stops at nothing.
 fn relayed(did: cuts::Progress) -> Progress {
     let status = if did.is_full { Status::Full } else { Status::Done };
     Progress { read: did.read, written: did.written, status }

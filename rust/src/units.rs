@@ -1,7 +1,7 @@
 //! UTF-16: units of the machine's own byte order, split from either end.
 //!
 //! The calls are those of the crate's top, for `&[u16]`. UTF-16 in bytes, little-endian or big-endian, is for a
-//! [`Recoder`](crate::Recoder).
+//! [`Decoder`](crate::Decoder) or a [`Recoder`](crate::Recoder).
 //!
 //! ```
 //! let name = [0x66, 0xD83D, 0xDE00, 0xDE00];
@@ -9,9 +9,10 @@
 //! assert_eq!(text, "f😀\u{FFFD}");
 //! ```
 
+use crate::bytes::{next_fault, Few};
 use crate::proved::cuts;
 use crate::proved::encode_unicode::iterator::Utf16CharDecoder;
-use crate::Piece;
+use crate::{Fault, Piece};
 use core::iter::FusedIterator;
 
 /// All pieces of the units: characters, and single units that are invalid. Offsets and lengths count units.
@@ -72,6 +73,17 @@ fn last_of(left: &[u16], offset: usize) -> Option<Piece> {
 #[must_use]
 pub fn valid_up_to(units: &[u16]) -> usize {
     cuts::units_valid_up_to(units)
+}
+
+/// The invalid units alone, each as [`pieces`] gives it. What is text between them is passed as fast as it is validated.
+///
+/// ```
+/// let faults = noddychest::units::faults(&[0x6F, 0xDE00, 0x6B, 0xD83D]);
+/// assert_eq!(faults.map(|fault| fault.offset()).collect::<Vec<_>>(), [1, 3]);
+/// ```
+#[must_use = "iterators do nothing unless consumed"]
+pub fn faults(units: &[u16]) -> Faults<'_> {
+    Faults { pieces: pieces(units), few: Few::default() }
 }
 
 /// How many characters there are, where each invalid unit counts as one.
@@ -143,6 +155,14 @@ impl<'a> Pieces<'a> {
     pub fn offset(&self) -> usize {
         self.offset
     }
+
+    /// Passes the text at the front; `None` where nothing is left.
+    fn pass_text(&mut self) -> Option<()> {
+        let len = cuts::units_valid_up_to(self.left);
+        self.left = &self.left[len..];
+        self.offset += len;
+        (!self.left.is_empty()).then_some(())
+    }
 }
 
 impl<'a> From<&'a [u16]> for Pieces<'a> {
@@ -178,3 +198,63 @@ impl DoubleEndedIterator for Pieces<'_> {
 }
 
 impl FusedIterator for Pieces<'_> {}
+
+/// The invalid units of some units, from the front. [`faults`] makes it.
+///
+/// ```
+/// let mut faults = noddychest::units::faults(&[0x6F, 0xDE00, 0x6B]);
+/// assert_eq!(faults.next().unwrap().to_string(), "invalid UTF-16 at offset 1: UnexpectedTrailingSurrogate");
+/// assert_eq!(faults.next(), None);
+/// ```
+#[derive(Clone, Debug)]
+pub struct Faults<'a> {
+    pieces: Pieces<'a>,
+    few: Few,
+}
+
+impl<'a> Faults<'a> {
+    /// The units after the last fault that was given, or all.
+    ///
+    /// ```
+    /// let mut faults = noddychest::units::faults(&[0xDE00, 0x41]);
+    /// faults.next();
+    /// assert_eq!(faults.as_slice(), [0x41]);
+    /// ```
+    #[must_use]
+    pub fn as_slice(&self) -> &'a [u16] {
+        self.pieces.as_slice()
+    }
+
+    /// The offset of what [`as_slice`](Faults::as_slice) gives, in units.
+    ///
+    /// ```
+    /// let mut faults = noddychest::units::faults(&[0xDE00, 0x41]);
+    /// faults.next();
+    /// assert_eq!(faults.offset(), 1);
+    /// ```
+    #[must_use]
+    pub fn offset(&self) -> usize {
+        self.pieces.offset()
+    }
+}
+
+impl<'a> From<&'a [u16]> for Faults<'a> {
+    fn from(units: &'a [u16]) -> Faults<'a> {
+        faults(units)
+    }
+}
+
+impl Iterator for Faults<'_> {
+    type Item = Fault;
+
+    #[inline]
+    fn next(&mut self) -> Option<Fault> {
+        next_fault(&mut self.pieces, &mut self.few, Pieces::pass_text)
+    }
+
+    fn size_hint(&self) -> (usize, Option<usize>) {
+        (0, Some(self.pieces.left.len()))
+    }
+}
+
+impl FusedIterator for Faults<'_> {}

@@ -2,45 +2,13 @@
 
 mod common;
 
-use common::{of_hex, rows, Chance};
-use noddychest::{recode, recode_strict, recoded_len_max, shard_end, Fault, FaultKind, Form, Recoder, Status};
+use common::{encoded, long_text_of, of_form, of_hex, rows, text_of, Chance, End};
+use noddychest::{decode, decode_lossy, decode_strict, recode, recode_lossy, recode_strict, recoded_len_max, shard_end};
+use noddychest::{Fault, FaultKind, Form, Recoder, Status};
 
-/// A character or a fault, with how many bytes it has.
-type Answer = (usize, Result<char, FaultKind>);
-
-fn of_utf8(bytes: &[u8]) -> Vec<Answer> {
-    noddychest::pieces(bytes).map(|it| (it.len, it.result.map_err(|fault| fault.kind()))).collect()
-}
-
-fn of_utf16(bytes: &[u8], unit: fn([u8; 2]) -> u16) -> Vec<Answer> {
-    let pairs = bytes.chunks_exact(2);
-    let half = pairs.remainder().len();
-    let units: Vec<u16> = pairs.map(|it| unit([it[0], it[1]])).collect();
-    let pieces = noddychest::units::pieces(&units);
-    let mut out: Vec<Answer> = pieces.map(|it| (2 * it.len, it.result.map_err(|fault| fault.kind()))).collect();
-    if half > 0 {
-        out.push((1, Err(FaultKind::Incomplete)));
-    }
-    out
-}
-
-fn decoded(form: Form, bytes: &[u8]) -> Vec<Answer> {
-    match form {
-        Form::Utf8 => of_utf8(bytes),
-        Form::Utf16Le => of_utf16(bytes, u16::from_le_bytes),
-        Form::Utf16Be => of_utf16(bytes, u16::from_be_bytes),
-        _ => unreachable!("{form} is new"),
-    }
-}
-
-fn encoded(form: Form, text: impl Iterator<Item = char>) -> Vec<u8> {
-    let text: String = text.collect();
-    match form {
-        Form::Utf8 => text.into_bytes(),
-        Form::Utf16Le => text.encode_utf16().flat_map(u16::to_le_bytes).collect(),
-        Form::Utf16Be => text.encode_utf16().flat_map(u16::to_be_bytes).collect(),
-        _ => unreachable!("{form} is new"),
-    }
+/// The characters and faults of the text, with how many bytes each has.
+fn decoded(form: Form, bytes: &[u8]) -> Vec<(usize, Result<char, FaultKind>)> {
+    of_form(form, bytes, End::OfSlice).into_iter().map(|(_, len, answer)| (len, answer)).collect()
 }
 
 /// What std makes of it, with U+FFFD for each fault.
@@ -59,19 +27,6 @@ fn faults(from: Form, bytes: &[u8]) -> Vec<(usize, usize, FaultKind)> {
 
 fn pairs() -> impl Iterator<Item = (Form, Form)> {
     Form::ALL.into_iter().flat_map(|from| Form::ALL.into_iter().map(move |to| (from, to)))
-}
-
-fn text_of(form: Form, chance: &mut Chance, most: usize) -> Vec<u8> {
-    let mut out = match form {
-        Form::Utf8 => chance.bytes(most),
-        Form::Utf16Le => chance.units(most).into_iter().flat_map(u16::to_le_bytes).collect(),
-        Form::Utf16Be => chance.units(most).into_iter().flat_map(u16::to_be_bytes).collect(),
-        _ => unreachable!("{form} is new"),
-    };
-    if chance.below(4) == 0 {
-        out.pop();
-    }
-    out
 }
 
 /// Feeds the parts into rooms of the sizes that `room` gives: what came out, and each fault.
@@ -110,6 +65,41 @@ fn recoded_in_parts(mut recoder: Recoder, parts: &[&[u8]], mut room: impl FnMut(
     (out, told)
 }
 
+/// What std makes of it, with U+FFFD for each maximal subpart. Of UTF-16 that is a surrogate, half a unit, or both where they end the
+/// text.
+fn replaced_lossily(from: Form, to: Form, bytes: &[u8]) -> Vec<u8> {
+    if from == Form::Utf8 {
+        return encoded(to, String::from_utf8_lossy(bytes).chars());
+    }
+    let mut told = of_form(from, bytes, End::OfSlice);
+    if let [.., (_, 2, Err(FaultKind::Incomplete)), _] = told[..] {
+        told.pop();
+    }
+    encoded(to, told.into_iter().map(|it| it.2.unwrap_or('\u{FFFD}')))
+}
+
+/// Feeds the parts into a vector, and into a string where that is UTF-8.
+fn appended_in_parts(recoder: &Recoder, parts: &[&[u8]]) -> Vec<u8> {
+    let (mut recoder, mut other) = (recoder.clone(), recoder.clone());
+    let (mut out, mut text) = (vec![1, 2], String::from("\u{1}\u{2}"));
+    for part in parts {
+        let had = out.len();
+        let did = recoder.feed_to_vec(part, &mut out);
+        assert_eq!((did.read, had + did.written, did.status), (part.len(), out.len(), Status::Done));
+        if other.to() == Form::Utf8 {
+            assert_eq!(other.feed_to_string(part, &mut text), did);
+        }
+    }
+    let did = recoder.finish_to_vec(&mut out);
+    assert_eq!((did.read, did.status, recoder.held()), (0, Status::Done, &[][..]));
+    if other.to() == Form::Utf8 {
+        assert_eq!(other.finish_to_string(&mut text), did);
+        assert_eq!(text.as_bytes(), out);
+    }
+    assert_eq!(out[..2], [1, 2]);
+    out.split_off(2)
+}
+
 fn hold_text(from: Form, to: Form, bytes: &[u8], chance: &mut Chance) {
     let whole = replaced(from, to, bytes);
     let valid: Vec<u8> = encoded(to, decoded(from, bytes).into_iter().filter_map(|it| it.1.ok()));
@@ -125,6 +115,12 @@ fn hold_text(from: Form, to: Form, bytes: &[u8], chance: &mut Chance) {
     let rooms = |chance: &mut Chance| if most < 8 { 4 } else { chance.below(most) };
     let (out, told) = recoded_in_parts(Recoder::new(from, to), &parts, || rooms(chance));
     assert!(out == whole && told.is_empty(), "{from} {to} {parts:x?}");
+    assert_eq!(appended_in_parts(&Recoder::new(from, to), &parts), whole, "{from} {to} {parts:x?}");
+    let lossy = replaced_lossily(from, to, bytes);
+    assert_eq!(recode_lossy(from, to, bytes), lossy, "{from} {to} {bytes:x?}");
+    let (out, told) = recoded_in_parts(Recoder::lossy(from, to), &parts, || rooms(chance));
+    assert!(out == lossy && told.is_empty(), "{from} {to} {parts:x?}");
+    assert_eq!(appended_in_parts(&Recoder::lossy(from, to), &parts), lossy, "{from} {to} {parts:x?}");
     let (out, told) = recoded_in_parts(Recoder::strict(from, to), &parts, || rooms(chance));
     assert_eq!(out, valid, "{from} {to} {parts:x?}");
     let told: Vec<_> = told.iter().map(|it| (it.offset(), it.range().len(), it.kind())).collect();
@@ -168,19 +164,54 @@ fn every_cut_of_short_texts() {
 fn long_texts() {
     let mut chance = Chance(6);
     for (from, to) in pairs() {
-        let mut bytes = Vec::new();
-        while bytes.len() < 200_000 {
-            let text: String = (0..chance.below(200)).map(|_| chance.char()).collect();
-            bytes.extend(encoded(from, text.chars()));
-            if chance.below(20) == 0 {
-                bytes.extend(text_of(from, &mut chance, 4));
-            }
-        }
+        let bytes = long_text_of(from, &mut chance, 200_000);
         hold_text(from, to, &bytes[..1000], &mut chance);
         assert!(recode(from, to, &bytes) == replaced(from, to, &bytes), "{from} {to}");
+        assert!(recode_lossy(from, to, &bytes) == replaced_lossily(from, to, &bytes), "{from} {to}");
+        assert!(appended_in_parts(&Recoder::new(from, to), &[&bytes]) == replaced(from, to, &bytes), "{from} {to}");
         let text = encoded(from, "aé€😀".repeat(10_000).chars());
         assert!(recode_strict(from, to, &text) == Ok(replaced(from, to, &text)), "{from} {to}");
     }
+}
+
+#[test]
+fn texts_become_strings() {
+    let mut chance = Chance(9);
+    for form in Form::ALL {
+        for _ in 0..2_000 {
+            let bytes = text_of(form, &mut chance, 16);
+            assert_eq!(decode(form, &bytes).as_bytes(), replaced(form, Form::Utf8, &bytes));
+            assert_eq!(decode_lossy(form, &bytes).as_bytes(), replaced_lossily(form, Form::Utf8, &bytes));
+            let fault = faults(form, &bytes).first().copied();
+            let strict = decode_strict(form, &bytes).map_err(|it| (it.offset(), it.range().len(), it.kind()));
+            assert_eq!(strict, fault.map_or(Ok(decode(form, &bytes)), Err));
+        }
+    }
+}
+
+/// A strict recoder that appends stops at each fault, and goes on with what it did not read.
+#[test]
+fn strict_recoders_append_up_to_faults() {
+    let (mut recoder, mut text) = (Recoder::strict(Form::Utf16Be, Form::Utf8), String::new());
+    let (mut rest, mut told) = (&b"\0a\xDE\0\xD8\0\0b\xD8"[..], Vec::new());
+    loop {
+        let did = recoder.feed_to_string(rest, &mut text);
+        rest = &rest[did.read..];
+        match did.status {
+            Status::Fault(fault) => told.push(fault.range()),
+            status => break assert_eq!((status, rest), (Status::Done, &[][..])),
+        }
+    }
+    while let Status::Fault(fault) = recoder.finish_to_string(&mut text).status {
+        told.push(fault.range());
+    }
+    assert_eq!((told, &text[..]), (vec![2..4, 4..6, 8..9], "ab"));
+}
+
+#[test]
+#[should_panic(expected = "a string takes UTF-8, and this recoder writes utf16le")]
+fn a_string_takes_no_other_form() {
+    let _ = Recoder::new(Form::Utf8, Form::Utf16Le).feed_to_string(b"", &mut String::new());
 }
 
 /// A strict recoder waits only where what follows decides whether a byte is invalid, or why.

@@ -2,8 +2,9 @@
 
 mod common;
 
-use common::{of_hex, rows, Chance};
-use noddychest::{units, Piece};
+use common::{long_text_of, of_hex, of_units, of_utf8, rows, Chance, End, Told};
+use noddychest::{units, Fault, Form, Piece};
+use std::fmt::Debug;
 
 /// What std says of UTF-8: each character, and each byte that is none of one.
 fn by_std(bytes: &[u8]) -> Vec<(usize, usize, Option<char>)> {
@@ -38,6 +39,55 @@ fn seen(piece: Piece) -> (usize, usize, Option<char>) {
     (piece.offset, piece.len, piece.char())
 }
 
+/// Faults as they are told, each in its place; what is left after each is what follows it.
+fn hold_told(faults: impl Iterator<Item = Fault>, want: &[Told], whole: &dyn Debug) {
+    let want = want.iter().filter_map(|(at, len, answer)| answer.err().map(|kind| (*at..at + len, kind)));
+    assert!(faults.map(|it| (it.range(), it.kind())).eq(want), "{whole:x?}");
+}
+
+fn hold_faults(bytes: &[u8]) {
+    hold_told(noddychest::faults(bytes), &of_utf8(bytes, End::OfSlice), &bytes);
+    assert!(noddychest::faults(bytes).eq(noddychest::pieces(bytes).filter_map(|it| it.fault())));
+    let mut faults = noddychest::Faults::from(bytes);
+    while let Some(fault) = faults.next() {
+        assert_eq!((faults.offset(), faults.as_slice()), (fault.range().end, &bytes[fault.range().end..]));
+        let left = faults.clone().count();
+        assert!((0..=faults.size_hint().1.expect("a bound")).contains(&left));
+    }
+    assert_eq!((faults.next(), faults.offset(), faults.as_slice()), (None, bytes.len(), &[][..]));
+}
+
+fn hold_unit_faults(units: &[u16]) {
+    hold_told(units::faults(units), &of_units(units), &units);
+    let mut faults = units::Faults::from(units);
+    while let Some(fault) = faults.next() {
+        assert_eq!((faults.offset(), faults.as_slice()), (fault.range().end, &units[fault.range().end..]));
+    }
+    assert_eq!((faults.next(), faults.offset(), faults.size_hint()), (None, units.len(), (0, Some(0))));
+}
+
+/// Long text goes by vectors: with a fault at any place of some blocks, and at the end.
+#[test]
+fn faults_are_found_in_long_text() {
+    let mut chance = Chance(10);
+    for _ in 0..60 {
+        let bytes = long_text_of(Form::Utf8, &mut chance, 3_000);
+        hold_faults(&bytes);
+        let units = long_text_of(Form::Utf16Le, &mut chance, 3_000);
+        hold_unit_faults(&units.chunks_exact(2).map(|it| u16::from_le_bytes([it[0], it[1]])).collect::<Vec<_>>());
+    }
+    for at in 0..200 {
+        let mut bytes = "aé€😀".repeat(20).into_bytes();
+        bytes[at] = 0xFF;
+        hold_faults(&bytes);
+        hold_faults(&bytes[..at]);
+        let mut units: Vec<u16> = "aé€😀".repeat(40).encode_utf16().collect();
+        units[at] = 0xDC00;
+        hold_unit_faults(&units);
+        hold_unit_faults(&units[..at]);
+    }
+}
+
 fn hold_bytes(bytes: &[u8], chance: &mut Chance) {
     let want = by_std(bytes);
     assert!(noddychest::pieces(bytes).map(seen).eq(want.iter().copied()), "{bytes:x?}");
@@ -47,6 +97,7 @@ fn hold_bytes(bytes: &[u8], chance: &mut Chance) {
     assert_eq!(noddychest::char_count(bytes), want.len(), "{bytes:x?}");
     assert_eq!(noddychest::first(bytes).map(seen), want.first().copied());
     assert_eq!(noddychest::last(bytes).map(seen), want.last().copied());
+    hold_faults(bytes);
     for at in 0..bytes.len() + 2 {
         let before = want.iter().map(|it| it.0).chain([bytes.len()]).filter(|it| *it <= at).max();
         assert_eq!(Some(noddychest::boundary_before(bytes, at)), before, "{bytes:x?} before {at}");
@@ -124,6 +175,7 @@ fn units_are_split_as_std_does() {
         let want = by_std_units(&units);
         assert!(units::pieces(&units).map(seen).eq(want.iter().copied()), "{units:x?}");
         assert!(units::pieces(&units).rev().map(seen).eq(want.iter().rev().copied()), "{units:x?} from the back");
+        hold_unit_faults(&units);
         let fault = want.iter().find(|it| it.2.is_none());
         assert_eq!(units::valid_up_to(&units), fault.map_or(units.len(), |it| it.0), "{units:x?}");
         assert_eq!(units::char_count(&units), want.len(), "{units:x?}");

@@ -1,6 +1,6 @@
 //! What the types are, and what they show.
 
-use noddychest::{io, units, Fault, FaultKind, Form, Piece, Pieces, Progress, Recoder, Status};
+use noddychest::{io, units, Decoder, Fault, FaultKind, Faults, Form, Piece, Pieces, Progress, Recoder, Status};
 use std::collections::HashSet;
 use std::error::Error;
 use std::fmt::Debug;
@@ -10,6 +10,8 @@ use std::iter::FusedIterator;
 fn is_shared<T: Send + Sync + Clone + Debug>() {}
 fn is_value<T: Send + Sync + Copy + Debug + Eq + Hash>() {}
 fn goes_both_ways<T: DoubleEndedIterator<Item = Piece> + FusedIterator>() {}
+fn goes_on<T: Iterator<Item = Fault> + FusedIterator>() {}
+fn ends<T: Iterator + FusedIterator>() {}
 fn is_error<T: Error + Send + Sync + 'static>() {}
 fn is_sent<T: Send + Sync + Debug>() {}
 
@@ -17,19 +19,31 @@ fn is_sent<T: Send + Sync + Debug>() {}
 fn types_have_their_traits() {
     is_shared::<Pieces<'static>>();
     is_shared::<units::Pieces<'static>>();
+    is_shared::<Faults<'static>>();
+    is_shared::<units::Faults<'static>>();
+    is_shared::<Decoder>();
     is_shared::<Recoder>();
     is_value::<Piece>();
+    is_value::<Piece<u64>>();
     is_value::<Fault>();
+    is_value::<Fault<u64>>();
     is_value::<FaultKind>();
     is_value::<Form>();
     is_value::<Status>();
     is_value::<Progress>();
     goes_both_ways::<Pieces<'static>>();
     goes_both_ways::<units::Pieces<'static>>();
+    goes_on::<Faults<'static>>();
+    goes_on::<units::Faults<'static>>();
+    ends::<io::Pieces<&[u8]>>();
+    ends::<io::Faults<&[u8]>>();
     is_error::<Fault>();
+    is_error::<Fault<u64>>();
     is_error::<noddychest::UnknownForm>();
     is_sent::<io::RecodingReader<std::io::Stdin>>();
     is_sent::<io::RecodingWriter<Vec<u8>>>();
+    is_sent::<io::Pieces<std::io::BufReader<std::io::Stdin>>>();
+    is_sent::<io::Faults<std::io::BufReader<std::fs::File>>>();
 }
 
 #[test]

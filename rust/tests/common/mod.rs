@@ -1,5 +1,7 @@
-//! Inputs: damaged text, by a generator that gives the same on each run.
+//! Inputs: damaged text, by a generator that gives the same on each run; and what std and the table of errors say of them.
 #![allow(dead_code)]
+
+use noddychest::{FaultKind, Form};
 
 /// Steps of splitmix64.
 pub struct Chance(pub u64);
@@ -73,4 +75,123 @@ pub fn rows(name: &str) -> Vec<Vec<String>> {
 pub fn of_hex(text: &str) -> Vec<u8> {
     let digits: Vec<u32> = text.chars().map(|c| c.to_digit(16).expect("a digit")).collect();
     digits.chunks(2).map(|pair| (pair[0] * 16 + pair[1]) as u8).collect()
+}
+
+/// How the end of UTF-8 is judged: as that of a slice, or as by who gets a byte at a time, whom a broken sequence tells first.
+#[derive(Clone, Copy, PartialEq)]
+pub enum End {
+    OfSlice,
+    OfParts,
+}
+
+/// A piece, by what std says of the bytes and by the table of errors: its offset, its length, and the character or the kind.
+pub type Told = (usize, usize, Result<char, FaultKind>);
+
+/// The kind of the invalid byte that begins these bytes.
+fn kind_of(bytes: &[u8], end: End) -> FaultKind {
+    let needed = match bytes[0] {
+        0x80..=0xBF => return FaultKind::UnexpectedContinuationByte,
+        0xC2..=0xDF => 2,
+        0xE0..=0xEF => 3,
+        0xF0..=0xF4 => 4,
+        _ => return FaultKind::NonUtf8Byte,
+    };
+    let here = &bytes[1..needed.min(bytes.len())];
+    let is_broken = here.iter().any(|it| !(0x80..0xC0).contains(it));
+    if bytes.len() < needed && (end == End::OfSlice || !is_broken) {
+        return FaultKind::TooFewBytes;
+    }
+    match (is_broken, bytes[0]) {
+        (true, _) => FaultKind::InterruptedSequence,
+        (_, 0xE0 | 0xF0) => FaultKind::OverlongEncoding,
+        (_, 0xED) => FaultKind::Utf16ReservedCodepoint,
+        _ => FaultKind::TooHighCodepoint,
+    }
+}
+
+pub fn of_utf8(bytes: &[u8], end: End) -> Vec<Told> {
+    let (mut out, mut offset) = (Vec::new(), 0);
+    for chunk in bytes.utf8_chunks() {
+        for c in chunk.valid().chars() {
+            out.push((offset, c.len_utf8(), Ok(c)));
+            offset += c.len_utf8();
+        }
+        for _ in chunk.invalid() {
+            out.push((offset, 1, Err(kind_of(&bytes[offset..], end))));
+            offset += 1;
+        }
+    }
+    out
+}
+
+pub fn of_units(units: &[u16]) -> Vec<Told> {
+    let (mut out, mut offset) = (Vec::new(), 0);
+    for answer in char::decode_utf16(units.iter().copied()) {
+        let answer = answer.map_err(|error| match error.unpaired_surrogate() {
+            0xDC00.. => FaultKind::UnexpectedTrailingSurrogate,
+            _ if offset + 1 == units.len() => FaultKind::Incomplete,
+            _ => FaultKind::UnmatchedLeadingSurrogate,
+        });
+        let len = answer.map_or(1, char::len_utf16);
+        out.push((offset, len, answer));
+        offset += len;
+    }
+    out
+}
+
+/// The pieces of bytes in any form; offsets and lengths count bytes.
+pub fn of_form(form: Form, bytes: &[u8], end: End) -> Vec<Told> {
+    let unit = match form {
+        Form::Utf8 => return of_utf8(bytes, end),
+        Form::Utf16Le => u16::from_le_bytes,
+        _ => u16::from_be_bytes,
+    };
+    let units: Vec<u16> = bytes.chunks_exact(2).map(|it| unit([it[0], it[1]])).collect();
+    let mut out: Vec<Told> = of_units(&units).into_iter().map(|it| (2 * it.0, 2 * it.1, it.2)).collect();
+    if bytes.len() % 2 == 1 {
+        out.push((bytes.len() - 1, 1, Err(FaultKind::Incomplete)));
+    }
+    out
+}
+
+/// Damaged text of a form: at most about `most` bytes of UTF-8, or units.
+pub fn text_of(form: Form, chance: &mut Chance, most: usize) -> Vec<u8> {
+    let mut out = match form {
+        Form::Utf8 => chance.bytes(most),
+        Form::Utf16Le => chance.units(most).into_iter().flat_map(u16::to_le_bytes).collect(),
+        Form::Utf16Be => chance.units(most).into_iter().flat_map(u16::to_be_bytes).collect(),
+        _ => unreachable!("{form} is new"),
+    };
+    if chance.below(4) == 0 {
+        out.pop();
+    }
+    out
+}
+
+pub fn encoded(form: Form, text: impl Iterator<Item = char>) -> Vec<u8> {
+    let text: String = text.collect();
+    match form {
+        Form::Utf8 => text.into_bytes(),
+        Form::Utf16Le => text.encode_utf16().flat_map(u16::to_le_bytes).collect(),
+        Form::Utf16Be => text.encode_utf16().flat_map(u16::to_be_bytes).collect(),
+        _ => unreachable!("{form} is new"),
+    }
+}
+
+/// Long stretches of text, of one kind of character each, with a little damage between them.
+pub fn long_text_of(form: Form, chance: &mut Chance, len: usize) -> Vec<u8> {
+    let mut out = Vec::new();
+    while out.len() < len {
+        let stretch = chance.below(300);
+        match chance.below(3) {
+            0 => out.extend(encoded(form, (0..stretch).map(|k| char::from(b' ' + (k % 90) as u8)))),
+            _ => {
+                let text: String = (0..stretch / 3).map(|_| chance.char()).collect();
+                out.extend(encoded(form, text.chars()));
+            }
+        }
+        let most = chance.below(5);
+        out.extend(text_of(form, chance, most));
+    }
+    out
 }

@@ -1,0 +1,45 @@
+//! Several threads over texts of several shards, beside what std makes of the whole.
+
+mod common;
+
+use common::{encoded, long_text_of, of_form, Chance, End};
+use noddychest::{parallel, recode, Form};
+use std::num::NonZeroUsize;
+
+#[test]
+fn long_texts_are_recoded_and_checked() {
+    let mut chance = Chance(18);
+    for from in Form::ALL {
+        let bytes = long_text_of(from, &mut chance, 400_000);
+        let told = of_form(from, &bytes, End::OfSlice);
+        for jobs in [2, 5] {
+            let jobs = NonZeroUsize::new(jobs);
+            for to in Form::ALL {
+                let want = encoded(to, told.iter().map(|it| it.2.unwrap_or('\u{FFFD}')));
+                assert!(parallel::recode(from, to, &bytes, jobs) == want, "{from} {to} {jobs:?}");
+            }
+            let found = parallel::check(from, &bytes, jobs).into_iter().map(|it| (it.range(), it.kind()));
+            let want = told.iter().filter_map(|(at, len, answer)| Some((*at..at + len, answer.err()?)));
+            assert!(found.eq(want), "{from} {jobs:?}");
+        }
+    }
+}
+
+#[test]
+fn nothing_and_little() {
+    for bytes in [&b""[..], b"\xFF", b"a", b"\xE2\x82"] {
+        for jobs in [None, NonZeroUsize::new(1), NonZeroUsize::new(99)] {
+            let made = parallel::recode(Form::Utf8, Form::Utf16Le, bytes, jobs);
+            assert_eq!(made, recode(Form::Utf8, Form::Utf16Le, bytes));
+            assert_eq!(parallel::check(Form::Utf8, bytes, jobs), noddychest::faults(bytes).collect::<Vec<_>>());
+        }
+    }
+}
+
+/// What was asked for and not filled is given back.
+#[test]
+fn no_room_is_kept() {
+    let text = "a".repeat(1_000_000);
+    let made = parallel::recode(Form::Utf8, Form::Utf8, text.as_bytes(), None);
+    assert!(made == text.as_bytes() && made.capacity() < 1_100_000, "{}", made.capacity());
+}
