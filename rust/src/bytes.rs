@@ -242,25 +242,31 @@ impl FusedIterator for Pieces<'_> {}
 /// How many pieces are looked at one by one before text is passed, which costs something by itself: the more, the more of them were
 /// invalid.
 #[derive(Clone, Debug)]
-pub(crate) struct Few(usize);
+pub(crate) struct Few {
+    least: usize,
+    number: usize,
+}
 
 impl Few {
-    const LEAST: usize = 8;
     pub(crate) const MOST: usize = 64;
 
-    pub(crate) fn number(&self) -> usize {
-        self.0
+    pub(crate) fn new(least: usize) -> Few {
+        Few { least, number: least }
     }
 
-    /// That one of the last few was found, or none.
+    pub(crate) fn number(&self) -> usize {
+        self.number
+    }
+
+    /// That a fault was found among the last few, or none.
     pub(crate) fn note(&mut self, is_found: bool) {
-        self.0 = if is_found { Few::MOST.min(2 * self.0) } else { Few::LEAST };
+        self.number = if is_found { Few::MOST.min(2 * self.number) } else { self.least };
     }
 }
 
 impl Default for Few {
     fn default() -> Few {
-        Few(Few::LEAST)
+        Few::new(8)
     }
 }
 

@@ -7,8 +7,9 @@ use crate::{Fault, Form, Piece};
 use std::io::{BufRead, ErrorKind, Result};
 use std::iter::FusedIterator;
 
-/// How many pieces are gathered at once.
+/// How many pieces are gathered at once; and after text was passed, where faults are far from each other.
 const ROOM: usize = Few::MOST;
+const LEAST: usize = 16;
 
 /// All pieces of what a reader gives, each with its offset from the first byte that is read: those of a [`Decoder`](crate::Decoder).
 ///
@@ -39,7 +40,7 @@ pub fn pieces<R: BufRead>(reader: R, form: Form) -> Pieces<R> {
 /// ```
 #[must_use = "iterators do nothing unless consumed"]
 pub fn faults<R: BufRead>(reader: R, form: Form) -> Faults<R> {
-    Faults { source: Source::new(reader, form), few: Few::default(), is_found: false }
+    Faults { source: Source::new(reader, form), few: Few::new(LEAST), found: 0 }
 }
 
 /// A reader, and the pieces that were gathered of it and not given yet.
@@ -179,8 +180,8 @@ impl<R: BufRead> FusedIterator for Pieces<R> {}
 pub struct Faults<R> {
     source: Source<R>,
     few: Few,
-    /// Whether one was found among the pieces that were gathered last.
-    is_found: bool,
+    /// How many were found among the pieces that were gathered last.
+    found: usize,
 }
 
 impl<R> Faults<R> {
@@ -201,11 +202,13 @@ impl<R: BufRead> Iterator for Faults<R> {
     fn next(&mut self) -> Option<Result<Fault<u64>>> {
         loop {
             let fault = std::iter::from_fn(|| self.source.take()).find_map(|piece| piece.fault());
-            self.is_found |= fault.is_some();
             if fault.is_some() {
+                self.found += 1;
                 return fault.map(Ok);
             }
-            self.few.note(std::mem::take(&mut self.is_found));
+            // (the first of them follows the text that was passed)
+            self.few.note(self.found > 1);
+            self.found = 0;
             if let Err(error) = self.source.gather(self.few.number(), text_len)? {
                 return Some(Err(error));
             }
