@@ -151,6 +151,13 @@ def checking():
     return table(["input", "command", "seconds", "of the processor", "GB in a second"], lines)
 
 
+def cores():
+    """What bench/cores took, by number of threads."""
+    lines = (STORED / "cores").read_text(encoding="utf-8").splitlines()
+    rows = [[it.strip() for it in line.strip("|").split("|")] for line in lines if line.startswith("| `")]
+    return table(["command", "seconds", "of the processor", "GB in a second", "times one thread"], rows)
+
+
 # What c/bench/run does, and whose call it is there.
 OF_C = {"utf8-to-utf16le": ("UTF-8 to UTF-16LE, `nody_recoder_feed`", "nody"), "utf16le-to-utf8": ("UTF-16LE to UTF-8, `nody_recoder_feed`", "nody"),
         "valid-up-to": ("validate UTF-8, `nody_utf8_valid_up_to`", "nody"), "decode": ("every piece, `nody_utf8_next`", "nody_utf8_next"),

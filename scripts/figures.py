@@ -203,8 +203,15 @@ def is_within(numbers, bound, words):
 
 
 # Of each document: a pattern that stands there once, and what its groups have to be.
+def by_threads():
+    """The seconds of bench/stored/cores: by one thread, by four, and by iconv."""
+    told = {it[1]: float(it[2]) for line in lines_of("bench/stored/cores") if (it := re.match(r"\| `(.+?)` \| ([\d.]+) ", line))}
+    return tuple(f"{told[it]:.1f}" for it in ("nody recode --jobs 1", "nody recode --jobs 4", "iconv -c"))
+
+
 FIGURES = {
     "README.md": [
+        (r"become UTF-16 in ([\d.]+) s by one thread of `nody recode` and in ([\d.]+) by four, where iconv takes (\d+\.\d)", by_threads),
         (r"Version ([\d.]+), not released yet", lambda: (version(),)),
         (r"\(our worst\) \|.*\| \**([\d.]+)\** \|", lambda: (worst_of_c(),)),
     ],
