@@ -1,8 +1,8 @@
 //! The callers in `uses` and `uses_runs`, over a damaged log, units with surrogates that stand alone, and a text of
 //! several scripts.
-use cuts::{Form, Recoder};
-use encode_unicode::error::{Utf8ErrorKind, Utf16PairError};
-use encode_unicode::{U16IterExt, Utf8Char};
+use cuts::{Form, Recoder, shard_end};
+use encode_unicode::error::{Utf8Error, Utf8ErrorKind, Utf16PairError};
+use encode_unicode::{U8SliceExt, U16IterExt, Utf8Char};
 use std::process::Abort;
 use std::test::Fail;
 use uses::backward;
@@ -223,6 +223,58 @@ fn shards_have_as_many_pieces_as_the_whole(rt: HostRuntime) {
         assert!(rt; faults.0.wrapping_add(faults.1) == 6, "cut at {at}");
         let pieces = pieces_in_shards(bytes, at);
         assert!(rt; pieces.0.wrapping_add(pieces.1) == 9, "cut at {at}");
+    }
+}
+
+// A piece: its offset, what it is, and its length.
+type Wanted = (usize, Result<char, Utf8ErrorKind>, usize);
+
+fn is_same(answer: Result<Utf8Char, Utf8Error>, wanted: Result<char, Utf8ErrorKind>) -> bool {
+    match (answer, wanted) {
+        (Ok(c), Ok(wanted)) => c.to_char() == wanted,
+        (Err(error), Err(kind)) => error.kind() == kind,
+        _ => false,
+    }
+}
+
+// Whether two shards have these pieces: the first is given with the three bytes after it, and what begins in those is left out.
+fn shards_have(bytes: &[u8], at: usize, wanted: &[Wanted]) -> bool {
+    let end = shard_end(Form::Utf8, bytes, at);
+    let more = bytes.len().min(end.saturating_add(3));
+    let mut first = bytes[..more].utf8char_indices();
+    let mut second = bytes[end..].utf8char_indices();
+    for (place, what, len) in wanted {
+        let (begin, found) = if *place < end {
+            (0, first.next())
+        } else {
+            (end, second.next())
+        };
+        let Some((offset, answer, size)) = found else {
+            return false;
+        };
+        if !is_same(answer, *what) || offset.wrapping_add(begin) != *place || size != *len {
+            return false;
+        }
+    }
+    second.next().is_none()
+}
+
+#[test]
+fn shards_have_the_pieces_of_the_whole(rt: HostRuntime) {
+    let bytes = b"a\xff\xe2\x82\xac\xf0\x9f\x98!\xe2\x82";
+    let wanted = [
+        (0, Ok('a'), 1),
+        (1, Err(Utf8ErrorKind::NonUtf8Byte), 1),
+        (2, Ok('€'), 3),
+        (5, Err(Utf8ErrorKind::InterruptedSequence), 1),
+        (6, Err(Utf8ErrorKind::UnexpectedContinuationByte), 1),
+        (7, Err(Utf8ErrorKind::UnexpectedContinuationByte), 1),
+        (8, Ok('!'), 1),
+        (9, Err(Utf8ErrorKind::TooFewBytes), 1),
+        (10, Err(Utf8ErrorKind::UnexpectedContinuationByte), 1),
+    ];
+    for at in 0..=12 {
+        assert!(rt; shards_have(bytes, at, &wanted), "cut at {at}");
     }
 }
 
