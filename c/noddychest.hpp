@@ -4,8 +4,8 @@
 //
 // CALLS, all in the namespace nody.
 //     all pieces   pieces, pieces_back: ranges for `for`, over UTF-8 (std::string_view) or units of UTF-16 (std::u16string_view)
-//     valid?       valid, valid_up_to, first_fault
-//     count        count
+//     valid?       is_valid, valid_up_to, first_fault
+//     count        char_count
 //     divide       boundary_before, boundary_after
 //     recode       recode, recode_strict, to_utf8, to_utf16, recoded_len
 //     in parts     recoder
@@ -233,9 +233,9 @@ inline std::size_t valid_up_to(std::u16string_view text) noexcept {
 }
 inline std::size_t valid_up_to(form from, bytes text) noexcept { return nody_utf16_bytes_valid_up_to(detail::c(from), text.data(), text.size()); }
 
-inline bool valid(std::string_view text) noexcept { return valid_up_to(text) == text.size(); }
-inline bool valid(std::u16string_view text) noexcept { return valid_up_to(text) == text.size(); }
-inline bool valid(form from, bytes text) noexcept { return valid_up_to(from, text) == text.size(); }
+inline bool is_valid(std::string_view text) noexcept { return valid_up_to(text) == text.size(); }
+inline bool is_valid(std::u16string_view text) noexcept { return valid_up_to(text) == text.size(); }
+inline bool is_valid(form from, bytes text) noexcept { return valid_up_to(from, text) == text.size(); }
 
 // The first fault, or nothing where the text is valid.
 //
@@ -252,10 +252,10 @@ inline std::optional<piece> first_fault(std::u16string_view text) noexcept {
 }
 
 // The number of pieces.
-inline std::size_t count(std::string_view text) noexcept {
+inline std::size_t char_count(std::string_view text) noexcept {
     return nody_utf8_char_count(reinterpret_cast<const std::uint8_t *>(text.data()), text.size());
 }
-inline std::size_t count(std::u16string_view text) noexcept {
+inline std::size_t char_count(std::u16string_view text) noexcept {
     return nody_utf16_char_count(reinterpret_cast<const std::uint16_t *>(text.data()), text.size());
 }
 

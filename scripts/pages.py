@@ -13,9 +13,9 @@ def below(folder):
 
 
 # Made by scripts from the sources and from logs.
-GENERATED = ("docs/rattle/API.md", *below("docs/rattle/api"), *below("docs/rattle/made"))
+GENERATED = ("docs/CALLS.md", "docs/rattle/API.md", *below("docs/rattle/api"), *below("docs/rattle/made"))
 # What people read who use the project: it is in the words that they search for. The others keep to the glossary.
-FOR_USERS = ("README.md", "CHANGELOG.md", "SECURITY.md", "docs/BENCHMARKS.md", "docs/COMPARISON.md", "docs/DIFFERENCES.md", "docs/PROGRAMS.md", "docs/QUESTIONS.md", "docs/THE-CUT.md",
+FOR_USERS = ("README.md", "CHANGELOG.md", "SECURITY.md", "docs/BENCHMARKS.md", "docs/CALLS.md", "docs/COMPARISON.md", "docs/DIFFERENCES.md", "docs/PROGRAMS.md", "docs/QUESTIONS.md", "docs/THE-CUT.md",
              *below("docs/guide"), "docs/rattle/API.md", *below("docs/rattle/api"), "docs/rattle/GUIDE.md", "docs/rattle/PROVING.md", "c/README.md", "page/README.md", "python/README.md", "rust/README.md", "js/README.md", "packaging/README.md")
 
 # Those of the packages, whose own tests run their blocks.

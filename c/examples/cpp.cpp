@@ -25,5 +25,5 @@ int main(int argc, char **argv) {
         else std::puts(nody::name(it.kind).data());
     }
     if (std::fflush(stdout) != 0 || std::ferror(stdout)) return fails("write");
-    return !nody::valid(text);
+    return !nody::is_valid(text);
 }

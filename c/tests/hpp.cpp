@@ -22,7 +22,7 @@ static void expect(bool holds, const char *what) {
 
 static_assert(!std::is_copy_constructible_v<nody::recoder> && !std::is_copy_assignable_v<nody::recoder>);
 static_assert(std::is_nothrow_move_constructible_v<nody::recoder> && std::is_nothrow_move_assignable_v<nody::recoder>);
-static_assert(noexcept(nody::valid(""sv)) && noexcept(nody::first_fault(u""sv)) && noexcept(nody::pieces(""sv)) && noexcept(nody::count(""sv)));
+static_assert(noexcept(nody::is_valid(""sv)) && noexcept(nody::first_fault(u""sv)) && noexcept(nody::pieces(""sv)) && noexcept(nody::char_count(""sv)));
 static_assert(noexcept(++nody::pieces(""sv).begin()) && noexcept(nody::boundary_before(nody::form::utf8, ""sv, 0)));
 static_assert(std::is_same_v<decltype(nody::first_fault(""sv)), std::optional<nody::piece>>);
 
@@ -42,8 +42,8 @@ static void try_spans() {
     std::vector<std::byte> blank(2);
     std::vector<char> chars = {'a', 'b'};
     expect(nody::valid_up_to(nody::form::utf8, std::span(raw)) == 1, "a span of unsigned char");
-    expect(nody::valid(nody::form::utf8, std::span(blank)) && nody::valid(nody::form::utf8, std::span<const char>(chars)), "spans of bytes and of char");
-    expect(nody::valid(nody::form::utf8, u8"\u00E9"sv), "a u8string_view");
+    expect(nody::is_valid(nody::form::utf8, std::span(blank)) && nody::is_valid(nody::form::utf8, std::span<const char>(chars)), "spans of bytes and of char");
+    expect(nody::is_valid(nody::form::utf8, u8"\u00E9"sv), "a u8string_view");
 #if !defined(__clang__) || __clang_major__ >= 16 // (before that clang does not compile the views of libstdc++)
     auto wrong = nody::pieces("a\xFF" "b\xFE"sv) | std::views::filter([](const nody::piece &it) { return !it.is_ok(); });
     expect(std::ranges::distance(wrong) == 2, "views over pieces");
@@ -84,11 +84,11 @@ static void try_pieces() {
 }
 
 static void try_single() {
-    expect(nody::valid("na\xC3\xAFve") && !nody::valid("caf\xE9 au"), "valid");
+    expect(nody::is_valid("na\xC3\xAFve") && !nody::is_valid("caf\xE9 au"), "valid");
     auto fault = nody::first_fault("caf\xE9 au");
     expect(fault && fault->offset == 3 && fault->length == 1 && fault->kind == nody::kind::interrupted_sequence, "first_fault");
     expect(!nody::first_fault("") && !nody::first_fault(u"A\U0001F600") && nody::first_fault(u"A\xD800")->kind == nody::kind::incomplete, "first_fault of nothing, and of units");
-    expect(nody::count("\xE2\x82\xAC!") == 2 && nody::count(u"\U0001F600!") == 2, "count");
+    expect(nody::char_count("\xE2\x82\xAC!") == 2 && nody::char_count(u"\U0001F600!") == 2, "count");
     expect(nody::boundary_before(nody::form::utf8, "a\xE2\x82\xAC", 3) == 1 && nody::boundary_after(nody::form::utf8, "a\xE2\x82\xAC", 2) == 4, "boundaries");
     expect(nody::boundary_before(u"\U0001F600", 1) == 0 && nody::boundary_after(u"\U0001F600", 1) == 2, "boundaries of units");
     expect(nody::name(nody::kind::overlong_encoding) == "OverlongEncoding" && nody::sentence(nody::kind::ok) == "a character", "name and sentence");
@@ -105,7 +105,7 @@ static void try_recode() {
     auto fault = nody::recode_strict(form::utf8, form::utf8, "caf\xE9 au", out);
     expect(fault && fault->offset == 3 && fault->kind == nody::kind::interrupted_sequence && out == "before caf", "recode_strict");
     expect(!nody::recode_strict(form::utf8, form::utf16le, "ab", out) && out == "before cafa\0b\0"s, "recode_strict of what is valid");
-    expect(nody::valid(form::utf16le, "a\0b\0"s) && nody::valid_up_to(form::utf16le, "a\0\0\xD8"s) == 2 && nody::valid_up_to(form::utf16be, "\0a\0"s) == 2, "valid in a form");
+    expect(nody::is_valid(form::utf16le, "a\0b\0"s) && nody::valid_up_to(form::utf16le, "a\0\0\xD8"s) == 2 && nody::valid_up_to(form::utf16be, "\0a\0"s) == 2, "valid in a form");
 }
 
 static void try_recoder() {
@@ -173,7 +173,7 @@ static void try_random() {
         std::vector<nody::piece> front = all(text), back;
         for (const nody::piece &it : nody::pieces_back(text)) back.insert(back.begin(), it);
         for (std::size_t i = 0; i < front.size() && i < back.size(); i++) is_same = is_same && front[i].offset == back[i].offset && front[i].length == back[i].length;
-        expect(is_same && left.len == 0 && joined == text && front.size() == back.size() && nody::count(text) == front.size(), "pieces of random bytes");
+        expect(is_same && left.len == 0 && joined == text && front.size() == back.size() && nody::char_count(text) == front.size(), "pieces of random bytes");
         nody::recoder recoder(nody::form::utf8, nody::form::utf16le);
         for (std::size_t at = 0; at < text.size();) {
             std::size_t len = std::min<std::size_t>(1 + below(5), text.size() - at);
