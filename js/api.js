@@ -265,6 +265,19 @@ function boundaryOf(data, at, encoding, isAfter) {
 export const boundaryBefore = (data, at, encoding = "utf-8") => boundaryOf(data, at, encoding, false);
 export const boundaryAfter = (data, at, encoding = "utf-8") => boundaryOf(data, at, encoding, true);
 
+// (the last bytes decide)
+export function undecidedLength(data, encoding = "utf-8") {
+    const [bytes, form] = [bytesOf(data), formOf(encoding)];
+    codec.fill(bytes.subarray(startBefore(bytes.length, 2 * SEEN, form)));
+    return codec.undecidedLength(form);
+}
+
+export function encodingOfBom(data) {
+    codec.fill(bytesOf(data).subarray(0, SEEN));
+    const mark = codec.formOfBom();
+    return mark && { encoding: FORMS[mark.form], length: mark.len };
+}
+
 // That text which had to be valid is not. A TypeError, as TextDecoder throws. (Of an error structuredClone and postMessage keep the
 // message and the cause alone.)
 export class FaultError extends TypeError {

@@ -253,6 +253,18 @@ export class Codec {
         return Number(call(Math.min(this.form, UTF16LE), this.address(this.start), BigInt(this.len), BigInt(at)));
     }
 
+    // How many bytes at the end of these depend on what follows, in a form. (They have to stand as they came: `fill` was given no form.)
+    undecidedLength(form) {
+        return Number(this.calls.nody_undecided_len(form, this.address(this.start), BigInt(this.len)));
+    }
+
+    // The form that a byte order mark at the front tells, and the length of the mark; null where there is none. (They have to stand as they
+    // came, too.)
+    formOfBom() {
+        const len = Number(this.calls.nody_form_of_bom(this.address(this.start), BigInt(this.len), this.address(this.answer)));
+        return len ? { form: this.view.getUint8(this.answer), len } : null;
+    }
+
     // How many bytes these become in another form.
     recodedLength(to) {
         return Number(this.calls.nody_recoded_len(Math.min(this.form, UTF16LE), to, this.address(this.start), BigInt(this.len)));

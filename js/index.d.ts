@@ -96,6 +96,20 @@ export function boundaryBefore(data: Bytes, at: number, encoding?: Encoding): nu
 /** The first such offset from `at` on. O(1). */
 export function boundaryAfter(data: Bytes, at: number, encoding?: Encoding): number;
 
+/**
+ * How many bytes at the end of a block depend on those that follow, 0 to 3: what a `Decoder` holds that was fed the block. Keep them back,
+ * and put them before the next block. All pieces before them are known, with the errors that a `Decoder` gives; where no byte follows, they
+ * are invalid. The block begins where a character may begin: `undecidedLength(Uint8Array.of(0x61, 0xe2, 0x82))` is 2. O(1).
+ */
+export function undecidedLength(data: Bytes, encoding?: Encoding): number;
+
+/**
+ * The encoding that a byte order mark at the front tells, and the length of the mark in bytes; null where there is none. The first three
+ * bytes are enough. UTF-32LE begins with the mark of UTF-16LE, and is taken for that. Of `FF FE 61 00` it is
+ * `{ encoding: "utf-16le", length: 2 }`. O(1).
+ */
+export function encodingOfBom(data: Bytes): { encoding: "utf-8" | "utf-16le" | "utf-16be"; length: 2 | 3 } | null;
+
 export interface RecodeOptions {
     /**
      * What to do with invalid bytes: put one U+FFFD, the replacement character, for each, which is what happens where nothing is given;

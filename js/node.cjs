@@ -255,6 +255,18 @@ class Codec {
         return Number(call(Math.min(this.form, UTF16LE), this.address(this.start), BigInt(this.len), BigInt(at)));
     }
 
+    // How many bytes at the end of these depend on what follows, in a form. (They have to stand as they came: `fill` was given no form.)
+    undecidedLength(form) {
+        return Number(this.calls.nody_undecided_len(form, this.address(this.start), BigInt(this.len)));
+    }
+
+    // The form that a byte order mark at the front tells, and the length of the mark; null where there is none. (They have to stand as they
+    // came, too.)
+    formOfBom() {
+        const len = Number(this.calls.nody_form_of_bom(this.address(this.start), BigInt(this.len), this.address(this.answer)));
+        return len ? { form: this.view.getUint8(this.answer), len } : null;
+    }
+
     // How many bytes these become in another form.
     recodedLength(to) {
         return Number(this.calls.nody_recoded_len(Math.min(this.form, UTF16LE), to, this.address(this.start), BigInt(this.len)));
@@ -692,6 +704,19 @@ function boundaryOf(data, at, encoding, isAfter) {
 const boundaryBefore = (data, at, encoding = "utf-8") => boundaryOf(data, at, encoding, false);
 const boundaryAfter = (data, at, encoding = "utf-8") => boundaryOf(data, at, encoding, true);
 
+// (the last bytes decide)
+function undecidedLength(data, encoding = "utf-8") {
+    const [bytes, form] = [bytesOf(data), formOf(encoding)];
+    codec.fill(bytes.subarray(startBefore(bytes.length, 2 * SEEN, form)));
+    return codec.undecidedLength(form);
+}
+
+function encodingOfBom(data) {
+    codec.fill(bytesOf(data).subarray(0, SEEN));
+    const mark = codec.formOfBom();
+    return mark && { encoding: FORMS[mark.form], length: mark.len };
+}
+
 // That text which had to be valid is not. A TypeError, as TextDecoder throws. (Of an error structuredClone and postMessage keep the
 // message and the cause alone.)
 class FaultError extends TypeError {
@@ -974,4 +999,4 @@ async function* streamText(stream, encoding = "utf-8", options) {
 const file = require("node:path").join(__dirname, hasVectors() ? "noddychest-simd.wasm" : "noddychest.wasm");
 use(new WebAssembly.Instance(new WebAssembly.Module(require("node:fs").readFileSync(file))));
 
-module.exports = { Decoder, Ends, FaultError, Recoder, boundaryAfter, boundaryBefore, charCount, decode, faults, firstFault, isValid, pieces, piecesBack, recode, recodedLength, recoderStream, streamFaults, streamPieces, streamText };
+module.exports = { Decoder, Ends, FaultError, Recoder, boundaryAfter, boundaryBefore, charCount, decode, encodingOfBom, faults, firstFault, isValid, pieces, piecesBack, recode, recodedLength, recoderStream, streamFaults, streamPieces, streamText, undecidedLength };

@@ -39,7 +39,7 @@ function told(codec, bytes, word, cut) {
     const [run, left] = [codec.pieces(0, bytes.length), { front: 0, back: bytes.length }];
     const walk = [...word].map((it) => codec.step(it, left));
     const streamed = run.map((it) => codec.streamedAt(it.place));
-    const ends = [codec.validUpTo(), codec.boundary(bytes.length >> 1)];
+    const ends = [codec.validUpTo(), codec.boundary(bytes.length >> 1), codec.formOfBom(), ...FORMS.map((form) => codec.undecidedLength(form))];
     const pairs = FORMS.flatMap((from) => FORMS.map((to) => [from, to]));
     const recoded = pairs.map(([from, to]) => [REPLACE, MAXIMAL, STRICT].map((mode) => inParts(codec, bytes, cut, from, to, mode)));
     const whole = pairs.map(([from, to]) => [...joined(codec.recode(from, to, bytes))]);

@@ -9,7 +9,7 @@ import { Codec, hasVectors } from "../codec.js";
 import * as installed from "noddychest";
 import { chances, damaged, hexOf, ofHex } from "./help.js";
 
-const { Decoder, Recoder, faults, isValid, pieces, recode, use } = api;
+const { Decoder, Recoder, encodingOfBom, faults, isValid, pieces, recode, undecidedLength, use } = api;
 const FORMS = ["utf-8", "utf-16le", "utf-16be"];
 const GONE = { name: "TypeError", message: /^noddychest: the bytes are gone/ };
 const load = (name) => new WebAssembly.Instance(new WebAssembly.Module(readFileSync(new URL(`../${name}.wasm`, import.meta.url))));
@@ -134,6 +134,84 @@ function compare(parts, encoding, offset = 0) {
     assert.deepEqual([[...decoder.finish()], [...other.finishFaults()]], [want, want], told);
     assert.deepEqual([decoder.offset, decoder.held, other.offset, other.held], [merger.offset, 0, merger.offset, 0]);
 }
+
+each("how many bytes at the end are undecided: as many as are held", () => {
+    const chance = chances(37);
+    const inputs = [...SHORT, ...Array.from({ length: 400 }, (_, i) => (i % 2 ? damaged : units)(chance, 1 + chance(24)))];
+    for (const bytes of inputs) {
+        for (let end = 0; end <= bytes.length; end++) {
+            for (const encoding of FORMS) {
+                const [block, decoder, merger] = [bytes.subarray(0, end), new Decoder(encoding), new Merger(encoding)];
+                [...decoder.feed(block)];
+                merger.feed(block);
+                const told = `${encoding} ${hexOf(block)}`;
+                assert.deepEqual([undecidedLength(block, encoding), decoder.held], [merger.waiting.length, merger.waiting.length], told);
+                // (bytes that stand at an odd address)
+                assert.equal(undecidedLength(Uint8Array.of(1, ...block).subarray(1), encoding), merger.waiting.length, told);
+            }
+        }
+    }
+    assert.deepEqual([undecidedLength(ofHex("61e282")), undecidedLength(ofHex("61e282"), "UTF-16"), undecidedLength(new ArrayBuffer(0))], [2, 1, 0]);
+});
+
+each("blocks without what is undecided, which goes before the next one, have the pieces of the whole", () => {
+    const chance = chances(38);
+    for (let i = 0; i < 300; i++) {
+        const [encoding, bytes] = [FORMS[i % 3], (chance(2) ? damaged : units)(chance, chance(60))];
+        let [found, rest, base] = [[], [], 0];
+        const put = (len) => found.push(...[...pieces(Uint8Array.from(rest.splice(0, len)), encoding)].map((it) => [it.offset + base, it.length, it.char]));
+        for (const part of divided(chance, bytes, 9)) {
+            rest.push(...part);
+            const len = rest.length - undecidedLength(Uint8Array.from(rest), encoding);
+            put(len);
+            base += len;
+        }
+        put(rest.length);
+        assert.deepEqual(found, ofWhole(bytes, encoding).map((it) => [it.offset, it.length, it.char]), `${encoding} ${hexOf(bytes)}`);
+    }
+});
+
+each("the encoding that a byte order mark tells", () => {
+    const mark = new TextEncoder().encode("\ufeff");
+    const marks = { "utf-8": mark, "utf-16le": Uint8Array.from(Buffer.from("\ufeff", "utf16le")), "utf-16be": Uint8Array.from(Buffer.from("\ufeff", "utf16le").reverse()) };
+    for (const [encoding, bytes] of Object.entries(marks)) {
+        for (const after of [[], [0x61], [0, 0], [...bytes], Array(70_000).fill(0xff)]) {
+            const data = Uint8Array.from([...bytes, ...after]);
+            const want = { encoding, length: bytes.length };
+            assert.deepEqual(encodingOfBom(data), want);
+            assert.deepEqual(encodingOfBom(Uint8Array.of(1, ...data).subarray(1)), want);
+            const [first] = pieces(data, encoding);
+            assert.deepEqual([first.char, first.length], ["\ufeff", bytes.length]);
+        }
+        for (let len = 0; len < bytes.length; len++) assert.equal(encodingOfBom(bytes.subarray(0, len)), null);
+    }
+    const EDGE = [0, 0x41, 0xbb, 0xbe, 0xbf, 0xef, 0xfe, 0xff];
+    for (let i = 0; i < 8 ** 3; i++) {
+        const data = Uint8Array.of(EDGE[i & 7], EDGE[(i >> 3) & 7], EDGE[i >> 6]);
+        const want = Object.entries(marks).find(([, bytes]) => hexOf(data).startsWith(hexOf(bytes)))?.[0] ?? null;
+        assert.equal(encodingOfBom(data)?.encoding ?? null, want, hexOf(data));
+    }
+    assert.deepEqual(encodingOfBom(ofHex("fffe0000")), { encoding: "utf-16le", length: 2 });
+    for (const it of ["", "0000feff", "61efbbbf", "efbb", "ff", "fe"]) assert.equal(encodingOfBom(ofHex(it)), null);
+});
+
+each("ends and marks: what is refused, and other calls go on", () => {
+    for (const it of ["text", undefined, null, 5, [65]]) {
+        assert.throws(() => undecidedLength(it), { name: "TypeError", message: /bytes are a Uint8Array/ });
+        assert.throws(() => encodingOfBom(it), { name: "TypeError", message: /bytes are a Uint8Array/ });
+    }
+    assert.throws(() => undecidedLength(ofHex("41"), "latin1"), { name: "RangeError", message: /the encoding latin1/ });
+    assert.throws(() => undecidedLength(ofHex("41"), ofHex("41")), { name: "TypeError", message: /an encoding is a string/ });
+    const found = [];
+    for (const { offset } of faults(ofHex("41ff42ff43ff"))) {
+        found.push(offset, undecidedLength(ofHex("e2")), encodingOfBom(ofHex("fffe")).length);
+    }
+    assert.deepEqual(found, [1, 1, 2, 3, 1, 2, 5, 1, 2]);
+    const decoder = new Decoder("utf-8");
+    const places = [];
+    for (const { offset } of decoder.feed(ofHex("41c3a9e2"))) places.push(offset, undecidedLength(ofHex("41c3a9e2")), encodingOfBom(ofHex("41")));
+    assert.deepEqual(places, [0, 1, null, 1, 1, null]);
+});
 
 each("each short input in two and in three parts, cut at every place", () => {
     const chance = chances(31);

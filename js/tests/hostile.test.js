@@ -5,7 +5,7 @@ import { createRequire } from "node:module";
 import test from "node:test";
 import vm from "node:vm";
 import { MessageChannel, receiveMessageOnPort } from "node:worker_threads";
-import { Ends, FaultError, Recoder, boundaryAfter, boundaryBefore, charCount, decode, faults, firstFault, isValid, pieces, piecesBack, recode, recodedLength, recoderStream, streamPieces } from "noddychest";
+import { Ends, FaultError, Recoder, boundaryAfter, boundaryBefore, charCount, decode, encodingOfBom, faults, firstFault, isValid, pieces, piecesBack, recode, recodedLength, recoderStream, streamPieces, undecidedLength } from "noddychest";
 import { chances, damaged, hexOf, ofHex } from "./help.js";
 
 const GONE = { name: "TypeError", message: /^noddychest: the bytes are gone: their buffer was detached, or made smaller$/ };
@@ -108,7 +108,7 @@ test("bytes that are gone already are refused, and are not empty text", () => {
         const buffer = new ArrayBuffer(8);
         const data = give(buffer);
         detach(buffer);
-        const calls = [isValid, firstFault, charCount, decode, faults, pieces, piecesBack, (it) => boundaryBefore(it, 1), (it) => boundaryAfter(it, 1)];
+        const calls = [isValid, firstFault, charCount, decode, faults, pieces, piecesBack, (it) => boundaryBefore(it, 1), (it) => boundaryAfter(it, 1), undecidedLength, encodingOfBom];
         for (const call of [...calls, (it) => new Ends(it), (it) => recode(it, "utf8", "utf8"), (it) => recodedLength(it, "utf8", "utf8")]) {
             assert.throws(() => call(data), GONE);
         }
@@ -146,6 +146,7 @@ test("bytes of another realm", () => {
         assert.deepEqual([...pieces(far(it))].map((piece) => piece.error), [null, "NonUtf8Byte"], it);
         assert.equal(hexOf(recode(far(it), "utf8", "utf16be")), "0041fffd", it);
         assert.deepEqual([decode(far(it)).text, [...faults(far(it))].length, charCount(far(it)), boundaryBefore(far(it), 1), recodedLength(far(it), "utf8", "utf16le")], ["A\ufffd", 1, 2, 1, 4], it);
+        assert.deepEqual([undecidedLength(far(it)), undecidedLength(far(it), "utf-16le"), encodingOfBom(far(it))], [0, 0, null], it);
     }
     for (const it of ["[65]", "'text'", "({ byteLength: 2 })", "new Map()"]) assert.throws(() => isValid(far(it)), { name: "TypeError", message: /bytes are a Uint8Array/ });
 });

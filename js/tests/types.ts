@@ -1,5 +1,5 @@
 // Read by tsc alone: each call as a caller with types writes it, and what has to be refused.
-import { Decoder, Ends, FaultError, Recoder, boundaryAfter, boundaryBefore, charCount, decode, faults, firstFault, isValid, pieces, piecesBack, recode, recodedLength, recoderStream, streamFaults, streamPieces, streamText } from "noddychest";
+import { Decoder, Ends, FaultError, Recoder, boundaryAfter, boundaryBefore, charCount, decode, encodingOfBom, faults, firstFault, isValid, pieces, piecesBack, recode, recodedLength, recoderStream, streamFaults, streamPieces, streamText, undecidedLength } from "noddychest";
 import type { Encoding, ErrorName, Fault, Piece } from "noddychest";
 
 const bytes = new Uint8Array([0xe2]);
@@ -17,7 +17,9 @@ const recoder = new Recoder("utf-16be", "utf-8");
 const parts: Uint8Array[] = [recoder.feed(made), recoder.finish()];
 const replaced: number = recoder.faults;
 const listed: Fault[] = [...faults(bytes, "utf-16be")];
-const numbers: number[] = [charCount(bytes), boundaryBefore(bytes, 1, "utf-16le"), boundaryAfter(bytes, 1), recodedLength(bytes, "utf-8", "utf-16le"), listed.length];
+const numbers: number[] = [charCount(bytes), boundaryBefore(bytes, 1, "utf-16le"), boundaryAfter(bytes, 1), recodedLength(bytes, "utf-8", "utf-16le"), listed.length, undecidedLength(bytes), undecidedLength(bytes.buffer, "utf-16be")];
+const mark: { encoding: Encoding; length: number } | null = encodingOfBom(bytes);
+const marked: Piece[] = [...pieces(bytes.subarray(mark?.length ?? 0), mark?.encoding ?? "utf-8")];
 const { text, faults: wrong }: { text: string; faults: Fault[] } = decode(bytes, "utf-8", { errors: "maximal" });
 export async function read(stream: ReadableStream<Uint8Array>): Promise<string> {
     let all = text + wrong.length + numbers.join();
@@ -33,7 +35,7 @@ const inParts: Piece[] = [...decoder.feed(bytes), ...decoder.feed(bytes.buffer),
 const wrongInParts: Fault[] = [...new Decoder().feedFaults(bytes), ...decoder.finishFaults()];
 const place: number = decoder.offset + decoder.held + inParts.length + wrongInParts.length;
 const told: "utf-8" | "utf-16le" | "utf-16be" = decoder.encoding;
-console.log(place, told);
+console.log(place, told, marked);
 console.log(back, name, parts, replaced, left, isValid(bytes), recoderStream("utf-8", "utf-8").readable);
 const strict = new Recoder("utf-8", "utf-16le", { fatal: true });
 try {

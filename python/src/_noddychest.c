@@ -15,6 +15,7 @@
 #define BLOCK 256         /* pieces that cross at once */
 #define COUNTED (1 << 17) /* the bytes that are validated, and counted then */
 #define SMALL (64 * 1024) /* an input up to here gets room for the most that it can become */
+#define LONGEST_MARK 3    /* the bytes of the longest byte order mark */
 
 /* ---- bytes that are made ---- */
 
@@ -115,6 +116,35 @@ static PyObject *boundary(PyObject *module, PyObject *args) {
                                          : nody_boundary_before(form, view.buf, (size_t)view.len, (size_t)at));
     PyBuffer_Release(&view);
     return answer;
+}
+
+/* undecided_len(form, data): how many bytes at the end depend on what follows. */
+static PyObject *undecided_len(PyObject *module, PyObject *args) {
+    Py_buffer view;
+    nody_form_t form;
+    size_t len;
+    (void)module;
+    if (!PyArg_ParseTuple(args, "O&O&:undecided_len", take_form, &form, take_bytes, &view))
+        return NULL;
+    len = undecided(form, view.buf, (size_t)view.len);
+    PyBuffer_Release(&view);
+    return PyLong_FromSize_t(len);
+}
+
+/* form_of_bom(data): the form that a byte order mark tells, and the length of the mark, or None. */
+static PyObject *form_of_bom(PyObject *module, PyObject *data) {
+    Py_buffer view;
+    uint8_t front[LONGEST_MARK];
+    size_t count, len;
+    nody_form_t form = NODY_FORM_UTF8;
+    (void)module;
+    if (!take_bytes(data, &view))
+        return NULL;
+    count = view.len < LONGEST_MARK ? (size_t)view.len : LONGEST_MARK;
+    memcpy(front, view.buf, count);
+    PyBuffer_Release(&view);
+    len = nody_form_of_bom(front, count, &form);
+    return len == 0 ? Py_NewRef(Py_None) : Py_BuildValue("in", (int)form, (Py_ssize_t)len);
 }
 
 /* check(data): refuses what is no bytes-like object. */
@@ -858,6 +888,8 @@ static PyMethodDef functions[] = {{"supported", supported, METH_NOARGS, NULL},
                                   {"kind_sentence", kind_sentence, METH_O, NULL},
                                   {"fault", fault, METH_VARARGS, NULL},
                                   {"boundary", boundary, METH_VARARGS, NULL},
+                                  {"undecided_len", undecided_len, METH_VARARGS, NULL},
+                                  {"form_of_bom", form_of_bom, METH_O, NULL},
                                   {"check", check, METH_O, NULL},
                                   {"char_count", char_count, METH_VARARGS, NULL},
                                   {"counts", counts, METH_VARARGS, NULL},

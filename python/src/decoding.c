@@ -106,10 +106,7 @@ static size_t held_utf8(const uint8_t *bytes, size_t len) {
 }
 
 static size_t held(nody_form_t form, const uint8_t *bytes, size_t len) {
-    size_t half = len % 2;
-    if (form == NODY_FORM_UTF8)
-        return held_utf8(bytes, len);
-    return len < 2 || (unit_at(form, bytes + len - half - 2) & 0xFC00) != 0xD800 ? half : half + 2;
+    return form == NODY_FORM_UTF8 ? held_utf8(bytes, len) : undecided(form, bytes, len);
 }
 
 /* decode(form, data, final): the text, and how many bytes were read: what may yet become a character is left, unless no more

@@ -10,7 +10,6 @@
 #define BLOCK 256 /* pieces that cross at once, at most */
 #define HELD 3    /* the bytes that are held, at most */
 #define TOLD 3    /* so many more bytes tell each piece that begins in bytes that are held */
-#define TAIL 4    /* the bytes at the end of a part that tell what is held: three, and in UTF-16 whole units */
 
 /* What a part is asked for: its pieces, its faults alone, or what ends the input; before it is, nothing. The numbers are those of the
  * package. */

@@ -170,6 +170,13 @@ size_t valid_up_to(nody_form_t form, const uint8_t *bytes, size_t len) {
     return form == NODY_FORM_UTF16_NATIVE && (uintptr_t)bytes % 2 == 0 ? ordered_up_to(bytes, len) : unordered_up_to(form, bytes, len);
 }
 
+size_t undecided(nody_form_t form, const uint8_t *bytes, size_t len) {
+    uint8_t tail[TAIL];
+    size_t count = len < TAIL ? len : TAIL - len % 2;
+    memcpy(tail, bytes + len - count, count);
+    return nody_undecided_len(form, tail, count);
+}
+
 /* The fault at the front of some bytes, as a reader names it. */
 static nody_piece_t named(enum Reader reader, nody_form_t form, const uint8_t *bytes, size_t len) {
     return reader == STREAMED && form == NODY_FORM_UTF8 ? nody_utf8_streamed_at(bytes, len, 0) : first_piece(form, bytes, len);

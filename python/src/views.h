@@ -65,6 +65,11 @@ nody_piece_t last_piece(nody_form_t form, const uint8_t *bytes, size_t len);
 /* How far some bytes are valid. */
 size_t valid_up_to(nody_form_t form, const uint8_t *bytes, size_t len);
 
+/* How many bytes at the end depend on what follows. They are read from a copy of the last TAIL, or one less: three are enough, and in
+ * UTF-16 whole units. */
+#define TAIL 4
+size_t undecided(nody_form_t form, const uint8_t *bytes, size_t len);
+
 /* How many bytes a fault has that stands at the front of so many. */
 static inline size_t fault_len(nody_form_t form, size_t len) {
     return form == NODY_FORM_UTF8 || len < 2 ? 1 : 2;

@@ -6,7 +6,8 @@ import tempfile
 import unittest
 
 import noddychest
-from noddychest import Decoder, Ends, Recoder, boundary, char_count, faults, first_fault, is_valid, pieces, recode, recoded_len
+from noddychest import (Decoder, Ends, Recoder, boundary, char_count, encoding_of_bom, faults, first_fault, is_valid, pieces, recode,
+                        recoded_len, undecided_len)
 
 CALLS = [
     pieces,
@@ -16,6 +17,9 @@ CALLS = [
     is_valid,
     char_count,
     lambda data: boundary(data, 1),
+    undecided_len,
+    lambda data: undecided_len(data, "utf16be"),
+    encoding_of_bom,
     lambda data: faults(data, "utf16le"),
     lambda data: pieces(data, "utf16be"),
     lambda data: Ends(data, "utf16be"),
@@ -46,6 +50,7 @@ class BytesLike(unittest.TestCase):
                     self.assertEqual([*Ends(it)], [*Ends(data)])
                     self.assertEqual(first_fault(it), first_fault(data))
                     self.assertEqual((is_valid(it), char_count(it), boundary(it, 12)), (False, 11, 11))
+                    self.assertEqual((undecided_len(it), undecided_len(it, "utf16le"), encoding_of_bom(it)), (0, 1, None))
                     self.assertEqual(recode(it, "utf8", "utf16be"), recode(data, "utf8", "utf16be"))
                     self.assertEqual(Recoder("utf8", "utf8").feed(it), Recoder("utf8", "utf8").feed(data))
                     self.assertRaises(noddychest.FaultError, recode, it, "utf8", "utf16be", "strict")
@@ -58,12 +63,15 @@ class BytesLike(unittest.TestCase):
                 self.assertEqual("".join(piece.char for piece in pieces(it)), bytes(it).decode())
                 self.assertEqual((len(pieces(it)), char_count(it), boundary(it, 99)), (32, 32, 32))
                 self.assertEqual(recode(it, "utf8", "utf8"), bytes(it))
+            wide = array.array(code, b"\xff\xfe" + bytes(28) + b"\xe2\x82")
+            self.assertEqual((undecided_len(wide), encoding_of_bom(wide)), (2, ("utf-16-le", 2)))
 
     def test_empty_ones(self):
         for it in (b"", bytearray(), memoryview(b""), array.array("I"), memoryview(array.array("Q"))):
             self.assertEqual((list(pieces(it)), first_fault(it), is_valid(it), char_count(it), boundary(it, 0)), ([], None, True, 0, 0))
             self.assertEqual([recode(it, a, b) for a in ("utf8", "utf16le") for b in ("utf8", "utf16be")], [b""] * 4)
             self.assertEqual([*Ends(it), *reversed(Ends(it))], [])
+            self.assertEqual([undecided_len(it), undecided_len(it, "utf16be"), encoding_of_bom(it)], [0, 0, None])
             self.assertEqual(bytes(it).decode("noddychest-utf8"), "")
 
     def test_others_are_type_errors(self):

@@ -1,11 +1,13 @@
 """Pieces, faults and boundaries of UTF-8 and UTF-16, beside the interpreter's decoders; and faults at the speed of validation."""
+import codecs
+import itertools
 import random
 import time
 import tracemalloc
 import unittest
 
-from noddychest import (Ends, ErrorKind, boundary_after, boundary_before, char_count, faults, first_fault, is_valid, pieces, recode,
-                        recoded_len)
+from noddychest import (Decoder, Ends, ErrorKind, boundary_after, boundary_before, char_count, encoding_of_bom, faults, first_fault,
+                        is_valid, pieces, recode, recoded_len, undecided_len)
 
 import outside
 
@@ -202,6 +204,110 @@ class RecodedLen(unittest.TestCase):
                 for to in FORMS:
                     expected = len(recode(data, form, to))
                     self.assertEqual((recoded_len(data, form, to), recoded_len(bytearray(data), form, to)), (expected, expected))
+
+
+def held(data, form):
+    """How many bytes a Decoder holds that was fed these alone."""
+    decoder = Decoder(form)
+    for _ in decoder.feed(data):
+        pass
+    return len(decoder.held)
+
+
+def open_len(data, encoding):
+    """How many bytes at the end of valid data the interpreter's incremental decoder keeps."""
+    decoder = codecs.getincrementaldecoder(encoding)()
+    decoder.decode(data)
+    return len(decoder.getstate()[0])
+
+
+class Undecided(unittest.TestCase):
+    def check(self, data):
+        for form in FORMS:
+            expected = held(data, form)
+            for it in (data, bytearray(data), memoryview(b"_" + data)[1:]):
+                self.assertEqual(undecided_len(it, form), expected, (data, form))
+
+    def test_each_cut_of_short_inputs(self):
+        for size in range(5):
+            for it in itertools.product(b"A\x80\xa0\xbf\xc3\xd8\xdc\xe0\xed\xf0\xf4", repeat=size):
+                self.check(bytes(it))
+        for data in outside.inputs(600, 12, seed=36):
+            for end in range(len(data) + 1):
+                self.check(data[:end])
+
+    def test_of_text_as_the_interpreter(self):
+        source = random.Random(37)
+        for form, encoding in FORMS.items():
+            data = "".join(outside.characters(source) for _ in range(200)).encode(encoding)
+            for end in range(len(data) + 1):
+                self.assertEqual(undecided_len(data[:end], form), open_len(data[:end], encoding), (form, end))
+
+    def test_of_words(self):
+        cases = {"utf8": ["", "e2", "e282", "e28241", "eda0", "f041", "f09f98", "61f09f98", "6180", "ff"],
+                 "utf16le": ["", "3d", "3dd8", "3dd800", "3dd800de", "00de", "41003dd8", "41003dd83d"],
+                 "utf16be": ["", "d8", "d83d", "d83dde", "d83d41", "d83dde00", "de00", "0041d83d00"]}
+        expected = {"utf8": [0, 1, 2, 0, 2, 0, 3, 3, 0, 0], "utf16le": [0, 1, 2, 3, 0, 0, 2, 3], "utf16be": [0, 1, 2, 3, 3, 0, 0, 3]}
+        for form, texts_of_form in cases.items():
+            self.assertEqual([undecided_len(bytes.fromhex(it), form) for it in texts_of_form], expected[form])
+        self.assertEqual((undecided_len(b"a\xe2"), undecided_len(b"a\xe2", encoding="UTF-8")), (1, 1))
+
+    def test_blocks_join(self):
+        """What the call is for: blocks, each without its undecided end, which goes before the next one."""
+        source = random.Random(38)
+        for data in outside.inputs(300, 60, seed=39):
+            for form in FORMS:
+                found, rest, offset, size = [], b"", 0, source.randint(1, 9)
+                for at in range(0, len(data), size):
+                    rest += data[at:at + size]
+                    decided = len(rest) - undecided_len(rest, form)
+                    found += [(it.offset + offset, it.char, it.length) for it in pieces(rest[:decided], form)]
+                    rest, offset = rest[decided:], offset + decided
+                found += [(it.offset + offset, it.char, it.length) for it in pieces(rest, form)]
+                self.assertEqual(found, outside.cut(data, FORMS[form]), (data, form))
+
+    def test_long_ones_take_no_longer(self):
+        long = b"a" * 50_000_000 + b"\xe2\x82"
+        self.assertEqual(undecided_len(long), 2)
+        self.assertLess(taken(lambda: undecided_len(long)), 0.001)
+
+    def test_what_is_refused(self):
+        self.assertRaises(LookupError, undecided_len, b"", "latin-1")
+        self.assertRaises(LookupError, undecided_len, b"", None)
+        self.assertRaises(TypeError, undecided_len, "text")
+        self.assertRaises(TypeError, undecided_len)
+
+
+class Marks(unittest.TestCase):
+    MARKS = {"utf-8": codecs.BOM_UTF8, "utf-16-le": codecs.BOM_UTF16_LE, "utf-16-be": codecs.BOM_UTF16_BE}
+
+    def test_each_mark(self):
+        for encoding, mark in self.MARKS.items():
+            for after in (b"", b"a", b"\0", b"\0\0", mark, b"\xff" * 70_000):
+                for it in (mark + after, bytearray(mark + after), memoryview(b"_" + mark + after)[1:]):
+                    self.assertEqual(encoding_of_bom(it), (encoding, len(mark)))
+            self.assertEqual("\ufeff".encode(encoding), mark)
+
+    def test_names_are_taken_back(self):
+        for encoding, mark in self.MARKS.items():
+            data = mark + "né".encode(encoding)
+            told, length = encoding_of_bom(data)
+            self.assertEqual((list(pieces(data, told))[0].char, list(pieces(data, told))[0].length), ("\ufeff", length))
+            self.assertEqual((recode(data[length:], told, "utf8").decode(), data[length:].decode(told), Decoder(told).encoding), ("né", "né", told))
+
+    def test_others_have_none(self):
+        marks = tuple(self.MARKS.values())
+        for size in range(4):
+            for it in itertools.product(b"\0A\xbb\xbe\xbf\xef\xfe\xff", repeat=size):
+                data = bytes(it)
+                self.assertEqual(encoding_of_bom(data) is not None, data.startswith(marks), data)
+        for it in (codecs.BOM_UTF32_BE, b"a" + codecs.BOM_UTF8, codecs.BOM_UTF8[:2], "\ufeff".encode("utf-7"), b"\0\0\xfe\xff"):
+            self.assertIsNone(encoding_of_bom(it))
+        self.assertEqual(encoding_of_bom(codecs.BOM_UTF32_LE), ("utf-16-le", 2))
+
+    def test_what_is_refused(self):
+        self.assertRaises(TypeError, encoding_of_bom, "\ufeff")
+        self.assertRaises(TypeError, encoding_of_bom)
 
 
 class Maximal(unittest.TestCase):

@@ -30,11 +30,13 @@ from ._pieces import (
     boundary_after,
     boundary_before,
     char_count,
+    encoding_of_bom,
     faults,
     first_fault,
     is_valid,
     offsets,
     pieces,
+    undecided_len,
 )
 from ._recoding import Recoder, recode, recoded_len
 from ._shards import ChangedError, Counts, Faults, Recoded, Shard, faults_array, shards
@@ -58,6 +60,7 @@ __all__ = [
     "boundary_after",
     "boundary_before",
     "char_count",
+    "encoding_of_bom",
     "faults",
     "faults_array",
     "first_fault",
@@ -69,6 +72,7 @@ __all__ = [
     "shards",
     "stream_faults",
     "stream_pieces",
+    "undecided_len",
 ]
 
 for _it in (ChangedError, Counts, Decoder, Ends, ErrorKind, FaultError, Faults, Piece, Pieces, Recoded, Recoder, Shard):

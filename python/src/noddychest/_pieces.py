@@ -9,7 +9,7 @@ from collections.abc import Iterator, Sequence
 from typing import TYPE_CHECKING, NamedTuple, Optional, Union, overload
 
 from . import _noddychest
-from ._names import form_of
+from ._names import STANDARD, form_of
 
 if TYPE_CHECKING:
     from _typeshed import ReadableBuffer
@@ -286,6 +286,39 @@ def boundary_after(data: ReadableBuffer, at: int, encoding: str = "utf8") -> int
     5
     """
     return _noddychest.boundary(form_of(encoding), data, operator.index(at), True)
+
+
+def undecided_len(data: ReadableBuffer, encoding: str = "utf8") -> int:
+    """How many bytes at the end of a block depend on the bytes that follow, 0 to 3. Keep them back, and put them before the next block: it
+    is how many bytes a `Decoder` holds that was fed the block. All pieces before them are known, with the reasons that a Decoder gives. If
+    no byte follows, they are all invalid.
+
+    data: any bytes-like object, which begins where a character may begin. encoding: its encoding.
+    Errors: LookupError for an unknown encoding, TypeError for what is no data.
+    Cost: the same for each length. It looks at the last four bytes.
+
+    >>> undecided_len(b"a\xe2\x82"), undecided_len(b"a\xe2\x82\xac"), undecided_len(b"a\0\x3d\xd8\0", "utf16le")
+    (2, 0, 3)
+    """
+    return _noddychest.undecided_len(form_of(encoding), data)
+
+
+def encoding_of_bom(data: ReadableBuffer) -> Optional[tuple[str, int]]:
+    """The encoding that a byte order mark at the front tells, and the length of the mark in bytes. None if no mark begins the data. Other
+    calls do not look for a mark, and take it for the character U+FEFF.
+
+    data: any bytes-like object; its first three bytes are enough.
+    Result: `("utf-8", 3)`, `("utf-16-le", 2)` or `("utf-16-be", 2)`: names that this package and Python's own codecs take. Little-endian
+    UTF-32 begins with the mark of UTF-16, and is taken for that.
+    Errors: TypeError for what is no data. Cost: the same for each length.
+
+    >>> data = b"\xff\xfea\0"
+    >>> encoding, mark = encoding_of_bom(data) or ("utf8", 0)
+    >>> encoding, mark, [piece.char for piece in pieces(data[mark:], encoding)]
+    ('utf-16-le', 2, ['a'])
+    """
+    found = _noddychest.form_of_bom(data)
+    return None if found is None else (STANDARD[found[0]], found[1])
 
 
 def boundary(data: ReadableBuffer, at: int) -> int:
