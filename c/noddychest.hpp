@@ -4,9 +4,11 @@
 //
 // CALLS, all in the namespace nody.
 //     all pieces   pieces, pieces_back: ranges for `for`, over UTF-8 (std::string_view) or units of UTF-16 (std::u16string_view)
+//     all faults   faults: the same ranges without the characters
 //     valid?       is_valid, valid_up_to, first_fault
 //     count        char_count
-//     divide       boundary_before, boundary_after
+//     divide       boundary_before, boundary_after, undecided_len
+//     which form   form_of_bom
 //     recode       recode, recode_strict, to_utf8, to_utf16, recoded_len
 //     in parts     recoder
 //     words        name, sentence
@@ -98,6 +100,12 @@ struct fault {
     nody::kind kind = nody::kind::ok;
 };
 
+// A byte order mark: the form that it tells, and its length in bytes.
+struct bom {
+    nody::form form = nody::form::utf8;
+    std::size_t length = 0;
+};
+
 // Text in bytes, whatever type it has.
 class bytes {
 public:
@@ -134,6 +142,11 @@ struct utf8 {
     static cursor open(view text) noexcept { return nody_bytes(reinterpret_cast<const std::uint8_t *>(text.data()), text.size()); }
     static nody_piece_t next(cursor *left) noexcept { return nody_utf8_next(left); }
     static nody_piece_t next_back(cursor *left) noexcept { return nody_utf8_next_back(left); }
+    static void pass_text(cursor *left) noexcept {
+        std::size_t len = nody_utf8_valid_up_to(left->bytes, left->len);
+        left->bytes += len;
+        left->len -= len;
+    }
 };
 
 struct utf16 {
@@ -143,14 +156,29 @@ struct utf16 {
     static cursor open(view text) noexcept { return nody_units(reinterpret_cast<const std::uint16_t *>(text.data()), text.size()); }
     static nody_piece_t next(cursor *left) noexcept { return nody_utf16_next(left); }
     static nody_piece_t next_back(cursor *left) noexcept { return nody_utf16_next_back(left); }
+    static void pass_text(cursor *left) noexcept {
+        std::size_t len = nody_utf16_valid_up_to(left->units, left->len);
+        left->units += len;
+        left->len -= len;
+    }
 };
+
+// Which pieces a range has, and from which end it takes them.
+enum class way { front, back, faults };
+
+template <class Code, way taken> nody_piece_t take(typename Code::cursor *left) noexcept {
+    nody_piece_t here = taken == way::back ? Code::next_back(left) : Code::next(left);
+    if (taken != way::faults || here.kind != NODY_KIND_OK) return here;
+    Code::pass_text(left);
+    return Code::next(left);
+}
 
 inline piece at(const nody_piece_t &it, std::size_t offset) noexcept {
     return {offset, it.len, static_cast<char32_t>(it.scalar), static_cast<kind>(it.kind)};
 }
 
 // A place in a range of pieces, which holds the piece that is there.
-template <class Code, bool is_back> class iterator {
+template <class Code, way taken> class iterator {
 public:
     using iterator_category = std::input_iterator_tag;
 #ifdef NODY_HAS_SPAN
@@ -180,19 +208,19 @@ public:
 
 private:
     void take() noexcept {
-        nody_piece_t here = is_back ? Code::next_back(&left_) : Code::next(&left_);
-        piece_ = at(here, is_back ? left_.len : whole_ - left_.len - here.len);
+        nody_piece_t here = detail::take<Code, taken>(&left_);
+        piece_ = at(here, taken == way::back ? left_.len : whole_ - left_.len - here.len);
     }
     typename Code::cursor left_;
     std::size_t whole_;
     piece piece_;
 };
 
-template <class Code, bool is_back> class range {
+template <class Code, way taken> class range {
 public:
     explicit range(typename Code::view text) noexcept : text_(text) {}
-    iterator<Code, is_back> begin() const noexcept { return iterator<Code, is_back>(text_); }
-    iterator<Code, is_back> end() const noexcept { return {}; }
+    iterator<Code, taken> begin() const noexcept { return iterator<Code, taken>(text_); }
+    iterator<Code, taken> end() const noexcept { return {}; }
 
 private:
     typename Code::view text_;
@@ -211,16 +239,26 @@ template <class Text, class String> using if_temporary = std::enable_if_t<std::i
 //         if (!it.is_ok()) report(it.offset, nody::sentence(it.kind));
 //
 // A temporary string is refused: the range has only a view of it.
-inline detail::range<detail::utf8, false> pieces(std::string_view text) noexcept { return detail::range<detail::utf8, false>(text); }
-inline detail::range<detail::utf16, false> pieces(std::u16string_view text) noexcept { return detail::range<detail::utf16, false>(text); }
+inline detail::range<detail::utf8, detail::way::front> pieces(std::string_view text) noexcept { return detail::range<detail::utf8, detail::way::front>(text); }
+inline detail::range<detail::utf16, detail::way::front> pieces(std::u16string_view text) noexcept { return detail::range<detail::utf16, detail::way::front>(text); }
 template <class Text, class = detail::if_temporary<Text, std::string>> void pieces(Text &&) = delete;
 template <class Text, class = detail::if_temporary<Text, std::u16string>, class = void> void pieces(Text &&) = delete;
 
 // The same pieces from the back. Where a fault lies is the same; its kind is judged without the bytes after it.
-inline detail::range<detail::utf8, true> pieces_back(std::string_view text) noexcept { return detail::range<detail::utf8, true>(text); }
-inline detail::range<detail::utf16, true> pieces_back(std::u16string_view text) noexcept { return detail::range<detail::utf16, true>(text); }
+inline detail::range<detail::utf8, detail::way::back> pieces_back(std::string_view text) noexcept { return detail::range<detail::utf8, detail::way::back>(text); }
+inline detail::range<detail::utf16, detail::way::back> pieces_back(std::u16string_view text) noexcept { return detail::range<detail::utf16, detail::way::back>(text); }
 template <class Text, class = detail::if_temporary<Text, std::string>> void pieces_back(Text &&) = delete;
 template <class Text, class = detail::if_temporary<Text, std::u16string>, class = void> void pieces_back(Text &&) = delete;
+
+// The faults alone, from the front: the pieces that are no characters, with the same offsets and kinds. Text between them is passed as fast
+// as it is validated, and no further than to the fault that is asked for.
+// (where much is invalid, nody_utf8_faults of noddychest.h is faster: it fills an array)
+//
+//     for (const nody::piece &it : nody::faults(text)) report(it.offset, nody::sentence(it.kind));
+inline detail::range<detail::utf8, detail::way::faults> faults(std::string_view text) noexcept { return detail::range<detail::utf8, detail::way::faults>(text); }
+inline detail::range<detail::utf16, detail::way::faults> faults(std::u16string_view text) noexcept { return detail::range<detail::utf16, detail::way::faults>(text); }
+template <class Text, class = detail::if_temporary<Text, std::string>> void faults(Text &&) = delete;
+template <class Text, class = detail::if_temporary<Text, std::u16string>, class = void> void faults(Text &&) = delete;
 
 // ---- Whether text is valid
 
@@ -275,6 +313,25 @@ inline std::size_t boundary_before(std::u16string_view text, std::size_t offset)
 }
 inline std::size_t boundary_after(std::u16string_view text, std::size_t offset) noexcept {
     return nody_utf16_boundary_after(reinterpret_cast<const std::uint16_t *>(text.data()), text.size(), offset);
+}
+
+// How many bytes at the end of some bytes, at most three, depend on the bytes that follow. Keep them back of a block of a large input, and
+// put them before the next block. noddychest.h says which they are. The text should begin at a boundary.
+//
+//     std::size_t whole = block.size() - nody::undecided_len(nody::form::utf8, block);
+inline std::size_t undecided_len(form from, bytes text) noexcept { return nody_undecided_len(detail::c(from), text.data(), text.size()); }
+
+// ---- Which form
+
+// The byte order mark that begins the bytes, or nothing where none does. Little-endian UTF-32 is taken for UTF-16, whose mark it begins with.
+//
+//     nody::bom mark = nody::form_of_bom(text).value_or(nody::bom{}); // (where there is none, UTF-8)
+//     text.remove_prefix(mark.length);
+inline std::optional<bom> form_of_bom(bytes text) noexcept {
+    nody_form_t told = NODY_FORM_UTF8;
+    std::size_t len = nody_form_of_bom(text.data(), text.size(), &told);
+    if (len == 0) return std::nullopt;
+    return bom{static_cast<form>(told), len};
 }
 
 // ---- Recoding
@@ -478,8 +535,8 @@ inline std::uint32_t version() noexcept { return nody_version(); }
 } // namespace nody
 
 #ifdef NODY_HAS_SPAN
-template <class Code, bool is_back> inline constexpr bool std::ranges::enable_borrowed_range<nody::detail::range<Code, is_back>> = true;
-template <class Code, bool is_back> inline constexpr bool std::ranges::enable_view<nody::detail::range<Code, is_back>> = true;
+template <class Code, nody::detail::way taken> inline constexpr bool std::ranges::enable_borrowed_range<nody::detail::range<Code, taken>> = true;
+template <class Code, nody::detail::way taken> inline constexpr bool std::ranges::enable_view<nody::detail::range<Code, taken>> = true;
 #undef NODY_HAS_SPAN
 #endif
 

@@ -18,19 +18,13 @@ static bool is_trailing(uint16_t unit) {
     return (unit & 0xFC00) == 0xDC00;
 }
 
-/* How many bytes decide what a piece is, by its first. */
-static size_t deciding_len(uint8_t first) {
-    if (first < 0xC2 || first > 0xF4) return 1;
-    return first < 0xE0 ? 2 : first < 0xF0 ? 3 : 4;
-}
-
 /* How many bytes at the end, at most three, are pieces that later bytes may change: characters that are not complete, and invalid
- * bytes whose kind depends on what follows. */
+ * bytes whose kind depends on what follows. (nody_undecided_len keeps nothing of F0 41, since a decoder names F0 at once; by nody_utf8_first
+ * it has another kind at the end of the input, and this program tells kinds by that) */
 size_t undecided_len(nody_form_t form, const uint8_t *bytes, size_t len) {
-    size_t odd = len % 2;
-    if (form != NODY_FORM_UTF8) return len >= 2 && is_leading(unit_at(form, bytes + len - odd - 2)) ? 2 + odd : odd;
+    if (form != NODY_FORM_UTF8) return nody_undecided_len(form, bytes, len);
     for (size_t left = len < MOST_HELD ? len : MOST_HELD; left > 0; left--)
-        if (deciding_len(bytes[len - left]) > left) return left;
+        if (nody_utf8_first(bytes + len - left, left).kind == NODY_KIND_TOO_FEW_BYTES) return left;
     return 0;
 }
 
@@ -107,19 +101,4 @@ size_t count_line_feeds(nody_form_t form, const uint8_t *bytes, size_t len) {
     if (form == NODY_FORM_UTF8) return count_bytes(bytes, len, '\n');
     for (size_t i = 0; i + 1 < len; i += 2) count += unit_at(form, bytes + i) == '\n';
     return count;
-}
-
-/* The length of the byte order mark that the input begins with, and its form; 0 where there is none. */
-size_t form_of_bom(const uint8_t *bytes, size_t len, nody_form_t *form) {
-    static const struct {
-        nody_form_t form;
-        uint8_t len;
-        uint8_t bytes[3];
-    } marks[] = {{NODY_FORM_UTF8, 3, {0xEF, 0xBB, 0xBF}}, {NODY_FORM_UTF16LE, 2, {0xFF, 0xFE, 0}}, {NODY_FORM_UTF16BE, 2, {0xFE, 0xFF, 0}}};
-    for (size_t i = 0; i < sizeof marks / sizeof *marks; i++)
-        if (len >= marks[i].len && memcmp(bytes, marks[i].bytes, marks[i].len) == 0) {
-            *form = marks[i].form;
-            return marks[i].len;
-        }
-    return 0;
 }

@@ -150,7 +150,7 @@ static void jump(struct source *source, uint64_t offset) {
     if (origin < 0 || size < (uint64_t)origin || offset <= BEFORE || offset >= size - (uint64_t)origin) return;
     ssize_t count = source->is_by_bom ? pread(source->file, front, sizeof front, origin) : 0;
     if (count < 0 || lseek(source->file, origin + (off_t)begin, SEEK_SET) < 0) return;
-    form_of_bom(front, (size_t)count, &source->form);
+    nody_form_of_bom(front, (size_t)count, &source->form);
     source->is_by_bom = false;
     source->at = begin;
 }

@@ -125,7 +125,6 @@ nody_piece_t piece_at(nody_form_t form, const uint8_t *bytes, size_t len);
 size_t valid_up_to(nody_form_t form, const uint8_t *bytes, size_t len);
 size_t count_pieces(nody_form_t form, const uint8_t *bytes, size_t len);
 size_t count_line_feeds(nody_form_t form, const uint8_t *bytes, size_t len);
-size_t form_of_bom(const uint8_t *bytes, size_t len, nody_form_t *form);
 
 /* A place in text, from that of a block's front: so many lines, and then so many pieces in the line. */
 struct place {

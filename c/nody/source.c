@@ -74,7 +74,7 @@ static void fill(struct source *source, struct block *block) {
     while (block->end == 0 && !source->has_ended) {
         block->len += read_some(source, block->bytes + block->len, BLOCK, source->at + block->len);
         if (block->len < least && !source->has_ended) continue;
-        if (least == 3) block->mark = form_of_bom(block->bytes, block->len, &source->form);
+        if (least == 3) block->mark = nody_form_of_bom(block->bytes, block->len, &source->form);
         block->end = block->len - (source->has_ended ? 0 : undecided_len(source->form, block->bytes, block->len));
     }
 }
@@ -118,7 +118,7 @@ void read_apart(struct source *source) {
     source->origin = lseek(source->file, 0, SEEK_CUR);
     source->is_apart = source->origin >= 0 && size_of_source(source) > (uint64_t)source->origin + STRIDE && source->at == 0;
     if (!source->is_apart || !source->is_by_bom) return;
-    source->mark = form_of_bom(front, read_at(source, front, sizeof front, 0, &error), &source->form);
+    source->mark = nody_form_of_bom(front, read_at(source, front, sizeof front, 0, &error), &source->form);
 }
 
 /* Reads a block by its number: it is cut at two offsets that are strides apart, and has what decides its last pieces. */

@@ -24,18 +24,22 @@ static_assert(!std::is_copy_constructible_v<nody::recoder> && !std::is_copy_assi
 static_assert(std::is_nothrow_move_constructible_v<nody::recoder> && std::is_nothrow_move_assignable_v<nody::recoder>);
 static_assert(noexcept(nody::is_valid(""sv)) && noexcept(nody::first_fault(u""sv)) && noexcept(nody::pieces(""sv)) && noexcept(nody::char_count(""sv)));
 static_assert(noexcept(++nody::pieces(""sv).begin()) && noexcept(nody::boundary_before(nody::form::utf8, ""sv, 0)));
+static_assert(noexcept(nody::faults(u""sv).begin()) && noexcept(nody::form_of_bom(""sv)) && noexcept(nody::undecided_len(nody::form::utf8, ""sv)));
 static_assert(std::is_same_v<decltype(nody::first_fault(""sv)), std::optional<nody::piece>>);
 
-// Whether pieces takes a text of that type.
+// Whether pieces and faults take a text of that type.
 template <class Text, class = void> struct takes : std::false_type {};
-template <class Text> struct takes<Text, std::void_t<decltype(nody::pieces(std::declval<Text>()))>> : std::true_type {};
+template <class Text> struct takes<Text, std::void_t<decltype(nody::pieces(std::declval<Text>())), decltype(nody::faults(std::declval<Text>()))>> : std::true_type {};
+template <class Text, class = void> struct lists : std::false_type {};
+template <class Text> struct lists<Text, std::void_t<decltype(nody::faults(std::declval<Text>()))>> : std::true_type {};
 static_assert(takes<std::string &>::value && takes<std::string_view>::value && takes<const char *>::value && takes<std::u16string &>::value);
-static_assert(!takes<std::string>::value && !takes<std::u16string>::value);
+static_assert(!takes<std::string>::value && !takes<std::u16string>::value && !lists<std::string>::value && !lists<std::u16string>::value);
 
 #if __cplusplus >= 202002L
 #include <ranges>
 #include <span>
 static_assert(std::ranges::forward_range<decltype(nody::pieces(""sv))> && std::ranges::borrowed_range<decltype(nody::pieces_back(u""sv))>);
+static_assert(std::ranges::forward_range<decltype(nody::faults(u""sv))> && std::ranges::borrowed_range<decltype(nody::faults(""sv))>);
 
 static void try_spans() {
     const unsigned char raw[] = {'a', 0xFF};
@@ -44,6 +48,8 @@ static void try_spans() {
     expect(nody::valid_up_to(nody::form::utf8, std::span(raw)) == 1, "a span of unsigned char");
     expect(nody::is_valid(nody::form::utf8, std::span(blank)) && nody::is_valid(nody::form::utf8, std::span<const char>(chars)), "spans of bytes and of char");
     expect(nody::is_valid(nody::form::utf8, u8"\u00E9"sv), "a u8string_view");
+    expect(!nody::form_of_bom(std::span(raw)) && nody::undecided_len(nody::form::utf16le, std::span(raw).first(1)) == 1, "a mark, and an end, of spans");
+    expect(std::ranges::distance(nody::faults("a\xFF" "b\xFE"sv)) == 2, "an algorithm of ranges over faults");
 #if !defined(__clang__) || __clang_major__ >= 16 // (before that clang does not compile the views of libstdc++)
     auto wrong = nody::pieces("a\xFF" "b\xFE"sv) | std::views::filter([](const nody::piece &it) { return !it.is_ok(); });
     expect(std::ranges::distance(wrong) == 2, "views over pieces");
@@ -93,6 +99,47 @@ static void try_single() {
     expect(nody::boundary_before(u"\U0001F600", 1) == 0 && nody::boundary_after(u"\U0001F600", 1) == 2, "boundaries of units");
     expect(nody::name(nody::kind::overlong_encoding) == "OverlongEncoding" && nody::sentence(nody::kind::ok) == "a character", "name and sentence");
     expect(nody::supported() && nody::version() == NODY_VERSION, "supported and version");
+}
+
+static void try_faults() {
+    std::string text = "h\xC3\xA9\xE2\x82" + std::string(1000, 'A') + "\xF0\x9F";
+    const std::vector<nody::piece> want = {{3, 1, 0, nody::kind::interrupted_sequence}, {4, 1, 0, nody::kind::unexpected_continuation_byte},
+                                           {1005, 1, 0, nody::kind::too_few_bytes}, {1006, 1, 0, nody::kind::unexpected_continuation_byte}};
+    std::vector<nody::piece> found;
+    for (const nody::piece &it : nody::faults(text)) found.push_back(it);
+    expect(found == want, "faults");
+    auto none = nody::faults(""sv), valid = nody::faults("na\xC3\xAFve"sv), empty = nody::faults(std::string_view());
+    expect(none.begin() == none.end() && valid.begin() == valid.end() && empty.begin() == empty.end(), "faults of nothing, and of what is valid");
+    const char16_t units[] = {0x41, 0xD800, 0x42, 0xD83D, 0xDE00, 0xDC00, 0x43, 0xD801};
+    const std::vector<nody::piece> want_wide = {{1, 1, 0, nody::kind::unmatched_leading_surrogate}, {5, 1, 0, nody::kind::unexpected_trailing_surrogate},
+                                                {7, 1, 0, nody::kind::incomplete}};
+    std::vector<nody::piece> wide;
+    for (const nody::piece &it : nody::faults(std::u16string_view(units, 8))) wide.push_back(it);
+    expect(wide == want_wide, "faults of units");
+    auto first = nody::faults(text).begin(), second = first++;
+    expect(second->offset == 3 && first->offset == 4 && first != second && second == nody::faults(text).begin(), "two places of faults");
+}
+
+static void try_marks() {
+    using nody::form;
+    auto tells = [](std::string_view text, form want, std::size_t len) {
+        std::optional<nody::bom> mark = nody::form_of_bom(text);
+        return mark && mark->form == want && mark->length == len;
+    };
+    expect(tells("\xEF\xBB\xBF", form::utf8, 3) && tells("\xEF\xBB\xBF\xFF\xFE", form::utf8, 3), "the mark of UTF-8");
+    expect(tells("\xFF\xFE", form::utf16le, 2) && tells("\xFF\xFE\0\0"sv, form::utf16le, 2) && tells("\xFE\xFF" "a", form::utf16be, 2), "the marks of UTF-16");
+    for (std::string_view it : {""sv, "a"sv, "\xEF"sv, "\xEF\xBB"sv, "\xEF\xBB\xBE"sv, "\xFF"sv, "\xFE\xFE"sv, "a\xFF\xFE"sv}) expect(!nody::form_of_bom(it), "no mark");
+    expect(!nody::form_of_bom({}) && nody::form_of_bom({}).value_or(nody::bom{}).length == 0, "no mark of nothing");
+}
+
+static void try_undecided() {
+    using nody::form;
+    expect(nody::undecided_len(form::utf8, "a\xE2\x82") == 2 && nody::undecided_len(form::utf8, "a\xE2\x82\xAC") == 0, "the front of a character");
+    expect(nody::undecided_len(form::utf8, "\xF0\x9F\x98") == 3 && nody::undecided_len(form::utf8, "\xED\xA0") == 2, "three bytes, and those of a surrogate");
+    expect(nody::undecided_len(form::utf8, "\xF0" "A") == 0 && nody::undecided_len(form::utf8, "\xFF") == 0 && nody::undecided_len(form::utf8, {}) == 0, "what is decided");
+    expect(nody::undecided_len(form::utf16le, "a\0\x3D\xD8"s) == 2 && nody::undecided_len(form::utf16be, "\0a\xD8\x3D\xDE"s) == 3 &&
+               nody::undecided_len(form::utf16be, "\0a\0"s) == 1 && nody::undecided_len(form::utf16le, "\0\xDC"s) == 0, "what is undecided of UTF-16");
+    expect(nody::undecided_len(static_cast<form>(3), "a") == SIZE_MAX, "a form that there is none of");
 }
 
 static void try_recode() {
@@ -155,6 +202,25 @@ static void try_strict_recoder() {
 
 // ---- Random bytes: the ranges beside the calls, and parts beside the whole
 
+static std::vector<nody::piece> faults_by_c(std::string_view text) {
+    std::vector<nody::piece> found;
+    nody_bytes_t left = nody_bytes(reinterpret_cast<const std::uint8_t *>(text.data()), text.size());
+    nody_located_t room[3];
+    std::uint64_t offset = 0;
+    while (std::size_t count = nody_utf8_faults(&left, &offset, room, 3))
+        for (std::size_t i = 0; i < count; i++) found.push_back({static_cast<std::size_t>(room[i].offset), room[i].len, 0, static_cast<nody::kind>(room[i].kind)});
+    return found;
+}
+
+// How many bytes a decoder holds that was fed the text.
+static std::size_t held_by_c(std::string_view text) {
+    nody_decoder_t decoder = nody_decoder(NODY_FORM_UTF8);
+    nody_located_t room[100];
+    std::size_t read, written;
+    nody_status_t status = nody_decoder_feed(&decoder, reinterpret_cast<const std::uint8_t *>(text.data()), text.size(), room, 100, &read, &written);
+    return status == NODY_STATUS_DONE ? text.size() - static_cast<std::size_t>(decoder.offset) : SIZE_MAX;
+}
+
 static void try_random() {
     std::mt19937 random(11);
     auto below = [&](unsigned most) { return static_cast<unsigned>(random() % most); };
@@ -185,6 +251,11 @@ static void try_random() {
         auto fault = nody::first_fault(text);
         auto found = std::find_if(front.begin(), front.end(), [](const nody::piece &it) { return !it.is_ok(); });
         expect(fault ? found != front.end() && *fault == *found : found == front.end(), "the first fault of random bytes");
+        front.erase(std::remove_if(front.begin(), front.end(), [](const nody::piece &it) { return it.is_ok(); }), front.end());
+        auto faults = nody::faults(text);
+        expect(std::equal(faults.begin(), faults.end(), front.begin(), front.end()), "the faults of random bytes");
+        expect(front == faults_by_c(text), "the faults of random bytes, by nody_utf8_faults");
+        expect(nody::undecided_len(nody::form::utf8, text) == held_by_c(text), "what is undecided of random bytes");
     }
 }
 
@@ -192,6 +263,9 @@ int main() {
     try_spans();
     try_pieces();
     try_single();
+    try_faults();
+    try_marks();
+    try_undecided();
     try_recode();
     try_recoder();
     try_strict_recoder();

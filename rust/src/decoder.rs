@@ -153,3 +153,21 @@ fn put(block: &[cuts::LocatedPiece], room: &mut [Piece<u64>]) {
         *place = Piece::of(piece);
     }
 }
+
+/// How many bytes at the end, at most three, depend on the bytes that follow: as many as a [`Decoder`] holds that was fed just these. Keep
+/// them back of a block of a large input, and put them before the next block. All pieces before them are known; if nothing follows, all of
+/// them are invalid.
+///
+/// The kinds are those of a decoder: of `F0 41` the first byte is interrupted whatever follows, so that none depends. `bytes` should begin at
+/// a boundary. What it costs does not depend on their number.
+///
+/// ```
+/// use noddychest::{undecided_len, Form};
+/// assert_eq!(undecided_len(Form::Utf8, b"a\xE2\x82"), 2);
+/// assert_eq!(undecided_len(Form::Utf8, b"a\xF0A"), 0);
+/// assert_eq!(undecided_len(Form::Utf16Le, b"a\0\x3D\xD8"), 2);
+/// ```
+#[must_use]
+pub fn undecided_len(form: Form, bytes: &[u8]) -> usize {
+    cuts::undecided_len(form.proved(), bytes)
+}

@@ -89,12 +89,12 @@ pub mod units;
 pub use bytes::{
     boundary_after, boundary_before, char_count, faults, first, last, pieces, streamed_at, valid_up_to, Faults, Pieces,
 };
-pub use decoder::Decoder;
+pub use decoder::{undecided_len, Decoder};
 pub use fault::{Fault, FaultKind};
 pub use piece::Piece;
 #[cfg(feature = "alloc")]
 pub use recode::{decode, decode_lossy, decode_strict, recode, recode_lossy, recode_strict, try_recode};
-pub use recoder::{recoded_len_max, shard_end, Form, Progress, Recoder, Status, UnknownForm};
+pub use recoder::{form_of_bom, recoded_len_max, shard_end, Form, Progress, Recoder, Status, UnknownForm};
 pub use support::alloc::AllocError;
 #[cfg(feature = "alloc")]
 pub use table::{PieceTable, TablePieces};

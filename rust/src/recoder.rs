@@ -26,7 +26,7 @@ use crate::Fault;
 pub enum Form {
     /// UTF-8.
     Utf8 = 0,
-    /// UTF-16, little-endian. No byte order mark is looked for, and none is added.
+    /// UTF-16, little-endian. [`form_of_bom`] alone looks for a byte order mark, and nothing adds one.
     Utf16Le = 1,
     /// UTF-16, big-endian, likewise.
     Utf16Be = 2,
@@ -117,6 +117,25 @@ impl core::str::FromStr for Form {
         let is_named = |names: &[&str]| names.iter().any(|it| it.eq_ignore_ascii_case(label));
         LABELS.into_iter().find(|it| is_named(it.1)).map(|it| it.0).ok_or(UnknownForm(()))
     }
+}
+
+/// The form that a byte order mark at the front tells, and how many bytes the mark has; `None` where the bytes begin with none. The first
+/// three bytes are enough.
+///
+/// UTF-8 has `EF BB BF`, little-endian UTF-16 `FF FE`, and big-endian UTF-16 `FE FF`. Little-endian UTF-32 begins with `FF FE` too, and is
+/// taken for UTF-16.
+///
+/// ```
+/// use noddychest::{decode, form_of_bom, Form};
+///
+/// let bytes = b"\xFE\xFF\0h\0i";
+/// let (form, mark) = form_of_bom(bytes).unwrap_or((Form::Utf8, 0));
+/// assert_eq!((form, mark), (Form::Utf16Be, 2));
+/// assert_eq!(decode(form, &bytes[mark..]), "hi");
+/// ```
+#[must_use]
+pub fn form_of_bom(bytes: &[u8]) -> Option<(Form, usize)> {
+    cuts::form_of_bom(bytes).map(|(form, len)| (Form::of(form), len))
 }
 
 /// How a call of a [`Recoder`] or a [`Decoder`](crate::Decoder) ended.

@@ -115,6 +115,48 @@ fn byte_by_byte_as_a_merger() {
     }
 }
 
+/// What a decoder holds that was fed the bytes.
+fn held_of(form: Form, bytes: &[u8]) -> usize {
+    let mut decoder = Decoder::new(form);
+    let did = decoder.feed(bytes, &mut vec![blank(); bytes.len()]);
+    assert_eq!((did.read, did.status), (bytes.len(), Status::Done));
+    decoder.held().len()
+}
+
+#[test]
+fn what_is_undecided_is_what_a_decoder_holds() {
+    let mut chance = Chance(15);
+    for _ in 0..20_000 {
+        for form in Form::ALL {
+            let bytes = text_of(form, &mut chance, 10);
+            for block in (0..=bytes.len()).map(|len| &bytes[..len]) {
+                assert_eq!(noddychest::undecided_len(form, block), held_of(form, block), "{form} {block:x?}");
+            }
+        }
+    }
+    let long = [&b"a".repeat(100_000)[..], b"\xF0\x9F\x98"].concat();
+    assert_eq!(noddychest::undecided_len(Form::Utf8, &long), 3);
+}
+
+/// A block without its undecided end has the pieces that the whole has there, whatever the rest is.
+#[test]
+fn what_is_decided_stays() {
+    let mut chance = Chance(16);
+    for _ in 0..2_000 {
+        for form in Form::ALL {
+            let bytes = text_of(form, &mut chance, 10);
+            let want = of_form(form, &bytes, End::OfParts);
+            for len in 0..=bytes.len() {
+                let whole = len - noddychest::undecided_len(form, &bytes[..len]);
+                let mut have = of_form(form, &bytes[..len], End::OfParts);
+                have.retain(|it| it.0 < whole);
+                assert_eq!(have, want[..have.len()], "{form} {len} {bytes:x?}");
+                assert_eq!(have.last().map_or(0, |it| it.0 + it.1), whole);
+            }
+        }
+    }
+}
+
 #[test]
 fn rooms_without_a_place() {
     let mut decoder = Decoder::new(Form::Utf8);

@@ -88,3 +88,18 @@ fn forms_have_labels() {
         assert!(name.parse::<Form>().is_err(), "{name}");
     }
 }
+
+#[test]
+fn marks_tell_the_form() {
+    let marks: [(&[u8], Form); 3] = [(b"\xEF\xBB\xBF", Form::Utf8), (b"\xFF\xFE", Form::Utf16Le), (b"\xFE\xFF", Form::Utf16Be)];
+    for (mark, form) in marks {
+        assert_eq!(noddychest::form_of_bom(mark), Some((form, mark.len())));
+        assert_eq!(noddychest::form_of_bom(&[mark, &b"\0\0a"[..]].concat()), Some((form, mark.len())), "{form}");
+        assert_eq!(noddychest::form_of_bom(&[mark, mark].concat()), Some((form, mark.len())), "{form}");
+        assert_eq!(noddychest::form_of_bom(&mark[..mark.len() - 1]), None, "{form}");
+        assert_eq!(noddychest::form_of_bom(&[&b"a"[..], mark].concat()), None, "{form}");
+    }
+    for other in [&b""[..], b"a", b"\xEF\xBB\xBE", b"\xEF\xBF\xBB", b"\xFF\xFF", b"\xFE\xFE", b"\0\0\xFE\xFF", b"+/v8"] {
+        assert_eq!(noddychest::form_of_bom(other), None, "{other:x?}");
+    }
+}
