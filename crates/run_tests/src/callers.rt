@@ -237,26 +237,35 @@ fn is_same(answer: Result<Utf8Char, Utf8Error>, wanted: Result<char, Utf8ErrorKi
     }
 }
 
-// Whether two shards have these pieces: the first is given with the three bytes after it, and what begins in those is left out.
-fn shards_have(bytes: &[u8], at: usize, wanted: &[Wanted]) -> bool {
+// The piece with this number of two shards: the first is given with the three bytes after it, and what begins in those is left
+// out.
+fn piece_of_shards(
+    bytes: &[u8],
+    at: usize,
+    number: usize,
+) -> Option<(usize, Result<Utf8Char, Utf8Error>, usize)> {
     let end = shard_end(Form::Utf8, bytes, at);
-    let more = bytes.len().min(end.saturating_add(3));
-    let mut first = bytes[..more].utf8char_indices();
-    let mut second = bytes[end..].utf8char_indices();
-    for (place, what, len) in wanted {
-        let (begin, found) = if *place < end {
-            (0, first.next())
-        } else {
-            (end, second.next())
-        };
-        let Some((offset, answer, size)) = found else {
+    let before = pieces_in_shards(bytes, at).0;
+    if number < before {
+        let more = bytes.len().min(end.saturating_add(3));
+        return bytes[..more].utf8char_indices().nth(number);
+    }
+    let (place, answer, len) = bytes[end..].utf8char_indices().nth(number - before)?;
+    Some((place.wrapping_add(end), answer, len))
+}
+
+// Whether two shards have these pieces.
+fn shards_have(bytes: &[u8], at: usize, wanted: &[Wanted]) -> bool {
+    for number in 0..wanted.len() {
+        let Some((place, answer, len)) = piece_of_shards(bytes, at, number) else {
             return false;
         };
-        if !is_same(answer, *what) || offset.wrapping_add(begin) != *place || size != *len {
+        let (begin, what, size) = wanted[number];
+        if place != begin || len != size || !is_same(answer, what) {
             return false;
         }
     }
-    second.next().is_none()
+    piece_of_shards(bytes, at, wanted.len()).is_none()
 }
 
 #[test]
