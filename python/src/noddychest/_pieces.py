@@ -297,7 +297,7 @@ def undecided_len(data: ReadableBuffer, encoding: str = "utf8") -> int:
     Errors: LookupError for an unknown encoding, TypeError for what is no data.
     Cost: the same for each length. It looks at the last four bytes.
 
-    >>> undecided_len(b"a\xe2\x82"), undecided_len(b"a\xe2\x82\xac"), undecided_len(b"a\0\x3d\xd8\0", "utf16le")
+    >>> undecided_len(b"a\\xe2\\x82"), undecided_len(b"a\\xe2\\x82\\xac"), undecided_len(b"a\\0\\x3d\\xd8\\0", "utf16le")
     (2, 0, 3)
     """
     return _noddychest.undecided_len(form_of(encoding), data)
@@ -312,7 +312,7 @@ def encoding_of_bom(data: ReadableBuffer) -> Optional[tuple[str, int]]:
     UTF-32 begins with the mark of UTF-16, and is taken for that.
     Errors: TypeError for what is no data. Cost: the same for each length.
 
-    >>> data = b"\xff\xfea\0"
+    >>> data = b"\\xff\\xfea\\0"
     >>> encoding, mark = encoding_of_bom(data) or ("utf8", 0)
     >>> encoding, mark, [piece.char for piece in pieces(data[mark:], encoding)]
     ('utf-16-le', 2, ['a'])
