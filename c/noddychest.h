@@ -329,8 +329,8 @@ nody_piece_t nody_utf16_next_back(nody_units_t *left);
 size_t nody_utf8_pieces(nody_bytes_t *left, nody_piece_t *out, size_t room);
 size_t nody_utf16_pieces(nody_units_t *left, nody_piece_t *out, size_t room);
 
-/* The next faults, many at once, each with its offset: all that is invalid, and no character. Text between them is passed as fast as
- * nody_utf8_valid_up_to goes over it. The faults are those of nody_utf8_pieces, with the same kinds.
+/* The next faults, many at once, each with its offset: all that is invalid, and no character. Text between them is passed in blocks, at
+ * the speed that nody_utf8_valid_up_to has without AVX2. The faults are those of nody_utf8_pieces, with the same kinds.
  *
  * left: the cursor. After the call it begins with the first fault that did not fit, or has nothing left.
  * offset: in and out. The offset of the first byte, or unit, of the cursor: 0 for the front of the input. The call adds what it
