@@ -94,7 +94,7 @@ pub use fault::{Fault, FaultKind};
 pub use piece::Piece;
 #[cfg(feature = "alloc")]
 pub use recode::{decode, decode_lossy, decode_strict, recode, recode_lossy, recode_strict, try_recode};
-pub use recoder::{form_of_bom, recoded_len_max, shard_end, Form, Progress, Recoder, Status, UnknownForm};
+pub use recoder::{form_of_bom, recoded_len, recoded_len_max, shard_end, Form, Progress, Recoder, Status, UnknownForm};
 pub use support::alloc::AllocError;
 #[cfg(feature = "alloc")]
 pub use table::{PieceTable, TablePieces};

@@ -3,6 +3,9 @@
 use crate::proved::cuts;
 use crate::Fault;
 
+/// How many bytes `recoded_len` takes at once.
+const COUNTED: usize = 1024;
+
 /// How text stands in bytes.
 ///
 /// ```
@@ -416,6 +419,26 @@ fn relayed(did: cuts::Progress) -> Progress {
 #[must_use]
 pub fn recoded_len_max(from: Form, to: Form, len: usize) -> Option<usize> {
     cuts::room_for(from.proved(), to.proved(), len).filter(|most| *most != usize::MAX)
+}
+
+/// How many bytes these are recoded as, with U+FFFD for what is invalid: the length of what `recode` gives. So a shard knows where
+/// its output begins before any is recoded. It converts all once, in parts, and needs 4 KiB of the stack.
+///
+/// ```
+/// use noddychest::{recoded_len, Form};
+/// assert_eq!(recoded_len(Form::Utf8, Form::Utf16Le, "a€".as_bytes()), 4);
+/// assert_eq!(recoded_len(Form::Utf8, Form::Utf8, b"\xE2\x82A"), 7);
+/// ```
+#[must_use]
+pub fn recoded_len(from: Form, to: Form, bytes: &[u8]) -> usize {
+    let mut recoder = Recoder::new(from, to);
+    let mut room = [0; 4 * COUNTED];
+    let mut len = 0_usize;
+    // (a byte becomes three at most, and three are held at most: there is room for all that comes of a part)
+    for part in bytes.chunks(COUNTED) {
+        len = len.saturating_add(recoder.feed(part, &mut room).written);
+    }
+    len.saturating_add(recoder.finish(&mut room).written)
 }
 
 /// The last place, up to `at`, where bytes of that form may be cut, so that each side can be recoded by itself and the two joined.

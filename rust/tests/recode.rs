@@ -3,7 +3,9 @@
 mod common;
 
 use common::{encoded, long_text_of, of_form, of_hex, rows, text_of, Chance, End};
-use noddychest::{decode, decode_lossy, decode_strict, recode, recode_lossy, recode_strict, recoded_len_max, shard_end};
+use noddychest::{
+    decode, decode_lossy, decode_strict, recode, recode_lossy, recode_strict, recoded_len, recoded_len_max, shard_end,
+};
 use noddychest::{Fault, FaultKind, Form, Recoder, Status};
 
 /// The characters and faults of the text, with how many bytes each has.
@@ -106,6 +108,7 @@ fn hold_text(from: Form, to: Form, bytes: &[u8], chance: &mut Chance) {
     let want = faults(from, bytes);
     assert_eq!(recode(from, to, bytes), whole, "{from} {to} {bytes:x?}");
     assert!(recoded_len_max(from, to, bytes.len()) >= Some(whole.len()));
+    assert_eq!(recoded_len(from, to, bytes), whole.len(), "{from} {to} {bytes:x?}");
     let strict = recode_strict(from, to, bytes).map_err(|it| (it.offset(), it.range().len(), it.kind()));
     assert_eq!(strict, want.first().map_or(Ok(whole.clone()), |it| Err(*it)), "{from} {to} {bytes:x?}");
     let first = chance.below(bytes.len() + 1);
@@ -167,6 +170,7 @@ fn long_texts() {
         let bytes = long_text_of(from, &mut chance, 200_000);
         hold_text(from, to, &bytes[..1000], &mut chance);
         assert!(recode(from, to, &bytes) == replaced(from, to, &bytes), "{from} {to}");
+        assert_eq!(recoded_len(from, to, &bytes), replaced(from, to, &bytes).len(), "{from} {to}");
         assert!(recode_lossy(from, to, &bytes) == replaced_lossily(from, to, &bytes), "{from} {to}");
         assert!(appended_in_parts(&Recoder::new(from, to), &[&bytes]) == replaced(from, to, &bytes), "{from} {to}");
         let text = encoded(from, "aé€😀".repeat(10_000).chars());
