@@ -175,13 +175,17 @@ class Faults(unittest.TestCase):
         """At most 1.1 times validation on valid text, and 1.5 times with a fault every 10 kB."""
         for line, wrong, most in (("é", 0, 1.1), ("漢 a", 0, 1.1), ("é", 10_000, 1.5), ("漢 a", 10_000, 1.5)):
             valid = (line * (16 << 20))[:(16 << 20) // len(line.encode())].encode()
-            data = bytearray(valid)
+            data, ours, theirs = valid, [], []
             if wrong:
+                data = bytearray(valid)
                 data[::wrong] = b"\xff" * len(data[::wrong])
-            data, ratios = bytes(data), []
-            while len(ratios) < 12 and (not ratios or min(ratios) > most):
-                ratios.append(taken(lambda: sum(1 for _ in faults(data))) / taken(lambda: is_valid(valid)))
-            self.assertLessEqual(min(ratios), most, (line, wrong))
+                data = bytes(data)
+            # (in turn, and of both the least: other programs only ever add to one of them. Where the bytes are the same they lie in the same
+            # memory, since memory in larger pages is read faster.)
+            while len(ours) < 100 and (not ours or min(ours) > most * min(theirs)):
+                ours.append(taken(lambda: sum(1 for _ in faults(data))))
+                theirs.append(taken(lambda: is_valid(valid)))
+            self.assertLessEqual(min(ours) / min(theirs), most, (line, wrong))
 
 
 def near(data):
