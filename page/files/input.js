@@ -199,6 +199,9 @@ function ofNumbers(text) {
     return eights.bytes ? eights : tens;
 }
 
+// Letters of base64 in fours: padded, or at least eight of them, one of which is no hexadecimal digit.
+const looksLikeBase64 = (text) => text.length % 4 === 0 && (/^[\w+/-]+={1,2}$/.test(text) || (/^[\w+/-]{8,}$/.test(text) && /[g-z]/i.test(text)));
+
 // By the first of these that a text looks like.
 const LOOKS = [
     [(text) => /^data:/i.test(text), dataLink],
@@ -210,7 +213,7 @@ const LOOKS = [
     [(text) => ofNumbers(text) !== null, ofNumbers],
     [(text) => "bytes" in hexadecimal(inBrackets(text) ?? text), (text) => hexadecimal(inBrackets(text) ?? text)],
     [(text) => /=[0-9A-F]{2}/.test(text), printable],
-    [(text) => /^[A-Za-z0-9+/_-]{7,}[A-Za-z0-9+/_-]*={0,2}$/.test(text.replace(/\s/g, "")) && text.replace(/\s/g, "").length % 4 === 0 && /[g-zG-Z]/.test(text), base64],
+    [(text) => looksLikeBase64(text.replace(/\s/g, "")), base64],
     [() => true, (text) => hexadecimal(inBrackets(text) ?? text)],
 ];
 
