@@ -174,7 +174,7 @@ class Faults(unittest.TestCase):
     def test_time(self):
         """At most 1.1 times validation on valid text, and 1.5 times with a fault every 10 kB."""
         for line, wrong, most in (("é", 0, 1.1), ("漢 a", 0, 1.1), ("é", 10_000, 1.5), ("漢 a", 10_000, 1.5)):
-            valid = (line * (16 << 20))[:(16 << 20) // len(line.encode())].encode()
+            valid = (line * (4 << 20))[:(4 << 20) // len(line.encode())].encode()
             data, ours, theirs = valid, [], []
             if wrong:
                 data = bytearray(valid)
@@ -182,7 +182,7 @@ class Faults(unittest.TestCase):
                 data = bytes(data)
             # (in turn, and of both the least: other programs only ever add to one of them. Where the bytes are the same they lie in the same
             # memory, since memory in larger pages is read faster.)
-            while len(ours) < 100 and (not ours or min(ours) > most * min(theirs)):
+            while len(ours) < 1000 and (not ours or min(ours) > most * min(theirs)):
                 ours.append(taken(lambda: sum(1 for _ in faults(data))))
                 theirs.append(taken(lambda: is_valid(valid)))
             self.assertLessEqual(min(ours) / min(theirs), most, (line, wrong))
