@@ -7,7 +7,7 @@ import { MessageChannel } from "node:worker_threads";
 import * as api from "../api.js";
 import { Codec, hasVectors } from "../codec.js";
 import * as installed from "noddychest";
-import { chances, damaged, hexOf, ofHex } from "./help.js";
+import { chances, damaged, divided, hexOf, ofHex } from "./help.js";
 
 const { Decoder, Recoder, encodingOfBom, faults, isValid, pieces, recode, undecidedLength, use } = api;
 const FORMS = ["utf-8", "utf-16le", "utf-16be"];
@@ -95,16 +95,6 @@ const faulty = (given) => given.filter((it) => it.error);
 // Bytes in which surrogates are frequent.
 function units(chance, len) {
     return Uint8Array.from({ length: len }, () => [0xd8, 0xdb, 0xdc, 0xdf, 0x00, 0x41, 0xe0, 0xff][chance(8)]);
-}
-
-function divided(chance, bytes, most) {
-    const parts = [];
-    for (let at = 0; at < bytes.length; ) {
-        const len = chance(most + 1);
-        parts.push(bytes.slice(at, at + len));
-        at += len;
-    }
-    return parts;
 }
 
 const SHORT = ["", "41", "c3a9", "e282ac", "f09f9880", "f041", "e90a", "e08041", "e08080", "eda080", "f4908080", "f0808080", "f09f98", "f09f41", "c0af", "c1", "f58080", "ff41c3", "80bf",

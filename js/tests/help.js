@@ -1,4 +1,4 @@
-// What the tests share: stored vectors, inputs by chance in which damage is frequent, and whether a command is there.
+// What the tests share: stored vectors, inputs by chance in which damage is frequent, their parts, and whether a command is there.
 import { spawnSync } from "node:child_process";
 import { readFileSync } from "node:fs";
 
@@ -31,4 +31,15 @@ export function damaged(chance, len) {
         else found.push(EDGES[chance(EDGES.length)]);
     }
     return Uint8Array.from(found.slice(0, len));
+}
+
+// Bytes in parts of no bytes up to so many.
+export function divided(chance, bytes, most) {
+    const parts = [];
+    for (let at = 0; at < bytes.length; ) {
+        const len = chance(most + 1);
+        parts.push(bytes.slice(at, at + len));
+        at += len;
+    }
+    return parts;
 }

@@ -5,7 +5,7 @@ import { tmpdir } from "node:os";
 import test from "node:test";
 import vm from "node:vm";
 import { FaultError, decode, faults, pieces, streamFaults, streamPieces, streamText } from "noddychest";
-import { chances, damaged, hexOf, ofHex } from "./help.js";
+import { chances, damaged, divided, hexOf, ofHex } from "./help.js";
 
 const FORMS = ["utf-8", "utf-16le", "utf-16be"];
 const hasStreams = typeof ReadableStream !== "undefined";
@@ -15,17 +15,6 @@ const all = async (given) => {
     for await (const it of given) found.push(it);
     return found;
 };
-
-// Bytes in parts of no bytes up to so many.
-function divided(chance, bytes, most) {
-    const parts = [];
-    for (let at = 0; at < bytes.length; ) {
-        const len = chance(most + 1);
-        parts.push(bytes.slice(at, at + len));
-        at += len;
-    }
-    return parts;
-}
 
 const streamOf = (parts) => new ReadableStream({ start: (it) => (parts.forEach((part) => it.enqueue(part)), it.close()) });
 

@@ -20,6 +20,7 @@ import unittest
 from noddychest import Decoder, ErrorKind, faults, pieces, stream_faults, stream_pieces
 
 import outside
+from test_threads import run_all
 
 try:
     import _testcapi
@@ -277,23 +278,6 @@ class Iterators(unittest.TestCase):
 
 
 class Threads(unittest.TestCase):
-    def run_all(self, works):
-        raised = []
-
-        def guarded(work):
-            try:
-                work()
-            except BaseException as error:  # noqa: B902
-                raised.append(error)
-
-        threads = [threading.Thread(target=guarded, args=(it,)) for it in works]
-        for it in threads:
-            it.start()
-        for it in threads:
-            it.join()
-        if raised:
-            raise raised[0]
-
     def test_one_call_at_a_time(self):
         decoder = Decoder()
         decoder.feed(b"a\xe2")
@@ -322,7 +306,7 @@ class Threads(unittest.TestCase):
                     self.assertIn("in use by another call", str(error))
                     refused.append(1)
 
-        self.run_all([work] * 4)
+        run_all([work] * 4)
         offsets = sorted(itertools.chain.from_iterable(got))
         self.assertEqual(len(offsets), len(set(offsets)))
         self.assertEqual((decoder.held, decoder.offset >= offsets[-1] + 1), (b"", True))
@@ -346,7 +330,7 @@ class Threads(unittest.TestCase):
                     self.assertIn("in use by another call", str(error))
                     refused.append(1)
 
-        self.run_all([work] * 4)
+        run_all([work] * 4)
         self.assertEqual(sorted(found), [it.offset for it in faults(data)])
         return refused
 
