@@ -174,7 +174,8 @@ class Faults(unittest.TestCase):
     def test_time(self):
         """At most 1.1 times validation on valid text, and 1.5 times with a fault every 10 kB."""
         for line, wrong, most in (("é", 0, 1.1), ("漢 a", 0, 1.1), ("é", 10_000, 1.5), ("漢 a", 10_000, 1.5)):
-            valid = (line * (4 << 20))[:(4 << 20) // len(line.encode())].encode()
+            size = 16 << 20 if wrong else 4 << 20
+            valid = (line * size)[:size // len(line.encode())].encode()
             data, ours, theirs = valid, [], []
             if wrong:
                 data = bytearray(valid)
