@@ -1,4 +1,3 @@
-pub mod AheadRuns
 pub mod Blocks
 pub mod CodeFronts
 pub mod BoundLemmas

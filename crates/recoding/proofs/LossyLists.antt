@@ -22,8 +22,7 @@ use Rattle.recoding.specs.declared.form.Form.{Form}
 use Rattle.recoding.specs.declared.form.Form.TheVariants.{Utf8, Utf16Le, Utf16Be}
 use Rattle.recoding.specs.Lossy.{BeginsSubpart, IsLossy, ReadsParts, ShowsUnitParts, odd_part}
 use Rattle.recoding.specs.LossyBytes.{AddsEach, LossyIsOne, LossyJoinsFaults, LossyPartsAreOne, LossyUnitsAreRecoded, TextIsLossy, lossy, lossy_outcome, shown_by_parts}
-use Rattle.recoding.specs.Recoded.{fresh, IsProperFront, Reads, Recoding, ShowsUnits, odd_end, written}
-use Rattle.recoding.specs.RecodedBytes.{recoded}
+use Rattle.recoding.specs.Recoded.{fresh, IsProperFront, Recoding, ShowsUnits, odd_end, written}
 use Rattle.recoding.specs.NextScalars.{Decides, Ends, ShowsEach}
 use Rattle.recoding.proofs.FrontBytes.{replacement}
 use Rattle.recoding.proofs.HeldFronts.{no_code_in_front}

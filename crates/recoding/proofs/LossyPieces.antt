@@ -1,5 +1,5 @@
 -- The part that begins some bytes, from the piece that does.
-use Rattle.std.proofs.Common.{◌≡◌, ℕ, ◌<◌, ◌≤◌, ⊎_elim, inl, inr, Bool, true, false, Some, None, Option, List, [], ◌∷◌, ◌++◌, length, min, take, drop, arith, refl, ap, sym, ◌∙◌, subst, append_assoc, take-append-drop, length-take, lit<}
+use Rattle.std.proofs.Common.{◌≡◌, ℕ, ◌<◌, ◌≤◌, ⊎_elim, inl, inr, Bool, true, false, Some, None, Option, List, [], ◌∷◌, ◌++◌, length, take, drop, arith, refl, ap, sym, ◌∙◌, subst, append_assoc, take-append-drop, length-take, lit<}
 use Rattle.std.specs.Option.{option_map}
 use Rattle.std.proofs.lemmas.Bool.{cases_lt}
 use Rattle.std.proofs.lemmas.List.{append-nil, drop_all}
@@ -22,8 +22,8 @@ use Rattle.recoding.specs.declared.faults.FaultKind.TheVariants as kind
 use Rattle.recoding.specs.declared.form.Form.{Form}
 use Rattle.recoding.specs.declared.form.Form.TheVariants.{Utf8, Utf16Le, Utf16Be}
 use Rattle.recoding.specs.Lossy.{BeginsNoCode, ReadsParts, ShowsUnitParts}
-use Rattle.recoding.specs.Recoded.{Lacks, ShowsUnits, written}
-use Rattle.recoding.specs.NextScalars.{Decides, Ends, HasByteOrder, Waits}
+use Rattle.recoding.specs.Recoded.{Lacks, written}
+use Rattle.recoding.specs.NextScalars.{Decides, Ends}
 use Rattle.recoding.specs.Strict.{AwaitsKind, BeginsChar, BeginsFault}
 use Rattle.recoding.proofs.FrontBytes.{first_unit, lacks_second, replacement, units_two}
 use Rattle.utf_base.proofs.LaterLemmas.{no_code_at_last}

@@ -312,9 +312,6 @@ outcome_done r s grown none h out =
 front_of_room : (a b : Room) (old new grown : List ℕ) → a.len ≡ 0 → b.bytes.now ≡ new → FillsRoom a grown b → take b.len new ≡ grown
 front_of_room a b old new grown none e fills = ap (take b.len) (sym e) ∙ fills.front ∙ ap (λ k. take k a.bytes.now ++ grown) none
 
-rest_of_room : (a b : Room) (old new grown : List ℕ) → a.bytes.now ≡ old → b.bytes.now ≡ new → FillsRoom a grown b → drop b.len new ≡ drop b.len old
-rest_of_room a b old new grown e f fills = ap (drop b.len) (sym f) ∙ fills.rest ∙ ap (drop b.len) e
-
 pub FeedsLossy-of : {r s : Recoding} {part old new : List ℕ} {read : ℕ} (a b : Room) → a.bytes.now ≡ old → a.len ≡ 0 → b.bytes.now ≡ new → TakesParts FillsRoom r part a b read s
     → FeedsLossy r part old new read b.len s
 FeedsLossy-of {r} {s} {part} {old} {new} {read} a b e none h f =
@@ -328,7 +325,6 @@ FeedsLossy-of {r} {s} {part} {old} {new} {read} a b e none h f =
       replaced = f.replaced;
       few = f.few;
       fits = omega (arith, fills.whole, ap length e);
-      rest = rest_of_room a b old new f.grown e h fills;
     }
 
 pub FinishesLossy-of : {r s : Recoding} {old new : List ℕ} (a b : Room) → a.bytes.now ≡ old → a.len ≡ 0 → b.bytes.now ≡ new → EndsParts FillsRoom r a b s → FinishesLossy r old new b.len s
@@ -343,7 +339,6 @@ FinishesLossy-of {r} {s} {old} {new} a b e none h f =
       replaced = f.replaced;
       few = omega arith;
       fits = omega (arith, fills.whole, ap length e);
-      rest = rest_of_room a b old new f.grown e h fills;
     }
 
 false_unless : (b : Bool) → (IsTrue b → ⊥) → IsFalse b

@@ -12,12 +12,6 @@ use Rattle.recoding.proofs.Growing.{recoded_nothing}
 
 -- Parts of lists.
 
--- lists that agree from one place on agree from each later one on
-pub drop_later : (xs ys : List ℕ) (m n : ℕ) → m ≤ n → drop m xs ≡ drop m ys → drop n xs ≡ drop n ys
-drop_later xs ys m n le e =
-    let whole : m + (n - m) ≡ n = omega arith in
-    rw whole at (sym (drop-drop (n - m) m xs) ∙ ap (drop (n - m)) e ∙ drop-drop (n - m) m ys)
-
 pub cut_part : (n m : ℕ) (xs : List ℕ) → n ≤ m → take (m - n) (drop n xs) ≡ drop n (take m xs)
 cut_part n m xs le =
     let whole : n + (m - n) ≡ m = omega arith in
@@ -43,15 +37,15 @@ Leaves-step from to bytes p grown {s = s} {n = n} h d e rest (ss, r, f) =
     subst (λ xs. IsRecoded from to bytes xs) (sym (ap (λ x. x ++ rest) e ∙ append_assoc grown (written to s) rest)) all
 
 pub FinishesInto-of : (r s : Recoding) (from to : Form) (bytes old new : List ℕ) (read wrote : ℕ) {n : ℕ} → from ≡ r.from → to ≡ r.to → bytes ≡ r.held
-    → Leaves from to bytes (take wrote new) (drop read bytes) → wrote ≤ length old → drop wrote new ≡ drop wrote old
+    → Leaves from to bytes (take wrote new) (drop read bytes) → wrote ≤ length old
     → s ≡ record r { held = drop read bytes; replaced = n } → FinishesInto r old new wrote s
-FinishesInto-of r s from to bytes old new read wrote e f i h fits rest k =
+FinishesInto-of r s from to bytes old new read wrote e f i h fits k =
     let leaves : Leaves r.from r.to r.held (take wrote new) (drop read bytes) =
     subst (λ x. Leaves x r.to r.held (take wrote new) (drop read bytes)) e
     (subst (λ x. Leaves from x r.held (take wrote new) (drop read bytes)) f
     (subst (λ x. Leaves from to x (take wrote new) (drop read bytes)) i h)) in
     let few : length (drop read bytes) ≤ length r.held = omega (arith, length-drop read bytes, ap length i) in
-    rw k (record { leaves = leaves; from = refl; to = refl; few = few; fits = fits; rest = rest })
+    rw k (record { leaves = leaves; from = refl; to = refl; few = few; fits = fits })
 
 -- all of it was put out
 pub Finishes-of : (r s : Recoding) (old new : List ℕ) (wrote : ℕ) → FinishesInto r old new wrote s → s.held ≡ [] → (out : List ℕ) → Finishes r out (out ++ take wrote new)
@@ -83,8 +77,8 @@ Advances-more-read from to first part held old new read taken g =
     rw whole at (Advances-append from to (first ++ take read part) held more old new g)
 
 pub FeedsInto-of : (r s : Recoding) (part old new : List ℕ) (read wrote : ℕ) → s.from ≡ r.from → s.to ≡ r.to → length s.held ≤ 3 → read ≤ length part → wrote ≤ length old
-    → Grows r.from r.to (r.held ++ take read part) [] (take wrote new) s.held → drop wrote new ≡ drop wrote old → FeedsInto r part old new read wrote s
-FeedsInto-of r s part old new read wrote e f few within fits g rest = record {
+    → Grows r.from r.to (r.held ++ take read part) [] (take wrote new) s.held → FeedsInto r part old new read wrote s
+FeedsInto-of r s part old new read wrote e f few within fits g = record {
   within = within;
   feeds = λ out. record {
     grows = record { grown = g.grown; appended = ap (λ xs. out ++ xs) g.appended; continues = g.continues };
@@ -93,7 +87,6 @@ FeedsInto-of r s part old new read wrote e f few within fits g rest = record {
     few = few;
   };
   fits = fits;
-  rest = rest;
 }
 
 -- nothing is read yet
@@ -102,7 +95,7 @@ Advances-start from to held = rw (append-nil held) (Advances-none from to held [
 
 -- nothing is fed yet
 pub FeedsInto-none : (r : Recoding) (part room : List ℕ) → length r.held ≤ 3 → FeedsInto r part room room 0 0 r
-FeedsInto-none r part room few = FeedsInto-of r r part room room 0 0 refl refl few (omega arith) (omega arith) (Advances-start r.from r.to r.held).grows refl
+FeedsInto-none r part room few = FeedsInto-of r r part room room 0 0 refl refl few (omega arith) (omega arith) (Advances-start r.from r.to r.held).grows
 
 -- the same after the recoder has counted faults
 pub FeedsInto-counted : {r s t : Recoding} {part old new : List ℕ} {read wrote n : ℕ} → FeedsInto r part old new read wrote s → t ≡ record s { replaced = n } → FeedsInto r part old new read wrote t
@@ -110,11 +103,10 @@ FeedsInto-counted f e = rw e (record {
   within = f.within;
   feeds = λ out. let g = f.feeds out in record { grows = g.grows; from = g.from; to = g.to; few = g.few };
   fits = f.fits;
-  rest = f.rest;
 })
 
 pub FinishesInto-counted : (r s t : Recoding) (old new : List ℕ) (wrote : ℕ) {n : ℕ} → FinishesInto r old new wrote s → t ≡ record s { replaced = n } → FinishesInto r old new wrote t
-FinishesInto-counted r s t old new wrote f e = rw e (record { leaves = f.leaves; from = f.from; to = f.to; few = f.few; fits = f.fits; rest = f.rest })
+FinishesInto-counted r s t old new wrote f e = rw e (record { leaves = f.leaves; from = f.from; to = f.to; few = f.few; fits = f.fits })
 
 -- what is decided of some bytes is so whatever follows them
 pub Decides-more : (reads : List ℕ → List ℕ → Type 0) (w x : List ℕ) (s n : ℕ) → Decides reads w s n → Decides reads (w ++ x) s n
@@ -192,14 +184,14 @@ Advances-then r s v part old mid new read more wrote all end j k f c none g over
     (Advances-trans r.from r.to (r.held ++ take (read + end) part) (take end xs) (take (end - more) (drop more xs)) [] (take wrote mid) (take all new) first second)
 
 pub FeedsInto-then : (r s v : Recoding) (part old mid new : List ℕ) (read more wrote all end n : ℕ) → FeedsInto r part old mid read wrote s → end ≤ more + 3 → end ≤ length (drop read part)
-    → wrote ≤ all → all ≤ length old → drop all new ≡ drop all mid
+    → wrote ≤ all → all ≤ length old
     → v ≡ record s { held = take (end - more) (drop more (drop read part)); replaced = n } → Grows r.from r.to (r.held ++ take (read + end) part) [] (take all new) v.held
     → FeedsInto r part old new (read + end) all v
-FeedsInto-then r s v part old mid new read more wrote all end n f near within ordered fits rest k grows =
+FeedsInto-then r s v part old mid new read more wrote all end n f near within ordered fits k grows =
     let fed = f.feeds [] in
     let few : length v.held ≤ 3 = omega (arith, ap (λ x. length x.held) k, length-take (end - more) (drop more (drop read part))) in
     FeedsInto-of r v part old new (read + end) all (ap (λ x. x.from) k ∙ fed.from) (ap (λ x. x.to) k ∙ fed.to) few (omega (arith, length-drop read part, f.within)) fits
-    grows (rest ∙ drop_later mid old wrote all ordered f.rest)
+    grows
 
 pub IsFull-then : (s v : Recoding) (from to : Form) (part : List ℕ) (read more end room : ℕ) {n : ℕ} → from ≡ s.from → to ≡ s.to → more ≤ end
     → v ≡ record s { held = take (end - more) (drop more (drop read part)); replaced = n }

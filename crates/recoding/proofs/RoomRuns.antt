@@ -1,5 +1,5 @@
 -- What grows by the three bytes that follow, step by step, and how long codes are.
-use Rattle.std.proofs.Common.{◌≡◌, ℕ, Bool, true, false, ◌+◌, ◌<◌, ◌≤◌, List, [], ◌++◌, length, take, drop, flat_map, arith, ap, ap₂, sym, ⊎_elim, subst, ◌∙◌, append_assoc}
+use Rattle.std.proofs.Common.{◌≡◌, ℕ, Bool, true, false, ◌+◌, ◌<◌, ◌≤◌, List, [], ◌++◌, length, take, drop, flat_map, arith, ap, sym, ⊎_elim, subst, ◌∙◌, append_assoc}
 use Rattle.std.proofs.lemmas.List.{drop-drop}
 use Rattle.std.proofs.lemmas.Bool.{cases_lt}
 use Rattle.utf_base.specs.Code.{utf16}
@@ -7,15 +7,13 @@ use Rattle.utf_base.specs.Scalar.{IsScalar}
 use Rattle.utf_base.proofs.Utf8Code.{length_utf8, utf8_is_code}
 use Rattle.utf_base.proofs.Utf16Code.{utf16-1, utf16-2}
 use Rattle.recoding.specs.declared.form.Form.{Form}
-use Rattle.recoding.specs.declared.room.Room.{Room}
 use Rattle.recoding.specs.declared.form.Form.TheVariants.{Utf8, Utf16Le, Utf16Be}
 use Rattle.recoding.specs.Recoded.{written}
 use Rattle.utf_lanes.specs.BytePairs.{bytes_of}
-use Rattle.recoding.specs.FilledRooms.{FillsRoom}
 use Rattle.recoding.specs.Rooms.{Fills}
 use Rattle.recoding.specs.Faults.{Advances}
 use Rattle.recoding.proofs.Advancing.{Advances-trans}
-use Rattle.recoding.proofs.RoomLemmas.{drop_later, take_more, Advances-more-read}
+use Rattle.recoding.proofs.RoomLemmas.{take_more, Advances-more-read}
 
 -- one run after another, each by the three bytes that follow it
 pub Advances-after : (from to : Form) (bytes old mid new : List ℕ) (p n : ℕ) {j k : ℕ} → Advances from to (take (p + 3) bytes) old mid (take 3 (drop p bytes)) j
@@ -52,17 +50,6 @@ some_written Utf8 s scalar = utf8_is_code.some s scalar
 some_written Utf16Le s scalar = some_units false s
 some_written Utf16Be s scalar = some_units true s
 
--- What was put into a slice at a place.
-pub Fills-of : {old new xs : List ℕ} {place : ℕ} (a b : Room) → a.bytes.now ≡ old → a.len ≡ place → b.bytes.now ≡ new → FillsRoom a xs b → Fills old new place b.len xs
-Fills-of {old} {new} {xs} {place} a b e f h fills =
-    let within = b.within in
-    record {
-      ordered = omega (arith, fills.len);
-      fits = omega (arith, fills.whole, ap length e);
-      front = ap (take b.len) (sym h) ∙ fills.front ∙ ap₂ (λ k ys. take k ys ++ xs) f e;
-      rest = ap (drop b.len) (sym h) ∙ fills.rest ∙ ap (drop b.len) e;
-    }
-
 -- Bytes written after others.
 
 pub Fills-then : (old mid new xs ys : List ℕ) (from to end : ℕ) → Fills old mid from to xs → length mid ≡ length old → Fills mid new to end ys → Fills old new from end (xs ++ ys)
@@ -71,5 +58,4 @@ Fills-then old mid new xs ys from to end f len g =
       ordered = omega (arith, f.ordered, g.ordered);
       fits = omega (arith, g.fits);
       front = g.front ∙ ap (λ zs. zs ++ ys) f.front ∙ append_assoc (take from old) xs ys;
-      rest = g.rest ∙ drop_later mid old to end g.ordered f.rest;
     }

@@ -8,7 +8,8 @@ use Rattle.std.proofs.lemmas.List.Elements.{All-append, All-nil, All-cons}
 use Rattle.utf_base.proofs.TextScalars.{joined_from_text}
 use Rattle.utf_base.specs.Scalar.{IsScalar}
 use Rattle.utf_lanes.specs.BytePairs.{units_of, bytes_of, turned}
-use Rattle.utf_lanes.specs.Utf8ToUtf16.{utf16_bytes}
+use Rattle.utf_lanes.specs.UnitCodes.{code_at, lane_unit, WritesUnitsOf}
+use Rattle.utf_lanes.specs.Utf8ToUtf16.{concat_range, utf16_bytes}
 use Rattle.utf_lanes.specs.UnitBlocks.{AreCodes}
 use Rattle.recoding.specs.FilledRooms.{FillsRoom}
 use Rattle.recoding.specs.Recoded.{written}
@@ -21,7 +22,7 @@ use Rattle.recoding.specs.declared.form.Form.TheVariants.{Utf8, Utf16Le, Utf16Be
 use Rattle.recoding.specs.declared.room.Room.{Room}
 use Rattle.recoding.proofs.CopiedUnits.{all_written, coded_bytes, front_fits, in_order}
 use Rattle.recoding.proofs.GivenRuns.{given_codes}
-use Rattle.recoding.proofs.RoomLemmas.{drop_later, take_more}
+use Rattle.recoding.proofs.RoomLemmas.{take_more}
 use Rattle.recoding.proofs.Growing.{length_written}
 use Rattle.recoding.proofs.RoomRuns.{Fills-then, few_written, some_written}
 use Rattle.utf_base.proofs.Utf8Code.{utf8-4}
@@ -230,7 +231,6 @@ RunsStrictly-of {old} {new} {place} a b e f h run =
         ordered = omega (arith, fills.len);
         fits = omega (arith, fills.whole, ap length e);
         front = ap (take b.len) (sym h) ∙ fills.front ∙ ap₂ (λ k ys. take k ys ++ run.grown) f e;
-        rest = ap (drop b.len) (sym h) ∙ fills.rest ∙ ap (drop b.len) e;
       };
       transcodes = run.transcodes;
     }
@@ -257,6 +257,34 @@ RunsStrictly-then {bytes} {old} {mid} {new} {place} {read} {wrote} {more} {end} 
       transcodes = rw (take_more read more bytes) at (Transcodes-then f.transcodes g.transcodes);
     }
 
+-- nothing yet
+pub RunsStrictly-none : {from to : Form} {bytes old : List ℕ} {place : ℕ} → place ≤ length old → RunsStrictly from to bytes old old place 0 place
+RunsStrictly-none {from} {to} {bytes} {old} {place} fits = record {
+  within = omega arith;
+  grown = [];
+  fills = record { ordered = omega arith; fits = fits; front = sym (append-nil (take place old)) };
+  transcodes = Transcodes-none from to;
+}
+
+-- a block of units more
+pub RunsStrictly-units : {from to : Form} {bytes old mid new low high : List ℕ} {place width n read end next : ℕ} → RunsStrictly from to bytes old mid place read end → length mid ≡ length old
+    → WritesUnitsOf width low high mid new end n next → next ≤ length old → read + 2 * n ≤ length bytes
+    → Transcodes from to (take (2 * n) (drop read bytes)) (concat_range (code_at (lane_unit low high)) 0 n) → RunsStrictly from to bytes old new place (read + 2 * n) next
+RunsStrictly-units {bytes = bytes} {mid = mid} {new = new} {low = low} {high = high} {n = n} {read = read} {end = end} {next = next} f len put fits within codes =
+    let more : List ℕ = concat_range (code_at (lane_unit low high)) 0 n in
+    let same = put.len in
+    let before = f.fills.fits in
+    RunsStrictly-then f len (record {
+      within = omega (arith, length-drop read bytes);
+      grown = more;
+      fills = record {
+        ordered = omega (arith, ap length put.bytes, length-append (take end mid) more, length-take end mid, length-take next new);
+        fits = omega arith;
+        front = put.bytes;
+      };
+      transcodes = codes;
+    })
+
 -- The text of a call so far, and what is left.
 
 pub RecodesText-run : {from to : Form} {all left old mid new : List ℕ} {wrote read end : ℕ} → RecodesText from to all left old mid wrote → length mid ≡ length old
@@ -268,5 +296,4 @@ RecodesText-run {all} {left} {old} {mid} {wrote} {read} {end} f len g =
       parts = f.parts ∙ ap (λ xs. f.text ++ xs) (sym (take-append-drop read left)) ∙ sym (append_assoc f.text (take read left) (drop read left));
       transcodes = rw fills.front (Transcodes-then f.transcodes g.transcodes);
       fits = omega (arith, fills.fits);
-      rest = fills.rest ∙ drop_later mid old wrote end fills.ordered f.rest;
     }

@@ -6,7 +6,7 @@ use Rattle.utf_base.specs.Front.{BeginsWith}
 use Rattle.utf_base.specs.Piece.{Stands}
 use Rattle.utf_base.proofs.Standing.{not_inside, outside_end, same_char}
 use Rattle.utf_base.proofs.Utf16Code.{utf16_is_code, length_utf16}
-use Rattle.recoding.specs.Boundaries.{IsFirstFrom, IsLastTo, IsUnitBoundary}
+use Rattle.recoding.specs.Boundaries.{IsLastTo, IsUnitBoundary}
 use Rattle.recoding.specs.Shards.{LiesOver}
 use Rattle.recoding.proofs.ShardEnds.{stands_in_list, stands_in_rest}
 

@@ -61,8 +61,8 @@ AddsLastLossy r made s = (out : List ℕ) → lossy_outcome s (out ++ made) [] �
 abbrev pub AddsAllLossy : Recoding → List ℕ → Type 0
 AddsAllLossy r made = (out : List ℕ) → out ++ made ≡ lossy_outcome r out []
 
--- One call of `feed_lossy_into`: so many bytes of the part were read, and some are held. What came of them begins the room, whose
--- other places stay.
+-- One call of `feed_lossy_into`: so many bytes of the part were read, and some are held. What came of them begins the room. What
+-- follows it there may be anything.
 pub record FeedsLossy (r : Recoding) (part old new : List ℕ) (read wrote : ℕ) (s : Recoding) : Type 0 where
   pub within : read ≤ length part
   pub adds : AddsLossy r (take read part) (take wrote new) s
@@ -71,7 +71,6 @@ pub record FeedsLossy (r : Recoding) (part old new : List ℕ) (read wrote : ℕ
   pub replaced : s.replaced ≡ r.replaced
   pub few : length s.held ≤ most_held
   pub fits : wrote ≤ length old
-  pub rest : drop wrote new ≡ drop wrote old
 
 -- One call of `finish_lossy_into`.
 pub record FinishesLossy (r : Recoding) (old new : List ℕ) (wrote : ℕ) (s : Recoding) : Type 0 where
@@ -81,7 +80,6 @@ pub record FinishesLossy (r : Recoding) (old new : List ℕ) (wrote : ℕ) (s : 
   pub replaced : s.replaced ≡ r.replaced
   pub few : length s.held ≤ length r.held
   pub fits : wrote ≤ length old
-  pub rest : drop wrote new ≡ drop wrote old
 
 -- The bytes that are left begin with a part, whatever follows them, and the code of what it shows is longer than the room.
 abbrev pub NextPartIsTooLong : Form → Form → List ℕ → ℕ → Type 0

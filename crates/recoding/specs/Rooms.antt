@@ -6,20 +6,18 @@ use Rattle.recoding.specs.declared.form.TheConstants.{WIDEST}
 use Rattle.recoding.specs.declared.form.Form.{Form}
 use Rattle.recoding.specs.declared.form.Form.TheVariants.{Utf8, Utf16Le, Utf16Be}
 
--- The places of the room from the one to the other became these bytes, and all others stay.
+-- The places of the room from the one to the other became these bytes, and those before them stay. What follows may be anything.
 pub record Fills (old new : List ℕ) (from to : ℕ) (bytes : List ℕ) : Type 0 where
   pub ordered : from ≤ to
   pub fits : to ≤ length old
   pub front : take to new ≡ take from old ++ bytes
-  pub rest : drop to new ≡ drop to old
 
 -- One call of `feed_into`: the bytes of the part that were read were fed, whatever had been put out before. What came of
--- them begins the room, whose other places stay.
+-- them begins the room. What follows it there may be anything.
 pub record FeedsInto (r : Recoding) (part old new : List ℕ) (read wrote : ℕ) (s : Recoding) : Type 0 where
   pub within : read ≤ length part
   pub feeds : (out : List ℕ) → Feeds r (take read part) out (out ++ take wrote new) s
   pub fits : wrote ≤ length old
-  pub rest : drop wrote new ≡ drop wrote old
 
 -- how much is left of a part, of which so many bytes were read: each of the others counts twice, and each that is held once
 abbrev pub bytes_left : List ℕ → ℕ → Recoding → ℕ
@@ -49,14 +47,13 @@ abbrev pub Leaves : Form → Form → List ℕ → List ℕ → List ℕ → Typ
 Leaves from to bytes grown held = (rest : List ℕ) → IsRecoded from to held rest → IsRecoded from to bytes (grown ++ rest)
 
 -- One call of `finish_into`: what begins the room, and then what the bytes that are held now are recoded as, is what those
--- that were held are recoded as. The other places of the room stay.
+-- that were held are recoded as. What follows it in the room may be anything.
 pub record FinishesInto (r : Recoding) (old new : List ℕ) (wrote : ℕ) (s : Recoding) : Type 0 where
   pub leaves : Leaves r.from r.to r.held (take wrote new) s.held
   pub from : s.from ≡ r.from
   pub to : s.to ≡ r.to
   pub few : length s.held ≤ length r.held
   pub fits : wrote ≤ length old
-  pub rest : drop wrote new ≡ drop wrote old
 
 -- The bytes that are left, which nothing follows, begin with a scalar whose code is longer than the room.
 abbrev pub LastIsTooLong : Form → Form → List ℕ → ℕ → Type 0

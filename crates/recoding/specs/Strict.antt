@@ -7,7 +7,6 @@ use Rattle.utf_base.specs.Units.{unit_fault_kind}
 use Rattle.utf_base.specs.declared.errors.Utf8ErrorKind.TheVariants.{TooFewBytes}
 use Rattle.utf_base.specs.declared.errors.units.Utf16PairError.TheVariants.{Incomplete}
 use Rattle.utf_lanes.specs.BytePairs.{units_of}
-use Rattle.utf_lanes.specs.UnitCodes.{KeepsLater}
 use Rattle.recoding.specs.Recoded.{Recoding, IsRecoded, most_held, written}
 use Rattle.recoding.specs.Rooms.{BeginsLonger, Fills}
 use Rattle.recoding.specs.NextScalars.{fault_len}
@@ -92,16 +91,6 @@ pub record RunsStrictly (from to : Form) (bytes old new : List ℕ) (place read 
   pub fills : Fills old new place wrote grown
   pub transcodes : Transcodes from to (take read bytes) grown
 
--- So many bytes were recoded into room from a place on, but what stands soon after what came of them may be another now.
-pub record RunsAhead (from to : Form) (bytes old new : List ℕ) (place read end : ℕ) : Type 0 where
-  pub within : read ≤ length bytes
-  pub len : length new ≡ length old
-  pub ordered : place ≤ end
-  pub grown : List ℕ
-  pub front : take end new ≡ take place old ++ grown
-  pub transcodes : Transcodes from to (take read bytes) grown
-  pub later : KeepsLater old new end
-
 -- of a character, that its code is longer than the room
 abbrev pub IsLonger : Form → ℕ → FirstPiece → Type 0
 IsLonger to room (piece.Char s n) = room < length (written to s)
@@ -113,14 +102,13 @@ pub record StopsAt (from to : Form) (bytes : List ℕ) (room : ℕ) (first : Fir
   pub begins : IsFirstPiece from bytes first
   pub longer : IsLonger to room first
 
--- All that there was is text, which is recoded at the front of the room now, and then what is left. The other places of the
--- room stay.
+-- All that there was is text, which is recoded at the front of the room now, and then what is left. What follows it in the room
+-- may be anything.
 pub record RecodesText (from to : Form) (all left old new : List ℕ) (wrote : ℕ) : Type 0 where
   pub text : List ℕ
   pub parts : all ≡ text ++ left
   pub transcodes : Transcodes from to text (take wrote new)
   pub fits : wrote ≤ length old
-  pub rest : drop wrote new ≡ drop wrote old
 
 -- A call ended before a character whose code is longer than the room.
 abbrev pub IsTooLong : Form → Form → List ℕ → ℕ → Type 0

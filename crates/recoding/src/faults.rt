@@ -43,7 +43,7 @@ pub enum Outcome {
 pub struct StrictProgress {
     /// How many bytes of the part were read.
     pub read: usize,
-    /// How many bytes of the room were written, from its front.
+    /// How many bytes of the room were written, from its front. The rest of it may hold anything.
     pub written: usize,
     /// Why it went no further.
     pub outcome: Outcome,

@@ -1,4 +1,4 @@
-//! Bytes written into a slice from a place on, whose other places stay.
+//! Bytes written into a slice from a place on.
 ghost use Rattle.std.specs.Prelude.{◌≡◌, ◌+◌, ◌<◌, ◌≤◌, [], ◌∷◌, length};
 ghost use Rattle.recoding.specs.Rooms.{Fills};
 

@@ -1,19 +1,20 @@
 //! What goes in blocks from one form into another, to any output: copied, widened or narrowed.
-ghost use Rattle.std.specs.Prelude.{◌*◌, ◌<◌, ◌≤◌, length, IsTrue};
+ghost use Rattle.std.specs.Prelude.{◌-◌, ◌+◌, ◌*◌, ◌<◌, ◌≤◌, length, IsTrue};
 ghost use Rattle.recoding.specs.Recodes.{FitsAll};
 ghost use Rattle.recoding.specs.Strict.{PutsText};
 ghost use Rattle.recoding.specs.NextScalars.{utf16_form};
 ghost use Rattle.recoding.specs.declared.form.Form.TheVariants as form;
+ghost use Rattle.utf_lanes.specs.Utf8ToUtf16.{utf16_bytes};
 
 use crate::ascii_to_utf16::{put_ascii_as_utf16, put_ascii_front};
 use crate::copied::copy_units;
 use crate::form::WIDEST;
+use crate::next_scalar::ascii_of_units;
 use crate::output::Output;
 use crate::text::{Text, Utf8, Utf16};
-use crate::utf8_to_utf16::{put_few_as_utf16, put_one_vector, put_text_as_utf16};
-use crate::utf16_to_utf8::narrow_text;
 use utf_lanes::ascii_texts::is_ascii;
 use utf_lanes::text_blocks::{are_text, text_len};
+use utf_lanes::text_puts::{write_few, write_first, write_rest};
 
 // How many bytes are judged before what is text among them is copied or widened, while they are near.
 pub(crate) const PART: usize = 8192;
@@ -104,7 +105,22 @@ fn put_few<O: Output, const BIG_ENDIAN: bool>(bytes: &[u8], out: &mut O) -> usiz
     len
 }
 
-// The same of bytes that one vector has, where all of them are text.
+// Appends the units of text that two vectors have.
+#[inline(always)]
+#[tactic(auto, using(crate::proofs::GivenBytes::length_given))]
+fn put_few_as_utf16<O: Output, const BIG_ENDIAN: bool>(text: &[u8], out: &mut O)
+    requires long { 19 ≤ length text.now }
+    requires few { length text.now < 32 }
+    requires room { WIDEST * length text.now ≤ O.room out.old }
+    ensures { O.appends out.old (utf16_bytes BIG_ENDIAN text.now 0 (length text.now)) out.new }
+{
+    let mut made = [0; 96];
+    let first = write_first(BIG_ENDIAN, text, &mut made, 0);
+    let last = write_rest(BIG_ENDIAN, text, 16, &mut made, first);
+    out.put(&made[..last]);
+}
+
+// The same as `put_few` of bytes that one vector has, where all of them are text.
 #[inline(always)]
 fn put_at_once<O: Output, const BIG_ENDIAN: bool>(bytes: &[u8], out: &mut O) -> usize
     requires few { length bytes.now ≤ 16 }
@@ -118,6 +134,20 @@ fn put_at_once<O: Output, const BIG_ENDIAN: bool>(bytes: &[u8], out: &mut O) -> 
     bytes.len()
 }
 
+// Appends the units of text that one vector has.
+#[inline(always)]
+#[tactic(auto, using(crate::proofs::GivenBytes::length_given))]
+fn put_one_vector<O: Output, const BIG_ENDIAN: bool>(text: &[u8], out: &mut O)
+    requires some { 4 ≤ length text.now }
+    requires few { length text.now ≤ 16 }
+    requires room { WIDEST * length text.now ≤ O.room out.old }
+    ensures { O.appends out.old (utf16_bytes BIG_ENDIAN text.now 0 (length text.now)) out.new }
+{
+    let mut made = [0; 32];
+    let end = write_few(BIG_ENDIAN, text, &mut made);
+    out.put(&made[..end]);
+}
+
 // Appends the units of text at the front of some bytes, which is judged as a whole before. Answers how many bytes it has, or 0
 // of few.
 #[inline(always)]
@@ -129,7 +159,7 @@ fn put_judged<O: Output, const BIG_ENDIAN: bool>(bytes: &[u8], out: &mut O) -> u
     if len < 32 {
         return 0;
     }
-    put_text_as_utf16::<O, BIG_ENDIAN>(&bytes[..len], out);
+    out.put_units(BIG_ENDIAN, &bytes[..len]);
     len
 }
 
@@ -138,8 +168,28 @@ impl<const BIG_ENDIAN: bool> Kernel<Utf16<BIG_ENDIAN>, Utf8> for Narrowed {
 
     #[inline(always)]
     fn put_text<O: Output>(is_ample: bool, bytes: &[u8], out: &mut O) -> usize {
-        narrow_text::<O, BIG_ENDIAN>(bytes, out)
+        let len = out.put_blocks(BIG_ENDIAN, bytes);
+        len + narrow_ascii::<O, BIG_ENDIAN>(&bytes[len..], out)
     }
+}
+
+// Recodes the blocks of eight units of ASCII at the front of the bytes as UTF-8, as far as there is room. Answers how many bytes
+// they have.
+#[inline(always)]
+fn narrow_ascii<O: Output, const BIG_ENDIAN: bool>(bytes: &[u8], out: &mut O) -> usize
+    ensures { PutsText O.appends (utf16_form BIG_ENDIAN) form.Utf8 bytes.now out.old out.new result }
+{
+    let mut place = 0;
+    while 16 <= bytes.len() - place && 8 <= out.room() {
+        match ascii_of_units::<BIG_ENDIAN>(&bytes[place..place + 16]) {
+            None => return place,
+            Some(ascii) => {
+                out.put(&ascii);
+                place += 16;
+            }
+        }
+    }
+    place
 }
 
 impl<const BIG_ENDIAN: bool, const WANTED: bool> Kernel<Utf16<BIG_ENDIAN>, Utf16<WANTED>>

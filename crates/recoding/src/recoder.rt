@@ -320,6 +320,9 @@ impl Recoder {
     /// room. `read` bytes of the part were fed. To go on, call again with the bytes after them, and
     /// with new room.
     ///
+    /// After the bytes that were written, the rest of the room may hold anything. Use only its first
+    /// `written` bytes.
+    ///
     /// If `is_full` is false, the whole part was read. If it is true, the next character did not
     /// fit. At most three of the bytes that were read are held for the next call, and nothing is
     /// lost. With room for four bytes, each call reads or writes something.
@@ -454,7 +457,8 @@ impl Recoder {
         self.hold(&joined[gone..len]);
     }
 
-    /// `finish` into room of a fixed size. `read` is 0.
+    /// `finish` into room of a fixed size. `read` is 0. After the bytes that were written, the rest of
+    /// the room may hold anything.
     ///
     /// If `is_full` is false, nothing is held any more. If it is true, the next character did not
     /// fit: call this again, and not `feed_into`, with new room. Room for four bytes is enough for

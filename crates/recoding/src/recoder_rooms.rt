@@ -51,7 +51,6 @@ pub(crate) fn recode_into(
     ensures advances { AdvancesBy from to bytes.now (take place room.old)
         (take result.written room.new) result.read result.replaced }
     ensures few { result.replaced ≤ result.read }
-    ensures rest { drop result.written room.new ≡ drop result.written room.old }
     ensures full { IsTrue result.is_full →
         NextIsTooLong from to (drop result.read bytes.now) (length room.old - result.written) }
     ensures short { IsTrue result.is_full → length room.old < result.written + 4 }
@@ -75,7 +74,6 @@ fn run_into<S: Text, T: Text, K: Kernel<S, T>>(
     ensures advances { AdvancesBy S.form T.form bytes.now (take place room.old)
         (take result.written room.new) result.read result.replaced }
     ensures few { result.replaced ≤ result.read }
-    ensures rest { drop result.written room.new ≡ drop result.written room.old }
     ensures full { IsTrue result.is_full →
         NextIsTooLong S.form T.form (drop result.read bytes.now) (length room.old - result.written) }
     ensures short { IsTrue result.is_full → length room.old < result.written + 4 }
@@ -108,7 +106,6 @@ pub(crate) fn recode_last_into(from: Form, to: Form, bytes: &[u8], room: &mut [u
     ensures leaves { Leaves from to bytes.now (take result.written room.new) (drop result.read bytes.now) }
     ensures faults { fault_count from bytes.now ≡
         result.replaced + fault_count from (drop result.read bytes.now) }
-    ensures rest { drop result.written room.new ≡ drop result.written room.old }
     ensures full { IsTrue result.is_full →
         LastIsTooLong from to (drop result.read bytes.now) (length room.old - result.written) }
     ensures short { IsTrue result.is_full → length room.old < result.written + 4 }

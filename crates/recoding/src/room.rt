@@ -3,9 +3,9 @@ ghost use Rattle.std.specs.Prelude.{◌≡◌, ◌≤◌, length};
 
 use crate::fills::{lay_byte, lay_wide, put_all};
 use crate::output::Output;
-use crate::units_ahead::run_ahead;
+use crate::utf8_to_utf16::widen_text;
+use crate::utf16_to_utf8::write_blocks;
 use std::simd::prelude::*;
-use utf_lanes::utf16_blocks::write_others;
 
 // A slice of which some bytes at the front are written.
 #[derive(Drop)]
@@ -42,8 +42,6 @@ impl Output for Room<'_> {
 
     ghost appends_room = { FillsRoom-room };
 
-    const GATHERS: bool = true;
-
     #[inline(always)]
     fn room(&self) -> usize {
         self.bytes.len() - self.len
@@ -64,19 +62,14 @@ impl Output for Room<'_> {
         self.len = lay_wide(block, self.bytes, self.len);
     }
 
-    // The bytes are made beside the room, where more may be written than they are, so that no place of the room after them
-    // changes.
     #[inline(always)]
-    fn put_sixteen(&mut self, low: u8x16, high: u8x16) -> usize {
-        let mut made = [0; 64];
-        let (units, len) = write_others(low, high, &mut made, 0);
-        self.put(&made[..len]);
-        units
+    fn put_units(&mut self, high_first: bool, text: &[u8]) {
+        self.len = widen_text(high_first, text, self.bytes, self.len);
     }
 
     #[inline(always)]
-    fn put_ahead(&mut self, high_first: bool, bytes: &[u8]) -> usize {
-        let (read, end) = run_ahead(high_first, bytes, self.bytes, self.len);
+    fn put_blocks(&mut self, high_first: bool, bytes: &[u8]) -> usize {
+        let (read, end) = write_blocks(high_first, bytes, self.bytes, self.len);
         self.len = end;
         read
     }

@@ -41,7 +41,7 @@ fn count_parts(from: Form, len: usize) -> usize
 pub struct Progress {
     /// How many bytes of the part were read.
     pub read: usize,
-    /// How many bytes of the room were written, from its front.
+    /// How many bytes of the room were written, from its front. The rest of it may hold anything.
     pub written: usize,
     /// How many invalid bytes, lone surrogates and odd last bytes this call replaced by U+FFFD.
     pub replaced: usize,

@@ -1,222 +1,238 @@
-//! Text in UTF-16 recoded as UTF-8, in blocks of thirty-two or sixteen units, or of eight of ASCII.
-ghost use Rattle.std.specs.Prelude.{◌≡◌, ◌≤◌, length, take};
+//! Blocks of units of UTF-16 as UTF-8, written into room from a place on: of thirty-two units while there are as many, and then of
+//! sixteen. Each is written whole, with what is none of its bytes, which the next block overwrites.
+ghost use Rattle.std.specs.Prelude.{◌≡◌, ℕ, ◌+◌, ◌<◌, ◌≤◌, length};
 ghost use Rattle.recoding.specs.NextScalars.{utf16_form};
-ghost use Rattle.recoding.specs.Recodes.{PutsUnits};
-ghost use Rattle.recoding.specs.Strict.{PutsText, Transcodes};
+ghost use Rattle.recoding.specs.Strict.{RunsStrictly};
+ghost use Rattle.utf_lanes.specs.BytePairs.{unit_number};
+ghost use Rattle.utf_lanes.specs.UnitCodes.{lane_unit, AreCharacters};
 
 use crate::form::Form;
-use crate::next_scalar::ascii_of_units;
-use crate::output::{GATHERED, LONG, Output};
 use std::simd::prelude::*;
-use utf_lanes::unit_bytes::{are_ascii, sixteen_halves};
-use utf_lanes::utf16_blocks::{write_sixteen, write_thirty_two};
+use utf_lanes::unit_bytes::{are_ascii, are_characters, sixteen_halves};
+use utf_lanes::utf16_blocks::{
+    write_ascii_units, write_characters, write_sixteen, write_thirty_two,
+};
 use utf_lanes::wide_halves::thirty_two_halves;
 
 // How many bytes a block has, and how much room what comes of it takes, with bytes that are none of its own.
-const BLOCK: usize = 32;
+pub(crate) const BLOCK: usize = 32;
 
-const ROOM: usize = 64;
+pub(crate) const ROOM: usize = 64;
 
 // The same of a wide one, of thirty-two units.
 const WIDE_BLOCK: usize = 64;
 
 const WIDE_ROOM: usize = 112;
 
-// How many bytes of a long input go block by block before any are gathered.
-const FEW: usize = 512;
+// How many bytes an input has at least for blocks of thirty-two: of fewer the blocks of sixteen stand in line, where no call is made.
+const LONG: usize = 1024;
 
-// Recodes the blocks of units at the front of the bytes as UTF-8, as far as they have no fault and the room is surely enough:
-// first long ones, and then those of ASCII that are short. Answers how many bytes it recoded.
+// How many bytes go block by block from the first block with surrogates on, before characters alone are looked for again.
+const MIXED: usize = 256;
+
+// Writes what comes of the blocks at the front of the bytes, as far as they have no fault and there is room. Answers how many bytes
+// they have, and where theirs end.
 #[inline(always)]
-pub(crate) fn narrow_text<O: Output, const BIG_ENDIAN: bool>(bytes: &[u8], out: &mut O) -> usize
-    ensures { PutsText O.appends (utf16_form BIG_ENDIAN) Form.Utf8 bytes.now out.old out.new result }
-{
-    let len = narrow_units::<O, BIG_ENDIAN>(bytes, out);
-    len + narrow_ascii::<O, BIG_ENDIAN>(&bytes[len..], out)
-}
-
-// The same of blocks of sixteen units. One that a leading surrogate ends is a unit short.
-#[inline(always)]
-fn narrow_units<O: Output, const BIG_ENDIAN: bool>(bytes: &[u8], out: &mut O) -> usize
-    ensures { PutsText O.appends (utf16_form BIG_ENDIAN) Form.Utf8 bytes.now out.old out.new result }
-{
-    if O::GATHERS && bytes.len() < BLOCK {
-        return 0;
-    }
-    if O::GATHERS && LONG <= bytes.len() {
-        return narrow_long::<O, BIG_ENDIAN>(bytes, out);
-    }
-    narrow_few::<O, BIG_ENDIAN>(bytes, out)
-}
-
-// The same of a long input: where a few blocks have no fault, those after them are gathered.
-#[inline(always)]
-fn narrow_long<O: Output, const BIG_ENDIAN: bool>(bytes: &[u8], out: &mut O) -> usize
-    requires { 512 ≤ length bytes.now }
-    ensures { PutsText O.appends (utf16_form BIG_ENDIAN) Form.Utf8 bytes.now out.old out.new result }
-{
-    let len = narrow_few::<O, BIG_ENDIAN>(&bytes[..FEW], out);
-    if len <= FEW - BLOCK {
-        return len;
-    }
-    len + narrow_many::<O, BIG_ENDIAN>(&bytes[len..], out)
-}
-
-// The same of blocks of which each is put by itself.
-#[inline(always)]
-fn narrow_few<O: Output, const BIG_ENDIAN: bool>(bytes: &[u8], out: &mut O) -> usize
-    ensures { PutsText O.appends (utf16_form BIG_ENDIAN) Form.Utf8 bytes.now out.old out.new result }
-{
-    let mut place = 0;
-    while BLOCK <= bytes.len() - place && ROOM <= out.room() {
-        let (low, high) = sixteen_halves(BIG_ENDIAN, &bytes[place..]);
-        let units = put_narrowed(low, high, out);
-        if units == 0 {
-            return place;
-        }
-        place += 2 * units;
-    }
-    place
-}
-
-// Appends the bytes of sixteen units, or of fifteen, or none. Answers of how many.
-#[inline(always)]
-fn put_narrowed<O: Output>(low: u8x16, high: u8x16, out: &mut O) -> usize
-    requires { 64 ≤ O.room out.old }
-    ensures { PutsUnits O.appends low high out.old out.new result }
-{
-    if are_ascii(low, high) {
-        out.put(&low.to_array());
-        return 16;
-    }
-    out.put_sixteen(low, high)
-}
-
-// The same of many blocks. Those of characters alone are written where they stay. What comes of others is gathered in room of
-// its own, and then put at once, so that each may be written whole, with what is none of its bytes, which the next one overwrites.
-#[cold]
-#[inline(never)]
-fn narrow_many<O: Output, const BIG_ENDIAN: bool>(bytes: &[u8], out: &mut O) -> usize
-    ensures { PutsText O.appends (utf16_form BIG_ENDIAN) Form.Utf8 bytes.now out.old out.new result }
-{
-    let mut made = [0; GATHERED];
-    let mut place = 0;
-    loop {
-        place += put_ascii_blocks::<O, BIG_ENDIAN>(&bytes[place..], out);
-        place += out.put_ahead(BIG_ENDIAN, &bytes[place..]);
-        let len = put_gathered::<O, BIG_ENDIAN>(&bytes[place..], &mut made, out);
-        place += len;
-        if len < FEW {
-            return place;
-        }
-    }
-}
-
-// The same of blocks of ASCII, which are put one by one.
-#[inline(always)]
-fn put_ascii_blocks<O: Output, const BIG_ENDIAN: bool>(bytes: &[u8], out: &mut O) -> usize
-    ensures { PutsText O.appends (utf16_form BIG_ENDIAN) Form.Utf8 bytes.now out.old out.new result }
-{
-    let most = 2 * (bytes.len() / 2).min(out.room());
-    let mut place = 0;
-    while BLOCK <= most - place {
-        let (ascii, high) = sixteen_halves(BIG_ENDIAN, &bytes[place..]);
-        if !are_ascii(ascii, high) {
-            return place;
-        }
-        out.put(&ascii.to_array());
-        place += BLOCK;
-    }
-    place
-}
-
-// The same of as many blocks as fit into some room, in which they are gathered.
-#[inline(always)]
-fn put_gathered<O: Output, const BIG_ENDIAN: bool>(
+pub(crate) fn write_blocks(
+    high_first: bool,
     bytes: &[u8],
-    made: &mut [u8],
-    out: &mut O,
-) -> usize
-    ensures len { length made.new ≡ length made.old }
-    ensures puts { PutsText O.appends (utf16_form BIG_ENDIAN) Form.Utf8 bytes.now out.old out.new result }
-{
-    let most = made.len().min(out.room());
-    let (len, end) = write_blocks::<BIG_ENDIAN>(bytes, most, made);
-    out.put(&made[..end]);
-    len
-}
-
-// Writes what comes of these blocks to the front of some room, of which they take no more than so much: wide ones while there are
-// as many units, and then others. Answers how many bytes they have, and where theirs end.
-#[inline(never)]
-fn write_blocks<const BIG_ENDIAN: bool>(
-    bytes: &[u8],
-    most: usize,
     room: &mut [u8],
+    start: usize,
 ) -> (usize, usize)
-    requires { most ≤ length room.old }
-    ensures len { length room.new ≡ length room.old }
-    ensures fits { result.1 ≤ most }
-    ensures within { result.0 ≤ length bytes.now }
-    ensures text { Transcodes (utf16_form BIG_ENDIAN) Form.Utf8
-        (take result.0 bytes.now) (take result.1 room.new) }
+    requires { start ≤ length room.old }
+    ensures { RunsStrictly (utf16_form high_first) Form.Utf8 bytes.now room.old room.new start
+        result.0 result.1 }
 {
-    let (len, end) = write_wide_blocks::<BIG_ENDIAN>(bytes, most, room);
-    write_blocks_from::<BIG_ENDIAN>(bytes, len, end, most, room)
+    if bytes.len() < LONG {
+        return write_short_blocks(high_first, bytes, room, start);
+    }
+    if high_first {
+        return write_all_blocks::<true>(bytes, room, start);
+    }
+    write_all_blocks::<false>(bytes, room, start)
+}
+
+// The same in an order that is known when this is compiled.
+#[inline(never)]
+fn write_all_blocks<const BIG_ENDIAN: bool>(
+    bytes: &[u8],
+    room: &mut [u8],
+    start: usize,
+) -> (usize, usize)
+    requires { start ≤ length room.old }
+    ensures { RunsStrictly (utf16_form BIG_ENDIAN) Form.Utf8 bytes.now room.old room.new start
+        result.0 result.1 }
+{
+    let (wide, middle) = write_wide_blocks::<BIG_ENDIAN>(bytes, room, start);
+    let (len, end) = write_short_blocks(BIG_ENDIAN, &bytes[wide..], room, middle);
+    (wide + len, end)
 }
 
 // The same of wide ones alone.
 #[inline(always)]
 fn write_wide_blocks<const BIG_ENDIAN: bool>(
     bytes: &[u8],
-    most: usize,
     room: &mut [u8],
+    start: usize,
 ) -> (usize, usize)
-    requires { most ≤ length room.old }
-    ensures len { length room.new ≡ length room.old }
-    ensures fits { result.1 ≤ most }
-    ensures within { result.0 ≤ length bytes.now }
-    ensures text { Transcodes (utf16_form BIG_ENDIAN) Form.Utf8
-        (take result.0 bytes.now) (take result.1 room.new) }
+    requires { start ≤ length room.old }
+    ensures { RunsStrictly (utf16_form BIG_ENDIAN) Form.Utf8 bytes.now room.old room.new start
+        result.0 result.1 }
 {
     let mut place = 0;
-    let mut end = 0;
-    while WIDE_BLOCK <= bytes.len() - place && WIDE_ROOM <= most - end {
-        let (low, high) = thirty_two_halves(BIG_ENDIAN, &bytes[place..]);
-        let (count, next) = write_thirty_two(low, high, room, end);
-        place += 2 * count;
+    let mut end = start;
+    while WIDE_BLOCK <= bytes.len() - place && WIDE_ROOM <= room.len() - end {
+        let (len, next) = write_some_blocks::<BIG_ENDIAN>(&bytes[place..], room, end);
+        place += len;
         end = next;
-        if count == 0 {
+        if len == 0 {
             return (place, end);
         }
     }
     (place, end)
 }
 
-// The same of the blocks of sixteen units after those that were written.
+// The same of some of them: of those that are ASCII, of characters after them, and of some that have surrogates too.
 #[inline(always)]
-fn write_blocks_from<const BIG_ENDIAN: bool>(
+fn write_some_blocks<const BIG_ENDIAN: bool>(
     bytes: &[u8],
-    start: usize,
-    written: usize,
-    most: usize,
     room: &mut [u8],
+    start: usize,
 ) -> (usize, usize)
-    requires most { most ≤ length room.old }
-    requires written { written ≤ most }
-    requires start { start ≤ length bytes.now }
-    requires text { Transcodes (utf16_form BIG_ENDIAN) Form.Utf8
-        (take start bytes.now) (take written room.old) }
-    ensures len { length room.new ≡ length room.old }
-    ensures fits { result.1 ≤ most }
-    ensures within { result.0 ≤ length bytes.now }
-    ensures text { Transcodes (utf16_form BIG_ENDIAN) Form.Utf8
-        (take result.0 bytes.now) (take result.1 room.new) }
+    requires { start ≤ length room.old }
+    ensures { RunsStrictly (utf16_form BIG_ENDIAN) Form.Utf8 bytes.now room.old room.new start
+        result.0 result.1 }
 {
-    let mut place = start;
-    let mut end = written;
-    while BLOCK <= bytes.len() - place && ROOM <= most - end {
-        let (low, high) = sixteen_halves(BIG_ENDIAN, &bytes[place..]);
+    let (ascii, first) = write_ascii_blocks::<BIG_ENDIAN>(bytes, room, start);
+    let (characters, second) = write_character_blocks::<BIG_ENDIAN>(&bytes[ascii..], room, first);
+    let place = ascii + characters;
+    let (mixed, end) = write_mixed_blocks::<BIG_ENDIAN>(&bytes[place..], room, second);
+    (place + mixed, end)
+}
+
+// The same of wide ones that are ASCII.
+#[inline(always)]
+fn write_ascii_blocks<const BIG_ENDIAN: bool>(
+    bytes: &[u8],
+    room: &mut [u8],
+    start: usize,
+) -> (usize, usize)
+    requires { start ≤ length room.old }
+    ensures { RunsStrictly (utf16_form BIG_ENDIAN) Form.Utf8 bytes.now room.old room.new start
+        result.0 result.1 }
+{
+    let mut place = 0;
+    let mut end = start;
+    while WIDE_BLOCK <= bytes.len() - place && WIDE_ROOM <= room.len() - end {
+        let (low, high) = thirty_two_halves(BIG_ENDIAN, &bytes[place..]);
+        if !are_ascii(low, high) {
+            break;
+        }
+        end = write_ascii_units(low, high, room, end);
+        place += WIDE_BLOCK;
+    }
+    (place, end)
+}
+
+// The same of wide ones that are characters.
+#[inline(always)]
+fn write_character_blocks<const BIG_ENDIAN: bool>(
+    bytes: &[u8],
+    room: &mut [u8],
+    start: usize,
+) -> (usize, usize)
+    requires { start ≤ length room.old }
+    ensures { RunsStrictly (utf16_form BIG_ENDIAN) Form.Utf8 bytes.now room.old room.new start
+        result.0 result.1 }
+{
+    if bytes.len() < WIDE_BLOCK || room.len() - start < WIDE_ROOM {
+        return (0, start);
+    }
+    let (low, high) = thirty_two_halves(BIG_ENDIAN, bytes);
+    if !are_characters(high) {
+        return (0, start);
+    }
+    write_characters_from::<BIG_ENDIAN>(low, high, bytes, room, start)
+}
+
+// The same where these characters are the first block. Each block is loaded and judged before the one before it is written, so that
+// a processor does both at once.
+#[inline(always)]
+fn write_characters_from<const BIG_ENDIAN: bool>(
+    first_low: u8x32,
+    first_high: u8x32,
+    bytes: &[u8],
+    room: &mut [u8],
+    start: usize,
+) -> (usize, usize)
+    requires units { (k : ℕ) → k < 32 → lane_unit first_low first_high k ≡ unit_number BIG_ENDIAN bytes.now k }
+    requires characters { AreCharacters 32 first_high }
+    requires bytes { 64 ≤ length bytes.now }
+    requires room { start + 112 ≤ length room.old }
+    ensures { RunsStrictly (utf16_form BIG_ENDIAN) Form.Utf8 bytes.now room.old room.new start
+        result.0 result.1 }
+{
+    let mut low = first_low;
+    let mut high = first_high;
+    let mut read = 0;
+    let mut end = start;
+    while 2 * WIDE_BLOCK <= bytes.len() - read && 2 * WIDE_ROOM <= room.len() - end {
+        let (next_low, next_high) = thirty_two_halves(BIG_ENDIAN, &bytes[read + WIDE_BLOCK..]);
+        if !are_characters(next_high) {
+            break;
+        }
+        end = write_characters(low, high, room, end);
+        read += WIDE_BLOCK;
+        low = next_low;
+        high = next_high;
+    }
+    (read + WIDE_BLOCK, write_characters(low, high, room, end))
+}
+
+// The same of wide ones of any units, as far as some have surrogates.
+#[inline(never)]
+fn write_mixed_blocks<const BIG_ENDIAN: bool>(
+    bytes: &[u8],
+    room: &mut [u8],
+    start: usize,
+) -> (usize, usize)
+    requires { start ≤ length room.old }
+    ensures { RunsStrictly (utf16_form BIG_ENDIAN) Form.Utf8 bytes.now room.old room.new start
+        result.0 result.1 }
+{
+    let mut place = 0;
+    let mut end = start;
+    while WIDE_BLOCK <= bytes.len() - place && WIDE_ROOM <= room.len() - end {
+        let (low, high) = thirty_two_halves(BIG_ENDIAN, &bytes[place..]);
+        if MIXED <= place && are_characters(high) {
+            break;
+        }
+        let (count, next) = write_thirty_two(low, high, room, end);
+        place += 2 * count;
+        end = next;
+        if count == 0 {
+            break;
+        }
+    }
+    (place, end)
+}
+
+// The same of those of sixteen units.
+#[inline(always)]
+fn write_short_blocks(
+    high_first: bool,
+    bytes: &[u8],
+    room: &mut [u8],
+    start: usize,
+) -> (usize, usize)
+    requires { start ≤ length room.old }
+    ensures { RunsStrictly (utf16_form high_first) Form.Utf8 bytes.now room.old room.new start
+        result.0 result.1 }
+{
+    let mut place = 0;
+    let mut end = start;
+    while BLOCK <= bytes.len() - place && ROOM <= room.len() - end {
+        let (low, high) = sixteen_halves(high_first, &bytes[place..]);
         let (count, next) = write_sixteen(low, high, room, end);
         place += 2 * count;
         end = next;
@@ -225,22 +241,4 @@ fn write_blocks_from<const BIG_ENDIAN: bool>(
         }
     }
     (place, end)
-}
-
-// The same of blocks of eight units of ASCII.
-#[inline(always)]
-fn narrow_ascii<O: Output, const BIG_ENDIAN: bool>(bytes: &[u8], out: &mut O) -> usize
-    ensures { PutsText O.appends (utf16_form BIG_ENDIAN) Form.Utf8 bytes.now out.old out.new result }
-{
-    let mut place = 0;
-    while 16 <= bytes.len() - place && 8 <= out.room() {
-        match ascii_of_units::<BIG_ENDIAN>(&bytes[place..place + 16]) {
-            None => return place,
-            Some(ascii) => {
-                out.put(&ascii);
-                place += 16;
-            }
-        }
-    }
-    place
 }

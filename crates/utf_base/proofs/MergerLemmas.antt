@@ -156,12 +156,6 @@ kind_of_few w some few e = unbroken_kind w e ∙ kind-few w (asked_by w) (record
 pub few-1 : (a : ℕ) → 1 < asked a → merger_kind (a ∷ []) ≡ Some TooFewBytes
 few-1 a asks = kind_of_few (a ∷ []) (lit< tt) asks refl
 
-pub few-2 : (a b : ℕ) → 2 < asked a → is_continuation b ≡ true → merger_kind (a ∷ b ∷ []) ≡ Some TooFewBytes
-few-2 a b asks first = kind_of_few (a ∷ b ∷ []) (lit< tt) asks (rw (first, or-true (leb (asked a) 1)) refl)
-
-pub few-3 : (a b c : ℕ) → 3 < asked a → is_continuation b ≡ true → is_continuation c ≡ true → merger_kind (a ∷ b ∷ c ∷ []) ≡ Some TooFewBytes
-few-3 a b c asks first second = kind_of_few (a ∷ b ∷ c ∷ []) (lit< tt) asks (rw (first, second, or-true (leb (asked a) 1), or-true (leb (asked a) 2)) refl)
-
 -- the code that stands at the front of no more bytes than the first asks for is all of them
 pub whole_code : (w : List ℕ) (s : ℕ) → Stands utf8 w 0 s → asked_by w ≤ length w → (1 < length w → asked_by w ≡ length w) → w ≡ utf8 s
 whole_code w s h enough exact =

@@ -18,7 +18,7 @@ kind_of w None units e none = absurd (none (unit_value w) (units_where_no_kind w
 kind_of w (Some k) units e none = (k, e)
 
 -- a part of units is units
-part_of_units : (xs : List ℕ) (i j : ℕ) → IsUnits xs → IsUnits (slice_range xs i j)
+pub part_of_units : (xs : List ℕ) (i j : ℕ) → IsUnits xs → IsUnits (slice_range xs i j)
 part_of_units xs i j units = All-take (λ u. u < 0x1_0000) (j - i) (drop i xs) (All-drop (λ u. u < 0x1_0000) i xs units)
 
 pub unit_walk_exists : WalkExistsOver IsUnits utf16_units

@@ -1,5 +1,4 @@
 pub mod Decoded
-pub mod DebugLemmas
 pub mod DigitLemmas
 pub mod OwnCodes
 pub mod PaddedLemmas

@@ -1,9 +1,8 @@
 -- A few bytes as one vector: the first and the last of them, and where those are put.
-use Rattle.std.proofs.Common.{◌≡◌, ◌↔◌, ℕ, suc, ◌+◌, ◌-◌, ◌*◌, ◌/◌, ◌<◌, ◌≤◌, Bool, true, cond, ◌&&◌, ◌||◌, eqb, ltb, List, [], ◌∷◌, ◌++◌, length, get_or, take, replicate, arith, refl, sym, ap, subst, ◌∙◌, inl, inr, w8, eqb-true, ltb-true, length-take}
+use Rattle.std.proofs.Common.{◌≡◌, ◌↔◌, ℕ, suc, ◌+◌, ◌-◌, ◌*◌, ◌/◌, ◌<◌, ◌≤◌, Bool, true, cond, ◌&&◌, ◌||◌, eqb, ltb, List, [], ◌∷◌, ◌++◌, length, get_or, take, replicate, arith, sym, ap, subst, ◌∙◌, inl, inr, w8, eqb-true, ltb-true, length-take}
 use Rattle.std.proofs.lemmas.Bool.{and_parts, cases_lt, lt-ltb, le-ltb}
 use Rattle.std.proofs.lemmas.List.{ext_get_or, get_or_append_left, get_or-append_right, get_or-replicate, get_or-take, length-replicate, length-append}
-use Rattle.std.proofs.lemmas.Simd.{Each1-from_get_or, swz_l, SwzOk, SwzOk-from_Each1, length-swz_l, get_or-swz_l, get_or-swz_l_below, get_or-chunk}
-use lib.Dec.{T}
+use Rattle.std.proofs.lemmas.Simd.{swz_l, length-swz_l, get_or-swz_l, get_or-swz_l_below, get_or-chunk}
 use lib.Lanes.{chunk}
 use mir.Val.{zeroes}
 use Rattle.utf_lanes.specs.AsciiTexts.{AreAscii}
@@ -57,12 +56,6 @@ module _ (table : List (List ℕ)) (right : ArePast table) (i : ℕ) (few : i < 
 
   one : (k : ℕ) → k < 16 → is_past table i k ≡ true
   one k lt = at_each (is_past table i) 16 parts.1 k lt
-
-  pub row_ok : SwzOk w8 16 16 0 (get_or table i [])
-  row_ok =
-      SwzOk-from_Each1 w8 16 1 16 0 row refl (omega (arith, row_len))
-      (Each1-from_get_or (λ j. T (zeroes 16 w8 j || ltb j 16)) row 0
-      (λ k lt. let ok = and_parts (zeroes 16 w8 (get_or row k 0) || ltb (get_or row k 0) 16) _ (one k (omega (arith, row_len))) in subst T (sym ok.0) tt))
 
   module _ (v bytes : List ℕ) (len : length bytes ≡ i + 4) (lanes : (r : ℕ) → r < half i + half i → get_or v r 0 ≡ get_or bytes (end_place (half i) (length bytes) r) 0) where
     a_nul : (k : ℕ) → k < 16 → k < 12 - i → get_or (swz_l w8 16 v 0 row) k 0 ≡ get_or (replicate (12 - i) 0 ++ bytes) k 0

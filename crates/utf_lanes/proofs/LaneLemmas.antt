@@ -274,7 +274,7 @@ not_reached y x e = leb-false y x (flip (leb y x) e)
     flip false e = refl
 
 module _ {n : ℕ} (y : ℕ) (v : List ℕ) (few : n ≤ 64) (long : length v ≡ n) where
-  reach_mask_is : reach_mask n y v ≡ mask_l (map (λ x. leb y x) v)
+  pub reach_mask_is : reach_mask n y v ≡ mask_l (map (λ x. leb y x) v)
   reach_mask_is =
       let turned : zip2 at_most (replicate n y) v ≡ zip2 (λ a b. at_most b a) v (replicate n y)
       = zip2_splat_left at_most y n v long ∙ sym (zip2_splat (λ a b. at_most b a) v n y long) in

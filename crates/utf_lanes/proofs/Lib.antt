@@ -12,7 +12,6 @@ pub mod CompressPairs
 pub mod CompressRows
 pub mod CompressLanes
 pub mod LaneLemmas
-pub mod LaterPlaces
 pub mod LookUps
 pub mod NoneBegins
 pub mod PairTables
@@ -21,6 +20,7 @@ pub mod PairedUnits
 pub mod PassedLanes
 pub mod SameLanes
 pub mod SlotLanes
+pub mod StartLemmas
 pub mod SwappedBytes
 pub mod TextFollows
 pub mod TextUnits

@@ -8,3 +8,4 @@ pub mod UnitBlocks
 pub mod UnitCodes
 pub mod FewBytes
 pub mod LookUps
+pub mod Starts

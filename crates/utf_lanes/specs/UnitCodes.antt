@@ -1,5 +1,5 @@
 -- Units of UTF-16 as bytes of UTF-8: which bytes a unit gives, by it and the one before it.
-use Rattle.std.specs.Prelude.{◌≡◌, ℕ, ◌<◌, ◌+◌, ◌-◌, ◌*◌, Bool, true, false, ◌/◌, ◌%◌, if◌then◌else◌, List, [], ◌∷◌, ◌++◌, nat_lt, nat_eq, slice_index, ◌≤◌, length, take, drop}
+use Rattle.std.specs.Prelude.{◌≡◌, ℕ, ◌<◌, ◌+◌, ◌-◌, ◌*◌, Bool, true, false, ◌/◌, ◌%◌, if◌then◌else◌, List, [], ◌∷◌, ◌++◌, nat_lt, nat_eq, slice_index, ◌≤◌, length, take}
 use Rattle.std.specs.Int.{bit_at}
 use Rattle.utf_lanes.specs.Utf8ToUtf16.{concat_range}
 use Rattle.utf_lanes.specs.declared.compressed.Row.{Row}
@@ -70,10 +70,6 @@ pub record Writes (old new : List ℕ) (at end : ℕ) (bytes : List ℕ) : Type 
   pub len : length new ≡ length old
   pub front : take end new ≡ take at old ++ bytes
 
--- What stands from sixteen places after the end on stays: no vector was stored that goes further.
-pub record KeepsLater (old new : List ℕ) (end : ℕ) : Type 0 where
-  pub same : drop (end + 16) new ≡ drop (end + 16) old
-
 -- No unit of so many is a surrogate, of which one vector has the high halves.
 abbrev pub AreCharacters : ℕ → List ℕ → Type 0
 AreCharacters n high = (k : ℕ) → k < n → nat_eq (slice_index high k / 8) 0x1B ≡ false
@@ -90,12 +86,6 @@ pub record WritesUnitsOf (width : ℕ) (low high old new : List ℕ) (at n end :
 -- The same of sixteen.
 abbrev pub WritesUnits : List ℕ → List ℕ → List ℕ → List ℕ → ℕ → ℕ → ℕ → Type 0
 WritesUnits = WritesUnitsOf 16
-
--- The bytes of all of so many units were written, at least one of each, and no place that is much later is another now.
-pub record WritesCharacters (n : ℕ) (low high old new : List ℕ) (at end : ℕ) : Type 0 where
-  pub units : WritesUnitsOf n low high old new at n end
-  pub least : at + n ≤ end
-  pub later : KeepsLater old new end
 
 -- the slot in the lane k of three vectors
 abbrev pub slot_at : List ℕ → List ℕ → List ℕ → ℕ → List ℕ

@@ -1,7 +1,7 @@
 //! The bytes of slots as rows: vectors of which the first bytes count.
 ghost use Rattle.std.specs.Prelude.{◌≡◌, ◌+◌, ◌<◌, ◌≤◌, length, false, true};
 ghost use Rattle.utf_lanes.specs.Utf8ToUtf16.{IsRow};
-ghost use Rattle.utf_lanes.specs.UnitCodes.{KeepsLater, Writes, lanes_of, row_given, row_most, row_of, row_places, row_slots, rows_given};
+ghost use Rattle.utf_lanes.specs.UnitCodes.{Writes, lanes_of, row_given, row_most, row_of, row_places, row_slots, rows_given};
 
 use crate::shuffles::{COMPRESS_ENDS, COMPRESS_LANES};
 use std::simd::prelude::*;
@@ -27,7 +27,6 @@ pub(crate) fn write_rows(rows: Rows, room: &mut [u8], at: usize) -> usize
     requires high { rows.high.len ≤ 16 }
     requires room { at + 32 ≤ length room.old }
     ensures written { Writes room.old room.new at result (rows_given rows) }
-    ensures later { KeepsLater room.old room.new result }
     ensures end { result ≡ at + rows.low.len + rows.high.len }
 {
     let middle = write_row(rows.low, room, at);
@@ -41,7 +40,6 @@ fn write_row(row: Row, room: &mut [u8], at: usize) -> usize
     requires wide { length row.bytes ≡ 16 }
     requires room { at + 16 ≤ length room.old }
     ensures written { Writes room.old room.new at result (row_given row) }
-    ensures later { KeepsLater room.old room.new result }
     ensures end { result ≡ at + row.len }
 {
     row.bytes.copy_to_slice(&mut room[at..]);

@@ -19,6 +19,7 @@ pub mod paired_units;
 mod shuffles;
 mod sixteen_slots;
 mod slot_writers;
+pub mod starts;
 pub mod text_blocks;
 pub mod text_front;
 pub mod text_puts;

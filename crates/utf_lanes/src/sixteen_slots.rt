@@ -1,6 +1,6 @@
 //! Sixteen slots, written into room from a place on.
 ghost use Rattle.std.specs.Prelude.{◌≡◌, ℕ, ◌+◌, ◌*◌, ◌<◌, ◌≤◌, length, slice_index};
-ghost use Rattle.utf_lanes.specs.UnitCodes.{KeepsLater, Writes, short_slots_of, slots_of};
+ghost use Rattle.utf_lanes.specs.UnitCodes.{Writes, short_slots_of, slots_of};
 
 use crate::compressed::{rows_of, write_rows};
 use crate::slot_writers::SlotWriter;
@@ -21,7 +21,6 @@ impl SlotWriter<16> for Sixteen {
     fn write_short(middle: u8x16, last: u8x16, room: &mut [u8], at: usize) -> usize
         requires { at + (3 * 16 + 16) ≤ length room.old }
         ensures written { Writes room.old room.new at result (short_slots_of 16 middle last) }
-        ensures later { KeepsLater room.old room.new result }
         ensures most { result ≤ at + 3 * 16 }
     {
         write_rows(rows_of(true, middle, last), room, at)
@@ -31,7 +30,6 @@ impl SlotWriter<16> for Sixteen {
     fn write_slots(first: u8x16, middle: u8x16, last: u8x16, room: &mut [u8], at: usize) -> usize
         requires { at + (3 * 16 + 16) ≤ length room.old }
         ensures written { Writes room.old room.new at result (slots_of 16 first middle last) }
-        ensures later { KeepsLater room.old room.new result }
         ensures most { result ≤ at + 3 * 16 }
     {
         let (fronts, more_fronts) = first.interleave(middle);

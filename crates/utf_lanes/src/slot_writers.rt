@@ -1,6 +1,6 @@
 //! The bytes of slots, written into room from a place on, at each width of vectors.
 ghost use Rattle.std.specs.Prelude.{◌≡◌, ℕ, ◌+◌, ◌*◌, ◌<◌, ◌≤◌, length, slice_index};
-ghost use Rattle.utf_lanes.specs.UnitCodes.{KeepsLater, Writes, short_slots_of, slots_of};
+ghost use Rattle.utf_lanes.specs.UnitCodes.{Writes, short_slots_of, slots_of};
 
 use std::simd::prelude::*;
 
@@ -14,7 +14,6 @@ pub(crate) trait SlotWriter<const N: usize> {
     fn write_short(middle: Simd<u8, N>, last: Simd<u8, N>, room: &mut [u8], at: usize) -> usize
         requires { at + (3 * N + 16) ≤ length room.old }
         ensures written { Writes room.old room.new at result (short_slots_of N middle.entry last.entry) }
-        ensures later { KeepsLater room.old room.new result }
         ensures most { result ≤ at + 3 * N };
 
     fn write_slots(
@@ -27,6 +26,5 @@ pub(crate) trait SlotWriter<const N: usize> {
         requires { at + (3 * N + 16) ≤ length room.old }
         ensures written { Writes room.old room.new at result
             (slots_of N first.entry middle.entry last.entry) }
-        ensures later { KeepsLater room.old room.new result }
         ensures most { result ≤ at + 3 * N };
 }

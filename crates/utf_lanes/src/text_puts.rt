@@ -7,17 +7,16 @@ use crate::few_bytes::padded_text;
 use crate::text_units::{UnitBytes, block_units, front_units};
 use std::simd::prelude::*;
 
-/// Writes the units of the first sixteen places to the front of the room. Answers where they end.
+/// Writes the units of the first sixteen places. Answers where they end.
 #[inline(always)]
-pub fn write_first(high_first: bool, text: &[u8], room: &mut [u8]) -> usize
+pub fn write_first(high_first: bool, text: &[u8], room: &mut [u8], at: usize) -> usize
     requires long { 16 ≤ length text.now }
-    requires room { 32 ≤ length room.old }
-    ensures len { length room.new ≡ length room.old }
-    ensures units { take result room.new ≡ utf16_bytes high_first text.now 0 16 }
-    ensures most { result ≤ 32 }
+    requires room { at + 32 ≤ length room.old }
+    ensures written { Writes room.old room.new at result (utf16_bytes high_first text.now 0 16) }
+    ensures most { result ≤ at + 32 }
 {
     let (left, right) = front_units(high_first, u8x16::from_slice(text), 0);
-    let middle = write_half(&left, room, 0);
+    let middle = write_half(&left, room, at);
     write_half(&right, room, middle)
 }
 
@@ -37,17 +36,16 @@ pub fn write_few(high_first: bool, text: &[u8], room: &mut [u8]) -> usize
     write_half(&right, room, middle)
 }
 
-/// Writes the units of 64 places to the front of the room. Answers where they end.
+/// Writes the units of 64 places. Answers where they end.
 #[inline(always)]
-pub fn write_64(high_first: bool, text: &[u8], place: usize, room: &mut [u8]) -> usize
+pub fn write_64(high_first: bool, text: &[u8], place: usize, room: &mut [u8], at: usize) -> usize
     requires start { 3 ≤ place }
     requires within { place + 64 ≤ length text.now }
-    requires room { 128 ≤ length room.old }
-    ensures len { length room.new ≡ length room.old }
-    ensures units { take result room.new ≡ utf16_bytes high_first text.now place 64 }
-    ensures most { result ≤ 128 }
+    requires room { at + 128 ≤ length room.old }
+    ensures written { Writes room.old room.new at result (utf16_bytes high_first text.now place 64) }
+    ensures most { result ≤ at + 128 }
 {
-    let first = write_block(high_first, text, place, 0, room, 0);
+    let first = write_block(high_first, text, place, 0, room, at);
     let second = write_block(high_first, text, place + 16, 0, room, first);
     let third = write_block(high_first, text, place + 32, 0, room, second);
     write_block(high_first, text, place + 48, 0, room, third)

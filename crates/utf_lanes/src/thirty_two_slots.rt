@@ -1,6 +1,6 @@
 //! Thirty-two slots, written into room from a place on.
 ghost use Rattle.std.specs.Prelude.{◌≡◌, ℕ, ◌+◌, ◌*◌, ◌<◌, ◌≤◌, length, slice_index};
-ghost use Rattle.utf_lanes.specs.UnitCodes.{KeepsLater, Writes, short_slots_of, slots_of};
+ghost use Rattle.utf_lanes.specs.UnitCodes.{Writes, short_slots_of, slots_of};
 
 use crate::compressed::write_rows;
 use crate::slot_writers::SlotWriter;
@@ -22,7 +22,6 @@ impl SlotWriter<32> for ThirtyTwo {
     fn write_short(middle: u8x32, last: u8x32, room: &mut [u8], at: usize) -> usize
         requires { at + (3 * 32 + 16) ≤ length room.old }
         ensures written { Writes room.old room.new at result (short_slots_of 32 middle last) }
-        ensures later { KeepsLater room.old room.new result }
         ensures most { result ≤ at + 3 * 32 }
     {
         let (front, back) = wide_rows_of(true, middle, last);
@@ -34,7 +33,6 @@ impl SlotWriter<32> for ThirtyTwo {
     fn write_slots(first: u8x32, middle: u8x32, last: u8x32, room: &mut [u8], at: usize) -> usize
         requires { at + (3 * 32 + 16) ≤ length room.old }
         ensures written { Writes room.old room.new at result (slots_of 32 first middle last) }
-        ensures later { KeepsLater room.old room.new result }
         ensures most { result ≤ at + 3 * 32 }
     {
         let (one, three) = wide_rows_of(false, low_pairs(first, middle), low_pairs(last, last));

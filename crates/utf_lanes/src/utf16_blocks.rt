@@ -1,6 +1,6 @@
 //! Sixteen or thirty-two units of UTF-16 as bytes of UTF-8, written into room from a place on.
 ghost use Rattle.std.specs.Prelude.{◌≡◌, ℕ, ◌+◌, ◌-◌, ◌*◌, ◌<◌, ◌≤◌, true, length, slice_index};
-ghost use Rattle.utf_lanes.specs.UnitCodes.{lane_unit, AreCharacters, AreText, WritesCharacters, WritesUnits, WritesUnitsOf};
+ghost use Rattle.utf_lanes.specs.UnitCodes.{lane_unit, AreCharacters, AreText, WritesUnits, WritesUnitsOf};
 ghost use Rattle.utf_base.specs.Units.{is_leading_surrogate};
 
 use crate::sixteen_slots::Sixteen;
@@ -18,7 +18,10 @@ pub fn write_sixteen(low: u8x16, high: u8x16, room: &mut [u8], at: usize) -> (us
     requires { at + 64 ≤ length room.old }
     ensures { WritesUnits low high room.old room.new at result.0 result.1 }
 {
-    write_units::<16, Sixteen>(low, high, room, at)
+    if are_ascii(low, high) {
+        return (16, write_ascii_units(low, high, room, at));
+    }
+    write_others(low, high, room, at)
 }
 
 /// The same where they are not all ASCII.
@@ -27,16 +30,13 @@ pub fn write_others(low: u8x16, high: u8x16, room: &mut [u8], at: usize) -> (usi
     requires { at + 64 ≤ length room.old }
     ensures { WritesUnits low high room.old room.new at result.0 result.1 }
 {
-    write_coded::<16, Sixteen>(low, high, room, at)
-}
-
-/// Writes the bytes of thirty-two units, or of thirty-one, or none. Answers of how many, and where they end.
-#[inline(always)]
-pub fn write_thirty_two(low: u8x32, high: u8x32, room: &mut [u8], at: usize) -> (usize, usize)
-    requires { at + 112 ≤ length room.old }
-    ensures { WritesUnitsOf 32 low high room.old room.new at result.0 result.1 }
-{
-    write_units::<32, ThirtyTwo>(low, high, room, at)
+    if are_short(high) {
+        return (16, write_short_units::<16, Sixteen>(low, high, room, at));
+    }
+    if are_characters(high) {
+        return (16, write_long_units::<16, Sixteen>(low, high, room, at));
+    }
+    write_text::<16, Sixteen>(low, high, room, at)
 }
 
 /// Writes the bytes of thirty-two units that are characters. Answers where they end.
@@ -44,7 +44,7 @@ pub fn write_thirty_two(low: u8x32, high: u8x32, room: &mut [u8], at: usize) -> 
 pub fn write_characters(low: u8x32, high: u8x32, room: &mut [u8], at: usize) -> usize
     requires room { at + 112 ≤ length room.old }
     requires characters { AreCharacters 32 high }
-    ensures { WritesCharacters 32 low high room.old room.new at result }
+    ensures { WritesUnitsOf 32 low high room.old room.new at 32 result }
 {
     if !are_short(high) {
         return write_long_units::<32, ThirtyTwo>(low, high, room, at);
@@ -55,50 +55,21 @@ pub fn write_characters(low: u8x32, high: u8x32, room: &mut [u8], at: usize) -> 
     write_short_units::<32, ThirtyTwo>(low, high, room, at)
 }
 
-// Writes the bytes of N units, or of one less, or none.
+/// Writes the bytes of thirty-two units, or of thirty-one, or none. Answers of how many, and where they end.
 #[inline(always)]
-fn write_units<const N: usize, W: SlotWriter<N>>(
-    low: Simd<u8, N>,
-    high: Simd<u8, N>,
-    room: &mut [u8],
-    at: usize,
-) -> (usize, usize)
-    requires least { 2 ≤ N }
-    requires most { N ≤ 32 }
-    requires room { at + (3 * N + 16) ≤ length room.old }
-    ensures { WritesUnitsOf N low.entry high.entry room.old room.new at result.0 result.1 }
+pub fn write_thirty_two(low: u8x32, high: u8x32, room: &mut [u8], at: usize) -> (usize, usize)
+    requires { at + 112 ≤ length room.old }
+    ensures { WritesUnitsOf 32 low high room.old room.new at result.0 result.1 }
 {
-    if are_ascii(low, high) {
-        return (N, write_ascii_units(low, high, room, at));
+    if !are_characters(high) {
+        return write_text::<32, ThirtyTwo>(low, high, room, at);
     }
-    write_coded::<N, W>(low, high, room, at)
+    (32, write_characters(low, high, room, at))
 }
 
-// The same where they are not all ASCII.
+/// Writes the bytes of N units of ASCII. Answers where they end.
 #[inline(always)]
-fn write_coded<const N: usize, W: SlotWriter<N>>(
-    low: Simd<u8, N>,
-    high: Simd<u8, N>,
-    room: &mut [u8],
-    at: usize,
-) -> (usize, usize)
-    requires least { 2 ≤ N }
-    requires most { N ≤ 32 }
-    requires room { at + (3 * N + 16) ≤ length room.old }
-    ensures { WritesUnitsOf N low.entry high.entry room.old room.new at result.0 result.1 }
-{
-    if are_short(high) {
-        return (N, write_short_units::<N, W>(low, high, room, at));
-    }
-    if are_characters(high) {
-        return (N, write_long_units::<N, W>(low, high, room, at));
-    }
-    write_text::<N, W>(low, high, room, at)
-}
-
-// Writes the bytes of N units of ASCII.
-#[inline(always)]
-fn write_ascii_units<const N: usize>(
+pub fn write_ascii_units<const N: usize>(
     low: Simd<u8, N>,
     high: Simd<u8, N>,
     room: &mut [u8],
@@ -107,7 +78,7 @@ fn write_ascii_units<const N: usize>(
     requires most { N ≤ 32 }
     requires ascii { (k : ℕ) → k < N → lane_unit low high k < 0x80 }
     requires room { at + (3 * N + 16) ≤ length room.old }
-    ensures { WritesCharacters N low.entry high.entry room.old room.new at result }
+    ensures { WritesUnitsOf N low.entry high.entry room.old room.new at N result }
 {
     low.copy_to_slice(&mut room[at..]);
     at + N
@@ -123,7 +94,7 @@ fn write_short_units<const N: usize, W: SlotWriter<N>>(
 ) -> usize
     requires short { (k : ℕ) → k < N → slice_index high k < 8 }
     requires room { at + (3 * N + 16) ≤ length room.old }
-    ensures { WritesCharacters N low.entry high.entry room.old room.new at result }
+    ensures { WritesUnitsOf N low.entry high.entry room.old room.new at N result }
 {
     W::write_short(middle_bytes(low, high), last_bytes(low, high), room, at)
 }
@@ -138,14 +109,14 @@ fn write_long_units<const N: usize, W: SlotWriter<N>>(
 ) -> usize
     requires characters { AreCharacters N high }
     requires room { at + (3 * N + 16) ≤ length room.old }
-    ensures { WritesCharacters N low.entry high.entry room.old room.new at result }
+    ensures { WritesUnitsOf N low.entry high.entry room.old room.new at N result }
 {
     let middle = middle_bytes(low, high);
     let last = last_bytes(low, high);
     W::write_slots(first_bytes(high), middle, last, room, at)
 }
 
-// The same where some units may be surrogates.
+// The same where some units may be surrogates. Answers of how many these are, all or one less or none, and where they end.
 #[inline(always)]
 fn write_text<const N: usize, W: SlotWriter<N>>(
     low: Simd<u8, N>,

@@ -1,5 +1,5 @@
-use Rattle.std.proofs.Common.{◌+◌, arith}
-use Rattle.std.proofs.lemmas.List.{take_more_set, drop-set-lt}
+use Rattle.std.proofs.Common.{arith}
+use Rattle.std.proofs.lemmas.List.{take_more_set}
 use Rattle.recoding.proofs.fills.lay_byte.Goals as goal
 
 pub returns-clause-fills : goal.returns-clause-fills
@@ -7,5 +7,4 @@ returns-clause-fills c = record {
   ordered = omega arith;
   fits = omega (arith, c.requires);
   front = take_more_set _ _ _ c.requires;
-  rest = drop-set-lt (c.args.place + 1) c.args.room.now c.args.place c.args.byte (omega arith);
 }

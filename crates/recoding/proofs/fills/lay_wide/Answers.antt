@@ -1,6 +1,5 @@
-use Rattle.std.proofs.Common.{◌≡◌, ◌+◌, ◌≤◌, length, drop, arith, ap, refl, ◌∙◌}
-use Rattle.std.proofs.lemmas.Simd.{take_more_put_chunk, put_chunk_is}
-use Rattle.std.proofs.lemmas.Slice.{drop-put_mid}
+use Rattle.std.proofs.Common.{◌≡◌, ◌+◌, ◌≤◌, length, arith}
+use Rattle.std.proofs.lemmas.Simd.{take_more_put_chunk}
 use Rattle.recoding.proofs.fills.lay_wide.Goals as goal
 
 pub returns-clause-fills : goal.returns-clause-fills
@@ -14,5 +13,4 @@ returns-clause-fills c =
       ordered = omega arith;
       fits = c.requires;
       front = take_more_put_chunk place room block (place + 64) (omega arith) c.requires;
-      rest = ap (drop (place + 64)) (put_chunk_is place room block fits) ∙ drop-put_mid place (length block) room block (place + 64) (omega arith) (omega arith) refl;
     }

@@ -1,5 +1,5 @@
 use Rattle.std.proofs.Common.{◌≡◌, ◌+◌, ◌-◌, ◌≤◌, length, take, arith, ap, ◌∙◌, ◌++◌}
-use Rattle.std.proofs.lemmas.Slice.{take-put_mid, drop-put_mid}
+use Rattle.std.proofs.lemmas.Slice.{take-put_mid}
 use Rattle.recoding.proofs.fills.put_all.Goals as goal
 
 pub returns-clause-fills : goal.returns-clause-fills
@@ -15,5 +15,4 @@ returns-clause-fills c =
       ordered = omega arith;
       fits = omega arith;
       front = take-put_mid place (end - place) room written end (omega arith) within ∙ ap (λ xs. take place room ++ xs) bytes;
-      rest = drop-put_mid place (end - place) room written end (omega (arith, ap length bytes)) within (omega arith);
     }

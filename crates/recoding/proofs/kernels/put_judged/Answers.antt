@@ -3,4 +3,4 @@ use Rattle.recoding.proofs.TextRuns.{PutsText-given}
 use Rattle.recoding.proofs.kernels.put_judged.Goals as goal
 
 pub returns : goal.returns
-returns g c = PutsText-given _ (is_utf16 _) c.text_len-len.ensures.within c.text_len-len.ensures.text c.put_text_as_utf16.ensures
+returns g c = PutsText-given _ (is_utf16 _) c.text_len-len.ensures.within c.text_len-len.ensures.text c.put_units.ensures

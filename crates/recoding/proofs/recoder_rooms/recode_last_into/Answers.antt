@@ -1,7 +1,7 @@
-use Rattle.std.proofs.Common.{◌∙◌, drop, arith, length-drop}
+use Rattle.std.proofs.Common.{drop, arith, length-drop}
 use Rattle.std.proofs.lemmas.List.{drop-drop, take_rest}
 use Rattle.recoding.specs.NextScalars.{SettlesLast}
-use Rattle.recoding.proofs.RoomLemmas.{drop_later, Leaves-step}
+use Rattle.recoding.proofs.RoomLemmas.{Leaves-step}
 use Rattle.recoding.proofs.recoder_rooms.recode_last_into.Goals as goal
 
 pub returns-in_default-clause-leaves : goal.returns-in_default-clause-leaves
@@ -22,14 +22,12 @@ loop-read-preserved c =
     let within = d.ends.within in
     let some = d.ends.some in
     let fills = c.in-Some.ensures.some in
-    let later = fills.ordered in
     let fits = fills.fits in
     record {
       within = omega (arith, length-drop read bytes);
       fits = omega arith;
       len = omega (arith, c.put_at.auto.room);
       leaves = Leaves-step _ _ bytes read _ before.leaves d.ends fills.front;
-      rest = fills.rest ∙ drop_later _ _ _ _ later before.rest;
       few = omega (arith, before.few, d.few);
       faults = omega (arith, before.faults, rw (drop-drop first.len read bytes) at d.counts);
     }

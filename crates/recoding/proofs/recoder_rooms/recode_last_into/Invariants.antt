@@ -11,7 +11,6 @@ invariant-loop-read l = record {
   leaves : Leaves l.from l.to l.bytes (take l.written l.room) (drop l.read l.bytes);
   few : l.replaced ≤ l.read;
   faults : fault_count l.from l.bytes ≡ l.replaced + fault_count l.from (drop l.read l.bytes);
-  rest : drop l.written l.room ≡ drop l.written l.fn.room;
 }
 
 abbrev pub decreases-loop-read : goal.decreases-loop-read

@@ -1,26 +1,20 @@
-use Rattle.std.proofs.Common.{drop, arith, length-drop, refl, ◌∙◌}
+use Rattle.std.proofs.Common.{refl, ◌∙◌}
 use Rattle.std.proofs.lemmas.List.{take_rest}
-use Rattle.recoding.proofs.CopiedUnits.{rest_fits}
-use Rattle.recoding.proofs.Forms.{is_utf16}
-use Rattle.recoding.proofs.Utf16ToUtf8.{Transcodes-narrowed}
-use Rattle.recoding.proofs.TextRuns.{Transcodes-more, Transcodes-none}
+use Rattle.recoding.proofs.TextRuns.{RunsStrictly-none, RunsStrictly-then}
 use Rattle.recoding.proofs.utf16_to_utf8.write_wide_blocks.Goals as goal
 
 pub loop-place-init : goal.loop-place-init
-loop-place-init g c = record { within = omega arith; fits = omega arith; len = refl; text = Transcodes-none _ _ }
+loop-place-init g c = record { runs = RunsStrictly-none c.requires; len = refl }
 
 pub loop-place-preserved : goal.loop-place-preserved
 loop-place-preserved g c =
     let before = c.loop-place.invariant in
-    let bytes = c.args.bytes.now in
-    let place = c.loop-place.place in
-    let halves = rw (take_rest bytes place) at c.thirty_two_halves.ensures.units in
-    let put = c.write_thirty_two-count.ensures in
-    let most = put.most in
-    let fits = put.fits in
     record {
-      within = omega arith;
-      fits = omega arith;
-      len = put.len ∙ before.len;
-      text = Transcodes-more _ _ _ _ _ _ _ before.text (Transcodes-narrowed _ _ (drop place bytes) _ c.write_thirty_two-count.result.0 (is_utf16 _) (rest_fits bytes place c.type_inv.bytes) (omega (arith, length-drop place bytes)) (λ k lt. halves k (omega arith)) put.text) put.bytes;
+      runs = RunsStrictly-then before.runs before.len (rw (take_rest c.args.bytes.now c.loop-place.place) at c.write_some_blocks-len.ensures);
+      len = c.write_some_blocks-len.auto.room ∙ before.len;
     }
+
+pub returns-then-len-eq0 : goal.returns-then-len-eq0
+returns-then-len-eq0 g c =
+    let before = c.loop-place.invariant in
+    RunsStrictly-then before.runs before.len (rw (take_rest c.args.bytes.now c.loop-place.place) at c.write_some_blocks-len.ensures)

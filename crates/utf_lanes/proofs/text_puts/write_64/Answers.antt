@@ -1,12 +1,19 @@
-use Rattle.std.proofs.Common.{◌+◌, ◌≡◌, [], arith, refl}
+use Rattle.std.proofs.Common.{◌+◌, ◌≡◌, take, arith, refl, ◌∙◌}
 use Rattle.utf_lanes.proofs.TextUnits.{given_more}
 use Rattle.utf_lanes.proofs.text_puts.write_64.Goals as goal
 
-pub returns-clause-units : goal.returns-clause-units
-returns-clause-units c =
+pub returns-clause-written : goal.returns-clause-written
+returns-clause-written c =
     let p = c.args.place in
     let zero : p + 0 ≡ p = omega arith in
-    let more = given_more c.args.high_first c.args.text.now [] in
-    let two = more _ _ p 16 (p + 16 + 0) 16 32 (rw zero at c.write_block-first.ensures.written.front) c.write_block-second.ensures.written.front (omega arith) refl in
-    let three = more _ _ p 32 (p + 32 + 0) 16 48 two c.write_block-third.ensures.written.front (omega arith) refl in
-    more _ _ p 48 (p + 48 + 0) 16 64 three c.write_block.ensures.written.front (omega arith) refl
+    let first = c.write_block-first.ensures.written in
+    let second = c.write_block-second.ensures.written in
+    let third = c.write_block-third.ensures.written in
+    let last = c.write_block.ensures.written in
+    let more = given_more c.args.high_first c.args.text.now (take c.args.at c.args.room.now) in
+    let two = more _ _ p 16 (p + 16 + 0) 16 32 (rw zero at first.front) second.front (omega arith) refl in
+    let three = more _ _ p 32 (p + 32 + 0) 16 48 two third.front (omega arith) refl in
+    record {
+      len = last.len ∙ third.len ∙ second.len ∙ first.len;
+      front = more _ _ p 48 (p + 48 + 0) 16 64 three last.front (omega arith) refl;
+    }

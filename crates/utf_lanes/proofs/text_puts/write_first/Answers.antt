@@ -2,9 +2,7 @@ use Rattle.std.proofs.Common.{◌∙◌, refl}
 use Rattle.utf_lanes.proofs.TextUnits.{Writes-then, given_first}
 use Rattle.utf_lanes.proofs.text_puts.write_first.Goals as goal
 
-pub returns-clause-units : goal.returns-clause-units
-returns-clause-units c =
-    let written =
+pub returns-clause-written : goal.returns-clause-written
+returns-clause-written c =
     Writes-then c.write_half-middle.ensures.written c.write_half.ensures.written
-    (c.front_units.ensures.units ∙ given_first c.args.high_first c.args.text.now _ refl) in
-    written.front
+    (c.front_units.ensures.units ∙ given_first c.args.high_first c.args.text.now _ refl)

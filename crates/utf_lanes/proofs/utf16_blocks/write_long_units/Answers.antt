@@ -1,7 +1,6 @@
-use Rattle.std.proofs.Common.{◌<◌, ℕ, arith, get_or}
+use Rattle.std.proofs.Common.{◌<◌, ℕ, get_or}
 use Rattle.utf_lanes.proofs.JudgedUnits.{characters_are_text, character_codes, WritesUnits-all}
 use Rattle.utf_lanes.proofs.LaneLemmas.{lane_fits}
-use Rattle.utf_lanes.proofs.LaterPlaces.{WritesCharacters-of}
 use Rattle.utf_lanes.proofs.UnitSlots.{firsts_of_units}
 use Rattle.utf_lanes.proofs.utf16_blocks.write_long_units.Goals as goal
 
@@ -13,6 +12,5 @@ returns g c =
     let none = c.requires.characters in
     let put = c.write_slots.ensures in
     let first = firsts_of_units low high c.first_bytes.result fits c.first_bytes.ensures in
-    WritesCharacters-of (omega (arith, c.requires.room))
-    (WritesUnits-all (characters_are_text low high fits none) put.written
-    (character_codes low high fits none _ _ _ first.each c.middle_bytes-middle.ensures.each c.last_bytes-last.ensures.each) put.most) put.later
+    WritesUnits-all (characters_are_text low high fits none) put.written
+    (character_codes low high fits none _ _ _ first.each c.middle_bytes-middle.ensures.each c.last_bytes-last.ensures.each) put.most

@@ -35,7 +35,7 @@ returns-clause-feeds c =
     let grows = rw (sym (none_before c.min-end.result)) at (advances c).grows in
     rw (none_before c.min-end.result) at
     (FeedsInto-then r r c.hold.new.self c.args.part.now c.args.room.now c.args.room.now c.recode_into-reached.new.room 0 done.read 0 done.written c.min-end.result _
-    (FeedsInto-none r c.args.part.now c.args.room.now (omega (arith, ap length none))) (omega arith) (omega arith) run.ordered run.fits run.rest
+    (FeedsInto-none r c.args.part.now c.args.room.now (omega (arith, ap length none))) (omega arith) (omega arith) run.ordered run.fits
     (held_after r c.count_faults.new.self _ _ _ c.count_faults.ensures c.hold.ensures) grows)
 
 pub returns-clause-full : goal.returns-clause-full

@@ -4,7 +4,7 @@ use Rattle.recoding.specs.Recoded.{written, Grows}
 use Rattle.recoding.specs.NextScalars.{Settles}
 use Rattle.recoding.proofs.Advancing.{Advances-front, Replaces-of}
 use Rattle.recoding.specs.Rooms.{NextIsTooLong}
-use Rattle.recoding.proofs.RoomLemmas.{drop_later, Advances-start, Advances-more-read, FeedsInto-of, NextIsTooLong-of}
+use Rattle.recoding.proofs.RoomLemmas.{Advances-start, Advances-more-read, FeedsInto-of, NextIsTooLong-of}
 use Rattle.recoding.proofs.recoder.Recoder.feed_held.Goals as goal
 
 pub loop-self-init : goal.loop-self-init
@@ -17,7 +17,6 @@ loop-self-init c = record {
   advances = Advances-start c.args.self.now.from c.args.self.now.to c.args.self.now.held;
   uncounted = refl;
   few = omega (arith, ap (λ x. length x.held) c.self.view_is, length-take c.self.inside.count c.self.inside.held, c.self.invariant);
-  rest = refl;
   near = omega arith;
   nearer = λ moved. absurd (omega arith);
 }
@@ -43,7 +42,7 @@ returns-in_default-clause-feeds c =
     let whole : Grows r.from r.to (r.held ++ take (length part) part) [] out s.held =
     subst (λ xs. Grows r.from r.to (r.held ++ take (length part) part) [] out xs) (sym now)
     (subst (λ n. Grows r.from r.to (r.held ++ take n part) [] out (held ++ more)) all grown) in
-    rw c.progress.ensures (FeedsInto-of r s part c.args.room.now c.loop-self.room (length part) c.loop-self.written (ap (λ x. x.from) e ∙ v.from) (ap (λ x. x.to) e ∙ v.to) few (omega arith) v.fits whole v.rest)
+    rw c.progress.ensures (FeedsInto-of r s part c.args.room.now c.loop-self.room (length part) c.loop-self.written (ap (λ x. x.from) e ∙ v.from) (ap (λ x. x.to) e ∙ v.to) few (omega arith) v.fits whole)
 
 pub returns-in_default-put_at-clause-feeds : goal.returns-in_default-put_at-clause-feeds
 returns-in_default-put_at-clause-feeds c =
@@ -51,7 +50,7 @@ returns-in_default-put_at-clause-feeds c =
     let held = c.held_bytes.ensures.few in
     let few : length c.loop-self.self.held ≤ 3 = omega (arith, ap length c.held_bytes.ensures.bytes) in
     rw (c.progress-in_default-put_at.ensures, c.in_default-put_at.ensures.none)
-    (FeedsInto-of c.args.self.now c.loop-self.self c.args.part.now c.args.room.now c.loop-self.room c.loop-self.read c.loop-self.written v.from v.to few v.within v.fits v.advances.grows v.rest)
+    (FeedsInto-of c.args.self.now c.loop-self.self c.args.part.now c.args.room.now c.loop-self.room c.loop-self.read c.loop-self.written v.from v.to few v.within v.fits v.advances.grows)
 
 pub returns-in_default-put_at-clause-full : goal.returns-in_default-put_at-clause-full
 returns-in_default-put_at-clause-full c =
@@ -114,7 +113,6 @@ loop-self-preserved c =
           (Advances-more-read r.from r.to r.held part held [] out read taken v.advances) d front);
       uncounted = ap (λ x. x.replaced) e ∙ v.uncounted;
       few = omega (arith, v.few, d.few, fewer, d.decides.some);
-      rest = fills.rest ∙ drop_later _ _ _ _ later v.rest;
       near = omega arith;
       nearer = λ moved. omega arith;
     }
@@ -125,7 +123,7 @@ returns-clause-feeds c =
     let held = c.self-in-loop-self.invariant in
     let few : length c.loop-self.self.held ≤ 3 = omega (arith, ap (λ x. length x.held) c.self-in-loop-self.view_is, length-take c.self-in-loop-self.inside.count c.self-in-loop-self.inside.held) in
     rw c.progress-2.ensures
-    (FeedsInto-of c.args.self.now c.loop-self.self c.args.part.now c.args.room.now c.loop-self.room c.loop-self.read c.loop-self.written v.from v.to few v.within v.fits v.advances.grows v.rest)
+    (FeedsInto-of c.args.self.now c.loop-self.self c.args.part.now c.args.room.now c.loop-self.room c.loop-self.read c.loop-self.written v.from v.to few v.within v.fits v.advances.grows)
 
 -- What was replaced.
 

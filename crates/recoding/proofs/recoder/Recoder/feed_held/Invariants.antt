@@ -1,4 +1,4 @@
-use Rattle.std.proofs.Common.{◌≡◌, ◌+◌, ◌-◌, ◌<◌, ◌≤◌, [], ◌++◌, length, take, drop}
+use Rattle.std.proofs.Common.{◌≡◌, ◌+◌, ◌-◌, ◌<◌, ◌≤◌, [], ◌++◌, length, take}
 use Rattle.recoding.specs.Faults.{Advances}
 use Rattle.recoding.specs.Rooms.{bytes_left}
 use Rattle.recoding.proofs.recoder.Recoder.feed_held.Given as goal
@@ -13,7 +13,6 @@ invariant-loop-self l = record {
   advances : Advances l.fn.self.from l.fn.self.to (l.fn.self.held ++ take l.read l.part) [] (take l.written l.room) l.self.held l.replaced;
   uncounted : l.self.replaced ≡ l.fn.self.replaced;
   few : l.replaced + length l.self.held ≤ l.read + 3;
-  rest : drop l.written l.room ≡ drop l.written l.fn.room;
   near : bytes_left l.part l.read l.self ≤ bytes_left l.part 0 l.fn.self;
   nearer : 0 < l.read + l.written → bytes_left l.part l.read l.self < bytes_left l.part 0 l.fn.self;
 }

@@ -42,7 +42,7 @@ returns-clause-feeds c =
     let within : then.read ≤ length (drop first.read part) = rw rest at run.within in
     let now = rw rest at c.hold.ensures in
     FeedsInto-then c.args.self.now s c.hold.new.self part c.args.room.now c.feed_held-first.new.room c.recode_into-then.new.room first.read then.read first.written then.written end _
-    c.feed_held-first.ensures.feeds (omega arith) (omega arith) run.ordered (omega (arith, run.fits, c.feed_held-first.auto.room)) run.rest
+    c.feed_held-first.ensures.feeds (omega arith) (omega arith) run.ordered (omega (arith, run.fits, c.feed_held-first.auto.room))
     (held_after s c.count_faults-2.new.self _ _ _ c.count_faults-2.ensures now) (advances c).grows
 
 pub returns-clause-full : goal.returns-clause-full

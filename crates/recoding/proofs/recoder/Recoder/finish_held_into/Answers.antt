@@ -13,7 +13,7 @@ returns-clause-finishes c =
     let le : done.read ≤ c.join-len.result.1 = omega (arith, length-take c.join-len.result.1 c.join-len.result.0) in
     let held : bytes ≡ r.held = c.join-len.ensures.bytes ∙ append-nil c.held_bytes.result.now ∙ c.held_bytes.ensures.bytes in
     FinishesInto-of r c.hold.new.self c.self.inside.from c.self.inside.to bytes c.args.room.now c.recode_last_into-done.new.room done.read done.written
-    (ap (λ x. x.from) c.self.view_is) (ap (λ x. x.to) c.self.view_is) held run.leaves run.fits run.rest
+    (ap (λ x. x.from) c.self.view_is) (ap (λ x. x.to) c.self.view_is) held run.leaves run.fits
     (held_after r c.count_faults.new.self _ _ _ c.count_faults.ensures (rw (cut_part done.read c.join-len.result.1 c.join-len.result.0 le) at c.hold.ensures))
 
 pub returns-clause-full : goal.returns-clause-full

@@ -14,7 +14,7 @@ returns-then-self-eq0-clause-done c =
     let zero : c.self.inside.count ≡ 0 = omega arith in
     let none : r.held ≡ [] = sym (ap (λ x. x.held) c.self.view_is) ∙ ap (λ n. take n c.self.inside.held) zero in
     let same : FinishesInto r c.args.room.now c.args.room.now 0 r
-    = record { leaves = λ rest whole. whole; from = refl; to = refl; few = omega arith; fits = omega arith; rest = refl } in
+    = record { leaves = λ rest whole. whole; from = refl; to = refl; few = omega arith; fits = omega arith } in
     rw c.progress.ensures (λ _. Finishes-of r r c.args.room.now c.args.room.now 0 same none)
 
 pub returns-then-self-eq0-clause-outcome_done : goal.returns-then-self-eq0-clause-outcome_done

@@ -1,6 +1,5 @@
-use Rattle.std.proofs.Common.{◌++◌, arith, ap₂, ◌∙◌}
+use Rattle.std.proofs.Common.{◌++◌, ap₂, ◌∙◌}
 use Rattle.utf_lanes.proofs.BlockUnits.{first_pairs, last_pairs, first_pairs_at, last_pairs_at}
-use Rattle.utf_lanes.proofs.LaterPlaces.{KeepsLater-then}
 use Rattle.utf_lanes.proofs.SlotLanes.{sixteen_slots}
 use Rattle.utf_lanes.proofs.TextUnits.{Writes-then}
 use Rattle.utf_lanes.proofs.sixteen_slots.SixteenSlotWriter16.write_slots.Goals as goal
@@ -17,6 +16,3 @@ returns-clause-written c =
     (ap₂ (λ xs ys. xs ++ ys) c.rows_of.ensures.bytes c.rows_of-2.ensures.bytes
     ∙ sixteen_slots first middle last (first_pairs first middle p q) (last_pairs first middle p q) (first_pairs last last r r) (last_pairs last last r r)
     (first_pairs_at first middle p q) (last_pairs_at first middle p q) (first_pairs_at last last r r) (last_pairs_at last last r r))
-
-pub returns-clause-later : goal.returns-clause-later
-returns-clause-later c = KeepsLater-then c.write_rows-half.ensures.later c.write_rows.ensures.later (omega arith)

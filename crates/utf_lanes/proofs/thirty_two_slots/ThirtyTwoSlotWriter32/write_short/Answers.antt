@@ -1,5 +1,4 @@
-use Rattle.std.proofs.Common.{◌++◌, arith, ap₂, ◌∙◌}
-use Rattle.utf_lanes.proofs.LaterPlaces.{KeepsLater-then}
+use Rattle.std.proofs.Common.{◌++◌, ap₂, ◌∙◌}
 use Rattle.utf_lanes.proofs.SlotLanes.{short_halves}
 use Rattle.utf_lanes.proofs.TextUnits.{Writes-then}
 use Rattle.utf_lanes.proofs.thirty_two_slots.ThirtyTwoSlotWriter32.write_short.Goals as goal
@@ -8,6 +7,3 @@ pub returns-clause-written : goal.returns-clause-written
 returns-clause-written c =
     Writes-then c.write_rows-half.ensures.written c.write_rows.ensures.written
     (ap₂ (λ xs ys. xs ++ ys) c.wide_rows_of.ensures.front c.wide_rows_of.ensures.back ∙ short_halves c.args.middle c.args.last)
-
-pub returns-clause-later : goal.returns-clause-later
-returns-clause-later c = KeepsLater-then c.write_rows-half.ensures.later c.write_rows.ensures.later (omega arith)

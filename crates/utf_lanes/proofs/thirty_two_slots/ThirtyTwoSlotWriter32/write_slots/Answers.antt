@@ -1,5 +1,4 @@
-use Rattle.std.proofs.Common.{◌++◌, arith, ap₂, ◌∙◌, take, drop}
-use Rattle.utf_lanes.proofs.LaterPlaces.{KeepsLater-then}
+use Rattle.std.proofs.Common.{◌++◌, ap₂, ◌∙◌, take, drop}
 use Rattle.utf_lanes.proofs.SlotLanes.{sixteen_slots, slot_halves}
 use Rattle.utf_lanes.proofs.TextUnits.{Writes-then}
 use Rattle.utf_lanes.proofs.thirty_two_slots.ThirtyTwoSlotWriter32.write_slots.Goals as goal
@@ -24,9 +23,3 @@ returns-clause-written c =
     ∙ sixteen_slots (drop 16 first) (drop 16 middle) (drop 16 last) (drop 16 fronts.result) (drop 16 more_fronts.result) (drop 16 ends.result) (drop 16 more_ends.result)
     fronts.ensures.back more_fronts.ensures.back ends.ensures.back more_ends.ensures.back) in
     Writes-then front back (slot_halves first middle last)
-
-pub returns-clause-later : goal.returns-clause-later
-returns-clause-later c =
-    let front = KeepsLater-then c.write_rows-quarter.ensures.later c.write_rows-half.ensures.later (omega arith) in
-    let back = KeepsLater-then c.write_rows-most.ensures.later c.write_rows.ensures.later (omega arith) in
-    KeepsLater-then front back (omega arith)

@@ -1,0 +1,24 @@
+use Rattle.std.proofs.Common.{drop, arith, length-drop, refl, ◌∙◌}
+use Rattle.std.proofs.lemmas.List.{take_rest}
+use Rattle.recoding.proofs.CopiedUnits.{rest_fits}
+use Rattle.recoding.proofs.Forms.{is_utf16}
+use Rattle.recoding.proofs.Utf16ToUtf8.{Transcodes-narrowed}
+use Rattle.recoding.proofs.TextRuns.{RunsStrictly-none, RunsStrictly-units}
+use Rattle.recoding.proofs.utf16_to_utf8.write_ascii_blocks.Goals as goal
+
+pub loop-place-init : goal.loop-place-init
+loop-place-init g c = record { runs = RunsStrictly-none c.requires; len = refl }
+
+pub loop-place-preserved : goal.loop-place-preserved
+loop-place-preserved g c =
+    let before = c.loop-place.invariant in
+    let bytes = c.args.bytes.now in
+    let place = c.loop-place.place in
+    let halves = rw (take_rest bytes place) at c.thirty_two_halves.ensures.units in
+    let put = c.write_ascii_units-end.ensures in
+    let fits = put.fits in
+    let len = before.len in
+    let codes =
+    Transcodes-narrowed _ _ (drop place bytes) _ 32 (is_utf16 _) (rest_fits bytes place c.type_inv.bytes) (omega (arith, length-drop place bytes))
+    (λ k lt. halves k lt) put.text in
+    record { runs = RunsStrictly-units before.runs len put (omega arith) (omega arith) codes; len = put.len ∙ len }

@@ -1,0 +1,21 @@
+use Rattle.std.proofs.Common.{◌≡◌, ℕ, ◌+◌, ◌-◌, ◌<◌, ◌≤◌, not, length, drop}
+use Rattle.std.specs.Prelude.{eqb}
+use Rattle.recoding.specs.NextScalars.{utf16_form}
+use Rattle.recoding.specs.Strict.{RunsStrictly}
+use Rattle.recoding.specs.declared.form.Form.TheVariants.{Utf8}
+use Rattle.utf_lanes.specs.BytePairs.{unit_number}
+use Rattle.utf_lanes.specs.UnitCodes.{lane_unit, AreCharacters}
+use Rattle.recoding.proofs.utf16_to_utf8.write_characters_from.Given as goal
+
+abbrev pub invariant-loop-read : goal.invariant-loop-read
+invariant-loop-read g l = record {
+  bytes : l.read + 64 ≤ length l.bytes;
+  room : l.end + 112 ≤ length l.room;
+  runs : RunsStrictly (utf16_form (not (eqb g.row.BIG_ENDIAN 0))) Utf8 l.bytes l.fn.room l.room l.start l.read l.end;
+  len : length l.room ≡ length l.fn.room;
+  units : (k : ℕ) → k < 32 → lane_unit l.low l.high k ≡ unit_number (not (eqb g.row.BIG_ENDIAN 0)) (drop l.read l.bytes) k;
+  characters : AreCharacters 32 l.high;
+}
+
+abbrev pub decreases-loop-read : goal.decreases-loop-read
+decreases-loop-read g l = length l.bytes - l.read

@@ -1,0 +1,145 @@
+//! The end of a list that has capacity.
+ghost use Rattle.std.specs.Prelude.{◌≡◌, ◌+◌, ◌-◌, ◌*◌, ◌≤◌, length, vec_len, vec_capacity};
+ghost use Rattle.recoding.specs.NextScalars.{utf16_form};
+ghost use Rattle.recoding.specs.Outputs.{Extends, Lengthens};
+ghost use Rattle.recoding.specs.Recodes.{PutsUnits};
+ghost use Rattle.recoding.specs.Strict.{PutsText};
+ghost use Rattle.utf_lanes.specs.Utf8ToUtf16.{utf16_bytes};
+
+use crate::form::Form;
+use crate::output::Output;
+use crate::utf8_to_utf16::widen_text;
+use crate::utf16_to_utf8::{BLOCK, ROOM};
+use std::alloc::Allocator;
+use std::simd::prelude::*;
+use utf_lanes::unit_bytes::{are_ascii, sixteen_halves};
+use utf_lanes::utf16_blocks::write_others;
+
+// How many zeros are appended at once: so few that the C library stores them by vectors.
+const AT_ONCE: usize = 1984;
+
+impl<A: Allocator> Output for Vec<u8, A> {
+    ghost use Rattle.std.specs.Prelude.{◌-◌, vec_len, vec_capacity};
+    ghost use Rattle.recoding.specs.Outputs.{Extends, Extends-none, Extends-more, Extends-room};
+
+    ghost room = { λ v. vec_capacity v - vec_len v };
+
+    ghost appends = { Extends };
+
+    ghost appends_none = { Extends-none };
+
+    ghost appends_more = { Extends-more };
+
+    ghost appends_room = { Extends-room };
+
+    #[inline(always)]
+    fn room(&self) -> usize {
+        self.capacity() - self.len()
+    }
+
+    #[inline(always)]
+    fn put(&mut self, bytes: &[u8]) {
+        let _ = self.extend_from_slice(bytes);
+    }
+
+    #[inline(always)]
+    fn put_byte(&mut self, byte: u8) {
+        self.push_reserved(byte);
+    }
+
+    #[inline(never)]
+    fn put_wide(&mut self, block: u8x64) {
+        let _ = self.extend_from_slice(&block.to_array());
+    }
+
+    #[inline(always)]
+    fn put_units(&mut self, high_first: bool, text: &[u8]) {
+        append_units(high_first, text, self);
+    }
+
+    #[inline(always)]
+    fn put_blocks(&mut self, high_first: bool, bytes: &[u8]) -> usize {
+        append_blocks(high_first, bytes, self)
+    }
+}
+
+// Appends the units that the places of some text give. They are written where they stay, over zeros, of which those after them then
+// go.
+#[inline(never)]
+fn append_units<A: Allocator>(high_first: bool, text: &[u8], out: &mut Vec<u8, A>)
+    requires long { 32 ≤ length text.now }
+    requires room { 3 * length text.now ≤ vec_capacity out.old - vec_len out.old }
+    ensures { Extends out.old (utf16_bytes high_first text.now 0 (length text.now)) out.new }
+{
+    let start = out.len();
+    append_zeros(2 * text.len() + 32, out);
+    let last = widen_text(high_first, text, out.as_mut_slice(), start);
+    out.truncate(last);
+}
+
+// Appends so many zeros.
+#[inline(always)]
+fn append_zeros<A: Allocator>(count: usize, out: &mut Vec<u8, A>)
+    requires { count ≤ vec_capacity out.old - vec_len out.old }
+    ensures { Lengthens out.old out.new count }
+{
+    let mut left = count;
+    while AT_ONCE < left {
+        append_few_zeros(AT_ONCE, out);
+        left -= AT_ONCE;
+    }
+    append_few_zeros(left, out);
+}
+
+// The same at once.
+#[inline(always)]
+fn append_few_zeros<A: Allocator>(count: usize, out: &mut Vec<u8, A>)
+    requires { count ≤ vec_capacity out.old - vec_len out.old }
+    ensures { Lengthens out.old out.new count }
+{
+    let _ = out.resize(out.len() + count, 0);
+}
+
+// Recodes the blocks of sixteen units at the front of the bytes as UTF-8, as far as they have no fault and the room is surely
+// enough. One that a leading surrogate ends is a unit short. Answers how many bytes they have.
+#[inline(always)]
+fn append_blocks<A: Allocator>(high_first: bool, bytes: &[u8], out: &mut Vec<u8, A>) -> usize
+    ensures { PutsText Extends (utf16_form high_first) Form.Utf8 bytes.now out.old out.new result }
+{
+    let mut place = 0;
+    while BLOCK <= bytes.len() - place && ROOM <= out.room() {
+        let (low, high) = sixteen_halves(high_first, &bytes[place..]);
+        let units = append_block(low, high, out);
+        if units == 0 {
+            return place;
+        }
+        place += 2 * units;
+    }
+    place
+}
+
+// Appends the bytes of sixteen units, or of fifteen, or none. Answers of how many.
+#[inline(always)]
+fn append_block<A: Allocator>(low: u8x16, high: u8x16, out: &mut Vec<u8, A>) -> usize
+    requires { 64 ≤ vec_capacity out.old - vec_len out.old }
+    ensures { PutsUnits Extends low high out.old out.new result }
+{
+    if are_ascii(low, high) {
+        out.put(&low.to_array());
+        return 16;
+    }
+    append_others(low, high, out)
+}
+
+// The same where they are not all ASCII. They are written where they stay, and then those that are none of theirs go.
+#[inline(always)]
+fn append_others<A: Allocator>(low: u8x16, high: u8x16, out: &mut Vec<u8, A>) -> usize
+    requires { 64 ≤ vec_capacity out.old - vec_len out.old }
+    ensures { PutsUnits Extends low high out.old out.new result }
+{
+    let start = out.len();
+    out.put(&[0; 64]);
+    let (units, end) = write_others(low, high, out.as_mut_slice(), start);
+    out.truncate(end);
+    units
+}

@@ -1,0 +1,9 @@
+use Rattle.std.proofs.Common.{◌≡◌, ◌-◌, ◌≤◌, length, take}
+use Rattle.utf_lanes.specs.Starts.{start_count}
+use Rattle.utf_lanes.proofs.starts.nth_start.Given as goal
+
+abbrev pub invariant-loop-place : goal.invariant-loop-place
+invariant-loop-place l = (l.place ≤ length l.bytes) × (l.before ≡ start_count (take l.place l.bytes)) × (l.before ≤ l.number)
+
+abbrev pub decreases-loop-place : goal.decreases-loop-place
+decreases-loop-place l = length l.bytes - l.place

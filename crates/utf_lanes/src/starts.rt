@@ -1,0 +1,115 @@
+//! Bytes that begin a code, counted in blocks of 64: of text, how many characters it has, and where one of them begins.
+ghost use Rattle.std.specs.Prelude.{◌≡◌, ◌+◌, ◌^◌, ◌<◌, ◌≤◌, MatchOption, length, slice_range, take};
+ghost use Rattle.utf_lanes.specs.Starts.{IsStartOf, start_count};
+
+use std::simd::prelude::*;
+use utf_base::elements::is_continuation;
+
+/// How many of the bytes are no continuation byte: of text, how many characters it has.
+#[inline]
+pub fn starts_in(bytes: &[u8]) -> usize
+    ensures { result ≡ start_count bytes.now }
+{
+    let counted = counted_up_to(bytes, usize::MAX);
+    counted.starts + short_starts(&bytes[counted.place..])
+}
+
+/// Where the byte with this number stands, counted from 0, of those that are no continuation byte. `None` if there are no more.
+#[inline]
+pub fn nth_start(bytes: &[u8], number: usize) -> Option<usize>
+    ensures { MatchOption result (start_count bytes.now ≤ number) (IsStartOf bytes.now number) }
+{
+    let counted = counted_up_to(bytes, number);
+    let mut place = counted.place;
+    let mut before = counted.starts;
+    while place < bytes.len() {
+        if !is_continuation(bytes[place]) {
+            if before == number {
+                return Some(place);
+            }
+            before += 1;
+        }
+        place += 1;
+    }
+    None
+}
+
+// A place, and how many bytes before it begin a code.
+#[derive(Clone, Copy, Drop)]
+struct Counted {
+    place: usize,
+    starts: usize,
+}
+
+// Blocks of 64 from the front on, as long as no more than so many of their bytes begin a code.
+#[inline(always)]
+fn counted_up_to(bytes: &[u8], most: usize) -> Counted
+    ensures within { result.place ≤ length bytes.now }
+    ensures starts { result.starts ≡ start_count (take result.place bytes.now) }
+    ensures most { result.starts ≤ most }
+{
+    let mut counted = Counted {
+        place: 0,
+        starts: 0,
+    };
+    while 64 <= bytes.len() - counted.place {
+        let more = block_starts(bytes, counted.place);
+        if most - counted.starts < more {
+            return counted;
+        }
+        counted.starts += more;
+        counted.place += 64;
+    }
+    counted
+}
+
+// How many of the 64 bytes from the place on begin a code.
+#[inline(always)]
+fn block_starts(bytes: &[u8], place: usize) -> usize
+    requires { place + 64 ≤ length bytes.now }
+    ensures { result ≡ start_count (slice_range bytes.now place (place + 64)) }
+{
+    lane_starts(bytes, place) + lane_starts(bytes, place + 32)
+}
+
+// The same of 32. A continuation byte is below 0x40, once 0x80 is added.
+#[inline(always)]
+fn lane_starts(bytes: &[u8], place: usize) -> usize
+    requires { place + 32 ≤ length bytes.now }
+    ensures { result ≡ start_count (slice_range bytes.now place (place + 32)) }
+{
+    let lanes = u8x32::from_slice(&bytes[place..]) + u8x32::splat(0x80);
+    lanes.simd_ge(u8x32::splat(0x40)).to_bitmask().count_ones() as usize
+}
+
+// The same of few blocks of sixteen, and what is left.
+#[inline(always)]
+fn short_starts(bytes: &[u8]) -> usize
+    ensures { result ≡ start_count bytes.now }
+{
+    let mut place = 0;
+    let mut starts = 0;
+    while 16 <= bytes.len() - place {
+        starts += short_lane_starts(bytes, place);
+        place += 16;
+    }
+    starts + few_starts(&bytes[place..])
+}
+
+// Those of sixteen.
+#[inline(always)]
+fn short_lane_starts(bytes: &[u8], place: usize) -> usize
+    requires { place + 16 ≤ length bytes.now }
+    ensures { result ≡ start_count (slice_range bytes.now place (place + 16)) }
+{
+    let lanes = u8x16::from_slice(&bytes[place..]) + u8x16::splat(0x80);
+    lanes.simd_ge(u8x16::splat(0x40)).to_bitmask().count_ones() as usize
+}
+
+// The same of all, one by one.
+#[inline(always)]
+fn few_starts(bytes: &[u8]) -> usize
+    ensures { result ≡ start_count bytes.now }
+{
+    bytes.iter().filter(|byte| !is_continuation(**byte)).count()
+}
