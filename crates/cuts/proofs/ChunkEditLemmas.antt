@@ -8,8 +8,6 @@ use Rattle.std.proofs.Math.ListN.{set}
 use Rattle.std.specs.List.{concat, splice}
 use Rattle.std.specs.Prelude.{OnErr, slice_range}
 use Rattle.utf_base.specs.Code.{utf8}
-use Rattle.utf_base.specs.Piece.{Inside}
-use Rattle.utf_base.proofs.Standing.{outside_front, outside_end}
 use Rattle.cuts.specs.declared.buffers.counts.Counts.{Counts}
 use Rattle.cuts.specs.declared.buffers.text_buffer.Edit.{Edit}
 use Rattle.cuts.specs.ChunkEdits.{IsWindow, Surrounds}
@@ -19,7 +17,7 @@ use Rattle.cuts.specs.Counts.{counts_of, sum_of, exchange_of, AreAmong, IsSmall}
 use Rattle.cuts.proofs.ChunkLists.{take_up_to, EndOutside-one, EndOutside-append, EndOutside-front, EndOutside-rest, spot_within, concat-take-more, concat-take-le}
 use Rattle.cuts.proofs.CountLemmas.{Seams, counts_joined, counts_small}
 use Rattle.cuts.proofs.JoinedPieces.{inside_front, inside_rest}
-use Rattle.cuts.proofs.WindowEdits.{WindowEdit, window_edit}
+use Rattle.cuts.proofs.WindowEdits.{window_edit}
 
 -- The bytes of the chunks from one to another.
 pub record ChunkParts (chunks : List (List ℕ)) (i j p q : ℕ) : Type 0 where

@@ -1,9 +1,8 @@
 -- What the parts of a text count is what the whole counts, where no code lies over a seam.
-use Rattle.std.proofs.Common.{◌≡◌, ℕ, ◌+◌, ◌-◌, ◌^◌, ◌<◌, ◌≤◌, List, [], ◌∷◌, ◌++◌, length, map, arith, refl, ap, ap₂, sym, ◌∙◌, Ok, Err, Result, length-append}
+use Rattle.std.proofs.Common.{◌≡◌, ℕ, ◌+◌, ◌-◌, ◌^◌, ◌<◌, ◌≤◌, List, [], ◌∷◌, ◌++◌, length, map, arith, refl, ap, ap₂, sym, ◌∙◌, Ok, Err, length-append}
 use Rattle.std.proofs.lemmas.List.{length-map}
 use Rattle.std.proofs.lemmas.List.Sums.{sum_by-cons, sum_by-append, count_by-le-length}
-use Rattle.std.specs.Prelude.{Bool, count_by, cond, is_err, is_none, nat_eq}
-use Rattle.std.specs.Result.{result_ok}
+use Rattle.std.specs.Prelude.{Bool, count_by, cond, is_none, nat_eq}
 use Rattle.utf_base.specs.Code.{utf8}
 use Rattle.utf_base.specs.Piece.{Inside, Piece}
 use Rattle.utf_base.proofs.CutChanges.{moved}

@@ -1,12 +1,14 @@
 -- Lists of faults: what a character and a fault at the front leave of them, and what text does.
-use Rattle.std.proofs.Common.{◌≡◌, ℕ, zero, suc, ◌+◌, ◌-◌, ◌<◌, ◌≤◌, Bool, true, false, List, [], ◌∷◌, ◌++◌, length, length-append, length-drop, length-set, filter, is_err, map, min, set, take, drop, cond, Result, Ok, Err, arith, refl, ap, sym, ◌∙◌, append_assoc}
+use Rattle.std.proofs.Common.{◌≡◌, ℕ, zero, suc, ◌+◌, ◌-◌, ◌<◌, ◌≤◌, Bool, true, false, List, [], ◌∷◌, ◌++◌, length, length-append, length-drop, length-set, filter, is_err, map, min, set, take, drop, cond, Result, Ok, Err, arith, refl, ap, subst, sym, ◌∙◌, append_assoc}
 use Rattle.std.proofs.Math.Seq.{drop-append_seam, take-append_seam}
 use Rattle.std.proofs.lemmas.List.{drop-drop, drop-set-lt, drop_all, map-append, take_more_set, take_rest}
+use Rattle.std.proofs.lemmas.List.Sums.{length-filter}
 use Rattle.std.specs.Prelude.{slice_range}
 use Rattle.utf_base.specs.Decoded.{decoded, decoded_pairs}
 use Rattle.utf_base.specs.Front.{IsFrontLen}
-use Rattle.encode_unicode.specs.Pieces.{pieces_by}
+use Rattle.encode_unicode.specs.Pieces.{pieces, pieces_by}
 use Rattle.encode_unicode.specs.Window.{Placed, Window, as_piece, elements, whole_window}
+use Rattle.cuts.specs.ForwardRuns.{faulty_item_count}
 use Rattle.cuts.specs.FaultLists.{BeginsWithFault, FindsFaults, unit_faults}
 use Rattle.cuts.specs.ShardRuns.{faults, moved}
 use Rattle.cuts.specs.WellFormed.{valid_len}
@@ -56,7 +58,7 @@ module _ {E : Type 0} (answer : List ℕ → Result (ℕ × ℕ) E) (some : (xs 
   fault_step place w k n h e = ap (filter (λ x. is_err x.1)) (pieces_known place w (Err k, n) h e)
 
   -- text has none
-  text_step_by : (fuel place p : ℕ) (w : List ℕ) (n : ℕ) → length w ≤ fuel → n ≡ valid_len (pieces_by answer (length w) p w) → faults_by answer place w ≡ faults_by answer (place + n) (drop n w)
+  pub text_step_by : (fuel place p : ℕ) (w : List ℕ) (n : ℕ) → length w ≤ fuel → n ≡ valid_len (pieces_by answer (length w) p w) → faults_by answer place w ≡ faults_by answer (place + n) (drop n w)
   text_step_by fuel place p [] n le e = faults_none place ∙ sym (ap (faults_by answer (place + n)) (drop_nothing n) ∙ faults_none (place + n))
     where
       drop_nothing : (n : ℕ) → drop {A = ℕ} n [] ≡ []
@@ -96,6 +98,40 @@ filter_moved {E} i (x ∷ items) = by (is_err x.1) (filter_moved i items)
         → cond b (moved i x ∷ filter (λ x. is_err x.1) (map (moved i) items)) (filter (λ x. is_err x.1) (map (moved i) items)) ≡ map (moved i) (cond b (x ∷ filter (λ x. is_err x.1) items) (filter (λ x. is_err x.1) items))
     by true e = ap (λ ys. moved i x ∷ ys) e
     by false e = e
+
+-- A run that counts faults has come so far, and so many are before that place.
+pub record AreCounted {E : Type 0} (answer : List ℕ → Result (ℕ × ℕ) E) (xs : List ℕ) (read count : ℕ) : Type 0 where
+  pub all : length (faults_by answer 0 xs) ≡ count + length (faults_by answer read (drop read xs))
+  pub within : read ≤ length xs
+  pub few : count ≤ read
+
+module _ {E : Type 0} (answer : List ℕ → Result (ℕ × ℕ) E) (some : (xs : List ℕ) → 1 ≤ (as_piece (answer xs)).1) (xs : List ℕ) where
+  -- after a character, and the text after it
+  pub counted_text : (read count s m n : ℕ) → AreCounted answer xs read count → read < length xs → m ≤ length (drop read xs) → as_piece (answer (drop read xs)) ≡ (Ok s, m)
+      → n ≤ length (drop (read + m) xs) → n ≡ valid_len (pieces_by answer (length (drop (read + m) xs)) 0 (drop (read + m) xs)) → AreCounted answer xs (read + m + n) count
+  counted_text read count s m n h lt fits known most e =
+      let left = length-drop read xs in
+      let left_then = length-drop (read + m) xs in
+      let within = h.within in
+      let few = h.few in
+      let char = char_step answer some read (drop read xs) s m (omega arith) known ∙ ap (faults_by answer (read + m)) (drop-drop m read xs) in
+      let text = text_step_by answer some (length (drop (read + m) xs)) (read + m) 0 (drop (read + m) xs) n (omega arith) e ∙ ap (faults_by answer (read + m + n)) (drop-drop n (read + m) xs) in
+      record { all = h.all ∙ ap (λ fs. count + length fs) (char ∙ text); within = omega arith; few = omega arith }
+
+  pub counted_fault : (read count n : ℕ) (k : E) → AreCounted answer xs read count → read < length xs → n ≤ length (drop read xs) → as_piece (answer (drop read xs)) ≡ (Err k, n) → AreCounted answer xs (read + n) (count + 1)
+  counted_fault read count n k h lt fits known =
+      let left = length-drop read xs in
+      let least : 1 ≤ n = subst (λ j. 1 ≤ j) (ap (λ x. x.1) known) (some (drop read xs)) in
+      let within = h.within in
+      let few = h.few in
+      let fault : length (faults_by answer read (drop read xs)) ≡ suc (length (faults_by answer (read + n) (drop n (drop read xs)))) = ap length (fault_step answer some read (drop read xs) k n (omega arith) known) in
+      let there = ap (λ v. length (faults_by answer (read + n) v)) (drop-drop n read xs) in
+      record { all = omega (arith, h.all, fault, there); within = omega arith; few = omega arith }
+
+  pub counted_all : (read count : ℕ) → AreCounted answer xs read count → length xs ≤ read → count ≡ length (faults_by answer 0 xs)
+  counted_all read count h end =
+      let no_fault : length (faults_by answer read (drop read xs)) ≡ 0 = ap (λ w. length (faults_by answer read w)) (drop_all read xs end) ∙ ap length (faults_none answer some read) in
+      omega (arith, h.all)
 
 -- A run that looks for faults: so many are written, and it has come so far.
 pub record IsSoFar {E P : Type 0} (made : Placed E → P) (answer : List ℕ → Result (ℕ × ℕ) E) (xs : List ℕ) (old new : List P) (read wrote : ℕ) : Type 0 where
@@ -234,3 +270,6 @@ faults_are w = ap (faults_by decoded 0) (take_rest w 0)
 
 pub unit_faults_are : (w : List ℕ) → unit_faults w ≡ faults_by decoded_pairs 0 w
 unit_faults_are w = ap (faults_by decoded_pairs 0) (take_rest w 0)
+
+pub fault_count_is : (w : List ℕ) → faulty_item_count (pieces w) ≡ length (faults_by decoded 0 w)
+fault_count_is w = sym (length-filter (λ x. is_err x.1) (pieces w)) ∙ ap length (faults_are w)

@@ -7,7 +7,7 @@ use Rattle.std.proofs.Math.Seq.{drop-append-add}
 use Rattle.recoding.specs.declared.form.Form.{Form}
 use Rattle.cuts.specs.declared.located.LocatedPiece.{LocatedPiece}
 use Rattle.cuts.specs.declared.located.Spot.{Spot}
-use Rattle.cuts.specs.Located.{Begins, BeginsSome, Decoding, FeedsPieces, FeedsRest, FinishesPieces, IsOpen, Locates, Puts, Told, WritesPieces, at_offset, first_told, located, wrapped}
+use Rattle.cuts.specs.Located.{Begins, Decoding, FeedsKept, FeedsRest, FinishesKept, IsOpen, KeepsEach, Locates, PutsKept, Told, WritesPlaces, WritesPieces, at_offset, first_told, located, wrapped}
 use Rattle.cuts.proofs.LocatedLemmas.{Begins-before, Locates-none, Locates-one, Locates-then, first_some, located_first}
 
 -- without n elements at the front
@@ -27,26 +27,37 @@ drop_both n xs ys =
 WritesPieces-none : {P : Type 0} (made : LocatedPiece → P) (room : List P) → WritesPieces made [] room room 0
 WritesPieces-none made room = record { fits = omega arith; front = refl; rest = refl; len = refl }
 
-WritesPieces-one : {P : Type 0} {made : LocatedPiece → P} {given : List LocatedPiece} {old room : List P} {wrote : ℕ} {piece : P} (x : LocatedPiece) → WritesPieces made given old room wrote
-    → wrote < length room → piece ≡ made x → WritesPieces made (given ++ x ∷ []) old (set room wrote piece) (wrote + 1)
-WritesPieces-one {made = made} {given = given} {old = old} {room = room} {wrote = wrote} {piece = piece} x h lt is =
+-- more pieces
+WritesPieces-then : {P : Type 0} {made : LocatedPiece → P} {given : List LocatedPiece} {old room new : List P} {at to : ℕ} (more : List LocatedPiece) → WritesPieces made given old room at
+    → WritesPlaces (map made more) room new at to → WritesPieces made (given ++ more) old new to
+WritesPieces-then {made = made} {given = given} {old = old} {room = room} {at = at} {to = to} more h w =
     let len = h.len in
+    let on = w.on in
+    let fits = w.fits in
+    let k = to - at in
+    let e : to ≡ at + k = omega arith in
     record {
       fits = omega arith;
-      front = take_more_set room wrote piece lt ∙ ap (λ ps. ps ++ piece ∷ []) h.front ∙ ap (λ p. map made given ++ p ∷ []) is ∙ sym (map-append made given (x ∷ []));
-      rest = drop-set-lt (wrote + 1) room wrote piece (omega arith) ∙ sym (drop-drop 1 wrote room) ∙ ap (drop 1) h.rest ∙ drop-drop 1 wrote old;
-      len = length-set room wrote piece ∙ len;
+      front = w.front ∙ ap (λ ps. ps ++ map made more) h.front ∙ sym (map-append made given more);
+      rest = w.rest ∙ rw e (sym (drop-drop k at room) ∙ ap (drop k) h.rest ∙ drop-drop k at old);
+      len = w.len ∙ len;
     }
 
-pub FeedsPieces-none : {P : Type 0} (made : LocatedPiece → P) (d : Decoding) (part : List ℕ) (room : List P) → length d.held ≤ 3 → FeedsPieces made d part room room 0 0 d
-FeedsPieces-none made d part room few = record {
-  given = [];
-  locates = Locates-none d.form d.offset (d.held ++ part);
-  writes = WritesPieces-none made room;
-  within = omega arith;
-  form = refl;
-  few = few;
-}
+module _ {kept : List LocatedPiece → List LocatedPiece} (law : KeepsEach kept) where
+  pub FeedsKept-none : {P : Type 0} (made : LocatedPiece → P) (d : Decoding) (part : List ℕ) (room : List P) → length d.held ≤ 3 → FeedsKept kept made d part room room 0 0 d
+  FeedsKept-none made d part room few = record {
+    given = [];
+    locates = Locates-none d.form d.offset (d.held ++ part);
+    writes = subst (λ ps. WritesPieces made ps room room 0) (sym law.none) (WritesPieces-none made room);
+    within = omega arith;
+    form = refl;
+    few = few;
+  }
+
+  kept_more : {P : Type 0} {made : LocatedPiece → P} {old room new : List P} {at to : ℕ} (given more : List LocatedPiece) → WritesPieces made (kept given) old room at
+      → WritesPlaces (map made (kept more)) room new at to → WritesPieces made (kept (given ++ more)) old new to
+  kept_more {made = made} {old = old} {new = new} {to = to} given more h w =
+      subst (λ ps. WritesPieces made ps old new to) (sym (law.more given more)) (WritesPieces-then (kept more) h w)
 
 -- what begins the held bytes and three more begins them and all of the part
 pub joined_begin : {form : Form} {joined : List ℕ} {x : Told} (held rest : List ℕ) → joined ≡ held ++ take 3 rest → Begins form joined x → Begins form (held ++ rest) x
@@ -55,11 +66,12 @@ joined_begin {form} {joined} {x} held rest e b =
     subst (λ v. Begins form v x) all (Begins-before (drop 3 rest) (subst (λ v. Begins form v x) e b))
 
 -- one piece more, of what is held and some of the part
-pub FeedsPieces-one : {P : Type 0} {made : LocatedPiece → P} {d s t : Decoding} {part joined : List ℕ} {old room : List P} {read wrote : ℕ} {piece : P} (x : Told) (more : ℕ)
-    → FeedsPieces made d part old room read wrote s → joined ≡ s.held ++ take 3 (drop read part) → Begins d.form joined x → wrote < length room → piece ≡ made (at_offset s.offset x)
+pub FeedsKept-one : {P : Type 0} {kept : List LocatedPiece → List LocatedPiece} {made : LocatedPiece → P} {d s t : Decoding} {part joined : List ℕ} {old room new : List P} {read wrote to : ℕ} (law : KeepsEach kept) (x : Told) (more : ℕ)
+    → FeedsKept kept made d part old room read wrote s → joined ≡ s.held ++ take 3 (drop read part) → Begins d.form joined x
+    → WritesPlaces (map made (kept (at_offset s.offset x ∷ []))) room new wrote to
     → t ≡ record { form = s.form; held = drop x.1 s.held; offset = wrapped (s.offset + x.1) } → more ≡ x.1 - length s.held
-    → FeedsPieces made d part old (set room wrote piece) (read + more) (wrote + 1) t
-FeedsPieces-one {P} {made} {d} {s} {t} {part} {joined} {old} {room} {read} {wrote} {piece} x more h e b lt is passed rest =
+    → FeedsKept kept made d part old new (read + more) to t
+FeedsKept-one {kept = kept} {made = made} {d = d} {s = s} {t = t} {part = part} {joined = joined} {read = read} law x more h e b writes passed rest =
     let begins = joined_begin s.held (drop read part) e b in
     let within = b.within in
     let some = b.some in
@@ -78,7 +90,7 @@ FeedsPieces-one {P} {made} {d} {s} {t} {part} {joined} {old} {room} {read} {wrot
     record {
       given = h.given ++ at_offset s.offset x ∷ [];
       locates = rw (held, offset) (Locates-then h.locates one);
-      writes = WritesPieces-one (at_offset s.offset x) h.writes lt is;
+      writes = kept_more law h.given (at_offset s.offset x ∷ []) h.writes writes;
       within = omega arith;
       form = form ∙ h.form;
       few = rw held (omega (arith, length-drop x.1 s.held));
@@ -92,10 +104,10 @@ all_joined {joined} held part read e some few =
     let all : take 3 (drop read part) ≡ drop read part = take_all 3 (drop read part) (omega arith) in
     e ∙ ap (λ z. held ++ z) all
 
-pub FeedsPieces-all : {P : Type 0} {made : LocatedPiece → P} {d s t : Decoding} {part joined : List ℕ} {old room : List P} {read wrote : ℕ}
-    → FeedsPieces made d part old room read wrote s → joined ≡ s.held ++ drop read part → length joined ≤ 3 → t ≡ record { form = s.form; held = joined; offset = s.offset }
-    → FeedsPieces made d part old room (length part) wrote t
-FeedsPieces-all {P} {made} {d} {s} {t} {part} {joined} h e few is =
+pub FeedsKept-all : {P : Type 0} {kept : List LocatedPiece → List LocatedPiece} {made : LocatedPiece → P} {d s t : Decoding} {part joined : List ℕ} {old room : List P} {read wrote : ℕ}
+    → FeedsKept kept made d part old room read wrote s → joined ≡ s.held ++ drop read part → length joined ≤ 3 → t ≡ record { form = s.form; held = joined; offset = s.offset }
+    → FeedsKept kept made d part old room (length part) wrote t
+FeedsKept-all {d = d} {s = s} {t = t} {part = part} {joined = joined} h e few is =
     let held : t.held ≡ joined = ap (λ (z : Decoding). z.held) is in
     let offset : t.offset ≡ s.offset = ap (λ (z : Decoding). z.offset) is in
     let form : t.form ≡ s.form = ap (λ (z : Decoding). z.form) is in
@@ -111,28 +123,24 @@ FeedsPieces-all {P} {made} {d} {s} {t} {part} {joined} h e few is =
 
 -- The rest of a part.
 
-pub FeedsRest-full : {P : Type 0} {made : LocatedPiece → P} {d t : Decoding} {part : List ℕ} {old new : List P} {from at : Spot} → from.offset ≡ d.offset
-    → Puts made d.form part old new from at → t ≡ record { form = d.form; held = []; offset = at.offset } → FeedsRest made d part old new from at.read at.written t
-FeedsRest-full {P} {made} {d} {t} {part} {old} {new} {from} {at} start h is =
+pub FeedsRest-full : {P : Type 0} {kept : List LocatedPiece → List LocatedPiece} {made : LocatedPiece → P} {d t : Decoding} {part : List ℕ} {old new : List P} {from at : Spot} → from.offset ≡ d.offset
+    → PutsKept kept made d.form part old new from at → t ≡ record { form = d.form; held = []; offset = at.offset } → FeedsRest kept made d part old new from at.read at.written t
+FeedsRest-full {t = t} {at = at} start h is =
     let held : t.held ≡ [] = ap (λ (z : Decoding). z.held) is in
     let offset : t.offset ≡ at.offset = ap (λ (z : Decoding). z.offset) is in
     record {
       given = h.given;
       locates = rw (held, offset, ← start) h.locates;
-      front = h.front;
-      rest = h.rest;
-      len = h.len;
-      fits = h.fits;
-      on = h.on;
+      writes = h.writes;
       within = h.within;
       form = ap (λ (z : Decoding). z.form) is;
       few = rw held (omega arith);
     }
 
-pub FeedsRest-held : {P : Type 0} {made : LocatedPiece → P} {d t : Decoding} {part : List ℕ} {old new : List P} {from at : Spot} → from.offset ≡ d.offset
-    → Puts made d.form part old new from at → length part ≤ at.read + 3 → t ≡ record { form = d.form; held = drop at.read part; offset = at.offset }
-    → FeedsRest made d part old new from (length part) at.written t
-FeedsRest-held {P} {made} {d} {t} {part} {old} {new} {from} {at} start h few is =
+pub FeedsRest-held : {P : Type 0} {kept : List LocatedPiece → List LocatedPiece} {made : LocatedPiece → P} {d t : Decoding} {part : List ℕ} {old new : List P} {from at : Spot} → from.offset ≡ d.offset
+    → PutsKept kept made d.form part old new from at → length part ≤ at.read + 3 → t ≡ record { form = d.form; held = drop at.read part; offset = at.offset }
+    → FeedsRest kept made d part old new from (length part) at.written t
+FeedsRest-held {t = t} {part = part} {at = at} start h few is =
     let held : t.held ≡ drop at.read part = ap (λ (z : Decoding). z.held) is in
     let offset : t.offset ≡ at.offset = ap (λ (z : Decoding). z.offset) is in
     let end : drop (length part) part ≡ [] = drop_all (length part) part (omega arith) in
@@ -140,58 +148,50 @@ FeedsRest-held {P} {made} {d} {t} {part} {old} {new} {from} {at} start h few is 
     record {
       given = h.given;
       locates = rw (end, held, offset, append-nil (drop at.read part), ← start) h.locates;
-      front = h.front;
-      rest = h.rest;
-      len = h.len;
-      fits = h.fits;
-      on = h.on;
+      writes = h.writes;
       within = omega arith;
       form = ap (λ (z : Decoding). z.form) is;
       few = rw held (omega arith);
     }
 
-pub FeedsPieces-rest : {P : Type 0} {made : LocatedPiece → P} {d s e : Decoding} {part : List ℕ} {old room new : List P} {first then read wrote : ℕ} {from : Spot}
-    → FeedsPieces made d part old room first then s → s.held ≡ [] → from.read ≡ first → from.written ≡ then → FeedsRest made s part room new from read wrote e
-    → FeedsPieces made d part old new read wrote e
-FeedsPieces-rest {P} {made} {d} {s} {e} {part} {old} {room} {new} {first} {then} {read} {wrote} {from} h none at_read at_written b =
-    let len = h.writes.len in
-    let fits = b.fits in
+pub FeedsKept-rest : {P : Type 0} {kept : List LocatedPiece → List LocatedPiece} {made : LocatedPiece → P} {d s e : Decoding} {part : List ℕ} {old room new : List P} {first then read wrote : ℕ} {from : Spot} (law : KeepsEach kept)
+    → FeedsKept kept made d part old room first then s → s.held ≡ [] → from.read ≡ first → from.written ≡ then → FeedsRest kept made s part room new from read wrote e
+    → FeedsKept kept made d part old new read wrote e
+FeedsKept-rest {kept = kept} {made = made} {d = d} {s = s} {e = e} {part = part} {room = room} {new = new} {first = first} {read = read} {wrote = wrote} law h none at_read at_written b =
     let all : s.held ++ drop first part ≡ drop first part = ap (λ z. z ++ drop first part) none in
     let start : Locates d.form d.offset (d.held ++ part) h.given s.offset (drop first part) = subst (λ z. Locates d.form d.offset (d.held ++ part) h.given s.offset z) all h.locates in
     let more : Locates d.form s.offset (drop first part) b.given e.offset (e.held ++ drop read part)
     = subst (λ f. Locates f s.offset (drop first part) b.given e.offset (e.held ++ drop read part)) h.form
     (subst (λ k. Locates s.form s.offset (drop k part) b.given e.offset (e.held ++ drop read part)) at_read b.locates) in
-    let k = wrote - then in
-    let on = b.on in
-    let more_wrote : wrote ≡ then + k = omega arith in
     record {
       given = h.given ++ b.given;
       locates = Locates-then start more;
-      writes = record {
-        fits = omega arith;
-        front = b.front ∙ ap (λ j. take j room ++ map made b.given) at_written ∙ ap (λ ps. ps ++ map made b.given) h.writes.front ∙ sym (map-append made h.given b.given);
-        rest = b.rest ∙ rw more_wrote (sym (drop-drop k then room) ∙ ap (drop k) h.writes.rest ∙ drop-drop k then old);
-        len = b.len ∙ len;
-      };
+      writes = kept_more law h.given b.given h.writes (subst (λ n. WritesPlaces (map made (kept b.given)) room new n wrote) at_written b.writes);
       within = b.within;
       form = b.form ∙ h.form;
       few = b.few;
     }
 
-pub FeedsPieces-front : {P : Type 0} {made : LocatedPiece → P} {d e : Decoding} {part : List ℕ} {old new : List P} {read wrote : ℕ} {from : Spot}
-    → d.held ≡ [] → from.read ≡ 0 → from.written ≡ 0 → FeedsRest made d part old new from read wrote e → FeedsPieces made d part old new read wrote e
-FeedsPieces-front {P} {made} {d} {e} {part} {old} none at_read at_written b =
-    FeedsPieces-rest (FeedsPieces-none made d part old (rw none (omega arith))) none at_read at_written b
+pub FeedsKept-front : {P : Type 0} {kept : List LocatedPiece → List LocatedPiece} {made : LocatedPiece → P} {d e : Decoding} {part : List ℕ} {old new : List P} {read wrote : ℕ} {from : Spot} (law : KeepsEach kept)
+    → d.held ≡ [] → from.read ≡ 0 → from.written ≡ 0 → FeedsRest kept made d part old new from read wrote e → FeedsKept kept made d part old new read wrote e
+FeedsKept-front {made = made} {d = d} {part = part} {old = old} law none at_read at_written b =
+    FeedsKept-rest law (FeedsKept-none law made d part old (rw none (omega arith))) none at_read at_written b
 
 -- The end.
 
-pub FinishesPieces-none : {P : Type 0} (made : LocatedPiece → P) (d : Decoding) (room : List P) → FinishesPieces made d room room 0 d
-FinishesPieces-none made d room = record { given = []; locates = refl; writes = WritesPieces-none made room; form = refl; few = omega arith }
+pub FinishesKept-none : {P : Type 0} {kept : List LocatedPiece → List LocatedPiece} (law : KeepsEach kept) (made : LocatedPiece → P) (d : Decoding) (room : List P) → FinishesKept kept made d room room 0 d
+FinishesKept-none law made d room = record {
+  given = [];
+  locates = refl;
+  writes = subst (λ ps. WritesPieces made ps room room 0) (sym law.none) (WritesPieces-none made room);
+  form = refl;
+  few = omega arith;
+}
 
-pub FinishesPieces-one : {P : Type 0} {made : LocatedPiece → P} {d s t : Decoding} {old room : List P} {wrote : ℕ} {piece : P} (x : Told) → FinishesPieces made d old room wrote s
-    → x ≡ first_told d.form s.held → 0 < length s.held → wrote < length room → piece ≡ made (at_offset s.offset x)
-    → t ≡ record { form = s.form; held = drop x.1 s.held; offset = wrapped (s.offset + x.1) } → FinishesPieces made d old (set room wrote piece) (wrote + 1) t
-FinishesPieces-one {P} {made} {d} {s} {t} {old} {room} {wrote} {piece} x h told some lt is passed =
+pub FinishesKept-one : {P : Type 0} {kept : List LocatedPiece → List LocatedPiece} {made : LocatedPiece → P} {d s t : Decoding} {old room new : List P} {wrote to : ℕ} (law : KeepsEach kept) (x : Told) → FinishesKept kept made d old room wrote s
+    → x ≡ first_told d.form s.held → 0 < length s.held → WritesPlaces (map made (kept (at_offset s.offset x ∷ []))) room new wrote to
+    → t ≡ record { form = s.form; held = drop x.1 s.held; offset = wrapped (s.offset + x.1) } → FinishesKept kept made d old new to t
+FinishesKept-one {d = d} {s = s} {t = t} law x h told some writes passed =
     let held : t.held ≡ drop x.1 s.held = ap (λ (z : Decoding). z.held) passed in
     let offset : t.offset ≡ wrapped (s.offset + x.1) = ap (λ (z : Decoding). z.offset) passed in
     let form : t.form ≡ s.form = ap (λ (z : Decoding). z.form) passed in
@@ -203,7 +203,7 @@ FinishesPieces-one {P} {made} {d} {s} {t} {old} {room} {wrote} {piece} x h told 
       given = h.given ++ at_offset s.offset x ∷ [];
       locates = h.locates ∙ ap (λ ps. h.given ++ ps) first ∙ sym (append_assoc h.given (at_offset s.offset x ∷ []) (located s.form (wrapped (s.offset + x.1)) (drop x.1 s.held)))
           ∙ rw (form, offset, held) refl;
-      writes = WritesPieces-one (at_offset s.offset x) h.writes lt is;
+      writes = kept_more law h.given (at_offset s.offset x ∷ []) h.writes writes;
       form = form ∙ h.form;
       few = rw held (omega (arith, length-drop x.1 s.held));
     }

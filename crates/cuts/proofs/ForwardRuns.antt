@@ -7,16 +7,19 @@ use Rattle.utf_base.specs.declared.errors.Utf8ErrorKind.{Utf8ErrorKind}
 use Rattle.utf_base.specs.Code.{IsCode, utf8, utf16}
 use Rattle.utf_base.specs.Decoded.{decoded, decoded_pairs}
 use Rattle.utf_base.specs.Kinds.{fault_kind, value}
-use Rattle.utf_base.specs.Units.{unit_fault_kind}
+use Rattle.utf_base.specs.Scalar.{IsUnits}
+use Rattle.utf_base.specs.Units.{unit_fault_kind, unit_value}
+use Rattle.utf_base.specs.declared.errors.units.Utf16PairError.{Utf16PairError}
 use Rattle.utf_base.proofs.FrontLemmas.{code_where_no_fault, no_code_where_fault}
-use Rattle.utf_base.proofs.UnitLemmas.{no_units_where_kind}
-use Rattle.utf_base.proofs.DecodedLemmas.{answer_of_bytes, decoded_code, front_len_utf8}
+use Rattle.utf_base.proofs.UnitLemmas.{no_units_where_kind, units_where_no_kind}
+use Rattle.utf_base.proofs.UnitWalks.{part_of_units}
+use Rattle.utf_base.proofs.DecodedLemmas.{answer_of_bytes, decoded_code, decoded_pairs_code, decoded_pairs_kind, front_len_utf8, front_len_utf16}
 use Rattle.utf_base.proofs.Utf8Code.{utf8_is_code}
 use Rattle.utf_base.proofs.Utf16Code.{utf16_is_code}
 use Rattle.encode_unicode.specs.Window.{Window, Placed, Item, UnitItem, elements, whole_window, without_front, GivesFrontOf, GivesFront, GivesFrontUnits, GivesNone, IsFrontOf}
-use Rattle.encode_unicode.specs.Pieces.{pieces, pieces_left}
+use Rattle.encode_unicode.specs.Pieces.{pieces, pieces_left, unit_pieces, unit_pieces_left}
 use Rattle.utf_base.proofs.FrontCodes.{begins_taken, begins_there}
-use Rattle.encode_unicode.proofs.Listed.{decoder_listed}
+use Rattle.encode_unicode.proofs.Listed.{decoder_listed, unit_decoder_listed}
 use Rattle.cuts.specs.Items.{IsRun}
 use Rattle.cuts.specs.ForwardRuns.{IsForwardRun}
 use Rattle.cuts.proofs.PieceRuns.{Excludes, IsRunTo, IsRunTo-front, IsRunTo-push, IsRun-all}
@@ -106,33 +109,83 @@ front_item w some fits = by_kind w some fits (fault_kind (elements w)) refl
           },
         )
 
+-- The same of a window of units.
+front_unit : (w : Window) → IsUnits w.whole → w.front < w.back → w.back ≤ length w.whole → (x : UnitItem) × GivesFrontUnits w x (without_front w x.2)
+front_unit w units some fits = by_kind (unit_fault_kind (elements w)) refl
+  where
+    by_kind : (k : Option Utf16PairError) → unit_fault_kind (elements w) ≡ k → (x : UnitItem) × GivesFrontUnits w x (without_front w x.2)
+    by_kind None e =
+        let s = unit_value (elements w) in
+        let code = units_where_no_kind (elements w) (part_of_units w.whole w.front w.back units) e in
+        let len = front_len_utf16 (elements w) _ _ (code, refl) in (
+          (w.front, Ok s, length (utf16 s)),
+          record {
+            some = some;
+            place = refl;
+            piece = (code, refl);
+            known = rw (decoded_pairs_code (elements w) s code) refl;
+            len = len;
+            left = refl;
+            taken = begins_taken utf16 (elements w) _ _ (code, refl);
+            there = begins_there utf16 w.whole w.front w.back _ _ some len.2 (code, refl);
+          },
+        )
+    by_kind (Some k) e =
+        let one : 1 ≤ length (elements w) = grind (arith, common_steps) in (
+          (w.front, Err k, 1),
+          record {
+            some = some;
+            place = refl;
+            piece = (e, refl);
+            known = rw (decoded_pairs_kind (elements w) k e) refl;
+            len = (omega arith, omega arith, one);
+            left = refl;
+            taken = tt;
+            there = tt;
+          },
+        )
+
 -- The run, whatever it has come to, goes on to the end, with what the decoder still gives.
 
-run_out_end : (xs : List ℕ) (items : List Item) (w : Window) → IsRunSoFar xs items w → w.back ≤ w.front → IsForwardRun xs (items ++ pieces_left w)
-run_out_end xs items w f none =
-    let nothing : GivesNone w w = record { none = omega arith; left = refl } in
-    rw ((decoder_listed w None w nothing).0, append-nil) (IsForwardRun-all xs items w w f nothing)
+module _ {E : Type 0} (code : ℕ → List ℕ) (most : ℕ) (kind : List ℕ → Option E) (answer : List ℕ → Result (ℕ × ℕ) E) (c : IsCode code) (apart : Excludes code kind) (left : Window → List (Placed E))
+    (none : (w : Window) → GivesNone w w → left w ≡ []) (more : (w v : Window) (x : Placed E) → GivesFrontOf code most kind answer w x v → left w ≡ x ∷ left v)
+    (xs : List ℕ) (first : (w : Window) → w.whole ≡ xs → w.front < w.back → w.back ≤ length w.whole → (x : Placed E) × GivesFrontOf code most kind answer w x (without_front w x.2)) where
+  run_out_end : (items : List (Placed E)) (w : Window) → IsWindowRun code kind xs items w → w.back ≤ w.front → IsRun code kind xs (items ++ left w)
+  run_out_end items w f le =
+      let nothing : GivesNone w w = record { none = (let lo = f.run.within in let end = f.end in omega arith); left = refl } in
+      rw (none w nothing, append-nil) (IsWindowRun-all code kind xs items w w f nothing)
 
-run_out : (fuel : ℕ) (xs : List ℕ) (items : List Item) (w : Window) → IsRunSoFar xs items w → w.back ≤ w.front + fuel → IsForwardRun xs (items ++ pieces_left w)
-run_out zero xs items w f enough = run_out_end xs items w f (omega arith)
-run_out (suc fuel) xs items w f enough =
-    ⊎_elim
-    (λ (some : w.front < w.back).
-    let first = front_item w some (rw (f.whole, f.end) (omega arith)) in
-    let v = without_front w first.0.2 in
-    let shorter = item_some f first.1 in
-    let rest = run_out fuel xs (items ++ first.0 ∷ []) v (IsRunSoFar-push f first.1) (omega arith) in
-    rw (decoder_listed w (Some first.0) v first.1) (rw (← append_assoc items (first.0 ∷ []) (pieces_left v)) rest))
-    (λ (none : w.back ≤ w.front). run_out_end xs items w f none)
-    (cases_lt w.front w.back)
+  run_out : (fuel : ℕ) (items : List (Placed E)) (w : Window) → IsWindowRun code kind xs items w → w.back ≤ w.front + fuel → IsRun code kind xs (items ++ left w)
+  run_out zero items w f enough = run_out_end items w f (omega arith)
+  run_out (suc fuel) items w f enough =
+      ⊎_elim
+      (λ (some : w.front < w.back).
+      let x = first w f.whole some (rw (f.whole, f.end) (omega arith)) in
+      let v = without_front w x.0.2 in
+      let shorter = x.1.len.0 in
+      let rest = run_out fuel (items ++ x.0 ∷ []) v (IsWindowRun-push code most kind answer c apart xs items w v x.0 f x.1) (omega arith) in
+      rw (more w v x.0 x.1) (rw (← append_assoc items (x.0 ∷ []) (left v)) rest))
+      (λ (end : w.back ≤ w.front). run_out_end items w f end)
+      (cases_lt w.front w.back)
+
+bytes_out : (xs : List ℕ) (items : List Item) (w : Window) → IsRunSoFar xs items w → IsForwardRun xs (items ++ pieces_left w)
+bytes_out xs items w f =
+    run_out utf8 4 fault_kind decoded utf8_is_code no_code_where_fault pieces_left (λ v g. (decoder_listed v None v g).0) (λ v u x g. decoder_listed v (Some x) u g) xs
+    (λ v whole some fits. front_item v some fits) w.back items w f (omega arith)
 
 pub record GoesOn (xs : List ℕ) (items : List Item) : Type 0 where
   pub more : List Item
   pub run : IsForwardRun xs (items ++ more)
 
 pub GoesOn-always : (xs : List ℕ) (items : List Item) (w : Window) → IsRunSoFar xs items w → GoesOn xs items
-GoesOn-always xs items w f = record { more = pieces_left w; run = run_out w.back xs items w f (omega arith) }
+GoesOn-always xs items w f = record { more = pieces_left w; run = bytes_out xs items w f }
 
 -- what a decoder gives of some bytes is the forward run over them
 pub pieces_are_the_run : (xs : List ℕ) → IsForwardRun xs (pieces xs)
-pieces_are_the_run xs = run_out (length xs) xs [] (whole_window xs) (IsRunSoFar-none xs) (omega arith)
+pieces_are_the_run xs = bytes_out xs [] (whole_window xs) (IsRunSoFar-none xs)
+
+-- and so of units
+pub unit_pieces_are_the_run : (xs : List ℕ) → IsUnits xs → IsRun utf16 unit_fault_kind xs (unit_pieces xs)
+unit_pieces_are_the_run xs units =
+    run_out utf16 2 unit_fault_kind decoded_pairs utf16_is_code no_units_where_kind unit_pieces_left (λ w g. (unit_decoder_listed w None w g).0) (λ w v x g. unit_decoder_listed w (Some x) v g) xs
+    (λ w whole some fits. front_unit w (rw whole units) some fits) (length xs) [] (whole_window xs) (IsWindowRun-none utf16 unit_fault_kind xs) (omega arith)

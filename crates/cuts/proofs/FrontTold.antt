@@ -1,5 +1,5 @@
 -- The piece that begins some bytes, from what a decoding of them answers.
-use Rattle.std.proofs.Common.{◌≡◌, ◌≢◌, ℕ, ◌+◌, ◌*◌, ◌<◌, ◌≤◌, ⊎_elim, Bool, eqb, true, false, List, [], ◌∷◌, ◌++◌, length, get_or, drop, min, Option, Some, None, Result, Ok, Err, arith, refl, ap, sym, ◌∙◌, length-append}
+use Rattle.std.proofs.Common.{◌≡◌, ◌≢◌, ℕ, ◌+◌, ◌*◌, ◌<◌, ◌≤◌, ⊎_elim, Bool, eqb, true, false, List, [], ◌∷◌, ◌++◌, length, get_or, drop, flat_map, min, Option, Some, None, Result, Ok, Err, arith, refl, ap, sym, ◌∙◌, append_assoc, length-append}
 use Rattle.std.proofs.lemmas.Bool.{cases_lt}
 use Rattle.std.proofs.lemmas.Grind.{common_steps}
 use Rattle.std.proofs.lemmas.List.{append-nil}
@@ -16,19 +16,23 @@ use Rattle.utf_base.specs.declared.errors.units.Utf16PairError.{Utf16PairError}
 use Rattle.utf_base.specs.declared.errors.units.Utf16PairError.TheVariants.{Incomplete, UnexpectedTrailingSurrogate, UnmatchedLeadingSurrogate}
 use Rattle.utf_base.proofs.LaterLemmas.{few_where_too_few}
 use Rattle.utf_base.proofs.Utf8Code.{length_utf8, utf8_is_code}
-use Rattle.utf_lanes.specs.BytePairs.{units_of}
+use Rattle.utf_lanes.specs.BytePairs.{bytes_of, units_of}
 use Rattle.encode_unicode.proofs.ForCallers.{decoded_pairs_code, decoded_pairs_kind, some_units, stands_first}
 use Rattle.encode_unicode.specs.Mergers.{decoded_by_merger}
 use Rattle.encode_unicode.specs.Window.{as_piece}
 use Rattle.recoding.specs.NextScalars.{HasByteOrder, fault_len}
+use Rattle.recoding.specs.Recoded.{written}
 use Rattle.recoding.specs.Strict.{AwaitsKind, BeginsFault, kind_of, lacking}
 use Rattle.recoding.specs.declared.faults.FaultKind.{FaultKind}
 use Rattle.recoding.specs.declared.faults.FaultKind.TheVariants as kind
 use Rattle.recoding.specs.declared.form.Form.{Form}
 use Rattle.recoding.specs.declared.form.Form.TheVariants.{Utf8, Utf16Le, Utf16Be}
+use Rattle.recoding.proofs.CopiedUnits.{as_written}
 use Rattle.recoding.proofs.FirstPieces.{kind_of_units}
 use Rattle.recoding.proofs.FrontBytes.{first_unit, not_empty, lacks_byte, lacks_second, second_unit, units_next, units_two}
 use Rattle.recoding.proofs.HeldFronts.{two_do_not_lack}
+use Rattle.recoding.proofs.RoomRuns.{few_written, some_written}
+use Rattle.recoding.proofs.TextLaws.{units_of_bytes}
 use Rattle.cuts.specs.Located.{Begins, IsOpen, Told, first_told, in_bytes, lacking_told, told_as}
 use Rattle.cuts.proofs.MergedFronts.{broken_decides, broken_some, code_later, few_are_open, kind_later}
 
@@ -108,7 +112,7 @@ some_told : {E : Type 0} (kind : E → FaultKind) (x : Result ℕ E × ℕ) → 
 some_told kind (Ok s, n) h = h
 some_told kind (Err e, n) h = h
 
-lacking_units : (high : Bool) (from : Form) (n : ℕ) → HasByteOrder high from → lacking_told from n ≡ (Err (kind.Utf16 Incomplete), min 2 n)
+pub lacking_units : (high : Bool) (from : Form) (n : ℕ) → HasByteOrder high from → lacking_told from n ≡ (Err (kind.Utf16 Incomplete), min 2 n)
 lacking_units high Utf8 n form = absurd form
 lacking_units high Utf16Le n form = refl
 lacking_units high Utf16Be n form = refl
@@ -198,9 +202,12 @@ module _ (high : Bool) (from : Form) (form : HasByteOrder high from) where
         told_by (w ++ later) (Err k) (decoded_pairs_kind (units_of high (w ++ later)) k (same_unit_kind (w ++ later) k (b.kind later))) ∙ ap (λ m. (Err (kind.Utf16 k), m)) len;
   }
 
+  pub told_len : (w : List ℕ) → 0 < length w → (n : ℕ) × ((first_told from w).1 ≡ min (2 * n) (length w))
+  told_len w some = ((told_as kind.Utf16 (as_piece (decoded_pairs (units_of high w)))).1, ap (λ (y : Told). y.1) (told_units high from w form))
+
   -- What follows decides.
 
-  units_len : (w : List ℕ) → 0 < length w → (1 ≤ (first_told from w).1) × (2 ≤ length w → 2 ≤ (first_told from w).1) × ((first_told from w).1 ≤ length w)
+  pub units_len : (w : List ℕ) → 0 < length w → (1 ≤ (first_told from w).1) × (2 ≤ length w → 2 ≤ (first_told from w).1) × ((first_told from w).1 ≤ length w)
   units_len w some =
       let x = told_as kind.Utf16 (as_piece (decoded_pairs (units_of high w))) in
       let one : 1 ≤ x.1 = some_told kind.Utf16 (as_piece (decoded_pairs (units_of high w))) (some_units (units_of high w)) in
@@ -240,3 +247,29 @@ module _ (high : Bool) (from : Form) (form : HasByteOrder high from) where
         let long : 4 ≤ length (w ++ 0 ∷ 0 ∷ []) = omega (arith, length-append w (0 ∷ 0 ∷ [])) in
         two_lack high (w ++ 0 ∷ 0 ∷ []) long (lacks_where (units_of high (w ++ 0 ∷ 0 ∷ [])) (ap (λ (y : Told). y.0) (sym (told_units high from (w ++ 0 ∷ 0 ∷ []) form)) ∙ lack));
   }
+
+  -- the bytes of the code of a scalar
+  units_begin : (s : ℕ) (later : List ℕ) → IsScalar s → Begins from (written from s ++ later) (Ok s, length (written from s))
+  units_begin s later scalar = record {
+    some = some_written from s scalar;
+    few = few_written from s;
+    within = omega (arith, length-append (written from s) later);
+    first = λ more.
+        let w = written from s ++ (later ++ more) in
+        let all : units_of high w ≡ utf16 s ++ units_of high (later ++ more) = ap (λ v. units_of high (v ++ (later ++ more))) (as_written high from s form) ∙ units_of_bytes high (utf16 s) (later ++ more) in
+        let known : decoded_pairs (units_of high w) ≡ Ok (s, length (utf16 s)) = decoded_pairs_code (units_of high w) s (stands_first utf16 (units_of high w) (units_of high (later ++ more)) s scalar all) in
+        let two : length (written from s) ≡ 2 * length (utf16 s) = ap length (as_written high from s form) ∙ two_each high (utf16 s) in
+        let len : min (2 * length (utf16 s)) (length w) ≡ length (written from s) = omega (arith, length-append (written from s) (later ++ more)) in
+        ap (first_told from) (append_assoc (written from s) later more) ∙ told_by w (Ok (s, length (utf16 s))) known ∙ ap (λ m. (Ok s, m)) len;
+  }
+    where
+      two_each : (high : Bool) (us : List ℕ) → length (flat_map (bytes_of high) us) ≡ 2 * length us
+      two_each high [] = refl
+      two_each true (u ∷ us) = let rest = two_each true us in omega arith
+      two_each false (u ∷ us) = let rest = two_each false us in omega arith
+
+-- In each form the code of a scalar begins what begins with it.
+pub code_begins : (form : Form) (s : ℕ) (later : List ℕ) → IsScalar s → Begins form (written form s ++ later) (Ok s, length (written form s))
+code_begins Utf8 s later scalar = char_begins (utf8 s ++ later) s (length (utf8 s)) (stands_first utf8 (utf8 s ++ later) later s scalar refl, refl)
+code_begins Utf16Le s later scalar = units_begin false Utf16Le refl s later scalar
+code_begins Utf16Be s later scalar = units_begin true Utf16Be refl s later scalar

@@ -60,16 +60,19 @@ near_front a b p h i = record {
   ends = i.ends;
 }
 
-pub near_rest : (a b : List ℕ) (p : ℕ) → 3 ≤ p → Inside utf8 (a ++ b) (length a + p) → Inside utf8 b p
-near_rest a b p h i =
-    let le : length a ≤ i.from = omega (arith, i.ends, length_utf8 i.char) in
+pub near_rest_of : (code : ℕ → List ℕ) (most : ℕ) → ((s : ℕ) → length (code s) ≤ most) → (a b : List ℕ) (p : ℕ) → most ≤ p + 1 → Inside code (a ++ b) (length a + p) → Inside code b p
+near_rest_of code most few a b p h i =
+    let le : length a ≤ i.from = omega (arith, i.ends, few i.char) in
     record {
       from = i.from - length a;
       char = i.char;
-      stands = whole_in_rest utf8 a b (i.from - length a) i.from i.char (omega arith) i.stands;
+      stands = whole_in_rest code a b (i.from - length a) i.from i.char (omega arith) i.stands;
       begins = omega (arith, i.begins);
       ends = omega (arith, i.ends);
     }
+
+pub near_rest : (a b : List ℕ) (p : ℕ) → 3 ≤ p → Inside utf8 (a ++ b) (length a + p) → Inside utf8 b p
+near_rest a b p h = near_rest_of utf8 4 length_utf8 a b p (omega arith)
 
 -- Where no code lies over the seam.
 module _ (code : ℕ → List ℕ) (a b : List ℕ) (seam : Inside code (a ++ b) (length a) → ⊥) where

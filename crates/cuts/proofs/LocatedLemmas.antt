@@ -19,7 +19,7 @@ use Rattle.recoding.specs.declared.form.Form.{Form}
 use Rattle.recoding.specs.declared.form.Form.TheVariants.{Utf8, Utf16Le, Utf16Be}
 use Rattle.cuts.specs.declared.located.LocatedPiece.{LocatedPiece}
 use Rattle.cuts.specs.declared.located.Spot.{Spot}
-use Rattle.cuts.specs.Located.{Begins, Locates, Puts, Told, at_offset, first_told, in_bytes, located, located_by, told_as, wrapped}
+use Rattle.cuts.specs.Located.{Begins, KeepsEach, Locates, Puts, PutsKept, Told, WritesPlaces, all_keep_each, at_offset, first_told, in_bytes, located, located_by, told_as, wrapped}
 use Rattle.cuts.proofs.FrontTold.{char_begins}
 use Rattle.cuts.proofs.MergedFronts.{some_merged}
 
@@ -111,76 +111,98 @@ Begins-before {form} {w} {x} more b = record {
 pub Begins-all : {form : Form} {x : Told} (n : ℕ) (w : List ℕ) → Begins form (take n w) x → Begins form w x
 Begins-all {form} {x} n w b = subst (λ v. Begins form v x) (take-append-drop n w) (Begins-before (drop n w) b)
 
+-- Places that are written, one after another.
+
+pub WritesPlaces-none : {P : Type 0} (room : List P) (n : ℕ) → n ≤ length room → WritesPlaces [] room room n n
+WritesPlaces-none room n within = record { on = omega arith; fits = within; front = sym (append-nil (take n room)); rest = refl; len = refl }
+
+pub WritesPlaces-one : {P : Type 0} (room : List P) (n : ℕ) (piece : P) → n < length room → WritesPlaces (piece ∷ []) room (set room n piece) n (n + 1)
+WritesPlaces-one room n piece lt = record {
+  on = omega arith;
+  fits = omega arith;
+  front = take_more_set room n piece lt;
+  rest = drop-set-lt (n + 1) room n piece (omega arith);
+  len = length-set room n piece;
+}
+
+pub WritesPlaces-then : {P : Type 0} {xs ys old room new : List P} {from at to : ℕ} → WritesPlaces xs old room from at → WritesPlaces ys room new at to → WritesPlaces (xs ++ ys) old new from to
+WritesPlaces-then {xs = xs} {ys = ys} {old = old} {room = room} {from = from} {at = at} {to = to} a b =
+    let k = to - at in
+    let on = a.on in
+    let more = b.on in
+    let fits = b.fits in
+    let len = a.len in
+    let e : to ≡ at + k = omega arith in
+    record {
+      on = omega arith;
+      fits = omega arith;
+      front = b.front ∙ ap (λ ps. ps ++ ys) a.front ∙ append_assoc (take from old) xs ys;
+      rest = b.rest ∙ rw e (sym (drop-drop k at room) ∙ ap (drop k) a.rest ∙ drop-drop k at old);
+      len = b.len ∙ len;
+    }
+
 -- Runs, from spot to spot.
+
+module _ {kept : List LocatedPiece → List LocatedPiece} (law : KeepsEach kept) where
+  pub PutsKept-none : {P : Type 0} (made : LocatedPiece → P) (form : Form) (bytes : List ℕ) (room : List P) (at : Spot) → at.read ≤ length bytes → at.written ≤ length room
+      → PutsKept kept made form bytes room room at at
+  PutsKept-none made form bytes room at read written = record {
+    given = [];
+    locates = Locates-none form at.offset (drop at.read bytes);
+    writes = subst (λ ps. WritesPlaces ps room room at.written at.written) (sym (ap (map made) law.none)) (WritesPlaces-none room at.written written);
+    ahead = omega arith;
+    within = read;
+  }
+
+  -- one run after another
+  pub PutsKept-then : {P : Type 0} {made : LocatedPiece → P} {form : Form} {bytes : List ℕ} {old room new : List P} {from at to : Spot} → PutsKept kept made form bytes old room from at
+      → PutsKept kept made form bytes room new at to → PutsKept kept made form bytes old new from to
+  PutsKept-then {made = made} {old = old} {new = new} {from = from} {to = to} a b =
+      let ahead = a.ahead in
+      let further = b.ahead in
+      let both : map made (kept (a.given ++ b.given)) ≡ map made (kept a.given) ++ map made (kept b.given) = ap (map made) (law.more a.given b.given) ∙ map-append made (kept a.given) (kept b.given) in
+      record {
+        given = a.given ++ b.given;
+        locates = Locates-then a.locates b.locates;
+        writes = subst (λ ps. WritesPlaces ps old new from.written to.written) (sym both) (WritesPlaces-then a.writes b.writes);
+        ahead = omega arith;
+        within = b.within;
+      }
+
+-- one piece
+pub PutsKept-piece : {P : Type 0} {kept : List LocatedPiece → List LocatedPiece} {made : LocatedPiece → P} {form : Form} {bytes : List ℕ} {room new : List P} {at to : Spot} (x : Told)
+    → Begins form (drop at.read bytes) x → at.read ≤ length bytes → WritesPlaces (map made (kept (at_offset at.offset x ∷ []))) room new at.written to.written
+    → to.read ≡ at.read + x.1 → to.offset ≡ wrapped (at.offset + x.1) → PutsKept kept made form bytes room new at to
+PutsKept-piece {form = form} {bytes = bytes} {at = at} x b there writes read offset =
+    let within = b.within in
+    let left = length-drop at.read bytes in
+    let one : Locates form at.offset (drop at.read bytes) (at_offset at.offset x ∷ []) (wrapped (at.offset + x.1)) (drop (at.read + x.1) bytes)
+    = subst (λ z. Locates form at.offset (drop at.read bytes) (at_offset at.offset x ∷ []) (wrapped (at.offset + x.1)) z) (drop-drop x.1 at.read bytes) (Locates-one at.offset b) in
+    record {
+      given = at_offset at.offset x ∷ [];
+      locates = rw (offset, read) one;
+      writes = writes;
+      ahead = omega arith;
+      within = omega arith;
+    }
+
+-- The same of all pieces.
 
 pub Puts-none : {P : Type 0} (made : LocatedPiece → P) (form : Form) (bytes : List ℕ) (room : List P) (at : Spot) → at.read ≤ length bytes → at.written ≤ length room
     → Puts made form bytes room room at at
-Puts-none made form bytes room at read written = record {
-  given = [];
-  locates = Locates-none form at.offset (drop at.read bytes);
-  front = sym (append-nil (take at.written room));
-  rest = refl;
-  len = refl;
-  on = omega arith;
-  ahead = omega arith;
-  fits = written;
-  within = read;
-}
+Puts-none made form bytes room at read written = PutsKept-none all_keep_each made form bytes room at read written
+
+pub Puts-then : {P : Type 0} {made : LocatedPiece → P} {form : Form} {bytes : List ℕ} {old room new : List P} {from at to : Spot} → Puts made form bytes old room from at
+    → Puts made form bytes room new at to → Puts made form bytes old new from to
+Puts-then a b = PutsKept-then all_keep_each a b
 
 -- one piece more
 pub Puts-one : {P : Type 0} {made : LocatedPiece → P} {form : Form} {bytes : List ℕ} {old room : List P} {from at to : Spot} {piece : P} (x : Told) → Puts made form bytes old room from at
     → Begins form (drop at.read bytes) x → at.written < length room → piece ≡ made (at_offset at.offset x)
     → to.read ≡ at.read + x.1 → to.written ≡ at.written + 1 → to.offset ≡ wrapped (at.offset + x.1) → Puts made form bytes old (set room at.written piece) from to
-Puts-one {P} {made} {form} {bytes} {old} {room} {from} {at} {to} {piece} x h b lt is read written offset =
-    let len = h.len in
-    let within = b.within in
-    let on = h.on in
-    let ahead = h.ahead in
-    let left = length-drop at.read bytes in
-    let room_after = set room at.written piece in
-    let more : take (at.written + 1) room_after ≡ take from.written old ++ map made (h.given ++ at_offset at.offset x ∷ [])
-    = take_more_set room at.written piece lt ∙ ap (λ ps. ps ++ piece ∷ []) h.front ∙ append_assoc (take from.written old) (map made h.given) (piece ∷ [])
-    ∙ ap (λ p. take from.written old ++ (map made h.given ++ p ∷ [])) is ∙ ap (λ ps. take from.written old ++ ps) (sym (map-append made h.given (at_offset at.offset x ∷ []))) in
-    let other : drop (at.written + 1) room_after ≡ drop (at.written + 1) old
-    = drop-set-lt (at.written + 1) room at.written piece (omega arith) ∙ sym (drop-drop 1 at.written room) ∙ ap (drop 1) h.rest ∙ drop-drop 1 at.written old in
-    let run : Locates form from.offset (drop from.read bytes) (h.given ++ at_offset at.offset x ∷ []) (wrapped (at.offset + x.1)) (drop (at.read + x.1) bytes)
-    = subst (λ z. Locates form from.offset (drop from.read bytes) (h.given ++ at_offset at.offset x ∷ []) (wrapped (at.offset + x.1)) z) (drop-drop x.1 at.read bytes) (Locates-then h.locates (Locates-one at.offset b)) in
-    record {
-      given = h.given ++ at_offset at.offset x ∷ [];
-      locates = rw (offset, read) run;
-      front = rw written more;
-      rest = rw written other;
-      len = length-set room at.written piece ∙ len;
-      on = omega arith;
-      ahead = omega arith;
-      fits = omega arith;
-      within = omega arith;
-    }
-
--- one run after another
-pub Puts-then : {P : Type 0} {made : LocatedPiece → P} {form : Form} {bytes : List ℕ} {old room new : List P} {from at to : Spot} → Puts made form bytes old room from at
-    → Puts made form bytes room new at to → Puts made form bytes old new from to
-Puts-then {made = made} {old = old} {room = room} {from = from} {at = at} {to = to} a b =
-    let k = to.written - at.written in
-    let on = a.on in
-    let more = b.on in
-    let ahead = a.ahead in
-    let further = b.ahead in
-    let fits = b.fits in
-    let len = a.len in
-    let e : to.written ≡ at.written + k = omega arith in
-    record {
-      given = a.given ++ b.given;
-      locates = Locates-then a.locates b.locates;
-      front = b.front ∙ ap (λ ps. ps ++ map made b.given) a.front ∙ append_assoc (take from.written old) (map made a.given) (map made b.given)
-          ∙ ap (λ ps. take from.written old ++ ps) (sym (map-append made a.given b.given));
-      rest = b.rest ∙ rw e (sym (drop-drop k at.written room) ∙ ap (drop k) a.rest ∙ drop-drop k at.written old);
-      len = b.len ∙ len;
-      on = omega arith;
-      ahead = omega arith;
-      fits = omega arith;
-      within = b.within;
-    }
+Puts-one {made = made} {room = room} {at = at} {to = to} {piece = piece} x h b lt is read written offset =
+    let put : WritesPlaces (made (at_offset at.offset x) ∷ []) room (set room at.written piece) at.written to.written = rw (written, ← is) (WritesPlaces-one room at.written piece lt) in
+    Puts-then h (PutsKept-piece x b h.within put read offset)
 
 -- Bytes of ASCII.
 

@@ -22,7 +22,8 @@ use Rattle.cuts.specs.PieceBoundaries.{IsLastBetween}
 use Rattle.cuts.specs.TextLookups.{HasPlace}
 use Rattle.cuts.proofs.CountLemmas.{pieces_joined, count_joined}
 use Rattle.cuts.proofs.ForwardRuns.{pieces_are_the_run}
-use Rattle.cuts.proofs.NumberLemmas.{ChunkAt, begins_outside, chunk_whole, chunk_front_len, chunk_end_outside, chunk_front_outside, chunk_within, inside_chunk, inside_of_chunk}
+use Rattle.cuts.proofs.SplitNumbers.{begins_outside}
+use Rattle.cuts.proofs.NumberLemmas.{ChunkAt, chunk_whole, chunk_front_len, chunk_end_outside, chunk_front_outside, chunk_within, inside_chunk, inside_of_chunk}
 use Rattle.cuts.proofs.PieceRuns.{AtFront, at_front}
 use Rattle.cuts.proofs.RunLaws.{same_item}
 

@@ -3,20 +3,22 @@ use Rattle.std.proofs.Common.{◌≡◌, ℕ, ◌+◌, ◌<◌, ◌≤◌, List,
 use Rattle.std.proofs.lemmas.List.{take_all}
 use Rattle.std.specs.List.{concat}
 use Rattle.cuts.specs.declared.buffers.counts.Counts.{Counts}
-use Rattle.cuts.specs.declared.buffers.measures.Measure.{Measure}
-use Rattle.cuts.specs.declared.buffers.measures.Measure.TheVariants.{Pieces, LineFeeds}
+use Rattle.cuts.specs.declared.buffers.counts.Measure.{Measure}
+use Rattle.cuts.specs.declared.buffers.counts.Measure.TheVariants.{Bytes, Pieces, LineFeeds}
 use Rattle.cuts.specs.Chunks.{EndOutside}
 use Rattle.cuts.specs.Counts.{counts_of, sum_of}
 use Rattle.cuts.specs.Measures.{measure_of}
 use Rattle.cuts.proofs.ChunkEditLemmas.{chunk_counts}
 use Rattle.cuts.proofs.CountLemmas.{pieces_few}
 
-measure_of_sum : (m : Measure) (a b : Counts) → measure_of m (sum_of a b) ≡ measure_of m a + measure_of m b
+pub measure_of_sum : (m : Measure) (a b : Counts) → measure_of m (sum_of a b) ≡ measure_of m a + measure_of m b
+measure_of_sum Bytes a b = refl
 measure_of_sum Pieces a b = refl
 measure_of_sum LineFeeds a b = refl
 
 -- of nothing
 pub measure_none : (m : Measure) → 0 ≡ measure_of m (counts_of [])
+measure_none Bytes = refl
 measure_none Pieces = let few = pieces_few [] in omega arith
 measure_none LineFeeds = refl
 

@@ -12,7 +12,8 @@ use Rattle.cuts.specs.TextLookups.{IsNextFault, HasNoFaultFrom}
 use Rattle.cuts.specs.WellFormed.{IsFirstFault}
 use Rattle.cuts.proofs.FaultPlaces.{fault_piece, IsFaultAt, only_place, no_faults, fault_of_chunk, fault_in_chunk}
 use Rattle.cuts.proofs.JoinedPieces.{piece_from_rest, piece_of_rest}
-use Rattle.cuts.proofs.NumberLemmas.{ChunkAt, begins_outside}
+use Rattle.cuts.proofs.SplitNumbers.{begins_outside}
+use Rattle.cuts.proofs.NumberLemmas.{ChunkAt}
 
 pub none_counted : (xs : List ℕ) (i : ℕ) → faulty_item_count (pieces xs) ≡ 0 → HasNoFaultFrom xs i
 none_counted xs i none z h e = absurd (no_faults xs none z.start (only_place xs z h e))

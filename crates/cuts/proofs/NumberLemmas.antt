@@ -1,104 +1,20 @@
 -- How many pieces begin before a place, counted by chunks.
-use Rattle.std.proofs.Common.{◌≡◌, ℕ, ◌+◌, ◌-◌, ◌<◌, ◌≤◌, ◌⊎◌, List, [], ◌∷◌, ◌++◌, length, get_or, take, drop, map, arith, refl, ap, sym, ◌∙◌, subst, ⊎_elim, inl, inr, min, append_assoc, length-drop, Some, None, Option, length-append}
+use Rattle.std.proofs.Common.{◌≡◌, ℕ, ◌+◌, ◌-◌, ◌<◌, ◌≤◌, ◌⊎◌, List, [], ◌∷◌, ◌++◌, length, get_or, take, drop, arith, refl, ap, sym, ◌∙◌, subst, ⊎_elim, inl, inr, min, append_assoc, length-drop, length-append}
 use Rattle.std.proofs.lemmas.Bool.{cases_lt}
-use Rattle.std.proofs.lemmas.List.{get_or-map, get_or_append_left, get_or-append_right, length-map, length-take-le, take-append-drop, take_all, take_at, drop_all, drop-append-le, take-append-le}
+use Rattle.std.proofs.lemmas.List.{take-append-drop, take_all, take_at, drop_all, drop-append-le, take-append-le}
 use Rattle.std.proofs.lemmas.List.Folds.{concat-append}
 use Rattle.std.proofs.Math.Seq.{take-append-add, drop-append-add}
-use Rattle.std.specs.List.{concat, AllWithin}
-use Rattle.std.specs.Prelude.{slice_range}
+use Rattle.std.specs.List.{concat}
 use Rattle.utf_base.specs.Code.{utf8}
-use Rattle.utf_base.specs.Piece.{Inside, Piece, IsPieceAt}
-use Rattle.utf_base.proofs.CutChanges.{moved}
-use Rattle.utf_base.proofs.Standing.{not_inside}
-use Rattle.utf_base.proofs.Utf8Code.{utf8_is_code}
+use Rattle.utf_base.specs.Piece.{Inside}
 use Rattle.encode_unicode.specs.Pieces.{pieces}
-use Rattle.encode_unicode.specs.Window.{Item}
 use Rattle.cuts.specs.Chunks.{EndOutside, IsSpot}
-use Rattle.cuts.specs.Items.{piece_of}
 use Rattle.cuts.specs.PieceBoundaries.{IsFirstBetween}
 use Rattle.cuts.specs.Tables.{IsSplitAt}
-use Rattle.cuts.proofs.ForwardRuns.{pieces_are_the_run}
 use Rattle.cuts.proofs.ChunkLists.{concat-take-more, next_spot}
-use Rattle.cuts.proofs.CountLemmas.{pieces_joined, count_joined, pieces_few}
+use Rattle.cuts.proofs.CountLemmas.{count_joined, pieces_few}
 use Rattle.cuts.proofs.JoinedPieces.{inside_front, inside_rest, inside_before, inside_following}
-
--- no code lies over the place where a piece begins
-pub begins_outside : (xs : List ℕ) (p n : ℕ) (char : Option ℕ) → IsPieceAt utf8 xs p n char → Inside utf8 xs p → ⊥
-begins_outside xs p n (Some s) h i = not_inside utf8 utf8_is_code xs p s h.0 i
-begins_outside xs p n None h i = h.2 (record { from = i.from; char = i.char; stands = i.stands; begins = omega (arith, i.begins); ends = i.ends })
-
--- the pieces of a front that ends at a boundary are the first ones, and the others begin from there on
-module _ (xs : List ℕ) (b : ℕ) (le : b ≤ length xs) (out : Inside utf8 xs b → ⊥) where
-  first_pieces : map piece_of (pieces xs) ≡ map piece_of (pieces (take b xs)) ++ map (moved 0 b) (map piece_of (pieces (drop b xs)))
-  first_pieces =
-      let whole : take b xs ++ drop b xs ≡ xs = take-append-drop b xs in
-      let of_a : length (take b xs) ≡ b = length-take-le b xs le in
-      let joined = pieces_joined (take b xs) (drop b xs) (λ i. out (subst (λ ys. Inside utf8 ys b) whole (rw of_a at i))) in
-      ap (λ ys. map piece_of (pieces ys)) (sym whole) ∙ (joined ∙ ap (λ n. map piece_of (pieces (take b xs)) ++ map (moved 0 n) (map piece_of (pieces (drop b xs)))) of_a)
-
-  count_is : length (pieces xs) ≡ length (pieces (take b xs)) + length (pieces (drop b xs))
-  count_is =
-      omega (
-        arith,
-        ap length first_pieces,
-        length-map (pieces xs) piece_of,
-        length-map (pieces (take b xs)) piece_of,
-        length-map (pieces (drop b xs)) piece_of,
-        length-map (map piece_of (pieces (drop b xs))) (moved 0 b),
-        length-append (map piece_of (pieces (take b xs))) (map (moved 0 b) (map piece_of (pieces (drop b xs)))),
-      )
-
-  piece_begins_at : (n : ℕ) (d : Item) → n < length (pieces xs) → (get_or (map piece_of (pieces (take b xs)) ++ map (moved 0 b) (map piece_of (pieces (drop b xs)))) n (piece_of d)).start ≡ (get_or (pieces xs) n d).0
-  piece_begins_at n d lt =
-      ap (λ (y : Piece). y.start) (ap (λ ps. get_or ps n (piece_of d)) (sym first_pieces) ∙ get_or-map piece_of (pieces xs) n d (piece_of d) lt)
-
-  begins_in_front : (n : ℕ) (d : Item) → n < length (pieces (take b xs)) → (get_or (pieces xs) n d).0 < b
-  begins_in_front n d lt =
-      let ps = map piece_of (pieces (take b xs)) in
-      let qs = map (moved 0 b) (map piece_of (pieces (drop b xs))) in
-      let len : length ps ≡ length (pieces (take b xs)) = length-map (pieces (take b xs)) piece_of in
-      let lt' : n < length ps = omega arith in
-      let place = piece_begins_at n d (omega (arith, count_is)) in
-      let first = ap (λ (y : Piece). y.start) (get_or_append_left ps qs (piece_of d) n lt') in
-      let before = ((pieces_are_the_run (take b xs)).cut.pieces n (piece_of d) lt').2 in
-      omega (arith, length-take-le b xs le)
-
-  begins_in_rest : (n : ℕ) (d : Item) → length (pieces (take b xs)) ≤ n → n < length (pieces xs) → b ≤ (get_or (pieces xs) n d).0
-  begins_in_rest n d ge lt =
-      let ps = map piece_of (pieces (take b xs)) in
-      let rs = map piece_of (pieces (drop b xs)) in
-      let len : length ps ≡ length (pieces (take b xs)) = length-map (pieces (take b xs)) piece_of in
-      let of_r : length rs ≡ length (pieces (drop b xs)) = length-map (pieces (drop b xs)) piece_of in
-      let place = piece_begins_at n d lt in
-      let past : length ps ≤ n = omega arith in
-      let in_rest : n - length ps < length rs = omega (arith, count_is) in
-      let later = ap (λ (y : Piece). y.start) (get_or-append_right ps (map (moved 0 b) rs) (length ps) n (piece_of d) refl past) in
-      let at = ap (λ (y : Piece). y.start) (get_or-map (moved 0 b) rs (n - length ps) (piece_of d) (piece_of d) in_rest) in
-      omega arith
-
-  -- so where m lies after all that begin before this boundary, they are as many as begin before m
-  pub split_at_boundary : (m : ℕ) → (m ≤ b) ⊎ (b ≡ length xs) → ((n : ℕ) → m ≤ n → n < b → Inside utf8 xs n) → IsSplitAt (pieces xs) m (length (pieces (take b xs)))
-  split_at_boundary m far over = record {
-    within = omega (arith, count_is);
-    before = λ n d lo hi.
-        let x = get_or (pieces xs) n d in
-        let first : x.0 < b = begins_in_front n d hi in
-        let lt : n < length (map piece_of (pieces xs)) = omega (arith, count_is, length-map (pieces xs) piece_of) in
-        let is : get_or (map piece_of (pieces xs)) n (piece_of d) ≡ piece_of x = get_or-map piece_of (pieces xs) n d (piece_of d) (omega (arith, count_is)) in
-        let piece : IsPieceAt utf8 xs x.0 x.2 (piece_of x).char = rw is at (((pieces_are_the_run xs).cut.pieces n (piece_of d) lt).0) in
-        ⊎_elim (λ (lt : x.0 < m). lt) (λ (ge : m ≤ x.0). absurd (begins_outside xs x.0 x.2 (piece_of x).char piece (over x.0 ge first))) (cases_lt x.0 m);
-    following = λ n d lo hi.
-        let later : b ≤ (get_or (pieces xs) n d).0 = begins_in_rest n d lo hi in
-        ⊎_elim
-        (λ (le : m ≤ b). omega arith)
-        (λ (end : b ≡ length xs).
-        let x = get_or (pieces xs) n d in
-        let lt : n < length (map piece_of (pieces xs)) = omega (arith, length-map (pieces xs) piece_of) in
-        let is : (get_or (map piece_of (pieces xs)) n (piece_of d)).start ≡ x.0 = ap (λ (y : Piece). y.start) (get_or-map piece_of (pieces xs) n d (piece_of d) hi) in
-        let within = ((pieces_are_the_run xs).cut.pieces n (piece_of d) lt).2 in
-        absurd (omega arith))
-        far;
-  }
+use Rattle.cuts.proofs.SplitNumbers.{bytes_split}
 
 -- A chunk of the whole.
 pub record ChunkAt (chunks : List (List ℕ)) (k p : ℕ) (x : List ℕ) : Type 0 where
@@ -169,7 +85,7 @@ module _ (chunks : List (List ℕ)) (k p : ℕ) (x : List ℕ) (at : ChunkAt chu
       let over : (q : ℕ) → m ≤ q → q < b → Inside utf8 (concat chunks) q = λ q ge lt.
       let place : p + (q - p) ≡ q = omega arith in
       rw place at (inside_of_chunk (q - p) (first.first (q - p) (omega arith) (omega arith))) in
-      rw count at (split_at_boundary (concat chunks) b le out m far over)
+      rw count at (bytes_split (concat chunks) b le out m far over)
 
   -- the chunk has the byte at m, or is the last
   pub chunk_last : (m : ℕ) → (k + 1 < length chunks → m < length (concat (take (k + 1) chunks))) → (m < p + length x) ⊎ (p + length x ≡ length (concat chunks))

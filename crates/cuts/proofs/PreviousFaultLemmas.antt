@@ -18,7 +18,8 @@ use Rattle.cuts.specs.Chunks.{IsSpot}
 use Rattle.cuts.proofs.ChunkLists.{concat-take-more}
 use Rattle.cuts.proofs.FaultPlaces.{fault_piece, IsFaultAt, only_place, no_faults, fault_of_chunk, fault_in_chunk}
 use Rattle.cuts.proofs.JoinedPieces.{piece_from_front, piece_of_front}
-use Rattle.cuts.proofs.NumberLemmas.{ChunkAt, begins_outside}
+use Rattle.cuts.proofs.SplitNumbers.{begins_outside}
+use Rattle.cuts.proofs.NumberLemmas.{ChunkAt}
 
 pub none_counted_before : (xs : List ℕ) (i : ℕ) → faulty_item_count (pieces xs) ≡ 0 → HasNoFaultBefore xs i
 none_counted_before xs i none z h e = absurd (no_faults xs none z.start (only_place xs z h e))

@@ -5,10 +5,10 @@ use Rattle.std.specs.Prelude.{All, IfErr, drop, is_some}
 use Rattle.std.specs.Result.{result_ok}
 use Rattle.utf_base.specs.Code.{IsCode}
 use Rattle.utf_base.specs.CutLaws.{HaveNoFault, IsJoined, char_pieces}
-use Rattle.utf_base.proofs.Cuts.{Finds, cut_is_unique}
+use Rattle.utf_base.proofs.Cuts.{Finds, cut_unique}
 use Rattle.utf_base.proofs.JoinedCodes.{no_fault_in_joined_codes}
 use Rattle.encode_unicode.specs.Window.{Placed}
-use Rattle.cuts.specs.Items.{piece_of, HasKind, IsRun, answers_of}
+use Rattle.cuts.specs.Items.{piece_of, HasKind, IsRun, IsRunBetween, answers_of}
 
 -- the answer at a place is known by its piece
 same_answer : {E : Type 0} (kind : List ℕ → Option E) (xs : List ℕ) (p q : ℕ) (r t : Result ℕ E) → p ≡ q → result_ok r ≡ result_ok t
@@ -39,10 +39,14 @@ same_items kind xs (x ∷ items) (y ∷ others) e h g =
     ap₂ (λ z zs. z ∷ zs) (same_item kind xs x y first (h 0 x (omega arith)) (g 0 y (omega arith)))
     (same_items kind xs items others rest (λ k d lt. h (suc k) d (omega arith)) (λ k d lt. g (suc k) d (omega arith)))
 
+pub run_between_unique : {E : Type 0} (code : ℕ → List ℕ) (kind : List ℕ → Option E) → IsCode code → (xs : List ℕ) (i j : ℕ) (items others : List (Placed E))
+    → IsRunBetween code kind xs i j items → IsRunBetween code kind xs i j others → items ≡ others
+run_between_unique code kind c xs i j items others a b =
+    same_items kind xs items others (cut_unique code c xs i j (map piece_of items) (map piece_of others) a.cut b.cut) a.kinds b.kinds
+
 pub run_unique : {E : Type 0} (code : ℕ → List ℕ) (kind : List ℕ → Option E) → IsCode code → (xs : List ℕ) (items others : List (Placed E))
     → IsRun code kind xs items → IsRun code kind xs others → items ≡ others
-run_unique code kind c xs items others a b =
-    same_items kind xs items others (cut_is_unique code c xs (map piece_of items) (map piece_of others) a.cut b.cut) a.kinds b.kinds
+run_unique code kind c xs items others a b = run_between_unique code kind c xs 0 (length xs) items others a b
 
 -- the answers of items that are the pieces of joined codes
 answers_of_chars : {E : Type 0} (code : ℕ → List ℕ) (i : ℕ) (items : List (Placed E)) (scalars : List ℕ) → map piece_of items ≡ char_pieces code i scalars

@@ -74,13 +74,13 @@ parted m k items split =
       following = rw len (pieces_within (λ x. m ≤ x.start) items k (length items) (omega arith) split.following);
     }
 
-run_before : (xs : List ℕ) (m k : ℕ) (items : List Item) → m ≤ length xs → IsForwardRun xs items → IsSplitAt items m k → IsForwardRunBetween xs 0 m (take k items)
+pub run_before : (xs : List ℕ) (m k : ℕ) (items : List Item) → m ≤ length xs → IsForwardRun xs items → IsSplitAt items m k → IsForwardRunBetween xs 0 m (take k items)
 run_before xs m k items le run split = record {
   cut = rw (← take-map piece_of k items) (cut_before utf8 xs 0 m (length xs) k (map piece_of items) le (parted m k items split) run.cut);
   kinds = All-take (HasKind fault_kind xs) k items run.kinds;
 }
 
-run_from_place : (xs : List ℕ) (m k : ℕ) (items : List Item) → IsForwardRun xs items → IsSplitAt items m k → IsForwardRunBetween xs m (length xs) (drop k items)
+pub run_from_place : (xs : List ℕ) (m k : ℕ) (items : List Item) → IsForwardRun xs items → IsSplitAt items m k → IsForwardRunBetween xs m (length xs) (drop k items)
 run_from_place xs m k items run split = record {
   cut = rw (← drop-map piece_of k items) (cut_from_place utf8 xs 0 m (length xs) k (map piece_of items) (omega arith) (parted m k items split) run.cut);
   kinds = All-drop (HasKind fault_kind xs) k items run.kinds;
@@ -92,7 +92,7 @@ kind_stays : (xs ys : List ℕ) (p q : ℕ) (r : Result ℕ Utf8ErrorKind) → f
 kind_stays xs ys p q (Ok s) e h = tt
 kind_stays xs ys p q (Err k) e h = sym e ∙ h
 
-run_stays : (xs ys : List ℕ) (j : ℕ) (items : List Item) → ((p : ℕ) → p < j → SameAt utf8 fault_kind xs p ys p) → IsForwardRunBetween xs 0 j items
+pub run_stays : (xs ys : List ℕ) (j : ℕ) (items : List Item) → ((p : ℕ) → p < j → SameAt utf8 fault_kind xs p ys p) → IsForwardRunBetween xs 0 j items
     → IsForwardRunBetween ys 0 j items
 run_stays xs ys j items same run = record {
   cut = cut_stays utf8 xs ys 0 j (map piece_of items) (λ p lt. (same p lt).pieces) run.cut;
@@ -101,7 +101,7 @@ run_stays xs ys j items same run = record {
       kind_stays xs ys x.0 x.0 x.1 (same x.0 (item_of_run xs 0 j items n d run lt).2).kinds (run.kinds n d lt);
 }
 
-run_moves : (xs ys : List ℕ) (a b i j : ℕ) (items : List Item) → ((p : ℕ) → i ≤ p → SameAt utf8 fault_kind xs (a + p) ys (b + p)) → length ys ≤ j
+pub run_moves : (xs ys : List ℕ) (a b i j : ℕ) (items : List Item) → ((p : ℕ) → i ≤ p → SameAt utf8 fault_kind xs (a + p) ys (b + p)) → length ys ≤ j
     → IsForwardRunBetween xs (a + i) (length xs) items → IsForwardRunBetween ys (b + i) j (map (moved_item a b) items)
 run_moves xs ys a b i j items same le run = record {
   cut = rw (pieces_moved a b items) (cut_moves utf8 utf8_is_code xs ys a b i j (map piece_of items) (λ p lo. (same p lo).pieces) le run.cut);
@@ -125,11 +125,11 @@ length-splice : (xs new : List ℕ) (s e : ℕ) → s ≤ e → e ≤ length xs 
 length-splice xs new s e lo hi = grind (arith, common_steps)
 
 -- what the law of local damage says of them
-record StaysAround (xs ys : List ℕ) (s e t : ℕ) : Type 0 where
+pub record StaysAround (xs ys : List ℕ) (s e t : ℕ) : Type 0 where
   pub before : (p : ℕ) → p < s - 3 → SameAt utf8 fault_kind xs p ys p
   pub following : (p : ℕ) → 3 ≤ p → SameAt utf8 fault_kind xs (e + p) ys (t + p)
 
-stays_around : (xs new : List ℕ) (s e : ℕ) → s ≤ e → e ≤ length xs → StaysAround xs (splice xs s e new) s e (s + length new)
+pub stays_around : (xs new : List ℕ) (s e : ℕ) → s ≤ e → e ≤ length xs → StaysAround xs (splice xs s e new) s e (s + length new)
 stays_around xs new s e lo hi =
     let whole : take s xs ++ slice_range xs s e ++ drop e xs ≡ xs = append_assoc (take s xs) (slice_range xs s e) (drop e xs) ∙ sym (split_between xs s e lo) in
     let other : take s xs ++ new ++ drop e xs ≡ splice xs s e new = append_assoc (take s xs) new (drop e xs) in
@@ -325,7 +325,7 @@ IsSplitAt-from_point items m k le point = record {
 }
 
 -- fewer items begin before an earlier place
-splits_in_order : (items : List Item) (m n k r : ℕ) → m ≤ n → IsSplitAt items m k → IsSplitAt items n r → k ≤ r
+pub splits_in_order : (items : List Item) (m n k r : ℕ) → m ≤ n → IsSplitAt items m k → IsSplitAt items n r → k ≤ r
 splits_in_order items m n k r le a b =
     ⊎_elim
     (λ (lt : r < k).

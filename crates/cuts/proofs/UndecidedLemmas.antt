@@ -43,10 +43,10 @@ pub LocatesFront-then : {form : Form} {w v : List ℕ} {x : Told} (offset : ℕ)
 LocatesFront-then {form} {w} {v} {x} offset (given, next, a) b = (given ++ at_offset next x ∷ [], wrapped (next + x.1), Locates-then a (Locates-one next b))
 
 -- The piece that begins the bytes from a place on ends up to another, whatever follows them.
-record EndsBy (form : Form) (bytes : List ℕ) (p end : ℕ) : Type 0 where
-  piece : Told
-  begins : Begins form (drop p bytes) piece
-  fits : p + piece.1 ≤ end
+pub record EndsBy (form : Form) (bytes : List ℕ) (p end : ℕ) : Type 0 where
+  pub piece : Told
+  pub begins : Begins form (drop p bytes) piece
+  pub fits : p + piece.1 ≤ end
 
 -- Where that is so at each place that a run comes to, it comes to the other place.
 module _ (form : Form) (bytes : List ℕ) (end : ℕ) (IsStart : ℕ → Type 0) (ends : (p : ℕ) → p < end → IsStart p → EndsBy form bytes p end)
@@ -93,7 +93,7 @@ module _ (bytes : List ℕ) (end : ℕ) (near : end + 3 ≤ length bytes) (outsi
   by_kind p lt (Some bytes_kind.Utf16ReservedCodepoint) e = kind_ends p lt bytes_kind.Utf16ReservedCodepoint e (λ f. cc)
   by_kind p lt (Some bytes_kind.TooHighCodepoint) e = kind_ends p lt bytes_kind.TooHighCodepoint e (λ f. cc)
 
-  utf8_ends : (p : ℕ) → p < end → EndsBy Utf8 bytes p end
+  pub utf8_ends : (p : ℕ) → p < end → EndsBy Utf8 bytes p end
   utf8_ends p lt = by_kind p lt (fault_kind (drop p bytes)) refl
 
   utf8_front : (offset : ℕ) → LocatesFront Utf8 offset bytes (drop end bytes)
@@ -102,32 +102,25 @@ module _ (bytes : List ℕ) (end : ℕ) (near : end + 3 ≤ length bytes) (outsi
 -- UTF-16.
 
 -- the same of units, two bytes each
-record EndsByUnits (form : Form) (bytes : List ℕ) (p end : ℕ) : Type 0 where
-  by : EndsBy form bytes p end
-  even : by.piece.1 % 2 ≡ 0
+pub record EndsByUnits (form : Form) (bytes : List ℕ) (p end : ℕ) : Type 0 where
+  pub by : EndsBy form bytes p end
+  pub even : by.piece.1 % 2 ≡ 0
 
-module _ (high : Bool) (from : Form) (form : HasByteOrder high from) (bytes : List ℕ) (end : ℕ) (near : end + 3 ≤ length bytes) (at_end : IsUnitsEnd high bytes end) where
-  even_end : end % 2 ≡ 0
-  even_end = at_end.even (omega arith)
-
+module _ (high : Bool) (from : Form) (form : HasByteOrder high from) (bytes : List ℕ) (end : ℕ) (even_end : end % 2 ≡ 0) (at_end : IsUnitsEnd high bytes end) where
   -- the units from a place of the run on
-  module _ (p : ℕ) (lt : p < end) (even : p % 2 ≡ 0) where
-    four : 4 ≤ length (drop p bytes)
-    four = let e = even_end in omega (arith, length-drop p bytes)
-
+  module _ (p : ℕ) (lt : p < end) (even : p % 2 ≡ 0) (four : 4 ≤ length (drop p bytes)) where
     two : 2 ≤ length (drop p bytes)
-    two = let h = four in omega arith
+    two = omega arith
 
     two_fit : p + 2 ≤ end
-    two_fit = let e = even_end in omega arith
+    two_fit = omega arith
 
     pair_fits : (u v : ℕ) → u ≡ first_unit high (drop p bytes) → v ≡ second_unit high (drop p bytes) → is_leading_surrogate u ≡ true → is_trailing_surrogate v ≡ true → p + 4 ≤ end
     pair_fits u v is_u is_v l t =
         let w = drop p bytes in
-        let e = even_end in
         let place : p ≡ 2 * (p / 2) = omega arith in
-        let units = (even_units high bytes p (p / 2) (omega arith) place).1 in
-        let count = units_within high bytes p (p / 2) (omega arith) place in
+        let units = (even_units high bytes p (p / 2) (omega (arith, length-drop p bytes)) place).1 in
+        let count = units_within high bytes p (p / 2) (omega (arith, length-drop p bytes)) place in
         let both : units_of high w ≡ u ∷ v ∷ units_of high (drop 4 w)
         = ap (units_of high) (sym (append-nil w)) ∙ units_two high w [] two ∙ ap₂ (λ a us. a ∷ us) (sym is_u) (units_next high w [] four) ∙ ap (λ b. u ∷ b ∷ units_of high (drop 4 w ++ [])) (sym is_v)
         ∙ ap (λ z. u ∷ v ∷ units_of high z) (append-nil (drop 4 w)) in
@@ -171,12 +164,18 @@ module _ (high : Bool) (from : Form) (form : HasByteOrder high from) (bytes : Li
       even = refl;
     }
 
-    units_end_by : EndsByUnits from bytes p end
+    pub units_end_by : EndsByUnits from bytes p end
     units_end_by = by_tests (first_unit high (drop p bytes)) (second_unit high (drop p bytes)) refl refl _ _ _ refl refl refl
+
+module _ (high : Bool) (from : Form) (form : HasByteOrder high from) (bytes : List ℕ) (end : ℕ) (near : end + 3 ≤ length bytes) (at_end : IsUnitsEnd high bytes end) where
+  pub units_end_near : (p : ℕ) → p < end → p % 2 ≡ 0 → EndsByUnits from bytes p end
+  units_end_near p lt even =
+      let even_end = at_end.even (omega arith) in
+      units_end_by high from form bytes end even_end at_end p lt even (omega (arith, length-drop p bytes))
 
   units_front : (offset : ℕ) → LocatesFront from offset bytes (drop end bytes)
   units_front offset =
-      run_to from bytes end (λ p. p % 2 ≡ 0) (λ p lt even. (units_end_by p lt even).by) (λ p lt even. let one = (units_end_by p lt even).even in omega arith) end 0 offset (omega arith) (omega arith) refl
+      run_to from bytes end (λ p. p % 2 ≡ 0) (λ p lt even. (units_end_near p lt even).by) (λ p lt even. let one = (units_end_near p lt even).even in omega arith) end 0 offset (omega arith) (omega arith) refl
 
 -- Each form.
 

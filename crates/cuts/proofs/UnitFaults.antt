@@ -1,5 +1,5 @@
 -- The first fault of bytes that are UTF-16.
-use Rattle.std.proofs.Common.{◌≡◌, ℕ, ◌+◌, ◌*◌, ◌/◌, ◌<◌, ◌≤◌, ⊎_elim, Bool, List, [], ◌∷◌, length, get_or, drop, arith, refl, Some, length-drop}
+use Rattle.std.proofs.Common.{◌≡◌, ℕ, ◌+◌, ◌*◌, ◌/◌, ◌<◌, ◌≤◌, ⊎_elim, Bool, List, [], ◌∷◌, length, get_or, take, drop, arith, refl, Some, length-drop}
 use Rattle.std.proofs.lemmas.Bool.{cases_lt}
 use Rattle.std.proofs.lemmas.List.{take_rest}
 use Rattle.utf_base.specs.Code.{utf16}
@@ -12,9 +12,11 @@ use Rattle.utf_base.proofs.Standing.{outside_end, stands_in_part, stands_in_whol
 use Rattle.utf_base.proofs.UnitLemmas.{no_units_where_fault}
 use Rattle.utf_base.proofs.Utf16Code.{utf16_is_code, length_utf16}
 use Rattle.utf_lanes.specs.BytePairs.{units_of, unit_of}
+use Rattle.utf_lanes.specs.UnitBlocks.{AreCodes}
 use Rattle.recoding.proofs.JoinedShards.{even_units}
 use Rattle.cuts.specs.WellFormed.{IsFirstFault, BeginsUnits, NoUnitsBegin, IsFirstUnitFault}
-use Rattle.recoding.proofs.FirstFaults.{IsGoodTo, good_all, good_front, good_units}
+use Rattle.recoding.proofs.FirstFaults.{IsGoodTo, good_all, good_units}
+use Rattle.recoding.proofs.GoodCodes.{good_front_codes}
 
 -- What begins the bytes.
 
@@ -65,7 +67,7 @@ module _ (high : Bool) (w : List ℕ) where
 
 -- How far bytes are well-formed.
 
-count_units : (high : Bool) (bytes : List ℕ) → (2 * length (units_of high bytes) ≤ length bytes) × (length bytes ≤ 2 * length (units_of high bytes) + 1)
+pub count_units : (high : Bool) (bytes : List ℕ) → (2 * length (units_of high bytes) ≤ length bytes) × (length bytes ≤ 2 * length (units_of high bytes) + 1)
 count_units high [] = (omega arith, omega arith)
 count_units high (a ∷ []) = (omega arith, omega arith)
 count_units high (a ∷ b ∷ v) = let rest = count_units high v in (omega (arith, rest.0), omega (arith, rest.1))
@@ -81,8 +83,17 @@ pub record IsGoodToUnit (high : Bool) (bytes : List ℕ) (n : ℕ) : Type 0 wher
   pub even : n ≡ 2 * (n / 2)
   pub good : IsGoodTo utf16 (units_of high bytes) (n / 2)
 
-pub good_unit_front : (high : Bool) (bytes : List ℕ) → IsGoodToUnit high bytes 0
-good_unit_front high bytes = record { within = omega arith; even = refl; good = good_front utf16 (units_of high bytes) }
+-- codes have none
+pub good_unit_codes : (high : Bool) (bytes : List ℕ) (k : ℕ) → 2 * k ≤ length bytes → AreCodes (units_of high (take (2 * k) bytes)) → IsGoodToUnit high bytes (2 * k)
+good_unit_codes high bytes k within codes =
+    let half : 2 * k / 2 ≡ k = omega arith in
+    let count = count_units high bytes in
+    let front = (even_units high bytes (2 * k) k within refl).0 in
+    record {
+      within = within;
+      even = omega arith;
+      good = rw half (good_front_codes (units_of high bytes) k (omega (arith, count.1)) (rw front at codes));
+    }
 
 pub good_unit_step : (high : Bool) (bytes : List ℕ) (i n : ℕ) → IsGoodToUnit high bytes i → BeginsUnits high (drop i bytes) n → IsGoodToUnit high bytes (i + n)
 good_unit_step high bytes i n g b =

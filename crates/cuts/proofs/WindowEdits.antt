@@ -1,13 +1,11 @@
 -- A part of some bytes is replaced inside of a window whose ends are three bytes away, or are those of the bytes.
-use Rattle.std.proofs.Common.{◌≡◌, ℕ, ◌+◌, ◌-◌, ◌<◌, ◌≤◌, ◌⊎◌, inl, inr, List, ◌++◌, length, take, drop, arith, refl, ap, ap₂, sym, ◌∙◌, ⊎_elim, append_assoc, length-append, length-take, length-drop}
+use Rattle.std.proofs.Common.{◌≡◌, ℕ, ◌+◌, ◌-◌, ◌≤◌, ◌⊎◌, inl, inr, List, ◌++◌, length, take, drop, arith, refl, ap, ap₂, sym, ◌∙◌, ⊎_elim, append_assoc, length-append, length-drop}
 use Rattle.std.proofs.lemmas.Grind.{common_steps}
 use Rattle.std.proofs.lemmas.List.{take-append-le, drop-append-le, length-take-le, take_at, drop_at}
 use Rattle.std.proofs.lemmas.List.Edits.{split_between, length-between}
 use Rattle.std.proofs.Math.Seq.{take-append-add, drop-append-add}
 use Rattle.std.specs.List.{splice}
 use Rattle.std.specs.Prelude.{slice_range}
-use Rattle.utf_base.specs.Code.{utf8}
-use Rattle.utf_base.specs.Piece.{Inside}
 use Rattle.cuts.specs.declared.buffers.counts.Counts.{Counts}
 use Rattle.cuts.specs.ChunkEdits.{IsWindow}
 use Rattle.cuts.specs.Counts.{counts_of, exchange_of, AreAmong}
@@ -20,7 +18,7 @@ spliced_parts p m q new s e lo hi =
     let rest : drop (length p + e) (p ++ (m ++ q)) ≡ drop e m ++ q = drop-append-add p (m ++ q) e ∙ drop-append-le e m q hi in
     ap₂ (λ ys zs. ys ++ (new ++ zs)) front rest ∙ simp append_assoc
 
-pub length-splice : (xs new : List ℕ) (s e : ℕ) → s ≤ e → e ≤ length xs → length (splice xs s e new) ≡ s + length new + (length xs - e)
+pub length-splice : {X : Type 0} (xs new : List X) (s e : ℕ) → s ≤ e → e ≤ length xs → length (splice xs s e new) ≡ s + length new + (length xs - e)
 length-splice xs new s e lo hi = grind (arith, common_steps)
 
 module _ (p m q new : List ℕ) (s e : ℕ) (lo : s ≤ e) (hi : e ≤ length m) (before : (length p ≡ 0) ⊎ (3 ≤ s)) (following : (length q ≡ 0) ⊎ (e + 3 ≤ length m)) (seams : Seams p m q) where

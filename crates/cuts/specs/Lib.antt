@@ -13,7 +13,10 @@ pub mod Counts
 pub mod Chunks
 pub mod CountedChunks
 pub mod ChunkEdits
+pub mod Changes
 pub mod Measures
+pub mod Rows
+pub mod RowEdits
 pub mod TextLookups
 pub mod Failures
 pub mod RecodeStream
@@ -27,6 +30,8 @@ pub mod Listings
 pub mod Located
 pub mod LocatedLaws
 pub mod UndecidedEnds
+pub mod ChangedRanges
+pub mod PieceSteps
 pub mod FaultLists
 pub mod Endings
 pub use Rattle.recoding.specs.Recoded

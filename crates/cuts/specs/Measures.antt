@@ -3,13 +3,14 @@ use Rattle.std.specs.Prelude.{◌≡◌, ℕ, ◌+◌, ◌<◌, ◌≤◌, List,
 use Rattle.std.specs.List.{concat}
 use Rattle.cuts.specs.declared.buffers.counts.Counts.{Counts}
 use Rattle.cuts.specs.declared.buffers.measures.Found.{Found}
-use Rattle.cuts.specs.declared.buffers.measures.Measure.{Measure}
-use Rattle.cuts.specs.declared.buffers.measures.Measure.TheVariants.{Pieces, LineFeeds}
+use Rattle.cuts.specs.declared.buffers.counts.Measure.{Measure}
+use Rattle.cuts.specs.declared.buffers.counts.Measure.TheVariants.{Bytes, Pieces, LineFeeds}
 use Rattle.cuts.specs.Chunks.{IsSpot}
 use Rattle.cuts.specs.Counts.{counts_of}
 
 -- how many of what is numbered are counted
 abbrev pub measure_of : Measure → Counts → ℕ
+measure_of Bytes c = c.bytes
 measure_of Pieces c = c.pieces
 measure_of LineFeeds c = c.line_feeds
 

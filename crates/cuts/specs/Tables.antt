@@ -3,7 +3,7 @@ use Rattle.std.specs.List.{AllWithin, HoldsAt, splice}
 use Rattle.std.specs.Prelude.{◌≡◌, ℕ, ◌+◌, ◌-◌, ◌^◌, ◌<◌, ◌≤◌, ◌↔◌, List, length, take, drop, All, Contains}
 use Rattle.utf_base.specs.Code.{utf8}
 use Rattle.utf_base.specs.Piece.{Inside, Piece, IsPiece, IsCutBetween}
-use Rattle.encode_unicode.specs.Window.{Item}
+use Rattle.encode_unicode.specs.Window.{Item, Placed}
 use Rattle.cuts.specs.ForwardRuns.{IsForwardRun}
 
 -- what callers see of a table
@@ -43,7 +43,7 @@ pub record WereReplaced (ys : List ℕ) (s e t : ℕ) (items : List Item) : Type
   pub run : IsForwardRun old items
 
 -- the first k items begin before the place m, and the others do not
-pub record IsSplitAt (items : List Item) (m k : ℕ) : Type 0 where
+pub record IsSplitAt {E : Type 0} (items : List (Placed E)) (m k : ℕ) : Type 0 where
   pub within : k ≤ length items
   pub before : AllWithin (λ x. x.0 < m) items 0 k
   pub following : AllWithin (λ x. m ≤ x.0) items k (length items)

@@ -5,6 +5,11 @@ use Rattle.utf_base.specs.Piece.{Piece, IsPiece}
 use Rattle.encode_unicode.specs.Window.{Item}
 use Rattle.cuts.specs.ShardRuns.{line_feed_count}
 
+-- what contracts see of a cursor: the bytes of the text, and the offset of a place between two of its pieces
+pub record TextPlace : Type 0 where
+  pub text : List ℕ
+  pub offset : ℕ
+
 -- the piece has the byte at the place
 abbrev pub HasPlace : ℕ → Item → Type 0
 HasPlace p x = (x.0 ≤ p) × (p < x.0 + x.2)

@@ -2,11 +2,11 @@
 //! with its offset.
 ghost use Rattle.std.specs.Prelude.{◌≡◌, ◌<◌, ◌≤◌, ◌+◌, ◌-◌, ◌^◌, [], ◌++◌, length, take, drop, min, IsTrue, IsFalse, IfSome, IfNone};
 ghost use Rattle.recoding.specs.Recoded.{most_held};
-ghost use Rattle.cuts.specs.Located.{BeginsSome, Decoding, FeedsPieces, FeedsRest, FinishesPieces, HasNoPlace, IsOpen, IsWithin, wrapped};
+ghost use Rattle.cuts.specs.Located.{BeginsKept, Decoding, FeedsFaults, FeedsKept, FeedsPieces, FeedsRest, FinishesFaults, FinishesKept, FinishesPieces, HasNoPlace, HasNoPlaceFor, HasNoPlaceForFault, IsOpen, IsWithin, wrapped};
 
 use crate::first_pieces::{front_of, last_front};
 use crate::located::{FromPiece, Spot};
-use crate::piece_runs::{made_of, put_run};
+use crate::piece_runs::{AllPieces, FaultsAlone, Kept, put_run, write_piece};
 use recoding::form::Form;
 use std::marker::Model;
 
@@ -149,27 +149,55 @@ impl Decoder {
         ensures read { IsFalse result.is_full → result.read ≡ length part.now }
         ensures waits { IsFalse result.is_full → 0 < length self.new.held → IsOpen self.new.form self.new.held }
     {
+        self.feed_kept::<AllPieces, P>(part, room)
+    }
+
+    /// The same, but writes the invalid bytes alone: those of the pieces that `feed` writes which are no characters. Text is passed
+    /// as fast as `valid_up_to` goes over it. If `is_full` is true, the next invalid byte is known already.
+    ///
+    /// Calls of this and of `feed` may be mixed: what is held afterwards, and the offset, are the same.
+    ///
+    /// Cost: O(n) in what is read.
+    pub fn feed_faults<P: FromPiece>(&mut self, part: &[u8], room: &mut [P]) -> Fed
+        ensures feeds { FeedsFaults P.made self.old part.now room.old room.new result.read result.written self.new }
+        ensures full { IsTrue result.is_full →
+            HasNoPlaceForFault self.new part.now result.read result.written (length room.old) }
+        ensures read { IsFalse result.is_full → result.read ≡ length part.now }
+        ensures waits { IsFalse result.is_full → 0 < length self.new.held → IsOpen self.new.form self.new.held }
+    {
+        self.feed_kept::<FaultsAlone, P>(part, room)
+    }
+
+    // The same of the pieces that are kept.
+    #[inline(always)]
+    fn feed_kept<K: Kept, P: FromPiece>(&mut self, part: &[u8], room: &mut [P]) -> Fed
+        ensures feeds { FeedsKept K.kept P.made self.old part.now room.old room.new result.read result.written self.new }
+        ensures full { IsTrue result.is_full →
+            HasNoPlaceFor K.kept self.new part.now result.read result.written (length room.old) }
+        ensures read { IsFalse result.is_full → result.read ≡ length part.now }
+        ensures waits { IsFalse result.is_full → 0 < length self.new.held → IsOpen self.new.form self.new.held }
+    {
         if self.held_len() == 0 {
             let front = Spot {
                 read: 0,
                 written: 0,
                 offset: self.offset(),
             };
-            return self.feed_rest(part, room, front);
+            return self.feed_rest::<K, P>(part, room, front);
         }
-        self.feed_joined(part, room)
+        self.feed_joined::<K, P>(part, room)
     }
 
     // The same where something is held.
     #[inline(never)]
-    fn feed_joined<P: FromPiece>(&mut self, part: &[u8], room: &mut [P]) -> Fed
-        ensures feeds { FeedsPieces P.made self.old part.now room.old room.new result.read result.written self.new }
+    fn feed_joined<K: Kept, P: FromPiece>(&mut self, part: &[u8], room: &mut [P]) -> Fed
+        ensures feeds { FeedsKept K.kept P.made self.old part.now room.old room.new result.read result.written self.new }
         ensures full { IsTrue result.is_full →
-            HasNoPlace self.new part.now result.read result.written (length room.old) }
+            HasNoPlaceFor K.kept self.new part.now result.read result.written (length room.old) }
         ensures read { IsFalse result.is_full → result.read ≡ length part.now }
         ensures waits { IsFalse result.is_full → 0 < length self.new.held → IsOpen self.new.form self.new.held }
     {
-        let first = self.feed_held(part, room);
+        let first = self.feed_held::<K, P>(part, room);
         if first.is_full || self.held_len() > 0 {
             return first;
         }
@@ -178,21 +206,21 @@ impl Decoder {
             written: first.written,
             offset: self.offset(),
         };
-        self.feed_rest(part, room, at)
+        self.feed_rest::<K, P>(part, room, at)
     }
 
     // The same of the part from a spot on: nothing is held any more.
     #[inline(always)]
-    fn feed_rest<P: FromPiece>(&mut self, part: &[u8], room: &mut [P], from: Spot) -> Fed
+    fn feed_rest<K: Kept, P: FromPiece>(&mut self, part: &[u8], room: &mut [P], from: Spot) -> Fed
         requires offset { from.offset ≡ self.old.offset }
         requires within { IsWithin from part.now room.old }
-        ensures feeds { FeedsRest P.made self.old part.now room.old room.new from result.read result.written self.new }
+        ensures feeds { FeedsRest K.kept P.made self.old part.now room.old room.new from result.read result.written self.new }
         ensures full { IsTrue result.is_full →
-            HasNoPlace self.new part.now result.read result.written (length room.old) }
+            HasNoPlaceFor K.kept self.new part.now result.read result.written (length room.old) }
         ensures read { IsFalse result.is_full → result.read ≡ length part.now }
         ensures waits { IsFalse result.is_full → 0 < length self.new.held → IsOpen self.new.form self.new.held }
     {
-        let run = put_run(self.form(), part, room, from);
+        let run = put_run::<K, P>(self.form(), part, room, from);
         if run.is_full {
             self.hold_at(&[], run.at.offset);
             return Fed {
@@ -210,10 +238,10 @@ impl Decoder {
     }
 
     // The same of what is held, with as many bytes of the part as it takes, until nothing is held.
-    fn feed_held<P: FromPiece>(&mut self, part: &[u8], room: &mut [P]) -> Fed
-        ensures feeds { FeedsPieces P.made self.old part.now room.old room.new result.read result.written self.new }
+    fn feed_held<K: Kept, P: FromPiece>(&mut self, part: &[u8], room: &mut [P]) -> Fed
+        ensures feeds { FeedsKept K.kept P.made self.old part.now room.old room.new result.read result.written self.new }
         ensures full { IsTrue result.is_full →
-            HasNoPlace self.new part.now result.read result.written (length room.old) }
+            HasNoPlaceFor K.kept self.new part.now result.read result.written (length room.old) }
         ensures read { IsFalse result.is_full → 0 < length self.new.held → result.read ≡ length part.now }
         ensures waits { IsFalse result.is_full → 0 < length self.new.held → IsOpen self.new.form self.new.held }
     {
@@ -232,15 +260,14 @@ impl Decoder {
                     is_full: false,
                 };
             };
-            if written == room.len() {
+            let Some(count) = write_piece::<K, P>(self.offset(), front, room, written) else {
                 return Fed {
                     read: read,
                     written: written,
                     is_full: true,
                 };
-            }
-            room[written] = made_of(self.offset(), front);
-            written += 1;
+            };
+            written = count;
             read += self.pass(front.len());
         }
         Fed {
@@ -280,19 +307,43 @@ impl Decoder {
         ensures all { IsFalse result.is_full → self.new.held ≡ [] }
         ensures read { result.read ≡ 0 }
     {
+        self.finish_kept::<AllPieces, P>(room)
+    }
+
+    /// The same, but writes the invalid bytes alone.
+    ///
+    /// Cost: constant.
+    pub fn finish_faults<P: FromPiece>(&mut self, room: &mut [P]) -> Fed
+        ensures finishes { FinishesFaults P.made self.old room.old room.new result.written self.new }
+        ensures full { IsTrue result.is_full → result.written ≡ length room.old }
+        ensures more { IsTrue result.is_full → 0 < length self.new.held }
+        ensures all { IsFalse result.is_full → self.new.held ≡ [] }
+        ensures read { result.read ≡ 0 }
+    {
+        self.finish_kept::<FaultsAlone, P>(room)
+    }
+
+    // The same of the pieces that are kept.
+    #[inline(always)]
+    fn finish_kept<K: Kept, P: FromPiece>(&mut self, room: &mut [P]) -> Fed
+        ensures finishes { FinishesKept K.kept P.made self.old room.old room.new result.written self.new }
+        ensures full { IsTrue result.is_full → result.written ≡ length room.old }
+        ensures more { IsTrue result.is_full → 0 < length self.new.held }
+        ensures all { IsFalse result.is_full → self.new.held ≡ [] }
+        ensures read { result.read ≡ 0 }
+    {
         let form = self.form();
         let mut written = 0;
         while self.held_len() > 0 {
-            if written == room.len() {
+            let front = last_front(form, self.held());
+            let Some(count) = write_piece::<K, P>(self.offset(), front, room, written) else {
                 return Fed {
                     read: 0,
                     written: written,
                     is_full: true,
                 };
-            }
-            let front = last_front(form, self.held());
-            room[written] = made_of(self.offset(), front);
-            written += 1;
+            };
+            written = count;
             let _more = self.pass(front.len());
         }
         Fed {

@@ -3,12 +3,12 @@
 //! - Runs: `walk_utf8` and `walk_utf16` ask from both ends, `forward_utf16` from the front; `merge_utf8` and
 //!   `merge_utf16` collect what a merger answers; `valid_up_to` and `units_valid_up_to` find the first fault, and
 //!   `unit_bytes_valid_up_to` that of units in bytes; `faults_into` and `unit_faults_into` give the faults, with their offsets.
-//! - Boundaries: `boundaries` finds the character boundaries next to any byte.
+//! - Boundaries: `boundaries` finds the character boundaries next to any byte, and `changed_range` where pieces may change in an edit.
 //! - Parts: `split_ascii` gives the parts between ASCII separators, `lines` the lines, each with its offset; `fault_count` and
 //!   `char_count` count.
 //! - Input in parts: `Decoder` gives the pieces of all of it, each with its offset; `undecided_len` says how many bytes at the end of
 //!   a block later ones decide, and `form_of_bom` what form a byte order mark tells.
-//! - Tables: `PieceTable` keeps the pieces of bytes that are edited.
+//! - Tables: `PieceTable` keeps the pieces of bytes that are edited, and `TextBuffer` a long text, which a `TextCursor` goes through.
 //! - Recoding: `Recoder` takes text in parts, `recode` from a reader to a writer, and `recode_strict` to the first fault; `room_for` says how much comes of some
 //!   bytes at most, `shard_end` and `boundary_after` where a large input may be cut; `front_of_text` gives one character.
 //! - Programs: `write_listing`, `write_merged` and `write_walk` write lines, and `run_pieces` and `run_recode` are one
@@ -21,6 +21,7 @@ pub mod boundaries;
 pub mod buffers;
 pub mod byte_lines;
 pub mod byte_order_mark;
+pub mod changes;
 pub mod counted;
 pub mod decoder;
 pub(crate) mod first_pieces;
@@ -32,12 +33,16 @@ pub mod programs;
 pub mod runs;
 pub mod splits;
 pub mod streams;
+pub mod text_streams;
 pub mod undecided;
 
+pub use buffers::changes::Change;
 pub use buffers::counts::Counts;
+pub use buffers::cursor::TextCursor;
 pub use buffers::text_buffer::TextBuffer;
 pub use byte_lines::{SplitLines, lines};
 pub use byte_order_mark::form_of_bom;
+pub use changes::{ChangedRange, changed_range};
 pub use counted::Counted;
 pub use decoder::{Decoder, Fed};
 pub use located::{FromPiece, LocatedPiece};
@@ -54,9 +59,10 @@ pub use recoding::recoder::{Recoder, Unfinished};
 pub use recoding::rooms::{Progress, room_for};
 pub use recoding::shards::shard_end;
 pub use runs::collected::{forward_utf16, merge_utf8, merge_utf16};
-pub use runs::counts::{char_count, fault_count};
+pub use runs::counts::{char_count, fault_count, unit_char_count};
 pub use runs::fault_lists::{faults_into, unit_faults_into};
 pub use runs::items::{End, Item, UnitItem};
+pub use runs::numbers::{number_of, offset_of, unit_number_of, unit_offset_of};
 pub use runs::unit_bytes::unit_bytes_valid_up_to;
 pub use runs::walks::{walk_utf8, walk_utf16};
 pub use runs::well_formed::{units_valid_up_to, valid_up_to};

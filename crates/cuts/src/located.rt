@@ -95,9 +95,20 @@ impl Spot {
         ensures written { result.written ≡ self.written + 1 }
         ensures offset { result.offset ≡ wrapped (self.offset + len) }
     {
+        self.past(len, self.written + 1)
+    }
+
+    // After so many bytes more, where so many pieces are written.
+    #[inline(always)]
+    pub(crate) fn past(self, len: usize, written: usize) -> Spot
+        requires { self.read + len < 2 ^ 64 }
+        ensures read { result.read ≡ self.read + len }
+        ensures written { result.written ≡ written }
+        ensures offset { result.offset ≡ wrapped (self.offset + len) }
+    {
         Spot {
             read: self.read + len,
-            written: self.written + 1,
+            written,
             offset: self.offset.wrapping_add(len as u64),
         }
     }

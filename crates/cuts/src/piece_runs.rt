@@ -1,14 +1,18 @@
-//! Runs that put the pieces of bytes into a room: ASCII in blocks, other text character by character, and the rest with care.
-ghost use Rattle.std.specs.Prelude.{◌≡◌, ◌+◌, ◌<◌, ◌≤◌, ◌^◌, length, drop, IsTrue, IsFalse};
+//! Runs that put the pieces of bytes into a room, or the faults alone: text quickly, and the rest with care. All pieces of text are
+//! put, ASCII in blocks and the rest character by character; for faults alone text is passed by lanes.
+ghost use Rattle.std.specs.Prelude.{◌≡◌, ◌+◌, ◌<◌, ◌≤◌, ◌^◌, [], ◌∷◌, length, drop, map, IsTrue, IsFalse, IfSome, IfNone};
 ghost use Rattle.utf_lanes.specs.AsciiTexts.{AreAscii};
+ghost use Rattle.recoding.specs.FirstFaults.{IsTextAndHeld};
 ghost use Rattle.recoding.specs.declared.form.Form.TheVariants.{Utf8};
-ghost use Rattle.cuts.specs.Located.{Begins, BeginsSome, IsOpen, IsWithin, Puts, at_offset, told_of};
+ghost use Rattle.cuts.specs.Located.{Begins, BeginsKept, IsKept, IsOpen, IsWithin, Puts, PutsKept, WritesPlaces, at_offset, told_of};
 
 use crate::first_pieces::{Front, front_of};
 use crate::located::{FromPiece, Spot};
 use recoding::form::Form;
 use utf_lanes::ascii_texts::is_ascii;
+use utf_lanes::text_blocks::text_len;
 use utf_lanes::text_front::front_of_text;
+use utf_lanes::unit_blocks::units_len;
 
 // How many bytes of ASCII are put at once.
 const BLOCK: usize = 8;
@@ -16,7 +20,7 @@ const BLOCK: usize = 8;
 // How many pieces are put with care before text is looked for again.
 const STRIDE: usize = 32;
 
-// How far a run came, and why it run_ended, if it did: the room is full before a piece, or what follows decides of what is left.
+// How far a run came, and why it ended, if it did: the room is full before a piece, or what follows decides of what is left.
 #[derive(Clone, Copy, Drop)]
 pub(crate) struct Reached {
     pub(crate) at: Spot,
@@ -24,9 +28,89 @@ pub(crate) struct Reached {
     pub(crate) is_waiting: bool,
 }
 
+// Which pieces are written; the others are passed.
+pub(crate) trait Kept {
+    ghost use Rattle.std.specs.Prelude.{List, IsTrue, IsFalse};
+    ghost use Rattle.cuts.specs.declared.located.LocatedPiece.{LocatedPiece};
+    ghost use Rattle.cuts.specs.Located.{IsKept, IsPassed, IsWithin, KeepsEach, PutsKept, told_of};
+
+    // Those of a list that are written.
+    ghost kept: { List LocatedPiece → List LocatedPiece };
+
+    ghost keeps_each: { KeepsEach kept };
+
+    // Whether a piece is written.
+    fn keeps(front: Front) -> bool
+        ensures yes { IsTrue result → IsKept kept (told_of front) }
+        ensures no { IsFalse result → IsPassed kept (told_of front) };
+
+    // Goes over text that begins the bytes, as far as it is found quickly.
+    fn put_text<P: FromPiece>(form: Form, bytes: &[u8], room: &mut [P], from: Spot) -> Spot
+        requires { IsWithin from bytes.now room.old }
+        ensures { PutsKept kept P.made form bytes.now room.old room.new from result };
+}
+
+// All of them.
+pub(crate) struct AllPieces;
+
+// The faults.
+pub(crate) struct FaultsAlone;
+
+impl Kept for AllPieces {
+    ghost use Rattle.cuts.specs.Located.{all_keep_each, all_pieces};
+
+    ghost kept = { all_pieces };
+
+    ghost keeps_each = { all_keep_each };
+
+    #[inline(always)]
+    fn keeps(_front: Front) -> bool {
+        true
+    }
+
+    #[inline(always)]
+    fn put_text<P: FromPiece>(form: Form, bytes: &[u8], room: &mut [P], from: Spot) -> Spot {
+        put_located_text(form, bytes, room, from)
+    }
+}
+
+impl Kept for FaultsAlone {
+    ghost use Rattle.cuts.specs.Located.{faults_alone, faults_keep_each};
+
+    ghost kept = { faults_alone };
+
+    ghost keeps_each = { faults_keep_each };
+
+    #[inline(always)]
+    fn keeps(front: Front) -> bool {
+        match front {
+            Front::Char(..) => false,
+            Front::Fault(..) => true,
+        }
+    }
+
+    #[inline(always)]
+    fn put_text<P: FromPiece>(form: Form, bytes: &[u8], _room: &mut [P], from: Spot) -> Spot {
+        from.past(front_text_len(form, &bytes[from.read..]), from.written)
+    }
+}
+
+// How many bytes of text begin the bytes, as far as lanes tell it.
+#[inline(always)]
+fn front_text_len(form: Form, bytes: &[u8]) -> usize
+    ensures within { result ≤ length bytes.now }
+    ensures text { IsTextAndHeld form bytes.now (drop result bytes.now) }
+{
+    match form {
+        Form::Utf8 => text_len(bytes),
+        Form::Utf16Le => 2 * units_len(false, bytes),
+        Form::Utf16Be => 2 * units_len(true, bytes),
+    }
+}
+
 // What is made of a piece.
 #[inline(always)]
-pub(crate) fn made_of<P: FromPiece>(offset: u64, front: Front) -> P
+fn made_of<P: FromPiece>(offset: u64, front: Front) -> P
     requires { (told_of front).1 ≤ 4 }
     ensures { result ≡ P.made (at_offset offset (told_of front)) }
 {
@@ -36,20 +120,54 @@ pub(crate) fn made_of<P: FromPiece>(offset: u64, front: Front) -> P
     }
 }
 
+// Writes a piece to the place of that number, or passes it. Answers how many are written then, or `None` where there is no place.
+#[inline(always)]
+pub(crate) fn write_piece<K: Kept, P: FromPiece>(
+    offset: u64,
+    front: Front,
+    room: &mut [P],
+    written: usize,
+) -> Option<usize>
+    requires few { (told_of front).1 ≤ 4 }
+    requires within { written ≤ length room.old }
+    ensures some { IfSome result (λ n.
+        WritesPlaces (map P.made (K.kept (at_offset offset (told_of front) ∷ []))) room.old room.new written n) }
+    ensures full { IfNone result (written ≡ length room.old) }
+    ensures kept { IfNone result (IsKept K.kept (told_of front)) }
+    ensures stays { IfNone result (room.new ≡ room.old) }
+{
+    if !K::keeps(front) {
+        return Some(written);
+    }
+    if written == room.len() {
+        return None;
+    }
+    room[written] = made_of(offset, front);
+    Some(written + 1)
+}
+
 // Puts the pieces that begin the bytes from a spot on, as far as there is room and no later byte decides of them.
-pub(crate) fn put_run<P: FromPiece>(form: Form, bytes: &[u8], room: &mut [P], from: Spot) -> Reached
+pub(crate) fn put_run<K: Kept, P: FromPiece>(
+    form: Form,
+    bytes: &[u8],
+    room: &mut [P],
+    from: Spot,
+) -> Reached
     requires { IsWithin from bytes.now room.old }
-    ensures puts { Puts P.made form bytes.now room.old room.new from result.at }
+    ensures puts { PutsKept K.kept P.made form bytes.now room.old room.new from result.at }
     ensures full { IsTrue result.is_full → result.at.written ≡ length room.old }
-    ensures begins { IsTrue result.is_full → BeginsSome form (drop result.at.read bytes.now) }
+    ensures begins { IsTrue result.is_full → BeginsKept K.kept form (drop result.at.read bytes.now) }
     ensures few { IsFalse result.is_full → length bytes.now ≤ result.at.read + 3 }
     ensures waits { IsFalse result.is_full → result.at.read < length bytes.now →
         IsOpen form (drop result.at.read bytes.now) }
 {
     let mut at = from;
     loop {
-        at = put_located_text(form, bytes, room, at);
-        let few = put_few_pieces(form, bytes, room, at);
+        at = K::put_text(form, bytes, room, at);
+        if at.read == bytes.len() {
+            return run_ended(at, false, true);
+        }
+        let few = put_few_pieces::<K, P>(form, bytes, room, at);
         at = few.at;
         if few.is_full || few.is_waiting {
             return few;
@@ -57,13 +175,18 @@ pub(crate) fn put_run<P: FromPiece>(form: Form, bytes: &[u8], room: &mut [P], fr
     }
 }
 
-// The same of a few pieces.
+// The same of a few pieces, as far as no character is passed: with that text goes on.
 #[inline(always)]
-fn put_few_pieces<P: FromPiece>(form: Form, bytes: &[u8], room: &mut [P], from: Spot) -> Reached
+fn put_few_pieces<K: Kept, P: FromPiece>(
+    form: Form,
+    bytes: &[u8],
+    room: &mut [P],
+    from: Spot,
+) -> Reached
     requires { IsWithin from bytes.now room.old }
-    ensures puts { Puts P.made form bytes.now room.old room.new from result.at }
+    ensures puts { PutsKept K.kept P.made form bytes.now room.old room.new from result.at }
     ensures full { IsTrue result.is_full → result.at.written ≡ length room.old }
-    ensures begins { IsTrue result.is_full → BeginsSome form (drop result.at.read bytes.now) }
+    ensures begins { IsTrue result.is_full → BeginsKept K.kept form (drop result.at.read bytes.now) }
     ensures few { IsTrue result.is_waiting → length bytes.now ≤ result.at.read + 3 }
     ensures waits { IsTrue result.is_waiting → result.at.read < length bytes.now →
         IsOpen form (drop result.at.read bytes.now) }
@@ -74,11 +197,13 @@ fn put_few_pieces<P: FromPiece>(form: Form, bytes: &[u8], room: &mut [P], from: 
         let Some(front) = front_of(form, &bytes[at.read..]) else {
             return run_ended(at, false, true);
         };
-        if at.written == room.len() {
+        let Some(written) = write_piece::<K, P>(at.offset, front, room, at.written) else {
             return run_ended(at, true, false);
+        };
+        at = at.past(front.len(), written);
+        if !K::keeps(front) {
+            return run_ended(at, false, false);
         }
-        room[at.written] = made_of(at.offset, front);
-        at = at.after(front.len());
     }
     run_ended(at, false, false)
 }

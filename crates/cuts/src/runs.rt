@@ -4,6 +4,8 @@ pub mod collected;
 pub mod counts;
 pub mod fault_lists;
 pub mod items;
+pub mod numbers;
+pub(crate) mod steps;
 pub mod unit_bytes;
 pub mod walks;
 pub mod well_formed;

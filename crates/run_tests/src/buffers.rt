@@ -1,9 +1,11 @@
 //! A text that is edited in chunks: many of them, and edits over their ends.
 ghost use Rattle.std.specs.Prelude.{◌≡◌, ◌≤◌, length};
 
-use cuts::{Counts, TextBuffer};
+use cuts::{Change, Counts, TextBuffer, TextCursor};
 use encode_unicode::error::Utf8ErrorKind;
+use fakes::fuse::{Fuse, Plan};
 use std::alloc::{AllocError, Allocator};
+use std::io::ErrorKind;
 use std::process::Abort;
 use std::test::Fail;
 
@@ -13,7 +15,7 @@ fn put<A: Allocator + Copy>(
     start: usize,
     end: usize,
     new: &[u8],
-) -> Result<(), AllocError> {
+) -> Result<Change, AllocError> {
     let end = end.min(text.len());
     text.replace(start.min(end), end, new)
 }
@@ -138,4 +140,170 @@ fn are_found<A: Allocator + Copy>(rt: &impl Abort, text: &TextBuffer<A>) {
     assert!(rt; text.offset_of_line(0) == Some(0) && text.offset_of_line(1) == Some(10_001));
     assert!(rt; text.offset_of_line(3) == Some(30_003) && text.offset_of_line(4).is_none());
     assert!(rt; text.next_fault(0).is_none());
+}
+
+// "voici: naïve et café" loses the last byte of its "ï". So the six characters "naïve " go, which begin at 7, and six pieces
+// come: one of them is a faulty byte.
+#[test]
+fn an_edit_says_what_went_and_what_came(rt: HostRuntime) -> Result<(), Fail> {
+    let mut text = TextBuffer::of(rt.alloc(), "voici: na\u{ef}ve et caf\u{e9}".as_bytes())?;
+    let change = put(&mut text, 10, 11, b"")?;
+    let gone = Counts {
+        bytes: 7,
+        pieces: 6,
+        faults: 0,
+        line_feeds: 0,
+    };
+    let come = Counts {
+        bytes: 6,
+        pieces: 6,
+        faults: 1,
+        line_feeds: 0,
+    };
+    assert!(rt; change.offset == 7 && change.number == 7);
+    assert!(rt; change.gone == gone && change.come == come);
+    let nothing = Counts::of(b"");
+    let mut text = TextBuffer::of(rt.alloc(), b"")?;
+    let change = text.insert(0, b"\xf0\x9f\n")?;
+    assert!(rt; change.offset == 0 && change.number == 0 && change.gone == nothing);
+    assert!(rt;
+        (
+            change.come.pieces,
+            change.come.faults,
+            change.come.line_feeds
+        ) == (3, 2, 1)
+    );
+    Ok(())
+}
+
+// A view that has the piece of each number, and repaints what an edit says.
+fn repaint<A: Allocator + Copy>(
+    alloc: A,
+    screen: &mut Vec<Shown, A>,
+    text: &TextBuffer<A>,
+    change: Change,
+) -> Result<(), AllocError> {
+    let mut fresh = Vec::new(alloc);
+    for piece in screen.iter().take(change.number) {
+        fresh.push(*piece)?;
+    }
+    for number in change.number..change.number.saturating_add(change.come.pieces) {
+        if let Some(piece) = shown(text, number) {
+            fresh.push(piece)?;
+        }
+    }
+    for piece in screen
+        .iter()
+        .skip(change.number.saturating_add(change.gone.pieces))
+    {
+        fresh.push(*piece)?;
+    }
+    *screen = fresh;
+    Ok(())
+}
+
+// What a view shows of a piece: a scalar or a kind, and how many bytes it has.
+type Shown = (Result<u32, Utf8ErrorKind>, usize);
+
+fn shown<A: Allocator + Copy>(text: &TextBuffer<A>, number: usize) -> Option<Shown> {
+    let (_, answer, len) = piece_of(text, number)?;
+    Some((answer, len))
+}
+
+// Edits in turn, around the place where the first chunk ends. The view then shows what a text has that is made of all bytes.
+#[test]
+fn a_view_that_repaints_what_edits_say_shows_the_text(rt: HostRuntime) -> Result<(), Fail> {
+    let parts: [&[u8]; 6] = [
+        b"\xe2\x82",
+        b"\xac",
+        b"a\n",
+        b"\xf0\x9f\x98\x80",
+        b"\x80\xf0\x9f",
+        b"",
+    ];
+    let mut text = TextBuffer::of(rt.alloc(), b"")?;
+    let mut screen = Vec::new(rt.alloc());
+    let long = vec![in rt.alloc(); b'a'; 2_500]?;
+    let change = text.insert(0, long.as_slice())?;
+    repaint(rt.alloc(), &mut screen, &text, change)?;
+    for turn in 0..60 {
+        let place = 1_780 + turn * 7 % 24;
+        let change = put(&mut text, place, place + turn % 4, parts[turn % 6])?;
+        repaint(rt.alloc(), &mut screen, &text, change)?;
+    }
+    let bytes = text.to_vec(rt.alloc())?;
+    let anew = TextBuffer::of(rt.alloc(), bytes.as_slice())?;
+    assert!(rt; screen.len() == anew.counts().pieces && text.counts() == anew.counts());
+    for (number, piece) in screen.iter().enumerate().skip(1_700) {
+        assert!(rt; shown(&anew, number) == Some(*piece));
+    }
+    Ok(())
+}
+
+// Pieces at 0, 1, 3, 4 and 5: h, é, a byte that is interrupted, one that continues nothing, A.
+#[test]
+fn a_cursor_goes_both_ways(rt: HostRuntime) -> Result<(), Fail> {
+    let text = TextBuffer::of(rt.alloc(), b"h\xc3\xa9\xe2\x82A")?;
+    let mut cursor = TextCursor::at(&text, 2);
+    assert!(rt; cursor.offset() == 1);
+    let after = [(1, 2), (3, 1), (4, 1), (5, 1)];
+    for (place, len) in after {
+        assert!(rt; cursor.next().map(|x| (x.0, x.2)) == Some((place, len)));
+    }
+    assert!(rt; cursor.next().is_none() && cursor.offset() == 6);
+    for (place, len) in [(5, 1), (4, 1), (3, 1), (1, 2), (0, 1)] {
+        assert!(rt; cursor.next_back().map(|x| (x.0, x.2)) == Some((place, len)));
+    }
+    assert!(rt; cursor.next_back().is_none() && cursor.offset() == 0);
+    assert!(rt; TextCursor::at(&text, 100).offset() == 6);
+    Ok(())
+}
+
+// The bytes of a range, as far as it is in the text and in one chunk.
+fn within<A: Allocator + Copy>(text: &TextBuffer<A>, start: usize, end: usize) -> &[u8] {
+    let end = end.min(text.len());
+    text.chunk_within(start.min(end), end)
+}
+
+// Two bytes a call, and one failure on the way.
+#[test]
+fn a_text_is_read_and_written_in_parts(rt: HostRuntime) -> Result<(), Fail> {
+    let mut input = Fuse::over(rt.alloc(), b"abcde");
+    input.plan = Plan::fail_once(1, ErrorKind::Interrupted);
+    let text = TextBuffer::of_reader(rt.alloc(), &mut input);
+    assert!(rt; text.is_ok_and(|text| within(&text, 1, 4) == b"bcd".as_slice()));
+    let mut input = Fuse::over(rt.alloc(), b"abcde");
+    input.plan = Plan::fail_once(1, ErrorKind::BrokenPipe);
+    let text = TextBuffer::of_reader(rt.alloc(), &mut input);
+    assert!(rt; text.is_err_and(|error| error.kind() == ErrorKind::BrokenPipe));
+    let text = TextBuffer::of(rt.alloc(), b"abcde")?;
+    let mut out = Fuse::ample(rt.alloc());
+    out.most = 2;
+    assert!(rt; text.write_to(&mut out).is_ok());
+    assert!(rt; out.written.as_slice() == b"abcde".as_slice());
+    Ok(())
+}
+
+// More chunks than a row has: what is looked up after it is found by its sum.
+#[test]
+fn a_text_of_two_rows_is_looked_up_and_edited(rt: HostRuntime) -> Result<(), Fail> {
+    let line = b"twelve bytes";
+    let mut bytes = Vec::new(rt.alloc());
+    for _ in 0..40_000 {
+        bytes.extend_from_slice(line)?;
+    }
+    let mut text = TextBuffer::of(rt.alloc(), bytes.as_slice())?;
+    put(&mut text, 470_000, 470_004, b"\xff\n\xc3\xa9")?;
+    assert!(rt; text.number_of(470_004) == 470_003 && text.offset_of(470_003) == Some(470_004));
+    assert!(rt; text.next_fault(0) == Some(470_000) && text.next_fault(470_001).is_none());
+    assert!(rt; text.previous_fault(480_000) == Some(470_000));
+    assert!(rt; text.previous_fault(470_000).is_none());
+    assert!(rt; text.line_of(470_001) == 0 && text.line_of(470_002) == 1);
+    assert!(rt; text.offset_of_line(1) == Some(470_002));
+    put(&mut text, 0, 100_000, b"")?;
+    assert!(rt; text.next_fault(0) == Some(370_000) && text.number_of(370_004) == 370_003);
+    put(&mut text, 50_000, 50_000, bytes.as_slice())?;
+    assert!(rt; text.next_fault(0) == Some(850_000) && text.len() == 860_000);
+    assert!(rt; text.offset_of(850_003) == Some(850_004));
+    Ok(())
 }

@@ -139,6 +139,74 @@ fn faults_come_with_their_offsets(rt: HostRuntime) {
     assert!(rt; faults_into(b"abc", 0, &mut room) == came(3, 0, false));
 }
 
+// a ff e2 | 82 b f0 | 41: the same faults as above in parts, but for the last, which a merger of the Rust crate calls interrupted.
+#[test]
+fn faults_come_alone_from_parts(rt: HostRuntime) {
+    let mut decoder = Decoder::holding(Form::Utf8, b"", 0xffff_ffff);
+    let mut room = empty();
+    assert!(rt; decoder.feed_faults(b"a\xff\xe2", &mut room) == came(3, 1, false));
+    assert!(rt;
+        room[0]
+            == is_fault(
+                0x1_0000_0000,
+                1,
+                FaultKind::Utf8(Utf8ErrorKind::NonUtf8Byte)
+            )
+    );
+    assert!(rt; decoder.held() == b"\xe2".as_slice() && decoder.offset() == 0x1_0000_0001);
+    assert!(rt; decoder.feed_faults(b"\x82b\xf0", &mut room[..1]) == came(0, 1, true));
+    assert!(rt;
+        room[0]
+            == is_fault(
+                0x1_0000_0001,
+                1,
+                FaultKind::Utf8(Utf8ErrorKind::InterruptedSequence)
+            )
+    );
+    assert!(rt; decoder.feed_faults(b"\x82b\xf0", &mut room) == came(3, 1, false));
+    assert!(rt;
+        room[0]
+            == is_fault(
+                0x1_0000_0002,
+                1,
+                FaultKind::Utf8(Utf8ErrorKind::UnexpectedContinuationByte)
+            )
+    );
+    assert!(rt; decoder.feed_faults(b"A", &mut room) == came(1, 1, false));
+    assert!(rt;
+        room[0]
+            == is_fault(
+                0x1_0000_0004,
+                1,
+                FaultKind::Utf8(Utf8ErrorKind::InterruptedSequence)
+            )
+    );
+    assert!(rt; decoder.feed_faults(b"\xe2\x82", &mut room[..0]) == came(2, 0, false));
+    assert!(rt; decoder.finish_faults(&mut room) == came(0, 2, false));
+    assert!(rt;
+        room[0]
+            == is_fault(
+                0x1_0000_0006,
+                1,
+                FaultKind::Utf8(Utf8ErrorKind::TooFewBytes)
+            )
+    );
+}
+
+// d8 3d de | 00 dc 00 00 41 00: a pair, a trailing surrogate, a letter and an odd byte; long text before, which lanes pass.
+#[test]
+fn faults_of_units_come_alone_from_parts(rt: HostRuntime) {
+    let mut decoder = Decoder::new(Form::Utf16Be);
+    let mut room = empty();
+    assert!(rt; decoder.feed_faults(&[0x4e; 1000], &mut room[..0]) == came(1000, 0, false));
+    assert!(rt; decoder.feed_faults(b"\xd8\x3d\xde", &mut room) == came(3, 0, false));
+    assert!(rt; decoder.feed_faults(b"\x00\xdc\x00\x00A\x00", &mut room) == came(6, 1, false));
+    let kind = FaultKind::Utf16(Utf16PairError::UnexpectedTrailingSurrogate);
+    assert!(rt; room[0] == is_fault(1004, 2, kind));
+    assert!(rt; decoder.finish_faults(&mut room) == came(0, 1, false));
+    assert!(rt; room[0] == is_fault(1008, 1, FaultKind::Utf16(Utf16PairError::Incomplete)));
+}
+
 #[test]
 fn faults_of_units_count_units(rt: HostRuntime) {
     let mut room = empty();

@@ -1,5 +1,5 @@
 //! Tests of what no row of text says: single calls of failing streams, long inputs, first faults, every word of eight letters,
-//! tables that change again and again, what a program says, and the callers in `uses`.
+//! tables that change again and again, pieces by their numbers, what a program says, and the callers in `uses`.
 #![tactic(auto)]
 
 #[cfg(test)]
@@ -19,11 +19,15 @@ mod first_faults;
 #[cfg(test)]
 mod fronts;
 #[cfg(test)]
+mod growing;
+#[cfg(test)]
 mod lines;
 #[cfg(test)]
 mod long_inputs;
 #[cfg(test)]
 mod mains;
+#[cfg(test)]
+mod numbers;
 #[cfg(test)]
 mod places;
 #[cfg(test)]
@@ -38,5 +42,7 @@ mod streams_out_of_memory;
 mod strict;
 #[cfg(test)]
 mod tables;
+#[cfg(test)]
+mod undo;
 #[cfg(test)]
 mod words;

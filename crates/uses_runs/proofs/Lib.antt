@@ -4,3 +4,5 @@ pub mod StringLemmas
 pub mod ShownLemmas
 pub mod SourceLemmas
 mod RoomLemmas
+pub mod UndoLemmas
+pub mod GrowingLemmas

@@ -6,3 +6,4 @@ pub mod Strings
 pub mod Shown
 pub mod Wire
 pub mod Blocks
+pub mod Undo

@@ -6,7 +6,7 @@ ghost use Rattle.cuts.specs.Counts.{counts_of};
 ghost use Rattle.cuts.specs.ShardRuns.{line_feed_count};
 ghost use Rattle.cuts.specs.TextLookups.{IsLineStart};
 
-use cuts::{Counts, Item, TextBuffer};
+use cuts::{Change, Counts, Item, TextBuffer};
 use std::alloc::{AllocError, Allocator};
 
 /// Replaces a part of a text, and tells what the text has then: for a status line with the number of
@@ -27,7 +27,10 @@ pub fn replace_and_count<A: Allocator + Copy>(
 }
 
 /// Adds bytes at the end: as a viewer of a log that grows does.
-pub fn append<A: Allocator + Copy>(text: &mut TextBuffer<A>, new: &[u8]) -> Result<(), AllocError>
+pub fn append<A: Allocator + Copy>(
+    text: &mut TextBuffer<A>,
+    new: &[u8],
+) -> Result<Change, AllocError>
     ensures ok { OnOk result (take (length text.old) text.new ≡ text.old) }
     ensures err { OnErr result (text.new ≡ text.old) }
 {
@@ -62,4 +65,23 @@ pub fn next_error<A: Allocator + Copy>(text: &TextBuffer<A>, offset: usize) -> O
 {
     let place = text.next_fault(offset)?;
     text.piece_at(place)
+}
+
+/// Edits a text of which a view keeps the first pieces, and lets go of those that may have changed: the
+/// others need not be decoded again.
+pub fn edit_and_keep<A: Allocator + Copy>(
+    text: &mut TextBuffer<A>,
+    kept: &mut Vec<Item, A>,
+    start: usize,
+    end: usize,
+    new: &[u8],
+) -> Result<(), AllocError>
+    requires ordered { start ≤ end }
+    requires within { end ≤ length text.old }
+    requires kept { kept.old.items ≡ take (length kept.old.items) (pieces text.old) }
+    ensures kept { kept.new.items ≡ take (length kept.new.items) (pieces text.new) }
+{
+    let change = text.replace(start, end, new)?;
+    kept.truncate(change.number);
+    Ok(())
 }

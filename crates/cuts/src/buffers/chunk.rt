@@ -1,10 +1,13 @@
 //! A part of a text, of which is known what it counts.
 ghost use Rattle.std.specs.List.{splice};
-ghost use Rattle.std.specs.Prelude.{◌≡◌, ◌≤◌, length, IfOk, OnOk, OnErr};
+ghost use Rattle.std.specs.Prelude.{◌≡◌, ◌+◌, ◌-◌, ◌≤◌, length, min, IfOk, OnOk, OnErr};
+ghost use Rattle.cuts.specs.Changes.{IsRecount};
 ghost use Rattle.cuts.specs.ChunkEdits.{IsWindow};
 ghost use Rattle.cuts.specs.Counts.{counts_of};
+ghost use Rattle.cuts.specs.PieceBoundaries.{IsFirstBetween, IsLastBetween};
 
 use crate::boundaries::{ceil, floor};
+use crate::buffers::changes::Recount;
 use crate::buffers::counts::Counts;
 use crate::piece_table::splice_in;
 use std::alloc::{AllocError, Allocator};
@@ -41,6 +44,14 @@ impl<A: Allocator> Chunk<A> {
         })
     }
 
+    // One of bytes that are counted.
+    pub fn of_counted(bytes: Vec<u8, A>, counts: Counts) -> Chunk<A>
+        requires { counts ≡ counts_of bytes.items }
+        ensures { result ≡ bytes.items }
+    {
+        Chunk { bytes, counts }
+    }
+
     // The bytes.
     pub fn bytes(&self) -> &[u8]
         ensures { result.now ≡ self.now }
@@ -63,12 +74,13 @@ impl<A: Allocator> Chunk<A> {
         *counts
     }
 
-    // Replaces the bytes from `start` up to `end` by `new`. It counts anew only those near to these. On an error all is as it
-    // was.
-    pub fn replace(&mut self, start: usize, end: usize, new: &[u8]) -> Result<(), AllocError>
+    // Replaces the bytes from `start` up to `end` by `new`. It counts anew only those near to these, and says what it counted.
+    // On an error all is as it was.
+    pub fn replace(&mut self, start: usize, end: usize, new: &[u8]) -> Result<Recount, AllocError>
         requires ordered { start ≤ end }
         requires within { end ≤ length self.old }
         ensures ok { OnOk result (self.new ≡ splice self.old start end new.now) }
+        ensures recount { IfOk result (λ r. IsRecount self.old self.new start end r.place r.gone r.come) }
         ensures err { OnErr result (self.new ≡ self.old) }
     {
         replace_counted(&mut self.bytes, &mut self.counts, start, end, new)
@@ -82,11 +94,13 @@ fn replace_counted<A: Allocator>(
     start: usize,
     end: usize,
     new: &[u8],
-) -> Result<(), AllocError>
+) -> Result<Recount, AllocError>
     requires ordered { start ≤ end }
     requires within { end ≤ length bytes.old.items }
     requires counted { counts.old ≡ counts_of bytes.old.items }
     ensures ok { OnOk result (bytes.new.items ≡ splice bytes.old.items start end new.now) }
+    ensures recount { IfOk result (λ r.
+        IsRecount bytes.old.items bytes.new.items start end r.place r.gone r.come) }
     ensures err { OnErr result (bytes.new.items ≡ bytes.old.items) }
     ensures counted { counts.new ≡ counts_of bytes.new.items }
 {
@@ -99,7 +113,11 @@ fn replace_counted<A: Allocator>(
     let until = now.len() - rest;
     let come = Counts::of(&now[window.from..until]);
     *counts = counts.exchange(gone, come);
-    Ok(())
+    Ok(Recount {
+        place: window.from,
+        gone,
+        come,
+    })
 }
 
 // The bytes from `from` up to `until`.
@@ -113,7 +131,9 @@ struct Window {
 fn window_of(bytes: &[u8], start: usize, end: usize) -> Window
     requires ordered { start ≤ end }
     requires within { end ≤ length bytes.now }
-    ensures { IsWindow bytes.now start end result.from result.until }
+    ensures window { IsWindow bytes.now start end result.from result.until }
+    ensures begins { IsLastBetween bytes.now (start - 3) result.from }
+    ensures ends { IsFirstBetween bytes.now (min (length bytes.now) (end + 3)) result.until }
 {
     let len = bytes.len();
     Window {

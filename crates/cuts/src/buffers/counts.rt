@@ -1,6 +1,7 @@
 //! How much there is of what a text is measured in.
 ghost use Rattle.std.specs.Prelude.{◌≡◌};
 ghost use Rattle.cuts.specs.Counts.{counts_of, sum_of, exchange_of, IsSmall, AreAmong};
+ghost use Rattle.cuts.specs.Measures.{measure_of};
 ghost use Rattle.cuts.specs.ShardRuns.{line_feed_count as feed_count};
 
 use crate::runs::counts::{char_count, fault_count};
@@ -57,6 +58,27 @@ impl Counts {
             pieces: self.pieces - gone.pieces + come.pieces,
             faults: self.faults - gone.faults + come.faults,
             line_feeds: self.line_feeds - gone.line_feeds + come.line_feeds,
+        }
+    }
+}
+
+// What is numbered, from 0 on.
+#[derive(Clone, Copy, Drop)]
+pub(crate) enum Measure {
+    Bytes,
+    Pieces,
+    LineFeeds,
+}
+
+impl Measure {
+    // How many of these are counted.
+    pub(crate) fn count(self, counts: Counts) -> usize
+        ensures { result ≡ measure_of self counts }
+    {
+        match self {
+            Measure::Bytes => counts.bytes,
+            Measure::Pieces => counts.pieces,
+            Measure::LineFeeds => counts.line_feeds,
         }
     }
 }

@@ -13,10 +13,10 @@ use recoding::shards::shard_end;
 use std::alloc::{AllocError, Allocator};
 
 // The most bytes that a chunk has where it is edited. An edit moves half of them at most, and a piece is found by decoding them.
-pub const ROOM: usize = 4096;
+pub const ROOM: usize = 2048;
 
 // How many a new chunk has: so it has room for some edits.
-const FILL: usize = 3584;
+const FILL: usize = 1792;
 
 // The bytes in chunks.
 pub fn divide<A: Allocator + Copy>(alloc: A, bytes: &[u8]) -> Result<Vec<Chunk<A>, A>, AllocError>
@@ -57,6 +57,16 @@ pub fn total<A: Allocator>(chunks: &[Chunk<A>]) -> Counts
         sum = sum.plus(chunk.counts());
     }
     sum
+}
+
+// One chunk that has the bytes of them all.
+pub fn one_chunk<A: Allocator>(alloc: A, chunks: &[Chunk<A>]) -> Result<Chunk<A>, AllocError>
+    requires ends { EndOutside chunks.now }
+    requires fits { length (concat chunks.now) < 2 ^ 64 }
+    ensures { IfOk result (λ chunk. chunk ≡ concat chunks.now) }
+{
+    let bytes = joined_bytes(alloc, chunks)?;
+    Ok(Chunk::of_counted(bytes, total(chunks)))
 }
 
 // The bytes of the chunks, one after another.

@@ -4,12 +4,15 @@ ghost use Rattle.std.specs.Prelude.{◌≡◌, ◌+◌, ◌^◌, ◌<◌, ◌≤
 ghost use Rattle.encode_unicode.specs.Pieces.{pieces};
 ghost use Rattle.encode_unicode.specs.Window.{Item as AnItem};
 ghost use Rattle.cuts.specs.Chunks.{EndOutside};
+ghost use Rattle.cuts.specs.PieceBoundaries.{IsBetween};
+ghost use Rattle.cuts.specs.Rows.{AreSums};
 ghost use Rattle.cuts.specs.Tables.{IsSplitAt};
 
 use crate::boundaries::ceil;
 use crate::buffers::chunk::Chunk;
-use crate::buffers::dividing::total;
-use crate::buffers::measures::{Measure, find_number};
+use crate::buffers::counts::{Counts, Measure};
+use crate::buffers::measures::find_number;
+use crate::buffers::rows::mark_at;
 use crate::buffers::spots::find;
 use crate::runs::counts::char_count;
 use crate::runs::items::Item;
@@ -17,12 +20,14 @@ use encode_unicode::U8SliceExt;
 use std::alloc::Allocator;
 
 // The bytes from this place on, as far as they lie in one chunk.
-pub fn chunk_from<A: Allocator>(chunks: &[Chunk<A>], at: usize) -> &[u8]
+pub fn chunk_from<'a, A: Allocator>(chunks: &'a [Chunk<A>], sums: &[Counts], at: usize) -> &'a [u8]
     requires ends { EndOutside chunks.now }
+    requires fits { length (concat chunks.now) < 2 ^ 64 }
+    requires sums { AreSums chunks.now sums.now }
     ensures bytes { result.now ≡ take (length result.now) (drop at (concat chunks.now)) }
     ensures some { at < length (concat chunks.now) → 0 < length result.now }
 {
-    let spot = find(chunks, at);
+    let spot = find(chunks, sums, at);
     if spot.number == chunks.len() {
         return &[];
     }
@@ -31,27 +36,41 @@ pub fn chunk_from<A: Allocator>(chunks: &[Chunk<A>], at: usize) -> &[u8]
 }
 
 // How many pieces begin before this place.
-pub fn pieces_before<A: Allocator>(chunks: &[Chunk<A>], at: usize) -> usize
+pub fn pieces_before<A: Allocator>(chunks: &[Chunk<A>], sums: &[Counts], at: usize) -> usize
     requires ends { EndOutside chunks.now }
     requires fits { length (concat chunks.now) < 2 ^ 64 }
+    requires sums { AreSums chunks.now sums.now }
     ensures { IsSplitAt (pieces (concat chunks.now)) at result }
 {
-    let spot = find(chunks, at);
-    if spot.number == chunks.len() {
+    let mark = mark_at(chunks, sums, at);
+    if mark.number == chunks.len() {
         return 0;
     }
-    let bytes = chunks[spot.number].bytes();
-    let end = ceil(bytes, bytes.len().min(at - spot.place));
-    total(&chunks[..spot.number]).pieces + char_count(&bytes[..end])
+    let chunk = &chunks[mark.number];
+    let end = ceil(chunk.bytes(), chunk.len().min(at - mark.before.bytes));
+    mark.before.pieces + pieces_up_to(chunk, end)
+}
+
+// How many pieces of a chunk are before a boundary of it. It decodes what is on the shorter side.
+fn pieces_up_to<A: Allocator>(chunk: &Chunk<A>, end: usize) -> usize
+    requires { IsBetween chunk.now end }
+    ensures { result ≡ length (pieces (take end chunk.now)) }
+{
+    let bytes = chunk.bytes();
+    if end <= bytes.len() / 2 {
+        return char_count(&bytes[..end]);
+    }
+    chunk.counts().pieces - char_count(&bytes[end..])
 }
 
 // Where the piece with this number begins. `None` if there are no more of them.
-pub fn place_of<A: Allocator>(chunks: &[Chunk<A>], number: usize) -> Option<usize>
+pub fn place_of<A: Allocator>(chunks: &[Chunk<A>], sums: &[Counts], number: usize) -> Option<usize>
     requires ends { EndOutside chunks.now }
     requires fits { length (concat chunks.now) < 2 ^ 64 }
+    requires sums { AreSums chunks.now sums.now }
     ensures { result ≡ option_map (λ (x : AnItem). x.0) (slice_get (pieces (concat chunks.now)) number) }
 {
-    let found = find_number(chunks, Measure::Pieces, number)?;
+    let found = find_number(chunks, sums, Measure::Pieces, number)?;
     let bytes = chunks[found.spot.number].bytes();
     let (place, _, _) = piece_of_bytes(bytes, number - found.before)?;
     Some(found.spot.place + place)

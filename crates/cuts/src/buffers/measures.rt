@@ -4,30 +4,13 @@ ghost use Rattle.std.specs.Prelude.{◌≡◌, ◌^◌, ◌<◌, ◌≤◌, Matc
 ghost use Rattle.cuts.specs.Chunks.{EndOutside};
 ghost use Rattle.cuts.specs.Counts.{counts_of};
 ghost use Rattle.cuts.specs.Measures.{measure_of, HasNumber};
+ghost use Rattle.cuts.specs.Rows.{AreSums};
 
 use crate::buffers::chunk::Chunk;
-use crate::buffers::counts::Counts;
+use crate::buffers::counts::{Counts, Measure};
+use crate::buffers::rows::skip;
 use crate::buffers::spots::Spot;
 use std::alloc::Allocator;
-
-// What is numbered, from 0 on.
-#[derive(Clone, Copy, Drop)]
-pub enum Measure {
-    Pieces,
-    LineFeeds,
-}
-
-impl Measure {
-    // How many of these are counted.
-    fn count(self, counts: Counts) -> usize
-        ensures { result ≡ measure_of self counts }
-    {
-        match self {
-            Measure::Pieces => counts.pieces,
-            Measure::LineFeeds => counts.line_feeds,
-        }
-    }
-}
 
 // A chunk, and how many of what is numbered are before it.
 #[derive(Clone, Copy, Drop)]
@@ -39,20 +22,23 @@ pub struct Found {
 // The chunk that has the one with this number. `None` if there are no more of them.
 pub fn find_number<A: Allocator>(
     chunks: &[Chunk<A>],
+    sums: &[Counts],
     measure: Measure,
     number: usize,
 ) -> Option<Found>
     requires ends { EndOutside chunks.now }
     requires fits { length (concat chunks.now) < 2 ^ 64 }
+    requires sums { AreSums chunks.now sums.now }
     ensures { MatchOption result (measure_of measure (counts_of (concat chunks.now)) ≤ number)
         (HasNumber chunks.now measure number) }
 {
+    let mark = skip(chunks, sums, measure, number);
     let mut found = Found {
         spot: Spot {
-            number: 0,
-            place: 0,
+            number: mark.number,
+            place: mark.before.bytes,
         },
-        before: 0,
+        before: measure.count(mark.before),
     };
     while found.spot.number < chunks.len() {
         let chunk = &chunks[found.spot.number];

@@ -2,29 +2,38 @@
 ghost use Rattle.std.specs.List.{concat};
 ghost use Rattle.std.specs.Prelude.{◌≡◌, ◌^◌, ◌<◌, MatchOption, length};
 ghost use Rattle.cuts.specs.Chunks.{EndOutside};
+ghost use Rattle.cuts.specs.Rows.{AreSums};
 ghost use Rattle.cuts.specs.TextLookups.{HasNoFaultFrom, IsNextFault};
 
 use crate::boundaries::ceil;
 use crate::buffers::chunk::Chunk;
+use crate::buffers::counts::Counts;
+use crate::buffers::rows::{ROW, clean_row};
 use crate::buffers::spots::find;
 use crate::runs::well_formed::valid_up_to;
 use std::alloc::Allocator;
 
-// The first fault at this place or after it. Chunks that have none are not read.
-pub fn fault_from<A: Allocator>(chunks: &[Chunk<A>], at: usize) -> Option<usize>
+// The first fault at this place or after it. Rows and chunks that have none are not read.
+pub fn fault_from<A: Allocator>(chunks: &[Chunk<A>], sums: &[Counts], at: usize) -> Option<usize>
     requires ends { EndOutside chunks.now }
     requires fits { length (concat chunks.now) < 2 ^ 64 }
+    requires sums { AreSums chunks.now sums.now }
     ensures { MatchOption result (HasNoFaultFrom (concat chunks.now) at)
         (IsNextFault (concat chunks.now) at) }
 {
-    let mut spot = find(chunks, at);
+    let mut spot = find(chunks, sums, at);
     while spot.number < chunks.len() {
-        let chunk = &chunks[spot.number];
-        if let Some(place) = chunk_fault_from(chunk, at.saturating_sub(spot.place)) {
-            return Some(spot.place + place);
+        if let Some(bytes) = clean_row(sums, spot.number) {
+            spot.place += bytes;
+            spot.number += ROW;
+        } else {
+            let chunk = &chunks[spot.number];
+            if let Some(place) = chunk_fault_from(chunk, at.saturating_sub(spot.place)) {
+                return Some(spot.place + place);
+            }
+            spot.place += chunk.len();
+            spot.number += 1;
         }
-        spot.place += chunk.len();
-        spot.number += 1;
     }
     None
 }

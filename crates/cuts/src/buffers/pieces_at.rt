@@ -5,10 +5,12 @@ ghost use Rattle.std.specs.Prelude.{◌≡◌, ◌+◌, ◌^◌, ◌<◌, ◌≤
 ghost use Rattle.encode_unicode.specs.Pieces.{pieces};
 ghost use Rattle.encode_unicode.specs.Window.{IsFrontPiece};
 ghost use Rattle.cuts.specs.Chunks.{EndOutside};
+ghost use Rattle.cuts.specs.Rows.{AreSums};
 ghost use Rattle.cuts.specs.TextLookups.{HasPlace};
 
 use crate::boundaries::floor;
 use crate::buffers::chunk::Chunk;
+use crate::buffers::counts::Counts;
 use crate::buffers::lookups::{chunk_from, place_of};
 use crate::buffers::spots::find;
 use crate::runs::items::Item;
@@ -19,23 +21,25 @@ use std::alloc::Allocator;
 const DECIDE: usize = 4;
 
 // The piece with this number. `None` if there are no more of them.
-pub fn nth_piece<A: Allocator>(chunks: &[Chunk<A>], number: usize) -> Option<Item>
+pub fn nth_piece<A: Allocator>(chunks: &[Chunk<A>], sums: &[Counts], number: usize) -> Option<Item>
     requires ends { EndOutside chunks.now }
     requires fits { length (concat chunks.now) < 2 ^ 64 }
+    requires sums { AreSums chunks.now sums.now }
     ensures { result ≡ slice_get (pieces (concat chunks.now)) number }
 {
-    let place = place_of(chunks, number)?;
-    Some(piece_from(chunks, place))
+    let place = place_of(chunks, sums, number)?;
+    Some(piece_from(chunks, sums, place))
 }
 
 // The piece that has the byte at this place. `None` if there is no byte.
-pub fn piece_over<A: Allocator>(chunks: &[Chunk<A>], at: usize) -> Option<Item>
+pub fn piece_over<A: Allocator>(chunks: &[Chunk<A>], sums: &[Counts], at: usize) -> Option<Item>
     requires ends { EndOutside chunks.now }
     requires fits { length (concat chunks.now) < 2 ^ 64 }
+    requires sums { AreSums chunks.now sums.now }
     ensures { MatchOption result (length (concat chunks.now) ≤ at)
         (λ x. Contains (pieces (concat chunks.now)) x × HasPlace at x) }
 {
-    let spot = find(chunks, at);
+    let spot = find(chunks, sums, at);
     if spot.number == chunks.len() {
         return None;
     }
@@ -44,22 +48,23 @@ pub fn piece_over<A: Allocator>(chunks: &[Chunk<A>], at: usize) -> Option<Item>
         return None;
     }
     let place = spot.place + floor(bytes, at - spot.place);
-    Some(piece_from(chunks, place))
+    Some(piece_from(chunks, sums, place))
 }
 
 // The piece that begins what is left of the bytes from this place on.
-fn piece_from<A: Allocator>(chunks: &[Chunk<A>], at: usize) -> Item
+fn piece_from<A: Allocator>(chunks: &[Chunk<A>], sums: &[Counts], at: usize) -> Item
     requires ends { EndOutside chunks.now }
     requires fits { length (concat chunks.now) < 2 ^ 64 }
+    requires sums { AreSums chunks.now sums.now }
     requires within { at < length (concat chunks.now) }
     ensures place { result.0 ≡ at }
     ensures piece { IsFrontPiece (drop at (concat chunks.now)) result.1 result.2 }
 {
-    let here = chunk_from(chunks, at);
+    let here = chunk_from(chunks, sums, at);
     if DECIDE <= here.len() {
         return first_piece(at, here);
     }
-    let front = front_at(chunks, at);
+    let front = front_at(chunks, sums, at);
     first_piece(at, &front.bytes[..front.len])
 }
 
@@ -82,9 +87,10 @@ struct Front {
 }
 
 // The bytes from this place on, four of them or all that are left.
-fn front_at<A: Allocator>(chunks: &[Chunk<A>], at: usize) -> Front
+fn front_at<A: Allocator>(chunks: &[Chunk<A>], sums: &[Counts], at: usize) -> Front
     requires ends { EndOutside chunks.now }
     requires fits { length (concat chunks.now) < 2 ^ 64 }
+    requires sums { AreSums chunks.now sums.now }
     requires within { at < length (concat chunks.now) }
     ensures few { result.len ≤ 4 }
     ensures bytes { take result.len result.bytes ≡ take result.len (drop at (concat chunks.now)) }
@@ -95,7 +101,7 @@ fn front_at<A: Allocator>(chunks: &[Chunk<A>], at: usize) -> Front
         len: 0,
     };
     while front.len < DECIDE {
-        let Some(byte) = byte_at(chunks, at + front.len) else {
+        let Some(byte) = byte_at(chunks, sums, at + front.len) else {
             return front;
         };
         front.bytes[front.len] = byte;
@@ -105,9 +111,11 @@ fn front_at<A: Allocator>(chunks: &[Chunk<A>], at: usize) -> Front
 }
 
 // The byte at this place.
-fn byte_at<A: Allocator>(chunks: &[Chunk<A>], at: usize) -> Option<u8>
+fn byte_at<A: Allocator>(chunks: &[Chunk<A>], sums: &[Counts], at: usize) -> Option<u8>
     requires ends { EndOutside chunks.now }
+    requires fits { length (concat chunks.now) < 2 ^ 64 }
+    requires sums { AreSums chunks.now sums.now }
     ensures { result ≡ slice_get (concat chunks.now) at }
 {
-    chunk_from(chunks, at).first().copied()
+    chunk_from(chunks, sums, at).first().copied()
 }

@@ -1,32 +1,52 @@
 //! The faults of a text in chunks, from a place back.
 ghost use Rattle.std.specs.List.{concat};
-ghost use Rattle.std.specs.Prelude.{◌≡◌, ◌^◌, ◌<◌, MatchOption, length};
+ghost use Rattle.std.specs.Prelude.{◌≡◌, ◌-◌, ◌^◌, ◌<◌, ◌≤◌, IfSome, MatchOption, length};
 ghost use Rattle.cuts.specs.Chunks.{EndOutside};
+ghost use Rattle.cuts.specs.Rows.{AreSums, IsCleanRow};
 ghost use Rattle.cuts.specs.TextLookups.{HasNoFaultBefore, IsPreviousFault};
 
 use crate::boundaries::ceil;
 use crate::buffers::chunk::Chunk;
+use crate::buffers::counts::Counts;
+use crate::buffers::rows::{ROW, clean_row};
 use crate::buffers::spots::{find, find_end};
 use encode_unicode::Utf8Char;
 use std::alloc::Allocator;
 
-// The last fault before this place. Chunks that have none are not read.
-pub fn fault_before<A: Allocator>(chunks: &[Chunk<A>], at: usize) -> Option<usize>
+// The last fault before this place. Rows and chunks that have none are not read.
+pub fn fault_before<A: Allocator>(chunks: &[Chunk<A>], sums: &[Counts], at: usize) -> Option<usize>
     requires ends { EndOutside chunks.now }
     requires fits { length (concat chunks.now) < 2 ^ 64 }
+    requires sums { AreSums chunks.now sums.now }
     ensures { MatchOption result (HasNoFaultBefore (concat chunks.now) at)
         (IsPreviousFault (concat chunks.now) at) }
 {
-    let mut spot = find_end(chunks, find(chunks, at), at);
+    let mut spot = find_end(chunks, find(chunks, sums, at), at);
     while 0 < spot.number {
-        let chunk = &chunks[spot.number - 1];
-        spot.number -= 1;
-        spot.place -= chunk.len();
-        if let Some(place) = chunk_fault_before(chunk, at.saturating_sub(spot.place)) {
-            return Some(spot.place + place);
+        if let Some(bytes) = clean_row_before(sums, spot.number) {
+            spot.place -= bytes;
+            spot.number -= ROW;
+        } else {
+            let chunk = &chunks[spot.number - 1];
+            spot.number -= 1;
+            spot.place -= chunk.len();
+            if let Some(place) = chunk_fault_before(chunk, at.saturating_sub(spot.place)) {
+                return Some(spot.place + place);
+            }
         }
     }
     None
+}
+
+// How many bytes the row has that ends before this chunk, where one does and has no fault.
+fn clean_row_before(sums: &[Counts], number: usize) -> Option<usize>
+    ensures row { IfSome result (λ bytes. IsCleanRow sums.now (number - 256) bytes) }
+    ensures some { IfSome result (λ bytes. 256 ≤ number) }
+{
+    if number < ROW {
+        return None;
+    }
+    clean_row(sums, number - ROW)
 }
 
 // The same of one chunk.

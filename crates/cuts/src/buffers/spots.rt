@@ -1,9 +1,12 @@
 //! Where in a list of chunks a place lies.
 ghost use Rattle.std.specs.List.{concat};
 ghost use Rattle.std.specs.Prelude.{◌≡◌, ◌+◌, ◌^◌, ◌<◌, ◌≤◌, length, take};
-ghost use Rattle.cuts.specs.Chunks.{IsSpot};
+ghost use Rattle.cuts.specs.Chunks.{EndOutside, IsSpot};
+ghost use Rattle.cuts.specs.Rows.{AreSums};
 
 use crate::buffers::chunk::Chunk;
+use crate::buffers::counts::Counts;
+use crate::buffers::rows::mark_at;
 use std::alloc::Allocator;
 
 // A chunk by its number, and the place where it begins. The number of chunks stands for the end.
@@ -14,25 +17,20 @@ pub struct Spot {
 }
 
 // The chunk that has the byte at this place. Where there is none it is the last chunk, or the end if there is no chunk.
-pub fn find<A: Allocator>(chunks: &[Chunk<A>], at: usize) -> Spot
+pub fn find<A: Allocator>(chunks: &[Chunk<A>], sums: &[Counts], at: usize) -> Spot
+    requires ends { EndOutside chunks.now }
+    requires fits { length (concat chunks.now) < 2 ^ 64 }
+    requires sums { AreSums chunks.now sums.now }
     ensures spot { IsSpot chunks.now result.number result.place }
     ensures before { result.place ≤ at }
     ensures some { 0 < length chunks.now → result.number < length chunks.now }
     ensures has { result.number + 1 < length chunks.now → at < length (concat (take (result.number + 1) chunks.now)) }
 {
-    let mut spot = Spot {
-        number: 0,
-        place: 0,
-    };
-    while spot.number + 1 < chunks.len() {
-        let len = chunks[spot.number].len();
-        if at - spot.place < len {
-            return spot;
-        }
-        spot.place += len;
-        spot.number += 1;
+    let mark = mark_at(chunks, sums, at);
+    Spot {
+        number: mark.number,
+        place: mark.before.bytes,
     }
-    spot
 }
 
 // The first chunk from this one on that does not begin before the place. Where there is none it is the end.

@@ -1,26 +1,29 @@
 //! A text that is edited: each edit costs about the same, however long the text is.
 ghost use Rattle.std.specs.List.{concat, splice};
-ghost use Rattle.std.specs.Prelude.{◌≡◌, ◌+◌, ◌^◌, ◌<◌, ◌≤◌, [], length, take, drop, slice_get, option_map, Contains, MatchOption, IfOk, OnOk, OnErr};
+ghost use Rattle.std.specs.Prelude.{◌≡◌, ◌+◌, ◌-◌, ◌^◌, ◌<◌, ◌≤◌, [], length, take, drop, slice_get, slice_range, option_map, Contains, MatchOption, IfOk, OnOk, OnErr};
 ghost use Rattle.encode_unicode.specs.Pieces.{pieces};
 ghost use Rattle.encode_unicode.specs.Window.{Item as AnItem};
-ghost use Rattle.cuts.specs.Chunks.{EndOutside};
+ghost use Rattle.cuts.specs.Changes.{IsChange, IsRecount};
 ghost use Rattle.cuts.specs.Counts.{counts_of};
 ghost use Rattle.cuts.specs.CountedChunks.{IsCounted};
 ghost use Rattle.cuts.specs.ChunkEdits.{Surrounds};
+ghost use Rattle.cuts.specs.Chunks.{EndOutside};
+ghost use Rattle.cuts.specs.Rows.{AreSums};
 ghost use Rattle.cuts.specs.ShardRuns.{line_feed_count};
 ghost use Rattle.cuts.specs.Tables.{IsSplitAt};
 ghost use Rattle.cuts.specs.TextLookups.{HasNoFaultBefore, HasNoFaultFrom, HasPlace, IsLineStart, IsNextFault, IsPreviousFault};
 
+use crate::buffers::changes::{Change, Recount};
 use crate::buffers::chunk::Chunk;
 use crate::buffers::counts::Counts;
-use crate::buffers::dividing::{ROOM, divide, joined_bytes, total};
+use crate::buffers::dividing::{ROOM, divide, joined_bytes, one_chunk, total};
 use crate::buffers::line_feeds::{feeds_before, line_start};
 use crate::buffers::lookups::{chunk_from, pieces_before, place_of};
 use crate::buffers::next_faults::fault_from;
 use crate::buffers::pieces_at::{nth_piece, piece_over};
 use crate::buffers::previous_faults::fault_before;
+use crate::buffers::rows::{ROW, renew_sums, sum_rows};
 use crate::buffers::spots::{Spot, find, find_end};
-use crate::piece_table::splice_in;
 use crate::runs::items::Item;
 use std::alloc::{AllocError, Allocator};
 use std::marker::Model;
@@ -28,11 +31,12 @@ use std::marker::Model;
 /// A text that is edited, of which it is known at any time how many characters, invalid bytes and
 /// lines it has. Contracts see its bytes.
 ///
-/// The bytes are kept in chunks of some kilobytes. An edit changes one or two of them, and no other
-/// byte is read or moved.
+/// The bytes are kept in chunks of some kilobytes, and of each 256 of them is known what they count. An
+/// edit changes one or two chunks, and no other byte is read or moved.
 #[derive(Drop)]
 pub struct TextBuffer<A: Allocator + Copy> {
     chunks: Vec<Chunk<A>, A>,
+    sums: Vec<Counts, A>,
     counts: Counts,
 }
 
@@ -40,12 +44,13 @@ impl<A: Allocator + Copy> Model for TextBuffer<A> {
     ghost use Rattle.std.specs.Prelude.{ℕ, List};
     ghost use Rattle.std.specs.List.{concat};
     ghost use Rattle.cuts.specs.CountedChunks.{IsCounted};
+    ghost use Rattle.cuts.specs.Rows.{AreSums};
 
     ghost Value = { List ℕ };
 
     ghost view = { λ t. concat t.chunks.items };
 
-    ghost invariant = { λ t. IsCounted t.chunks.items t.counts };
+    ghost invariant = { λ t. IsCounted t.chunks.items t.counts × AreSums t.chunks.items t.sums.items };
 }
 
 impl<A: Allocator + Copy> TextBuffer<A> {
@@ -57,7 +62,13 @@ impl<A: Allocator + Copy> TextBuffer<A> {
     {
         let chunks = divide(alloc, bytes)?;
         let counts = total(&chunks);
-        Ok(TextBuffer { chunks, counts })
+        let mut sums = Vec::with_capacity(alloc, chunks.len() / ROW)?;
+        sum_rows(&chunks, &mut sums)?;
+        Ok(TextBuffer {
+            chunks,
+            sums,
+            counts,
+        })
     }
 
     /// How many bytes the text has.
@@ -79,31 +90,47 @@ impl<A: Allocator + Copy> TextBuffer<A> {
     /// The bytes from this offset on, as far as they lie in one chunk. If the offset is below the
     /// length, there is a byte at least. To read all, go on at the offset plus their number.
     ///
-    /// Cost: a step for each 4,096 bytes of the text.
+    /// Cost: a step for each half megabyte of the text, and at most 512 more.
     pub fn chunk_at(&self, offset: usize) -> &[u8]
         ensures bytes { result.now ≡ take (length result.now) (drop offset self.now) }
         ensures some { offset < length self.now → 0 < length result.now }
     {
-        chunk_from(&self.chunks, offset)
+        chunk_from(&self.chunks, &self.sums, offset)
+    }
+
+    /// The bytes from `start` up to `end`, `end` not included, as far as they lie in one chunk. If `start`
+    /// is below `end`, there is a byte at least. To read all, go on at `start` plus their number.
+    ///
+    /// Condition: `start` is at most `end`, and `end` at most the length.
+    ///
+    /// Cost: as that of `chunk_at`.
+    pub fn chunk_within(&self, start: usize, end: usize) -> &[u8]
+        requires ordered { start ≤ end }
+        requires within { end ≤ length self.now }
+        ensures bytes { result.now ≡ take (length result.now) (slice_range self.now start end) }
+        ensures some { start < end → 0 < length result.now }
+    {
+        let bytes = self.chunk_at(start);
+        &bytes[..bytes.len().min(end - start)]
     }
 
     /// How many pieces begin before this offset. If a piece begins at the offset, this is its number,
     /// counted from 0.
     ///
-    /// Cost: a step for each 4,096 bytes of the text, and at most 4,096 bytes are decoded.
+    /// Cost: a step for each half megabyte of the text, at most 512 more, and at most 1,024 bytes are decoded.
     pub fn number_of(&self, offset: usize) -> usize
         ensures { IsSplitAt (pieces self.now) offset result }
     {
-        pieces_before(&self.chunks, offset)
+        pieces_before(&self.chunks, &self.sums, offset)
     }
 
     /// The offset of the piece with this number, counted from 0. `None` if the text has no more pieces.
     ///
-    /// Cost: a step for each 4,096 bytes of the text, and at most 4,096 bytes are decoded.
+    /// Cost: a step for each half megabyte of the text, at most 512 more, and at most 2,048 bytes are decoded.
     pub fn offset_of(&self, number: usize) -> Option<usize>
         ensures { result ≡ option_map (λ (x : AnItem). x.0) (slice_get (pieces self.now) number) }
     {
-        place_of(&self.chunks, number)
+        place_of(&self.chunks, &self.sums, number)
     }
 
     /// The piece with this number, counted from 0: (offset, character or error, length). The error is
@@ -113,27 +140,27 @@ impl<A: Allocator + Copy> TextBuffer<A> {
     pub fn piece(&self, number: usize) -> Option<Item>
         ensures { result ≡ slice_get (pieces self.now) number }
     {
-        nth_piece(&self.chunks, number)
+        nth_piece(&self.chunks, &self.sums, number)
     }
 
     /// The piece that has the byte at this offset: (offset of the piece, character or error, length).
     /// `None` if the offset is the length or more.
     ///
-    /// Cost: a step for each 4,096 bytes of the text.
+    /// Cost: a step for each half megabyte of the text, and at most 512 more.
     pub fn piece_at(&self, offset: usize) -> Option<Item>
         ensures { MatchOption result (length self.now ≤ offset)
             (λ x. Contains (pieces self.now) x × HasPlace offset x) }
     {
-        piece_over(&self.chunks, offset)
+        piece_over(&self.chunks, &self.sums, offset)
     }
 
     /// How many line feeds are before this offset: the number of its line, counted from 0.
     ///
-    /// Cost: a step for each 4,096 bytes of the text, and at most 4,096 bytes are read.
+    /// Cost: a step for each half megabyte of the text, at most 512 more, and at most 2,048 bytes are read.
     pub fn line_of(&self, offset: usize) -> usize
         ensures { result ≡ line_feed_count (take offset self.now) }
     {
-        feeds_before(&self.chunks, offset)
+        feeds_before(&self.chunks, &self.sums, offset)
     }
 
     /// The offset at which the line with this number begins, counted from 0. Each line feed ends a line,
@@ -143,17 +170,17 @@ impl<A: Allocator + Copy> TextBuffer<A> {
     pub fn offset_of_line(&self, line: usize) -> Option<usize>
         ensures { MatchOption result (line_feed_count self.now < line) (IsLineStart self.now line) }
     {
-        line_start(&self.chunks, line)
+        line_start(&self.chunks, &self.sums, line)
     }
 
     /// The offset of the first invalid byte at this offset or after it. `None` if there is none.
     ///
-    /// Cost: a step for each 4,096 bytes of the text. Of parts of 4,096 bytes only the one with the
-    /// answer is read, and the one with the offset.
+    /// Cost: a step for each half megabyte of the text, and at most 1,024 more. Of parts of 2,048 bytes only the
+    /// one with the answer is read, and the one with the offset.
     pub fn next_fault(&self, offset: usize) -> Option<usize>
         ensures { MatchOption result (HasNoFaultFrom self.now offset) (IsNextFault self.now offset) }
     {
-        fault_from(&self.chunks, offset)
+        fault_from(&self.chunks, &self.sums, offset)
     }
 
     /// The offset of the last invalid byte before this offset. `None` if there is none.
@@ -162,7 +189,7 @@ impl<A: Allocator + Copy> TextBuffer<A> {
     pub fn previous_fault(&self, offset: usize) -> Option<usize>
         ensures { MatchOption result (HasNoFaultBefore self.now offset) (IsPreviousFault self.now offset) }
     {
-        fault_before(&self.chunks, offset)
+        fault_before(&self.chunks, &self.sums, offset)
     }
 
     /// A copy of the bytes. The error is that memory was refused.
@@ -174,44 +201,60 @@ impl<A: Allocator + Copy> TextBuffer<A> {
         joined_bytes(alloc, &self.chunks)
     }
 
-    /// Replaces the bytes from `start` up to `end`, `end` not included, by `new`.
+    /// Replaces the bytes from `start` up to `end`, `end` not included, by `new`. The answer says which
+    /// pieces went and which came: so a view repaints only these.
     ///
     /// The error is that memory was refused, or that a `usize` cannot count the bytes. The text is
     /// then as it was.
     ///
     /// Condition: `start` is at most `end`, and `end` at most the length.
     ///
-    /// Cost: O(n) for n bytes that go or come, and the search for the chunk, which takes a step for
-    /// each 4,096 bytes of the text; allocates.
-    pub fn replace(&mut self, start: usize, end: usize, new: &[u8]) -> Result<(), AllocError>
+    /// Cost: O(n) for n bytes that go or come, and that of `number_of`. If the number of parts changes, all
+    /// after them are moved, in a step for each 2,048 bytes. Allocates.
+    pub fn replace(&mut self, start: usize, end: usize, new: &[u8]) -> Result<Change, AllocError>
         requires ordered { start ≤ end }
         requires within { end ≤ length self.old }
         ensures ok { OnOk result (self.new ≡ splice self.old start end new.now) }
+        ensures change { IfOk result (IsChange self.old self.new start end) }
         ensures err { OnErr result (self.new ≡ self.old) }
     {
-        let edit = reach(&self.chunks, start, end);
-        replace_reached(&mut self.chunks, &mut self.counts, edit, new)
+        let edit = reach(&self.chunks, &self.sums, start, end);
+        let recount = replace_reached(
+            &mut self.chunks,
+            &mut self.sums,
+            &mut self.counts,
+            edit,
+            new,
+        )?;
+        Ok(Change {
+            offset: recount.place,
+            number: pieces_before(&self.chunks, &self.sums, recount.place),
+            gone: recount.gone,
+            come: recount.come,
+        })
     }
 
-    /// Inserts the bytes at this offset. Errors and cost are as those of `replace`.
+    /// Inserts the bytes at this offset. Answer, errors and cost are as those of `replace`.
     ///
     /// Condition: the offset is at most the length.
-    pub fn insert(&mut self, offset: usize, new: &[u8]) -> Result<(), AllocError>
+    pub fn insert(&mut self, offset: usize, new: &[u8]) -> Result<Change, AllocError>
         requires { offset ≤ length self.old }
         ensures ok { OnOk result (self.new ≡ splice self.old offset offset new.now) }
+        ensures change { IfOk result (IsChange self.old self.new offset offset) }
         ensures err { OnErr result (self.new ≡ self.old) }
     {
         self.replace(offset, offset, new)
     }
 
-    /// Removes the bytes from `start` up to `end`, `end` not included. Errors and cost are as those
-    /// of `replace`.
+    /// Removes the bytes from `start` up to `end`, `end` not included. Answer, errors and cost are as
+    /// those of `replace`.
     ///
     /// Condition: `start` is at most `end`, and `end` at most the length.
-    pub fn remove(&mut self, start: usize, end: usize) -> Result<(), AllocError>
+    pub fn remove(&mut self, start: usize, end: usize) -> Result<Change, AllocError>
         requires ordered { start ≤ end }
         requires within { end ≤ length self.old }
         ensures ok { OnOk result (self.new ≡ splice self.old start end []) }
+        ensures change { IfOk result (IsChange self.old self.new start end) }
         ensures err { OnErr result (self.new ≡ self.old) }
     {
         self.replace(start, end, &[])
@@ -228,14 +271,16 @@ pub(crate) struct Edit {
 }
 
 // The chunks that an edit of this part reaches.
-fn reach<A: Allocator>(chunks: &[Chunk<A>], start: usize, end: usize) -> Edit
+fn reach<A: Allocator>(chunks: &[Chunk<A>], sums: &[Counts], start: usize, end: usize) -> Edit
+    requires ends { EndOutside chunks.now }
+    requires sums { AreSums chunks.now sums.now }
     requires ordered { start ≤ end }
     requires within { end ≤ length (concat chunks.now) }
     requires small { length (concat chunks.now) < 2 ^ 64 }
     ensures surrounds { Surrounds chunks.now result }
     ensures part { (result.start ≡ start) × (result.end ≡ end) }
 {
-    let first = find(chunks, start.saturating_sub(3));
+    let first = find(chunks, sums, start.saturating_sub(3));
     let last = find_end(chunks, first, end.saturating_add(3));
     Edit {
         first,
@@ -248,15 +293,20 @@ fn reach<A: Allocator>(chunks: &[Chunk<A>], start: usize, end: usize) -> Edit
 // Replaces a part of the text, in one chunk where that has room for it.
 fn replace_reached<A: Allocator + Copy>(
     chunks: &mut Vec<Chunk<A>, A>,
+    sums: &mut Vec<Counts, A>,
     counts: &mut Counts,
     edit: Edit,
     new: &[u8],
-) -> Result<(), AllocError>
+) -> Result<Recount, AllocError>
     requires counted { IsCounted chunks.old.items counts.old }
+    requires sums { AreSums chunks.old.items sums.old.items }
     requires surrounds { Surrounds chunks.old.items edit }
     ensures counted { IsCounted chunks.new.items counts.new }
+    ensures sums { AreSums chunks.new.items sums.new.items }
     ensures ok { OnOk result (concat chunks.new.items ≡
         splice (concat chunks.old.items) edit.start edit.end new.now) }
+    ensures recount { IfOk result (λ r. IsRecount (concat chunks.old.items) (concat chunks.new.items)
+        edit.start edit.end r.place r.gone r.come) }
     ensures err { OnErr result (concat chunks.new.items ≡ concat chunks.old.items) }
 {
     let left = counts.bytes - (edit.end - edit.start);
@@ -265,82 +315,115 @@ fn replace_reached<A: Allocator + Copy>(
     }
     let reached = edit.last.place - edit.first.place;
     if edit.last.number - edit.first.number == 1 && reached <= ROOM && new.len() <= ROOM - reached {
-        return replace_within(chunks, counts, edit, new);
+        return replace_within(chunks, sums, counts, edit, new);
     }
-    replace_chunks(chunks, counts, edit, new)
+    replace_chunks(chunks, sums, counts, edit, new)
 }
 
 // Replaces a part of one chunk.
 fn replace_within<A: Allocator>(
     chunks: &mut Vec<Chunk<A>, A>,
+    sums: &mut Vec<Counts, A>,
     counts: &mut Counts,
     edit: Edit,
     new: &[u8],
-) -> Result<(), AllocError>
+) -> Result<Recount, AllocError>
     requires counted { IsCounted chunks.old.items counts.old }
+    requires sums { AreSums chunks.old.items sums.old.items }
     requires surrounds { Surrounds chunks.old.items edit }
     requires one { edit.last.number ≡ edit.first.number + 1 }
     requires fits { length (splice (concat chunks.old.items) edit.start edit.end new.now) < 2 ^ 64 }
     ensures counted { IsCounted chunks.new.items counts.new }
+    ensures sums { AreSums chunks.new.items sums.new.items }
     ensures ok { OnOk result (concat chunks.new.items ≡
         splice (concat chunks.old.items) edit.start edit.end new.now) }
+    ensures recount { IfOk result (λ r. IsRecount (concat chunks.old.items) (concat chunks.new.items)
+        edit.start edit.end r.place r.gone r.come) }
     ensures err { OnErr result (concat chunks.new.items ≡ concat chunks.old.items) }
 {
     let chunk = &mut chunks[edit.first.number];
     let gone = chunk.counts();
-    chunk.replace(
-        edit.start - edit.first.place,
-        edit.end - edit.first.place,
-        new,
-    )?;
+    let recount = replace_part(chunk, edit, new)?;
     let come = chunk.counts();
     *counts = counts.exchange(gone, come);
-    Ok(())
+    renew_sums(
+        chunks,
+        sums,
+        edit.first.number,
+        edit.last.number,
+        1,
+        gone,
+        come,
+    );
+    Ok(recount)
 }
 
 // Puts new chunks in place of those that the edit reaches.
 fn replace_chunks<A: Allocator + Copy>(
     chunks: &mut Vec<Chunk<A>, A>,
+    sums: &mut Vec<Counts, A>,
     counts: &mut Counts,
     edit: Edit,
     new: &[u8],
-) -> Result<(), AllocError>
+) -> Result<Recount, AllocError>
     requires counted { IsCounted chunks.old.items counts.old }
+    requires sums { AreSums chunks.old.items sums.old.items }
     requires surrounds { Surrounds chunks.old.items edit }
     requires fits { length (splice (concat chunks.old.items) edit.start edit.end new.now) < 2 ^ 64 }
     ensures counted { IsCounted chunks.new.items counts.new }
+    ensures sums { AreSums chunks.new.items sums.new.items }
     ensures ok { OnOk result (concat chunks.new.items ≡
         splice (concat chunks.old.items) edit.start edit.end new.now) }
+    ensures recount { IfOk result (λ r. IsRecount (concat chunks.old.items) (concat chunks.new.items)
+        edit.start edit.end r.place r.gone r.come) }
     ensures err { OnErr result (concat chunks.new.items ≡ concat chunks.old.items) }
 {
     let alloc = *chunks.allocator();
     let reached = &chunks.as_slice()[edit.first.number..edit.last.number];
-    let gone = total(reached);
-    let start = edit.start - edit.first.place;
-    let end = edit.end - edit.first.place;
-    let made = remake(alloc, reached, start, end, new)?;
-    let come = total(made.as_slice());
+    let mut chunk = one_chunk(alloc, reached)?;
+    let gone = chunk.counts();
+    let recount = replace_part(&mut chunk, edit, new)?;
+    let come = chunk.counts();
+    let made = divide(alloc, chunk.bytes())?;
+    let count = made.len();
+    sums.reserve(count / ROW + 1)?;
     put_chunks(chunks, edit.first.number, edit.last.number, made)?;
     *counts = counts.exchange(gone, come);
-    Ok(())
+    renew_sums(
+        chunks,
+        sums,
+        edit.first.number,
+        edit.last.number,
+        count,
+        gone,
+        come,
+    );
+    Ok(recount)
 }
 
-// New chunks of the bytes of some, of which a part is replaced.
-fn remake<A: Allocator + Copy>(
-    alloc: A,
-    reached: &[Chunk<A>],
-    start: usize,
-    end: usize,
+// Replaces a part of the text that lies in a chunk, which has the bytes of those that the edit reaches.
+fn replace_part<A: Allocator>(
+    chunk: &mut Chunk<A>,
+    edit: Edit,
     new: &[u8],
-) -> Result<Vec<Chunk<A>, A>, AllocError>
-    requires ordered { start ≤ end }
-    requires within { end ≤ length (concat reached.now) }
-    ensures bytes { IfOk result (λ made. concat made.items ≡ splice (concat reached.now) start end new.now) }
-    ensures ends { IfOk result (λ made. EndOutside made.items) }
+) -> Result<Recount, AllocError>
+    requires ordered { edit.first.place ≤ edit.start }
+    requires part { edit.start ≤ edit.end }
+    requires within { edit.end ≤ edit.first.place + length chunk.old }
+    ensures ok { OnOk result (chunk.new ≡
+        splice chunk.old (edit.start - edit.first.place) (edit.end - edit.first.place) new.now) }
+    ensures place { IfOk result (λ r. edit.first.place ≤ r.place) }
+    ensures recount { IfOk result (λ r. IsRecount chunk.old chunk.new (edit.start - edit.first.place)
+        (edit.end - edit.first.place) (r.place - edit.first.place) r.gone r.come) }
+    ensures err { OnErr result (chunk.new ≡ chunk.old) }
 {
-    let mut bytes = joined_bytes(alloc, reached)?;
-    splice_in(&mut bytes, start, end, new)?;
-    divide(alloc, bytes.as_slice())
+    let from = edit.first.place;
+    let recount = chunk.replace(edit.start - from, edit.end - from, new)?;
+    Ok(Recount {
+        place: from + recount.place,
+        gone: recount.gone,
+        come: recount.come,
+    })
 }
 
 // Puts chunks in place of those from `start` up to `end`. It fails only before it changes anything.

@@ -4,6 +4,7 @@ ghost use Rattle.cuts.specs.WellFormed.{IsFirstUnitFault, BeginsUnits, NoUnitsBe
 
 use encode_unicode::CharExt;
 use utf_lanes::byte_pairs::unit;
+use utf_lanes::unit_blocks::units_len;
 
 /// The offset in bytes of the first lone surrogate in bytes of UTF-16, or the length where there is
 /// none. A single byte at the end is invalid too. `high_first` says that the bytes are big-endian.
@@ -13,7 +14,7 @@ pub fn unit_bytes_valid_up_to(high_first: bool, bytes: &[u8]) -> usize
     ensures first { IsFirstUnitFault high_first bytes.now result }
     ensures within { result ≤ length bytes.now }
 {
-    let mut place = 0;
+    let mut place = 2 * units_len(high_first, bytes);
     while let Some(len) = first_len(high_first, &bytes[place..]) {
         place += len;
     }

@@ -1,21 +1,19 @@
-use Rattle.std.proofs.Common.{◌≡◌, ◌⊎◌, ◌+◌, ◌<◌, ◌≤◌, length, arith, ⊎_elim, inl, inr}
-use Rattle.std.proofs.lemmas.Bool.{cases_lt}
+use Rattle.std.proofs.Common.{◌≡◌, ◌+◌, ◌-◌, length, min, arith}
+use Rattle.cuts.proofs.ChangeLemmas.{window_of_recount}
 use Rattle.cuts.proofs.buffers.chunk.window_of.Goals as goal
 
-pub returns : goal.returns
-returns c =
-    let s = c.args.start in
-    let e = c.args.end in
-    let n = length c.args.bytes.now in
-    let a = c.floor.result in
-    let b = c.ceil.result in
-    let within : b ≤ n = c.ceil.ensures.between.within in
-    let low : a ≤ c.saturating_sub.result = c.floor.ensures.before in
-    let high : c.min.result ≤ b = c.ceil.ensures.after in
-    record {
-      begins = c.floor.ensures.between.outside;
-      ends = c.ceil.ensures.between.outside;
-      before = ⊎_elim (λ (near : s < 3). inl (omega arith)) (λ (far : 3 ≤ s). inr (omega arith)) (cases_lt s 3);
-      following = ⊎_elim (λ (near : n < e + 3). inl (omega arith)) (λ (far : e + 3 ≤ n). inr (omega arith)) (cases_lt n (e + 3));
-      within = within;
-    }
+pub returns-clause-window : goal.returns-clause-window
+returns-clause-window c =
+    let low : c.saturating_sub.result ≡ c.args.start - 3 = omega arith in
+    let high : c.min.result ≡ min (length c.args.bytes.now) (c.args.end + 3) = omega arith in
+    window_of_recount c.args.bytes.now c.args.start c.args.end _ _ (rw low at c.floor.ensures) (rw high at c.ceil.ensures)
+
+pub returns-clause-begins : goal.returns-clause-begins
+returns-clause-begins c =
+    let low : c.saturating_sub.result ≡ c.args.start - 3 = omega arith in
+    rw low at c.floor.ensures
+
+pub returns-clause-ends : goal.returns-clause-ends
+returns-clause-ends c =
+    let high : c.min.result ≡ min (length c.args.bytes.now) (c.args.end + 3) = omega arith in
+    rw high at c.ceil.ensures

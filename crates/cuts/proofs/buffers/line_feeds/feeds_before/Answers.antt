@@ -1,16 +1,13 @@
 use Rattle.std.proofs.Common.{ap, arith, sym}
 use Rattle.cuts.specs.declared.buffers.counts.Counts.{Counts}
-use Rattle.cuts.proofs.ChunkLists.{EndOutside-take}
 use Rattle.cuts.proofs.LineFeedLemmas.{feeds_found}
 use Rattle.cuts.proofs.NumberLemmas.{ChunkAt}
 use Rattle.cuts.proofs.buffers.line_feeds.feeds_before.Goals as goal
 
-pub total-requires-clause-ends : goal.total-requires-clause-ends
-total-requires-clause-ends g c = EndOutside-take c.args.chunks.now c.find-spot.result.number c.requires.ends
-
 pub returns : goal.returns
 returns g c =
-    let at : ChunkAt c.args.chunks.now c.find-spot.result.number c.find-spot.result.place c.index-chunks-spot.result
-    = record { ends = c.requires.ends; spot = c.find-spot.ensures.spot; lt = omega (arith, c.find-spot.ensures.spot.within); is = c.index-chunks-spot.is } in
-    rw (ap (λ (k : Counts). k.line_feeds) c.total.ensures, c.line_feed_count.ensures, c.min.ensures, c.bytes-bytes.ensures)
-    (sym (feeds_found c.args.chunks.now _ _ c.index-chunks-spot.result at c.args.at c.find-spot.ensures.before c.find-spot.ensures.has))
+    let mark = c.mark_at-mark.result in
+    let at : ChunkAt c.args.chunks.now mark.number mark.before.bytes c.index-chunks-mark.result
+    = record { ends = c.requires.ends; spot = c.mark_at-mark.ensures.spot; lt = omega (arith, c.mark_at-mark.ensures.spot.within); is = c.index-chunks-mark.is } in
+    rw (ap (λ (k : Counts). k.line_feeds) c.mark_at-mark.ensures.mark.before, c.line_feed_count.ensures, c.min.ensures, c.bytes-bytes.ensures)
+    (sym (feeds_found c.args.chunks.now _ _ c.index-chunks-mark.result at c.args.at c.mark_at-mark.ensures.before c.mark_at-mark.ensures.has))

@@ -1,13 +1,16 @@
-use Rattle.std.proofs.Common.{◌≡◌, ◌+◌, ◌≤◌, length, arith}
+use Rattle.std.proofs.Common.{◌≡◌, ◌+◌, ◌≤◌, length, arith, ap, ◌∙◌}
 use Rattle.std.specs.List.{concat}
 use Rattle.cuts.specs.Counts.{counts_of}
 use Rattle.cuts.specs.Measures.{measure_of}
-use Rattle.cuts.proofs.ChunkLists.{first_spot, next_spot, spot_within}
-use Rattle.cuts.proofs.MeasureLemmas.{measure_none, measure_more}
+use Rattle.cuts.proofs.ChunkLists.{next_spot, spot_within}
+use Rattle.cuts.proofs.MeasureLemmas.{measure_more}
+use Rattle.cuts.proofs.RowLemmas.{spot_of_mark}
 use Rattle.cuts.proofs.buffers.measures.find_number.Goals as goal
 
 pub loop-found-init : goal.loop-found-init
-loop-found-init g c = (first_spot c.args.chunks.now, measure_none c.args.measure, omega arith)
+loop-found-init g c =
+    let before = c.count.ensures ∙ ap (measure_of c.args.measure) c.skip-mark.ensures.mark.before in
+    (spot_of_mark c.args.chunks.now c.skip-mark.result c.skip-mark.ensures.mark, before, omega (arith, c.count.ensures, c.skip-mark.ensures.before))
 
 pub overflow_add-found-in-loop-found : goal.overflow_add-found-in-loop-found
 overflow_add-found-in-loop-found g c =

@@ -3,6 +3,7 @@ use Rattle.std.proofs.lemmas.List.{take_all}
 use Rattle.std.specs.List.{concat}
 use Rattle.cuts.specs.TextLookups.{HasNoFaultFrom, IsNextFault}
 use Rattle.cuts.proofs.ChunkLists.{next_spot, spot_within}
+use Rattle.cuts.proofs.CleanRows.{clean_step}
 use Rattle.cuts.proofs.NextFaultLemmas.{next_of_chunk, none_of_chunk, none_at_all}
 use Rattle.cuts.proofs.NumberLemmas.{ChunkAt, chunk_within}
 use Rattle.cuts.proofs.buffers.next_faults.fault_from.Goals as goal
@@ -12,20 +13,20 @@ overflow_add-result g c =
     let x = c.index-chunks-spot.result in
     let at : ChunkAt c.args.chunks.now c.loop-spot.spot.number c.loop-spot.spot.place x
     = record { ends = c.requires.ends; spot = c.loop-spot.invariant.0; lt = omega arith; is = c.index-chunks-spot.is } in
-    let within = c.in-Some.ensures.fault.0 in
+    let within = c.in-Some-chunk_fault_from.ensures.fault.0 in
     omega (arith, chunk_within c.args.chunks.now _ _ x at)
 
-pub returns-in-Some : goal.returns-in-Some
-returns-in-Some g c =
+pub returns-in-Some-chunk_fault_from : goal.returns-in-Some-chunk_fault_from
+returns-in-Some-chunk_fault_from g c =
     let x = c.index-chunks-spot.result in
     let at : ChunkAt c.args.chunks.now c.loop-spot.spot.number c.loop-spot.spot.place x
     = record { ends = c.requires.ends; spot = c.loop-spot.invariant.0; lt = omega arith; is = c.index-chunks-spot.is } in
     let left : c.saturating_sub.result ≡ c.args.at - c.loop-spot.spot.place = omega arith in
-    let next : IsNextFault x (c.args.at - c.loop-spot.spot.place) c.in-Some.place = rw left at c.in-Some.ensures in
-    next_of_chunk c.args.chunks.now _ _ x at c.args.at c.in-Some.place c.loop-spot.invariant.1 next
+    let next : IsNextFault x (c.args.at - c.loop-spot.spot.place) c.in-Some-chunk_fault_from.place = rw left at c.in-Some-chunk_fault_from.ensures in
+    next_of_chunk c.args.chunks.now _ _ x at c.args.at c.in-Some-chunk_fault_from.place c.loop-spot.invariant.1 next
 
-pub overflow_add-spot : goal.overflow_add-spot
-overflow_add-spot g c =
+pub overflow_add-spot-in_default : goal.overflow_add-spot-in_default
+overflow_add-spot-in_default g c =
     let next = next_spot c.args.chunks.now _ _ c.index-chunks-spot.result c.loop-spot.invariant.0 (omega arith) c.index-chunks-spot.is in
     let within : c.loop-spot.spot.place + length c.index-chunks-spot.result ≤ length (concat c.args.chunks.now) = spot_within c.args.chunks.now _ _ next in
     omega (arith, c.len.ensures)
@@ -37,8 +38,18 @@ loop-spot-preserved g c =
     = record { ends = c.requires.ends; spot = c.loop-spot.invariant.0; lt = omega arith; is = c.index-chunks-spot.is } in
     let next = next_spot c.args.chunks.now _ _ x c.loop-spot.invariant.0 (omega arith) c.index-chunks-spot.is in
     let left : c.saturating_sub.result ≡ c.args.at - c.loop-spot.spot.place = omega arith in
-    let none : HasNoFaultFrom x (c.args.at - c.loop-spot.spot.place) = rw left at c.in_default.ensures in
+    let none : HasNoFaultFrom x (c.args.at - c.loop-spot.spot.place) = rw left at c.in_default-chunk_fault_from.ensures in
     rw c.len.ensures (next, none_of_chunk c.args.chunks.now _ _ x at c.args.at c.loop-spot.invariant.1 none)
+
+pub loop-spot-preserved-in-Some : goal.loop-spot-preserved-in-Some
+loop-spot-preserved-in-Some g c =
+    let step = clean_step c.args.chunks.now c.args.sums.now _ _ c.in-Some.bytes c.requires.ends c.requires.sums c.loop-spot.invariant.0 c.in-Some.ensures in
+    (step.0, step.1 c.args.at c.loop-spot.invariant.1)
+
+pub overflow_add-spot : goal.overflow_add-spot
+overflow_add-spot g c =
+    let step = clean_step c.args.chunks.now c.args.sums.now _ _ c.in-Some.bytes c.requires.ends c.requires.sums c.loop-spot.invariant.0 c.in-Some.ensures in
+    omega (arith, spot_within c.args.chunks.now _ _ step.0, c.requires.fits)
 
 pub returns : goal.returns
 returns g c =

@@ -1,8 +1,7 @@
-use Rattle.std.proofs.Common.{◌≡◌, ◌+◌, ◌-◌, ◌^◌, ◌<◌, ◌≤◌, length, ap, ◌∙◌, arith, ⊎_elim, inl, inr}
+use Rattle.std.proofs.Common.{◌+◌, ◌-◌, ◌^◌, ◌<◌, ◌≤◌, length, ap, ◌∙◌, arith, ⊎_elim, inl, inr}
 use Rattle.std.proofs.lemmas.Bool.{cases_lt}
 use Rattle.std.proofs.lemmas.List.{take_all}
 use Rattle.std.specs.List.{concat}
-use Rattle.std.specs.Prelude.{take}
 use Rattle.cuts.proofs.ChunkLists.{spot_within}
 use Rattle.cuts.proofs.buffers.text_buffer.reach.Goals as goal
 

@@ -1,9 +1,9 @@
 use Rattle.std.proofs.lemmas.List.{take_rest}
-use Rattle.cuts.proofs.UnitFaults.{good_unit_front, good_unit_step, good_unit_all}
+use Rattle.cuts.proofs.UnitFaults.{good_unit_codes, good_unit_step, good_unit_all}
 use Rattle.cuts.proofs.runs.unit_bytes.unit_bytes_valid_up_to.Goals as goal
 
 pub loop-len-init : goal.loop-len-init
-loop-len-init c = good_unit_front c.args.high_first c.args.bytes.now
+loop-len-init c = good_unit_codes c.args.high_first c.args.bytes.now c.units_len-place.result c.units_len-place.ensures.within c.units_len-place.ensures.codes
 
 pub loop-len-preserved : goal.loop-len-preserved
 loop-len-preserved c =

@@ -1,0 +1,158 @@
+-- One step after another: how many pieces there are, and where one begins.
+use Rattle.std.proofs.Common.{◌≡◌, ℕ, ◌+◌, ◌-◌, ◌<◌, ◌≤◌, List, length, get_or, take, drop, arith, ap, sym, ◌∙◌, subst, Some, None, Option, Result, Ok, Err, true, false, length-drop}
+use Rattle.std.proofs.lemmas.List.{drop-take, length-take-le, take-append-drop, take-take, take_all}
+use Rattle.std.proofs.lemmas.Option.{slice_get-get_or, slice_get_past}
+use Rattle.std.specs.Prelude.{MatchOption, option_map, slice_get, slice_range}
+use Rattle.std.specs.Str.{IsUtf8}
+use Rattle.utf_base.specs.Code.{utf8}
+use Rattle.utf_base.specs.Kinds.{fault_kind}
+use Rattle.utf_base.specs.Piece.{Inside}
+use Rattle.utf_base.specs.declared.errors.Utf8ErrorKind.{Utf8ErrorKind}
+use Rattle.utf_base.proofs.FrontLemmas.{no_code_where_fault}
+use Rattle.utf_base.proofs.StdText.{utf8_is_text}
+use Rattle.utf_base.proofs.Utf8Code.{utf8_is_code}
+use Rattle.encode_unicode.specs.Pieces.{pieces}
+use Rattle.encode_unicode.specs.Window.{IsFrontPiece, Item}
+use Rattle.recoding.proofs.GoodCodes.{good_text}
+use Rattle.utf_lanes.specs.Starts.{IsStartOf, start_count}
+use Rattle.cuts.specs.PieceSteps.{IsOnePiece, IsPieceStep}
+use Rattle.cuts.specs.declared.runs.steps.Step.{Step}
+use Rattle.cuts.proofs.CountLemmas.{pieces_few}
+use Rattle.cuts.proofs.ForwardRuns.{pieces_are_the_run}
+use Rattle.cuts.proofs.JoinedPieces.{inside_front, inside_following}
+use Rattle.cuts.proofs.PieceRuns.{at_front}
+use Rattle.cuts.proofs.SplitNumbers.{count_is, place_in_front, place_in_rest}
+use Rattle.cuts.proofs.TextCounts.{one_of_code, some_piece, text_counted, text_numbered}
+
+-- The pieces of the bytes before a place over which no code lies are so many.
+pub record IsCountedTo (xs : List ℕ) (place count : ℕ) : Type 0 where
+  pub within : place ≤ length xs
+  pub outside : Inside utf8 xs place → ⊥
+  pub counted : count ≡ length (pieces (take place xs))
+
+module _ (xs : List ℕ) (b : ℕ) (le : b ≤ length xs) (out : Inside utf8 xs b → ⊥) where
+  abbrev whole : List Item
+  whole = pieces xs
+
+  abbrev front : List Item
+  front = pieces (take b xs)
+
+  abbrev rest : List Item
+  rest = pieces (drop b xs)
+
+  pub parts_counted : length whole ≡ length front + length rest
+  parts_counted = count_is utf8 utf8_is_code fault_kind xs b le out whole front rest (pieces_are_the_run xs) (pieces_are_the_run (take b xs)) (pieces_are_the_run (drop b xs))
+
+  pub place_front : (n : ℕ) (d : Item) → n < length front → (get_or whole n d).0 ≡ (get_or front n d).0
+  place_front = place_in_front utf8 utf8_is_code fault_kind xs b le out whole front rest (pieces_are_the_run xs) (pieces_are_the_run (take b xs)) (pieces_are_the_run (drop b xs))
+
+  pub place_rest : (n : ℕ) (d : Item) → length front ≤ n → n < length whole → (get_or whole n d).0 ≡ b + (get_or rest (n - length front) d).0
+  place_rest = place_in_rest utf8 utf8_is_code fault_kind xs b le out whole front rest (pieces_are_the_run xs) (pieces_are_the_run (take b xs)) (pieces_are_the_run (drop b xs))
+
+pub counted_none : (xs : List ℕ) → IsCountedTo xs 0 0
+counted_none xs = record { within = omega arith; outside = λ i. let begins = i.begins in omega arith; counted = (let few = pieces_few (take 0 xs) in omega arith) }
+
+-- One step more.
+module _ (xs : List ℕ) (place count : ℕ) (h : IsCountedTo xs place count) (step : Step) (s : IsPieceStep (drop place xs) step) where
+  step_within : place + step.len ≤ length xs
+  step_within = let within = s.within in let before = h.within in omega (arith, length-drop place xs)
+
+  step_outside : Inside utf8 xs (place + step.len) → ⊥
+  step_outside i =
+      let parts = take-append-drop place xs in
+      let len : length (take place xs) ≡ place = length-take-le place xs h.within in
+      s.outside (inside_following utf8 (take place xs) (drop place xs) (λ j. h.outside (rw (parts, len) at j)) step.len (rw (parts, len) i))
+
+  -- the front of so many bytes more, in its two parts
+  step_front : take place (take (place + step.len) xs) ≡ take place xs
+  step_front = take-take place (place + step.len) xs (omega arith)
+
+  step_rest : drop place (take (place + step.len) xs) ≡ take step.len (drop place xs)
+  step_rest = drop-take place step.len xs
+
+  step_seam : Inside utf8 (take (place + step.len) xs) place → ⊥
+  step_seam i = h.outside (subst (λ ys. Inside utf8 ys place) (take-append-drop (place + step.len) xs) (inside_front utf8 (take (place + step.len) xs) (drop (place + step.len) xs) place i))
+
+  pub counted_on : IsCountedTo xs (place + step.len) (count + step.pieces)
+  counted_on =
+      let w = take (place + step.len) xs in
+      let len : length w ≡ place + step.len = length-take-le (place + step.len) xs step_within in
+      let both : length (pieces w) ≡ length (pieces (take place w)) + length (pieces (drop place w)) = parts_counted w place (omega arith) step_seam in
+      let first = ap (λ ys. length (pieces ys)) step_front in
+      let second = ap (λ ys. length (pieces ys)) step_rest in
+      record { within = step_within; outside = step_outside; counted = omega (arith, h.counted, s.counted) }
+
+  -- a number that the step has
+  pub found_in_step : (number left offset : ℕ) → number ≡ count + left → left < step.pieces → Some offset ≡ option_map (λ (x : Item). x.0) (slice_get (pieces (take step.len (drop place xs))) left)
+      → Some (place + offset) ≡ option_map (λ (x : Item). x.0) (slice_get (pieces xs) number)
+  found_in_step number left offset is lt told =
+      let d : Item = (0, Ok 0, 0) in
+      let here : left < length (pieces (take step.len (drop place xs))) = omega (arith, s.counted) in
+      let offset_is : offset ≡ (get_or (pieces (take step.len (drop place xs))) left d).0
+      = some_is offset _ (told ∙ ap (option_map (λ (x : Item). x.0)) (slice_get-get_or (pieces (take step.len (drop place xs))) left d here)) in
+      let in_rest = place_front (drop place xs) step.len s.within s.outside left d here in
+      let of_rest = parts_counted (drop place xs) step.len s.within s.outside in
+      let of_whole = parts_counted xs place h.within h.outside in
+      let within : number < length (pieces xs) = omega (arith, h.counted) in
+      let at : number - length (pieces (take place xs)) ≡ left = omega (arith, h.counted) in
+      let place_is = place_rest xs place h.within h.outside number d (omega (arith, h.counted)) within in
+      let same = ap (λ n. (get_or (pieces (drop place xs)) n d).0) at in
+      let sum : place + offset ≡ (get_or (pieces xs) number d).0 = omega arith in
+      ap Some sum ∙ sym (ap (option_map (λ (x : Item). x.0)) (slice_get-get_or (pieces xs) number d within))
+    where
+      some_is : (m n : ℕ) → Some m ≡ Some n → m ≡ n
+      some_is m n e = cc
+
+-- a number that there is not
+pub none_found : (xs : List ℕ) (place count number : ℕ) → IsCountedTo xs place count → length xs ≤ place → count ≤ number → None ≡ option_map (λ (x : Item). x.0) (slice_get (pieces xs) number)
+none_found xs place count number h all le =
+    let whole : take place xs ≡ xs = take_all place xs all in
+    let len = ap (λ ys. length (pieces ys)) whole in
+    sym (ap (option_map (λ (x : Item). x.0)) (slice_get_past (pieces xs) number (omega (arith, h.counted))))
+
+-- One piece, whichever it is.
+pub one_piece : (xs : List ℕ) (n : ℕ) (r : Result ℕ Utf8ErrorKind) → 0 < length xs → IsFrontPiece xs r n → IsOnePiece xs n
+one_piece xs n r some piece =
+    let whole : slice_range xs 0 (length xs) ≡ xs = take_all _ xs (omega arith) in
+    let at = at_front utf8 fault_kind utf8_is_code no_code_where_fault xs 0 n r some (λ i. let begins = i.begins in omega arith) (rw whole piece) in
+    let zero : 0 + n ≡ n = omega arith in
+    let fits = at.within in
+    let within : n ≤ length xs = omega arith in
+    record { some = at.some; within = within; outside = λ i. at.outside (rw zero i); one = counted_one xs n r at.some within piece }
+  where
+    counted_one : (xs : List ℕ) (n : ℕ) (r : Result ℕ Utf8ErrorKind) → 0 < n → n ≤ length xs → IsFrontPiece xs r n → length (pieces (take n xs)) ≡ 1
+    counted_one xs n (Ok s) some within (h, e) =
+        let width : 0 + length (utf8 s) - 0 ≡ n = omega arith in
+        let code : take n xs ≡ utf8 s = ap (λ k. take k xs) (sym width) ∙ h.equal in
+        let text : IsUtf8 (utf8 s) = utf8_is_text s h.scalar in
+        rw code (text_counted (utf8 s) text ∙ one_of_code s h.scalar)
+    counted_one xs n (Err k) some within (h, e) =
+        let one : length (take n xs) ≡ 1 = length-take-le n xs within ∙ e in
+        let few = pieces_few (take n xs) in
+        let more = some_piece (take n xs) (omega arith) in
+        omega arith
+
+-- One piece, and text, as steps.
+pub one_step : (xs : List ℕ) (n : ℕ) → IsOnePiece xs n → IsPieceStep xs (record { len = n; pieces = 1; is_text = false })
+one_step xs n h = record { within = h.within; outside = h.outside; counted = sym h.one; text = λ yes. cc }
+
+pub text_step : (xs : List ℕ) (n m : ℕ) → n ≤ length xs → IsUtf8 (take n xs) → m ≡ start_count (take n xs) → IsPieceStep xs (record { len = n; pieces = m; is_text = true })
+text_step xs n m within text count = record { within = within; outside = (good_text xs n within text).outside; counted = count ∙ sym (text_counted (take n xs) text); text = λ yes. text }
+
+pub counted_few : (xs : List ℕ) (place count : ℕ) → IsCountedTo xs place count → count ≤ length xs
+counted_few xs place count h =
+    let few = pieces_few (take place xs) in
+    let within = h.within in
+    omega (arith, h.counted, length-take-le place xs within)
+
+-- what is numbered in a text
+pub numbered : (xs : List ℕ) (number : ℕ) (r : Option ℕ) → IsUtf8 xs → MatchOption r (start_count xs ≤ number) (IsStartOf xs number) → r ≡ option_map (λ (x : Item). x.0) (slice_get (pieces xs) number)
+numbered xs number None text none = sym (ap (option_map (λ (x : Item). x.0)) (slice_get_past (pieces xs) number (let count = text_counted xs text in omega arith)))
+numbered xs number (Some p) text is = text_numbered xs number p text is
+
+-- the step has what is looked for
+pub not_none : (xs : List ℕ) (left : ℕ) → left < length (pieces xs) → None ≡ option_map (λ (x : Item). x.0) (slice_get (pieces xs) left) → ⊥
+not_none xs left lt e = none_is (e ∙ ap (option_map (λ (x : Item). x.0)) (slice_get-get_or (pieces xs) left (0, Ok 0, 0) lt))
+  where
+    none_is : {n : ℕ} → ◌≡◌ {A = Option ℕ} None (Some n) → ⊥
+    none_is e = cc

@@ -1,0 +1,144 @@
+//! Rows of 256 chunks, of each of which is known what it counts: so a search goes over rows, and then over the chunks of
+//! one of them.
+ghost use Rattle.std.specs.List.{concat};
+ghost use Rattle.std.specs.Prelude.{◌≡◌, ◌+◌, ◌*◌, ◌^◌, ◌<◌, ◌≤◌, IfSome, length, slice_index_or, slice_set, take};
+ghost use Rattle.cuts.specs.Chunks.{EndOutside, IsSpot};
+ghost use Rattle.cuts.specs.declared.buffers.counts.Counts.{Counts as ItsCounts};
+ghost use Rattle.cuts.specs.Counts.{exchange_of, AreAmong, IsSmall};
+ghost use Rattle.cuts.specs.Measures.{measure_of};
+ghost use Rattle.cuts.specs.RowEdits.{WereExchanged};
+ghost use Rattle.cuts.specs.Rows.{AreSums, IsMark, IsCleanRow};
+
+use crate::buffers::chunk::Chunk;
+use crate::buffers::counts::{Counts, Measure};
+use crate::buffers::dividing::total;
+use std::alloc::{AllocError, Allocator};
+
+// How many chunks a row has. The last chunks, where they are fewer, have no sum.
+pub const ROW: usize = 256;
+
+// A chunk by its number, and what those before it count.
+#[derive(Clone, Copy, Drop)]
+pub struct Mark {
+    pub number: usize,
+    pub before: Counts,
+}
+
+// The row that has the one with this number, or the last. It is told by its first chunk.
+pub fn skip<A: Allocator>(
+    chunks: &[Chunk<A>],
+    sums: &[Counts],
+    measure: Measure,
+    number: usize,
+) -> Mark
+    requires ends { EndOutside chunks.now }
+    requires fits { length (concat chunks.now) < 2 ^ 64 }
+    requires sums { AreSums chunks.now sums.now }
+    ensures mark { IsMark chunks.now result }
+    ensures before { measure_of measure result.before ≤ number }
+    ensures some { 0 < length chunks.now → result.number < length chunks.now }
+{
+    let mut mark = Mark {
+        number: 0,
+        before: Counts::of(&[]),
+    };
+    for sum in sums {
+        let here = number - measure.count(mark.before);
+        if here < measure.count(*sum) || chunks.len() - mark.number <= ROW {
+            return mark;
+        }
+        mark.before = mark.before.plus(*sum);
+        mark.number += ROW;
+    }
+    mark
+}
+
+// The chunk that has the byte at this place. Where there is none it is the last chunk, or the end if there is no chunk.
+pub fn mark_at<A: Allocator>(chunks: &[Chunk<A>], sums: &[Counts], at: usize) -> Mark
+    requires ends { EndOutside chunks.now }
+    requires fits { length (concat chunks.now) < 2 ^ 64 }
+    requires sums { AreSums chunks.now sums.now }
+    ensures mark { IsMark chunks.now result }
+    ensures spot { IsSpot chunks.now result.number result.before.bytes }
+    ensures before { result.before.bytes ≤ at }
+    ensures some { 0 < length chunks.now → result.number < length chunks.now }
+    ensures has { result.number + 1 < length chunks.now → at < length (concat (take (result.number + 1) chunks.now)) }
+{
+    let mut mark = skip(chunks, sums, Measure::Bytes, at);
+    while mark.number + 1 < chunks.len() {
+        let counts = chunks[mark.number].counts();
+        if at - mark.before.bytes < counts.bytes {
+            return mark;
+        }
+        mark.before = mark.before.plus(counts);
+        mark.number += 1;
+    }
+    mark
+}
+
+// How many bytes the row has that begins with this chunk, where one does and has no fault.
+pub fn clean_row(sums: &[Counts], number: usize) -> Option<usize>
+    ensures { IfSome result (IsCleanRow sums.now number) }
+{
+    if number % ROW != 0 || sums.len() <= number / ROW {
+        return None;
+    }
+    let sum = sums[number / ROW];
+    if sum.faults != 0 {
+        return None;
+    }
+    Some(sum.bytes)
+}
+
+// Adds the sums of the rows that have none yet. On an error some lack still: a search then goes chunk by chunk.
+pub fn sum_rows<A: Allocator>(
+    chunks: &[Chunk<A>],
+    sums: &mut Vec<Counts, A>,
+) -> Result<(), AllocError>
+    requires ends { EndOutside chunks.now }
+    requires fits { length (concat chunks.now) < 2 ^ 64 }
+    requires sums { AreSums chunks.now sums.old.items }
+    ensures { AreSums chunks.now sums.new.items }
+{
+    for row in sums.len()..chunks.len() / ROW {
+        sums.push(total(&chunks[row * ROW..(row + 1) * ROW]))?;
+    }
+    Ok(())
+}
+
+// Makes the sums right again where so many chunks came in place of those from `first` up to `last`. `gone` is what these
+// counted, and `come` what those count. It takes no memory where there is room for a sum of each row.
+pub fn renew_sums<A: Allocator>(
+    chunks: &[Chunk<A>],
+    sums: &mut Vec<Counts, A>,
+    first: usize,
+    last: usize,
+    count: usize,
+    gone: Counts,
+    come: Counts,
+)
+    requires { WereExchanged chunks.now sums.old.items first last count gone come }
+    ensures { AreSums chunks.now sums.new.items }
+{
+    let row = first / ROW;
+    if count == last - first && last <= (row + 1) * ROW {
+        exchange_sum(sums, row, gone, come);
+        return;
+    }
+    sums.truncate(row);
+    let _ = sum_rows(chunks, sums);
+}
+
+// Makes a sum right again, where there is one, of which a part that counted one now counts the other.
+fn exchange_sum<A: Allocator>(sums: &mut Vec<Counts, A>, row: usize, gone: Counts, come: Counts)
+    requires part { (d : ItsCounts) → row < length sums.old.items →
+        AreAmong gone (slice_index_or sums.old.items row d) }
+    requires small { (d : ItsCounts) → row < length sums.old.items →
+        IsSmall (exchange_of (slice_index_or sums.old.items row d) gone come) }
+    ensures { (d : ItsCounts) → sums.new.items ≡
+        slice_set sums.old.items row (exchange_of (slice_index_or sums.old.items row d) gone come) }
+{
+    if row < sums.len() {
+        sums[row] = sums[row].exchange(gone, come);
+    }
+}

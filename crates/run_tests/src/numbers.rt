@@ -1,0 +1,33 @@
+//! Pieces by their numbers, and what an edit changes.
+use cuts::{
+    ChangedRange, Form, changed_range, number_of, offset_of, unit_char_count, unit_number_of,
+    unit_offset_of,
+};
+
+#[test]
+fn pieces_have_numbers(rt: HostRuntime) {
+    let bytes = b"h\xc3\xa9\xe2\x82A";
+    assert!(rt; offset_of(bytes, 0) == Some(0) && offset_of(bytes, 2) == Some(3));
+    assert!(rt; offset_of(bytes, 4) == Some(5) && offset_of(bytes, 5) == None);
+    assert!(rt; number_of(bytes, 0) == 0 && number_of(bytes, 2) == 2 && number_of(bytes, 3) == 2);
+    assert!(rt; number_of(bytes, 6) == 5 && number_of(bytes, usize::MAX) == 5);
+    assert!(rt; offset_of(b"", 0) == None && number_of(b"", 7) == 0);
+}
+
+#[test]
+fn pieces_of_units_have_numbers(rt: HostRuntime) {
+    let units = [0x41, 0xd83d, 0xde00, 0xdc00, 0x42];
+    assert!(rt; unit_char_count(&units) == 4);
+    assert!(rt; unit_offset_of(&units, 2) == Some(3) && unit_offset_of(&units, 4) == None);
+    assert!(rt; unit_number_of(&units, 2) == 2 && unit_number_of(&units, 3) == 2);
+    assert!(rt; unit_number_of(&units, 9) == 4);
+}
+
+#[test]
+fn an_edit_changes_what_is_near(rt: HostRuntime) {
+    let range = changed_range(Form::Utf8, "abc€defg€hij".as_bytes(), 8, 9);
+    assert!(rt; range == ChangedRange { start: 3, end: 13 });
+    let range = changed_range(Form::Utf16Be, b"\0A\xd8\x3d\xde\0\0B\0C\xd8\x3d\xde\0", 8, 9);
+    assert!(rt; range == ChangedRange { start: 2, end: 14 });
+    assert!(rt; changed_range(Form::Utf8, b"abcdef", 9, 7) == ChangedRange { start: 3, end: 6 });
+}
