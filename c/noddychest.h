@@ -11,14 +11,18 @@
  *     one piece    nody_utf8_first, nody_utf8_last, nody_utf8_encode
  *     all pieces   nody_bytes or nody_units, then nody_utf8_next, nody_utf8_next_back, nody_utf8_pieces; nody_utf8_char_count
  *     all faults   nody_bytes or nody_units, then nody_utf8_faults
+ *     numbers      nody_utf8_offset_of, nody_utf8_number_of
+ *     edit         nody_changed_range
  *     divide       nody_boundary_before, nody_boundary_after, nody_utf16_boundary_before, nody_utf16_boundary_after, nody_undecided_len
  *     which form   nody_form_of_bom
  *     recode       nody_recoded_len, nody_recoded_len_max, nody_recode, nody_recode_strict, nody_utf8_to_utf16, nody_utf16_to_utf8
  *     in parts     nody_recoder, nody_recoder_feed, nody_recoder_finish, nody_recoder_held; the same with _strict and _lossy;
- *                  nody_decoder, nody_decoder_feed, nody_decoder_finish: the pieces, with their offsets
+ *                  nody_decoder, nody_decoder_feed, nody_decoder_finish: the pieces, with their offsets;
+ *                  nody_decoder_feed_faults, nody_decoder_finish_faults: the faults alone
  *     words        nody_kind_name, nody_kind_sentence
  *     library      nody_version, nody_supported, nody_lanes
- *     rarely       nody_shard_end (nody_boundary_before under another name), nody_utf8_streamed_at
+ *     rarely       nody_shard_end (nody_boundary_before under another name), nody_utf8_streamed_at, nody_utf8_next_inline (nody_utf8_next
+ *                  as a macro)
  *
  * WORDS.
  *     character    a Unicode scalar value: 0 to 10FFFF, without D800 to DFFF
@@ -131,6 +135,12 @@ typedef struct {
     uint32_t scalar;  /* the number of the character; 0 for all else */
     nody_kind_t kind; /* NODY_KIND_OK, the reason of the fault, or NODY_KIND_NONE */
 } nody_piece_t;
+
+/* A part of an input: the bytes from `start` on, without the one at `end`. */
+typedef struct {
+    size_t start;
+    size_t end;
+} nody_range_t;
 
 /* A cursor: the bytes, or units, that are still to be taken. nody_bytes and nody_units make it. If you make one of an empty
  * input, its pointer is the address of a dummy byte or unit, and not the pointer that you passed. So for an empty input do not
@@ -266,12 +276,34 @@ size_t nody_utf16_bytes_valid_up_to(nody_form_t form, const uint8_t *bytes, size
  *
  * bytes or units, len: the input.
  * Result: the number.
- * Errors: none. Cost: linear, character by character.
+ * Errors: none. Cost: linear; UTF-8 in blocks where it is text, UTF-16 character by character.
  *
  *     size_t count = nody_utf8_char_count((const uint8_t *)"\xe2\x82\xac!", 4); // 2
  */
 size_t nody_utf8_char_count(const uint8_t *bytes, size_t len);
 size_t nody_utf16_char_count(const uint16_t *units, size_t len);
+
+/* The offset of the piece with a number. Pieces are counted from 0.
+ *
+ * bytes or units, len: the input. number: the number.
+ * Result: the offset, in bytes or units. It is len if the input has no more pieces.
+ * Errors: none. Cost: linear in the result; UTF-8 in blocks where it is text, UTF-16 character by character.
+ *
+ *     size_t offset = nody_utf8_offset_of((const uint8_t *)"h\xc3\xa9\xe2\x82" "A", 6, 2); // 3: E2, after h and the two bytes of e with an accent
+ */
+size_t nody_utf8_offset_of(const uint8_t *bytes, size_t len, size_t number);
+size_t nody_utf16_offset_of(const uint16_t *units, size_t len, size_t number);
+
+/* How many pieces begin before an offset. If a piece begins at the offset, this is its number, counted from 0.
+ *
+ * bytes or units, len: the input. offset: the offset, in bytes or units. It may lie inside a character, which is counted then.
+ * Result: how many. If `offset` is len or more, all pieces are counted.
+ * Errors: none. Cost: linear in the offset; UTF-8 in blocks where it is text, UTF-16 character by character.
+ *
+ *     size_t column = nody_utf8_number_of(line, len, offset); // how many characters and faults of the line are before the offset
+ */
+size_t nody_utf8_number_of(const uint8_t *bytes, size_t len, size_t offset);
+size_t nody_utf16_number_of(const uint16_t *units, size_t len, size_t offset);
 
 /* Makes a cursor over some bytes, or units.
  *
@@ -318,6 +350,32 @@ nody_piece_t nody_utf8_next_back(nody_bytes_t *left);
 nody_piece_t nody_utf16_next(nody_units_t *left);
 nody_piece_t nody_utf16_next_back(nody_units_t *left);
 
+/* nody_utf8_next for an ASCII character is in line, without a call: nody_utf8_next is a macro too, from C99 and C++11 on. It takes its
+ * argument once, and answers what the function answers. `(nody_utf8_next)(&left)` calls the function, and a pointer to nody_utf8_next
+ * is one to that.
+ *
+ * left: the cursor. Result, errors, cost: as for nody_utf8_next.
+ */
+static inline nody_piece_t nody_utf8_next_inline(nody_bytes_t *left) {
+    nody_piece_t piece;
+    nody_bytes_t rest = *left;
+    if (rest.len > 0 && rest.bytes[0] < 0x80) {
+        piece.len = 1;
+        piece.scalar = rest.bytes[0];
+        piece.kind = NODY_KIND_OK;
+        rest.bytes++;
+        rest.len--;
+    } else {
+        piece = nody_utf8_next(&rest); /* (of a copy, so that a compiler may keep the cursor in registers) */
+    }
+    *left = rest;
+    return piece;
+}
+#if (defined(__STDC_VERSION__) && __STDC_VERSION__ >= 199901L) || (defined(__cplusplus) && __cplusplus >= 201103L)
+/* (an argument may have commas, as a compound literal has) */
+#define nody_utf8_next(...) nody_utf8_next_inline(__VA_ARGS__)
+#endif
+
 /* Takes many pieces off the front of a cursor.
  *
  * left: the cursor, as for `next`. out, room: where to write pieces, and how many. Places after them keep what they had.
@@ -330,7 +388,7 @@ size_t nody_utf8_pieces(nody_bytes_t *left, nody_piece_t *out, size_t room);
 size_t nody_utf16_pieces(nody_units_t *left, nody_piece_t *out, size_t room);
 
 /* The next faults, many at once, each with its offset: all that is invalid, and no character. Text between them is passed in blocks, at
- * the speed that nody_utf8_valid_up_to has without AVX2. The faults are those of nody_utf8_pieces, with the same kinds.
+ * the speed of nody_utf8_valid_up_to. The faults are those of nody_utf8_pieces, with the same kinds.
  *
  * left: the cursor. After the call it begins with the first fault that did not fit, or has nothing left.
  * offset: in and out. The offset of the first byte, or unit, of the cursor: 0 for the front of the input. The call adds what it
@@ -375,6 +433,27 @@ size_t nody_boundary_after(nody_form_t form, const uint8_t *bytes, size_t len, s
 size_t nody_utf16_boundary_before(const uint16_t *units, size_t len, size_t at);
 size_t nody_utf16_boundary_after(const uint16_t *units, size_t len, size_t at);
 
+/* The part of an input outside of which no piece changes if some bytes are replaced: what to decode again after an edit. The pieces
+ * before its start stay as they are. Those from its end on stay too, and move with their bytes. It does not matter which bytes come in
+ * place of the others, nor how many.
+ *
+ * In UTF-16, if the length of the input changes by an odd number of bytes, the pieces from the end on may change too, since each unit
+ * has other bytes then.
+ *
+ * form: the form of the input. bytes, len: the input after the edit, and start, end: the new bytes in it, without the one at `end`. Or
+ * the input before the edit, and the bytes that are to be replaced. Both give the same pieces: after the edit the end has moved by
+ * as much as the length has grown.
+ * Result: two boundaries. The start is at most six bytes before `start`, the end at most six bytes after `end`. Offsets above len count
+ * as len, and a `start` above `end` counts as `end`.
+ * Errors: both are SIZE_MAX if the form is above 2. Cost: constant.
+ *
+ *     memmove(text + at + 1, text + at, len - at); // insert one byte
+ *     text[at] = byte;
+ *     nody_range_t changed = nody_changed_range(NODY_FORM_UTF8, text, ++len, at, at + 1);
+ *     decode_again(text, changed.start, changed.end);
+ */
+nody_range_t nody_changed_range(nody_form_t form, const uint8_t *bytes, size_t len, size_t start, size_t end);
+
 /* How many bytes at the end of some bytes depend on the bytes that follow. Keep them back if you read a large input in blocks, and put
  * them before the next block. It is how many bytes a decoder holds that was fed these bytes alone (nody_decoder_feed).
  *
@@ -409,7 +488,7 @@ size_t nody_form_of_bom(const uint8_t *bytes, size_t len, nody_form_t *form);
  *
  * from, to: the forms, which may be the same. in, len: the input.
  * out, room: where to write, and how many bytes. nody_recoded_len gives a room that is enough.
- * written: receives how many bytes were written. The places after them keep what they had.
+ * written: receives how many bytes were written. After them, up to `room`, `out` may hold anything. Nothing outside of it is changed.
  * Result:
  *   NODY_STATUS_DONE: the whole input was recoded.
  *   NODY_STATUS_FULL: the room is too small. What was written ends after a whole character. You cannot go on from there: to recode
@@ -427,7 +506,7 @@ nody_status_t nody_recode(nody_form_t from, nody_form_t to, const uint8_t *in, s
  *
  * from, to, in, len, out, room: as for nody_recode. With two bytes of room for each byte of input the room is always enough.
  * read: receives how many bytes of the input were recoded. These are valid.
- * written: receives how many bytes were written. The places after them keep what they had.
+ * written: receives how many bytes were written. After them, up to `room`, `out` may hold anything.
  * fault: receives the fault. Its `back` is 0.
  * Result:
  *   NODY_STATUS_DONE: the whole input is valid, and was recoded.
@@ -508,7 +587,7 @@ nody_recoder_t nody_recoder(nody_form_t from, nody_form_t to);
  * in, in_len: the part.
  * out, room: where to write, and how many bytes. Give room for four bytes or more: with less, a loop may never end.
  * read: receives how many bytes of the part were read. The recoder may hold up to three of them: do not feed them again.
- * written: receives how many bytes were written.
+ * written: receives how many bytes were written. After them, up to `room`, `out` may hold anything. Nothing outside of it is changed.
  * Result:
  *   NODY_STATUS_DONE: the whole part was read, and nothing waits for room.
  *   NODY_STATUS_FULL: the next character does not fit. Empty `out`, and call again with the rest of the part, even if that is
@@ -531,7 +610,7 @@ nody_status_t nody_recoder_feed(nody_recoder_t *recoder, const uint8_t *in, size
  *
  * recoder: the recoder. `recoder->replaced` grows as for nody_recoder_feed, and is not reset.
  * out, room: where to write, and how many bytes. Give room for four bytes or more.
- * written: receives how many bytes were written.
+ * written: receives how many bytes were written. After them, up to `room`, `out` may hold anything.
  * Result:
  *   NODY_STATUS_DONE: all was written. The recoder holds nothing.
  *   NODY_STATUS_FULL: the next character does not fit. Empty `out`, and call this again, and not nody_recoder_feed.
@@ -695,6 +774,39 @@ nody_status_t nody_decoder_feed(nody_decoder_t *decoder, const uint8_t *in, size
  *     if (nody_decoder_finish(&decoder, last, 3, &written) != NODY_STATUS_DONE) return failed();
  */
 nody_status_t nody_decoder_finish(nody_decoder_t *decoder, nody_located_t *out, size_t room, size_t *written);
+
+/* Feeds the next part of the input, and gives the faults alone: those of the pieces of nody_decoder_feed that are no characters, with
+ * the same offsets and kinds. Text between them is passed in blocks, at the speed of nody_utf8_valid_up_to.
+ *
+ * decoder: the decoder. It is then as after nody_decoder_feed, so you may mix calls of both.
+ * in, in_len, read: as for nody_decoder_feed.
+ * out, room: where to write faults, and how many. Places after those that were written keep what they had.
+ * written: receives how many faults were written.
+ * Result:
+ *   NODY_STATUS_DONE: the whole part was read.
+ *   NODY_STATUS_FULL: the room is full, and the next fault is known already. Empty `out`, and call again with the bytes of the part
+ *   after `*read`, even if there are none. With a room of 0, `decoder->offset` is then the offset of that fault.
+ * Errors: NODY_STATUS_REFUSED, as for nody_decoder_feed. Cost: linear in what is read.
+ *
+ *     do {
+ *         status = nody_decoder_feed_faults(&decoder, in + place, len - place, faults, 64, &read, &written);
+ *         for (size_t k = 0; k < written; k++) report(faults[k].offset, nody_kind_sentence(faults[k].kind));
+ *         place += read;
+ *     } while (status == NODY_STATUS_FULL);
+ */
+nody_status_t nody_decoder_feed_faults(nody_decoder_t *decoder, const uint8_t *in, size_t in_len, nody_located_t *out, size_t room,
+                                       size_t *read, size_t *written);
+
+/* Ends the input: gives the faults that nody_decoder_finish gives. All that it gives are faults, but where you changed the bytes that
+ * the decoder holds.
+ *
+ * decoder, out, room, written: as for nody_decoder_finish.
+ * Result, errors, cost: as for nody_decoder_finish.
+ *
+ *     nody_located_t last[3];
+ *     if (nody_decoder_finish_faults(&decoder, last, 3, &written) != NODY_STATUS_DONE) return failed();
+ */
+nody_status_t nody_decoder_finish_faults(nody_decoder_t *decoder, nody_located_t *out, size_t room, size_t *written);
 
 /* ---- Kinds in words --------------------------------------------------------------------------------------------------------- */
 

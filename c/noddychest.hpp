@@ -6,7 +6,8 @@
 //     all pieces   pieces, pieces_back: ranges for `for`, over UTF-8 (std::string_view) or units of UTF-16 (std::u16string_view)
 //     all faults   faults: the same ranges without the characters
 //     valid?       is_valid, valid_up_to, first_fault
-//     count        char_count
+//     count        char_count, offset_of, number_of
+//     edit         changed_range
 //     divide       boundary_before, boundary_after, undecided_len
 //     which form   form_of_bom
 //     recode       recode, recode_strict, to_utf8, to_utf16, recoded_len
@@ -106,6 +107,12 @@ struct bom {
     std::size_t length = 0;
 };
 
+// A part of a text: the bytes from `start` on, without the one at `end`.
+struct byte_range {
+    std::size_t start = 0;
+    std::size_t end = 0;
+};
+
 // Text in bytes, whatever type it has.
 class bytes {
 public:
@@ -132,6 +139,8 @@ private:
 namespace detail {
 
 inline nody_form_t c(form it) noexcept { return static_cast<nody_form_t>(it); }
+
+inline std::optional<std::size_t> below(std::size_t offset, std::size_t size) noexcept { return offset < size ? std::optional(offset) : std::nullopt; }
 
 inline std::uint8_t *room_of(std::string &text) noexcept { return reinterpret_cast<std::uint8_t *>(text.data()); }
 
@@ -297,6 +306,24 @@ inline std::size_t char_count(std::u16string_view text) noexcept {
     return nody_utf16_char_count(reinterpret_cast<const std::uint16_t *>(text.data()), text.size());
 }
 
+// The offset of the piece with a number, counted from 0, or nothing where the text has no more pieces.
+//
+//     std::string_view rest = line.substr(nody::offset_of(line, 80).value_or(line.size())); // what follows the first 80
+inline std::optional<std::size_t> offset_of(std::string_view text, std::size_t number) noexcept {
+    return detail::below(nody_utf8_offset_of(reinterpret_cast<const std::uint8_t *>(text.data()), text.size(), number), text.size());
+}
+inline std::optional<std::size_t> offset_of(std::u16string_view text, std::size_t number) noexcept {
+    return detail::below(nody_utf16_offset_of(reinterpret_cast<const std::uint16_t *>(text.data()), text.size(), number), text.size());
+}
+
+// How many pieces begin before an offset: where a piece begins at it, its number, counted from 0. All of them where the offset is above the size.
+inline std::size_t number_of(std::string_view text, std::size_t offset) noexcept {
+    return nody_utf8_number_of(reinterpret_cast<const std::uint8_t *>(text.data()), text.size(), offset);
+}
+inline std::size_t number_of(std::u16string_view text, std::size_t offset) noexcept {
+    return nody_utf16_number_of(reinterpret_cast<const std::uint16_t *>(text.data()), text.size(), offset);
+}
+
 // ---- Where text may be divided
 
 // The last boundary up to an offset, and the first one from it on. noddychest.h says what a boundary is.
@@ -313,6 +340,16 @@ inline std::size_t boundary_before(std::u16string_view text, std::size_t offset)
 }
 inline std::size_t boundary_after(std::u16string_view text, std::size_t offset) noexcept {
     return nody_utf16_boundary_after(reinterpret_cast<const std::uint16_t *>(text.data()), text.size(), offset);
+}
+
+// The part of a text outside of which no piece changes if the bytes from `start` up to `end` are replaced by any others: what to decode
+// again after an edit. The text is that after the edit, or that before it: noddychest.h says more.
+//
+//     text.insert(at, "x");
+//     nody::byte_range changed = nody::changed_range(nody::form::utf8, text, at, at + 1);
+inline byte_range changed_range(form from, bytes text, std::size_t start, std::size_t end) noexcept {
+    nody_range_t it = nody_changed_range(detail::c(from), text.data(), text.size(), start, end);
+    return byte_range{it.start, it.end};
 }
 
 // How many bytes at the end of some bytes, at most three, depend on the bytes that follow. Keep them back of a block of a large input, and
@@ -487,7 +524,8 @@ public:
         return told(found);
     }
 
-    // Into a room, without memory: where it is full, empty it, and feed the rest of the part.
+    // Into a room, without memory: where it is full, empty it, and feed the rest of the part. After the bytes that were written the room
+    // may hold anything.
     progress feed_into(bytes part, std::uint8_t *out, std::size_t room) noexcept {
         progress it = {status::done, 0, 0};
         it.status = static_cast<status>(nody_recoder_feed(&state_, part.data(), part.size(), out, room, &it.read, &it.written));

@@ -1,4 +1,4 @@
-/* What this processor has: whether the library runs on it, and which code the calls take that validate and recode. */
+/* What this processor has: whether the library runs on it, and which code the calls take that validate, count and recode. */
 #include "noddychest.h"
 
 #if defined(__x86_64__) || defined(_M_X64)
@@ -102,10 +102,18 @@ __declspec(allocate(".CRT$XCT")) void(__cdecl *const nody_choose_at_load)(void) 
 #define FORMS nody_form_t from, nody_form_t to
 #define INPUT const uint8_t *in, size_t len
 #define ROOM uint8_t *out, size_t room
+#define FOUND nody_located_t *out, size_t room
 
 CHOSEN(size_t, nody_utf8_valid_up_to, (const uint8_t *bytes, size_t len), (bytes, len))
 CHOSEN(size_t, nody_utf16_valid_up_to, (const uint16_t *units, size_t len), (units, len))
 CHOSEN(size_t, nody_utf16_bytes_valid_up_to, (nody_form_t form, const uint8_t *bytes, size_t len), (form, bytes, len))
+CHOSEN(size_t, nody_utf8_char_count, (const uint8_t *bytes, size_t len), (bytes, len))
+CHOSEN(size_t, nody_utf8_offset_of, (const uint8_t *bytes, size_t len, size_t number), (bytes, len, number))
+CHOSEN(size_t, nody_utf8_number_of, (const uint8_t *bytes, size_t len, size_t offset), (bytes, len, offset))
+CHOSEN(size_t, nody_utf8_faults, (nody_bytes_t *left, uint64_t *offset, FOUND), (left, offset, out, room))
+CHOSEN(size_t, nody_utf16_faults, (nody_units_t *left, uint64_t *offset, FOUND), (left, offset, out, room))
+CHOSEN(nody_status_t, nody_decoder_feed_faults, (nody_decoder_t *decoder, INPUT, FOUND, size_t *read, size_t *written),
+       (decoder, in, len, out, room, read, written))
 CHOSEN(size_t, nody_recoded_len, (FORMS, INPUT), (from, to, in, len))
 CHOSEN(nody_status_t, nody_recode, (FORMS, INPUT, ROOM, size_t *written), (from, to, in, len, out, room, written))
 CHOSEN(nody_status_t, nody_recode_strict, (FORMS, INPUT, ROOM, size_t *read, size_t *written, nody_fault_t *fault),

@@ -5,7 +5,7 @@
 
 #include <pthread.h>
 
-enum { MOST = 4096, GUARD = 0xA5 };
+enum { MOST = 4096, GUARD = 0xA5, GUARDS = 64 };
 
 /* (of vectors, the input is shown) */
 static const char *which = "";
@@ -30,18 +30,18 @@ static size_t recode(uint8_t from, uint8_t to, const uint8_t *in, size_t len, ui
     while (!is_last || status == NODY_STATUS_FULL) {
         size_t read = 0, written, end = place + (part ? part : below(9));
         size_t size = first != MOST ? first : room ? room : below(12);
-        uint8_t buffer[3 * MOST + 1];
+        uint8_t guarded[3 * MOST + 2 * GUARDS], *buffer = guarded + GUARDS;
         if (end > len) end = len;
         if (place == len) is_last = 1;
         first = MOST;
-        memset(buffer, GUARD, size + 1);
+        memset(guarded, GUARD, size + 2 * GUARDS);
         status = is_last ? nody_recoder_finish(&recoder, buffer, size, &written)
                          : nody_recoder_feed(&recoder, in + place, end - place, buffer, size, &read, &written);
         if (status > NODY_STATUS_FULL || written > size || read > end - place) return MOST + 1;
         if (!is_last && status == NODY_STATUS_DONE && read != end - place) return MOST + 1;
         if (status == NODY_STATUS_FULL && size >= written + 4) return MOST + 1;
-        for (size_t i = written; i <= size; i++)
-            if (buffer[i] != GUARD) return MOST + 1;
+        for (size_t i = 0; i < GUARDS; i++)
+            if (guarded[i] != GUARD || buffer[size + i] != GUARD) return MOST + 1;
         memcpy(out + made, buffer, written);
         made += written;
         place += read;
@@ -128,6 +128,7 @@ static void cursors(void) {
     copy = left;
     expect(nody_utf8_pieces(&left, more, 8) == 4 && left.bytes == bytes + sizeof bytes && left.len == 0, "the others");
     expect(alike(nody_utf8_next(&copy), more[0]) && more[0].kind == NODY_KIND_INTERRUPTED_SEQUENCE && copy.bytes == bytes + 5, "a cursor that was copied");
+    expect(nody_utf8_next(&(nody_bytes_t){bytes, 1}).len == 1, "a cursor that has no name");
     expect(nody_utf8_next_back(&copy).kind == NODY_KIND_UNEXPECTED_CONTINUATION_BYTE && copy.len == 5, "a byte at the end");
     expect(nody_utf8_next_back(&copy).scalar == 0x1f0a0 && copy.len == 1 && copy.bytes == bytes + 5, "a character at the end");
     expect(nody_utf8_next_back(&copy).len == 1 && copy.len == 0, "the last that is left");
@@ -236,6 +237,39 @@ static void boundaries(void) {
     expect(nody_utf16_boundary_before(units, 4, 3) == 3 && nody_utf16_boundary_after(units, 4, 3) == 3, "after a pair");
     expect(nody_utf16_boundary_before(units, 4, 9) == 4 && nody_utf16_boundary_after(units, 4, 9) == 4, "after the end");
     expect(nody_utf16_boundary_before(NULL, 0, 0) == 0 && nody_boundary_after(NODY_FORM_UTF8, NULL, 0, 1) == 0, "in nothing");
+}
+
+/* Pieces by their numbers, and what a change reaches. */
+static void numbers(void) {
+    static const uint8_t in[] = {'h', 0xC3, 0xA9, 0xE2, 0x82, 'A'};
+    static const uint16_t units[] = {0x41, 0xD83D, 0xDE00, 0xDC00, 0x42};
+    static const size_t offsets[] = {0, 1, 3, 4, 5, 6, 6}, before[] = {0, 1, 2, 2, 3, 4, 5, 5};
+    static const size_t unit_offsets[] = {0, 1, 3, 4, 5, 5}, units_before[] = {0, 1, 2, 2, 3, 4, 4};
+    for (size_t i = 0; i < 7; i++) expect(nody_utf8_offset_of(in, 6, i) == offsets[i], "the offset of a piece");
+    for (size_t i = 0; i < 8; i++) expect(nody_utf8_number_of(in, 6, i) == before[i], "the number at an offset");
+    for (size_t i = 0; i < 6; i++) expect(nody_utf16_offset_of(units, 5, i) == unit_offsets[i], "the offset of a piece of units");
+    for (size_t i = 0; i < 7; i++) expect(nody_utf16_number_of(units, 5, i) == units_before[i], "the number at an offset of units");
+    expect(nody_utf8_offset_of(in, 6, SIZE_MAX) == 6 && nody_utf8_number_of(in, 6, SIZE_MAX) == 5, "numbers beyond the end");
+    expect(nody_utf16_offset_of(units, 5, SIZE_MAX) == 5 && nody_utf16_number_of(units, 5, SIZE_MAX) == 4, "numbers beyond the end of units");
+    expect(nody_utf8_offset_of(NULL, 0, 0) == 0 && nody_utf8_number_of(NULL, 0, 7) == 0, "numbers of nothing");
+    expect(nody_utf16_offset_of(NULL, 0, 7) == 0 && nody_utf16_number_of(NULL, 0, 0) == 0, "numbers of no units");
+}
+
+static int is_range(nody_range_t range, size_t start, size_t end) {
+    return range.start == start && range.end == end;
+}
+
+static void changes(void) {
+    static const uint8_t in[] = {'a', 'b', 'c', 0xE2, 0x82, 0xAC, 'd', 'e', 'f', 0xE2, 0x82, 0xAC, 'g', 'h', 'i'};
+    static const uint8_t be[] = {0, 0x41, 0xD8, 0x3D, 0xDE, 0, 0, 0x42, 0, 0x43, 0xD8, 0x3D, 0xDE, 0, 0, 0x44};
+    expect(is_range(nody_changed_range(NODY_FORM_UTF8, in, 15, 7, 8), 3, 12), "what a change reaches");
+    expect(is_range(nody_changed_range(NODY_FORM_UTF8, in, 15, 6, 6), 3, 9) && is_range(nody_changed_range(NODY_FORM_UTF8, in, 15, 4, 5), 1, 8), "what an insertion reaches");
+    expect(is_range(nody_changed_range(NODY_FORM_UTF8, in, 15, 0, 0), 0, 3) && is_range(nody_changed_range(NODY_FORM_UTF8, in, 15, 15, 15), 12, 15), "at the ends");
+    expect(is_range(nody_changed_range(NODY_FORM_UTF16BE, be, 16, 8, 9), 2, 14) && is_range(nody_changed_range(NODY_FORM_UTF16BE, be, 16, 6, 6), 2, 10), "in UTF-16");
+    expect(is_range(nody_changed_range(NODY_FORM_UTF8, in, 15, SIZE_MAX, SIZE_MAX), 12, 15), "offsets above the length");
+    expect(is_range(nody_changed_range(NODY_FORM_UTF8, in, 15, 9, 7), 3, 12), "a start above the end");
+    expect(is_range(nody_changed_range(NODY_FORM_UTF8, NULL, 0, 0, 0), 0, 0) && is_range(nody_changed_range(NODY_FORM_UTF16LE, NULL, 0, 2, 9), 0, 0), "in nothing");
+    expect(is_range(nody_changed_range(3, in, 15, 0, 0), SIZE_MAX, SIZE_MAX), "in no form");
 }
 
 /* Faults alone. What is left begins with the first that did not fit. */
@@ -489,6 +523,7 @@ static void take_units(const uint16_t *units, size_t len) {
     nody_utf16_next_back(&back);
     nody_utf16_valid_up_to(units, len);
     nody_utf16_char_count(units, len);
+    nody_utf16_offset_of(units, len, nody_utf16_number_of(units, len, len / 2));
     back = nody_units(units, len);
     nody_utf16_faults(&back, &offset, found, 4);
     nody_utf16_boundary_before(units, len, len / 2);
@@ -502,10 +537,12 @@ static void take_bytes(const uint8_t *bytes, size_t len) {
     uint64_t offset = 0;
     nody_utf8_pieces(&left, pieces, 4);
     nody_utf8_next(&left);
+    (nody_utf8_next)(&left);
     nody_utf8_next_back(&back);
     nody_utf8_streamed_at(bytes, len, 1);
     nody_utf8_valid_up_to(bytes, len);
     nody_utf8_char_count(bytes, len);
+    nody_utf8_offset_of(bytes, len, nody_utf8_number_of(bytes, len, len / 2));
     back = nody_bytes(bytes, len);
     nody_utf8_faults(&back, &offset, found, 4);
 }
@@ -535,6 +572,9 @@ static void decode_in_parts(uint8_t form, const uint8_t *in, size_t len) {
     nody_decoder_feed(&decoder, in, len - 7, pieces, most, &read, &written);
     nody_decoder_feed(&decoder, in + len - 7, 6, pieces, most, &read, &written);
     nody_decoder_finish(&decoder, pieces, most, &written);
+    nody_decoder_feed_faults(&decoder, in, len - 7, pieces, most, &read, &written);
+    nody_decoder_feed_faults(&decoder, in + len - 7, 6, pieces, most, &read, &written);
+    nody_decoder_finish_faults(&decoder, pieces, most, &written);
     nody_recoder_feed(&recoder, in, 1, made, nody_recoded_len_max(form, form, 1), &read, &written);
     nody_recoder_held(&recoder, made, sizeof made);
     nody_boundary_before(form, in, len, len / 2);
@@ -561,6 +601,7 @@ static void recode_each_way(uint8_t from, uint8_t to, const uint8_t *in, size_t 
     nody_shard_end(from, in, len, len / 2);
     nody_boundary_after(from, in, len, len / 2);
     nody_undecided_len(from, in, len / 2 + 1);
+    nody_changed_range(from, in, len, len / 2, len / 2 + 1);
     nody_form_of_bom(in, len, &told);
 }
 
@@ -609,6 +650,8 @@ int main(int argc, char **argv) {
     streamed();
     whole_inputs();
     boundaries();
+    numbers();
+    changes();
     faults();
     undecided();
     marks();

@@ -1,5 +1,6 @@
 /* Holds the decoder for input in parts against one written here, and against nody_utf8_pieces of the whole: each division of small
- * inputs with each room, and random inputs in parts and rooms of many lengths. The last line is 'N passed, M failed'.
+ * inputs with each room, and random inputs in parts and rooms of many lengths; all pieces, the faults alone, and both in turn. The last
+ * line is 'N passed, M failed'.
  *
  * usage: decoder ROUNDS */
 #include "noddychest.h"
@@ -98,30 +99,50 @@ enum { MOST = 4096 };
 
 static nody_located_t want[MOST + 8], is[MOST + 8], room_of[MOST + 8];
 
-/* How many pieces came so far, and whether all calls kept their promises. */
+/* Which pieces a call is asked for. */
+enum asks { PIECES, FAULTS, IN_TURN };
+
+/* How many pieces came so far, and whether all calls kept their promises. Where calls for all pieces and for faults come in turn, the
+ * characters of the first are left out here. */
 struct run {
     nody_decoder_t decoder;
+    enum asks asks;
+    unsigned long calls;
     size_t count;
     int kept;
 };
 
 static const nody_located_t MARK = {77, 77, 77, 77};
 
+/* Whether the next call asks for faults alone. */
+static int asks_for_faults(struct run *run) {
+    return run->asks == FAULTS || (run->asks == IN_TURN && ++run->calls % 2);
+}
+
+static void take(struct run *run, size_t written) {
+    size_t k;
+    for (k = 0; k < written; k++)
+        if (run->asks == PIECES || room_of[k].kind != NODY_KIND_OK) is[run->count++] = room_of[k];
+}
+
 /* Feeds a part, with so much room for each call. */
 static void feed(struct run *run, const uint8_t *part, size_t len, size_t room) {
     size_t place = 0, read, written, k;
     nody_status_t status;
     do {
+        const uint8_t *rest = part ? part + place : part;
+        int faults = asks_for_faults(run);
         for (k = 0; k < room + 2; k++) room_of[k] = MARK;
-        status = nody_decoder_feed(&run->decoder, part ? part + place : part, len - place, room_of, room, &read, &written);
+        status = (faults ? nody_decoder_feed_faults : nody_decoder_feed)(&run->decoder, rest, len - place, room_of, room, &read, &written);
+        for (k = 0; k < written; k++)
+            if (faults && room_of[k].kind == NODY_KIND_OK) run->kept = 0;
         if (status > NODY_STATUS_FULL || read > len - place || written > room || (status == NODY_STATUS_DONE && read != len - place) ||
             (status == NODY_STATUS_FULL && written != room) || run->decoder.count > 3 || !is_same(room_of + written, &MARK, 1) ||
             !is_same(room_of + room, &MARK, 1)) {
             run->kept = 0;
             return;
         }
-        memcpy(is + run->count, room_of, written * sizeof *is);
-        run->count += written;
+        take(run, written);
         place += read;
     } while (status == NODY_STATUS_FULL);
 }
@@ -130,22 +151,22 @@ static void finish(struct run *run, size_t room) {
     size_t written;
     nody_status_t status;
     do {
-        status = nody_decoder_finish(&run->decoder, room_of, room, &written);
+        status = (asks_for_faults(run) ? nody_decoder_finish_faults : nody_decoder_finish)(&run->decoder, room_of, room, &written);
         if (status > NODY_STATUS_FULL || written > room || (status == NODY_STATUS_FULL && written != room)) {
             run->kept = 0;
             return;
         }
-        memcpy(is + run->count, room_of, written * sizeof *is);
-        run->count += written;
+        take(run, written);
     } while (status == NODY_STATUS_FULL);
     if (run->decoder.count) run->kept = 0;
 }
 
-static struct run started(nody_form_t form, uint64_t offset) {
+static struct run started(nody_form_t form, uint64_t offset, enum asks asks) {
     struct run run;
+    memset(&run, 0, sizeof run);
     run.decoder = nody_decoder(form);
     run.decoder.offset = offset;
-    run.count = 0;
+    run.asks = asks;
     run.kept = 1;
     return run;
 }
@@ -169,18 +190,26 @@ static int holds_shortest(const struct run *run, nody_form_t form) {
     return 0;
 }
 
+/* The pieces that a run was asked for, of those that are wanted. */
+static size_t asked_of(enum asks asks, size_t count) {
+    size_t k, left = 0;
+    for (k = 0; k < count; k++)
+        if (asks == PIECES || want[k].kind != NODY_KIND_OK) want[left++] = want[k];
+    return left;
+}
+
 static void check_done(struct run *run, nody_form_t form, uint64_t offset, const uint8_t *bytes, size_t len, const char *what, unsigned long number) {
-    size_t count = located(form, offset, bytes, len, want);
+    size_t count = asked_of(run->asks, located(form, offset, bytes, len, want));
     expect(run->kept && run->count == count && is_same(is, want, count) && run->decoder.offset == offset + len, what, number);
 }
 
 /* Each division of an input into three parts, with each room. */
-static void check_divisions(nody_form_t form, const uint8_t *bytes, size_t len, unsigned long number) {
+static void check_divisions(nody_form_t form, const uint8_t *bytes, size_t len, enum asks asks, unsigned long number) {
     size_t i, j, room;
     for (i = 0; i <= len; i++)
         for (j = i; j <= len; j++)
             for (room = 1; room <= len + 1; room++) {
-                struct run run = started(form, 0);
+                struct run run = started(form, 0, asks);
                 feed(&run, bytes, i, room);
                 expect(holds_shortest(&run, form), "what is held is not decided", number);
                 expect(nody_undecided_len(form, bytes, i) == run.decoder.count, "as many bytes are undecided", number);
@@ -227,8 +256,8 @@ static void check_random(unsigned long rounds) {
     for (round = 0; round < rounds; round++) {
         nody_form_t form = (nody_form_t)any(3);
         size_t len = make_bytes(bytes, any(4) ? any(300) : any(MOST - 8), form), place = 0, most = 1 + any(100), room = 1 + any(any(2) ? 8 : 400);
-        uint64_t offset = any(3) ? 0 : UINT64_MAX - any(200);
-        struct run run = started(form, offset);
+        uint64_t offset = any(3) ? 0 : (any(2) ? UINT64_MAX : (uint64_t)1 << 32) - any(200);
+        struct run run = started(form, offset, (enum asks)any(3));
         while (place < len) {
             size_t part = 1 + any((uint32_t)most);
             if (part > len - place) part = len - place;
@@ -249,7 +278,7 @@ static void check_slices(unsigned long rounds) {
     for (round = 0; round < rounds; round++) {
         size_t len = make_bytes(bytes, any(600), NODY_FORM_UTF8), k, count, other = 0, place = 0;
         nody_bytes_t left = nody_bytes(bytes, len);
-        struct run run = started(NODY_FORM_UTF8, 0);
+        struct run run = started(NODY_FORM_UTF8, 0, PIECES);
         feed(&run, bytes, len, MOST);
         finish(&run, 3);
         count = nody_utf8_pieces(&left, pieces, MOST);
@@ -261,6 +290,86 @@ static void check_slices(unsigned long rounds) {
         }
         expect(run.kept && count == run.count && !other, "the pieces of the whole", round);
     }
+}
+
+/* Long text with a fault here and there, of which lanes pass the most, in parts and rooms of many lengths. What stands where it may not
+ * is told once where the room has no place, and then read. */
+static void check_long(unsigned long rounds) {
+    enum { LONG = 1 << 16 };
+    static uint8_t bytes[LONG];
+    unsigned long round;
+    for (round = 0; round < rounds; round++) {
+        nody_form_t form = (nody_form_t)(round % 3);
+        size_t len = 0, count = 0, found = 0, part, place, read, written;
+        static size_t places[LONG];
+        nody_decoder_t decoder = nody_decoder(form);
+        nody_status_t status;
+        int is_right = 1;
+        while (len + 8 < LONG) {
+            size_t step = len + any(3000), rest = LONG - 8 - len;
+            while (len < step && len + 8 < LONG) {
+                uint16_t units[2];
+                uint32_t scalar = round % 2 ? 0x20 + any(60) : 0x1f600 - any(0x1f000 - 0xe000);
+                size_t k, all = nody_utf16_encode(scalar, units, 2);
+                if (form == NODY_FORM_UTF8) len += nody_utf8_encode(scalar, bytes + len, 4);
+                for (k = 0; form != NODY_FORM_UTF8 && k < all; k++) {
+                    bytes[len++] = (uint8_t)(form == NODY_FORM_UTF16BE ? units[k] >> 8 : units[k]);
+                    bytes[len++] = (uint8_t)(form == NODY_FORM_UTF16BE ? units[k] : units[k] >> 8);
+                }
+            }
+            if (rest < 3000) break;
+            places[count++] = len;
+            bytes[len++] = form == NODY_FORM_UTF16LE ? 0 : form == NODY_FORM_UTF16BE ? 0xdc : 0xff;
+            if (form != NODY_FORM_UTF8) bytes[len++] = form == NODY_FORM_UTF16LE ? 0xdc : 0;
+        }
+        decoder.offset = ((uint64_t)1 << 32) - 100;
+        for (place = 0; place < len; place += part) {
+            size_t at = 0;
+            part = 1 + any(9000);
+            if (part > len - place) part = len - place;
+            do {
+                size_t room = any(3), k;
+                status = nody_decoder_feed_faults(&decoder, bytes + place + at, part - at, room_of, room, &read, &written);
+                for (k = 0; k < written; k++)
+                    is_right &= found < count && room_of[k].offset == ((uint64_t)1 << 32) - 100 + places[found++] && room_of[k].kind != NODY_KIND_OK;
+                at += read;
+                if (status == NODY_STATUS_FULL) is_right &= decoder.offset == ((uint64_t)1 << 32) - 100 + places[found] && written == room;
+            } while (status == NODY_STATUS_FULL);
+            is_right &= at == part;
+        }
+        is_right &= nody_decoder_finish_faults(&decoder, room_of, 3, &written) == NODY_STATUS_DONE && !written && found == count;
+        expect(is_right && decoder.offset == ((uint64_t)1 << 32) - 100 + len, "faults of long text", round);
+    }
+}
+
+/* Where the caller changed what is held, the end has characters: faults alone leave them out. */
+static void check_ends(void) {
+    nody_decoder_t decoder = nody_decoder(NODY_FORM_UTF8), copy;
+    nody_located_t room[3];
+    size_t read = 5, written = 5;
+    decoder.count = 3;
+    memcpy(decoder.held, "a\xff" "b", 3);
+    copy = decoder;
+    expect(nody_decoder_finish_faults(&decoder, room, 1, &written) == NODY_STATUS_DONE && written == 1 && room[0].offset == 1 && decoder.offset == 3,
+           "the fault of what is held", 0);
+    expect(nody_decoder_finish_faults(&copy, room, 0, &written) == NODY_STATUS_FULL && !written && copy.offset == 1 && copy.count == 2,
+           "the fault of what is held has no place", 0);
+    decoder = nody_decoder((nody_form_t)3);
+    room[0] = MARK;
+    expect(nody_decoder_feed_faults(&decoder, (const uint8_t *)"\xff", 1, room, 3, &read, &written) == NODY_STATUS_REFUSED && !read && !written &&
+               is_same(room, &MARK, 1), "faults of no form", 0);
+    written = 5;
+    expect(nody_decoder_finish_faults(&decoder, room, 3, &written) == NODY_STATUS_REFUSED && !written, "faults of no form at the end", 0);
+    decoder = nody_decoder(NODY_FORM_UTF8);
+    decoder.count = 4;
+    expect(nody_decoder_feed_faults(&decoder, (const uint8_t *)"a", 1, room, 3, &read, &written) == NODY_STATUS_REFUSED, "faults where four bytes are held", 0);
+    decoder = nody_decoder(NODY_FORM_UTF8);
+    expect(nody_decoder_feed_faults(&decoder, NULL, 0, NULL, 0, &read, &written) == NODY_STATUS_DONE && !read && !written, "faults of nothing", 0);
+    expect(nody_decoder_feed_faults(&decoder, (const uint8_t *)"\xe2\x82", 2, NULL, 0, &read, &written) == NODY_STATUS_DONE && read == 2 && decoder.count == 2,
+           "held without room for faults", 0);
+    expect(nody_decoder_feed_faults(&decoder, (const uint8_t *)"\xac", 1, NULL, 0, &read, &written) == NODY_STATUS_DONE && read == 1 && decoder.offset == 3,
+           "a character takes no room", 0);
+    expect(nody_decoder_finish_faults(&decoder, NULL, 0, &written) == NODY_STATUS_DONE && !written, "no fault at the end", 0);
 }
 
 static void check_edges(void) {
@@ -298,9 +407,12 @@ int main(int count, char **words) {
     for (number = 0; number < 13ul * 13 * 13 * 13; number += 1 + (rounds < 1000)) {
         unsigned long rest = number;
         for (k = 0; k < 4; k++, rest /= 13) bytes[k] = BYTES[rest % 13];
-        check_divisions((nody_form_t)(number % 3), bytes, 4, number);
+        check_divisions((nody_form_t)(number % 3), bytes, 4, PIECES, number);
+        check_divisions((nody_form_t)(number % 3), bytes, 4, number % 2 ? FAULTS : IN_TURN, number);
     }
+    check_ends();
     check_random(rounds);
+    check_long(rounds < 60 ? rounds : 60 + rounds / 100);
     check_slices(rounds);
     printf("%ld passed, %ld failed\n", passed, failed);
     return failed != 0;

@@ -471,6 +471,66 @@ static int are_faults(const uint8_t *in, size_t len, const nody_piece_t *all, si
     return 1;
 }
 
+/* The offset of each number, and the number at each offset, of bytes and of units that are as wide as so many bytes. */
+static int are_numbers(nody_form_t form, const uint8_t *in, size_t len, const cut_text *pieces) {
+    size_t wide = form == NODY_FORM_UTF8 ? 1 : 2, ends = len / wide;
+    uint16_t units[MOST];
+    memcpy(units, in, len);
+    for (size_t number = 0; number <= pieces->count + 1; number++) {
+        size_t offset = number < pieces->count ? pieces->piece[number].start / wide : ends;
+        if ((wide == 1 ? nody_utf8_offset_of(in, len, number) : nody_utf16_offset_of(units, ends, number)) != offset) return 0;
+    }
+    for (size_t at = 0; at <= ends + 1; at++) {
+        size_t number = 0;
+        while (number < pieces->count && pieces->piece[number].start < at * wide) number++;
+        if ((wide == 1 ? nody_utf8_number_of(in, len, at) : nody_utf16_number_of(units, ends, at)) != number) return 0;
+    }
+    return nody_utf8_offset_of(in, len, SIZE_MAX) == len && nody_utf8_number_of(in, len, SIZE_MAX) == nody_utf8_char_count(in, len);
+}
+
+/* Whether the pieces that begin before a place, or from one on, are the same in both, where what stood at `was` stands at `is`. */
+static int are_same(const cut_text *old, const cut_text *new, size_t from, size_t to, size_t was, size_t is) {
+    size_t i = 0, j = 0;
+    while (i < old->count && old->piece[i].start < from) i++;
+    while (j < new->count && new->piece[j].start + was < from + is) j++;
+    for (; i < old->count && old->piece[i].start < to; i++, j++) {
+        const cut_piece *a = &old->piece[i], *b = &new->piece[j];
+        if (j == new->count || a->start + is != b->start + was) return 0;
+        if (a->len != b->len || a->scalar != b->scalar || a->is_fault != b->is_fault || a->kind != b->kind) return 0;
+    }
+    return j == new->count || new->piece[j].start + was >= to + is;
+}
+
+/* Any bytes in place of a part: what the range leaves out is as it was. Of UTF-16 what follows is so where the length changes by units. */
+static int is_range_of(nody_form_t form, const uint8_t *in, size_t len, const cut_text *pieces, size_t start, size_t end, nody_range_t range) {
+    static const uint8_t put[] = {0x00, 0x41, 0x80, 0xBF, 0xC3, 0xD8, 0xDC, 0xE2, 0xED, 0xF0, 0xF4};
+    for (size_t n = 0; n < 12; n++) {
+        uint8_t made[MOST];
+        size_t come = n == 0 ? 0 : n < 4 ? n : 1 + n % 2, all = start + come + (len - end);
+        if (all > MOST) continue;
+        memcpy(made, in, start);
+        for (size_t i = 0; i < come; i++) made[start + i] = put[(n * n + len + i * start) % sizeof put];
+        memcpy(made + start + come, in + end, len - end);
+        cut_text now = cut(form, made, all);
+        if (!are_same(pieces, &now, 0, range.start, 0, 0)) return 0;
+        if (form != NODY_FORM_UTF8 && (come + (end - start)) % 2) continue;
+        if (!are_same(pieces, &now, range.end, len + 1, end, start + come)) return 0;
+    }
+    return 1;
+}
+
+static int are_changes(nody_form_t form, const uint8_t *in, size_t len, const cut_text *pieces) {
+    for (size_t end = 0; end <= len; end++)
+        for (size_t start = 0; start <= end; start++) {
+            size_t from = start < 3 ? 0 : start - 3, to = end + 3 < len ? end + 3 : len;
+            nody_range_t range = nody_changed_range(form, in, len, start, end);
+            while (is_over(form, pieces, len, from)) from--;
+            while (is_over(form, pieces, len, to)) to++;
+            if (range.start != from || range.end != to || !is_range_of(form, in, len, pieces, start, end, range)) return 0;
+        }
+    return 1;
+}
+
 static int are_pieces(const uint8_t *in, size_t len, const cut_text *pieces) {
     nody_bytes_t front = nody_bytes(in, len), back = front;
     nody_piece_t all[MOST];
@@ -479,11 +539,14 @@ static int are_pieces(const uint8_t *in, size_t len, const cut_text *pieces) {
     if (!are_faults(in, len, all, pieces->count)) return 0;
     for (size_t i = 0; i < pieces->count; i++) {
         const cut_piece *it = &pieces->piece[i], *last = &pieces->piece[pieces->count - 1 - i];
-        nody_piece_t next = nody_utf8_next(&front), end = nody_utf8_next_back(&back), here = nody_utf8_streamed_at(in, len, it->start);
+        nody_bytes_t called = front;
+        nody_piece_t by_call = (nody_utf8_next)(&called), next = nody_utf8_next(&front), end = nody_utf8_next_back(&back), here = nody_utf8_streamed_at(in, len, it->start);
         if (next.len != it->len || (next.kind != NODY_KIND_OK) != it->is_fault || next.scalar != (it->is_fault ? 0 : it->scalar)) return 0;
         if (all[i].len != it->len || all[i].kind != next.kind || all[i].scalar != next.scalar) return 0;
         if (end.len != last->len || end.scalar != (last->is_fault ? 0 : last->scalar)) return 0;
         if (here.len != next.len || here.scalar != next.scalar) return 0;
+        if (by_call.len != next.len || by_call.scalar != next.scalar || by_call.kind != next.kind) return 0;
+        if (called.bytes != front.bytes || called.len != front.len) return 0;
     }
     return front.len == 0 && back.len == 0;
 }
@@ -499,6 +562,8 @@ static void all_of(const uint8_t *bytes, size_t len) {
             expect(nody_utf16_bytes_valid_up_to(form, in, len) == pieces.valid, "valid up to", shown);
             expect(are_boundaries(form, in, len, &pieces), "boundaries", shown);
             expect(nody_undecided_len(form, in, len) == undecided(form, in, len) && is_mark(in, len), "undecided bytes, and a mark", shown);
+            if (form == NODY_FORM_UTF8 || (form == NODY_FORM_UTF16_NATIVE && len % 2 == 0)) expect(are_numbers(form, in, len, &pieces), "numbers", shown);
+            expect(are_changes(form, in, len, &pieces), "what a change reaches", shown);
             if (form == NODY_FORM_UTF8) expect(are_pieces(in, len, &pieces) && nody_utf8_valid_up_to(in, len) == pieces.valid, "pieces", shown);
             recodings(form, in, len, &pieces);
         }

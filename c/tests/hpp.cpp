@@ -23,6 +23,7 @@ static void expect(bool holds, const char *what) {
 static_assert(!std::is_copy_constructible_v<nody::recoder> && !std::is_copy_assignable_v<nody::recoder>);
 static_assert(std::is_nothrow_move_constructible_v<nody::recoder> && std::is_nothrow_move_assignable_v<nody::recoder>);
 static_assert(noexcept(nody::is_valid(""sv)) && noexcept(nody::first_fault(u""sv)) && noexcept(nody::pieces(""sv)) && noexcept(nody::char_count(""sv)));
+static_assert(noexcept(nody::offset_of(""sv, 0)) && noexcept(nody::number_of(u""sv, 0)) && noexcept(nody::changed_range(nody::form::utf8, ""sv, 0, 0)));
 static_assert(noexcept(++nody::pieces(""sv).begin()) && noexcept(nody::boundary_before(nody::form::utf8, ""sv, 0)));
 static_assert(noexcept(nody::faults(u""sv).begin()) && noexcept(nody::form_of_bom(""sv)) && noexcept(nody::undecided_len(nody::form::utf8, ""sv)));
 static_assert(std::is_same_v<decltype(nody::first_fault(""sv)), std::optional<nody::piece>>);
@@ -95,6 +96,12 @@ static void try_single() {
     expect(fault && fault->offset == 3 && fault->length == 1 && fault->kind == nody::kind::interrupted_sequence, "first_fault");
     expect(!nody::first_fault("") && !nody::first_fault(u"A\U0001F600") && nody::first_fault(u"A\xD800")->kind == nody::kind::incomplete, "first_fault of nothing, and of units");
     expect(nody::char_count("\xE2\x82\xAC!") == 2 && nody::char_count(u"\U0001F600!") == 2, "count");
+    expect(nody::offset_of("\xE2\x82\xAC!", 1) == 3 && !nody::offset_of("\xE2\x82\xAC!", 2) && !nody::offset_of(""sv, 0), "the offset of a piece");
+    expect(nody::offset_of(u"\U0001F600!", 1) == 2 && !nody::offset_of(u"\U0001F600!", 2), "the offset of a piece of units");
+    expect(nody::number_of("\xE2\x82\xAC!", 1) == 1 && nody::number_of("\xE2\x82\xAC!", 9) == 2 && nody::number_of(u"\U0001F600!", 2) == 1, "numbers");
+    nody::byte_range changed = nody::changed_range(nody::form::utf8, "abc\xE2\x82\xAC" "def\xE2\x82\xAC" "ghi", 7, 8);
+    expect(changed.start == 3 && changed.end == 12, "what a change reaches");
+    expect(nody::changed_range(static_cast<nody::form>(3), "a", 0, 0).end == SIZE_MAX, "what a change reaches in no form");
     expect(nody::boundary_before(nody::form::utf8, "a\xE2\x82\xAC", 3) == 1 && nody::boundary_after(nody::form::utf8, "a\xE2\x82\xAC", 2) == 4, "boundaries");
     expect(nody::boundary_before(u"\U0001F600", 1) == 0 && nody::boundary_after(u"\U0001F600", 1) == 2, "boundaries of units");
     expect(nody::name(nody::kind::overlong_encoding) == "OverlongEncoding" && nody::sentence(nody::kind::ok) == "a character", "name and sentence");

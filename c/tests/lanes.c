@@ -39,11 +39,25 @@ static int recodes(nody_status_t status) {
 static void ask(const char *when, int lanes) {
     nody_recoder_t recoder = nody_recoder(UTF8, UTF16BE);
     nody_fault_t fault;
+    nody_decoder_t decoder = nody_decoder(UTF16BE);
+    nody_bytes_t bytes = nody_bytes(utf8, BYTES + 2);
+    nody_units_t units = nody_units(utf16, CHARS + 1);
+    nody_located_t faults[3];
+    uint64_t offset = 0, unit_offset = 0;
     taken = BYTES;
     expect(nody_lanes() == lanes, "nody_lanes", when);
     expect(nody_utf8_valid_up_to(utf8, BYTES + 2) == BYTES, "nody_utf8_valid_up_to", when);
     expect(nody_utf16_valid_up_to(utf16, CHARS + 1) == CHARS, "nody_utf16_valid_up_to", when);
     expect(nody_utf16_bytes_valid_up_to(UTF16BE, utf16be, BYTES + 2) == BYTES, "nody_utf16_bytes_valid_up_to", when);
+    expect(nody_utf8_char_count(utf8, BYTES + 2) == CHARS + 2, "nody_utf8_char_count", when);
+    expect(nody_utf8_offset_of(utf8, BYTES + 2, CHARS - 1) == BYTES - 2, "nody_utf8_offset_of", when);
+    expect(nody_utf8_number_of(utf8, BYTES + 2, BYTES - 1) == CHARS, "nody_utf8_number_of", when);
+    expect(nody_utf8_faults(&bytes, &offset, faults, 3) == 2 && faults[0].offset == BYTES, "nody_utf8_faults", when);
+    expect(nody_utf16_faults(&units, &unit_offset, faults, 3) == 1 && faults[0].offset == CHARS, "nody_utf16_faults", when);
+    expect(nody_decoder_feed_faults(&decoder, utf16be, BYTES + 2, faults, 3, &taken, &written) == NODY_STATUS_DONE && taken == BYTES + 2 &&
+               written == 1 && faults[0].offset == BYTES, "nody_decoder_feed_faults", when);
+    taken = BYTES;
+    written = 0;
     expect(nody_recoded_len(UTF8, UTF16BE, utf8, BYTES) == BYTES, "nody_recoded_len", when);
     expect(recodes(nody_recode(UTF8, UTF16BE, utf8, BYTES, out, sizeof out, &written)), "nody_recode", when);
     expect(recodes(nody_recode_strict(UTF8, UTF16BE, utf8, BYTES, out, sizeof out, &taken, &written, &fault)), "nody_recode_strict", when);

@@ -39,6 +39,25 @@ static void validate_units(void) {
     if (nody_utf16_valid_up_to(each, units_len / 2) != units_len / 2) exit(1);
 }
 
+/* In parts, for faults, of which there are none. */
+static void find_in_parts(nody_form_t form, const uint8_t *in, size_t len) {
+    enum { PART = 4096 };
+    nody_decoder_t decoder = nody_decoder(form);
+    nody_located_t faults[4];
+    for (size_t place = 0, read, written; place < len; place += read)
+        if (nody_decoder_feed_faults(&decoder, in + place, len - place < PART ? len - place : PART, faults, 4, &read, &written) != NODY_STATUS_DONE || written) exit(1);
+}
+
+static void find_faults(void) { find_in_parts(NODY_FORM_UTF8, text, text_len); }
+static void find_unit_faults(void) { find_in_parts(NODY_FORM_UTF16LE, units, units_len); }
+
+static void find_at_once(void) {
+    nody_bytes_t left = nody_bytes(text, text_len);
+    nody_located_t faults[4];
+    uint64_t offset = 0;
+    if (nody_utf8_faults(&left, &offset, faults, 4) != 0) exit(1);
+}
+
 static void widen_strictly(void) {
     size_t read, written;
     nody_fault_t fault;
@@ -55,7 +74,8 @@ static const struct {
     const char *name;
     void (*call)(void);
 } calls[] = {{"utf8-to-utf16le", widen}, {"utf16le-to-utf8", narrow}, {"pieces", decode}, {"valid-up-to", validate},
-             {"utf16-bytes-valid-up-to", validate_bytes}, {"utf16-valid-up-to", validate_units}, {"strictly", widen_strictly}, {"lossily", widen_lossily}};
+             {"utf16-bytes-valid-up-to", validate_bytes}, {"utf16-valid-up-to", validate_units}, {"strictly", widen_strictly}, {"lossily", widen_lossily},
+             {"faults", find_at_once}, {"faults-in-parts", find_faults}, {"utf16-faults-in-parts", find_unit_faults}};
 
 static const struct {
     const char *name;

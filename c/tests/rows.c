@@ -40,13 +40,23 @@ static void expect_text(struct text *text, const char *want, const char *what, c
     free(text->at);
 }
 
-static void forward(const uint8_t *bytes, size_t len, const char *want, const char *which) {
+/* The next piece in line, and by a call of the library. */
+static nody_piece_t next_in_line(nody_bytes_t *left) {
+    return nody_utf8_next(left);
+}
+
+static void forward_by(nody_piece_t (*next)(nody_bytes_t *left), const char *name, const uint8_t *bytes, size_t len, const char *want, const char *which) {
     struct text text;
     nody_bytes_t left = nody_bytes(bytes, len);
     nody_piece_t piece;
     open_text(&text);
-    for (size_t place = 0; (piece = nody_utf8_next(&left)).kind != NODY_KIND_NONE; place += piece.len) put_piece(text.file, place, piece);
-    expect_text(&text, want, "nody_utf8_next", which);
+    for (size_t place = 0; (piece = next(&left)).kind != NODY_KIND_NONE; place += piece.len) put_piece(text.file, place, piece);
+    expect_text(&text, want, name, which);
+}
+
+static void forward(const uint8_t *bytes, size_t len, const char *want, const char *which) {
+    forward_by(next_in_line, "nody_utf8_next in line", bytes, len, want, which);
+    forward_by(nody_utf8_next, "nody_utf8_next", bytes, len, want, which);
 }
 
 static void forward_by_three(const uint8_t *bytes, size_t len, const char *want, const char *which) {
@@ -234,7 +244,9 @@ static void decode_bytes(char *digits, char *calls, char *answers) {
         char *more_calls = cut_at(calls, " "), *more = cut_at(answers, " ; ");
         int is_front = strcmp(calls, "next") == 0;
         size_t place = (size_t)(left.bytes - front);
+        nody_bytes_t called = left;
         nody_piece_t piece = is_front ? nody_utf8_next(&left) : nody_utf8_next_back(&left);
+        if (is_front) expect(is_answer((nody_utf8_next)(&called), place, answers) && called.len == left.len, "a decoder, by a call", digits);
         expect(is_answer(piece, is_front ? place : place + left.len, answers), "a decoder", digits);
         calls = more_calls;
         answers = more;

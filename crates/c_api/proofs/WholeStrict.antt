@@ -11,7 +11,7 @@ use Rattle.cuts.specs.Recoded.{Recoding, fresh}
 use Rattle.cuts.specs.Rooms.{IsAmpleForText}
 use Rattle.cuts.specs.Strict.{RecodesText, BeginsFault, EndsInFault, EndsFeed, EndsFinish, FeedsStrictly, FinishesStrictly}
 use Rattle.c_api.specs.Whole.{EndsWhole, RecodesStrictly, fault_unread, unrecoded}
-use Rattle.c_api.proofs.WholeRuns.{length_both, written_both, kept_both}
+use Rattle.c_api.proofs.WholeRuns.{length_both, written_both}
 use borrow.Rule.Slice.PartMut.{put_mid}
 use Rattle.recoding.proofs.FrontBytes.{fault_is_some}
 use Rattle.recoding.proofs.StrictSteps.{RecodesText-left, enough_room}
@@ -71,14 +71,6 @@ module _ (from to : Form) (s : Recoding) (bytes old new : List ℕ) (p : StrictP
   pub fed_whole : (p.outcome ≡ AllRead → ⊥) → RecodesStrictly from to bytes old new (record { read = p.read - unrecoded p.outcome (length s.held); written = p.written; outcome = fault_unread p.outcome })
   fed_whole not = fed_by p.outcome not f.ends
 
-  unrecoded_by : (o : Outcome) → EndsFeed from to o f.fault s.held (drop p.read bytes) (length old - p.written) → unrecoded o (length s.held) ≤ p.read
-  unrecoded_by AllRead ends = omega (arith, text_len)
-  unrecoded_by Full ends = omega (arith, text_len)
-  unrecoded_by (Faulty x) ends = omega (arith, text_len, ends.1.back)
-
-  pub unrecoded_is_read : unrecoded p.outcome (length s.held) ≤ p.read
-  unrecoded_is_read = unrecoded_by p.outcome f.ends
-
   -- All was read, and what was held then was finished in the room that was left.
   module _ (all : p.outcome ≡ AllRead) (same : length new ≡ length old) (t : Recoding) (ended : List ℕ) (q : StrictProgress) (g : FinishesStrictly s (drop p.written new) ended q t)
       (len : length ended ≡ length new - p.written) where
@@ -106,7 +98,6 @@ module _ (from to : Form) (s : Recoding) (bytes old new : List ℕ) (p : StrictP
           parts = first ∙ ap (λ xs. f.recodes.text ++ xs) held_text.parts ∙ sym (append_assoc f.recodes.text held_text.text (g.fault ++ t.held));
           transcodes = rw (written_both new ended p.written q.written fits len) (Transcodes-then f.recodes.transcodes held_text.transcodes);
           fits = omega (arith, held_text.fits, length-drop p.written new, f.recodes.fits, same);
-          rest = kept_both new ended p.written q.written fits len old held_text.rest f.recodes.rest;
         }
 
     both_len : p.read ≡ (length f.recodes.text + length held_text.text) + (length g.fault + length t.held)

@@ -1,5 +1,6 @@
 -- What C sees: numbers of kinds and forms, pieces, what is left, and recoders.
-use Rattle.std.specs.Prelude.{◌≡◌, ℕ, true, false, zero, suc, ◌+◌, ◌-◌, ◌<◌, ◌≤◌, List, [], ◌∷◌, length, take, drop, set, get_or, All, Result, Ok, Err, ◌++◌, codes, replicate}
+use Rattle.std.specs.Option.{unwrap_or}
+use Rattle.std.specs.Prelude.{◌≡◌, ℕ, true, false, zero, suc, ◌+◌, ◌-◌, ◌<◌, ◌≤◌, List, [], ◌∷◌, length, take, drop, set, get_or, All, Result, Ok, Err, ◌++◌, codes, replicate, option_map, slice_get}
 use Rattle.utf_base.specs.declared.errors.Utf8ErrorKind.{Utf8ErrorKind}
 use Rattle.utf_base.specs.declared.errors.Utf8ErrorKind.TheVariants.{TooFewBytes, NonUtf8Byte, UnexpectedContinuationByte, InterruptedSequence, OverlongEncoding, Utf16ReservedCodepoint, TooHighCodepoint}
 use Rattle.utf_base.specs.declared.errors.units.Utf16PairError.{Utf16PairError}
@@ -8,8 +9,9 @@ use Rattle.utf_base.specs.Code.{utf8}
 use Rattle.utf_base.specs.Back.{decoded_end, decoded_pairs_end}
 use Rattle.utf_base.specs.Decoded.{decoded, decoded_pairs, unless_fault}
 use Rattle.utf_base.specs.Kinds.{asked_by, merger_kind, value}
-use Rattle.encode_unicode.specs.Window.{Item, as_piece}
+use Rattle.encode_unicode.specs.Window.{Item, Placed, as_piece}
 use Rattle.cuts.specs.Items.{IsRun}
+use Rattle.cuts.specs.declared.ChangedRange.{ChangedRange}
 use Rattle.cuts.specs.declared.Form.{Form}
 use Rattle.cuts.specs.declared.Form.TheVariants.{Utf8, Utf16Le, Utf16Be}
 use Rattle.cuts.specs.declared.Fault.{Fault}
@@ -21,6 +23,7 @@ use Rattle.cuts.specs.declared.StrictProgress.{StrictProgress}
 use Rattle.cuts.specs.Recoded.{Recoding, most_held}
 use Rattle.cuts.specs.Faults.{Replaces, ReplacesLast, saturated}
 use Rattle.cuts.specs.WellFormed.{IsFirstFault, IsFirstUnitFault}
+use Rattle.c_api.specs.declared.changes.NodyRange.{NodyRange}
 use Rattle.c_api.specs.declared.piece.NodyPiece.{NodyPiece}
 use Rattle.c_api.specs.declared.recodings.NodyRecoder.{NodyRecoder}
 use Rattle.c_api.specs.declared.strict.NodyFault.{NodyFault}
@@ -220,3 +223,11 @@ abbrev pub IsFirstFaultIn : Form → List ℕ → ℕ → Type 0
 IsFirstFaultIn Utf8 bytes n = IsFirstFault utf8 bytes n
 IsFirstFaultIn Utf16Le bytes n = IsFirstUnitFault false bytes n
 IsFirstFaultIn Utf16Be bytes n = IsFirstUnitFault true bytes n
+
+-- the place where the item with that number stands, or the length of all where there are no more
+abbrev pub IsOffsetOf : {E : Type 0} → List (Placed E) → ℕ → ℕ → ℕ → Type 0
+IsOffsetOf items len number n = n ≡ unwrap_or (option_map (λ x. x.0) (slice_get items number)) len
+
+-- what C sees of a range
+abbrev pub range_of : NodyRange → ChangedRange
+range_of r = record { start = r.start; end = r.end }

@@ -2,14 +2,12 @@
 ghost use Rattle.std.specs.Prelude.{◌≡◌, length};
 ghost use Rattle.encode_unicode.specs.Pieces.{pieces, unit_pieces};
 
-use encode_unicode::{U8SliceExt, U16SliceExt};
-
 /// How many pieces the bytes have: a character is one, and so is each faulty byte.
 #[unsafe(no_mangle)]
 pub extern "C" fn nody_utf8_char_count(bytes: &[u8]) -> usize
     ensures { result ≡ length (pieces bytes.now) }
 {
-    bytes.utf8char_indices().count()
+    cuts::char_count(bytes)
 }
 
 /// How many pieces the units have: a character is one, and so is each faulty unit.
@@ -17,5 +15,5 @@ pub extern "C" fn nody_utf8_char_count(bytes: &[u8]) -> usize
 pub extern "C" fn nody_utf16_char_count(units: &[u16]) -> usize
     ensures { result ≡ length (unit_pieces units.now) }
 {
-    units.utf16char_indices().count()
+    cuts::unit_char_count(units)
 }

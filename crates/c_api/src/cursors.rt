@@ -5,7 +5,7 @@ ghost use Rattle.utf_base.specs.Front.{IsFrontLen};
 ghost use Rattle.c_api.specs.Api.{first_piece_of, last_piece_of, first_of_units, last_of_units, first_merged, no_piece, IsMergedPiece, IsPieceOf, IsPut, GivesPiece, GivesEach, after, before};
 
 use crate::ascii_pieces::put_ascii_pieces;
-use crate::kinds::{number_of, pair_number_of};
+use crate::kinds::{kind_number_of, pair_number_of};
 use crate::piece::NodyPiece;
 use cuts::front_of_text;
 use encode_unicode::CharExt;
@@ -103,7 +103,7 @@ fn first_with_care(bytes: &[u8]) -> NodyPiece
     }
     match char::from_utf8_slice_start(bytes) {
         Ok((c, len)) => character_piece(c, len),
-        Err(error) => fault_piece(1, number_of(error.kind())),
+        Err(error) => fault_piece(1, kind_number_of(error.kind())),
     }
 }
 
@@ -115,7 +115,7 @@ fn last(bytes: &[u8]) -> NodyPiece
     match Utf8CharDecoder::from(bytes).next_back() {
         None => none(),
         Some((_, Ok(c), len)) => character_piece(c.to_char(), len),
-        Some((_, Err(error), len)) => fault_piece(len, number_of(error.kind())),
+        Some((_, Err(error), len)) => fault_piece(len, kind_number_of(error.kind())),
     }
 }
 
@@ -211,7 +211,7 @@ fn streaming_piece(bytes: &[u8]) -> NodyPiece
             scalar: c.to_char() as u32,
             kind: 0,
         },
-        Some(Err(error)) => fault_piece(1, number_of(error.kind())),
+        Some(Err(error)) => fault_piece(1, kind_number_of(error.kind())),
     }
 }
 

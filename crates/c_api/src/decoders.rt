@@ -122,7 +122,7 @@ pub extern "C" fn nody_decoder(form: u8) -> NodyDecoder
 }
 
 // Whether the struct is a decoder.
-fn is_decoder(decoder: &NodyDecoder) -> bool
+pub(crate) fn is_decoder(decoder: &NodyDecoder) -> bool
     ensures yes { result ≡ true → IsDecoder decoder.now }
     ensures no { IsDecoder decoder.now → result ≡ true }
 {
@@ -131,7 +131,7 @@ fn is_decoder(decoder: &NodyDecoder) -> bool
 
 // The decoder that the struct is.
 #[inline(always)]
-fn decoder_in(decoder: &NodyDecoder) -> Decoder
+pub(crate) fn decoder_in(decoder: &NodyDecoder) -> Decoder
     requires { IsDecoder decoder.now }
     ensures { result ≡ decoder_of decoder.now }
 {
@@ -144,7 +144,7 @@ fn decoder_in(decoder: &NodyDecoder) -> Decoder
 
 // Puts into the struct what the decoder holds, and the offset of that.
 #[inline(always)]
-fn keep_decoder(decoder: &mut NodyDecoder, inner: &Decoder)
+pub(crate) fn keep_decoder(decoder: &mut NodyDecoder, inner: &Decoder)
     requires { inner.now.form ≡ form_of decoder.old.form }
     ensures kept { decoder_of decoder.new ≡ inner.now }
     ensures count { decoder.new.count ≡ length inner.now.held }

@@ -5,7 +5,7 @@ ghost use Rattle.c_api.specs.Api.{kind_number, pair_number, fault_number, name_o
 use cuts::FaultKind;
 use encode_unicode::error::{Utf8ErrorKind, Utf16PairError};
 
-pub(crate) fn number_of(kind: Utf8ErrorKind) -> u8
+pub(crate) fn kind_number_of(kind: Utf8ErrorKind) -> u8
     ensures { result ≡ kind_number kind }
 {
     match kind {
@@ -33,7 +33,7 @@ pub(crate) fn fault_number_of(kind: FaultKind) -> u8
     ensures { result ≡ fault_number kind }
 {
     match kind {
-        FaultKind::Utf8(kind) => number_of(kind),
+        FaultKind::Utf8(kind) => kind_number_of(kind),
         FaultKind::Utf16(error) => pair_number_of(error),
     }
 }

@@ -6,14 +6,17 @@
 
 mod ascii_pieces;
 mod boundaries;
+mod changes;
 mod characters;
 mod counts;
 mod cursors;
+mod decoder_faults;
 mod decoders;
 mod fault_lists;
 mod kinds;
 mod lossy;
 mod marks;
+mod numbers;
 mod piece;
 mod recodings;
 mod shards;

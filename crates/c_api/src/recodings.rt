@@ -38,7 +38,7 @@ pub(crate) fn form_of(number: u8) -> Form
     match number {
         0 => Form::Utf8,
         1 => Form::Utf16Le,
-        _ => Form::Utf16Be,
+        2.. => Form::Utf16Be,
     }
 }
 

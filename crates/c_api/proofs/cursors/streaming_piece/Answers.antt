@@ -21,4 +21,4 @@ pub returns-in-Some-Err : goal.returns-in-Some-Err
 returns-in-Some-Err c =
     let all : unread copied_rest c.from.result ≡ c.args.bytes.now = ap (unread copied_rest) c.from.ensures ∙ ap iter_rest c.copied.ensures.source ∙ c.iter.ensures.rest in
     let is = merged_error c.args.bytes.now _ _ c.in-Some-Err.error _ all c.in-Some-Err.field-0-is (c.in-Some-Err.ensures.steps.takes copied_rest copied_listed) in
-    rw (is, c.fault_piece.ensures, c.number_of.ensures, c.kind.ensures) refl
+    rw (is, c.fault_piece.ensures, c.kind_number_of.ensures, c.kind.ensures) refl

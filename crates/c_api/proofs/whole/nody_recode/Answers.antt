@@ -1,7 +1,7 @@
-use Rattle.std.proofs.Common.{◌≡◌, ◌-◌, ◌∙◌, length, drop, ap, arith, length-drop}
+use Rattle.std.proofs.Common.{◌≡◌, ◌-◌, ◌∙◌, length, ap, arith, length-drop}
 use Rattle.std.proofs.lemmas.List.{take_rest}
 use Rattle.c_api.specs.Api.{IsRecoder, form_of, recoder_of}
-use Rattle.c_api.proofs.WholeRuns.{longer_where_full, fed_front, longer_where_last_full, recoded_whole, last_front, written_both, kept_both, finished, is_zero, none_held}
+use Rattle.c_api.proofs.WholeRuns.{longer_where_full, fed_front, longer_where_last_full, recoded_whole, last_front, written_both, finished, is_zero, none_held}
 use Rattle.c_api.proofs.whole.nody_recode.Goals as goal
 
 pub returns-then-nody_recoder_feed-eq-FULL-clause-full : goal.returns-then-nody_recoder_feed-eq-FULL-clause-full
@@ -17,18 +17,6 @@ returns-then-nody_recoder_feed-eq-FULL-clause-front c one =
     let is : IsRecoder c.nody_recoder-recoder.result = rw c.nody_recoder-recoder.ensures (record { from = c.if-from-ge3.false; to = c.if-to-ge3.false; few = omega arith }) in
     fed_front (form_of c.args.from) (form_of c.args.to) (recoder_of f.new.recoder) c.args.bytes.now c.args.room.now f.new.room f.new.read f.new.written
     (rw c.nody_recoder-recoder.ensures at (f.ensures.feeds is))
-
-pub returns-clause-rest : goal.returns-clause-rest
-returns-clause-rest c =
-    let f = c.nody_recoder_feed in
-    let last = c.nody_recoder_finish-status in
-    let is : IsRecoder c.nody_recoder-recoder.result = rw c.nody_recoder-recoder.ensures (record { from = c.if-from-ge3.false; to = c.if-to-ge3.false; few = omega arith }) in
-    let fed = f.ensures.feeds is in
-    let ended = last.ensures.finishes (f.ensures.recoder is) in
-    let fits = fed.fits in
-    let rest = take_rest f.new.room f.new.written in
-    let len : length last.new.room ≡ length f.new.room - f.new.written = last.auto.room ∙ ap length rest ∙ length-drop f.new.written f.new.room in
-    kept_both f.new.room last.new.room f.new.written last.new.written (omega (arith, f.auto.room)) len c.args.room.now (ended.rest ∙ ap (drop last.new.written) rest) fed.rest
 
 pub returns-clause-all : goal.returns-clause-all
 returns-clause-all c done =

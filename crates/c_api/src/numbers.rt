@@ -1,0 +1,37 @@
+//! Pieces by their numbers.
+ghost use Rattle.std.specs.Prelude.{◌≡◌, ◌≤◌, length, slice_get, option_map};
+ghost use Rattle.encode_unicode.specs.Pieces.{pieces, unit_pieces};
+ghost use Rattle.cuts.specs.Tables.{IsSplitAt};
+ghost use Rattle.c_api.specs.Api.{IsOffsetOf};
+
+/// Where the piece of the bytes with this number begins, counted from 0, or how many bytes there are where there are no more pieces.
+#[unsafe(no_mangle)]
+pub extern "C" fn nody_utf8_offset_of(bytes: &[u8], number: usize) -> usize
+    ensures { IsOffsetOf (pieces bytes.now) (length bytes.now) number result }
+{
+    cuts::offset_of(bytes, number).unwrap_or(bytes.len())
+}
+
+/// The same of units.
+#[unsafe(no_mangle)]
+pub extern "C" fn nody_utf16_offset_of(units: &[u16], number: usize) -> usize
+    ensures { IsOffsetOf (unit_pieces units.now) (length units.now) number result }
+{
+    cuts::unit_offset_of(units, number).unwrap_or(units.len())
+}
+
+/// How many pieces of the bytes begin before this offset.
+#[unsafe(no_mangle)]
+pub extern "C" fn nody_utf8_number_of(bytes: &[u8], offset: usize) -> usize
+    ensures { IsSplitAt (pieces bytes.now) offset result }
+{
+    cuts::number_of(bytes, offset)
+}
+
+/// The same of units.
+#[unsafe(no_mangle)]
+pub extern "C" fn nody_utf16_number_of(units: &[u16], offset: usize) -> usize
+    ensures { IsSplitAt (unit_pieces units.now) offset result }
+{
+    cuts::unit_number_of(units, offset)
+}
