@@ -8,10 +8,11 @@ import rules
 from exports import export
 from shape import Text, visibility
 from tokens import MARKS, OPEN
+from windows import window
 
 GATE = '#[cfg(feature = "std")]\n'
 KEYWORDS = {"as", "break", "const", "dyn", "else", "for", "if", "in", "let", "match", "move", "mut", "ref", "return", "static", "while"}
-USES_TRUST = {"At": "crate::support::trust::At", "by_proof": "crate::support::trust::ByProof"}
+USES_TRUST = {"At": "support::trust::At", "by_proof": "support::trust::ByProof"}
 
 
 class Project:
@@ -35,7 +36,7 @@ class Eraser(Text):
     def __init__(self, source, name, project, is_trusted):
         super().__init__(source, name)
         self.project, self.is_trusted, self.crate = project, is_trusted, name.split("/")[0]
-        self.uses, self.exports, self.lists = set(), [], self.functions()
+        self.crates, self.uses, self.exports, self.lists = set(), set(), [], self.functions()
 
     def made(self):
         self.demands()
@@ -62,7 +63,8 @@ class Eraser(Text):
                 self.make_const(it, key)
             if key in rules.CHOSEN:
                 self.choose(it, key)
-
+            if rules.is_wide(self.name) and not self.is_trusted:
+                window(self, it)
         if self.name in rules.OPENED:
             self.open(*rules.OPENED[self.name])
 
@@ -366,7 +368,7 @@ class Eraser(Text):
         self.erase(self.before(i) if self.text(self.before(i)) == "pub" else i, end)
 
     def use(self, i):
-        """`use std::{a, b}` is told apart; `Model` goes; what needs std is there with it; and each name has to be known."""
+        """`Model` goes, and what needs std is there with it."""
         end = i
         while self.text(end) != ";":
             end = self.next(end)
@@ -375,11 +377,7 @@ class Eraser(Text):
             self.erase(i, end)
             return
         self.passed_on(i, end)
-        if group := re.fullmatch(r"std::\{([\w,]*)\}", words):
-            said = [(GATE if it in rules.GATED else "") + f"use {self.module(i, it)}::{it};" for it in group[1].split(",") if it]
-            self.erase(i, end)
-            self.gone[i], self.said[i] = False, "\n".join(said)
-        elif words.split("::")[:2][-1] in rules.GATED and words.startswith("std::"):
+        if words.startswith("std::") and words.split("::")[1] in rules.GATED and "::" in words[5:]:
             self.front[i] = GATE
 
     def passed_on(self, i, end):
@@ -388,14 +386,6 @@ class Eraser(Text):
         for k in range(i, end):
             if self.is_code(k) and self.text(k) in self.project.narrowed and self.text(self.next(k)) in (",", ";", "}"):
                 self.stop(k, f"{self.text(k)} is passed on, and asks something of its caller: assert it (rules.py)")
-
-    def module(self, i, name):
-        """Where a module of std comes from."""
-        if name in rules.CORE:
-            return "core"
-        if name in rules.SUPPORT or name in rules.GATED:
-            return "crate::support"
-        return self.stop(i, f"std::{name} is not known")
 
     def shuffle(self, left):
         """Places of lanes become a type, since stable Rust has no argument that must be constant."""
@@ -424,35 +414,41 @@ class Eraser(Text):
     # Paths and names.
 
     def names(self):
+        inner = [(i, self.closing(self.braces(i))) for i in range(len(self.t)) if self.text(i) == "mod" and self.text(self.next(self.next(i))) == "{"]
         for i in range(len(self.t)):
             if not self.is_code(i) or self.kind(i) != "word" or i in self.said:
                 continue
             word, b, a = self.text(i), self.text(self.before(i)), self.next(i)
-            if word in rules.NOT_THERE:
+            if word in rules.NOT_THERE and b != "fn":
                 self.stop(i, f"{word} is not known")
             if word in rules.PRELUDE:
-                self.uses.add(f"crate::support::memory::{word}")
+                self.uses.add(f"support::memory::{word}")
             if self.text(a) != "::" or b in ("::", "."):
                 continue
             if (word, self.text(self.next(a))) in rules.OLDER:
                 self.said[i] = rules.OLDER[word, self.text(self.next(a))]
             elif word == "crate":
                 self.said[i] = f"crate::proved::{self.crate}"
-            elif word in rules.CRATES:
+            elif word in rules.CRATES and any(start < i < end for start, end in inner):
                 self.said[i] = f"crate::proved::{word}"
+            elif word in rules.CRATES:
+                self.crates.add(word)
             elif word == "std":
-                self.of_std(i, self.next(a))
+                self.of_std(self.next(a))
 
-    def of_std(self, i, module):
-        name, after = self.text(module), self.next(self.next(module))
-        self.said[i] = self.module(module, name)
-        known = rules.SUPPORT.get(name) or rules.GATED.get(name)
+    def of_std(self, module):
+        """`std` is src/support there, which has of std's names those that are known."""
+        self.uses.add("support as std")
+        after = self.next(self.next(module))
+        names = {self.text(k) for k in range(module, self.closing(module) if self.text(module) == "{" else module + 1) if self.kind(k) == "word"}
+        for name in names - rules.CORE - set(rules.SUPPORT) - set(rules.GATED):
+            self.stop(module, f"std::{name} is not known")
+        known = rules.SUPPORT.get(self.text(module)) or rules.GATED.get(self.text(module))
         if known is None or self.text(self.next(module)) != "::":
             return
-        end = self.closing(after) if self.text(after) == "{" else after + 1
-        for k in range(after, end):
+        for k in range(after, self.closing(after) if self.text(after) == "{" else after + 1):
             if self.kind(k) == "word" and self.text(k) not in known | {"self"}:
-                self.stop(k, f"std::{name}::{self.text(k)} is not known")
+                self.stop(k, f"std::{self.text(module)}::{self.text(k)} is not known")
 
     # The trusted text: what a proof rules out is not tested.
 
@@ -525,7 +521,8 @@ class Eraser(Text):
                 continue
             lines.append(line)
         head = next((k for k, it in enumerate(lines) if not it.startswith("//!")), len(lines))
-        lines[head:head] = [f"use {it};" for it in sorted(self.uses)]
+        uses = ([f"proved::{{{', '.join(sorted(self.crates))}}}"] if self.crates else []) + sorted(self.uses)
+        lines[head:head] = [f"use crate::{{{', '.join(uses)}}};"] if uses else []
         lines += ["", *self.exports] if self.exports else []
         return "\n".join(lines).rstrip() + "\n"
 

@@ -3,9 +3,8 @@
 # The crates that become modules, each after those that it uses.
 CRATES = ["utf_base", "utf_chars", "encode_unicode", "utf_lanes", "recoding", "cuts", "c_api"]
 
-# The modules that are left out: what the programs do and streams that are counted need Rattle's runtime, and a text that is edited is not
-# in the crate yet.
-LEFT_OUT = {"cuts/programs", "cuts/streams", "cuts/counted", "cuts/buffers"}
+# The modules that are left out: what the programs do, streams that are counted, and what reads and writes by these need Rattle's runtime.
+LEFT_OUT = {"cuts/programs", "cuts/streams", "cuts/counted", "cuts/text_streams"}
 
 # Attributes that Rust has too, and those that are Rattle's alone and go.
 ATTRIBUTES = {"cold", "derive", "inline", "must_use", "non_exhaustive", "repr"}
@@ -49,6 +48,15 @@ ASSERTED = {
     "cuts/boundaries.rt:previous": ("0 < place; place ≤ length bytes.now", "0 < place && place <= bytes.len()"),
     "cuts/boundaries.rt:following": ("place < length bytes.now", "place < bytes.len()"),
     "cuts/splits.rt:split_ascii": ("separator < 128", "separator < 128"),
+    "cuts/buffers/text_buffer.rt:replace": (
+        "start ≤ end; end ≤ length self.old",
+        "start <= end && end <= self.len()",
+    ),
+    "cuts/buffers/text_buffer.rt:insert": ("offset ≤ length self.old", "offset <= self.len()"),
+    "cuts/buffers/text_buffer.rt:remove": (
+        "start ≤ end; end ≤ length self.old",
+        "start <= end && end <= self.len()",
+    ),
     "cuts/piece_table.rt:replace": (
         "start ≤ end; end ≤ length self.old.bytes",
         "start <= end && end <= self.bytes.len()",
@@ -62,32 +70,35 @@ OWN = {
     "utf_chars/utf16_char.rt": {"eq_char", "eq_utf8", "eq_u8", "eq_u16", "cmp_char", "cmp_utf8", "as_units"},
 }
 
-# Public traits whose methods ask something of their callers: only the proved text calls them, and no hand-written file may name them.
+# Public traits whose methods ask something of their callers: only the proved text calls them, and no hand-written file may name them but to
+# implement them.
 OWN_TRAITS = {"cuts/located.rt:FromPiece"}
 
 # Fields that the hand-written text reads: whether a merger holds a unit.
 OPENED = {"encode_unicode/utf16_merger.rt": ("Utf16CharMerger", "held")}
 
-# Types that calls of C are passed by value, and those of what such a call writes: what stands there before it, since C's memory may hold
-# nothing yet. What a call may leave as it is, C has filled before.
-BY_VALUE = {"u8", "u32", "usize"}
-WRITTEN = {
-    "usize": "0",
-    "NodyFault": "NodyFault { len: 0, back: 0, kind: 11 }",
-    "& 'static NodyName": "&NodyName { text: [0; 32] }",
-    "& 'static NodySentence": "&NodySentence { text: [0; 64] }",
+# What C passes but for slices, as support/c.rs takes it: numbers; what C has filled before; what a call writes; what is left of a slice.
+PASSED = {
+    "u8", "u32", "usize", "& NodyDecoder", "& NodyRecoder", "& mut NodyDecoder", "& mut NodyRecoder", "& mut u8", "& mut u64", "& mut usize",
+    "& mut NodyFault", "& mut & 'static NodyName", "& mut & 'static NodySentence", "& mut NodyBytes < '_ >", "& mut NodyUnits < '_ >",
 }
-CHANGED = {"NodyDecoder", "NodyRecoder", "u8", "u64"}
-LENT = {"NodyBytes": ("bytes", "u8"), "NodyUnits": ("units", "u16")}
 
 # What goes by lanes: of these files there is a copy for processors with AVX2 (wide.py), over the types of all other files.
 WIDE = ("utf_lanes/",) + tuple(f"recoding/{it}.rt" for it in (
-    "ascii_to_utf16", "codes", "copied", "engine", "fills", "form_calls", "kernels", "output", "recoder_rooms", "recoder_runs", "room",
-    "strict_runs", "swapped", "text", "units_ahead", "utf16_to_utf8", "utf8_to_utf16",
+    "ascii_to_utf16", "codes", "copied", "engine", "fills", "form_calls", "kernels", "list", "output", "recoder_rooms", "recoder_runs", "room",
+    "strict_runs", "swapped", "text", "utf16_to_utf8", "utf8_to_utf16",
 ))
+
+
+def is_wide(name):
+    return any(name.startswith(it) for it in WIDE)
+
+
 # The functions that ask which copy answers: how long the input is, and what the other copy answers.
 CHOSEN = {
     "utf_lanes/text_blocks.rt:text_len": ("bytes.len()", "OTHER(bytes)"),
+    "utf_lanes/starts.rt:starts_in": ("bytes.len()", "OTHER(bytes)"),
+    "utf_lanes/starts.rt:nth_start": ("bytes.len()", "OTHER(bytes, number)"),
     "utf_lanes/unit_blocks.rt:units_len": ("bytes.len()", "OTHER(high_first, bytes)"),
     "utf_lanes/paired_units.rt:paired_len": ("units.len()", "OTHER(units)"),
     "recoding/recoder_rooms.rt:recode_into": ("bytes.len()", "OTHER(from, to, bytes, room, place)"),

@@ -52,20 +52,23 @@ REFUSED = [
     ("a bracket closes another", "fn f() { (] }"),
     ("a bracket closes none", "fn f() {} }"),
     ("a bracket is not closed", "fn f() {"),
-    ("a string does not end", 'const S: &str = "x;'),
-    ("a comment does not end", "/* /* */"),
+    ("a string that does not end", 'const S: &str = "x;'),
+    ("a comment of several lines", "fn f() { /* ghost */ }"),
 ]
 
 # What becomes of a text: all of it where nothing else is said.
 WRITTEN = [
-    ("ghost use std::A.{◌≡◌};\n\nuse std::fmt;\n", "use core::fmt;\n"),
+    ("ghost use std::A.{◌≡◌};\n\nuse std::fmt;\n", "use crate::{support as std};\nuse std::fmt;\n"),
     ("fn f(x: u8) -> u8\n    requires { x < 4 }\n    ensures low { result ≡ x }\n{\n    x\n}\n", "fn f(x: u8) -> u8\n{\n    x\n}\n"),
     ("pub trait T {\n    // The scalar.\n    ghost scalar: { Self → ℕ };\n\n    /// Says.\n    fn f(self) -> u8\n        ensures { result ≡ 1 };\n}\n",
      "pub trait T {\n    /// Says.\n    fn f(self) -> u8;\n}\n"),
     ("#[derive(Clone, Copy, Drop)]\n#[tactic(auto)]\nstruct S;\n", "#[derive(Clone, Copy)]\nstruct S;\n"),
     ("#[derive(Drop)]\nstruct S;\n", "struct S;\n"),
     ("fn f<T: Drop, U: Copy + Drop, V: Drop + Copy>() {}\n", "fn f<T, U: Copy, V: Copy>() {}\n"),
-    ("use crate::a::b;\nuse utf_base::c;\npub(crate) fn f() {}\n", "use crate::proved::utf_base::a::b;\nuse crate::proved::utf_base::c;\npub(crate) fn f() {}\n"),
+    ("use crate::a::b;\nuse utf_base::c;\npub(crate) fn f() {}\n", "use crate::{proved::{utf_base}};\nuse crate::proved::utf_base::a::b;\nuse utf_base::c;\npub(crate) fn f() {}\n"),
+    ("//! Says.\nuse std::{cmp, fmt};\nfn f(x: Vec<u8>) {}\n", "//! Says.\nuse crate::{support as std, support::memory::Vec};\nuse std::{cmp, fmt};\nfn f(x: Vec<u8>) {}\n"),
+    ("pub mod a {\n    pub use utf_base::c;\n}\n", "pub mod a {\n    pub use crate::proved::utf_base::c;\n}\n"),
+    ("use std::io::Read;\n", 'use crate::{support as std};\n#[cfg(feature = "std")]\nuse std::io::Read;\n'),
     ("fn fmt<W: fmt::Write>(&self, f: &mut fmt::Formatter<W>) -> fmt::Result {}\n", "fn fmt(&self, f: &mut fmt::Formatter<'_>) -> fmt::Result {}\n"),
     ("    fn clone(&self) -> Result<S, AllocError> {\n        Ok(S { x: self.x.clone()? })\n    }\n", "    fn clone(&self) -> S {\n        S { x: self.x.clone() }\n    }\n"),
     ("pub fn f(x: u8)\n    requires { x < 4 }\n{}\n", "pub(crate) fn f(x: u8)\n{}\n"),
@@ -73,36 +76,56 @@ WRITTEN = [
     ("/// A call.\n///\n/// Condition: it is small.\n#[inline]\npub fn f_unchecked(x: u8)\n    requires { x < 4 }\n{}\nfn g() { a::f_unchecked(1); }\n",
      "/// A call.\n///\n/// # Safety\n///\n/// It is small.\n#[inline]\npub unsafe fn f_unchecked(x: u8)\n{}\nfn g() { unsafe { a::f_unchecked(1) }; }\n"),
     ('// "it\'s" // \'\nconst C: [char; 2] = [\'\\\'\', \'"\'];\nconst S: &str = r#"ghost "{" "#;\n', None),
-    ("fn f<'a>(x: &'a [u8]) -> u8 { x[0] /* ghost /* { */ */ }\n", None),
+    ("fn f<'a>(x: &'a [u8]) -> u8 { x[0] // ghost {\n}\n", None),
     ("fn f() { str::from_utf8_unchecked(x) }\n", "fn f() { core::str::from_utf8_unchecked(x) }\n"),
+    ("fn to_vec(&self) {}\n", None),
     ("fn f() -> io::Result<u8> {}\n", '#[cfg(feature = "std")]\nfn f() -> io::Result<u8> {}\n'),
 ]
 
 # The same in the trusted text.
 TRUSTED = [
     ("fn f(x: &[u8]) -> u8 { x[1..].len(); x[x[0] as usize] }\n",
-     "use crate::support::trust::At;\nfn f(x: &[u8]) -> u8 { x[At(1..)].len(); x[At(x[At(0)] as usize)] }\n"),
-    ("fn f(x: [u8; 4]) -> [u8; 2] { [x, y.unwrap()] }\n", "use crate::support::trust::ByProof;\nfn f(x: [u8; 4]) -> [u8; 2] { [x, y.by_proof()] }\n"),
+     "use crate::{support::trust::At};\nfn f(x: &[u8]) -> u8 { x[At(1..)].len(); x[At(x[At(0)] as usize)] }\n"),
+    ("fn f(x: [u8; 4]) -> [u8; 2] { [x, y.unwrap()] }\n", "use crate::{support::trust::ByProof};\nfn f(x: [u8; 4]) -> [u8; 2] { [x, y.by_proof()] }\n"),
     ("fn f() { unreachable!(\"no {}\", 1) }\n", "fn f() { crate::support::trust::never() }\n"),
     ("fn f() { let [a, b] = self.x; for c in [1, 2] { return [c]; } }\n#[inline]\nconst X: [u8; 2] = [1; 2];\n", None),
-    ("fn f() { self.bytes[0] + self.bytes[k] }\n", "use crate::support::trust::At;\nfn f() { self.bytes[0] + self.bytes[At(k)] }\n"),
+    ("fn f() { self.bytes[0] + self.bytes[k] }\n", "use crate::{support::trust::At};\nfn f() { self.bytes[0] + self.bytes[At(k)] }\n"),
+]
+
+# What goes by lanes gets the part of a slice that its clauses name, and no other function does.
+IN_PART = [
+    ("fn f(bytes: &[u8], place: usize) -> bool\n    requires start { 3 ≤ place }\n    requires within { place + 64 ≤ length bytes.now }\n{\n    g(bytes, place + 32) & bytes[place - 1] < 2\n}\n",
+     "fn f(bytes: &[u8], place: usize) -> bool\n{\n    let (bytes, place) = (&bytes[place - 3..][..3 + 64], 3);\n    g(bytes, place + 32) & bytes[place - 1] < 2\n}\n"),
+    ("/// Writes.\n#[inline(always)]\nfn f<const N: usize, W: Put>(room: &mut [u8], at: usize) -> usize\n    requires { at + N ≤ length room.old }\n"
+     "    ensures { Writes room.old room.new at result }\n{\n    let first = g(room, at);\n    g(room, first)\n}\n",
+     "/// Writes.\n#[inline(always)]\nfn f<const N: usize, W: Put>(room: &mut [u8], at: usize) -> usize {\n    at + f_in_part::<N, W>(&mut room[at..][..N], 0)\n}\n\n"
+     "#[inline(always)]\nfn f_in_part<const N: usize, W: Put>(room: &mut [u8], at: usize) -> usize\n{\n    let first = g(room, at);\n    g(room, first)\n}\n"),
+    ("#[inline]\nfn f(x: u8, room: &mut [u8], at: usize) -> (usize, usize)\n    requires { at + 4 ≤ length room.old }\n    ensures { Puts x room.old room.new at result.0 result.1 }\n{ g(room, at) }\n",
+     "#[inline]\nfn f(x: u8, room: &mut [u8], at: usize) -> (usize, usize) {\n    let (count, end) = f_in_part(x, &mut room[at..][..4], 0);\n    (count, at + end)\n}\n\n"
+     "#[inline]\nfn f_in_part(x: u8, room: &mut [u8], at: usize) -> (usize, usize)\n{ g(room, at) }\n"),
+    ("fn f(bytes: &[u8]) -> u8\n    requires { 4 ≤ length bytes.now }\n{ bytes[3] }\n", "fn f(bytes: &[u8]) -> u8\n{\n    assert!(4 <= bytes.len()); bytes[3] }\n"),
+]
+NOT_IN_PART = [  # the length is asked; the place is an answer; a number is a place; no clause says what the answer is
+    "fn f(bytes: &[u8], at: usize)\n    requires { at + 4 ≤ length bytes.now }\n{ g(bytes, at, bytes.len()) }\n",
+    "fn f(bytes: &[u8], at: usize) -> usize\n    requires { at + 4 ≤ length bytes.now }\n{ g(bytes, at); at }\n",
+    "#[inline]\nfn f(room: &mut [u8], at: usize) -> usize\n    requires { at + 4 ≤ length room.old }\n    ensures { Writes room.old room.new at result }\n{ g(room, 7); g(room, at) }\n",
+    "#[inline]\nfn f(room: &mut [u8], at: usize) -> usize\n    requires { at + 4 ≤ length room.old }\n    ensures { result ≡ 4 }\n{ g(room, at) }\n",
 ]
 
 # And in the copy for AVX2: what is put in line stays, and of each other function there is one for that processor.
 FOR_AVX2 = '#[target_feature(enable = "avx2,bmi1,bmi2,lzcnt,popcnt")]\n'
-ASKED = "    // SAFETY: who comes here has asked whether the processor has it.\n"
 WIDENED = [
     ("#[inline(always)]\nfn f(x: u8) -> u8 {\n    x\n}\n", None),
     ("#[inline]\nfn f(x: u8) {}\n", "#[inline(always)]\nfn f(x: u8) {}\n"),
     ("impl T for S {\n    #[inline(never)]\n    fn f(x: u8) {}\n}\n", None),
     ("// It is.\n#[cold]\n#[inline(never)]\npub(crate) fn f<'a, O: Put<A, B>, const N: usize>(x: &'a [u8], out: &mut O) -> (u8, u8)\nwhere\n    O: Copy,\n{\n    x\n}\n",
      "// It is.\n#[inline(always)]\npub(crate) fn f<'a, O: Put<A, B>, const N: usize>(x: &'a [u8], out: &mut O) -> (u8, u8)\nwhere\n    O: Copy,\n{\n"
-     f"{ASKED}    unsafe {{ f_apart::<O, N>(x, out) }}\n}}\n\n#[cold]\n#[inline(never)]\n{FOR_AVX2}"
+     f"    crate::support::processor::apart!(f_apart::<O, N>(x, out))\n}}\n\n#[cold]\n#[inline(never)]\n{FOR_AVX2}"
      "unsafe fn f_apart<'a, O: Put<A, B>, const N: usize>(x: &'a [u8], out: &mut O) -> (u8, u8)\nwhere\n    O: Copy,\n{\n    x\n}\n"),
-    ("use crate::proved::utf_lanes::text_blocks::text_len;\nuse crate::proved::recoding::form::Form;\n"
-     "use crate::support::simd::prelude::*;\n",
-     "use crate::proved::utf_lanes::wide::text_blocks::text_len;\nuse crate::proved::recoding::form::Form;\n"
-     "use crate::support::simd::wide::*;\n"),
+    ("use crate::{proved::{utf_base, utf_lanes}, support as std};\nuse crate::proved::utf_lanes::text_blocks::text_len;\n"
+     "use crate::proved::recoding::form::Form;\nuse std::simd::prelude::*;\n",
+     "use crate::{proved::{utf_base, utf_lanes::wide as utf_lanes}, support::wide as std};\n"
+     "use crate::proved::utf_lanes::wide::text_blocks::text_len;\nuse crate::proved::recoding::form::Form;\nuse std::simd::prelude::*;\n"),
 ]
 # Where which copy answers is asked, one function of each text is asked for it, and the copy asks no more.
 ASKS = "pub fn text_len(bytes: &[u8]) -> usize\n{\n    0\n}\n"
@@ -122,9 +145,9 @@ def refuses(why, text, name="utf_base/a.rt"):
         return None if why in str(stop) else f"it says {stop}"
 
 
-def writes(text, wanted, is_trusted=False):
+def writes(text, wanted, is_trusted=False, name="utf_base/a.rt"):
     try:
-        have = made(text, is_trusted=is_trusted)
+        have = made(text, name, is_trusted=is_trusted)
     except Stop as stop:
         return f"it says {stop}"
     return None if have == (text if wanted is None else wanted) else f"it writes {have!r}"
@@ -156,6 +179,9 @@ def main():
     tried += [("which copy answers is asked once", asks()), ("a group of files is not copied", copies_no_group())]
     tried += [(text, writes(text, wanted)) for text, wanted in WRITTEN]
     tried += [(text, writes(text, wanted, True)) for text, wanted in TRUSTED]
+    tried += [(text, writes(text, wanted, name="utf_lanes/a.rt")) for text, wanted in IN_PART]
+    tried += [(text, writes(text, made(text), name="utf_lanes/a.rt")) for text in NOT_IN_PART]
+    tried += [(text, writes(text, made(text), True, "utf_lanes/a.rt")) for text, _ in IN_PART[1:3]]
     tried += [("tokens are all of a text", None if "".join(it.text for it in tokens(text, "")) == text else "lost") for text, _ in WRITTEN]
     failed = [(what, how) for what, how in tried if how]
     for what, how in failed:

@@ -6,16 +6,12 @@ line by its attribute is so as it stands, and each other function becomes one fo
 import re
 
 import rules
-from exports import parameters
 from shape import Text
 from tokens import Stop
+from windows import called
 
 GATE = '#[cfg(all(target_arch = "x86_64", feature = "std", not(noddychest_narrow)))]\n'
 FEATURES = "avx2,bmi1,bmi2,lzcnt,popcnt"
-
-
-def is_wide(name):
-    return any(name.startswith(it) for it in rules.WIDE)
 
 
 def widened(text, name):
@@ -46,17 +42,11 @@ def attributes_of(text, it):
 
 def apart(text, it, attributes):
     """`fn f(..) { body }` becomes one that calls `f_apart`, which has that body and is compiled for the processor."""
-    left = text.next(it.word)
-    generics = []
-    if text.text(left) == "<":
-        end = text.closing_angle(left)
-        generics = [it[0].removeprefix("const ") for it in parameters(text, left, end) if not it[0].startswith("'")]
-        left = text.next(end)
-    names = [name.removeprefix("mut ") for name, _ in parameters(text, left, text.closing(left))]
+    names, generics = called(text, it)
     head = "".join(x.text for x in text.t[it.at:it.body]).rstrip().replace(f"fn {it.name}", f"unsafe fn {it.name}_apart", 1)
-    call = f"{it.name}_apart{'::<' + ', '.join(generics) + '>' if generics else ''}({', '.join(names)})"
+    call = f"{it.name}_apart{generics}({', '.join(names)})"
     moved = "".join(f"{words}\n" for _, _, words in attributes)
-    text.back[it.body] = (f"\n    // SAFETY: who comes here has asked whether the processor has it.\n    unsafe {{ {call} }}\n}}\n\n"
+    text.back[it.body] = (f"\n    crate::support::processor::apart!({call})\n}}\n\n"
                           f'{moved}#[target_feature(enable = "{FEATURES}")]\n{head}\n{{')
     for start, end, _ in attributes:
         for k in range(start, text.next(end) if text.next(end) <= it.at else end + 1):
@@ -71,8 +61,8 @@ def paths(text, name):
     if found := re.search(r"crate::proved::(\w+::)?\{", text):
         raise Stop(f"{name}: `{found[0]}` names several files at once, of which some may have a copy")
     text = re.sub(r"\n *crate::support::processor::wide!\(.*", "", text)
-    text = text.replace("crate::support::simd::prelude", "crate::support::simd::wide")
+    text = re.sub(r"^use crate::\{.*", lambda it: it[0].replace("support as std", "support::wide as std").replace("utf_lanes", "utf_lanes::wide as utf_lanes"), text, flags=re.M)
 
     def other(found):
-        return f"crate::proved::{found[1]}::wide::{found[2]}" if is_wide(f"{found[1]}/{found[2]}.rt") else found[0]
+        return f"crate::proved::{found[1]}::wide::{found[2]}" if rules.is_wide(f"{found[1]}/{found[2]}.rt") else found[0]
     return re.sub(r"crate::proved::(\w+)::(\w+)", other, text)

@@ -1,4 +1,5 @@
-//! Times of the crate beside encode_unicode 1.0.0, std and the assembly, over 256 KiB of each text: the best of many runs, turn by turn.
+//! Times of the crate beside encode_unicode 1.0.0, std, simdutf8 where it is there, and the assembly, over 256 KiB of each text: the best
+//! of many runs, turn by turn.
 //!
 //! It prints a line for each work: ns per byte over mixed text, and the geometric mean and the worst of the ratios over all texts.
 
@@ -158,6 +159,8 @@ fn main() {
     beside("valid_up_to", "std", &texts, valid, |t| std::str::from_utf8(&t.bytes).map_or_else(|e| e.valid_up_to(), str::len) as u64);
     // SAFETY: the pointers are valid for the lengths.
     beside("valid_up_to", "the assembly", &texts, valid, |t| unsafe { nody_utf8_valid_up_to(t.bytes.as_ptr(), t.bytes.len()) } as u64);
+    #[cfg(feature = "simdutf8")]
+    beside("valid_up_to", "simdutf8", &texts, valid, |t| simdutf8::compat::from_utf8(&t.bytes).map_or_else(|e| e.valid_up_to(), str::len) as u64);
     let units = |t: &Text| noddychest::units::valid_up_to(&t.units) as u64;
     // SAFETY: as above.
     beside("units::valid_up_to", "the assembly", &texts, units, |t| unsafe { nody_utf16_valid_up_to(t.units.as_ptr(), t.units.len()) } as u64);

@@ -112,6 +112,32 @@ pub fn char_count(bytes: &[u8]) -> usize {
     cuts::char_count(bytes)
 }
 
+/// The offset of the piece with this number, counted from 0: that of the [`pieces`] `nth(number)`, found as fast as text is validated.
+/// `None` where there are no more pieces.
+///
+/// ```
+/// let bytes = b"h\xC3\xA9\xE2\x82A";
+/// assert_eq!(noddychest::offset_of(bytes, 2), Some(3));
+/// assert_eq!(noddychest::offset_of(bytes, 5), None);
+/// ```
+#[must_use]
+pub fn offset_of(bytes: &[u8], number: usize) -> Option<usize> {
+    cuts::offset_of(bytes, number)
+}
+
+/// How many pieces begin before this offset: where one begins at it, its number, counted from 0. All of them, where the offset is the
+/// length or more.
+///
+/// ```
+/// let bytes = b"h\xC3\xA9\xE2\x82A";
+/// assert_eq!(noddychest::number_of(bytes, 3), 2);
+/// assert_eq!(noddychest::number_of(bytes, 99), 5);
+/// ```
+#[must_use]
+pub fn number_of(bytes: &[u8], offset: usize) -> usize {
+    cuts::number_of(bytes, offset)
+}
+
 /// The last boundary between two pieces that is at most `at`. It is at most three bytes before it, and the length where `at` is no
 /// less. So `&bytes[..boundary_before(bytes, n)]` cuts to `n` bytes and no character in two.
 ///

@@ -3,11 +3,6 @@
 use crate::proved::cuts;
 use crate::{Form, Piece, Progress, Status};
 
-/// How many pieces the proved text is asked for at once.
-const BLOCK: usize = 32;
-
-pub(crate) const BLANK: cuts::LocatedPiece = cuts::LocatedPiece { offset: 0, len: 1, answer: Ok('\0') };
-
 /// Splits input that comes in parts into characters and invalid bytes, each with its offset from the first byte of all input.
 ///
 /// The pieces are the same however the input is cut into parts, also where a part ends in the middle of a character. It holds at most
@@ -107,12 +102,21 @@ impl Decoder {
     /// assert_eq!(text, "naïve");
     /// ```
     pub fn feed(&mut self, part: &[u8], room: &mut [Piece<u64>]) -> Progress {
-        let mut read = 0;
-        fill(room, |block| {
-            let did = self.inner.feed(&part[read..], block);
-            read += did.read;
-            did
-        })
+        progress(self.inner.feed(part, room))
+    }
+
+    /// The same, but writes the invalid bytes alone: those of the pieces that [`feed`](Decoder::feed) writes which are no characters. Text
+    /// between them is passed as fast as it is validated. Afterwards the decoder is as after `feed`, so both may be mixed.
+    ///
+    /// ```
+    /// use noddychest::{Decoder, Form, Piece, Status};
+    /// let (mut decoder, mut room) = (Decoder::new(Form::Utf8), [Piece::default(); 4]);
+    /// let did = decoder.feed_faults(b"a long text\xFF, and more\xE2\x82", &mut room);
+    /// assert_eq!((did.written, room[0].offset, did.status), (1, 11, Status::Done));
+    /// assert_eq!(decoder.feed_faults(b"\xAC", &mut room).written, 0);
+    /// ```
+    pub fn feed_faults(&mut self, part: &[u8], room: &mut [Piece<u64>]) -> Progress {
+        progress(self.inner.feed_faults(part, room))
     }
 
     /// Writes the pieces of what is held, at most three, when no more follows. [`Status::Full`]: call this again with more room.
@@ -126,32 +130,12 @@ impl Decoder {
     /// assert_eq!(room[1].fault().unwrap().kind(), FaultKind::UnexpectedContinuationByte);
     /// ```
     pub fn finish(&mut self, room: &mut [Piece<u64>]) -> Progress {
-        fill(room, |block| self.inner.finish(block))
+        progress(self.inner.finish(room))
     }
 }
 
-/// Fills the room with the pieces that calls of the proved text give, until one of them is done.
-fn fill(room: &mut [Piece<u64>], mut more: impl FnMut(&mut [cuts::LocatedPiece]) -> cuts::Fed) -> Progress {
-    let (mut block, mut read, mut written) = ([BLANK; BLOCK], 0, 0);
-    loop {
-        let len = BLOCK.min(room.len() - written);
-        let did = more(&mut block[..len]);
-        put(&block[..did.written], &mut room[written..]);
-        read += did.read;
-        written += did.written;
-        if !did.is_full {
-            return Progress { read, written, status: Status::Done };
-        }
-        if written == room.len() {
-            return Progress { read, written, status: Status::Full };
-        }
-    }
-}
-
-fn put(block: &[cuts::LocatedPiece], room: &mut [Piece<u64>]) {
-    for (place, piece) in room.iter_mut().zip(block) {
-        *place = Piece::of(piece);
-    }
+fn progress(did: cuts::Fed) -> Progress {
+    Progress { read: did.read, written: did.written, status: if did.is_full { Status::Full } else { Status::Done } }
 }
 
 /// How many bytes at the end, at most three, depend on the bytes that follow: as many as a [`Decoder`] holds that was fed just these. Keep

@@ -40,14 +40,14 @@
 //! # Features
 //!
 //! - `std` (on by default): [`io`] and [`parallel`], `Read`, and on x86-64 AVX2 or SSSE3 where the processor has it.
-//! - `alloc`: [`recode`] and its kin, [`PieceTable`], and what gives or takes a `Vec` or a `String`. All else needs `core` alone.
+//! - `alloc`: [`recode`] and its kin, [`PieceTable`], [`TextBuffer`], and what gives or takes a `Vec` or a `String`. All else needs `core` alone.
 //! - `trusted`: for targets of 64 bits, no test of what the proofs rule out.
 //! - `c`: the functions of the library for C, for the package `noddychest-c`.
 //!
 //! # Platforms
 //!
 //! It is written for every target of rustc, and was run on Linux on x86-64.
-//! On ARM64 the library for C, the programs and the Rust crate's calls for C ran in QEMU alone, and the package for Python never ran.
+//! On ARM64 the library for C, the programs, the Rust crate's calls for C and the package for Python ran in QEMU alone.
 //!
 //! [`String::from_utf8_lossy`]: https://doc.rust-lang.org/std/string/struct.String.html#method.from_utf8_lossy
 #![cfg_attr(not(feature = "std"), no_std)]
@@ -72,7 +72,7 @@ mod piece;
 /// What `scripts/erase` made of the proved text. (It keeps laws, which are functions that do nothing, and what only the programs use.)
 #[cfg_attr(not(feature = "trusted"), path = "proved/checked/mod.rs")]
 #[cfg_attr(feature = "trusted", path = "proved/trusted/mod.rs")]
-#[allow(dead_code, unused_imports, unused_labels, unused_variables)]
+#[allow(dead_code, improper_ctypes_definitions, unused_imports, unused_labels, unused_variables)]
 #[rustfmt::skip]
 #[allow(missing_debug_implementations, clippy::all, clippy::pedantic, clippy::undocumented_unsafe_blocks)]
 #[warn(clippy::incompatible_msrv)]
@@ -84,20 +84,29 @@ mod recoder;
 mod support;
 #[cfg(feature = "alloc")]
 mod table;
+#[cfg(feature = "alloc")]
+mod text_buffer;
 pub mod units;
 
 pub use bytes::{
-    boundary_after, boundary_before, char_count, faults, first, last, pieces, streamed_at, valid_up_to, Faults, Pieces,
+    boundary_after, boundary_before, char_count, faults, first, last, number_of, offset_of, pieces, streamed_at, valid_up_to,
+    Faults, Pieces,
 };
 pub use decoder::{undecided_len, Decoder};
 pub use fault::{Fault, FaultKind};
 pub use piece::Piece;
 #[cfg(feature = "alloc")]
+pub use proved::cuts::{Change, Counts};
+#[cfg(feature = "alloc")]
 pub use recode::{decode, decode_lossy, decode_strict, recode, recode_lossy, recode_strict, try_recode};
-pub use recoder::{form_of_bom, recoded_len, recoded_len_max, shard_end, Form, Progress, Recoder, Status, UnknownForm};
+pub use recoder::{
+    changed_range, form_of_bom, recoded_len, recoded_len_max, shard_end, Form, Progress, Recoder, Status, UnknownForm,
+};
 pub use support::alloc::AllocError;
 #[cfg(feature = "alloc")]
 pub use table::{PieceTable, TablePieces};
+#[cfg(feature = "alloc")]
+pub use text_buffer::{BufferBytes, TextBuffer};
 
 /// Whether this processor has what the crate needs. It needs nothing: where the processor lacks what some code uses, other code runs.
 ///

@@ -47,21 +47,25 @@ impl Piece {
     }
 }
 
-impl Piece<u64> {
-    /// As the proved text has it.
+/// What the proved decoder writes.
+impl cuts::FromPiece for Piece<u64> {
     #[inline(always)]
-    pub(crate) fn of(piece: &cuts::LocatedPiece) -> Piece<u64> {
-        match piece.answer {
-            Ok(c) => Piece { offset: piece.offset, len: piece.len, result: Ok(c) },
-            Err(kind) => Piece::of_fault(piece, kind),
-        }
+    fn from_character(offset: u64, c: char, len: usize) -> Piece<u64> {
+        Piece { offset, len, result: Ok(c) }
     }
 
     #[cold]
-    fn of_fault(piece: &cuts::LocatedPiece, kind: cuts::FaultKind) -> Piece<u64> {
-        Piece { offset: piece.offset, len: piece.len, result: Err(Fault::new(piece.offset, piece.len as u8, kind.into())) }
+    fn from_fault(offset: u64, kind: cuts::FaultKind, len: usize) -> Piece<u64> {
+        Piece { offset, len, result: Err(Fault::new(offset, len as u8, kind.into())) }
     }
 
+    #[inline(always)]
+    fn from_ascii(offset: u64, byte: u8) -> Piece<u64> {
+        Piece { offset, len: 1, result: Ok(char::from(byte)) }
+    }
+}
+
+impl Piece<u64> {
     /// Its place in all that was fed.
     ///
     /// ```

@@ -2,6 +2,7 @@
 
 use crate::proved::cuts;
 use crate::Fault;
+use core::ops::Range;
 
 /// How many bytes `recoded_len` takes at once.
 const COUNTED: usize = 1024;
@@ -339,6 +340,8 @@ impl Recoder {
     /// Feeds a part of the text, as far as there is room. In room for four bytes each call with a part that is not empty reads or
     /// writes something; an empty part is [`Status::Done`] or writes what is held.
     ///
+    /// After the bytes that were written, the rest of the room may hold anything: use its first `written` bytes alone.
+    ///
     /// ```
     /// use noddychest::{Form, Recoder, Status};
     /// let (mut recoder, mut rest, mut out) = (Recoder::new(Form::Utf16Le, Form::Utf8), &b"\xAC\x20\xAC\x20"[..], Vec::new());
@@ -366,7 +369,8 @@ impl Recoder {
         did
     }
 
-    /// Writes what is held, at most nine bytes, when no more follows. [`Status::Full`]: call this again with more room.
+    /// Writes what is held, at most nine bytes, when no more follows. [`Status::Full`]: call this again with more room. The rest of the
+    /// room may hold anything.
     ///
     /// Of a strict recoder bytes that are held are the front of a character whose end is missing: a [`Status::Fault`]. Call this
     /// again for the next one, until it is done.
@@ -452,4 +456,25 @@ pub fn recoded_len(from: Form, to: Form, bytes: &[u8]) -> usize {
 #[must_use]
 pub fn shard_end(from: Form, bytes: &[u8], at: usize) -> usize {
     cuts::shard_end(from.proved(), bytes, at)
+}
+
+/// The part of a text outside of which no piece changes where the bytes of a range are replaced by any others, of any number: what to
+/// decode again after an edit. What was decoded before its start stays, and what was decoded from its end on moves with its bytes.
+///
+/// `bytes` is the text after the edit, and `range` where the new bytes are in it; or the text before the edit, and the bytes that go.
+/// Both say the same, since the end moves by as much as the text grew. The result begins and ends at boundaries, at most six bytes
+/// before and after the range. Offsets above the length count as the length, and a start above the end counts as the end.
+///
+/// In UTF-16, where the length changes by an odd number of bytes, all pieces from the start of the result on may change: each unit has
+/// other bytes then.
+///
+/// ```
+/// use noddychest::{changed_range, Form};
+/// let text = "abc€def€ghi"; // "d" was replaced by "de"
+/// assert_eq!(changed_range(Form::Utf8, text.as_bytes(), 6..8), 3..12);
+/// ```
+#[must_use]
+pub fn changed_range(form: Form, bytes: &[u8], range: Range<usize>) -> Range<usize> {
+    let changed = cuts::changed_range(form.proved(), bytes, range.start, range.end);
+    changed.start..changed.end
 }

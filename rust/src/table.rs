@@ -113,7 +113,7 @@ impl fmt::Debug for PieceTable {
 }
 
 /// What memory was granted for; else it ends the process, as std's collections do.
-fn granted<T>(result: Result<T, AllocError>) -> T {
+pub(crate) fn granted<T>(result: Result<T, AllocError>) -> T {
     result.unwrap_or_else(|AllocError| handle_alloc_error(Layout::new::<cuts::Item>()))
 }
 

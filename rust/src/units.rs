@@ -93,7 +93,28 @@ pub fn faults(units: &[u16]) -> Faults<'_> {
 /// ```
 #[must_use]
 pub fn char_count(units: &[u16]) -> usize {
-    pieces(units).count()
+    cuts::unit_char_count(units)
+}
+
+/// The offset in units of the piece with this number, counted from 0. `None` where there are no more pieces.
+///
+/// ```
+/// assert_eq!(noddychest::units::offset_of(&[0x41, 0xD83D, 0xDE00, 0xDE00], 2), Some(3));
+/// ```
+#[must_use]
+pub fn offset_of(units: &[u16], number: usize) -> Option<usize> {
+    cuts::unit_offset_of(units, number)
+}
+
+/// How many pieces begin before this offset in units: where one begins at it, its number, counted from 0. All of them, where the
+/// offset is the length or more.
+///
+/// ```
+/// assert_eq!(noddychest::units::number_of(&[0x41, 0xD83D, 0xDE00, 0xDE00], 3), 2);
+/// ```
+#[must_use]
+pub fn number_of(units: &[u16], offset: usize) -> usize {
+    cuts::unit_number_of(units, offset)
 }
 
 /// The last boundary between two pieces that is at most `at`: `at` itself, or one before it where a character has two units there;

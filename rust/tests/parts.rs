@@ -54,6 +54,34 @@ fn decoded_in_parts(mut decoder: Decoder, parts: &[&[u8]], mut room: impl FnMut(
     out
 }
 
+/// The same of the invalid bytes alone. A decoder that is fed for all pieces goes beside it, and holds the same after each part.
+fn faults_in_parts(mut decoder: Decoder, parts: &[&[u8]], mut room: impl FnMut() -> usize) -> Vec<Told> {
+    let (mut out, mut beside) = (Vec::new(), decoder.clone());
+    for part in parts {
+        let mut rest = *part;
+        loop {
+            let mut place = vec![blank(); room()];
+            let did = decoder.feed_faults(rest, &mut place);
+            assert!(
+                place[did.written..].iter().all(|it| *it == blank())
+                    && place[..did.written].iter().all(|it| it.fault().is_some())
+            );
+            out.extend(place[..did.written].iter().copied().map(seen));
+            rest = &rest[did.read..];
+            if did.status == Status::Done {
+                break;
+            }
+            assert_eq!((did.status, did.written), (Status::Full, place.len()));
+        }
+        assert_eq!(beside.feed(part, &mut vec![blank(); part.len() + 3]).read, part.len());
+        assert_eq!((rest, decoder.held(), decoder.offset()), (&[][..], beside.held(), beside.offset()));
+    }
+    let mut last = [blank(); 3];
+    let did = decoder.finish(&mut last);
+    out.extend(last[..did.written].iter().copied().map(seen));
+    out
+}
+
 #[test]
 fn random_texts_in_random_parts() {
     let mut chance = Chance(11);
@@ -66,6 +94,8 @@ fn random_texts_in_random_parts() {
             let parts = [&bytes[..first], &bytes[first..second], &bytes[second..]];
             let most = 2 + chance.below(20);
             assert_eq!(decoded_in_parts(Decoder::new(form), &parts, || chance.below(most)), want, "{form} {parts:x?}");
+            let faults: Vec<Told> = want.into_iter().filter(|it| it.2.is_err()).collect();
+            assert_eq!(faults_in_parts(Decoder::new(form), &parts, || chance.below(most)), faults, "{form} {parts:x?}");
         }
     }
 }

@@ -4,7 +4,8 @@ mod common;
 
 use common::{encoded, long_text_of, of_form, of_hex, rows, text_of, Chance, End};
 use noddychest::{
-    decode, decode_lossy, decode_strict, recode, recode_lossy, recode_strict, recoded_len, recoded_len_max, shard_end,
+    changed_range, decode, decode_lossy, decode_strict, recode, recode_lossy, recode_strict, recoded_len, recoded_len_max,
+    shard_end,
 };
 use noddychest::{Fault, FaultKind, Form, Recoder, Status};
 
@@ -31,6 +32,9 @@ fn pairs() -> impl Iterator<Item = (Form, Form)> {
     Form::ALL.into_iter().flat_map(|from| Form::ALL.into_iter().map(move |to| (from, to)))
 }
 
+/// How many places before a room and after it have to stay as they were.
+const GUARDS: usize = 64;
+
 /// Feeds the parts into rooms of the sizes that `room` gives: what came out, and each fault.
 fn recoded_in_parts(mut recoder: Recoder, parts: &[&[u8]], mut room: impl FnMut() -> usize) -> (Vec<u8>, Vec<Fault>) {
     let (mut out, mut told, mut turns) = (Vec::new(), Vec::new(), 0);
@@ -46,9 +50,11 @@ fn recoded_in_parts(mut recoder: Recoder, parts: &[&[u8]], mut room: impl FnMut(
     for part in parts {
         let mut rest = *part;
         loop {
-            let mut place = vec![0xAA; room()];
-            let did = recoder.feed(rest, &mut place);
-            assert!(place[did.written..].iter().all(|it| *it == 0xAA), "it writes where it says nothing of");
+            let size = room();
+            let mut painted = vec![0xAA; size + 2 * GUARDS];
+            let did = recoder.feed(rest, &mut painted[GUARDS..GUARDS + size]);
+            let place = &painted[GUARDS..];
+            assert!(painted[..GUARDS].iter().chain(&place[size..]).all(|it| *it == 0xAA), "it writes outside of its room");
             rest = &rest[did.read..];
             if note(&mut out, &place[..did.written], did.status) {
                 break;
@@ -270,4 +276,41 @@ fn shards_are_recoded_by_themselves() {
             assert_eq!(joined, recode(from, to, &bytes), "{from} {to} {bytes:x?} at {at}");
         }
     }
+}
+
+/// Any bytes in place of some: the pieces that the range leaves out are as they were.
+#[test]
+fn pieces_outside_of_the_changed_range_stay() {
+    let mut chance = Chance(31);
+    for _ in 0..30_000 {
+        for form in [Form::Utf8, Form::Utf16Le, Form::Utf16Be] {
+            let old = text_of(form, &mut chance, 12);
+            let start = chance.below(old.len() + 1);
+            let end = start + chance.below(old.len() - start + 1);
+            let put = text_of(form, &mut chance, 3);
+            let new = [&old[..start], &put, &old[end..]].concat();
+            let was = changed_range(form, &old, start..end);
+            let is = changed_range(form, &new, start..start + put.len());
+            let said = format!("{form} {old:x?} {start}..{end} by {put:x?}: {was:?}, {is:?}");
+            assert!(was.start <= start && start <= was.start + 6 && end <= was.end && was.end <= end + 6, "{said}");
+            for told_at in [End::OfSlice, End::OfParts] {
+                let (before, after) = (of_form(form, &old, told_at), of_form(form, &new, told_at));
+                assert!(before.iter().filter(|it| it.0 < was.start).eq(after.iter().filter(|it| it.0 < is.start)), "{said}");
+                if form != Form::Utf8 && (put.len() + end - start) % 2 == 1 {
+                    continue;
+                }
+                assert_eq!((was.start, was.end + start + put.len()), (is.start, is.end + end), "{said}");
+                let before = before.iter().filter(|it| it.0 >= was.end).map(|it| (it.0 - was.end, it.1, it.2));
+                assert!(before.eq(after.iter().filter(|it| it.0 >= is.end).map(|it| (it.0 - is.end, it.1, it.2))), "{said}");
+            }
+        }
+    }
+}
+
+#[test]
+#[allow(clippy::reversed_empty_ranges)]
+fn changed_ranges_of_any_offsets() {
+    assert_eq!(changed_range(Form::Utf8, b"", 0..usize::MAX), 0..0);
+    assert_eq!(changed_range(Form::Utf8, b"abcdefgh", usize::MAX..usize::MAX), 5..8);
+    assert_eq!(changed_range(Form::Utf16Be, b"abcdefgh", 7..2), changed_range(Form::Utf16Be, b"abcdefgh", 2..2));
 }

@@ -88,6 +88,47 @@ fn faults_are_found_in_long_text() {
     }
 }
 
+/// The offset of each number, and the number at each offset, by the pieces that std gives.
+fn hold_numbers<T: std::fmt::Debug>(
+    text: &[T],
+    want: &[(usize, usize, Option<char>)],
+    offset_of: impl Fn(&[T], usize) -> Option<usize>,
+    number_of: impl Fn(&[T], usize) -> usize,
+) {
+    for number in [0, 1, want.len() / 2, want.len().saturating_sub(1), want.len(), want.len() + 1, usize::MAX] {
+        assert_eq!(offset_of(text, number), want.get(number).map(|it| it.0), "{text:x?} {number}");
+    }
+    for at in [0, 1, 2, 3, text.len() / 2, text.len().saturating_sub(1), text.len(), text.len() + 1, usize::MAX] {
+        assert_eq!(number_of(text, at), want.iter().filter(|it| it.0 < at).count(), "{text:x?} at {at}");
+    }
+}
+
+/// Long text goes by vectors: with an invalid byte at any place of some blocks, and at the end.
+#[test]
+fn numbers_of_long_text() {
+    let mut chance = Chance(12);
+    for _ in 0..10 {
+        let bytes = long_text_of(Form::Utf8, &mut chance, 12_000);
+        let want = by_std(&bytes);
+        hold_numbers(&bytes[..], &want, noddychest::offset_of, noddychest::number_of);
+        for number in (0..want.len()).step_by(97) {
+            assert_eq!(noddychest::offset_of(&bytes, number), Some(want[number].0), "{number}");
+            assert_eq!(noddychest::number_of(&bytes, want[number].0), number);
+            assert_eq!(noddychest::number_of(&bytes, want[number].0 + 1), number + 1);
+        }
+        assert_eq!(noddychest::char_count(&bytes), want.len());
+    }
+    let text = "aé€😀".repeat(900);
+    for at in (0..150).chain(4_090..4_110).chain([text.len() - 1]) {
+        let mut bytes = text.clone().into_bytes();
+        bytes[at] = 0xFF;
+        let want = by_std(&bytes);
+        assert_eq!(noddychest::char_count(&bytes), want.len(), "{at}");
+        assert_eq!(noddychest::number_of(&bytes, at), want.iter().filter(|it| it.0 < at).count(), "{at}");
+        assert_eq!(noddychest::offset_of(&bytes, want.len() - 1), want.last().map(|it| it.0), "{at}");
+    }
+}
+
 fn hold_bytes(bytes: &[u8], chance: &mut Chance) {
     let want = by_std(bytes);
     assert!(noddychest::pieces(bytes).map(seen).eq(want.iter().copied()), "{bytes:x?}");
@@ -98,6 +139,7 @@ fn hold_bytes(bytes: &[u8], chance: &mut Chance) {
     assert_eq!(noddychest::first(bytes).map(seen), want.first().copied());
     assert_eq!(noddychest::last(bytes).map(seen), want.last().copied());
     hold_faults(bytes);
+    hold_numbers(bytes, &want, noddychest::offset_of, noddychest::number_of);
     for at in 0..bytes.len() + 2 {
         let before = want.iter().map(|it| it.0).chain([bytes.len()]).filter(|it| *it <= at).max();
         assert_eq!(Some(noddychest::boundary_before(bytes, at)), before, "{bytes:x?} before {at}");
@@ -179,6 +221,7 @@ fn units_are_split_as_std_does() {
         let fault = want.iter().find(|it| it.2.is_none());
         assert_eq!(units::valid_up_to(&units), fault.map_or(units.len(), |it| it.0), "{units:x?}");
         assert_eq!(units::char_count(&units), want.len(), "{units:x?}");
+        hold_numbers(&units[..], &want, units::offset_of, units::number_of);
         for at in 0..units.len() + 2 {
             let before = want.iter().map(|it| it.0).chain([units.len()]).filter(|it| *it <= at).max();
             assert_eq!(Some(units::boundary_before(&units, at)), before, "{units:x?} before {at}");

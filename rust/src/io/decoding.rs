@@ -1,15 +1,14 @@
 //! The pieces of what a reader gives.
 
-use crate::bytes::Few;
-use crate::decoder::BLANK;
-use crate::proved::{cuts, utf_lanes};
-use crate::{Fault, Form, Piece};
+use crate::{Decoder, Fault, Form, Piece, Progress};
 use std::io::{BufRead, ErrorKind, Result};
 use std::iter::FusedIterator;
 
-/// How many pieces are gathered at once; and after text was passed, where faults are far from each other.
-const ROOM: usize = Few::MOST;
-const LEAST: usize = 16;
+/// How many pieces are gathered at once.
+const ROOM: usize = 64;
+
+/// What gathers them: all, or the faults alone.
+type Feed = fn(&mut Decoder, &[u8], &mut [Piece<u64>]) -> Progress;
 
 /// All pieces of what a reader gives, each with its offset from the first byte that is read: those of a [`Decoder`](crate::Decoder).
 ///
@@ -40,15 +39,15 @@ pub fn pieces<R: BufRead>(reader: R, form: Form) -> Pieces<R> {
 /// ```
 #[must_use = "iterators do nothing unless consumed"]
 pub fn faults<R: BufRead>(reader: R, form: Form) -> Faults<R> {
-    Faults { source: Source::new(reader, form), few: Few::new(LEAST), found: 0 }
+    Faults { source: Source::new(reader, form) }
 }
 
 /// A reader, and the pieces that were gathered of it and not given yet.
 #[derive(Debug)]
 struct Source<R> {
     reader: R,
-    decoder: cuts::Decoder,
-    room: Box<[cuts::LocatedPiece]>,
+    decoder: Decoder,
+    room: Box<[Piece<u64>]>,
     begin: usize,
     end: usize,
     has_ended: bool,
@@ -56,8 +55,8 @@ struct Source<R> {
 
 impl<R> Source<R> {
     fn new(reader: R, form: Form) -> Source<R> {
-        let room = vec![BLANK; ROOM].into_boxed_slice();
-        Source { reader, decoder: cuts::Decoder::new(form.proved()), room, begin: 0, end: 0, has_ended: false }
+        let room = vec![Piece::default(); ROOM].into_boxed_slice();
+        Source { reader, decoder: Decoder::new(form), room, begin: 0, end: 0, has_ended: false }
     }
 
     /// The next piece of those that were gathered.
@@ -65,15 +64,14 @@ impl<R> Source<R> {
     fn take(&mut self) -> Option<Piece<u64>> {
         let piece = self.room[..self.end].get(self.begin)?;
         self.begin += 1;
-        Some(Piece::of(piece))
+        Some(*piece)
     }
 }
 
 impl<R: BufRead> Source<R> {
-    /// Gathers so many pieces at most of what the reader gives next, after text is passed as far as a function says; at the end those of
-    /// what is held, and then nothing.
+    /// Gathers pieces of what the reader gives next; at the end those of what is held, which are all faults, and then nothing.
     #[inline(never)]
-    fn gather(&mut self, most: usize, text_len: fn(cuts::Form, &[u8]) -> usize) -> Option<Result<()>> {
+    fn gather(&mut self, feed: Feed) -> Option<Result<()>> {
         (self.begin, self.end) = (0, 0);
         if self.has_ended {
             return None;
@@ -88,37 +86,10 @@ impl<R: BufRead> Source<R> {
             self.end = self.decoder.finish(&mut self.room).written;
             return Some(Ok(()));
         }
-        let len = passed(&mut self.decoder, part, text_len);
-        let did = self.decoder.feed(&part[len..], &mut self.room[..most]);
+        let did = feed(&mut self.decoder, part, &mut self.room);
         self.end = did.written;
-        self.reader.consume(len + did.read);
+        self.reader.consume(did.read);
         Some(Ok(()))
-    }
-}
-
-/// Passes text at the front of a part, and answers how much. What follows held bytes is not passed.
-fn passed(decoder: &mut cuts::Decoder, part: &[u8], text_len: fn(cuts::Form, &[u8]) -> usize) -> usize {
-    let (form, offset) = (decoder.form(), decoder.offset());
-    if !decoder.held().is_empty() {
-        return 0;
-    }
-    let len = text_len(form, part);
-    if len > 0 {
-        *decoder = cuts::Decoder::holding(form, &[], offset.wrapping_add(len as u64));
-    }
-    len
-}
-
-fn nothing(_: cuts::Form, _: &[u8]) -> usize {
-    0
-}
-
-/// How many bytes at the front are text: all, or as far as is soon known.
-fn text_len(form: cuts::Form, bytes: &[u8]) -> usize {
-    match form {
-        cuts::Form::Utf8 => cuts::valid_up_to(bytes),
-        cuts::Form::Utf16Le => 2 * utf_lanes::unit_blocks::units_len(false, bytes),
-        cuts::Form::Utf16Be => 2 * utf_lanes::unit_blocks::units_len(true, bytes),
     }
 }
 
@@ -159,7 +130,7 @@ impl<R: BufRead> Iterator for Pieces<R> {
             if let Some(piece) = self.source.take() {
                 return Some(Ok(piece));
             }
-            if let Err(error) = self.source.gather(ROOM, nothing)? {
+            if let Err(error) = self.source.gather(Decoder::feed)? {
                 return Some(Err(error));
             }
         }
@@ -179,9 +150,6 @@ impl<R: BufRead> FusedIterator for Pieces<R> {}
 #[derive(Debug)]
 pub struct Faults<R> {
     source: Source<R>,
-    few: Few,
-    /// How many were found among the pieces that were gathered last.
-    found: usize,
 }
 
 impl<R> Faults<R> {
@@ -201,15 +169,10 @@ impl<R: BufRead> Iterator for Faults<R> {
 
     fn next(&mut self) -> Option<Result<Fault<u64>>> {
         loop {
-            let fault = std::iter::from_fn(|| self.source.take()).find_map(|piece| piece.fault());
-            if fault.is_some() {
-                self.found += 1;
-                return fault.map(Ok);
+            if let Some(fault) = self.source.take().and_then(|piece| piece.fault()) {
+                return Some(Ok(fault));
             }
-            // (the first of them follows the text that was passed)
-            self.few.note(self.found > 1);
-            self.found = 0;
-            if let Err(error) = self.source.gather(self.few.number(), text_len)? {
+            if let Err(error) = self.source.gather(Decoder::feed_faults)? {
                 return Some(Err(error));
             }
         }

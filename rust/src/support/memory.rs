@@ -44,7 +44,15 @@ impl<T, A: Allocator> Vec<T, A> {
         Ok(())
     }
 
-    /// The same, where a proof shows that there is room. Where there is none, std takes it.
+    /// Puts what another vector has in place of a part.
+    #[inline(always)]
+    pub(crate) fn splice(&mut self, part: core::ops::Range<usize>, new: Vec<T, A>) -> Result<(), AllocError> {
+        self.reserve(new.0.len().saturating_sub(part.len()))?;
+        self.0.splice(part, new.0);
+        Ok(())
+    }
+
+    /// Adds one at the end where a proof shows that there is room. Where there is none, std takes it.
     #[inline(always)]
     pub(crate) fn push_reserved(&mut self, x: T) {
         self.0.push(x);
@@ -53,6 +61,16 @@ impl<T, A: Allocator> Vec<T, A> {
     #[inline(always)]
     pub(crate) fn as_mut_slice(&mut self) -> &mut [T] {
         &mut self.0
+    }
+
+    #[inline(always)]
+    pub(crate) fn resize(&mut self, n: usize, x: T) -> Result<(), AllocError>
+    where
+        T: Copy,
+    {
+        self.reserve(n.saturating_sub(self.0.len()))?;
+        self.0.resize(n, x);
+        Ok(())
     }
 
     #[inline(always)]

@@ -1,11 +1,10 @@
-//! What the proved text takes of Rattle's std, and Rust's lacks or has in another form.
+//! What the proved text takes of Rattle's std: there this module is `std`.
 //!
 //! Written by hand, and tested; nothing here is proved. Each module says what the proofs take for granted of it.
 
 pub(crate) mod alloc;
 #[cfg(feature = "c")]
 pub(crate) mod c;
-#[cfg(feature = "std")]
 pub(crate) mod io;
 #[cfg_attr(not(feature = "alloc"), path = "no_memory.rs")]
 pub(crate) mod memory;
@@ -13,3 +12,17 @@ pub(crate) mod processor;
 pub(crate) mod simd;
 #[cfg(feature = "trusted")]
 pub(crate) mod trust;
+
+// What is the same in Rust.
+#[allow(unused_imports)]
+pub(crate) use core::{array, ascii, borrow, char, cmp, convert, error, fmt, hash, iter, mem, num, ops, slice, str};
+
+/// The same for the copy of the proved text for processors with AVX2: its vectors go by thirty-two bytes.
+#[cfg(all(target_arch = "x86_64", feature = "std"))]
+#[allow(unused_imports)]
+pub(crate) mod wide {
+    pub(crate) use super::{alloc, cmp, fmt, io, mem, ops};
+    pub(crate) mod simd {
+        pub(crate) use crate::support::simd::wide as prelude;
+    }
+}

@@ -42,11 +42,19 @@ impl<T, A: Allocator> Vec<T, A> {
         self.reserve(s.len())
     }
 
+    pub(crate) fn splice(&mut self, _: core::ops::Range<usize>, new: Vec<T, A>) -> Result<(), AllocError> {
+        self.reserve(new.0.len())
+    }
+
     /// There is never room, so this is never called.
     pub(crate) fn push_reserved(&mut self, _: T) {}
 
     pub(crate) fn as_mut_slice(&mut self) -> &mut [T] {
         &mut self.0
+    }
+
+    pub(crate) fn resize(&mut self, n: usize, _: T) -> Result<(), AllocError> {
+        self.reserve(n)
     }
 
     pub(crate) fn truncate(&mut self, _: usize) {}

@@ -1,12 +1,28 @@
 //! Which of the two copies of the proved text goes over a long input: on x86-64 with std, where the processor has AVX2 and what came with
 //! it (x86-64-v3), the one that is compiled for that. Compiled with `--cfg noddychest_narrow`, there is one copy alone, for tests of it.
 
-/// Whether the processor has what the copy for x86-64-v3 takes.
+/// Whether the processor has what the copy for x86-64-v3 takes: it is asked once.
 #[cfg(all(target_arch = "x86_64", feature = "std", not(noddychest_narrow)))]
 #[inline(always)]
 pub(crate) fn is_wide() -> bool {
-    use std::arch::is_x86_feature_detected as has;
-    has!("avx2") && has!("bmi1") && has!("bmi2") && has!("lzcnt") && has!("popcnt")
+    use core::sync::atomic::{AtomicU8, Ordering};
+    const NO: u8 = 1;
+    const YES: u8 = 2;
+    static ANSWER: AtomicU8 = AtomicU8::new(0);
+
+    #[cold]
+    #[inline(never)]
+    fn ask() -> bool {
+        use std::arch::is_x86_feature_detected as has;
+        let is_wide = has!("avx2") && has!("bmi1") && has!("bmi2") && has!("lzcnt") && has!("popcnt");
+        ANSWER.store(if is_wide { YES } else { NO }, Ordering::Relaxed);
+        is_wide
+    }
+
+    match ANSWER.load(Ordering::Relaxed) {
+        0 => ask(),
+        answer => answer == YES,
+    }
 }
 
 #[cfg(not(all(target_arch = "x86_64", feature = "std", not(noddychest_narrow))))]
@@ -29,6 +45,17 @@ macro_rules! wide {
     };
 }
 pub(crate) use wide;
+
+/// A call of what is compiled for that processor.
+#[cfg(all(target_arch = "x86_64", feature = "std", not(noddychest_narrow)))]
+macro_rules! apart {
+    ($call:expr) => {
+        // SAFETY: only the copy for that processor has such calls, and who comes into it has asked.
+        unsafe { $call }
+    };
+}
+#[cfg(all(target_arch = "x86_64", feature = "std", not(noddychest_narrow)))]
+pub(crate) use apart;
 
 /// Whether the library for C runs on this processor: always.
 #[cfg(feature = "c")]

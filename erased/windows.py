@@ -1,0 +1,74 @@
+"""What a function of the lanes asks about lengths, tested once: in the checked text it gets that part of a slice alone.
+
+Of `3 ≤ place` and `place + 64 ≤ length bytes` it gets the 67 bytes from `place - 3` on, and 3 as their place: so rustc tests that these are
+there, and no place within them. A function that writes goes on under another name, and its answer, a place of that part, becomes one of the
+slice. This is done only where the slice is used by places alone, and the place of it only with the slice. And of `64 ≤ length bytes` there is
+an assertion, where the function goes by numbers."""
+import re
+
+from exports import parameters
+
+PART = re.compile(r"(\w+) \+ (\d+|[A-Z]) ≤ length (\w+) \. (now|old)")
+FRONT = re.compile(r"(\d+) ≤ length (\w+) \. (?:now|old)")
+LEAST = re.compile(r"(\d+) ≤ (\w+)")
+# What becomes of an answer, by what the clauses say of it.
+ANSWERS = {"result . 0 result . 1": "let (count, end) = {call};\n    (count, {place} + end)", "result": "{place} + {call}"}
+
+
+class Part:
+    """So many items of a slice, of which some are before the place."""
+
+    def __init__(self, place, size, name, changes, least):
+        self.place, self.name, self.is_written, self.back = place, name, changes == "old", least.get(place, "0")
+        start, size = (place, size) if self.back == "0" else (f"{place} - {self.back}", f"{self.back} + {size}")
+        self.given = f"&{'mut ' if self.is_written else ''}{name}[{start}..][..{size}]"
+
+    def goes_by_place(self, body):
+        after = [body[k + 2] for k in range(len(body)) if body[k] == self.name and body[k + 1] in ("[", ",")]
+        others = set(after) - {self.place}
+        is_alone = len(after) == body.count(self.name) and after.count(self.place) == body.count(self.place)
+        return is_alone and (not others or self.is_written and all(it.isidentifier() for it in others))
+
+
+def window(text, it):
+    if it.inside or text.text(it.body) != "{":
+        return
+    body = [text.text(k) for k in range(it.body, text.closing(it.body)) if text.is_code(k)]
+    least = {found[2]: found[1] for asked in it.requires if (found := LEAST.fullmatch(asked))}
+    parts = [Part(*found.groups(), least) for asked in it.requires if (found := PART.fullmatch(asked))]
+    parts = [it for it in parts if it.goes_by_place(body)]
+    heads = [f"assert!({found[1]} <= {found[2]}.len());" for asked in it.requires if (found := FRONT.fullmatch(asked))
+             and re.search(rf"\b{found[2]} \[ (\.\. )?\d", " ".join(body))]
+    written = next((part.place for part in parts if part.is_written), None)
+    answer = written and answered(text, it, written)
+    if answer:
+        beside(text, it, parts, answer.replace("{place}", written))
+    elif parts := [part for part in parts if not part.is_written]:
+        heads += [f"let ({part.name}, {part.place}) = ({part.given}, {part.back});" for part in parts]
+    text.back[it.body] = text.back.get(it.body, "") + "".join(f"\n    {said}" for said in heads)
+
+
+def answered(text, it, place):
+    clauses = " ".join(text.code(start, end) for start, end in it.clauses)
+    return next((said for words, said in ANSWERS.items() if re.search(rf"(\w+) \. old \1 \. new {place} (\d+ )?{words}", clauses)), None)
+
+
+def beside(text, it, parts, answer):
+    """`fn f(..) { body }` becomes `f_in_part`, and before it a function of the same name gives it the parts."""
+    start, (names, generics) = text.attribute_start(it.start), called(text, it)
+    gives = {part.name: part.given for part in parts} | {part.place: part.back for part in parts}
+    call = f"{it.name}_in_part{generics}({', '.join(gives.get(name, name) for name in names)})"
+    head = "".join(text.said.get(k, text.t[k].text) for k in range(start, it.clauses[0][0]))
+    text.front[start] = f"{head.rstrip()} {{\n    {answer.replace('{call}', call)}\n}}\n\n"
+    text.said[it.word] = f"{it.name}_in_part"
+
+
+def called(text, it):
+    """The names of the parameters, and what of generics a call has to name."""
+    left, generics = text.next(it.word), []
+    if text.text(left) == "<":
+        end = text.closing_angle(left)
+        generics = [it[0].removeprefix("const ") for it in parameters(text, left, end) if not it[0].startswith("'")]
+        left = text.next(end)
+    names = [name.removeprefix("mut ") for name, _ in parameters(text, left, text.closing(left))]
+    return names, f"::<{', '.join(generics)}>" if generics else ""
