@@ -15,7 +15,11 @@ except ImportError:  # before setuptools 70.1
     from wheel.bdist_wheel import bdist_wheel
 
 # (on x86-64 the calls that validate and recode are there twice, and processor.c chooses)
-ASSEMBLY = {"linux-x86_64": ["noddychest-x86_64.s", "noddychest-x86_64-v3.s"], "linux-aarch64": ["noddychest-aarch64.s"]}
+ASSEMBLY = {
+    "linux-x86_64": ["noddychest-x86_64.s", "noddychest-x86_64-v3.s"],
+    "linux-aarch64": ["noddychest-aarch64.s"],
+    "win-amd64": ["noddychest-x86_64-windows.s", "noddychest-x86_64-windows-v3.s"],
+}
 ALL_ASSEMBLY = sum(ASSEMBLY.values(), [])
 # What the folder library/ has. In the repository these stand beside this folder, and each build copies them; a source archive has them.
 LIBRARY = ["c/noddychest.h", "c/processor.c", *(f"generated/{it}" for it in ALL_ASSEMBLY)]
@@ -23,6 +27,9 @@ LIBRARY = ["c/noddychest.h", "c/processor.c", *(f"generated/{it}" for it in ALL_
 # One wheel serves CPython 3.11 and all that follow. Older ones, whose stable ABI has no buffers, and those without the lock, that
 # have no stable ABI, get one each.
 STABLE = sys.version_info >= (3, 11) and not sysconfig.get_config_var("Py_GIL_DISABLED")
+
+# The tag of before PEP 600, which pip 20.2 takes, as it comes with CPython 3.9.
+OLD_TAGS = {"manylinux_2_17_x86_64": "manylinux2014_x86_64", "manylinux_2_17_aarch64": "manylinux2014_aarch64"}
 
 
 def fill_library():
@@ -38,7 +45,7 @@ def fill_library():
 
 # On x86-64 the option that keeps jumps off the ends of 32 bytes of code, as gcc or clang writes it. Some processors of Intel are
 # slow at such jumps.
-JUMPS = {"linux-x86_64": ["-Wa,-mbranches-within-32B-boundaries", "-mbranches-within-32B-boundaries"], "linux-aarch64": []}
+JUMPS = {"linux-x86_64": ["-Wa,-mbranches-within-32B-boundaries", "-mbranches-within-32B-boundaries"]}
 
 
 class BuildLibrary(build_ext):
@@ -51,16 +58,30 @@ class BuildLibrary(build_ext):
     def build_extension(self, extension):
         if self.plat_name not in ASSEMBLY:
             raise PlatformError(f"noddychest is built for {' and '.join(ASSEMBLY)}, and this is {self.plat_name}")
-        extension.extra_compile_args += [it for it in JUMPS[self.plat_name] if self.is_option(it)][:1]
+        if self.compiler.compiler_type != "unix":
+            raise PlatformError("the assembly is GNU's: for Windows python/wheel builds the package, on Linux, by mingw's compiler")
+        extension.extra_compile_args += [it for it in JUMPS.get(self.plat_name, []) if self.is_option(it)][:1]
+        if self.plat_name == "win-amd64":
+            extension.libraries += ["python3"]  # (what it exports is told in the source)
+        else:
+            extension.extra_link_args += ["-Wl,--version-script=src/exports.map"]
         self.compiler.src_extensions = [*self.compiler.src_extensions, ".s"]
         extension.sources += [f"library/{it}" for it in ASSEMBLY[self.plat_name]]
         super().build_extension(extension)
+
+    def get_ext_filename(self, name):
+        path = super().get_ext_filename(name)
+        return f"{path.partition('.')[0]}.pyd" if self.plat_name == "win-amd64" else path
 
 
 class StableWheel(bdist_wheel):
     def finalize_options(self):
         self.py_limited_api = "cp311" if STABLE else False
         super().finalize_options()
+
+    def get_tag(self):
+        *others, platform = super().get_tag()
+        return (*others, ".".join([platform, OLD_TAGS[platform]] if platform in OLD_TAGS else [platform]))
 
 
 fill_library()
@@ -73,8 +94,6 @@ setup(
             include_dirs=["src", "library"],
             define_macros=[("Py_LIMITED_API", "0x030B0000")] if STABLE else [],
             extra_compile_args=["-O3"],
-            extra_link_args=["-Wl,--version-script=src/exports.map"],
-            libraries=["dl"],
             py_limited_api=STABLE,
         )
     ],

@@ -8,20 +8,25 @@
 
 #include "lengths.h"
 
-#include <dlfcn.h>
 #include <stdlib.h>
 #include <string.h>
 
 #define BLOCK 256         /* pieces that cross at once */
 #define COUNTED (1 << 17) /* the bytes that are validated, and counted then */
+#define FIRST_COUNTED (1 << 12) /* the same at first, where a piece is looked for */
 #define SMALL (64 * 1024) /* an input up to here gets room for the most that it can become */
 #define LONGEST_MARK 3    /* the bytes of the longest byte order mark */
 
 /* ---- bytes that are made ---- */
 
-/* _PyBytes_Resize() changes the length of bytes in place. It is in every CPython, but not in the stable ABI; so it is looked for when
- * the module is loaded, and where it is gone the bytes are copied. */
-static int (*resize)(PyObject **bytes, Py_ssize_t len);
+/* _PyBytes_Resize() changes the length of bytes in place. It is in every CPython, but not in the stable ABI; so the linker of the system
+ * looks for it, and where it finds none, as on Windows, the bytes are copied. */
+#if defined(_WIN32)
+static int (*const resize)(PyObject **bytes, Py_ssize_t len) = NULL;
+#else
+extern int _PyBytes_Resize(PyObject **bytes, Py_ssize_t len) __attribute__((weak));
+#define resize _PyBytes_Resize
+#endif
 
 static PyObject *resized(PyObject *made, Py_ssize_t len) {
     Py_ssize_t old = PyBytes_Size(made);
@@ -100,6 +105,14 @@ static PyObject *fault(PyObject *module, PyObject *args) {
     return answer;
 }
 
+/* An offset that a caller gave: one beyond the length counts as the length. Else an error is set, and it is -1. */
+static Py_ssize_t offset_within(PyObject *number, Py_ssize_t len) {
+    Py_ssize_t at = PyNumber_AsSsize_t(number, NULL);
+    if (PyErr_Occurred() || !is_place(at < len ? at : len, len))
+        return -1;
+    return at < len ? at : len;
+}
+
 /* boundary(form, data, at, after): an offset beyond any length counts as the length. */
 static PyObject *boundary(PyObject *module, PyObject *args) {
     Py_buffer view;
@@ -110,10 +123,29 @@ static PyObject *boundary(PyObject *module, PyObject *args) {
     (void)module;
     if (!PyArg_ParseTuple(args, "O&O&Op:boundary", take_form, &form, take_bytes, &view, &number, &after))
         return NULL;
-    at = PyNumber_AsSsize_t(number, NULL);
-    if (!PyErr_Occurred() && is_place(at < view.len ? at : view.len, view.len))
+    at = offset_within(number, view.len);
+    if (at >= 0)
         answer = PyLong_FromSize_t(after ? nody_boundary_after(form, view.buf, (size_t)view.len, (size_t)at)
                                          : nody_boundary_before(form, view.buf, (size_t)view.len, (size_t)at));
+    PyBuffer_Release(&view);
+    return answer;
+}
+
+/* changed_range(form, data, start, end): the part outside of which no piece changes if these bytes are replaced. */
+static PyObject *changed_range(PyObject *module, PyObject *args) {
+    Py_buffer view;
+    nody_form_t form;
+    PyObject *first, *last, *answer = NULL;
+    Py_ssize_t start, end;
+    (void)module;
+    if (!PyArg_ParseTuple(args, "O&O&OO:changed_range", take_form, &form, take_bytes, &view, &first, &last))
+        return NULL;
+    start = offset_within(first, view.len);
+    end = start < 0 ? -1 : offset_within(last, view.len);
+    if (end >= 0) {
+        nody_range_t range = nody_changed_range(form, view.buf, (size_t)view.len, (size_t)start, (size_t)end);
+        answer = Py_BuildValue("nn", (Py_ssize_t)range.start, (Py_ssize_t)range.end);
+    }
     PyBuffer_Release(&view);
     return answer;
 }
@@ -202,6 +234,82 @@ static PyObject *char_count(PyObject *module, PyObject *args) {
         return NULL;
     if (count_all(form, &view, &pieces, NULL))
         answer = PyLong_FromSize_t(pieces);
+    PyBuffer_Release(&view);
+    return answer;
+}
+
+/* number_of(form, data, offset): how many pieces begin before an offset. */
+static PyObject *number_of(PyObject *module, PyObject *args) {
+    Py_buffer view;
+    nody_form_t form;
+    size_t pieces = 0;
+    PyObject *offset, *answer = NULL;
+    Py_ssize_t at;
+    (void)module;
+    if (!PyArg_ParseTuple(args, "O&O&O:number_of", take_form, &form, take_bytes, &view, &offset))
+        return NULL;
+    at = offset_within(offset, view.len);
+    if (at >= 0) {
+        Py_buffer front = view;
+        front.len = (Py_ssize_t)nody_boundary_after(form, view.buf, (size_t)view.len, (size_t)at);
+        if (count_all(form, &front, &pieces, NULL))
+            answer = PyLong_FromSize_t(pieces);
+    }
+    PyBuffer_Release(&view);
+    return answer;
+}
+
+/* Where the piece with a number begins in some bytes that have it. */
+static size_t offset_in(nody_form_t form, const uint8_t *bytes, size_t len, size_t number) {
+    nody_piece_t block[BLOCK];
+    size_t at = 0;
+    if (form == NODY_FORM_UTF8)
+        return nody_utf8_offset_of(bytes, len, number);
+    while (at < len) {
+        size_t here = first_pieces(form, bytes + at, len - at, block);
+        for (size_t i = 0; i < here; i++) {
+            if (number-- == 0)
+                return at;
+            at += block[i].len;
+        }
+    }
+    return at;
+}
+
+/* The same of all bytes, window by window, of which the first is short. Answers their number if there are no more pieces. */
+static size_t find_number(Window *window, nody_form_t form, const Py_buffer *view, size_t number) {
+    size_t len = (size_t)view->len;
+    window->most = FIRST_COUNTED;
+    for (size_t at = 0; at < len; at += window->len) {
+        size_t here;
+        next_window(window, form, (const uint8_t *)view->buf + at, len - at);
+        here = count_pieces(form, window->bytes, window->len);
+        if (number < here)
+            return at + offset_in(form, window->bytes, window->len, number);
+        number -= here;
+        window->most = 2 * window->most < COUNTED ? 2 * window->most : COUNTED;
+    }
+    return len;
+}
+
+/* offset_of(form, data, number): the offset of the piece with a number, or None if there are no more pieces. */
+static PyObject *offset_of(PyObject *module, PyObject *args) {
+    Py_buffer view;
+    Window window;
+    nody_form_t form;
+    PyObject *index, *answer = NULL;
+    Py_ssize_t number;
+    (void)module;
+    if (!PyArg_ParseTuple(args, "O&O&O:offset_of", take_form, &form, take_bytes, &view, &index))
+        return NULL;
+    number = offset_within(index, view.len);
+    if (number >= 0 && open_window(&window, &view)) {
+        PyThreadState *thread = let_lock_go((size_t)view.len);
+        size_t offset = find_number(&window, form, &view, (size_t)number);
+        take_lock(thread);
+        close_window(&window);
+        answer = offset < (size_t)view.len ? PyLong_FromSize_t(offset) : Py_NewRef(Py_None);
+    }
     PyBuffer_Release(&view);
     return answer;
 }
@@ -892,6 +1000,9 @@ static PyMethodDef functions[] = {{"supported", supported, METH_NOARGS, NULL},
                                   {"form_of_bom", form_of_bom, METH_O, NULL},
                                   {"check", check, METH_O, NULL},
                                   {"char_count", char_count, METH_VARARGS, NULL},
+                                  {"number_of", number_of, METH_VARARGS, NULL},
+                                  {"offset_of", offset_of, METH_VARARGS, NULL},
+                                  {"changed_range", changed_range, METH_VARARGS, NULL},
                                   {"counts", counts, METH_VARARGS, NULL},
                                   {"fault_arrays", fault_arrays, METH_VARARGS, NULL},
                                   {"kind_counts", kind_counts, METH_VARARGS, NULL},
@@ -906,7 +1017,6 @@ static PyMethodDef functions[] = {{"supported", supported, METH_NOARGS, NULL},
 static int begin_module(PyObject *module) {
     PyType_Spec *specs[] = {&run_spec, &ends_spec, &faults_spec, &part_spec, &recoder_spec};
     const char *names[] = {"Run", "Ends", "Faults", "Part", "Recoder"};
-    *(void **)&resize = dlsym(RTLD_DEFAULT, "_PyBytes_Resize");
     for (int i = 0; i < 5; i++) {
         PyObject *type = PyType_FromSpec(specs[i]);
         if (type == NULL || PyModule_AddObject(module, names[i], type) < 0) {

@@ -13,8 +13,10 @@
 #define CHUNK 512 /* about how many bytes this has */
 #define WIDEST 16 /* the most bytes that stand for a fault: \xd8\x00 in UTF-16 */
 
+#if !defined(_WIN32)
 /* wchar_t has to have room for any character, and then a string may have lone surrogates too. */
 typedef char wide_enough[sizeof(wchar_t) == 4 ? 1 : -1];
+#endif
 
 /* ---- text that is made ---- */
 
@@ -22,8 +24,18 @@ typedef char wide_enough[sizeof(wchar_t) == 4 ? 1 : -1];
 typedef struct {
     PyObject *strings;
     size_t count;
-    wchar_t room[ROOM];
+    Py_UCS4 room[ROOM];
 } Text;
+
+/* These characters as a string, lone surrogates too. (On Windows a wchar_t has too little room for some of them) */
+static PyObject *string_of(const Py_UCS4 *characters, size_t count) {
+#if defined(_WIN32)
+    int order = -1;
+    return PyUnicode_DecodeUTF32((const char *)characters, (Py_ssize_t)(4 * count), "surrogatepass", &order);
+#else
+    return PyUnicode_FromWideChar((const wchar_t *)characters, (Py_ssize_t)count);
+#endif
+}
 
 static int begin_text(Text *text) {
     text->count = 0;
@@ -41,13 +53,13 @@ static int put_whole(Text *text, PyObject *string) {
 static int flush(Text *text) {
     size_t count = text->count;
     text->count = 0;
-    return count == 0 || put_whole(text, PyUnicode_FromWideChar(text->room, (Py_ssize_t)count));
+    return count == 0 || put_whole(text, string_of(text->room, count));
 }
 
 /* Puts a string at the end, and drops it; NULL is an error that is set already. */
 static int put(Text *text, PyObject *string) {
     Py_ssize_t len = string == NULL ? 0 : PyUnicode_GetLength(string);
-    int is_short = len <= SHORT;
+    int is_short = len <= SHORT, is_put;
     if (string == NULL)
         return 0;
     if ((!is_short || text->count + (size_t)len > ROOM) && !flush(text)) {
@@ -56,10 +68,10 @@ static int put(Text *text, PyObject *string) {
     }
     if (!is_short)
         return put_whole(text, string);
-    len = PyUnicode_AsWideChar(string, text->room + text->count, len);
+    is_put = PyUnicode_AsUCS4(string, text->room + text->count, len, 0) != NULL;
     Py_DECREF(string);
-    text->count += len < 0 ? 0 : (size_t)len;
-    return len >= 0;
+    text->count += is_put ? (size_t)len : 0;
+    return is_put;
 }
 
 /* All of it as one string; NULL where something failed before. */

@@ -8,14 +8,14 @@
 #include <string.h>
 
 #define BLOCK 256 /* pieces that cross at once, at most */
+#define FEW 32    /* the same of faults */
 #define HELD 3    /* the bytes that are held, at most */
-#define TOLD 3    /* so many more bytes tell each piece that begins in bytes that are held */
 
 /* What a part is asked for: its pieces, its faults alone, or what ends the input; before it is, nothing. The numbers are those of the
  * package. */
 enum Asked { NOTHING, PIECES, FAULTS, LAST };
 
-/* The pieces of a part. They are put into the block many at a time, and faults one by one. */
+/* The pieces of a part. They are put into the block many at a time. */
 typedef struct {
     PyObject_HEAD
     Py_buffer view;
@@ -23,9 +23,8 @@ typedef struct {
     nody_decoder_t decoder; /* before the bytes that are not read yet */
     enum Asked asked;
     size_t read;   /* how many bytes of the part were read */
-    Search search; /* for faults */
-    uint64_t base; /* the offset of the first byte that is searched */
-    size_t end;    /* how far that goes: faults from there on are not told yet */
+    Window window; /* for faults: the bytes that are read now */
+    size_t seen;   /* how many bytes of the window were read */
     char busy;     /* 1 while a call goes on: it lets the lock go */
     nody_located_t *block;
     size_t room, at, count;
@@ -33,7 +32,7 @@ typedef struct {
 
 static void part_dealloc(PyObject *object) {
     Part *self = (Part *)object;
-    close_window(&self->search.window);
+    close_window(&self->window);
     PyMem_Free(self->block);
     maker_end(&self->maker);
     PyBuffer_Release(&self->view);
@@ -98,36 +97,10 @@ static nody_decoder_t after(nody_decoder_t decoder, const Py_buffer *view) {
     return decoder;
 }
 
-/* Puts the faults of held bytes, and of the next few that tell them, into the block. */
-static void begin_block(Part *self) {
-    uint8_t copy[TOLD];
-    size_t len = (size_t)self->view.len < TOLD ? (size_t)self->view.len : TOLD, read, count;
-    memcpy(copy, self->view.buf, len);
-    count = fed(&self->decoder, copy, len, self->block, self->room, &read);
-    for (size_t i = 0; i < count; i++)
-        if (self->block[i].kind != NODY_KIND_OK)
-            self->block[self->count++] = self->block[i];
-}
-
-/* Begins to look for faults: from the part's first piece that is not told yet, up to the offset from which on none is. */
-static int begin_faults(Part *self, uint64_t end) {
-    uint64_t part = self->decoder.offset + self->decoder.count, from = 0;
-    if (!open_search(&self->search, STREAMED, self->decoder.form, &self->view))
-        return 0;
-    if (self->decoder.count > 0) {
-        begin_block(self);
-        from = self->decoder.offset - part <= TOLD ? self->decoder.offset - part : 0; /* (0 where it still holds what it held) */
-    }
-    self->search.bytes += from, self->search.len -= from;
-    self->base = part + from;
-    self->end = end - self->base <= self->search.len ? (size_t)(end - self->base) : 0;
-    return 1;
-}
-
-/* Makes the block: room for all pieces of a short part and, of faults, for those that are found in held bytes and three more. */
+/* Makes the block: room for all pieces of a short part, and for some faults. */
 static int make_block(Part *self, enum Asked asked) {
     size_t all = HELD + (size_t)self->view.len;
-    self->room = asked == FAULTS ? HELD + TOLD : all < BLOCK ? all : BLOCK;
+    self->room = asked == FAULTS ? FEW : all < BLOCK ? all : BLOCK;
     self->block = PyMem_Malloc(self->room * sizeof *self->block);
     if (self->block == NULL)
         PyErr_NoMemory();
@@ -151,8 +124,9 @@ static PyObject *part_begin(PyObject *object, PyObject *args) {
     if (!take_state(&self->decoder, offset, held, len) || !make_block(self, (enum Asked)asked))
         return NULL;
     left = after(self->decoder, &self->view);
-    if (asked == FAULTS && !begin_faults(self, left.offset))
+    if (asked == FAULTS && !open_window(&self->window, &self->view))
         return NULL;
+    self->window.most = SKIPPED;
     self->asked = (enum Asked)asked;
     if (asked == LAST)
         return Py_BuildValue("Ky#", (unsigned long long)(left.offset + left.count), "", (Py_ssize_t)0);
@@ -171,11 +145,20 @@ static size_t next_pieces(Part *self) {
     return count;
 }
 
+/* What the part ends with and later ones decide stays with the decoder, and is not told. */
 static size_t next_faults(Part *self) {
-    size_t at = 0;
-    nody_piece_t piece = next_fault(&self->search, &at);
-    self->block[0] = (nody_located_t){self->base + at, 0, (uint8_t)piece.len, piece.kind};
-    return piece.kind != NODY_KIND_NONE && at < self->end;
+    size_t len = (size_t)self->view.len, read, count = 0;
+    PyThreadState *thread = let_lock_go(len - self->read);
+    while (count == 0 && self->read < len) {
+        if (self->seen == self->window.len) {
+            next_window(&self->window, self->decoder.form, (const uint8_t *)self->view.buf + self->read, len - self->read);
+            self->seen = 0;
+        }
+        nody_decoder_feed_faults(&self->decoder, self->window.bytes + self->seen, self->window.len - self->seen, self->block, self->room, &read, &count);
+        self->seen += read, self->read += read;
+    }
+    take_lock(thread);
+    return count;
 }
 
 /* The next piece, or NULL. It is taken once it is made: so it is not lost where there was no memory. */

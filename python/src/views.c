@@ -6,10 +6,7 @@
 
 #define LARGE (64 * 1024)  /* from here on other threads run */
 #define WINDOW (32 * 1024) /* the bytes that are copied at once */
-#define SKIPPED (1 << 20)  /* the bytes over which faults are looked for at once */
 #define AHEAD 4            /* more bytes that are copied, to see what a fault at the end of a window is */
-#define FEWEST 32          /* units that are put in order at once: at first, and at most */
-#define MOST 4096
 
 int take_bytes(PyObject *data, void *into) {
     Py_buffer *view = into;
@@ -136,38 +133,8 @@ nody_piece_t last_piece(nody_form_t form, const uint8_t *bytes, size_t len) {
     return len % 2 == 1 ? half : in_bytes(nody_utf16_last(units, two_units(form, bytes + len - tail, tail, units)));
 }
 
-/* How far the units of some bytes are valid that lie in order. */
-static size_t ordered_up_to(const uint8_t *bytes, size_t len) {
-    return 2 * nody_utf16_valid_up_to((const uint16_t *)(const void *)bytes, len / 2);
-}
-
-/* Up to `most` units from the front of some bytes, put in order; a pair is not divided. Answers how many. */
-static size_t ordered(nody_form_t form, const uint8_t *bytes, size_t len, uint16_t *units, size_t most) {
-    size_t count = len / 2 < most ? len / 2 : most;
-    memcpy(units, bytes, 2 * count);
-    if (form != NODY_FORM_UTF16_NATIVE)
-        for (size_t i = 0; i < count; i++)
-            units[i] = (uint16_t)(units[i] << 8 | units[i] >> 8);
-    return count > 0 && count < len / 2 && (units[count - 1] & 0xFC00) == 0xD800 ? count - 1 : count;
-}
-
-/* The same of units that have to be put in order first: some at a time, and more while no fault comes. */
-static size_t unordered_up_to(nody_form_t form, const uint8_t *bytes, size_t len) {
-    uint16_t units[MOST];
-    size_t at = 0, most = FEWEST, count, valid;
-    do {
-        count = ordered(form, bytes + at, len - at, units, most);
-        valid = nody_utf16_valid_up_to(units, count);
-        at += 2 * valid;
-        most = 2 * most < MOST ? 2 * most : MOST;
-    } while (valid == count && len - at >= 2);
-    return at;
-}
-
 size_t valid_up_to(nody_form_t form, const uint8_t *bytes, size_t len) {
-    if (form == NODY_FORM_UTF8)
-        return nody_utf8_valid_up_to(bytes, len);
-    return form == NODY_FORM_UTF16_NATIVE && (uintptr_t)bytes % 2 == 0 ? ordered_up_to(bytes, len) : unordered_up_to(form, bytes, len);
+    return nody_utf16_bytes_valid_up_to(form, bytes, len); /* (of UTF-8 too) */
 }
 
 size_t undecided(nody_form_t form, const uint8_t *bytes, size_t len) {

@@ -88,6 +88,9 @@ enum Reader { WHOLE, STREAMED };
 Fault first_fault(Window *window, enum Reader reader, nody_form_t form, const Py_buffer *view);
 Fault find_fault(Window *window, enum Reader reader, nody_form_t form, const Py_buffer *view, size_t at);
 
+/* The bytes over which faults are looked for at once. */
+#define SKIPPED (1 << 20)
+
 /* A search for faults, one after another, window by window. */
 typedef struct {
     nody_form_t form;

@@ -6,8 +6,8 @@ import tempfile
 import unittest
 
 import noddychest
-from noddychest import (Decoder, Ends, Recoder, boundary, char_count, encoding_of_bom, faults, first_fault, is_valid, pieces, recode,
-                        recoded_len, undecided_len)
+from noddychest import (Decoder, Ends, Recoder, boundary, changed_range, char_count, encoding_of_bom, faults, first_fault, is_valid,
+                        number_of, offset_of, pieces, recode, recoded_len, undecided_len)
 
 CALLS = [
     pieces,
@@ -17,6 +17,9 @@ CALLS = [
     is_valid,
     char_count,
     lambda data: boundary(data, 1),
+    lambda data: offset_of(data, 1),
+    lambda data: number_of(data, 1),
+    lambda data: changed_range(data, 0, 1),
     undecided_len,
     lambda data: undecided_len(data, "utf16be"),
     encoding_of_bom,
@@ -51,6 +54,7 @@ class BytesLike(unittest.TestCase):
                     self.assertEqual(first_fault(it), first_fault(data))
                     self.assertEqual((is_valid(it), char_count(it), boundary(it, 12)), (False, 11, 11))
                     self.assertEqual((undecided_len(it), undecided_len(it, "utf16le"), encoding_of_bom(it)), (0, 1, None))
+                    self.assertEqual((offset_of(it, 4), number_of(it, 4), changed_range(it, 7, 8)), (6, 3, (4, 11)))
                     self.assertEqual(recode(it, "utf8", "utf16be"), recode(data, "utf8", "utf16be"))
                     self.assertEqual(Recoder("utf8", "utf8").feed(it), Recoder("utf8", "utf8").feed(data))
                     self.assertRaises(noddychest.FaultError, recode, it, "utf8", "utf16be", "strict")
@@ -72,6 +76,7 @@ class BytesLike(unittest.TestCase):
             self.assertEqual([recode(it, a, b) for a in ("utf8", "utf16le") for b in ("utf8", "utf16be")], [b""] * 4)
             self.assertEqual([*Ends(it), *reversed(Ends(it))], [])
             self.assertEqual([undecided_len(it), undecided_len(it, "utf16be"), encoding_of_bom(it)], [0, 0, None])
+            self.assertEqual([offset_of(it, 0), number_of(it, 0), changed_range(it, 0, 0)], [None, 0, (0, 0)])
             self.assertEqual(bytes(it).decode("noddychest-utf8"), "")
 
     def test_others_are_type_errors(self):

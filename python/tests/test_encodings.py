@@ -6,8 +6,8 @@ import time
 import tracemalloc
 import unittest
 
-from noddychest import (Decoder, Ends, ErrorKind, boundary_after, boundary_before, char_count, encoding_of_bom, faults, first_fault,
-                        is_valid, pieces, recode, recoded_len, undecided_len)
+from noddychest import (Decoder, Ends, ErrorKind, boundary_after, boundary_before, changed_range, char_count, encoding_of_bom, faults,
+                        first_fault, is_valid, number_of, offset_of, pieces, recode, recoded_len, undecided_len)
 
 import outside
 
@@ -102,6 +102,58 @@ class Pieces(unittest.TestCase):
             self.assertRaises(IndexError, call, b"abc", -1)
             self.assertRaises(LookupError, call, b"abc", 1, "latin-1")
 
+    def test_numbers(self):
+        for data in outside.inputs(2000, 30, seed=35):
+            for form, encoding in FORMS.items():
+                starts = [offset for offset, _, _ in outside.cut(data, encoding)]
+                for number in range(len(starts) + 2):
+                    self.assertEqual(offset_of(data, number, form), starts[number] if number < len(starts) else None, (data, form, number))
+                for at in [*range(len(data) + 3), 10**30]:
+                    self.assertEqual(number_of(data, at, form), sum(it < at for it in starts), (data, form, at))
+        self.assertEqual((offset_of(b"ab", 10**30), offset_of(b"", 0), number_of(b"", 10**30)), (None, None, 0))
+        for call in (offset_of, number_of):
+            self.assertRaises(IndexError, call, b"abc", -1)
+            self.assertRaises(IndexError, call, b"", -10**30)
+            self.assertRaises(LookupError, call, b"abc", 1, "latin-1")
+            self.assertRaises(TypeError, call, b"abc", 1.0)
+            self.assertRaises(TypeError, call, b"abc", None)
+
+    def test_numbers_of_short_inputs(self):
+        """All inputs of up to three bytes near which the rules change, and each offset inside of a character."""
+        for count in range(4):
+            for data in map(bytes, itertools.product(bytes.fromhex("418190a0bfc3e0e2edf0f4ff"), repeat=count)):
+                starts = [offset for offset, _, _ in outside.cut(data)]
+                self.assertEqual([offset_of(data, it) for it in range(count + 1)], starts + [None] * (count + 1 - len(starts)), data)
+                self.assertEqual([number_of(data, at) for at in range(count + 2)], [sum(it < at for it in starts) for at in range(count + 2)], data)
+
+    def test_changed_ranges(self):
+        source = random.Random(36)
+        for old, other in zip(outside.inputs(3000, 16, seed=37), outside.inputs(3000, 16, seed=38)):
+            start = source.randint(0, len(old))
+            end = source.randint(start, len(old))
+            put = other[:source.randint(0, 5)]
+            new = old[:start] + put + old[end:]
+            for form, encoding in FORMS.items():
+                was, now = changed_range(old, start, end, form), changed_range(new, start, start + len(put), form)
+                before, after = pieces(old, form), pieces(new, form)
+                told = (old, start, end, put, form)
+                self.assertTrue(start - 6 <= was[0] <= start and end <= was[1] <= end + 6, told)
+                self.assertEqual([it for it in before if it.offset < was[0]], [it for it in after if it.offset < now[0]], told)
+                if form != "utf8" and (len(put) - (end - start)) % 2:
+                    continue
+                self.assertEqual(now, (was[0], was[1] + len(put) - (end - start)), told)
+                self.assertEqual([(it.offset - was[1], it[1:]) for it in before if it.offset >= was[1]],
+                                 [(it.offset - now[1], it[1:]) for it in after if it.offset >= now[1]], told)
+                starts = {offset for offset, _, _ in outside.cut(old, encoding)} | {len(old)}
+                self.assertEqual(was, (max(it for it in starts if it <= max(start - 3, 0)), min(it for it in starts if it >= min(end + 3, len(old)))), told)
+
+    def test_changed_ranges_of_any_offsets(self):
+        self.assertEqual((changed_range(b"abcdef", 10**30, 10**30), changed_range(b"abcdef", 5, 1), changed_range(b"", 1, 2)), ((3, 6), (0, 4), (0, 0)))
+        for call in (lambda: changed_range(b"a", -1, 0), lambda: changed_range(b"a", 0, -10**30)):
+            self.assertRaises(IndexError, call)
+        self.assertRaises(TypeError, changed_range, b"a", 0, "1")
+        self.assertRaises(LookupError, changed_range, b"a", 0, 1, "latin-1")
+
     def test_names_are_refused(self):
         for call in (pieces, faults, first_fault, is_valid, char_count, Ends):
             self.assertRaises(LookupError, call, b"", "latin-1")
@@ -133,8 +185,12 @@ class Blocks(unittest.TestCase):
             text = "".join(source.choice("aé€😀") * source.choice([1, 3, 40, 127, 128, 129, 300]) for _ in range(source.randint(1, 6)))
             for form, encoding in FORMS.items():
                 data = text.encode(encoding)
+                number = source.randrange(len(text))
+                offset = len(text[:number].encode(encoding))
                 for it in self.places(data):
                     self.assertEqual(char_count(it, form), len(text))
+                    self.assertEqual((offset_of(it, number, form), number_of(it, offset, form), number_of(it, offset + 1, form)), (offset, number, number + 1))
+                    self.assertEqual((offset_of(it, len(text), form), number_of(it, len(it), form)), (None, len(text)))
                 at = source.randrange(len(data) + 1)
                 for it in self.places(data[:at] + b"\xff" * source.randint(1, 3) + data[at:]):
                     self.assertEqual(char_count(it, form), len(pieces(it, form)))

@@ -7,8 +7,8 @@ import sys
 import tracemalloc
 import unittest
 
-from noddychest import (Decoder, Ends, ErrorKind, Piece, Recoder, boundary, char_count, encoding_of_bom, faults, first_fault, is_valid,
-                        pieces, recode, recoded_len, stream_faults, stream_pieces, undecided_len)
+from noddychest import (Decoder, Ends, ErrorKind, Piece, Recoder, boundary, changed_range, char_count, encoding_of_bom, faults, first_fault,
+                        is_valid, number_of, offset_of, pieces, recode, recoded_len, stream_faults, stream_pieces, undecided_len)
 
 FORMS = {"utf8": "utf-8", "utf16le": "utf-16-le", "utf16be": "utf-16-be"}
 SIZE = 1_200_000
@@ -95,6 +95,8 @@ CALLS = {
     "Ends": lambda: (next(Ends(b"a\xff")), Ends(bytearray(3), "utf16le").next_back()),
     "faults": lambda: (list(faults(b"a\xff\xe2")), list(faults(bytearray(b"\xff")))),
     "counts": lambda: (char_count(bytearray(9)), first_fault(memoryview(b"\xff")), is_valid(b""), boundary(b"abc", 10**30)),
+    "numbers": lambda: (offset_of(bytearray(70_000), 69_999), number_of(memoryview(b"a\xff"), 10**30), offset_of(b"a", 10**30), changed_range(bytearray(9), 1, 2)),
+    "wrong numbers": failing(lambda: (number_of(bytearray(9), -1))),
     "ends and marks": lambda: (undecided_len(bytearray(b"a\xe2")), encoding_of_bom(b"\xff\xfe"), encoding_of_bom(memoryview(b"a"))),
     "recode": lambda: (recode(b"\xff" * 100, "utf8", "utf16le"), recode(bytearray(70_000), "utf8", "utf8")),
     "recoded_len": lambda: (recoded_len(b"a", "utf8", "utf8"), recoded_len(bytearray(70_000), "utf8", "utf8")),

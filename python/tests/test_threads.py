@@ -11,7 +11,8 @@ import time
 import unittest
 
 import noddychest
-from noddychest import Decoder, Ends, FaultError, Recoder, char_count, faults, first_fault, is_valid, pieces, recode, recoded_len
+from noddychest import (Decoder, Ends, FaultError, Recoder, changed_range, char_count, faults, first_fault, is_valid, number_of, offset_of, pieces,
+                        recode, recoded_len)
 
 SIZE = 32 << 20
 TRIES = 100
@@ -246,6 +247,8 @@ class LockIsLetGo(unittest.TestCase):
             "is_valid": is_valid,
             "first_fault": first_fault,
             "char_count": char_count,
+            "offset_of": lambda it: offset_of(it, SIZE),
+            "number_of": lambda it: number_of(it, SIZE),
             "pieces": lambda it: len(pieces(it)),
             "pieces of UTF-16": lambda it: len(pieces(it, "utf16be")),
             "faults": lambda it: list(faults(it)),
@@ -267,7 +270,7 @@ class LockIsLetGo(unittest.TestCase):
     def test_nothing_goes_away_meanwhile(self):
         """What would move the bytes, or give them back, is refused while a call reads them."""
         for make, drop in ((lambda: bytearray(SIZE), lambda it: it.append(97)), (lambda: mmap.mmap(-1, SIZE), lambda it: it.close())):
-            for call in (is_valid, char_count, lambda it: recode(it, "utf16le", "utf16be")):
+            for call in (is_valid, char_count, lambda it: offset_of(it, SIZE), lambda it: recode(it, "utf16le", "utf16be")):
                 self.assertTrue(any(self.is_refused(make(), drop, call) for _ in range(TRIES)))
 
     def is_refused(self, it, drop, call):
@@ -321,6 +324,9 @@ class ChangingBuffers(unittest.TestCase):
                 if not 0 < count <= size + 1 or not (fault is None or 0 <= fault.offset <= size):
                     wrong.append((count, fault))
                 form, to = random.choice(forms), random.choice(forms)
+                place, number, changed = offset_of(it, size // 3, form), number_of(it, size // 2, form), changed_range(it, 99_999, 100_007, form)
+                if not (place is None or 0 <= place <= size) or not 0 < number <= size or not changed[0] <= 99_999 < 100_007 <= changed[1]:
+                    wrong.append((place, number, changed))
                 if not max(len(recode(it, form, to)), len(recode(it, form, to, "maximal")), recoded_len(it, form, to)) <= 3 * size + 9:
                     wrong.append((form, to))
                 if not all(piece.offset <= size and piece.error for piece in itertools.islice(faults(it, form), 1000)):

@@ -269,6 +269,52 @@ def char_count(data: Union[ReadableBuffer, Shard], encoding: str = "utf8") -> in
     return _noddychest.char_count(form_of(encoding), data)
 
 
+def offset_of(data: ReadableBuffer, number: int, encoding: str = "utf8") -> Optional[int]:
+    """The offset of the character or invalid byte with a number, counted from 0. None if there are no more: so `data[:offset_of(data, 80)]`
+    is the first 80, or all. It is `pieces(data)[number].offset`, found without counting all of the data.
+
+    data: any bytes-like object. number: which one. encoding: the encoding of the data.
+    Errors: IndexError for a negative number, LookupError for an unknown encoding, TypeError for what is no data.
+    Cost: it reads the data up to the offset.
+
+    >>> offset_of(b"h\\xc3\\xa9\\xe2\\x82A", 2), offset_of(b"abc", 3) is None
+    (3, True)
+    """
+    return _noddychest.offset_of(form_of(encoding), data, operator.index(number))
+
+
+def number_of(data: ReadableBuffer, offset: int, encoding: str = "utf8") -> int:
+    """How many characters and invalid bytes begin before an offset. If one begins at the offset, this is its number, counted from 0. If the
+    offset is the length or more, all are counted.
+
+    data: any bytes-like object. offset: the offset. encoding: the encoding of the data.
+    Errors: IndexError for a negative offset, LookupError for an unknown encoding, TypeError for what is no data.
+    Cost: it reads the data up to the offset.
+
+    >>> number_of(b"h\\xc3\\xa9\\xe2\\x82A", 3), number_of(b"abc", 99)
+    (2, 3)
+    """
+    return _noddychest.number_of(form_of(encoding), data, operator.index(offset))
+
+
+def changed_range(data: ReadableBuffer, start: int, end: int, encoding: str = "utf8") -> tuple[int, int]:
+    """The part of the data, from one offset up to another, outside of which all characters and invalid bytes stay if the bytes from `start`
+    up to `end` are replaced by any others: what to decode again after an edit. What was decoded before it stays, and what was decoded after
+    it moves with its bytes. It begins at most six bytes before `start`, and ends at most six bytes after `end`.
+
+    In UTF-16, if the length changes by an odd number of bytes, all from its start on may change.
+
+    data: any bytes-like object, with the text after the edit; or with the text before it. start, end: where the new bytes are in it, or those
+    that are to go. Offsets above the length count as the length, and a start above the end counts as the end. encoding: the encoding.
+    Errors: IndexError for a negative offset, LookupError for an unknown encoding, TypeError for what is no data.
+    Cost: the same for each length.
+
+    >>> changed_range("abc€defg€hij".encode(), 8, 9)
+    (3, 13)
+    """
+    return _noddychest.changed_range(form_of(encoding), data, operator.index(start), operator.index(end))
+
+
 def boundary_before(data: ReadableBuffer, at: int, encoding: str = "utf8") -> int:
     """The last offset up to `at` that is not inside a character: there you can divide the text. It is at most three bytes before `at`.
     If `at` is the length or more, it is the length. A negative offset is an IndexError.
