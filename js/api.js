@@ -1,10 +1,9 @@
 // The calls of the package, over a module that node.js or web.js has loaded. index.d.ts says what they take and return.
-import { Codec, FEW, FORMS, INCOMPLETE, MAXIMAL, NONE, NO_PIECES, OK, REPLACE, ROOM, SEEN, STRICT, TOO_FEW, UTF16LE, UTF8, joined } from "./codec.js";
+import { Codec, FEW, FORMS, INCOMPLETE, MAXIMAL, NONE, NO_BYTES, NO_PIECES, OK, REPLACE, ROOM, SEEN, STRICT, TOO_FEW, UTF16LE, UTF8, joined } from "./codec.js";
 
 // Bytes whose pieces are asked for at once.
 const BLOCK = 4096;
 const MEGABYTE = 1 << 20;
-const NO_BYTES = new Uint8Array(0);
 let codec;
 
 export function use(instance) {
@@ -91,7 +90,7 @@ function wayOf(options = {}) {
 }
 
 // An offset that a caller gives.
-function offsetOf(at) {
+function wholeOf(at) {
     if (Number.isSafeInteger(at) && at >= 0) return at;
     throw new RangeError(`noddychest: an offset is a whole number from 0 on, and not ${String(at)}`);
 }
@@ -231,12 +230,17 @@ export const firstFault = (data, encoding = "utf-8") => faultsIn(bytesOf(data), 
 
 export const isValid = (data, encoding) => firstFault(data, encoding) === null;
 
+// Takes a window of the bytes, at most so long. Returns the boundary at which it ends.
+function windowEnd(bytes, at, size, form) {
+    codec.fill(bytes.subarray(at, at + size), form);
+    return at + codec.len === bytes.length ? codec.len : codec.boundary(codec.len - SEEN);
+}
+
 // The sum of what a call tells of windows that end at boundaries, one after the other.
 function summed(bytes, form, call) {
     let sum = 0;
     for (let at = 0; at < bytes.length; ) {
-        codec.fill(bytes.subarray(at, at + MEGABYTE), form);
-        const end = at + codec.len === bytes.length ? codec.len : codec.boundary(codec.len - SEEN);
+        const end = windowEnd(bytes, at, MEGABYTE, form);
         sum += call(bytes.subarray(at, at + end), end);
         at += end;
     }
@@ -253,17 +257,55 @@ export function recodedLength(data, from, to) {
     });
 }
 
-// The boundary near an offset: the bytes near it decide.
-function boundaryOf(data, at, encoding, isAfter) {
-    const [bytes, form, place] = [bytesOf(data), formOf(encoding), offsetOf(at)];
-    if (place >= bytes.length) return bytes.length;
+// Takes the bytes near an offset, which decide what pieces lie there. Returns where they begin.
+function standNear(bytes, place, form) {
     const start = startBefore(place, 2 * SEEN, form);
     codec.fill(bytes.subarray(start, place + 2 * SEEN), form);
+    return start;
+}
+
+// The boundary near an offset.
+function boundaryOf(data, at, encoding, isAfter) {
+    const [bytes, form, place] = [bytesOf(data), formOf(encoding), wholeOf(at)];
+    if (place >= bytes.length) return bytes.length;
+    const start = standNear(bytes, place, form);
     return start + codec.boundary(place - start, isAfter);
 }
 
 export const boundaryBefore = (data, at, encoding = "utf-8") => boundaryOf(data, at, encoding, false);
 export const boundaryAfter = (data, at, encoding = "utf-8") => boundaryOf(data, at, encoding, true);
+
+// The offset of the piece with a number: counted window by window, of which the first is short.
+export function offsetOf(data, number, encoding = "utf-8") {
+    const [bytes, form] = [bytesOf(data), formOf(encoding)];
+    let [left, size] = [wholeOf(number), BLOCK];
+    for (let at = 0; at < bytes.length; size = Math.min(2 * size, MEGABYTE)) {
+        const end = windowEnd(bytes, at, size, form);
+        const count = codec.countBetween(0, end);
+        if (left < count) return at + codec.offsetOf(left);
+        left -= count;
+        at += end;
+    }
+    return null;
+}
+
+export function numberOf(data, offset, encoding = "utf-8") {
+    const [bytes, form] = [bytesOf(data), formOf(encoding)];
+    const front = bytes.subarray(0, boundaryOf(bytes, offset, encoding, true));
+    return summed(front, form, (_, end) => codec.countBetween(0, end));
+}
+
+// (the bytes near each end decide)
+export function changedRange(data, start, end, encoding = "utf-8") {
+    const [bytes, form] = [bytesOf(data), formOf(encoding)];
+    const last = Math.min(wholeOf(end), bytes.length);
+    const [before, after] = [Math.min(wholeOf(start), last), last].map((place) => {
+        const base = standNear(bytes, place, form);
+        const range = codec.changedRange(place - base);
+        return { start: base + range.start, end: base + range.end };
+    });
+    return { start: before.start, end: after.end };
+}
 
 // (the last bytes decide)
 export function undecidedLength(data, encoding = "utf-8") {
@@ -291,10 +333,18 @@ export class FaultError extends TypeError {
     }
 }
 
+// What comes of bytes that are fed to a recoder, at whose first an offset stands; after the last ones its input ends. It throws where it is
+// strict and meets an invalid byte.
+function recoded(state, bytes, { form, mode, base = 0, isLast }) {
+    const chunks = [];
+    const { fault } = codec.feed(state, bytes, chunks, { mode, isLast });
+    if (fault) throw new FaultError(shown(fault, base), form);
+    return joined(chunks);
+}
+
 export function recode(data, from, to, options) {
-    const recoder = new Recoder(from, to, options);
-    const [fed, last] = [recoder.feed(data), recoder.finish()];
-    return last.length ? joined([fed, last]) : fed;
+    const [form, target, mode] = [formOf(from), formOf(to), wayOf(options)];
+    return recoded(codec.newRecoder(form, target), bytesOf(data), { form, mode, isLast: true });
 }
 
 export class Recoder {
@@ -314,23 +364,21 @@ export class Recoder {
         return codec.replacedBy(this.#state);
     }
 
-    // Keeps the state after a call, or throws where that met an invalid byte, and then nothing has changed.
-    #keep(state, fault) {
-        if (fault) throw new FaultError(shown(fault, this.#count), this.#from);
+    // (where it throws, nothing has changed)
+    #put(bytes, isLast) {
+        const state = this.#state.slice();
+        const made = recoded(state, bytes, { form: this.#from, mode: this.#way, base: this.#count, isLast });
         this.#state = state;
+        this.#count += bytes.length;
+        return made;
     }
 
     feed(data) {
-        const [bytes, chunks, state] = [bytesOf(data), [], this.#state.slice()];
-        this.#keep(state, codec.feed(state, bytes, chunks, { mode: this.#way }).fault);
-        this.#count += bytes.length;
-        return joined(chunks);
+        return this.#put(bytesOf(data), false);
     }
 
     finish() {
-        const [chunks, state] = [[], this.#state.slice()];
-        this.#keep(state, codec.finish(state, chunks, this.#way));
-        return joined(chunks);
+        return this.#put(NO_BYTES, true);
     }
 }
 
@@ -346,7 +394,7 @@ export function recoderStream(from, to, options) {
 // The offset from which options ask to count.
 function startOf(options = {}) {
     const { offset = 0 } = objectOf(options, "{ offset: 0 }");
-    return offsetOf(offset);
+    return wholeOf(offset);
 }
 
 // A part of the input that a decoder reads, or the end of the input, which has no bytes.

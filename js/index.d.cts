@@ -89,6 +89,27 @@ export function isValid(data: Bytes, encoding?: Encoding): boolean;
 export function charCount(data: Bytes, encoding?: Encoding): number;
 
 /**
+ * The offset of the piece with that number, counted from 0, or null where there are no more pieces. What is no whole number from 0 on is a
+ * `RangeError`. O(n) in the offset.
+ */
+export function offsetOf(data: Bytes, number: number, encoding?: Encoding): number | null;
+
+/**
+ * How many pieces begin before an offset: where one begins at it, its number, counted from 0. All of them where the offset is the length or
+ * more. What is no whole number from 0 on is a `RangeError`. O(n) in the offset.
+ */
+export function numberOf(data: Bytes, offset: number, encoding?: Encoding): number;
+
+/**
+ * The part of a text outside of which no piece changes where the bytes from `start` up to `end` are replaced by any others: what to decode
+ * again after an edit. What was decoded before its start stays, and what was decoded from its end on moves with its bytes. `data` is the
+ * text after the edit, with where the new bytes are in it, or the text before it. In UTF-16, where the length changes by an odd number of
+ * bytes, all from its start on may change. It begins at most six bytes before `start`, and ends at most six after `end`. Offsets above the
+ * length count as the length, and a start above the end as the end; what is no whole number from 0 on is a `RangeError`. O(1).
+ */
+export function changedRange(data: Bytes, start: number, end: number, encoding?: Encoding): { start: number; end: number };
+
+/**
  * The last offset up to `at` that is inside of no character, and in UTF-16 of no unit; the length where `at` is beyond it. Text that is
  * divided there gives the same pieces. What is no whole number from 0 on is a `RangeError`. O(1).
  */

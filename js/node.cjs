@@ -3,11 +3,11 @@
 // The calls of the proved module, as plain numbers. This is the one file that knows their names and what stands where. There are two
 // modules with the same calls: one with vectors, and one for who has none.
 //
-// Offsets and lengths are in bytes, in UTF-16 too. UTF-16 stands in the module's memory little-endian; of big-endian input the bytes
-// are kept beside it as they came.
+// Offsets and lengths are in bytes, in UTF-16 too. Big-endian UTF-16 stands in the module's memory as it came until a call needs units: then
+// it is made little-endian, and the bytes as they came are made again where somebody asks for them.
 //
 // The module's memory has a fixed size of 16 MiB. After its own stack and constants stand, from __heap_base on: a cursor, an answer,
-// two lengths, a recoder or decoder and a fault; room for pieces; a part that is recoded and room for what it becomes; and the caller's bytes.
+// two lengths, a recoder or decoder and a fault; room for pieces; a part that is recoded; the caller's bytes; and room for what parts become.
 
 const OK = 0;
 // The kinds that more bytes may change: of a character that the end cuts off, in UTF-8 and in UTF-16.
@@ -31,6 +31,10 @@ const PIECE = 16;
 const ROOM = 4096;
 const PART = 65536;
 const PART_ROOM = 4 * PART;
+// What parts become stands one after the other, up to about so many bytes, and is copied out at once: each array is new memory, and that
+// takes longer than to recode.
+const MADE = 4 * 1024 * 1024;
+const NO_BYTES = new Uint8Array(0);
 // The size of a recoder, and of a decoder; and where the count of replaced bytes stands in the one, and in the other how many bytes it
 // holds, and its offset.
 const STATE = 16;
@@ -57,8 +61,8 @@ class Codec {
         this.fault = this.state + 16;
         this.room = this.fault + 32;
         this.part = this.room + ROOM * PIECE;
-        this.made = this.part + PART;
-        this.start = this.made + PART_ROOM;
+        this.start = this.part + PART;
+        this.made = this.start + MOST;
         this.filled = 0;
         this.fill(new Uint8Array(0));
         this.names = this.textsOfKinds(calls.nody_put_kind_name);
@@ -71,11 +75,8 @@ class Codec {
         this.len = bytes.length;
         this.form = form;
         this.unit = form === UTF8 ? 1 : 2;
+        this.standing = form;
         this.original = null;
-        if (form === UTF16BE) {
-            this.original = new Uint8Array(bytes);
-            swap(this.memory, this.start, bytes.length);
-        }
         return ++this.filled;
     }
 
@@ -86,13 +87,29 @@ class Codec {
 
     // The bytes as they came.
     get bytes() {
-        return this.original ?? this.memory.subarray(this.start, this.start + this.len);
+        if (this.form !== UTF16BE) return this.memory.subarray(this.start, this.start + this.len);
+        if (!this.original) {
+            this.original = this.memory.slice(this.start, this.start + this.len);
+            if (this.isTurned) swap(this.original, 0, this.len);
+        }
+        return this.original;
     }
 
     setByte(place, byte) {
         if (this.original) this.original[place] = byte;
         const isLast = place === this.len - 1 && this.len % 2 === 1;
-        this.memory[this.start + (this.original && !isLast ? place ^ 1 : place)] = byte;
+        this.memory[this.start + (this.isTurned && !isLast ? place ^ 1 : place)] = byte;
+    }
+
+    // Whether big-endian units were made little-endian.
+    get isTurned() {
+        return this.standing !== this.form;
+    }
+
+    turn() {
+        if (this.standing !== UTF16BE) return;
+        swap(this.memory, this.start, this.len);
+        this.standing = UTF16LE;
     }
 
     // The length up to the last whole unit.
@@ -108,6 +125,7 @@ class Codec {
     // The bytes from one offset up to and without another are left.
     setCursor(front, back) {
         const { view, cursor } = this;
+        this.turn();
         view.setUint32(cursor, this.start + front, true);
         view.setUint32(cursor + 4, 0, true);
         view.setUint32(cursor + 8, (back - front) / this.unit, true);
@@ -237,6 +255,7 @@ class Codec {
 
     // The offset of the first invalid byte from an offset on at which a piece begins, or the length where there is none.
     validUpTo(front = 0) {
+        if (this.standing === UTF16BE) return front + this.validFrom(UTF16BE, front, Math.max(this.whole, front));
         const call = this.form === UTF8 ? this.calls.nody_utf8_valid_up_to : this.calls.nody_utf16_valid_up_to;
         const units = BigInt(Math.max(this.whole - front, 0) / this.unit);
         return front + this.unit * Number(call(this.address(this.start + front), units));
@@ -244,15 +263,29 @@ class Codec {
 
     // How many pieces there are from one boundary on and before another.
     countBetween(front, back) {
+        this.turn();
         const call = this.form === UTF8 ? this.calls.nody_utf8_char_count : this.calls.nody_utf16_char_count;
         const whole = Math.max(Math.min(back, this.whole) - front, 0);
         return Number(call(this.address(this.start + front), BigInt(whole / this.unit))) + (back - front - whole);
     }
 
+    // Where the piece with a number begins, of those that are there.
+    offsetOf(number) {
+        const call = this.form === UTF8 ? this.calls.nody_utf8_offset_of : this.calls.nody_utf16_offset_of;
+        return this.unit * Number(call(this.address(this.start), BigInt(this.whole / this.unit), BigInt(number)));
+    }
+
+    // The part outside of which no piece changes if something is inserted at an offset.
+    changedRange(at) {
+        const [form, place] = [Math.min(this.form, UTF16LE), BigInt(at)];
+        this.calls.nody_changed_range(this.address(this.answer), form, this.address(this.start), BigInt(this.len), place, place);
+        return { start: this.number(this.answer), end: this.number(this.answer + 8) };
+    }
+
     // The last offset up to `at`, or the first one from there on, that lies in no character and no unit.
     boundary(at, isAfter = false) {
         const call = isAfter ? this.calls.nody_boundary_after : this.calls.nody_boundary_before;
-        return Number(call(Math.min(this.form, UTF16LE), this.address(this.start), BigInt(this.len), BigInt(at)));
+        return Number(call(this.standing, this.address(this.start), BigInt(this.len), BigInt(at)));
     }
 
     // How many bytes at the end of these depend on what follows, in a form. (They have to stand as they came: `fill` was given no form.)
@@ -269,7 +302,7 @@ class Codec {
 
     // How many bytes these become in another form.
     recodedLength(to) {
-        return Number(this.calls.nody_recoded_len(Math.min(this.form, UTF16LE), to, this.address(this.start), BigInt(this.len)));
+        return Number(this.calls.nody_recoded_len(this.standing, to, this.address(this.start), BigInt(this.len)));
     }
 
     // A recoder that holds nothing, as the bytes of its struct.
@@ -284,41 +317,40 @@ class Codec {
     }
 
     // Feeds bytes to a recoder, and puts what comes of them into `chunks`, up to about so many bytes, or, where it is strict, up to the
-    // first invalid byte. Returns how many were fed, and that byte or null. (Calls that are not strict take one argument less: the last
-    // is passed over.)
-    feed(state, source, chunks, { most = Infinity, mode = REPLACE } = {}) {
+    // first invalid byte. Returns how many were fed, and that byte or null. Where these bytes are the last ones, the input ends after them.
+    // (Calls that are not strict take one argument less: the last is passed over.)
+    feed(state, source, chunks, { most = Infinity, mode = REPLACE, isLast = false } = {}) {
         const call = this.calls[`nody_recoder_feed${MODES[mode]}`];
-        const [recoder, read, written, fault] = [this.state, this.numbers, this.numbers + 8, this.fault].map(this.address);
-        const [part, made, room] = [this.address(this.part), this.address(this.made), BigInt(PART_ROOM)];
+        const [recoder, part, read, written, fault] = [this.state, this.part, this.numbers, this.numbers + 8, this.fault].map(this.address);
         this.memory.set(state, this.state);
-        let [at, status] = [0, 0];
-        for (let total = 0; at < source.length && total < most && status !== FAULT; ) {
+        let [at, total, made, status] = [0, 0, 0, 0];
+        while (at < source.length && total < most && status !== FAULT) {
             const taken = source.subarray(at, at + PART);
             this.memory.set(taken, this.part);
-            status = call(recoder, part, BigInt(taken.length), made, room, read, written, fault);
+            status = call(recoder, part, BigInt(taken.length), this.address(this.made + made), BigInt(PART_ROOM), read, written, fault);
             at += this.number(this.numbers);
-            total += this.keep(chunks, this.number(this.numbers + 8));
+            made += this.number(this.numbers + 8);
+            total += this.number(this.numbers + 8);
+            if (made > MADE) made -= this.keep(chunks, made);
         }
+        if (isLast && at === source.length && status !== FAULT) {
+            status = this.calls[`nody_recoder_finish${MODES[mode]}`](recoder, this.address(this.made + made), BigInt(PART_ROOM), written, fault);
+            made += this.number(this.numbers + 8);
+        }
+        this.keep(chunks, made);
         state.set(this.memory.subarray(this.state, this.state + STATE));
-        return { at, fault: this.faultBefore(status, at) };
+        return { at, fault: status === FAULT ? this.faultBefore(at) : null };
     }
 
     // What a recoder still holds, as no more input follows. Returns the first invalid byte, where it is strict, or null; its place counts
     // from the end of the input.
     finish(state, chunks, mode = REPLACE) {
-        const call = this.calls[`nody_recoder_finish${MODES[mode]}`];
-        this.memory.set(state, this.state);
-        const [recoder, made, numbers, fault] = [this.state, this.made, this.numbers, this.fault].map(this.address);
-        const status = call(recoder, made, BigInt(PART_ROOM), numbers, fault);
-        this.keep(chunks, this.number(this.numbers));
-        state.set(this.memory.subarray(this.state, this.state + STATE));
-        return this.faultBefore(status, 0);
+        return this.feed(state, NO_BYTES, chunks, { mode, isLast: true }).fault;
     }
 
-    // The fault at which a strict call stopped, after so many bytes were read; null where it met none.
-    faultBefore(status, read) {
+    // The fault at which a strict call stopped, after so many bytes were read.
+    faultBefore(read) {
         const { fault } = this;
-        if (status !== FAULT) return null;
         return { place: read - this.number(fault + 8), len: this.number(fault), kind: this.view.getUint8(fault + 16) };
     }
 
@@ -358,9 +390,9 @@ class Codec {
         return count ? new Row(this.memory.slice(this.room, this.room + count * PIECE)) : NO_PIECES;
     }
 
-    // How many bytes from a place on are valid in a form. (They have to stand as they came: `fill` was given no form.)
-    validFrom(form, from) {
-        return Number(this.calls.nody_utf16_bytes_valid_up_to(form, this.address(this.start + from), BigInt(this.len - from)));
+    // How many bytes from a place on, up to another, are valid in a form in which they stand.
+    validFrom(form, from, end = this.len) {
+        return Number(this.calls.nody_utf16_bytes_valid_up_to(form, this.address(this.start + from), BigInt(end - from)));
     }
 
     keep(chunks, count) {
@@ -370,8 +402,8 @@ class Codec {
 
     // These bytes in another form, as chunks; about so many bytes of them where there are more.
     recode(from, to, source, { most = Infinity, mode = REPLACE } = {}) {
-        const [chunks, state] = [[], this.newRecoder(from, to)];
-        if (this.feed(state, source, chunks, { most, mode }).at === source.length) this.finish(state, chunks, mode);
+        const chunks = [];
+        this.feed(this.newRecoder(from, to), source, chunks, { most, mode, isLast: true });
         return chunks;
     }
 }
@@ -421,9 +453,12 @@ class Row {
 
 const NO_PIECES = new Row(new Uint8Array(0));
 
-// Exchanges the bytes of each whole unit of some memory.
+// Exchanges the bytes of each whole unit of some memory, from a multiple of four on; two units at a time.
 function swap(memory, start, len) {
-    for (let at = start, end = start + len - 1; at < end; at += 2) [memory[at], memory[at + 1]] = [memory[at + 1], memory[at]];
+    const pairs = new Int32Array(memory.buffer, memory.byteOffset + start, Math.floor(len / 4));
+    for (let i = 0; i < pairs.length; i++) pairs[i] = ((pairs[i] & 0xff00ff) << 8) | ((pairs[i] >>> 8) & 0xff00ff);
+    const at = start + 4 * pairs.length;
+    if (len % 4 >= 2) [memory[at], memory[at + 1]] = [memory[at + 1], memory[at]];
 }
 
 // Chunks, one after the other.
@@ -443,7 +478,6 @@ function joined(chunks) {
 // Bytes whose pieces are asked for at once.
 const BLOCK = 4096;
 const MEGABYTE = 1 << 20;
-const NO_BYTES = new Uint8Array(0);
 let codec;
 
 function use(instance) {
@@ -530,7 +564,7 @@ function wayOf(options = {}) {
 }
 
 // An offset that a caller gives.
-function offsetOf(at) {
+function wholeOf(at) {
     if (Number.isSafeInteger(at) && at >= 0) return at;
     throw new RangeError(`noddychest: an offset is a whole number from 0 on, and not ${String(at)}`);
 }
@@ -670,12 +704,17 @@ const firstFault = (data, encoding = "utf-8") => faultsIn(bytesOf(data), formOf(
 
 const isValid = (data, encoding) => firstFault(data, encoding) === null;
 
+// Takes a window of the bytes, at most so long. Returns the boundary at which it ends.
+function windowEnd(bytes, at, size, form) {
+    codec.fill(bytes.subarray(at, at + size), form);
+    return at + codec.len === bytes.length ? codec.len : codec.boundary(codec.len - SEEN);
+}
+
 // The sum of what a call tells of windows that end at boundaries, one after the other.
 function summed(bytes, form, call) {
     let sum = 0;
     for (let at = 0; at < bytes.length; ) {
-        codec.fill(bytes.subarray(at, at + MEGABYTE), form);
-        const end = at + codec.len === bytes.length ? codec.len : codec.boundary(codec.len - SEEN);
+        const end = windowEnd(bytes, at, MEGABYTE, form);
         sum += call(bytes.subarray(at, at + end), end);
         at += end;
     }
@@ -692,17 +731,55 @@ function recodedLength(data, from, to) {
     });
 }
 
-// The boundary near an offset: the bytes near it decide.
-function boundaryOf(data, at, encoding, isAfter) {
-    const [bytes, form, place] = [bytesOf(data), formOf(encoding), offsetOf(at)];
-    if (place >= bytes.length) return bytes.length;
+// Takes the bytes near an offset, which decide what pieces lie there. Returns where they begin.
+function standNear(bytes, place, form) {
     const start = startBefore(place, 2 * SEEN, form);
     codec.fill(bytes.subarray(start, place + 2 * SEEN), form);
+    return start;
+}
+
+// The boundary near an offset.
+function boundaryOf(data, at, encoding, isAfter) {
+    const [bytes, form, place] = [bytesOf(data), formOf(encoding), wholeOf(at)];
+    if (place >= bytes.length) return bytes.length;
+    const start = standNear(bytes, place, form);
     return start + codec.boundary(place - start, isAfter);
 }
 
 const boundaryBefore = (data, at, encoding = "utf-8") => boundaryOf(data, at, encoding, false);
 const boundaryAfter = (data, at, encoding = "utf-8") => boundaryOf(data, at, encoding, true);
+
+// The offset of the piece with a number: counted window by window, of which the first is short.
+function offsetOf(data, number, encoding = "utf-8") {
+    const [bytes, form] = [bytesOf(data), formOf(encoding)];
+    let [left, size] = [wholeOf(number), BLOCK];
+    for (let at = 0; at < bytes.length; size = Math.min(2 * size, MEGABYTE)) {
+        const end = windowEnd(bytes, at, size, form);
+        const count = codec.countBetween(0, end);
+        if (left < count) return at + codec.offsetOf(left);
+        left -= count;
+        at += end;
+    }
+    return null;
+}
+
+function numberOf(data, offset, encoding = "utf-8") {
+    const [bytes, form] = [bytesOf(data), formOf(encoding)];
+    const front = bytes.subarray(0, boundaryOf(bytes, offset, encoding, true));
+    return summed(front, form, (_, end) => codec.countBetween(0, end));
+}
+
+// (the bytes near each end decide)
+function changedRange(data, start, end, encoding = "utf-8") {
+    const [bytes, form] = [bytesOf(data), formOf(encoding)];
+    const last = Math.min(wholeOf(end), bytes.length);
+    const [before, after] = [Math.min(wholeOf(start), last), last].map((place) => {
+        const base = standNear(bytes, place, form);
+        const range = codec.changedRange(place - base);
+        return { start: base + range.start, end: base + range.end };
+    });
+    return { start: before.start, end: after.end };
+}
 
 // (the last bytes decide)
 function undecidedLength(data, encoding = "utf-8") {
@@ -730,10 +807,18 @@ class FaultError extends TypeError {
     }
 }
 
+// What comes of bytes that are fed to a recoder, at whose first an offset stands; after the last ones its input ends. It throws where it is
+// strict and meets an invalid byte.
+function recoded(state, bytes, { form, mode, base = 0, isLast }) {
+    const chunks = [];
+    const { fault } = codec.feed(state, bytes, chunks, { mode, isLast });
+    if (fault) throw new FaultError(shown(fault, base), form);
+    return joined(chunks);
+}
+
 function recode(data, from, to, options) {
-    const recoder = new Recoder(from, to, options);
-    const [fed, last] = [recoder.feed(data), recoder.finish()];
-    return last.length ? joined([fed, last]) : fed;
+    const [form, target, mode] = [formOf(from), formOf(to), wayOf(options)];
+    return recoded(codec.newRecoder(form, target), bytesOf(data), { form, mode, isLast: true });
 }
 
 class Recoder {
@@ -753,23 +838,21 @@ class Recoder {
         return codec.replacedBy(this.#state);
     }
 
-    // Keeps the state after a call, or throws where that met an invalid byte, and then nothing has changed.
-    #keep(state, fault) {
-        if (fault) throw new FaultError(shown(fault, this.#count), this.#from);
+    // (where it throws, nothing has changed)
+    #put(bytes, isLast) {
+        const state = this.#state.slice();
+        const made = recoded(state, bytes, { form: this.#from, mode: this.#way, base: this.#count, isLast });
         this.#state = state;
+        this.#count += bytes.length;
+        return made;
     }
 
     feed(data) {
-        const [bytes, chunks, state] = [bytesOf(data), [], this.#state.slice()];
-        this.#keep(state, codec.feed(state, bytes, chunks, { mode: this.#way }).fault);
-        this.#count += bytes.length;
-        return joined(chunks);
+        return this.#put(bytesOf(data), false);
     }
 
     finish() {
-        const [chunks, state] = [[], this.#state.slice()];
-        this.#keep(state, codec.finish(state, chunks, this.#way));
-        return joined(chunks);
+        return this.#put(NO_BYTES, true);
     }
 }
 
@@ -785,7 +868,7 @@ function recoderStream(from, to, options) {
 // The offset from which options ask to count.
 function startOf(options = {}) {
     const { offset = 0 } = objectOf(options, "{ offset: 0 }");
-    return offsetOf(offset);
+    return wholeOf(offset);
 }
 
 // A part of the input that a decoder reads, or the end of the input, which has no bytes.
@@ -999,4 +1082,4 @@ async function* streamText(stream, encoding = "utf-8", options) {
 const file = require("node:path").join(__dirname, hasVectors() ? "noddychest-simd.wasm" : "noddychest.wasm");
 use(new WebAssembly.Instance(new WebAssembly.Module(require("node:fs").readFileSync(file))));
 
-module.exports = { Decoder, Ends, FaultError, Recoder, boundaryAfter, boundaryBefore, charCount, decode, encodingOfBom, faults, firstFault, isValid, pieces, piecesBack, recode, recodedLength, recoderStream, streamFaults, streamPieces, streamText, undecidedLength };
+module.exports = { Decoder, Ends, FaultError, Recoder, boundaryAfter, boundaryBefore, changedRange, charCount, decode, encodingOfBom, faults, firstFault, isValid, numberOf, offsetOf, pieces, piecesBack, recode, recodedLength, recoderStream, streamFaults, streamPieces, streamText, undecidedLength };

@@ -3,7 +3,7 @@ import assert from "node:assert/strict";
 import { readFileSync } from "node:fs";
 import test from "node:test";
 import { Codec, UTF16LE, UTF8 } from "../codec.js";
-import { Ends, FaultError, Recoder, boundaryAfter, boundaryBefore, charCount, decode, faults, firstFault, isValid, pieces, piecesBack, recode, recodedLength } from "noddychest";
+import { Ends, FaultError, Recoder, boundaryAfter, boundaryBefore, changedRange, charCount, decode, faults, firstFault, isValid, numberOf, offsetOf, pieces, piecesBack, recode, recodedLength } from "noddychest";
 import { chances, damaged, hexOf, ofHex } from "./help.js";
 
 const FORMS = ["utf-8", "utf-16le", "utf-16be"];
@@ -124,6 +124,57 @@ test("a boundary is no offset inside of a piece", () => {
         }
     }
     for (const at of [-1, 0.5, NaN, Infinity, "1", 1n, undefined, null]) assert.throws(() => boundaryBefore(ofHex("41"), at), { name: "RangeError", message: /an offset is a whole number/ });
+});
+
+test("pieces by their numbers", () => {
+    const chance = chances(21);
+    for (let i = 0; i < 400; i++) {
+        const encoding = FORMS[chance(3)];
+        const bytes = (chance(2) ? damaged : units)(chance, chance(30));
+        const starts = [...pieces(bytes, encoding)].map((it) => it.offset);
+        for (let number = 0; number <= starts.length + 1; number++) assert.equal(offsetOf(bytes, number, encoding), starts[number] ?? null, `${encoding} ${hexOf(bytes)} ${number}`);
+        for (let at = 0; at <= bytes.length + 2; at++) assert.equal(numberOf(bytes, at, encoding), starts.filter((it) => it < at).length, `${encoding} ${hexOf(bytes)} at ${at}`);
+    }
+    for (const encoding of FORMS) {
+        // (more than one window, and a last byte of its own)
+        const long = Uint8Array.from(damaged(chances(22), 2_500_001));
+        const starts = [...pieces(long, encoding)].map((it) => it.offset);
+        for (const number of [0, 1, 4095, 4096, starts.length >> 1, starts.length - 1]) {
+            assert.equal(offsetOf(long, number, encoding), starts[number], encoding);
+            assert.deepEqual([numberOf(long, starts[number], encoding), numberOf(long, starts[number] + 1, encoding)], [number, number + 1], encoding);
+        }
+        assert.deepEqual([offsetOf(long, starts.length, encoding), offsetOf(long, 2 ** 53 - 1, encoding), numberOf(long, 2 ** 53 - 1, encoding)], [null, null, starts.length]);
+    }
+    assert.deepEqual([offsetOf(ofHex("68c3a9e28241"), 2), numberOf(ofHex("68c3a9e28241"), 3), offsetOf(new ArrayBuffer(0), 0)], [3, 2, null]);
+    for (const it of [-1, 0.5, NaN, Infinity, "1", 1n, undefined, null, 1e30]) {
+        for (const call of [offsetOf, numberOf]) assert.throws(() => call(ofHex("41"), it), { name: "RangeError" });
+    }
+});
+
+test("pieces outside of the changed range stay", () => {
+    const chance = chances(23);
+    for (let i = 0; i < 3000; i++) {
+        const encoding = FORMS[chance(3)];
+        const some = () => [...(chance(2) ? damaged : units)(chance, chance(30))];
+        const [old, put] = [some(), some().slice(0, chance(6))];
+        const start = chance(old.length + 1);
+        const end = start + chance(old.length - start + 1);
+        const made = [...old.slice(0, start), ...put, ...old.slice(end)];
+        const [was, is] = [changedRange(Uint8Array.from(old), start, end, encoding), changedRange(Uint8Array.from(made), start, start + put.length, encoding)];
+        const told = `${encoding} ${hexOf(Uint8Array.from(old))} ${start} to ${end} by ${hexOf(Uint8Array.from(put))}`;
+        const [before, after] = [old, made].map((it) => [...pieces(Uint8Array.from(it), encoding)]);
+        const parts = (all, range) => [all.filter((it) => it.offset < range.start), all.filter((it) => it.offset >= range.end).map((it) => ({ ...it, offset: it.offset - range.end }))];
+        const [kept, moved] = parts(before, was);
+        assert.deepEqual(parts(after, is)[0], kept, told);
+        assert.ok(was.start <= start && start <= was.start + 6 && end <= was.end && was.end <= end + 6, told);
+        if (encoding !== "utf-8" && (put.length + end - start) % 2) continue;
+        assert.deepEqual(parts(after, is)[1], moved, told);
+        assert.deepEqual([is.start, is.end], [was.start, was.end + put.length - (end - start)], told);
+    }
+    assert.deepEqual([changedRange(ofHex("616263646566"), 9, 2 ** 53 - 1), changedRange(ofHex("616263646566"), 5, 1), changedRange(new ArrayBuffer(0), 1, 2, "utf-16le")], [{ start: 3, end: 6 }, { start: 0, end: 4 }, { start: 0, end: 0 }]);
+    for (const it of [-1, 0.5, NaN, Infinity, "1", 1n, undefined, null]) {
+        for (const call of [() => changedRange(ofHex("41"), it, 0), () => changedRange(ofHex("41"), 0, it)]) assert.throws(call, { name: "RangeError" });
+    }
 });
 
 test("how many bytes recode gives", () => {

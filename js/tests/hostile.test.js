@@ -5,7 +5,7 @@ import { createRequire } from "node:module";
 import test from "node:test";
 import vm from "node:vm";
 import { MessageChannel, receiveMessageOnPort } from "node:worker_threads";
-import { Ends, FaultError, Recoder, boundaryAfter, boundaryBefore, charCount, decode, encodingOfBom, faults, firstFault, isValid, pieces, piecesBack, recode, recodedLength, recoderStream, streamPieces, undecidedLength } from "noddychest";
+import { Ends, FaultError, Recoder, boundaryAfter, boundaryBefore, changedRange, charCount, decode, encodingOfBom, faults, firstFault, isValid, numberOf, offsetOf, pieces, piecesBack, recode, recodedLength, recoderStream, streamPieces, undecidedLength } from "noddychest";
 import { chances, damaged, hexOf, ofHex } from "./help.js";
 
 const GONE = { name: "TypeError", message: /^noddychest: the bytes are gone: their buffer was detached, or made smaller$/ };
@@ -108,7 +108,7 @@ test("bytes that are gone already are refused, and are not empty text", () => {
         const buffer = new ArrayBuffer(8);
         const data = give(buffer);
         detach(buffer);
-        const calls = [isValid, firstFault, charCount, decode, faults, pieces, piecesBack, (it) => boundaryBefore(it, 1), (it) => boundaryAfter(it, 1), undecidedLength, encodingOfBom];
+        const calls = [isValid, firstFault, charCount, decode, faults, pieces, piecesBack, (it) => boundaryBefore(it, 1), (it) => boundaryAfter(it, 1), (it) => offsetOf(it, 1), (it) => numberOf(it, 1), (it) => changedRange(it, 0, 1), undecidedLength, encodingOfBom];
         for (const call of [...calls, (it) => new Ends(it), (it) => recode(it, "utf8", "utf8"), (it) => recodedLength(it, "utf8", "utf8")]) {
             assert.throws(() => call(data), GONE);
         }

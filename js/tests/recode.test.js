@@ -61,6 +61,30 @@ test("a long input in one call and in many", () => {
     assert.equal(hexOf(Buffer.concat([...parts, recoder.finish()])), hexOf(recode(bytes, "utf-8", "utf-16be")));
 });
 
+test("more than the module makes at once: as TextDecoder and Buffer have it, and where a strict one stops", () => {
+    for (const size of [(2 << 20) - 1, 2 << 20, (2 << 20) + 1, 5_000_011]) {
+        const bytes = new TextEncoder().encode("plain text, Grüße, 天地 😀 ".repeat(1 + size / 30)).subarray(0, size);
+        const text = new TextDecoder().decode(bytes);
+        const units = Buffer.from(text, "utf16le");
+        assert.ok(units.equals(recode(bytes, "utf-8", "utf-16le", { errors: "maximal" })), `${size}`);
+        assert.ok(units.swap16().equals(recode(bytes, "utf-8", "utf-16be", { errors: "maximal" })), `${size}`);
+        assert.ok(Buffer.from(text).equals(recode(units, "utf-16be", "utf-8", { errors: "maximal" })), `${size}`);
+        const spoiled = new Uint8Array(size).fill(0x61);
+        spoiled[size - 3] = 0xff;
+        assert.equal(Buffer.from(recode(spoiled, "utf-8", "utf-16le").buffer).length, 2 * size);
+        assert.throws(() => recode(spoiled, "utf-8", "utf-16le", { errors: "strict" }), { offset: size - 3 });
+        spoiled[size - 3] = 0x61;
+        spoiled[size - 1] = 0xe2;
+        assert.throws(() => recode(spoiled, "utf-8", "utf-16le", { errors: "strict" }), { offset: size - 1, error: "TooFewBytes" });
+    }
+});
+
+test("what was made before does not change", () => {
+    const one = recode(ofHex("41ff"), "utf-8", "utf-16le");
+    const other = recode(ofHex("ff42"), "utf-8", "utf-16le");
+    assert.deepEqual([hexOf(one), hexOf(other), one.buffer === other.buffer, one.buffer.byteLength], ["4100fdff", "fdff4200", false, 4]);
+});
+
 test("recoders at the same time do not disturb each other", () => {
     const [one, other] = [new Recoder("utf-8", "utf-8"), new Recoder("utf-16be", "utf-8")];
     const made = [one.feed(ofHex("e282")), other.feed(ofHex("d83d")), one.feed(ofHex("ac")), other.feed(ofHex("de00")), one.finish(), other.finish()];

@@ -1,5 +1,5 @@
 // Read by tsc alone: each call as a caller with types writes it, and what has to be refused.
-import { Decoder, Ends, FaultError, Recoder, boundaryAfter, boundaryBefore, charCount, decode, encodingOfBom, faults, firstFault, isValid, pieces, piecesBack, recode, recodedLength, recoderStream, streamFaults, streamPieces, streamText, undecidedLength } from "noddychest";
+import { Decoder, Ends, FaultError, Recoder, boundaryAfter, boundaryBefore, changedRange, charCount, decode, encodingOfBom, faults, firstFault, isValid, numberOf, offsetOf, pieces, piecesBack, recode, recodedLength, recoderStream, streamFaults, streamPieces, streamText, undecidedLength } from "noddychest";
 import type { Encoding, ErrorName, Fault, Piece } from "noddychest";
 
 const bytes = new Uint8Array([0xe2]);
@@ -18,8 +18,10 @@ const parts: Uint8Array[] = [recoder.feed(made), recoder.finish()];
 const replaced: number = recoder.faults;
 const listed: Fault[] = [...faults(bytes, "utf-16be")];
 const numbers: number[] = [charCount(bytes), boundaryBefore(bytes, 1, "utf-16le"), boundaryAfter(bytes, 1), recodedLength(bytes, "utf-8", "utf-16le"), listed.length, undecidedLength(bytes), undecidedLength(bytes.buffer, "utf-16be")];
+const offset: number | null = offsetOf(bytes, 3, "utf-16le");
+const changed: { start: number; end: number } = changedRange(bytes, 0, numberOf(bytes, offset ?? bytes.length));
 const mark: { encoding: Encoding; length: number } | null = encodingOfBom(bytes);
-const marked: Piece[] = [...pieces(bytes.subarray(mark?.length ?? 0), mark?.encoding ?? "utf-8")];
+const marked: Piece[] = [...pieces(bytes.subarray(mark?.length ?? 0, changed.start + changed.end), mark?.encoding ?? "utf-8")];
 const { text, faults: wrong }: { text: string; faults: Fault[] } = decode(bytes, "utf-8", { errors: "maximal" });
 export async function read(stream: ReadableStream<Uint8Array>): Promise<string> {
     let all = text + wrong.length + numbers.join();
@@ -57,3 +59,6 @@ new Decoder("utf-8", { offset: 1n });
 decoder.offset = 1;
 // @ts-expect-error: no such encoding
 recode(bytes, "latin1", "utf-8");
+// @ts-expect-error: a number may be missing
+const missing: number = offsetOf(bytes, 0);
+console.log(missing);

@@ -99,9 +99,10 @@ export class Survey {
         return end;
     }
 
-    // A line ends after its LF. A column counts characters and invalid bytes, from 1 on.
+    // A line ends after its LF. A column counts characters and invalid bytes, from 1 on. (Units are looked at as little-endian ones.)
     walk(from, to) {
         const { codec } = this;
+        codec.turn();
         const bytes = codec.memory.subarray(codec.start, codec.start + to);
         let begin = -1;
         for (let at = bytes.indexOf(LF, from); at >= 0; at = bytes.indexOf(LF, at + 1)) {
