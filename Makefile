@@ -3,6 +3,7 @@
 #   make             build/: libnoddychest.a, libnoddychest.so.1, pieces, recode and nody
 #   make check       tests all of it; the last line is 'N passed, M failed'
 #   make check-python  installs the package for Python into a folder that goes away again, and tests it there
+#   make wheel       makes wheels of it in build/wheels, for Linux on both processors and for Windows, as far as compilers are there
 #   make install     puts it below PREFIX, which has to be given, as PREFIX=/usr/local, in DESTDIR where that is given, with the man
 #                    pages of the programs, which are nody-pieces, nody-recode and nody there, and says what it wrote
 #   make uninstall   takes it away again, for the same PREFIX and DESTDIR
@@ -165,6 +166,9 @@ PYTHON ?= python3
 check-python:
 	@$(PYTHON) python/check
 
+wheel:
+	@$(PYTHON) python/wheel "$(BUILD)/wheels"
+
 # (the paths go as they are, with their spaces)
 PATHS = PREFIX='$(PREFIX)' DESTDIR='$(DESTDIR)' BINDIR='$(BINDIR)' LIBDIR='$(LIBDIR)' INCLUDEDIR='$(INCLUDEDIR)' DATADIR='$(DATADIR)'
 
@@ -205,7 +209,7 @@ check-packages:
 check-js:
 	@js/check
 
-.PHONY: dist dist-windows check-erased check-rust check-deb check-cmake check-windows check-macho check-packages check-js
+.PHONY: wheel dist dist-windows check-erased check-rust check-deb check-cmake check-windows check-macho check-packages check-js
 
 clean:
 	rm -rf "$(BUILD)"

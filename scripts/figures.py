@@ -71,7 +71,7 @@ def answers_in_pairs():
 
 def erased():
     """How many crates scripts/erase takes, and how many of their functions ask for AVX2, in words; and how many lines it has."""
-    rules, files = runpy.run_path(f"{TOP}/erased/rules.py"), ["scripts/erase", *(f"erased/{it}.py" for it in ("eraser", "exports", "rules", "shape", "tokens", "wide"))]
+    rules, files = runpy.run_path(f"{TOP}/erased/rules.py"), ["scripts/erase", *(f"erased/{it}.py" for it in ("eraser", "exports", "rules", "shape", "tokens", "wide", "windows"))]
     return in_words(len(rules["CRATES"])), in_words(len(rules["CHOSEN"])).capitalize(), f"{sum(len(lines_of(it)) for it in files):,}"
 
 

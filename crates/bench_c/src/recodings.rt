@@ -94,6 +94,6 @@ fn form_of(number: u32) -> Form {
     match number {
         0 => Form::Utf8,
         1 => Form::Utf16Le,
-        _ => Form::Utf16Be,
+        2.. => Form::Utf16Be,
     }
 }

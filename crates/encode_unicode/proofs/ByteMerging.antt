@@ -18,18 +18,6 @@ use Rattle.encode_unicode.specs.Mergers.{IsHeldBytes}
 use Rattle.encode_unicode.specs.Reading.{Answers, Completes, CompletesAfter, JudgesBytes, ReadsElements}
 use Rattle.encode_unicode.proofs.MergerSteps.{reads_none, reads_more, value_of_answer}
 
-pub asks_two : (b : ℕ) → 0xC2 ≤ b → b < 0xF5 → 2 ≤ asked b
-unfolding asked
-asks_two b low high = grind (arith, common_steps)
-
-pub asks_three : (b : ℕ) → 0xE0 ≤ b → b < 0xF5 → 3 ≤ asked b
-unfolding asked
-asks_three b low high = grind (arith, common_steps)
-
-pub asks_four : (b : ℕ) → 0xF0 ≤ b → b < 0xF5 → 4 ≤ asked b
-unfolding asked
-asks_four b low high = grind (arith, common_steps)
-
 -- What is held.
 
 pub held_none : IsHeldBytes []
@@ -109,9 +97,6 @@ pub alone_fails : {S : Type 0} {can_next : S → Type 0} {remaining : S → Coun
     → (e ≡ false → can_next s) → asked first ≤ 1 → (is_continuation first ≡ false → old ≡ []) → IsHeldBytes old → JudgesBytes (first ∷ []) (Err k)
     → Completes can_next remaining steps first (record { held = old; ended = e }) s (Err k) (record { held = old; ended = e }) s
 alone_fails {S} {can_next} {remaining} {steps} {first} {k} {old} {s} {e} can few alone held j = record { answers = byte_alone can_next remaining steps first old s e (Err k) can few alone j; held = held }
-
-pub begins_alone : (b : ℕ) → 0xC2 ≤ b → is_continuation b ≡ false
-begins_alone b h = grind (arith, common_steps)
 
 -- After what was read before.
 
