@@ -61,7 +61,7 @@ def rows_run(what):
 
 
 def strict_inputs():
-    return next(it[1] for line in lines_of("crates/run_tests/src/strict.rt") if (it := re.match(r"fn rows\(\) -> \[Row; (\d+)\]", line)))
+    return next(it[1] for line in lines_of("crates/program_tests/src/strict.rt") if (it := re.match(r"fn rows\(\) -> \[Row; (\d+)\]", line)))
 
 
 def answers_in_pairs():
@@ -230,7 +230,7 @@ FIGURES = {
                               lambda: files_of_forms()),
                              (r"it makes of (\w+) crates the plain Rust", lambda: erased()[:1])],
     "docs/rattle/CONFORMANCE.md": [(r"recodes (\d+) blocks", lambda: (rows_run("blocks recoded in parts"),)), (r"In (\d+) rows more it asks", lambda: (rows_run("held before more is fed"),)),
-                                   (r"has (\d+) inputs in `crates/run_tests/src/strict.rt`", lambda: (strict_inputs(),))],
+                                   (r"has (\d+) inputs in `crates/program_tests/src/strict.rt`", lambda: (strict_inputs(),))],
     "erased/README.md": [(r"makes of (\w+) crates(?s:.*)\n.*?(\w+) functions ask, (?s:.*)The eraser has ([\d,]+) lines", erased)],
     "generated/README.md": [(r"(\w+) calls that answer in two registers", lambda: (answers_in_pairs(),))],
     "docs/DECISIONS.md": [(r"and each of (\w+) calls is a function of `c/processor.c`", lambda: (chosen(),)),

@@ -27,7 +27,12 @@ fn pieces_of_units_have_numbers(rt: HostRuntime) {
 fn an_edit_changes_what_is_near(rt: HostRuntime) {
     let range = changed_range(Form::Utf8, "abc€defg€hij".as_bytes(), 8, 9);
     assert!(rt; range == ChangedRange { start: 3, end: 13 });
-    let range = changed_range(Form::Utf16Be, b"\0A\xd8\x3d\xde\0\0B\0C\xd8\x3d\xde\0", 8, 9);
+    let range = changed_range(
+        Form::Utf16Be,
+        b"\0A\xd8\x3d\xde\0\0B\0C\xd8\x3d\xde\0",
+        8,
+        9,
+    );
     assert!(rt; range == ChangedRange { start: 2, end: 14 });
     assert!(rt; changed_range(Form::Utf8, b"abcdef", 9, 7) == ChangedRange { start: 3, end: 6 });
 }

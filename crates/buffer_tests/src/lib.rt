@@ -1,0 +1,7 @@
+//! Tests of texts that are edited: tables of pieces and text buffers that change again and again, also where memory runs out.
+#![tactic(auto)]
+
+#[cfg(test)]
+mod buffers;
+#[cfg(test)]
+mod tables;
