@@ -358,17 +358,18 @@ nody_piece_t nody_utf16_next_back(nody_units_t *left);
  */
 static inline nody_piece_t nody_utf8_next_inline(nody_bytes_t *left) {
     nody_piece_t piece;
-    nody_bytes_t rest = *left;
-    if (rest.len > 0 && rest.bytes[0] < 0x80) {
+    if (left->len > 0 && left->bytes[0] < 0x80) {
         piece.len = 1;
-        piece.scalar = rest.bytes[0];
+        piece.scalar = left->bytes[0];
         piece.kind = NODY_KIND_OK;
-        rest.bytes++;
-        rest.len--;
+        left->bytes++;
+        left->len--;
     } else {
-        piece = nody_utf8_next(&rest); /* (of a copy, so that a compiler may keep the cursor in registers) */
+        nody_bytes_t rest = *left; /* (of a copy, so that a compiler may keep the cursor in registers) */
+        piece = nody_utf8_next(&rest);
+        left->bytes = rest.bytes;
+        left->len = rest.len;
     }
-    *left = rest;
     return piece;
 }
 #if (defined(__STDC_VERSION__) && __STDC_VERSION__ >= 199901L) || (defined(__cplusplus) && __cplusplus >= 201103L)

@@ -11,7 +11,7 @@
 //     divide       boundary_before, boundary_after, undecided_len
 //     which form   form_of_bom
 //     recode       recode, recode_strict, to_utf8, to_utf16, recoded_len
-//     in parts     recoder
+//     in parts     recoder; decoder: the pieces, or the faults alone, with their offsets
 //     words        name, sentence
 //
 // BYTES. Text in bytes is taken as nody::bytes, which is made of a std::string_view, a std::string, a literal, and in C++20 of a
@@ -92,6 +92,20 @@ struct piece {
         return a.offset == b.offset && a.length == b.length && a.scalar == b.scalar && a.kind == b.kind;
     }
     friend constexpr bool operator!=(const piece &a, const piece &b) noexcept { return !(a == b); }
+};
+
+// A piece of input that comes in parts. Offset and length are in bytes, in UTF-16 too.
+struct located {
+    std::uint64_t offset = 0; // from the first byte of all input, modulo 2^64
+    std::size_t length = 0;   // of a character 1 to 4; of a fault 1, or 2 for a lone surrogate
+    char32_t scalar = 0;      // the number of the character; 0 for a fault
+    nody::kind kind = nody::kind::ok;
+
+    constexpr bool is_ok() const noexcept { return kind == nody::kind::ok; }
+    friend constexpr bool operator==(const located &a, const located &b) noexcept {
+        return a.offset == b.offset && a.length == b.length && a.scalar == b.scalar && a.kind == b.kind;
+    }
+    friend constexpr bool operator!=(const located &a, const located &b) noexcept { return !(a == b); }
 };
 
 // A fault at which a strict call stopped.
@@ -217,8 +231,12 @@ public:
 
 private:
     void take() noexcept {
+        // (field by field: a compiler that copies a piece made elsewhere waits for it)
         nody_piece_t here = detail::take<Code, taken>(&left_);
-        piece_ = at(here, taken == way::back ? left_.len : whole_ - left_.len - here.len);
+        piece_.offset = taken == way::back ? left_.len : whole_ - left_.len - here.len;
+        piece_.length = here.len;
+        piece_.scalar = static_cast<char32_t>(here.scalar);
+        piece_.kind = static_cast<kind>(here.kind);
     }
     typename Code::cursor left_;
     std::size_t whole_;
@@ -562,6 +580,267 @@ private:
 
     nody_recoder_t state_;
     std::uint64_t read_ = 0;
+};
+
+// ---- Pieces of input in parts
+
+namespace detail {
+
+inline located at(const nody_located_t &it) noexcept { return {it.offset, it.len, static_cast<char32_t>(it.scalar), static_cast<kind>(it.kind)}; }
+
+// What a decoder and the ranges over its parts share: its state, and how often the state was changed.
+struct decoding {
+    nody_decoder_t state;
+    std::uint64_t changes;
+};
+
+// How the calls for all pieces, and those for faults alone, are named in C.
+template <way taken> nody_status_t decode(nody_decoder_t *state, bytes part, nody_located_t *out, std::size_t room, std::size_t *read, std::size_t *written) noexcept {
+    return (taken == way::faults ? nody_decoder_feed_faults : nody_decoder_feed)(state, part.data(), part.size(), out, room, read, written);
+}
+template <way taken> nody_status_t decode_end(nody_decoder_t *state, nody_located_t *out, std::size_t room, std::size_t *written) noexcept {
+    return (taken == way::faults ? nody_decoder_finish_faults : nody_decoder_finish)(state, out, room, written);
+}
+
+// The pieces of one part, or of what is held at the end of the input. Some are asked for ahead. The decoder stands after the piece at hand
+// all the same, as if it had been asked for that alone; where somebody else changed it, those ahead are asked for again.
+template <way taken> class located_range {
+public:
+    class iterator {
+    public:
+        using iterator_category = std::input_iterator_tag;
+        using value_type = located;
+        using difference_type = std::ptrdiff_t;
+        using pointer = const located *;
+        using reference = const located &;
+
+        // The piece that `it++` went on from.
+        class before {
+        public:
+            explicit before(const located &piece) noexcept : piece_(piece) {}
+            const located &operator*() const noexcept { return piece_; }
+
+        private:
+            located piece_;
+        };
+
+        iterator() noexcept = default;
+        explicit iterator(located_range *range) noexcept : range_(range) {}
+        reference operator*() const noexcept { return range_->piece_; }
+        pointer operator->() const noexcept { return &range_->piece_; }
+        iterator &operator++() noexcept {
+            range_->take();
+            return *this;
+        }
+        before operator++(int) noexcept {
+            before had(**this);
+            range_->take();
+            return had;
+        }
+        // (a range has one place alone, and the end)
+        friend bool operator==(const iterator &a, const iterator &b) noexcept { return a.is_end() == b.is_end(); }
+        friend bool operator!=(const iterator &a, const iterator &b) noexcept { return !(a == b); }
+
+    private:
+        bool is_end() const noexcept { return !range_ || range_->is_over_; }
+        located_range *range_ = nullptr;
+    };
+
+    located_range(decoding *of, bytes part, bool is_end) noexcept : of_(of), part_(part), is_end_(is_end) {}
+    located_range(const located_range &) = delete;
+    located_range &operator=(const located_range &) = delete;
+    ~located_range() = default;
+
+    iterator begin() noexcept {
+        if (!is_begun_) take();
+        return iterator(this);
+    }
+    iterator end() const noexcept { return {}; }
+
+    // The bytes of the part that the decoder has not read: where the loop was left, feed these to go on.
+    bytes rest() const noexcept {
+        // (where the piece at hand ends in bytes that were held, so much less than nothing is passed)
+        std::size_t read = read_ + (passed_ <= part_.size() - read_ ? static_cast<std::size_t>(passed_) : 0);
+        return bytes(part_.data() + read, part_.size() - read);
+    }
+
+private:
+    static constexpr std::size_t ROOM = 32;
+
+    // Goes to the next piece.
+    void take() noexcept {
+        if (next_ < count_ && changes_ == of_->changes) show(room_[next_++]);
+        else take_more();
+    }
+
+    // Where all that were asked for are taken, the decoder is as the call left it. Those that others outdated are forgotten.
+    void take_more() noexcept {
+        is_begun_ = true;
+        if (count_ && changes_ == of_->changes) end_call();
+        if (is_over_) return;
+        ask();
+        if (count_) show(room_[next_++]);
+        else end_call();
+    }
+
+    // Asks for the pieces of what is not read.
+    void ask() noexcept {
+        std::size_t read = 0;
+        bytes left = rest();
+        after_ = of_->state;
+        nody_status_t told = is_end_ ? decode_end<taken>(&after_, room_, ROOM, &count_) : decode<taken>(&after_, left, room_, ROOM, &read, &count_);
+        is_more_ = told == NODY_STATUS_FULL;
+        next_ = 0;
+        read_ = part_.size() - left.size();
+        read_after_ = read_ + read;
+        from_ = of_->state.offset + of_->state.count;
+        passed_ = 0;
+        changes_ = ++of_->changes;
+    }
+
+    void end_call() noexcept {
+        of_->state = after_;
+        read_ = read_after_;
+        passed_ = 0;
+        is_over_ = !is_more_;
+    }
+
+    // Lets the decoder stand after a piece: bytes that it held were read before, and the others are of this part.
+    void show(const nody_located_t &it) noexcept {
+        nody_decoder_t &state = of_->state;
+        std::uint64_t end = it.offset + it.len;
+        if (state.count) drop(state, end - state.offset);
+        passed_ = end - from_;
+        state.offset = end;
+        piece_.offset = it.offset;
+        piece_.length = it.len;
+        piece_.scalar = static_cast<char32_t>(it.scalar);
+        piece_.kind = static_cast<kind>(it.kind);
+    }
+
+    // So many bytes are held no longer.
+    static void drop(nody_decoder_t &state, std::uint64_t passed) noexcept {
+        std::uint8_t held = state.count;
+        state.count = passed < held ? static_cast<std::uint8_t>(held - passed) : std::uint8_t{0};
+        for (std::uint8_t i = 0; i < state.count; i++) state.held[i] = state.held[held - state.count + i];
+    }
+
+    decoding *of_;
+    bytes part_;
+    std::size_t read_ = 0, read_after_ = 0, next_ = 0, count_ = 0;
+    // The offset of the first byte that is not read of the part, when pieces were asked for; how much of it those that are taken pass; and which
+    // change of the decoder that was.
+    std::uint64_t from_ = 0, passed_ = 0, changes_ = 0;
+    nody_decoder_t after_ = {NODY_FORM_UTF8, 0, {0, 0, 0}, 0};
+    bool is_end_, is_begun_ = false, is_more_ = false, is_over_ = false;
+    located piece_;
+    nody_located_t room_[ROOM];
+};
+
+} // namespace detail
+
+// Gives the pieces of input that comes in parts, with offsets from its first byte. They do not depend on how it is divided. A part may end
+// anywhere, also inside a character: at most three bytes are held until the next part tells which piece they begin. What goes from call to
+// call is in the decoder: no call takes memory. A decoder is moved, and copied only by copy(): two of them would go on from the same bytes.
+// One that was moved from is as new.
+//
+//     nody::decoder decoder(nody::form::utf8);
+//     while (read_some(part))
+//         for (const nody::located &it : decoder.feed(part))
+//             if (!it.is_ok()) report(it.offset, nody::sentence(it.kind));
+//     for (const nody::located &it : decoder.finish()) report(it.offset, nody::sentence(it.kind));
+//
+// A part is read as its range is gone through, once: a range that nobody goes through reads nothing. At each piece the decoder stands after
+// it: offset() is that of the next piece, and copy() goes on from there. So a loop may be left, by an exception too: what was not read is
+// the range's rest(). If the decoder is fed inside of such a loop, those bytes come after the piece at hand, and the rest of the part after
+// them. Decoder and part have to live as long as the range; a temporary of either, and a range that is dropped, do not compile.
+//
+// The kinds are those of pieces() of the whole but in one case, which noddychest.h tells at nody_decoder_feed.
+class decoder {
+public:
+    // What a call that fills a room did.
+    struct progress {
+        nody::status status;
+        std::size_t read, written;
+    };
+
+    // (offsets may begin at another number than 0, as in the middle of a file)
+    explicit decoder(form from, std::uint64_t offset = 0) noexcept : it_{nody_decoder(detail::c(from)), 0} { it_.state.offset = offset; }
+    decoder(const decoder &) = delete;
+    decoder &operator=(const decoder &) = delete;
+    decoder(decoder &&other) noexcept : it_{other.it_.state, 0} { other.reset(); }
+    decoder &operator=(decoder &&other) noexcept {
+        nody_decoder_t state = other.it_.state;
+        other.reset();
+        change() = state;
+        return *this;
+    }
+    ~decoder() = default;
+
+    [[nodiscard]] decoder copy() const noexcept { return decoder(it_.state); }
+
+    // Forgets what is held, and counts anew.
+    void reset(std::uint64_t offset = 0) noexcept {
+        change() = nody_decoder(it_.state.form);
+        it_.state.offset = offset;
+    }
+
+    // A range over the pieces of the next part, and at the end of the input one over those of the bytes that are held, which are faults.
+    [[nodiscard]] detail::located_range<detail::way::front> feed(bytes part) & noexcept { return {&it_, part, false}; }
+    [[nodiscard]] detail::located_range<detail::way::front> finish() & noexcept { return {&it_, {}, true}; }
+    template <class Text, class = detail::if_temporary<Text, std::string>> void feed(Text &&) & = delete;
+
+    // The same ranges without the characters. Text between faults is passed as fast as it is validated. You may mix both.
+    [[nodiscard]] detail::located_range<detail::way::faults> feed_faults(bytes part) & noexcept { return {&it_, part, false}; }
+    [[nodiscard]] detail::located_range<detail::way::faults> finish_faults() & noexcept { return {&it_, {}, true}; }
+    template <class Text, class = detail::if_temporary<Text, std::string>> void feed_faults(Text &&) & = delete;
+
+    // Into a room: where it is full, empty it, and feed the rest of the part, even if nothing is left of it. Places after the pieces that
+    // were written keep what they had.
+    progress feed_into(bytes part, located *out, std::size_t room) noexcept { return fill<detail::way::front>(part, out, room); }
+    progress feed_faults_into(bytes part, located *out, std::size_t room) noexcept { return fill<detail::way::faults>(part, out, room); }
+    progress finish_into(located *out, std::size_t room) noexcept { return fill_end<detail::way::front>(out, room); }
+    progress finish_faults_into(located *out, std::size_t room) noexcept { return fill_end<detail::way::faults>(out, room); }
+
+    // The offset of the next piece, and how many bytes from there on were read and are held: 0 to 3. What is fed next begins at the sum.
+    std::uint64_t offset() const noexcept { return it_.state.offset; }
+    std::size_t held() const noexcept { return it_.state.count; }
+
+private:
+    explicit decoder(const nody_decoder_t &state) noexcept : it_{state, 0} {}
+
+    // The state, of which ranges that are open are told that it changes.
+    nody_decoder_t &change() noexcept {
+        it_.changes++;
+        return it_.state;
+    }
+
+    template <detail::way taken> progress fill(bytes part, located *out, std::size_t room) noexcept {
+        return filled(out, room, [&](std::size_t from, nody_located_t *into, std::size_t most, std::size_t *read, std::size_t *count) {
+            return detail::decode<taken>(&change(), bytes(part.data() + from, part.size() - from), into, most, read, count);
+        });
+    }
+    template <detail::way taken> progress fill_end(located *out, std::size_t room) noexcept {
+        return filled(out, room, [&](std::size_t, nody_located_t *into, std::size_t most, std::size_t *, std::size_t *count) {
+            return detail::decode_end<taken>(&change(), into, most, count);
+        });
+    }
+
+    // Fills a room by calls that fill a small one.
+    template <class Call> static progress filled(located *out, std::size_t room, Call call) noexcept {
+        nody_located_t some[32];
+        progress it = {status::full, 0, 0};
+        do {
+            std::size_t most = room - it.written < 32 ? room - it.written : 32, read = 0, count = 0;
+            it.status = static_cast<nody::status>(call(it.read, some, most, &read, &count));
+            for (std::size_t i = 0; i < count; i++) out[it.written + i] = detail::at(some[i]);
+            it.read += read;
+            it.written += count;
+        } while (it.status == status::full && it.written < room);
+        return it;
+    }
+
+    detail::decoding it_;
 };
 
 // ---- The library

@@ -28,6 +28,13 @@ static_assert(noexcept(++nody::pieces(""sv).begin()) && noexcept(nody::boundary_
 static_assert(noexcept(nody::faults(u""sv).begin()) && noexcept(nody::form_of_bom(""sv)) && noexcept(nody::undecided_len(nody::form::utf8, ""sv)));
 static_assert(std::is_same_v<decltype(nody::first_fault(""sv)), std::optional<nody::piece>>);
 
+static_assert(!std::is_copy_constructible_v<nody::decoder> && !std::is_copy_assignable_v<nody::decoder>);
+static_assert(std::is_nothrow_move_constructible_v<nody::decoder> && std::is_nothrow_move_assignable_v<nody::decoder>);
+static_assert(sizeof(nody::located::offset) == 8 && std::is_trivially_copyable_v<nody::located>);
+static_assert(noexcept(std::declval<nody::decoder &>().feed(""sv)) && noexcept(std::declval<nody::decoder &>().finish_faults()));
+static_assert(noexcept(++std::declval<nody::decoder &>().feed(""sv).begin()) && noexcept(std::declval<nody::decoder &>().feed_into(""sv, nullptr, 0)));
+static_assert(!std::is_copy_constructible_v<decltype(std::declval<nody::decoder &>().feed(""sv))> && !std::is_move_constructible_v<decltype(std::declval<nody::decoder &>().finish())>);
+
 // Whether pieces and faults take a text of that type.
 template <class Text, class = void> struct takes : std::false_type {};
 template <class Text> struct takes<Text, std::void_t<decltype(nody::pieces(std::declval<Text>())), decltype(nody::faults(std::declval<Text>()))>> : std::true_type {};
@@ -36,9 +43,19 @@ template <class Text> struct lists<Text, std::void_t<decltype(nody::faults(std::
 static_assert(takes<std::string &>::value && takes<std::string_view>::value && takes<const char *>::value && takes<std::u16string &>::value);
 static_assert(!takes<std::string>::value && !takes<std::u16string>::value && !lists<std::string>::value && !lists<std::u16string>::value);
 
+// Whether a decoder, which is no temporary or is one, gives ranges over a part of that type.
+template <class Decoder, class Text, class = void> struct feeds : std::false_type {};
+template <class Decoder, class Text> struct feeds<Decoder, Text, std::void_t<decltype(std::declval<Decoder>().feed(std::declval<Text>()))>> : std::true_type {};
+template <class Decoder, class Text, class = void> struct feeds_faults : std::false_type {};
+template <class Decoder, class Text> struct feeds_faults<Decoder, Text, std::void_t<decltype(std::declval<Decoder>().feed_faults(std::declval<Text>()))>> : std::true_type {};
+static_assert(feeds<nody::decoder &, std::string &>::value && feeds<nody::decoder &, std::string_view>::value && feeds_faults<nody::decoder &, const char *>::value);
+static_assert(!feeds<nody::decoder &, std::string>::value && !feeds_faults<nody::decoder &, std::string>::value);
+static_assert(!feeds<nody::decoder, std::string_view>::value && !feeds_faults<nody::decoder, std::string_view>::value);
+
 #if __cplusplus >= 202002L
 #include <ranges>
 #include <span>
+static_assert(std::ranges::input_range<decltype(std::declval<nody::decoder &>().feed(""sv)) &> && std::input_iterator<decltype(std::declval<nody::decoder &>().feed_faults(""sv).begin())>);
 static_assert(std::ranges::forward_range<decltype(nody::pieces(""sv))> && std::ranges::borrowed_range<decltype(nody::pieces_back(u""sv))>);
 static_assert(std::ranges::forward_range<decltype(nody::faults(u""sv))> && std::ranges::borrowed_range<decltype(nody::faults(""sv))>);
 
@@ -56,6 +73,9 @@ static void try_spans() {
     expect(std::ranges::distance(wrong) == 2, "views over pieces");
 #endif
     expect(std::ranges::count_if(nody::pieces("a\xFF" "b\xFE"sv), [](const nody::piece &it) { return !it.is_ok(); }) == 2, "an algorithm of ranges");
+    nody::decoder decoder(nody::form::utf8);
+    auto part = decoder.feed(std::span(raw));
+    expect(std::ranges::count_if(part, [](const nody::located &it) { return !it.is_ok(); }) == 1 && decoder.offset() == 2, "an algorithm of ranges over a part");
 }
 #else
 static void try_spans() {}
@@ -207,7 +227,301 @@ static void try_strict_recoder() {
     expect(made.status == nody::status::done && made.written == 1 && small.finish_into(room, sizeof room).status == nody::status::done, "the rest into a room");
 }
 
+// ---- Pieces of parts
+
+template <class Range> static std::vector<nody::located> taken(Range &&range) {
+    std::vector<nody::located> found;
+    for (const nody::located &it : range) found.push_back(it);
+    return found;
+}
+
+static void join(std::vector<nody::located> &to, const std::vector<nody::located> &more) { to.insert(to.end(), more.begin(), more.end()); }
+
+static const std::uint64_t FAR = (std::uint64_t{1} << 32) - 2;
+
+static void try_decoder() {
+    using nody::kind;
+    nody::decoder it(nody::form::utf8);
+    std::string one = "h\xC3\xA9\xE2", two = "\x82" "A\xF0\x9F";
+    const std::vector<nody::located> want = {{0, 1, U'h', kind::ok}, {1, 2, U'\u00E9', kind::ok}, {3, 1, 0, kind::interrupted_sequence}, {4, 1, 0, kind::unexpected_continuation_byte},
+                                             {5, 1, U'A', kind::ok}, {6, 1, 0, kind::too_few_bytes}, {7, 1, 0, kind::unexpected_continuation_byte}};
+    std::vector<nody::located> found = taken(it.feed(one));
+    expect(found.size() == 2 && it.offset() == 3 && it.held() == 1, "a part that ends inside a character");
+    join(found, taken(it.feed(two)));
+    expect(found.size() == 5 && it.offset() == 6 && it.held() == 2, "the next part");
+    join(found, taken(it.finish()));
+    expect(found == want && it.offset() == 8 && it.held() == 0 && taken(it.finish()).empty(), "the pieces of two parts, and the end");
+    expect(taken(it.feed("")).empty() && taken(it.feed({})).empty() && taken(it.feed_faults({})).empty() && it.offset() == 8, "parts of nothing");
+    it.reset(FAR);
+    found = taken(it.feed("a\xFF" "b\xC0"));
+    expect(found.size() == 4 && found[3] == nody::located{FAR + 3, 1, 0, kind::non_utf8_byte} && found[1].offset == FAR + 1, "offsets that go over 2^32");
+    nody::decoder last(nody::form::utf8, UINT64_MAX);
+    expect(taken(last.feed("a\xFF")) == std::vector<nody::located>{{UINT64_MAX, 1, U'a', kind::ok}, {0, 1, 0, kind::non_utf8_byte}} && last.offset() == 1, "offsets modulo 2^64");
+}
+
+static void try_decoder_of_units() {
+    using nody::kind;
+    nody::decoder it(nody::form::utf16be);
+    expect(taken(it.feed("\xD8\x3D\xDE")).empty() && it.held() == 3 && it.offset() == 0, "what is held of UTF-16");
+    expect(taken(it.feed("\x00\xDC"sv)) == std::vector<nody::located>{{0, 4, U'\U0001F600', kind::ok}} && it.held() == 1, "a pair of two parts");
+    expect(taken(it.feed_faults("\x00\x00"sv)) == std::vector<nody::located>{{4, 2, 0, kind::unexpected_trailing_surrogate}}, "a trailing surrogate alone, of two parts");
+    expect(taken(it.finish_faults()) == std::vector<nody::located>{{6, 1, 0, kind::incomplete}} && it.offset() == 7, "a single byte at the end");
+    nody::decoder refused(static_cast<nody::form>(3));
+    auto part = refused.feed("a");
+    nody::located room[1];
+    expect(part.begin() == part.end() && part.rest().size() == 1, "a form that there is none of");
+    expect(refused.feed_into("a", room, 1).status == nody::status::refused && refused.finish_into(room, 1).status == nody::status::refused, "the same, into a room");
+}
+
+static void try_decoder_faults() {
+    using nody::kind;
+    std::string text = "h\xC3\xA9\xE2\x82" + std::string(100000, 'A') + "\xF0\x9F";
+    nody::decoder it(nody::form::utf8);
+    std::vector<nody::located> found;
+    for (std::size_t at = 0; at < text.size(); at += 4) join(found, taken(it.feed_faults(std::string_view(text).substr(at, 4))));
+    expect(found == std::vector<nody::located>{{3, 1, 0, kind::interrupted_sequence}, {4, 1, 0, kind::unexpected_continuation_byte}} && it.held() == 2, "faults of parts");
+    expect(taken(it.finish_faults()) == std::vector<nody::located>{{100005, 1, 0, kind::too_few_bytes}, {100006, 1, 0, kind::unexpected_continuation_byte}}, "faults at the end");
+}
+
+static void try_decoder_moved() {
+    nody::decoder one(nody::form::utf8, 7);
+    expect(taken(one.feed("a\xE2\x82")).size() == 1, "what is held");
+    nody::decoder copy = one.copy(), two = std::move(one);
+    expect(one.held() == 0 && one.offset() == 0 && two.held() == 2 && two.offset() == 8, "a decoder that was moved is as new"); // NOLINT
+    expect(taken(one.feed("\xAC"))[0].kind == nody::kind::unexpected_continuation_byte, "and forgot what was held");
+    expect(taken(two.feed("\xAC")) == std::vector<nody::located>{{8, 3, U'\u20AC', nody::kind::ok}}, "what was held moved");
+    expect(taken(copy.feed("!"))[0].kind == nody::kind::interrupted_sequence && copy.offset() == 11 && two.offset() == 11, "a copy goes on by itself");
+    expect(taken(copy.feed("\xE2\x82")).empty(), "the copy holds bytes");
+    two = std::move(copy);
+    expect(copy.held() == 0 && two.held() == 2 && two.offset() == 11, "assigned"); // NOLINT
+    nody::decoder &same = two;
+    two = std::move(same);
+    expect(two.held() == 2 && two.offset() == 11, "assigned to itself");
+    two.reset();
+    expect(two.held() == 0 && two.offset() == 0, "reset");
+}
+
+// A loop that is left, and one that throws: the decoder is after the piece at hand, and what was not read is the rest.
+static void try_decoder_left() {
+    nody::decoder it(nody::form::utf8);
+    expect(taken(it.feed("\xF0\x9F")).empty(), "held before");
+    std::string text = "AB\xE2\x82\xAC" "C";
+    auto part = it.feed(text);
+    for (const nody::located &piece : part)
+        if (piece.offset == 0) break;
+    expect(it.offset() == 1 && it.held() == 1 && part.rest().size() == text.size(), "left at a byte that was held");
+    auto again = it.feed(part.rest());
+    try {
+        for (const nody::located &piece : again)
+            if (piece.scalar == U'A') throw 1;
+    } catch (int) {
+    }
+    expect(it.offset() == 3 && it.held() == 0 && again.rest().size() == text.size() - 1, "left by an exception");
+    nody::decoder copy = it.copy();
+    std::vector<nody::located> want = {{3, 1, U'B', nody::kind::ok}, {4, 3, U'\u20AC', nody::kind::ok}, {7, 1, U'C', nody::kind::ok}};
+    expect(taken(it.feed(again.rest())) == want && taken(copy.feed(again.rest())) == want && it.offset() == 8, "the rest, and the rest by a copy");
+    {
+        auto unread = it.feed(text);
+        expect(unread.rest().size() == text.size() && it.offset() == 8, "a range that nobody goes through");
+    }
+    expect(it.offset() == 8, "and was dropped");
+    auto twice = it.feed(text);
+    auto place = twice.begin();
+    nody::located before = *place++;
+    expect(before.scalar == U'A' && place->scalar == U'B' && twice.begin()->scalar == U'B' && place != twice.end(), "a range has one place");
+}
+
+// Who feeds the decoder inside of a loop: these bytes come after the piece at hand, and the rest of the part after them.
+static void try_decoder_inside() {
+    nody::decoder it(nody::form::utf8);
+    std::string order, more = "xy\xC3", text = "a\xE2\x82\xAC\xA9" "b";
+    auto put = [&](const nody::located &piece) { order += piece.is_ok() ? std::to_string(static_cast<unsigned>(piece.scalar)) + " " : std::string(nody::name(piece.kind)) + " "; };
+    for (const nody::located &piece : it.feed(text)) {
+        put(piece);
+        if (piece.scalar == 0x20AC)
+            for (const nody::located &inner : it.feed(more)) put(inner);
+    }
+    expect(order == "97 8364 120 121 233 98 " && it.offset() == 9, "fed between two pieces: what is held goes on with the rest of the part");
+    order.clear();
+    for (const nody::located &piece : it.feed("\xE2\x82" "c")) {
+        put(piece);
+        if (piece.kind == nody::kind::interrupted_sequence) {
+            nody::located room[4];
+            expect(it.held() == 0 && it.feed_into("d", room, 4).written == 1 && room[0].offset == 10, "into a room between two pieces");
+        }
+    }
+    expect(order == "InterruptedSequence UnexpectedContinuationByte 99 " && it.offset() == 13, "a fault, then a byte of somebody else");
+    order.clear();
+    for (const nody::located &piece : it.feed("pqr")) {
+        put(piece);
+        if (piece.scalar == U'p') it.reset(100);
+        if (piece.scalar == U'q') expect(piece.offset == 100, "reset between two pieces");
+        if (piece.scalar == U'r') it = nody::decoder(nody::form::utf16le);
+    }
+    expect(order == "112 113 114 " && it.offset() == 0 && it.held() == 0, "another decoder in its place");
+    order.clear();
+    nody::decoder end(nody::form::utf8);
+    expect(taken(end.feed("\xF0\x9F\x98")).empty(), "three bytes are held");
+    for (const nody::located &piece : end.finish()) {
+        put(piece);
+        if (piece.offset == 0) expect(end.held() == 2 && taken(end.feed("!")).size() == 3, "fed between two pieces of the end");
+    }
+    expect(order == "TooFewBytes " && end.held() == 0 && end.offset() == 4, "the end, where others took what is left");
+}
+
+static void try_decoder_rooms() {
+    nody::decoder it(nody::form::utf8);
+    nody::located room[3] = {{77, 7, 7, nody::kind::incomplete}, {77, 7, 7, nody::kind::incomplete}, {77, 7, 7, nody::kind::incomplete}};
+    nody::decoder::progress made = it.feed_into("\xE2\x82", room, 0);
+    expect(made.status == nody::status::done && made.read == 2 && made.written == 0, "held without a room");
+    made = it.feed_into("A", nullptr, 0);
+    expect(made.status == nody::status::full && made.read == 0 && made.written == 0 && it.held() == 2, "full without a room");
+    made = it.feed_into("A", room, 2);
+    expect(made.status == nody::status::full && made.read == 0 && made.written == 2 && room[1].offset == 1 && room[2].offset == 77, "a room of two");
+    made = it.feed_into("A", room, 1);
+    expect(made.status == nody::status::done && made.read == 1 && made.written == 1 && room[0].scalar == U'A' && room[1].offset == 1, "the rest");
+    expect(it.feed_faults_into("\xF0\x9F\x98", room, 3).written == 0 && it.held() == 3, "faults: held");
+    made = it.finish_faults_into(room, 2);
+    expect(made.status == nody::status::full && made.written == 2 && it.held() == 1, "the end in a room of two");
+    made = it.finish_into(room, 2);
+    expect(made.status == nody::status::done && made.written == 1 && it.held() == 0 && it.offset() == 6, "the rest of the end");
+    std::vector<nody::located> wide(200);
+    std::string text(201, 'a');
+    made = it.feed_into(text, wide.data(), wide.size());
+    expect(made.status == nody::status::full && made.written == 200 && made.read == 200 && wide[199].offset == 205, "a room of many is filled by one call");
+}
+
 // ---- Random bytes: the ranges beside the calls, and parts beside the whole
+
+static const std::uint8_t *raw_of(std::string_view text) { return reinterpret_cast<const std::uint8_t *>(text.data()); }
+
+// What a loop over the calls of C gives of a text in parts.
+static std::vector<nody::located> parts_by_c(nody::form form, std::string_view text, std::size_t size, std::size_t room, bool is_faults) {
+    std::vector<nody::located> found;
+    std::vector<nody_located_t> some(room);
+    nody_decoder_t decoder = nody_decoder(static_cast<nody_form_t>(form));
+    decoder.offset = FAR;
+    auto put = [&](std::size_t count) {
+        for (std::size_t i = 0; i < count; i++) found.push_back({some[i].offset, some[i].len, some[i].scalar, static_cast<nody::kind>(some[i].kind)});
+    };
+    nody_status_t status;
+    std::size_t read = 0, written = 0;
+    for (std::size_t at = 0; at < text.size(); at += size) {
+        std::string_view part = text.substr(at, size);
+        do {
+            status = (is_faults ? nody_decoder_feed_faults : nody_decoder_feed)(&decoder, raw_of(part), part.size(), some.data(), room, &read, &written);
+            put(written);
+            part.remove_prefix(read);
+        } while (status == NODY_STATUS_FULL);
+    }
+    do {
+        status = (is_faults ? nody_decoder_finish_faults : nody_decoder_finish)(&decoder, some.data(), room, &written);
+        put(written);
+    } while (status == NODY_STATUS_FULL);
+    return found;
+}
+
+// The same by ranges. At each piece the decoder stands after it; now and then a copy goes on, or the loop is left and begun again.
+static std::vector<nody::located> parts_by_ranges(nody::form form, std::string_view text, std::size_t size, bool is_faults, unsigned leaves) {
+    std::vector<nody::located> found;
+    nody::decoder decoder(form, FAR);
+    unsigned number = 0;
+    bool stands = true;
+    auto go = [&](auto &range) {
+        for (const nody::located &it : range) {
+            found.push_back(it);
+            stands = stands && decoder.offset() == it.offset + it.length;
+            if (leaves && ++number % leaves == 0) return true;
+        }
+        return false;
+    };
+    for (std::size_t at = 0; at < text.size(); at += size) {
+        nody::bytes part = text.substr(at, size);
+        for (bool is_left = true; is_left;) {
+            if (is_faults) {
+                auto range = decoder.feed_faults(part);
+                is_left = go(range);
+                part = range.rest();
+            } else {
+                auto range = decoder.feed(part);
+                is_left = go(range);
+                part = range.rest();
+            }
+        }
+        stands = stands && part.size() == 0 && decoder.offset() + decoder.held() == FAR + std::min(at + size, text.size());
+    }
+    join(found, is_faults ? taken(decoder.finish_faults()) : taken(decoder.finish()));
+    expect(stands && decoder.offset() == FAR + text.size() && decoder.held() == 0, "a decoder stands after the piece at hand");
+    return found;
+}
+
+static std::vector<nody::located> parts_by_rooms(nody::form form, std::string_view text, std::size_t size, std::size_t room, bool is_faults) {
+    std::vector<nody::located> found, some(room);
+    nody::decoder decoder(form, FAR);
+    nody::decoder::progress made;
+    auto put = [&] { found.insert(found.end(), some.begin(), some.begin() + static_cast<std::ptrdiff_t>(made.written)); };
+    for (std::size_t at = 0; at < text.size(); at += size) {
+        std::string_view part = text.substr(at, size);
+        do {
+            made = is_faults ? decoder.feed_faults_into(part, some.data(), room) : decoder.feed_into(part, some.data(), room);
+            put();
+            part.remove_prefix(made.read);
+        } while (made.status == nody::status::full);
+    }
+    do {
+        made = is_faults ? decoder.finish_faults_into(some.data(), room) : decoder.finish_into(some.data(), room);
+        put();
+    } while (made.status == nody::status::full);
+    return found;
+}
+
+// From each piece on a copy, which is fed the rest of the part and what follows, gives the pieces that are left.
+static void try_copies(nody::form form, std::string_view text, std::size_t size, const std::vector<nody::located> &want) {
+    nody::decoder decoder(form, FAR);
+    std::size_t number = 0;
+    bool is_same = true;
+    for (std::size_t at = 0; at < text.size(); at += size) {
+        std::string_view part = text.substr(at, size), after = text.substr(std::min(at + size, text.size()));
+        auto range = decoder.feed(part);
+        for (const nody::located &it : range) {
+            is_same = is_same && it == want[number++];
+            nody::decoder copy = decoder.copy();
+            std::vector<nody::located> left = taken(copy.feed(range.rest()));
+            join(left, taken(copy.feed(after)));
+            join(left, taken(copy.finish()));
+            is_same = is_same && std::equal(left.begin(), left.end(), want.begin() + static_cast<std::ptrdiff_t>(number), want.end());
+        }
+    }
+    expect(is_same, "a copy at each piece goes on from there");
+}
+
+// The bytes of a text that is damaged, in a form.
+static std::string damaged(std::mt19937 &random, nody::form form, unsigned count) {
+    const std::string_view parts[] = {"a", "\n", "\xC3\xA9", "\xE2\x82\xAC", "\xF0\x9F\x98\x80", "\xE2", "\x82", "\xED\xA0", "\xFF", "\xF4\x90"};
+    const std::string_view units[] = {"a\0"sv, "\0a"sv, "\x3D\xD8\0\xDE"sv, "\xD8\x3D\xDE\0"sv, "\xD8"sv, "\xDC\0"sv, "\0\xDC"sv, "\0\xD8"sv, "\xAC\x20"sv, "b"sv};
+    std::string text;
+    bool is_plain = random() % 3 == 0;
+    for (; count > 0; count--) text += is_plain && random() % 40 ? (form == nody::form::utf8 ? "a"sv : form == nody::form::utf16le ? "a\0"sv : "\0a"sv) : form == nody::form::utf8 ? parts[random() % 10] : units[random() % 10];
+    return text;
+}
+
+static void try_parts() {
+    std::mt19937 random(28);
+    for (unsigned round = 0; round < 1500; round++) {
+        nody::form form = static_cast<nody::form>(round % 3);
+        bool is_faults = round % 2 != 0;
+        std::string text = damaged(random, form, static_cast<unsigned>(random()) % (round % 30 ? 60 : 6000));
+        const std::vector<nody::located> whole = parts_by_c(form, text, SIZE_MAX / 2, 100, is_faults);
+        for (std::size_t size : {1U, 2U, 3U, 7U, 4096U}) {
+            for (std::size_t room : {1U, 2U, 32U, 100U}) {
+                expect(parts_by_c(form, text, size, room, is_faults) == whole, "parts by the calls of C");
+                expect(parts_by_rooms(form, text, size, room, is_faults) == whole, "parts into rooms");
+            }
+            for (unsigned leaves : {0U, 1U, 2U, 5U, 33U}) expect(parts_by_ranges(form, text, size, is_faults, leaves) == whole, "parts by ranges");
+            if (!is_faults && round % 10 == 0 && text.size() < 200) try_copies(form, text, size, whole);
+        }
+    }
+}
 
 static std::vector<nody::piece> faults_by_c(std::string_view text) {
     std::vector<nody::piece> found;
@@ -276,7 +590,15 @@ int main() {
     try_recode();
     try_recoder();
     try_strict_recoder();
+    try_decoder();
+    try_decoder_of_units();
+    try_decoder_faults();
+    try_decoder_moved();
+    try_decoder_left();
+    try_decoder_inside();
+    try_decoder_rooms();
     try_random();
+    try_parts();
     std::printf("%lu passed, %lu failed\n", passed, failed);
     return failed != 0;
 }

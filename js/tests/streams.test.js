@@ -4,6 +4,7 @@ import { createReadStream, mkdtempSync, rmSync, writeFileSync } from "node:fs";
 import { tmpdir } from "node:os";
 import test from "node:test";
 import vm from "node:vm";
+import { MessageChannel } from "node:worker_threads";
 import { FaultError, decode, faults, pieces, streamFaults, streamPieces, streamText } from "noddychest";
 import { chances, damaged, divided, hexOf, ofHex } from "./help.js";
 
@@ -15,6 +16,14 @@ const all = async (given) => {
     for await (const it of given) found.push(it);
     return found;
 };
+
+// Takes the memory of a buffer away, as postMessage does with what is transferred.
+function detach(buffer) {
+    const { port1, port2 } = new MessageChannel();
+    port1.postMessage(null, [buffer]);
+    port1.close();
+    port2.close();
+}
 
 const streamOf = (parts) => new ReadableStream({ start: (it) => (parts.forEach((part) => it.enqueue(part)), it.close()) });
 
@@ -130,4 +139,135 @@ test("two streams at the same time", async () => {
     const inputs = [damaged(chance, 3000), damaged(chance, 3000)];
     const found = await Promise.all(inputs.map((it) => all(streamPieces(divided(chance, it, 5)))));
     assert.deepEqual(found, inputs.map((it) => [...pieces(it)]));
+});
+
+test("two iterations of one stream: who begins first has it, and of other iterables each part comes once", { skip }, async () => {
+    for (const call of [streamPieces, streamFaults, streamText]) {
+        const stream = streamOf(["41ff", "42ff"].map(ofHex));
+        const [one, two] = [call(stream), call(stream)];
+        assert.equal(stream.locked, false);
+        assert.equal((await one.next()).done, false);
+        await assert.rejects(two.next(), TypeError);
+        assert.equal((await two.next()).done, true);
+        assert.ok((await all(one)).length);
+        assert.equal(stream.locked, false);
+        assert.deepEqual(await all(call(stream)), []);
+    }
+    const parts = ["61", "62", "63", "64"].map(ofHex)[Symbol.iterator]();
+    const [one, two, found] = [streamPieces(parts), streamPieces(parts), []];
+    for (const it of [one, two, one, two, one, two]) found.push((await it.next()).value);
+    assert.deepEqual(found.map((it) => it && [it.offset, it.char]), [[0, "a"], [0, "b"], [1, "c"], [1, "d"], undefined, undefined]);
+});
+
+test("asked for many steps at once, and by two at a time: each piece comes once, in order", { skip }, async () => {
+    const want = [...pieces(ofHex("41e282acff42"))];
+    const given = streamPieces(streamOf(["41e2", "82", "acff42"].map(ofHex)));
+    const told = await Promise.all(Array.from({ length: 8 }, () => given.next()));
+    assert.deepEqual(told.map((it) => it.value), [...want, undefined, undefined, undefined, undefined]);
+    const [shared, found] = [streamPieces(["41e2", "82", "acff42"].map(ofHex)), []];
+    const take = async () => {
+        for await (const it of shared) found.push(it);
+    };
+    await Promise.all([take(), take()]);
+    assert.deepEqual(found, want);
+});
+
+test("return and throw: before the first step, between two, while one is asked for, and twice", { skip }, async () => {
+    for (const call of [streamPieces, streamFaults, streamText]) {
+        let [cancelled, pulled] = [0, 0];
+        const endless = () => new ReadableStream({ pull: (it) => (pulled++, it.enqueue(ofHex("ffff"))), cancel: () => void cancelled++ }, { highWaterMark: 0 });
+        // (one that never began has not taken the stream)
+        const unbegun = endless();
+        assert.deepEqual(await call(unbegun).return(), { done: true, value: undefined });
+        assert.deepEqual([unbegun.locked, cancelled, pulled], [false, 0, 0]);
+        const left = endless();
+        const given = call(left);
+        await given.next();
+        assert.equal(left.locked, true);
+        assert.equal((await given.return()).done, true);
+        assert.equal((await given.return()).done, true);
+        assert.equal((await given.next()).done, true);
+        assert.deepEqual([left.locked, cancelled, pulled], [false, 1, 1]);
+        const thrown = endless();
+        const other = call(thrown);
+        await other.next();
+        await assert.rejects(other.throw(new Error("enough")), { message: "enough" });
+        assert.deepEqual([thrown.locked, cancelled, (await other.next()).done], [false, 2, true]);
+        // (asked for while a step is on its way, return waits for it)
+        const busy = endless();
+        const third = call(busy);
+        const [step, end] = await Promise.all([third.next(), third.return()]);
+        assert.deepEqual([step.done, end.done, busy.locked, cancelled], [false, true, false, 3]);
+    }
+});
+
+test("a reader that fails, whose cancel fails, and a part that is no bytes: the error comes, and the stream is free", { skip }, async () => {
+    for (const call of [streamPieces, streamFaults, streamText]) {
+        let reasons = 0;
+        const rude = new ReadableStream({ pull: (it) => it.enqueue(ofHex("ff")), cancel: () => (reasons++, Promise.reject(new Error("no"))) });
+        for await (const it of call(rude)) if (it) break;
+        assert.deepEqual([rude.locked, reasons], [false, 1]);
+        const mixed = new ReadableStream({ start: (it) => ([ofHex("ff"), "text", ofHex("41")].forEach((part) => it.enqueue(part)), it.close()), cancel: () => void reasons++ });
+        await assert.rejects(all(call(mixed)), { name: "TypeError", message: /bytes are a Uint8Array/ });
+        assert.deepEqual([mixed.locked, reasons], [false, 2]);
+        const failing = { getReader: () => ({ read: () => Promise.reject(new Error("cut")), cancel: () => Promise.reject(new Error("no")), releaseLock: () => void reasons++ }) };
+        await assert.rejects(all(call(failing)), { message: "cut" });
+        assert.equal(reasons, 3);
+        await assert.rejects(all(call({ getReader: () => { throw new Error("taken"); } })), { message: "taken" });
+    }
+    let closed = 0;
+    const parts = { async *[Symbol.asyncIterator]() {
+        try {
+            yield ofHex("ff");
+            yield "text";
+        } finally {
+            closed++;
+        }
+    } };
+    await assert.rejects(all(streamPieces(parts)), { name: "TypeError", message: /bytes are a Uint8Array/ });
+    for await (const it of streamFaults(parts)) if (it) break;
+    assert.equal(closed, 2);
+});
+
+test("parts that are changed, detached, grown or made smaller while a piece is at hand", async () => {
+    const spoils = { changed: (it) => new Uint8Array(it).fill(0xff), detached: detach };
+    if ("resize" in ArrayBuffer.prototype) Object.assign(spoils, { grown: (it) => it.resize(20000), "made smaller": (it) => it.resize(1) });
+    for (const [name, spoil] of Object.entries(spoils)) {
+        const give = (it) => {
+            const buffer = name !== "changed" && "resize" in ArrayBuffer.prototype ? new ArrayBuffer(it.length, { maxByteLength: 20000 }) : new ArrayBuffer(it.length);
+            new Uint8Array(buffer).set(it);
+            return buffer;
+        };
+        for (const call of [streamPieces, streamFaults]) {
+            const [bytes, found] = [damaged(chances(25), 9000), []];
+            const parts = [give(bytes.subarray(0, 4999)), give(bytes.subarray(4999))];
+            for await (const it of call(parts)) {
+                if (!found.length) spoil(parts[0]);
+                found.push(it);
+            }
+            assert.deepEqual(found, [...(call === streamPieces ? pieces : faults)(bytes)], name);
+        }
+    }
+    if (typeof SharedArrayBuffer !== "function") return;
+    const [shared, found] = [new SharedArrayBuffer(9000), []];
+    for await (const it of streamPieces([shared])) {
+        found.push(it.char);
+        if (found.length === 1) new Uint8Array(shared).fill(0xff);
+    }
+    assert.deepEqual([found.length, new Set(found).size, found[8999]], [9000, 1, "\0"]);
+});
+
+test("offsets from 2^32 on", async () => {
+    const [zeros, parts] = [new Uint8Array(16 << 20), 256];
+    const last = ofHex("41ffc3a9e282");
+    async function* given() {
+        for (let i = 0; i < parts; i++) yield zeros;
+        yield last;
+    }
+    const [base, want] = [2 ** 32, [...faults(last)]];
+    assert.deepEqual(await all(streamFaults(given())), want.map((it) => ({ ...it, offset: base + it.offset })));
+    const { offset, text } = (await all(streamText((async function* () {
+        for (let i = 0; i < 2; i++) yield last;
+    })())))[1];
+    assert.deepEqual([offset, text], [4, "\ufffd\ufffdA\ufffdé"]);
 });
