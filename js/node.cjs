@@ -395,8 +395,9 @@ class Codec {
         return Number(this.calls.nody_utf16_bytes_valid_up_to(form, this.address(this.start + from), BigInt(end - from)));
     }
 
+    // (`slice` would fill the new memory with zeros first, which takes as long as the copy)
     keep(chunks, count) {
-        if (count) chunks.push(this.memory.slice(this.made, this.made + count));
+        if (count) chunks.push(new Uint8Array(this.memory.subarray(this.made, this.made + count)));
         return count;
     }
 
