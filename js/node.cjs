@@ -23,7 +23,7 @@ const MOST = 10 * 1024 * 1024;
 // A piece depends on no more bytes than these from its first on, or up to its last.
 const SEEN = 4;
 // What a recoder does with invalid bytes: one U+FFFD for each; one for each maximal subpart; or it stops at the first one.
-const [REPLACE, MAXIMAL, STRICT] = [0, 1, 2];
+const [REPLACE, LOSSY, STRICT] = [0, 1, 2];
 const MODES = ["", "_lossy", "_strict"];
 // Pieces that are asked for at once where invalid bytes are rare.
 const FEW = 32;
@@ -553,13 +553,13 @@ function objectOf(options, example) {
 }
 
 // What options ask to do with invalid bytes. `fatal: true` is how TextDecoder says "strict".
-const WAYS = { replace: REPLACE, maximal: MAXIMAL, strict: STRICT };
+const WAYS = { replace: REPLACE, lossy: LOSSY, strict: STRICT };
 
 function wayOf(options = {}) {
     const { errors, fatal } = objectOf(options, "{ fatal: true }");
     if (errors === undefined) return fatal ? STRICT : REPLACE;
     const name = String(errors);
-    if (!Object.keys(WAYS).includes(name)) throw new RangeError(`noddychest: errors is "replace", "maximal" or "strict", and not ${name}`);
+    if (!Object.keys(WAYS).includes(name)) throw new RangeError(`noddychest: errors is "replace", "lossy" or "strict", and not ${name}`);
     if (fatal && WAYS[name] !== STRICT) throw new TypeError(`noddychest: fatal is the same as errors: "strict", and here errors is "${name}"`);
     return WAYS[name];
 }
@@ -574,6 +574,12 @@ function wholeOf(at) {
 function shown({ place, len, scalar, kind }, base) {
     const isValid = kind === OK;
     return { offset: base + place, length: len, char: isValid ? String.fromCodePoint(scalar) : null, error: isValid ? null : codec.names[kind] };
+}
+
+function sentence(error) {
+    const kind = codec.names.indexOf(error);
+    if (kind <= OK || kind >= NONE) throw new RangeError(`noddychest: no error has the name ${String(error)}`);
+    return codec.sentences[kind];
 }
 
 // The pieces of some bytes that begin before `end`, with offsets from `base` on.
@@ -835,7 +841,7 @@ class Recoder {
         this.#state = codec.newRecoder(...forms);
     }
 
-    get faults() {
+    get replaced() {
         return codec.replacedBy(this.#state);
     }
 
@@ -1083,4 +1089,4 @@ async function* streamText(stream, encoding = "utf-8", options) {
 const file = require("node:path").join(__dirname, hasVectors() ? "noddychest-simd.wasm" : "noddychest.wasm");
 use(new WebAssembly.Instance(new WebAssembly.Module(require("node:fs").readFileSync(file))));
 
-module.exports = { Decoder, Ends, FaultError, Recoder, boundaryAfter, boundaryBefore, changedRange, charCount, decode, encodingOfBom, faults, firstFault, isValid, numberOf, offsetOf, pieces, piecesBack, recode, recodedLength, recoderStream, streamFaults, streamPieces, streamText, undecidedLength };
+module.exports = { Decoder, Ends, FaultError, Recoder, boundaryAfter, boundaryBefore, changedRange, charCount, decode, encodingOfBom, faults, firstFault, isValid, numberOf, offsetOf, pieces, piecesBack, recode, recodedLength, recoderStream, sentence, streamFaults, streamPieces, streamText, undecidedLength };
