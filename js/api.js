@@ -115,23 +115,16 @@ function* piecesIn(bytes, form, base = 0, end = bytes.length) {
         const isLast = length - at <= BLOCK;
         codec.fill(bytes.subarray(at, at + BLOCK), form);
         const stop = Math.min(isLast ? codec.len : BLOCK - SEEN + 1, end - at);
-        const { count } = codec.run(0);
-        const block = [];
+        // (a copy, of which objects are made one by one: such as live for a block cost more)
+        const row = codec.copies(codec.run(0).count);
         let place = 0;
-        for (let i = 0; i < count && place < stop; i++) {
-            const piece = codec.inRoom(i, place);
-            block.push(shown(piece, base + at));
+        while (place < stop) {
+            const piece = row.take(place);
+            hold(bytes.length === length);
+            yield shown(piece, base + at);
             place += piece.len;
         }
-        if (place < stop) {
-            block.push(shown(codec.lastByte(place), base + at));
-            place++;
-        }
         at += place;
-        for (const it of block) {
-            hold(bytes.length === length);
-            yield it;
-        }
     }
 }
 

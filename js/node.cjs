@@ -174,9 +174,9 @@ class Codec {
         return faults;
     }
 
-    // The piece of the room with that number, which begins at an offset.
-    inRoom(number, place) {
-        return this.pieceAt(this.room + number * PIECE, place);
+    // Copies of so many pieces that stand in the room.
+    copies(count) {
+        return new Copies(this.memory.buffer.slice(this.room, this.room + count * PIECE), this.unit);
     }
 
     // The pieces from an offset at which one begins, as far as they begin before another, and end after a third.
@@ -412,6 +412,24 @@ class Codec {
 // A number below 2^53 of 64 bits.
 const wide = (view, at) => view.getUint32(at, true) + view.getUint32(at + 4, true) * 2 ** 32;
 
+// Pieces without their offsets, as copies of what stood in the room, to be taken one by one.
+class Copies {
+    constructor(buffer, unit) {
+        this.view = new DataView(buffer);
+        this.end = buffer.byteLength;
+        this.unit = unit;
+        this.at = 0;
+    }
+
+    // The next one, which begins at an offset. After the last one comes the single byte at the end of UTF-16.
+    take(place) {
+        const { view, at } = this;
+        if (at === this.end) return { place, len: 1, scalar: 0, kind: INCOMPLETE };
+        this.at += PIECE;
+        return { place, len: view.getUint32(at, true) * this.unit, scalar: view.getUint32(at + 8, true), kind: view.getUint8(at + 12) };
+    }
+}
+
 // Pieces with their offsets, as copies of what a decoder gave, of which the first ones were taken.
 class Row {
     constructor(bytes) {
@@ -590,23 +608,16 @@ function* piecesIn(bytes, form, base = 0, end = bytes.length) {
         const isLast = length - at <= BLOCK;
         codec.fill(bytes.subarray(at, at + BLOCK), form);
         const stop = Math.min(isLast ? codec.len : BLOCK - SEEN + 1, end - at);
-        const { count } = codec.run(0);
-        const block = [];
+        // (a copy, of which objects are made one by one: such as live for a block cost more)
+        const row = codec.copies(codec.run(0).count);
         let place = 0;
-        for (let i = 0; i < count && place < stop; i++) {
-            const piece = codec.inRoom(i, place);
-            block.push(shown(piece, base + at));
+        while (place < stop) {
+            const piece = row.take(place);
+            hold(bytes.length === length);
+            yield shown(piece, base + at);
             place += piece.len;
         }
-        if (place < stop) {
-            block.push(shown(codec.lastByte(place), base + at));
-            place++;
-        }
         at += place;
-        for (const it of block) {
-            hold(bytes.length === length);
-            yield it;
-        }
     }
 }
 
