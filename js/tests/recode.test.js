@@ -18,7 +18,7 @@ test("a recoder counts what it replaced", () => {
     assert.equal(recoder.replaced, 4);
     const strict = new Recoder("utf-8", "utf-8", { fatal: true });
     assert.throws(() => strict.feed(ofHex("ff")), FaultError);
-    assert.equal(strict.faults, 0);
+    assert.equal(strict.replaced, 0);
 });
 
 test("the stored recodings", () => {
