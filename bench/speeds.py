@@ -166,7 +166,8 @@ OF_C = {"utf8-to-utf16le": ("UTF-8 to UTF-16LE, `nody_recoder_feed`", "nody"), "
 IN_SHORT = {"decode at once": ("split into pieces, many at a time", "icu"), "valid-up-to": ("validate UTF-8", "simdutf"),
             "utf8-to-utf16le": ("UTF-8 to UTF-16", "simdutf"), "utf16le-to-utf8": ("UTF-16 to UTF-8", "simdutf")}
 # Those of the summary, in its words.
-OF_C_IN_SHORT = {"decode": "split into pieces, from C, one at a time", "decode at once": "split into pieces, from C, many at a time",
+OF_C_IN_SHORT = {"decode": "split into pieces, from C, one at a time", "decode first": "split into pieces, from C, by `nody_utf8_first`",
+                 "decode at once": "split into pieces, from C, many at a time",
                  "valid-up-to": "validate UTF-8, from C", "utf8-to-utf16le": "UTF-8 to UTF-16, from C", "utf16le-to-utf8": "UTF-16 to UTF-8, from C"}
 PEERS_OF_C = ("icu", "iconv", "utf8proc", "simdutf")
 

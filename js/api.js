@@ -1,5 +1,5 @@
 // The calls of the package, over a module that node.js or web.js has loaded. index.d.ts says what they take and return.
-import { Codec, FEW, FORMS, INCOMPLETE, MAXIMAL, NONE, NO_BYTES, NO_PIECES, OK, REPLACE, ROOM, SEEN, STRICT, TOO_FEW, UTF16LE, UTF8, joined } from "./codec.js";
+import { Codec, FEW, FORMS, INCOMPLETE, LOSSY, NONE, NO_BYTES, NO_PIECES, OK, REPLACE, ROOM, SEEN, STRICT, TOO_FEW, UTF16LE, UTF8, joined } from "./codec.js";
 
 // Bytes whose pieces are asked for at once.
 const BLOCK = 4096;
@@ -78,13 +78,13 @@ function objectOf(options, example) {
 }
 
 // What options ask to do with invalid bytes. `fatal: true` is how TextDecoder says "strict".
-const WAYS = { replace: REPLACE, maximal: MAXIMAL, strict: STRICT };
+const WAYS = { replace: REPLACE, lossy: LOSSY, strict: STRICT };
 
 function wayOf(options = {}) {
     const { errors, fatal } = objectOf(options, "{ fatal: true }");
     if (errors === undefined) return fatal ? STRICT : REPLACE;
     const name = String(errors);
-    if (!Object.keys(WAYS).includes(name)) throw new RangeError(`noddychest: errors is "replace", "maximal" or "strict", and not ${name}`);
+    if (!Object.keys(WAYS).includes(name)) throw new RangeError(`noddychest: errors is "replace", "lossy" or "strict", and not ${name}`);
     if (fatal && WAYS[name] !== STRICT) throw new TypeError(`noddychest: fatal is the same as errors: "strict", and here errors is "${name}"`);
     return WAYS[name];
 }
@@ -101,6 +101,12 @@ function shown({ place, len, scalar, kind }, base) {
     return { offset: base + place, length: len, char: isValid ? String.fromCodePoint(scalar) : null, error: isValid ? null : codec.names[kind] };
 }
 
+export function sentence(error) {
+    const kind = codec.names.indexOf(error);
+    if (kind <= OK || kind >= NONE) throw new RangeError(`noddychest: no error has the name ${String(error)}`);
+    return codec.sentences[kind];
+}
+
 // The pieces of some bytes that begin before `end`, with offsets from `base` on.
 function* piecesIn(bytes, form, base = 0, end = bytes.length) {
     const { length } = bytes;
@@ -109,23 +115,16 @@ function* piecesIn(bytes, form, base = 0, end = bytes.length) {
         const isLast = length - at <= BLOCK;
         codec.fill(bytes.subarray(at, at + BLOCK), form);
         const stop = Math.min(isLast ? codec.len : BLOCK - SEEN + 1, end - at);
-        const { count } = codec.run(0);
-        const block = [];
+        // (a copy, of which objects are made one by one: such as live for a block cost more)
+        const row = codec.copies(codec.run(0).count);
         let place = 0;
-        for (let i = 0; i < count && place < stop; i++) {
-            const piece = codec.inRoom(i, place);
-            block.push(shown(piece, base + at));
+        while (place < stop) {
+            const piece = row.take(place);
+            hold(bytes.length === length);
+            yield shown(piece, base + at);
             place += piece.len;
         }
-        if (place < stop) {
-            block.push(shown(codec.lastByte(place), base + at));
-            place++;
-        }
         at += place;
-        for (const it of block) {
-            hold(bytes.length === length);
-            yield it;
-        }
     }
 }
 
@@ -360,7 +359,7 @@ export class Recoder {
         this.#state = codec.newRecoder(...forms);
     }
 
-    get faults() {
+    get replaced() {
         return codec.replacedBy(this.#state);
     }
 

@@ -21,7 +21,7 @@ export const MOST = 10 * 1024 * 1024;
 // A piece depends on no more bytes than these from its first on, or up to its last.
 export const SEEN = 4;
 // What a recoder does with invalid bytes: one U+FFFD for each; one for each maximal subpart; or it stops at the first one.
-export const [REPLACE, MAXIMAL, STRICT] = [0, 1, 2];
+export const [REPLACE, LOSSY, STRICT] = [0, 1, 2];
 const MODES = ["", "_lossy", "_strict"];
 // Pieces that are asked for at once where invalid bytes are rare.
 export const FEW = 32;
@@ -172,9 +172,9 @@ export class Codec {
         return faults;
     }
 
-    // The piece of the room with that number, which begins at an offset.
-    inRoom(number, place) {
-        return this.pieceAt(this.room + number * PIECE, place);
+    // Copies of so many pieces that stand in the room.
+    copies(count) {
+        return new Copies(this.memory.buffer.slice(this.room, this.room + count * PIECE), this.unit);
     }
 
     // The pieces from an offset at which one begins, as far as they begin before another, and end after a third.
@@ -393,8 +393,9 @@ export class Codec {
         return Number(this.calls.nody_utf16_bytes_valid_up_to(form, this.address(this.start + from), BigInt(end - from)));
     }
 
+    // (`slice` would fill the new memory with zeros first, which takes as long as the copy)
     keep(chunks, count) {
-        if (count) chunks.push(this.memory.slice(this.made, this.made + count));
+        if (count) chunks.push(new Uint8Array(this.memory.subarray(this.made, this.made + count)));
         return count;
     }
 
@@ -408,6 +409,24 @@ export class Codec {
 
 // A number below 2^53 of 64 bits.
 const wide = (view, at) => view.getUint32(at, true) + view.getUint32(at + 4, true) * 2 ** 32;
+
+// Pieces without their offsets, as copies of what stood in the room, to be taken one by one.
+class Copies {
+    constructor(buffer, unit) {
+        this.view = new DataView(buffer);
+        this.end = buffer.byteLength;
+        this.unit = unit;
+        this.at = 0;
+    }
+
+    // The next one, which begins at an offset. After the last one comes the single byte at the end of UTF-16.
+    take(place) {
+        const { view, at } = this;
+        if (at === this.end) return { place, len: 1, scalar: 0, kind: INCOMPLETE };
+        this.at += PIECE;
+        return { place, len: view.getUint32(at, true) * this.unit, scalar: view.getUint32(at + 8, true), kind: view.getUint8(at + 12) };
+    }
+}
 
 // Pieces with their offsets, as copies of what a decoder gave, of which the first ones were taken.
 class Row {

@@ -34,6 +34,12 @@ export type ErrorName =
     /** UTF-16: 0xD800 to 0xDBFF is the last unit, or the text ends inside a unit. */
     | "Incomplete";
 
+/**
+ * What an error means, as the library for C says it: of `"OverlongEncoding"` it is "overlong encoding: the value has a shorter code". A name of
+ * no error is a `RangeError`. O(1).
+ */
+export function sentence(error: ErrorName): string;
+
 /** A character: `length` is 1 to 4 bytes. */
 export interface Character {
     offset: number;
@@ -137,7 +143,7 @@ export interface RecodeOptions {
      * What to do with invalid bytes: put one U+FFFD, the replacement character, for each, which is what happens where nothing is given;
      * put one for each maximal subpart, as `TextDecoder` does; or throw a `FaultError` at the first one.
      */
-    errors?: "replace" | "maximal" | "strict";
+    errors?: "replace" | "lossy" | "strict";
     /** The same as `errors: "strict"`, by the name that `TextDecoder` has for it; false by default. */
     fatal?: boolean;
 }
@@ -176,10 +182,10 @@ export class Recoder {
     /** What the bytes that are still held become: call it once, after the last part. */
     finish(): Uint8Array;
     /**
-     * How many invalid bytes, or units, were replaced by U+FFFD so far: with `maximal` and `strict` it is 0. A U+FFFD in the input does
+     * How many invalid bytes, or units, were replaced by U+FFFD so far: with `lossy` and `strict` it is 0. A U+FFFD in the input does
      * not count. A number, not a BigInt: exact up to `Number.MAX_SAFE_INTEGER`.
      */
-    readonly faults: number;
+    readonly replaced: number;
 }
 
 /**

@@ -23,7 +23,7 @@ const MOST = 10 * 1024 * 1024;
 // A piece depends on no more bytes than these from its first on, or up to its last.
 const SEEN = 4;
 // What a recoder does with invalid bytes: one U+FFFD for each; one for each maximal subpart; or it stops at the first one.
-const [REPLACE, MAXIMAL, STRICT] = [0, 1, 2];
+const [REPLACE, LOSSY, STRICT] = [0, 1, 2];
 const MODES = ["", "_lossy", "_strict"];
 // Pieces that are asked for at once where invalid bytes are rare.
 const FEW = 32;
@@ -174,9 +174,9 @@ class Codec {
         return faults;
     }
 
-    // The piece of the room with that number, which begins at an offset.
-    inRoom(number, place) {
-        return this.pieceAt(this.room + number * PIECE, place);
+    // Copies of so many pieces that stand in the room.
+    copies(count) {
+        return new Copies(this.memory.buffer.slice(this.room, this.room + count * PIECE), this.unit);
     }
 
     // The pieces from an offset at which one begins, as far as they begin before another, and end after a third.
@@ -395,8 +395,9 @@ class Codec {
         return Number(this.calls.nody_utf16_bytes_valid_up_to(form, this.address(this.start + from), BigInt(end - from)));
     }
 
+    // (`slice` would fill the new memory with zeros first, which takes as long as the copy)
     keep(chunks, count) {
-        if (count) chunks.push(this.memory.slice(this.made, this.made + count));
+        if (count) chunks.push(new Uint8Array(this.memory.subarray(this.made, this.made + count)));
         return count;
     }
 
@@ -410,6 +411,24 @@ class Codec {
 
 // A number below 2^53 of 64 bits.
 const wide = (view, at) => view.getUint32(at, true) + view.getUint32(at + 4, true) * 2 ** 32;
+
+// Pieces without their offsets, as copies of what stood in the room, to be taken one by one.
+class Copies {
+    constructor(buffer, unit) {
+        this.view = new DataView(buffer);
+        this.end = buffer.byteLength;
+        this.unit = unit;
+        this.at = 0;
+    }
+
+    // The next one, which begins at an offset. After the last one comes the single byte at the end of UTF-16.
+    take(place) {
+        const { view, at } = this;
+        if (at === this.end) return { place, len: 1, scalar: 0, kind: INCOMPLETE };
+        this.at += PIECE;
+        return { place, len: view.getUint32(at, true) * this.unit, scalar: view.getUint32(at + 8, true), kind: view.getUint8(at + 12) };
+    }
+}
 
 // Pieces with their offsets, as copies of what a decoder gave, of which the first ones were taken.
 class Row {
@@ -552,13 +571,13 @@ function objectOf(options, example) {
 }
 
 // What options ask to do with invalid bytes. `fatal: true` is how TextDecoder says "strict".
-const WAYS = { replace: REPLACE, maximal: MAXIMAL, strict: STRICT };
+const WAYS = { replace: REPLACE, lossy: LOSSY, strict: STRICT };
 
 function wayOf(options = {}) {
     const { errors, fatal } = objectOf(options, "{ fatal: true }");
     if (errors === undefined) return fatal ? STRICT : REPLACE;
     const name = String(errors);
-    if (!Object.keys(WAYS).includes(name)) throw new RangeError(`noddychest: errors is "replace", "maximal" or "strict", and not ${name}`);
+    if (!Object.keys(WAYS).includes(name)) throw new RangeError(`noddychest: errors is "replace", "lossy" or "strict", and not ${name}`);
     if (fatal && WAYS[name] !== STRICT) throw new TypeError(`noddychest: fatal is the same as errors: "strict", and here errors is "${name}"`);
     return WAYS[name];
 }
@@ -575,6 +594,12 @@ function shown({ place, len, scalar, kind }, base) {
     return { offset: base + place, length: len, char: isValid ? String.fromCodePoint(scalar) : null, error: isValid ? null : codec.names[kind] };
 }
 
+function sentence(error) {
+    const kind = codec.names.indexOf(error);
+    if (kind <= OK || kind >= NONE) throw new RangeError(`noddychest: no error has the name ${String(error)}`);
+    return codec.sentences[kind];
+}
+
 // The pieces of some bytes that begin before `end`, with offsets from `base` on.
 function* piecesIn(bytes, form, base = 0, end = bytes.length) {
     const { length } = bytes;
@@ -583,23 +608,16 @@ function* piecesIn(bytes, form, base = 0, end = bytes.length) {
         const isLast = length - at <= BLOCK;
         codec.fill(bytes.subarray(at, at + BLOCK), form);
         const stop = Math.min(isLast ? codec.len : BLOCK - SEEN + 1, end - at);
-        const { count } = codec.run(0);
-        const block = [];
+        // (a copy, of which objects are made one by one: such as live for a block cost more)
+        const row = codec.copies(codec.run(0).count);
         let place = 0;
-        for (let i = 0; i < count && place < stop; i++) {
-            const piece = codec.inRoom(i, place);
-            block.push(shown(piece, base + at));
+        while (place < stop) {
+            const piece = row.take(place);
+            hold(bytes.length === length);
+            yield shown(piece, base + at);
             place += piece.len;
         }
-        if (place < stop) {
-            block.push(shown(codec.lastByte(place), base + at));
-            place++;
-        }
         at += place;
-        for (const it of block) {
-            hold(bytes.length === length);
-            yield it;
-        }
     }
 }
 
@@ -834,7 +852,7 @@ class Recoder {
         this.#state = codec.newRecoder(...forms);
     }
 
-    get faults() {
+    get replaced() {
         return codec.replacedBy(this.#state);
     }
 
@@ -1082,4 +1100,4 @@ async function* streamText(stream, encoding = "utf-8", options) {
 const file = require("node:path").join(__dirname, hasVectors() ? "noddychest-simd.wasm" : "noddychest.wasm");
 use(new WebAssembly.Instance(new WebAssembly.Module(require("node:fs").readFileSync(file))));
 
-module.exports = { Decoder, Ends, FaultError, Recoder, boundaryAfter, boundaryBefore, changedRange, charCount, decode, encodingOfBom, faults, firstFault, isValid, numberOf, offsetOf, pieces, piecesBack, recode, recodedLength, recoderStream, streamFaults, streamPieces, streamText, undecidedLength };
+module.exports = { Decoder, Ends, FaultError, Recoder, boundaryAfter, boundaryBefore, changedRange, charCount, decode, encodingOfBom, faults, firstFault, isValid, numberOf, offsetOf, pieces, piecesBack, recode, recodedLength, recoderStream, sentence, streamFaults, streamPieces, streamText, undecidedLength };

@@ -1,2 +1,2 @@
 // Under Node `import` and `require` give the same calls: those of node.cjs, which ./commonjs makes of api.js and codec.js.
-export { Decoder, Ends, FaultError, Recoder, boundaryAfter, boundaryBefore, changedRange, charCount, decode, encodingOfBom, faults, firstFault, isValid, numberOf, offsetOf, pieces, piecesBack, recode, recodedLength, recoderStream, streamFaults, streamPieces, streamText, undecidedLength } from "./node.cjs";
+export { Decoder, Ends, FaultError, Recoder, boundaryAfter, boundaryBefore, changedRange, charCount, decode, encodingOfBom, faults, firstFault, isValid, numberOf, offsetOf, pieces, piecesBack, recode, recodedLength, recoderStream, sentence, streamFaults, streamPieces, streamText, undecidedLength } from "./node.cjs";

@@ -8,4 +8,4 @@ if (!answer.ok) throw new Error(`noddychest: ${address} did not load (${answer.s
 const { instance } = await WebAssembly.instantiate(await answer.arrayBuffer());
 use(instance);
 
-export { Decoder, Ends, FaultError, Recoder, boundaryAfter, boundaryBefore, changedRange, charCount, decode, encodingOfBom, faults, firstFault, isValid, numberOf, offsetOf, pieces, piecesBack, recode, recodedLength, recoderStream, streamFaults, streamPieces, streamText, undecidedLength } from "./api.js";
+export { Decoder, Ends, FaultError, Recoder, boundaryAfter, boundaryBefore, changedRange, charCount, decode, encodingOfBom, faults, firstFault, isValid, numberOf, offsetOf, pieces, piecesBack, recode, recodedLength, recoderStream, sentence, streamFaults, streamPieces, streamText, undecidedLength } from "./api.js";

@@ -15,14 +15,14 @@ const [encoding] = encodings;
 const made: Uint8Array = recode(bytes, "utf-8", encoding);
 const recoder = new Recoder("utf-16be", "utf-8");
 const parts: Uint8Array[] = [recoder.feed(made), recoder.finish()];
-const replaced: number = recoder.faults;
+const replaced: number = recoder.replaced;
 const listed: Fault[] = [...faults(bytes, "utf-16be")];
 const numbers: number[] = [charCount(bytes), boundaryBefore(bytes, 1, "utf-16le"), boundaryAfter(bytes, 1), recodedLength(bytes, "utf-8", "utf-16le"), listed.length, undecidedLength(bytes), undecidedLength(bytes.buffer, "utf-16be")];
 const offset: number | null = offsetOf(bytes, 3, "utf-16le");
 const changed: { start: number; end: number } = changedRange(bytes, 0, numberOf(bytes, offset ?? bytes.length));
 const mark: { encoding: Encoding; length: number } | null = encodingOfBom(bytes);
 const marked: Piece[] = [...pieces(bytes.subarray(mark?.length ?? 0, changed.start + changed.end), mark?.encoding ?? "utf-8")];
-const { text, faults: wrong }: { text: string; faults: Fault[] } = decode(bytes, "utf-8", { errors: "maximal" });
+const { text, faults: wrong }: { text: string; faults: Fault[] } = decode(bytes, "utf-8", { errors: "lossy" });
 export async function read(stream: ReadableStream<Uint8Array>): Promise<string> {
     let all = text + wrong.length + numbers.join();
     for await (const piece of streamPieces(stream)) all += piece.char ?? piece.error;

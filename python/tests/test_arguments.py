@@ -6,7 +6,7 @@ import tempfile
 import unittest
 
 import noddychest
-from noddychest import (Decoder, Ends, Recoder, boundary, changed_range, char_count, encoding_of_bom, faults, first_fault, is_valid,
+from noddychest import (Decoder, Ends, Recoder, boundary_before, changed_range, char_count, encoding_of_bom, faults, first_fault, is_valid,
                         number_of, offset_of, pieces, recode, recoded_len, undecided_len)
 
 CALLS = [
@@ -16,7 +16,7 @@ CALLS = [
     first_fault,
     is_valid,
     char_count,
-    lambda data: boundary(data, 1),
+    lambda data: boundary_before(data, 1),
     lambda data: offset_of(data, 1),
     lambda data: number_of(data, 1),
     lambda data: changed_range(data, 0, 1),
@@ -27,7 +27,7 @@ CALLS = [
     lambda data: pieces(data, "utf16be"),
     lambda data: Ends(data, "utf16be"),
     lambda data: recoded_len(data, "utf8", "utf16be"),
-    lambda data: recode(data, "utf8", "utf8", "maximal"),
+    lambda data: recode(data, "utf8", "utf8", "lossy"),
     lambda data: recode(data, "utf8", "utf16le"),
     lambda data: recode(data, "utf16le", "utf8", "strict"),
     Recoder("utf8", "utf8").feed,
@@ -52,7 +52,7 @@ class BytesLike(unittest.TestCase):
                     self.assertEqual(list(pieces(it)[2:5]), list(pieces(data)[2:5]))
                     self.assertEqual([*Ends(it)], [*Ends(data)])
                     self.assertEqual(first_fault(it), first_fault(data))
-                    self.assertEqual((is_valid(it), char_count(it), boundary(it, 12)), (False, 11, 11))
+                    self.assertEqual((is_valid(it), char_count(it), boundary_before(it, 12)), (False, 11, 11))
                     self.assertEqual((undecided_len(it), undecided_len(it, "utf16le"), encoding_of_bom(it)), (0, 1, None))
                     self.assertEqual((offset_of(it, 4), number_of(it, 4), changed_range(it, 7, 8)), (6, 3, (4, 11)))
                     self.assertEqual(recode(it, "utf8", "utf16be"), recode(data, "utf8", "utf16be"))
@@ -65,14 +65,15 @@ class BytesLike(unittest.TestCase):
             wide = array.array(code, b"abcdefgh" * 4)
             for it in (wide, memoryview(wide), memoryview(bytes(wide)).cast(code), memoryview(bytes(32)).cast("B", (4, 8))):
                 self.assertEqual("".join(piece.char for piece in pieces(it)), bytes(it).decode())
-                self.assertEqual((len(pieces(it)), char_count(it), boundary(it, 99)), (32, 32, 32))
+                self.assertEqual((len(pieces(it)), char_count(it), boundary_before(it, 99)), (32, 32, 32))
                 self.assertEqual(recode(it, "utf8", "utf8"), bytes(it))
             wide = array.array(code, b"\xff\xfe" + bytes(28) + b"\xe2\x82")
             self.assertEqual((undecided_len(wide), encoding_of_bom(wide)), (2, ("utf-16-le", 2)))
 
     def test_empty_ones(self):
         for it in (b"", bytearray(), memoryview(b""), array.array("I"), memoryview(array.array("Q"))):
-            self.assertEqual((list(pieces(it)), first_fault(it), is_valid(it), char_count(it), boundary(it, 0)), ([], None, True, 0, 0))
+            asked = (list(pieces(it)), first_fault(it), is_valid(it), char_count(it), boundary_before(it, 0))
+            self.assertEqual(asked, ([], None, True, 0, 0))
             self.assertEqual([recode(it, a, b) for a in ("utf8", "utf16le") for b in ("utf8", "utf16be")], [b""] * 4)
             self.assertEqual([*Ends(it), *reversed(Ends(it))], [])
             self.assertEqual([undecided_len(it), undecided_len(it, "utf16be"), encoding_of_bom(it)], [0, 0, None])
@@ -94,17 +95,17 @@ class BytesLike(unittest.TestCase):
                     call(it)
 
     def test_offsets(self):
-        self.assertRaises(IndexError, boundary, b"abc", -1)
-        self.assertRaises(TypeError, boundary, b"abc", 1.5)
+        self.assertRaises(IndexError, boundary_before, b"abc", -1)
+        self.assertRaises(TypeError, boundary_before, b"abc", 1.5)
         for at in (3, 4, 2**31, 2**32, 2**40, 2**63 - 1, 2**63, 2**64, 10**30):
-            self.assertEqual(boundary(b"abc", at), 3)
-            self.assertEqual(boundary("é".encode(), at), 2)
-            self.assertEqual(boundary(b"", at), 0)
+            self.assertEqual(boundary_before(b"abc", at), 3)
+            self.assertEqual(boundary_before("é".encode(), at), 2)
+            self.assertEqual(boundary_before(b"", at), 0)
         for at in (-1, -(2**31), -(2**63), -(2**63) - 1, -(10**30)):
-            self.assertRaises(IndexError, boundary, b"abc", at)
-        self.assertRaises(TypeError, boundary, b"abc", "1")
-        self.assertRaises(TypeError, boundary, b"abc", None)
-        self.assertEqual(boundary("é".encode(), True), 0)
+            self.assertRaises(IndexError, boundary_before, b"abc", at)
+        self.assertRaises(TypeError, boundary_before, b"abc", "1")
+        self.assertRaises(TypeError, boundary_before, b"abc", None)
+        self.assertEqual(boundary_before("é".encode(), True), 0)
 
 
 class Lifetime(unittest.TestCase):

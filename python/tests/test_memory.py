@@ -7,8 +7,9 @@ import sys
 import tracemalloc
 import unittest
 
-from noddychest import (Decoder, Ends, ErrorKind, Piece, Recoder, boundary, changed_range, char_count, encoding_of_bom, faults, first_fault,
-                        is_valid, number_of, offset_of, pieces, recode, recoded_len, stream_faults, stream_pieces, undecided_len)
+from noddychest import (Decoder, Ends, ErrorKind, Piece, Recoder, boundary_before, changed_range, char_count, encoding_of_bom, faults,
+                        first_fault, is_valid, number_of, offset_of, pieces, recode, recoded_len, stream_faults, stream_pieces,
+                        undecided_len)
 
 FORMS = {"utf8": "utf-8", "utf16le": "utf-16-le", "utf16be": "utf-16-be"}
 SIZE = 1_200_000
@@ -41,7 +42,7 @@ class Peak(unittest.TestCase):
         return len(made), peak
 
     def check(self, data, form, to):
-        for work in (lambda: recode(data, form, to), lambda: recode(data, form, to, "maximal"), lambda: Recoder(form, to).feed(data)):
+        for work in (lambda: recode(data, form, to), lambda: recode(data, form, to, "lossy"), lambda: Recoder(form, to).feed(data)):
             made, peak = self.peak(work)
             self.assertLessEqual(peak, 1.1 * made + SPARE, (data[:12], len(data), form, to))
 
@@ -94,7 +95,7 @@ CALLS = {
     "streams": lambda: (list(stream_pieces([b"a\xe2", b"\xff"])), list(stream_faults([bytearray(b"\xff")]))),
     "Ends": lambda: (next(Ends(b"a\xff")), Ends(bytearray(3), "utf16le").next_back()),
     "faults": lambda: (list(faults(b"a\xff\xe2")), list(faults(bytearray(b"\xff")))),
-    "counts": lambda: (char_count(bytearray(9)), first_fault(memoryview(b"\xff")), is_valid(b""), boundary(b"abc", 10**30)),
+    "counts": lambda: (char_count(bytearray(9)), first_fault(memoryview(b"\xff")), is_valid(b""), boundary_before(b"abc", 10**30)),
     "numbers": lambda: (offset_of(bytearray(70_000), 69_999), number_of(memoryview(b"a\xff"), 10**30), offset_of(b"a", 10**30), changed_range(bytearray(9), 1, 2)),
     "wrong numbers": failing(lambda: (number_of(bytearray(9), -1))),
     "ends and marks": lambda: (undecided_len(bytearray(b"a\xe2")), encoding_of_bom(b"\xff\xfe"), encoding_of_bom(memoryview(b"a"))),

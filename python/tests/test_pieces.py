@@ -9,7 +9,7 @@ import sys
 import unittest
 
 import noddychest
-from noddychest import Ends, ErrorKind, Piece, boundary, char_count, first_fault, is_valid, pieces
+from noddychest import Ends, ErrorKind, Piece, boundary_before, char_count, first_fault, is_valid, pieces
 
 import outside
 
@@ -79,7 +79,7 @@ class Cut(unittest.TestCase):
             self.assertEqual(char_count(data), len(outside.shown(data)))
             starts = {it.offset for it in forward} | {len(data)}
             for at in range(len(data) + 3):
-                self.assertEqual(boundary(data, at), max(it for it in starts if it <= at))
+                self.assertEqual(boundary_before(data, at), max(it for it in starts if it <= at))
 
     def test_vectors(self):
         rows = outside.rows("bytes.txt")

@@ -131,10 +131,10 @@ class InParts(unittest.TestCase):
                 size = source.choice([0, 1, 1, 2, 3, 5, 12])
                 made += recoder.feed(data[at:at + size])
                 at += size
-                self.assertLessEqual(recoder.faults, len(faults(data, form)))
+                self.assertLessEqual(recoder.replaced, len(faults(data, form)))
             made += recoder.finish()
             self.assertEqual(made, outside.shown(data, FORMS[form]).encode(FORMS[to]), data)
-            self.assertEqual(recoder.faults, len(faults(data, form)), (data, form))
+            self.assertEqual(recoder.replaced, len(faults(data, form)), (data, form))
             self.assertEqual(recoder.finish(), b"")
 
     def test_strict_parts(self):
@@ -154,7 +154,7 @@ class InParts(unittest.TestCase):
                 self.assertTrue(data[:wrong[0]].decode(FORMS[form]).encode(FORMS[to]).startswith(made))
             else:
                 self.assertEqual((wrong, made), ([], data.decode(FORMS[form]).encode(FORMS[to])))
-            self.assertEqual(recoder.faults, 0)
+            self.assertEqual(recoder.replaced, 0)
 
     def test_strict_waits_for_the_kind(self):
         """The kind is the same wherever the input is cut, and at the end too few bytes are too few."""
@@ -201,11 +201,11 @@ class InParts(unittest.TestCase):
 
     def test_faults_are_counted(self):
         recoder = Recoder("utf8", "utf8")
-        self.assertEqual((recoder.feed(b"\xf0\x9f"), recoder.faults), (b"", 0))
-        self.assertEqual((recoder.feed("a\ufffd".encode()), recoder.faults), ("\ufffd\ufffda\ufffd".encode(), 2))
-        self.assertEqual((recoder.feed(b"\xe2"), recoder.faults), (b"", 2))
-        self.assertEqual((recoder.finish(), recoder.faults), ("\ufffd".encode(), 3))
-        self.assertEqual((recoder.feed(b"\xff" * 1000 + b"a" * 3000 + b"\x80"), recoder.faults)[1], 1004)
+        self.assertEqual((recoder.feed(b"\xf0\x9f"), recoder.replaced), (b"", 0))
+        self.assertEqual((recoder.feed("a\ufffd".encode()), recoder.replaced), ("\ufffd\ufffda\ufffd".encode(), 2))
+        self.assertEqual((recoder.feed(b"\xe2"), recoder.replaced), (b"", 2))
+        self.assertEqual((recoder.finish(), recoder.replaced), ("\ufffd".encode(), 3))
+        self.assertEqual((recoder.feed(b"\xff" * 1000 + b"a" * 3000 + b"\x80"), recoder.replaced)[1], 1004)
 
 
 if __name__ == "__main__":

@@ -72,9 +72,9 @@ class OneCallAtATime(unittest.TestCase):
         worker = threading.Thread(target=lambda: recoder.feed(big))
         worker.start()
         while worker.is_alive():
-            seen.add((recoder.faults, copy.copy(recoder).faults))
+            seen.add((recoder.replaced, copy.copy(recoder).replaced))
         self.assertLessEqual({it for pair in seen for it in pair}, {0, len(big)})
-        self.assertEqual(recoder.faults, len(big))
+        self.assertEqual(recoder.replaced, len(big))
 
     @unittest.skipIf(sys.version_info < (3, 12), "__buffer__ is called from Python 3.12 on")
     def test_buffer_that_feeds(self):
@@ -136,9 +136,9 @@ class OneCallAtATime(unittest.TestCase):
 
 
 class Copies(unittest.TestCase):
-    def test_maximal_ones(self):
+    def test_lossy_ones(self):
         for way in self.ways():
-            recoder = Recoder("utf8", "utf8", "maximal")
+            recoder = Recoder("utf8", "utf8", "lossy")
             self.assertEqual(recoder.feed(b"a\xf0\x9f"), b"a")
             self.assertEqual((way(recoder).feed(b"\x98!"), way(recoder).feed(b"\x98\x80")), ("\ufffd!".encode(), "😀".encode()))
 
@@ -155,8 +155,8 @@ class Copies(unittest.TestCase):
         for way in self.ways():
             recoder = self.begun()
             other = way(recoder)
-            self.assertEqual((other.faults, recoder.feed(b"!"), recoder.faults), (1, "\ufffd\ufffd!".encode("utf-16-be"), 3))
-            self.assertEqual((other.feed(b"\x98\x80"), other.faults, other.finish()), ("😀".encode("utf-16-be"), 1, b""))
+            self.assertEqual((other.replaced, recoder.feed(b"!"), recoder.replaced), (1, "\ufffd\ufffd!".encode("utf-16-be"), 3))
+            self.assertEqual((other.feed(b"\x98\x80"), other.replaced, other.finish()), ("😀".encode("utf-16-be"), 1, b""))
 
     def test_strict_ones_count_on(self):
         for way in self.ways():
@@ -214,7 +214,7 @@ class Named(Recoder):
 
 def told(recoder, data):
     try:
-        return recoder.feed(data) + recoder.finish(), recoder.faults
+        return recoder.feed(data) + recoder.finish(), recoder.replaced
     except FaultError as fault:
         return fault.offset, fault.error, fault.object
 
@@ -327,7 +327,7 @@ class ChangingBuffers(unittest.TestCase):
                 place, number, changed = offset_of(it, size // 3, form), number_of(it, size // 2, form), changed_range(it, 99_999, 100_007, form)
                 if not (place is None or 0 <= place <= size) or not 0 < number <= size or not changed[0] <= 99_999 < 100_007 <= changed[1]:
                     wrong.append((place, number, changed))
-                if not max(len(recode(it, form, to)), len(recode(it, form, to, "maximal")), recoded_len(it, form, to)) <= 3 * size + 9:
+                if not max(len(recode(it, form, to)), len(recode(it, form, to, "lossy")), recoded_len(it, form, to)) <= 3 * size + 9:
                     wrong.append((form, to))
                 if not all(piece.offset <= size and piece.error for piece in itertools.islice(faults(it, form), 1000)):
                     wrong.append(form)

@@ -226,7 +226,7 @@ pub struct Recoder {
 #[derive(Clone, Copy, Debug)]
 enum Errors {
     Replace,
-    Maximal,
+    Lossy,
     Strict,
 }
 
@@ -260,7 +260,7 @@ impl Recoder {
     /// [`String::from_utf8_lossy`]: https://doc.rust-lang.org/std/string/struct.String.html#method.from_utf8_lossy
     #[must_use]
     pub fn lossy(from: Form, to: Form) -> Recoder {
-        Recoder { errors: Errors::Maximal, ..Recoder::new(from, to) }
+        Recoder { errors: Errors::Lossy, ..Recoder::new(from, to) }
     }
 
     /// A recoder that stops at what is invalid, and says where it is and why: in the places and with the kinds that a decoder of the
@@ -359,7 +359,7 @@ impl Recoder {
     pub fn feed(&mut self, part: &[u8], room: &mut [u8]) -> Progress {
         let did = match self.errors {
             Errors::Replace => relayed(self.inner.feed_into(part, room)),
-            Errors::Maximal => relayed(self.inner.feed_lossy_into(part, room)),
+            Errors::Lossy => relayed(self.inner.feed_lossy_into(part, room)),
             Errors::Strict => {
                 let did = self.inner.feed_strict_into(part, room);
                 self.told(did)
@@ -385,7 +385,7 @@ impl Recoder {
     pub fn finish(&mut self, room: &mut [u8]) -> Progress {
         match self.errors {
             Errors::Replace => relayed(self.inner.finish_into(room)),
-            Errors::Maximal => relayed(self.inner.finish_lossy_into(room)),
+            Errors::Lossy => relayed(self.inner.finish_lossy_into(room)),
             Errors::Strict => {
                 let did = self.inner.finish_strict_into(room);
                 self.told(did)

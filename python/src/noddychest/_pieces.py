@@ -365,12 +365,3 @@ def encoding_of_bom(data: ReadableBuffer) -> Optional[tuple[str, int]]:
     """
     found = _noddychest.form_of_bom(data)
     return None if found is None else (STANDARD[found[0]], found[1])
-
-
-def boundary(data: ReadableBuffer, at: int) -> int:
-    """boundary_before of UTF-8.
-
-    >>> boundary("a😀".encode(), 4)
-    1
-    """
-    return boundary_before(data, at)
