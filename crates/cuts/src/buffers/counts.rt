@@ -4,7 +4,7 @@ ghost use Rattle.cuts.specs.Counts.{counts_of, sum_of, exchange_of, IsSmall, Are
 ghost use Rattle.cuts.specs.Measures.{measure_of};
 ghost use Rattle.cuts.specs.ShardRuns.{line_feed_count as feed_count};
 
-use crate::runs::counts::{char_count, fault_count};
+use crate::runs::steps::next_step;
 
 /// How many bytes, characters, invalid bytes and line feeds some bytes have.
 #[derive(Clone, Copy, Debug, PartialEq, Eq, Drop)]
@@ -26,10 +26,19 @@ impl Counts {
     pub fn of(bytes: &[u8]) -> Counts
         ensures { result ≡ counts_of bytes.now }
     {
+        let mut place = 0;
+        let mut pieces = 0;
+        let mut faults = 0;
+        while place < bytes.len() {
+            let step = next_step(&bytes[place..]);
+            place += step.len;
+            pieces += step.pieces;
+            faults += step.faults;
+        }
         Counts {
             bytes: bytes.len(),
-            pieces: char_count(bytes),
-            faults: fault_count(bytes),
+            pieces,
+            faults,
             line_feeds: line_feed_count(bytes),
         }
     }

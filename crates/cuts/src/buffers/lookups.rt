@@ -15,8 +15,7 @@ use crate::buffers::measures::find_number;
 use crate::buffers::rows::mark_at;
 use crate::buffers::spots::find;
 use crate::runs::counts::char_count;
-use crate::runs::items::Item;
-use encode_unicode::U8SliceExt;
+use crate::runs::numbers::offset_of;
 use std::alloc::Allocator;
 
 // The bytes from this place on, as far as they lie in one chunk.
@@ -72,13 +71,6 @@ pub fn place_of<A: Allocator>(chunks: &[Chunk<A>], sums: &[Counts], number: usiz
 {
     let found = find_number(chunks, sums, Measure::Pieces, number)?;
     let bytes = chunks[found.spot.number].bytes();
-    let (place, _, _) = piece_of_bytes(bytes, number - found.before)?;
+    let place = offset_of(bytes, number - found.before)?;
     Some(found.spot.place + place)
-}
-
-// The piece of the bytes with this number.
-fn piece_of_bytes(bytes: &[u8], number: usize) -> Option<Item>
-    ensures { result ≡ slice_get (pieces bytes.now) number }
-{
-    bytes.utf8char_indices().nth(number)
 }
