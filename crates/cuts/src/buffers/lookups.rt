@@ -14,8 +14,8 @@ use crate::buffers::counts::{Counts, Measure};
 use crate::buffers::measures::find_number;
 use crate::buffers::rows::mark_at;
 use crate::buffers::spots::find;
-use crate::runs::counts::char_count;
 use crate::runs::numbers::offset_of;
+use crate::runs::piece_counts::piece_count;
 use std::alloc::Allocator;
 
 // The bytes from this place on, as far as they lie in one chunk.
@@ -57,9 +57,9 @@ fn pieces_up_to<A: Allocator>(chunk: &Chunk<A>, end: usize) -> usize
 {
     let bytes = chunk.bytes();
     if end <= bytes.len() / 2 {
-        return char_count(&bytes[..end]);
+        return piece_count(&bytes[..end]);
     }
-    chunk.counts().pieces - char_count(&bytes[end..])
+    chunk.counts().pieces - piece_count(&bytes[end..])
 }
 
 // Where the piece with this number begins. `None` if there are no more of them.
