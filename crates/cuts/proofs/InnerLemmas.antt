@@ -1,17 +1,16 @@
 -- Inner bytes: there are as many pieces as other bytes.
-use Rattle.std.proofs.Common.{◌≡◌, ℕ, zero, suc, ◌+◌, ◌-◌, ◌<◌, ◌≤◌, ◌⊎◌, Bool, true, false, List, [], length, get_or, take, drop, arith, refl, ap, ap₂, sym, ◌∙◌, subst, ⊎_elim, inl, inr, Ok, Err, Some, None, Option, length-drop}
+use Rattle.std.proofs.Common.{◌≡◌, ℕ, zero, suc, ◌+◌, ◌-◌, ◌<◌, ◌≤◌, List, length, get_or, take, drop, arith, refl, ap, ap₂, sym, ◌∙◌, ⊎_elim, inl, Ok, Err, Some, None, Option, length-drop}
 use Rattle.std.proofs.lemmas.Bool.{cases_lt}
 use Rattle.std.proofs.lemmas.List.{drop-drop, drop-take, get_or-drop, get_or-take, take-take, take_all}
 use Rattle.utf_base.specs.Code.{utf8}
 use Rattle.utf_base.specs.Kinds.{asked, asked_by, fault_kind, value}
 use Rattle.utf_base.specs.declared.errors.Utf8ErrorKind.{Utf8ErrorKind}
-use Rattle.utf_base.proofs.FrontLemmas.{asked-0, asked-1, asked_le, code_where_no_fault, decodes_from_none, no_fault_where_code}
+use Rattle.utf_base.proofs.FrontLemmas.{asked-0, asked_le, code_where_no_fault, decodes_from_none, no_fault_where_code}
 use Rattle.utf_base.specs.Piece.{Stands}
 use Rattle.utf_base.proofs.Standing.{same_char}
 use Rattle.utf_base.proofs.Utf8Code.{utf8_is_code}
 use Rattle.utf_base.proofs.KindLemmas.{four_bytes_decide}
 use Rattle.encode_unicode.specs.Pieces.{pieces}
-use Rattle.encode_unicode.specs.Window.{IsFrontPiece}
 use Rattle.cuts.specs.InnerBytes.{inner_after, inner_before, inner_of}
 use Rattle.cuts.proofs.StepLemmas.{IsCountedTo, counted_none, counted_on, one_piece}
 

@@ -1,9 +1,8 @@
 -- Codes of two bytes or more, told by four bytes.
-use Rattle.std.proofs.Common.{◌≡◌, ℕ, ◌+◌, ◌-◌, ◌*◌, ◌<◌, ◌≤◌, Bool, true, false, ◌&&◌, List, length, get_or, arith, refl, ap, sym, ◌∙◌, ⊎_elim, Some, None, Option, lit<, inl, inr}
+use Rattle.std.proofs.Common.{◌≡◌, ℕ, ◌+◌, ◌-◌, ◌*◌, ◌<◌, ◌≤◌, Bool, true, false, ◌&&◌, List, length, get_or, arith, refl, ⊎_elim, Some, None, Option, lit<, inl, inr}
 use Rattle.std.proofs.lemmas.Bool.{cases_lt}
 use Rattle.std.proofs.lemmas.Grind.{common_steps}
-use Rattle.utf_base.specs.Kinds.{asked_by, fault_kind, is_continuation, least_value, payload, value}
-use Rattle.utf_base.specs.Scalar.{IsScalar}
+use Rattle.utf_base.specs.Kinds.{fault_kind, is_continuation, payload, value}
 use Rattle.utf_base.specs.declared.errors.Utf8ErrorKind.{Utf8ErrorKind}
 use Rattle.utf_base.proofs.FrontLemmas.{asked-0, asked-1, asked-2, asked-3, asked-4, decodes_from_none, least_value-below_3, least_value-3, least_value-4, value-3, value-4}
 use Rattle.utf_base.proofs.KindCases.{Asks-2, Asks-3, Asks-4, Sums-2, Sums-3, Sums-4, kind-none}

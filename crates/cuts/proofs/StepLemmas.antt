@@ -193,6 +193,11 @@ text_step xs n m within text count = record {
   text = λ yes. text;
 }
 
+-- Any bytes as a step.
+pub part_step : (xs : List ℕ) (n m : ℕ) → n ≤ length xs → (Inside utf8 xs n → ⊥) → m ≡ length (pieces (take n xs))
+    → IsPieceStep xs (record { len = n; pieces = m; faults = faulty_item_count (pieces (take n xs)); is_text = false })
+part_step xs n m within outside count = record { within = within; outside = outside; counted = count; faults = refl; text = λ yes. cc }
+
 pub counted_few : (xs : List ℕ) (place count : ℕ) → IsCountedTo xs place count → count ≤ length xs
 counted_few xs place count h =
     let few = pieces_few (take place xs) in

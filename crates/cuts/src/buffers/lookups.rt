@@ -18,6 +18,9 @@ use crate::runs::numbers::offset_of;
 use crate::runs::piece_counts::piece_count;
 use std::alloc::Allocator;
 
+// How many bytes are counted at once on the way to a piece.
+const PART: usize = 128;
+
 // The bytes from this place on, as far as they lie in one chunk.
 pub fn chunk_from<'a, A: Allocator>(chunks: &'a [Chunk<A>], sums: &[Counts], at: usize) -> &'a [u8]
     requires ends { EndOutside chunks.now }
@@ -71,6 +74,35 @@ pub fn place_of<A: Allocator>(chunks: &[Chunk<A>], sums: &[Counts], number: usiz
 {
     let found = find_number(chunks, sums, Measure::Pieces, number)?;
     let bytes = chunks[found.spot.number].bytes();
-    let place = offset_of(bytes, number - found.before)?;
+    let place = offset_by_parts(bytes, number - found.before)?;
     Some(found.spot.place + place)
+}
+
+// Where the piece of the bytes with this number begins. Parts before it are counted, and only its own is gone through.
+fn offset_by_parts(bytes: &[u8], number: usize) -> Option<usize>
+    ensures { result ≡ option_map (λ (x : AnItem). x.0) (slice_get (pieces bytes.now) number) }
+{
+    let mut place = 0;
+    let mut left = number;
+    while place < bytes.len() {
+        let part = front_part(&bytes[place..]);
+        let count = piece_count(part);
+        if left < count {
+            let offset = offset_of(part, left)?;
+            return Some(place + offset);
+        }
+        place += part.len();
+        left -= count;
+    }
+    None
+}
+
+// The bytes up to the first boundary that is so many bytes from the front, or all.
+fn front_part(bytes: &[u8]) -> &[u8]
+    requires { 0 < length bytes.now }
+    ensures some { 0 < length result.now }
+    ensures front { result.now ≡ take (length result.now) bytes.now }
+    ensures ends { IsBetween bytes.now (length result.now) }
+{
+    &bytes[..ceil(bytes, bytes.len().min(PART))]
 }

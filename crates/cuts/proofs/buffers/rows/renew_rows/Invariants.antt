@@ -1,4 +1,4 @@
-use Rattle.std.proofs.Common.{◌-◌, length}
+use Rattle.std.proofs.Common.{◌-◌}
 use Rattle.cuts.specs.Rows.{AreSumsBut}
 use Rattle.cuts.proofs.buffers.rows.renew_rows.Given as goal
 

@@ -1,4 +1,4 @@
-use Rattle.std.proofs.Common.{◌≡◌, ◌+◌, ◌-◌, arith, sym, ap}
+use Rattle.std.proofs.Common.{◌≡◌, ◌+◌, ◌-◌, arith, sym}
 use Rattle.cuts.specs.InnerBytes.{inner_before}
 use Rattle.cuts.proofs.InnerLemmas.{inner_of_part, inner_within, inner_zero, others_begin}
 use Rattle.cuts.proofs.runs.piece_counts.piece_count.Goals as goal
