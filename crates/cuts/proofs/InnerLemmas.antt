@@ -115,10 +115,10 @@ module _ (xs : List ℕ) (p c : ℕ) (h : IsCountedTo xs p c) (sum : c + inner_b
           let step = one_piece w n (Ok (value w)) (omega (arith, length-drop p xs)) code in
           let follow : (k : ℕ) → 0 < k → k < n → inner_after (drop (p + k) xs) ≡ 0
           = λ k lo hi.
-              let byte = told.follow k lo hi in
-              let same : get_or (drop (p + k) xs) 0 0 ≡ get_or w k 0 = get_or-drop (p + k) xs 0 0 ∙ (ap (λ i. get_or xs i 0) (omega arith) ∙ sym (get_or-drop p xs k 0)) in
-              let none : asked (get_or (drop (p + k) xs) 0 0) ≡ 0 = ap asked same ∙ asked-0 (get_or w k 0) (inl (byte.0, omega (arith, byte.1))) in
-              inner_none (drop (p + k) xs) (omega arith) in
+          let byte = told.follow k lo hi in
+          let same : get_or (drop (p + k) xs) 0 0 ≡ get_or w k 0 = get_or-drop (p + k) xs 0 0 ∙ (ap (λ i. get_or xs i 0) (omega arith) ∙ sym (get_or-drop p xs k 0)) in
+          let none : asked (get_or (drop (p + k) xs) 0 0) ≡ 0 = ap asked same ∙ asked-0 (get_or w k 0) (inl (byte.0, omega (arith, byte.1))) in
+          inner_none (drop (p + k) xs) (omega arith) in
           record {
             len = n;
             positive = many;

@@ -70,11 +70,11 @@ module _ (w : List ℕ) (enough : 4 ≤ length w) where
         let enough_value : 0x800 ≤ v = ⊎_elim (λ (more : 0xE0 < get_or w 0 0). omega arith) (λ (le : get_or w 0 0 ≤ 0xE0). let from = after_e0 (omega arith) in omega arith) (cases_lt 0xE0 (get_or w 0 0)) in
         let gap : 0xD800 ≤ v → 0xE000 ≤ v
         = λ g.
-            ⊎_elim
-            (λ (more : 0xED < get_or w 0 0). omega arith)
-            (λ (le : get_or w 0 0 ≤ 0xED).
-            ⊎_elim (λ (less : get_or w 0 0 < 0xED). absurd (omega arith)) (λ (ge : 0xED ≤ get_or w 0 0). let to = after_ed (omega arith) in absurd (omega arith)) (cases_lt (get_or w 0 0) 0xED))
-            (cases_lt 0xED (get_or w 0 0)) in
+        ⊎_elim
+        (λ (more : 0xED < get_or w 0 0). omega arith)
+        (λ (le : get_or w 0 0 ≤ 0xED).
+        ⊎_elim (λ (less : get_or w 0 0 < 0xED). absurd (omega arith)) (λ (ge : 0xED ≤ get_or w 0 0). let to = after_ed (omega arith) in absurd (omega arith)) (cases_lt (get_or w 0 0) 0xED))
+        (cases_lt 0xED (get_or w 0 0)) in
         kind-none w 3 v sums (rw least_value-3 enough_value) (record { below = omega arith; no_surrogate = gap })
 
     none_four : 0xF0 ≤ get_or w 0 0 → fault_kind w ≡ None

@@ -151,6 +151,7 @@ module _ {chunks : List (List ℕ)} {sums : List Counts} {i j count : ℕ} {gone
               (cases_lt r k))
               (cases_lt k r);
         }
+
   -- those of the rows before them stay, and those after them
   pub sums_but : (r s : ℕ) → count ≡ j - i → 256 * r ≤ i → j ≤ 256 * s → AreSumsBut chunks sums r s
   sums_but r s same from to =

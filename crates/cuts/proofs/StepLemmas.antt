@@ -175,9 +175,9 @@ one_piece xs n r some piece =
         let long : length front ≡ n = length-take-le n xs within in
         let alone : Covered utf8 front 0 → ⊥
         = λ c.
-            let begins = c.begins in
-            let from : c.from ≡ 0 = omega arith in
-            no_code_where_fault xs k c.char piece.0 (rw (take-append-drop n xs, from) at (front_in_whole utf8 front (drop n xs) c.from c.char c.stands)) in
+        let begins = c.begins in
+        let from : c.from ≡ 0 = omega arith in
+        no_code_where_fault xs k c.char piece.0 (rw (take-append-drop n xs, from) at (front_in_whole utf8 front (drop n xs) c.from c.char c.stands)) in
         ⊎_elim
         (λ (some : 0 < faulty_item_count (pieces front)). omega arith)
         (λ (none : faulty_item_count (pieces front) ≤ 0). absurd (no_faults front (omega arith) 0 (omega arith, refl, alone)))

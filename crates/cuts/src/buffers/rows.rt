@@ -134,12 +134,7 @@ pub fn renew_sums<A: Allocator>(
 }
 
 // Sums the rows from one up to another anew, as far as they have sums.
-fn renew_rows<A: Allocator>(
-    chunks: &[Chunk<A>],
-    sums: &mut Vec<Counts, A>,
-    from: usize,
-    to: usize,
-)
+fn renew_rows<A: Allocator>(chunks: &[Chunk<A>], sums: &mut Vec<Counts, A>, from: usize, to: usize)
     requires ends { EndOutside chunks.now }
     requires fits { length (concat chunks.now) < 2 ^ 64 }
     requires others { AreSumsBut chunks.now sums.old.items from to }

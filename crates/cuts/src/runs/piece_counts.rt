@@ -74,12 +74,7 @@ fn inner_at(bytes: &[u8], place: usize) -> u8
     ensures few { result ≤ 3 }
 {
     let first = bytes[place];
-    let is_code = is_longer(
-        first,
-        bytes[place + 1],
-        bytes[place + 2],
-        bytes[place + 3],
-    );
+    let is_code = is_longer(first, bytes[place + 1], bytes[place + 2], bytes[place + 3]);
     if !is_code {
         return 0;
     }
