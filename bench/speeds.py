@@ -235,6 +235,31 @@ def replacements():
     return table(["input", "`replace`, in microseconds", "moving both lists", "ratio", "decoding all again"], lines)
 
 
+EDITS = {"buffer: edit": "an edit of a `TextBuffer`", "buffer: piece": "the piece with a number", "buffer: number_of": "the number at an offset",
+         "buffer: line_of": "the line at an offset", "buffer: next_fault": "the next invalid byte", "table: edit": "an edit of a `PieceTable`",
+         "all decoded again": "decoding all again"}
+
+
+def edited():
+    """What bench/edits printed, by what was done and the KiB: the median and the worst, or one number of each byte."""
+    found = {}
+    for line in (STORED / "edits").read_text(encoding="utf-8").splitlines()[1:]:
+        if it := re.fullmatch(r" *(\d+) buffer: made, ns a byte: ([\d.]+); memory for each byte: ([\d.]+)", line):
+            found["made", int(it[1])], found["memory", int(it[1])] = it[2], it[3]
+        elif it := re.fullmatch(r" *(\d+) (.+?) +([\d.]+) +([\d.]+)", line):
+            found[it[2], int(it[1])] = float(it[3]), float(it[4])
+    return found
+
+
+def edits():
+    found, sizes = edited(), {64: "64 KiB", 1024: "1 MiB", 16384: "16 MiB", 262144: "256 MiB"}
+    both = lambda it: f"{it[0]:,.2f} · {it[1]:,.0f}" if it else "–"
+    lines = [[name, *(both(found.get((work, size))) for size in sizes)] for work, name in EDITS.items()]
+    lines.append(["a `TextBuffer` made anew, nanoseconds for each byte", *(found["made", size] for size in sizes)])
+    lines.append(["its memory, for each byte of the text", *(found["memory", size] for size in sizes)])
+    return table(["microseconds, median · worst", *sizes.values()], lines)
+
+
 def one(name, keys, key, side):
     """What both took in one row."""
     row = next(it for it in stored(name, keys) if it.key == key)

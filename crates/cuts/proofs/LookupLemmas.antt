@@ -80,6 +80,16 @@ module _ (chunks : List (List ℕ)) (k p : ℕ) (x : List ℕ) (at : ChunkAt chu
       let of_whole : (get_or (pieces (concat chunks)) number y).0 ≡ p + y.0 = ap (λ i. (get_or (pieces (concat chunks)) i y).0) is ∙ (place_in_chunk n y lt ∙ ap (λ (z : Item). p + z.0) here) in
       ap Some (there ∙ sym of_whole) ∙ sym (ap (option_map (λ (z : Item). z.0)) (slice_get-get_or (pieces (concat chunks)) number y within))
 
+  pub number_is_found : (number n place : ℕ) → number ≡ length (pieces (concat (take k chunks))) + n → Some place ≡ option_map (λ (z : Item). z.0) (slice_get (pieces x) n)
+      → Some (p + place) ≡ option_map (λ (z : Item). z.0) (slice_get (pieces (concat chunks)) number)
+  number_is_found number n place is told = by_item (slice_get (pieces x) n) refl told
+    where
+      by_item : (o : Option Item) → slice_get (pieces x) n ≡ o → Some place ≡ option_map (λ (z : Item). z.0) o → Some (p + place) ≡ option_map (λ (z : Item). z.0) (slice_get (pieces (concat chunks)) number)
+      by_item None e t = absurd cc
+      by_item (Some y) e t =
+          let at_y : place ≡ y.0 = cc in
+          number_has_place number n (p + place) y (slice_get_within (pieces x) n y e) is e (omega arith)
+
   -- the last boundary of the chunk that is not after a place begins a piece that has this place
   pub boundary_in_chunk : (n q : ℕ) → IsLastBetween x n q → n < length x → (p + q < length (concat chunks)) × (Inside utf8 (concat chunks) (p + q) → ⊥)
   boundary_in_chunk n q last lt =

@@ -17,7 +17,7 @@ use Rattle.cuts.specs.Chunks.{EndOutside}
 use Rattle.cuts.specs.CountedChunks.{IsCounted}
 use Rattle.cuts.specs.Counts.{counts_of, exchange_of, AreAmong, IsSmall}
 use Rattle.cuts.specs.RowEdits.{WereExchanged}
-use Rattle.cuts.specs.Rows.{AreSums}
+use Rattle.cuts.specs.Rows.{AreSums, AreSumsBut}
 use Rattle.cuts.proofs.ChunkEditLemmas.{ChunksEdited}
 use Rattle.cuts.proofs.ChunkLists.{take_up_to, EndOutside-seam}
 use Rattle.cuts.proofs.CountLemmas.{Seams, counts_exchanged, counts_part, counts_small}
@@ -110,6 +110,12 @@ module _ {chunks : List (List ℕ)} {sums : List Counts} {i j count : ℕ} {gone
         small = rw is at (counts_small (concat (slice_range chunks a b)) (omega (arith, part_len chunks a b (omega (arith, x.ordered)), x.small)));
       }
 
+  front_same : i ≤ length x.old → take i chunks ≡ take i x.old
+  front_same le = ap (take i) x.exchanged ∙ take_at (take i x.old) (x.made ++ drop j x.old) i (length-take-le i x.old le)
+
+  front_row : (k : ℕ) → 256 * k + 256 ≤ i → slice_range chunks (256 * k) (256 * k + 256) ≡ slice_range x.old (256 * k) (256 * k + 256)
+  front_row k le = same_span chunks x.old i (256 * k) (256 * k + 256) (omega arith) le (front_same (omega (arith, x.ordered, x.within)))
+
   -- the row of the chunks
   module _ (r : ℕ) (same : count ≡ j - i) (from : 256 * r ≤ i) (to : j ≤ 256 * r + 256) where
     pub row_of_sum : (d : Counts) → r < length sums → RowExchanged chunks (256 * r) (256 * r + 256) gone come (get_or sums r d)
@@ -145,12 +151,26 @@ module _ {chunks : List (List ℕ)} {sums : List Counts} {i j count : ℕ} {gone
               (cases_lt r k))
               (cases_lt k r);
         }
-      where
-        front_same : i ≤ length x.old → take i chunks ≡ take i x.old
-        front_same le = ap (take i) x.exchanged ∙ take_at (take i x.old) (x.made ++ drop j x.old) i (length-take-le i x.old le)
 
-        front_row : (k : ℕ) → 256 * k + 256 ≤ i → slice_range chunks (256 * k) (256 * k + 256) ≡ slice_range x.old (256 * k) (256 * k + 256)
-        front_row k le = same_span chunks x.old i (256 * k) (256 * k + 256) (omega arith) le (front_same (omega (arith, x.ordered, x.within)))
+  -- those of the rows before them stay, and those after them
+  pub sums_but : (r s : ℕ) → count ≡ j - i → 256 * r ≤ i → j ≤ 256 * s → AreSumsBut chunks sums r s
+  sums_but r s same from to =
+      let within = x.sums_before.within in
+      let ordered = x.ordered in
+      let hi = x.within in
+      let many : length x.made ≡ j - i = sym x.many ∙ same in
+      let long : length chunks ≡ length x.old = ap length x.exchanged ∙ omega (arith, length-splice x.old x.made i j ordered hi) in
+      record {
+        within = omega arith;
+        counted = λ k d lt side.
+            x.sums_before.counted k d lt
+            ∙ ap (λ cs. counts_of (concat cs))
+            (sym
+            (⊎_elim
+            (λ (before : k < r). front_row k (omega arith))
+            (λ (past : s ≤ k). ap (λ cs. slice_range cs (256 * k) (256 * k + 256)) x.exchanged ∙ rows_after x.old x.made i j ordered hi many (256 * k) (256 * k + 256) (omega arith))
+            side));
+      }
 
   -- those of the rows before it stay
   pub sums_left : (r : ℕ) → 256 * r ≤ i → AreSums chunks (take r sums)

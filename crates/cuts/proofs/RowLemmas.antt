@@ -1,18 +1,19 @@
 -- Rows of chunks, and what they count.
-use Rattle.std.proofs.Common.{◌≡◌, ℕ, ◌+◌, ◌*◌, ◌-◌, ◌^◌, ◌<◌, ◌≤◌, List, [], ◌∷◌, ◌++◌, length, get_or, take, drop, arith, ap, ap₂, sym, ◌∙◌, subst, ⊎_elim, length-append, length-take}
+use Rattle.std.proofs.Common.{◌≡◌, ℕ, ◌+◌, ◌*◌, ◌-◌, ◌^◌, ◌<◌, ◌≤◌, ◌⊎◌, List, [], ◌∷◌, ◌++◌, length, get_or, take, drop, arith, ap, ap₂, sym, ◌∙◌, subst, ⊎_elim, inl, inr, length-append, length-set, length-take}
 use Rattle.std.proofs.lemmas.Bool.{cases_lt}
 use Rattle.std.proofs.lemmas.List.{drop-take, get_or_append_left, get_or-take, take-take}
 use Rattle.std.proofs.lemmas.Option.{slice_get-get_or, get_or_from_slice_get}
 use Rattle.std.proofs.lemmas.List.Edits.{split_between}
 use Rattle.std.proofs.lemmas.List.Folds.{concat-append}
-use Rattle.std.proofs.Math.Seq.{get_or-append_seam}
+use Rattle.std.proofs.Math.ListN.{set}
+use Rattle.std.proofs.Math.Seq.{get_or-append_seam, get_or-set_same, get_or-set_other}
 use Rattle.std.specs.List.{concat}
 use Rattle.std.specs.Prelude.{slice_range}
 use Rattle.cuts.specs.declared.buffers.counts.Counts.{Counts}
 use Rattle.cuts.specs.declared.buffers.rows.Mark.{Mark}
 use Rattle.cuts.specs.Chunks.{EndOutside, IsSpot}
 use Rattle.cuts.specs.Counts.{counts_of, sum_of, IsSmall}
-use Rattle.cuts.specs.Rows.{AreSums, IsMark}
+use Rattle.cuts.specs.Rows.{AreSums, AreSumsBut, IsMark}
 use Rattle.cuts.proofs.ChunkLists.{take_up_to, EndOutside-front, EndOutside-rest, EndOutside-take, EndOutside-seam, concat-take-le, concat-take-more}
 use Rattle.cuts.proofs.ChunkEditLemmas.{chunk_counts, chunk_counts_small}
 use Rattle.cuts.proofs.CountLemmas.{counts_joined, counts_small}
@@ -134,4 +135,36 @@ sums_more chunks sums sum are within is = record {
       let last : r ≡ length sums = omega (arith, length-append sums (sum ∷ [])) in
       rw last (get_or-append_seam sums sum [] d ∙ is))
       (cases_lt r (length sums));
+}
+
+-- one of those that are not known
+pub sums_renewed : (chunks : List (List ℕ)) (sums others : List Counts) (r j : ℕ) (sum : Counts) → AreSumsBut chunks sums r j → r < length sums
+    → sum ≡ counts_of (concat (slice_range chunks (256 * r) (256 * r + 256))) → others ≡ set sums r sum → AreSumsBut chunks others (r + 1) j
+sums_renewed chunks sums others r j sum are lt is set_is =
+    let len : length others ≡ length sums = ap length set_is ∙ length-set sums r sum in
+    let within = are.within in
+    let same : (k : ℕ) (d : Counts) → k < length sums → (k ≡ r → ⊥) → (k < r) ⊎ (j ≤ k) → get_or others k d ≡ counts_of (concat (slice_range chunks (256 * k) (256 * k + 256)))
+    = λ k d lt other side. ap (λ ys. get_or ys k d) set_is ∙ (get_or-set_other sums r k sum d (λ e. other (omega arith)) ∙ are.counted k d lt side) in
+    record {
+      within = omega arith;
+      counted = λ k d lt' side.
+          ⊎_elim
+          (λ (before : k < r). same k d (omega arith) (λ e. absurd (omega arith)) (inl before))
+          (λ (ge : r ≤ k).
+          ⊎_elim
+          (λ (past : r < k). same k d (omega arith) (λ e. absurd (omega arith)) (⊎_elim (λ (low : k < r + 1). absurd (omega arith)) (λ (high : j ≤ k). inr high) side))
+          (λ (le : k ≤ r).
+          let at : k ≡ r = omega arith in
+          rw at (ap (λ ys. get_or ys r d) set_is ∙ get_or-set_same sums r sum d lt ∙ is))
+          (cases_lt r k))
+          (cases_lt k r);
+    }
+
+-- all are known
+pub sums_all : (chunks : List (List ℕ)) (sums : List Counts) (i j : ℕ) → AreSumsBut chunks sums i j → (j ≤ i) ⊎ (length sums ≤ i) → AreSums chunks sums
+sums_all chunks sums i j are done = record {
+  within = are.within;
+  counted = λ r d lt.
+      are.counted r d lt
+      (⊎_elim (λ (before : r < i). inl before) (λ (ge : i ≤ r). ⊎_elim (λ (all : j ≤ i). inr (omega arith)) (λ (past : length sums ≤ i). absurd (omega arith)) done) (cases_lt r i));
 }

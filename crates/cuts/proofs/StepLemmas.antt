@@ -1,12 +1,15 @@
 -- One step after another: how many pieces there are, and where one begins.
-use Rattle.std.proofs.Common.{◌≡◌, ℕ, ◌+◌, ◌-◌, ◌<◌, ◌≤◌, List, length, get_or, take, drop, arith, ap, sym, ◌∙◌, subst, Some, None, Option, Result, Ok, Err, true, false, length-drop}
+use Rattle.std.proofs.Common.{◌≡◌, ℕ, ◌+◌, ◌-◌, ◌<◌, ◌≤◌, List, [], ◌++◌, length, get_or, take, drop, arith, refl, ap, sym, ◌∙◌, subst, ⊎_elim, Some, None, Option, Result, Ok, Err, true, false, length-drop}
+use Rattle.std.proofs.lemmas.Bool.{cases_lt}
 use Rattle.std.proofs.lemmas.List.{drop-take, length-take-le, take-append-drop, take-take, take_all}
+use Rattle.std.proofs.lemmas.List.Sums.{count_by-le-length}
 use Rattle.std.proofs.lemmas.Option.{slice_get-get_or, slice_get_past}
-use Rattle.std.specs.Prelude.{MatchOption, option_map, slice_get, slice_range}
+use Rattle.std.proofs.lemmas.Str.{IsUtf8-nil}
+use Rattle.std.specs.Prelude.{MatchOption, cond, is_err, option_map, slice_get, slice_range}
 use Rattle.std.specs.Str.{IsUtf8}
 use Rattle.utf_base.specs.Code.{utf8}
 use Rattle.utf_base.specs.Kinds.{fault_kind}
-use Rattle.utf_base.specs.Piece.{Inside}
+use Rattle.utf_base.specs.Piece.{Covered, Inside}
 use Rattle.utf_base.specs.declared.errors.Utf8ErrorKind.{Utf8ErrorKind}
 use Rattle.utf_base.proofs.FrontLemmas.{no_code_where_fault}
 use Rattle.utf_base.proofs.StdText.{utf8_is_text}
@@ -15,14 +18,18 @@ use Rattle.encode_unicode.specs.Pieces.{pieces}
 use Rattle.encode_unicode.specs.Window.{IsFrontPiece, Item}
 use Rattle.recoding.proofs.GoodCodes.{good_text}
 use Rattle.utf_lanes.specs.Starts.{IsStartOf, start_count}
-use Rattle.cuts.specs.PieceSteps.{IsOnePiece, IsPieceStep}
+use Rattle.cuts.specs.PieceSteps.{IsPieceStep}
+use Rattle.cuts.specs.ForwardRuns.{faulty_item_count, is_fault}
+use Rattle.cuts.specs.declared.buffers.counts.Counts.{Counts}
 use Rattle.cuts.specs.declared.runs.steps.Step.{Step}
-use Rattle.cuts.proofs.CountLemmas.{pieces_few}
+use Rattle.cuts.proofs.CountLemmas.{counts_joined, pieces_few}
+use Rattle.cuts.proofs.FaultPlaces.{no_faults}
 use Rattle.cuts.proofs.ForwardRuns.{pieces_are_the_run}
-use Rattle.cuts.proofs.JoinedPieces.{inside_front, inside_following}
+use Rattle.cuts.proofs.JoinedPieces.{front_in_whole, inside_front, inside_following}
 use Rattle.cuts.proofs.PieceRuns.{at_front}
 use Rattle.cuts.proofs.SplitNumbers.{count_is, place_in_front, place_in_rest}
 use Rattle.cuts.proofs.TextCounts.{one_of_code, some_piece, text_counted, text_numbered}
+use Rattle.cuts.proofs.TextRuns.{no_fault_where_text}
 
 -- The pieces of the bytes before a place over which no code lies are so many.
 pub record IsCountedTo (xs : List ℕ) (place count : ℕ) : Type 0 where
@@ -51,6 +58,10 @@ module _ (xs : List ℕ) (b : ℕ) (le : b ≤ length xs) (out : Inside utf8 xs 
 
 pub counted_none : (xs : List ℕ) → IsCountedTo xs 0 0
 counted_none xs = record { within = omega arith; outside = λ i. let begins = i.begins in omega arith; counted = (let few = pieces_few (take 0 xs) in omega arith) }
+
+-- Text has no faults.
+text_faults : (xs : List ℕ) → IsUtf8 xs → faulty_item_count (pieces xs) ≡ 0
+text_faults xs text = no_fault_where_text xs (pieces xs) (pieces_are_the_run xs) text
 
 -- One step more.
 module _ (xs : List ℕ) (place count : ℕ) (h : IsCountedTo xs place count) (step : Step) (s : IsPieceStep (drop place xs) step) where
@@ -82,6 +93,20 @@ module _ (xs : List ℕ) (place count : ℕ) (h : IsCountedTo xs place count) (s
       let second = ap (λ ys. length (pieces ys)) step_rest in
       record { within = step_within; outside = step_outside; counted = omega (arith, h.counted, s.counted) }
 
+  -- the same of the faults among them
+  pub faults_on : (faults : ℕ) → faults ≡ faulty_item_count (pieces (take place xs)) → faults + step.faults ≡ faulty_item_count (pieces (take (place + step.len) xs))
+  faults_on faults is =
+      let w = take (place + step.len) xs in
+      let long : length w ≡ place + step.len = length-take-le (place + step.len) xs step_within in
+      let parts : take place w ++ drop place w ≡ w = take-append-drop place w in
+      let len : length (take place w) ≡ place = length-take-le place w (omega arith) in
+      let joined : faulty_item_count (pieces (take place w ++ drop place w)) ≡ faulty_item_count (pieces (take place w)) + faulty_item_count (pieces (drop place w))
+      = ap (λ (k : Counts). k.faults) (counts_joined (take place w) (drop place w) (λ i. step_seam (rw (parts, len) at i))) in
+      let whole = ap (λ ys. faulty_item_count (pieces ys)) parts in
+      let first = ap (λ ys. faulty_item_count (pieces ys)) step_front in
+      let second = ap (λ ys. faulty_item_count (pieces ys)) step_rest in
+      omega (arith, s.faults)
+
   -- a number that the step has
   pub found_in_step : (number left offset : ℕ) → number ≡ count + left → left < step.pieces → Some offset ≡ option_map (λ (x : Item). x.0) (slice_get (pieces (take step.len (drop place xs))) left)
       → Some (place + offset) ≡ option_map (λ (x : Item). x.0) (slice_get (pieces xs) number)
@@ -110,40 +135,84 @@ none_found xs place count number h all le =
     let len = ap (λ ys. length (pieces ys)) whole in
     sym (ap (option_map (λ (x : Item). x.0)) (slice_get_past (pieces xs) number (omega (arith, h.counted))))
 
--- One piece, whichever it is.
-pub one_piece : (xs : List ℕ) (n : ℕ) (r : Result ℕ Utf8ErrorKind) → 0 < length xs → IsFrontPiece xs r n → IsOnePiece xs n
+-- One piece, whichever it is, as a step.
+pub one_piece : (xs : List ℕ) (n : ℕ) (r : Result ℕ Utf8ErrorKind) → 0 < length xs → IsFrontPiece xs r n → IsPieceStep xs (record { len = n; pieces = 1; faults = cond (is_err r) 1 0; is_text = false })
 one_piece xs n r some piece =
     let whole : slice_range xs 0 (length xs) ≡ xs = take_all _ xs (omega arith) in
     let at = at_front utf8 fault_kind utf8_is_code no_code_where_fault xs 0 n r some (λ i. let begins = i.begins in omega arith) (rw whole piece) in
     let zero : 0 + n ≡ n = omega arith in
     let fits = at.within in
     let within : n ≤ length xs = omega arith in
-    record { some = at.some; within = within; outside = λ i. at.outside (rw zero i); one = counted_one xs n r at.some within piece }
+    record {
+      within = within;
+      outside = λ i. at.outside (rw zero i);
+      counted = sym (counted_one xs n r at.some within piece);
+      faults = sym (faults_one xs n r at.some within piece);
+      text = λ yes. cc;
+    }
   where
-    counted_one : (xs : List ℕ) (n : ℕ) (r : Result ℕ Utf8ErrorKind) → 0 < n → n ≤ length xs → IsFrontPiece xs r n → length (pieces (take n xs)) ≡ 1
-    counted_one xs n (Ok s) some within (h, e) =
+    code_is : (xs : List ℕ) (n s : ℕ) → IsFrontPiece xs (Ok s) n → take n xs ≡ utf8 s
+    code_is xs n s (h, e) =
         let width : 0 + length (utf8 s) - 0 ≡ n = omega arith in
-        let code : take n xs ≡ utf8 s = ap (λ k. take k xs) (sym width) ∙ h.equal in
-        let text : IsUtf8 (utf8 s) = utf8_is_text s h.scalar in
-        rw code (text_counted (utf8 s) text ∙ one_of_code s h.scalar)
+        ap (λ k. take k xs) (sym width) ∙ h.equal
+
+    counted_one : (xs : List ℕ) (n : ℕ) (r : Result ℕ Utf8ErrorKind) → 0 < n → n ≤ length xs → IsFrontPiece xs r n → length (pieces (take n xs)) ≡ 1
+    counted_one xs n (Ok s) some within piece =
+        let text : IsUtf8 (utf8 s) = utf8_is_text s piece.0.scalar in
+        rw (code_is xs n s piece) (text_counted (utf8 s) text ∙ one_of_code s piece.0.scalar)
     counted_one xs n (Err k) some within (h, e) =
         let one : length (take n xs) ≡ 1 = length-take-le n xs within ∙ e in
         let few = pieces_few (take n xs) in
         let more = some_piece (take n xs) (omega arith) in
         omega arith
 
--- One piece, and text, as steps.
-pub one_step : (xs : List ℕ) (n : ℕ) → IsOnePiece xs n → IsPieceStep xs (record { len = n; pieces = 1; is_text = false })
-one_step xs n h = record { within = h.within; outside = h.outside; counted = sym h.one; text = λ yes. cc }
+    faults_one : (xs : List ℕ) (n : ℕ) (r : Result ℕ Utf8ErrorKind) → 0 < n → n ≤ length xs → IsFrontPiece xs r n → faulty_item_count (pieces (take n xs)) ≡ cond (is_err r) 1 0
+    faults_one xs n (Ok s) some within piece = rw (code_is xs n s piece) (text_faults (utf8 s) (utf8_is_text s piece.0.scalar))
+    faults_one xs n (Err k) some within piece =
+        let front = take n xs in
+        let one = counted_one xs n (Err k) some within piece in
+        let most : faulty_item_count (pieces front) ≤ length (pieces front) = count_by-le-length is_fault (pieces front) in
+        let long : length front ≡ n = length-take-le n xs within in
+        let alone : Covered utf8 front 0 → ⊥
+        = λ c.
+        let begins = c.begins in
+        let from : c.from ≡ 0 = omega arith in
+        no_code_where_fault xs k c.char piece.0 (rw (take-append-drop n xs, from) at (front_in_whole utf8 front (drop n xs) c.from c.char c.stands)) in
+        ⊎_elim
+        (λ (some : 0 < faulty_item_count (pieces front)). omega arith)
+        (λ (none : faulty_item_count (pieces front) ≤ 0). absurd (no_faults front (omega arith) 0 (omega arith, refl, alone)))
+        (cases_lt 0 (faulty_item_count (pieces front)))
 
-pub text_step : (xs : List ℕ) (n m : ℕ) → n ≤ length xs → IsUtf8 (take n xs) → m ≡ start_count (take n xs) → IsPieceStep xs (record { len = n; pieces = m; is_text = true })
-text_step xs n m within text count = record { within = within; outside = (good_text xs n within text).outside; counted = count ∙ sym (text_counted (take n xs) text); text = λ yes. text }
+-- Text as a step.
+pub text_step : (xs : List ℕ) (n m : ℕ) → n ≤ length xs → IsUtf8 (take n xs) → m ≡ start_count (take n xs) → IsPieceStep xs (record { len = n; pieces = m; faults = 0; is_text = true })
+text_step xs n m within text count = record {
+  within = within;
+  outside = (good_text xs n within text).outside;
+  counted = count ∙ sym (text_counted (take n xs) text);
+  faults = sym (text_faults (take n xs) text);
+  text = λ yes. text;
+}
+
+-- Any bytes as a step.
+pub part_step : (xs : List ℕ) (n m : ℕ) → n ≤ length xs → (Inside utf8 xs n → ⊥) → m ≡ length (pieces (take n xs))
+    → IsPieceStep xs (record { len = n; pieces = m; faults = faulty_item_count (pieces (take n xs)); is_text = false })
+part_step xs n m within outside count = record { within = within; outside = outside; counted = count; faults = refl; text = λ yes. cc }
 
 pub counted_few : (xs : List ℕ) (place count : ℕ) → IsCountedTo xs place count → count ≤ length xs
 counted_few xs place count h =
     let few = pieces_few (take place xs) in
     let within = h.within in
     omega (arith, h.counted, length-take-le place xs within)
+
+-- none of the pieces before the first byte is a fault, and there are no more faults than bytes
+pub faults_none : (xs : List ℕ) → 0 ≡ faulty_item_count (pieces (take 0 xs))
+faults_none xs = sym (text_faults [] IsUtf8-nil)
+
+pub faults_few : (xs : List ℕ) (place count faults : ℕ) → IsCountedTo xs place count → faults ≡ faulty_item_count (pieces (take place xs)) → faults ≤ length xs
+faults_few xs place count faults h is =
+    let few = counted_few xs place count h in
+    let among : faulty_item_count (pieces (take place xs)) ≤ length (pieces (take place xs)) = count_by-le-length is_fault (pieces (take place xs)) in
+    omega (arith, h.counted)
 
 -- what is numbered in a text
 pub numbered : (xs : List ℕ) (number : ℕ) (r : Option ℕ) → IsUtf8 xs → MatchOption r (start_count xs ≤ number) (IsStartOf xs number) → r ≡ option_map (λ (x : Item). x.0) (slice_get (pieces xs) number)

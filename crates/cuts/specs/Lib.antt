@@ -1,3 +1,4 @@
+pub mod InnerBytes
 pub mod Items
 pub mod PieceBoundaries
 pub mod Splits

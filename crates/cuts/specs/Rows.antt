@@ -1,5 +1,5 @@
 -- Rows of 256 chunks of a text, and what each of them counts.
-use Rattle.std.specs.Prelude.{◌≡◌, ℕ, ◌+◌, ◌*◌, ◌<◌, ◌≤◌, List, length, slice_index_or, slice_range, take}
+use Rattle.std.specs.Prelude.{◌≡◌, ℕ, ◌+◌, ◌*◌, ◌<◌, ◌≤◌, ◌⊎◌, List, length, slice_index_or, slice_range, take}
 use Rattle.std.specs.List.{concat}
 use Rattle.cuts.specs.declared.buffers.counts.Counts.{Counts}
 use Rattle.cuts.specs.declared.buffers.rows.Mark.{Mark}
@@ -9,6 +9,11 @@ use Rattle.cuts.specs.Counts.{counts_of}
 pub record AreSums (chunks : List (List ℕ)) (sums : List Counts) : Type 0 where
   pub within : 256 * length sums ≤ length chunks
   pub counted : (r : ℕ) (d : Counts) → r < length sums → slice_index_or sums r d ≡ counts_of (concat (slice_range chunks (256 * r) (256 * r + 256)))
+
+-- The same but for the rows from i up to j.
+pub record AreSumsBut (chunks : List (List ℕ)) (sums : List Counts) (i j : ℕ) : Type 0 where
+  pub within : 256 * length sums ≤ length chunks
+  pub counted : (r : ℕ) (d : Counts) → r < length sums → (r < i) ⊎ (j ≤ r) → slice_index_or sums r d ≡ counts_of (concat (slice_range chunks (256 * r) (256 * r + 256)))
 
 -- the chunk with that number, or where there is none the end, and what those before it count
 pub record IsMark (chunks : List (List ℕ)) (m : Mark) : Type 0 where

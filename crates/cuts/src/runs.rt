@@ -5,6 +5,7 @@ pub mod counts;
 pub mod fault_lists;
 pub mod items;
 pub mod numbers;
+pub(crate) mod piece_counts;
 pub(crate) mod steps;
 pub mod unit_bytes;
 pub mod walks;

@@ -14,10 +14,12 @@ use crate::buffers::counts::{Counts, Measure};
 use crate::buffers::measures::find_number;
 use crate::buffers::rows::mark_at;
 use crate::buffers::spots::find;
-use crate::runs::counts::char_count;
-use crate::runs::items::Item;
-use encode_unicode::U8SliceExt;
+use crate::runs::numbers::offset_of;
+use crate::runs::piece_counts::piece_count;
 use std::alloc::Allocator;
+
+// How many bytes are counted at once on the way to a piece.
+const PART: usize = 128;
 
 // The bytes from this place on, as far as they lie in one chunk.
 pub fn chunk_from<'a, A: Allocator>(chunks: &'a [Chunk<A>], sums: &[Counts], at: usize) -> &'a [u8]
@@ -58,9 +60,9 @@ fn pieces_up_to<A: Allocator>(chunk: &Chunk<A>, end: usize) -> usize
 {
     let bytes = chunk.bytes();
     if end <= bytes.len() / 2 {
-        return char_count(&bytes[..end]);
+        return piece_count(&bytes[..end]);
     }
-    chunk.counts().pieces - char_count(&bytes[end..])
+    chunk.counts().pieces - piece_count(&bytes[end..])
 }
 
 // Where the piece with this number begins. `None` if there are no more of them.
@@ -72,13 +74,35 @@ pub fn place_of<A: Allocator>(chunks: &[Chunk<A>], sums: &[Counts], number: usiz
 {
     let found = find_number(chunks, sums, Measure::Pieces, number)?;
     let bytes = chunks[found.spot.number].bytes();
-    let (place, _, _) = piece_of_bytes(bytes, number - found.before)?;
+    let place = offset_by_parts(bytes, number - found.before)?;
     Some(found.spot.place + place)
 }
 
-// The piece of the bytes with this number.
-fn piece_of_bytes(bytes: &[u8], number: usize) -> Option<Item>
-    ensures { result ≡ slice_get (pieces bytes.now) number }
+// Where the piece of the bytes with this number begins. Parts before it are counted, and only its own is gone through.
+fn offset_by_parts(bytes: &[u8], number: usize) -> Option<usize>
+    ensures { result ≡ option_map (λ (x : AnItem). x.0) (slice_get (pieces bytes.now) number) }
 {
-    bytes.utf8char_indices().nth(number)
+    let mut place = 0;
+    let mut left = number;
+    while place < bytes.len() {
+        let part = front_part(&bytes[place..]);
+        let count = piece_count(part);
+        if left < count {
+            let offset = offset_of(part, left)?;
+            return Some(place + offset);
+        }
+        place += part.len();
+        left -= count;
+    }
+    None
+}
+
+// The bytes up to the first boundary that is so many bytes from the front, or all.
+fn front_part(bytes: &[u8]) -> &[u8]
+    requires { 0 < length bytes.now }
+    ensures some { 0 < length result.now }
+    ensures front { result.now ≡ take (length result.now) bytes.now }
+    ensures ends { IsBetween bytes.now (length result.now) }
+{
+    &bytes[..ceil(bytes, bytes.len().min(PART))]
 }

@@ -7,7 +7,7 @@ ghost use Rattle.cuts.specs.declared.buffers.counts.Counts.{Counts as ItsCounts}
 ghost use Rattle.cuts.specs.Counts.{exchange_of, AreAmong, IsSmall};
 ghost use Rattle.cuts.specs.Measures.{measure_of};
 ghost use Rattle.cuts.specs.RowEdits.{WereExchanged};
-ghost use Rattle.cuts.specs.Rows.{AreSums, IsMark, IsCleanRow};
+ghost use Rattle.cuts.specs.Rows.{AreSums, AreSumsBut, IsMark, IsCleanRow};
 
 use crate::buffers::chunk::Chunk;
 use crate::buffers::counts::{Counts, Measure};
@@ -125,8 +125,26 @@ pub fn renew_sums<A: Allocator>(
         exchange_sum(sums, row, gone, come);
         return;
     }
+    if count == last - first {
+        renew_rows(chunks, sums, row, last / ROW + 1);
+        return;
+    }
     sums.truncate(row);
     let _ = sum_rows(chunks, sums);
+}
+
+// Sums the rows from one up to another anew, as far as they have sums.
+fn renew_rows<A: Allocator>(chunks: &[Chunk<A>], sums: &mut Vec<Counts, A>, from: usize, to: usize)
+    requires ends { EndOutside chunks.now }
+    requires fits { length (concat chunks.now) < 2 ^ 64 }
+    requires others { AreSumsBut chunks.now sums.old.items from to }
+    ensures { AreSums chunks.now sums.new.items }
+{
+    let mut row = from;
+    while row < to && row < sums.len() {
+        sums[row] = total(&chunks[row * ROW..(row + 1) * ROW]);
+        row += 1;
+    }
 }
 
 // Makes a sum right again, where there is one, of which a part that counted one now counts the other.

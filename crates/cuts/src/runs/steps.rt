@@ -3,7 +3,7 @@ ghost use Rattle.std.specs.Prelude.{◌≡◌, ◌+◌, ◌<◌, ◌≤◌, leng
 ghost use Rattle.std.specs.Str.{IsUtf8};
 ghost use Rattle.encode_unicode.specs.Pieces.{pieces};
 ghost use Rattle.encode_unicode.specs.Window.{Item as AnItem};
-ghost use Rattle.cuts.specs.PieceSteps.{IsOnePiece, IsPieceStep};
+ghost use Rattle.cuts.specs.PieceSteps.{IsPieceStep};
 
 use encode_unicode::{CharExt, U8SliceExt};
 use utf_lanes::ascii_texts::is_ascii;
@@ -16,11 +16,12 @@ const BLOCK: usize = 4096;
 // How many go piece by piece, where less is text.
 const FEW: usize = 8;
 
-// Bytes at the front: how many, how many pieces they have, and whether they are known to be text.
+// Bytes at the front: how many, how many pieces they have, how many of these are faults, and whether they are known to be text.
 #[derive(Clone, Copy, Drop)]
 pub(crate) struct Step {
     pub len: usize,
     pub pieces: usize,
+    pub faults: usize,
     pub is_text: bool,
 }
 
@@ -35,6 +36,7 @@ pub(crate) fn next_step(bytes: &[u8]) -> Step
         return Step {
             len: part.len(),
             pieces: part.len(),
+            faults: 0,
             is_text: true,
         };
     }
@@ -43,6 +45,7 @@ pub(crate) fn next_step(bytes: &[u8]) -> Step
         return Step {
             len,
             pieces: starts_in(&bytes[..len]),
+            faults: 0,
             is_text: true,
         };
     }
@@ -58,24 +61,34 @@ fn careful_step(bytes: &[u8]) -> Step
     let mut step = Step {
         len: 0,
         pieces: 0,
+        faults: 0,
         is_text: false,
     };
     while step.len < FEW && step.len < bytes.len() {
-        step.len += piece_len(&bytes[step.len..]);
-        step.pieces += 1;
+        let piece = piece_step(&bytes[step.len..]);
+        step.len += piece.len;
+        step.pieces += piece.pieces;
+        step.faults += piece.faults;
     }
     step
 }
 
-// How many bytes the piece has that begins some bytes.
+// The step over the piece that begins some bytes.
 #[inline(always)]
-fn piece_len(bytes: &[u8]) -> usize
+fn piece_step(bytes: &[u8]) -> Step
     requires { 0 < length bytes.now }
-    ensures { IsOnePiece bytes.now result }
+    ensures some { 0 < result.len }
+    ensures step { IsPieceStep bytes.now result }
 {
-    match char::from_utf8_slice_start(bytes) {
-        Ok((_, len)) => len,
-        Err(_) => 1,
+    let (len, faults) = match char::from_utf8_slice_start(bytes) {
+        Ok((_, len)) => (len, 0),
+        Err(_) => (1, 1),
+    };
+    Step {
+        len,
+        pieces: 1,
+        faults,
+        is_text: false,
     }
 }
 
