@@ -1,10 +1,10 @@
 //! UTF-8: bytes, split from either end.
 
+use crate::pieces::{Element, Faults, Pieces};
 use crate::proved::cuts;
 use crate::proved::encode_unicode::error::Utf8Error;
 use crate::proved::encode_unicode::iterator::{Utf8CharDecoder, Utf8CharMerger};
 use crate::proved::encode_unicode::{CharExt, Utf8Char};
-use crate::pieces::{Element, Faults, Pieces};
 use crate::{Form, Piece};
 
 /// All pieces of the bytes: characters, and single bytes that are invalid.
