@@ -63,14 +63,14 @@ class Eraser(Text):
                 self.make_const(it, key)
             if key in rules.CHOSEN:
                 self.choose(it, key)
-            if rules.is_wide(self.name) and not self.is_trusted:
+            if not self.is_trusted:
                 window(self, it)
         if self.name in rules.OPENED:
             self.open(*rules.OPENED[self.name])
 
     def open(self, struct, field):
         i = next((k for k in range(len(self.t)) if self.text(k) == "struct" and self.text(self.next(k)) == struct), -1)
-        fields = range(i, self.closing(self.braces(i))) if i >= 0 else ()
+        fields = range(i, self.closing(self.until(i, "{"))) if i >= 0 else ()
         found = [k for k in fields if self.text(k) == field and self.text(self.next(k)) == ":"]
         if len(found) != 1:
             self.stop(max(i, 0), f"{struct} has no field {field} (rules.py)")
@@ -81,22 +81,13 @@ class Eraser(Text):
         self.front[it.at] = "unsafe "
         if it.sees != "pub" and not (it.inside and it.inside.kind == "trait"):
             return
-        docs = range(self.doc_start(it.start if not self.has_attribute(it) else self.attribute_start(it.start)), it.at)
+        docs = range(self.doc_start(self.attribute_start(it.start)), it.at)
         said = [k for k in docs if self.kind(k) == "comment" and self.text(k).startswith("/// Condition: ")]
         if len(said) != 1:
             self.stop(it.at, f"{it.name} is unsafe in Rust, and no line `/// Condition:` says what it asks")
         indent = "\n" + " " * self.column(said[0])
         rest = self.text(said[0]).removeprefix("/// Condition: ")
         self.said[said[0]] = f"/// # Safety{indent}///{indent}/// {rest[0].upper()}{rest[1:]}"
-
-    def has_attribute(self, it):
-        return self.text(self.before(it.start)) == "]"
-
-    def attribute_start(self, i):
-        """The first attribute above the item at i."""
-        while self.text(b := self.before(i)) == "]":
-            i = self.before(self.opening(b))
-        return i
 
     def column(self, i):
         return len(self.text(i - 1).rsplit("\n", 1)[-1]) if i else 0
@@ -115,24 +106,22 @@ class Eraser(Text):
             return
         if it.inside and it.inside.kind == "impl of a trait":
             self.stop(it.at, f"{it.name} asks for `{it.requires[0]}`, and is a method of {it.inside.name}, which any code may call")
-        if it.inside and it.inside.kind == "trait" and f"{self.name}:{it.inside.name}" in rules.OWN_TRAITS:
-            self.project.seen.add(f"{self.name}:{it.inside.name}")
-            return
         if it.inside and it.inside.kind == "trait":
+            if (owner := f"{self.name}:{it.inside.name}") in rules.OWN_TRAITS:
+                return self.project.seen.add(owner)
             self.stop(it.at, f"{it.name} asks for `{it.requires[0]}`, and is a method of a public trait: call it .._unchecked, or make the trait pub(crate)")
         if key in rules.ASSERTED:
             asked, test = rules.ASSERTED[key]
             if same(asked) != same("; ".join(it.requires)):
                 self.stop(it.at, f"{it.name} asks for `{'; '.join(it.requires)}`, and what is asserted says `{asked}` (rules.py)")
             self.back[it.body] = f"\n{' ' * (self.column(it.start) + 4)}assert!({test});"
-            self.project.seen.add(key)
-            return
+            return self.project.seen.add(key)
         self.project.narrowed.add(it.name)
         self.narrow(it)
 
     def asks_sources(self, it, asked):
         words = set(re.findall(r"\w+", asked))
-        return "can_next" in asked or "IsFinite" in asked if words <= rules.OF_SOURCES else False
+        return words <= rules.OF_SOURCES and ("can_next" in asked or "IsFinite" in asked)
 
     def narrow(self, it):
         self.said[it.start] = "pub(crate)"
@@ -150,16 +139,6 @@ class Eraser(Text):
         path = f"crate::proved::{self.name.removesuffix('.rt').replace('/', '::wide::')}::{it.name}"
         self.back[it.body] = f"\n    crate::support::processor::wide!({length}, {answer.replace('OTHER', path)});"
 
-    def opening(self, i):
-        """The bracket that the one at i closes."""
-        depth = 0
-        while i >= 0:
-            depth += {"]": 1, ")": 1, "}": 1, "[": -1, "(": -1, "{": -1}.get(self.text(i), 0) if self.kind(i) == "mark" else 0
-            if depth == 0:
-                return i
-            i -= 1
-        return self.stop(0, "a bracket is not opened")
-
     # What is ghost.
 
     def ghost(self):
@@ -175,16 +154,11 @@ class Eraser(Text):
             elif self.text(i) == "#":
                 i = self.attribute(i)
             elif self.text(i) == "impl" and self.is_model(i):
-                end = self.closing(self.braces(i))
+                end = self.closing(self.until(i, "{"))
                 self.has_no_public_field(i, end)
                 self.erase(self.doc_start(i), end)
             elif self.text(i) == "prove" and self.text(self.next(i)) == "!":
                 self.stop(i, "`prove!` is not known")
-
-    def braces(self, i):
-        while self.text(i) != "{":
-            i = self.next(i)
-        return i
 
     def ghost_item(self, i):
         """`ghost use ..;`, and a member of a trait, an impl or a struct, with the comment above it. Answers its end."""
@@ -232,33 +206,30 @@ class Eraser(Text):
             self.project.seen.add(f"{self.name}:{self.text(self.next(of))}")
         elif drop and len(names) == 1:
             self.erase(i, end)
-        elif drop and self.text(self.before(drop[0])) == ",":
-            self.erase(self.before(drop[0]), drop[0])
         elif drop:
-            self.erase(drop[0], self.next(drop[0]))
+            self.take_out(drop[0], drop[0])
+
+    def take_out(self, i, j):
+        """An item of a list goes with its comma, and the brackets too where it is alone."""
+        before, after = self.before(i), self.next(j)
+        if self.text(before) == ",":
+            self.erase(before, j)
+        else:
+            self.erase(*((i, self.next(after) - 1) if self.text(after) == "," else (before, after)))
 
     def is_model(self, i):
-        j = self.next(i)
-        j = self.next(self.closing_angle(j)) if self.text(j) == "<" else j
+        j = self.past_generics(self.next(i))
         return self.text(j) == "Model" and self.text(self.next(j)) == "for"
-
-    def is_public_field(self, k):
-        return self.text(k) == "pub" and self.text(self.next(k)) != "("
 
     def has_no_public_field(self, i, end):
         """A type with an invariant is made by its own module alone."""
         if not any(self.text(k) == "invariant" for k in range(i, end)):
             return
-        j = i
-        while self.text(j) != "for":
-            j = self.next(j)
-        name = self.text(self.next(j))
+        name = self.text(self.next(self.until(i, "for")))
         for k in range(len(self.t)):
             if self.text(k) == "struct" and self.text(self.next(k)) == name:
-                left = self.next(self.next(k))
-                left = self.next(self.closing_angle(left)) if self.text(left) == "<" else left
-                left = left if self.text(left) in OPEN else self.braces(left)
-                if any(self.is_public_field(x) for x in range(left, self.closing(left))):
+                left = self.until(self.past_generics(self.next(self.next(k))), *OPEN)
+                if any(self.text(x) == "pub" and self.text(self.next(x)) != "(" for x in range(left, self.closing(left))):
                     self.stop(k, f"{name} has an invariant and a public field")
 
     # What is not ghost and not Rust.
@@ -295,10 +266,8 @@ class Eraser(Text):
     def gate_containers(self):
         for i in range(len(self.t)):
             if self.is_code(i) and self.text(i) == "impl" and visibility(self, i)[0] == i:
-                j, words = i, set()
-                while self.text(j) not in ("{", ";", ")", ","):
-                    words.add(self.text(j))
-                    j = self.next(j)
+                j = self.until(i, "{", ";", ")", ",")
+                words = set(self.code(i, j).split())
                 if self.text(j) == "{" and words & rules.GATED["io"] and "for" in words:
                     self.front[i] = GATE + self.front.get(i, "")
 
@@ -321,18 +290,9 @@ class Eraser(Text):
         fn = max((it for it in self.lists if it.at < i), key=lambda it: it.at)
         angle = self.next(fn.word)
         end = self.closing_angle(angle) if self.text(angle) == "<" else angle
-        for k in range(angle, end):
-            if self.text(k) == self.text(w) and self.text(self.next(k)) == ":" and self.is_code(k):
-                stop = k
-                while self.text(stop) not in (",", ">"):
-                    stop = self.next(stop)
-                if self.next(angle) == k and self.text(stop) == ">":
-                    self.erase(angle, end)
-                elif self.text(stop) == ">":
-                    self.erase(self.before(k), self.before(stop))
-                else:
-                    self.erase(k, stop)
-                break
+        named = [k for k in range(angle, end) if self.text(k) == self.text(w) and self.text(self.next(k)) == ":" and self.is_code(k)]
+        for k in named[:1]:
+            self.take_out(k, self.before(self.until(k, ",", ">")))
         self.said[w] = "'_"
 
     def clone(self, i):
@@ -348,7 +308,7 @@ class Eraser(Text):
             self.stop(i, "a clone that fails by another error")
         self.erase(comma, end)
         self.erase(result, angle)
-        body = self.braces(end)
+        body = self.until(end, "{")
         stop = self.closing(body)
         k = body
         while (k := self.next(k)) < stop:
@@ -362,20 +322,15 @@ class Eraser(Text):
                 self.stop(k, "a clone that is more than `Ok(..)`")
 
     def leave_out(self, i):
-        end = i
-        while self.text(end) != ";":
-            end = self.next(end)
+        end = self.until(i, ";")
         self.erase(self.before(i) if self.text(self.before(i)) == "pub" else i, end)
 
     def use(self, i):
         """`Model` goes, and what needs std is there with it."""
-        end = i
-        while self.text(end) != ";":
-            end = self.next(end)
+        end = self.until(i, ";")
         words = "".join(self.code(i + 1, end).split())
         if words == "std::marker::Model":
-            self.erase(i, end)
-            return
+            return self.erase(i, end)
         self.passed_on(i, end)
         if words.startswith("std::") and words.split("::")[1] in rules.GATED and "::" in words[5:]:
             self.front[i] = GATE
@@ -414,7 +369,7 @@ class Eraser(Text):
     # Paths and names.
 
     def names(self):
-        inner = [(i, self.closing(self.braces(i))) for i in range(len(self.t)) if self.text(i) == "mod" and self.text(self.next(self.next(i))) == "{"]
+        inner = [(i, self.closing(self.until(i, "{"))) for i in range(len(self.t)) if self.text(i) == "mod" and self.text(self.next(self.next(i))) == "{"]
         for i in range(len(self.t)):
             if not self.is_code(i) or self.kind(i) != "word" or i in self.said:
                 continue

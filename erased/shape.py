@@ -62,6 +62,29 @@ class Text:
             i += 1
         return self.stop(start, "a bracket is not closed")
 
+    def opening(self, i):
+        """The bracket that the one at i closes."""
+        depth, k = 0, i
+        while k >= 0:
+            x = self.t[k]
+            depth += 0 if x.kind != "mark" else 1 if x.text in OPEN.values() else -1 if x.text in OPEN else 0
+            if depth == 0:
+                return k
+            k -= 1
+        return self.stop(i, "a bracket is not opened")
+
+    def attributes(self, i):
+        """The attributes above the item at i: where each begins and ends."""
+        found = []
+        while self.text(end := self.before(i)) == "]":
+            i = self.before(self.opening(end))
+            found.insert(0, (i, end))
+        return found
+
+    def attribute_start(self, i):
+        """The first attribute above the item at i, or that."""
+        return (self.attributes(i) or [(i, i)])[0][0]
+
     def closing_angle(self, i):
         depth, start = 0, i
         while i < len(self.t):
@@ -71,6 +94,19 @@ class Text:
                 return i
             i = self.closing(i) + 1 if x in OPEN else i + 1
         return self.stop(start, "a < is not closed")
+
+    def until(self, i, *marks):
+        """The first of these marks from i on, past what stands in brackets."""
+        j = i
+        while self.text(j) not in marks:
+            j = self.next(self.closing(j) if self.text(j) in OPEN and j != i else j)
+            if j >= len(self.t):
+                self.stop(i, f"no `{marks[0]}` comes")
+        return j
+
+    def past_generics(self, i):
+        """What stands at i, or after the generics there."""
+        return self.next(self.closing_angle(i)) if self.text(i) == "<" else i
 
     def erase(self, i, j):
         for k in range(i, j + 1):
@@ -113,12 +149,8 @@ def visibility(text, i):
     while text.text(text.before(start)) in ("unsafe", "const", "extern") or text.kind(text.before(start)) == "string":
         start = text.before(start)
     b = text.before(start)
-    if text.text(b) == ")":
-        k = b
-        while text.text(k) != "(":
-            k -= 1
-        if text.text(text.before(k)) == "pub":
-            return text.before(k), "pub(..)"
+    if text.text(b) == ")" and text.text(k := text.before(text.opening(b))) == "pub":
+        return k, "pub(..)"
     if text.text(b) == "pub":
         start, seen = b, "pub"
     return start, seen
@@ -130,24 +162,21 @@ class Container:
     def __init__(self, text, i):
         self.at, self.kind = i, text.text(i)
         self.start, self.sees = visibility(text, i)
-        j = text.next(i)
-        j = text.next(text.closing_angle(j)) if text.text(j) == "<" else j
-        self.name, last, self.names = "", "", set()
+        j = text.past_generics(text.next(i))
+        self.name, last = "", ""
         while text.text(j) not in ("{", ";"):
             if text.text(j) == "<":
                 j = text.closing_angle(j)
             elif text.text(j) == "for" and self.kind == "impl":
                 self.name, self.kind = last, "impl of a trait"
             elif text.text(j) == "where" or (text.text(j) == ":" and self.kind == "trait"):
-                while text.text(j) != "{":
-                    j = text.next(j)
+                j = text.until(j, "{")
                 break
             elif text.kind(j) == "word":
                 last = text.text(j)
             j = text.next(j)
         self.name = self.name or last
         self.body, self.end = j, text.closing(j)
-        self.names = {text.text(k) for k in range(i, j) if text.kind(k) == "word"}
 
 
 class Function:
@@ -161,17 +190,11 @@ class Function:
                 end = text.clause_end(j)
                 self.clauses.append((j, end))
                 if text.text(j) == "requires":
-                    first = text.next(j)
-                    first = text.next(first) if text.kind(first) == "word" else first
-                    self.requires.append(text.code(first + 1, end))
-                j = end
-            elif text.text(j) in ("(", "["):
-                end = text.closing(j)
-                self.names |= {text.text(k) for k in range(j, end) if text.kind(k) == "word"}
-                j = end
-            elif text.kind(j) == "word":
-                self.names.add(text.text(j))
-            j = text.next(j)
+                    self.requires.append(text.code(text.until(j, "{") + 1, end))
+            else:
+                end = text.closing(j) if text.text(j) in ("(", "[") else j
+                self.names |= {text.text(k) for k in range(j, end + 1) if text.kind(k) == "word"}
+            j = text.next(end)
             if j >= len(text.t):
                 text.stop(i, "a function has no end")
         self.body = j

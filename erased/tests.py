@@ -1,6 +1,7 @@
 #!/usr/bin/env python3
 """Tests of the eraser: for each rule what it refuses, and what it writes. The last line is 'N passed, M failed'."""
 import os
+import re
 import sys
 
 sys.dont_write_bytecode = True
@@ -9,6 +10,7 @@ from eraser import Eraser, Project  # noqa: E402
 from shape import Text  # noqa: E402
 from tokens import Stop, tokens  # noqa: E402
 from wide import widened  # noqa: E402
+from windows import by_bytes, by_front  # noqa: E402
 
 # What stops the eraser: why, the text, and where it stands if that matters.
 REFUSED = [
@@ -92,7 +94,7 @@ TRUSTED = [
     ("fn f() { self.bytes[0] + self.bytes[k] }\n", "use crate::{support::trust::At};\nfn f() { self.bytes[0] + self.bytes[At(k)] }\n"),
 ]
 
-# What goes by lanes gets the part of a slice that its clauses name, and no other function does.
+# A function gets the part of a slice that its clauses name.
 IN_PART = [
     ("fn f(bytes: &[u8], place: usize) -> bool\n    requires start { 3 ≤ place }\n    requires within { place + 64 ≤ length bytes.now }\n{\n    g(bytes, place + 32) & bytes[place - 1] < 2\n}\n",
      "fn f(bytes: &[u8], place: usize) -> bool\n{\n    let (bytes, place) = (&bytes[place - 3..][..3 + 64], 3);\n    g(bytes, place + 32) & bytes[place - 1] < 2\n}\n"),
@@ -104,12 +106,26 @@ IN_PART = [
      "#[inline]\nfn f(x: u8, room: &mut [u8], at: usize) -> (usize, usize) {\n    let (count, end) = f_in_part(x, &mut room[at..][..4], 0);\n    (count, at + end)\n}\n\n"
      "#[inline]\nfn f_in_part(x: u8, room: &mut [u8], at: usize) -> (usize, usize)\n{ g(room, at) }\n"),
     ("fn f(bytes: &[u8]) -> u8\n    requires { 4 ≤ length bytes.now }\n{ bytes[3] }\n", "fn f(bytes: &[u8]) -> u8\n{\n    assert!(4 <= bytes.len()); bytes[3] }\n"),
+    ("fn f(room: &mut [u8], from: Spot) -> Spot\n    requires { from.written + 8 ≤ length room.old }\n{\n    let at = from;\n    room[at.written] = 1;\n    at\n}\n",
+     "fn f(room: &mut [u8], from: Spot) -> Spot\n{\n    let room = &mut room[from.written..][..8];\n    let at = from;\n    room[at.written - from.written] = 1;\n    at\n}\n"),
 ]
-NOT_IN_PART = [  # the length is asked; the place is an answer; a number is a place; no clause says what the answer is
+NOT_IN_PART = [  # the length is asked; the place is an answer; a number is a place; no clause says what the answer is; another field is a place
+    "fn f(room: &mut [u8], from: Spot)\n    requires { from.written + 8 ≤ length room.old }\n{ room[from.written] = 1; room[from.read] = 1; }\n",
     "fn f(bytes: &[u8], at: usize)\n    requires { at + 4 ≤ length bytes.now }\n{ g(bytes, at, bytes.len()) }\n",
     "fn f(bytes: &[u8], at: usize) -> usize\n    requires { at + 4 ≤ length bytes.now }\n{ g(bytes, at); at }\n",
     "#[inline]\nfn f(room: &mut [u8], at: usize) -> usize\n    requires { at + 4 ≤ length room.old }\n    ensures { Writes room.old room.new at result }\n{ g(room, 7); g(room, at) }\n",
     "#[inline]\nfn f(room: &mut [u8], at: usize) -> usize\n    requires { at + 4 ≤ length room.old }\n    ensures { result ≡ 4 }\n{ g(room, at) }\n",
+]
+
+# What asks a text for its bytes alone gets these, and bytes from the first on are tested at once.
+OVER_BYTES = [
+    ("impl S {\n    #[inline(always)]\n    pub fn from_str_start(src: &str) -> u8\n    {\n        src.as_bytes()[0]\n    }\n}\n",
+     "impl S {\n    #[inline(always)]\n    pub fn from_str_start(src: &str) -> u8\n    {\n        src.as_bytes()[0]\n    }\n"
+     "\n    #[inline(always)]\n    pub(crate) fn from_str_start_bytes(src: &[u8]) -> u8\n    {\n        src[0]\n    }\n}\n"),
+    ("f(S::from_str_start(self.as_str()), from_str_start(text), self.as_str())\n", "f(S::from_str_start_bytes(self.as_str_bytes()), from_str_start(text), self.as_str())\n"),
+    ("let text = self.as_str();\n    if text.is_empty() {}\n    f(text.as_bytes())\n", "let text = self.as_str_bytes();\n    if text.is_empty() {}\n    f(text)\n"),
+    ("let text = self.as_str();\n    f(text.as_bytes(), text.len())\n", None),
+    ("f([x[0], x[1], 0], [x[0], 0], [x[1], x[2]], [y[0], x[1]])\n", "f({ let x = &x[..2]; [x[0], x[1], 0] }, [x[0], 0], [x[1], x[2]], [y[0], x[1]])\n"),
 ]
 
 # And in the copy for AVX2: what is put in line stays, and of each other function there is one for that processor.
@@ -158,6 +174,18 @@ def widens(text, wanted):
     return None if have == (text if wanted is None else wanted) else f"it writes {have!r}"
 
 
+def by(text, wanted, name="utf_chars/utf8_char.rt"):
+    try:
+        have = by_front(by_bytes(text, name if "pub fn" in text or not text else "utf_base/a.rt"))
+    except Stop as stop:
+        return None if "no function is as rules.BY_BYTES names" in str(stop) and not text else f"it says {stop}"
+    return None if have == (text if wanted is None else wanted) and text else f"it writes {have!r}"
+
+
+def without_clauses(text):
+    return re.sub(r"\n    (?:requires|ensures) .*", "", text)
+
+
 def copies_no_group():
     try:
         return f"it writes {widened('use crate::proved::recoding::{engine::run};', 'utf_lanes/a.rt')!r}"
@@ -179,9 +207,11 @@ def main():
     tried += [("which copy answers is asked once", asks()), ("a group of files is not copied", copies_no_group())]
     tried += [(text, writes(text, wanted)) for text, wanted in WRITTEN]
     tried += [(text, writes(text, wanted, True)) for text, wanted in TRUSTED]
-    tried += [(text, writes(text, wanted, name="utf_lanes/a.rt")) for text, wanted in IN_PART]
-    tried += [(text, writes(text, made(text), name="utf_lanes/a.rt")) for text in NOT_IN_PART]
-    tried += [(text, writes(text, made(text), True, "utf_lanes/a.rt")) for text, _ in IN_PART[1:3]]
+    tried += [(text, writes(text, wanted)) for text, wanted in IN_PART]
+    tried += [(text, writes(text, without_clauses(text))) for text in NOT_IN_PART]
+    tried += [(text, writes(text, without_clauses(text), True)) for text, _ in IN_PART[1:3]]
+    tried += [(text, by(text, wanted)) for text, wanted in OVER_BYTES]
+    tried += [("a function over bytes is missing", by("", "", "encode_unicode/text_window.rt"))]
     tried += [("tokens are all of a text", None if "".join(it.text for it in tokens(text, "")) == text else "lost") for text, _ in WRITTEN]
     failed = [(what, how) for what, how in tried if how]
     for what, how in failed:

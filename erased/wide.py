@@ -31,13 +31,7 @@ def widened(text, name):
 
 def attributes_of(text, it):
     """Those above a function: where each begins and ends, and what it is."""
-    found, k = [], it.start
-    while text.text(end := text.before(k)) == "]":
-        k = end
-        while text.text(k) != "#":
-            k -= 1
-        found.insert(0, (k, end, "".join(x.text for x in text.t[k:end + 1])))
-    return found
+    return [(start, end, "".join(x.text for x in text.t[start:end + 1])) for start, end in text.attributes(it.start)]
 
 
 def apart(text, it, attributes):

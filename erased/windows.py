@@ -3,14 +3,19 @@
 Of `3 ≤ place` and `place + 64 ≤ length bytes` it gets the 67 bytes from `place - 3` on, and 3 as their place: so rustc tests that these are
 there, and no place within them. A function that writes goes on under another name, and its answer, a place of that part, becomes one of the
 slice. This is done only where the slice is used by places alone, and the place of it only with the slice. And of `64 ≤ length bytes` there is
-an assertion, where the function goes by numbers."""
+an assertion, where the function goes by numbers. Of `from.read + 8 ≤ length bytes` it gets eight bytes, whose places count from there.
+
+A part of a text would be tested twice more: whether a character begins at either end. What asks it for its bytes alone gets these."""
 import re
 
+import rules
 from exports import parameters
+from tokens import Stop
 
 PART = re.compile(r"(\w+) \+ (\d+|[A-Z]) ≤ length (\w+) \. (now|old)")
 FRONT = re.compile(r"(\d+) ≤ length (\w+) \. (?:now|old)")
 LEAST = re.compile(r"(\d+) ≤ (\w+)")
+SPOT = re.compile(r"(\w+) \. (\w+) \+ (\d+) ≤ length (\w+) \. (now|old)")
 # What becomes of an answer, by what the clauses say of it.
 ANSWERS = {"result . 0 result . 1": "let (count, end) = {call};\n    (count, {place} + end)", "result": "{place} + {call}"}
 
@@ -45,7 +50,19 @@ def window(text, it):
         beside(text, it, parts, answer.replace("{place}", written))
     elif parts := [part for part in parts if not part.is_written]:
         heads += [f"let ({part.name}, {part.place}) = ({part.given}, {part.back});" for part in parts]
+    heads += [said for asked in it.requires if (found := SPOT.fullmatch(asked)) and (said := from_spot(text, it, *found.groups()))]
     text.back[it.body] = text.back.get(it.body, "") + "".join(f"\n    {said}" for said in heads)
+
+
+def from_spot(text, it, spot, field, size, name, changes):
+    """Of `from.read + 8 ≤ length bytes`, where `bytes` has all its places by that field: these alone, and each place counts from the first."""
+    body = [k for k in range(it.body, text.closing(it.body)) if text.is_code(k)]
+    uses = [at for at, k in enumerate(body) if text.text(k) == name]
+    if not all(re.match(rf"\[ \w+ \. {field} \]", text.code(body[at + 1], body[-1])) for at in uses):
+        return None
+    for at in uses:
+        text.back[body[at + 4]] = f" - {spot}.{field}"
+    return f"let {name} = &{'mut ' if changes == 'old' else ''}{name}[{spot}.{field}..][..{size}];"
 
 
 def answered(text, it, place):
@@ -72,3 +89,24 @@ def called(text, it):
         left = text.next(end)
     names = [name.removeprefix("mut ") for name, _ in parameters(text, left, text.closing(left))]
     return names, f"::<{', '.join(generics)}>" if generics else ""
+
+
+def by_bytes(text, name):
+    """An erased file. A function of `rules.BY_BYTES` stands there once more over bytes, and is called so where one of them is given another's text,
+    or where that text is asked for its bytes and whether it is empty."""
+    for function in rules.BY_BYTES.get(name, ()):
+        found = re.search(rf"\n    #\[inline\(always\)\]\n    pub(?:\(crate\))? (fn {function})\b.*?\n    }}\n", text, re.S)
+        if not found:
+            raise Stop(f"{name}: no function is as rules.BY_BYTES names {function}")
+        other = found[0].replace("    pub fn", "    pub(crate) fn").replace(found[1], f"{found[1]}_bytes").replace(".as_bytes()", "")
+        text = text.replace(found[0], found[0] + re.sub(r"\bstr\b", "[u8]", other.replace("self.text[", "self.text.as_bytes()[")))
+    text = re.sub(r"\b(from_str_start)\(self\.(as_str)\(\)\)", r"\1_bytes(self.\2_bytes())", text)
+    return re.sub(r"let (\w+) = self\.as_str\(\);(\n +if \1\.is_empty\(\) {.*?)\1\.as_bytes\(\)", r"let \1 = self.as_str_bytes();\2\1", text, flags=re.S)
+
+
+def by_front(text):
+    """An erased file. Of `[bytes[0], bytes[1], bytes[2], 0]` the bytes are tested at once."""
+    def fronted(found):
+        count = found[0].count(f"{found[1]}[")
+        return found[0] if count == 1 else f"{{ let {found[1]} = &{found[1]}[..{count}]; {found[0]} }}"
+    return re.sub(r"\[(\w+)\[0\](?:, \1\[\d\])*(?:, 0)*\]", fronted, text)

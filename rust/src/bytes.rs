@@ -1,11 +1,11 @@
 //! UTF-8: bytes, split from either end.
 
+use crate::pieces::{Element, Faults, Pieces};
 use crate::proved::cuts;
 use crate::proved::encode_unicode::error::Utf8Error;
 use crate::proved::encode_unicode::iterator::{Utf8CharDecoder, Utf8CharMerger};
 use crate::proved::encode_unicode::{CharExt, Utf8Char};
-use crate::{Fault, Form, Piece};
-use core::iter::FusedIterator;
+use crate::{Form, Piece};
 
 /// All pieces of the bytes: characters, and single bytes that are invalid.
 ///
@@ -17,7 +17,7 @@ use core::iter::FusedIterator;
 /// ```
 #[must_use = "iterators do nothing unless consumed"]
 pub fn pieces(bytes: &[u8]) -> Pieces<'_> {
-    Pieces { left: bytes, offset: 0 }
+    Pieces::from(bytes)
 }
 
 /// The piece at the front, or `None` where there are no bytes.
@@ -29,28 +29,7 @@ pub fn pieces(bytes: &[u8]) -> Pieces<'_> {
 /// ```
 #[must_use]
 pub fn first(bytes: &[u8]) -> Option<Piece> {
-    first_of(bytes, 0)
-}
-
-/// The same, of bytes that are left from that offset on: that of text first, since most bytes are some.
-#[inline(always)]
-fn first_of(left: &[u8], offset: usize) -> Option<Piece> {
-    match cuts::front_of_text(left) {
-        Some((c, len)) => Some(Piece { offset, len, result: Ok(c) }),
-        None => first_with_care(left, offset),
-    }
-}
-
-#[cold]
-#[inline(never)]
-fn first_with_care(left: &[u8], offset: usize) -> Option<Piece> {
-    if left.is_empty() {
-        return None;
-    }
-    Some(match char::from_utf8_slice_start(left) {
-        Ok((c, len)) => Piece { offset, len, result: Ok(c) },
-        Err(error) => Piece::new(offset, 1, Err::<char, _>(error.kind())),
-    })
+    u8::first_of(bytes, 0)
 }
 
 /// The piece at the end, or `None` where there are no bytes. At most four bytes are looked at.
@@ -61,20 +40,7 @@ fn first_with_care(left: &[u8], offset: usize) -> Option<Piece> {
 /// ```
 #[must_use]
 pub fn last(bytes: &[u8]) -> Option<Piece> {
-    last_of(bytes, 0)
-}
-
-/// The same, of bytes that are left from that offset on.
-#[inline(always)]
-fn last_of(left: &[u8], offset: usize) -> Option<Piece> {
-    let (at, result, len) = Utf8CharDecoder::from(left).next_back()?;
-    Some(Piece::new(offset + at, len, of_kind(result)))
-}
-
-/// The character, or the kind alone.
-#[inline(always)]
-pub(crate) fn of_kind(result: Result<Utf8Char, Utf8Error>) -> Result<Utf8Char, crate::encode_unicode::error::Utf8ErrorKind> {
-    result.map_err(|error| error.kind())
+    u8::last_of(bytes, 0)
 }
 
 /// The offset of the first invalid byte, or the length where all is UTF-8, as [`core::str::Utf8Error::valid_up_to`] says it.
@@ -97,7 +63,7 @@ pub fn valid_up_to(bytes: &[u8]) -> usize {
 /// ```
 #[must_use = "iterators do nothing unless consumed"]
 pub fn faults(bytes: &[u8]) -> Faults<'_> {
-    Faults { pieces: pieces(bytes), few: Few::default() }
+    Faults::from(bytes)
 }
 
 /// How many characters there are, where each invalid byte counts as one: as many as [`pieces`] gives, and as many as are shown where
@@ -179,197 +145,44 @@ pub fn streamed_at(bytes: &[u8], at: usize) -> Option<Piece> {
     Some(Piece::new(at, result.as_ref().map_or(1, |c| c.len()), of_kind(result)))
 }
 
-/// The pieces of some bytes, from the front and from the back. [`pieces`] makes it.
-///
-/// What is wrong is judged by what is left: asked from both ends, each piece comes once, with the offset and the length that it
-/// has from the front.
-///
-/// ```
-/// let mut pieces = noddychest::pieces("a€b".as_bytes());
-/// assert_eq!(pieces.next_back().and_then(|piece| piece.char()), Some('b'));
-/// assert_eq!(pieces.next().and_then(|piece| piece.char()), Some('a'));
-/// assert_eq!(pieces.as_slice(), "€".as_bytes());
-/// assert_eq!(pieces.size_hint(), (1, Some(3)));
-/// ```
-#[derive(Clone, Debug)]
-pub struct Pieces<'a> {
-    left: &'a [u8],
-    offset: usize,
-}
+impl Element for u8 {
+    const MOST: usize = 4;
 
-impl<'a> Pieces<'a> {
-    /// The bytes that no piece was given of yet.
-    ///
-    /// ```
-    /// let mut pieces = noddychest::pieces(b"key=value");
-    /// pieces.find(|piece| piece.result == Ok('='));
-    /// assert_eq!(pieces.as_slice(), b"value");
-    /// ```
-    #[must_use]
-    pub fn as_slice(&self) -> &'a [u8] {
-        self.left
-    }
-
-    /// The offset of what is left.
-    ///
-    /// ```
-    /// let mut pieces = noddychest::pieces("éa".as_bytes());
-    /// pieces.next();
-    /// assert_eq!(pieces.offset(), 2);
-    /// ```
-    #[must_use]
-    pub fn offset(&self) -> usize {
-        self.offset
-    }
-
-    /// Passes the text at the front; `None` where nothing is left.
-    fn pass_text(&mut self) -> Option<()> {
-        let len = cuts::valid_up_to(self.left);
-        self.left = &self.left[len..];
-        self.offset += len;
-        (!self.left.is_empty()).then_some(())
-    }
-}
-
-impl<'a> From<&'a [u8]> for Pieces<'a> {
-    fn from(bytes: &'a [u8]) -> Pieces<'a> {
-        pieces(bytes)
-    }
-}
-
-impl Iterator for Pieces<'_> {
-    type Item = Piece;
-
-    #[inline]
-    fn next(&mut self) -> Option<Piece> {
-        let piece = first_of(self.left, self.offset)?;
-        self.left = &self.left[piece.len..];
-        self.offset += piece.len;
-        Some(piece)
-    }
-
-    /// A piece has at most four bytes.
-    fn size_hint(&self) -> (usize, Option<usize>) {
-        (self.left.len().div_ceil(4), Some(self.left.len()))
-    }
-}
-
-impl DoubleEndedIterator for Pieces<'_> {
-    #[inline]
-    fn next_back(&mut self) -> Option<Piece> {
-        let piece = last_of(self.left, self.offset)?;
-        self.left = &self.left[..self.left.len() - piece.len];
-        Some(piece)
-    }
-}
-
-impl FusedIterator for Pieces<'_> {}
-
-/// How many pieces are looked at one by one before text is passed, which costs something by itself: the more, the more of them were
-/// invalid.
-#[derive(Clone, Debug)]
-pub(crate) struct Few {
-    least: usize,
-    number: usize,
-}
-
-impl Few {
-    pub(crate) const MOST: usize = 64;
-
-    pub(crate) fn new(least: usize) -> Few {
-        Few { least, number: least }
-    }
-
-    pub(crate) fn number(&self) -> usize {
-        self.number
-    }
-
-    /// That a fault was found among the last few, or none.
-    pub(crate) fn note(&mut self, is_found: bool) {
-        self.number = if is_found { Few::MOST.min(2 * self.number) } else { self.least };
-    }
-}
-
-impl Default for Few {
-    fn default() -> Few {
-        Few::new(8)
-    }
-}
-
-/// The next fault of some pieces, by a call that passes text at their front, and answers nothing where nothing is left.
-#[inline]
-pub(crate) fn next_fault<I: Iterator<Item = Piece>>(
-    pieces: &mut I,
-    few: &mut Few,
-    pass_text: impl Fn(&mut I) -> Option<()>,
-) -> Option<Fault> {
-    loop {
-        let fault = pieces.by_ref().take(few.number()).find_map(|piece| piece.fault());
-        few.note(fault.is_some());
-        if fault.is_some() {
-            return fault;
+    /// That of text first, since most bytes are some.
+    #[inline(always)]
+    fn first_of(left: &[u8], offset: usize) -> Option<Piece> {
+        match cuts::front_of_text(left) {
+            Some((c, len)) => Some(Piece { offset, len, result: Ok(c) }),
+            None => first_with_care(left, offset),
         }
-        pass_text(pieces)?;
+    }
+
+    #[inline(always)]
+    fn last_of(left: &[u8], offset: usize) -> Option<Piece> {
+        let (at, result, len) = Utf8CharDecoder::from(left).next_back()?;
+        Some(Piece::new(offset + at, len, of_kind(result)))
+    }
+
+    #[inline(always)]
+    fn valid_up_to(left: &[u8]) -> usize {
+        cuts::valid_up_to(left)
     }
 }
 
-/// The invalid bytes of some bytes, from the front. [`faults`] makes it.
-///
-/// ```
-/// let mut faults = noddychest::faults(b"caf\xE9 noir");
-/// assert_eq!(faults.next().unwrap().to_string(), "invalid UTF-8 at offset 3: InterruptedSequence");
-/// assert_eq!(faults.as_slice(), b" noir");
-/// assert_eq!(faults.next(), None);
-/// ```
-#[derive(Clone, Debug)]
-pub struct Faults<'a> {
-    pieces: Pieces<'a>,
-    few: Few,
+#[cold]
+#[inline(never)]
+fn first_with_care(left: &[u8], offset: usize) -> Option<Piece> {
+    if left.is_empty() {
+        return None;
+    }
+    Some(match char::from_utf8_slice_start(left) {
+        Ok((c, len)) => Piece { offset, len, result: Ok(c) },
+        Err(error) => Piece::new(offset, 1, Err::<char, _>(error.kind())),
+    })
 }
 
-impl<'a> Faults<'a> {
-    /// The bytes after the last fault that was given, or all.
-    ///
-    /// ```
-    /// let mut faults = noddychest::faults(b"a\xFFb");
-    /// faults.next();
-    /// assert_eq!(faults.as_slice(), b"b");
-    /// ```
-    #[must_use]
-    pub fn as_slice(&self) -> &'a [u8] {
-        self.pieces.as_slice()
-    }
-
-    /// The offset of what [`as_slice`](Faults::as_slice) gives.
-    ///
-    /// ```
-    /// let mut faults = noddychest::faults(b"a\xFFb");
-    /// faults.next();
-    /// assert_eq!(faults.offset(), 2);
-    /// ```
-    #[must_use]
-    pub fn offset(&self) -> usize {
-        self.pieces.offset()
-    }
+/// The character, or the kind alone.
+#[inline(always)]
+pub(crate) fn of_kind(result: Result<Utf8Char, Utf8Error>) -> Result<Utf8Char, crate::encode_unicode::error::Utf8ErrorKind> {
+    result.map_err(|error| error.kind())
 }
-
-impl<'a> From<&'a [u8]> for Faults<'a> {
-    fn from(bytes: &'a [u8]) -> Faults<'a> {
-        faults(bytes)
-    }
-}
-
-impl Iterator for Faults<'_> {
-    type Item = Fault;
-
-    #[inline]
-    fn next(&mut self) -> Option<Fault> {
-        next_fault(&mut self.pieces, &mut self.few, Pieces::pass_text)
-    }
-
-    fn size_hint(&self) -> (usize, Option<usize>) {
-        (0, Some(self.pieces.left.len()))
-    }
-}
-
-impl FusedIterator for Faults<'_> {}

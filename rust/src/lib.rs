@@ -69,6 +69,7 @@ pub mod io;
 pub mod parallel;
 pub mod parts;
 mod piece;
+mod pieces;
 /// What `scripts/erase` made of the proved text. (It keeps laws, which are functions that do nothing, and what only the programs use.)
 #[cfg_attr(not(feature = "trusted"), path = "proved/checked/mod.rs")]
 #[cfg_attr(feature = "trusted", path = "proved/trusted/mod.rs")]
@@ -90,11 +91,11 @@ pub mod units;
 
 pub use bytes::{
     boundary_after, boundary_before, char_count, faults, first, last, number_of, offset_of, pieces, streamed_at, valid_up_to,
-    Faults, Pieces,
 };
 pub use decoder::{undecided_len, Decoder};
 pub use fault::{Fault, FaultKind};
 pub use piece::Piece;
+pub use pieces::{Faults, Pieces};
 #[cfg(feature = "alloc")]
 pub use proved::cuts::{Change, Counts};
 #[cfg(feature = "alloc")]

@@ -2,8 +2,8 @@
 
 use crate::proved::cuts;
 use crate::support::memory;
+use crate::table::granted;
 use crate::{AllocError, Fault, Form, Progress, Recoder, Status};
-use alloc::alloc::{handle_alloc_error, Layout};
 use alloc::string::String;
 use alloc::vec::Vec;
 
@@ -18,10 +18,7 @@ const BLOCK: usize = 1024;
 /// ```
 #[must_use]
 pub fn recode(from: Form, to: Form, bytes: &[u8]) -> Vec<u8> {
-    match try_recode(from, to, bytes) {
-        Ok(out) => out,
-        Err(AllocError) => handle_alloc_error(Layout::new::<u8>()),
-    }
+    granted(try_recode(from, to, bytes))
 }
 
 /// The same, where memory may be refused.
@@ -134,12 +131,7 @@ impl Recoder {
     /// assert_eq!(out, b"\0c\0a\0f\0\xE9\xFF\xFD");
     /// ```
     pub fn feed_to_vec(&mut self, part: &[u8], out: &mut Vec<u8>) -> Progress {
-        let mut rest = part;
-        append(out, part.len(), |room| {
-            let did = self.feed(rest, room);
-            rest = &rest[did.read..];
-            did
-        })
+        append(out, part, |rest, room| self.feed(rest, room))
     }
 
     /// Appends what is held, when no more follows. It is never [`Status::Full`]. Of a strict recoder see [`finish`](Recoder::finish).
@@ -152,7 +144,7 @@ impl Recoder {
     /// assert_eq!(out, "a\u{FFFD}".as_bytes());
     /// ```
     pub fn finish_to_vec(&mut self, out: &mut Vec<u8>) -> Progress {
-        append(out, 0, |room| self.finish(room))
+        append(out, &[], |_, room| self.finish(room))
     }
 
     /// [`feed_to_vec`](Recoder::feed_to_vec) into a string.
@@ -171,13 +163,8 @@ impl Recoder {
     /// assert_eq!(text, "> café\u{FFFD}!");
     /// ```
     pub fn feed_to_string(&mut self, part: &[u8], out: &mut String) -> Progress {
-        let mut rest = part;
         self.expect_utf8();
-        append_text(out, |room| {
-            let did = self.feed(rest, room);
-            rest = &rest[did.read..];
-            did
-        })
+        append_text(out, part, |rest, room| self.feed(rest, room))
     }
 
     /// [`finish_to_vec`](Recoder::finish_to_vec) into a string.
@@ -195,7 +182,7 @@ impl Recoder {
     /// ```
     pub fn finish_to_string(&mut self, out: &mut String) -> Progress {
         self.expect_utf8();
-        append_text(out, |room| self.finish(room))
+        append_text(out, &[], |_, room| self.finish(room))
     }
 
     fn expect_utf8(&self) {
@@ -203,13 +190,13 @@ impl Recoder {
     }
 }
 
-/// Appends what steps write, of which each goes on with the rest of a part of so many bytes.
-fn append(out: &mut Vec<u8>, len: usize, mut step: impl FnMut(&mut [u8]) -> Progress) -> Progress {
+/// Appends what steps write, each of which is given the rest of a part.
+fn append(out: &mut Vec<u8>, part: &[u8], mut step: impl FnMut(&[u8], &mut [u8]) -> Progress) -> Progress {
     let (begin, mut end, mut read) = (out.len(), out.len(), 0);
     loop {
         // (text of one form is about as long in another; where it is longer the room grows as vectors do)
-        out.resize(end + (len - read) + 16, 0);
-        let did = step(&mut out[end..]);
+        out.resize(end + (part.len() - read) + 16, 0);
+        let did = step(&part[read..], &mut out[end..]);
         read += did.read;
         end += did.written;
         if did.status != Status::Full {
@@ -220,10 +207,10 @@ fn append(out: &mut Vec<u8>, len: usize, mut step: impl FnMut(&mut [u8]) -> Prog
 }
 
 /// The same to a string, by steps that write UTF-8.
-fn append_text(out: &mut String, mut step: impl FnMut(&mut [u8]) -> Progress) -> Progress {
+fn append_text(out: &mut String, part: &[u8], mut step: impl FnMut(&[u8], &mut [u8]) -> Progress) -> Progress {
     let (mut room, begin, mut read) = ([0; BLOCK], out.len(), 0);
     loop {
-        let did = step(&mut room);
+        let did = step(&part[read..], &mut room);
         read += did.read;
         out.push_str(core::str::from_utf8(&room[..did.written]).expect("a recoder to UTF-8 writes whole characters"));
         if did.status != Status::Full {

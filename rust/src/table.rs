@@ -131,8 +131,8 @@ pub struct TablePieces<'a> {
     items: core::slice::Iter<'a, cuts::Item>,
 }
 
-fn piece(item: &cuts::Item) -> Piece {
-    let (offset, result, len) = *item;
+/// The piece of an item of the proved text.
+pub(crate) fn piece((offset, result, len): cuts::Item) -> Piece {
     Piece::new(offset, len, of_kind(result))
 }
 
@@ -140,7 +140,7 @@ impl Iterator for TablePieces<'_> {
     type Item = Piece;
 
     fn next(&mut self) -> Option<Piece> {
-        self.items.next().map(piece)
+        self.items.next().copied().map(piece)
     }
 
     fn size_hint(&self) -> (usize, Option<usize>) {
@@ -150,7 +150,7 @@ impl Iterator for TablePieces<'_> {
 
 impl DoubleEndedIterator for TablePieces<'_> {
     fn next_back(&mut self) -> Option<Piece> {
-        self.items.next_back().map(piece)
+        self.items.next_back().copied().map(piece)
     }
 }
 

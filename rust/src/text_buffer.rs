@@ -1,9 +1,8 @@
 //! A text that is edited, in chunks.
 
-use crate::bytes::of_kind;
 use crate::proved::cuts;
 use crate::support::alloc::Global;
-use crate::table::granted;
+use crate::table::{granted, piece};
 use crate::{AllocError, Change, Counts, Piece};
 use alloc::vec::Vec;
 use core::fmt;
@@ -267,10 +266,6 @@ impl fmt::Debug for TextBuffer {
     fn fmt(&self, f: &mut fmt::Formatter<'_>) -> fmt::Result {
         f.debug_struct("TextBuffer").field("counts", &self.counts()).finish_non_exhaustive()
     }
-}
-
-fn piece((offset, result, len): cuts::Item) -> Piece {
-    Piece::new(offset, len, of_kind(result))
 }
 
 /// The bytes of a range of a text, in parts. [`TextBuffer::bytes`] makes it.

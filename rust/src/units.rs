@@ -9,11 +9,10 @@
 //! assert_eq!(text, "f😀\u{FFFD}");
 //! ```
 
-use crate::bytes::{next_fault, Few};
+use crate::pieces::Element;
 use crate::proved::cuts;
 use crate::proved::encode_unicode::iterator::Utf16CharDecoder;
-use crate::{Fault, Piece};
-use core::iter::FusedIterator;
+use crate::Piece;
 
 /// All pieces of the units: characters, and single units that are invalid. Offsets and lengths count units.
 ///
@@ -24,7 +23,7 @@ use core::iter::FusedIterator;
 /// ```
 #[must_use = "iterators do nothing unless consumed"]
 pub fn pieces(units: &[u16]) -> Pieces<'_> {
-    Pieces { left: units, offset: 0 }
+    Pieces::from(units)
 }
 
 /// The piece at the front, or `None` where there are no units.
@@ -35,14 +34,7 @@ pub fn pieces(units: &[u16]) -> Pieces<'_> {
 /// ```
 #[must_use]
 pub fn first(units: &[u16]) -> Option<Piece> {
-    first_of(units, 0)
-}
-
-/// The same, of units that are left from that offset on.
-#[inline(always)]
-fn first_of(left: &[u16], offset: usize) -> Option<Piece> {
-    let (_, result, len) = Utf16CharDecoder::from(left).next()?;
-    Some(Piece::new(offset, len, result))
+    u16::first_of(units, 0)
 }
 
 /// The piece at the end, or `None` where there are no units. At most two units are looked at.
@@ -53,14 +45,7 @@ fn first_of(left: &[u16], offset: usize) -> Option<Piece> {
 /// ```
 #[must_use]
 pub fn last(units: &[u16]) -> Option<Piece> {
-    last_of(units, 0)
-}
-
-/// The same, of units that are left from that offset on.
-#[inline(always)]
-fn last_of(left: &[u16], offset: usize) -> Option<Piece> {
-    let (at, result, len) = Utf16CharDecoder::from(left).next_back()?;
-    Some(Piece::new(offset + at, len, result))
+    u16::last_of(units, 0)
 }
 
 /// The offset of the first invalid unit, or the length where all is UTF-16.
@@ -83,7 +68,7 @@ pub fn valid_up_to(units: &[u16]) -> usize {
 /// ```
 #[must_use = "iterators do nothing unless consumed"]
 pub fn faults(units: &[u16]) -> Faults<'_> {
-    Faults { pieces: pieces(units), few: Few::default() }
+    Faults::from(units)
 }
 
 /// How many characters there are, where each invalid unit counts as one.
@@ -146,79 +131,7 @@ pub fn boundary_after(units: &[u16], at: usize) -> usize {
 /// assert_eq!(pieces.as_slice(), [0x41]);
 /// assert_eq!(pieces.size_hint(), (1, Some(1)));
 /// ```
-#[derive(Clone, Debug)]
-pub struct Pieces<'a> {
-    left: &'a [u16],
-    offset: usize,
-}
-
-impl<'a> Pieces<'a> {
-    /// The units that no piece was given of yet.
-    ///
-    /// ```
-    /// let mut pieces = noddychest::units::pieces(&[0x41, 0x42]);
-    /// pieces.next();
-    /// assert_eq!(pieces.as_slice(), [0x42]);
-    /// ```
-    #[must_use]
-    pub fn as_slice(&self) -> &'a [u16] {
-        self.left
-    }
-
-    /// The offset of what is left, in units.
-    ///
-    /// ```
-    /// let mut pieces = noddychest::units::pieces(&[0xD83D, 0xDE00, 0x41]);
-    /// pieces.next();
-    /// assert_eq!(pieces.offset(), 2);
-    /// ```
-    #[must_use]
-    pub fn offset(&self) -> usize {
-        self.offset
-    }
-
-    /// Passes the text at the front; `None` where nothing is left.
-    fn pass_text(&mut self) -> Option<()> {
-        let len = cuts::units_valid_up_to(self.left);
-        self.left = &self.left[len..];
-        self.offset += len;
-        (!self.left.is_empty()).then_some(())
-    }
-}
-
-impl<'a> From<&'a [u16]> for Pieces<'a> {
-    fn from(units: &'a [u16]) -> Pieces<'a> {
-        pieces(units)
-    }
-}
-
-impl Iterator for Pieces<'_> {
-    type Item = Piece;
-
-    #[inline]
-    fn next(&mut self) -> Option<Piece> {
-        let piece = first_of(self.left, self.offset)?;
-        self.left = &self.left[piece.len..];
-        self.offset += piece.len;
-        Some(piece)
-    }
-
-    /// A piece has at most two units.
-    fn size_hint(&self) -> (usize, Option<usize>) {
-        (self.left.len().div_ceil(2), Some(self.left.len()))
-    }
-}
-
-impl DoubleEndedIterator for Pieces<'_> {
-    #[inline]
-    fn next_back(&mut self) -> Option<Piece> {
-        let piece = last_of(self.left, self.offset)?;
-        self.left = &self.left[..self.left.len() - piece.len];
-        Some(piece)
-    }
-}
-
-impl FusedIterator for Pieces<'_> {}
+pub type Pieces<'a> = crate::Pieces<'a, u16>;
 
 /// The invalid units of some units, from the front. [`faults`] makes it.
 ///
@@ -227,55 +140,25 @@ impl FusedIterator for Pieces<'_> {}
 /// assert_eq!(faults.next().unwrap().to_string(), "invalid UTF-16 at offset 1: UnexpectedTrailingSurrogate");
 /// assert_eq!(faults.next(), None);
 /// ```
-#[derive(Clone, Debug)]
-pub struct Faults<'a> {
-    pieces: Pieces<'a>,
-    few: Few,
-}
+pub type Faults<'a> = crate::Faults<'a, u16>;
 
-impl<'a> Faults<'a> {
-    /// The units after the last fault that was given, or all.
-    ///
-    /// ```
-    /// let mut faults = noddychest::units::faults(&[0xDE00, 0x41]);
-    /// faults.next();
-    /// assert_eq!(faults.as_slice(), [0x41]);
-    /// ```
-    #[must_use]
-    pub fn as_slice(&self) -> &'a [u16] {
-        self.pieces.as_slice()
+impl Element for u16 {
+    const MOST: usize = 2;
+
+    #[inline(always)]
+    fn first_of(left: &[u16], offset: usize) -> Option<Piece> {
+        let (_, result, len) = Utf16CharDecoder::from(left).next()?;
+        Some(Piece::new(offset, len, result))
     }
 
-    /// The offset of what [`as_slice`](Faults::as_slice) gives, in units.
-    ///
-    /// ```
-    /// let mut faults = noddychest::units::faults(&[0xDE00, 0x41]);
-    /// faults.next();
-    /// assert_eq!(faults.offset(), 1);
-    /// ```
-    #[must_use]
-    pub fn offset(&self) -> usize {
-        self.pieces.offset()
+    #[inline(always)]
+    fn last_of(left: &[u16], offset: usize) -> Option<Piece> {
+        let (at, result, len) = Utf16CharDecoder::from(left).next_back()?;
+        Some(Piece::new(offset + at, len, result))
+    }
+
+    #[inline(always)]
+    fn valid_up_to(left: &[u16]) -> usize {
+        cuts::units_valid_up_to(left)
     }
 }
-
-impl<'a> From<&'a [u16]> for Faults<'a> {
-    fn from(units: &'a [u16]) -> Faults<'a> {
-        faults(units)
-    }
-}
-
-impl Iterator for Faults<'_> {
-    type Item = Fault;
-
-    #[inline]
-    fn next(&mut self) -> Option<Fault> {
-        next_fault(&mut self.pieces, &mut self.few, Pieces::pass_text)
-    }
-
-    fn size_hint(&self) -> (usize, Option<usize>) {
-        (0, Some(self.pieces.left.len()))
-    }
-}
-
-impl FusedIterator for Faults<'_> {}

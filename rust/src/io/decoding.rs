@@ -69,6 +69,19 @@ impl<R> Source<R> {
 }
 
 impl<R: BufRead> Source<R> {
+    /// The next piece, of what was gathered or of what the reader gives next.
+    #[inline(always)]
+    fn next(&mut self, feed: Feed) -> Option<Result<Piece<u64>>> {
+        loop {
+            if let Some(piece) = self.take() {
+                return Some(Ok(piece));
+            }
+            if let Err(error) = self.gather(feed)? {
+                return Some(Err(error));
+            }
+        }
+    }
+
     /// Gathers pieces of what the reader gives next; at the end those of what is held, which are all faults, and then nothing.
     #[inline(never)]
     fn gather(&mut self, feed: Feed) -> Option<Result<()>> {
@@ -126,14 +139,7 @@ impl<R: BufRead> Iterator for Pieces<R> {
 
     #[inline]
     fn next(&mut self) -> Option<Result<Piece<u64>>> {
-        loop {
-            if let Some(piece) = self.source.take() {
-                return Some(Ok(piece));
-            }
-            if let Err(error) = self.source.gather(Decoder::feed)? {
-                return Some(Err(error));
-            }
-        }
+        self.source.next(Decoder::feed)
     }
 }
 
@@ -168,14 +174,8 @@ impl<R: BufRead> Iterator for Faults<R> {
     type Item = Result<Fault<u64>>;
 
     fn next(&mut self) -> Option<Result<Fault<u64>>> {
-        loop {
-            if let Some(fault) = self.source.take().and_then(|piece| piece.fault()) {
-                return Some(Ok(fault));
-            }
-            if let Err(error) = self.source.gather(Decoder::feed_faults)? {
-                return Some(Err(error));
-            }
-        }
+        let piece = self.source.next(Decoder::feed_faults)?;
+        Some(piece.map(|piece| piece.fault().expect("faults alone are gathered")))
     }
 }
 

@@ -1,7 +1,9 @@
 //! Vectors and strings that are passed an allocator, and answer where memory is refused: std's own inside.
 use super::alloc::{AllocError, Allocator, Global};
-use alloc::string::String as StdString;
-use alloc::vec::Vec as StdVec;
+#[cfg(not(feature = "alloc"))]
+use super::no_memory::{String as StdString, Vec as StdVec};
+#[cfg(feature = "alloc")]
+use alloc::{string::String as StdString, vec::Vec as StdVec};
 use core::ops::{Deref, DerefMut};
 
 /// A vector of std, whose calls answer where memory is refused.
@@ -99,6 +101,7 @@ impl<T, A: Allocator> Vec<T, A> {
     }
 }
 
+#[cfg(feature = "alloc")]
 impl<T> Vec<T, Global> {
     /// std's own vector, borrowed for calls that add to it.
     #[inline(always)]
@@ -142,6 +145,7 @@ impl<A: Allocator> String<A> {
     }
 }
 
+#[cfg(feature = "alloc")]
 impl String<Global> {
     /// std's own string, borrowed for calls that add to it.
     #[inline(always)]

@@ -6,8 +6,9 @@ pub(crate) mod alloc;
 #[cfg(feature = "c")]
 pub(crate) mod c;
 pub(crate) mod io;
-#[cfg_attr(not(feature = "alloc"), path = "no_memory.rs")]
 pub(crate) mod memory;
+#[cfg(not(feature = "alloc"))]
+mod no_memory;
 pub(crate) mod processor;
 pub(crate) mod simd;
 #[cfg(feature = "trusted")]

@@ -1,0 +1,189 @@
+//! The pieces of a slice, and the invalid ones alone: by the same types of bytes and of units.
+
+use crate::{Fault, Piece};
+use core::iter::FusedIterator;
+
+/// What text is kept in: a byte of UTF-8, or a unit of UTF-16.
+pub trait Element: Copy {
+    /// How many of them a piece has at most.
+    const MOST: usize;
+
+    /// The piece at the front of what is left from that offset on.
+    fn first_of(left: &[Self], offset: usize) -> Option<Piece>;
+
+    /// The piece at its end.
+    fn last_of(left: &[Self], offset: usize) -> Option<Piece>;
+
+    /// How many of them are text, up to the first that is invalid.
+    fn valid_up_to(left: &[Self]) -> usize;
+}
+
+/// The pieces of some bytes, or of some units, from the front and from the back. [`pieces`](crate::pieces) and
+/// [`units::pieces`](crate::units::pieces) make it.
+///
+/// What is wrong is judged by what is left: asked from both ends, each piece comes once, with the offset and the length that it
+/// has from the front.
+///
+/// ```
+/// let mut pieces = noddychest::pieces("a€b".as_bytes());
+/// assert_eq!(pieces.next_back().and_then(|piece| piece.char()), Some('b'));
+/// assert_eq!(pieces.next().and_then(|piece| piece.char()), Some('a'));
+/// assert_eq!(pieces.as_slice(), "€".as_bytes());
+/// assert_eq!(pieces.size_hint(), (1, Some(3)));
+/// ```
+#[derive(Clone, Debug)]
+pub struct Pieces<'a, T = u8> {
+    left: &'a [T],
+    offset: usize,
+}
+
+impl<'a, T: Element> Pieces<'a, T> {
+    /// The bytes, or the units, that no piece was given of yet.
+    ///
+    /// ```
+    /// let mut pieces = noddychest::pieces(b"key=value");
+    /// pieces.find(|piece| piece.result == Ok('='));
+    /// assert_eq!(pieces.as_slice(), b"value");
+    /// ```
+    #[must_use]
+    pub fn as_slice(&self) -> &'a [T] {
+        self.left
+    }
+
+    /// The offset of what is left, in bytes or units.
+    ///
+    /// ```
+    /// let mut pieces = noddychest::pieces("éa".as_bytes());
+    /// pieces.next();
+    /// assert_eq!(pieces.offset(), 2);
+    ///
+    /// let mut pieces = noddychest::units::pieces(&[0xD83D, 0xDE00, 0x41]);
+    /// pieces.next();
+    /// assert_eq!((pieces.offset(), pieces.as_slice()), (2, &[0x41][..]));
+    /// ```
+    #[must_use]
+    pub fn offset(&self) -> usize {
+        self.offset
+    }
+
+    /// Passes so many at the front.
+    #[inline(always)]
+    fn pass(&mut self, len: usize) {
+        self.left = &self.left[len..];
+        self.offset += len;
+    }
+}
+
+impl<'a, T: Element> From<&'a [T]> for Pieces<'a, T> {
+    fn from(all: &'a [T]) -> Pieces<'a, T> {
+        Pieces { left: all, offset: 0 }
+    }
+}
+
+impl<T: Element> Iterator for Pieces<'_, T> {
+    type Item = Piece;
+
+    #[inline]
+    fn next(&mut self) -> Option<Piece> {
+        let piece = T::first_of(self.left, self.offset)?;
+        self.pass(piece.len);
+        Some(piece)
+    }
+
+    /// A piece has at most four bytes, or two units.
+    fn size_hint(&self) -> (usize, Option<usize>) {
+        (self.left.len().div_ceil(T::MOST), Some(self.left.len()))
+    }
+}
+
+impl<T: Element> DoubleEndedIterator for Pieces<'_, T> {
+    #[inline]
+    fn next_back(&mut self) -> Option<Piece> {
+        let piece = T::last_of(self.left, self.offset)?;
+        self.left = &self.left[..self.left.len() - piece.len];
+        Some(piece)
+    }
+}
+
+impl<T: Element> FusedIterator for Pieces<'_, T> {}
+
+/// How many pieces are looked at one by one before text is passed, which costs something by itself: the more, the more of them were
+/// invalid.
+const FEW: usize = 8;
+const MANY: usize = 64;
+
+/// The invalid bytes of some bytes, or the invalid units of some units, from the front. [`faults`](crate::faults) and
+/// [`units::faults`](crate::units::faults) make it.
+///
+/// ```
+/// let mut faults = noddychest::faults(b"caf\xE9 noir");
+/// assert_eq!(faults.next().unwrap().to_string(), "invalid UTF-8 at offset 3: InterruptedSequence");
+/// assert_eq!(faults.as_slice(), b" noir");
+/// assert_eq!(faults.next(), None);
+/// ```
+#[derive(Clone, Debug)]
+pub struct Faults<'a, T = u8> {
+    pieces: Pieces<'a, T>,
+    number: usize,
+}
+
+impl<'a, T: Element> Faults<'a, T> {
+    /// The bytes, or the units, after the last fault that was given, or all.
+    ///
+    /// ```
+    /// let mut faults = noddychest::faults(b"a\xFFb");
+    /// faults.next();
+    /// assert_eq!(faults.as_slice(), b"b");
+    /// ```
+    #[must_use]
+    pub fn as_slice(&self) -> &'a [T] {
+        self.pieces.as_slice()
+    }
+
+    /// The offset of what [`as_slice`](Faults::as_slice) gives, in bytes or units.
+    ///
+    /// ```
+    /// let mut faults = noddychest::faults(b"a\xFFb");
+    /// faults.next();
+    /// assert_eq!(faults.offset(), 2);
+    ///
+    /// let mut faults = noddychest::units::faults(&[0xDE00, 0x41]);
+    /// faults.next();
+    /// assert_eq!((faults.offset(), faults.as_slice()), (1, &[0x41][..]));
+    /// ```
+    #[must_use]
+    pub fn offset(&self) -> usize {
+        self.pieces.offset()
+    }
+}
+
+impl<'a, T: Element> From<&'a [T]> for Faults<'a, T> {
+    fn from(all: &'a [T]) -> Faults<'a, T> {
+        Faults { pieces: Pieces::from(all), number: FEW }
+    }
+}
+
+impl<T: Element> Iterator for Faults<'_, T> {
+    type Item = Fault;
+
+    #[inline]
+    fn next(&mut self) -> Option<Fault> {
+        loop {
+            if let Some(fault) = self.pieces.by_ref().take(self.number).find_map(|piece| piece.fault()) {
+                self.number = MANY.min(2 * self.number);
+                return Some(fault);
+            }
+            self.number = FEW;
+            self.pieces.pass(T::valid_up_to(self.pieces.left));
+            if self.pieces.left.is_empty() {
+                return None;
+            }
+        }
+    }
+
+    fn size_hint(&self) -> (usize, Option<usize>) {
+        (0, Some(self.pieces.left.len()))
+    }
+}
+
+impl<T: Element> FusedIterator for Faults<'_, T> {}
