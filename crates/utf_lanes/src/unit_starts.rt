@@ -1,4 +1,4 @@
-//! Units that begin a piece, counted in blocks of 64: how many pieces units have, and where one of them begins.
+//! Units that begin a piece, counted in blocks of 32: how many pieces units have, and where one of them begins.
 ghost use Rattle.std.specs.Prelude.{◌≡◌, ◌+◌, ◌<◌, ◌≤◌, MatchOption, length};
 ghost use Rattle.utf_lanes.specs.UnitStarts.{IsUnitStartOf, is_start_after, is_unit_start, unit_start_count};
 
@@ -6,7 +6,7 @@ use utf_base::elements::is_trailing_surrogate;
 use utf_base::traits::U16UtfExt;
 
 // How many units are counted at once.
-const BLOCK: usize = 64;
+const BLOCK: usize = 32;
 
 /// How many of the units end no pair: how many pieces they have.
 #[inline]
@@ -29,11 +29,9 @@ pub fn nth_unit_start(units: &[u16], number: usize) -> Option<usize>
     let counted = counted_up_to(units, number);
     let mut before = counted.starts;
     for place in counted.place..units.len() {
-        if is_start(units, place) {
-            if before == number {
-                return Some(place);
-            }
-            before += 1;
+        before += is_start(units, place) as usize;
+        if number < before {
+            return Some(place);
         }
     }
     None
@@ -69,13 +67,13 @@ fn counted_up_to(units: &[u16], most: usize) -> Counted
     counted
 }
 
-// How many of the 64 units from the place on end no pair. Nothing here branches, so that LLVM goes by lanes.
+// How many of the 32 units from the place on end no pair. Nothing here branches, so that LLVM goes by lanes.
 #[inline(always)]
 fn block_starts(units: &[u16], place: usize) -> usize
     requires start { 1 ≤ place }
-    requires within { place + 64 ≤ length units.now }
-    ensures starts { unit_start_count units.now (place + 64) ≡ unit_start_count units.now place + result }
-    ensures most { result ≤ 64 }
+    requires within { place + 32 ≤ length units.now }
+    ensures starts { unit_start_count units.now (place + 32) ≡ unit_start_count units.now place + result }
+    ensures most { result ≤ 32 }
 {
     let mut starts: u16 = 0;
     for i in 0..BLOCK {
