@@ -22,7 +22,7 @@ pub fn offset_of(bytes: &[u8], number: usize) -> Option<usize>
     while place < bytes.len() {
         let step = next_step(&bytes[place..]);
         if left < step.pieces {
-            let offset = offset_in_step(&bytes[place..place + step.len], step.is_text, left)?;
+            let offset = offset_in_step(&bytes[place..place + step.len], step.text, left);
             return Some(place + offset);
         }
         place += step.len;

@@ -1,70 +1,55 @@
-//! Bytes that are gone through step by step: text in blocks, and what is damaged piece by piece.
-ghost use Rattle.std.specs.Prelude.{◌≡◌, ◌+◌, ◌<◌, ◌≤◌, length, option_map, slice_get, true};
+//! Bytes that are gone through step by step: ASCII in blocks, and else text with the piece after it.
+ghost use Rattle.std.specs.Prelude.{◌≡◌, ◌+◌, ◌<◌, ◌≤◌, Some, length, option_map, slice_get, take};
 ghost use Rattle.std.specs.Str.{IsUtf8};
 ghost use Rattle.encode_unicode.specs.Pieces.{pieces};
 ghost use Rattle.encode_unicode.specs.Window.{Item as AnItem};
 ghost use Rattle.cuts.specs.PieceSteps.{IsOnePiece, IsPieceStep};
 
-use encode_unicode::{CharExt, U8SliceExt};
-use utf_lanes::ascii_texts::is_ascii;
+use crate::runs::well_formed::valid_up_to;
+use encode_unicode::CharExt;
+use utf_lanes::ascii_texts::ascii_wide_end;
 use utf_lanes::starts::{nth_start, starts_in};
-use utf_lanes::text_blocks::text_len;
 
 // How many bytes are judged at once.
 const BLOCK: usize = 4096;
 
-// How many go piece by piece, where less is text.
-const FEW: usize = 8;
-
-// Bytes at the front: how many, how many pieces they have, and whether they are known to be text.
+// Bytes at the front: how many, how many pieces they have, and how many of them are text; no more than one piece follows that.
 #[derive(Clone, Copy, Drop)]
 pub(crate) struct Step {
     pub len: usize,
     pub pieces: usize,
-    pub is_text: bool,
+    pub text: usize,
 }
 
-// The next step over some bytes.
+// The next step over some bytes: text, and the piece after it.
 pub(crate) fn next_step(bytes: &[u8]) -> Step
     requires { 0 < length bytes.now }
     ensures some { 0 < result.len }
     ensures step { IsPieceStep bytes.now result }
 {
     let part = &bytes[..bytes.len().min(BLOCK)];
-    if is_ascii(part) {
+    let ascii = ascii_wide_end(part, 0);
+    if 0 < ascii {
         return Step {
-            len: part.len(),
-            pieces: part.len(),
-            is_text: true,
+            len: ascii,
+            pieces: ascii,
+            text: ascii,
         };
     }
-    let len = text_len(part);
-    if FEW <= len {
+    let text = valid_up_to(part);
+    let starts = starts_in(&part[..text]);
+    if text == bytes.len() {
         return Step {
-            len,
-            pieces: starts_in(&bytes[..len]),
-            is_text: true,
+            len: text,
+            pieces: starts,
+            text,
         };
     }
-    careful_step(bytes)
-}
-
-// The same piece by piece.
-fn careful_step(bytes: &[u8]) -> Step
-    requires { 0 < length bytes.now }
-    ensures some { 0 < result.len }
-    ensures step { IsPieceStep bytes.now result }
-{
-    let mut step = Step {
-        len: 0,
-        pieces: 0,
-        is_text: false,
-    };
-    while step.len < FEW && step.len < bytes.len() {
-        step.len += piece_len(&bytes[step.len..]);
-        step.pieces += 1;
+    Step {
+        len: text + piece_len(&bytes[text..]),
+        pieces: starts + 1,
+        text,
     }
-    step
 }
 
 // How many bytes the piece has that begins some bytes.
@@ -79,14 +64,13 @@ fn piece_len(bytes: &[u8]) -> usize
     }
 }
 
-// Where the piece with this number begins in the bytes of a step, which has it.
-pub(crate) fn offset_in_step(bytes: &[u8], is_text: bool, number: usize) -> Option<usize>
-    requires { is_text ≡ true → IsUtf8 bytes.now }
-    ensures { result ≡ option_map (λ (x : AnItem). x.0) (slice_get (pieces bytes.now) number) }
+// Where the piece with this number begins in the bytes of a step: in the text at their front, or after it.
+pub(crate) fn offset_in_step(bytes: &[u8], text: usize, number: usize) -> usize
+    requires within { text ≤ length bytes.now }
+    requires text { IsUtf8 (take text bytes.now) }
+    requires some { number < length (pieces bytes.now) }
+    requires most { length (pieces bytes.now) ≤ length (pieces (take text bytes.now)) + 1 }
+    ensures { Some result ≡ option_map (λ (x : AnItem). x.0) (slice_get (pieces bytes.now) number) }
 {
-    if is_text {
-        return nth_start(bytes, number);
-    }
-    let (offset, _, _) = bytes.utf8char_indices().nth(number)?;
-    Some(offset)
+    nth_start(&bytes[..text], number).unwrap_or(text)
 }
