@@ -1,4 +1,4 @@
--- Units that begin a piece, a character or a lone surrogate: all but those that end a pair.
+-- Units that begin a piece: all but those that end a pair.
 use Rattle.std.specs.Prelude.{◌≡◌, ℕ, ◌-◌, ◌<◌, Bool, true, not, ◌&&◌, List, count_by, length, slice_index}
 use Rattle.std.specs.List.{range_with_len}
 use Rattle.utf_base.specs.Units.{is_leading_surrogate, is_trailing_surrogate}

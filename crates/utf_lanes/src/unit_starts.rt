@@ -13,7 +13,7 @@ const BLOCK: usize = 32;
 pub fn unit_starts_in(units: &[u16]) -> usize
     ensures { result ≡ unit_start_count units.now (length units.now) }
 {
-    let counted = counted_up_to(units, usize::MAX);
+    let counted = units_counted_up_to(units, usize::MAX);
     let mut starts = counted.starts;
     for place in counted.place..units.len() {
         starts += is_start(units, place) as usize;
@@ -26,7 +26,7 @@ pub fn unit_starts_in(units: &[u16]) -> usize
 pub fn nth_unit_start(units: &[u16], number: usize) -> Option<usize>
     ensures { MatchOption result (unit_start_count units.now (length units.now) ≤ number) (IsUnitStartOf units.now number) }
 {
-    let counted = counted_up_to(units, number);
+    let counted = units_counted_up_to(units, number);
     let mut before = counted.starts;
     for place in counted.place..units.len() {
         before += is_start(units, place) as usize;
@@ -39,25 +39,25 @@ pub fn nth_unit_start(units: &[u16], number: usize) -> Option<usize>
 
 // A place, and how many units before it end no pair.
 #[derive(Clone, Copy, Drop)]
-struct Counted {
+struct CountedUnits {
     place: usize,
     starts: usize,
 }
 
 // The first unit, and blocks from there on, as long as no more than so many of their units end no pair.
 #[inline(always)]
-fn counted_up_to(units: &[u16], most: usize) -> Counted
+fn units_counted_up_to(units: &[u16], most: usize) -> CountedUnits
     ensures within { result.place ≤ length units.now }
     ensures starts { result.starts ≡ unit_start_count units.now result.place }
     ensures most { result.starts ≤ most }
 {
     let first = units.len().min(most).min(1);
-    let mut counted = Counted {
+    let mut counted = CountedUnits {
         place: first,
         starts: first,
     };
     while 0 < counted.place && BLOCK <= units.len() - counted.place {
-        let more = block_starts(units, counted.place);
+        let more = unit_block_starts(units, counted.place);
         if most - counted.starts < more {
             return counted;
         }
@@ -69,7 +69,7 @@ fn counted_up_to(units: &[u16], most: usize) -> Counted
 
 // How many of the 32 units from the place on end no pair. Nothing here branches, so that LLVM goes by lanes.
 #[inline(always)]
-fn block_starts(units: &[u16], place: usize) -> usize
+fn unit_block_starts(units: &[u16], place: usize) -> usize
     requires start { 1 ≤ place }
     requires within { place + 32 ≤ length units.now }
     ensures starts { unit_start_count units.now (place + 32) ≡ unit_start_count units.now place + result }

@@ -2,7 +2,7 @@ use Rattle.std.proofs.Common.{◌≡◌, ◌+◌, arith, ap, sym, ◌∙◌}
 use mir.Val.{bool_byte}
 use Rattle.utf_lanes.specs.UnitStarts.{is_unit_start, unit_start_count}
 use Rattle.utf_lanes.proofs.UnitStartLemmas.{places_told, told_few}
-use Rattle.utf_lanes.proofs.unit_starts.block_starts.Goals as goal
+use Rattle.utf_lanes.proofs.unit_starts.unit_block_starts.Goals as goal
 
 pub loop-i-preserved : goal.loop-i-preserved
 loop-i-preserved c =
