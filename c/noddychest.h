@@ -276,7 +276,7 @@ size_t nody_utf16_bytes_valid_up_to(nody_form_t form, const uint8_t *bytes, size
  *
  * bytes or units, len: the input.
  * Result: the number.
- * Errors: none. Cost: linear; UTF-8 in blocks where it is text, UTF-16 character by character.
+ * Errors: none. Cost: linear; UTF-8 in blocks where it is text, UTF-16 in blocks.
  *
  *     size_t count = nody_utf8_char_count((const uint8_t *)"\xe2\x82\xac!", 4); // 2
  */
@@ -287,7 +287,7 @@ size_t nody_utf16_char_count(const uint16_t *units, size_t len);
  *
  * bytes or units, len: the input. number: the number.
  * Result: the offset, in bytes or units. It is len if the input has no more pieces.
- * Errors: none. Cost: linear in the result; UTF-8 in blocks where it is text, UTF-16 character by character.
+ * Errors: none. Cost: linear in the result; UTF-8 in blocks where it is text, UTF-16 in blocks.
  *
  *     size_t offset = nody_utf8_offset_of((const uint8_t *)"h\xc3\xa9\xe2\x82" "A", 6, 2); // 3: E2, after h and the two bytes of e with an accent
  */
@@ -298,7 +298,7 @@ size_t nody_utf16_offset_of(const uint16_t *units, size_t len, size_t number);
  *
  * bytes or units, len: the input. offset: the offset, in bytes or units. It may lie inside a character, which is counted then.
  * Result: how many. If `offset` is len or more, all pieces are counted.
- * Errors: none. Cost: linear in the offset; UTF-8 in blocks where it is text, UTF-16 character by character.
+ * Errors: none. Cost: linear in the offset; UTF-8 in blocks where it is text, UTF-16 in blocks.
  *
  *     size_t column = nody_utf8_number_of(line, len, offset); // how many characters and faults of the line are before the offset
  */

@@ -110,6 +110,9 @@ CHOSEN(size_t, nody_utf16_bytes_valid_up_to, (nody_form_t form, const uint8_t *b
 CHOSEN(size_t, nody_utf8_char_count, (const uint8_t *bytes, size_t len), (bytes, len))
 CHOSEN(size_t, nody_utf8_offset_of, (const uint8_t *bytes, size_t len, size_t number), (bytes, len, number))
 CHOSEN(size_t, nody_utf8_number_of, (const uint8_t *bytes, size_t len, size_t offset), (bytes, len, offset))
+CHOSEN(size_t, nody_utf16_char_count, (const uint16_t *units, size_t len), (units, len))
+CHOSEN(size_t, nody_utf16_offset_of, (const uint16_t *units, size_t len, size_t number), (units, len, number))
+CHOSEN(size_t, nody_utf16_number_of, (const uint16_t *units, size_t len, size_t offset), (units, len, offset))
 CHOSEN(size_t, nody_utf8_faults, (nody_bytes_t *left, uint64_t *offset, FOUND), (left, offset, out, room))
 CHOSEN(size_t, nody_utf16_faults, (nody_units_t *left, uint64_t *offset, FOUND), (left, offset, out, room))
 CHOSEN(nody_status_t, nody_decoder_feed_faults, (nody_decoder_t *decoder, INPUT, FOUND, size_t *read, size_t *written),

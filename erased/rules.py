@@ -102,6 +102,8 @@ CHOSEN = {
     "utf_lanes/text_blocks.rt:text_len": ("bytes.len()", "OTHER(bytes)"),
     "utf_lanes/starts.rt:starts_in": ("bytes.len()", "OTHER(bytes)"),
     "utf_lanes/starts.rt:nth_start": ("bytes.len()", "OTHER(bytes, number)"),
+    "utf_lanes/unit_starts.rt:unit_starts_in": ("units.len()", "OTHER(units)"),
+    "utf_lanes/unit_starts.rt:nth_unit_start": ("units.len()", "OTHER(units, number)"),
     "utf_lanes/unit_blocks.rt:units_len": ("bytes.len()", "OTHER(high_first, bytes)"),
     "utf_lanes/paired_units.rt:paired_len": ("units.len()", "OTHER(units)"),
     "recoding/recoder_rooms.rt:recode_into": ("bytes.len()", "OTHER(from, to, bytes, room, place)"),

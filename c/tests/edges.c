@@ -16,7 +16,7 @@
 #define MAP_ANONYMOUS 0x20
 #endif
 
-enum { MOST = 12, MADE = 4 * MOST, ROOMS = 15 };
+enum { MOST = 12, MADE = 4 * MOST, ROOMS = 15, LONG = 200 };
 
 /* UTF8-1 to UTF8-4, one row for each alternative. */
 static const struct {
@@ -600,6 +600,38 @@ static void random_inputs(unsigned long count) {
     }
 }
 
+/* The numbers of an input that is counted in blocks, piece after piece. */
+static int are_counts(nody_form_t form, const uint8_t *in, size_t len) {
+    size_t wide = form == NODY_FORM_UTF8 ? 1 : 2, ends = len / wide, count = 0;
+    const uint16_t *units = (const uint16_t *)(const void *)in;
+    for (size_t at = 0; at < len; count++) {
+        cut_piece it = wide == 1 ? first_of_utf8(in + at, len - at) : first_of_utf16(in + at, len - at, form == NODY_FORM_UTF16BE);
+        if ((wide == 1 ? nody_utf8_offset_of(in, len, count) : nody_utf16_offset_of(units, ends, count)) != at / wide) return 0;
+        for (size_t i = at + wide; i <= at + it.len; i += wide)
+            if ((wide == 1 ? nody_utf8_number_of(in, len, i) : nody_utf16_number_of(units, ends, i / wide)) != count + 1) return 0;
+        at += it.len;
+    }
+    if ((wide == 1 ? nody_utf8_offset_of(in, len, count) : nody_utf16_offset_of(units, ends, count)) != ends) return 0;
+    return (wide == 1 ? nody_utf8_char_count(in, len) : nody_utf16_char_count(units, ends)) == count;
+}
+
+/* Text with faults, as rare as it may be, and as long as two blocks and more. */
+static void long_inputs(unsigned long count) {
+    while (count-- > 0) {
+        uint16_t units[LONG];
+        uint32_t rare = 1 + below(60);
+        size_t len = below(LONG);
+        at_end = (int)(count % 2);
+        uint8_t *in = fenced_bytes(in_fence, len, at_end);
+        for (size_t i = 0; i < len; i++) in[i] = below(rare) ? 0x41 : NAMED[below(sizeof NAMED)];
+        expect(are_counts(NODY_FORM_UTF8, in, len), "numbers", "a long input");
+        in = fenced_bytes(in_fence, 2 * len, at_end);
+        for (size_t i = 0; i < len; i++) units[i] = (uint16_t)(below(rare) ? 0x41 : 0xD800 + below(2048));
+        memcpy(in, units, 2 * len);
+        expect(are_counts(NODY_FORM_UTF16_NATIVE, in, 2 * len), "numbers of units", "a long input");
+    }
+}
+
 static const uint8_t RANDOM_IN[] = {0x41, 0xE2, 0x82, 0xAC, 0xF0, 0x9F, 0x82, 0xD8, 0x3C};
 
 static void random_strict(nody_recoder_t recoder, int is_one, uint8_t *out, size_t room) {
@@ -641,6 +673,7 @@ int main(int argc, char **argv) {
     out_fence = fence();
     short_inputs(count < 100 ? 2 : 3);
     random_inputs(count);
+    long_inputs(count);
     random_structs(10 * count);
     return tell();
 }

@@ -52,6 +52,9 @@ static void ask(const char *when, int lanes) {
     expect(nody_utf8_char_count(utf8, BYTES + 2) == CHARS + 2, "nody_utf8_char_count", when);
     expect(nody_utf8_offset_of(utf8, BYTES + 2, CHARS - 1) == BYTES - 2, "nody_utf8_offset_of", when);
     expect(nody_utf8_number_of(utf8, BYTES + 2, BYTES - 1) == CHARS, "nody_utf8_number_of", when);
+    expect(nody_utf16_char_count(utf16, CHARS + 1) == CHARS + 1, "nody_utf16_char_count", when);
+    expect(nody_utf16_offset_of(utf16, CHARS + 1, CHARS) == CHARS, "nody_utf16_offset_of", when);
+    expect(nody_utf16_number_of(utf16, CHARS + 1, CHARS) == CHARS, "nody_utf16_number_of", when);
     expect(nody_utf8_faults(&bytes, &offset, faults, 3) == 2 && faults[0].offset == BYTES, "nody_utf8_faults", when);
     expect(nody_utf16_faults(&units, &unit_offset, faults, 3) == 1 && faults[0].offset == CHARS, "nody_utf16_faults", when);
     expect(nody_decoder_feed_faults(&decoder, utf16be, BYTES + 2, faults, 3, &taken, &written) == NODY_STATUS_DONE && taken == BYTES + 2 &&

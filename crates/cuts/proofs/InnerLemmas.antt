@@ -12,7 +12,8 @@ use Rattle.utf_base.proofs.Utf8Code.{utf8_is_code}
 use Rattle.utf_base.proofs.KindLemmas.{four_bytes_decide}
 use Rattle.encode_unicode.specs.Pieces.{pieces}
 use Rattle.cuts.specs.InnerBytes.{inner_after, inner_before, inner_of}
-use Rattle.cuts.proofs.StepLemmas.{IsCountedTo, counted_none, counted_on, one_piece}
+use Rattle.cuts.specs.PieceSteps.{IsCountedTo}
+use Rattle.cuts.proofs.StepLemmas.{counted_none, counted_on, one_piece}
 
 inner_few : (o : Option Utf8ErrorKind) (n : ℕ) → inner_of o n ≤ n - 1
 inner_few None n = omega arith
@@ -122,12 +123,12 @@ module _ (xs : List ℕ) (p c : ℕ) (h : IsCountedTo xs p c) (sum : c + inner_b
           record {
             len = n;
             positive = many;
-            counted = counted_on xs p c h _ step;
+            counted = counted_on xs p c h _ _ step.all;
             inner = omega (arith, none_inside xs p n follow many, inner_code w e);
           }
       by_kind (Some k) e =
           let step = one_piece w 1 (Err k) (omega (arith, length-drop p xs)) (e, refl) in
-          record { len = 1; positive = omega arith; counted = counted_on xs p c h _ step; inner = omega (arith, inner_more xs p, inner_fault w k e) }
+          record { len = 1; positive = omega arith; counted = counted_on xs p c h _ _ step.all; inner = omega (arith, inner_more xs p, inner_fault w k e) }
 
 counted_end : (xs : List ℕ) (p c : ℕ) → IsCountedTo xs p c → c + inner_before xs p ≡ p → length xs ≤ p → length (pieces xs) + inner_before xs (length xs) ≡ length xs
 counted_end xs p c h sum end =

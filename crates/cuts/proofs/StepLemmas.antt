@@ -1,11 +1,11 @@
 -- One step after another: how many pieces there are, and where one begins.
-use Rattle.std.proofs.Common.{◌≡◌, ℕ, ◌+◌, ◌-◌, ◌<◌, ◌≤◌, List, [], ◌++◌, length, get_or, take, drop, arith, refl, ap, sym, ◌∙◌, subst, ⊎_elim, Some, None, Option, Result, Ok, Err, true, false, length-drop}
+use Rattle.std.proofs.Common.{◌≡◌, ℕ, ◌+◌, ◌-◌, ◌<◌, ◌≤◌, List, [], ◌++◌, length, get_or, take, drop, arith, refl, ap, sym, ◌∙◌, ⊎_elim, subst, Some, None, Option, Result, Ok, Err, true, false, length-drop, length-take}
 use Rattle.std.proofs.lemmas.Bool.{cases_lt}
-use Rattle.std.proofs.lemmas.List.{drop-take, length-take-le, take-append-drop, take-take, take_all}
+use Rattle.std.proofs.lemmas.List.{drop-take, get_or-take, length-take-le, take-append-drop, take-take, take_all}
 use Rattle.std.proofs.lemmas.List.Sums.{count_by-le-length}
 use Rattle.std.proofs.lemmas.Option.{slice_get-get_or, slice_get_past}
 use Rattle.std.proofs.lemmas.Str.{IsUtf8-nil}
-use Rattle.std.specs.Prelude.{MatchOption, cond, is_err, option_map, slice_get, slice_range}
+use Rattle.std.specs.Prelude.{MatchOption, cond, is_err, option_map, slice_get, slice_range, unwrap_or}
 use Rattle.std.specs.Str.{IsUtf8}
 use Rattle.utf_base.specs.Code.{utf8}
 use Rattle.utf_base.specs.Kinds.{fault_kind}
@@ -17,9 +17,12 @@ use Rattle.utf_base.proofs.Utf8Code.{utf8_is_code}
 use Rattle.encode_unicode.specs.Pieces.{pieces}
 use Rattle.encode_unicode.specs.Window.{IsFrontPiece, Item}
 use Rattle.recoding.proofs.GoodCodes.{good_text}
+use Rattle.utf_lanes.specs.AsciiTexts.{AreAscii}
 use Rattle.utf_lanes.specs.Starts.{IsStartOf, start_count}
-use Rattle.cuts.specs.PieceSteps.{IsPieceStep}
+use Rattle.utf_lanes.proofs.AsciiTexts.{ascii_text}
+use Rattle.utf_lanes.proofs.StartLemmas.{ascii_starts}
 use Rattle.cuts.specs.ForwardRuns.{faulty_item_count, is_fault}
+use Rattle.cuts.specs.PieceSteps.{IsCountedTo, IsPieceStep}
 use Rattle.cuts.specs.declared.buffers.counts.Counts.{Counts}
 use Rattle.cuts.specs.declared.runs.steps.Step.{Step}
 use Rattle.cuts.proofs.CountLemmas.{counts_joined, pieces_few}
@@ -28,14 +31,8 @@ use Rattle.cuts.proofs.ForwardRuns.{pieces_are_the_run}
 use Rattle.cuts.proofs.JoinedPieces.{front_in_whole, inside_front, inside_following}
 use Rattle.cuts.proofs.PieceRuns.{at_front}
 use Rattle.cuts.proofs.SplitNumbers.{count_is, place_in_front, place_in_rest}
-use Rattle.cuts.proofs.TextCounts.{one_of_code, some_piece, text_counted, text_numbered}
+use Rattle.cuts.proofs.TextCounts.{front_piece, one_of_code, some_piece, text_counted, text_numbered}
 use Rattle.cuts.proofs.TextRuns.{no_fault_where_text}
-
--- The pieces of the bytes before a place over which no code lies are so many.
-pub record IsCountedTo (xs : List ℕ) (place count : ℕ) : Type 0 where
-  pub within : place ≤ length xs
-  pub outside : Inside utf8 xs place → ⊥
-  pub counted : count ≡ length (pieces (take place xs))
 
 module _ (xs : List ℕ) (b : ℕ) (le : b ≤ length xs) (out : Inside utf8 xs b → ⊥) where
   abbrev whole : List Item
@@ -64,40 +61,41 @@ text_faults : (xs : List ℕ) → IsUtf8 xs → faulty_item_count (pieces xs) �
 text_faults xs text = no_fault_where_text xs (pieces xs) (pieces_are_the_run xs) text
 
 -- One step more.
-module _ (xs : List ℕ) (place count : ℕ) (h : IsCountedTo xs place count) (step : Step) (s : IsPieceStep (drop place xs) step) where
-  step_within : place + step.len ≤ length xs
+module _ (xs : List ℕ) (place count : ℕ) (h : IsCountedTo xs place count) (n m : ℕ) (s : IsCountedTo (drop place xs) n m) where
+  step_within : place + n ≤ length xs
   step_within = let within = s.within in let before = h.within in omega (arith, length-drop place xs)
 
-  step_outside : Inside utf8 xs (place + step.len) → ⊥
+  step_outside : Inside utf8 xs (place + n) → ⊥
   step_outside i =
       let parts = take-append-drop place xs in
       let len : length (take place xs) ≡ place = length-take-le place xs h.within in
-      s.outside (inside_following utf8 (take place xs) (drop place xs) (λ j. h.outside (rw (parts, len) at j)) step.len (rw (parts, len) i))
+      s.outside (inside_following utf8 (take place xs) (drop place xs) (λ j. h.outside (rw (parts, len) at j)) n (rw (parts, len) i))
 
   -- the front of so many bytes more, in its two parts
-  step_front : take place (take (place + step.len) xs) ≡ take place xs
-  step_front = take-take place (place + step.len) xs (omega arith)
+  step_front : take place (take (place + n) xs) ≡ take place xs
+  step_front = take-take place (place + n) xs (omega arith)
 
-  step_rest : drop place (take (place + step.len) xs) ≡ take step.len (drop place xs)
-  step_rest = drop-take place step.len xs
+  step_rest : drop place (take (place + n) xs) ≡ take n (drop place xs)
+  step_rest = drop-take place n xs
 
-  step_seam : Inside utf8 (take (place + step.len) xs) place → ⊥
-  step_seam i = h.outside (subst (λ ys. Inside utf8 ys place) (take-append-drop (place + step.len) xs) (inside_front utf8 (take (place + step.len) xs) (drop (place + step.len) xs) place i))
+  step_seam : Inside utf8 (take (place + n) xs) place → ⊥
+  step_seam i = h.outside (subst (λ ys. Inside utf8 ys place) (take-append-drop (place + n) xs) (inside_front utf8 (take (place + n) xs) (drop (place + n) xs) place i))
 
-  pub counted_on : IsCountedTo xs (place + step.len) (count + step.pieces)
+  pub counted_on : IsCountedTo xs (place + n) (count + m)
   counted_on =
-      let w = take (place + step.len) xs in
-      let len : length w ≡ place + step.len = length-take-le (place + step.len) xs step_within in
+      let w = take (place + n) xs in
+      let len : length w ≡ place + n = length-take-le (place + n) xs step_within in
       let both : length (pieces w) ≡ length (pieces (take place w)) + length (pieces (drop place w)) = parts_counted w place (omega arith) step_seam in
       let first = ap (λ ys. length (pieces ys)) step_front in
       let second = ap (λ ys. length (pieces ys)) step_rest in
       record { within = step_within; outside = step_outside; counted = omega (arith, h.counted, s.counted) }
 
   -- the same of the faults among them
-  pub faults_on : (faults : ℕ) → faults ≡ faulty_item_count (pieces (take place xs)) → faults + step.faults ≡ faulty_item_count (pieces (take (place + step.len) xs))
-  faults_on faults is =
-      let w = take (place + step.len) xs in
-      let long : length w ≡ place + step.len = length-take-le (place + step.len) xs step_within in
+  pub faults_on : (faults more : ℕ) → faults ≡ faulty_item_count (pieces (take place xs)) → more ≡ faulty_item_count (pieces (take n (drop place xs)))
+      → faults + more ≡ faulty_item_count (pieces (take (place + n) xs))
+  faults_on faults more is are =
+      let w = take (place + n) xs in
+      let long : length w ≡ place + n = length-take-le (place + n) xs step_within in
       let parts : take place w ++ drop place w ≡ w = take-append-drop place w in
       let len : length (take place w) ≡ place = length-take-le place w (omega arith) in
       let joined : faulty_item_count (pieces (take place w ++ drop place w)) ≡ faulty_item_count (pieces (take place w)) + faulty_item_count (pieces (drop place w))
@@ -105,28 +103,28 @@ module _ (xs : List ℕ) (place count : ℕ) (h : IsCountedTo xs place count) (s
       let whole = ap (λ ys. faulty_item_count (pieces ys)) parts in
       let first = ap (λ ys. faulty_item_count (pieces ys)) step_front in
       let second = ap (λ ys. faulty_item_count (pieces ys)) step_rest in
-      omega (arith, s.faults)
+      omega arith
 
   -- a number that the step has
-  pub found_in_step : (number left offset : ℕ) → number ≡ count + left → left < step.pieces → Some offset ≡ option_map (λ (x : Item). x.0) (slice_get (pieces (take step.len (drop place xs))) left)
+  pub found_in_step : (number left offset : ℕ) → number ≡ count + left → left < m → Some offset ≡ option_map (λ (x : Item). x.0) (slice_get (pieces (take n (drop place xs))) left)
       → Some (place + offset) ≡ option_map (λ (x : Item). x.0) (slice_get (pieces xs) number)
   found_in_step number left offset is lt told =
       let d : Item = (0, Ok 0, 0) in
-      let here : left < length (pieces (take step.len (drop place xs))) = omega (arith, s.counted) in
-      let offset_is : offset ≡ (get_or (pieces (take step.len (drop place xs))) left d).0
-      = some_is offset _ (told ∙ ap (option_map (λ (x : Item). x.0)) (slice_get-get_or (pieces (take step.len (drop place xs))) left d here)) in
-      let in_rest = place_front (drop place xs) step.len s.within s.outside left d here in
-      let of_rest = parts_counted (drop place xs) step.len s.within s.outside in
+      let here : left < length (pieces (take n (drop place xs))) = omega (arith, s.counted) in
+      let offset_is : offset ≡ (get_or (pieces (take n (drop place xs))) left d).0
+      = some_is offset _ (told ∙ ap (option_map (λ (x : Item). x.0)) (slice_get-get_or (pieces (take n (drop place xs))) left d here)) in
+      let in_rest = place_front (drop place xs) n s.within s.outside left d here in
+      let of_rest = parts_counted (drop place xs) n s.within s.outside in
       let of_whole = parts_counted xs place h.within h.outside in
       let within : number < length (pieces xs) = omega (arith, h.counted) in
       let at : number - length (pieces (take place xs)) ≡ left = omega (arith, h.counted) in
       let place_is = place_rest xs place h.within h.outside number d (omega (arith, h.counted)) within in
-      let same = ap (λ n. (get_or (pieces (drop place xs)) n d).0) at in
+      let same = ap (λ k. (get_or (pieces (drop place xs)) k d).0) at in
       let sum : place + offset ≡ (get_or (pieces xs) number d).0 = omega arith in
       ap Some sum ∙ sym (ap (option_map (λ (x : Item). x.0)) (slice_get-get_or (pieces xs) number d within))
     where
-      some_is : (m n : ℕ) → Some m ≡ Some n → m ≡ n
-      some_is m n e = cc
+      some_is : (i j : ℕ) → Some i ≡ Some j → i ≡ j
+      some_is i j e = cc
 
 -- a number that there is not
 pub none_found : (xs : List ℕ) (place count number : ℕ) → IsCountedTo xs place count → length xs ≤ place → count ≤ number → None ≡ option_map (λ (x : Item). x.0) (slice_get (pieces xs) number)
@@ -136,7 +134,7 @@ none_found xs place count number h all le =
     sym (ap (option_map (λ (x : Item). x.0)) (slice_get_past (pieces xs) number (omega (arith, h.counted))))
 
 -- One piece, whichever it is, as a step.
-pub one_piece : (xs : List ℕ) (n : ℕ) (r : Result ℕ Utf8ErrorKind) → 0 < length xs → IsFrontPiece xs r n → IsPieceStep xs (record { len = n; pieces = 1; faults = cond (is_err r) 1 0; is_text = false })
+pub one_piece : (xs : List ℕ) (n : ℕ) (r : Result ℕ Utf8ErrorKind) → 0 < length xs → IsFrontPiece xs r n → IsPieceStep xs (record { len = n; pieces = 1; faults = cond (is_err r) 1 0; text = 0 })
 one_piece xs n r some piece =
     let whole : slice_range xs 0 (length xs) ≡ xs = take_all _ xs (omega arith) in
     let at = at_front utf8 fault_kind utf8_is_code no_code_where_fault xs 0 n r some (λ i. let begins = i.begins in omega arith) (rw whole piece) in
@@ -144,11 +142,11 @@ one_piece xs n r some piece =
     let fits = at.within in
     let within : n ≤ length xs = omega arith in
     record {
-      within = within;
-      outside = λ i. at.outside (rw zero i);
-      counted = sym (counted_one xs n r at.some within piece);
+      all = record { within = within; outside = λ i. at.outside (rw zero i); counted = sym (counted_one xs n r at.some within piece) };
       faults = sym (faults_one xs n r at.some within piece);
-      text = λ yes. cc;
+      front = omega arith;
+      text = IsUtf8-nil;
+      most = omega arith;
     }
   where
     code_is : (xs : List ℕ) (n s : ℕ) → IsFrontPiece xs (Ok s) n → take n xs ≡ utf8 s
@@ -183,20 +181,36 @@ one_piece xs n r some piece =
         (λ (none : faulty_item_count (pieces front) ≤ 0). absurd (no_faults front (omega arith) 0 (omega arith, refl, alone)))
         (cases_lt 0 (faulty_item_count (pieces front)))
 
--- Text as a step.
-pub text_step : (xs : List ℕ) (n m : ℕ) → n ≤ length xs → IsUtf8 (take n xs) → m ≡ start_count (take n xs) → IsPieceStep xs (record { len = n; pieces = m; faults = 0; is_text = true })
-text_step xs n m within text count = record {
-  within = within;
-  outside = (good_text xs n within text).outside;
-  counted = count ∙ sym (text_counted (take n xs) text);
-  faults = sym (text_faults (take n xs) text);
-  text = λ yes. text;
-}
+-- Text, and text with a piece after it, as steps.
+counted_text : (xs : List ℕ) (n m : ℕ) → n ≤ length xs → IsUtf8 (take n xs) → m ≡ start_count (take n xs) → IsCountedTo xs n m
+counted_text xs n m within text count = record { within = within; outside = (good_text xs n within text).outside; counted = count ∙ sym (text_counted (take n xs) text) }
 
--- Any bytes as a step.
-pub part_step : (xs : List ℕ) (n m : ℕ) → n ≤ length xs → (Inside utf8 xs n → ⊥) → m ≡ length (pieces (take n xs))
-    → IsPieceStep xs (record { len = n; pieces = m; faults = faulty_item_count (pieces (take n xs)); is_text = false })
-part_step xs n m within outside count = record { within = within; outside = outside; counted = count; faults = refl; text = λ yes. cc }
+pub text_step : (xs : List ℕ) (n m : ℕ) → n ≤ length xs → IsUtf8 (take n xs) → m ≡ start_count (take n xs) → IsPieceStep xs (record { len = n; pieces = m; faults = 0; text = n })
+text_step xs n m within text count =
+    let all = counted_text xs n m within text count in
+    record { all = all; faults = sym (text_faults (take n xs) text); front = omega arith; text = text; most = omega (arith, all.counted) }
+
+pub ascii_step : (xs : List ℕ) (most n : ℕ) → n ≤ length (take most xs) → AreAscii (take most xs) 0 n → IsPieceStep xs (record { len = n; pieces = n; faults = 0; text = n })
+ascii_step xs most n within low =
+    let part = length-take most xs in
+    let long : length (take n xs) ≡ n = length-take-le n xs (omega arith) in
+    let ascii : AreAscii (take n xs) 0 (length (take n xs)) = λ k ge lt.
+    let same : get_or (take n xs) k 0 ≡ get_or (take most xs) k 0 = get_or-take n xs k 0 (omega arith) ∙ sym (get_or-take most xs k 0 (omega arith)) in
+    rw same (low k ge (omega arith)) in
+    text_step xs n n (omega arith) (ascii_text (take n xs) ascii) (sym long ∙ sym (ascii_starts (take n xs) ascii))
+
+pub text_and_piece : (xs : List ℕ) (n m : ℕ) (piece : Step) → n ≤ length xs → IsUtf8 (take n xs) → m ≡ start_count (take n xs) → piece.pieces ≡ 1 → IsPieceStep (drop n xs) piece
+    → IsPieceStep xs (record { len = n + piece.len; pieces = m + 1; faults = piece.faults; text = n })
+text_and_piece xs n m piece within text count one step =
+    let all = counted_text xs n m within text count in
+    let faults = faults_on xs n m all piece.len piece.pieces step.all 0 piece.faults (sym (text_faults (take n xs) text)) step.faults in
+    record {
+      all = counted_on xs n m all piece.len 1 (subst (IsCountedTo (drop n xs) piece.len) one step.all);
+      faults = omega (arith, faults);
+      front = omega arith;
+      text = text;
+      most = omega (arith, all.counted);
+    }
 
 pub counted_few : (xs : List ℕ) (place count : ℕ) → IsCountedTo xs place count → count ≤ length xs
 counted_few xs place count h =
@@ -214,10 +228,44 @@ faults_few xs place count faults h is =
     let among : faulty_item_count (pieces (take place xs)) ≤ length (pieces (take place xs)) = count_by-le-length is_fault (pieces (take place xs)) in
     omega (arith, h.counted)
 
--- what is numbered in a text
-pub numbered : (xs : List ℕ) (number : ℕ) (r : Option ℕ) → IsUtf8 xs → MatchOption r (start_count xs ≤ number) (IsStartOf xs number) → r ≡ option_map (λ (x : Item). x.0) (slice_get (pieces xs) number)
-numbered xs number None text none = sym (ap (option_map (λ (x : Item). x.0)) (slice_get_past (pieces xs) number (let count = text_counted xs text in omega arith)))
-numbered xs number (Some p) text is = text_numbered xs number p text is
+-- the place of a piece that is numbered in text, or of the one after it
+pub numbered_in_step : (xs : List ℕ) (n number : ℕ) (r : Option ℕ) → n ≤ length xs → IsUtf8 (take n xs) → number < length (pieces xs) → length (pieces xs) ≤ length (pieces (take n xs)) + 1
+    → MatchOption r (start_count (take n xs) ≤ number) (IsStartOf (take n xs) number) → Some (unwrap_or r n) ≡ option_map (λ (x : Item). x.0) (slice_get (pieces xs) number)
+numbered_in_step xs n number r within text lt most is = by r is
+  where
+    d : Item
+    d = (0, Ok 0, 0)
+
+    out : Inside utf8 xs n → ⊥
+    out = (good_text xs n within text).outside
+
+    here : (p : ℕ) → p ≡ (get_or (pieces xs) number d).0 → Some p ≡ option_map (λ (x : Item). x.0) (slice_get (pieces xs) number)
+    here p e = ap Some e ∙ sym (ap (option_map (λ (x : Item). x.0)) (slice_get-get_or (pieces xs) number d lt))
+
+    some_is : (i j : ℕ) → Some i ≡ Some j → i ≡ j
+    some_is i j e = cc
+
+    none_is : {i : ℕ} → ◌≡◌ {A = Option ℕ} (Some i) None → ⊥
+    none_is e = cc
+
+    by : (r : Option ℕ) → MatchOption r (start_count (take n xs) ≤ number) (IsStartOf (take n xs) number) → Some (unwrap_or r n) ≡ option_map (λ (x : Item). x.0) (slice_get (pieces xs) number)
+    by None none =
+        let count = text_counted (take n xs) text in
+        let both = parts_counted xs n within out in
+        let last : number - length (pieces (take n xs)) ≡ 0 = omega arith in
+        let some = pieces_few (drop n xs) in
+        let first = (front_piece (drop n xs) d (omega arith)).0 in
+        let place = place_rest xs n within out number d (omega arith) lt in
+        let same = ap (λ k. (get_or (pieces (drop n xs)) k d).0) last in
+        here n (omega arith)
+    by (Some p) is =
+        let told = text_numbered (take n xs) number p text is in
+        ⊎_elim
+        (λ (inner : number < length (pieces (take n xs))).
+        let at = some_is p _ (told ∙ ap (option_map (λ (x : Item). x.0)) (slice_get-get_or (pieces (take n xs)) number d inner)) in
+        here p (at ∙ sym (place_front xs n within out number d inner)))
+        (λ (past : length (pieces (take n xs)) ≤ number). absurd (none_is (told ∙ ap (option_map (λ (x : Item). x.0)) (slice_get_past (pieces (take n xs)) number past))))
+        (cases_lt number (length (pieces (take n xs))))
 
 -- the step has what is looked for
 pub not_none : (xs : List ℕ) (left : ℕ) → left < length (pieces xs) → None ≡ option_map (λ (x : Item). x.0) (slice_get (pieces xs) left) → ⊥

@@ -105,7 +105,7 @@ first_of zero ys d some more = absurd (omega arith)
 first_of (suc n) [] d some more = absurd (omega arith)
 first_of (suc n) (y ∷ ys) d some more = (refl, omega arith)
 
-front_piece : (xs : List ℕ) (d : Item) → 0 < length xs → ((get_or (pieces xs) 0 d).0 ≡ 0) × (0 < length (pieces xs))
+pub front_piece : (xs : List ℕ) (d : Item) → 0 < length xs → ((get_or (pieces xs) 0 d).0 ≡ 0) × (0 < length (pieces xs))
 front_piece xs d some =
     let all : slice_range xs 0 (length xs) ≡ xs = take_all _ xs (omega arith) in
     let long = ap length all in

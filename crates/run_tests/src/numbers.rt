@@ -23,6 +23,24 @@ fn pieces_of_units_have_numbers(rt: HostRuntime) {
     assert!(rt; unit_number_of(&units, 9) == 4);
 }
 
+// (the expected values are Python's: how many characters `decode("utf-16-le", "surrogatepass")` gives)
+#[test]
+fn units_have_numbers_over_the_ends_of_blocks(rt: HostRuntime) {
+    let mut units = [0x61; 130];
+    (units[64], units[65]) = (0xd83d, 0xde00);
+    units[127] = 0xde00;
+    (units[128], units[129]) = (0xd83d, 0xde00);
+    assert!(rt; unit_char_count(&units[..64]) == 64 && unit_char_count(&units[..65]) == 65);
+    assert!(rt; unit_char_count(&units[..66]) == 65 && unit_char_count(&units[..128]) == 127);
+    assert!(rt; unit_char_count(&units[..129]) == 128 && unit_char_count(&units) == 128);
+    assert!(rt; unit_offset_of(&units, 64) == Some(64) && unit_offset_of(&units, 65) == Some(66));
+    assert!(rt;
+        unit_offset_of(&units, 126) == Some(127) && unit_offset_of(&units, 127) == Some(128)
+    );
+    assert!(rt; unit_offset_of(&units, 128) == None && unit_number_of(&units, 65) == 65);
+    assert!(rt; unit_number_of(&units, 127) == 126 && unit_number_of(&units, 128) == 127);
+}
+
 #[test]
 fn an_edit_changes_what_is_near(rt: HostRuntime) {
     let range = changed_range(Form::Utf8, "abc€defg€hij".as_bytes(), 8, 9);

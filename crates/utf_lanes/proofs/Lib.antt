@@ -28,5 +28,6 @@ pub mod UnitBytes
 pub mod UnitLanes
 pub mod UnitPairs
 pub mod UnitSlots
+pub mod UnitStartLemmas
 pub mod ValueSums
 pub mod WideShuffles

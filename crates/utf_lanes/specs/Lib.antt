@@ -9,3 +9,4 @@ pub mod UnitCodes
 pub mod FewBytes
 pub mod LookUps
 pub mod Starts
+pub mod UnitStarts

@@ -121,9 +121,9 @@ pub(crate) fn ascii_end(bytes: &[u8], start: usize) -> usize
     place
 }
 
-// The same, two blocks at once as far as that goes.
+/// Where the blocks of 64 bytes of ASCII end that begin at the place, judged two at once as far as that goes.
 #[inline(always)]
-pub(crate) fn ascii_wide_end(bytes: &[u8], start: usize) -> usize
+pub fn ascii_wide_end(bytes: &[u8], start: usize) -> usize
     requires { start ≤ length bytes.now }
     ensures least { start ≤ result }
     ensures within { result ≤ length bytes.now }

@@ -27,6 +27,7 @@ pub mod text_units;
 mod thirty_two_slots;
 pub mod unit_blocks;
 pub mod unit_bytes;
+pub mod unit_starts;
 pub mod utf16_blocks;
 pub mod wide_halves;
 mod wide_rows;

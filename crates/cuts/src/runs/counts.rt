@@ -5,8 +5,8 @@ ghost use Rattle.cuts.specs.ForwardRuns.{faulty_item_count};
 
 use crate::runs::steps::next_step;
 use crate::runs::well_formed::valid_up_to;
-use encode_unicode::U16SliceExt;
 use encode_unicode::iterator::Utf8CharDecoder;
+use utf_lanes::unit_starts::unit_starts_in;
 
 /// How many bytes are invalid: 0 if all are valid UTF-8, and only then.
 ///
@@ -44,9 +44,9 @@ pub fn char_count(bytes: &[u8]) -> usize
 
 /// How many pieces the units have: a character is one, and so is each lone surrogate.
 ///
-/// Cost: O(n).
+/// Cost: O(n). It goes in blocks, over lone surrogates too.
 pub fn unit_char_count(units: &[u16]) -> usize
     ensures { result ≡ length (unit_pieces units.now) }
 {
-    units.utf16char_indices().count()
+    unit_starts_in(units)
 }

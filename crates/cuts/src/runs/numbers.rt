@@ -7,8 +7,8 @@ ghost use Rattle.cuts.specs.Tables.{IsSplitAt};
 use crate::boundaries::ceil;
 use crate::runs::counts::{char_count, unit_char_count};
 use crate::runs::steps::{next_step, offset_in_step};
-use encode_unicode::U16SliceExt;
 use recoding::boundaries::unit_boundary_after;
+use utf_lanes::unit_starts::nth_unit_start;
 
 /// The offset of the piece with this number, counted from 0. `None` if the bytes have no more pieces. A piece is a character or one
 /// invalid byte: `offset_of(b"h\xc3\xa9\xe2\x82A", 2)` is `Some(3)`.
@@ -22,7 +22,7 @@ pub fn offset_of(bytes: &[u8], number: usize) -> Option<usize>
     while place < bytes.len() {
         let step = next_step(&bytes[place..]);
         if left < step.pieces {
-            let offset = offset_in_step(&bytes[place..place + step.len], step.is_text, left)?;
+            let offset = offset_in_step(&bytes[place..place + step.len], step.text, left);
             return Some(place + offset);
         }
         place += step.len;
@@ -49,8 +49,7 @@ pub fn number_of(bytes: &[u8], offset: usize) -> usize
 pub fn unit_offset_of(units: &[u16], number: usize) -> Option<usize>
     ensures { result ≡ option_map (λ (x : AUnitItem). x.0) (slice_get (unit_pieces units.now) number) }
 {
-    let (offset, _, _) = units.utf16char_indices().nth(number)?;
-    Some(offset)
+    nth_unit_start(units, number)
 }
 
 /// How many pieces of units begin before this offset in units, or how many there are, if it is the length or more. If a piece

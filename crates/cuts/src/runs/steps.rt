@@ -1,76 +1,61 @@
-//! Bytes that are gone through step by step: text in blocks, and what is damaged piece by piece.
-ghost use Rattle.std.specs.Prelude.{◌≡◌, ◌+◌, ◌<◌, ◌≤◌, length, option_map, slice_get, true};
+//! Bytes that are gone through step by step: ASCII in blocks, and else text with the piece after it.
+ghost use Rattle.std.specs.Prelude.{◌≡◌, ◌+◌, ◌<◌, ◌≤◌, Some, length, option_map, slice_get, take};
 ghost use Rattle.std.specs.Str.{IsUtf8};
 ghost use Rattle.encode_unicode.specs.Pieces.{pieces};
 ghost use Rattle.encode_unicode.specs.Window.{Item as AnItem};
 ghost use Rattle.cuts.specs.PieceSteps.{IsPieceStep};
 
-use encode_unicode::{CharExt, U8SliceExt};
-use utf_lanes::ascii_texts::is_ascii;
+use crate::runs::well_formed::valid_up_to;
+use encode_unicode::CharExt;
+use utf_lanes::ascii_texts::ascii_wide_end;
 use utf_lanes::starts::{nth_start, starts_in};
-use utf_lanes::text_blocks::text_len;
 
 // How many bytes are judged at once.
 const BLOCK: usize = 4096;
 
-// How many go piece by piece, where less is text.
-const FEW: usize = 8;
-
-// Bytes at the front: how many, how many pieces they have, how many of these are faults, and whether they are known to be text.
+// Bytes at the front: how many, how many pieces they have, how many of these are faults, and how many bytes are text; no more than
+// one piece follows that.
 #[derive(Clone, Copy, Drop)]
 pub(crate) struct Step {
     pub len: usize,
     pub pieces: usize,
     pub faults: usize,
-    pub is_text: bool,
+    pub text: usize,
 }
 
-// The next step over some bytes.
+// The next step over some bytes: text, and the piece after it.
 pub(crate) fn next_step(bytes: &[u8]) -> Step
     requires { 0 < length bytes.now }
     ensures some { 0 < result.len }
     ensures step { IsPieceStep bytes.now result }
 {
     let part = &bytes[..bytes.len().min(BLOCK)];
-    if is_ascii(part) {
+    let ascii = ascii_wide_end(part, 0);
+    if 0 < ascii {
         return Step {
-            len: part.len(),
-            pieces: part.len(),
+            len: ascii,
+            pieces: ascii,
             faults: 0,
-            is_text: true,
+            text: ascii,
         };
     }
-    let len = text_len(part);
-    if FEW <= len {
+    let text = valid_up_to(part);
+    let starts = starts_in(&part[..text]);
+    if text == bytes.len() {
         return Step {
-            len,
-            pieces: starts_in(&bytes[..len]),
+            len: text,
+            pieces: starts,
             faults: 0,
-            is_text: true,
+            text,
         };
     }
-    careful_step(bytes)
-}
-
-// The same piece by piece.
-fn careful_step(bytes: &[u8]) -> Step
-    requires { 0 < length bytes.now }
-    ensures some { 0 < result.len }
-    ensures step { IsPieceStep bytes.now result }
-{
-    let mut step = Step {
-        len: 0,
-        pieces: 0,
-        faults: 0,
-        is_text: false,
-    };
-    while step.len < FEW && step.len < bytes.len() {
-        let piece = piece_step(&bytes[step.len..]);
-        step.len += piece.len;
-        step.pieces += piece.pieces;
-        step.faults += piece.faults;
+    let piece = piece_step(&bytes[text..]);
+    Step {
+        len: text + piece.len,
+        pieces: starts + 1,
+        faults: piece.faults,
+        text,
     }
-    step
 }
 
 // The step over the piece that begins some bytes.
@@ -78,6 +63,7 @@ fn careful_step(bytes: &[u8]) -> Step
 fn piece_step(bytes: &[u8]) -> Step
     requires { 0 < length bytes.now }
     ensures some { 0 < result.len }
+    ensures one { result.pieces ≡ 1 }
     ensures step { IsPieceStep bytes.now result }
 {
     let (len, faults) = match char::from_utf8_slice_start(bytes) {
@@ -88,18 +74,17 @@ fn piece_step(bytes: &[u8]) -> Step
         len,
         pieces: 1,
         faults,
-        is_text: false,
+        text: 0,
     }
 }
 
-// Where the piece with this number begins in the bytes of a step, which has it.
-pub(crate) fn offset_in_step(bytes: &[u8], is_text: bool, number: usize) -> Option<usize>
-    requires { is_text ≡ true → IsUtf8 bytes.now }
-    ensures { result ≡ option_map (λ (x : AnItem). x.0) (slice_get (pieces bytes.now) number) }
+// Where the piece with this number begins in the bytes of a step: in the text at their front, or after it.
+pub(crate) fn offset_in_step(bytes: &[u8], text: usize, number: usize) -> usize
+    requires within { text ≤ length bytes.now }
+    requires text { IsUtf8 (take text bytes.now) }
+    requires some { number < length (pieces bytes.now) }
+    requires most { length (pieces bytes.now) ≤ length (pieces (take text bytes.now)) + 1 }
+    ensures { Some result ≡ option_map (λ (x : AnItem). x.0) (slice_get (pieces bytes.now) number) }
 {
-    if is_text {
-        return nth_start(bytes, number);
-    }
-    let (offset, _, _) = bytes.utf8char_indices().nth(number)?;
-    Some(offset)
+    nth_start(&bytes[..text], number).unwrap_or(text)
 }

@@ -2,7 +2,8 @@ use Rattle.std.proofs.Common.{◌≡◌, ◌+◌, ◌-◌, length, take, drop, a
 use Rattle.std.proofs.lemmas.List.{take_rest}
 use Rattle.encode_unicode.specs.Pieces.{pieces}
 use Rattle.cuts.proofs.LookupLemmas.{number_within}
-use Rattle.cuts.proofs.StepLemmas.{counted_none, counted_on, found_in_step, none_found, not_none, part_step}
+use Rattle.cuts.specs.PieceSteps.{IsCountedTo}
+use Rattle.cuts.proofs.StepLemmas.{counted_none, counted_on, found_in_step, none_found, not_none}
 use Rattle.cuts.proofs.buffers.lookups.offset_by_parts.Goals as goal
 
 pub loop-place-init : goal.loop-place-init
@@ -16,9 +17,9 @@ returns-then-left-count c =
     let told = c.front_part-part.ensures in
     let is : part ≡ take (length part) (drop place xs) = told.front ∙ ap (take (length part)) (take_rest xs place) in
     let ends = rw (take_rest xs place) at told.ends in
-    let step = part_step (drop place xs) (length part) c.piece_count-count.result ends.within ends.outside (c.piece_count-count.ensures ∙ ap (λ ys. length (pieces ys)) is) in
+    let step : IsCountedTo (drop place xs) (length part) c.piece_count-count.result = record { within = ends.within; outside = ends.outside; counted = c.piece_count-count.ensures ∙ ap (λ ys. length (pieces ys)) is } in
     let (le, counted) = c.loop-place.invariant in
-    found_in_step xs place (c.args.number - c.loop-place.left) counted _ step c.args.number c.loop-place.left c.in_ok-offset.offset (omega arith) c.if-left-count.true (rw is at c.in_ok-offset.ensures)
+    found_in_step xs place (c.args.number - c.loop-place.left) counted _ _ step c.args.number c.loop-place.left c.in_ok-offset.offset (omega arith) c.if-left-count.true (rw is at c.in_ok-offset.ensures)
 
 pub returns-in_err-offset : goal.returns-in_err-offset
 returns-in_err-offset c =
@@ -35,10 +36,10 @@ loop-place-preserved c =
     let told = c.front_part-part.ensures in
     let is : part ≡ take (length part) (drop place xs) = told.front ∙ ap (take (length part)) (take_rest xs place) in
     let ends = rw (take_rest xs place) at told.ends in
-    let step = part_step (drop place xs) (length part) more ends.within ends.outside (c.piece_count-count.ensures ∙ ap (λ ys. length (pieces ys)) is) in
+    let step : IsCountedTo (drop place xs) (length part) more = record { within = ends.within; outside = ends.outside; counted = c.piece_count-count.ensures ∙ ap (λ ys. length (pieces ys)) is } in
     let (le, counted) = c.loop-place.invariant in
     let sum : c.args.number - left + more ≡ c.args.number - (left - more) = omega (arith, c.if-left-count.false) in
-    (omega arith, rw sum at (counted_on xs place (c.args.number - left) counted _ step))
+    (omega arith, rw sum at (counted_on xs place (c.args.number - left) counted _ _ step))
 
 pub returns : goal.returns
 returns c =

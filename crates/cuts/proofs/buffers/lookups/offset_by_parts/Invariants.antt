@@ -1,5 +1,5 @@
 use Rattle.std.proofs.Common.{◌-◌, ◌≤◌, length}
-use Rattle.cuts.proofs.StepLemmas.{IsCountedTo}
+use Rattle.cuts.specs.PieceSteps.{IsCountedTo}
 use Rattle.cuts.proofs.buffers.lookups.offset_by_parts.Given as goal
 
 -- what is left of the number is what the pieces up to the place leave of it

@@ -1,5 +1,6 @@
-use Rattle.std.proofs.Common.{arith}
+use Rattle.std.proofs.Common.{arith, drop}
 use Rattle.std.proofs.lemmas.List.{take_rest}
+use Rattle.cuts.specs.PieceSteps.{IsPieceStep}
 use Rattle.cuts.proofs.StepLemmas.{counted_few, counted_none, counted_on}
 use Rattle.cuts.proofs.runs.counts.char_count.Goals as goal
 
@@ -10,7 +11,8 @@ pub loop-place-preserved : goal.loop-place-preserved
 loop-place-preserved c =
     let xs = c.args.bytes.now in
     let place = c.loop-place.place in
-    counted_on xs place c.loop-place.count c.loop-place.invariant c.next_step-step.result (rw (take_rest xs place) at c.next_step-step.ensures.step)
+    let step : IsPieceStep (drop place xs) c.next_step-step.result = rw (take_rest xs place) at c.next_step-step.ensures.step in
+    counted_on xs place c.loop-place.count c.loop-place.invariant _ _ step.all
 
 pub overflow_add-count : goal.overflow_add-count
 overflow_add-count c =

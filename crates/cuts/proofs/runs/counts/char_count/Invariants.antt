@@ -1,5 +1,5 @@
 use Rattle.std.proofs.Common.{◌-◌, length}
-use Rattle.cuts.proofs.StepLemmas.{IsCountedTo}
+use Rattle.cuts.specs.PieceSteps.{IsCountedTo}
 use Rattle.cuts.proofs.runs.counts.char_count.Given as goal
 
 abbrev pub invariant-loop-place : goal.invariant-loop-place

@@ -2,7 +2,7 @@ use Rattle.std.proofs.Common.{◌≡◌, ◌+◌, ◌-◌, take, drop, arith}
 use Rattle.std.proofs.lemmas.List.{take_rest}
 use Rattle.cuts.specs.PieceSteps.{IsPieceStep}
 use Rattle.cuts.proofs.LookupLemmas.{number_within}
-use Rattle.cuts.proofs.StepLemmas.{counted_none, counted_on, found_in_step, none_found, not_none}
+use Rattle.cuts.proofs.StepLemmas.{counted_none, counted_on, found_in_step, none_found}
 use Rattle.cuts.proofs.runs.numbers.offset_of.Goals as goal
 
 pub loop-place-init : goal.loop-place-init
@@ -17,17 +17,7 @@ returns-then-left-step c =
     let (le, counted) = c.loop-place.invariant in
     let step : IsPieceStep (drop place xs) c.next_step-step.result = rw (take_rest xs place) at c.next_step-step.ensures.step in
     let width : place + n - place ≡ n = omega arith in
-    found_in_step xs place (c.args.number - left) counted c.next_step-step.result step c.args.number left c.in_ok-offset.offset (omega arith) c.if-left-step.true (rw width at c.in_ok-offset.ensures)
-
-pub returns-in_err-offset : goal.returns-in_err-offset
-returns-in_err-offset c =
-    let xs = c.args.bytes.now in
-    let place = c.loop-place.place in
-    let n = c.next_step-step.result.len in
-    let step : IsPieceStep (drop place xs) c.next_step-step.result = rw (take_rest xs place) at c.next_step-step.ensures.step in
-    let width : place + n - place ≡ n = omega arith in
-    let lt = c.if-left-step.true in
-    absurd (not_none (take n (drop place xs)) c.loop-place.left (omega (arith, step.counted)) (rw width at c.in_err-offset.ensures))
+    found_in_step xs place (c.args.number - left) counted n c.next_step-step.result.pieces step.all c.args.number left c.offset_in_step-offset.result (omega arith) c.if-left-step.true (rw width at c.offset_in_step-offset.ensures)
 
 pub loop-place-preserved : goal.loop-place-preserved
 loop-place-preserved c =
@@ -38,7 +28,7 @@ loop-place-preserved c =
     let (le, counted) = c.loop-place.invariant in
     let step : IsPieceStep (drop place xs) c.next_step-step.result = rw (take_rest xs place) at c.next_step-step.ensures.step in
     let sum : c.args.number - left + more ≡ c.args.number - (left - more) = omega (arith, c.if-left-step.false) in
-    (omega arith, rw sum at (counted_on xs place (c.args.number - left) counted c.next_step-step.result step))
+    (omega arith, rw sum at (counted_on xs place (c.args.number - left) counted _ _ step.all))
 
 pub returns : goal.returns
 returns c =

@@ -1,25 +1,29 @@
-use Rattle.std.proofs.Common.{◌≡◌, ◌≤◌, length, length-take, take, arith, sym, ◌∙◌}
-use Rattle.std.proofs.lemmas.List.{length-take-le, take-take}
-use Rattle.utf_lanes.specs.AsciiTexts.{AreAscii}
-use Rattle.utf_lanes.proofs.AsciiTexts.{ascii_text}
-use Rattle.utf_lanes.proofs.StartLemmas.{ascii_starts}
-use Rattle.cuts.proofs.StepLemmas.{text_step}
+use Rattle.std.proofs.Common.{◌≡◌, ◌≤◌, ◌<◌, length, length-take, take, drop, arith}
+use Rattle.std.proofs.lemmas.List.{take-take, take_rest}
+use Rattle.std.specs.Str.{IsUtf8}
+use Rattle.utf_lanes.specs.Starts.{start_count}
+use Rattle.cuts.proofs.StepLemmas.{ascii_step, text_and_piece, text_step}
 use Rattle.cuts.proofs.runs.steps.next_step.Goals as goal
 
-pub returns-then-is_ascii-clause-step : goal.returns-then-is_ascii-clause-step
-returns-then-is_ascii-clause-step c =
-    let xs = c.args.bytes.now in
-    let most = c.min.result in
-    let front : length (take most xs) ≡ most = length-take-le most xs (omega arith) in
-    let ascii : AreAscii (take most xs) 0 (length (take most xs)) = c.is_ascii.ensures.ascii c.if-is_ascii.true in
-    rw front (text_step xs most most (omega arith) (ascii_text (take most xs) ascii) (sym front ∙ sym (ascii_starts (take most xs) ascii)))
+pub returns-then-ascii-gt0-clause-step : goal.returns-then-ascii-gt0-clause-step
+returns-then-ascii-gt0-clause-step c = ascii_step c.args.bytes.now c.min.result c.ascii_wide_end-ascii.result c.ascii_wide_end-ascii.ensures.within c.ascii_wide_end-ascii.ensures.ascii
 
-pub returns-then-len-ge-FEW-clause-step : goal.returns-then-len-ge-FEW-clause-step
-returns-then-len-ge-FEW-clause-step c =
+pub returns-then-text-bytes-clause-step : goal.returns-then-text-bytes-clause-step
+returns-then-text-bytes-clause-step c =
     let xs = c.args.bytes.now in
-    let len = c.text_len-len.result in
-    let told = c.text_len-len.ensures in
+    let n = c.valid_up_to-text.result in
+    let told = c.valid_up_to-text.ensures in
     let within = told.within in
-    let front = length-take c.min.result xs in
-    let most : len ≤ c.min.result = omega arith in
-    text_step xs len _ (omega arith) (rw (take-take len c.min.result xs most) at told.text) c.starts_in.ensures
+    let part = length-take c.min.result xs in
+    let front : take n (take c.min.result xs) ≡ take n xs = take-take n c.min.result xs (omega arith) in
+    text_step xs n _ (omega arith) (rw front at told.text) (rw front at c.starts_in-starts.ensures)
+
+pub returns-clause-step : goal.returns-clause-step
+returns-clause-step c =
+    let xs = c.args.bytes.now in
+    let n = c.valid_up_to-text.result in
+    let told = c.valid_up_to-text.ensures in
+    let within = told.within in
+    let part = length-take c.min.result xs in
+    let front : take n (take c.min.result xs) ≡ take n xs = take-take n c.min.result xs (omega arith) in
+    text_and_piece xs n _ _ (omega arith) (rw front at told.text) (rw front at c.starts_in-starts.ensures) c.piece_step-piece.ensures.one (rw (take_rest xs n) at c.piece_step-piece.ensures.step)

@@ -1,5 +1,8 @@
-use Rattle.cuts.proofs.StepLemmas.{numbered}
+use Rattle.std.proofs.Common.{◌∙◌, Some, ap}
+use Rattle.cuts.proofs.StepLemmas.{numbered_in_step}
 use Rattle.cuts.proofs.runs.steps.offset_in_step.Goals as goal
 
-pub returns-then-is_text : goal.returns-then-is_text
-returns-then-is_text c = numbered c.args.bytes.now c.args.number _ (c.requires c.if-is_text.true) c.nth_start.ensures
+pub returns : goal.returns
+returns c =
+    let asked = c.requires in
+    ap Some c.unwrap_or.ensures ∙ numbered_in_step c.args.bytes.now c.args.text c.args.number c.nth_start.result asked.within asked.text asked.some asked.most c.nth_start.ensures

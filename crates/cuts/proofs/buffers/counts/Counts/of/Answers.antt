@@ -1,8 +1,9 @@
-use Rattle.std.proofs.Common.{◌≡◌, length, take, arith, refl, ap, ◌∙◌}
+use Rattle.std.proofs.Common.{◌≡◌, length, take, drop, arith, refl, ap, ◌∙◌}
 use Rattle.std.proofs.lemmas.List.{take_all, take_rest}
 use Rattle.encode_unicode.specs.Pieces.{pieces}
 use Rattle.cuts.specs.Counts.{counts_of}
 use Rattle.cuts.specs.ForwardRuns.{faulty_item_count}
+use Rattle.cuts.specs.PieceSteps.{IsPieceStep}
 use Rattle.cuts.proofs.CountLemmas.{same_counts}
 use Rattle.cuts.proofs.StepLemmas.{counted_few, counted_none, counted_on, faults_few, faults_none, faults_on}
 use Rattle.cuts.proofs.buffers.counts.Counts.of.Goals as goal
@@ -15,15 +16,15 @@ loop-place-preserved c =
     let xs = c.args.bytes.now in
     let place = c.loop-place.place in
     let (counted, faults) = c.loop-place.invariant in
-    let step = rw (take_rest xs place) at c.next_step-step.ensures.step in
-    (counted_on xs place c.loop-place.pieces counted _ step, faults_on xs place c.loop-place.pieces counted _ step c.loop-place.faults faults)
+    let step : IsPieceStep (drop place xs) c.next_step-step.result = rw (take_rest xs place) at c.next_step-step.ensures.step in
+    (counted_on xs place c.loop-place.pieces counted _ _ step.all, faults_on xs place c.loop-place.pieces counted _ _ step.all c.loop-place.faults _ faults step.faults)
 
 pub overflow_add-pieces : goal.overflow_add-pieces
 overflow_add-pieces c =
     let xs = c.args.bytes.now in
     let place = c.loop-place.place in
-    let step = rw (take_rest xs place) at c.next_step-step.ensures.step in
-    let few = counted_few xs _ _ (counted_on xs place c.loop-place.pieces c.loop-place.invariant.0 _ step) in
+    let step : IsPieceStep (drop place xs) c.next_step-step.result = rw (take_rest xs place) at c.next_step-step.ensures.step in
+    let few = counted_few xs _ _ (counted_on xs place c.loop-place.pieces c.loop-place.invariant.0 _ _ step.all) in
     omega arith
 
 pub overflow_add-faults : goal.overflow_add-faults

@@ -1,7 +1,7 @@
 use Rattle.std.proofs.Common.{◌≡◌, ◌-◌, length, take}
 use Rattle.encode_unicode.specs.Pieces.{pieces}
 use Rattle.cuts.specs.ForwardRuns.{faulty_item_count}
-use Rattle.cuts.proofs.StepLemmas.{IsCountedTo}
+use Rattle.cuts.specs.PieceSteps.{IsCountedTo}
 use Rattle.cuts.proofs.buffers.counts.Counts.of.Given as goal
 
 abbrev pub invariant-loop-place : goal.invariant-loop-place

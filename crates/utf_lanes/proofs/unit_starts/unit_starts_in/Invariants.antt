@@ -1,0 +1,6 @@
+use Rattle.std.proofs.Common.{◌≡◌}
+use Rattle.utf_lanes.specs.UnitStarts.{unit_start_count}
+use Rattle.utf_lanes.proofs.unit_starts.unit_starts_in.Given as goal
+
+abbrev pub invariant-loop-place : goal.invariant-loop-place
+invariant-loop-place l = l.starts ≡ unit_start_count l.units l.place

@@ -1,0 +1,26 @@
+-- Units that begin a piece: all but those that end a pair.
+use Rattle.std.specs.Prelude.{◌≡◌, ℕ, ◌-◌, ◌<◌, Bool, true, not, ◌&&◌, List, count_by, length, slice_index}
+use Rattle.std.specs.List.{range_with_len}
+use Rattle.utf_base.specs.Units.{is_leading_surrogate, is_trailing_surrogate}
+
+-- at how many of the places before this one it is true
+abbrev pub place_count : (ℕ → Bool) → ℕ → ℕ
+place_count is n = count_by is (range_with_len 0 n)
+
+-- a unit ends no pair with the one before it
+abbrev pub is_start_after : ℕ → ℕ → Bool
+is_start_after before unit = not (is_leading_surrogate before && is_trailing_surrogate unit)
+
+-- the unit at the place ends no pair; the first ends none, since no unit both begins a pair and ends one
+abbrev pub is_unit_start : List ℕ → ℕ → Bool
+is_unit_start us k = is_start_after (slice_index us (k - 1)) (slice_index us k)
+
+-- how many such units stand before the place
+abbrev pub unit_start_count : List ℕ → ℕ → ℕ
+unit_start_count us n = place_count (is_unit_start us) n
+
+-- such a unit stands at the place, and so many stand before it
+pub record IsUnitStartOf (us : List ℕ) (number place : ℕ) : Type 0 where
+  pub within : place < length us
+  pub start : is_unit_start us place ≡ true
+  pub before : unit_start_count us place ≡ number
