@@ -1,5 +1,5 @@
 // The calls of the package, over a module that node.js or web.js has loaded. index.d.ts says what they take and return.
-import { Codec, FEW, FORMS, INCOMPLETE, LOSSY, NONE, NO_BYTES, NO_PIECES, OK, REPLACE, ROOM, SEEN, STRICT, TOO_FEW, UTF16LE, UTF8, joined } from "./codec.js";
+import { Codec, FEW, FORMS, INCOMPLETE, MAXIMAL, NONE, NO_BYTES, NO_PIECES, OK, REPLACE, ROOM, SEEN, STRICT, TOO_FEW, UTF16LE, UTF8, joined } from "./codec.js";
 
 // Bytes whose pieces are asked for at once.
 const BLOCK = 4096;
@@ -78,13 +78,13 @@ function objectOf(options, example) {
 }
 
 // What options ask to do with invalid bytes. `fatal: true` is how TextDecoder says "strict".
-const WAYS = { replace: REPLACE, lossy: LOSSY, strict: STRICT };
+const WAYS = { replace: REPLACE, maximal: MAXIMAL, strict: STRICT };
 
 function wayOf(options = {}) {
     const { errors, fatal } = objectOf(options, "{ fatal: true }");
     if (errors === undefined) return fatal ? STRICT : REPLACE;
     const name = String(errors);
-    if (!Object.keys(WAYS).includes(name)) throw new RangeError(`noddychest: errors is "replace", "lossy" or "strict", and not ${name}`);
+    if (!Object.keys(WAYS).includes(name)) throw new RangeError(`noddychest: errors is "replace", "maximal" or "strict", and not ${name}`);
     if (fatal && WAYS[name] !== STRICT) throw new TypeError(`noddychest: fatal is the same as errors: "strict", and here errors is "${name}"`);
     return WAYS[name];
 }

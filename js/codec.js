@@ -21,7 +21,7 @@ export const MOST = 10 * 1024 * 1024;
 // A piece depends on no more bytes than these from its first on, or up to its last.
 export const SEEN = 4;
 // What a recoder does with invalid bytes: one U+FFFD for each; one for each maximal subpart; or it stops at the first one.
-export const [REPLACE, LOSSY, STRICT] = [0, 1, 2];
+export const [REPLACE, MAXIMAL, STRICT] = [0, 1, 2];
 const MODES = ["", "_lossy", "_strict"];
 // Pieces that are asked for at once where invalid bytes are rare.
 export const FEW = 32;

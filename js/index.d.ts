@@ -142,7 +142,7 @@ export interface RecodeOptions {
      * What to do with invalid bytes: put one U+FFFD, the replacement character, for each, which is what happens where nothing is given;
      * put one for each maximal subpart, as `TextDecoder` does; or throw a `FaultError` at the first one.
      */
-    errors?: "replace" | "lossy" | "strict";
+    errors?: "replace" | "maximal" | "strict";
     /** The same as `errors: "strict"`, by the name that `TextDecoder` has for it; false by default. */
     fatal?: boolean;
 }
@@ -181,7 +181,7 @@ export class Recoder {
     /** What the bytes that are still held become: call it once, after the last part. */
     finish(): Uint8Array;
     /**
-     * How many invalid bytes, or units, were replaced by U+FFFD so far: with `lossy` and `strict` it is 0. A U+FFFD in the input does
+     * How many invalid bytes, or units, were replaced by U+FFFD so far: with `maximal` and `strict` it is 0. A U+FFFD in the input does
      * not count. A number, not a BigInt: exact up to `Number.MAX_SAFE_INTEGER`.
      */
     readonly replaced: number;

@@ -23,7 +23,7 @@ const MOST = 10 * 1024 * 1024;
 // A piece depends on no more bytes than these from its first on, or up to its last.
 const SEEN = 4;
 // What a recoder does with invalid bytes: one U+FFFD for each; one for each maximal subpart; or it stops at the first one.
-const [REPLACE, LOSSY, STRICT] = [0, 1, 2];
+const [REPLACE, MAXIMAL, STRICT] = [0, 1, 2];
 const MODES = ["", "_lossy", "_strict"];
 // Pieces that are asked for at once where invalid bytes are rare.
 const FEW = 32;
@@ -571,13 +571,13 @@ function objectOf(options, example) {
 }
 
 // What options ask to do with invalid bytes. `fatal: true` is how TextDecoder says "strict".
-const WAYS = { replace: REPLACE, lossy: LOSSY, strict: STRICT };
+const WAYS = { replace: REPLACE, maximal: MAXIMAL, strict: STRICT };
 
 function wayOf(options = {}) {
     const { errors, fatal } = objectOf(options, "{ fatal: true }");
     if (errors === undefined) return fatal ? STRICT : REPLACE;
     const name = String(errors);
-    if (!Object.keys(WAYS).includes(name)) throw new RangeError(`noddychest: errors is "replace", "lossy" or "strict", and not ${name}`);
+    if (!Object.keys(WAYS).includes(name)) throw new RangeError(`noddychest: errors is "replace", "maximal" or "strict", and not ${name}`);
     if (fatal && WAYS[name] !== STRICT) throw new TypeError(`noddychest: fatal is the same as errors: "strict", and here errors is "${name}"`);
     return WAYS[name];
 }

@@ -23,7 +23,7 @@ static const struct {
     {"count", COUNT, run_count, "[--from ENCODING] [--quiet] [--json] [--jobs N] [FILE..]"},
     {"at", AT, NULL, "[--from ENCODING] [--json] FILE OFFSET"},
     {"recode", RECODE, run_recode,
-     "[--from ENCODING] [--to ENCODING] [--errors replace|lossy|strict] [--quiet] [--jobs N] [-o FILE] [FILE]\n"
+     "[--from ENCODING] [--to ENCODING] [--errors replace|maximal|strict] [--quiet] [--jobs N] [-o FILE] [FILE]\n"
      "       nody recode --in-place [OPTION..] FILE.."},
 };
 enum { COMMANDS = sizeof commands / sizeof *commands };
@@ -95,7 +95,7 @@ static bool is_number(const char *word, uint64_t least, uint64_t *number) {
 }
 
 static bool is_errors(const char *word, enum errors *errors) {
-    static const char *const names[] = {"replace", "lossy", "strict"};
+    static const char *const names[] = {"replace", "maximal", "strict"};
     for (int i = 0; i < 3; i++)
         if (strcmp(word, names[i]) == 0) {
             *errors = (enum errors)i;

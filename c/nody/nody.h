@@ -37,7 +37,7 @@ enum { MOST_HELD = 3, STRIDE = (BLOCK + 1) / 2 * 2, LEAD = MOST_HELD + 1, BLOCK_
 /* The status that the program ends with: the highest of all files. */
 enum status { IS_VALID = 0, IS_INVALID = 1, IS_WRONG = 2, HAS_FAILED = 3 };
 
-enum errors { REPLACE, LOSSY, STRICT };
+enum errors { REPLACE, MAXIMAL, STRICT };
 
 /* What the words of the command line ask for. */
 struct request {

@@ -18,7 +18,7 @@ static void replace_each(struct worker *worker, const uint8_t *bytes, size_t len
 }
 
 /* (a block ends where a maximal subpart ends: none goes on into the next) */
-static void replace_lossily(struct worker *worker, const uint8_t *bytes, size_t len) {
+static void replace_maximal(struct worker *worker, const uint8_t *bytes, size_t len) {
     nody_recoder_t recoder = nody_recoder(worker->block.form, worker->run->request->to);
     size_t read, written;
     nody_recoder_feed_lossy(&recoder, bytes, len, worker->made, worker->made_room, &read, &worker->made_len);
@@ -43,7 +43,7 @@ static void recode(struct worker *worker) {
     if (worker->has_failed) return;
     switch (worker->run->request->errors) {
     case REPLACE: replace_each(worker, bytes, len); break;
-    case LOSSY: replace_lossily(worker, bytes, len); break;
+    case MAXIMAL: replace_maximal(worker, bytes, len); break;
     case STRICT: recode_strictly(worker, bytes, len); break;
     }
 }

@@ -125,7 +125,7 @@ def places_of(pieces):
 def recoded(data, form, to, errors):
     """What recode writes, and where it stops."""
     pieces, name = pieces_of(data, form), to.replace("utf-16", "utf-16-")
-    if errors == "lossy":
+    if errors == "maximal":
         return data.decode(form.replace("utf-16", "utf-16-"), "replace").encode(name)
     if errors == "strict":
         pieces = pieces[: next((i for i, it in enumerate(pieces) if is_error(it)), len(pieces))]
@@ -226,7 +226,7 @@ def try_recode(program, given, shown, piped, data, form, reasons, words, chance)
     count = f"nody: {shown}: {len(wrong)} {noun(form, len(wrong))} became U+FFFD\n".encode() if wrong else b""
     got = run([*asked, given], piped)
     expect(got == (0, recoded(data, form, to, "replace"), count), f"recode {form} {to} of {data!r}: {got}")
-    says([*asked, "--errors", "lossy", given], 0, recoded(data, form, to, "lossy"), b"", piped)
+    says([*asked, "--errors", "maximal", given], 0, recoded(data, form, to, "maximal"), b"", piped)
     got = run([*asked, "--errors", "strict", given], piped)
     first = told.splitlines(True)[0] if wrong else b""
     expect(got == (status, recoded(data, form, to, "strict"), first), f"recode strictly {form} {to} of {data!r}: {got}")
@@ -264,7 +264,7 @@ def check_large(folder, program, reasons):
         for jobs in ([], ["--jobs", "1"], ["--jobs", "7"]):
             says([program, "check", "--from", form, *jobs, name], status, want, b"")
             says([program, "count", "--from", form, *jobs, name], *wanted_count(name, data, form, reasons), b"")
-            for errors in ("replace", "lossy"):
+            for errors in ("replace", "maximal"):
                 says([program, "recode", "--from", form, "--to", "utf-16be", "--errors", errors, "--quiet", *jobs, name], 0, recoded(data, form, "utf-16be", errors), b"")
         says([program, "check", "--from", form, "-"], status, want.replace(name.encode(), b"-"), b"", data)
         for offset in (0, 100, len(data) // 2, len(data) - 1):

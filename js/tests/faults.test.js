@@ -200,9 +200,9 @@ test("maximal subparts: as TextDecoder shows them, at once and in parts", () => 
         const encoding = FORMS[chance(3)];
         const bytes = (chance(2) ? damaged : units)(chance, chance(20));
         const want = shownBy(bytes, encoding);
-        assert.equal(Buffer.from(recode(bytes, encoding, "utf-8", { errors: "lossy" })).toString(), want, `${encoding} ${hexOf(bytes)}`);
-        assert.equal(decode(bytes, encoding, { errors: "lossy" }).text, want);
-        const recoder = new Recoder(encoding, "utf-8", { errors: "lossy" });
+        assert.equal(Buffer.from(recode(bytes, encoding, "utf-8", { errors: "maximal" })).toString(), want, `${encoding} ${hexOf(bytes)}`);
+        assert.equal(decode(bytes, encoding, { errors: "maximal" }).text, want);
+        const recoder = new Recoder(encoding, "utf-8", { errors: "maximal" });
         const parts = [];
         for (let at = 0, len; at < bytes.length; at += len) parts.push(recoder.feed(bytes.subarray(at, at + (len = 1 + chance(4)))));
         assert.equal(Buffer.concat([...parts, recoder.finish()]).toString(), want);
@@ -212,7 +212,7 @@ test("maximal subparts: as TextDecoder shows them, at once and in parts", () => 
 test("a string with the list of what was wrong", () => {
     assert.deepEqual(decode(ofHex("68c3a9e28241")), { text: "hé\ufffd\ufffdA", faults: [
         { offset: 3, length: 1, char: null, error: "InterruptedSequence" }, { offset: 4, length: 1, char: null, error: "UnexpectedContinuationByte" }] });
-    assert.equal(decode(ofHex("68c3a9e28241"), "utf-8", { errors: "lossy" }).text, "hé\ufffdA");
+    assert.equal(decode(ofHex("68c3a9e28241"), "utf-8", { errors: "maximal" }).text, "hé\ufffdA");
     assert.deepEqual(decode(ofHex("efbbbf41efbfbd")), { text: "\ufeffA\ufffd", faults: [] });
     assert.deepEqual(decode(ofHex("00dc4100"), "utf-16le").faults.map(told), [[0, 2, "UnexpectedTrailingSurrogate"]]);
     for (const options of [{ errors: "strict" }, { fatal: true }, { errors: "strict", fatal: true }]) {
@@ -231,7 +231,7 @@ test("a string with the list of what was wrong", () => {
 
 test("words for errors that are none", () => {
     for (const call of [(it) => recode(ofHex("41"), "utf8", "utf8", it), (it) => new Recoder("utf8", "utf8", it), (it) => decode(ofHex("41"), "utf8", it)]) {
-        for (const it of ["ignore", "", "STRICT", "toString", null, 1]) assert.throws(() => call({ errors: it }), { name: "RangeError", message: `noddychest: errors is "replace", "lossy" or "strict", and not ${it}` });
+        for (const it of ["ignore", "", "STRICT", "toString", null, 1]) assert.throws(() => call({ errors: it }), { name: "RangeError", message: `noddychest: errors is "replace", "maximal" or "strict", and not ${it}` });
         assert.throws(() => call({ errors: "replace", fatal: true }), { name: "TypeError", message: /fatal is the same as errors: "strict"/ });
     }
 });

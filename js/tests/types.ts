@@ -22,7 +22,7 @@ const offset: number | null = offsetOf(bytes, 3, "utf-16le");
 const changed: { start: number; end: number } = changedRange(bytes, 0, numberOf(bytes, offset ?? bytes.length));
 const mark: { encoding: Encoding; length: number } | null = encodingOfBom(bytes);
 const marked: Piece[] = [...pieces(bytes.subarray(mark?.length ?? 0, changed.start + changed.end), mark?.encoding ?? "utf-8")];
-const { text, faults: wrong }: { text: string; faults: Fault[] } = decode(bytes, "utf-8", { errors: "lossy" });
+const { text, faults: wrong }: { text: string; faults: Fault[] } = decode(bytes, "utf-8", { errors: "maximal" });
 export async function read(stream: ReadableStream<Uint8Array>): Promise<string> {
     let all = text + wrong.length + numbers.join();
     for await (const piece of streamPieces(stream)) all += piece.char ?? piece.error;

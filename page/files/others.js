@@ -1,6 +1,6 @@
 // What other decoders show for the same bytes. Browsers, Python and Rust's from_utf8_lossy replace each maximal subpart by one U+FFFD,
 // the bytes that could still have become a character; Go, and Noddychest, replace each invalid byte.
-import { LOSSY, OK, REPLACE, UTF16LE, joined } from "./codec.js";
+import { MAXIMAL, OK, REPLACE, UTF16LE, joined } from "./codec.js";
 
 // How many bytes before and after the chosen one are shown.
 const AROUND = 48;
@@ -11,7 +11,7 @@ const replacements = (text) => text.split("\ufffd").length - 1;
 
 // The text that decoders show by either rule, and how many U+FFFD each put in.
 export function others(codec, bytes, form = 0) {
-    const [singles, subparts] = [REPLACE, LOSSY].map((mode) => textOf(codec, bytes, form, mode));
+    const [singles, subparts] = [REPLACE, MAXIMAL].map((mode) => textOf(codec, bytes, form, mode));
     const [chunks, state] = [[], codec.newRecoder(form, UTF16LE)];
     codec.feed(state, bytes, chunks);
     codec.finish(state, chunks);
@@ -38,5 +38,5 @@ export function othersNear(codec, cut, at) {
     const edges = [place(0), place(Math.max(from, 0)), place(Math.max(to, 0)), place(shown.length)];
     const part = (i, mode) => textOf(codec, bytes.slice(edges[i], edges[i + 1]), form, mode);
     const told = (mode) => [0, 1, 2].map((i) => part(i, mode));
-    return { singles: told(REPLACE), subparts: told(LOSSY), isCut: [edges[0] > 0, edges[3] < len] };
+    return { singles: told(REPLACE), subparts: told(MAXIMAL), isCut: [edges[0] > 0, edges[3] < len] };
 }

@@ -1,5 +1,5 @@
 // Goes over text of any length, slice by slice: how many characters, lines and invalid bytes of each kind it has, and where these are.
-import { LOSSY, NONE, SEEN, UTF8 } from "./codec.js";
+import { MAXIMAL, NONE, SEEN, UTF8 } from "./codec.js";
 
 const SLICE = 1 << 22;
 const LF = 10;
@@ -35,8 +35,8 @@ class Subparts {
     // Recodes what was added. Each A is a byte of what comes of it.
     take(isLast) {
         const chunks = [];
-        this.codec.feed(this.state, this.room.subarray(0, this.length), chunks, { mode: LOSSY });
-        if (isLast) this.codec.finish(this.state, chunks, LOSSY);
+        this.codec.feed(this.state, this.room.subarray(0, this.length), chunks, { mode: MAXIMAL });
+        if (isLast) this.codec.finish(this.state, chunks, MAXIMAL);
         for (const it of chunks) this.count += it.length;
         this.length = 0;
     }

@@ -413,7 +413,7 @@ static PyObject *recoded_len(PyObject *module, PyObject *args) {
 
 /* What is done with faults: one U+FFFD for each, a stop at the first, or one U+FFFD for each maximal subpart. The numbers are those of
  * the package. */
-enum Errors { EACH, STRICT, LOSSY };
+enum Errors { EACH, STRICT, MAXIMAL };
 
 /* Bytes that are being recoded: the input, how far it was read, and what was made of it. */
 typedef struct {
@@ -453,7 +453,7 @@ static nody_status_t feed_part(Recoding *it, const uint8_t *in, size_t len, uint
     out += it->written;
     if (it->errors == STRICT)
         status = nody_recoder_feed_strict(&it->recoder, in, len, out, room, &read, &written, it->fault);
-    else if (it->errors == LOSSY)
+    else if (it->errors == MAXIMAL)
         status = nody_recoder_feed_lossy(&it->recoder, in, len, out, room, &read, &written);
     else
         status = nody_recoder_feed(&it->recoder, in, len, out, room, &read, &written);
@@ -480,7 +480,7 @@ static nody_status_t finish(Recoding *it) {
     nody_status_t status;
     if (it->errors == STRICT)
         status = nody_recoder_finish_strict(&it->recoder, out, room, &written, it->fault);
-    else if (it->errors == LOSSY)
+    else if (it->errors == MAXIMAL)
         status = nody_recoder_finish_lossy(&it->recoder, out, room, &written);
     else
         status = nody_recoder_finish(&it->recoder, out, room, &written);
@@ -504,7 +504,7 @@ static int take_errors(PyObject *number, void *into) {
     long errors = PyLong_AsLong(number);
     if (errors == -1 && PyErr_Occurred())
         return 0;
-    if (errors < EACH || errors > LOSSY) {
+    if (errors < EACH || errors > MAXIMAL) {
         PyErr_SetString(PyExc_ValueError, "no way with errors has this number");
         return 0;
     }

@@ -27,7 +27,7 @@ CALLS = [
     lambda data: pieces(data, "utf16be"),
     lambda data: Ends(data, "utf16be"),
     lambda data: recoded_len(data, "utf8", "utf16be"),
-    lambda data: recode(data, "utf8", "utf8", "lossy"),
+    lambda data: recode(data, "utf8", "utf8", "maximal"),
     lambda data: recode(data, "utf8", "utf16le"),
     lambda data: recode(data, "utf16le", "utf8", "strict"),
     Recoder("utf8", "utf8").feed,

@@ -56,7 +56,7 @@ class SameAsOne(OnWorkers):
                 found = nody_dask.check(self.client, self.path, form, size=size)
                 self.assertEqual({name: list(it.pieces()) for name, it in found.items()}, {self.path: wrong})
                 self.assertEqual(nody_dask.count(self.client, self.path, form, size=size), {self.path: counts})
-                for to, errors in zip(FORMS, ("replace", "lossy", "replace")):
+                for to, errors in zip(FORMS, ("replace", "maximal", "replace")):
                     made = nody_dask.recode(self.client, self.path, self.out, form, to, errors=errors, size=size)
                     self.assertEqual((self.read(), made.written), (recode(data, form, to, errors), os.path.getsize(self.out)))
 

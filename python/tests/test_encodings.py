@@ -371,16 +371,16 @@ class Marks(unittest.TestCase):
         self.assertRaises(TypeError, encoding_of_bom)
 
 
-class Lossy(unittest.TestCase):
+class Maximal(unittest.TestCase):
     def test_as_the_interpreter_replaces(self):
         for data in texts():
             for to, encoding in FORMS.items():
                 expected = data.decode("utf-8", "replace").encode(encoding)
-                self.assertEqual(recode(data, "utf8", to, "lossy"), expected, (data[:40], to))
-                self.assertEqual(recode(bytearray(data), "utf8", to, "lossy"), expected)
+                self.assertEqual(recode(data, "utf8", to, "maximal"), expected, (data[:40], to))
+                self.assertEqual(recode(bytearray(data), "utf8", to, "maximal"), expected)
             data = data[:len(data) // 2 * 2]
             for form in ("utf16le", "utf16be"):
-                self.assertEqual(recode(data, form, "utf8", "lossy"), data.decode(FORMS[form], "replace").encode())
+                self.assertEqual(recode(data, form, "utf8", "maximal"), data.decode(FORMS[form], "replace").encode())
 
 
 if __name__ == "__main__":

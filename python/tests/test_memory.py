@@ -42,7 +42,7 @@ class Peak(unittest.TestCase):
         return len(made), peak
 
     def check(self, data, form, to):
-        for work in (lambda: recode(data, form, to), lambda: recode(data, form, to, "lossy"), lambda: Recoder(form, to).feed(data)):
+        for work in (lambda: recode(data, form, to), lambda: recode(data, form, to, "maximal"), lambda: Recoder(form, to).feed(data)):
             made, peak = self.peak(work)
             self.assertLessEqual(peak, 1.1 * made + SPARE, (data[:12], len(data), form, to))
 

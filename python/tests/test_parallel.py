@@ -62,7 +62,7 @@ class SameAsOne(InFolder):
         self.assertEqual(list(parallel.check(source, form, jobs).pieces()), wrong)
         self.assertEqual(parallel.count(source, form, jobs), counts)
         for to in FORMS:
-            for errors in ("replace", "lossy"):
+            for errors in ("replace", "maximal"):
                 expected = recode(data, form, to, errors)
                 made = parallel.recode(source, self.out, form, to, jobs, errors=errors)
                 self.assertEqual(self.read(), expected)
@@ -227,7 +227,7 @@ class Interrupted(InFolder):
         data = mixed(3_000_000)
         self.write(data)
         self.small_shards(100_000, 4)
-        for errors in ("replace", "lossy"):
+        for errors in ("replace", "maximal"):
             with self.assertRaises(ZeroDivisionError):
                 parallel.recode(self.path, self.out, "utf8", "utf16le", 2, lambda done, _: 1 / (done < 2_000_000), errors=errors, resume=True)
         self.assertEqual(len(self.left()), 2)
@@ -236,7 +236,7 @@ class Interrupted(InFolder):
             with open(os.path.join(self.folder, it), "r+b") as file:
                 file.seek(size - 300_000)
                 file.write(bytes(300_000 + 77))
-        for errors in ("replace", "lossy"):
+        for errors in ("replace", "maximal"):
             seen = []
             parallel.recode(self.path, self.out, "utf8", "utf16le", 2, lambda done, _: seen.append(done), errors=errors, resume=True)
             self.assertEqual(self.read(), recode(data, "utf8", "utf16le", errors))

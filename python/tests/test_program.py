@@ -59,7 +59,7 @@ class Program(unittest.TestCase):
                 self.assertEqual(out.decode().splitlines(), expected)
 
     def test_recode(self):
-        for errors in ("replace", "lossy"):
+        for errors in ("replace", "maximal"):
             expected = recode(SAMPLE, "utf8", "utf16le", errors)
             self.assertEqual(ran("recode", "--from", "utf-8", "--to", "UTF-16LE", "--errors", errors, given=SAMPLE), (0, expected, ""))
         data = "é😀".encode() * 300_000

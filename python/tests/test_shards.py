@@ -56,7 +56,7 @@ class Joined(unittest.TestCase):
         self.assertEqual(all(map(is_valid, cut)), is_valid(data, form))
         self.assertEqual(next((it for it in map(first_fault, cut) if it), None), first_fault(data, form))
         for to in FORMS:
-            for errors in ("replace", "lossy"):
+            for errors in ("replace", "maximal"):
                 self.assertEqual(b"".join(recode(it, form, to, errors) for it in cut), recode(data, form, to, errors), (data, form, size))
             self.assertEqual(sum(recoded_len(it, form, to) for it in cut), recoded_len(data, form, to))
         self.assertEqual(self.strict(cut, form), [(it.offset, it.error) for it in wrong[:1]])

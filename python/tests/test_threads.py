@@ -136,9 +136,9 @@ class OneCallAtATime(unittest.TestCase):
 
 
 class Copies(unittest.TestCase):
-    def test_lossy_ones(self):
+    def test_maximal_ones(self):
         for way in self.ways():
-            recoder = Recoder("utf8", "utf8", "lossy")
+            recoder = Recoder("utf8", "utf8", "maximal")
             self.assertEqual(recoder.feed(b"a\xf0\x9f"), b"a")
             self.assertEqual((way(recoder).feed(b"\x98!"), way(recoder).feed(b"\x98\x80")), ("\ufffd!".encode(), "😀".encode()))
 
@@ -327,7 +327,7 @@ class ChangingBuffers(unittest.TestCase):
                 place, number, changed = offset_of(it, size // 3, form), number_of(it, size // 2, form), changed_range(it, 99_999, 100_007, form)
                 if not (place is None or 0 <= place <= size) or not 0 < number <= size or not changed[0] <= 99_999 < 100_007 <= changed[1]:
                     wrong.append((place, number, changed))
-                if not max(len(recode(it, form, to)), len(recode(it, form, to, "lossy")), recoded_len(it, form, to)) <= 3 * size + 9:
+                if not max(len(recode(it, form, to)), len(recode(it, form, to, "maximal")), recoded_len(it, form, to)) <= 3 * size + 9:
                     wrong.append((form, to))
                 if not all(piece.offset <= size and piece.error for piece in itertools.islice(faults(it, form), 1000)):
                     wrong.append(form)

@@ -39,7 +39,7 @@ def _arguments() -> argparse.ArgumentParser:
         it.add_argument("--encoding", type=_encoding, default="utf8", metavar="NAME", help="utf8, utf16le or utf16be")
     convert.add_argument("--from", dest="from_", type=_encoding, required=True, metavar="NAME", help="utf8, utf16le or utf16be")
     convert.add_argument("--to", type=_encoding, required=True, metavar="NAME")
-    convert.add_argument("--errors", choices=["replace", "strict", "lossy"], default="replace")
+    convert.add_argument("--errors", choices=["replace", "strict", "maximal"], default="replace")
     for it in (check, convert):
         it.add_argument("--jobs", type=_jobs, default=1, metavar="N", help="how many threads read at once (1)")
     convert.add_argument("-o", "--output", metavar="OUT", help="a file, which is replaced once all is written; --jobs needs it, and FILE")

@@ -12,13 +12,13 @@ if TYPE_CHECKING:
 
     from ._shards import Shard
 
-_ERRORS = {"replace": 0, "strict": 1, "lossy": 2}
+_ERRORS = {"replace": 0, "strict": 1, "maximal": 2}
 
 
 def _way(errors: str) -> int:
     found = _ERRORS.get(errors) if isinstance(errors, str) else None
     if found is None:
-        raise LookupError(f"unknown errors: {errors!r}; there are 'replace', 'strict' and 'lossy'")
+        raise LookupError(f"unknown errors: {errors!r}; there are 'replace', 'strict' and 'maximal'")
     return found
 
 
@@ -35,7 +35,7 @@ def recode(data: Union[ReadableBuffer, Shard], from_: str, to: str, errors: str 
     the other names that browsers take. (There `utf-16` is little-endian.) No byte order mark is looked for, and none is added.
 
     With `replace` each invalid byte becomes one U+FFFD, and so do each lone surrogate of UTF-16 and a single byte at its end. With
-    `strict` the first of them raises FaultError. With `lossy` one U+FFFD stands for each maximal subpart, which is one to three bytes
+    `strict` the first of them raises FaultError. With `maximal` one U+FFFD stands for each maximal subpart, which is one to three bytes
     that begin a character and do not end it, as browsers and Python's own codecs have it.
 
     Data may be a Shard: what comes of all shards, joined, is what comes of the whole.
@@ -44,7 +44,7 @@ def recode(data: Union[ReadableBuffer, Shard], from_: str, to: str, errors: str 
     b'\\x00n\\x00\\xe9'
     >>> recode(b"a\\xffb", "utf8", "utf8")
     b'a\\xef\\xbf\\xbdb'
-    >>> len(recode(b"\\xe2\\x82", "utf8", "utf16le")), len(recode(b"\\xe2\\x82", "utf8", "utf16le", "lossy"))
+    >>> len(recode(b"\\xe2\\x82", "utf8", "utf16le")), len(recode(b"\\xe2\\x82", "utf8", "utf16le", "maximal"))
     (4, 2)
     >>> recode(b"a\\xc0\\xaf", "UTF-8", "UTF-16LE", "strict")
     Traceback (most recent call last):
@@ -74,7 +74,7 @@ def recoded_len(data: Union[ReadableBuffer, Shard], from_: str, to: str) -> int:
 
 class Recoder:
     """Converts text that comes in parts. The output does not depend on how the input was divided into parts. With `strict` a part with
-    an invalid byte raises FaultError, once the reason is decided, and the recoder is as it was before. `lossy` is as in `recode`.
+    an invalid byte raises FaultError, once the reason is decided, and the recoder is as it was before. `maximal` is as in `recode`.
 
     A Recoder takes one call at a time. If another thread calls it meanwhile, that raises RuntimeError, and no input is lost. `copy.copy`
     and `pickle` make a recoder that goes on by itself from the same state.
@@ -118,5 +118,5 @@ class Recoder:
     @property
     def replaced(self) -> int:
         """How many invalid bytes (in UTF-16 lone surrogates, or single bytes at the end) were replaced by U+FFFD so far. With
-        `lossy` they are not counted."""
+        `maximal` they are not counted."""
         return self._recoder.replaced

@@ -113,7 +113,7 @@ class Recoded(NamedTuple):
     written: int
     """How many bytes came of them."""
     replaced: int
-    """How many faults became U+FFFD. With `lossy` they are not counted, and it is 0."""
+    """How many faults became U+FFFD. With `maximal` they are not counted, and it is 0."""
 
 
 # ---- sources ----
@@ -328,7 +328,7 @@ def taken(found: Iterator[Piece], offset: int, cut: int) -> Iterator[Piece]:
 
 
 def _cut(data: ReadableBuffer, at: int, form: int) -> int:
-    """The last place up to `at` where a shard may end: no character lies over it, and no row of invalid bytes that `lossy` makes one
+    """The last place up to `at` where a shard may end: no character lies over it, and no row of invalid bytes that `maximal` makes one
     U+FFFD. In UTF-8 such a row goes on with a byte from 80 to BF; and one that follows three others belongs to no character."""
     view = memoryview(data).cast("B")
     if form == 0:
@@ -344,7 +344,7 @@ def shards(source: Source, size: int, encoding: str = "utf8") -> list[Shard]:
     source: a path; a URL, with `://`, which fsspec opens; or any bytes-like object, which is not copied. size: about how many bytes each
     shard has, at least 1. encoding: the encoding of the source.
     Result: the shards in order; together they are the whole source. An empty source has none. A shard ends at most three bytes before a
-    multiple of `size`, where no character lies over it, and no row of invalid bytes that `lossy` makes one U+FFFD.
+    multiple of `size`, where no character lies over it, and no row of invalid bytes that `maximal` makes one U+FFFD.
     Errors: ValueError for a size below 1, OSError if the source is no regular file or cannot be read, ImportError for a URL without fsspec.
     Cost: it reads seven bytes for each shard.
 
