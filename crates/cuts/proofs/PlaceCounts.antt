@@ -1,9 +1,9 @@
 -- The pieces of a list, counted by the places at which one begins: those over which no code lies. Generic in the code.
-use Rattle.std.proofs.Common.{◌≡◌, ℕ, zero, suc, ◌+◌, ◌<◌, ◌≤◌, Bool, true, false, cond, List, length, get_or, map, arith, refl, ap, sym, ◌∙◌, subst, ⊎_elim, Some, None, Option, Result, Ok}
+use Rattle.std.proofs.Common.{◌≡◌, ℕ, zero, suc, ◌+◌, ◌<◌, ◌≤◌, Bool, true, false, cond, List, length, get_or, map, arith, refl, ap, sym, ◌∙◌, subst, ⊎_elim, Some, None, Option, Ok}
 use Rattle.std.proofs.lemmas.Bool.{cases_lt}
 use Rattle.std.proofs.lemmas.List.{get_or-map, length-map}
 use Rattle.std.proofs.lemmas.Option.{slice_get-get_or, slice_get_past}
-use Rattle.std.specs.Prelude.{MatchOption, option_map, slice_get}
+use Rattle.std.specs.Prelude.{option_map, slice_get}
 use Rattle.utf_base.specs.Code.{IsCode}
 use Rattle.utf_base.specs.Piece.{Inside, Piece, IsPieceAt}
 use Rattle.utf_base.proofs.Cuts.{Finds, piece_begins}

@@ -2,7 +2,6 @@
 use Rattle.std.proofs.Common.{◌≡◌, ℕ, ◌+◌, ◌-◌, ◌<◌, ◌≤◌, Bool, true, false, not, List, length, get_or, drop, arith, refl, ap, sym, ◌∙◌, ⊎_elim, Some, None, Option, true≢false, length-drop}
 use Rattle.std.proofs.lemmas.Bool.{cases_lt}
 use Rattle.std.proofs.lemmas.List.{get_or-drop}
-use Rattle.std.proofs.lemmas.List.Elements.{All-from_get_or}
 use Rattle.std.specs.Prelude.{MatchOption, ◌&&◌, option_map, slice_get}
 use Rattle.utf_base.specs.Code.{utf16}
 use Rattle.utf_base.specs.Piece.{Inside}

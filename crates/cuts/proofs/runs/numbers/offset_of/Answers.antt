@@ -1,4 +1,4 @@
-use Rattle.std.proofs.Common.{◌≡◌, ◌+◌, ◌-◌, take, drop, arith}
+use Rattle.std.proofs.Common.{◌≡◌, ◌+◌, ◌-◌, drop, arith}
 use Rattle.std.proofs.lemmas.List.{take_rest}
 use Rattle.cuts.specs.PieceSteps.{IsPieceStep}
 use Rattle.cuts.proofs.LookupLemmas.{number_within}

@@ -1,7 +1,5 @@
-use Rattle.std.proofs.Common.{◌≡◌, ◌≤◌, ◌<◌, length, length-take, take, drop, arith}
+use Rattle.std.proofs.Common.{◌≡◌, length-take, take, arith}
 use Rattle.std.proofs.lemmas.List.{take-take, take_rest}
-use Rattle.std.specs.Str.{IsUtf8}
-use Rattle.utf_lanes.specs.Starts.{start_count}
 use Rattle.cuts.proofs.StepLemmas.{ascii_step, text_and_piece, text_step}
 use Rattle.cuts.proofs.runs.steps.next_step.Goals as goal
 
