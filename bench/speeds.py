@@ -236,7 +236,7 @@ def replacements():
 
 
 EDITS = {"buffer: edit": "an edit of a `TextBuffer`", "buffer: piece": "the piece with a number", "buffer: number_of": "the number at an offset",
-         "buffer: line_of": "the line at an offset", "buffer: next_fault": "the next invalid byte", "table: edit": "an edit of a `PieceTable`",
+         "buffer: line_of": "the line at an offset", "buffer: next_fault": "the next error", "table: edit": "an edit of a `PieceTable`",
          "all decoded again": "decoding all again"}
 
 
