@@ -753,7 +753,8 @@ private:
 // A part is read as its range is gone through, once: a range that nobody goes through reads nothing. At each piece the decoder stands after
 // it: offset() is that of the next piece, and copy() goes on from there. So a loop may be left, by an exception too: what was not read is
 // the range's rest(). If the decoder is fed inside of such a loop, those bytes come after the piece at hand, and the rest of the part after
-// them. Decoder and part have to live as long as the range; a temporary of either, and a range that is dropped, do not compile.
+// them. Decoder and part have to live as long as the range: with a decoder or a std::string that is a temporary it does not compile, and of
+// a range that is dropped compilers warn.
 //
 // The kinds are those of pieces() of the whole but in one case, which noddychest.h tells at nody_decoder_feed.
 class decoder {
