@@ -10,7 +10,7 @@ from eraser import Eraser, Project  # noqa: E402
 from shape import Text  # noqa: E402
 from tokens import Stop, tokens  # noqa: E402
 from wide import widened  # noqa: E402
-from windows import by_bytes, by_front  # noqa: E402
+from windows import tested_once  # noqa: E402
 
 # What stops the eraser: why, the text, and where it stands if that matters.
 REFUSED = [
@@ -126,6 +126,8 @@ OVER_BYTES = [
     ("let text = self.as_str();\n    if text.is_empty() {}\n    f(text.as_bytes())\n", "let text = self.as_str_bytes();\n    if text.is_empty() {}\n    f(text)\n"),
     ("let text = self.as_str();\n    f(text.as_bytes(), text.len())\n", None),
     ("f([x[0], x[1], 0], [x[0], 0], [x[1], x[2]], [y[0], x[1]])\n", "f({ let x = &x[..2]; [x[0], x[1], 0] }, [x[0], 0], [x[1], x[2]], [y[0], x[1]])\n"),
+    ("while 2 * B <= x.len() - at.end && 8 <= y.room() {\n", "while 2 * B <= x.len() && at.end <= x.len() - 2 * B && 8 <= y.room() {\n"),
+    ("while 2 <= x.len() - 4 * place {\n    if 4 <= x.len() - place {}\n", None),
 ]
 
 # And in the copy for AVX2: what is put in line stays, and of each other function there is one for that processor.
@@ -176,7 +178,7 @@ def widens(text, wanted):
 
 def by(text, wanted, name="utf_chars/utf8_char.rt"):
     try:
-        have = by_front(by_bytes(text, name if "pub fn" in text or not text else "utf_base/a.rt"))
+        have = tested_once(text, name if "pub fn" in text or not text else "utf_base/a.rt")
     except Stop as stop:
         return None if "no function is as rules.BY_BYTES names" in str(stop) and not text else f"it says {stop}"
     return None if have == (text if wanted is None else wanted) and text else f"it writes {have!r}"

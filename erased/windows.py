@@ -91,6 +91,11 @@ def called(text, it):
     return names, f"::<{', '.join(generics)}>" if generics else ""
 
 
+def tested_once(text, name):
+    """An erased file, in which more than its clauses shows what needs no test."""
+    return by_rest(by_front(by_bytes(text, name)))
+
+
 def by_bytes(text, name):
     """An erased file. A function of `rules.BY_BYTES` stands there once more over bytes, and is called so where one of them is given another's text,
     or where that text is asked for its bytes and whether it is empty."""
@@ -110,3 +115,9 @@ def by_front(text):
         count = found[0].count(f"{found[1]}[")
         return found[0] if count == 1 else f"{{ let {found[1]} = &{found[1]}[..{count}]; {found[0]} }}"
     return re.sub(r"\[(\w+)\[0\](?:, \1\[\d\])*(?:, 0)*\]", fronted, text)
+
+
+def by_rest(text):
+    """An erased file. In the head of a loop `64 <= bytes.len() - place` becomes two comparisons, which say that the place is in the bytes too."""
+    left = re.compile(r"((?:\d+ \* )?\w+) <= (\w+)\.len\(\) - ((?:\w+\.)?\w+)\b(?! \*)")
+    return re.sub(r"while .*", lambda it: left.sub(r"\1 <= \2.len() && \3 <= \2.len() - \1", it[0]), text)
