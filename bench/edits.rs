@@ -97,25 +97,25 @@ fn measure(kib: usize) {
     const TURNS: usize = 10_000;
     let chance = &mut Chance(kib as u64);
     let bytes = chance.text(kib << 10);
-    let made = timed(5, || drop(black_box(TextBuffer::new(&bytes))));
+    let made = timed(5, || { black_box(TextBuffer::new(&bytes)); });
     let before = TAKEN.load(Relaxed);
     let text = std::cell::RefCell::new(TextBuffer::new(&bytes));
     let memory = TAKEN.load(Relaxed) - before;
     let len = || text.borrow().len();
-    say(kib, "buffer: edit", edits(TURNS, len, chance, |range, new| drop(text.borrow_mut().replace(range, new))));
+    say(kib, "buffer: edit", edits(TURNS, len, chance, |range, new| { black_box(text.borrow_mut().replace(range, new)); }));
     let text = text.into_inner();
     let (size, count) = (text.len(), text.counts().pieces);
-    say(kib, "buffer: piece", timed(TURNS, || drop(black_box(text.piece(chance.below(count))))));
-    say(kib, "buffer: number_of", timed(TURNS, || drop(black_box(text.number_of(chance.below(size))))));
-    say(kib, "buffer: line_of", timed(TURNS, || drop(black_box(text.line_of(chance.below(size))))));
-    say(kib, "buffer: next_fault", timed(TURNS, || drop(black_box(text.next_fault(chance.below(size))))));
+    say(kib, "buffer: piece", timed(TURNS, || { black_box(text.piece(chance.below(count))); }));
+    say(kib, "buffer: number_of", timed(TURNS, || { black_box(text.number_of(chance.below(size))); }));
+    say(kib, "buffer: line_of", timed(TURNS, || { black_box(text.line_of(chance.below(size))); }));
+    say(kib, "buffer: next_fault", timed(TURNS, || { black_box(text.next_fault(chance.below(size))); }));
     if kib <= 16_384 {
         let table = std::cell::RefCell::new(PieceTable::new(&bytes));
         let len = || table.borrow().bytes().len();
         let turns = if kib <= 1_024 { TURNS } else { 300 };
         say(kib, "table: edit", edits(turns, len, chance, |range, new| table.borrow_mut().replace(range, new)));
     }
-    say(kib, "all decoded again", timed(5, || drop(black_box(pieces(&bytes).filter(|it| it.char().is_none()).count()))));
+    say(kib, "all decoded again", timed(5, || { black_box(pieces(&bytes).filter(|it| it.char().is_none()).count()); }));
     println!("{kib:>8} buffer: made, ns a byte: {:.2}; memory for each byte: {:.2}", made.0 * 1e3 / bytes.len() as f64, memory as f64 / bytes.len() as f64);
 }
 
