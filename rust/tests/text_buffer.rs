@@ -96,6 +96,18 @@ fn several_chunks_are_edited() {
     (4..8).for_each(|seed| edited(seed, 20_000, 20, 9_000));
 }
 
+/// So many texts of each length as the environment says: `TEXTS=1000 cargo test --release --test text_buffer -- --ignored`.
+#[test]
+#[ignore = "it takes as long as it is asked to"]
+fn many_texts_are_edited() {
+    let texts: u64 = std::env::var("TEXTS").map_or(10, |it| it.parse().expect("TEXTS is a number"));
+    for seed in 1_000..1_000 + texts {
+        edited(seed, 24, 100, 6);
+        edited(seed, 300, 60, 40);
+        edited(seed, 5_000, 20, 3_000);
+    }
+}
+
 #[test]
 fn a_text_grows_from_nothing_and_goes_again() {
     let mut text = TextBuffer::default();
