@@ -16,7 +16,7 @@
 #define MAP_ANONYMOUS 0x20
 #endif
 
-enum { MOST = 12, MADE = 4 * MOST, ROOMS = 15, LONG = 200 };
+enum { MOST = 12, MADE = 4 * MOST, ROOMS = 15, SEVERAL_BLOCKS = 200 };
 
 /* UTF8-1 to UTF8-4, one row for each alternative. */
 static const struct {
@@ -618,9 +618,9 @@ static int are_counts(nody_form_t form, const uint8_t *in, size_t len) {
 /* Text with faults, as rare as it may be, and as long as two blocks and more. */
 static void long_inputs(unsigned long count) {
     while (count-- > 0) {
-        uint16_t units[LONG];
+        uint16_t units[SEVERAL_BLOCKS];
         uint32_t rare = 1 + below(60);
-        size_t len = below(LONG);
+        size_t len = below(SEVERAL_BLOCKS);
         at_end = (int)(count % 2);
         uint8_t *in = fenced_bytes(in_fence, len, at_end);
         for (size_t i = 0; i < len; i++) in[i] = below(rare) ? 0x41 : NAMED[below(sizeof NAMED)];
