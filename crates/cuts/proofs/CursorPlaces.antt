@@ -5,7 +5,7 @@ use Rattle.std.proofs.lemmas.List.{append-nil, drop_all, get_or-map, length-map,
 use Rattle.std.specs.List.{splice}
 use Rattle.std.specs.Prelude.{Contains, slice_range}
 use Rattle.utf_base.specs.Code.{utf8}
-use Rattle.utf_base.specs.Piece.{Inside, Piece, IsPiece, IsPieceAt}
+use Rattle.utf_base.specs.Piece.{Inside, IsPiece, IsPieceAt}
 use Rattle.utf_base.proofs.CutChanges.{piece_ends_outside}
 use Rattle.utf_base.proofs.Cuts.{piece_some}
 use Rattle.utf_base.proofs.Utf8Code.{utf8_is_code}

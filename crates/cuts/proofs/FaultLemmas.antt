@@ -1,5 +1,5 @@
 -- Lists of faults: what a character and a fault at the front leave of them, and what text does.
-use Rattle.std.proofs.Common.{◌≡◌, ℕ, zero, suc, ◌+◌, ◌-◌, ◌<◌, ◌≤◌, Bool, true, false, List, [], ◌∷◌, ◌++◌, length, length-append, length-drop, length-set, filter, is_err, map, min, set, take, drop, cond, Result, Ok, Err, arith, refl, ap, subst, sym, ◌∙◌, append_assoc}
+use Rattle.std.proofs.Common.{◌≡◌, ℕ, zero, suc, ◌+◌, ◌<◌, ◌≤◌, Bool, true, false, List, [], ◌∷◌, ◌++◌, length, length-append, length-drop, length-set, filter, is_err, map, min, set, take, drop, cond, Result, Ok, Err, arith, refl, ap, subst, sym, ◌∙◌, append_assoc}
 use Rattle.std.proofs.Math.Seq.{drop-append_seam, take-append_seam}
 use Rattle.std.proofs.lemmas.List.{drop-drop, drop-set-lt, drop_all, map-append, take_more_set, take_rest}
 use Rattle.std.proofs.lemmas.List.Sums.{length-filter}

@@ -1,14 +1,14 @@
 -- Steps of a decoder: one piece of what is held, the rest of a part, and the end.
-use Rattle.std.proofs.Common.{◌≡◌, ℕ, ◌+◌, ◌-◌, ◌<◌, ◌≤◌, ⊎_elim, List, [], ◌∷◌, ◌++◌, length, take, drop, map, set, arith, refl, ap, sym, subst, ◌∙◌, append_assoc, length-append, length-drop, length-set, length-take}
+use Rattle.std.proofs.Common.{◌≡◌, ℕ, ◌+◌, ◌-◌, ◌<◌, ◌≤◌, ⊎_elim, List, [], ◌∷◌, ◌++◌, length, take, drop, map, arith, refl, ap, sym, subst, ◌∙◌, append_assoc, length-append, length-drop, length-take}
 use Rattle.std.proofs.lemmas.Bool.{cases_lt}
-use Rattle.std.proofs.lemmas.List.{append-nil, drop-append-le, drop_all, drop-drop, drop-set-lt, map-append, take_all, take-append-drop, take_more_set}
+use Rattle.std.proofs.lemmas.List.{append-nil, drop-append-le, drop_all, drop-drop, map-append, take_all, take-append-drop}
 use Rattle.std.proofs.Math.ListN.{drop_of_length-le}
 use Rattle.std.proofs.Math.Seq.{drop-append-add}
 use Rattle.recoding.specs.declared.form.Form.{Form}
 use Rattle.cuts.specs.declared.located.LocatedPiece.{LocatedPiece}
 use Rattle.cuts.specs.declared.located.Spot.{Spot}
 use Rattle.cuts.specs.Located.{Begins, Decoding, FeedsKept, FeedsRest, FinishesKept, IsOpen, KeepsEach, Locates, PutsKept, Told, WritesPlaces, WritesPieces, at_offset, first_told, located, wrapped}
-use Rattle.cuts.proofs.LocatedLemmas.{Begins-before, Locates-none, Locates-one, Locates-then, first_some, located_first}
+use Rattle.cuts.proofs.LocatedLemmas.{Begins-before, Locates-none, Locates-one, Locates-then, located_first}
 
 -- without n elements at the front
 drop_both : (n : ℕ) (xs ys : List ℕ) → drop n (xs ++ ys) ≡ drop n xs ++ drop (n - length xs) ys

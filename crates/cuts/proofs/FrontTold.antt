@@ -1,6 +1,5 @@
 -- The piece that begins some bytes, from what a decoding of them answers.
-use Rattle.std.proofs.Common.{◌≡◌, ◌≢◌, ℕ, ◌+◌, ◌*◌, ◌<◌, ◌≤◌, ⊎_elim, Bool, eqb, true, false, List, [], ◌∷◌, ◌++◌, length, get_or, drop, flat_map, min, Option, Some, None, Result, Ok, Err, arith, refl, ap, sym, ◌∙◌, append_assoc, length-append}
-use Rattle.std.proofs.lemmas.Bool.{cases_lt}
+use Rattle.std.proofs.Common.{◌≡◌, ◌≢◌, ℕ, ◌*◌, ◌<◌, ◌≤◌, Bool, eqb, true, false, List, [], ◌∷◌, ◌++◌, length, drop, flat_map, min, Option, Some, None, Result, Ok, Err, arith, refl, ap, sym, ◌∙◌, append_assoc, length-append}
 use Rattle.std.proofs.lemmas.Grind.{common_steps}
 use Rattle.std.proofs.lemmas.List.{append-nil}
 use Rattle.std.specs.Option.{option_map}
@@ -13,16 +12,15 @@ use Rattle.utf_base.specs.Units.{is_leading_surrogate, is_trailing_surrogate, un
 use Rattle.utf_base.specs.declared.errors.Utf8ErrorKind.{Utf8ErrorKind}
 use Rattle.utf_base.specs.declared.errors.Utf8ErrorKind.TheVariants.{TooFewBytes, InterruptedSequence}
 use Rattle.utf_base.specs.declared.errors.units.Utf16PairError.{Utf16PairError}
-use Rattle.utf_base.specs.declared.errors.units.Utf16PairError.TheVariants.{Incomplete, UnexpectedTrailingSurrogate, UnmatchedLeadingSurrogate}
-use Rattle.utf_base.proofs.LaterLemmas.{few_where_too_few}
+use Rattle.utf_base.specs.declared.errors.units.Utf16PairError.TheVariants.{Incomplete}
 use Rattle.utf_base.proofs.Utf8Code.{length_utf8, utf8_is_code}
 use Rattle.utf_lanes.specs.BytePairs.{bytes_of, units_of}
 use Rattle.encode_unicode.proofs.ForCallers.{decoded_pairs_code, decoded_pairs_kind, some_units, stands_first}
 use Rattle.encode_unicode.specs.Mergers.{decoded_by_merger}
 use Rattle.encode_unicode.specs.Window.{as_piece}
-use Rattle.recoding.specs.NextScalars.{HasByteOrder, fault_len}
+use Rattle.recoding.specs.NextScalars.{HasByteOrder}
 use Rattle.recoding.specs.Recoded.{written}
-use Rattle.recoding.specs.Strict.{AwaitsKind, BeginsFault, kind_of, lacking}
+use Rattle.recoding.specs.Strict.{BeginsFault, kind_of}
 use Rattle.recoding.specs.declared.faults.FaultKind.{FaultKind}
 use Rattle.recoding.specs.declared.faults.FaultKind.TheVariants as kind
 use Rattle.recoding.specs.declared.form.Form.{Form}

@@ -1,5 +1,5 @@
 -- What is written of pieces that are given: of text no fault, and of each fault itself.
-use Rattle.std.proofs.Common.{◌≡◌, ℕ, suc, ◌+◌, ◌*◌, ◌%◌, ◌^◌, ◌<◌, ◌≤◌, true, false, Bool, List, [], ◌∷◌, ◌++◌, length, get_or, take, drop, filter, flat_map, is_err, map, Result, Ok, Err, arith, refl, ap, sym, subst, ◌∙◌, append_assoc, length-append, length-drop, length-take, take-append-drop, Fits, w8, IsUtf8}
+use Rattle.std.proofs.Common.{◌≡◌, ℕ, suc, ◌+◌, ◌*◌, ◌^◌, ◌<◌, ◌≤◌, true, Bool, List, [], ◌∷◌, ◌++◌, length, get_or, take, drop, flat_map, is_err, Ok, Err, arith, refl, ap, sym, subst, ◌∙◌, append_assoc, length-append, length-drop, length-take, take-append-drop, Fits, w8, IsUtf8}
 use Rattle.std.proofs.Math.Seq.{drop-append_seam}
 use Rattle.std.proofs.lemmas.List.{drop-drop}
 use Rattle.std.specs.Prelude.{All}
@@ -10,13 +10,12 @@ use Rattle.utf_lanes.specs.UnitBlocks.{AreCodes}
 use Rattle.recoding.specs.FirstFaults.{IsTextAndHeld}
 use Rattle.recoding.specs.NextScalars.{HasByteOrder}
 use Rattle.recoding.specs.Recoded.{written}
-use Rattle.recoding.specs.declared.faults.FaultKind.{FaultKind}
 use Rattle.recoding.specs.declared.form.Form.{Form}
 use Rattle.recoding.specs.declared.form.Form.TheVariants.{Utf8}
 use Rattle.recoding.proofs.CopiedUnits.{coded_bytes, front_fits}
 use Rattle.cuts.specs.declared.located.LocatedPiece.{LocatedPiece}
 use Rattle.cuts.specs.declared.located.Spot.{Spot}
-use Rattle.cuts.specs.Located.{Begins, BeginsSomeFault, BeginsKept, BeginsSome, IsKept, KeepsEach, Locates, PutsKept, Told, WritesPlaces, at_offset, faults_alone, wrapped}
+use Rattle.cuts.specs.Located.{BeginsSomeFault, BeginsKept, Locates, PutsKept, Told, at_offset, faults_alone, wrapped}
 use Rattle.cuts.proofs.FrontTold.{code_begins}
 use Rattle.cuts.proofs.LocatedLemmas.{Locates-none, Locates-one, Locates-then, WritesPlaces-none}
 

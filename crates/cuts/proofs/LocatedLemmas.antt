@@ -1,7 +1,5 @@
 -- The list of located pieces: its first piece, what decides of it, and runs over bytes that put pieces into a room.
-use Rattle.std.proofs.Common.{◌≡◌, ℕ, zero, suc, ◌+◌, ◌-◌, ◌*◌, ◌<◌, ◌≤◌, ⊎_elim, List, [], ◌∷◌, ◌++◌, get_or, length, take, drop, map, min, arith, refl, ap, sym, subst, ◌∙◌, append_assoc, length-append, length-drop, length-set, true, false, set, Bool, Result, Ok, Err}
-use Rattle.std.proofs.lemmas.Bool.{cases_lt}
-use Rattle.std.proofs.lemmas.Grind.{common_steps}
+use Rattle.std.proofs.Common.{◌≡◌, ℕ, zero, suc, ◌+◌, ◌-◌, ◌<◌, ◌≤◌, List, [], ◌∷◌, ◌++◌, get_or, length, take, drop, map, arith, refl, ap, sym, subst, ◌∙◌, append_assoc, length-append, length-drop, length-set, true, false, set, Bool, Result, Ok, Err}
 use Rattle.std.proofs.lemmas.List.{append-nil, drop-append-le, drop-drop, drop-set-lt, get_or-drop, get_or-take, length-take-le, map-append, take_more_set, take-append-drop}
 use Rattle.std.specs.Prelude.{slice_range}
 use Rattle.utf_base.specs.Code.{utf8}

@@ -1,5 +1,5 @@
 -- The laws of located pieces.
-use Rattle.std.proofs.Common.{◌≡◌, ℕ, zero, suc, ◌+◌, ◌<◌, ◌≤◌, ⊎_elim, List, [], ◌∷◌, ◌++◌, length, drop, map, Result, Ok, Err, arith, refl, ap, ap₂, sym, subst, ◌∙◌, append_assoc, length-append, get_or}
+use Rattle.std.proofs.Common.{◌≡◌, ℕ, zero, suc, ◌+◌, ◌<◌, ◌≤◌, ⊎_elim, List, [], ◌∷◌, ◌++◌, length, drop, map, Result, Ok, Err, arith, refl, ap, ap₂, sym, ◌∙◌, append_assoc, length-append, get_or}
 use Rattle.std.proofs.lemmas.Bool.{cases_lt}
 use Rattle.std.proofs.lemmas.List.{append-nil, get_or-append-add, get_or_append_left, nil_from_length}
 use Rattle.std.specs.List.{concat}
@@ -9,11 +9,10 @@ use Rattle.encode_unicode.specs.Pieces.{pieces_by}
 use Rattle.encode_unicode.specs.Window.{as_piece}
 use Rattle.recoding.specs.declared.faults.FaultKind.{FaultKind}
 use Rattle.recoding.specs.declared.faults.FaultKind.TheVariants as kind
-use Rattle.recoding.specs.declared.form.Form.{Form}
 use Rattle.recoding.specs.declared.form.Form.TheVariants.{Utf8}
 use Rattle.cuts.specs.declared.located.LocatedPiece.{LocatedPiece}
-use Rattle.cuts.specs.Located.{Decoding, IsOpen, Locates, Told, at_offset, first_told, located, located_by, told_as, wrapped}
-use Rattle.cuts.specs.LocatedLaws.{GivesParts, LocatedAreMerged, NoPieceComesEarlier, PartsAreLocated}
+use Rattle.cuts.specs.Located.{at_offset, first_told, located, located_by, told_as, wrapped}
+use Rattle.cuts.specs.LocatedLaws.{LocatedAreMerged, NoPieceComesEarlier, PartsAreLocated}
 use Rattle.cuts.proofs.LocatedLemmas.{located_first, located_none}
 
 -- A merger's answers.

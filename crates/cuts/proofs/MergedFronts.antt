@@ -1,5 +1,5 @@
 -- What a merger answers first for some bytes, whatever follows them, and where it has to wait for those.
-use Rattle.std.proofs.Common.{◌≡◌, ◌≢◌, ℕ, suc, ◌+◌, ◌<◌, ◌≤◌, ⊎_elim, List, [], ◌∷◌, ◌++◌, length, get_or, Option, Some, None, Ok, Err, arith, refl, ap, sym, ◌∙◌, length-append, true, false, Bool, add-zero, ltb, leb, not, ◌||◌}
+use Rattle.std.proofs.Common.{◌≡◌, ◌≢◌, ℕ, ◌<◌, ◌≤◌, ⊎_elim, List, [], ◌∷◌, ◌++◌, length, get_or, Option, Some, None, Ok, Err, arith, refl, ap, sym, ◌∙◌, length-append, true, false, Bool, add-zero, ltb, leb, not, ◌||◌}
 use Rattle.std.proofs.lemmas.Bool.{cases_lt}
 use Rattle.std.proofs.Math.Bool.{or-false}
 use Rattle.std.proofs.lemmas.Grind.{common_steps}

@@ -1,9 +1,9 @@
 -- What is counted in each shard adds up to what is counted in the whole.
-use Rattle.std.proofs.Common.{◌≡◌, ℕ, zero, suc, ◌+◌, ◌-◌, ◌<◌, ◌≤◌, Bool, true, cond, ltb, List, [], ◌∷◌, ◌++◌, length, get_or, map, take, drop, arith, refl, ap, ap₂, sym, ◌∙◌, Option, Result, Ok, Err, lt-ltb, length-append, take-append-drop}
+use Rattle.std.proofs.Common.{◌≡◌, ℕ, suc, ◌+◌, ◌-◌, ◌<◌, ◌≤◌, Bool, true, cond, ltb, List, [], ◌∷◌, ◌++◌, length, get_or, map, drop, arith, refl, ap, ap₂, sym, ◌∙◌, Option, Result, Ok, Err, lt-ltb, length-append, take-append-drop}
 use Rattle.std.proofs.lemmas.Grind.{common_steps}
 use Rattle.std.proofs.lemmas.List.{drop-drop, get_or-map, length-map, take_rest}
 use Rattle.std.proofs.lemmas.List.Sums.{sum_by-append, sum_by-cons}
-use Rattle.std.specs.List.{count_by, sum_by}
+use Rattle.std.specs.List.{count_by}
 use Rattle.std.specs.Result.{result_ok}
 use Rattle.std.specs.Prelude.{All, filter, is_err, is_none, nat_eq, slice_range}
 use Rattle.utf_base.specs.Code.{IsCode, utf8}

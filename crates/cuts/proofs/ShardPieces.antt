@@ -1,20 +1,20 @@
 -- The cut of a shard is that part of the whole cut that lies in it, and so is its run where it is given with some elements after it.
-use Rattle.std.proofs.Common.{◌≡◌, ℕ, zero, suc, ◌+◌, ◌-◌, ◌<◌, ◌≤◌, ⊎_elim, Bool, true, false, cond, ltb, List, [], ◌∷◌, ◌++◌, length, length-drop, get_or, map, take, take_all, drop, arith, refl, ap, ap₂, sym, subst, ◌∙◌, inl, inr, lit<, Option, Some, None, Result, Ok, Err, ltb-true, lt-ltb}
+use Rattle.std.proofs.Common.{◌≡◌, ℕ, zero, suc, ◌+◌, ◌-◌, ◌<◌, ◌≤◌, Bool, true, false, cond, ltb, List, [], ◌∷◌, ◌++◌, length, length-drop, get_or, map, take, take_all, drop, arith, refl, ap, ap₂, sym, subst, ◌∙◌, inl, inr, Option, Some, None, Result, Ok, Err, ltb-true, lt-ltb}
 use Rattle.std.proofs.lemmas.Bool.{cases_lt, cond_both}
 use Rattle.std.proofs.lemmas.Grind.{common_steps}
 use Rattle.std.proofs.lemmas.List.{drop-drop, drop-take, get_or-map, length-map, take_rest}
-use Rattle.std.proofs.lemmas.List.Elements.{All-append, All-cons, All-filter, All-map, All-nil, filter-append, filter_passes}
+use Rattle.std.proofs.lemmas.List.Elements.{All-append, All-filter, All-map, filter-append, filter_passes}
 use Rattle.std.proofs.lemmas.List.Kept.{AllPairs-filter}
-use Rattle.std.specs.Prelude.{All, AllPairs, Contains, filter, is_err, slice_range}
+use Rattle.std.specs.Prelude.{All, Contains, filter, is_err, slice_range}
 use Rattle.utf_base.specs.Code.{IsCode, utf8}
 use Rattle.utf_base.specs.Kinds.{fault_kind}
 use Rattle.utf_base.proofs.KindLemmas.{four_bytes_decide}
 use Rattle.utf_base.proofs.Utf8Code.{utf8_is_code}
 use Rattle.encode_unicode.specs.Pieces.{pieces}
-use Rattle.utf_base.specs.Piece.{Stands, Covered, Inside, IsCut, IsCutBetween, IsPiece, IsPieceAt, Piece}
+use Rattle.utf_base.specs.Piece.{Covered, Inside, IsCutBetween, IsPiece, IsPieceAt, Piece}
 use Rattle.utf_base.proofs.Cuts.{cut_append, cut_is_unique}
 use Rattle.utf_base.proofs.Standing.{outside_end, outside_front, stands_in_part, stands_in_whole}
-use Rattle.cuts.specs.Items.{Placed, piece_of, HasKind, IsRun, IsRunBetween}
+use Rattle.cuts.specs.Items.{Placed, piece_of, HasKind, IsRun}
 use Rattle.cuts.specs.ShardRuns.{AreOutside, ShardItemsJoin, ShardPiecesJoin, faults, joined_items, moved, shard_items}
 use Rattle.cuts.proofs.ForwardRuns.{pieces_are_the_run}
 use Rattle.cuts.proofs.RunLaws.{run_unique}

@@ -27,3 +27,7 @@ pub record IsCleanRow (sums : List Counts) (number bytes : ℕ) : Type 0 where
   pub some : row < length sums
   pub long : (d : Counts) → bytes ≡ (slice_index_or sums row d).bytes
   pub clean : (d : Counts) → (slice_index_or sums row d).faults ≡ 0
+
+-- no row whose sum is known begins with that chunk and has no fault
+abbrev pub HasNoCleanRow : List Counts → ℕ → Type 0
+HasNoCleanRow sums number = (bytes : ℕ) → ¬ (IsCleanRow sums number bytes)

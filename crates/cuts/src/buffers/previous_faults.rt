@@ -2,7 +2,7 @@
 ghost use Rattle.std.specs.List.{concat};
 ghost use Rattle.std.specs.Prelude.{◌≡◌, ◌-◌, ◌^◌, ◌<◌, ◌≤◌, IfSome, MatchOption, length};
 ghost use Rattle.cuts.specs.Chunks.{EndOutside};
-ghost use Rattle.cuts.specs.Rows.{AreSums, IsCleanRow};
+ghost use Rattle.cuts.specs.Rows.{AreSums, HasNoCleanRow, IsCleanRow};
 ghost use Rattle.cuts.specs.TextLookups.{HasNoFaultBefore, IsPreviousFault};
 
 use crate::boundaries::ceil;
@@ -40,7 +40,8 @@ pub fn fault_before<A: Allocator>(chunks: &[Chunk<A>], sums: &[Counts], at: usiz
 
 // How many bytes the row has that ends before this chunk, where one does and has no fault.
 fn clean_row_before(sums: &[Counts], number: usize) -> Option<usize>
-    ensures row { IfSome result (λ bytes. IsCleanRow sums.now (number - 256) bytes) }
+    ensures row { MatchOption result (256 ≤ number → HasNoCleanRow sums.now (number - 256))
+        (IsCleanRow sums.now (number - 256)) }
     ensures some { IfSome result (λ bytes. 256 ≤ number) }
 {
     if number < ROW {

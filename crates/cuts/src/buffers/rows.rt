@@ -1,13 +1,13 @@
 //! Rows of 256 chunks, of each of which is known what it counts: so a search goes over rows, and then over the chunks of
 //! one of them.
 ghost use Rattle.std.specs.List.{concat};
-ghost use Rattle.std.specs.Prelude.{◌≡◌, ◌+◌, ◌*◌, ◌^◌, ◌<◌, ◌≤◌, IfSome, length, slice_index_or, slice_set, take};
+ghost use Rattle.std.specs.Prelude.{◌≡◌, ◌+◌, ◌-◌, ◌*◌, ◌/◌, ◌^◌, ◌<◌, ◌≤◌, IfOk, MatchOption, length, slice_index_or, slice_set, take};
 ghost use Rattle.cuts.specs.Chunks.{EndOutside, IsSpot};
 ghost use Rattle.cuts.specs.declared.buffers.counts.Counts.{Counts as ItsCounts};
 ghost use Rattle.cuts.specs.Counts.{exchange_of, AreAmong, IsSmall};
 ghost use Rattle.cuts.specs.Measures.{measure_of};
 ghost use Rattle.cuts.specs.RowEdits.{WereExchanged};
-ghost use Rattle.cuts.specs.Rows.{AreSums, AreSumsBut, IsMark, IsCleanRow};
+ghost use Rattle.cuts.specs.Rows.{AreSums, AreSumsBut, HasNoCleanRow, IsMark, IsCleanRow};
 
 use crate::buffers::chunk::Chunk;
 use crate::buffers::counts::{Counts, Measure};
@@ -78,7 +78,7 @@ pub fn mark_at<A: Allocator>(chunks: &[Chunk<A>], sums: &[Counts], at: usize) ->
 
 // How many bytes the row has that begins with this chunk, where one does and has no fault.
 pub fn clean_row(sums: &[Counts], number: usize) -> Option<usize>
-    ensures { IfSome result (IsCleanRow sums.now number) }
+    ensures { MatchOption result (HasNoCleanRow sums.now number) (IsCleanRow sums.now number) }
 {
     if number % ROW != 0 || sums.len() <= number / ROW {
         return None;
@@ -98,7 +98,8 @@ pub fn sum_rows<A: Allocator>(
     requires ends { EndOutside chunks.now }
     requires fits { length (concat chunks.now) < 2 ^ 64 }
     requires sums { AreSums chunks.now sums.old.items }
-    ensures { AreSums chunks.now sums.new.items }
+    ensures sums { AreSums chunks.now sums.new.items }
+    ensures all { IfOk result (λ _. length sums.new.items ≡ length chunks.now / 256) }
 {
     for row in sums.len()..chunks.len() / ROW {
         sums.push(total(&chunks[row * ROW..(row + 1) * ROW]))?;
@@ -118,7 +119,8 @@ pub fn renew_sums<A: Allocator>(
     come: Counts,
 )
     requires { WereExchanged chunks.now sums.old.items first last count gone come }
-    ensures { AreSums chunks.now sums.new.items }
+    ensures sums { AreSums chunks.now sums.new.items }
+    ensures many { count ≡ last - first → length sums.new.items ≡ length sums.old.items }
 {
     let row = first / ROW;
     if count == last - first && last <= (row + 1) * ROW {
@@ -138,7 +140,8 @@ fn renew_rows<A: Allocator>(chunks: &[Chunk<A>], sums: &mut Vec<Counts, A>, from
     requires ends { EndOutside chunks.now }
     requires fits { length (concat chunks.now) < 2 ^ 64 }
     requires others { AreSumsBut chunks.now sums.old.items from to }
-    ensures { AreSums chunks.now sums.new.items }
+    ensures sums { AreSums chunks.now sums.new.items }
+    ensures many { length sums.new.items ≡ length sums.old.items }
 {
     let mut row = from;
     while row < to && row < sums.len() {

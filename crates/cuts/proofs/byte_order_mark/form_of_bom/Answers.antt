@@ -1,4 +1,3 @@
-use Rattle.std.proofs.Common.{[], ◌∷◌}
 use Rattle.recoding.specs.declared.form.Form.TheVariants.{Utf8, Utf16Le, Utf16Be}
 use Rattle.cuts.proofs.MarkLemmas.{begins, begins_not, has_no_mark, utf8_mark, utf16le_mark, utf16be_mark}
 use Rattle.cuts.proofs.byte_order_mark.form_of_bom.Goals as goal

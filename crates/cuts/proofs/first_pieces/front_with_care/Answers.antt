@@ -1,4 +1,4 @@
-use Rattle.std.proofs.Common.{◌∙◌, sym}
+use Rattle.std.proofs.Common.{◌∙◌}
 use Rattle.cuts.proofs.FrontTold.{char_begins, kind_begins}
 use Rattle.cuts.proofs.first_pieces.front_with_care.Goals as goal
 

@@ -1,4 +1,4 @@
-use Rattle.std.proofs.Common.{◌∙◌, sym, ap, [], ◌++◌}
+use Rattle.std.proofs.Common.{◌∙◌, sym, ap, []}
 use Rattle.std.proofs.lemmas.List.{append-nil}
 use Rattle.cuts.specs.Located.{first_told}
 use Rattle.cuts.proofs.first_pieces.last_front.Goals as goal

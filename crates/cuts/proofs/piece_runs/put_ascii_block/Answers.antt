@@ -1,6 +1,5 @@
-use Rattle.std.proofs.Common.{◌<◌, arith, length, Ok}
-use Rattle.utf_base.specs.Kinds.{asked}
-use Rattle.cuts.proofs.LocatedLemmas.{Puts-none, Puts-one, ascii_begins}
+use Rattle.std.proofs.Common.{arith}
+use Rattle.cuts.proofs.LocatedLemmas.{Puts-one, ascii_begins}
 use Rattle.cuts.proofs.piece_runs.put_ascii_block.Goals as goal
 
 pub loop-count-preserved : goal.loop-count-preserved

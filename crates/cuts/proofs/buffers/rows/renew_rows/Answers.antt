@@ -1,4 +1,5 @@
-use Rattle.std.proofs.Common.{◌≡◌, ◌+◌, ◌*◌, refl, arith}
+use Rattle.std.proofs.Common.{◌≡◌, ◌+◌, ◌*◌, ◌∙◌, refl, arith}
+use Rattle.std.proofs.lemmas.List.{length-set}
 use Rattle.cuts.proofs.RowLemmas.{ends_between, part_len, sums_renewed}
 use Rattle.cuts.proofs.buffers.rows.renew_rows.Goals as goal
 
@@ -14,4 +15,5 @@ loop-row-preserved g c =
     let first : row * 256 ≡ 256 * row = omega arith in
     let last : (row + 1) * 256 ≡ 256 * row + 256 = omega arith in
     let sum = rw (first, last) at c.total.ensures in
-    sums_renewed c.args.chunks.now c.loop-row.sums.items _ row c.args.to c.total.result c.loop-row.invariant (omega (arith, c.if-row-len.true)) sum refl
+    let (are, many) = c.loop-row.invariant in
+    (sums_renewed c.args.chunks.now c.loop-row.sums.items _ row c.args.to c.total.result are (omega (arith, c.if-row-len.true)) sum refl, length-set c.loop-row.sums.items row c.total.result ∙ many)

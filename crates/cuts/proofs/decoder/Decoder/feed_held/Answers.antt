@@ -1,6 +1,6 @@
-use Rattle.std.proofs.Common.{◌≡◌, ◌∙◌, ◌+◌, ◌<◌, ◌++◌, ap, ap₂, sym, subst, arith, length, map, take, drop, length-drop}
+use Rattle.std.proofs.Common.{◌∙◌, ◌<◌, ◌++◌, ap, ap₂, sym, subst, arith, length, take, drop, length-drop}
 use Rattle.std.proofs.lemmas.List.{take_rest}
-use Rattle.cuts.specs.Located.{Begins, Decoding, WritesPlaces, at_offset, told_of}
+use Rattle.cuts.specs.Located.{Begins, Decoding, told_of}
 use Rattle.cuts.proofs.FedPieces.{FeedsKept-all, FeedsKept-none, FeedsKept-one, IsOpen-as, all_joined, joined_begin}
 use Rattle.cuts.proofs.decoder.Decoder.feed_held.Goals as goal
 

@@ -1,4 +1,3 @@
-use Rattle.std.proofs.Common.{◌∙◌, ap, arith, sym}
 use Rattle.std.proofs.lemmas.List.{take_rest}
 use Rattle.cuts.proofs.FedPieces.{FeedsRest-full, FeedsRest-held}
 use Rattle.cuts.proofs.decoder.Decoder.feed_rest.Goals as goal

@@ -1,5 +1,5 @@
-use Rattle.std.proofs.Common.{◌≡◌, ◌∙◌, ◌<◌, ◌≤◌, ap, ap₂, sym, arith, length, length-drop}
-use Rattle.cuts.specs.Located.{Decoding, Told, at_offset, first_told, told_of}
+use Rattle.std.proofs.Common.{◌∙◌, ◌<◌, ◌≤◌, ap, ap₂, arith, length, length-drop}
+use Rattle.cuts.specs.Located.{Decoding, Told, first_told, told_of}
 use Rattle.cuts.proofs.FedPieces.{FinishesKept-none, FinishesKept-one}
 use Rattle.cuts.proofs.LocatedLemmas.{first_some}
 use Rattle.cuts.proofs.decoder.Decoder.finish_kept.Goals as goal

@@ -1,4 +1,4 @@
-use Rattle.std.proofs.Common.{◌≤◌, ap, arith, length, drop}
+use Rattle.std.proofs.Common.{◌≤◌, arith, length, drop}
 use Rattle.std.proofs.lemmas.List.{take_rest}
 use Rattle.cuts.proofs.KeptPieces.{PutsKept-text}
 use Rattle.cuts.proofs.piece_runs.FaultsAloneKept.put_text.Goals as goal

@@ -1,4 +1,4 @@
-use Rattle.std.proofs.Common.{length, arith}
+use Rattle.std.proofs.Common.{arith}
 use Rattle.cuts.proofs.CursorPlaces.{begins_at, ends_between_pieces}
 use Rattle.cuts.proofs.buffers.cursor.TextCursor.next.Goals as goal
 
