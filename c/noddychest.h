@@ -21,8 +21,8 @@
  *                  nody_decoder_feed_faults, nody_decoder_finish_faults: the faults alone
  *     words        nody_kind_name, nody_kind_sentence
  *     library      nody_version, nody_supported, nody_lanes
- *     rarely       nody_shard_end (nody_boundary_before under another name), nody_utf8_streamed_at, nody_utf8_next_inline (nody_utf8_next
- *                  as a macro)
+ *     rarely       nody_shard_end (nody_boundary_before under another name), nody_utf8_streamed_at, nody_utf8_first_inline and
+ *                  nody_utf8_next_inline (nody_utf8_first and nody_utf8_next as macros)
  *
  * WORDS.
  *     character    a Unicode scalar value: 0 to 10FFFF, without D800 to DFFF
@@ -220,6 +220,24 @@ typedef struct {
  */
 nody_piece_t nody_utf8_first(const uint8_t *bytes, size_t len);
 nody_piece_t nody_utf16_first(const uint16_t *units, size_t len);
+
+/* nody_utf8_first for an ASCII character is in line, without a call: nody_utf8_first is a macro too, from C99 and C++11 on. It takes
+ * each argument once, and answers what the function answers. `(nody_utf8_first)(bytes, len)` calls the function, and a pointer to
+ * nody_utf8_first is one to that.
+ *
+ * bytes, len: the input. Result, errors, cost: as for nody_utf8_first.
+ */
+static inline nody_piece_t nody_utf8_first_inline(const uint8_t *bytes, size_t len) {
+    nody_piece_t piece;
+    if (len == 0 || bytes[0] >= 0x80) return nody_utf8_first(bytes, len);
+    piece.len = 1;
+    piece.scalar = bytes[0];
+    piece.kind = NODY_KIND_OK;
+    return piece;
+}
+#if (defined(__STDC_VERSION__) && __STDC_VERSION__ >= 199901L) || (defined(__cplusplus) && __cplusplus >= 201103L)
+#define nody_utf8_first(...) nody_utf8_first_inline(__VA_ARGS__)
+#endif
 
 /* The last piece of some bytes, or units.
  *

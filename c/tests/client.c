@@ -113,6 +113,7 @@ static void scalars(void) {
             expect(len == 0 && count == 0, "a number that is no scalar");
         } else {
             expect(alike(nody_utf8_first(code, len), byte_piece) && alike(nody_utf8_last(code, len), byte_piece), "a scalar in UTF-8");
+            expect(alike((nody_utf8_first)(code, len), byte_piece), "a scalar in UTF-8, by a call");
             expect(alike(nody_utf16_first(units, count), unit_piece) && alike(nody_utf16_last(units, count), unit_piece), "a scalar in UTF-16");
         }
     }
@@ -174,6 +175,7 @@ static void nothing(void) {
     nody_recoder_t recoder = nody_recoder(NODY_FORM_UTF8, NODY_FORM_UTF16LE), none = nody_recoder(3, 0);
     size_t read = 7, written = 7;
     expect(nody_utf8_first(NULL, 0).kind == NODY_KIND_NONE && nody_utf8_last(NULL, 0).kind == NODY_KIND_NONE, "no bytes");
+    expect((nody_utf8_first)(NULL, 0).kind == NODY_KIND_NONE, "no bytes, by a call");
     expect(nody_utf16_first(NULL, 0).kind == NODY_KIND_NONE && nody_utf16_last(NULL, 0).kind == NODY_KIND_NONE, "no units");
     expect(nody_utf8_next(&left).kind == NODY_KIND_NONE && nody_utf8_next_back(&left).kind == NODY_KIND_NONE, "a cursor over no bytes");
     expect(nody_utf16_next(&left_units).kind == NODY_KIND_NONE && nody_utf16_next_back(&left_units).kind == NODY_KIND_NONE, "a cursor over no units");
@@ -553,6 +555,7 @@ static void take_one(const uint8_t *bytes, const uint16_t *units, size_t len) {
     const nody_name_t *name;
     const nody_sentence_t *sentence;
     nody_piece_t first = nody_utf8_first(bytes, len), last = nody_utf16_last(units, len);
+    (nody_utf8_first)(bytes, len);
     nody_utf8_last(bytes, len);
     nody_utf16_first(units, len);
     nody_utf8_encode(first.scalar, made, sizeof made);

@@ -531,6 +531,8 @@ static int are_changes(nody_form_t form, const uint8_t *in, size_t len, const cu
     return 1;
 }
 
+static int alike(nody_piece_t a, nody_piece_t b) { return a.scalar == b.scalar && a.kind == b.kind && a.len == b.len; }
+
 static int are_pieces(const uint8_t *in, size_t len, const cut_text *pieces) {
     nody_bytes_t front = nody_bytes(in, len), back = front;
     nody_piece_t all[MOST];
@@ -540,12 +542,13 @@ static int are_pieces(const uint8_t *in, size_t len, const cut_text *pieces) {
     for (size_t i = 0; i < pieces->count; i++) {
         const cut_piece *it = &pieces->piece[i], *last = &pieces->piece[pieces->count - 1 - i];
         nody_bytes_t called = front;
+        nody_piece_t first = nody_utf8_first(front.bytes, front.len), first_by_call = (nody_utf8_first)(front.bytes, front.len);
         nody_piece_t by_call = (nody_utf8_next)(&called), next = nody_utf8_next(&front), end = nody_utf8_next_back(&back), here = nody_utf8_streamed_at(in, len, it->start);
         if (next.len != it->len || (next.kind != NODY_KIND_OK) != it->is_fault || next.scalar != (it->is_fault ? 0 : it->scalar)) return 0;
         if (all[i].len != it->len || all[i].kind != next.kind || all[i].scalar != next.scalar) return 0;
         if (end.len != last->len || end.scalar != (last->is_fault ? 0 : last->scalar)) return 0;
         if (here.len != next.len || here.scalar != next.scalar) return 0;
-        if (by_call.len != next.len || by_call.scalar != next.scalar || by_call.kind != next.kind) return 0;
+        if (!alike(by_call, next) || !alike(first, next) || !alike(first_by_call, next)) return 0;
         if (called.bytes != front.bytes || called.len != front.len) return 0;
     }
     return front.len == 0 && back.len == 0;
