@@ -61,8 +61,8 @@
  * UTF-16 in bytes, the form tells the byte order.
  *
  * COST. "Constant": the call looks at a few bytes, whatever the length. "Linear": the time grows with the length of the input,
- * which is read once. "In blocks" is faster than "unit by unit" or "character by character". c/README.md says how many machine
- * instructions a byte takes.
+ * which is read once. "In blocks" is faster than one character after another. c/README.md says how many machine instructions a byte
+ * takes.
  */
 #ifndef NODDYCHEST_H
 #define NODDYCHEST_H
