@@ -94,7 +94,7 @@ $(IN)/noddychest.o: generated/noddychest-x86_64$(SYSTEM).s generated/noddychest-
 	read processor <"$(BUILD)/target" && $(TEXT) generated/noddychest-$$processor$(SYSTEM).s "$(BUILD)/noddychest.s" && \
 	$(ASSEMBLE) "$@" "$(BUILD)/noddychest.s"
 
-# The calls that validate and recode, for x86-64-v3 (for ARM an empty file, which no library gets).
+# The calls that validate, count and recode, for x86-64-v3 (for ARM an empty file, which no library gets).
 $(IN)/noddychest-v3.o: generated/noddychest-x86_64$(SYSTEM)-v3.s $(IN)/jumps
 	read processor <"$(BUILD)/target" && case $$processor in \
 	x86_64) $(TEXT) generated/noddychest-x86_64$(SYSTEM)-v3.s "$(BUILD)/noddychest-v3.s" && $(ASSEMBLE) "$@" "$(BUILD)/noddychest-v3.s" ;; \

@@ -6,7 +6,8 @@
  * from call to call is in structs of yours, which you may copy. Calls on different structs may run in different threads at the same
  * time.
  *
- * CALLS. A call that begins with nody_utf8_ has a twin for units that begins with nody_utf16_; nody_utf8_streamed_at has none.
+ * CALLS. A call that begins with nody_utf8_ has a twin for units that begins with nody_utf16_; nody_utf8_streamed_at,
+ * nody_utf8_first_inline and nody_utf8_next_inline have none.
  *     valid?       nody_utf8_valid_up_to, nody_utf16_bytes_valid_up_to
  *     one piece    nody_utf8_first, nody_utf8_last, nody_utf8_encode
  *     all pieces   nody_bytes or nody_units, then nody_utf8_next, nody_utf8_next_back, nody_utf8_pieces; nody_utf8_char_count
@@ -21,8 +22,9 @@
  *                  nody_decoder_feed_faults, nody_decoder_finish_faults: the faults alone
  *     words        nody_kind_name, nody_kind_sentence
  *     library      nody_version, nody_supported, nody_lanes
- *     rarely       nody_shard_end (nody_boundary_before under another name), nody_utf8_streamed_at, nody_utf8_first_inline and
- *                  nody_utf8_next_inline (nody_utf8_first and nody_utf8_next as macros)
+ *     rarely       nody_shard_end (nody_boundary_before under another name), nody_utf8_streamed_at; nody_utf8_first_inline and
+ *                  nody_utf8_next_inline (what nody_utf8_first and nody_utf8_next are as macros); for languages that call C
+ *                  nody_put_kind_name, nody_put_kind_sentence
  *
  * WORDS.
  *     character    a Unicode scalar value: 0 to 10FFFF, without D800 to DFFF
@@ -60,8 +62,8 @@
  * UTF-16 in bytes, the form tells the byte order.
  *
  * COST. "Constant": the call looks at a few bytes, whatever the length. "Linear": the time grows with the length of the input,
- * which is read once. "In blocks" is faster than "unit by unit" or "character by character". c/README.md says how many machine
- * instructions a byte takes.
+ * which is read once. "In blocks" is faster than one character after another. c/README.md says how many machine instructions a byte
+ * takes.
  */
 #ifndef NODDYCHEST_H
 #define NODDYCHEST_H
@@ -283,8 +285,7 @@ size_t nody_utf16_valid_up_to(const uint16_t *units, size_t len);
  * form: the form. UTF-8 is allowed too, in spite of the name of the call. bytes, len: the input.
  * Result: the offset in bytes of the first fault, or len if all of the input is valid. A single byte at the end of UTF-16 is a
  * fault.
- * Errors: SIZE_MAX if the form is above 2. So compare by `!= len`: `< len` would take SIZE_MAX for valid. Cost: linear; UTF-16 is
- * read unit by unit.
+ * Errors: SIZE_MAX if the form is above 2. So compare by `!= len`: `< len` would take SIZE_MAX for valid. Cost: linear, in blocks.
  *
  *     if (nody_utf16_bytes_valid_up_to(NODY_FORM_UTF16BE, bytes, len) != len) return invalid();
  */
@@ -779,8 +780,8 @@ nody_decoder_t nody_decoder(nody_form_t form);
 nody_status_t nody_decoder_feed(nody_decoder_t *decoder, const uint8_t *in, size_t in_len, nody_located_t *out, size_t room,
                                 size_t *read, size_t *written);
 
-/* Ends the input: gives the pieces of what the decoder holds. These are faults, of the kind NODY_KIND_TOO_FEW_BYTES or, in UTF-16,
- * NODY_KIND_INCOMPLETE, and continuation bytes after the first one.
+/* Ends the input: gives the pieces of what the decoder holds. These are faults. In UTF-8 the first one has the kind
+ * NODY_KIND_TOO_FEW_BYTES, and those after it NODY_KIND_UNEXPECTED_CONTINUATION_BYTE. In UTF-16 all have NODY_KIND_INCOMPLETE.
  *
  * decoder: the decoder. Its offset goes on from the end of the input. For other input make another decoder.
  * out, room, written: as for nody_decoder_feed. Room for three pieces is always enough.

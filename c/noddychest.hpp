@@ -13,6 +13,7 @@
 //     recode       recode, recode_strict, to_utf8, to_utf16, recoded_len
 //     in parts     recoder; decoder: the pieces, or the faults alone, with their offsets
 //     words        name, sentence
+//     library      supported, version
 //
 // BYTES. Text in bytes is taken as nody::bytes, which is made of a std::string_view, a std::string, a literal, and in C++20 of a
 // std::u8string_view and a std::span of std::byte, of char or of unsigned char. Like a view it holds nothing: what it shows has to live as
@@ -71,7 +72,7 @@ enum class form : std::uint8_t {
 // Whether a call that fills a room wrote all.
 enum class status : std::uint8_t {
     done = NODY_STATUS_DONE,   // all of the input was read, and what comes of it written
-    full = NODY_STATUS_FULL,   // the next character does not fit
+    full = NODY_STATUS_FULL,   // the next character, or piece, does not fit
     refused = NODY_STATUS_REFUSED, // a form is none of enum form
     fault = NODY_STATUS_FAULT, // a strict call stopped at a fault
 };

@@ -14,7 +14,7 @@ try:
 except ImportError:  # before setuptools 70.1
     from wheel.bdist_wheel import bdist_wheel
 
-# (on x86-64 the calls that validate and recode are there twice, and processor.c chooses)
+# (on x86-64 the calls that validate, count and recode are there twice, and processor.c chooses)
 ASSEMBLY = {
     "linux-x86_64": ["noddychest-x86_64.s", "noddychest-x86_64-v3.s"],
     "linux-aarch64": ["noddychest-aarch64.s"],

@@ -7,7 +7,7 @@ from noddychest import LIBRARY, Recoder
 
 
 class IncrementalDecoder(codecs.IncrementalDecoder):
-    """Decodes UTF-8 in parts; each faulty byte is one U+FFFD, whatever `errors` says."""
+    """Decodes UTF-8 in parts; each invalid byte is one U+FFFD, whatever `errors` says."""
 
     def __init__(self, errors="strict"):
         super().__init__(errors)

@@ -1,4 +1,4 @@
-/* Whether the calls that validate and recode take the code that is right for this processor: lanes [16|32]. Without the number
+/* Whether the calls that validate, count and recode take the code that is right for this processor: lanes [16|32]. Without the number
  * it asks the compiler's own library what the processor has. It makes each of these calls before the library has asked the
  * processor, when they take the code that runs everywhere, and again in main; a shared library has asked before either. Prints
  * what failed, and then `N passed, M failed`. */

@@ -1,6 +1,6 @@
 //! Both ends of the decoder of a slice, compared.
 //!
-//! `next_back` of the Rust crate has two slips, which docs/DIFFERENCES.md lists. They are mended before the
+//! `next_back` of the Rust crate has two bugs, which docs/DIFFERENCES.md lists. They are mended before the
 //! answers are compared, and the walks that have one are counted.
 
 use crate::inputs::{self, Random, FROM_BACK};

@@ -11,7 +11,7 @@ use core::ops::Range;
 
 /// A text that is edited, of which it is known at any time how many characters, invalid bytes and lines it has.
 ///
-/// The bytes are kept in chunks of some kilobytes. An edit changes one or two of them; no other byte is read or moved. Take a
+/// The bytes are kept in chunks of some kilobytes. An edit of a few bytes changes one or two of them; no other byte is read or moved. Take a
 /// [`PieceTable`](crate::PieceTable) for a short text of which all pieces are wanted at once.
 ///
 /// ```

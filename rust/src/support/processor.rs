@@ -64,7 +64,7 @@ extern "C" fn supported() -> i32 {
     1
 }
 
-/// How many lanes the calls go by that validate and recode.
+/// How many lanes the calls go by that validate, count and recode.
 #[cfg(feature = "c")]
 #[export_name = "nody_lanes"]
 extern "C" fn lanes() -> i32 {
