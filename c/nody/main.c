@@ -108,7 +108,9 @@ static bool is_errors(const char *word, enum errors *errors) {
 static bool takes_value(struct request *request, int option, const char *value) {
     uint64_t number;
     switch (option) {
-    case 'f': return (request->is_by_bom = strcmp(value, "bom") == 0) || form_of_label(value, &request->from);
+    case 'f':
+        request->is_by_bom = strcmp(value, "bom") == 0;
+        return form_of_label(request->is_by_bom ? "utf-8" : value, &request->from);
     case 't': return form_of_label(value, &request->to);
     case 'e': return is_errors(value, &request->errors);
     case 'm': return is_number(value, 1, &request->most);

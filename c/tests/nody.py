@@ -318,6 +318,7 @@ def check_marks(program):
         says([program, "check", "--from", "bom"], 0, f"-: valid {form}\n".encode(), b"", mark + text)
         says([program, "recode", "--from=bom", "--to", "UTF-8"], 0, "é€\n".encode(), b"", mark + text)
         says([program, "recode", "--from=bom", "--to", "unicodeFFFE"], 0, "é€\n".encode("utf-16-be"), b"", mark + text)
+    says([program, "recode", "--from=utf-16", "--from=bom"], 0, "é\n".encode(), b"", "é\n".encode())
     for data in (b"", b"\xef", b"\xff", b"\xef\xbb"):
         says([program, "recode", "--from=bom", "-q"], 0, b"\xef\xbf\xbd" * len(data), b"", data)
     labels = {"utf-8": "utf8 UTF-8 unicode-1-1-utf-8 unicode11utf8 unicode20utf8 x-unicode20utf8", "utf-16-le": "csunicode iso-10646-ucs-2 ucs-2 unicode unicodefeff utf-16 utf-16le UTF16LE",
