@@ -137,13 +137,10 @@ static const char *name_of_option(int option) {
     return options[i].name;
 }
 
-/* Takes the options; false where one is wrong, which is then said. */
+/* Takes the options; false where one is wrong, which is then said: by getopt_long, where there is no such option, or a value is missing. */
 static bool takes_options(struct request *request, int which, int argc, char **argv) {
-    for (int option; (option = getopt_long(argc, argv, ":o:qh", options, NULL)) != -1;) {
-        if (option == '?' || option == ':') {
-            fprintf(stderr, "nody: %s: %s\n", argv[optind - 1], option == '?' ? "there is no such option" : "the option needs a value");
-            return false;
-        }
+    for (int option; (option = getopt_long(argc, argv, "o:qh", options, NULL)) != -1;) {
+        if (option == '?') return false;
         if (!(takers_of(option) & commands[which].bit)) {
             fprintf(stderr, "nody: %s does not take --%s\n", commands[which].name, name_of_option(option));
             return false;

@@ -335,6 +335,9 @@ def check_words(program, name):
                   ["recode", "--errors", "ignore"], ["recode", "--in-place"], ["recode", "--in-place", "-"], ["recode", "--in-place", "-o", "x", name],
                   ["recode", name, name], ["at", name], ["at", name, "0", "0"], ["check", "--follow", name, name], ["check", "-x"], ["check", "--jobs", "0"], ["recode", "--json"]):
         says([program, *words], 2, b"", b"usage: nody ")
+    for words, want in ((["-zq"], b"'?z'?"), (["--none"], b"--none"), (["--quiet=3"], b"quiet"), (["--max"], b"max")):
+        told = run([program, "check", *words])
+        expect(told[0] == 2 and re.search(want, told[2].split(b"\n")[0]), f"{words}: {told}")
     for words in ([], ["chek"], ["-q"]):
         says([program, *words], 2, b"", b"usage: nody check|list")
     for offset in ("", "x", "1x", "0x", "-1", "99999999999999999999"):
