@@ -147,7 +147,7 @@ static bool takes_options(struct request *request, int which, int argc, char **a
         }
         if (option == 'h') {
             show_help(which);
-            exit(IS_VALID);
+            exit(fflush(stdout) == 0 ? IS_VALID : HAS_FAILED);
         }
         if (!optarg) take_flag(request, option);
         else if (!takes_value(request, option, optarg)) {

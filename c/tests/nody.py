@@ -366,6 +366,8 @@ def check_failures(folder, program):
         with open("/dev/full", "wb") as full:
             ran = subprocess.run([program, *words], stdout=full, stderr=subprocess.PIPE)
         expect((ran.returncode, ran.stderr) == (3, b"nody: cannot write: No space left on device\n"), f"{words} to a full device: {ran}")
+        with open("/dev/full", "wb") as full:
+            expect(subprocess.run([program, words[0], "--help"], stdout=full).returncode == 3, f"the help of {words[0]} to a full device")
         reader, writer = os.pipe()
         os.close(reader)
         ran = subprocess.run([program, *words], stdout=writer, stderr=subprocess.PIPE)
