@@ -518,6 +518,8 @@ def check_changed(folder, program):
     env = dict(os.environ, LD_PRELOAD=shared)
     says([program, "check", "--jobs", "1", name], 3, None, b"it became shorter while it was read", env=dict(env, BETWEEN=f"truncate -s 10 {name}"))
     says([program, "recode", "--jobs", "1", "--in-place", name], 3, None, b"it changed while it was read", env=dict(env, BETWEEN=f"echo >>{name}"))
+    says([program, "recode", "--jobs", "1", "--in-place", name], 3, None, b"it changed while it was read", env=dict(env, BETWEEN=f"printf new 1<>{name}"))
+    expect(contents(name)[:3] == b"new", "in place, where another program wrote as many bytes at once")
     says([program, "check", "--jobs", "1", name], 0, None, b"", env=dict(env, BETWEEN=f"rm {name}"))
 
 
