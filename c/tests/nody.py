@@ -606,6 +606,23 @@ def check_follow(folder, program, reasons):
     expect(said == f"nody: {name}: it became shorter, and is read from its front again\n".encode(), f"--follow says {said}")
 
 
+def check_follow_input(folder, program):
+    """Standard input that is a file of which the front was read already, and which becomes shorter."""
+    name = f"{folder}/input"
+    with open(name, "wb") as file:
+        file.write(b"read\n\xff\xff")
+    with open(name, "rb", buffering=0) as file:
+        file.read(5)
+        ran = subprocess.Popen([program, "check", "--follow"], stdin=file, stdout=subprocess.PIPE, stderr=subprocess.PIPE)
+    expect(reads(ran.stdout, 2).startswith(b"-:1:1: offset 0: "), "--follow of standard input")
+    with open(name, "wb") as file:
+        file.write(b"abc\xfe")
+    told = reads(ran.stdout, 2)
+    expect(told.startswith(b"-: not valid UTF-8: 2 invalid bytes\n-:1:4: offset 3: "), f"standard input is read from its front again: {told}")
+    ran.send_signal(signal.SIGTERM)
+    ran.communicate(timeout=10)
+
+
 def check_slow(program):
     """From a pipe each invalid byte is told of at once."""
     ran = subprocess.Popen([program, "check"], stdin=subprocess.PIPE, stdout=subprocess.PIPE)
@@ -674,6 +691,7 @@ def main():
             check_faults(folder, [built], compiler, build)
             check_races(folder, compiler, build)
             check_follow(folder, built, reasons)
+            check_follow_input(folder, built)
             check_slow(built)
             check_progress(built)
     print(f"{passed} passed, {failed} failed")
