@@ -71,6 +71,12 @@ function formOf(label) {
     return form;
 }
 
+// Bytes and their form. (a label may run code, which may take the bytes away: so it is asked first)
+function textOfForm(data, encoding) {
+    const form = formOf(encoding);
+    return [bytesOf(data), form];
+}
+
 // Options, which are to be an object.
 function objectOf(options, example) {
     if (options !== null && (typeof options === "object" || typeof options === "function")) return options;
@@ -150,9 +156,9 @@ function* faultsIn(bytes, form, { base = 0, end = bytes.length, most = BLOCK } =
     }
 }
 
-export const pieces = (data, encoding = "utf-8") => piecesIn(bytesOf(data), formOf(encoding));
+export const pieces = (data, encoding = "utf-8") => piecesIn(...textOfForm(data, encoding));
 
-export const piecesBack = (data, encoding = "utf-8") => piecesBefore(bytesOf(data), formOf(encoding));
+export const piecesBack = (data, encoding = "utf-8") => piecesBefore(...textOfForm(data, encoding));
 
 function* piecesBefore(bytes, form) {
     const { length } = bytes;
@@ -184,8 +190,7 @@ export class Ends {
     #back;
 
     constructor(data, encoding = "utf-8") {
-        this.#bytes = bytesOf(data);
-        this.#form = formOf(encoding);
+        [this.#bytes, this.#form] = textOfForm(data, encoding);
         this.#back = this.#length = this.#bytes.length;
     }
 
@@ -223,9 +228,9 @@ export class Ends {
     }
 }
 
-export const faults = (data, encoding = "utf-8") => faultsIn(bytesOf(data), formOf(encoding));
+export const faults = (data, encoding = "utf-8") => faultsIn(...textOfForm(data, encoding));
 
-export const firstFault = (data, encoding = "utf-8") => faultsIn(bytesOf(data), formOf(encoding), { most: 1 }).next().value ?? null;
+export const firstFault = (data, encoding = "utf-8") => faultsIn(...textOfForm(data, encoding), { most: 1 }).next().value ?? null;
 
 export const isValid = (data, encoding) => firstFault(data, encoding) === null;
 
@@ -246,7 +251,7 @@ function summed(bytes, form, call) {
     return sum;
 }
 
-export const charCount = (data, encoding = "utf-8") => summed(bytesOf(data), formOf(encoding), (_, end) => codec.countBetween(0, end));
+export const charCount = (data, encoding = "utf-8") => summed(...textOfForm(data, encoding), (_, end) => codec.countBetween(0, end));
 
 export function recodedLength(data, from, to) {
     const [form, target] = [formOf(from), formOf(to)];
@@ -265,7 +270,7 @@ function standNear(bytes, place, form) {
 
 // The boundary near an offset.
 function boundaryOf(data, at, encoding, isAfter) {
-    const [bytes, form, place] = [bytesOf(data), formOf(encoding), wholeOf(at)];
+    const [bytes, form, place] = [...textOfForm(data, encoding), wholeOf(at)];
     if (place >= bytes.length) return bytes.length;
     const start = standNear(bytes, place, form);
     return start + codec.boundary(place - start, isAfter);
@@ -276,7 +281,7 @@ export const boundaryAfter = (data, at, encoding = "utf-8") => boundaryOf(data, 
 
 // The offset of the piece with a number: counted window by window, of which the first is short.
 export function offsetOf(data, number, encoding = "utf-8") {
-    const [bytes, form] = [bytesOf(data), formOf(encoding)];
+    const [bytes, form] = textOfForm(data, encoding);
     let [left, size] = [wholeOf(number), BLOCK];
     for (let at = 0; at < bytes.length; size = Math.min(2 * size, MEGABYTE)) {
         const end = windowEnd(bytes, at, size, form);
@@ -289,14 +294,14 @@ export function offsetOf(data, number, encoding = "utf-8") {
 }
 
 export function numberOf(data, offset, encoding = "utf-8") {
-    const [bytes, form] = [bytesOf(data), formOf(encoding)];
-    const front = bytes.subarray(0, boundaryOf(bytes, offset, encoding, true));
+    const [bytes, form] = textOfForm(data, encoding);
+    const front = bytes.subarray(0, boundaryOf(bytes, offset, FORMS[form], true));
     return summed(front, form, (_, end) => codec.countBetween(0, end));
 }
 
 // (the bytes near each end decide)
 export function changedRange(data, start, end, encoding = "utf-8") {
-    const [bytes, form] = [bytesOf(data), formOf(encoding)];
+    const [bytes, form] = textOfForm(data, encoding);
     const last = Math.min(wholeOf(end), bytes.length);
     const [before, after] = [Math.min(wholeOf(start), last), last].map((place) => {
         const base = standNear(bytes, place, form);
@@ -308,7 +313,7 @@ export function changedRange(data, start, end, encoding = "utf-8") {
 
 // (the last bytes decide)
 export function undecidedLength(data, encoding = "utf-8") {
-    const [bytes, form] = [bytesOf(data), formOf(encoding)];
+    const [bytes, form] = textOfForm(data, encoding);
     codec.fill(bytes.subarray(startBefore(bytes.length, 2 * SEEN, form)));
     return codec.undecidedLength(form);
 }

@@ -564,6 +564,12 @@ function formOf(label) {
     return form;
 }
 
+// Bytes and their form. (a label may run code, which may take the bytes away: so it is asked first)
+function textOfForm(data, encoding) {
+    const form = formOf(encoding);
+    return [bytesOf(data), form];
+}
+
 // Options, which are to be an object.
 function objectOf(options, example) {
     if (options !== null && (typeof options === "object" || typeof options === "function")) return options;
@@ -643,9 +649,9 @@ function* faultsIn(bytes, form, { base = 0, end = bytes.length, most = BLOCK } =
     }
 }
 
-const pieces = (data, encoding = "utf-8") => piecesIn(bytesOf(data), formOf(encoding));
+const pieces = (data, encoding = "utf-8") => piecesIn(...textOfForm(data, encoding));
 
-const piecesBack = (data, encoding = "utf-8") => piecesBefore(bytesOf(data), formOf(encoding));
+const piecesBack = (data, encoding = "utf-8") => piecesBefore(...textOfForm(data, encoding));
 
 function* piecesBefore(bytes, form) {
     const { length } = bytes;
@@ -677,8 +683,7 @@ class Ends {
     #back;
 
     constructor(data, encoding = "utf-8") {
-        this.#bytes = bytesOf(data);
-        this.#form = formOf(encoding);
+        [this.#bytes, this.#form] = textOfForm(data, encoding);
         this.#back = this.#length = this.#bytes.length;
     }
 
@@ -716,9 +721,9 @@ class Ends {
     }
 }
 
-const faults = (data, encoding = "utf-8") => faultsIn(bytesOf(data), formOf(encoding));
+const faults = (data, encoding = "utf-8") => faultsIn(...textOfForm(data, encoding));
 
-const firstFault = (data, encoding = "utf-8") => faultsIn(bytesOf(data), formOf(encoding), { most: 1 }).next().value ?? null;
+const firstFault = (data, encoding = "utf-8") => faultsIn(...textOfForm(data, encoding), { most: 1 }).next().value ?? null;
 
 const isValid = (data, encoding) => firstFault(data, encoding) === null;
 
@@ -739,7 +744,7 @@ function summed(bytes, form, call) {
     return sum;
 }
 
-const charCount = (data, encoding = "utf-8") => summed(bytesOf(data), formOf(encoding), (_, end) => codec.countBetween(0, end));
+const charCount = (data, encoding = "utf-8") => summed(...textOfForm(data, encoding), (_, end) => codec.countBetween(0, end));
 
 function recodedLength(data, from, to) {
     const [form, target] = [formOf(from), formOf(to)];
@@ -758,7 +763,7 @@ function standNear(bytes, place, form) {
 
 // The boundary near an offset.
 function boundaryOf(data, at, encoding, isAfter) {
-    const [bytes, form, place] = [bytesOf(data), formOf(encoding), wholeOf(at)];
+    const [bytes, form, place] = [...textOfForm(data, encoding), wholeOf(at)];
     if (place >= bytes.length) return bytes.length;
     const start = standNear(bytes, place, form);
     return start + codec.boundary(place - start, isAfter);
@@ -769,7 +774,7 @@ const boundaryAfter = (data, at, encoding = "utf-8") => boundaryOf(data, at, enc
 
 // The offset of the piece with a number: counted window by window, of which the first is short.
 function offsetOf(data, number, encoding = "utf-8") {
-    const [bytes, form] = [bytesOf(data), formOf(encoding)];
+    const [bytes, form] = textOfForm(data, encoding);
     let [left, size] = [wholeOf(number), BLOCK];
     for (let at = 0; at < bytes.length; size = Math.min(2 * size, MEGABYTE)) {
         const end = windowEnd(bytes, at, size, form);
@@ -782,14 +787,14 @@ function offsetOf(data, number, encoding = "utf-8") {
 }
 
 function numberOf(data, offset, encoding = "utf-8") {
-    const [bytes, form] = [bytesOf(data), formOf(encoding)];
-    const front = bytes.subarray(0, boundaryOf(bytes, offset, encoding, true));
+    const [bytes, form] = textOfForm(data, encoding);
+    const front = bytes.subarray(0, boundaryOf(bytes, offset, FORMS[form], true));
     return summed(front, form, (_, end) => codec.countBetween(0, end));
 }
 
 // (the bytes near each end decide)
 function changedRange(data, start, end, encoding = "utf-8") {
-    const [bytes, form] = [bytesOf(data), formOf(encoding)];
+    const [bytes, form] = textOfForm(data, encoding);
     const last = Math.min(wholeOf(end), bytes.length);
     const [before, after] = [Math.min(wholeOf(start), last), last].map((place) => {
         const base = standNear(bytes, place, form);
@@ -801,7 +806,7 @@ function changedRange(data, start, end, encoding = "utf-8") {
 
 // (the last bytes decide)
 function undecidedLength(data, encoding = "utf-8") {
-    const [bytes, form] = [bytesOf(data), formOf(encoding)];
+    const [bytes, form] = textOfForm(data, encoding);
     codec.fill(bytes.subarray(startBefore(bytes.length, 2 * SEEN, form)));
     return codec.undecidedLength(form);
 }

@@ -108,7 +108,9 @@ static bool is_errors(const char *word, enum errors *errors) {
 static bool takes_value(struct request *request, int option, const char *value) {
     uint64_t number;
     switch (option) {
-    case 'f': return (request->is_by_bom = strcmp(value, "bom") == 0) || form_of_label(value, &request->from);
+    case 'f':
+        request->is_by_bom = strcmp(value, "bom") == 0;
+        return form_of_label(request->is_by_bom ? "utf-8" : value, &request->from);
     case 't': return form_of_label(value, &request->to);
     case 'e': return is_errors(value, &request->errors);
     case 'm': return is_number(value, 1, &request->most);
@@ -135,20 +137,17 @@ static const char *name_of_option(int option) {
     return options[i].name;
 }
 
-/* Takes the options; false where one is wrong, which is then said. */
+/* Takes the options; false where one is wrong, which is then said: by getopt_long, where there is no such option, or a value is missing. */
 static bool takes_options(struct request *request, int which, int argc, char **argv) {
-    for (int option; (option = getopt_long(argc, argv, ":o:qh", options, NULL)) != -1;) {
-        if (option == '?' || option == ':') {
-            fprintf(stderr, "nody: %s: %s\n", argv[optind - 1], option == '?' ? "there is no such option" : "the option needs a value");
-            return false;
-        }
+    for (int option; (option = getopt_long(argc, argv, "o:qh", options, NULL)) != -1;) {
+        if (option == '?') return false;
         if (!(takers_of(option) & commands[which].bit)) {
             fprintf(stderr, "nody: %s does not take --%s\n", commands[which].name, name_of_option(option));
             return false;
         }
         if (option == 'h') {
             show_help(which);
-            exit(IS_VALID);
+            exit(fflush(stdout) == 0 ? IS_VALID : HAS_FAILED);
         }
         if (!optarg) take_flag(request, option);
         else if (!takes_value(request, option, optarg)) {

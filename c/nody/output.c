@@ -139,14 +139,14 @@ static bool make_temporary(struct replacement *it, const struct stat *about) {
     return fchmod(it->file, about ? about->st_mode & 07777 : new_mode()) == 0;
 }
 
-/* Opens what will have the name. Where that is a link, what it leads to is replaced, and no link. */
+/* Opens what will have the name. Where that is a link, what it leads to is replaced, and no link: one that leads nowhere fails. */
 bool open_replacement(struct replacement *it, const char *name) {
-    struct stat about;
+    struct stat about, link;
     bool is_there = stat(name, &about) == 0;
     memset(it, 0, sizeof *it);
     it->file = -1;
     it->is_direct = is_there && !S_ISREG(about.st_mode);
-    it->name = is_there ? realpath(name, NULL) : strdup(name);
+    it->name = is_there || lstat(name, &link) == 0 ? realpath(name, NULL) : strdup(name);
     if (!it->name) return false;
     if (!it->is_direct) return make_temporary(it, is_there ? &about : NULL);
     it->file = open(name, O_WRONLY | O_CLOEXEC);

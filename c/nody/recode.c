@@ -7,6 +7,10 @@
 #include <string.h>
 #include <unistd.h>
 
+#ifdef __APPLE__
+#define st_mtim st_mtimespec
+#endif
+
 static void replace_each(struct worker *worker, const uint8_t *bytes, size_t len) {
     const struct request *request = worker->run->request;
     nody_recoder_t recoder = nody_recoder(worker->block.form, request->to);
@@ -92,7 +96,8 @@ static bool is_unchanged(const struct run *run) {
     struct stat now;
     const struct stat *then = &run->source.about;
     if (stat(run->source.name, &now) != 0) return false;
-    return now.st_dev == then->st_dev && now.st_ino == then->st_ino && now.st_size == then->st_size && now.st_mtime == then->st_mtime;
+    return now.st_dev == then->st_dev && now.st_ino == then->st_ino && now.st_size == then->st_size && now.st_mtim.tv_sec == then->st_mtim.tv_sec &&
+           now.st_mtim.tv_nsec == then->st_mtim.tv_nsec;
 }
 
 /* Gives the new file its name. */

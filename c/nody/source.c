@@ -28,8 +28,10 @@ bool open_source(struct source *source, const char *name, const struct request *
     return false;
 }
 
+/* (standard input that became shorter is read from its front again) */
 void close_source(struct source *source) {
     if (source->file > STDIN_FILENO) close(source->file);
+    else if (source->is_followed && source->is_shorter) lseek(source->file, 0, SEEK_SET);
 }
 
 /* The size of a file, and 0 where it is not known. */
@@ -37,29 +39,29 @@ uint64_t size_of_source(const struct source *source) {
     return S_ISREG(source->about.st_mode) ? (uint64_t)source->about.st_size : 0;
 }
 
-/* Whether a file has fewer bytes now than it had, or than were read. */
-static bool is_shorter_now(const struct source *source, uint64_t read) {
+/* Whether a file has fewer bytes now than it had, or ends before what is to be read next. */
+static bool is_shorter_now(const struct source *source) {
     struct stat now;
     if (!S_ISREG(source->about.st_mode) || fstat(source->file, &now) != 0) return false;
-    return source->is_followed ? (uint64_t)now.st_size < read : now.st_size < source->about.st_size;
+    return now.st_size < (source->is_followed ? lseek(source->file, 0, SEEK_CUR) : source->about.st_size);
 }
 
 /* At the end of what is there: whether more may come, for which it then waits. */
-static bool waits_for_more(struct source *source, uint64_t read) {
+static bool waits_for_more(struct source *source) {
     static const struct timespec pause = {0, 100000000};
-    source->is_shorter = is_shorter_now(source, read);
+    source->is_shorter = is_shorter_now(source);
     if (!source->is_followed || source->is_shorter || is_at_end || !S_ISREG(source->about.st_mode)) return false;
     nanosleep(&pause, NULL);
     return !is_at_end;
 }
 
 /* Reads once, at least a byte, unless the input has ended or a read fails. */
-static size_t read_some(struct source *source, uint8_t *bytes, size_t room, uint64_t before) {
+static size_t read_some(struct source *source, uint8_t *bytes, size_t room) {
     for (;;) {
         ssize_t count = read(source->file, bytes, room);
         if (count > 0) return (size_t)count;
         if (count < 0 && errno == EINTR && !is_at_end) continue;
-        if (count == 0 && waits_for_more(source, before)) continue;
+        if (count == 0 && waits_for_more(source)) continue;
         source->error = count < 0 && errno != EINTR ? errno : 0;
         source->has_ended = true;
         return 0;
@@ -72,7 +74,7 @@ static void fill(struct source *source, struct block *block) {
     memcpy(block->bytes, source->holds, held);
     block->len = held;
     while (block->end == 0 && !source->has_ended) {
-        block->len += read_some(source, block->bytes + block->len, BLOCK, source->at + block->len);
+        block->len += read_some(source, block->bytes + block->len, BLOCK);
         if (block->len < least && !source->has_ended) continue;
         if (least == 3) block->mark = nody_form_of_bom(block->bytes, block->len, &source->form);
         block->end = block->len - (source->has_ended ? 0 : undecided_len(source->form, block->bytes, block->len));
@@ -140,6 +142,6 @@ void load_block(const struct source *source, struct block *block, uint64_t numbe
 void end_source(struct source *source, uint64_t at) {
     source->at = at;
     source->has_ended = true;
-    source->is_shorter = is_shorter_now(source, at);
+    source->is_shorter = is_shorter_now(source);
     lseek(source->file, source->origin + (off_t)at, SEEK_SET);
 }

@@ -318,6 +318,7 @@ def check_marks(program):
         says([program, "check", "--from", "bom"], 0, f"-: valid {form}\n".encode(), b"", mark + text)
         says([program, "recode", "--from=bom", "--to", "UTF-8"], 0, "é€\n".encode(), b"", mark + text)
         says([program, "recode", "--from=bom", "--to", "unicodeFFFE"], 0, "é€\n".encode("utf-16-be"), b"", mark + text)
+    says([program, "recode", "--from=utf-16", "--from=bom"], 0, "é\n".encode(), b"", "é\n".encode())
     for data in (b"", b"\xef", b"\xff", b"\xef\xbb"):
         says([program, "recode", "--from=bom", "-q"], 0, b"\xef\xbf\xbd" * len(data), b"", data)
     labels = {"utf-8": "utf8 UTF-8 unicode-1-1-utf-8 unicode11utf8 unicode20utf8 x-unicode20utf8", "utf-16-le": "csunicode iso-10646-ucs-2 ucs-2 unicode unicodefeff utf-16 utf-16le UTF16LE",
@@ -334,6 +335,9 @@ def check_words(program, name):
                   ["recode", "--errors", "ignore"], ["recode", "--in-place"], ["recode", "--in-place", "-"], ["recode", "--in-place", "-o", "x", name],
                   ["recode", name, name], ["at", name], ["at", name, "0", "0"], ["check", "--follow", name, name], ["check", "-x"], ["check", "--jobs", "0"], ["recode", "--json"]):
         says([program, *words], 2, b"", b"usage: nody ")
+    for words, want in ((["-zq"], b"'?z'?"), (["--none"], b"--none"), (["--quiet=3"], b"quiet"), (["--max"], b"max")):
+        told = run([program, "check", *words])
+        expect(told[0] == 2 and re.search(want, told[2].split(b"\n")[0]), f"{words}: {told}")
     for words in ([], ["chek"], ["-q"]):
         says([program, *words], 2, b"", b"usage: nody check|list")
     for offset in ("", "x", "1x", "0x", "-1", "99999999999999999999"):
@@ -362,6 +366,8 @@ def check_failures(folder, program):
         with open("/dev/full", "wb") as full:
             ran = subprocess.run([program, *words], stdout=full, stderr=subprocess.PIPE)
         expect((ran.returncode, ran.stderr) == (3, b"nody: cannot write: No space left on device\n"), f"{words} to a full device: {ran}")
+        with open("/dev/full", "wb") as full:
+            expect(subprocess.run([program, words[0], "--help"], stdout=full).returncode == 3, f"the help of {words[0]} to a full device")
         reader, writer = os.pipe()
         os.close(reader)
         ran = subprocess.run([program, *words], stdout=writer, stderr=subprocess.PIPE)
@@ -433,6 +439,10 @@ def check_replaced(folder, program):
     says([program, "recode", "-o", f"{place}/new", out], 0, b"", b"")
     os.umask(mask)
     expect(os.stat(f"{place}/new").st_mode & 0o7777 == 0o640, "the mode of a new file")
+    os.symlink("nowhere", f"{place}/dangling")
+    says([program, "recode", "-o", f"{place}/dangling", out], 3, b"", b"dangling: No such file or directory")
+    expect(os.path.islink(f"{place}/dangling"), "-o on a link that leads nowhere")
+    os.remove(f"{place}/dangling")
     says([program, "recode", "--to", "utf-16be", "-o", out, out], 0, b"", b"")
     expect(contents(out) == recoded(data, "utf-8", "utf-16be", "replace"), "-o on the input itself")
     says([program, "recode", "--in-place", place, f"{place}/none", name, "--from", "utf-16"], 3, b"", b"Is a directory")
@@ -508,6 +518,8 @@ def check_changed(folder, program):
     env = dict(os.environ, LD_PRELOAD=shared)
     says([program, "check", "--jobs", "1", name], 3, None, b"it became shorter while it was read", env=dict(env, BETWEEN=f"truncate -s 10 {name}"))
     says([program, "recode", "--jobs", "1", "--in-place", name], 3, None, b"it changed while it was read", env=dict(env, BETWEEN=f"echo >>{name}"))
+    says([program, "recode", "--jobs", "1", "--in-place", name], 3, None, b"it changed while it was read", env=dict(env, BETWEEN=f"printf new 1<>{name}"))
+    expect(contents(name)[:3] == b"new", "in place, where another program wrote as many bytes at once")
     says([program, "check", "--jobs", "1", name], 0, None, b"", env=dict(env, BETWEEN=f"rm {name}"))
 
 
@@ -594,6 +606,23 @@ def check_follow(folder, program, reasons):
     expect(said == f"nody: {name}: it became shorter, and is read from its front again\n".encode(), f"--follow says {said}")
 
 
+def check_follow_input(folder, program):
+    """Standard input that is a file of which the front was read already, and which becomes shorter."""
+    name = f"{folder}/input"
+    with open(name, "wb") as file:
+        file.write(b"read\n\xff\xff")
+    with open(name, "rb", buffering=0) as file:
+        file.read(5)
+        ran = subprocess.Popen([program, "check", "--follow"], stdin=file, stdout=subprocess.PIPE, stderr=subprocess.PIPE)
+    expect(reads(ran.stdout, 2).startswith(b"-:1:1: offset 0: "), "--follow of standard input")
+    with open(name, "wb") as file:
+        file.write(b"abc\xfe")
+    told = reads(ran.stdout, 2)
+    expect(told.startswith(b"-: not valid UTF-8: 2 invalid bytes\n-:1:4: offset 3: "), f"standard input is read from its front again: {told}")
+    ran.send_signal(signal.SIGTERM)
+    ran.communicate(timeout=10)
+
+
 def check_slow(program):
     """From a pipe each invalid byte is told of at once."""
     ran = subprocess.Popen([program, "check"], stdin=subprocess.PIPE, stdout=subprocess.PIPE)
@@ -662,6 +691,7 @@ def main():
             check_faults(folder, [built], compiler, build)
             check_races(folder, compiler, build)
             check_follow(folder, built, reasons)
+            check_follow_input(folder, built)
             check_slow(built)
             check_progress(built)
     print(f"{passed} passed, {failed} failed")

@@ -206,6 +206,15 @@ test("other calls between two pieces, and from within options and labels, change
     assert.equal(asked, 1);
 });
 
+test("labels that take the bytes away: each call says that these are gone", () => {
+    const calls = [pieces, piecesBack, faults, firstFault, isValid, charCount, undecidedLength, decode, (data, label) => new Ends(data, label), (data, label) => recode(data, label, "utf8"), (data, label) => recodedLength(data, label, "utf8")];
+    const placed = [offsetOf, numberOf, boundaryBefore, boundaryAfter].map((call) => (data, label) => call(data, 1, label));
+    for (const call of [...calls, ...placed, (data, label) => changedRange(data, 1, 2, label)]) {
+        const bytes = ofHex("4142ff");
+        assert.throws(() => call(bytes, { toString: () => (detach(bytes), "utf8") }), GONE);
+    }
+});
+
 test("options that are none throw a sentence", () => {
     const told = (it) => ({ name: "TypeError", message: `noddychest: options are an object, as { fatal: true }, or left out, and not ${it}` });
     for (const [given, name] of [[null, "null"], [true, "a boolean"], ["fatal", "a string"], [1, "a number"], [Symbol("fatal"), "a symbol"], [1n, "a bigint"]]) {
