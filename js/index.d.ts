@@ -1,7 +1,7 @@
 /** Any bytes, also of another realm. They are read, never changed and never kept. A string is a `TypeError`; bytes whose buffer is detached, too. */
 export type Bytes = ArrayBufferView | ArrayBufferLike;
 
-/** The encodings. No byte order mark is looked for, and none is added. Case does not matter; `"UTF-16"` is little-endian, as `TextDecoder` has it. */
+/** The encodings. No call but `encodingOfBom` looks for a byte order mark, and none adds one. Case does not matter; `"UTF-16"` is little-endian, as `TextDecoder` has it. */
 export type Encoding = Label | Uppercase<Label>;
 
 /** The labels of the Encoding Standard for them, and `"utf16le"` and `"utf16be"`. */
