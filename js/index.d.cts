@@ -2,7 +2,7 @@
 /** Any bytes, also of another realm. They are read, never changed and never kept. A string is a `TypeError`; bytes whose buffer is detached, too. */
 export type Bytes = ArrayBufferView | ArrayBufferLike;
 
-/** The encodings. No byte order mark is looked for, and none is added. Case does not matter; `"UTF-16"` is little-endian, as `TextDecoder` has it. */
+/** The encodings. No call but `encodingOfBom` looks for a byte order mark, and none adds one. Case does not matter; `"UTF-16"` is little-endian, as `TextDecoder` has it. */
 export type Encoding = Label | Uppercase<Label>;
 
 /** The labels of the Encoding Standard for them, and `"utf16le"` and `"utf16be"`. */
@@ -140,8 +140,8 @@ export function encodingOfBom(data: Bytes): { encoding: "utf-8" | "utf-16le" | "
 
 export interface RecodeOptions {
     /**
-     * What to do with invalid bytes: put one U+FFFD, the replacement character, for each, which is what happens where nothing is given;
-     * put one for each maximal subpart, as `TextDecoder` does; or throw a `FaultError` at the first one.
+     * What to do with invalid bytes. `"replace"`, the default, puts one U+FFFD, the replacement character, for each. `"maximal"` puts one for
+     * each maximal subpart, as `TextDecoder` does. `"strict"` throws a `FaultError` at the first one.
      */
     errors?: "replace" | "maximal" | "strict";
     /** The same as `errors: "strict"`, by the name that `TextDecoder` has for it; false by default. */
@@ -189,8 +189,8 @@ export class Recoder {
 }
 
 /**
- * Gives the pieces of input that comes in parts, with offsets from the first byte of all. They do not depend on how the input is divided,
- * and are those that `pieces` gives for the whole but for the kind in one case: a byte that breaks a character is named when it comes. So
+ * Gives the pieces of input that comes in parts, with offsets from the first byte of all. They do not depend on how the input is divided.
+ * They are those that `pieces` gives for the whole, but for the kind in one case: a byte that breaks a character is named when it comes. So
  * at the end of the input the first byte of `F0 41` is `InterruptedSequence` here, and `TooFewBytes` there.
  *
  * The generators make pieces as they are asked for, 4,096 at most before; the part itself is copied, and may be changed, or sent away, once

@@ -246,7 +246,7 @@ impl Recoder {
     }
 
     /// A recoder that writes one U+FFFD for each *maximal subpart*, as browsers, Python's own codecs and
-    /// [`String::from_utf8_lossy`] do: for the one to three bytes that begin a character and do not end it, and for any other invalid
+    /// [`String::from_utf8_lossy`] do. One to three bytes that begin a character and do not end it are one, and so is any other invalid
     /// byte. In UTF-16 it writes what [`new`](Recoder::new) writes, but that a leading surrogate and half a unit that end the text become
     /// one U+FFFD.
     ///

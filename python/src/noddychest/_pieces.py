@@ -298,8 +298,8 @@ def number_of(data: ReadableBuffer, offset: int, encoding: str = "utf8") -> int:
 
 
 def changed_range(data: ReadableBuffer, start: int, end: int, encoding: str = "utf8") -> tuple[int, int]:
-    """The part of the data, from one offset up to another, outside of which all characters and invalid bytes stay if the bytes from `start`
-    up to `end` are replaced by any others: what to decode again after an edit. What was decoded before it stays, and what was decoded after
+    """What to decode again after an edit: the part of the data, from one offset up to another, outside of which all characters and invalid
+    bytes stay if the bytes from `start` up to `end` are replaced by any others. What was decoded before it stays, and what was decoded after
     it moves with its bytes. It begins at most six bytes before `start`, and ends at most six bytes after `end`.
 
     In UTF-16, if the length changes by an odd number of bytes, all from its start on may change.
