@@ -227,7 +227,7 @@ def limits():
 
 def replacements():
     lines = []
-    for line in (STORED / "tables").read_text(encoding="utf-8").splitlines():
+    for line in (STORED / "replacements").read_text(encoding="utf-8").splitlines():
         parts = line.split()
         if len(parts) == 6 and parts[1].isdigit():
             ours, lists, anew = float(parts[2]), float(parts[3]), float(parts[5])
@@ -241,9 +241,9 @@ EDITS = {"buffer: edit": "an edit of a `TextBuffer`", "buffer: piece": "the piec
 
 
 def edited():
-    """What bench/edits printed, by what was done and the KiB: the median and the worst, or one number of each byte."""
+    """What bench/tables printed, by what was done and the KiB: the median and the worst, or one number of each byte."""
     found = {}
-    for line in (STORED / "edits").read_text(encoding="utf-8").splitlines()[1:]:
+    for line in (STORED / "tables").read_text(encoding="utf-8").splitlines()[1:]:
         if it := re.fullmatch(r" *(\d+) buffer: made, ns a byte: ([\d.]+); memory for each byte: ([\d.]+)", line):
             found["made", int(it[1])], found["memory", int(it[1])] = it[2], it[3]
         elif it := re.fullmatch(r" *(\d+) (.+?) +([\d.]+) +([\d.]+)", line):

@@ -86,6 +86,9 @@ PASSED = {
 # Functions that give a text, or take one, and ask it for its bytes alone (windows.py).
 BY_BYTES = {"utf_chars/utf8_char.rt": ["from_str_start"], "encode_unicode/text_window.rt": ["as_str"]}
 
+# Methods of the crate alone that take a character by reference (windows.py).
+LENT = {"utf_chars/utf8_char.rt": ["scalar"]}
+
 # What goes by lanes: of these files there is a copy for processors with AVX2 (wide.py), over the types of all other files.
 WIDE = ("utf_lanes/",) + tuple(f"recoding/{it}.rt" for it in (
     "ascii_to_utf16", "codes", "copied", "engine", "fills", "form_calls", "kernels", "list", "output", "recoder_rooms", "recoder_runs", "room",

@@ -10,7 +10,7 @@ from eraser import Eraser, Project  # noqa: E402
 from shape import Text  # noqa: E402
 from tokens import Stop, tokens  # noqa: E402
 from wide import widened  # noqa: E402
-from windows import tested_once  # noqa: E402
+from windows import apart, tested_once  # noqa: E402
 
 # What stops the eraser: why, the text, and where it stands if that matters.
 REFUSED = [
@@ -130,6 +130,18 @@ OVER_BYTES = [
     ("while 2 <= x.len() - 4 * place {\n    if 4 <= x.len() - place {}\n", None),
 ]
 
+# A part of a text as bytes: whether it is empty is seen first.
+PART = "impl S {\n    #[inline(always)]\n    pub fn as_str(&self) -> &str {\n        &self.text[self.a..self.b]\n    }\n}\n"
+OF_PART = PART[:-2] + ("\n    #[inline(always)]\n    pub(crate) fn as_str_bytes(&self) -> &[u8] {\n"
+                       "        if self.a < self.b { &self.text.as_bytes()[self.a..self.b] } else { &[] }\n    }\n}\n")
+
+# Bytes of a code go one by one.
+CODES = [
+    ("pub(crate) fn scalar(self) -> u32 {}\nfn len(self) {}\n", "pub(crate) fn scalar(&self) -> u32 {}\nfn len(self) {}\n"),
+    ("fn scalar(&self) {}\nlet (code, len) = last_code(x[1..].as_bytes());\nat -= len;\nSome((at, from_array_unchecked(code)))\n",
+     "fn scalar(&self) {}\nlet ([a, b, c, d], len) = last_code(x[1..].as_bytes());\nat -= len;\nSome((at, from_array_unchecked([a, b, c, d])))\n"),
+]
+
 # And in the copy for AVX2: what is put in line stays, and of each other function there is one for that processor.
 FOR_AVX2 = '#[target_feature(enable = "avx2,bmi1,bmi2,lzcnt,popcnt")]\n'
 WIDENED = [
@@ -184,6 +196,14 @@ def by(text, wanted, name="utf_chars/utf8_char.rt"):
     return None if have == (text if wanted is None else wanted) and text else f"it writes {have!r}"
 
 
+def takes_apart(text, wanted):
+    try:
+        have = apart(text, "utf_chars/utf8_char.rt" if "(self)" in text or not text else "utf_base/a.rt")
+    except Stop as stop:
+        return None if "no method is as rules.LENT names scalar" in str(stop) and not text else f"it says {stop}"
+    return None if have == wanted and text else f"it writes {have!r}"
+
+
 def without_clauses(text):
     return re.sub(r"\n    (?:requires|ensures) .*", "", text)
 
@@ -213,6 +233,8 @@ def main():
     tried += [(text, writes(text, without_clauses(text))) for text in NOT_IN_PART]
     tried += [(text, writes(text, without_clauses(text), True)) for text, _ in IN_PART[1:3]]
     tried += [(text, by(text, wanted)) for text, wanted in OVER_BYTES]
+    tried += [(text, takes_apart(text, wanted)) for text, wanted in CODES] + [("a method that borrows is missing", takes_apart("", ""))]
+    tried += [(PART, by(PART, OF_PART, "encode_unicode/text_window.rt"))]
     tried += [("a function over bytes is missing", by("", "", "encode_unicode/text_window.rt"))]
     tried += [("tokens are all of a text", None if "".join(it.text for it in tokens(text, "")) == text else "lost") for text, _ in WRITTEN]
     failed = [(what, how) for what, how in tried if how]

@@ -98,13 +98,14 @@ def tested_once(text, name):
 
 def by_bytes(text, name):
     """An erased file. A function of `rules.BY_BYTES` stands there once more over bytes, and is called so where one of them is given another's text,
-    or where that text is asked for its bytes and whether it is empty."""
+    or where that text is asked for its bytes and whether it is empty. That it is empty is seen before its places are tested."""
     for function in rules.BY_BYTES.get(name, ()):
         found = re.search(rf"\n    #\[inline\(always\)\]\n    pub(?:\(crate\))? (fn {function})\b.*?\n    }}\n", text, re.S)
         if not found:
             raise Stop(f"{name}: no function is as rules.BY_BYTES names {function}")
         other = found[0].replace("    pub fn", "    pub(crate) fn").replace(found[1], f"{found[1]}_bytes").replace(".as_bytes()", "")
-        text = text.replace(found[0], found[0] + re.sub(r"\bstr\b", "[u8]", other.replace("self.text[", "self.text.as_bytes()[")))
+        other = re.sub(r"&self\.text\[(.*)\.\.(.*)\]", r"if \1 < \2 { &self.text.as_bytes()[\1..\2] } else { &[] }", other)
+        text = text.replace(found[0], found[0] + re.sub(r"\bstr\b", "[u8]", other))
     text = re.sub(r"\b(from_str_start)\(self\.(as_str)\(\)\)", r"\1_bytes(self.\2_bytes())", text)
     return re.sub(r"let (\w+) = self\.as_str\(\);(\n +if \1\.is_empty\(\) {.*?)\1\.as_bytes\(\)", r"let \1 = self.as_str_bytes();\2\1", text, flags=re.S)
 
@@ -121,3 +122,14 @@ def by_rest(text):
     """An erased file. In the head of a loop `64 <= bytes.len() - place` becomes two comparisons, which say that the place is in the bytes too."""
     left = re.compile(r"((?:\d+ \* )?\w+) <= (\w+)\.len\(\) - ((?:\w+\.)?\w+)\b(?! \*)")
     return re.sub(r"while .*", lambda it: left.sub(r"\1 <= \2.len() && \3 <= \2.len() - \1", it[0]), text)
+
+
+def apart(text, name):
+    """An erased file of either mode. rustc hands the four bytes of a code on in one register, and LLVM no longer sees which of them tells its length.
+    So a method of `rules.LENT` borrows them, and where they are an answer each is named."""
+    for method in rules.LENT.get(name, ()):
+        if text.count(f"fn {method}(self)") != 1:
+            raise Stop(f"{name}: no method is as rules.LENT names {method}")
+        text = text.replace(f"fn {method}(self)", f"fn {method}(&self)")
+    code = re.compile(r"let \((\w+), (\w+)\) = (last_code\(.*?\));(.*?)\bfrom_array_unchecked\(\1\)", re.S)
+    return code.sub(r"let ([a, b, c, d], \2) = \3;\4from_array_unchecked([a, b, c, d])", text)

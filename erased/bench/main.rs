@@ -1,5 +1,5 @@
-//! Times of the crate beside encode_unicode 1.0.0, std, simdutf8 where it is there, and the assembly, over 256 KiB of each text: the best
-//! of many runs, turn by turn.
+//! Times of the crate beside encode_unicode 1.0.0, std, simdutf8 and the kit's code where they are there, and the assembly, over 256 KiB of
+//! each text: the best of many runs, turn by turn.
 //!
 //! It prints a line for each work: ns per byte over mixed text, and the geometric mean and the worst of the ratios over all texts.
 
@@ -148,6 +148,57 @@ macro_rules! works {
 works!(theirs);
 works!(encode_unicode);
 
+/// The iterators over a text beside the same loops as Rattle's compiler made them (`crates/bench_c`).
+#[cfg(feature = "kit")]
+mod kit {
+    use super::{beside, Text};
+    use encode_unicode::{IterExt, StrExt};
+
+    /// The sum of all sums of the words, as there.
+    #[derive(Default)]
+    struct Checksum(u64, u64);
+
+    impl Checksum {
+        #[inline(always)]
+        fn add(&mut self, word: u64) {
+            self.0 = self.0.wrapping_add(word);
+            self.1 = self.1.wrapping_add(self.0);
+        }
+    }
+
+    fn placed(at: usize, c: char) -> u64 {
+        ((at as u64) << 32).wrapping_add(u64::from(c))
+    }
+
+    macro_rules! rows {
+        ($($name:literal $export:ident: $item:pat in $text:ident $items:expr => $word:expr;)*) => {
+            extern "C" {
+                $( fn $export(bytes: *const u8, len: usize) -> u64; )*
+            }
+            pub fn all(texts: &[Text]) {
+                $( beside($name, "the kit's code", texts, |it| {
+                    let ($text, mut sum) = (&*it.text, Checksum::default());
+                    for $item in $items {
+                        sum.add($word);
+                    }
+                    sum.1
+                // SAFETY: the pointer is valid for the length, and the bytes are a text.
+                }, |it| unsafe { $export(it.text.as_ptr(), it.text.len()) }); )*
+            }
+        };
+    }
+    rows! {
+        "utf8chars" bench_c_utf8chars: c in text text.utf8chars() => u64::from(c.to_char());
+        "utf8chars().rev()" bench_c_utf8chars_back: c in text text.utf8chars().rev() => u64::from(c.to_char());
+        "utf8char_indices" bench_c_indices: (at, c) in text StrExt::utf8char_indices(text) => placed(at, c.to_char());
+        "utf8char_indices().rev()" bench_c_indices_back: (at, c) in text StrExt::utf8char_indices(text).rev() => placed(at, c.to_char());
+        "utf16chars" bench_c_utf16chars: c in text text.utf16chars() => u64::from(c.to_char());
+        "utf16chars().rev()" bench_c_utf16chars_back: c in text text.utf16chars().rev() => u64::from(c.to_char());
+        "utf8chars().to_bytes()" bench_c_bytes_next: byte in text text.utf8chars().to_bytes() => u64::from(byte);
+        "utf16chars().to_units()" bench_c_units_next: unit in text text.utf16chars().to_units() => u64::from(unit);
+    }
+}
+
 fn main() {
     let texts = texts();
     println!("| work | beside | ns/byte of mix, here | there | ratio, geometric mean | worst |\n|---|---|---|---|---|---|");
@@ -155,6 +206,8 @@ fn main() {
         ($($name:ident),*) => { $( beside(stringify!($name), "encode_unicode", &texts, encode_unicode::$name, theirs::$name); )* };
     }
     each!(forward, backward, merger, units, unit_merger, utf8chars, utf8chars_back, utf16chars, to_bytes, to_units, collect_bytes, collect_units);
+    #[cfg(feature = "kit")]
+    kit::all(&texts);
     let valid = |t: &Text| noddychest::valid_up_to(&t.bytes) as u64;
     beside("valid_up_to", "std", &texts, valid, |t| std::str::from_utf8(&t.bytes).map_or_else(|e| e.valid_up_to(), str::len) as u64);
     // SAFETY: the pointers are valid for the lengths.

@@ -1,4 +1,4 @@
-//! `tables SIZE ROUNDS [INPUT]`: what a replacement of one byte by one costs in a table of pieces, beside moving both
+//! `replacements SIZE ROUNDS [INPUT]`: what a replacement of one byte by one costs in a table of pieces, beside moving both
 //! lists by `Vec::splice`, which is handed the new pieces, and beside decoding all anew with the Rust crate.
 //!
 //! Each number is the best time of the rounds, in microseconds, for one of many replacements at random
@@ -35,7 +35,7 @@ fn main() -> ExitCode {
     let args: Vec<String> = std::env::args().skip(1).collect();
     let numbers: Vec<usize> = args.iter().map_while(|word| word.parse().ok()).collect();
     let ([size, rounds], 2..=3) = (&numbers[..], args.len()) else {
-        eprintln!("usage: tables SIZE ROUNDS [INPUT]");
+        eprintln!("usage: replacements SIZE ROUNDS [INPUT]");
         return ExitCode::from(2);
     };
     let is_asked = |name: &str| args.get(2).is_none_or(|asked| asked == name);

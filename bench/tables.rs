@@ -1,4 +1,4 @@
-//! `edits KIB ..`: what edits and look-ups cost in a `TextBuffer` and in a `PieceTable`, beside decoding all again. For each the median
+//! `tables KIB ..`: what edits and look-ups cost in a `TextBuffer` and in a `PieceTable`, beside decoding all again. For each the median
 //! and the worst, in microseconds; then what the buffer takes to be made, and its memory.
 
 use noddychest::{pieces, PieceTable, TextBuffer};
