@@ -9,7 +9,7 @@ use recoding::shards::shard_end;
 /// How many bytes at the end of these, 0 to 3, depend on the bytes that follow: what to keep back of a block, and to put before
 /// the next one. It is how many a `Decoder` holds that was fed just these bytes: `undecided_len(Form::Utf8, b"a\xe2\x82")` is 2.
 ///
-/// These bytes may yet become a character, or a fault of another kind. If no byte follows, they are faults.
+/// These bytes may yet become a character, or be invalid for another reason. If no byte follows, they are invalid.
 ///
 /// Cost: constant.
 pub fn undecided_len(form: Form, bytes: &[u8]) -> usize

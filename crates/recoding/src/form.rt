@@ -2,8 +2,8 @@
 
 /// An encoding of text in bytes.
 ///
-/// A byte order mark is the character U+FEFF, as any other: no call looks for one, adds one or
-/// takes one away (RFC 2781, section 3.2).
+/// A byte order mark is the character U+FEFF, as any other. But for `form_of_bom` no call looks for
+/// one, and none adds one or takes one away (RFC 2781, section 3.2).
 #[derive(Clone, Copy, Debug, PartialEq, Eq, Drop)]
 pub enum Form {
     /// UTF-8 (RFC 3629, section 3).
