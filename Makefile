@@ -15,7 +15,7 @@
 #                    Debian 12 that debootstrap made; else it makes one of Debian's mirror)
 #   make check-erased  tests what scripts/erase makes of the proved sources: the text of the crate for Cargo, in all its forms
 #   make check-packages
-#                    tests all packages for which the tools are there, and names those that it leaves out
+#                    tests all packages but that for Windows, where the tools are there, and names those that it leaves out
 #   make check-js    tests the package for npm, js/, under node
 #   make check-cmake tests the build by CMake, and programs that find what it installs
 #   make check-windows

@@ -53,8 +53,9 @@
  * overlap what it reads. Any other pointer that a call takes must not be NULL. No call writes out of bounds.
  *
  * STRUCTS. Make a cursor (nody_bytes_t, nody_units_t) by nody_bytes or nody_units, a recoder (nody_recoder_t) by nody_recoder, and
- * a decoder (nody_decoder_t) by nody_decoder. If you fill a cursor yourself, its pointer must not be NULL, even if `len` is 0, and must be valid for `len`. Do
- * not fill a recoder or a decoder yourself: the calls then refuse it, or write what has no meaning. They stay within bounds.
+ * a decoder (nody_decoder_t) by nody_decoder. If you fill a cursor yourself, its pointer must not be NULL, even if `len` is 0, and
+ * must be valid for `len`. Do not fill a recoder or a decoder yourself: the calls then refuse it, or write what has no meaning. They
+ * stay within bounds.
  *
  * ERRORS. A call fails only as its comment says. None sets errno. On x86-64 call nody_supported first.
  *
@@ -568,9 +569,8 @@ size_t nody_recoded_len_max(nody_form_t from, nody_form_t to, size_t len);
 /* nody_recode between UTF-8 and an array of uint16_t.
  *
  * in, len, out, room, written: as for nody_recode. `len` counts what `in` points to: bytes or units. `room` and `*written`
- * count what `out` points to. `len` or `room`, whichever counts units, must be below SIZE_MAX / 2: this
- * is not checked. Do not cast a buffer of
- * bytes to uint16_t *. For UTF-16 in bytes call nody_recode.
+ * count what `out` points to. `len` or `room`, whichever counts units, must be below SIZE_MAX / 2: this is not checked. Do not cast a
+ * buffer of bytes to uint16_t *. For UTF-16 in bytes call nody_recode.
  * Result: NODY_STATUS_DONE, or NODY_STATUS_FULL if the room is too small.
  * Errors: none. Cost: linear.
  *
