@@ -210,7 +210,7 @@ public:
     using value_type = piece;
     using difference_type = std::ptrdiff_t;
     using pointer = const piece *;
-    using reference = const piece &;
+    using reference = piece; // (no reference: a place that goes would take what that is to with it)
 
     iterator() noexcept : iterator(typename Code::view()) {}
     explicit iterator(typename Code::view text) noexcept : left_(Code::open(text)), whole_(text.size()) { take(); }

@@ -70,6 +70,8 @@ static void try_spans() {
     expect(std::ranges::distance(nody::faults("a\xFF" "b\xFE"sv)) == 2, "an algorithm of ranges over faults");
 #if !defined(__clang__) || __clang_major__ >= 16 // (before that clang does not compile the views of libstdc++)
     auto wrong = nody::pieces("a\xFF" "b\xFE"sv) | std::views::filter([](const nody::piece &it) { return !it.is_ok(); });
+    const nody::piece &longest = *std::ranges::max_element(nody::pieces("a\xC3\xA9" "b"sv), {}, &nody::piece::length);
+    expect(longest.offset == 1 && longest.length == 2, "what a place has stays where the place goes");
     expect(std::ranges::distance(wrong) == 2, "views over pieces");
 #endif
     expect(std::ranges::count_if(nody::pieces("a\xFF" "b\xFE"sv), [](const nody::piece &it) { return !it.is_ok(); }) == 2, "an algorithm of ranges");
