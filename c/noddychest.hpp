@@ -254,7 +254,7 @@ private:
 };
 
 // Calls that would keep a view of a temporary string are refused.
-template <class Text, class String> using if_temporary = std::enable_if_t<std::is_same_v<Text, String>>;
+template <class Text, class String> using if_temporary = std::enable_if_t<std::is_same_v<std::remove_const_t<Text>, String>>;
 
 } // namespace detail
 
