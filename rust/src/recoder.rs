@@ -263,8 +263,9 @@ impl Recoder {
         Recoder { errors: Errors::Lossy, ..Recoder::new(from, to) }
     }
 
-    /// A recoder that stops at what is invalid, and says where it is and why: in the places and with the kinds that a decoder of the
-    /// whole text finds, however the text is cut. After `E9 0A` it waits for a third byte, which decides the kind.
+    /// A recoder that stops at what is invalid, and says where it is and why: in the places and with the kinds that
+    /// [`pieces`](crate::pieces) of the whole text have, however the text is cut. After `E9 0A` it waits for a third byte, which decides
+    /// the kind. Offsets are modulo the numbers of a `usize`.
     ///
     /// ```
     /// use noddychest::{FaultKind, Form, Recoder, Status};
@@ -338,7 +339,7 @@ impl Recoder {
     }
 
     /// Feeds a part of the text, as far as there is room. In room for four bytes each call with a part that is not empty reads or
-    /// writes something; an empty part is [`Status::Done`] or writes what is held.
+    /// writes something, or tells of a fault; an empty part is [`Status::Done`] or writes what is held.
     ///
     /// After the bytes that were written, the rest of the room may hold anything: use its first `written` bytes alone.
     ///
