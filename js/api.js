@@ -563,7 +563,8 @@ async function* partsOf(stream) {
             yield value;
         }
     } finally {
-        if (!isOver) await reader.cancel().catch(() => {});
+        // (what that says is of no use, nor that it throws)
+        if (!isOver) await (async () => reader.cancel())().catch(() => {});
         reader.releaseLock();
     }
 }
