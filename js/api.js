@@ -503,6 +503,7 @@ export class Decoder {
             if (!this.#front) return null;
             this.#readUntilSome(this.#front, isFaults);
             if (this.#front.isOver) this.#front = this.#front.next;
+            if (!this.#front) this.#last = null;
         }
     }
 
