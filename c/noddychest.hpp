@@ -211,7 +211,7 @@ public:
     using value_type = piece;
     using difference_type = std::ptrdiff_t;
     using pointer = const piece *;
-    using reference = const piece &;
+    using reference = piece; // (no reference: a place that goes would take what that is to with it)
 
     iterator() noexcept : iterator(typename Code::view()) {}
     explicit iterator(typename Code::view text) noexcept : left_(Code::open(text)), whole_(text.size()) { take(); }
@@ -255,7 +255,7 @@ private:
 };
 
 // Calls that would keep a view of a temporary string are refused.
-template <class Text, class String> using if_temporary = std::enable_if_t<std::is_same_v<Text, String>>;
+template <class Text, class String> using if_temporary = std::enable_if_t<std::is_same_v<std::remove_const_t<Text>, String>>;
 
 } // namespace detail
 

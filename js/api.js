@@ -503,6 +503,7 @@ export class Decoder {
             if (!this.#front) return null;
             this.#readUntilSome(this.#front, isFaults);
             if (this.#front.isOver) this.#front = this.#front.next;
+            if (!this.#front) this.#last = null;
         }
     }
 
@@ -563,7 +564,8 @@ async function* partsOf(stream) {
             yield value;
         }
     } finally {
-        if (!isOver) await reader.cancel().catch(() => {});
+        // (what that says is of no use, nor that it throws)
+        if (!isOver) await (async () => reader.cancel())().catch(() => {});
         reader.releaseLock();
     }
 }

@@ -996,6 +996,7 @@ class Decoder {
             if (!this.#front) return null;
             this.#readUntilSome(this.#front, isFaults);
             if (this.#front.isOver) this.#front = this.#front.next;
+            if (!this.#front) this.#last = null;
         }
     }
 
@@ -1056,7 +1057,8 @@ async function* partsOf(stream) {
             yield value;
         }
     } finally {
-        if (!isOver) await reader.cancel().catch(() => {});
+        // (what that says is of no use, nor that it throws)
+        if (!isOver) await (async () => reader.cancel())().catch(() => {});
         reader.releaseLock();
     }
 }

@@ -42,6 +42,7 @@ template <class Text, class = void> struct lists : std::false_type {};
 template <class Text> struct lists<Text, std::void_t<decltype(nody::faults(std::declval<Text>()))>> : std::true_type {};
 static_assert(takes<std::string &>::value && takes<std::string_view>::value && takes<const char *>::value && takes<std::u16string &>::value);
 static_assert(!takes<std::string>::value && !takes<std::u16string>::value && !lists<std::string>::value && !lists<std::u16string>::value);
+static_assert(!takes<const std::string>::value && !takes<const std::u16string>::value && !lists<const std::string>::value && !lists<const std::u16string>::value);
 
 // Whether a decoder, which is no temporary or is one, gives ranges over a part of that type.
 template <class Decoder, class Text, class = void> struct feeds : std::false_type {};
@@ -50,6 +51,7 @@ template <class Decoder, class Text, class = void> struct feeds_faults : std::fa
 template <class Decoder, class Text> struct feeds_faults<Decoder, Text, std::void_t<decltype(std::declval<Decoder>().feed_faults(std::declval<Text>()))>> : std::true_type {};
 static_assert(feeds<nody::decoder &, std::string &>::value && feeds<nody::decoder &, std::string_view>::value && feeds_faults<nody::decoder &, const char *>::value);
 static_assert(!feeds<nody::decoder &, std::string>::value && !feeds_faults<nody::decoder &, std::string>::value);
+static_assert(!feeds<nody::decoder &, const std::string>::value && !feeds_faults<nody::decoder &, const std::string>::value);
 static_assert(!feeds<nody::decoder, std::string_view>::value && !feeds_faults<nody::decoder, std::string_view>::value);
 
 #if __cplusplus >= 202002L
@@ -68,6 +70,8 @@ static void try_spans() {
     expect(nody::is_valid(nody::form::utf8, u8"\u00E9"sv), "a u8string_view");
     expect(!nody::form_of_bom(std::span(raw)) && nody::undecided_len(nody::form::utf16le, std::span(raw).first(1)) == 1, "a mark, and an end, of spans");
     expect(std::ranges::distance(nody::faults("a\xFF" "b\xFE"sv)) == 2, "an algorithm of ranges over faults");
+    const nody::piece &longest = *std::ranges::max_element(nody::pieces("a\xC3\xA9" "b"sv), {}, &nody::piece::length);
+    expect(longest.offset == 1 && longest.length == 2, "what a place has stays where the place goes");
 #if !defined(__clang__) || __clang_major__ >= 16 // (before that clang does not compile the views of libstdc++)
     auto wrong = nody::pieces("a\xFF" "b\xFE"sv) | std::views::filter([](const nody::piece &it) { return !it.is_ok(); });
     expect(std::ranges::distance(wrong) == 2, "views over pieces");

@@ -2,6 +2,7 @@
 import assert from "node:assert/strict";
 import { readFileSync } from "node:fs";
 import test from "node:test";
+import v8 from "node:v8";
 import vm from "node:vm";
 import { MessageChannel } from "node:worker_threads";
 import * as api from "../api.js";
@@ -521,6 +522,19 @@ each("encodings by their labels, and options", () => {
     for (const [it, name] of [[null, "null"], [7, "a number"], ["7", "a string"]]) assert.throws(() => new Decoder("utf-8", it), { name: "TypeError", message: `noddychest: options are an object, as { offset: 0 }, or left out, and not ${name}` });
     for (const offset of [-1, 0.5, NaN, Infinity, "1", 1n, null, 2 ** 53]) assert.throws(() => new Decoder("utf-8", { offset }), { name: "RangeError", message: /an offset is a whole number/ });
     assert.throws(() => Decoder("utf-8"), TypeError);
+});
+
+test("a part that was read to its end is not kept", async () => {
+    v8.setFlagsFromString("--expose-gc");
+    const [gc, decoder] = [vm.runInNewContext("gc"), new installed.Decoder()];
+    const kept = async () => {
+        await new Promise(setImmediate);
+        gc();
+        return process.memoryUsage().arrayBuffers;
+    };
+    const before = await kept();
+    for (const it of decoder.feed(new Uint8Array(2_000_000))) assert.equal(it.char, "\0");
+    assert.deepEqual([(await kept()) - before < 1_000_000, decoder.offset], [true, 2_000_000]);
 });
 
 test("the installed package has it, over a stream too", async () => {

@@ -213,6 +213,10 @@ test("a reader that fails, whose cancel fails, and a part that is no bytes: the 
         const failing = { getReader: () => ({ read: () => Promise.reject(new Error("cut")), cancel: () => Promise.reject(new Error("no")), releaseLock: () => void reasons++ }) };
         await assert.rejects(all(call(failing)), { message: "cut" });
         assert.equal(reasons, 3);
+        for (const cancel of [() => {}, () => { throw new Error("no"); }]) {
+            await assert.rejects(all(call({ getReader: () => ({ ...failing.getReader(), cancel }) })), { message: "cut" });
+        }
+        assert.equal(reasons, 5);
         await assert.rejects(all(call({ getReader: () => { throw new Error("taken"); } })), { message: "taken" });
     }
     let closed = 0;

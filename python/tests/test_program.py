@@ -101,6 +101,19 @@ class Program(unittest.TestCase):
             self.assertEqual((status, out), (3, b""), words)
             self.assertRegex(err, r"^noddychest: .*\n$")
 
+    def test_streams_that_are_closed(self):
+        for words in (["pieces"], ["check"], ["recode", "--from", "utf8", "--to", "utf8"]):
+            for closed, more in (("<&-", []), (">&-", [self.file(b"a")])):
+                it = subprocess.run(["sh", "-c", '"$@" ' + closed, "sh", sys.executable, "-m", "noddychest", *words, *more], stdout=subprocess.PIPE, stderr=subprocess.PIPE)
+                self.assertEqual((it.returncode, it.stdout, it.stderr.count(b"\n")), (3, b"", 1), (words, closed, it.stderr))
+
+    def test_names_that_are_no_text(self):
+        name = os.fsencode(self.folder) + b"/\xff"
+        with open(name, "wb") as file:
+            file.write(b"a\xff")
+        expected = name + f": offset 1: {ErrorKind.NON_UTF8_BYTE.reason}\n".encode()
+        self.assertEqual(ran("check", name, env=dict(os.environ, PYTHONIOENCODING="utf-8")), (1, expected, ""))
+
     @unittest.skipUnless(os.path.exists("/dev/full"), "there is no /dev/full")
     def test_writes_that_fail(self):
         with open("/dev/full", "wb") as full:

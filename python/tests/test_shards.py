@@ -142,7 +142,8 @@ class Sources(unittest.TestCase):
                 self.assertEqual(cut, pickle.loads(pickle.dumps(cut)))
                 self.assertEqual(b"".join(it.recode("utf8") for it in cut), recode(data, form, "utf8"))
                 self.assertEqual([piece for it in cut for piece in it.faults()], facts(data, form)[0])
-        for path in (os.path.dirname(self.path), "/dev/null", self.path + "-none"):
+        os.mkfifo(self.path + "-pipe")
+        for path in (os.path.dirname(self.path), "/dev/null", self.path + "-none", self.path + "-pipe"):
             self.assertRaises(OSError, shards, path, 5)
 
     def test_buffers(self):

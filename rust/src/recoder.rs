@@ -263,8 +263,9 @@ impl Recoder {
         Recoder { errors: Errors::Lossy, ..Recoder::new(from, to) }
     }
 
-    /// A recoder that stops at what is invalid, and says where it is and why: in the places and with the kinds that a decoder of the
-    /// whole text finds, however the text is cut. After `E9 0A` it waits for a third byte, which decides the kind.
+    /// A recoder that stops at what is invalid, and says where it is and why: in the places and with the kinds that
+    /// [`pieces`](crate::pieces) of the whole text have, however the text is cut. After `E9 0A` it waits for a third byte, which decides
+    /// the kind. Offsets are modulo the numbers of a `usize`.
     ///
     /// ```
     /// use noddychest::{FaultKind, Form, Recoder, Status};
@@ -338,7 +339,7 @@ impl Recoder {
     }
 
     /// Feeds a part of the text, as far as there is room. In room for four bytes each call with a part that is not empty reads or
-    /// writes something; an empty part is [`Status::Done`] or writes what is held.
+    /// writes something, or tells of a fault; an empty part is [`Status::Done`] or writes what is held.
     ///
     /// After the bytes that were written, the rest of the room may hold anything: use its first `written` bytes alone.
     ///
@@ -365,7 +366,7 @@ impl Recoder {
                 self.told(did)
             }
         };
-        self.offset += did.read;
+        self.offset = self.offset.wrapping_add(did.read);
         did
     }
 
@@ -399,7 +400,8 @@ impl Recoder {
             cuts::Outcome::AllRead => Status::Done,
             cuts::Outcome::Full => Status::Full,
             cuts::Outcome::Faulty(fault) => {
-                Status::Fault(Fault::new(self.offset + did.read - fault.back, fault.len as u8, fault.kind.into()))
+                let offset = self.offset.wrapping_add(did.read).wrapping_sub(fault.back);
+                Status::Fault(Fault::new(offset, fault.len as u8, fault.kind.into()))
             }
         };
         Progress { read: did.read, written: did.written, status }
@@ -477,4 +479,18 @@ pub fn shard_end(from: Form, bytes: &[u8], at: usize) -> usize {
 pub fn changed_range(form: Form, bytes: &[u8], range: Range<usize>) -> Range<usize> {
     let changed = cuts::changed_range(form.proved(), bytes, range.start, range.end);
     changed.start..changed.end
+}
+
+#[cfg(test)]
+mod tests {
+    use super::{Form, Recoder, Status};
+
+    /// Where a `usize` has 32 bits, more than it counts may be fed.
+    #[test]
+    fn counts_on_from_zero() {
+        let mut recoder = Recoder { offset: usize::MAX, ..Recoder::strict(Form::Utf8, Form::Utf8) };
+        assert_eq!(recoder.feed(b"ab", &mut [0; 8]).read, 2);
+        let did = recoder.feed(b"\xFF", &mut [0; 8]);
+        assert!(matches!(did.status, Status::Fault(fault) if fault.offset() == 1));
+    }
 }

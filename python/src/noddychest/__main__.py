@@ -5,10 +5,11 @@ Exit status: 0 if all input is valid (after `recode` without `--errors strict` a
 from __future__ import annotations
 
 import argparse
+import errno
 import os
 import sys
 from collections.abc import Iterator
-from io import BufferedReader
+from io import BufferedReader, TextIOWrapper
 
 from . import FaultError, Piece, Recoder, Shard, boundary_before, faults, parallel, pieces, shards
 from ._names import form_of
@@ -54,7 +55,7 @@ def _jobs(word: str) -> int:
 
 
 def _open(name: str) -> BufferedReader:
-    return open(sys.stdin.fileno() if name == "-" else name, "rb", closefd=name != "-")
+    return open(0 if name == "-" else name, "rb", closefd=name != "-")
 
 
 def _parts(file: BufferedReader) -> Iterator[bytes]:
@@ -132,12 +133,15 @@ def _recode_into(asked: argparse.Namespace) -> int:
 
 
 def _run(asked: argparse.Namespace) -> int:
+    if asked.job == "recode" and asked.output is not None:
+        return _recode_into(asked)
+    if not isinstance(sys.stdout, TextIOWrapper):  # (it was closed)
+        raise OSError(errno.EBADF, os.strerror(errno.EBADF))
+    sys.stdout.reconfigure(errors="surrogateescape")  # (names of files are written as they are)
     if asked.job == "check":
         status = max(_check(name, asked.encoding, asked.jobs) for name in asked.file)
     elif asked.job == "pieces":
         status = _pieces(asked.file, asked.encoding)
-    elif asked.output is not None:
-        status = _recode_into(asked)
     else:
         status = _recode(asked.file, asked.from_, asked.to, asked.errors)
     sys.stdout.flush()
