@@ -127,6 +127,8 @@ OVER_BYTES = [
     ("let text = self.as_str();\n    f(text.as_bytes(), text.len())\n", None),
     ("f([x[0], x[1], 0], [x[0], 0], [x[1], x[2]], [y[0], x[1]])\n", "f({ let x = &x[..2]; [x[0], x[1], 0] }, [x[0], 0], [x[1], x[2]], [y[0], x[1]])\n"),
     ("while 2 * B <= x.len() - at.end && 8 <= y.room() {\n", "while 2 * B <= x.len() && at.end <= x.len() - 2 * B && 8 <= y.room() {\n"),
+    ("f(&x[at.read..at.read + 4], &x[a..b + 4], &mut x[a..a + 4])\n",
+     "f({ assert!(4 <= x.len() && at.read <= x.len() - 4); &x[at.read..at.read + 4] }, &x[a..b + 4], &mut x[a..a + 4])\n"),
     ("while 2 <= x.len() - 4 * place {\n    if 4 <= x.len() - place {}\n", None),
 ]
 

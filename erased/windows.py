@@ -93,7 +93,7 @@ def called(text, it):
 
 def tested_once(text, name):
     """An erased file, in which more than its clauses shows what needs no test."""
-    return by_rest(by_front(by_bytes(text, name)))
+    return by_size(by_rest(by_front(by_bytes(text, name))))
 
 
 def by_bytes(text, name):
@@ -122,6 +122,12 @@ def by_rest(text):
     """An erased file. In the head of a loop `64 <= bytes.len() - place` becomes two comparisons, which say that the place is in the bytes too."""
     left = re.compile(r"((?:\d+ \* )?\w+) <= (\w+)\.len\(\) - ((?:\w+\.)?\w+)\b(?! \*)")
     return re.sub(r"while .*", lambda it: left.sub(r"\1 <= \2.len() && \3 <= \2.len() - \1", it[0]), text)
+
+
+def by_size(text):
+    """An erased file. Of `&bytes[at..at + 4]` one comparison says that it is there, with what does not change in a loop; else two do."""
+    part = re.compile(r"&(\w+)\[([a-z_.]+)\.\.\2 \+ (\w+)\]")
+    return part.sub(r"{ assert!(\3 <= \1.len() && \2 <= \1.len() - \3); &\1[\2..\2 + \3] }", text)
 
 
 def apart(text, name):

@@ -1,8 +1,9 @@
 //! Times of the crate beside encode_unicode 1.0.0, std, simdutf8 and the kit's code where they are there, and the assembly, over 256 KiB of
 //! each text: the best of many runs, turn by turn.
 //!
-//! It prints a line for each work: ns per byte over mixed text, and the geometric mean and the worst of the ratios over all texts.
+//! It prints a line for each work and text, of which erased/speeds makes a table.
 
+use noddychest::{pieces, Decoder, Form, Piece, Status};
 use std::hint::black_box;
 use std::time::Instant;
 
@@ -73,9 +74,8 @@ fn seconds(work: &mut dyn FnMut(&Text) -> u64, text: &Text) -> (f64, u64) {
     (begun.elapsed().as_secs_f64(), sum)
 }
 
-/// One line: ours beside another, over all texts.
+/// A line for each text: the best time of ours and of another, in nanoseconds for each byte.
 fn beside(name: &str, peer: &str, texts: &[Text], mut ours: impl FnMut(&Text) -> u64, mut theirs: impl FnMut(&Text) -> u64) {
-    let (mut product, mut worst, mut worst_at, mut mix) = (1.0_f64, 0.0_f64, "", (0.0, 0.0));
     for text in texts {
         let (mut a, mut b) = (f64::MAX, f64::MAX);
         for _ in 0..RUNS {
@@ -83,16 +83,9 @@ fn beside(name: &str, peer: &str, texts: &[Text], mut ours: impl FnMut(&Text) ->
             assert_eq!(sum, same, "{name} beside {peer} on {}", text.name);
             (a, b) = (a.min(one), b.min(other));
         }
-        product *= a / b;
-        if a / b > worst {
-            (worst, worst_at) = (a / b, text.name);
-        }
-        if text.name == "mix" {
-            mix = (a * 1e9 / text.bytes.len() as f64, b * 1e9 / text.bytes.len() as f64);
-        }
+        let each = |time: f64| time * 1e9 / text.bytes.len() as f64;
+        println!("{name}|{peer}|{}|{}|{}", text.name, each(a), each(b));
     }
-    let mean = product.powf(1.0 / texts.len() as f64);
-    println!("| {name} | {peer} | {:.2} | {:.2} | {mean:.2} | {worst:.2} ({worst_at}) |", mix.0, mix.1);
 }
 
 macro_rules! works {
@@ -199,15 +192,41 @@ mod kit {
     }
 }
 
+/// A sum of pieces, which depends on their order.
+fn seen(sum: u64, offset: u64, c: Option<char>) -> u64 {
+    sum.wrapping_mul(3).wrapping_add(offset).wrapping_add(c.map_or(0, u64::from))
+}
+
+/// What a decoder gives for parts of 4 KiB, with room for 256 pieces.
+fn in_parts(bytes: &[u8], are_all: bool) -> u64 {
+    let (mut decoder, mut room, mut sum) = (Decoder::new(Form::Utf8), [Piece::default(); 256], 0);
+    let feed = if are_all { Decoder::feed } else { Decoder::feed_faults };
+    for part in bytes.chunks(4096) {
+        let mut rest = part;
+        loop {
+            let did = feed(&mut decoder, rest, &mut room);
+            sum = room[..did.written].iter().fold(sum, |sum, it| seen(sum, it.offset, it.char()));
+            rest = &rest[did.read..];
+            if did.status == Status::Done {
+                break;
+            }
+        }
+    }
+    let written = decoder.finish(&mut room).written;
+    room[..written].iter().fold(sum, |sum, it| seen(sum, it.offset, it.char()))
+}
+
 fn main() {
     let texts = texts();
-    println!("| work | beside | ns/byte of mix, here | there | ratio, geometric mean | worst |\n|---|---|---|---|---|---|");
     macro_rules! each {
         ($($name:ident),*) => { $( beside(stringify!($name), "encode_unicode", &texts, encode_unicode::$name, theirs::$name); )* };
     }
     each!(forward, backward, merger, units, unit_merger, utf8chars, utf8chars_back, utf16chars, to_bytes, to_units, collect_bytes, collect_units);
     #[cfg(feature = "kit")]
     kit::all(&texts);
+    beside("Decoder::feed", "pieces of the whole", &texts, |t| in_parts(&t.bytes, true), |t| pieces(&t.bytes).fold(0, |sum, it| seen(sum, it.offset as u64, it.char())));
+    let faults = |t: &Text| noddychest::faults(&t.bytes).fold(0, |sum, it| seen(sum, it.offset() as u64, None));
+    beside("Decoder::feed_faults", "faults of the whole", &texts, |t| in_parts(&t.bytes, false), faults);
     let valid = |t: &Text| noddychest::valid_up_to(&t.bytes) as u64;
     beside("valid_up_to", "std", &texts, valid, |t| std::str::from_utf8(&t.bytes).map_or_else(|e| e.valid_up_to(), str::len) as u64);
     // SAFETY: the pointers are valid for the lengths.
@@ -219,7 +238,7 @@ fn main() {
     beside("units::valid_up_to", "the assembly", &texts, units, |t| unsafe { nody_utf16_valid_up_to(t.units.as_ptr(), t.units.len()) } as u64);
     for (name, from, to) in [("utf8 to utf16le", 0u8, 1u8), ("utf16le to utf8", 1, 0)] {
         let (mut one, mut other) = (vec![0; 4 * LEN], vec![0; 4 * LEN]);
-        let forms = [noddychest::Form::Utf8, noddychest::Form::Utf16Le];
+        let forms = [Form::Utf8, Form::Utf16Le];
         let bytes = |t: &Text| if from == 0 { t.bytes.clone() } else { t.unit_bytes.clone() };
         let inputs: Vec<Vec<u8>> = texts.iter().map(bytes).collect();
         let of = |t: &Text| &inputs[texts.iter().position(|it| std::ptr::eq(it, t)).unwrap()];

@@ -83,7 +83,8 @@ impl<'a, T: Element> From<&'a [T]> for Pieces<'a, T> {
 impl<T: Element> Iterator for Pieces<'_, T> {
     type Item = Piece;
 
-    #[inline]
+    // (called, it would hand each piece on in memory)
+    #[inline(always)]
     fn next(&mut self) -> Option<Piece> {
         let piece = T::first_of(self.left, self.offset)?;
         self.pass(piece.len);

@@ -216,6 +216,14 @@ impl<const M: usize, const N: usize, P: Places<M>> Rows<M, N, P> {
     // Whether thirty-two lanes are made of as many, and each sixteen of the sixteen in the same place; and then the places for both vectors.
     const WITHIN: bool = M == 32 && N == 32 && !(Self::SOME[0][1] || Self::SOME[0][3] || Self::SOME[1][0] || Self::SOME[1][2]);
     const BOTH_32: [[[u8; 16]; 2]; 2] = [[Self::ROWS[0][0], Self::ROWS[1][1]], [Self::ROWS[0][2], Self::ROWS[1][3]]];
+    // Whether one vector is put after the other, once or again and again: that moves bytes, and looks none up.
+    const JOINS: bool = {
+        let (list, mut k) = (P::LIST, 0);
+        while k < M && list[k] == k % (2 * N) {
+            k += 1;
+        }
+        k == M && M % (2 * N) == 0
+    };
 }
 
 // The blocks of a vector, those past its end being 0.
@@ -440,6 +448,13 @@ impl<const N: usize, const BY_32: bool> Simd<u8, N, BY_32> {
     #[inline(always)]
     fn picked<const M: usize, P: Places<M>>(self, other: Self) -> Simd<u8, M, BY_32> {
         let mut out = Simd([0u8; M]);
+        if Rows::<M, N, P>::JOINS {
+            for both in out.0.chunks_exact_mut(2 * N) {
+                both[..N].copy_from_slice(&self.0);
+                both[N..].copy_from_slice(&other.0);
+            }
+            return out;
+        }
         #[cfg(target_arch = "x86_64")]
         if BY_32 && Rows::<M, N, P>::WITHIN {
             let [first, second] = Rows::<M, N, P>::BOTH_32.map(|rows| Simd::<[u8; 16], 2, true>(rows).block_32(0));
