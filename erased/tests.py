@@ -128,6 +128,7 @@ OVER_BYTES = [
     ("f([x[0], x[1], 0], [x[0], 0], [x[1], x[2]], [y[0], x[1]])\n", "f({ let x = &x[..2]; [x[0], x[1], 0] }, [x[0], 0], [x[1], x[2]], [y[0], x[1]])\n"),
     ("while 2 * B <= x.len() - at.end && 8 <= y.room() {\n", "while 2 * B <= x.len() && at.end <= x.len() - 2 * B && 8 <= y.room() {\n"),
     ("while 2 <= x.len() - 4 * place {\n    if 4 <= x.len() - place {}\n", None),
+    ("while PLACES + 13 <= x.len() - place {\n", None),
 ]
 
 # And in the copy for AVX2: what is put in line stays, and of each other function there is one for that processor.
