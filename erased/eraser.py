@@ -136,7 +136,8 @@ class Eraser(Text):
         """Which copy answers is asked first (wide.py)."""
         self.project.seen.add(key)
         length, answer = rules.CHOSEN[key]
-        path = f"crate::proved::{self.name.removesuffix('.rt').replace('/', '::wide::')}::{it.name}"
+        crate, *_, file = self.name.removesuffix(".rt").split("/")
+        path = f"crate::proved::{crate}::wide::{file}::{it.name}"
         self.back[it.body] = f"\n    crate::support::processor::wide!({length}, {answer.replace('OTHER', path)});"
 
     # What is ghost.

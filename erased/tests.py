@@ -130,6 +130,7 @@ OVER_BYTES = [
     ("f(&x[at.read..at.read + 4], &x[a..b + 4], &mut x[a..a + 4])\n",
      "f({ assert!(4 <= x.len() && at.read <= x.len() - 4); &x[at.read..at.read + 4] }, &x[a..b + 4], &mut x[a..a + 4])\n"),
     ("while 2 <= x.len() - 4 * place {\n    if 4 <= x.len() - place {}\n", None),
+    ("while PLACES + 13 <= x.len() - place {\n", None),
 ]
 
 # A part of a text as bytes: whether it is empty is seen first.

@@ -120,7 +120,7 @@ def by_front(text):
 
 def by_rest(text):
     """An erased file. In the head of a loop `64 <= bytes.len() - place` becomes two comparisons, which say that the place is in the bytes too."""
-    left = re.compile(r"((?:\d+ \* )?\w+) <= (\w+)\.len\(\) - ((?:\w+\.)?\w+)\b(?! \*)")
+    left = re.compile(r"(?<![-+*/%] )\b((?:\d+ \* )?\w+) <= (\w+)\.len\(\) - ((?:\w+\.)?\w+)\b(?! \*)")
     return re.sub(r"while .*", lambda it: left.sub(r"\1 <= \2.len() && \3 <= \2.len() - \1", it[0]), text)
 
 

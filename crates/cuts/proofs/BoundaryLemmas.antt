@@ -1,19 +1,21 @@
 -- Which code lies over a place, and the places between two pieces near it.
-use Rattle.std.proofs.Common.{◌≡◌, ℕ, ◌+◌, ◌-◌, ◌<◌, ◌≤◌, List, length, take, drop, Some, ⊎_elim, arith, ap, ◌∙◌, length-drop}
+use Rattle.std.proofs.Common.{◌≡◌, ℕ, ◌+◌, ◌-◌, ◌<◌, ◌≤◌, List, length, get_or, take, drop, None, Some, ⊎_elim, arith, refl, ap, ◌∙◌, false, length-drop}
 use Rattle.std.proofs.lemmas.Bool.{cases_lt}
-use Rattle.std.proofs.lemmas.List.{take_rest}
+use Rattle.std.proofs.lemmas.List.{get_or-drop, take_rest}
 use Rattle.std.specs.Prelude.{slice_range}
 use Rattle.utf_base.specs.Code.{utf8}
 use Rattle.utf_base.specs.CutLaws.{CodesNeverOverlap}
 use Rattle.utf_base.specs.Front.{BeginsWith}
-use Rattle.utf_base.specs.Kinds.{fault_kind}
+use Rattle.utf_base.specs.Kinds.{fault_kind, is_continuation}
 use Rattle.utf_base.specs.Piece.{Inside, Stands}
 use Rattle.utf_base.specs.declared.errors.Utf8ErrorKind.{Utf8ErrorKind}
 use Rattle.utf_base.proofs.Cuts.{front_char}
-use Rattle.utf_base.proofs.FrontLemmas.{no_code_where_fault}
+use Rattle.utf_base.proofs.FrontLemmas.{decodes_from_none, no_code_where_fault, no_fault_where_code}
 use Rattle.utf_base.proofs.Standing.{same_char}
 use Rattle.utf_base.proofs.Utf8Code.{utf8_is_code, length_utf8}
+use Rattle.recoding.proofs.CodeFronts.{continues_not}
 use Rattle.cuts.specs.PieceBoundaries.{IsBetween, IsCodeOver, IsEndFrom, IsFirstBetween, IsLastBetween}
+use Rattle.cuts.proofs.InnerLemmas.{asked_len}
 
 -- no code that begins from the place i on and before j lies over p
 abbrev pub NoneOver : List ℕ → ℕ → ℕ → ℕ → Type 0
@@ -66,6 +68,32 @@ none_over xs p le none = record {
       let before = none inside.from inside.char (omega arith) begins inside.stands in
       omega arith;
 }
+
+-- a byte that a code lies over continues it
+over_continues : (xs : List ℕ) (p : ℕ) → Inside utf8 xs p → (0x80 ≤ get_or xs p 0) × (get_or xs p 0 < 0xC0)
+over_continues xs p i =
+    let w = drop i.from xs in
+    let stands : Stands utf8 w 0 i.char = rw (take_rest xs i.from) at (stands_at_front xs i.from i.char i.stands) in
+    let none : fault_kind w ≡ None = no_fault_where_code w i.char stands in
+    let long = asked_len w i.char (length (utf8 i.char)) stands refl in
+    let begins = i.begins in
+    let ends = i.ends in
+    let byte = (decodes_from_none w none).follow (p - i.from) (omega arith) (omega arith) in
+    let place : i.from + (p - i.from) ≡ p = omega arith in
+    let same : get_or w (p - i.from) 0 ≡ get_or xs p 0 = get_or-drop i.from xs (p - i.from) 0 ∙ ap (λ k. get_or xs k 0) place in
+    rw same at byte
+
+pub none_at_end : (xs : List ℕ) (p : ℕ) → p ≡ length xs → IsBetween xs p
+none_at_end xs p end = record {
+  within = omega arith;
+  outside = λ i.
+      let within = i.stands.within in
+      let ends = i.ends in
+      omega arith;
+}
+
+pub none_over_start : (xs : List ℕ) (p : ℕ) → p ≤ length xs → is_continuation (get_or xs p 0) ≡ false → IsBetween xs p
+none_over_start xs p le starts = record { within = le; outside = λ i. continues_not (get_or xs p 0) starts (over_continues xs p i) }
 
 pub last_at : (xs : List ℕ) (p : ℕ) → IsBetween xs p → IsLastBetween xs p p
 last_at xs p b = record { between = b; before = omega arith; last = λ k lo hi. absurd (omega arith) }

@@ -1,6 +1,7 @@
 -- Chunks that an edit reaches, and those that come in their place.
 use Rattle.std.proofs.Common.{◌≡◌, ℕ, zero, suc, ◌+◌, ◌-◌, ◌^◌, ◌<◌, ◌≤◌, List, [], ◌∷◌, ◌++◌, length, get_or, take, drop, arith, refl, ap, ap₂, sym, ◌∙◌, ⊎_elim, Ok, Err, Result, length-append}
-use Rattle.std.proofs.lemmas.List.{append-nil, set-get_or, take-append-drop, take_at, drop_at}
+use Rattle.std.proofs.lemmas.Bool.{cases_lt}
+use Rattle.std.proofs.lemmas.List.{append-nil, length-take-le, set-get_or, take-append-drop, take_at, drop_at}
 use Rattle.std.proofs.lemmas.List.Edits.{split_between, length-between}
 use Rattle.std.proofs.lemmas.List.Folds.{concat-append}
 use Rattle.std.proofs.Math.Seq.{drop-append-add, drop-cons}
@@ -14,6 +15,7 @@ use Rattle.cuts.specs.ChunkEdits.{IsWindow, Surrounds}
 use Rattle.cuts.specs.Chunks.{EndOutside}
 use Rattle.cuts.specs.CountedChunks.{IsCounted}
 use Rattle.cuts.specs.Counts.{counts_of, sum_of, exchange_of, AreAmong, IsSmall}
+use Rattle.cuts.specs.PieceBoundaries.{IsLastBetween}
 use Rattle.cuts.proofs.ChunkLists.{take_up_to, EndOutside-one, EndOutside-append, EndOutside-front, EndOutside-rest, spot_within, concat-take-more, concat-take-le}
 use Rattle.cuts.proofs.CountLemmas.{Seams, counts_joined, counts_small}
 use Rattle.cuts.proofs.JoinedPieces.{inside_front, inside_rest}
@@ -120,6 +122,22 @@ module _ (chunks : List (List ℕ)) (x : Edit) (outside : EndOutside chunks) (ar
 
   pub reached_small : length (concat chunks) < 2 ^ 64 → length (concat (slice_range chunks x.first.number x.last.number)) < 2 ^ 64
   reached_small small = omega (arith, reached_len, spot_within chunks x.last.number x.last.place around.last)
+
+-- the chunks before them stay
+pub front_kept : (chunks made : List (List ℕ)) (x : Edit) → Surrounds chunks x → take x.first.number (splice chunks x.first.number x.last.number made) ≡ take x.first.number chunks
+front_kept chunks made x around =
+    let before : length (take x.first.number chunks) ≡ x.first.number = length-take-le x.first.number chunks around.first.within in
+    take_at (take x.first.number chunks) (made ++ drop x.last.number chunks) x.first.number before
+
+-- the window that is counted anew begins in them
+pub window_reached : (chunks : List (List ℕ)) (x : Edit) (p : ℕ) → EndOutside chunks → Surrounds chunks x → IsLastBetween (concat chunks) (x.start - 3) p → x.first.place ≤ p
+window_reached chunks x p outside around window =
+    ⊎_elim
+    (λ (lt : p < x.first.place).
+    let low : x.first.place ≤ x.start - 3 = ⊎_elim (λ (none : x.first.place ≡ 0). omega arith) (λ (near : x.first.place + 3 ≤ x.start). omega arith) around.before in
+    absurd (outside.outside x.first.number (rw around.first.begins at (window.last x.first.place lt low))))
+    (λ (ge : x.first.place ≤ p). ge)
+    (cases_lt p x.first.place)
 
 -- how long what takes their place is, at most
 pub made_small : (chunks made : List (List ℕ)) (x : Edit) (new : List ℕ) → ChunksEdited chunks made x new → length (splice (concat chunks) x.start x.end new) < 2 ^ 64 → length (concat made) < 2 ^ 64

@@ -12,7 +12,7 @@ use Rattle.cuts.specs.Chunks.{EndOutside, IsSpot}
 use Rattle.cuts.specs.PieceBoundaries.{IsFirstBetween}
 use Rattle.cuts.specs.Tables.{IsSplitAt}
 use Rattle.cuts.proofs.ChunkLists.{concat-take-more, next_spot}
-use Rattle.cuts.proofs.CountLemmas.{count_joined, pieces_few}
+use Rattle.cuts.proofs.CountLemmas.{count_joined}
 use Rattle.cuts.proofs.JoinedPieces.{inside_front, inside_rest, inside_before, inside_following}
 use Rattle.cuts.proofs.SplitNumbers.{bytes_split}
 
@@ -124,11 +124,13 @@ module _ (chunks : List (List ℕ)) (k p : ℕ) (x : List ℕ) (at : ChunkAt chu
       ⊎_elim (λ (here : m < p + length x). omega arith) (λ (end : p + length x ≡ length (concat chunks)). omega arith) (chunk_last m has)
 
 -- where there is no chunk, there is nothing
-pub none_found : (chunks : List (List ℕ)) (m : ℕ) → length chunks ≡ 0 → IsSplitAt (pieces (concat chunks)) m 0
-none_found [] m none =
-    let few = pieces_few [] in
-    record { within = omega arith; before = λ n d lo hi. absurd (omega arith); following = λ n d lo hi. absurd (omega arith) }
-none_found (x ∷ chunks) m none = absurd (omega arith)
+-- where no byte is at the place, all pieces begin before it
+pub all_found : (chunks : List (List ℕ)) (m : ℕ) → EndOutside chunks → length (concat chunks) ≤ m → IsSplitAt (pieces (concat chunks)) m (length (pieces (concat chunks)))
+all_found chunks m ends end =
+    let xs = concat chunks in
+    let all : take (length chunks) chunks ≡ chunks = take_all (length chunks) chunks (omega arith) in
+    let out : Inside utf8 xs (length xs) → ⊥ = λ i. ends.outside (length chunks) (rw all i) in
+    rw (take_all (length xs) xs (omega arith)) at (bytes_split xs (length xs) (omega arith) out m (inr refl) (λ n lo hi. absurd (omega arith)))
 
 pub nothing_left : (chunks : List (List ℕ)) → length chunks ≡ 0 → length (concat chunks) ≡ 0
 nothing_left [] none = refl

@@ -88,6 +88,13 @@ next_mark chunks m x c ends small mark lt is counts = record {
   before = ap₂ sum_of mark.before counts ∙ sym (chunk_counts chunks m.number x ends lt is);
 }
 
+-- the chunks before it stayed
+pub mark_kept : (xs ys : List (List ℕ)) (m : Mark) → IsMark xs m → take m.number ys ≡ take m.number xs → IsMark ys m
+mark_kept xs ys m mark same = record {
+  within = omega (arith, mark.within, ap length same, length-take m.number xs, length-take m.number ys);
+  before = mark.before ∙ ap (λ cs. counts_of (concat cs)) (sym same);
+}
+
 -- the chunk has the place that is not after its end
 pub mark_has : (chunks : List (List ℕ)) (m : Mark) (x : List ℕ) (at : ℕ) → IsMark chunks m → m.number < length chunks → x ≡ get_or chunks m.number x → m.before.bytes ≤ at → at - m.before.bytes < length x
     → at < length (concat (take (m.number + 1) chunks))

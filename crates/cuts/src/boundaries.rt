@@ -7,6 +7,7 @@ ghost use Rattle.std.specs.Prelude.{◌≡◌, ◌+◌, ◌-◌, ◌<◌, ◌≤
 ghost use Rattle.cuts.specs.PieceBoundaries.{IsBetween, IsCodeOver, IsEndFrom, IsFirstBetween, IsLastBetween};
 
 use encode_unicode::{Utf8Char, laws};
+use utf_base::elements::is_continuation;
 
 /// The last boundary at or before this offset: `floor(b"a\xe2\x82\xac", 3)` is 1. A boundary is an
 /// offset between two pieces, or either end of the bytes.
@@ -75,6 +76,12 @@ fn code_over(bytes: &[u8], place: usize) -> Option<(usize, usize)>
     requires { place ≤ length bytes.now }
     ensures { MatchOption result (IsBetween bytes.now place) (λ x. IsCodeOver bytes.now x.0 x.1 place) }
 {
+    if place == bytes.len() {
+        return None;
+    }
+    if !is_continuation(bytes[place]) {
+        return None;
+    }
     for start in place.saturating_sub(3)..place {
         let end = end_of_code(bytes, start);
         if place < end {

@@ -1,17 +1,22 @@
-//! Bytes that begin a code, counted in blocks of 64: of text, how many characters it has, and where one of them begins.
+//! Bytes that begin a code, counted in parts and in blocks: of text, how many characters it has, and where one of them begins.
 ghost use Rattle.std.specs.Prelude.{◌≡◌, ◌+◌, ◌^◌, ◌<◌, ◌≤◌, MatchOption, length, slice_range, take};
 ghost use Rattle.utf_lanes.specs.Starts.{IsStartOf, start_count};
 
 use std::simd::prelude::*;
 use utf_base::elements::is_continuation;
 
+// How many bytes are counted in one loop: no more than a byte can count, and as many as three blocks have.
+const PART: usize = 192;
+
 /// How many of the bytes are no continuation byte: of text, how many characters it has.
 #[inline]
 pub fn starts_in(bytes: &[u8]) -> usize
     ensures { result ≡ start_count bytes.now }
 {
-    let counted = counted_up_to(bytes, usize::MAX);
-    counted.starts + short_starts(&bytes[counted.place..])
+    let front = parts_counted(bytes);
+    let rest = &bytes[front.place..];
+    let counted = counted_up_to(rest, usize::MAX);
+    front.starts + (counted.starts + short_starts(&rest[counted.place..]))
 }
 
 /// Where the byte with this number stands, counted from 0, of those that are no continuation byte. `None` if there are no more.
@@ -39,6 +44,39 @@ pub fn nth_start(bytes: &[u8], number: usize) -> Option<usize>
 struct Counted {
     place: usize,
     starts: usize,
+}
+
+// Parts from the front on, as many as there are.
+#[inline(always)]
+fn parts_counted(bytes: &[u8]) -> Counted
+    ensures within { result.place ≤ length bytes.now }
+    ensures starts { result.starts ≡ start_count (take result.place bytes.now) }
+{
+    let mut counted = Counted {
+        place: 0,
+        starts: 0,
+    };
+    while PART <= bytes.len() - counted.place {
+        counted.starts += part_starts(&bytes[counted.place..counted.place + PART]) as usize;
+        counted.place += PART;
+    }
+    counted
+}
+
+// How many bytes of a part begin a code. A byte counts them: so a compiler compares and adds as many at once as a vector has lanes,
+// and makes one number of the lanes for each part, where a mask is one for each vector.
+#[inline(always)]
+fn part_starts(bytes: &[u8]) -> u8
+    requires { length bytes.now ≡ 192 }
+    ensures { result ≡ start_count bytes.now }
+{
+    let mut starts = 0;
+    for place in 0..PART {
+        if !is_continuation(bytes[place]) {
+            starts += 1;
+        }
+    }
+    starts
 }
 
 // Blocks of 64 from the front on, as long as no more than so many of their bytes begin a code.

@@ -4,10 +4,13 @@ ghost use Rattle.cuts.specs.Counts.{counts_of, sum_of, exchange_of, IsSmall, Are
 ghost use Rattle.cuts.specs.Measures.{measure_of};
 ghost use Rattle.cuts.specs.ShardRuns.{line_feed_count as feed_count};
 
-use crate::runs::steps::next_step;
+use crate::runs::steps::{COUNTED, next_step, piece_step};
 
 // How many bytes are compared in one loop: no more than a byte can count.
 const PART: usize = 128;
+
+// Fewer bytes are decoded one by one: so those around an edit mostly are. To judge these at once takes longer.
+const FEW: usize = 32;
 
 /// How many bytes, characters, invalid bytes and line feeds some bytes have.
 #[derive(Clone, Copy, Debug, PartialEq, Eq, Drop)]
@@ -29,11 +32,14 @@ impl Counts {
     pub fn of(bytes: &[u8]) -> Counts
         ensures { result ≡ counts_of bytes.now }
     {
+        if bytes.len() < FEW {
+            return few_counts(bytes);
+        }
         let mut place = 0;
         let mut pieces = 0;
         let mut faults = 0;
         while place < bytes.len() {
-            let step = next_step(&bytes[place..]);
+            let step = next_step(&bytes[place..], COUNTED);
             place += step.len;
             pieces += step.pieces;
             faults += step.faults;
@@ -92,6 +98,28 @@ impl Measure {
             Measure::Pieces => counts.pieces,
             Measure::LineFeeds => counts.line_feeds,
         }
+    }
+}
+
+// What a few bytes count.
+fn few_counts(bytes: &[u8]) -> Counts
+    requires { length bytes.now < 32 }
+    ensures { result ≡ counts_of bytes.now }
+{
+    let mut place = 0;
+    let mut pieces = 0;
+    let mut faults = 0;
+    while place < bytes.len() {
+        let step = piece_step(&bytes[place..]);
+        place += step.len;
+        pieces += step.pieces;
+        faults += step.faults;
+    }
+    Counts {
+        bytes: bytes.len(),
+        pieces,
+        faults,
+        line_feeds: part_feeds(bytes) as usize,
     }
 }
 

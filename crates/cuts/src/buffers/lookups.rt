@@ -5,14 +5,14 @@ ghost use Rattle.encode_unicode.specs.Pieces.{pieces};
 ghost use Rattle.encode_unicode.specs.Window.{Item as AnItem};
 ghost use Rattle.cuts.specs.Chunks.{EndOutside};
 ghost use Rattle.cuts.specs.PieceBoundaries.{IsBetween};
-ghost use Rattle.cuts.specs.Rows.{AreSums};
+ghost use Rattle.cuts.specs.Rows.{AreSums, IsMark};
 ghost use Rattle.cuts.specs.Tables.{IsSplitAt};
 
 use crate::boundaries::ceil;
 use crate::buffers::chunk::Chunk;
 use crate::buffers::counts::{Counts, Measure};
 use crate::buffers::measures::find_number;
-use crate::buffers::rows::mark_at;
+use crate::buffers::rows::{Mark, mark_from, skip};
 use crate::buffers::spots::find;
 use crate::runs::numbers::offset_of;
 use crate::runs::piece_counts::piece_count;
@@ -44,9 +44,20 @@ pub fn pieces_before<A: Allocator>(chunks: &[Chunk<A>], sums: &[Counts], at: usi
     requires sums { AreSums chunks.now sums.now }
     ensures { IsSplitAt (pieces (concat chunks.now)) at result }
 {
-    let mark = mark_at(chunks, sums, at);
+    pieces_before_from(chunks, skip(chunks, sums, Measure::Bytes, at), at)
+}
+
+// The same, looked for from a chunk on that does not begin after the place.
+pub fn pieces_before_from<A: Allocator>(chunks: &[Chunk<A>], from: Mark, at: usize) -> usize
+    requires ends { EndOutside chunks.now }
+    requires fits { length (concat chunks.now) < 2 ^ 64 }
+    requires mark { IsMark chunks.now from }
+    requires before { from.before.bytes ≤ at }
+    ensures { IsSplitAt (pieces (concat chunks.now)) at result }
+{
+    let mark = mark_from(chunks, from, at);
     if mark.number == chunks.len() {
-        return 0;
+        return mark.before.pieces;
     }
     let chunk = &chunks[mark.number];
     let end = ceil(chunk.bytes(), chunk.len().min(at - mark.before.bytes));

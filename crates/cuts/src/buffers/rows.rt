@@ -64,7 +64,22 @@ pub fn mark_at<A: Allocator>(chunks: &[Chunk<A>], sums: &[Counts], at: usize) ->
     ensures some { 0 < length chunks.now → result.number < length chunks.now }
     ensures has { result.number + 1 < length chunks.now → at < length (concat (take (result.number + 1) chunks.now)) }
 {
-    let mut mark = skip(chunks, sums, Measure::Bytes, at);
+    mark_from(chunks, skip(chunks, sums, Measure::Bytes, at), at)
+}
+
+// The same, looked for from a chunk on that does not begin after the place.
+pub fn mark_from<A: Allocator>(chunks: &[Chunk<A>], from: Mark, at: usize) -> Mark
+    requires ends { EndOutside chunks.now }
+    requires fits { length (concat chunks.now) < 2 ^ 64 }
+    requires mark { IsMark chunks.now from }
+    requires before { from.before.bytes ≤ at }
+    ensures mark { IsMark chunks.now result }
+    ensures spot { IsSpot chunks.now result.number result.before.bytes }
+    ensures before { result.before.bytes ≤ at }
+    ensures some { from.number < length chunks.now → result.number < length chunks.now }
+    ensures has { result.number + 1 < length chunks.now → at < length (concat (take (result.number + 1) chunks.now)) }
+{
+    let mut mark = from;
     while mark.number + 1 < chunks.len() {
         let counts = chunks[mark.number].counts();
         if at - mark.before.bytes < counts.bytes {

@@ -8,7 +8,7 @@ ghost use Rattle.cuts.specs.Counts.{counts_of};
 ghost use Rattle.cuts.specs.CountedChunks.{IsCounted};
 ghost use Rattle.cuts.specs.ChunkEdits.{Surrounds};
 ghost use Rattle.cuts.specs.Chunks.{EndOutside};
-ghost use Rattle.cuts.specs.Rows.{AreSums};
+ghost use Rattle.cuts.specs.Rows.{AreSums, IsMark};
 ghost use Rattle.cuts.specs.ShardRuns.{line_feed_count};
 ghost use Rattle.cuts.specs.Tables.{IsSplitAt};
 ghost use Rattle.cuts.specs.TextLookups.{HasNoFaultBefore, HasNoFaultFrom, HasPlace, IsLineStart, IsNextFault, IsPreviousFault};
@@ -18,12 +18,12 @@ use crate::buffers::chunk::Chunk;
 use crate::buffers::counts::Counts;
 use crate::buffers::dividing::{ROOM, divide, joined_bytes, one_chunk, total};
 use crate::buffers::line_feeds::{feeds_before, line_start};
-use crate::buffers::lookups::{chunk_from, pieces_before, place_of};
+use crate::buffers::lookups::{chunk_from, pieces_before, pieces_before_from, place_of};
 use crate::buffers::next_faults::fault_from;
 use crate::buffers::pieces_at::{nth_piece, piece_over};
 use crate::buffers::previous_faults::fault_before;
-use crate::buffers::rows::{ROW, renew_sums, sum_rows};
-use crate::buffers::spots::{Spot, find, find_end};
+use crate::buffers::rows::{Mark, ROW, mark_at, renew_sums, sum_rows};
+use crate::buffers::spots::{Spot, find_end};
 use crate::runs::items::Item;
 use std::alloc::{AllocError, Allocator};
 use std::marker::Model;
@@ -218,7 +218,8 @@ impl<A: Allocator + Copy> TextBuffer<A> {
         ensures change { IfOk result (IsChange self.old self.new start end) }
         ensures err { OnErr result (self.new ≡ self.old) }
     {
-        let edit = reach(&self.chunks, &self.sums, start, end);
+        let mark = mark_at(&self.chunks, &self.sums, start.saturating_sub(3));
+        let edit = reach(&self.chunks, mark, start, end);
         let recount = replace_reached(
             &mut self.chunks,
             &mut self.sums,
@@ -228,7 +229,7 @@ impl<A: Allocator + Copy> TextBuffer<A> {
         )?;
         Ok(Change {
             offset: recount.place,
-            number: pieces_before(&self.chunks, &self.sums, recount.place),
+            number: pieces_before_from(&self.chunks, mark, recount.place),
             gone: recount.gone,
             come: recount.come,
         })
@@ -270,17 +271,22 @@ pub(crate) struct Edit {
     pub end: usize,
 }
 
-// The chunks that an edit of this part reaches.
-fn reach<A: Allocator>(chunks: &[Chunk<A>], sums: &[Counts], start: usize, end: usize) -> Edit
+// The chunks that an edit of this part reaches, of which the first is known.
+fn reach<A: Allocator>(chunks: &[Chunk<A>], mark: Mark, start: usize, end: usize) -> Edit
     requires ends { EndOutside chunks.now }
-    requires sums { AreSums chunks.now sums.now }
+    requires mark { IsMark chunks.now mark }
+    requires near { mark.before.bytes ≤ start - 3 }
     requires ordered { start ≤ end }
     requires within { end ≤ length (concat chunks.now) }
     requires small { length (concat chunks.now) < 2 ^ 64 }
     ensures surrounds { Surrounds chunks.now result }
     ensures part { (result.start ≡ start) × (result.end ≡ end) }
+    ensures first { (result.first.number ≡ mark.number) × (result.first.place ≡ mark.before.bytes) }
 {
-    let first = find(chunks, sums, start.saturating_sub(3));
+    let first = Spot {
+        number: mark.number,
+        place: mark.before.bytes,
+    };
     let last = find_end(chunks, first, end.saturating_add(3));
     Edit {
         first,
@@ -307,6 +313,7 @@ fn replace_reached<A: Allocator + Copy>(
         splice (concat chunks.old.items) edit.start edit.end new.now) }
     ensures recount { IfOk result (λ r. IsRecount (concat chunks.old.items) (concat chunks.new.items)
         edit.start edit.end r.place r.gone r.come) }
+    ensures front { IfOk result (λ _. take edit.first.number chunks.new.items ≡ take edit.first.number chunks.old.items) }
     ensures err { OnErr result (concat chunks.new.items ≡ concat chunks.old.items) }
 {
     let left = counts.bytes - (edit.end - edit.start);
@@ -339,6 +346,7 @@ fn replace_within<A: Allocator>(
         splice (concat chunks.old.items) edit.start edit.end new.now) }
     ensures recount { IfOk result (λ r. IsRecount (concat chunks.old.items) (concat chunks.new.items)
         edit.start edit.end r.place r.gone r.come) }
+    ensures front { IfOk result (λ _. take edit.first.number chunks.new.items ≡ take edit.first.number chunks.old.items) }
     ensures err { OnErr result (concat chunks.new.items ≡ concat chunks.old.items) }
 {
     let chunk = &mut chunks[edit.first.number];
@@ -376,6 +384,7 @@ fn replace_chunks<A: Allocator + Copy>(
         splice (concat chunks.old.items) edit.start edit.end new.now) }
     ensures recount { IfOk result (λ r. IsRecount (concat chunks.old.items) (concat chunks.new.items)
         edit.start edit.end r.place r.gone r.come) }
+    ensures front { IfOk result (λ _. take edit.first.number chunks.new.items ≡ take edit.first.number chunks.old.items) }
     ensures err { OnErr result (concat chunks.new.items ≡ concat chunks.old.items) }
 {
     let alloc = *chunks.allocator();

@@ -3,7 +3,7 @@ ghost use Rattle.std.specs.Prelude.{◌≡◌, length};
 ghost use Rattle.encode_unicode.specs.Pieces.{pieces, unit_pieces};
 ghost use Rattle.cuts.specs.ForwardRuns.{faulty_item_count};
 
-use crate::runs::steps::next_step;
+use crate::runs::steps::{COUNTED, next_step};
 use crate::runs::well_formed::valid_up_to;
 use encode_unicode::iterator::Utf8CharDecoder;
 use utf_lanes::unit_starts::unit_starts_in;
@@ -35,7 +35,7 @@ pub fn char_count(bytes: &[u8]) -> usize
     let mut place = 0;
     let mut count = 0;
     while place < bytes.len() {
-        let step = next_step(&bytes[place..]);
+        let step = next_step(&bytes[place..], COUNTED);
         place += step.len;
         count += step.pieces;
     }

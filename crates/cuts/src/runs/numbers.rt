@@ -6,7 +6,7 @@ ghost use Rattle.cuts.specs.Tables.{IsSplitAt};
 
 use crate::boundaries::ceil;
 use crate::runs::counts::{char_count, unit_char_count};
-use crate::runs::steps::{next_step, offset_in_step};
+use crate::runs::steps::{SOUGHT, next_step, offset_in_step};
 use recoding::boundaries::unit_boundary_after;
 use utf_lanes::unit_starts::nth_unit_start;
 
@@ -20,7 +20,7 @@ pub fn offset_of(bytes: &[u8], number: usize) -> Option<usize>
     let mut place = 0;
     let mut left = number;
     while place < bytes.len() {
-        let step = next_step(&bytes[place..]);
+        let step = next_step(&bytes[place..], SOUGHT);
         if left < step.pieces {
             let offset = offset_in_step(&bytes[place..place + step.len], step.text, left);
             return Some(place + offset);

@@ -6,24 +6,40 @@ ghost use Rattle.cuts.specs.InnerBytes.{inner_after, inner_before, is_begun, is_
 use encode_unicode::CharExt;
 use utf_base::elements::is_continuation;
 
-// How many places are looked at in one loop, which a compiler makes one vector of. A byte counts the inner bytes there. With 64 the
-// places after the last block, which go one by one, took as long as the blocks.
-const PLACES: usize = 16;
-
-// How many bytes tell what begins at these places: three more.
-const BLOCK: usize = 19;
-
 // How many pieces the bytes have. An inner byte is one that a code has after its first, and every other byte begins a piece.
 pub(crate) fn piece_count(bytes: &[u8]) -> usize
     ensures { result ≡ length (pieces bytes.now) }
 {
-    let mut place = 0;
+    let wide = blocks_inner::<32>(bytes, 0);
+    let all = blocks_inner::<16>(bytes, wide.place);
+    bytes.len() - wide.inner - all.inner - inner_from(bytes, all.place)
+}
+
+// A place, and how many inner bytes those codes have that begin from another place on and before it.
+#[derive(Clone, Copy, Drop)]
+struct Inner {
+    place: usize,
+    inner: usize,
+}
+
+// Those from the start on, by blocks of so many places, as far as these go. A loop looks at the places of a block, which a compiler
+// makes one vector of, and a byte counts the inner bytes there. What begins at a place is told by the three bytes after it too.
+#[inline(always)]
+fn blocks_inner<const PLACES: usize>(bytes: &[u8], start: usize) -> Inner
+    requires some { 0 < PLACES }
+    requires few { PLACES ≤ 64 }
+    requires start { start ≤ length bytes.now }
+    ensures within { result.place ≤ length bytes.now }
+    ensures inner { inner_before bytes.now start + result.inner ≡ inner_before bytes.now result.place }
+{
+    let block = PLACES + 3;
+    let mut place = start;
     let mut inner = 0;
-    while BLOCK <= bytes.len() - place {
-        inner += block_inner(&bytes[place..place + BLOCK]) as usize;
+    while block <= bytes.len() - place {
+        inner += block_inner::<PLACES>(&bytes[place..place + block]) as usize;
         place += PLACES;
     }
-    bytes.len() - inner - inner_from(bytes, place)
+    Inner { place, inner }
 }
 
 // How many inner bytes those codes have that begin at the start or after it.
@@ -55,9 +71,10 @@ fn front_inner(bytes: &[u8]) -> usize
 
 // How many those have that begin at the places of a block.
 #[inline(always)]
-fn block_inner(bytes: &[u8]) -> u8
-    requires { 19 ≤ length bytes.now }
-    ensures { result ≡ inner_before bytes.now 16 }
+fn block_inner<const PLACES: usize>(bytes: &[u8]) -> u8
+    requires few { PLACES ≤ 64 }
+    requires enough { PLACES + 3 ≤ length bytes.now }
+    ensures { result ≡ inner_before bytes.now PLACES }
 {
     let mut inner = 0;
     for place in 0..PLACES {

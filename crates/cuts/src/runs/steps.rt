@@ -10,8 +10,11 @@ use encode_unicode::CharExt;
 use utf_lanes::ascii_texts::ascii_wide_end;
 use utf_lanes::starts::{nth_start, starts_in};
 
-// How many bytes are judged at once.
-const BLOCK: usize = 4096;
+// How many bytes are judged at once where all are counted: so many stay in the cache until they are counted.
+pub(crate) const COUNTED: usize = 16_384;
+
+// And where one of them is sought: so the search stops soon after it.
+pub(crate) const SOUGHT: usize = 4096;
 
 // Bytes at the front: how many, how many pieces they have, how many of these are faults, and how many bytes are text; no more than
 // one piece follows that.
@@ -23,13 +26,13 @@ pub(crate) struct Step {
     pub text: usize,
 }
 
-// The next step over some bytes: text, and the piece after it.
-pub(crate) fn next_step(bytes: &[u8]) -> Step
+// The next step over some bytes, of which no more than `most` are judged: text, and the piece after it.
+pub(crate) fn next_step(bytes: &[u8], most: usize) -> Step
     requires { 0 < length bytes.now }
     ensures some { 0 < result.len }
     ensures step { IsPieceStep bytes.now result }
 {
-    let part = &bytes[..bytes.len().min(BLOCK)];
+    let part = &bytes[..bytes.len().min(most)];
     let ascii = ascii_wide_end(part, 0);
     if 0 < ascii {
         return Step {
@@ -60,7 +63,7 @@ pub(crate) fn next_step(bytes: &[u8]) -> Step
 
 // The step over the piece that begins some bytes.
 #[inline(always)]
-fn piece_step(bytes: &[u8]) -> Step
+pub(crate) fn piece_step(bytes: &[u8]) -> Step
     requires { 0 < length bytes.now }
     ensures some { 0 < result.len }
     ensures one { result.pieces ≡ 1 }

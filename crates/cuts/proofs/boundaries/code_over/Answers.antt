@@ -1,6 +1,12 @@
-use Rattle.std.proofs.Common.{arith}
-use Rattle.cuts.proofs.BoundaryLemmas.{none_over, over_found, over_push}
+use Rattle.std.proofs.Common.{arith, sym, ◌∙◌}
+use Rattle.cuts.proofs.BoundaryLemmas.{none_at_end, none_over, none_over_start, over_found, over_push}
 use Rattle.cuts.proofs.boundaries.code_over.Goals as goal
+
+pub returns-then-place-bytes : goal.returns-then-place-bytes
+returns-then-place-bytes c = none_at_end c.args.bytes.now c.args.place c.if-place-bytes.true
+
+pub returns-then-not-is_continuation : goal.returns-then-not-is_continuation
+returns-then-not-is_continuation c = none_over_start c.args.bytes.now c.args.place c.requires (sym c.is_continuation.ensures ∙ c.if-not-is_continuation.true)
 
 pub loop-start-init : goal.loop-start-init
 loop-start-init c k s from before stands = let first = c.saturating_sub-start.ensures in absurd (omega arith)

@@ -3,6 +3,7 @@ use Rattle.std.proofs.lemmas.Bool.{cases_lt}
 use Rattle.std.proofs.lemmas.List.{take_all}
 use Rattle.std.specs.List.{concat}
 use Rattle.cuts.proofs.ChunkLists.{spot_within}
+use Rattle.cuts.proofs.RowLemmas.{spot_of_mark}
 use Rattle.cuts.proofs.buffers.text_buffer.reach.Goals as goal
 
 pub returns-clause-surrounds : goal.returns-clause-surrounds
@@ -10,12 +11,12 @@ returns-clause-surrounds g c =
     let chunks = c.args.chunks.now in
     let s = c.args.start in
     let e = c.args.end in
-    let first = c.find-first.result in
     let last = c.find_end-last.result in
-    let low : first.place ≤ c.saturating_sub.result = c.find-first.ensures.before in
+    let low = c.requires.near in
+    let mark = c.args.mark in
     let within : last.place ≤ length (concat chunks) = spot_within chunks last.number last.place c.find_end-last.ensures.spot in
     record {
-      first = c.find-first.ensures.spot;
+      first = spot_of_mark chunks mark c.requires.mark;
       last = c.find_end-last.ensures.spot;
       in_order = c.find_end-last.ensures.ordered;
       ordered = c.requires.ordered;

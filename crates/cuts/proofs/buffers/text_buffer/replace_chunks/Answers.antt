@@ -3,7 +3,7 @@ use Rattle.std.specs.List.{concat, splice}
 use Rattle.std.specs.Prelude.{slice_range}
 use Rattle.cuts.specs.Counts.{counts_of}
 use Rattle.cuts.proofs.ChangeLemmas.{recount_of_chunks}
-use Rattle.cuts.proofs.ChunkEditLemmas.{chunks_edited, reached_len, reached_ends, reached_small, edit_begins, edit_ends, edit_counted, edit_counts_small, edit_part}
+use Rattle.cuts.proofs.ChunkEditLemmas.{chunks_edited, reached_len, reached_ends, reached_small, edit_begins, edit_ends, edit_counted, edit_counts_small, edit_part, front_kept}
 use Rattle.cuts.proofs.RowEditLemmas.{were_exchanged}
 use Rattle.cuts.proofs.buffers.text_buffer.replace_chunks.Goals as goal
 
@@ -70,6 +70,9 @@ returns-clause-ok g c =
     let edit = chunks_edited c.args.chunks.now.items c.in_ok-made.made.items c.args.edit c.args.new.now c.requires.counted.ends c.requires.surrounds c.in_ok-made.ensures.ends
     (now ∙ (c.in_ok-recount.ensures.ok ∙ ap part was)) in
     rw c.in_ok-put_chunks.ensures.ok edit.bytes
+
+pub returns-clause-front : goal.returns-clause-front
+returns-clause-front g c = rw c.in_ok-put_chunks.ensures.ok (front_kept c.args.chunks.now.items c.in_ok-made.made.items c.args.edit c.requires.surrounds)
 
 pub returns-clause-recount : goal.returns-clause-recount
 returns-clause-recount g c =

@@ -2,7 +2,7 @@ use Rattle.std.proofs.Common.{◌-◌, [], ◌∷◌, refl, ap, sym, ◌∙◌, 
 use Rattle.std.specs.List.{concat, splice}
 use Rattle.cuts.specs.Counts.{counts_of}
 use Rattle.cuts.proofs.ChangeLemmas.{recount_of_chunks}
-use Rattle.cuts.proofs.ChunkEditLemmas.{OnErr-always, one_edited, one_len, set_read, edit_begins, edit_ends, edit_counted, edit_counts_small, edit_part}
+use Rattle.cuts.proofs.ChunkEditLemmas.{OnErr-always, one_edited, one_len, set_read, edit_begins, edit_ends, edit_counted, edit_counts_small, edit_part, front_kept}
 use Rattle.cuts.proofs.RowEditLemmas.{were_exchanged}
 use Rattle.cuts.proofs.buffers.text_buffer.replace_within.Goals as goal
 
@@ -55,6 +55,12 @@ returns-clause-ok g c =
     let one = one_edited c.args.chunks.now.items c.args.edit c.args.new.now c.index_mut-chunk.result.now c.replace_part.new.chunk c.requires.counted.ends c.requires.surrounds c.requires.one
     c.index_mut-chunk.ensures.value c.in_ok-recount.ensures.ok in
     rw one.set_is one.edit.bytes
+
+pub returns-clause-front : goal.returns-clause-front
+returns-clause-front g c =
+    let one = one_edited c.args.chunks.now.items c.args.edit c.args.new.now c.index_mut-chunk.result.now c.replace_part.new.chunk c.requires.counted.ends c.requires.surrounds c.requires.one
+    c.index_mut-chunk.ensures.value c.in_ok-recount.ensures.ok in
+    rw one.set_is (front_kept c.args.chunks.now.items (c.replace_part.new.chunk ∷ []) c.args.edit c.requires.surrounds)
 
 pub returns-clause-recount : goal.returns-clause-recount
 returns-clause-recount g c =

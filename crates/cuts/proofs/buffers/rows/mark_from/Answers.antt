@@ -1,7 +1,7 @@
 use Rattle.std.proofs.Common.{arith, ap, ◌∙◌}
 use Rattle.cuts.specs.declared.buffers.counts.Counts.{Counts}
 use Rattle.cuts.proofs.RowLemmas.{mark_has, next_mark, spot_of_mark}
-use Rattle.cuts.proofs.buffers.rows.mark_at.Goals as goal
+use Rattle.cuts.proofs.buffers.rows.mark_from.Goals as goal
 
 pub returns-then-at-mark-clause-spot : goal.returns-then-at-mark-clause-spot
 returns-then-at-mark-clause-spot g c = spot_of_mark c.args.chunks.now c.loop-mark.mark c.loop-mark.invariant.0

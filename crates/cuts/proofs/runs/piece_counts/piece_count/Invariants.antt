@@ -1,9 +1,0 @@
-use Rattle.std.proofs.Common.{◌≡◌, ◌-◌, ◌≤◌, length}
-use Rattle.cuts.specs.InnerBytes.{inner_before}
-use Rattle.cuts.proofs.runs.piece_counts.piece_count.Given as goal
-
-abbrev pub invariant-loop-place : goal.invariant-loop-place
-invariant-loop-place l = (l.place ≤ length l.bytes) × (l.inner ≡ inner_before l.bytes l.place)
-
-abbrev pub decreases-loop-place : goal.decreases-loop-place
-decreases-loop-place l = length l.bytes - l.place
