@@ -170,6 +170,13 @@ static const char *wrong_with(const struct request *request, int bit, int count,
     return NULL;
 }
 
+/* Whether a command writes, as it reads an input, to that same file: then the input might never end. */
+static bool is_output(const struct request *request, int bit, const struct stat *input) {
+    struct stat about;
+    if (!(bit & (CHECK | LIST | RECODE)) || request->into || request->is_in_place || !S_ISREG(input->st_mode) || input->st_size == 0) return false;
+    return fstat(out.file, &about) == 0 && about.st_dev == input->st_dev && about.st_ino == input->st_ino;
+}
+
 /* Runs a command on one input, and says whether that has to be read again: it is followed, and became shorter. */
 static bool run_once(const struct request *request, int which, const char *name, uint64_t offset, enum status *status) {
     struct run run;
@@ -177,7 +184,10 @@ static bool run_once(const struct request *request, int which, const char *name,
     memset(&run, 0, sizeof run);
     run.request = request;
     run.out = &out;
-    if (open_source(&run.source, name, request)) {
+    if (open_source(&run.source, name, request) && is_output(request, commands[which].bit, &run.source.about)) {
+        flush_output(&out);
+        complain(name, "it is the output too");
+    } else if (!run.source.error) {
         start_progress(request->is_quiet);
         here = commands[which].run ? commands[which].run(&run) : run_at(&run, offset);
     } else {

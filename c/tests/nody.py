@@ -381,6 +381,10 @@ def check_failures(folder, program):
     says([program, "recode", valid, "-o", "/dev/full"], 3, b"", b"nody: /dev/full: No space left on device\n")
     says([program, "recode", valid, "-o", f"{folder}/none/x"], 3, b"", b"No such file or directory")
     says([program, "check", valid, missing], 3, line, b"No such file")
+    for words in (["recode", "--jobs", "1", valid], ["check", valid], ["list", "-"]):
+        with open(valid, "rb") as file, open(valid, "ab") as end:
+            ran = subprocess.run([program, *words], stdin=file, stdout=end, stderr=subprocess.PIPE)
+        expect((ran.returncode, contents(valid)) == (3, b"text\n") and b": it is the output too" in ran.stderr, f"{words} to its input: {ran}")
     check_unreadable(folder, program, valid)
     check_endless(program)
 

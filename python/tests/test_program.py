@@ -107,6 +107,14 @@ class Program(unittest.TestCase):
                 it = subprocess.run(["sh", "-c", '"$@" ' + closed, "sh", sys.executable, "-m", "noddychest", *words, *more], stdout=subprocess.PIPE, stderr=subprocess.PIPE)
                 self.assertEqual((it.returncode, it.stdout, it.stderr.count(b"\n")), (3, b"", 1), (words, closed, it.stderr))
 
+    def test_input_that_is_the_output(self):
+        path = self.file(b"a\xff")
+        for words in (["pieces", path], ["check", path], ["recode", "--from", "utf8", "--to", "utf8", "-"]):
+            with open(path, "rb") as file, open(path, "ab") as end:
+                it = subprocess.run([sys.executable, "-m", "noddychest", *words], stdin=file, stdout=end, stderr=subprocess.PIPE)
+            with open(path, "rb") as file:
+                self.assertEqual((it.returncode, file.read()), (3, b"a\xff"), (words, it.stderr))
+
     def test_names_that_are_no_text(self):
         name = os.fsencode(self.folder) + b"/\xff"
         with open(name, "wb") as file:

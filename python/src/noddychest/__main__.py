@@ -7,6 +7,7 @@ from __future__ import annotations
 import argparse
 import errno
 import os
+import stat
 import sys
 from collections.abc import Iterator
 from io import BufferedReader, TextIOWrapper
@@ -55,7 +56,12 @@ def _jobs(word: str) -> int:
 
 
 def _open(name: str) -> BufferedReader:
-    return open(0 if name == "-" else name, "rb", closefd=name != "-")
+    file = open(0 if name == "-" else name, "rb", closefd=name != "-")
+    about = os.fstat(file.fileno())
+    if stat.S_ISREG(about.st_mode) and about.st_size > 0 and os.path.samestat(about, os.fstat(1)):
+        file.close()
+        raise OSError(f"{name}: it is the output too")  # (it might never end)
+    return file
 
 
 def _parts(file: BufferedReader) -> Iterator[bytes]:
