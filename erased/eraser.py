@@ -150,8 +150,6 @@ class Eraser(Text):
         while (i := self.next(i)) < len(self.t):
             if self.text(i) == "ghost":
                 i = self.ghost_item(i)
-            elif self.text(i) == "ensures":
-                self.erase(i, self.clause_end(i))
             elif self.text(i) == "#":
                 i = self.attribute(i)
             elif self.text(i) == "impl" and self.is_model(i):
@@ -273,15 +271,11 @@ class Eraser(Text):
                     self.front[i] = GATE + self.front.get(i, "")
 
     def bound(self, i):
-        b, a = self.before(i), self.next(i)
+        b = self.before(i)
         if self.text(b) == "+":
             self.erase(self.before(b) + 1, i)
-        elif self.text(b) == ":" and self.text(a) == "+":
-            self.erase(i, self.next(a) - 1)
-        elif self.text(b) == ":" and self.text(a) in (",", ">", "{"):
-            self.erase(b, i)
         else:
-            self.stop(i, "`Drop` stands in no bound")
+            self.stop(i, "`Drop` stands in no bound after another")
 
     def formatter(self, i, left):
         """`fn f<.., W: Write>(f: &mut Formatter<W>)` names no writer in Rust."""
