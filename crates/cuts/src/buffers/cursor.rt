@@ -30,6 +30,8 @@ impl<'a, A: Allocator + Copy> Model for TextCursor<'a, A> {
 impl<'a, A: Allocator + Copy> TextCursor<'a, A> {
     /// A cursor at the last boundary between two pieces that is not after this offset, or at the end of
     /// the text if the offset is not below its length.
+    ///
+    /// Cost: as that of `TextBuffer::piece_at`.
     pub fn at(text: &'a TextBuffer<A>, offset: usize) -> TextCursor<'a, A>
         ensures text { result.text ≡ text.now }
         ensures offset { IsLastBetween text.now (min offset (length text.now)) result.offset }
@@ -58,6 +60,8 @@ impl<'a, A: Allocator + Copy> TextCursor<'a, A> {
 
     /// The piece after the place, and goes to its end: (offset, character or error, length). `None` at
     /// the end of the text.
+    ///
+    /// Cost: as that of `TextBuffer::piece_at`.
     pub fn next(&mut self) -> Option<Item>
         ensures text { self.new.text ≡ self.old.text }
         ensures piece { MatchOption result (self.old.offset ≡ length self.old.text)
@@ -74,6 +78,8 @@ impl<'a, A: Allocator + Copy> TextCursor<'a, A> {
 
     /// The piece before the place, and goes to where it begins: (offset, character or error, length).
     /// `None` at the beginning of the text.
+    ///
+    /// Cost: as that of `TextBuffer::piece_at`.
     pub fn next_back(&mut self) -> Option<Item>
         ensures text { self.new.text ≡ self.old.text }
         ensures piece { MatchOption result (self.old.offset ≡ 0)

@@ -12,7 +12,7 @@ use recoding::form::Form;
 use recoding::shards::shard_end;
 use std::alloc::{AllocError, Allocator};
 
-// The most bytes that a chunk has where it is edited. An edit moves half of them at most, and a piece is found by decoding them.
+// The most bytes that a chunk has where it is edited. An edit moves half of them at most, and a piece is found by counting them.
 pub const ROOM: usize = 2048;
 
 // How many a new chunk has: so it has room for some edits.

@@ -64,7 +64,7 @@ pub fn pieces_before_from<A: Allocator>(chunks: &[Chunk<A>], from: Mark, at: usi
     mark.before.pieces + pieces_up_to(chunk, end)
 }
 
-// How many pieces of a chunk are before a boundary of it. It decodes what is on the shorter side.
+// How many pieces of a chunk are before a boundary of it. It counts those on the shorter side.
 fn pieces_up_to<A: Allocator>(chunk: &Chunk<A>, end: usize) -> usize
     requires { IsBetween chunk.now end }
     ensures { result ≡ length (pieces (take end chunk.now)) }

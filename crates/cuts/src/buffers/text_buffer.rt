@@ -32,7 +32,7 @@ use std::marker::Model;
 /// lines it has. Contracts see its bytes.
 ///
 /// The bytes are kept in chunks of some kilobytes, and of each 256 of them is known what they count. An
-/// edit changes one or two chunks, and no other byte is read or moved.
+/// edit of a few bytes changes one or two chunks, and no other byte is read or moved.
 #[derive(Drop)]
 pub struct TextBuffer<A: Allocator + Copy> {
     chunks: Vec<Chunk<A>, A>,
@@ -117,7 +117,7 @@ impl<A: Allocator + Copy> TextBuffer<A> {
     /// How many pieces begin before this offset. If a piece begins at the offset, this is its number,
     /// counted from 0.
     ///
-    /// Cost: a step for each half megabyte of the text, at most 512 more, and at most 1,024 bytes are decoded.
+    /// Cost: a step for each half megabyte of the text, at most 512 more, and at most 1,024 bytes are read.
     pub fn number_of(&self, offset: usize) -> usize
         ensures { IsSplitAt (pieces self.now) offset result }
     {
@@ -126,7 +126,7 @@ impl<A: Allocator + Copy> TextBuffer<A> {
 
     /// The offset of the piece with this number, counted from 0. `None` if the text has no more pieces.
     ///
-    /// Cost: a step for each half megabyte of the text, at most 512 more, and at most 2,048 bytes are decoded.
+    /// Cost: a step for each half megabyte of the text, at most 512 more, and at most 2,048 bytes are read.
     pub fn offset_of(&self, number: usize) -> Option<usize>
         ensures { result ≡ option_map (λ (x : AnItem). x.0) (slice_get (pieces self.now) number) }
     {
@@ -235,9 +235,11 @@ impl<A: Allocator + Copy> TextBuffer<A> {
         })
     }
 
-    /// Inserts the bytes at this offset. Answer, errors and cost are as those of `replace`.
+    /// Inserts the bytes at this offset. Answer and errors are as those of `replace`.
     ///
     /// Condition: the offset is at most the length.
+    ///
+    /// Cost: as that of `replace`. Allocates.
     pub fn insert(&mut self, offset: usize, new: &[u8]) -> Result<Change, AllocError>
         requires { offset ≤ length self.old }
         ensures ok { OnOk result (self.new ≡ splice self.old offset offset new.now) }
@@ -247,10 +249,12 @@ impl<A: Allocator + Copy> TextBuffer<A> {
         self.replace(offset, offset, new)
     }
 
-    /// Removes the bytes from `start` up to `end`, `end` not included. Answer, errors and cost are as
-    /// those of `replace`.
+    /// Removes the bytes from `start` up to `end`, `end` not included. Answer and errors are as those of
+    /// `replace`.
     ///
     /// Condition: `start` is at most `end`, and `end` at most the length.
+    ///
+    /// Cost: as that of `replace`. Allocates.
     pub fn remove(&mut self, start: usize, end: usize) -> Result<Change, AllocError>
         requires ordered { start ≤ end }
         requires within { end ≤ length self.old }
