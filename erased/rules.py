@@ -91,7 +91,7 @@ LENT = {"utf_chars/utf8_char.rt": ["scalar"]}
 
 # What goes by lanes: of these files there is a copy for processors with AVX2 (wide.py), over the types of all other files.
 WIDE = ("utf_lanes/",) + tuple(f"recoding/{it}.rt" for it in (
-    "ascii_to_utf16", "codes", "copied", "engine", "fills", "form_calls", "kernels", "list", "output", "recoder_rooms", "recoder_runs", "room",
+    "ascii_to_utf16", "codes", "copied", "engine", "fills", "form_calls", "kernels", "list", "output", "recoder_runs", "replacing", "room",
     "strict_runs", "swapped", "text", "utf16_to_utf8", "utf8_to_utf16",
 )) + ("cuts/runs/piece_counts.rt",)
 
@@ -110,7 +110,7 @@ CHOSEN = {
     "utf_lanes/unit_blocks.rt:units_len": ("bytes.len()", "OTHER(high_first, bytes)"),
     "utf_lanes/paired_units.rt:paired_len": ("units.len()", "OTHER(units)"),
     "cuts/runs/piece_counts.rt:piece_count": ("bytes.len()", "OTHER(bytes)"),
-    "recoding/recoder_rooms.rt:recode_into": ("bytes.len()", "OTHER(from, to, bytes, room, place)"),
+    "recoding/recoder_runs.rt:recode_into": ("bytes.len()", "OTHER(way, from, to, bytes, room, place)"),
     "recoding/recoder_runs.rt:recode_whole": (
         "bytes.len()",
         "{ let did = OTHER(from, to, bytes, out); Run { read: did.read, replaced: did.replaced } }",

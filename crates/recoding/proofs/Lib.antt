@@ -1,3 +1,4 @@
+pub mod Becoming
 pub mod Blocks
 pub mod CodeFronts
 pub mod BoundLemmas
@@ -19,9 +20,7 @@ pub mod Growing
 pub mod JoinedShards
 pub mod Listed
 pub mod LossyLists
-pub mod LossySteps
 pub mod Utf16ToUtf8
-pub mod OutputRuns
 pub mod PartLaws
 pub mod Recodes
 pub mod FaultCounts
@@ -35,6 +34,7 @@ pub mod StrictFaults
 pub mod StrictSteps
 pub mod SubpartLengths
 pub mod SwappedRuns
+pub mod Taking
 pub mod TextLaws
 pub mod TextRuns
 pub mod AsciiToUtf16

@@ -21,14 +21,16 @@ use Rattle.recoding.specs.declared.faults.FaultKind.{FaultKind}
 use Rattle.recoding.specs.declared.faults.FaultKind.TheVariants as kind
 use Rattle.recoding.specs.declared.form.Form.{Form}
 use Rattle.recoding.specs.declared.form.Form.TheVariants.{Utf8, Utf16Le, Utf16Be}
-use Rattle.recoding.specs.Lossy.{BeginsNoCode, ReadsParts, ShowsUnitParts}
+use Rattle.recoding.specs.Lossy.{BeginsNoCode, BeginsSubpart, ReadsParts, ShowsUnitParts}
 use Rattle.recoding.specs.Recoded.{Lacks, written}
 use Rattle.recoding.specs.NextScalars.{Decides, Ends}
+use Rattle.recoding.specs.Replacing.{Begins, BeginsLast}
+use Rattle.recoding.specs.declared.way.Way.TheVariants.{Subparts}
 use Rattle.recoding.specs.Strict.{AwaitsKind, BeginsChar, BeginsFault}
 use Rattle.recoding.proofs.FrontBytes.{first_unit, lacks_second, replacement, units_two}
 use Rattle.utf_base.proofs.LaterLemmas.{no_code_at_last}
 use Rattle.recoding.proofs.HeldFronts.{leading_by_itself, two_do_not_lack}
-use Rattle.recoding.proofs.LossyLists.{Ends-front, text_shows_parts, units_in_parts, units_show}
+use Rattle.recoding.proofs.LossyLists.{Decides-subpart, Ends-front, text_shows_parts, units_in_parts, units_show}
 use Rattle.recoding.proofs.OddParts.{odd_part_two}
 use Rattle.utf_base.proofs.PartLists.{parts_show_none, parts_show_one}
 use Rattle.utf_base.proofs.Rests.{fault_shows_first}
@@ -163,3 +165,17 @@ pub Ends-few : (from : Form) (w : List ℕ) → 0 < length w → Lacks from w �
 Ends-few Utf8 w some h = Ends-front w some h
 Ends-few Utf16Le w some h = all_at_end false w some h
 Ends-few Utf16Be w some h = all_at_end true w some h
+
+-- So the code answers, which counts nothing here.
+
+pub Begins-char : {from : Form} {w : List ℕ} {s n : ℕ} → BeginsChar from w s n → Begins Subparts from w s n 0
+Begins-char {from} {w} {s} {n} d = record { decides = Decides-char from w s n d; few = omega arith; counts = λ on. absurd on }
+
+pub Begins-subpart : {w : List ℕ} {n : ℕ} → n ≤ length w → BeginsSubpart w n → Begins Subparts Utf8 w 0xFFFD n 1
+Begins-subpart {w} {n} le h = record { decides = Decides-subpart w n le h; few = omega arith; counts = λ on. absurd on }
+
+pub Begins-units : {from : Form} {w : List ℕ} {k : FaultKind} {n : ℕ} → (from ≡ Utf8 → ⊥) → BeginsFault from w k n → Begins Subparts from w 0xFFFD n 1
+Begins-units {from} {w} {k} {n} other f = record { decides = Decides-units from w k n other f; few = omega arith; counts = λ on. absurd on }
+
+pub BeginsLast-few : {from : Form} {w : List ℕ} → 0 < length w → Lacks from w → BeginsLast Subparts from w 0xFFFD (length w) 1
+BeginsLast-few {from} {w} some lacks = record { ends = Ends-few from w some lacks; few = omega arith; counts = λ on. absurd on }

@@ -1,56 +1,38 @@
 -- Recoding to the end of an output, step by step, and what its callers have of it.
-use Rattle.std.proofs.Common.{◌≡◌, ℕ, ◌+◌, ◌-◌, ◌*◌, ◌<◌, ◌≤◌, Bool, true, false, List, [], ◌++◌, length, take, drop, arith, rules, refl, ap, ap₂, sym, subst, ◌∙◌, append_assoc, length-append, length-drop, length-take, take-append-drop}
+use Rattle.std.proofs.Common.{◌≡◌, ℕ, ◌+◌, ◌-◌, ◌*◌, ◌<◌, ◌≤◌, Bool, true, false, List, [], ◌++◌, length, take, drop, arith, rules, ap, ap₂, sym, subst, ◌∙◌, length-append, length-drop, length-take, take-append-drop}
 use Rattle.std.proofs.lemmas.List.{take_rest, drop-drop, drop_all}
 use Rattle.std.specs.Prelude.{IsTrue, IsFalse, Vec, vec_len, vec_capacity}
 use Rattle.recoding.specs.declared.form.Form.{Form}
 use Rattle.recoding.specs.declared.room.Room.{Room}
-use Rattle.recoding.specs.Recoded.{Reads, written, Lacks, fresh}
-use Rattle.recoding.specs.Faults.{Advances}
-use Rattle.recoding.specs.Recodes.{Reaches, Recodes}
+use Rattle.recoding.specs.declared.way.Way.{Way}
+use Rattle.recoding.specs.Recoded.{written, Lacks}
+use Rattle.recoding.specs.Replacing.{Begins, FillsPlace, NextIsLonger, Reaches, Recodes, at_place, reads_by}
 use Rattle.recoding.specs.declared.engine.Reached.{Reached}
 use Rattle.recoding.specs.Outputs.{Extends}
-use Rattle.recoding.specs.OutputRuns.{RunsOnto, RunsUntil}
 use Rattle.recoding.specs.FilledRooms.{FillsRoom}
-use Rattle.recoding.specs.Rooms.{HasRoomFor, NextIsTooLong}
-use Rattle.recoding.specs.NextScalars.{Decides, Settles}
-use Rattle.recoding.specs.Strict.{PutsText, Transcodes}
-use Rattle.recoding.proofs.Advancing.{Advances-append, Advances-none, Advances-onto}
+use Rattle.recoding.specs.Rooms.{HasRoomFor}
+use Rattle.recoding.specs.NextScalars.{Decides}
+use Rattle.recoding.specs.Strict.{PutsText}
+use Rattle.recoding.proofs.Becoming.{Becomes-none, NextIsLonger-of, next_piece, next_text, run_after}
 use Rattle.recoding.proofs.FrontBytes.{lacks_all}
 use Rattle.recoding.proofs.Growing.{length_written}
-use Rattle.recoding.proofs.RoomLemmas.{Advances-ahead, NextIsTooLong-of, take_more}
-use Rattle.recoding.proofs.RoomRuns.{Advances-after}
-use Rattle.recoding.proofs.TextLaws.{text_counts, text_is_recoded}
 use Rattle.recoding.proofs.TextRuns.{text_room}
 
--- text, whatever follows
-Advances-text : {from to : Form} {grown : List ℕ} (bytes : List ℕ) (n : ℕ) → Transcodes from to (take n bytes) grown → Advances from to (take (n + 3) bytes) [] grown (take 3 (drop n bytes)) 0
-Advances-text {from} {to} {grown} bytes n t =
-    let whole : (later : List ℕ) → take n bytes ++ (take 3 (drop n bytes) ++ later) ≡ take (n + 3) bytes ++ later
-    = λ later. sym (append_assoc (take n bytes) (take 3 (drop n bytes)) later) ∙ ap (λ ys. ys ++ later) (take_more n 3 bytes) in
-    record {
-      grows = record {
-        grown = grown;
-        appended = refl;
-        continues = λ later rest h. rw (whole later) at (text_is_recoded from to (take n bytes) grown (take 3 (drop n bytes) ++ later) rest t h);
-      };
-      counts = λ later. rw (whole later) at (rw (sym t.codes) at (text_counts from t.scalars (take 3 (drop n bytes) ++ later) t.all)) ∙ omega arith;
-    }
-
-module _ {O : Type 0} {appends : O → List ℕ → O → Type 0} {from to : Form} {bytes : List ℕ} where
+module _ {O : Type 0} {appends : O → List ℕ → O → Type 0} {way : Way} {from to : Form} {bytes : List ℕ} where
   -- nothing is recoded yet
-  pub Recodes-none : ((a : O) → appends a [] a) → {out : O} → Recodes appends from to bytes out out 0 0
+  pub Recodes-none : ((a : O) → appends a [] a) → {out : O} → Recodes appends way from to bytes out out 0 0
   Recodes-none none {out} = record {
     grown = [];
     appended = none out;
     within = omega arith;
     short = omega arith;
     few = omega arith;
-    advances = Advances-none from to (take 3 bytes) [];
+    becomes = Becomes-none way from to (take 3 bytes);
   }
 
   -- the bytes that another left
   pub Recodes-then : ((a b c : O) (xs ys : List ℕ) → appends a xs b → appends b ys c → appends a (xs ++ ys) c) → {old mid new : O} {p n j k : ℕ}
-      → Recodes appends from to bytes old mid p j → Recodes appends from to (take (length bytes - p) (drop p bytes)) mid new n k → Recodes appends from to bytes old new (p + n) (j + k)
+      → Recodes appends way from to bytes old mid p j → Recodes appends way from to (take (length bytes - p) (drop p bytes)) mid new n k → Recodes appends way from to bytes old new (p + n) (j + k)
   Recodes-then more {old} {mid} {new} {p} {n} f rest =
       let g = rw (take_rest bytes p) at rest in
       record {
@@ -59,56 +41,56 @@ module _ {O : Type 0} {appends : O → List ℕ → O → Type 0} {from to : For
         within = omega (arith, f.within, g.within, length-drop p bytes);
         short = omega (arith, f.short, g.short, length-append f.grown g.grown);
         few = omega (arith, f.few, g.few);
-        advances = Advances-after from to bytes [] f.grown (f.grown ++ g.grown) p n f.advances (Advances-onto from to _ g.grown _ f.grown g.advances);
+        becomes = run_after bytes p n f.becomes g.becomes;
       }
 
   -- text that another left
   pub Recodes-text : ((a b c : O) (xs ys : List ℕ) → appends a xs b → appends b ys c → appends a (xs ++ ys) c) → {old mid new : O} {p n k : ℕ}
-      → Recodes appends from to bytes old mid p k → PutsText appends from to (take (length bytes - p) (drop p bytes)) mid new n → Recodes appends from to bytes old new (p + n) k
+      → Recodes appends way from to bytes old mid p k → PutsText appends from to (take (length bytes - p) (drop p bytes)) mid new n → Recodes appends way from to bytes old new (p + n) k
   Recodes-text more {old} {mid} {new} {p} {n} {k} f rest =
       let within = rest.within in
-      let run : Recodes appends from to (take (length bytes - p) (drop p bytes)) mid new n 0 = record {
+      let run : Recodes appends way from to (take (length bytes - p) (drop p bytes)) mid new n 0 = record {
         grown = rest.grown;
         appended = rest.appended;
         within = rest.within;
         short = omega (arith, text_room rest.transcodes, length-take n (take (length bytes - p) (drop p bytes)));
         few = omega arith;
-        advances = Advances-text (take (length bytes - p) (drop p bytes)) n rest.transcodes;
+        becomes = next_text (take (length bytes - p) (drop p bytes)) n rest.transcodes;
       } in
       let same : k + 0 ≡ k = omega arith in
-      subst (λ m. Recodes appends from to bytes old new (p + n) m) same (Recodes-then more f run)
+      subst (λ m. Recodes appends way from to bytes old new (p + n) m) same (Recodes-then more f run)
 
   -- one piece, told by four bytes
   pub Recodes-code : ((a b c : O) (xs ys : List ℕ) → appends a xs b → appends b ys c → appends a (xs ++ ys) c) → {old mid new : O} {p s n j k : ℕ}
-      → Recodes appends from to bytes old mid p j → Settles from (take 4 (drop p bytes)) s n k → appends mid (written to s) new → Recodes appends from to bytes old new (p + n) (j + k)
-  Recodes-code more {old} {mid} {new} {p} {s} {n} f settles put =
-      let d = settles.decides in
+      → Recodes appends way from to bytes old mid p j → Begins way from (take 4 (drop p bytes)) s n k → appends mid (written to s) new → Recodes appends way from to bytes old new (p + n) (j + k)
+  Recodes-code more {old} {mid} {new} {p} {s} {n} f begins put =
+      let d = begins.decides in
       let few = length_written to s n d.some d.wide in
       record {
         grown = f.grown ++ written to s;
         appended = more old mid new f.grown (written to s) f.appended put;
         within = omega (arith, f.within, d.within, length-drop p bytes, length-take 4 (drop p bytes));
         short = omega (arith, f.short, few, length-append f.grown (written to s));
-        few = omega (arith, f.few, settles.few, d.some);
-        advances = Advances-ahead from to bytes [] f.grown (f.grown ++ written to s) p s n f.advances settles refl;
+        few = omega (arith, f.few, begins.few, d.some);
+        becomes = run_after bytes p n f.becomes (next_piece (drop p bytes) s n begins);
       }
 
   -- a character, which is no fault
   pub Recodes-char : ((a b c : O) (xs ys : List ℕ) → appends a xs b → appends b ys c → appends a (xs ++ ys) c) → {old mid new : O} {p s n j : ℕ}
-      → Recodes appends from to bytes old mid p j → Settles from (take 4 (drop p bytes)) s n 0 → appends mid (written to s) new → Recodes appends from to bytes old new (p + n) j
-  Recodes-char more {old} {mid} {new} {p} {s} {n} {j} f settles put =
+      → Recodes appends way from to bytes old mid p j → Begins way from (take 4 (drop p bytes)) s n 0 → appends mid (written to s) new → Recodes appends way from to bytes old new (p + n) j
+  Recodes-char more {old} {mid} {new} {p} {s} {n} {j} f begins put =
       let same : j + 0 ≡ j = omega arith in
-      subst (λ m. Recodes appends from to bytes old new (p + n) m) same (Recodes-code more f settles put)
+      subst (λ m. Recodes appends way from to bytes old new (p + n) m) same (Recodes-code more f begins put)
 
   -- room for all bytes is room for a code that begins the ones left
   pub room_for_next : {room : O → ℕ} → ((a b : O) (xs : List ℕ) → appends a xs b → room a ≤ room b + length xs) → {old mid : O} {p s n k : ℕ}
-      → Recodes appends from to bytes old mid p k → Decides (Reads from) (take 4 (drop p bytes)) s n → 3 * length bytes ≤ room old → length (written to s) ≤ room mid
+      → Recodes appends way from to bytes old mid p k → Decides (reads_by way from) (take 4 (drop p bytes)) s n → 3 * length bytes ≤ room old → length (written to s) ≤ room mid
   room_for_next law {old} {mid} {p} {s} {n} f d all =
       omega (arith, all, law old mid f.grown f.appended, f.short, f.within, length_written to s n d.some d.wide, d.within, length-drop p bytes, length-take 4 (drop p bytes))
 
   -- and for the ones left
   pub room_for_rest : {room : O → ℕ} → ((a b : O) (xs : List ℕ) → appends a xs b → room a ≤ room b + length xs) → {old mid : O} {p k : ℕ}
-      → Recodes appends from to bytes old mid p k → 3 * length bytes ≤ room old → 3 * length (take (length bytes - p) (drop p bytes)) ≤ room mid
+      → Recodes appends way from to bytes old mid p k → 3 * length bytes ≤ room old → 3 * length (take (length bytes - p) (drop p bytes)) ≤ room mid
   room_for_rest law {old} {mid} {p} f all =
       omega (arith, all, law old mid f.grown f.appended, f.short, f.within, length-drop p bytes, length-take (length bytes - p) (drop p bytes))
 
@@ -117,35 +99,35 @@ module _ {O : Type 0} {appends : O → List ℕ → O → Type 0} {from to : For
 no_truth : IsTrue false → ⊥
 no_truth is = absurd cc
 
-module _ {O : Type 0} {appends : O → List ℕ → O → Type 0} {room : O → ℕ} {from to : Form} {bytes : List ℕ} {old new : O} where
+module _ {O : Type 0} {appends : O → List ℕ → O → Type 0} {room : O → ℕ} {way : Way} {from to : Form} {bytes : List ℕ} {old new : O} where
   -- what follows decides
-  pub Reaches-waiting : {n k : ℕ} → Recodes appends from to bytes old new n k → length bytes ≤ n + 3 → Lacks from (drop n bytes)
-      → Reaches appends room from to bytes old new (record { read = n; replaced = k; is_full = false; is_waiting = true })
+  pub Reaches-waiting : {n k : ℕ} → Recodes appends way from to bytes old new n k → length bytes ≤ n + 3 → Lacks from (drop n bytes)
+      → Reaches appends room way from to bytes old new (record { read = n; replaced = k; is_full = false; is_waiting = true })
   Reaches-waiting f waits lacks = record { runs = f; full = λ is. absurd (no_truth is); short = λ is. absurd (no_truth is); waits = λ is. waits; lacks = λ is. lacks }
 
   -- all the bytes were recoded
-  pub Reaches-end : {n k : ℕ} → Recodes appends from to bytes old new n k → n ≡ length bytes
-      → Reaches appends room from to bytes old new (record { read = n; replaced = k; is_full = false; is_waiting = true })
+  pub Reaches-end : {n k : ℕ} → Recodes appends way from to bytes old new n k → n ≡ length bytes
+      → Reaches appends room way from to bytes old new (record { read = n; replaced = k; is_full = false; is_waiting = true })
   Reaches-end {n} f e = Reaches-waiting f (omega arith) (rw (drop_all n bytes (omega arith)) (lacks_all from))
 
   -- there is no room for the code that begins the bytes left, and nothing more was put
-  pub Reaches-full : {mid : O} {n k s len faults : ℕ} → Recodes appends from to bytes old mid n k → new ≡ mid → Settles from (take 4 (drop n bytes)) s len faults → room mid < length (written to s)
-      → room mid < 4 → Reaches appends room from to bytes old new (record { read = n; replaced = k; is_full = true; is_waiting = false })
-  Reaches-full {mid} {n} {k} {s} {len} f kept settles longer short =
+  pub Reaches-full : {mid : O} {n k s len faults : ℕ} → Recodes appends way from to bytes old mid n k → new ≡ mid → Begins way from (take 4 (drop n bytes)) s len faults → room mid < length (written to s)
+      → room mid < 4 → Reaches appends room way from to bytes old new (record { read = n; replaced = k; is_full = true; is_waiting = false })
+  Reaches-full {mid} {n} {k} {s} {len} f kept begins longer short =
       let xs = drop n bytes in
-      let full : NextIsTooLong from to xs (room mid) = rw (take-append-drop 4 xs) at (NextIsTooLong-of (fresh from to) from to (take 4 xs) (drop 4 xs) s len (room mid) refl refl settles.decides longer) in
+      let full : NextIsLonger way from to xs (room mid) = rw (take-append-drop 4 xs) at (NextIsLonger-of way (take 4 xs) (drop 4 xs) begins longer) in
       rw kept (record { runs = f; full = λ is. full; short = λ is. short; waits = λ is. absurd (no_truth is); lacks = λ is. absurd (no_truth is) })
 
   -- neither
-  pub Reaches-on : {n k : ℕ} → Recodes appends from to bytes old new n k → Reaches appends room from to bytes old new (record { read = n; replaced = k; is_full = false; is_waiting = false })
+  pub Reaches-on : {n k : ℕ} → Recodes appends way from to bytes old new n k → Reaches appends room way from to bytes old new (record { read = n; replaced = k; is_full = false; is_waiting = false })
   Reaches-on f = record { runs = f; full = λ is. absurd (no_truth is); short = λ is. absurd (no_truth is); waits = λ is. absurd (no_truth is); lacks = λ is. absurd (no_truth is) }
 
   -- a run over the bytes that another left
   pub Reaches-then : {mid : O} {p k : ℕ} {reached : Reached} → ((a b c : O) (xs ys : List ℕ) → appends a xs b → appends b ys c → appends a (xs ++ ys) c)
-      → Recodes appends from to bytes old mid p k → Reaches appends room from to (take (length bytes - p) (drop p bytes)) mid new reached
-      → Reaches appends room from to bytes old new (record { read = p + reached.read; replaced = k + reached.replaced; is_full = reached.is_full; is_waiting = reached.is_waiting })
+      → Recodes appends way from to bytes old mid p k → Reaches appends room way from to (take (length bytes - p) (drop p bytes)) mid new reached
+      → Reaches appends room way from to bytes old new (record { read = p + reached.read; replaced = k + reached.replaced; is_full = reached.is_full; is_waiting = reached.is_waiting })
   Reaches-then {mid} {p} {k} {reached} more f r =
-      let g : Reaches appends room from to (drop p bytes) mid new reached = rw (take_rest bytes p) at r in
+      let g : Reaches appends room way from to (drop p bytes) mid new reached = rw (take_rest bytes p) at r in
       let left : drop reached.read (drop p bytes) ≡ drop (p + reached.read) bytes = drop-drop reached.read p bytes in
       record {
         runs = Recodes-then more f r.runs;
@@ -155,33 +137,27 @@ module _ {O : Type 0} {appends : O → List ℕ → O → Type 0} {room : O → 
         lacks = rw left at g.lacks;
       }
 
--- What the front of a slice grew by.
-pub Advances-room : {from to : Form} {bytes old new : List ℕ} {place n k : ℕ} (a b : Room) → a.bytes.now ≡ old → a.len ≡ place → b.bytes.now ≡ new → Recodes FillsRoom from to bytes a b n k
-    → Advances from to (take (n + 3) bytes) (take place old) (take b.len new) (take 3 (drop n bytes)) k
-Advances-room {new} {place} a b e f h run =
-    let fills = run.appended in
-    let front : take b.len new ≡ take place _ ++ run.grown = ap (take b.len) (sym h) ∙ fills.front ∙ ap₂ (λ k ys. take k ys ++ run.grown) f e in
-    rw front (Advances-onto _ _ _ run.grown _ (take place _) run.advances)
+-- The same to another output.
+pub Recodes-as : {O P : Type 0} {appends : O → List ℕ → O → Type 0} {other : P → List ℕ → P → Type 0} {way : Way} {from to : Form} {bytes : List ℕ} {a b : O} {c d : P} {n k : ℕ}
+    → ((xs : List ℕ) → appends a xs b → other c xs d) → Recodes appends way from to bytes a b n k → Recodes other way from to bytes c d n k
+Recodes-as turn f = record { grown = f.grown; appended = turn f.grown f.appended; within = f.within; short = f.short; few = f.few; becomes = f.becomes }
 
--- What a list grew by.
-RunsOnto-of : {Z : Type 0} {from to : Form} {bytes : List ℕ} {old new : Vec ℕ Z} {n k : ℕ} → Recodes Extends from to bytes old new n k → RunsOnto from to bytes old new n k
-RunsOnto-of {bytes} {old} {new} {n} {k} f =
-    let put = f.appended in
-    let all : take (n + 3) bytes ++ drop (n + 3) bytes ≡ bytes = take-append-drop (n + 3) bytes in
-    let left : take 3 (drop n bytes) ++ drop (n + 3) bytes ≡ drop n bytes = ap (λ ys. take 3 (drop n bytes) ++ ys) (sym (drop-drop 3 n bytes)) ∙ take-append-drop 3 (drop n bytes) in
-    let whole : Advances _ _ bytes [] f.grown (drop n bytes) k = rw (all, left) at (Advances-append _ _ _ _ (drop (n + 3) bytes) [] f.grown f.advances) in
+-- what a room was filled with, of the slice
+pub FillsPlace-of : (a b : Room) (old new : List ℕ) (place : ℕ) → a.bytes.now ≡ old → a.len ≡ place → b.bytes.now ≡ new → (xs : List ℕ) → FillsRoom a xs b
+    → FillsPlace (at_place old place) xs (at_place new b.len)
+FillsPlace-of a b old new place e f h xs fills =
+    let inside = b.within in
     record {
-      within = f.within;
-      advances = rw put.items (Advances-onto _ _ _ f.grown _ old.items whole);
-      short = omega (arith, ap length put.items, length-append old.items f.grown, f.short);
-      few = f.few;
-      capacity = put.capacity;
+      whole = ap length (sym h) ∙ fills.whole ∙ ap length e;
+      fits = omega (arith, ap length h);
+      len = omega (arith, fills.len);
+      front = ap (take b.len) (sym h) ∙ fills.front ∙ ap₂ (λ k ys. take k ys ++ xs) f e;
     }
 
 -- where the room is enough for all, no code is longer than it
-never_full : {Z : Type 0} {from to : Form} {bytes : List ℕ} {old new : Vec ℕ Z} {read k : ℕ} → HasRoomFor old (length bytes) → Recodes Extends from to bytes old new read k
-    → NextIsTooLong from to (drop read bytes) (vec_capacity new - vec_len new) → ⊥
-never_full {from} {to} {bytes} {old} {new} {read} room runs full =
+never_full : {Z : Type 0} {way : Way} {from to : Form} {bytes : List ℕ} {old new : Vec ℕ Z} {read k : ℕ} → HasRoomFor old (length bytes) → Recodes Extends way from to bytes old new read k
+    → NextIsLonger way from to (drop read bytes) (vec_capacity new - vec_len new) → ⊥
+never_full {to = to} {bytes} {old} {new} {read} room runs full =
     let d = full.begins in
     let put = runs.appended in
     omega (arith, room, put.capacity, ap length put.items, length-append old.items runs.grown, runs.short, runs.within, full.longer, d.within, length_written to full.scalar full.len d.some d.wide, length-drop read bytes)
@@ -190,10 +166,7 @@ unless_full : (P : Type 0) (b : Bool) → (IsTrue b → ⊥) → (IsFalse b → 
 unless_full P true never waits = absurd (never (search rules))
 unless_full P false never waits = waits (search rules)
 
--- What a list grew by that had room for all.
-pub RunsUntil-of : {Z : Type 0} {from to : Form} {bytes : List ℕ} {old new : Vec ℕ Z} {reached : Reached} → HasRoomFor old (length bytes)
-    → Reaches Extends (λ v. vec_capacity v - vec_len v) from to bytes old new reached → (IsFalse reached.is_full → IsTrue reached.is_waiting)
-    → RunsUntil from to bytes old new (length bytes) reached.read reached.replaced
-RunsUntil-of {from} {bytes} {reached} room f ends =
-    let waiting : IsTrue reached.is_waiting = unless_full (IsTrue reached.is_waiting) reached.is_full (λ is. never_full room f.runs (f.full is)) ends in
-    record { runs = RunsOnto-of f.runs; waits = λ lt. f.waits waiting; lacks = λ lt. f.lacks waiting }
+-- so a run ends since what follows decides
+pub waits_where_room : {Z : Type 0} {way : Way} {from to : Form} {bytes : List ℕ} {old new : Vec ℕ Z} {reached : Reached} → HasRoomFor old (length bytes)
+    → Reaches Extends (λ v. vec_capacity v - vec_len v) way from to bytes old new reached → (IsFalse reached.is_full → IsTrue reached.is_waiting) → IsTrue reached.is_waiting
+waits_where_room {reached = reached} room f ends = unless_full (IsTrue reached.is_waiting) reached.is_full (λ is. never_full room f.runs (f.full is)) ends

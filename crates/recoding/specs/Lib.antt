@@ -1,7 +1,6 @@
 pub mod Recoded
 pub mod RecodedBytes
 pub mod Rooms
-pub mod OutputRuns
 pub mod Bounds
 pub mod Fed
 pub mod Shards
@@ -17,4 +16,4 @@ pub mod Strict
 pub mod FirstFaults
 pub mod Lossy
 pub mod LossyBytes
-pub mod LossyPieces
+pub mod Replacing

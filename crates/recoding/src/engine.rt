@@ -1,14 +1,15 @@
 //! One run over bytes, from any form into any other and to any output.
 ghost use Rattle.std.specs.Prelude.{◌≡◌, ◌+◌, ◌<◌, ◌≤◌, length, take, drop, IfSome, IfNone, IsTrue, IsFalse};
 ghost use Rattle.recoding.specs.Recoded.{Lacks};
-ghost use Rattle.recoding.specs.Recodes.{FitsAll, Reaches};
-ghost use Rattle.recoding.specs.NextScalars.{BeginsPiece};
+ghost use Rattle.recoding.specs.Recodes.{FitsAll};
+ghost use Rattle.recoding.specs.Replacing.{IsNext, Reaches};
 ghost use Rattle.recoding.specs.Strict.{PutsText};
 
 use crate::form::WIDEST;
 use crate::kernels::{Kernel, PART};
 use crate::next_scalar::{ShownPiece, first_four};
 use crate::output::Output;
+use crate::replacing::Replacing;
 use crate::text::Text;
 
 // How many bytes go with care before a run looks for text again, where no fault is among them.
@@ -40,13 +41,13 @@ pub(crate) struct Reached {
 // enough for all: in blocks where the bytes allow it, then character by character, and with care only where there is a fault,
 // at the end, or at the end of the room. Each pair of forms has a copy of it, in which a compiler knows the forms.
 #[inline(always)]
-pub(crate) fn run<S: Text, T: Text, K: Kernel<S, T>, O: Output>(
+pub(crate) fn run<S: Text, T: Text, K: Kernel<S, T>, F: Replacing, O: Output>(
     is_ample: bool,
     bytes: &[u8],
     out: &mut O,
 ) -> Reached
     requires { IsTrue is_ample → FitsAll bytes.now (O.room out.old) }
-    ensures reaches { Reaches O.appends O.room S.form T.form bytes.now out.old out.new result }
+    ensures reaches { Reaches O.appends O.room F.way S.form T.form bytes.now out.old out.new result }
     ensures ends { IsFalse result.is_full → IsTrue result.is_waiting }
 {
     let mut read = 0;
@@ -67,7 +68,7 @@ pub(crate) fn run<S: Text, T: Text, K: Kernel<S, T>, O: Output>(
             if read == bytes.len() {
                 return ended(read, replaced, false, true);
             }
-            let few = recode_carefully::<S, T, O>(is_ample, &bytes[read..], out);
+            let few = recode_carefully::<S, T, F, O>(is_ample, &bytes[read..], out);
             read += few.read;
             replaced += few.replaced;
             if few.is_full || few.is_waiting {
@@ -172,33 +173,33 @@ fn recode_text_within<S: Text, T: Text, O: Output>(bytes: &[u8], out: &mut O) ->
 
 // Recodes a few bytes with care, or fewer from the last fault among them on.
 #[inline(always)]
-fn recode_carefully<S: Text, T: Text, O: Output>(
+fn recode_carefully<S: Text, T: Text, F: Replacing, O: Output>(
     is_ample: bool,
     bytes: &[u8],
     out: &mut O,
 ) -> Reached
     requires { IsTrue is_ample → FitsAll bytes.now (O.room out.old) }
-    ensures reaches { Reaches O.appends O.room S.form T.form bytes.now out.old out.new result }
+    ensures reaches { Reaches O.appends O.room F.way S.form T.form bytes.now out.old out.new result }
     ensures moves { IsFalse result.is_full → IsFalse result.is_waiting → 0 < result.read }
 {
     if fits_all(is_ample, bytes, out) {
-        return recode_faults::<S, T, O>(bytes, out);
+        return recode_faults::<S, T, F, O>(bytes, out);
     }
-    recode_faults_within::<S, T, O>(bytes, out)
+    recode_faults_within::<S, T, F, O>(bytes, out)
 }
 
 // The same where there is room for all the bytes, kept out of the loop that seldom calls it.
 #[inline(never)]
-fn recode_faults<S: Text, T: Text, O: Output>(bytes: &[u8], out: &mut O) -> Reached
+fn recode_faults<S: Text, T: Text, F: Replacing, O: Output>(bytes: &[u8], out: &mut O) -> Reached
     requires { FitsAll bytes.now (O.room out.old) }
-    ensures reaches { Reaches O.appends O.room S.form T.form bytes.now out.old out.new result }
+    ensures reaches { Reaches O.appends O.room F.way S.form T.form bytes.now out.old out.new result }
     ensures moves { IsFalse result.is_full → IsFalse result.is_waiting → 0 < result.read }
 {
     let mut stop = STRIDE;
     let mut read = 0;
     let mut replaced = 0;
     while read < stop {
-        let Some(first) = next_at::<S>(bytes, read) else {
+        let Some(first) = next_at::<S, F>(bytes, read) else {
             return ended(read, replaced, false, true);
         };
         // A compiler knows the code of a fault where nothing else is written.
@@ -220,14 +221,14 @@ fn recode_faults<S: Text, T: Text, O: Output>(bytes: &[u8], out: &mut O) -> Reac
 
 // The same as far as there is room.
 #[inline(never)]
-fn recode_faults_within<S: Text, T: Text, O: Output>(bytes: &[u8], out: &mut O) -> Reached
-    ensures reaches { Reaches O.appends O.room S.form T.form bytes.now out.old out.new result }
+fn recode_faults_within<S: Text, T: Text, F: Replacing, O: Output>(bytes: &[u8], out: &mut O) -> Reached
+    ensures reaches { Reaches O.appends O.room F.way S.form T.form bytes.now out.old out.new result }
     ensures moves { IsFalse result.is_full → IsFalse result.is_waiting → 0 < result.read }
 {
     let mut read = 0;
     let mut replaced = 0;
     while read < STRIDE {
-        let Some(first) = next_at::<S>(bytes, read) else {
+        let Some(first) = next_at::<S, F>(bytes, read) else {
             return ended(read, replaced, false, true);
         };
         match first {
@@ -251,14 +252,14 @@ fn recode_faults_within<S: Text, T: Text, O: Output>(bytes: &[u8], out: &mut O) 
 
 // What begins at a place of the bytes, by no more than four of them; `None` where that depends on what follows all of them.
 #[inline(always)]
-fn next_at<S: Text>(bytes: &[u8], place: usize) -> Option<ShownPiece>
+fn next_at<S: Text, F: Replacing>(bytes: &[u8], place: usize) -> Option<ShownPiece>
     requires { place ≤ length bytes.now }
-    ensures some { IfSome result (λ x. BeginsPiece S.form (take 4 (drop place bytes.now)) x) }
+    ensures some { IfSome result (λ x. IsNext F.way S.form (take 4 (drop place bytes.now)) x) }
     ensures few { IfNone result (length bytes.now ≤ place + 3) }
     ensures lacks { IfNone result (Lacks S.form (drop place bytes.now)) }
 {
     if place + 4 <= bytes.len() {
-        return S::next_scalar(&bytes[place..place + 4]);
+        return F::next::<S>(&bytes[place..place + 4]);
     }
-    S::next_scalar(&bytes[place..])
+    F::next::<S>(&bytes[place..])
 }

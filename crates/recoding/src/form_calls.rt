@@ -1,15 +1,18 @@
 //! What a form is asked that is known only when it runs: a function of its type.
 ghost use Rattle.std.specs.Prelude.{◌≡◌, ◌<◌, ◌≤◌, length, min, IfSome, IfNone, IsTrue, IsFalse, MatchResult};
 ghost use Rattle.recoding.specs.Recoded.{Lacks, written};
-ghost use Rattle.recoding.specs.NextScalars.{Settles, SettlesLast, Waits, fault_len};
+ghost use Rattle.recoding.specs.NextScalars.{fault_len};
+ghost use Rattle.recoding.specs.Replacing.{Begins, BeginsLast};
 ghost use Rattle.recoding.specs.Strict.{BeginsChar, EndsInFault, IsFirstPiece, lacking};
 
 use crate::faults::FaultKind;
 use crate::first_pieces::FirstPiece;
 use crate::form::Form;
-use crate::next_scalar::{NextScalar, fault, shown};
+use crate::next_scalar::{NextScalar, shown};
 use crate::output::Output;
+use crate::replacing::{Each, Replacing, Subparts};
 use crate::text::{Text, Utf8, Utf16};
+use crate::way::Way;
 
 // Calls a function of the type of a form.
 macro_rules! by_form {
@@ -22,14 +25,28 @@ macro_rules! by_form {
     };
 }
 
+// Calls a function of the type of a way, under the type of a form.
+macro_rules! by_way {
+    ($way:expr, $form:expr, $call:ident($($given:expr),*)) => {
+        match ($way, $form) {
+            (Way::Faults, Form::Utf8) => Each::$call::<Utf8>($($given),*),
+            (Way::Faults, Form::Utf16Le) => Each::$call::<Utf16<false>>($($given),*),
+            (Way::Faults, Form::Utf16Be) => Each::$call::<Utf16<true>>($($given),*),
+            (Way::Subparts, Form::Utf8) => Subparts::$call::<Utf8>($($given),*),
+            (Way::Subparts, Form::Utf16Le) => Subparts::$call::<Utf16<false>>($($given),*),
+            (Way::Subparts, Form::Utf16Be) => Subparts::$call::<Utf16<true>>($($given),*),
+        }
+    };
+}
+
 // What begins the bytes; `None` where that depends on what follows them.
 #[inline(always)]
-pub(crate) fn next_of(from: Form, bytes: &[u8]) -> Option<NextScalar>
-    ensures some { IfSome result (λ x. Settles from bytes.now x.c x.len x.faults) }
-    ensures none { IfNone result (Waits from bytes.now) }
+pub(crate) fn next_of(way: Way, from: Form, bytes: &[u8]) -> Option<NextScalar>
+    ensures some { IfSome result (λ x. Begins way from bytes.now x.c x.len x.faults) }
+    ensures few { IfNone result (length bytes.now ≤ 3) }
     ensures lacks { IfNone result (Lacks from bytes.now) }
 {
-    match by_form!(from, next_scalar(bytes)) {
+    match by_way!(way, from, next(bytes)) {
         Some(piece) => Some(shown(piece)),
         None => None,
     }
@@ -37,14 +54,11 @@ pub(crate) fn next_of(from: Form, bytes: &[u8]) -> Option<NextScalar>
 
 // The same where nothing follows the bytes.
 #[inline(always)]
-pub(crate) fn next_at_end(from: Form, bytes: &[u8]) -> NextScalar
+pub(crate) fn last_of(way: Way, from: Form, bytes: &[u8]) -> NextScalar
     requires { 0 < length bytes.now }
-    ensures { SettlesLast from bytes.now result.c result.len result.faults }
+    ensures { BeginsLast way from bytes.now result.c result.len result.faults }
 {
-    match next_of(from, bytes) {
-        Some(first) => first,
-        None => fault(fault_bytes(from).min(bytes.len())),
-    }
+    shown(by_way!(way, from, last(bytes)))
 }
 
 // How many bytes a fault has.

@@ -1,70 +1,57 @@
 //! The part that begins some bytes: a character, or a maximal subpart of what is none.
-ghost use Rattle.std.specs.Prelude.{◌≡◌, ◌<◌, ◌≤◌, length, IsTrue, IfSome, IfNone, Some};
-ghost use Rattle.recoding.specs.Lossy.{BeginsLongCode, BeginsNoCode, BeginsSubpart, ReadsParts, ThirdContinues};
-ghost use Rattle.recoding.specs.LossyPieces.{BeginsPart, len_of, scalar_of};
+ghost use Rattle.std.specs.Prelude.{◌<◌, ◌≤◌, length, IsTrue, IfSome, IfNone};
+ghost use Rattle.recoding.specs.Lossy.{BeginsLongCode, BeginsNoCode, BeginsSubpart, ThirdContinues};
+ghost use Rattle.recoding.specs.NextScalars.{utf16_form};
 ghost use Rattle.recoding.specs.Recoded.{Lacks};
-ghost use Rattle.recoding.specs.NextScalars.{Ends};
+ghost use Rattle.recoding.specs.Replacing.{IsNext};
+ghost use Rattle.recoding.specs.declared.way.Way.TheVariants as way;
 ghost use Rattle.recoding.specs.Strict.{AwaitsKind};
 
-use crate::first_pieces::FirstPiece;
+use crate::first_pieces::{FirstPiece, first_of_utf8, first_of_utf16};
 use crate::form::Form;
-use crate::form_calls::first_piece;
-use crate::next_scalar::{is_front_of_code, may_be_second};
+use crate::next_scalar::{ShownPiece, is_front_of_code, may_be_second};
 use utf_base::elements::is_continuation;
-
-// What some bytes begin with, and how many bytes it has.
-#[derive(Clone, Copy, Drop)]
-pub(crate) enum LossyPiece {
-    Char(char, usize),
-    Subpart(usize),
-}
-
-impl LossyPiece {
-    // The character, or U+FFFD, and how many bytes it has.
-    #[inline(always)]
-    pub(crate) fn shown(self) -> (char, usize)
-        ensures scalar { result.0 ≡ scalar_of self }
-        ensures len { result.1 ≡ len_of self }
-    {
-        match self {
-            LossyPiece::Char(c, len) => (c, len),
-            LossyPiece::Subpart(len) => (char::REPLACEMENT_CHARACTER, len),
-        }
-    }
-}
 
 // The part that begins the bytes, whatever follows them; `None` where that depends on what does.
 #[inline(always)]
-pub(crate) fn first_lossy_piece(from: Form, bytes: &[u8]) -> Option<LossyPiece>
-    ensures some { IfSome result (λ x. BeginsPart from bytes.now x) }
-    ensures lacks { IfNone result (Lacks from bytes.now) }
+pub(crate) fn part_of_utf8(bytes: &[u8]) -> Option<ShownPiece>
+    ensures some { IfSome result (λ x. IsNext way.Subparts Form.Utf8 bytes.now x) }
     ensures few { IfNone result (length bytes.now ≤ 3) }
+    ensures lacks { IfNone result (Lacks Form.Utf8 bytes.now) }
 {
-    match first_piece(from, bytes) {
-        FirstPiece::Char(c, len) => Some(LossyPiece::Char(c, len)),
-        FirstPiece::Fault(_, len) => match from {
-            Form::Utf8 => Some(LossyPiece::Subpart(subpart_len(bytes))),
-            Form::Utf16Le | Form::Utf16Be => Some(LossyPiece::Subpart(len)),
-        },
-        FirstPiece::Undecided => match from {
-            Form::Utf8 => subpart_of_few(bytes),
-            Form::Utf16Le | Form::Utf16Be => None,
-        },
+    match first_of_utf8(bytes) {
+        FirstPiece::Char(c, len) => Some(ShownPiece::Char(c, len)),
+        FirstPiece::Fault(_, _) => Some(ShownPiece::Fault(subpart_len(bytes))),
+        FirstPiece::Undecided => subpart_of_few(bytes),
+    }
+}
+
+// The same of UTF-16, of which each fault is a subpart.
+#[inline(always)]
+pub(crate) fn part_of_utf16<const BIG_ENDIAN: bool>(bytes: &[u8]) -> Option<ShownPiece>
+    ensures some { IfSome result (λ x. IsNext way.Subparts (utf16_form BIG_ENDIAN) bytes.now x) }
+    ensures few { IfNone result (length bytes.now ≤ 3) }
+    ensures lacks { IfNone result (Lacks (utf16_form BIG_ENDIAN) bytes.now) }
+{
+    match first_of_utf16::<BIG_ENDIAN>(bytes) {
+        FirstPiece::Char(c, len) => Some(ShownPiece::Char(c, len)),
+        FirstPiece::Fault(_, len) => Some(ShownPiece::Fault(len)),
+        FirstPiece::Undecided => None,
     }
 }
 
 // The subpart that begins bytes of UTF-8 that are fewer than the first asks for.
 #[inline(never)]
-fn subpart_of_few(bytes: &[u8]) -> Option<LossyPiece>
+fn subpart_of_few(bytes: &[u8]) -> Option<ShownPiece>
     requires { AwaitsKind Form.Utf8 bytes.now }
-    ensures some { IfSome result (λ x. BeginsPart Form.Utf8 bytes.now x) }
+    ensures some { IfSome result (λ x. IsNext way.Subparts Form.Utf8 bytes.now x) }
     ensures lacks { IfNone result (Lacks Form.Utf8 bytes.now) }
     ensures few { IfNone result (length bytes.now ≤ 3) }
 {
     if is_front_of_code(bytes) {
         return None;
     }
-    Some(LossyPiece::Subpart(subpart_len(bytes)))
+    Some(ShownPiece::Fault(subpart_len(bytes)))
 }
 
 // How many bytes the maximal subpart has that begins bytes with which no code does, whatever follows them.
@@ -98,15 +85,4 @@ fn third_continues(bytes: &[u8]) -> bool
     ensures no { ThirdContinues bytes.now → IsTrue result }
 {
     bytes.len() >= 3 && is_continuation(bytes[2])
-}
-
-// The part that begins some bytes which nothing follows: all of them where they are too few for a code.
-pub(crate) fn last_lossy_piece(from: Form, bytes: &[u8]) -> LossyPiece
-    requires { 0 < length bytes.now }
-    ensures { Ends (ReadsParts from) bytes.now (scalar_of result) (len_of result) }
-{
-    match first_lossy_piece(from, bytes) {
-        Some(part) => part,
-        None => LossyPiece::Subpart(bytes.len()),
-    }
 }

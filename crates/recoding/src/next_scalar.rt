@@ -41,19 +41,11 @@ pub(crate) fn shown(piece: ShownPiece) -> NextScalar
 {
     match piece {
         ShownPiece::Char(c, len) => NextScalar { c, len, faults: 0 },
-        ShownPiece::Fault(len) => fault(len),
-    }
-}
-
-// A fault of so many bytes.
-#[inline(always)]
-pub(crate) fn fault(len: usize) -> NextScalar
-    ensures { result ≡ record { c = 0xFFFD; len = len; faults = 1 } }
-{
-    NextScalar {
-        c: char::REPLACEMENT_CHARACTER,
-        len,
-        faults: 1,
+        ShownPiece::Fault(len) => NextScalar {
+            c: char::REPLACEMENT_CHARACTER,
+            len,
+            faults: 1,
+        },
     }
 }
 

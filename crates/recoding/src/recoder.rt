@@ -1,5 +1,7 @@
 //! Recoding of text that comes in parts, which may be cut anywhere, also inside of a code or of a unit.
 ghost use Rattle.std.specs.Prelude.{◌≡◌, ◌<◌, ◌≤◌, [], ◌+◌, ◌*◌, min, length, OnOk, OnErr, IsOk, IfErr, ℕ, List, ◌-◌, ◌++◌, take, drop, IsTrue, IsFalse};
+ghost use Rattle.recoding.specs.Outputs.{Extends};
+ghost use Rattle.recoding.specs.Replacing.{FillsPlace, IsFullBy, IsLastFullBy, Takes, TakesAll, TakesLast, at_place};
 ghost use Rattle.recoding.specs.Recoded.{Feeds, Finishes, FinishesWith, Lacks, fresh, most_held};
 ghost use Rattle.recoding.specs.Faults.{AddsUp, CountsFed, KeepsCount, Replaces, ReplacesLast, fault_count, replaced_in_all, saturated};
 ghost use Rattle.recoding.specs.LossyBytes.{lossy, lossy_outcome};
@@ -7,9 +9,11 @@ ghost use Rattle.recoding.specs.RecodedBytes.{AddsAll, AddsLast, AddsOutcome, Ke
 ghost use Rattle.recoding.specs.Rooms.{ComesNearer, FeedsInto, FinishesInto, HasRoomFor, IsFull, IsLastFull, bytes_left};
 
 use crate::form::{Form, WIDEST};
-use crate::recoder_rooms::{next_of_both, progress, put_at, recode_into, recode_last_into};
-use crate::recoder_runs::{faults_at_end, join, recode_joined, recode_last, recode_whole};
+use crate::held::faults_at_end;
+use crate::recoder_runs::{progress, recode_into, recode_whole};
+use crate::room::Room;
 use crate::rooms::Progress;
+use crate::way::Way;
 use std::alloc::{AllocError, Allocator};
 use std::marker::Model;
 
@@ -106,7 +110,7 @@ impl Recoder {
     /// Cost: O(n) in the part, allocates at most three bytes for each byte that is held or in the
     /// part.
     #[inline(always)]
-    #[tactic(auto, using(crate::proofs::RecodedLists::outcome_fed, crate::proofs::Advancing::fed_counts))]
+    #[tactic(auto, using(crate::proofs::RecodedLists::outcome_fed, crate::proofs::Advancing::fed_counts, crate::proofs::Taking::all_feeds, crate::proofs::Taking::all_counted, crate::proofs::Taking::all_lacks))]
     pub fn feed<A: Allocator>(
         &mut self,
         part: &[u8],
@@ -142,52 +146,72 @@ impl Recoder {
         out: &mut Vec<u8, A>,
     ) -> Result<(), AllocError>
         requires { length self.old.held ≡ 0 }
-        ensures ok { OnOk result (Feeds self.old part.now out.old.items out.new.items self.new) }
+        ensures ok { OnOk result (TakesAll self.old part.now out.old out.new self.new) }
         ensures err { OnErr result (self.new ≡ self.old) }
         ensures unwritten { OnErr result (out.new.items ≡ out.old.items) }
-        ensures waits { OnOk result (Lacks self.old.from self.new.held) }
-        ensures replaces { OnOk result (CountsFed self.old part.now self.new) }
         ensures succeeds { HasRoomFor out.old (length part.now) → IsOk result }
     {
         out.reserve(part.len().saturating_mul(WIDEST))?;
-        let run = recode_whole(self.from, self.to, part, out);
-        self.count_faults(run.replaced);
-        if run.read == part.len() {
-            return Ok(());
-        }
-        self.hold(&part[run.read..]);
+        let replaced = self.append(part, out);
+        self.count_faults(replaced);
         Ok(())
     }
 
-    // `feed` of some bytes, and of those that are held before them.
+    // The same where something is, kept apart so that the test is inlined.
     #[inline(never)]
     fn feed_joined<A: Allocator>(
         &mut self,
         part: &[u8],
         out: &mut Vec<u8, A>,
     ) -> Result<(), AllocError>
-        requires { 0 < length part.now }
-        ensures ok { OnOk result (Feeds self.old part.now out.old.items out.new.items self.new) }
+        ensures ok { OnOk result (TakesAll self.old part.now out.old out.new self.new) }
         ensures err { OnErr result (self.new ≡ self.old) }
         ensures unwritten { OnErr result (out.new.items ≡ out.old.items) }
-        ensures waits { OnOk result (Lacks self.old.from self.new.held) }
-        ensures replaces { OnOk result (CountsFed self.old part.now self.new) }
         ensures succeeds { HasRoomFor out.old (length self.old.held + length part.now) → IsOk result }
     {
-        let held = self.held_bytes();
-        out.reserve((held.len() + part.len()).saturating_mul(WIDEST))?;
-        let first = recode_joined(self.from, self.to, held, part, out);
-        if first.read < held.len() {
-            let (rest, len) = join(&held[first.read..], part);
-            self.count_faults(first.replaced);
-            self.hold(&rest[..len]);
-            return Ok(());
-        }
-        let rest = &part[first.read - held.len()..];
-        let then = recode_whole(self.from, self.to, rest, out);
-        self.count_faults(first.replaced + then.replaced);
-        self.hold(&rest[then.read..]);
+        out.reserve((self.count + part.len()).saturating_mul(WIDEST))?;
+        let replaced = self.append_joined(part, out);
+        self.count_faults(replaced);
         Ok(())
+    }
+
+    // Takes a part where nothing is held, and there is room for what comes of it. Answers how many faults were replaced, which are
+    // not counted yet.
+    #[inline(always)]
+    fn append<A: Allocator>(&mut self, part: &[u8], out: &mut Vec<u8, A>) -> usize
+        requires none { length self.old.held ≡ 0 }
+        requires room { HasRoomFor out.old (length part.now) }
+        ensures takes { Takes Extends Way.Faults self.old part.now out.old out.new
+            (length part.now) result self.new }
+        ensures waits { Lacks self.old.from self.new.held }
+    {
+        let run = recode_whole(self.from, self.to, part, out);
+        self.hold(&part[run.read..]);
+        run.replaced
+    }
+
+    // The same where something is held.
+    fn append_joined<A: Allocator>(&mut self, part: &[u8], out: &mut Vec<u8, A>) -> usize
+        requires { HasRoomFor out.old (length self.old.held + length part.now) }
+        ensures takes { Takes Extends Way.Faults self.old part.now out.old out.new
+            (length part.now) result self.new }
+        ensures waits { Lacks self.old.from self.new.held }
+    {
+        // To read it tells a proof that few bytes are held.
+        let _held = self.count;
+        let first = self.take_held::<Vec<u8, A>>(Way::Faults, part, out);
+        if first.is_waiting {
+            return first.replaced;
+        }
+        first.replaced + self.append(&part[first.read..], out)
+    }
+
+    // Appends what the held bytes become at the end to a list that has room for it.
+    fn append_last<A: Allocator>(&mut self, out: &mut Vec<u8, A>)
+        requires { HasRoomFor out.old (length self.old.held) }
+        ensures { Finishes self.old out.old.items out.new.items }
+    {
+        let _done = self.take_last::<Vec<u8, A>>(Way::Faults, out);
     }
 
     // The bytes that are held.
@@ -258,7 +282,8 @@ impl Recoder {
                 cause,
             });
         }
-        recode_last(self.from, self.to, &self.held[..self.count], out);
+        let mut recoder = self;
+        recoder.append_last(out);
         Ok(())
     }
 
@@ -344,117 +369,77 @@ impl Recoder {
         ensures total { AddsUp self.old result.replaced self.new }
         ensures counts { KeepsCount self.old (take result.read part.now) self.new }
     {
+        let done = self.take(Way::Faults, part, room);
+        self.count_faults(done.replaced);
+        done
+    }
+
+    // Takes a part into room of a fixed size. Faults are not counted yet.
+    #[inline(always)]
+    pub(crate) fn take(&mut self, way: Way, part: &[u8], room: &mut [u8]) -> Progress
+        ensures takes { Takes FillsPlace way self.old part.now
+            (at_place room.old 0) (at_place room.new result.written) result.read result.replaced self.new }
+        ensures full { IsTrue result.is_full →
+            IsFullBy way self.new part.now result.read (length room.old - result.written) }
+        ensures short { IsTrue result.is_full → length room.old < result.written + 4 }
+        ensures read { IsFalse result.is_full → result.read ≡ length part.now }
+        ensures waits { IsFalse result.is_full → Lacks self.old.from self.new.held }
+    {
         let count = self.count;
         if count == 0 {
-            return self.feed_alone_into(part, room);
+            return self.take_alone(way, part, room, 0);
         }
-        self.feed_joined_into(part, room)
+        self.take_joined(way, part, room)
     }
 
-    // `feed_into` where nothing is held.
+    // The same where nothing is held, from a place of the room on.
     #[inline(always)]
-    fn feed_alone_into(&mut self, part: &[u8], room: &mut [u8]) -> Progress
-        requires { length self.old.held ≡ 0 }
-        ensures feeds { FeedsInto self.old part.now room.old room.new result.read result.written self.new }
+    fn take_alone(
+        &mut self,
+        way: Way,
+        part: &[u8],
+        room: &mut [u8],
+        place: usize,
+    ) -> Progress
+        requires none { length self.old.held ≡ 0 }
+        requires place { place ≤ length room.old }
+        ensures takes { Takes FillsPlace way self.old part.now
+            (at_place room.old place) (at_place room.new result.written) result.read result.replaced self.new }
         ensures full { IsTrue result.is_full →
-            IsFull self.new part.now result.read (length room.old - result.written) }
+            IsFullBy way self.new part.now result.read (length room.old - result.written) }
         ensures short { IsTrue result.is_full → length room.old < result.written + 4 }
         ensures read { IsFalse result.is_full → result.read ≡ length part.now }
         ensures waits { IsFalse result.is_full → Lacks self.old.from self.new.held }
-        ensures moves { 4 ≤ length room.old → 0 < length part.now → 0 < result.read + result.written }
-        ensures nearer { ComesNearer part.now room.old result.read self.old self.new }
-        ensures replaces { Replaces self.old (take result.read part.now) result.replaced self.new }
-        ensures total { AddsUp self.old result.replaced self.new }
     {
-        let reached = recode_into(self.from, self.to, part, room, 0);
-        let end = part.len().min(reached.read + 3);
-        self.count_faults(reached.replaced);
-        self.hold(&part[reached.read..end]);
-        Progress {
-            read: end,
-            ..reached
-        }
+        let done = recode_into(way, self.from, self.to, part, room, place);
+        let end = part.len().min(done.read + 3);
+        self.hold(&part[done.read..end]);
+        Progress { read: end, ..done }
     }
 
-    // The same where something is held, kept apart so that the test is inlined.
+    // The same where something is, kept apart so that the test is inlined.
     #[inline(never)]
-    fn feed_joined_into(&mut self, part: &[u8], room: &mut [u8]) -> Progress
-        ensures feeds { FeedsInto self.old part.now room.old room.new result.read result.written self.new }
+    fn take_joined(&mut self, way: Way, part: &[u8], room: &mut [u8]) -> Progress
+        ensures takes { Takes FillsPlace way self.old part.now
+            (at_place room.old 0) (at_place room.new result.written) result.read result.replaced self.new }
         ensures full { IsTrue result.is_full →
-            IsFull self.new part.now result.read (length room.old - result.written) }
+            IsFullBy way self.new part.now result.read (length room.old - result.written) }
         ensures short { IsTrue result.is_full → length room.old < result.written + 4 }
         ensures read { IsFalse result.is_full → result.read ≡ length part.now }
         ensures waits { IsFalse result.is_full → Lacks self.old.from self.new.held }
-        ensures moves { 4 ≤ length room.old → 0 < length part.now → 0 < result.read + result.written }
-        ensures nearer { ComesNearer part.now room.old result.read self.old self.new }
-        ensures replaces { Replaces self.old (take result.read part.now) result.replaced self.new }
-        ensures total { AddsUp self.old result.replaced self.new }
-    {
-        let first = self.feed_held(part, room);
-        if first.is_full || 0 < self.count {
-            self.count_faults(first.replaced);
-            return first;
-        }
-        let rest = &part[first.read..];
-        let then = recode_into(self.from, self.to, rest, room, first.written);
-        let end = rest.len().min(then.read + 3);
-        let replaced = first.replaced + then.replaced;
-        self.count_faults(replaced);
-        self.hold(&rest[then.read..end]);
-        Progress {
-            read: first.read + end,
-            replaced,
-            ..then
-        }
-    }
-
-    // `feed_into` of what is held, with as many bytes of the part as it takes, until nothing is held. Faults are not counted yet.
-    fn feed_held(&mut self, part: &[u8], room: &mut [u8]) -> Progress
-        ensures feeds { FeedsInto self.old part.now room.old room.new result.read result.written self.new }
-        ensures full { IsTrue result.is_full →
-            IsFull self.new part.now result.read (length room.old - result.written) }
-        ensures short { IsTrue result.is_full → length room.old < result.written + 4 }
-        ensures read { IsFalse result.is_full → 0 < length self.new.held → result.read ≡ length part.now }
-        ensures waits { IsFalse result.is_full → 0 < length self.new.held →
-            Lacks self.old.from self.new.held }
-        ensures near { bytes_left part.now result.read self.new ≤ bytes_left part.now 0 self.old }
-        ensures nearer { 0 < result.read + result.written →
-            bytes_left part.now result.read self.new < bytes_left part.now 0 self.old }
-        ensures replaces { Replaces self.old (take result.read part.now) result.replaced self.new }
-        ensures uncounted { self.new.replaced ≡ self.old.replaced }
-        ensures few { result.replaced ≤ result.read + 3 }
     {
         // To read it tells a proof that few bytes are held.
         let _held = self.count;
-        let mut read = 0;
-        let mut written = 0;
-        let mut replaced = 0;
-        while 0 < self.count {
-            let rest = &part[read..];
-            let Some((first, taken)) = next_of_both(self.from, self.held_bytes(), rest) else {
-                self.take_more(rest, 0);
-                return progress(part.len(), written, replaced, false);
-            };
-            let Some(end) = put_at(self.to, first.c, room, written) else {
-                return progress(read, written, replaced, true);
-            };
-            self.take_more(&rest[..taken], first.len);
-            read += taken;
-            written = end;
-            replaced += first.faults;
+        let (first, written) = self.take_held_into(way, part, room);
+        if first.is_full || first.is_waiting {
+            return progress(first.read, written, first.replaced, first.is_full);
         }
-        progress(read, written, replaced, false)
-    }
-
-    // Holds what the held bytes and these are together, without so many at the front.
-    pub(crate) fn take_more(&mut self, bytes: &[u8], gone: usize)
-        requires more { length bytes.now ≤ 3 }
-        requires gone { gone ≤ length self.old.held + length bytes.now }
-        requires few { length self.old.held + length bytes.now ≤ gone + 3 }
-        ensures { self.new ≡ record (self.old) { held = drop gone (self.old.held ++ bytes.now) } }
-    {
-        let (joined, len) = join(self.held_bytes(), bytes);
-        self.hold(&joined[gone..len]);
+        let then = self.take_alone(way, &part[first.read..], room, written);
+        Progress {
+            read: first.read + then.read,
+            replaced: first.replaced + then.replaced,
+            ..then
+        }
     }
 
     /// `finish` into room of a fixed size. `read` is 0. After the bytes that were written, the rest of
@@ -481,24 +466,23 @@ impl Recoder {
         if self.count == 0 {
             return progress(0, 0, 0, false);
         }
-        self.finish_held_into(room)
+        let done = self.take_last_into(Way::Faults, room);
+        self.count_faults(done.replaced);
+        done
     }
 
-    // `finish_into` where something is held, kept apart so that the test is inlined.
+    // Takes what is held at the end into room of a fixed size. Faults are not counted yet.
     #[inline(never)]
-    fn finish_held_into(&mut self, room: &mut [u8]) -> Progress
-        ensures finishes { FinishesInto self.old room.old room.new result.written self.new }
-        ensures full { IsTrue result.is_full → IsLastFull self.new (length room.old - result.written) }
+    pub(crate) fn take_last_into(&mut self, way: Way, room: &mut [u8]) -> Progress
+        ensures takes { TakesLast FillsPlace way self.old
+            (at_place room.old 0) (at_place room.new result.written) result.replaced self.new }
+        ensures full { IsTrue result.is_full → IsLastFullBy way self.new (length room.old - result.written) }
         ensures short { IsTrue result.is_full → length room.old < result.written + 4 }
         ensures all { IsFalse result.is_full → self.new.held ≡ [] }
         ensures read { result.read ≡ 0 }
-        ensures replaces { ReplacesLast self.old result.replaced self.new }
-        ensures total { AddsUp self.old result.replaced self.new }
     {
-        let (held, len) = join(self.held_bytes(), &[]);
-        let done = recode_last_into(self.from, self.to, &held[..len], room);
-        self.count_faults(done.replaced);
-        self.hold(&held[done.read..len]);
-        Progress { read: 0, ..done }
+        let mut out = Room::new(room, 0);
+        let done = self.take_last::<Room<'_>>(way, &mut out);
+        progress(0, out.len, done.replaced, done.is_full)
     }
 }

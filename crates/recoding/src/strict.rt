@@ -8,9 +8,9 @@ ghost use Rattle.recoding.specs.Strict.{EndsRun, FeedsStrictly, FinishesStrictly
 use crate::faults::{Fault, FaultKind, Outcome, StrictProgress};
 use crate::first_pieces::FirstPiece;
 use crate::form_calls::{first_piece, last_piece};
+use crate::held::join;
 use crate::recoder::Recoder;
-use crate::recoder_rooms::put_at;
-use crate::recoder_runs::join;
+use crate::recoder_runs::put_at;
 use crate::strict_runs::{StrictRun, run_strictly};
 
 // How far a call came with what was held; `None` where nothing is held any more.

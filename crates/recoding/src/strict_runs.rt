@@ -7,7 +7,7 @@ use crate::form::Form;
 use crate::form_calls::first_piece;
 use crate::kernels::{Copied, Kernel, Narrowed, Turned, Widened, by_forms};
 use crate::output::Output;
-use crate::recoder_rooms::put_at;
+use crate::recoder_runs::put_at;
 use crate::room::Room;
 use crate::text::{Text, Utf8, Utf16};
 

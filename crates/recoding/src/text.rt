@@ -2,11 +2,14 @@
 ghost use Rattle.std.specs.Prelude.{◌≡◌, ◌<◌, ◌≤◌, length, IfSome, IfNone, IsTrue, IsFalse};
 ghost use Rattle.recoding.specs.Recoded.{Lacks, written};
 ghost use Rattle.recoding.specs.NextScalars.{BeginsPiece, Waits, fault_len};
+ghost use Rattle.recoding.specs.Replacing.{IsNext};
+ghost use Rattle.recoding.specs.declared.way.Way.TheVariants as way;
 ghost use Rattle.recoding.specs.Strict.{BeginsChar, IsFirstPiece, lacking};
 
 use crate::codes::{len_of_units, put_code_units, put_short};
 use crate::faults::FaultKind;
 use crate::first_pieces::{FirstPiece, first_of_utf8, first_of_utf16};
+use crate::lossy_pieces::{part_of_utf8, part_of_utf16};
 use crate::next_scalar::{ShownPiece, next_of_utf8, next_of_utf16, next_valid_of_utf16};
 use crate::output::Output;
 use encode_unicode::CharExt;
@@ -24,6 +27,12 @@ pub(crate) trait Text {
     fn next_scalar(bytes: &[u8]) -> Option<ShownPiece>
         ensures some { IfSome result (λ x. BeginsPiece form bytes.now x) }
         ensures none { IfNone result (Waits form bytes.now) }
+        ensures lacks { IfNone result (Lacks form bytes.now) };
+
+    // The same where each maximal subpart is one piece.
+    fn next_part(bytes: &[u8]) -> Option<ShownPiece>
+        ensures some { IfSome result (λ x. IsNext way.Subparts form bytes.now x) }
+        ensures few { IfNone result (length bytes.now ≤ 3) }
         ensures lacks { IfNone result (Lacks form bytes.now) };
 
     // The character that begins the bytes, and how many bytes it has; `None` at a fault, and near the end.
@@ -102,6 +111,11 @@ impl Text for Utf8 {
     }
 
     #[inline(always)]
+    fn next_part(bytes: &[u8]) -> Option<ShownPiece> {
+        part_of_utf8(bytes)
+    }
+
+    #[inline(always)]
     fn next_valid(bytes: &[u8]) -> Option<(char, usize)> {
         front_of_text(bytes)
     }
@@ -146,6 +160,11 @@ impl<const BIG_ENDIAN: bool> Text for Utf16<BIG_ENDIAN> {
     #[inline(always)]
     fn next_scalar(bytes: &[u8]) -> Option<ShownPiece> {
         next_of_utf16::<BIG_ENDIAN>(bytes)
+    }
+
+    #[inline(always)]
+    fn next_part(bytes: &[u8]) -> Option<ShownPiece> {
+        part_of_utf16::<BIG_ENDIAN>(bytes)
     }
 
     #[inline(always)]

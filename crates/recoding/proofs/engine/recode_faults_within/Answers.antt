@@ -1,6 +1,9 @@
 use Rattle.std.proofs.Common.{rules}
-use Rattle.recoding.proofs.Recodes.{Reaches-full, Reaches-on, Reaches-waiting, Recodes-char, Recodes-code}
+use Rattle.recoding.proofs.Recodes.{Reaches-full, Reaches-on, Reaches-waiting, Recodes-char, Recodes-code, Recodes-none}
 use Rattle.recoding.proofs.engine.recode_faults_within.Goals as goal
+
+pub loop-read-init : goal.loop-read-init
+loop-read-init g c = Recodes-none g.met.O.Output.appends_none
 
 pub loop-read-preserved-in-Char : goal.loop-read-preserved-in-Char
 loop-read-preserved-in-Char g c =

@@ -1,5 +1,5 @@
 use Rattle.std.proofs.Common.{◌≡◌, length, ap, arith, length-take}
-use Rattle.recoding.proofs.Growing.{Finishes-none}
+use Rattle.recoding.proofs.Taking.{Finishes-none}
 use Rattle.recoding.proofs.RecodedLists.{outcome_none}
 use Rattle.recoding.proofs.recoder.Recoder.finish.Goals as goal
 

@@ -1,7 +1,7 @@
 use Rattle.std.proofs.Common.{rules, ◌≡◌, [], take, arith, refl, ap, sym, ◌∙◌}
 use Rattle.recoding.specs.Faults.{AddsUp}
 use Rattle.recoding.specs.Rooms.{FinishesInto}
-use Rattle.recoding.proofs.RoomLemmas.{Finishes-of}
+use Rattle.recoding.proofs.Taking.{Finishes-of, counted_last, finished_into, replaces_last}
 use Rattle.recoding.proofs.Advancing.{counts_last, keeps_last}
 use Rattle.recoding.proofs.RecodedLists.{outcome_finished, outcome_finished_into}
 use Rattle.recoding.proofs.recoder.Recoder.finish_into.Goals as goal
@@ -30,21 +30,32 @@ returns-then-self-eq0-clause-counted c whole =
 
 -- where something is
 
+pub returns-clause-finishes : goal.returns-clause-finishes
+returns-clause-finishes c = finished_into c.take_last_into-done.ensures.takes c.count_faults.ensures
+
+pub returns-clause-full : goal.returns-clause-full
+returns-clause-full c = rw c.count_faults.ensures c.take_last_into-done.ensures.full
+
+pub returns-clause-all : goal.returns-clause-all
+returns-clause-all c = rw c.count_faults.ensures c.take_last_into-done.ensures.all
+
 pub returns-clause-done : goal.returns-clause-done
-returns-clause-done c whole =
-    let last = c.finish_held_into.ensures in
-    Finishes-of c.args.self.now c.finish_held_into.new.self c.args.room.now c.finish_held_into.new.room c.finish_held_into.result.written last.finishes (last.all whole)
+returns-clause-done c whole = Finishes-of c.args.self.now c.count_faults.new.self c.args.room.now c.take_last_into-done.new.room c.take_last_into-done.result.written (returns-clause-finishes c) (returns-clause-all c whole)
 
 pub returns-clause-outcome : goal.returns-clause-outcome
-returns-clause-outcome c = outcome_finished_into c.finish_held_into.ensures.finishes
+returns-clause-outcome c = outcome_finished_into (returns-clause-finishes c)
 
 pub returns-clause-outcome_done : goal.returns-clause-outcome_done
 returns-clause-outcome_done c whole out = outcome_finished c.args.self.now out _ (returns-clause-done c whole out)
 
+pub returns-clause-replaces : goal.returns-clause-replaces
+returns-clause-replaces c = replaces_last c.take_last_into-done.ensures.takes c.count_faults.ensures
+
+pub returns-clause-total : goal.returns-clause-total
+returns-clause-total c = counted_last c.take_last_into-done.ensures.takes c.count_faults.ensures
+
 pub returns-clause-counts : goal.returns-clause-counts
-returns-clause-counts c = keeps_last _ _ _ c.finish_held_into.ensures.replaces c.finish_held_into.ensures.total
+returns-clause-counts c = keeps_last _ _ _ (returns-clause-replaces c) (returns-clause-total c)
 
 pub returns-clause-counted : goal.returns-clause-counted
-returns-clause-counted c whole =
-    let last = c.finish_held_into.ensures in
-    counts_last c.args.self.now c.finish_held_into.new.self c.finish_held_into.result.replaced last.replaces last.total (last.all whole)
+returns-clause-counted c whole = counts_last c.args.self.now c.count_faults.new.self c.take_last_into-done.result.replaced (returns-clause-replaces c) (returns-clause-total c) (returns-clause-all c whole)

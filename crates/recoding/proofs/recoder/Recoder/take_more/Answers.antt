@@ -8,7 +8,7 @@ returns c =
     let gone = c.args.gone in
     let r = c.args.self.now in
     let more : length c.args.bytes.now ≤ 3 = c.requires.more in
-    let bytes = c.held_bytes.ensures.bytes in
+    let bytes = c.held.ensures.bytes in
     let le : gone ≤ c.join-len.result.1 = omega (arith, ap length bytes) in
     let all : take c.join-len.result.1 c.join-len.result.0 ≡ r.held ++ c.args.bytes.now =
     c.join-len.ensures.bytes ∙ ap₂ (λ xs ys. xs ++ ys) bytes (take_all 3 c.args.bytes.now more) in

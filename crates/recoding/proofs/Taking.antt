@@ -1,0 +1,444 @@
+-- Parts that a recoder takes with what it holds, step by step, and what callers have of that.
+use Rattle.std.proofs.Common.{◌≡◌, ℕ, ◌+◌, ◌-◌, ◌*◌, ◌<◌, ◌≤◌, ⊎_elim, Bool, true, false, rules, List, [], ◌++◌, length, min, take, drop, arith, refl, ap, ap₂, sym, ◌∙◌, subst, append_assoc, length-append, length-drop, length-take, take-append-drop}
+use Rattle.std.proofs.lemmas.Bool.{cases_lt}
+use Rattle.std.proofs.lemmas.List.{append-nil, drop_all, drop_at, drop-drop, take_all, take_at, take_rest, take-take}
+use Rattle.std.specs.Prelude.{IsTrue, IsFalse, Vec, vec_len, vec_capacity}
+use Rattle.recoding.specs.declared.form.Form.{Form}
+use Rattle.recoding.specs.declared.way.Way.{Way}
+use Rattle.recoding.specs.declared.way.Way.TheVariants.{Faults, Subparts}
+use Rattle.recoding.specs.Faults.{AddsUp, CountsFed, Replaces, ReplacesLast, fault_count, saturated}
+use Rattle.recoding.specs.LossyBytes.{AddsAllLossy, AddsLastLossy, AddsLossy, FeedsLossy, FinishesLossy, lossy, lossy_outcome}
+use Rattle.recoding.specs.NextScalars.{Decides, Ends}
+use Rattle.recoding.specs.Outputs.{Extends}
+use Rattle.recoding.specs.Recoded.{Feeds, Finishes, IsRecoded, Lacks, Recoding, written}
+use Rattle.recoding.specs.RecodedBytes.{recoded}
+use Rattle.recoding.specs.Replacing.{Becomes, Begins, BeginsLast, FillsPlace, IsFullBy, IsLastFullBy, NextIsLonger, Recodes, Takes, TakesAll, TakesLast, at_place, list_by}
+use Rattle.recoding.specs.Rooms.{ComesNearer, FeedsInto, FinishesInto, HasRoomFor, IsAmple}
+use Rattle.recoding.proofs.Advancing.{Replaces-of}
+use Rattle.recoding.proofs.Becoming.{NextIsLonger-of, Becomes-front, Becomes-more, Becomes-none, Becomes-then, Becomes-where, continues_of, leaves_of, list_last}
+use Rattle.recoding.proofs.Growing.{length_written, recoded_nothing}
+use Rattle.recoding.proofs.LossyLists.{nothing_is_lossy}
+use Rattle.recoding.proofs.RecodedLists.{recoded-nil, recoded_is}
+use Rattle.recoding.proofs.RoomLemmas.{take_more}
+
+-- The first four of the held bytes and those of a part.
+pub looked_at : (joined held rest : List ℕ) (len looked : ℕ) → take len joined ≡ held ++ take 3 rest → len ≡ length held + min 3 (length rest) → looked ≡ min len 4 → length held ≤ 3
+    → take looked joined ≡ held ++ take (looked - length held) rest
+looked_at joined held rest len looked e all four few =
+    let k : ℕ = looked - length held in
+    let ys : List ℕ = take 3 rest in
+    let whole : length held + k ≡ looked = omega arith in
+    let front : take k (take 3 rest) ≡ take k rest = take-take k 3 rest (omega arith) in
+    sym (take-take looked len joined (omega arith)) ∙ ap (take looked) e ∙ ap (λ m. take m (held ++ ys)) (sym whole)
+    ∙ sym (take_more (length held) k (held ++ ys)) ∙ ap₂ (λ xs zs. xs ++ take k zs) (take_at held ys (length held) refl) (drop_at held ys (length held) refl) ∙ ap (λ zs. held ++ zs) front
+
+-- What begins with a piece whose code is longer than the room, with the rest of the part.
+pub IsFullBy-of : (way : Way) (s : Recoding) (part : List ℕ) {c n k room : ℕ} (taken : ℕ) (from to : Form) → from ≡ s.from → to ≡ s.to → Begins way from (s.held ++ take taken part) c n k → room < length (written to c)
+    → NextIsLonger way s.from s.to (s.held ++ part) room
+IsFullBy-of way s part {c} {n} {k} {room} taken from to e i begins longer =
+    let whole : (s.held ++ take taken part) ++ drop taken part ≡ s.held ++ part = append_assoc s.held (take taken part) (drop taken part) ∙ ap (λ xs. s.held ++ xs) (take-append-drop taken part) in
+    subst (λ xs. NextIsLonger way s.from s.to xs room) whole
+    (NextIsLonger-of way (s.held ++ take taken part) (drop taken part) (subst (λ y. Begins way y (s.held ++ take taken part) c n k) e begins) (subst (λ y. room < length (written y c)) i longer))
+
+-- the same of what a run left, of which some is held
+pub IsFullBy-run : (way : Way) (s v : Recoding) (part : List ℕ) (n end room : ℕ) (from to : Form) → from ≡ s.from → to ≡ s.to → n ≤ end → v ≡ record (s) { held = take (end - n) (drop n part) }
+    → NextIsLonger way from to (drop n part) room → IsFullBy way v part end room
+IsFullBy-run way s v part n end room from to e i le same full =
+    let xs : List ℕ = drop n part in
+    let whole : n + (end - n) ≡ end = omega arith in
+    let rest : drop (end - n) xs ≡ drop end part = drop-drop (end - n) n part ∙ ap (λ m. drop m part) whole in
+    let left : xs ≡ take (end - n) xs ++ drop end part = sym (take-append-drop (end - n) xs) ∙ ap (λ ys. take (end - n) xs ++ ys) rest in
+    let here : NextIsLonger way s.from s.to xs room = subst (λ y. NextIsLonger way s.from y xs room) i (subst (λ y. NextIsLonger way y to xs room) e full) in
+    rw same (subst (λ ys. NextIsLonger way s.from s.to ys room) left here)
+
+-- and of a call after another
+pub IsFullBy-then : (way : Way) (v : Recoding) (part : List ℕ) (read more room : ℕ) → IsFullBy way v (drop read part) more room → IsFullBy way v part (read + more) room
+IsFullBy-then way v part read more room full = subst (λ ys. NextIsLonger way v.from v.to (v.held ++ ys) room) (drop-drop more read part) full
+
+-- A part of the input, with what is held.
+
+module _ {O : Type 0} {appends : O → List ℕ → O → Type 0} {way : Way} where
+  pub Takes-none : ((a : O) → appends a [] a) → (r : Recoding) (part : List ℕ) {out : O} → length r.held ≤ 3 → Takes appends way r part out out 0 0 r
+  Takes-none none r part {out} few = record {
+    grown = [];
+    appended = none out;
+    within = omega arith;
+    short = omega arith;
+    fewer = omega arith;
+    becomes = Becomes-where (r.held ++ []) r.held (sym (append-nil r.held)) refl (Becomes-none way r.from r.to r.held);
+    from = refl;
+    to = refl;
+    replaced = refl;
+    few = few;
+  }
+
+  -- more of the part, by another call
+  pub Takes-then : ((a b c : O) (xs ys : List ℕ) → appends a xs b → appends b ys c → appends a (xs ++ ys) c) → {r s v : Recoding} {part : List ℕ} {old mid new : O} {read more j k : ℕ}
+      → Takes appends way r part old mid read j s → Takes appends way s (drop read part) mid new more k v → Takes appends way r part old new (read + more) (j + k) v
+  Takes-then law {r} {s} {v} {part} {old} {mid} {new} {read} {more} {j} {k} f g =
+      let looked : List ℕ = take more (drop read part) in
+      let whole : (r.held ++ take read part) ++ looked ≡ r.held ++ take (read + more) part = append_assoc r.held (take read part) looked ∙ ap (λ xs. r.held ++ xs) (take_more read more part) in
+      let first : Becomes way r.from r.to (r.held ++ take (read + more) part) f.grown j (s.held ++ looked) = Becomes-where (r.held ++ take (read + more) part) (s.held ++ looked) whole refl (Becomes-more looked f.becomes) in
+      let second : Becomes way r.from r.to (s.held ++ looked) g.grown k v.held =
+      subst (λ x. Becomes way x r.to (s.held ++ looked) g.grown k v.held) f.from (subst (λ y. Becomes way s.from y (s.held ++ looked) g.grown k v.held) f.to g.becomes) in
+      record {
+        grown = f.grown ++ g.grown;
+        appended = law old mid new f.grown g.grown f.appended g.appended;
+        within = omega (arith, f.within, g.within, length-drop read part);
+        short = omega (arith, f.short, g.short, length-append f.grown g.grown);
+        fewer = omega (arith, f.fewer, g.fewer);
+        becomes = Becomes-then first second;
+        from = g.from ∙ f.from;
+        to = g.to ∙ f.to;
+        replaced = g.replaced ∙ f.replaced;
+        few = g.few;
+      }
+
+  -- a piece that they begin with
+  pub Takes-piece : {s v : Recoding} {part : List ℕ} {old new : O} {c n k : ℕ} (taken : ℕ) (from to : Form) → from ≡ s.from → to ≡ s.to → taken ≤ length part → length s.held + taken ≤ 4
+      → Begins way from (s.held ++ take taken part) c n k → appends old (written to c) new → v ≡ record (s) { held = drop n (s.held ++ take taken part) } → Takes appends way s part old new taken k v
+  Takes-piece {s} {v} {part} {old} {new} {c} {n} {k} taken from to e i within four begins put same =
+      let w : List ℕ = s.held ++ take taken part in
+      let d = begins.decides in
+      let some = d.some in
+      let at : v.held ≡ drop n w = ap (λ x. x.held) same in
+      let len : length w ≡ length s.held + taken = omega (arith, length-append s.held (take taken part), length-take taken part) in
+      let here : Begins way s.from w c n k = subst (λ y. Begins way y w c n k) e begins in
+      record {
+        grown = written s.to c;
+        appended = subst (λ y. appends old (written y c) new) i put;
+        within = within;
+        short = omega (arith, length_written s.to c n d.some d.wide, ap length at, length-drop n w, d.within);
+        fewer = omega (arith, begins.few, ap length at, length-drop n w, d.within);
+        becomes = Becomes-where w v.held refl (sym at) (Becomes-front here);
+        from = ap (λ x. x.from) same;
+        to = ap (λ x. x.to) same;
+        replaced = ap (λ x. x.replaced) same;
+        few = omega (arith, ap length at, length-drop n w);
+      }
+
+  -- all that is left is held
+  pub Takes-all : ((a : O) → appends a [] a) → {s v : Recoding} {part : List ℕ} {out : O} → length s.held + length part ≤ 3 → v ≡ record (s) { held = s.held ++ part }
+      → Takes appends way s part out out (length part) 0 v
+  Takes-all none {s} {v} {part} {out} few same =
+      let at : v.held ≡ s.held ++ part = ap (λ x. x.held) same in
+      let len : length v.held ≡ length s.held + length part = omega (arith, ap length at, length-append s.held part) in
+      let whole : s.held ++ part ≡ s.held ++ take (length part) part = ap (λ xs. s.held ++ xs) (sym (take_all (length part) part (omega arith))) in
+      record {
+        grown = [];
+        appended = none out;
+        within = omega arith;
+        short = omega arith;
+        fewer = omega arith;
+        becomes = Becomes-where (s.held ++ take (length part) part) v.held whole (sym at) (Becomes-none way s.from s.to (s.held ++ part));
+        from = ap (λ x. x.from) same;
+        to = ap (λ x. x.to) same;
+        replaced = ap (λ x. x.replaced) same;
+        few = omega arith;
+      }
+
+  -- a run over a part, where nothing is held
+  pub Takes-run : {s v : Recoding} {part : List ℕ} {old new : O} {n end k : ℕ} (from to : Form) → from ≡ s.from → to ≡ s.to → length s.held ≡ 0 → Recodes appends way from to part old new n k
+      → end ≡ min (length part) (n + 3) → v ≡ record (s) { held = take (end - n) (drop n part) } → Takes appends way s part old new end k v
+  Takes-run {s} {v} {part} {old} {new} {n} {end} {k} from to e i none g least same =
+      let h : Recodes appends way s.from s.to part old new n k = subst (λ y. Recodes appends way s.from y part old new n k) i (subst (λ y. Recodes appends way y to part old new n k) e g) in
+      let inside = h.within in
+      let nothing : s.held ≡ [] = drop_all 0 s.held (omega arith) in
+      let at : v.held ≡ take (end - n) (drop n part) = ap (λ x. x.held) same in
+      let cut : take end part ≡ take (n + 3) part =
+      ⊎_elim (λ (lt : length part < n + 3). take_all end part (omega arith) ∙ sym (take_all (n + 3) part (omega arith))) (λ (ge : n + 3 ≤ length part). let all : end ≡ n + 3 = omega arith in ap (λ m. take m part) all) (cases_lt (length part) (n + 3)) in
+      let held : take 3 (drop n part) ≡ v.held =
+      ⊎_elim
+      (λ (lt : length part < n + 3). take_all 3 (drop n part) (omega (arith, length-drop n part)) ∙ sym (take_all (end - n) (drop n part) (omega (arith, length-drop n part))))
+      (λ (ge : n + 3 ≤ length part). let all : 3 ≡ end - n = omega arith in ap (λ m. take m (drop n part)) all)
+      (cases_lt (length part) (n + 3)) ∙ sym at in
+      let looked : take (n + 3) part ≡ s.held ++ take end part = sym cut ∙ sym (ap (λ ys. ys ++ take end part) nothing) in
+      record {
+        grown = h.grown;
+        appended = h.appended;
+        within = omega arith;
+        short = omega (arith, h.short, ap length at, length-take (end - n) (drop n part), length-drop n part);
+        fewer = omega (arith, h.few, ap length at, length-take (end - n) (drop n part), length-drop n part);
+        becomes = Becomes-where (s.held ++ take end part) v.held looked held h.becomes;
+        from = ap (λ x. x.from) same;
+        to = ap (λ x. x.to) same;
+        replaced = ap (λ x. x.replaced) same;
+        few = omega (arith, ap length at, length-take (end - n) (drop n part), length-drop n part);
+      }
+
+  -- Where there is room for all, no code is longer than it.
+
+  pub never_full : {room : O → ℕ} → ((a b : O) (xs : List ℕ) → appends a xs b → room a ≤ room b + length xs) → {r s : Recoding} {part : List ℕ} {a b : O} {read k : ℕ} → Takes appends way r part a b read k s
+      → IsAmple (room a) (length r.held + length part) → IsFullBy way s part read (room b) → ⊥
+  never_full law {r} {s} {part} {a} {b} {read} f enough long =
+      let d = long.begins in
+      omega (
+        arith,
+        f.short,
+        f.within,
+        law a b f.grown f.appended,
+        long.longer,
+        d.within,
+        length_written s.to long.scalar long.len d.some d.wide,
+        length-append s.held (drop read part),
+        length-drop read part,
+      )
+
+  pub never_full_last : {room : O → ℕ} → ((a b : O) (xs : List ℕ) → appends a xs b → room a ≤ room b + length xs) → {r s : Recoding} {a b : O} {k : ℕ} → TakesLast appends way r a b k s
+      → IsAmple (room a) (length r.held) → IsLastFullBy way s (room b) → ⊥
+  never_full_last law {r} {s} {a} {b} f enough long =
+      let d = long.begins in
+      omega (arith, f.short, law a b f.grown f.appended, long.longer, d.within, length_written s.to long.scalar long.len d.some d.wide)
+
+  -- The end.
+
+  pub TakesLast-none : ((a : O) → appends a [] a) → (r : Recoding) {out : O} → TakesLast appends way r out out 0 r
+  TakesLast-none none r {out} = record { grown = []; appended = none out; short = omega arith; fewer = omega arith; same = refl; counts = λ on. omega arith; from = refl; to = refl; replaced = refl }
+
+  pub TakesLast-piece : ((a b c : O) (xs ys : List ℕ) → appends a xs b → appends b ys c → appends a (xs ++ ys) c) → {r s v : Recoding} {old mid new : O} {c n j k : ℕ} (from to : Form)
+      → from ≡ r.from → to ≡ r.to → TakesLast appends way r old mid j s → BeginsLast way from s.held c n k → appends mid (written to c) new
+      → v ≡ record (s) { held = drop n s.held } → TakesLast appends way r old new (j + k) v
+  TakesLast-piece law {r} {s} {v} {old} {mid} {new} {c} {n} {j} {k} from to e i f begins put same =
+      let d = begins.ends in
+      let some = d.some in
+      let at : v.held ≡ drop n s.held = ap (λ x. x.held) same in
+      let put_here : appends mid (written r.to c) new = subst (λ y. appends mid (written y c) new) i put in
+      let here : BeginsLast way r.from s.held c n k = subst (λ y. BeginsLast way y s.held c n k) e begins in
+      record {
+        grown = f.grown ++ written r.to c;
+        appended = law old mid new f.grown (written r.to c) f.appended put_here;
+        short = omega (arith, f.short, length_written r.to c n d.some d.wide, length-append f.grown (written r.to c), ap length at, length-drop n s.held, d.within);
+        fewer = omega (arith, f.fewer, begins.few, ap length at, length-drop n s.held, d.within);
+        same =
+            f.same ∙ ap (λ xs. f.grown ++ xs) (list_last way r.from r.to s.held c n here.ends ∙ ap (λ xs. written r.to c ++ list_by way r.from r.to xs) (sym at))
+            ∙ sym (append_assoc f.grown (written r.to c) (list_by way r.from r.to v.held));
+        counts = λ on. omega (arith, f.counts on, here.counts on, ap (fault_count r.from) at);
+        from = ap (λ x. x.from) same ∙ f.from;
+        to = ap (λ x. x.to) same ∙ f.to;
+        replaced = ap (λ x. x.replaced) same ∙ f.replaced;
+      }
+
+-- The same to another output.
+
+pub Takes-as : {O P : Type 0} {appends : O → List ℕ → O → Type 0} {other : P → List ℕ → P → Type 0} {way : Way} {r s : Recoding} {part : List ℕ} {a b : O} {c d : P} {n k : ℕ}
+    → ((xs : List ℕ) → appends a xs b → other c xs d) → Takes appends way r part a b n k s → Takes other way r part c d n k s
+Takes-as turn f = record {
+  grown = f.grown;
+  appended = turn f.grown f.appended;
+  within = f.within;
+  short = f.short;
+  fewer = f.fewer;
+  becomes = f.becomes;
+  from = f.from;
+  to = f.to;
+  replaced = f.replaced;
+  few = f.few;
+}
+
+pub TakesLast-as : {O P : Type 0} {appends : O → List ℕ → O → Type 0} {other : P → List ℕ → P → Type 0} {way : Way} {r s : Recoding} {a b : O} {c d : P} {k : ℕ}
+    → ((xs : List ℕ) → appends a xs b → other c xs d) → TakesLast appends way r a b k s → TakesLast other way r c d k s
+TakesLast-as turn f = record {
+  grown = f.grown;
+  appended = turn f.grown f.appended;
+  short = f.short;
+  fewer = f.fewer;
+  same = f.same;
+  counts = f.counts;
+  from = f.from;
+  to = f.to;
+  replaced = f.replaced;
+}
+
+pub false_unless : (b : Bool) → (IsTrue b → ⊥) → IsFalse b
+false_unless true never = absurd (never (search rules))
+false_unless false never = search rules
+
+-- room for all is room for what is left
+pub room_left : {Z : Type 0} {way : Way} {old new : Vec ℕ Z} {r s : Recoding} {part : List ℕ} {read k : ℕ} → Takes Extends way r part old new read k s
+    → HasRoomFor old (length r.held + length part) → HasRoomFor new (length (drop read part))
+room_left {old = old} {new} {r} {s} {part} {read} f room =
+    let put = f.appended in
+    omega (arith, room, put.capacity, ap length put.items, length-append old.items f.grown, f.short, f.within, length-drop read part)
+
+-- room that was reserved before
+reserved : {Z : Type 0} {old mid : Vec ℕ Z} → mid.items ≡ old.items → vec_capacity old ≤ vec_capacity mid → (xs : List ℕ) (new : Vec ℕ Z) → Extends mid xs new → Extends old xs new
+reserved same more xs new put = record { items = put.items ∙ ap (λ ys. ys ++ xs) same; capacity = omega (arith, put.capacity, more) }
+
+pub Takes-reserved : {Z : Type 0} {way : Way} {old mid new : Vec ℕ Z} {r s : Recoding} {part : List ℕ} {n k : ℕ} → mid.items ≡ old.items → vec_capacity old ≤ vec_capacity mid
+    → Takes Extends way r part mid new n k s → Takes Extends way r part old new n k s
+Takes-reserved {new = new} same more f = Takes-as (λ xs put. reserved same more xs new put) f
+
+pub TakesLast-reserved : {Z : Type 0} {way : Way} {old mid new : Vec ℕ Z} {r s : Recoding} {k : ℕ} → mid.items ≡ old.items → vec_capacity old ≤ vec_capacity mid
+    → TakesLast Extends way r mid new k s → TakesLast Extends way r old new k s
+TakesLast-reserved {new = new} same more f = TakesLast-as (λ xs put. reserved same more xs new put) f
+
+-- What callers of `feed` have.
+
+pub all_feeds : {Z : Type 0} (r : Recoding) (part : List ℕ) (old new : Vec ℕ Z) (s : Recoding) → TakesAll r part old new s → Feeds r part old.items new.items s
+all_feeds r part old new s (n, t, f, lacks, e) =
+    let whole : take (length part) part ≡ part = take_all (length part) part (omega arith) in
+    let put = f.appended in
+    rw e (record { grows = record { grown = f.grown; appended = put.items; continues = rw whole at (continues_of f.becomes) }; from = f.from; to = f.to; few = f.few })
+
+-- how many faults were replaced
+replaces : {O : Type 0} {appends : O → List ℕ → O → Type 0} {r s t : Recoding} {part : List ℕ} {old new : O} {read n m : ℕ} → Takes appends Faults r part old new read n s → t ≡ record (s) { replaced = m }
+    → Replaces r (take read part) n t
+replaces {r = r} {t = t} {part = part} {read = read} {n = n} f e = Replaces-of r t r.from (take read part) _ _ n refl (ap (λ x. x.from) e ∙ f.from) refl (ap (λ x. x.held) e) (f.becomes.counts tt)
+
+pub all_counted : {Z : Type 0} (r : Recoding) (part : List ℕ) (old new : Vec ℕ Z) (s : Recoding) → TakesAll r part old new s → CountsFed r part s
+all_counted r part old new s (n, t, f, lacks, e) =
+    let whole : take (length part) part ≡ part = take_all (length part) part (omega arith) in
+    (n, rw whole at (replaces f e), ap (λ x. x.replaced) e ∙ ap (λ m. saturated (m + n)) f.replaced)
+
+pub all_lacks : {Z : Type 0} (r : Recoding) (part : List ℕ) (old new : Vec ℕ Z) (s : Recoding) → TakesAll r part old new s → Lacks r.from s.held
+all_lacks r part old new s (n, t, f, lacks, e) = rw e lacks
+
+-- and of `finish`
+pub all_finished : {Z : Type 0} {r s : Recoding} {old new : Vec ℕ Z} {n : ℕ} → TakesLast Extends Faults r old new n s → s.held ≡ [] → Finishes r old.items new.items
+all_finished {r = r} {s = s} f none =
+    let put = f.appended in
+    record {
+      grown = f.grown;
+      appended = put.items;
+      recoded = rw (append-nil f.grown) at (leaves_of r.from r.to r.held f.grown s.held f.same [] (subst (λ xs. IsRecoded r.from r.to xs []) (sym none) (recoded_nothing r.from r.to)));
+    }
+
+-- where nothing is held, nothing comes of it
+pub Finishes-none : (r : Recoding) (old : List ℕ) → length r.held ≡ 0 → Finishes r old old
+Finishes-none r old none =
+    let nothing : r.held ≡ [] = drop_all 0 r.held (omega arith) in
+    record { grown = []; appended = sym (append-nil old); recoded = rw nothing (recoded_nothing r.from r.to) }
+
+-- The same of room of a fixed size.
+
+pub FillsPlace-more : (a b c : List ℕ × ℕ) (xs ys : List ℕ) → FillsPlace a xs b → FillsPlace b ys c → FillsPlace a (xs ++ ys) c
+FillsPlace-more a b c xs ys f g = record {
+  whole = g.whole ∙ f.whole;
+  fits = g.fits;
+  len = omega (arith, f.len, g.len, length-append xs ys);
+  front = g.front ∙ ap (λ zs. zs ++ ys) f.front ∙ append_assoc (take a.1 a.0) xs ys;
+}
+
+FillsPlace-room : (a b : List ℕ × ℕ) (xs : List ℕ) → FillsPlace a xs b → length a.0 - a.1 ≤ length b.0 - b.1 + length xs
+FillsPlace-room a b xs f = omega (arith, f.whole, f.len)
+
+module _ {way : Way} {r s : Recoding} {part old new : List ℕ} {read wrote n : ℕ} (f : Takes FillsPlace way r part (at_place old 0) (at_place new wrote) read n s) where
+  fits_old : wrote ≤ length old
+  fits_old = let fills = f.appended in omega (arith, fills.fits, fills.whole)
+
+  -- In room for a code each call of some bytes comes nearer to their end.
+  pub comes_nearer : {m : ℕ} (t : Recoding) (full : Bool) → t ≡ record (s) { replaced = m } → (IsTrue full → length old < wrote + 4) → (IsFalse full → read ≡ length part) → ComesNearer part old read r t
+  comes_nearer t true e short whole room some =
+      let scant = short (search rules) in
+      let fills = f.appended in
+      omega (arith, f.short, f.within, fills.len, ap (λ x. length x.held) e)
+  comes_nearer t false e short whole room some =
+      let all = whole (search rules) in
+      omega (arith, f.short, f.within, ap (λ x. length x.held) e)
+
+  -- and writes or reads something
+  pub moves : (full : Bool) → (IsTrue full → length old < wrote + 4) → (IsFalse full → read ≡ length part) → 4 ≤ length old → 0 < length part → 0 < read + wrote
+  moves true short whole room some = let scant = short (search rules) in omega arith
+  moves false short whole room some = let all = whole (search rules) in omega arith
+
+  pub enough_room : (full : Bool) → (IsTrue full → IsFullBy way s part read (length old - wrote)) → IsAmple (length old) (length r.held + length part) → IsFalse full
+  enough_room full is enough =
+      let fills = f.appended in
+      let same : length new - wrote ≡ length old - wrote = omega (arith, fills.whole) in
+      let all : IsAmple (length old - 0) (length r.held + length part) = omega (arith, enough) in
+      false_unless full (λ yes. never_full {room = λ x. length x.0 - x.1} FillsPlace-room f all (rw (sym same) at (is yes)))
+
+pub fed_into : {r s t : Recoding} {part old new : List ℕ} {read wrote n m : ℕ} → Takes FillsPlace Faults r part (at_place old 0) (at_place new wrote) read n s → t ≡ record (s) { replaced = m }
+    → FeedsInto r part old new read wrote t
+fed_into f e =
+    let fills = f.appended in
+    rw e (record {
+      within = f.within;
+      feeds = λ out. record { grows = record { grown = f.grown; appended = ap (λ xs. out ++ xs) fills.front; continues = continues_of f.becomes }; from = f.from; to = f.to; few = f.few };
+      fits = fits_old f;
+    })
+
+pub replaces_into : {r s t : Recoding} {part old new : List ℕ} {read wrote n m : ℕ} → Takes FillsPlace Faults r part (at_place old 0) (at_place new wrote) read n s → t ≡ record (s) { replaced = m }
+    → Replaces r (take read part) n t
+replaces_into f e = replaces f e
+
+pub counted : {O : Type 0} {appends : O → List ℕ → O → Type 0} {way : Way} {r s t : Recoding} {part : List ℕ} {old new : O} {read n : ℕ} → Takes appends way r part old new read n s
+    → t ≡ record (s) { replaced = saturated (s.replaced + n) } → AddsUp r n t
+counted {n = n} f e = ap (λ x. x.replaced) e ∙ ap (λ m. saturated (m + n)) f.replaced
+
+outcome_taken : (r s : Recoding) (bytes grown : List ℕ) → s.from ≡ r.from → s.to ≡ r.to → {n : ℕ} → Becomes Subparts r.from r.to (r.held ++ bytes) grown n s.held → AddsLossy r bytes grown s
+unfolding lossy_outcome
+outcome_taken r s bytes grown e f h out later =
+    let rest : List ℕ = lossy r.from r.to (s.held ++ later) in
+    let same : lossy s.from s.to (s.held ++ later) ≡ rest = ap (λ x. lossy x s.to (s.held ++ later)) e ∙ ap (λ x. lossy r.from x (s.held ++ later)) f in
+    ap (λ xs. (out ++ grown) ++ xs) same ∙ append_assoc out grown rest ∙ ap (λ xs. out ++ xs) (sym (h.same later) ∙ ap (lossy r.from r.to) (append_assoc r.held bytes later))
+
+pub fed_lossily : {r s : Recoding} {part old new : List ℕ} {read wrote n : ℕ} → Takes FillsPlace Subparts r part (at_place old 0) (at_place new wrote) read n s → FeedsLossy r part old new read wrote s
+fed_lossily {r} {s} {part} {read = read} f =
+    let fills = f.appended in
+    record {
+      within = f.within;
+      adds = rw fills.front (outcome_taken r s (take read part) f.grown f.from f.to f.becomes);
+      from = f.from;
+      to = f.to;
+      replaced = f.replaced;
+      few = f.few;
+      fits = fits_old f;
+    }
+
+-- At the end.
+
+module _ {way : Way} {r s : Recoding} {old new : List ℕ} {wrote n : ℕ} (f : TakesLast FillsPlace way r (at_place old 0) (at_place new wrote) n s) where
+  pub enough_room_at_end : (full : Bool) → (IsTrue full → IsLastFullBy way s (length old - wrote)) → IsAmple (length old) (length r.held) → IsFalse full
+  enough_room_at_end full is enough =
+      let fills = f.appended in
+      let same : length new - wrote ≡ length old - wrote = omega (arith, fills.whole) in
+      let all : IsAmple (length old - 0) (length r.held) = omega (arith, enough) in
+      false_unless full (λ yes. never_full_last {room = λ x. length x.0 - x.1} FillsPlace-room f all (rw (sym same) at (is yes)))
+
+pub finished_into : {r s t : Recoding} {old new : List ℕ} {wrote n m : ℕ} → TakesLast FillsPlace Faults r (at_place old 0) (at_place new wrote) n s → t ≡ record (s) { replaced = m }
+    → FinishesInto r old new wrote t
+finished_into {r} {s} f e =
+    let fills = f.appended in
+    let short = f.short in
+    rw e (record { leaves = rw fills.front (leaves_of r.from r.to r.held f.grown s.held f.same); from = f.from; to = f.to; few = omega (arith, f.fewer); fits = omega (arith, fills.fits, fills.whole) })
+
+pub replaces_last : {r s t : Recoding} {old new : List ℕ × ℕ} {n m : ℕ} → TakesLast FillsPlace Faults r old new n s → t ≡ record (s) { replaced = m } → ReplacesLast r n t
+replaces_last {r = r} {t = t} {n = n} f e = f.counts tt ∙ ap (λ k. n + k) (ap₂ (λ x xs. fault_count x xs) (sym (ap (λ x. x.from) e ∙ f.from)) (sym (ap (λ x. x.held) e)))
+
+pub counted_last : {r s t : Recoding} {old new : List ℕ × ℕ} {n : ℕ} → TakesLast FillsPlace Faults r old new n s → t ≡ record (s) { replaced = saturated (s.replaced + n) } → AddsUp r n t
+counted_last {n = n} f e = ap (λ x. x.replaced) e ∙ ap (λ m. saturated (m + n)) f.replaced
+
+-- all of it was put out
+pub Finishes-of : (r s : Recoding) (old new : List ℕ) (wrote : ℕ) → FinishesInto r old new wrote s → s.held ≡ [] → (out : List ℕ) → Finishes r out (out ++ take wrote new)
+Finishes-of r s old new wrote f none out = record {
+  grown = take wrote new;
+  appended = refl;
+  recoded = rw (append-nil (take wrote new)) at (f.leaves [] (subst (λ xs. IsRecoded r.from r.to xs []) (sym none) (recoded_nothing r.from r.to)));
+}
+
+outcome_ended : (r s : Recoding) (grown : List ℕ) → s.from ≡ r.from → s.to ≡ r.to → lossy r.from r.to r.held ≡ grown ++ lossy r.from r.to s.held → AddsLastLossy r grown s
+unfolding lossy_outcome
+outcome_ended r s grown e f h out =
+    let rest : List ℕ = lossy r.from r.to s.held in
+    let same : lossy s.from s.to (s.held ++ []) ≡ rest = ap (lossy s.from s.to) (append-nil s.held) ∙ ap (λ x. lossy x s.to s.held) e ∙ ap (λ x. lossy r.from x s.held) f in
+    ap (λ xs. (out ++ grown) ++ xs) same ∙ append_assoc out grown rest ∙ ap (λ xs. out ++ xs) (sym h ∙ ap (lossy r.from r.to) (sym (append-nil r.held)))
+
+pub finished_lossily : {r s : Recoding} {old new : List ℕ} {wrote n : ℕ} → TakesLast FillsPlace Subparts r (at_place old 0) (at_place new wrote) n s → FinishesLossy r old new wrote s
+finished_lossily {r} {s} f =
+    let fills = f.appended in
+    record {
+      adds = rw fills.front (outcome_ended r s f.grown f.from f.to f.same);
+      from = f.from;
+      to = f.to;
+      replaced = f.replaced;
+      few = omega (arith, f.fewer);
+      fits = omega (arith, fills.fits, fills.whole);
+    }
+
+-- where nothing is held any more, it is all
+pub lossy_done : (r s : Recoding) (grown : List ℕ) → s.held ≡ [] → AddsLastLossy r grown s → AddsAllLossy r grown
+unfolding lossy_outcome
+lossy_done r s grown none h out =
+    let nothing : lossy s.from s.to (s.held ++ []) ≡ [] = ap (λ xs. lossy s.from s.to (xs ++ [])) none ∙ nothing_is_lossy s.from s.to in
+    sym (append-nil (out ++ grown)) ∙ ap (λ xs. (out ++ grown) ++ xs) (sym nothing) ∙ h out

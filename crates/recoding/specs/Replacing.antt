@@ -1,0 +1,135 @@
+-- What bytes become where each fault is one U+FFFD, or each maximal subpart, and what begins them.
+use Rattle.std.specs.Prelude.{◌≡◌, ℕ, ◌+◌, ◌*◌, ◌<◌, ◌≤◌, List, ◌++◌, length, take, drop, IsTrue, Vec}
+use Rattle.recoding.specs.declared.form.Form.{Form}
+use Rattle.recoding.specs.declared.next_scalar.ShownPiece.{ShownPiece}
+use Rattle.recoding.specs.declared.next_scalar.ShownPiece.TheVariants as piece
+use Rattle.recoding.specs.declared.way.Way.{Way}
+use Rattle.recoding.specs.declared.way.Way.TheVariants.{Faults, Subparts}
+use Rattle.recoding.specs.Faults.{CountsTo, fault_count, saturated}
+use Rattle.recoding.specs.Lossy.{ReadsParts}
+use Rattle.recoding.specs.LossyBytes.{lossy}
+use Rattle.recoding.specs.NextScalars.{Decides, Ends}
+use Rattle.recoding.specs.Outputs.{Extends}
+use Rattle.recoding.specs.declared.engine.Reached.{Reached}
+use Rattle.recoding.specs.declared.form.TheConstants.{WIDEST}
+use Rattle.recoding.specs.Recoded.{Lacks, Reads, Recoding, most_held}
+use Rattle.recoding.specs.RecodedBytes.{recoded}
+use Rattle.recoding.specs.Rooms.{BeginsLonger}
+
+-- what the bytes show so
+abbrev pub reads_by : Way → Form → List ℕ → List ℕ → Type 0
+reads_by Faults = Reads
+reads_by Subparts = ReadsParts
+
+-- what they become, as one list
+abbrev pub list_by : Way → Form → Form → List ℕ → List ℕ
+list_by Faults = recoded
+list_by Subparts = lossy
+
+-- faults are counted
+abbrev pub IsCounting : Way → Type 0
+IsCounting Faults = Unit {0}
+IsCounting Subparts = ⊥
+
+-- Whatever follows the bytes, they become `grown`, and then what the held ones do before what follows. So many faults were replaced.
+pub record Becomes (way : Way) (from to : Form) (bytes grown : List ℕ) (faults : ℕ) (held : List ℕ) : Type 0 where
+  pub same : (later : List ℕ) → list_by way from to (bytes ++ later) ≡ grown ++ list_by way from to (held ++ later)
+  pub counts : IsCounting way → CountsTo from bytes faults held
+
+-- The bytes begin with n bytes that show the scalar s and are so many faults, whatever follows.
+pub record Begins (way : Way) (from : Form) (w : List ℕ) (s n faults : ℕ) : Type 0 where
+  pub decides : Decides (reads_by way from) w s n
+  pub few : faults ≤ 1
+  pub counts : IsCounting way → CountsTo from w faults (drop n w)
+
+-- The same where nothing follows.
+pub record BeginsLast (way : Way) (from : Form) (w : List ℕ) (s n faults : ℕ) : Type 0 where
+  pub ends : Ends (reads_by way from) w s n
+  pub few : faults ≤ 1
+  pub counts : IsCounting way → fault_count from w ≡ faults + fault_count from (drop n w)
+
+-- a piece that begins the bytes, whatever follows
+abbrev pub IsNext : Way → Form → List ℕ → ShownPiece → Type 0
+IsNext way from w (piece.Char s n) = Begins way from w s n 0
+IsNext way from w (piece.Fault n) = Begins way from w 0xFFFD n 1
+
+-- and where nothing does
+abbrev pub IsLast : Way → Form → List ℕ → ShownPiece → Type 0
+IsLast way from w (piece.Char s n) = BeginsLast way from w s n 0
+IsLast way from w (piece.Fault n) = BeginsLast way from w 0xFFFD n 1
+
+-- The bytes that are left begin so, whatever follows them, and the code of what is shown first is longer than the room.
+abbrev pub NextIsLonger : Way → Form → Form → List ℕ → ℕ → Type 0
+NextIsLonger way from to left room = BeginsLonger (Decides (reads_by way from) left) to room
+
+-- so a recoder, of so many bytes read, can go no further
+abbrev pub IsFullBy : Way → Recoding → List ℕ → ℕ → ℕ → Type 0
+IsFullBy way r part read room = NextIsLonger way r.from r.to (r.held ++ drop read part) room
+
+-- nor where nothing follows the held bytes
+abbrev pub IsLastFullBy : Way → Recoding → ℕ → Type 0
+IsLastFullBy way r room = BeginsLonger (Ends (reads_by way r.from) r.held) r.to room
+
+-- Any output.
+
+-- So many bytes were recoded, by the three that follow them and no others, so many faults were replaced, and what came of both
+-- was appended. No more than three bytes came of each, and no more than one fault.
+pub record Recodes {O : Type 0} (appends : O → List ℕ → O → Type 0) (way : Way) (from to : Form) (bytes : List ℕ) (old new : O) (read faults : ℕ) : Type 0 where
+  pub grown : List ℕ
+  pub appended : appends old grown new
+  pub within : read ≤ length bytes
+  pub short : length grown ≤ WIDEST * read
+  pub few : faults ≤ read
+  pub becomes : Becomes way from to (take (read + 3) bytes) grown faults (take 3 (drop read bytes))
+
+-- The places of a list after the written ones became these bytes, of a list and the place after what was written.
+pub record FillsPlace (old : List ℕ × ℕ) (bytes : List ℕ) (new : List ℕ × ℕ) : Type 0 where
+  pub whole : length new.0 ≡ length old.0
+  pub fits : new.1 ≤ length new.0
+  pub len : new.1 ≡ old.1 + length bytes
+  pub front : take new.1 new.0 ≡ take old.1 old.0 ++ bytes
+
+-- a list, of which so many bytes are written
+abbrev pub at_place : List ℕ → ℕ → List ℕ × ℕ
+at_place xs n = (xs, n)
+
+-- How far a run went: so many bytes were recoded and so many faults replaced as it says, and it ended before a code for which there is no room, or since
+-- what follows decides, or neither.
+pub record Reaches {O : Type 0} (appends : O → List ℕ → O → Type 0) (room : O → ℕ) (way : Way) (from to : Form) (bytes : List ℕ) (old new : O) (reached : Reached) : Type 0 where
+  pub runs : Recodes appends way from to bytes old new reached.read reached.replaced
+  pub full : IsTrue reached.is_full → NextIsLonger way from to (drop reached.read bytes) (room new)
+  pub short : IsTrue reached.is_full → room new < 4
+  pub waits : IsTrue reached.is_waiting → length bytes ≤ reached.read + 3
+  pub lacks : IsTrue reached.is_waiting → Lacks from (drop reached.read bytes)
+
+-- So many bytes of a part were read, after those that were held, so many faults were replaced, which are not counted yet, and some
+-- bytes are held.
+pub record Takes {O : Type 0} (appends : O → List ℕ → O → Type 0) (way : Way) (r : Recoding) (part : List ℕ) (old new : O) (read faults : ℕ) (s : Recoding) : Type 0 where
+  pub grown : List ℕ
+  pub appended : appends old grown new
+  pub within : read ≤ length part
+  pub short : length grown + WIDEST * length s.held ≤ WIDEST * (length r.held + read)
+  pub fewer : faults + length s.held ≤ length r.held + read
+  pub becomes : Becomes way r.from r.to (r.held ++ take read part) grown faults s.held
+  pub from : s.from ≡ r.from
+  pub to : s.to ≡ r.to
+  pub replaced : s.replaced ≡ r.replaced
+  pub few : length s.held ≤ most_held
+
+-- The same of the bytes that are held at the end.
+pub record TakesLast {O : Type 0} (appends : O → List ℕ → O → Type 0) (way : Way) (r : Recoding) (old new : O) (faults : ℕ) (s : Recoding) : Type 0 where
+  pub grown : List ℕ
+  pub appended : appends old grown new
+  pub short : length grown + WIDEST * length s.held ≤ WIDEST * length r.held
+  pub fewer : faults + length s.held ≤ length r.held
+  pub same : list_by way r.from r.to r.held ≡ grown ++ list_by way r.from r.to s.held
+  pub counts : IsCounting way → fault_count r.from r.held ≡ faults + fault_count r.from s.held
+  pub from : s.from ≡ r.from
+  pub to : s.to ≡ r.to
+  pub replaced : s.replaced ≡ r.replaced
+
+-- a part was taken whole, to the end of a list, and the faults were counted
+abbrev pub TakesAll : {Z : Type 0} → Recoding → List ℕ → Vec ℕ Z → Vec ℕ Z → Recoding → Type 0
+TakesAll r part old new s =
+    (n : ℕ) × (t : Recoding) × Takes Extends Faults r part old new (length part) n t × Lacks r.from t.held
+    × (s ≡ record t { replaced = saturated (t.replaced + n) })

@@ -1,0 +1,162 @@
+//! What a recoder holds, with the part that follows it, and at the end.
+ghost use Rattle.std.specs.Prelude.{◌≡◌, [], ◌+◌, ◌-◌, ◌<◌, ◌≤◌, length, take, drop, ◌++◌, min, IfSome, IfNone, IsTrue, IsFalse};
+ghost use Rattle.recoding.specs.Faults.{fault_count};
+ghost use Rattle.recoding.specs.Recoded.{Lacks, most_held};
+ghost use Rattle.recoding.specs.Replacing.{Begins, FillsPlace, IsFullBy, IsLastFullBy, Takes, TakesLast, at_place};
+
+use crate::engine::{Reached, ended};
+use crate::form::Form;
+use crate::form_calls::{last_of, next_of, put_fitting};
+use crate::next_scalar::NextScalar;
+use crate::output::Output;
+use crate::recoder::Recoder;
+use crate::room::Room;
+use crate::way::Way;
+
+impl Recoder {
+    // Takes what is held, with as many bytes of the part as it takes, until nothing is held, or all of the part is, or the output is
+    // full. Faults are not counted yet.
+    pub(crate) fn take_held<O: Output>(
+        &mut self,
+        way: Way,
+        part: &[u8],
+        out: &mut O,
+    ) -> Reached
+        ensures takes { Takes O.appends way self.old part.now out.old out.new
+            result.read result.replaced self.new }
+        ensures full { IsTrue result.is_full → IsFullBy way self.new part.now result.read (O.room out.new) }
+        ensures short { IsTrue result.is_full → O.room out.new < 4 }
+        ensures read { IsTrue result.is_waiting → result.read ≡ length part.now }
+        ensures waits { IsTrue result.is_waiting → Lacks self.old.from self.new.held }
+        ensures none { IsFalse result.is_full → IsFalse result.is_waiting → self.new.held ≡ [] }
+    {
+        let (from, to) = self.forms();
+        let mut read = 0;
+        let mut replaced = 0;
+        while !self.held().is_empty() {
+            let rest = &part[read..];
+            let Some((first, taken)) = first_of_both(way, from, self.held(), rest) else {
+                self.take_more(rest, 0);
+                return ended(part.len(), replaced, false, true);
+            };
+            let is_put = put_fitting(to, first.c, out);
+            if !is_put {
+                return ended(read, replaced, true, false);
+            }
+            self.take_more(&rest[..taken], first.len);
+            read += taken;
+            replaced += first.faults;
+        }
+        ended(read, replaced, false, false)
+    }
+
+    // The same into room of a fixed size. Answers also how much of that is written.
+    pub(crate) fn take_held_into(
+        &mut self,
+        way: Way,
+        part: &[u8],
+        room: &mut [u8],
+    ) -> (Reached, usize)
+        ensures takes { Takes FillsPlace way self.old part.now (at_place room.old 0)
+            (at_place room.new result.1) result.0.read result.0.replaced self.new }
+        ensures full { IsTrue result.0.is_full →
+            IsFullBy way self.new part.now result.0.read (length room.old - result.1) }
+        ensures short { IsTrue result.0.is_full → length room.old < result.1 + 4 }
+        ensures read { IsTrue result.0.is_waiting → result.0.read ≡ length part.now }
+        ensures waits { IsTrue result.0.is_waiting → Lacks self.old.from self.new.held }
+        ensures none { IsFalse result.0.is_full → IsFalse result.0.is_waiting → self.new.held ≡ [] }
+    {
+        let mut out = Room::new(room, 0);
+        let first = self.take_held::<Room<'_>>(way, part, &mut out);
+        (first, out.len)
+    }
+
+    // Takes what is held where nothing follows it, until nothing is held, or the output is full.
+    pub(crate) fn take_last<O: Output>(&mut self, way: Way, out: &mut O) -> Reached
+        ensures takes { TakesLast O.appends way self.old out.old out.new result.replaced self.new }
+        ensures full { IsTrue result.is_full → IsLastFullBy way self.new (O.room out.new) }
+        ensures short { IsTrue result.is_full → O.room out.new < 4 }
+        ensures all { IsFalse result.is_full → self.new.held ≡ [] }
+    {
+        let (from, to) = self.forms();
+        let mut replaced = 0;
+        while !self.held().is_empty() {
+            let first = last_of(way, from, self.held());
+            let is_put = put_fitting(to, first.c, out);
+            if !is_put {
+                return ended(0, replaced, true, false);
+            }
+            let _more = self.pass(first.len);
+            replaced += first.faults;
+        }
+        ended(0, replaced, false, false)
+    }
+
+    // Holds what the held bytes and these are together, without so many at the front.
+    pub(crate) fn take_more(&mut self, bytes: &[u8], gone: usize)
+        requires more { length bytes.now ≤ 3 }
+        requires gone { gone ≤ length self.old.held + length bytes.now }
+        requires few { length self.old.held + length bytes.now ≤ gone + 3 }
+        ensures { self.new ≡ record (self.old) { held = drop gone (self.old.held ++ bytes.now) } }
+    {
+        let (joined, len) = join(self.held(), bytes);
+        self.hold(&joined[gone..len]);
+    }
+}
+
+// What begins the held bytes with those that follow them, and how many of those were looked at. `None` where all of them together are
+// too few.
+fn first_of_both(
+    way: Way,
+    from: Form,
+    held: &[u8],
+    rest: &[u8],
+) -> Option<(NextScalar, usize)>
+    requires some { 0 < length held.now }
+    requires few { length held.now ≤ most_held }
+    ensures within { IfSome result (λ x. x.1 ≤ length rest.now) }
+    ensures begins { IfSome result
+        (λ x. Begins way from (held.now ++ take x.1 rest.now) x.0.c x.0.len x.0.faults) }
+    ensures near { IfSome result (λ x. length held.now + x.1 ≤ 4) }
+    ensures none { IfNone result (length held.now + length rest.now ≤ 3) }
+    ensures lacks { IfNone result (Lacks from (held.now ++ rest.now)) }
+{
+    if let Some(first) = next_of(way, from, held) {
+        return Some((first, 0));
+    }
+    let (joined, len) = join(held, rest);
+    let looked = len.min(4);
+    match next_of(way, from, &joined[..looked]) {
+        Some(first) => Some((first, looked - held.len())),
+        None => None,
+    }
+}
+
+// The held bytes and at most three that follow them.
+#[inline]
+pub(crate) fn join(held: &[u8], part: &[u8]) -> ([u8; 6], usize)
+    requires { length held.now ≤ most_held }
+    ensures len { result.1 ≡ length held.now + min 3 (length part.now) }
+    ensures bytes { take result.1 result.0 ≡ held.now ++ take 3 part.now }
+{
+    let count = held.len();
+    let taken = 3usize.min(part.len());
+    let mut joined = [0; 6];
+    joined[..count].copy_from_slice(held);
+    joined[count..count + taken].copy_from_slice(&part[..taken]);
+    (joined, count + taken)
+}
+
+// How many faults the bytes have, which nothing follows.
+pub(crate) fn faults_at_end(from: Form, bytes: &[u8]) -> usize
+    ensures { result ≡ fault_count from bytes.now }
+{
+    let mut place = 0;
+    let mut count = 0;
+    while place < bytes.len() {
+        let first = last_of(Way::Faults, from, &bytes[place..]);
+        place += first.len;
+        count += first.faults;
+    }
+    count
+}
