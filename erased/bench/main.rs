@@ -216,6 +216,39 @@ fn in_parts(bytes: &[u8], are_all: bool) -> u64 {
     room[..written].iter().fold(sum, |sum, it| seen(sum, it.offset, it.char()))
 }
 
+/// A decoder of parts beside an iterator over the whole.
+fn parts(texts: &[Text]) {
+    let all = |t: &Text| pieces(&t.bytes).fold(0, |sum, it| seen(sum, it.offset as u64, it.char()));
+    beside("Decoder::feed", "pieces of the whole", texts, |t| in_parts(&t.bytes, true), all);
+    let faults = |t: &Text| noddychest::faults(&t.bytes).fold(0, |sum, it| seen(sum, it.offset() as u64, None));
+    beside("Decoder::feed_faults", "faults of the whole", texts, |t| in_parts(&t.bytes, false), faults);
+}
+
+fn validation(texts: &[Text]) {
+    let valid = |t: &Text| noddychest::valid_up_to(&t.bytes) as u64;
+    beside("valid_up_to", "std", texts, valid, |t| std::str::from_utf8(&t.bytes).map_or_else(|e| e.valid_up_to(), str::len) as u64);
+    // SAFETY: the pointers are valid for the lengths.
+    beside("valid_up_to", "the assembly", texts, valid, |t| unsafe { nody_utf8_valid_up_to(t.bytes.as_ptr(), t.bytes.len()) } as u64);
+    #[cfg(feature = "simdutf8")]
+    beside("valid_up_to", "simdutf8", texts, valid, |t| simdutf8::compat::from_utf8(&t.bytes).map_or_else(|e| e.valid_up_to(), str::len) as u64);
+    let units = |t: &Text| noddychest::units::valid_up_to(&t.units) as u64;
+    // SAFETY: as above.
+    beside("units::valid_up_to", "the assembly", texts, units, |t| unsafe { nody_utf16_valid_up_to(t.units.as_ptr(), t.units.len()) } as u64);
+}
+
+fn recoding(texts: &[Text], name: &str, (from, to): (u8, u8)) {
+    let (mut one, mut other) = (vec![0; 4 * LEN], vec![0; 4 * LEN]);
+    let form = |number| if number == 0 { Form::Utf8 } else { Form::Utf16Le };
+    let bytes: fn(&Text) -> &[u8] = if from == 0 { |t| &t.bytes } else { |t| &t.unit_bytes };
+    let ours = |t: &Text| noddychest::Recoder::new(form(from), form(to)).feed(bytes(t), &mut one).written as u64;
+    beside(name, "the assembly", texts, ours, |t| {
+        let mut written = 0;
+        // SAFETY: the pointers are valid for the lengths.
+        unsafe { nody_recode(from, to, bytes(t).as_ptr(), bytes(t).len(), other.as_mut_ptr(), other.len(), &mut written) };
+        written as u64
+    });
+}
+
 fn main() {
     let texts = texts();
     macro_rules! each {
@@ -224,35 +257,8 @@ fn main() {
     each!(forward, backward, merger, units, unit_merger, utf8chars, utf8chars_back, utf16chars, to_bytes, to_units, collect_bytes, collect_units);
     #[cfg(feature = "kit")]
     kit::all(&texts);
-    beside("Decoder::feed", "pieces of the whole", &texts, |t| in_parts(&t.bytes, true), |t| pieces(&t.bytes).fold(0, |sum, it| seen(sum, it.offset as u64, it.char())));
-    let faults = |t: &Text| noddychest::faults(&t.bytes).fold(0, |sum, it| seen(sum, it.offset() as u64, None));
-    beside("Decoder::feed_faults", "faults of the whole", &texts, |t| in_parts(&t.bytes, false), faults);
-    let valid = |t: &Text| noddychest::valid_up_to(&t.bytes) as u64;
-    beside("valid_up_to", "std", &texts, valid, |t| std::str::from_utf8(&t.bytes).map_or_else(|e| e.valid_up_to(), str::len) as u64);
-    // SAFETY: the pointers are valid for the lengths.
-    beside("valid_up_to", "the assembly", &texts, valid, |t| unsafe { nody_utf8_valid_up_to(t.bytes.as_ptr(), t.bytes.len()) } as u64);
-    #[cfg(feature = "simdutf8")]
-    beside("valid_up_to", "simdutf8", &texts, valid, |t| simdutf8::compat::from_utf8(&t.bytes).map_or_else(|e| e.valid_up_to(), str::len) as u64);
-    let units = |t: &Text| noddychest::units::valid_up_to(&t.units) as u64;
-    // SAFETY: as above.
-    beside("units::valid_up_to", "the assembly", &texts, units, |t| unsafe { nody_utf16_valid_up_to(t.units.as_ptr(), t.units.len()) } as u64);
-    for (name, from, to) in [("utf8 to utf16le", 0u8, 1u8), ("utf16le to utf8", 1, 0)] {
-        let (mut one, mut other) = (vec![0; 4 * LEN], vec![0; 4 * LEN]);
-        let forms = [Form::Utf8, Form::Utf16Le];
-        let bytes = |t: &Text| if from == 0 { t.bytes.clone() } else { t.unit_bytes.clone() };
-        let inputs: Vec<Vec<u8>> = texts.iter().map(bytes).collect();
-        let of = |t: &Text| &inputs[texts.iter().position(|it| std::ptr::eq(it, t)).unwrap()];
-        beside(
-            name,
-            "the assembly",
-            &texts,
-            |t| noddychest::Recoder::new(forms[from as usize], forms[to as usize]).feed(of(t), &mut one).written as u64,
-            |t| {
-                let mut written = 0;
-                // SAFETY: the pointers are valid for the lengths.
-                unsafe { nody_recode(from, to, of(t).as_ptr(), of(t).len(), other.as_mut_ptr(), other.len(), &mut written) };
-                written as u64
-            },
-        );
-    }
+    parts(&texts);
+    validation(&texts);
+    recoding(&texts, "utf8 to utf16le", (0, 1));
+    recoding(&texts, "utf16le to utf8", (1, 0));
 }
